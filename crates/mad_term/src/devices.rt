@@ -56,3 +56,6 @@ pub fn put_all<O: Out>(out: &mut O, bytes: &[u8]) -> io::Result<()>
     }
     Ok(())
 }
+
+#[cfg(test)]
+mod tests;

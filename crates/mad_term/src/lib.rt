@@ -17,4 +17,3 @@ pub use devices::{Out, Source, put_all};
 pub use errors::{Error, InsufficientWidthError};
 pub use scripted::{CutOut, ScriptSource};
 pub use streams::Stream;
-
