@@ -1,0 +1,2 @@
+pub mod Flagged
+pub mod Lines
