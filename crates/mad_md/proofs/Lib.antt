@@ -1,1 +1,2 @@
 pub mod FlaggedLemmas
+pub mod InlineLemmas

@@ -8,6 +8,7 @@
 pub mod alignment;
 pub mod composite;
 pub mod compound;
+pub mod inline;
 pub mod line;
 
 pub use alignment::Alignment;
