@@ -37,8 +37,8 @@ impl<'s> Composite<'s> {
     /// two neighbouring marks or ends of the line, where that isn't empty, as a slice of the line. Only want
     /// of memory is an error.
     pub fn from_inline(alloc: Global, line: &'s str) -> Result<Composite<'s>, AllocError>
-        ensures style { IfOk result (λ composite. composite.style ≡ CompositeStyle.Paragraph) }
-        ensures compounds { IfOk result (λ composite. IsReadInline line.now composite.compounds.items) }
+        ensures style { IfOk result (λ read. read.style ≡ CompositeStyle.Paragraph) }
+        ensures compounds { IfOk result (λ read. IsReadInline line.now read.compounds.items) }
     {
         let compounds = read_inline(alloc, line)?;
         Ok(Composite {
@@ -49,7 +49,8 @@ impl<'s> Composite<'s> {
 
     // The line as it is: one compound without flags, or none where it is empty.
     pub(crate) fn raw(alloc: Global, style: CompositeStyle, line: &'s str) -> Result<Composite<'s>, AllocError>
-        ensures { IfOk result (λ composite. styled_runs composite ≡ record { style = style; runs = raw_runs line.now }) }
+        ensures { IfOk result (λ composite. styled_runs composite
+            ≡ record { style = style; runs = raw_runs line.now }) }
     {
         let mut compounds = Vec::new(alloc);
         if !line.is_empty() {

@@ -62,8 +62,8 @@ fn push_run<'s>(
     requires order { start ≤ end }
     requires start { IsCharBoundary style.src.now start }
     requires end { IsCharBoundary style.src.now end }
-    ensures { OnOk result (map run_of compounds.new.items
-        ≡ map run_of compounds.old.items ++ map (run_at style.entry.src.now) (unless_empty (flags_of style.entry) start end)) }
+    ensures { OnOk result (map run_of compounds.new.items ≡ map run_of compounds.old.items
+        ++ map (run_at style.entry.src.now) (unless_empty (flags_of style.entry) start end)) }
 {
     if start < end {
         compounds.push(style.sub(start, end))?;
