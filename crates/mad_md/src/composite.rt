@@ -48,7 +48,11 @@ impl<'s> Composite<'s> {
     }
 
     // The line as it is: one compound without flags, or none where it is empty.
-    pub(crate) fn raw(alloc: Global, style: CompositeStyle, line: &'s str) -> Result<Composite<'s>, AllocError>
+    pub(crate) fn raw(
+        alloc: Global,
+        style: CompositeStyle,
+        line: &'s str,
+    ) -> Result<Composite<'s>, AllocError>
         ensures { IfOk result (λ composite. styled_runs composite
             ≡ record { style = style; runs = raw_runs line.now }) }
     {
