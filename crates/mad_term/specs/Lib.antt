@@ -1,0 +1,4 @@
+pub mod Attribute
+pub mod AttributeNames
+pub mod Attributes
+pub mod Color
