@@ -2,3 +2,8 @@ pub mod Attribute
 pub mod AttributeNames
 pub mod Attributes
 pub mod Color
+pub mod Draws
+pub mod Errors
+pub mod Scripted
+pub mod Stream
+pub mod Trace

@@ -1,13 +1,26 @@
-//! Terminal bytes: the commands that the project writes, and what they mean.
+//! The terminal's side: what bytes go out, to which device, and what a plain terminal shows of them.
 //!
-//! Colors and attributes are plain data (`color`, `attribute`); a set of attributes is a word of bits
-//! (`attributes`).
+//! In the order of the work:
+//!
+//! 1. [`errors`]: what a call refuses by.
+//! 2. [`devices`]: what takes bytes ([`Out`]) and what gives them ([`Source`]), and [`put_all`].
+//! 3. [`streams`]: the readers and writers of the standard library as devices.
+//! 4. [`scripted`]: devices for tests, which fail where one wants them to.
+//! 5. [`color`], [`attribute`], [`attributes`]: how a text may look.
 #![tactic(auto)]
 
 mod attribute;
 mod attributes;
 mod color;
+mod devices;
+mod errors;
+mod scripted;
+mod streams;
 
 pub use attribute::Attribute;
 pub use attributes::{AttributeBits, Attributes};
 pub use color::Color;
+pub use devices::{Out, Source, put_all};
+pub use errors::{Error, InsufficientWidthError};
+pub use scripted::{CutOut, ScriptSource};
+pub use streams::Stream;
