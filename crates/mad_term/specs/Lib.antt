@@ -2,8 +2,11 @@ pub mod Attribute
 pub mod AttributeNames
 pub mod Attributes
 pub mod Color
+pub mod Columns
+pub mod Commands
 pub mod Draws
 pub mod Errors
 pub mod Scripted
 pub mod Stream
+pub mod Styles
 pub mod Trace

@@ -12,15 +12,21 @@
 mod attribute;
 mod attributes;
 mod color;
+mod columns;
+mod commands;
 mod devices;
 mod errors;
 mod scripted;
 mod streams;
+mod styles;
 
 pub use attribute::Attribute;
 pub use attributes::{AttributeBits, Attributes};
 pub use color::Color;
+pub use columns::char_columns;
+pub use commands::{Clear, ClearType, MoveTo, push_clear, push_move};
 pub use devices::{Out, Source, put_all};
 pub use errors::{Error, InsufficientWidthError};
 pub use scripted::{CutOut, ScriptSource};
 pub use streams::Stream;
+pub use styles::ContentStyle;
