@@ -1,5 +1,5 @@
 -- The bytes of colors, attributes and pieces.
-use Rattle.std.specs.Prelude.{ℕ, ◌+◌, ◌==◌, ◌||◌, not, List, [], ◌∷◌, ◌++◌, Bool, true, false, Option, Some, None, is_some, if◌then◌else◌}
+use Rattle.std.specs.Prelude.{◌≡◌, ℕ, ◌+◌, ◌==◌, ◌||◌, not, List, [], ◌∷◌, ◌++◌, Bool, true, false, Option, Some, None, is_some, if◌then◌else◌}
 use Rattle.std.specs.List.{flat_map}
 use Rattle.mad_term.specs.declared.attribute.Attribute.{Attribute}
 use Rattle.mad_term.specs.declared.attributes.Attributes.{Attributes}
@@ -46,6 +46,13 @@ attributes_bytes s = flat_map (λ a. if has_attribute s a then attribute_bytes a
 abbrev pub present_bytes : (Color → List ℕ) → Option Color → List ℕ
 present_bytes bytes None = []
 present_bytes bytes (Some color) = bytes color
+
+-- the style sets nothing
+pub record IsPlain (s : ContentStyle) : Type 0 where
+  pub foreground : s.foreground_color ≡ None
+  pub background : s.background_color ≡ None
+  pub underline : s.underline_color ≡ None
+  pub attributes : attribute_bits s.attributes ≡ 0
 
 -- what a style writes before a text: background, foreground, underline color, attributes, each if it is present
 abbrev pub opening_bytes : ContentStyle → List ℕ

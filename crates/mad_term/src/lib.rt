@@ -29,4 +29,4 @@ pub use devices::{Out, Source, put_all};
 pub use errors::{Error, InsufficientWidthError};
 pub use scripted::{CutOut, ScriptSource};
 pub use streams::Stream;
-pub use styles::ContentStyle;
+pub use styles::{ContentStyle, StyledContent, push_background, push_foreground, push_styled};

@@ -1,6 +1,6 @@
 //! Styles, and the commands that a piece, a text in a style, is written with.
 
-ghost use Rattle.std.specs.Prelude.{◌≡◌, ◌++◌, OnOk, string_bytes};
+ghost use Rattle.std.specs.Prelude.{◌≡◌, ◌++◌, ◌↔◌, IsTrue, OnOk, string_bytes};
 ghost use Rattle.mad_term.specs.Styles.{foreground_bytes, background_bytes, piece_bytes, closing_bytes};
 
 use crate::attribute::Attribute;
@@ -17,6 +17,35 @@ pub struct ContentStyle {
     pub background_color: Option<Color>,
     pub underline_color: Option<Color>,
     pub attributes: Attributes,
+}
+
+impl Default for ContentStyle {
+    ghost use Rattle.mad_term.specs.Styles.{IsPlain};
+
+    ghost is_default = { IsPlain };
+
+    fn default() -> ContentStyle {
+        ContentStyle {
+            foreground_color: None,
+            background_color: None,
+            underline_color: None,
+            attributes: Attributes::default(),
+        }
+    }
+}
+
+impl ContentStyle {
+    ghost use Rattle.mad_term.specs.Styles.{IsPlain};
+
+    /// Whether the style sets nothing.
+    pub fn is_plain(&self) -> bool
+        ensures { IsTrue result ↔ IsPlain self.now }
+    {
+        self.foreground_color.is_none()
+            && self.background_color.is_none()
+            && self.underline_color.is_none()
+            && self.attributes.is_empty()
+    }
 }
 
 // The first number of the command that sets a color: what is colored. One more gives its default.
@@ -128,4 +157,55 @@ impl fmt::Display for StyledContent<'_> {
             "{background}{foreground}{underline}{attributes}{content}{closing}"
         )
     }
+}
+
+/// Appends the command that sets the foreground.
+///
+/// # Errors
+///
+/// Want of memory.
+pub fn push_foreground(row: &mut String, color: Color) -> Result<(), AllocError>
+    ensures { OnOk result (string_bytes row.new ≡ string_bytes row.old ++ foreground_bytes color) }
+{
+    let command = ColorCommand {
+        kind: FOREGROUND,
+        color: Some(color),
+    };
+    write!(row, "{command}")
+}
+
+/// Appends the command that sets the background.
+///
+/// # Errors
+///
+/// Want of memory.
+pub fn push_background(row: &mut String, color: Color) -> Result<(), AllocError>
+    ensures { OnOk result (string_bytes row.new ≡ string_bytes row.old ++ background_bytes color) }
+{
+    let command = ColorCommand {
+        kind: BACKGROUND,
+        color: Some(color),
+    };
+    write!(row, "{command}")
+}
+
+/// Appends a piece: a text in a style. An empty text writes its style's commands too, and a plain
+/// style none.
+///
+/// # Errors
+///
+/// Want of memory.
+#[tactic(auto, using(crate::proofs::Pieces::plain_piece))]
+pub fn push_styled(row: &mut String, style: &ContentStyle, text: &str) -> Result<(), AllocError>
+    ensures { OnOk result (string_bytes row.new ≡ string_bytes row.old ++ piece_bytes style.now text.now) }
+{
+    // Most texts are plain, and need no formatting.
+    if style.is_plain() {
+        return row.push_str(text);
+    }
+    let piece = StyledContent {
+        style: *style,
+        content: text,
+    };
+    write!(row, "{piece}")
 }
