@@ -1,6 +1,6 @@
 //! Sets of attributes.
 
-ghost use Rattle.std.specs.Prelude.{⊤, ◌≡◌, ◌≢◌, ◌==◌, ◌||◌, ◌^◌, ◌<◌, true, false};
+ghost use Rattle.std.specs.Prelude.{⊤, ◌≡◌, ◌≢◌, ◌==◌, ◌||◌, ◌^◌, ◌<◌, ◌↔◌, IsTrue, true, false};
 ghost use Rattle.std.specs.Int.RustNames.{bit_or};
 ghost use Rattle.mad_term.specs.declared.attribute.Attribute.{Attribute};
 
@@ -135,8 +135,10 @@ impl Attributes {
     }
 
     /// Whether the set has no attribute.
+    #[tactic(auto, using(crate::proofs::SameAttributes::no_bits, crate::proofs::SameAttributes::no_attribute))]
     pub fn is_empty(self) -> bool
-        ensures { result ≡ (attribute_bits self == 0) }
+        ensures value { result ≡ (attribute_bits self == 0) }
+        ensures none { IsTrue result ↔ ((a : Attribute) → has_attribute self a ≡ false) }
     {
         self.bits.is_empty()
     }
