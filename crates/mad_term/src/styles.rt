@@ -211,3 +211,6 @@ pub fn push_styled(row: &mut String, style: ContentStyle, text: &str) -> Result<
     };
     write!(row, "{piece}")
 }
+
+#[cfg(test)]
+mod tests;
