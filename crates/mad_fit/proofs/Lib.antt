@@ -1,0 +1,3 @@
+pub mod FlaggedLemmas
+pub mod TextLemmas
+pub mod TokenLemmas
