@@ -123,16 +123,18 @@ fn takes_in(blank: bool, width: usize, c_blank: bool, c_width: usize, max: usize
 #[cfg(test)]
 mod tests {
     use super::*;
+    use std::process::Abort;
     use std::test::Fail;
 
     // The tokens of one compound: where each ends, its columns, and whether it is blank.
     fn assert_tokens(
-        rt: &(impl Abort + Alloc),
+        rt: &impl Abort,
+        alloc: Global,
         compound: Compound,
         max: usize,
         wanted: &[(usize, usize, bool)],
     ) -> Result<(), Fail> {
-        let tokens = tokenize(rt.alloc(), &[compound], max)?;
+        let tokens = tokenize(alloc, &[compound], max)?;
         assert_eq!(rt; tokens.len(), wanted.len(), "{compound:?} at {max}");
         let mut start = 0;
         for (token, wanted) in tokens.iter().zip(wanted) {
@@ -145,13 +147,14 @@ mod tests {
 
     #[test]
     fn blanks_code_and_wide_characters(rt: HostRuntime) -> Result<(), Fail> {
+        let alloc = rt.alloc();
         let raw = Compound::raw_str;
-        assert_tokens(&rt, raw("abcdefgh   ab"), 10, &[(8, 8, false), (11, 3, true), (13, 2, false)])?;
-        assert_tokens(&rt, raw("abcdefgh"), 3, &[(3, 3, false), (6, 3, false), (8, 2, false)])?;
-        assert_tokens(&rt, raw("a b").code(), 10, &[(3, 3, false)])?;
-        assert_tokens(&rt, raw("概要"), 1, &[(3, 2, false), (6, 2, false)])?;
-        assert_tokens(&rt, raw("概要"), 4, &[(6, 4, false)])?;
-        assert_tokens(&rt, raw("ab"), 0, &[(1, 1, false), (2, 1, false)])?;
-        assert_tokens(&rt, raw(""), 10, &[])
+        assert_tokens(&rt, alloc, raw("abcdefgh   ab"), 10, &[(8, 8, false), (11, 3, true), (13, 2, false)])?;
+        assert_tokens(&rt, alloc, raw("abcdefgh"), 3, &[(3, 3, false), (6, 3, false), (8, 2, false)])?;
+        assert_tokens(&rt, alloc, raw("a b").code(), 10, &[(3, 3, false)])?;
+        assert_tokens(&rt, alloc, raw("概要"), 1, &[(3, 2, false), (6, 2, false)])?;
+        assert_tokens(&rt, alloc, raw("概要"), 4, &[(6, 4, false)])?;
+        assert_tokens(&rt, alloc, raw("ab"), 0, &[(1, 1, false), (2, 1, false)])?;
+        assert_tokens(&rt, alloc, raw(""), 10, &[])
     }
 }
