@@ -1,0 +1,5 @@
+// stand-in
+#![tactic(auto)]
+
+pub mod kinds;
+pub mod line_style;
