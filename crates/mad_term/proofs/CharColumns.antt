@@ -1,4 +1,4 @@
--- A character takes no more columns than it has bytes.
+-- A character takes no more columns than it has bytes in UTF-8.
 use Rattle.std.proofs.Common.{◌≡◌, ℕ, ◌≤◌, ◌<◌, Bool, true, false, nat_lt, nat_le, arith, Some, None, unwrap_or, refl, if◌then◌else◌}
 use Rattle.std.proofs.lemmas.Bool.Decides.{nat_tests}
 use Rattle.std.specs.Char.{len_utf8}
@@ -6,7 +6,7 @@ use Rattle.unicode_width.specs.declared.kind.Kind.{Kind}
 use Rattle.unicode_width.specs.declared.kind.Kind.TheVariants as kinds
 use Rattle.unicode_width.specs.Kind.{kind}
 use Rattle.unicode_width.specs.Width.{of_kind, alone, single, char_width}
-use Rattle.stand_term.specs.Columns.{char_columns}
+use Rattle.mad_term.specs.Columns.{char_columns}
 
 by_test : (b : Bool) (c n : ℕ) → (b ≡ true → n ≤ len_utf8 c) → unwrap_or (if b then Some n else None) 0 ≤ len_utf8 c
 by_test true c n h = h refl

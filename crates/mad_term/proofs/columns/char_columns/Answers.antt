@@ -1,7 +1,7 @@
 use Rattle.std.proofs.Common.{◌≡◌, rules, arith}
-use Rattle.stand_term.specs.Columns.{char_columns}
-use Rattle.stand_term.proofs.ColumnsLemmas.{char_columns-le}
-use Rattle.stand_term.proofs.char_columns.Goals as goal
+use Rattle.mad_term.specs.Columns.{char_columns}
+use Rattle.mad_term.proofs.CharColumns.{char_columns-le}
+use Rattle.mad_term.proofs.columns.char_columns.Goals as goal
 
 pub returns-clause-value : goal.returns-clause-value
 unfolding char_columns
