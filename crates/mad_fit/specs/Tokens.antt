@@ -2,7 +2,7 @@
 use Rattle.std.specs.Prelude.{◌≡◌, ◌≢◌, ℕ, ◌+◌, ◌<◌, ◌≤◌, ◌⊎◌, Bool, List, [], ◌∷◌, ◌++◌, length, chars, drop, slice_range}
 use Rattle.std.specs.List.{AllByRecursion}
 use Rattle.std.specs.Str.{IsUtf8, IsCharBoundary}
-use Rattle.stand_term.specs.Columns.{char_columns}
+use Rattle.mad_term.specs.Columns.{char_columns}
 use Rattle.mad_md.specs.Flagged.{Flags, FlaggedChar, flagged, flags_of, is_blank}
 use Rattle.mad_md.specs.declared.compound.Compound.{Compound}
 use Rattle.mad_fit.specs.Columns.{width_of}

@@ -1,7 +1,7 @@
 ghost use Rattle.std.specs.Prelude.{◌≡◌, ◌≤◌, length, chars};
 ghost use Rattle.mad_fit.specs.Columns.{columns};
 
-use stand_term::char_columns;
+use mad_term::char_columns;
 
 /// The columns that a text takes: the sum over its characters, 0 for a control character.
 ///

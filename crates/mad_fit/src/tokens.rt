@@ -5,7 +5,7 @@ ghost use Rattle.mad_fit.specs.Tokens.{IsInCompound, IsTokenAt, AreTokensFrom, A
 ghost use Rattle.mad_fit.specs.declared.tokens.Token.{Token};
 
 use mad_md::Compound;
-use stand_term::char_columns;
+use mad_term::char_columns;
 use std::alloc::{AllocError, Global};
 
 /// A part of a compound that no line break cuts: characters that are all blank or all not blank.

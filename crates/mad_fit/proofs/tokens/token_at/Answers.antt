@@ -4,7 +4,7 @@ use Rattle.std.specs.Str.Iter.{chars_rest}
 use Rattle.std.proofs.lemmas.Str.{drop_past_char, IsUtf8-drop, length-encode}
 use Rattle.std.proofs.lemmas.List.{length-drop, length-append}
 use Rattle.std.proofs.StrCases.{chars_of_empty}
-use Rattle.stand_term.specs.Columns.{char_columns}
+use Rattle.mad_term.specs.Columns.{char_columns}
 use Rattle.mad_fit.proofs.TokenLemmas.{front_start, front_more, token_is, stops_at}
 use Rattle.mad_fit.proofs.tokens.token_at.Goals as goal
 use Rattle.mad_fit.proofs.tokens.token_at.Goals.{else-end-start-via-then-end-start+else-not-takes_in, else-end-start-via-else-end-start}
