@@ -1,4 +1,14 @@
-use Rattle.std.specs.Prelude.{ℕ, ◌+◌, ◌/◌, nat_le, if◌then◌else◌}
+-- Kinds of composites.
+use Rattle.mad_md.specs.declared.composite.CompositeStyle.{CompositeStyle}
+use Rattle.mad_md.specs.declared.composite.CompositeStyle.TheVariants as style
+use Rattle.stand_style.specs.declared.kinds.CompositeKind.{CompositeKind}
+use Rattle.stand_style.specs.declared.kinds.CompositeKind.TheVariants as kind
 
-abbrev pub ordered_indent : ℕ → ℕ → ℕ
-ordered_indent level index = level + (if nat_le 10 (index / 10) then (if nat_le 10 index then 3 else 2) else (if nat_le 10 index then 2 else 1)) + 2
+-- the kind of a composite as it was read, before it is wrapped
+abbrev pub kind_of : CompositeStyle → CompositeKind
+kind_of style.Paragraph = kind.Paragraph
+kind_of (style.Header level) = kind.Header level
+kind_of (style.ListItem level) = kind.ListItem level
+kind_of (style.OrderedListItem level index) = kind.OrderedListItem level index
+kind_of style.Code = kind.Code
+kind_of style.Quote = kind.Quote

@@ -1,2 +1,3 @@
 pub mod Kinds
-pub mod Margins
+pub mod LineStyles
+pub mod Ordered

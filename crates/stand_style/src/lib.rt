@@ -1,5 +1,10 @@
 // stand-in
 #![tactic(auto)]
 
-pub mod kinds;
-pub mod line_style;
+mod kinds;
+mod line_styles;
+mod ordered_items;
+
+pub use kinds::{CompositeKind, ListItemsIndentationMode};
+pub use line_styles::LineStyle;
+pub use ordered_items::ordered_item_indent;

@@ -1,0 +1,11 @@
+pub mod Bounds
+pub mod Breaks
+pub mod CleanCut
+pub mod Greedy
+pub mod Indents
+pub mod Keeps
+pub mod LeastWrap
+pub mod Lines
+pub mod PlacedLines
+pub mod Styles
+pub mod Wraps

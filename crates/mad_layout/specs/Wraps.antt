@@ -1,0 +1,77 @@
+-- What a composite is wrapped into.
+use Rattle.std.specs.Prelude.{◌≡◌, ℕ, ◌+◌, ◌-◌, ◌^◌, ◌<◌, ◌≤◌, ◌⊎◌, min, true, false, List, [], ◌∷◌, ◌++◌, map, length, Option, None, Contains}
+use Rattle.std.specs.List.{AllByRecursion}
+use Rattle.mad_term.specs.Columns.{char_columns}
+use Rattle.mad_md.specs.Flagged.{Flags, FlaggedChar, Run, run_of, flags_of, flagged_text}
+use Rattle.mad_md.specs.declared.compound.Compound.{Compound}
+use Rattle.stand_style.specs.declared.kinds.CompositeKind.{CompositeKind}
+use Rattle.mad_fit.specs.Columns.{width_of}
+use Rattle.mad_fit.specs.Tokens.{AreTokensOf, token_text, flagged_token}
+use Rattle.mad_fit.specs.declared.tokens.Token.{Token}
+use Rattle.mad_layout.specs.Breaks.{Piece, joined, total_width, AllBlank, FittingBreak, EndsWithLine}
+use Rattle.mad_layout.specs.CleanCut.{is_cut_clean, drops_middle}
+use Rattle.mad_layout.specs.Indents.{follow_up, indent, room_of}
+use Rattle.mad_layout.specs.Keeps.{Keeps}
+use Rattle.mad_layout.specs.declared.room.Room.{Room}
+use Rattle.mad_layout.specs.declared.skin.MadSkin.{MadSkin}
+use Rattle.mad_layout.specs.declared.composite.FmtComposite.{FmtComposite}
+
+-- the flagged text of a composite
+abbrev pub text_of : FmtComposite → List FlaggedChar
+text_of l = flagged_text l.compounds.items
+
+-- a number of columns as a usize, its greatest value where there are more
+abbrev pub capped : ℕ → ℕ
+capped n = min n (2 ^ 64 - 1)
+
+-- the columns of a composite: its indent and its text
+abbrev pub columns_of : MadSkin → FmtComposite → ℕ
+columns_of skin l = indent skin.list_items_indentation_mode l.kind + width_of (text_of l)
+
+-- the cached length is right
+abbrev pub IsMeasured : MadSkin → FmtComposite → Type 0
+IsMeasured skin l = l.visible_length ≡ capped (columns_of skin l)
+
+-- each character has room behind the first indent
+pub record HasRoom (r : Room) (text : List FlaggedChar) : Type 0 where
+  pub first : r.first ≤ r.width
+  pub each : AllByRecursion (λ x. r.first + char_columns x.char ≤ r.width) text
+
+-- the first line fits with this indent, and the others with theirs
+abbrev pub LinesFit : ℕ → Room → List (List FlaggedChar) → Type 0
+LinesFit indent r [] = Unit {0}
+LinesFit indent r (line ∷ lines) = (indent + width_of line ≤ r.width) × LinesFit r.other r lines
+
+-- the first line is of the source's kind, and the others of the kind that follows it
+abbrev pub HaveKinds : CompositeKind → CompositeKind → List FmtComposite → Type 0
+HaveKinds first other [] = Unit {0}
+HaveKinds first other (l ∷ ls) = (l.kind ≡ first) × HaveKinds other other ls
+
+-- no compound is empty
+abbrev pub NoneEmpty : List Compound → Type 0
+NoneEmpty ps = AllByRecursion (λ p. 0 < length p.src.now) ps
+
+-- what a token says, whatever its address
+abbrev pub token_run : Token → Run
+token_run t = record { flags = flags_of t.compound; text = token_text t }
+
+-- the compound is one of the source or one of its tokens
+abbrev pub IsPartOf : List Compound → List Token → Compound → Type 0
+IsPartOf ps ts q = ((p : Compound) × Contains ps p × (run_of q ≡ run_of p)) ⊎ ((t : Token) × Contains ts t × (run_of q ≡ token_run t))
+
+-- the flagged text of tokens
+abbrev pub tokens_text : List Token → List FlaggedChar
+tokens_text [] = []
+tokens_text (t ∷ ts) = flagged_token t ++ tokens_text ts
+
+-- each gap is blank, and one that isn't empty begins with a token that doesn't fit behind its line
+abbrev pub GapsForced : ℕ → Room → List (Piece Token) → Type 0
+GapsForced indent r [] = Unit {0}
+GapsForced indent r (p ∷ ps) = AllBlank p.gap × ((t : Token) (others : List Token) → p.gap ≡ t ∷ others → r.width < indent + total_width p.line + t.width) × GapsForced r.other r ps
+
+-- The tokens stand on these lines, in order, but for blank ones behind a line that is full.
+pub record ArePlaced (r : Room) (ts : List Token) (lines : List (List FlaggedChar)) : Type 0 where
+  pub pieces : List (Piece Token)
+  pub covers : joined pieces ≡ ts
+  pub texts : map (λ p. tokens_text p.line) pieces ≡ lines
+  pub gaps : GapsForced r.first r pieces

@@ -1,0 +1,157 @@
+ghost use Rattle.std.specs.Prelude.{◌≡◌, ◌≤◌, ◌<◌, ◌+◌, ◌↔◌, List, length, IfOk, IsTrue, nat_lt};
+ghost use Rattle.mad_fit.specs.declared.tokens.Token.{Token};
+ghost use Rattle.mad_layout.specs.Breaks.{Piece, FittingBreak, EndsWithLine, total_width};
+ghost use Rattle.mad_layout.specs.Bounds.{are_starts, are_starts_from};
+ghost use Rattle.mad_layout.specs.Indents.{room_of};
+ghost use Rattle.mad_layout.specs.LeastWrap.{AreTokensIn};
+ghost use Rattle.mad_term.specs.declared.errors.Error.TheVariants.{InsufficientWidth};
+
+use crate::clean_cut::clean_cut;
+use crate::composite::FmtComposite;
+use crate::placing::{left_after, left_of, left_with};
+use crate::room::Room;
+use crate::skin::MadSkin;
+use mad_fit::tokens::{Token, tokenize};
+use mad_term::{Error, InsufficientWidthError};
+use std::alloc::{AllocError, Global};
+
+/// Starts of lines, as numbers of tokens, which show that no fitting break has fewer lines than there are starts.
+#[derive(Debug, Drop)]
+pub struct WrapBound {
+    /// The number of the token that begins each line, 0 for the first.
+    pub starts: Vec<usize>,
+}
+
+/// Starts that show how many lines each fitting break of the composite has at least.
+pub fn wrap_bound(
+    alloc: Global,
+    composite: &FmtComposite,
+    width: usize,
+    skin: &MadSkin,
+) -> Result<WrapBound, Error>
+{
+    if width < 3 {
+        return Err(Error::InsufficientWidth(InsufficientWidthError { available_width: width }));
+    }
+    let room = Room::of(skin, composite.kind, width);
+    let tokens = tokenize(alloc, &composite.compounds, room.width.saturating_sub(room.first))?;
+    let starts = match clean_cut(&composite.compounds, room) {
+        Some(_) => cut_starts(alloc, &tokens, room)?,
+        None => line_starts(alloc, &tokens, room)?,
+    };
+    Ok(WrapBound { starts })
+}
+
+// The starts of a clean cut: 0, and the first token with which the tokens pass the first line.
+fn cut_starts(alloc: Global, tokens: &[Token], room: Room) -> Result<Vec<usize>, AllocError> {
+    let mut starts = Vec::new(alloc);
+    starts.push(0)?;
+    let mut left = left_of(room.width, room.first);
+    for (i, token) in tokens.iter().enumerate() {
+        let Some(after) = left_with(left, false, token.width) else {
+            if i > 0 {
+                starts.push(i)?;
+            }
+            return Ok(starts);
+        };
+        left = Some(after);
+    }
+    Ok(starts)
+}
+
+// The tokens that begin the lines, and the first of the blanks that are dropped at the end.
+fn line_starts(alloc: Global, tokens: &[Token], room: Room) -> Result<Vec<usize>, AllocError> {
+    let mut starts = Vec::new(alloc);
+    starts.push(0)?;
+    let mut left = left_of(room.width, room.first);
+    // The first blank that was dropped behind the line.
+    let mut dropped: Option<usize> = None;
+    for (i, token) in tokens.iter().enumerate() {
+        let Some(after) = left_with(left, dropped.is_some(), token.width) else {
+            if token.blank {
+                dropped = dropped.or(Some(i));
+                continue;
+            }
+            // Where there is no room for the very first token, it begins the second line, and the first line has none.
+            if i > 0 {
+                starts.push(i)?;
+            }
+            left = left_after(room, token.width);
+            dropped = None;
+            continue;
+        };
+        left = Some(after);
+    }
+    if let Some(first) = dropped {
+        if first > 0 {
+            starts.push(first)?;
+        }
+    }
+    Ok(starts)
+}
+
+/// Whether these starts show that each fitting break of the composite has at least as many lines.
+pub fn check_wrap_bound(
+    alloc: Global,
+    composite: &FmtComposite,
+    width: usize,
+    skin: &MadSkin,
+    bound: &WrapBound,
+) -> Result<bool, Error>
+{
+    if width < 3 {
+        return Err(Error::InsufficientWidth(InsufficientWidthError { available_width: width }));
+    }
+    let room = Room::of(skin, composite.kind, width);
+    let tokens = tokenize(alloc, &composite.compounds, room.width.saturating_sub(room.first))?;
+    Ok(check_starts(&tokens, room, &bound.starts))
+}
+
+fn check_starts(tokens: &[Token], room: Room, starts: &[usize]) -> bool
+    ensures exact { result ≡ are_starts room tokens.now starts.now }
+    ensures bound { IsTrue result → (ps : List (Piece Token)) → FittingBreak room tokens.now ps → EndsWithLine ps → length starts.now ≤ length ps }
+{
+    match starts {
+        [] => false,
+        [first, others @ ..] => *first == 0 && check_from(tokens, room, others),
+    }
+}
+
+// Whether the starts after the first show it.
+fn check_from(tokens: &[Token], room: Room, starts: &[usize]) -> bool
+    ensures { result ≡ are_starts_from room.first room tokens.now 0 starts.now }
+{
+    let mut start = 0;
+    let mut indent = room.first;
+    for (i, next) in starts.iter().enumerate() {
+        let next = *next;
+        if next <= start || next >= tokens.len() {
+            return false;
+        }
+        if !is_wider(&tokens[start..next + 1], room.width, indent) {
+            return false;
+        }
+        if i + 1 < starts.len() && tokens[next].blank {
+            return false;
+        }
+        start = next;
+        indent = room.other;
+    }
+    true
+}
+
+// Whether the tokens behind an indent are wider than the width.
+fn is_wider(tokens: &[Token], width: usize, indent: usize) -> bool
+    ensures { result ≡ nat_lt width (indent + total_width tokens.now) }
+{
+    let Some(mut left) = width.checked_sub(indent) else {
+        return true;
+    };
+    for token in tokens {
+        let Some(rest) = left.checked_sub(token.width) else {
+            return true;
+        };
+        left = rest;
+    }
+    false
+}
