@@ -1,0 +1,4 @@
+pub mod Flagged
+pub mod Inline
+pub mod Lines
+pub mod ReadInline

@@ -1,0 +1,116 @@
+ghost use Rattle.std.specs.Prelude.{◌≡◌, ◌≤◌, ◌++◌, length, map, IfOk, OnOk};
+ghost use Rattle.std.specs.Str.{IsCharBoundary};
+ghost use Rattle.mad_md.specs.Flagged.{flags_of, run_of, run_at};
+ghost use Rattle.mad_md.specs.Inline.{mark_at, spell_mark, toggle, unless_empty};
+ghost use Rattle.mad_md.specs.ReadInline.{IsReadInline};
+
+use crate::compound::Compound;
+use std::alloc::{AllocError, Global};
+
+/// A mark inside a line. Each toggles the flag of its name.
+#[derive(Clone, Copy)]
+pub enum Mark {
+    Bold,
+    Strikeout,
+    Italic,
+    Code,
+}
+
+impl Mark {
+    // how many bytes the mark takes
+    fn len(self) -> usize
+        ensures { result ≡ length (spell_mark self) }
+    {
+        match self {
+            Mark::Bold | Mark::Strikeout => 2,
+            Mark::Italic | Mark::Code => 1,
+        }
+    }
+}
+
+/// Reads the inline marks of a line: its compounds in order, each a slice of the line.
+///
+/// Outside code `**` toggles bold, `~~` strikeout, `*` italic, and a backquote opens code, the longest
+/// mark first; in code only a backquote counts, and closes it. A `*` that is the last character while
+/// italic is off is text. A mark that is left open holds to the end. A compound is what stands between
+/// two neighbouring marks or ends, where that isn't empty. Only want of memory is an error.
+pub fn read_inline<'s>(alloc: Global, line: &'s str) -> Result<Vec<Compound<'s>>, AllocError>
+    ensures { IfOk result (λ compounds. IsReadInline line.now compounds.items) }
+{
+    let bytes = line.as_bytes();
+    let mut compounds = Vec::new(alloc);
+    let mut style = Compound::raw_str(line);
+    let mut start = 0;
+    let mut i = 0;
+    while i < bytes.len() {
+        let Some(mark) = mark_at(&bytes[i..], style.code, style.italic) else {
+            i += 1;
+            continue;
+        };
+        push_run(&mut compounds, style, start, i)?;
+        style = toggled(style, mark);
+        i += mark.len();
+        start = i;
+    }
+    push_run(&mut compounds, style, start, i)?;
+    Ok(compounds)
+}
+
+// Pushes the part of the line from `start` up to `end`, unless it is empty.
+fn push_run<'s>(
+    compounds: &mut Vec<Compound<'s>>,
+    style: Compound<'s>,
+    start: usize,
+    end: usize,
+) -> Result<(), AllocError>
+    requires order { start ≤ end }
+    requires start { IsCharBoundary style.src.now start }
+    requires end { IsCharBoundary style.src.now end }
+    ensures { OnOk result (map run_of compounds.new.items
+        ≡ map run_of compounds.old.items ++ map (run_at style.entry.src.now) (unless_empty (flags_of style.entry) start end)) }
+{
+    if start < end {
+        compounds.push(style.sub(start, end))?;
+    }
+    Ok(())
+}
+
+// The same text, with the flag of the mark turned.
+fn toggled<'s>(style: Compound<'s>, mark: Mark) -> Compound<'s>
+    ensures text { result.src.now ≡ style.entry.src.now }
+    ensures flags { flags_of result ≡ toggle mark (flags_of style.entry) }
+{
+    match mark {
+        Mark::Bold => Compound {
+            bold: !style.bold,
+            ..style
+        },
+        Mark::Strikeout => Compound {
+            strikeout: !style.strikeout,
+            ..style
+        },
+        Mark::Italic => Compound {
+            italic: !style.italic,
+            ..style
+        },
+        Mark::Code => Compound {
+            code: !style.code,
+            ..style
+        },
+    }
+}
+
+// The longest mark that stands at the front of the rest of a line.
+fn mark_at(rest: &[u8], code: bool, italic: bool) -> Option<Mark>
+    ensures { result ≡ mark_at code italic rest.now }
+{
+    match rest {
+        [b'`', ..] => Some(Mark::Code),
+        _ if code => None,
+        [b'*', b'*', ..] => Some(Mark::Bold),
+        [b'~', b'~', ..] => Some(Mark::Strikeout),
+        [b'*'] if !italic => None,
+        [b'*', ..] => Some(Mark::Italic),
+        _ => None,
+    }
+}
