@@ -1,5 +1,12 @@
-pub mod Errors
-pub mod Trace
+pub mod Attribute
+pub mod AttributeNames
+pub mod Attributes
+pub mod Color
+pub mod Columns
+pub mod Commands
 pub mod Draws
-pub mod Stream
+pub mod Errors
 pub mod Scripted
+pub mod Stream
+pub mod Styles
+pub mod Trace

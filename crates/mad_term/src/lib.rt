@@ -6,14 +6,27 @@
 //! 2. [`devices`]: what takes bytes ([`Out`]) and what gives them ([`Source`]), and [`put_all`].
 //! 3. [`streams`]: the readers and writers of the standard library as devices.
 //! 4. [`scripted`]: devices for tests, which fail where one wants them to.
+//! 5. [`color`], [`attribute`], [`attributes`]: how a text may look.
 #![tactic(auto)]
 
+mod attribute;
+mod attributes;
+mod color;
+mod columns;
+mod commands;
 mod devices;
 mod errors;
 mod scripted;
 mod streams;
+mod styles;
 
+pub use attribute::Attribute;
+pub use attributes::{AttributeBits, Attributes};
+pub use color::Color;
+pub use columns::char_columns;
+pub use commands::{Clear, ClearType, MoveTo, push_clear, push_move};
 pub use devices::{Out, Source, put_all};
 pub use errors::{Error, InsufficientWidthError};
 pub use scripted::{CutOut, ScriptSource};
 pub use streams::Stream;
+pub use styles::ContentStyle;
