@@ -1,10 +1,9 @@
 -- The columns in front of a line: those of its bullet, number or quote mark, and of the lines that follow one.
-use Rattle.std.specs.Prelude.{ℕ, ◌+◌}
-use Rattle.stand_style.specs.Ordered.{ordered_indent}
-use Rattle.stand_style.specs.declared.kinds.CompositeKind.{CompositeKind}
-use Rattle.stand_style.specs.declared.kinds.CompositeKind.TheVariants.{Paragraph, Header, ListItem, ListItemFollowUp, OrderedListItem, OrderedListItemFollowUp, Code, Quote}
-use Rattle.stand_style.specs.declared.kinds.ListItemsIndentationMode.{ListItemsIndentationMode}
-use Rattle.stand_style.specs.declared.kinds.ListItemsIndentationMode.TheVariants.{FirstLineOnly, Block}
+use Rattle.std.specs.Prelude.{ℕ, ◌+◌, length, decimal}
+use Rattle.mad_style.specs.declared.kinds.CompositeKind.{CompositeKind}
+use Rattle.mad_style.specs.declared.kinds.CompositeKind.TheVariants.{Paragraph, Header, ListItem, ListItemFollowUp, OrderedListItem, OrderedListItemFollowUp, Code, Quote}
+use Rattle.mad_style.specs.declared.kinds.ListItemsIndentationMode.{ListItemsIndentationMode}
+use Rattle.mad_style.specs.declared.kinds.ListItemsIndentationMode.TheVariants.{FirstLineOnly, Block}
 use Rattle.mad_layout.specs.declared.room.Room.{Room}
 use Rattle.mad_layout.specs.declared.skin.MadSkin.{MadSkin}
 
@@ -23,6 +22,10 @@ follow_up Quote = Quote
 abbrev pub kept : ListItemsIndentationMode → ℕ → ℕ
 kept FirstLineOnly n = 0
 kept Block n = n
+
+-- the columns in front of an ordered item: those of its level, of its number, and of the mark and the space behind that
+abbrev pub ordered_indent : ℕ → ℕ → ℕ
+ordered_indent level index = length (decimal index) + 2 + level
 
 -- the columns in front of a line of this kind: a bullet and a space behind an item's depth, a quote mark and a space
 abbrev pub indent : ListItemsIndentationMode → CompositeKind → ℕ

@@ -1,7 +1,7 @@
 -- Lines of a layout.
 use Rattle.std.specs.Prelude.{◌≡◌, ℕ, None}
 use Rattle.mad_md.specs.declared.composite.Composite.{Composite}
-use Rattle.stand_style.specs.Kinds.{kind_of}
+use Rattle.mad_style.specs.Kinds.{kind_of}
 use Rattle.mad_layout.specs.Wraps.{IsMeasured}
 use Rattle.mad_layout.specs.declared.skin.MadSkin.{MadSkin}
 use Rattle.mad_layout.specs.declared.composite.FmtComposite.{FmtComposite}

@@ -1,8 +1,8 @@
 -- The style of a line, by its kind.
 use Rattle.std.specs.Prelude.{ℕ, zero, suc, slice_get, unwrap_or}
-use Rattle.stand_style.specs.declared.kinds.CompositeKind.{CompositeKind}
-use Rattle.stand_style.specs.declared.kinds.CompositeKind.TheVariants.{Header, Code}
-use Rattle.stand_style.specs.declared.line_styles.LineStyle.{LineStyle}
+use Rattle.mad_style.specs.declared.kinds.CompositeKind.{CompositeKind}
+use Rattle.mad_style.specs.declared.kinds.CompositeKind.TheVariants.{Header, Code}
+use Rattle.mad_style.specs.declared.line_styles.LineStyle.{LineStyle}
 use Rattle.mad_layout.specs.declared.skin.MadSkin.{MadSkin}
 
 -- the header of this level, which is counted from 1; the paragraph's style at a level without a header

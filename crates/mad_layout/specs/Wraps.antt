@@ -4,7 +4,7 @@ use Rattle.std.specs.List.{AllByRecursion}
 use Rattle.mad_term.specs.Columns.{char_columns}
 use Rattle.mad_md.specs.Flagged.{Flags, FlaggedChar, Run, run_of, flags_of, flagged_text}
 use Rattle.mad_md.specs.declared.compound.Compound.{Compound}
-use Rattle.stand_style.specs.declared.kinds.CompositeKind.{CompositeKind}
+use Rattle.mad_style.specs.declared.kinds.CompositeKind.{CompositeKind}
 use Rattle.mad_fit.specs.Columns.{width_of}
 use Rattle.mad_fit.specs.Tokens.{AreTokensOf, token_text, flagged_token}
 use Rattle.mad_fit.specs.declared.tokens.Token.{Token}

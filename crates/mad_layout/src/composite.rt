@@ -8,7 +8,7 @@ use crate::skin::MadSkin;
 use mad_fit::measure::columns;
 use mad_fit::spacing::Spacing;
 use mad_md::{Composite, Compound};
-use stand_style::CompositeKind;
+use mad_style::CompositeKind;
 use std::alloc::{AllocError, Global};
 
 /// A line of compounds, with the columns that it takes.
@@ -27,7 +27,7 @@ pub struct FmtComposite<'s> {
 }
 
 impl<'s> FmtComposite<'s> {
-    ghost use Rattle.stand_style.specs.Kinds.{kind_of};
+    ghost use Rattle.mad_style.specs.Kinds.{kind_of};
     ghost use Rattle.mad_layout.specs.Wraps.{capped, IsMeasured};
 
     /// An empty paragraph.

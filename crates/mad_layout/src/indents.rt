@@ -2,7 +2,7 @@ ghost use Rattle.std.specs.Prelude.{◌≡◌, ◌≤◌};
 ghost use Rattle.mad_layout.specs.Indents.{follow_up, indent, kept};
 
 use crate::skin::MadSkin;
-use stand_style::{CompositeKind, ListItemsIndentationMode, ordered_item_indent};
+use mad_style::{CompositeKind, ListItemsIndentationMode, ordered_item_indent};
 
 /// The columns in front of the first line of a composite of this kind, and in front of its other lines.
 ///

@@ -11,7 +11,7 @@ use crate::indents::follow_up;
 use crate::room::Room;
 use mad_fit::spacing::Spacing;
 use mad_fit::tokens::Token;
-use stand_style::CompositeKind;
+use mad_style::CompositeKind;
 use std::alloc::{AllocError, Global};
 use std::mem;
 

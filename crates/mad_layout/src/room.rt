@@ -3,7 +3,7 @@ ghost use Rattle.mad_layout.specs.Indents.{room_of};
 
 use crate::indents::composite_kind_widths;
 use crate::skin::MadSkin;
-use stand_style::CompositeKind;
+use mad_style::CompositeKind;
 
 /// The columns that the lines of a wrapped composite have.
 #[derive(Clone, Copy, Debug)]

@@ -3,8 +3,8 @@ ghost use Rattle.std.specs.Prelude.{◌≡◌, ◌+◌};
 use crate::indents::indent_of;
 use mad_fit::measure::columns;
 use mad_md::Compound;
-use stand_style::{CompositeKind, ListItemsIndentationMode};
-use stand_style::LineStyle;
+use mad_style::{CompositeKind, ListItemsIndentationMode};
+use mad_style::LineStyle;
 
 /// The styles of a text, as far as its layout needs them.
 #[derive(Clone, PartialEq, Debug, Drop)]

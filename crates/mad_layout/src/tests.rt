@@ -11,13 +11,14 @@ use crate::wrap::{hard_wrap_composite, hard_wrap_lines};
 use mad_fit::spacing::Spacing;
 use mad_md::{Alignment, Composite, CompositeStyle, Compound};
 use mad_term::Error;
-use stand_style::{CompositeKind, LineStyle, ListItemsIndentationMode};
+use mad_style::{CompositeKind, CompoundStyle, LineStyle, ListItemsIndentationMode};
 use std::alloc::{AllocError, Global};
 use std::process::Abort;
 use std::test::Fail;
 
 fn skin_with(left_margin: usize, right_margin: usize, mode: ListItemsIndentationMode) -> MadSkin {
     let style = LineStyle {
+        compound_style: CompoundStyle::default(),
         align: Alignment::Unspecified,
         left_margin,
         right_margin,
@@ -136,13 +137,13 @@ fn a_long_italic_sentence(rt: HostRuntime) -> Result<(), Fail> {
     let skin = plain_skin();
     let text = "*Now I'll describe this example with more words than necessary, in order to be sure to demonstrate scrolling (and **wrapping**, too, thanks to long sentences).*";
     let composite = composite(alloc, text, CompositeStyle::Paragraph, &skin)?;
-    assert!(&rt; composite.visible_length > 120);
+    assert!(rt; composite.visible_length > 120);
     let lines = hard_wrap_composite(alloc, &composite, 120, &skin)?;
-    assert_eq!(&rt; lines.len(), 2);
-    assert!(&rt; !lines[1].compounds.is_empty());
+    assert_eq!(rt; lines.len(), 2);
+    assert!(rt; !lines[1].compounds.is_empty());
     let first = lines[1].compounds[0];
-    assert_eq!(&rt; first.src, "wrapping");
-    assert!(&rt; first.bold && first.italic && !first.code && !first.strikeout);
+    assert_eq!(rt; first.src, "wrapping");
+    assert!(rt; first.bold && first.italic && !first.code && !first.strikeout);
     Ok(())
 }
 
@@ -154,9 +155,9 @@ fn items_without_and_with_room(rt: HostRuntime) -> Result<(), Fail> {
     let item = composite(alloc, "abcdef gh", CompositeStyle::ListItem(0), &block)?;
     assert_wrap(&rt, alloc, &item, 8, &block, "|abcdef|\n|gh|\n")?;
     let lines = hard_wrap_composite(alloc, &item, 8, &block)?;
-    assert_eq!(&rt; lines.len(), 2);
-    assert_eq!(&rt; (lines[0].kind, lines[0].visible_length), (CompositeKind::ListItem(0), 8));
-    assert_eq!(&rt; (lines[1].kind, lines[1].visible_length), (CompositeKind::ListItemFollowUp(0), 4));
+    assert_eq!(rt; lines.len(), 2);
+    assert_eq!(rt; (lines[0].kind, lines[0].visible_length), (CompositeKind::ListItem(0), 8));
+    assert_eq!(rt; (lines[1].kind, lines[1].visible_length), (CompositeKind::ListItemFollowUp(0), 4));
     let deep = composite(alloc, "ab", CompositeStyle::ListItem(255), &block)?;
     assert_wrap(&rt, alloc, &deep, 3, &block, "\n|a|\n|b|\n")?;
     assert_bound(&rt, alloc, &deep, 3, &block, &[0, 1])?;
@@ -181,7 +182,7 @@ fn starts_that_show_nothing(rt: HostRuntime) -> Result<(), Fail> {
         let bound = WrapBound {
             starts: starts.to_vec(alloc)?,
         };
-        assert_eq!(&rt; check_wrap_bound(alloc, &composite, 5, &skin, &bound)?, wanted);
+        assert_eq!(rt; check_wrap_bound(alloc, &composite, 5, &skin, &bound)?, wanted);
     }
     assert_bound(&rt, alloc, &composite, 9, &skin, &[0])
 }
@@ -191,16 +192,16 @@ fn a_width_under_three(rt: HostRuntime) -> Result<(), Fail> {
     let alloc = rt.alloc();
     let skin = plain_skin();
     let composite = composite(alloc, "abc", CompositeStyle::Paragraph, &skin)?;
-    assert!(&rt; composite.visible_length > 2);
-    assert!(&rt; is_refused(hard_wrap_composite(alloc, &composite, 2, &skin), 2));
-    assert!(&rt; is_refused(wrap_bound(alloc, &composite, 2, &skin), 2));
+    assert!(rt; composite.visible_length > 2);
+    assert!(rt; is_refused(hard_wrap_composite(alloc, &composite, 2, &skin), 2));
+    assert!(rt; is_refused(wrap_bound(alloc, &composite, 2, &skin), 2));
     let bound = wrap_bound(alloc, &composite, 3, &skin)?;
-    assert!(&rt; is_refused(check_wrap_bound(alloc, &composite, 2, &skin, &bound), 2));
+    assert!(rt; is_refused(check_wrap_bound(alloc, &composite, 2, &skin, &bound), 2));
     Ok(())
 }
 
-fn is_refused<T: Drop>(result: Result<T, Error>, width: usize) -> bool {
-    match result {
+fn is_refused<T: Drop>(outcome: Result<T, Error>, width: usize) -> bool {
+    match outcome {
         Err(Error::InsufficientWidth(error)) => error.available_width == width,
         _ => false,
     }
@@ -221,10 +222,10 @@ fn margins_of_the_style(rt: HostRuntime) -> Result<(), Fail> {
         let mut picture = String::new(alloc);
         for line in &hard_wrap_lines(alloc, lines, 12, &skin)? {
             let FmtLine::Normal(line) = line;
-            assert_eq!(&rt; line.margins, Some(margins));
+            assert_eq!(rt; line.margins, Some(margins));
             push_picture(&mut picture, line)?;
         }
-        assert_eq!(&rt; picture.as_str(), wanted);
+        assert_eq!(rt; picture.as_str(), wanted);
     }
     Ok(())
 }

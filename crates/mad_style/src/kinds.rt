@@ -23,7 +23,7 @@ pub enum CompositeKind {
 }
 
 impl From<CompositeStyle> for CompositeKind {
-    ghost use Rattle.stand_style.specs.Kinds.{kind_of};
+    ghost use Rattle.mad_style.specs.Kinds.{kind_of};
 
     ghost from_gives = { λ style kind. kind ≡ kind_of style };
 
@@ -49,7 +49,7 @@ pub enum ListItemsIndentationMode {
 }
 
 impl Default for ListItemsIndentationMode {
-    ghost use Rattle.stand_style.specs.declared.kinds.ListItemsIndentationMode.TheVariants.{Block};
+    ghost use Rattle.mad_style.specs.declared.kinds.ListItemsIndentationMode.TheVariants.{Block};
 
     ghost is_default = { λ mode. mode ≡ Block };
 

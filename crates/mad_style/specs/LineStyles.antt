@@ -1,8 +1,12 @@
 -- Styles of lines.
 use Rattle.std.specs.Prelude.{ℕ, ◌+◌, Option, Some, None, nat_lt, if◌then◌else◌}
 use Rattle.mad_md.specs.declared.alignment.Alignment.{Alignment}
-use Rattle.stand_style.specs.declared.line_styles.LineStyle.{LineStyle}
+use Rattle.mad_style.specs.declared.compound_styles.CompoundStyle.{CompoundStyle}
+use Rattle.mad_style.specs.declared.line_styles.LineStyle.{LineStyle}
 
+-- a line's style without margins
+abbrev pub unmargined : CompoundStyle → Alignment → LineStyle
+unmargined style align = record { compound_style = style; align = align; left_margin = 0; right_margin = 0 }
 
 -- the margins of a line at a width: none where they would leave less than three columns, and else both. Without a width
 -- there is room for both.

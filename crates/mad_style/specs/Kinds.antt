@@ -1,8 +1,8 @@
 -- Kinds of composites.
 use Rattle.mad_md.specs.declared.composite.CompositeStyle.{CompositeStyle}
 use Rattle.mad_md.specs.declared.composite.CompositeStyle.TheVariants as style
-use Rattle.stand_style.specs.declared.kinds.CompositeKind.{CompositeKind}
-use Rattle.stand_style.specs.declared.kinds.CompositeKind.TheVariants as kind
+use Rattle.mad_style.specs.declared.kinds.CompositeKind.{CompositeKind}
+use Rattle.mad_style.specs.declared.kinds.CompositeKind.TheVariants as kind
 
 -- the kind of a composite as it was read, before it is wrapped
 abbrev pub kind_of : CompositeStyle → CompositeKind
