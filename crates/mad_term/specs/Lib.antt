@@ -1,0 +1,5 @@
+pub mod Standin
+pub mod Glyph
+pub mod Grid
+pub mod Terminal
+pub mod Stages

@@ -1,0 +1,132 @@
+// What the plain terminal writes characters with.
+ghost use Rattle.std.specs.Prelude.{◌≡◌};
+ghost use Rattle.mad_term.specs.Grid.{plain_pen};
+ghost use Rattle.mad_term.specs.Terminal.{restyled, attribute_of, switched_on, with_code, with_color};
+
+use crate::style::{Attribute, Attributes, Color};
+
+/// How a terminal shows the characters that it puts on the screen: three colours and a set of attributes. A colour that is
+/// `None` is the terminal's default; one that is there is an `AnsiValue` or an `Rgb`.
+#[derive(Clone, Copy, Debug, PartialEq, Eq)]
+pub struct Pen {
+    /// The colour of characters.
+    pub fg: Option<Color>,
+    /// The colour behind them.
+    pub bg: Option<Color>,
+    /// The colour of lines below them.
+    pub underline: Option<Color>,
+    /// The attributes that were switched on since the pen was last the default one.
+    pub codes: Attributes,
+}
+
+impl Pen {
+    /// The default pen: no colour, no attribute.
+    pub fn plain() -> Self
+        ensures { result ≡ plain_pen }
+    {
+        Pen {
+            fg: None,
+            bg: None,
+            underline: None,
+            codes: Attributes(0),
+        }
+    }
+
+    /// The pen after the command `m` with these numbers, if it is one.
+    pub(crate) fn restyled(self, numbers: &[u32]) -> Option<Self>
+        ensures { result ≡ restyled numbers.now self }
+    {
+        match numbers {
+            [code] => self.with_code(*code),
+            [code, 5, n] if *n < 256 => self.with_color(*code, Color::AnsiValue(*n as u8)),
+            [code, 2, r, g, b] if *r < 256 && *g < 256 && *b < 256 => {
+                let color = Color::Rgb {
+                    r: *r as u8,
+                    g: *g as u8,
+                    b: *b as u8,
+                };
+                self.with_color(*code, color)
+            }
+            _ => None,
+        }
+    }
+
+    fn with_code(self, code: u32) -> Option<Self>
+        ensures { result ≡ with_code code self }
+    {
+        match code {
+            39 => Some(Pen { fg: None, ..self }),
+            49 => Some(Pen { bg: None, ..self }),
+            59 => Some(Pen {
+                underline: None,
+                ..self
+            }),
+            _ => attribute_of(code).map(|a| self.switched_on(a)),
+        }
+    }
+
+    fn with_color(self, code: u32, color: Color) -> Option<Self>
+        ensures { result ≡ with_color code color self }
+    {
+        match code {
+            38 => Some(Pen {
+                fg: Some(color),
+                ..self
+            }),
+            48 => Some(Pen {
+                bg: Some(color),
+                ..self
+            }),
+            58 => Some(Pen {
+                underline: Some(color),
+                ..self
+            }),
+            _ => None,
+        }
+    }
+
+    fn switched_on(self, attribute: Attribute) -> Self
+        ensures { result ≡ switched_on attribute self }
+    {
+        if attribute == Attribute::Reset {
+            return Pen::plain();
+        }
+        let mut codes = self.codes;
+        codes.set(attribute);
+        Pen { codes, ..self }
+    }
+}
+
+/// The attribute of a code.
+fn attribute_of(code: u32) -> Option<Attribute>
+    ensures { result ≡ attribute_of code }
+{
+    let attribute = match code {
+        0 => Attribute::Reset,
+        1 => Attribute::Bold,
+        2 => Attribute::Dim,
+        3 => Attribute::Italic,
+        4 => Attribute::Underlined,
+        5 => Attribute::SlowBlink,
+        6 => Attribute::RapidBlink,
+        7 => Attribute::Reverse,
+        8 => Attribute::Hidden,
+        9 => Attribute::CrossedOut,
+        20 => Attribute::Fraktur,
+        21 => Attribute::NoBold,
+        22 => Attribute::NormalIntensity,
+        23 => Attribute::NoItalic,
+        24 => Attribute::NoUnderline,
+        25 => Attribute::NoBlink,
+        27 => Attribute::NoReverse,
+        28 => Attribute::NoHidden,
+        29 => Attribute::NotCrossedOut,
+        51 => Attribute::Framed,
+        52 => Attribute::Encircled,
+        53 => Attribute::OverLined,
+        54 => Attribute::NotFramedOrEncircled,
+        55 => Attribute::NotOverLined,
+        _ => return None,
+    };
+    Some(attribute)
+}
