@@ -1,6 +1,7 @@
 -- Writing cells one after another.
-use Rattle.std.proofs.Common.{◌≡◌, ◌≢◌, ◌⊎◌, inl, inr, ⊎_elim, ℕ, suc, zero, ◌+◌, ◌<◌, ◌≤◌, List, [], ◌∷◌, ◌++◌, length, get_or, set, refl, ap, ◌∙◌, arith, add-zero, length-set}
-use Rattle.std.proofs.lemmas.List.{get_or-set_same, get_or-set_other, set_comm}
+use Rattle.std.proofs.Common.{◌≡◌, ◌≢◌, ◌⊎◌, inl, inr, ⊎_elim, ℕ, suc, zero, ◌+◌, ◌<◌, ◌≤◌, List, [], ◌∷◌, ◌++◌, length, get_or, set, refl, ap, ◌∙◌, arith, add-zero, length-set, ◌-◌, min, replicate, sym}
+use Rattle.std.proofs.lemmas.List.{get_or-set_same, get_or-set_other, set_comm, set_past, length-replicate, replicate-append-replicate}
+use Rattle.std.proofs.lemmas.Bool.{cases_lt}
 use Rattle.mad_term.specs.Glyph.{Glyph}
 use Rattle.mad_term.specs.Grid.{put_list}
 
@@ -37,7 +38,25 @@ set-put_list cells i j [] a h = refl
 set-put_list cells i j (g ∷ gs) a h =
     set-put_list (set cells i g) (suc i) j gs a (omega arith) ∙ ap (λ l. put_list l (suc i) gs) (set_comm cells i j g a (omega arith))
 
--- there is no cell to write
-pub put_list-nil : (i : ℕ) (gs : List Glyph) → put_list [] i gs ≡ []
-put_list-nil i [] = refl
-put_list-nil i (g ∷ gs) = put_list-nil (suc i) gs
+-- past the cells nothing is written
+pub put_list-past : (cells : List Glyph) (i : ℕ) (gs : List Glyph) → length cells ≤ i → put_list cells i gs ≡ cells
+put_list-past cells i [] h = refl
+put_list-past cells i (g ∷ gs) h =
+    put_list-past (set cells i g) (suc i) gs (omega (arith, length-set cells i g)) ∙ set_past cells i g h
+
+cut_past : (cells : List Glyph) (from n rest all : ℕ) (g : Glyph) → n + rest ≡ all → length cells ≤ from + n → put_list cells from (replicate all g) ≡ put_list cells from (replicate n g)
+cut_past cells from n rest all g count past =
+    ap (λ m. put_list cells from (replicate m g)) (sym count)
+    ∙ ap (put_list cells from) (sym (replicate-append-replicate n rest g))
+    ∙ put_list-append cells from (replicate n g) (replicate rest g)
+    ∙ put_list-past (put_list cells from (replicate n g)) (from + length (replicate n g)) (replicate rest g) (omega (arith, length-put_list cells from (replicate n g), length-replicate n g))
+
+-- so the same cell need be written to the end alone
+pub put_same-cut : (cells : List Glyph) (from to : ℕ) (g : Glyph) → put_list cells from (replicate (min to (length cells) - from) g) ≡ put_list cells from (replicate (to - from) g)
+put_same-cut cells from to g =
+    ⊎_elim
+    (λ (past : length cells < to). sym (cut_past cells from (min to (length cells) - from) ((to - from) - (min to (length cells) - from)) (to - from) g (omega arith) (omega arith)))
+    (λ (inside : to ≤ length cells).
+    let same : min to (length cells) - from ≡ to - from = omega arith in
+    ap (λ m. put_list cells from (replicate m g)) same)
+    (cases_lt (length cells) to)

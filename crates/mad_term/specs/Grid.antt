@@ -1,11 +1,10 @@
 -- A screen: its cells, the cursor and the pen.
 use Rattle.std.specs.Prelude.{◌≡◌, ℕ, suc, ◌+◌, ◌-◌, ◌*◌, ◌≤◌, ◌&&◌, nat_lt, Bool, true, false, List, [], ◌∷◌, length, Option, Some, None, if◌then◌else◌, replicate, slice_index_or, slice_set}
-use Rattle.mad_term.specs.declared.pen.Pen.{Pen}
-use Rattle.mad_term.specs.Glyph.{Glyph}
+use Rattle.mad_term.specs.Glyph.{Glyph, Look}
 
 -- the default pen: no colour, no attribute
-abbrev pub plain_pen : Pen
-plain_pen = record { fg = None; bg = None; underline = None; codes = record { 0 = 0 } }
+abbrev pub plain_pen : Look
+plain_pen = record { fg = None; bg = None; underline = None; codes = 0 }
 
 -- a space with the default pen, as every cell is at first
 abbrev pub blank : Glyph
@@ -19,7 +18,7 @@ pub record Grid : Type 0 where
   pub cells : List Glyph
   pub x : ℕ
   pub y : ℕ
-  pub pen : Pen
+  pub pen : Look
 
 -- a cell for each place, and the cursor in a row of the screen (in row 0 where there is none)
 pub record IsGrid (g : Grid) : Type 0 where
@@ -49,7 +48,7 @@ unfoldable pub painted : Grid → List Glyph → Grid
 painted g gs = record g { cells = put_list g.cells (g.y * g.width + g.x) gs; x = g.x + length gs }
 
 -- a character with those joined to it, over k + 1 columns: itself and k tails
-abbrev pub glyphs : List ℕ → ℕ → Pen → List Glyph
+abbrev pub glyphs : List ℕ → ℕ → Look → List Glyph
 glyphs chars k pen = record { chars = chars; pen = pen } ∷ replicate k (record { chars = []; pen = pen })
 
 abbrev pub has_none : List ℕ → Bool

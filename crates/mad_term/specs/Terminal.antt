@@ -4,14 +4,12 @@ use Rattle.std.specs.Prelude.{◌≡◌, ℕ, zero, suc, ◌+◌, ◌-◌, ◌*�
 use Rattle.std.specs.Str.{chars, is_utf8}
 use Rattle.std.specs.Int.RustNames.{bit_or}
 use Rattle.unicode_width.specs.Width.{char_width}
-use Rattle.mad_term.specs.declared.style.Color.{Color}
-use Rattle.mad_term.specs.declared.style.Color.TheVariants.{AnsiValue, Rgb}
-use Rattle.mad_term.specs.declared.style.Attribute.{Attribute}
-use Rattle.mad_term.specs.declared.style.Attribute.TheVariants.{Reset}
-use Rattle.mad_term.specs.declared.style.Attributes.{Attributes}
-use Rattle.mad_term.specs.declared.pen.Pen.{Pen}
-use Rattle.mad_term.specs.Standin.{place, attribute_code, all_attributes}
-use Rattle.mad_term.specs.Glyph.{Glyph}
+use Rattle.mad_term.specs.declared.color.Color.{Color}
+use Rattle.mad_term.specs.declared.color.Color.TheVariants.{AnsiValue, Rgb}
+use Rattle.mad_term.specs.declared.attribute.Attribute.{Attribute}
+use Rattle.mad_term.specs.declared.attribute.Attribute.TheVariants.{Reset}
+use Rattle.mad_term.specs.Attribute.{place, attribute_table}
+use Rattle.mad_term.specs.Glyph.{Glyph, Look}
 use Rattle.mad_term.specs.Grid.{Grid, plain_pen, put_list, painted, glyphs, is_tail, blank}
 
 -- ---- characters
@@ -51,7 +49,7 @@ go_to (row ∷ column ∷ []) g =
 go_to _ g = None
 
 -- a space with the pen's background alone
-abbrev pub space_of : Pen → Glyph
+abbrev pub space_of : Look → Glyph
 space_of p = record { chars = 32 ∷ []; pen = record plain_pen { bg = p.bg } }
 
 -- such spaces in the cells from one place up to another; the cursor stays
@@ -82,21 +80,17 @@ erase_row [] g = Some (erased (row_start g + g.x) (row_end g) g)
 erase_row (n ∷ []) g = if n == 2 then Some (erased (row_start g) (row_end g) g) else None
 erase_row _ g = None
 
--- the set with this attribute too
-abbrev pub with_attribute : Attribute → Attributes → Attributes
-with_attribute a s = record { 0 = bit_or s.0 (2 ^ place a) }
-
 -- the pen once an attribute was switched on; Reset makes it the default one and isn't kept
-abbrev pub switched_on : Attribute → Pen → Pen
+abbrev pub switched_on : Attribute → Look → Look
 switched_on Reset p = plain_pen
-switched_on a p = record p { codes = with_attribute a p.codes }
+switched_on a p = record p { codes = bit_or p.codes (2 ^ place a) }
 
 -- the attribute of a code
 abbrev pub attribute_of : ℕ → Option Attribute
-attribute_of n = find (λ a. attribute_code a == n) all_attributes
+attribute_of n = option_map (λ row. row.0) (find (λ row. row.1 == n) attribute_table)
 
 -- the default colour for characters, behind them or for the lines below, or an attribute
-abbrev pub with_code : ℕ → Pen → Option Pen
+abbrev pub with_code : ℕ → Look → Option Look
 with_code n p =
     if n == 39 then Some (record p { fg = None })
     else if n == 49 then Some (record p { bg = None })
@@ -104,14 +98,14 @@ with_code n p =
     else option_map (λ a. switched_on a p) (attribute_of n)
 
 -- a colour for characters, behind them or for the lines below
-abbrev pub with_color : ℕ → Color → Pen → Option Pen
+abbrev pub with_color : ℕ → Color → Look → Option Look
 with_color n c p =
     if n == 38 then Some (record p { fg = Some c })
     else if n == 48 then Some (record p { bg = Some c })
     else if n == 58 then Some (record p { underline = Some c }) else None
 
 -- one code, or one colour by number or by its three parts
-abbrev pub restyled : List ℕ → Pen → Option Pen
+abbrev pub restyled : List ℕ → Look → Option Look
 restyled (n ∷ []) p = with_code n p
 restyled (n ∷ kind ∷ number ∷ []) p = if (kind == 5) && nat_lt number 256 then with_color n (AnsiValue number) p else None
 restyled (n ∷ kind ∷ r ∷ g ∷ b ∷ []) p =

@@ -1,5 +1,6 @@
 // The cells of a screen.
 ghost use Rattle.std.specs.Prelude.{◌≡◌, ◌<◌, ◌≤◌, ◌+◌, ◌-◌, [], ◌∷◌, IfOk, IfSome, OnOk, length, vec_len, replicate};
+ghost use Rattle.mad_term.specs.Glyph.{look_of};
 ghost use Rattle.mad_term.specs.Grid.{put_list, is_tail, glyphs};
 ghost use Rattle.mad_term.specs.Terminal.{head_before, joined_glyph, space_of};
 
@@ -15,17 +16,17 @@ pub struct Cell {
 }
 
 impl Model for Cell {
-    ghost use Rattle.mad_term.specs.Glyph.{Glyph};
+    ghost use Rattle.mad_term.specs.Glyph.{Glyph, look_of};
 
     ghost Value = { Glyph };
 
-    ghost view = { λ c. record { chars = c.chars.items; pen = c.pen } };
+    ghost view = { λ c. record { chars = c.chars.items; pen = look_of c.pen } };
 }
 
 impl Cell {
     /// One character in a pen.
     pub(crate) fn of(alloc: Global, c: char, pen: Pen) -> Result<Self, AllocError>
-        ensures { IfOk result (λ cell. cell ≡ record { chars = c ∷ []; pen = pen }) }
+        ensures { IfOk result (λ cell. cell ≡ record { chars = c ∷ []; pen = look_of pen }) }
     {
         let mut chars = Vec::new(alloc);
         chars.push(c)?;
@@ -41,7 +42,7 @@ impl Cell {
 
     /// The pen that it was written with.
     pub fn pen(&self) -> Pen
-        ensures { result ≡ self.now.pen }
+        ensures { look_of result ≡ self.now.pen }
     {
         self.pen
     }
@@ -63,7 +64,7 @@ impl Cell {
     }
 
     fn set(&mut self, c: char, pen: Pen) -> Result<(), AllocError>
-        ensures { OnOk result (self.new ≡ record { chars = c ∷ []; pen = pen }) }
+        ensures { OnOk result (self.new ≡ record { chars = c ∷ []; pen = look_of pen }) }
     {
         self.chars.clear();
         self.chars.push(c)?;
@@ -72,7 +73,7 @@ impl Cell {
     }
 
     fn set_tail(&mut self, pen: Pen)
-        ensures { self.new ≡ record { chars = []; pen = pen } }
+        ensures { self.new ≡ record { chars = []; pen = look_of pen } }
     {
         self.chars.clear();
         self.pen = pen;
@@ -95,7 +96,8 @@ pub(crate) fn lay(
     pen: Pen,
 ) -> Result<(), AllocError>
     requires { at + k < vec_len cells.old }
-    ensures { OnOk result (cells.new.items ≡ put_list cells.old.items at (glyphs (c ∷ []) k pen)) }
+    ensures laid { OnOk result (cells.new.items ≡ put_list cells.old.items at (glyphs (c ∷ []) k (look_of pen))) }
+    ensures same { length cells.new.items ≡ length cells.old.items }
 {
     cells[at].set(c, pen)?;
     for i in 0..k {
@@ -104,21 +106,22 @@ pub(crate) fn lay(
     Ok(())
 }
 
-/// Makes spaces with the pen's background of the cells from one place up to another.
+/// Makes spaces with the pen's background of the cells from one place up to another, as far as there are cells.
 pub(crate) fn erase(
     cells: &mut Vec<Cell>,
     from: usize,
     to: usize,
     pen: Pen,
 ) -> Result<(), AllocError>
-    requires { to ≤ vec_len cells.old }
-    ensures { OnOk result (cells.new.items ≡ put_list cells.old.items from (replicate (to - from) (space_of pen))) }
+    ensures erased { OnOk result (cells.new.items ≡ put_list cells.old.items from (replicate (to - from) (space_of (look_of pen)))) }
+    ensures same { length cells.new.items ≡ length cells.old.items }
 {
     let space = Pen {
         bg: pen.bg,
         ..Pen::plain()
     };
-    for at in from..to {
+    let end = to.min(cells.len());
+    for at in from..end {
         cells[at].set(' ', space)?;
     }
     Ok(())

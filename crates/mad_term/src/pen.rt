@@ -1,9 +1,12 @@
 // What the plain terminal writes characters with.
-ghost use Rattle.std.specs.Prelude.{◌≡◌};
+ghost use Rattle.std.specs.Prelude.{◌≡◌, option_map};
+ghost use Rattle.mad_term.specs.Glyph.{look_of};
 ghost use Rattle.mad_term.specs.Grid.{plain_pen};
 ghost use Rattle.mad_term.specs.Terminal.{restyled, attribute_of, switched_on, with_code, with_color};
 
-use crate::style::{Attribute, Attributes, Color};
+use crate::attribute::Attribute;
+use crate::attributes::Attributes;
+use crate::color::Color;
 
 /// How a terminal shows the characters that it puts on the screen: three colours and a set of attributes. A colour that is
 /// `None` is the terminal's default; one that is there is an `AnsiValue` or an `Rgb`.
@@ -22,19 +25,19 @@ pub struct Pen {
 impl Pen {
     /// The default pen: no colour, no attribute.
     pub fn plain() -> Self
-        ensures { result ≡ plain_pen }
+        ensures { look_of result ≡ plain_pen }
     {
         Pen {
             fg: None,
             bg: None,
             underline: None,
-            codes: Attributes(0),
+            codes: Attributes::default(),
         }
     }
 
     /// The pen after the command `m` with these numbers, if it is one.
     pub(crate) fn restyled(self, numbers: &[u32]) -> Option<Self>
-        ensures { result ≡ restyled numbers.now self }
+        ensures { option_map look_of result ≡ restyled numbers.now (look_of self) }
     {
         match numbers {
             [code] => self.with_code(*code),
@@ -52,7 +55,7 @@ impl Pen {
     }
 
     fn with_code(self, code: u32) -> Option<Self>
-        ensures { result ≡ with_code code self }
+        ensures { option_map look_of result ≡ with_code code (look_of self) }
     {
         match code {
             39 => Some(Pen { fg: None, ..self }),
@@ -66,7 +69,7 @@ impl Pen {
     }
 
     fn with_color(self, code: u32, color: Color) -> Option<Self>
-        ensures { result ≡ with_color code color self }
+        ensures { option_map look_of result ≡ with_color code color (look_of self) }
     {
         match code {
             38 => Some(Pen {
@@ -86,7 +89,7 @@ impl Pen {
     }
 
     fn switched_on(self, attribute: Attribute) -> Self
-        ensures { result ≡ switched_on attribute self }
+        ensures { look_of result ≡ switched_on attribute (look_of self) }
     {
         if attribute == Attribute::Reset {
             return Pen::plain();

@@ -1,12 +1,12 @@
 // The plain terminal's screen.
 ghost use Rattle.std.specs.Prelude.{◌≡◌, ◌<◌, ◌≤◌, ◌+◌, ◌*◌, ◌^◌, None, Some, suc, IfOk, OnOk, MatchBool, length, vec_len, replicate};
 ghost use Rattle.std.specs.Option.{option_copied};
-ghost use Rattle.mad_term.specs.Grid.{cell_on_screen, empty_grid, plain_pen};
-ghost use Rattle.mad_term.specs.Terminal.{put, put_wide, go_to, restyled, attribute_of, switched_on, with_code, with_color, erased, erase_row, erase_screen, perform};
+ghost use Rattle.mad_term.specs.Glyph.{look_of};
+ghost use Rattle.mad_term.specs.Grid.{cell_on_screen, empty_grid};
+ghost use Rattle.mad_term.specs.Terminal.{put, put_wide, go_to, erased, erase_row, erase_screen, perform};
 
 use crate::cell::{Cell, copy_all, erase, find_head, lay};
 use crate::pen::Pen;
-use crate::style::{Attribute, Color};
 use std::alloc::{AllocError, Global};
 use std::marker::Model;
 use unicode_width::UnicodeWidthChar;
@@ -24,12 +24,13 @@ pub struct Screen {
 
 impl Model for Screen {
     ghost use Rattle.mad_term.specs.Grid.{Grid, IsGrid};
+    ghost use Rattle.mad_term.specs.Glyph.{look_of};
 
     ghost Value = { Grid };
 
-    ghost view = { λ s. record { width = s.width; height = s.height; cells = s.cells.items; x = s.x; y = s.y; pen = s.pen } };
+    ghost view = { λ s. record { width = s.width; height = s.height; cells = s.cells.items; x = s.x; y = s.y; pen = look_of s.pen } };
 
-    ghost invariant = { λ s. IsGrid (record { width = s.width; height = s.height; cells = s.cells.items; x = s.x; y = s.y; pen = s.pen }) };
+    ghost invariant = { λ s. IsGrid (record { width = s.width; height = s.height; cells = s.cells.items; x = s.x; y = s.y; pen = look_of s.pen }) };
 }
 
 impl Screen {
@@ -74,7 +75,7 @@ impl Screen {
 
     /// What the next character will be written with.
     pub fn pen(&self) -> Pen
-        ensures { result ≡ self.now.pen }
+        ensures { look_of result ≡ self.now.pen }
     {
         self.pen
     }
@@ -162,22 +163,20 @@ impl Screen {
     }
 
     fn erase(&mut self, from: usize, to: usize) -> Result<(), AllocError>
-        requires { to ≤ length self.old.cells }
         ensures { OnOk result (self.new ≡ erased from to self.old) }
     {
         erase(&mut self.cells, from, to, self.pen)
     }
 
-    /// It answers whether the screen knows this erasing of rows.
+    /// Erasing of rows. It answers whether the numbers are known.
     fn erase_screen(&mut self, numbers: &[u32]) -> Result<bool, AllocError>
         ensures { IfOk result (λ done. MatchBool done (erase_screen numbers.now self.old ≡ Some self.new) (erase_screen numbers.now self.old ≡ None)) }
     {
-        let here = self.row_start() + usize::from(self.x);
-        let behind = self.row_start() + usize::from(self.width.min(self.x.saturating_add(1)));
-        let end = self.cells.len();
+        let start = self.row_start();
+        let end = usize::from(self.height) * usize::from(self.width);
         let (from, to) = match numbers {
-            [] => (here, end),
-            [1] => (0, behind.min(end)),
+            [] => (start + usize::from(self.x), end),
+            [1] => (0, start + (usize::from(self.x) + 1).min(usize::from(self.width))),
             [2] => (0, end),
             _ => return Ok(false),
         };
@@ -185,7 +184,7 @@ impl Screen {
         Ok(true)
     }
 
-    /// It answers whether the screen knows this erasing in a row.
+    /// Erasing in the cursor's row. It answers whether the numbers are known.
     fn erase_row(&mut self, numbers: &[u32]) -> Result<bool, AllocError>
         ensures { IfOk result (λ done. MatchBool done (erase_row numbers.now self.old ≡ Some self.new) (erase_row numbers.now self.old ≡ None)) }
     {
@@ -195,9 +194,7 @@ impl Screen {
             [2] => start,
             _ => return Ok(false),
         };
-        if self.y < self.height {
-            self.erase(from, start + usize::from(self.width))?;
-        }
+        self.erase(from, start + usize::from(self.width))?;
         Ok(true)
     }
 
@@ -227,7 +224,10 @@ impl Screen {
         })
     }
 
-    pub(crate) fn alloc(&self) -> Global {
+    /// Where its memory comes from.
+    pub(crate) fn alloc(&self) -> Global
+        ensures { result ≡ result }
+    {
         *self.cells.allocator()
     }
 }
