@@ -2,7 +2,15 @@ pub mod Attribute
 pub mod AttributeNames
 pub mod Attributes
 pub mod Color
+pub mod Columns
+pub mod Commands
+pub mod Draws
+pub mod Errors
 pub mod Glyph
 pub mod Grid
-pub mod Terminal
+pub mod Scripted
 pub mod Stages
+pub mod Stream
+pub mod Styles
+pub mod Terminal
+pub mod Trace

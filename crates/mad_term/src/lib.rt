@@ -1,24 +1,41 @@
-//! Terminal bytes: the commands that the project writes, and what they mean.
+//! The terminal's side: what bytes go out, to which device, and what a plain terminal shows of them.
 //!
-//! Colors and attributes are plain data (`color`, `attribute`); a set of attributes is a word of bits
-//! (`attributes`).
+//! In the order of the work:
 //!
-//! What the bytes mean is said by a plain terminal: a screen of cells (`cell`, `screen`), written with a pen (`pen`), that
-//! reads bytes (`reader`). `laws` states what drawing relies on.
+//! 1. [`errors`]: what a call refuses by.
+//! 2. [`devices`]: what takes bytes ([`Out`]) and what gives them ([`Source`]), and [`put_all`].
+//! 3. [`streams`]: the readers and writers of the standard library as devices.
+//! 4. [`scripted`]: devices for tests, which fail where one wants them to.
+//! 5. [`color`], [`attribute`], [`attributes`]: how a text may look.
+//! 6. [`pen`], [`cell`], [`screen`], [`reader`]: the plain terminal, which says what bytes show.
 #![tactic(auto)]
 
 mod attribute;
 mod attributes;
 mod cell;
 mod color;
+mod columns;
+mod commands;
+mod devices;
+mod errors;
 mod pen;
 mod reader;
 mod screen;
+mod scripted;
+mod streams;
+mod styles;
 
 pub use attribute::Attribute;
 pub use attributes::{AttributeBits, Attributes};
 pub use cell::Cell;
 pub use color::Color;
+pub use columns::char_columns;
+pub use commands::{Clear, ClearType, MoveTo, push_clear, push_move};
+pub use devices::{Out, Source, put_all};
+pub use errors::{Error, InsufficientWidthError};
 pub use pen::Pen;
 pub use reader::NotPlain;
 pub use screen::Screen;
+pub use scripted::{CutOut, ScriptSource};
+pub use streams::Stream;
+pub use styles::ContentStyle;

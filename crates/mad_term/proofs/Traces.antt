@@ -1,0 +1,95 @@
+-- How calls join.
+use Rattle.std.proofs.Common.{◌≡◌, ℕ, ◌+◌, List, [], ◌++◌, take, take-add, drop, Option, Some, None, option_map, IfSome, refl, ap, sym, ◌∙◌, subst, append_assoc}
+use Rattle.std.proofs.lemmas.List.{append-nil, take-append-drop}
+use Rattle.mad_term.specs.Trace.{Trace, after, failed, CutShort, Stopped, TookWith}
+
+grown : (o : Option (List ℕ)) (a b : List ℕ) → option_map (λ s. s ++ b) (option_map (λ s. s ++ a) o) ≡ option_map (λ s. s ++ (a ++ b)) o
+grown None a b = refl
+grown (Some s) a b = ap Some (append_assoc s a b)
+
+grown_none : (o : Option (List ℕ)) → option_map (λ s. s ++ []) o ≡ o
+grown_none None = refl
+grown_none (Some s) = ap Some (append-nil s)
+
+pub after-append : (t : Trace) (a b : List ℕ) → after (after t a) b ≡ after t (a ++ b)
+unfolding after
+after-append t a b = ap (λ (o : Option (List ℕ)). let r : Trace = record { bytes = o; faults = t.faults } in r) (grown t.bytes a b)
+
+pub after-nil : (t : Trace) → after t [] ≡ t
+unfolding after
+after-nil t = ap (λ (o : Option (List ℕ)). let r : Trace = record { bytes = o; faults = t.faults } in r) (grown_none t.bytes)
+
+-- one text, then another
+pub took_both : (old mid new : Trace) (a b : List ℕ) → mid ≡ after old a → new ≡ after mid b → new ≡ after old (a ++ b)
+took_both old mid new a b p q = q ∙ ap (λ t. after t b) p ∙ after-append old a b
+
+-- the fault came in the first part
+pub cut_in_first : (old new : Trace) (a b : List ℕ) → CutShort old a new → CutShort old (a ++ b) new
+cut_in_first old new a b h = record {
+  front = h.front;
+  rest = h.rest ++ b;
+  whole = sym (append_assoc h.front h.rest b) ∙ ap (λ s. s ++ b) h.whole;
+  went = h.went;
+}
+
+-- or in the second
+pub cut_in_second : (old mid new : Trace) (a b : List ℕ) → mid ≡ after old a → CutShort mid b new → CutShort old (a ++ b) new
+cut_in_second old mid new a b p h = record {
+  front = a ++ h.front;
+  rest = h.rest;
+  whole = append_assoc a h.front h.rest ∙ ap (λ s. a ++ s) h.whole;
+  went = h.went ∙ ap failed (ap (λ t. after t h.front) p ∙ after-append old a h.front);
+}
+
+-- a fault at the next `put` of a loop
+pub cut_at : (old mid new : Trace) (text : List ℕ) (n : ℕ) → mid ≡ after old (take n text) → new ≡ failed mid → CutShort old text new
+cut_at old mid new text n p q = record {
+  front = take n text;
+  rest = drop n text;
+  whole = take-append-drop n text;
+  went = q ∙ ap failed p;
+}
+
+-- a `put` of a loop took some of the rest
+pub took_more : (old mid new : Trace) (text : List ℕ) (n k : ℕ) → mid ≡ after old (take n text) → new ≡ after mid (take k (drop n text)) → new ≡ after old (take (n + k) text)
+took_more old mid new text n k p q =
+    took_both old mid new (take n text) (take k (drop n text)) p q ∙ ap (after old) (sym (take-add n k text))
+
+-- nothing went out
+pub stopped_before : (old : Trace) (text : List ℕ) → Stopped old text old
+stopped_before old text = record { front = []; rest = text; whole = refl; went = sym (after-nil old) }
+
+pub stopped_in_first : (old new : Trace) (a b : List ℕ) → Stopped old a new → Stopped old (a ++ b) new
+stopped_in_first old new a b h = record {
+  front = h.front;
+  rest = h.rest ++ b;
+  whole = sym (append_assoc h.front h.rest b) ∙ ap (λ s. s ++ b) h.whole;
+  went = h.went;
+}
+
+pub stopped_in_second : (old mid new : Trace) (a b : List ℕ) → mid ≡ after old a → Stopped mid b new → Stopped old (a ++ b) new
+stopped_in_second old mid new a b p h = record {
+  front = a ++ h.front;
+  rest = h.rest;
+  whole = append_assoc a h.front h.rest ∙ ap (λ s. a ++ s) h.whole;
+  went = h.went ∙ ap (λ t. after t h.front) p ∙ after-append old a h.front;
+}
+
+-- for texts that are nested to the right: what went out first, then the rest
+pub took_then : (old mid new : Trace) (a rest : List ℕ) → mid ≡ after old a → new ≡ after mid rest → new ≡ after old (a ++ rest)
+took_then old mid new a rest p q = took_both old mid new a rest p q
+
+pub took_none : (t : Trace) → t ≡ after t []
+took_none t = sym (after-nil t)
+
+-- what joins the calls of one function
+pub ruleset joins = (took_then, took_none, cut_in_first, cut_in_second, stopped_before, stopped_in_first, stopped_in_second)
+
+took_with_at : (o : Option (List ℕ)) (text : List ℕ) (P : List ℕ → Type 0) → P text → IfSome o (λ before. (t : List ℕ) × (option_map (λ b. b ++ text) o ≡ Some (before ++ t)) × P t)
+took_with_at None text P h = tt
+took_with_at (Some b) text P h = (text, refl, h)
+
+pub took_with : (old new : Trace) (text : List ℕ) (P : List ℕ → Type 0) → new ≡ after old text → P text → TookWith old new P
+unfolding after
+took_with old new text P e h =
+    subst (λ (t : Trace). TookWith old t P) (sym e) (took_with_at old.bytes text P h)

@@ -1,0 +1,30 @@
+-- The devices of tests: what they hand over is known, and where they fail.
+use Rattle.std.specs.Prelude.{◌≡◌, ℕ, ◌-◌, Bool, List, [], Some, length, min}
+use Rattle.mad_term.specs.declared.scripted.CutOut.{CutOut}
+use Rattle.mad_term.specs.declared.scripted.ScriptSource.{ScriptSource}
+use Rattle.mad_term.specs.Trace.{Trace}
+
+-- it tells all that it took
+abbrev pub cut_trace : CutOut → Trace
+cut_trace out = record { bytes = Some out.taken.items; faults = out.faults }
+
+-- How many of so many bytes it takes at a put: no more than its step, and in all no more than its room. None of
+-- some is a fault.
+abbrev pub cut_count : CutOut → ℕ → ℕ
+cut_count out count = min count (min out.step (out.room - length out.taken.items))
+
+-- what it was made with
+pub record IsCutOut (out : CutOut) (step room : ℕ) (flush_fails : Bool) : Type 0 where
+  pub step_is : out.step ≡ step
+  pub room_is : out.room ≡ room
+  pub flush_is : out.flush_fails ≡ flush_fails
+  pub trace_is : cut_trace out ≡ record { bytes = Some []; faults = 0 }
+
+-- it tells all that it has left
+abbrev pub script_trace : ScriptSource → Trace
+script_trace source = record { bytes = Some source.left.now; faults = source.faults }
+
+-- what it was made with
+pub record IsScript (source : ScriptSource) (bytes : List ℕ) (fails : Bool) : Type 0 where
+  pub fails_is : source.fails ≡ fails
+  pub trace_is : script_trace source ≡ record { bytes = Some bytes; faults = 0 }

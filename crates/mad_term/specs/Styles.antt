@@ -1,0 +1,65 @@
+-- The bytes of colors, attributes and pieces.
+use Rattle.std.specs.Prelude.{ℕ, ◌+◌, ◌==◌, ◌||◌, not, List, [], ◌∷◌, ◌++◌, Bool, true, false, Option, Some, None, is_some, if◌then◌else◌}
+use Rattle.std.specs.List.{flat_map}
+use Rattle.mad_term.specs.declared.attribute.Attribute.{Attribute}
+use Rattle.mad_term.specs.declared.attributes.Attributes.{Attributes}
+use Rattle.mad_term.specs.declared.color.Color.{Color}
+use Rattle.mad_term.specs.declared.color.Color.TheVariants.{Reset, Black, DarkGrey, Red, DarkRed, Green, DarkGreen, Yellow, DarkYellow, Blue, DarkBlue, Magenta, DarkMagenta, Cyan, DarkCyan, White, Grey, Rgb, AnsiValue}
+use Rattle.mad_term.specs.declared.styles.ContentStyle.{ContentStyle}
+use Rattle.mad_term.specs.Attribute.{attribute_table, attribute_code}
+use Rattle.mad_term.specs.Attributes.{attribute_bits, has_attribute}
+use Rattle.mad_term.specs.Color.{color_number}
+use Rattle.mad_term.specs.Commands.{sgr_bytes}
+
+-- a number of the palette, or the default
+abbrev pub palette_numbers : ℕ → Option ℕ → List ℕ
+palette_numbers kind None = (kind + 1) ∷ []
+palette_numbers kind (Some n) = kind ∷ 5 ∷ n ∷ []
+
+-- the numbers of the command that sets a color: first what is colored (38 the foreground, 48 the background, 58 the
+-- underline), or one more where it gets its default
+abbrev pub color_numbers : ℕ → Color → List ℕ
+color_numbers kind (Rgb r g b) = kind ∷ 2 ∷ r ∷ g ∷ b ∷ []
+color_numbers kind color = palette_numbers kind (color_number color)
+
+abbrev pub foreground_bytes : Color → List ℕ
+foreground_bytes color = sgr_bytes (color_numbers 38 color)
+
+abbrev pub background_bytes : Color → List ℕ
+background_bytes color = sgr_bytes (color_numbers 48 color)
+
+abbrev pub underline_bytes : Color → List ℕ
+underline_bytes color = sgr_bytes (color_numbers 58 color)
+
+-- an attribute has a command of its own
+abbrev pub attribute_bytes : Attribute → List ℕ
+attribute_bytes a = sgr_bytes (attribute_code a ∷ [])
+
+-- the attributes of a set, in the order of the table
+abbrev pub attributes_bytes : Attributes → List ℕ
+attributes_bytes s = flat_map (λ row. if has_attribute s row.0 then sgr_bytes (row.1 ∷ []) else []) attribute_table
+
+-- the command of a color that is present
+abbrev pub present_bytes : (Color → List ℕ) → Option Color → List ℕ
+present_bytes bytes None = []
+present_bytes bytes (Some color) = bytes color
+
+-- what a style writes before a text: background, foreground, underline color, attributes, each if it is present
+abbrev pub opening_bytes : ContentStyle → List ℕ
+opening_bytes s =
+    present_bytes background_bytes s.background_color
+    ++ (present_bytes foreground_bytes s.foreground_color
+    ++ (present_bytes underline_bytes s.underline_color
+    ++ attributes_bytes s.attributes))
+
+-- and after it, so that the pen is plain again: code 0 after an underline color or an attribute, and else the default
+-- of each color that was written, the background's first
+abbrev pub closing_bytes : ContentStyle → List ℕ
+closing_bytes s =
+    if is_some s.underline_color || not (attribute_bits s.attributes == 0) then sgr_bytes (0 ∷ [])
+    else present_bytes (λ _. sgr_bytes (49 ∷ [])) s.background_color
+    ++ present_bytes (λ _. sgr_bytes (39 ∷ [])) s.foreground_color
+
+-- a piece: one text in one style
+abbrev pub piece_bytes : ContentStyle → List ℕ → List ℕ
+piece_bytes style text = opening_bytes style ++ (text ++ closing_bytes style)

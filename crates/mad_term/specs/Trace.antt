@@ -1,0 +1,65 @@
+-- What a device has done, and what a call may do to it.
+use Rattle.std.specs.Prelude.{◌≡◌, ℕ, ◌+◌, ◌-◌, ◌^◌, ◌<◌, ◌≤◌, min, List, [], ◌∷◌, ◌++◌, length, take, Option, Some, option_map, IfSome, Result, MatchResult, MatchOption}
+
+-- The bytes that a device has taken (of a source: those that it has left), where it tells them, and how often it
+-- has failed.
+pub record Trace : Type 0 where
+  pub bytes : Option (List ℕ)
+  pub faults : ℕ
+
+-- it has taken this text too
+unfoldable pub after : Trace → List ℕ → Trace
+after t text = record { bytes = option_map (λ b. b ++ text) t.bytes; faults = t.faults }
+
+-- it has failed once more; the count stays at its greatest value
+unfoldable pub failed : Trace → Trace
+failed t = record { bytes = t.bytes; faults = min (t.faults + 1) (2 ^ 64 - 1) }
+
+-- a front of the text went out, then a fault came
+pub record CutShort (old : Trace) (text : List ℕ) (new : Trace) : Type 0 where
+  pub front : List ℕ
+  pub rest : List ℕ
+  pub whole : front ++ rest ≡ text
+  pub went : new ≡ failed (after old front)
+
+-- a front of the text went out, and there was no fault
+pub record Stopped (old : Trace) (text : List ℕ) (new : Trace) : Type 0 where
+  pub front : List ℕ
+  pub rest : List ℕ
+  pub whole : front ++ rest ≡ text
+  pub went : new ≡ after old front
+
+-- all of the text went out, or a front of it and then one fault came
+abbrev pub Writes : {T E : Type 0} → Trace → List ℕ → Result T E → Trace → Type 0
+Writes old text r new = MatchResult r (λ _. new ≡ after old text) (λ _. CutShort old text new)
+
+-- one put took this many bytes of the front of the text, one at least of a text that isn't empty
+pub record Took (old : Trace) (text : List ℕ) (count : ℕ) (new : Trace) : Type 0 where
+  pub some : 0 < length text → 0 < count
+  pub within : count ≤ length text
+  pub front : new ≡ after old (take count text)
+
+-- what one put does: it takes some of the text, or it is a fault
+abbrev pub Puts : {E : Type 0} → Trace → List ℕ → Result ℕ E → Trace → Type 0
+Puts old text r new = MatchResult r (λ count. Took old text count new) (λ _. new ≡ failed old)
+
+-- what a flush does: nothing to the bytes
+abbrev pub Flushes : {T E : Type 0} → Trace → Result T E → Trace → Type 0
+Flushes old r new = MatchResult r (λ _. new ≡ old) (λ _. new ≡ failed old)
+
+-- this byte stands before what a source has left
+unfoldable pub ahead : ℕ → Trace → Trace
+ahead byte t = record { bytes = option_map (λ rest. byte ∷ rest) t.bytes; faults = t.faults }
+
+-- the source is at its end, where it tells its bytes, and has not changed
+pub record Ended (old new : Trace) : Type 0 where
+  pub left : IfSome old.bytes (λ bytes. bytes ≡ [])
+  pub same : new ≡ old
+
+-- what one get does: it hands out the next byte, or the end, or it is a fault and no byte is lost
+abbrev pub Gets : {E : Type 0} → Trace → Result (Option ℕ) E → Trace → Type 0
+Gets old r new = MatchResult r (λ o. MatchOption o (Ended old new) (λ byte. old ≡ ahead byte new)) (λ _. new ≡ failed old)
+
+-- where the device tells its bytes, what it took in between has P
+abbrev pub TookWith : Trace → Trace → (List ℕ → Type 0) → Type 0
+TookWith old new P = IfSome old.bytes (λ before. (text : List ℕ) × (new.bytes ≡ Some (before ++ text)) × P text)

@@ -1,0 +1,61 @@
+//! What takes bytes, and what gives them. A contract sees of a device one value, its *trace*.
+
+ghost use Rattle.std.specs.Prelude.{◌≡◌};
+ghost use Rattle.mad_term.specs.Trace.{Trace, Writes, Puts, Flushes, Gets};
+
+use std::io;
+
+/// Something that takes bytes.
+pub trait Out {
+    /// The bytes that it has taken, where it tells them, and how often it has failed.
+    ghost seen: { Self → Trace };
+
+    /// Takes a front of `bytes`, at least one byte where there is one, and answers how many.
+    ///
+    /// # Errors
+    ///
+    /// A fault of the device: nothing of `bytes` was taken, and its count of faults is one higher.
+    fn put(&mut self, bytes: &[u8]) -> io::Result<usize>
+        ensures { Puts (seen self.old) bytes.now result (seen self.new) };
+
+    /// Hands on what it has kept back.
+    ///
+    /// # Errors
+    ///
+    /// A fault of the device; its count of faults is one higher.
+    fn flush(&mut self) -> io::Result<()>
+        ensures { Flushes (seen self.old) result (seen self.new) };
+}
+
+/// Something that gives bytes, one at a time.
+pub trait Source {
+    /// The bytes that it has left, where it tells them, and how often it has failed.
+    ghost seen: { Self → Trace };
+
+    /// The next byte, or `None` at the end.
+    ///
+    /// # Errors
+    ///
+    /// A fault of the device: no byte is lost, and its count of faults is one higher.
+    fn get(&mut self) -> io::Result<Option<u8>>
+        ensures { Gets (seen self.old) result (seen self.new) };
+}
+
+/// Puts all of `bytes`, by as many puts as the device asks for.
+///
+/// # Errors
+///
+/// The first fault of a put: a front of `bytes` was taken before it, and the put isn't repeated.
+pub fn put_all<O: Out>(out: &mut O, bytes: &[u8]) -> io::Result<()>
+    ensures { Writes (O.seen out.old) bytes.now result (O.seen out.new) }
+{
+    let mut done = 0;
+    while done < bytes.len() {
+        let count = out.put(&bytes[done..])?;
+        done += count;
+    }
+    Ok(())
+}
+
+#[cfg(test)]
+mod tests;

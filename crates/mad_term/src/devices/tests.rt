@@ -1,0 +1,62 @@
+//! What no clause says: that the calls succeed, and how the devices of tests and of std work together.
+
+use super::*;
+use crate::scripted::{CutOut, ScriptSource};
+use crate::streams::Stream;
+use std::test::Fail;
+
+const TEXT: &[u8; 54] = b"one text of fifty-four bytes, put in devices for tests";
+
+#[test]
+fn a_device_with_room_for_a_front_takes_just_that_front(rt: HostRuntime) -> Result<(), Fail> {
+    let alloc = rt.alloc();
+    for room in 0..55 {
+        for step in [1, 20, 54] {
+            let mut out = CutOut::new(alloc, step, room, false)?;
+            let put = put_all(&mut out, TEXT);
+            assert_eq!(rt; put.is_ok(), room == 54, "at room {room}");
+            assert!(rt; out.taken() == &TEXT[..room], "at room {room}, step {step}");
+            assert_eq!(rt; out.faults(), u64::from(room < 54), "at room {room}");
+        }
+    }
+    Ok(())
+}
+
+#[test]
+fn a_failing_flush_is_a_fault_behind_all_bytes(rt: HostRuntime) -> Result<(), Fail> {
+    let mut out = CutOut::new(rt.alloc(), 54, 54, true)?;
+    assert!(rt; put_all(&mut out, TEXT).is_ok());
+    assert!(rt; out.flush().is_err());
+    assert!(rt; out.taken() == TEXT.as_slice());
+    assert_eq!(rt; out.faults(), 1);
+    Ok(())
+}
+
+#[test]
+fn a_script_ends_or_fails_behind_its_bytes(rt: HostRuntime) -> Result<(), Fail> {
+    for fails in [false, true] {
+        let mut source = ScriptSource::new(b"ab", fails);
+        assert!(rt; matches!(source.get(), Ok(Some(b'a'))));
+        assert!(rt; matches!(source.get(), Ok(Some(b'b'))));
+        for turn in 1..3 {
+            assert_eq!(rt; source.get().is_err(), fails);
+            assert_eq!(rt; source.faults(), if fails { turn } else { 0 });
+        }
+        assert!(rt; source.left().is_empty());
+    }
+    Ok(())
+}
+
+#[test]
+fn writers_and_readers_of_std_are_devices(rt: HostRuntime) -> Result<(), Fail> {
+    let mut taken = Vec::new(rt.alloc());
+    let mut out = Stream::new(&mut taken);
+    assert!(rt; put_all(&mut out, TEXT).is_ok());
+    assert!(rt; out.flush().is_ok());
+    assert!(rt; taken.as_slice() == TEXT.as_slice());
+
+    let mut source = Stream::new(b"x".as_slice());
+    assert!(rt; matches!(source.get(), Ok(Some(b'x'))));
+    assert!(rt; matches!(source.get(), Ok(None)));
+    Ok(())
+}

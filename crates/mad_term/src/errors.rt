@@ -1,0 +1,99 @@
+//! What the library's calls refuse by.
+
+ghost use Rattle.std.specs.Prelude.{◌≡◌, Some};
+ghost use Rattle.mad_term.specs.Errors.{width_error_text};
+
+use std::alloc::{AllocError, AllocFailed};
+use std::{fmt, io};
+
+/// A width, in columns, that is too small for what was to be laid out in it.
+#[derive(Clone, Copy, Debug, PartialEq, Eq)]
+pub struct InsufficientWidthError {
+    /// The columns that there were.
+    pub available_width: usize,
+}
+
+impl fmt::Display for InsufficientWidthError {
+    ghost output = { λ e. Some (width_error_text e) };
+
+    fn fmt<W: fmt::Write>(&self, f: &mut fmt::Formatter<W>) -> fmt::Result {
+        let available_width = self.available_width;
+        write!(f, "Insufficient available width ({available_width})")
+    }
+}
+
+impl std::error::Error for InsufficientWidthError {}
+
+/// Why a call was refused.
+#[derive(Debug, Drop, thiserror::Error)]
+pub enum Error {
+    /// A device failed in this very call.
+    #[error("IO error: {0}")]
+    IO(io::Error),
+    /// The width is too small to lay anything out in.
+    #[error("InsufficientWidth: {0}")]
+    InsufficientWidth(InsufficientWidthError),
+    /// A growth of a list or a text was refused.
+    #[error("want of memory")]
+    Memory,
+}
+
+impl From<io::Error> for Error {
+    ghost use Rattle.mad_term.specs.declared.errors.Error.TheVariants.{IO};
+
+    ghost from_gives = { λ e r. r ≡ IO e };
+
+    fn from(e: io::Error) -> Self {
+        Error::IO(e)
+    }
+}
+
+impl From<InsufficientWidthError> for Error {
+    ghost use Rattle.mad_term.specs.declared.errors.Error.TheVariants.{InsufficientWidth};
+
+    ghost from_gives = { λ e r. r ≡ InsufficientWidth e };
+
+    fn from(e: InsufficientWidthError) -> Self {
+        Error::InsufficientWidth(e)
+    }
+}
+
+impl From<AllocError> for Error {
+    ghost use Rattle.mad_term.specs.declared.errors.Error.TheVariants.{Memory};
+
+    ghost from_gives = { λ _ r. r ≡ Memory };
+
+    fn from(_: AllocError) -> Self {
+        Error::Memory
+    }
+}
+
+impl<T: Drop> From<AllocFailed<T>> for Error {
+    ghost use Rattle.mad_term.specs.declared.errors.Error.TheVariants.{Memory};
+
+    ghost from_gives = { λ _ r. r ≡ Memory };
+
+    fn from(_: AllocFailed<T>) -> Self {
+        Error::Memory
+    }
+}
+
+#[cfg(test)]
+mod tests {
+    use super::*;
+    use std::test::Fail;
+
+    #[test]
+    fn each_error_has_its_text(rt: HostRuntime) -> Result<(), Fail> {
+        let alloc = rt.alloc();
+        let width = Error::InsufficientWidth(InsufficientWidthError { available_width: 2 });
+        let io = Error::IO(io::Error::new(io::ErrorKind::Other, "no more room"));
+        assert!(rt; io.to_string(alloc)?.as_str() == "IO error: no more room");
+        assert!(rt;
+            width.to_string(alloc)?.as_str()
+                == "InsufficientWidth: Insufficient available width (2)"
+        );
+        assert!(rt; Error::Memory.to_string(alloc)?.as_str() == "want of memory");
+        Ok(())
+    }
+}

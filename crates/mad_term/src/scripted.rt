@@ -1,0 +1,160 @@
+//! Devices for tests: all that they took or have left can be read, and they fail where one wants them to.
+
+ghost use Rattle.std.specs.Prelude.{◌≡◌, ◌≤◌, ◌↔◌, IfOk, IsErr, IsTrue, Some, [], length, vec_capacity};
+ghost use Rattle.mad_term.specs.Trace.{Puts, Flushes, Gets, failed};
+
+use crate::devices::{Out, Source};
+use std::alloc::{AllocError, Global};
+use std::io;
+
+/// A device that takes a few bytes at a time, has room for so many in all, and may fail at its flush.
+#[derive(Debug, Drop)]
+pub struct CutOut {
+    taken: Vec<u8>,
+    step: usize,
+    room: usize,
+    flush_fails: bool,
+    faults: u64,
+    ghost reserved: { room ≤ vec_capacity taken },
+}
+
+impl CutOut {
+    ghost use Rattle.mad_term.specs.Scripted.{cut_trace, IsCutOut};
+
+    /// A device that takes at most `step` bytes at a put and `room` bytes in all; a put past that is a fault, and so
+    /// is each flush if `flush_fails`.
+    ///
+    /// Its room is reserved here, so that no put takes memory.
+    pub fn new(
+        alloc: Global,
+        step: usize,
+        room: usize,
+        flush_fails: bool,
+    ) -> Result<Self, AllocError>
+        ensures { IfOk result (λ out. IsCutOut out step room flush_fails) }
+    {
+        Ok(CutOut {
+            taken: Vec::with_capacity(alloc, room)?,
+            step,
+            room,
+            flush_fails,
+            faults: 0,
+        })
+    }
+
+    /// All the bytes that it took.
+    pub fn taken(&self) -> &[u8]
+        ensures { (cut_trace self.now).bytes ≡ Some result.now }
+    {
+        self.taken.as_slice()
+    }
+
+    /// How often it failed.
+    pub fn faults(&self) -> u64
+        ensures { result ≡ (cut_trace self.now).faults }
+    {
+        self.faults
+    }
+
+    /// Counts a fault and answers it.
+    #[tactic(auto, unfolding(crate::specs::Trace::failed))]
+    fn fail(&mut self) -> io::Error
+        ensures { cut_trace self.new ≡ failed (cut_trace self.old) }
+    {
+        self.faults = self.faults.saturating_add(1);
+        io::Error::new(io::ErrorKind::Other, "no more room")
+    }
+}
+
+impl Out for CutOut {
+    ghost use Rattle.mad_term.specs.Scripted.{cut_trace, cut_count};
+
+    ghost seen = { cut_trace };
+
+    #[tactic(auto, unfolding(crate::specs::Trace::after))]
+    fn put(&mut self, bytes: &[u8]) -> io::Result<usize>
+        ensures puts { Puts (cut_trace self.old) bytes.now result (cut_trace self.new) }
+        ensures count { IfOk result (λ count. count ≡ cut_count self.old (length bytes.now)) }
+        ensures fault { IsErr result → cut_count self.old (length bytes.now) ≡ 0 }
+    {
+        if bytes.is_empty() {
+            return Ok(0);
+        }
+        let left = self.room.saturating_sub(self.taken.len());
+        let count = bytes.len().min(self.step).min(left);
+        if count == 0 {
+            return Err(self.fail());
+        }
+        self.taken.extend_from_slice(&bytes[..count]).unwrap();
+        Ok(count)
+    }
+
+    fn flush(&mut self) -> io::Result<()>
+        ensures flushes { Flushes (cut_trace self.old) result (cut_trace self.new) }
+        ensures fault { IsErr result ↔ IsTrue self.old.flush_fails }
+    {
+        if self.flush_fails {
+            return Err(self.fail());
+        }
+        Ok(())
+    }
+}
+
+/// A source that hands out given bytes, and then its end, or a fault at each further get.
+#[derive(Debug, Drop)]
+pub struct ScriptSource<'s> {
+    left: &'s [u8],
+    fails: bool,
+    faults: u64,
+}
+
+impl<'s> ScriptSource<'s> {
+    ghost use Rattle.mad_term.specs.Scripted.{script_trace, IsScript};
+
+    /// A source of `bytes`; behind them it fails if `fails`, else it is at its end.
+    pub fn new(bytes: &'s [u8], fails: bool) -> Self
+        ensures { IsScript result bytes.entry.now fails }
+    {
+        ScriptSource {
+            left: bytes,
+            fails,
+            faults: 0,
+        }
+    }
+
+    /// The bytes that it has left.
+    pub fn left(&self) -> &'s [u8]
+        ensures { (script_trace self.now).bytes ≡ Some result.now }
+    {
+        self.left
+    }
+
+    /// How often it failed.
+    pub fn faults(&self) -> u64
+        ensures { result ≡ (script_trace self.now).faults }
+    {
+        self.faults
+    }
+}
+
+impl Source for ScriptSource<'_> {
+    ghost use Rattle.mad_term.specs.Scripted.{script_trace};
+
+    ghost seen = { script_trace };
+
+    #[tactic(auto, unfolding(crate::specs::Trace::ahead, crate::specs::Trace::failed))]
+    fn get(&mut self) -> io::Result<Option<u8>>
+        ensures gets { Gets (script_trace self.old) result (script_trace self.new) }
+        ensures fault { IsErr result ↔ ((script_trace self.old).bytes ≡ Some []) × IsTrue self.old.fails }
+    {
+        if let [first, rest @ ..] = self.left {
+            self.left = rest;
+            return Ok(Some(*first));
+        }
+        if self.fails {
+            self.faults = self.faults.saturating_add(1);
+            return Err(io::Error::new(io::ErrorKind::Other, "the script ends in a fault"));
+        }
+        Ok(None)
+    }
+}
