@@ -3,6 +3,7 @@ use Rattle.std.proofs.Common.{◌≡◌, ⊎_elim, ℕ, suc, zero, ◌+◌, ◌*
 use Rattle.std.specs.Prelude.{IsSome, option_map, unwrap_or}
 use Rattle.std.specs.List.{sum_by}
 use Rattle.std.proofs.lemmas.List.{set-set, append-nil, get_or-replicate, length-replicate}
+use Rattle.std.proofs.lemmas.List.Sums.{sum_by-cons}
 use Rattle.std.proofs.lemmas.Nat.{row_fits}
 use Rattle.std.proofs.lemmas.Bool.{cases_eq, false≢true}
 use Rattle.std.proofs.lemmas.Bool.Decides.{nat_tests}
@@ -197,4 +198,5 @@ columns_step (Some (suc k)) pen c r = length-append (glyphs (c ∷ r.0) k pen) r
 pub length-cells_of : (pen : Look) (cs : List ℕ) → length (cells_of pen cs) ≡ sum_by char_columns cs
 unfolding char_columns
 length-cells_of pen [] = refl
-length-cells_of pen (c ∷ cs) = columns_step (char_width false c) pen c (joined pen cs) ∙ ap (λ n. unwrap_or (char_width false c) 0 + n) (length-cells_of pen cs)
+length-cells_of pen (c ∷ cs) =
+    columns_step (char_width false c) pen c (joined pen cs) ∙ ap (λ n. char_columns c + n) (length-cells_of pen cs) ∙ sym (sum_by-cons char_columns c cs)

@@ -1,39 +1,65 @@
 -- The attributes of a text, and the code of each.
-use Rattle.std.specs.Prelude.{ℕ, List, [], ◌∷◌, slice_index_or}
+use Rattle.std.specs.Prelude.{ℕ, List, [], ◌∷◌}
 use Rattle.mad_term.specs.declared.attribute.Attribute.{Attribute}
 use Rattle.mad_term.specs.declared.attribute.Attribute.TheVariants.{Reset, Bold, Dim, Italic, Underlined, SlowBlink, RapidBlink, Reverse, Hidden, CrossedOut, Fraktur, NoBold, NormalIntensity, NoItalic, NoUnderline, NoBlink, NoReverse, NoHidden, NotCrossedOut, Framed, Encircled, OverLined, NotFramedOrEncircled, NotOverLined}
 
--- each attribute with its code, the number of the SGR command that sets it, in the order in which a style's
--- attributes are written
-abbrev pub attribute_table : List (Attribute × ℕ)
-attribute_table =
-    (Reset, 0)
-    ∷ (Bold, 1)
-    ∷ (Dim, 2)
-    ∷ (Italic, 3)
-    ∷ (Underlined, 4)
-    ∷ (SlowBlink, 5)
-    ∷ (RapidBlink, 6)
-    ∷ (Reverse, 7)
-    ∷ (Hidden, 8)
-    ∷ (CrossedOut, 9)
-    ∷ (Fraktur, 20)
-    ∷ (NoBold, 21)
-    ∷ (NormalIntensity, 22)
-    ∷ (NoItalic, 23)
-    ∷ (NoUnderline, 24)
-    ∷ (NoBlink, 25)
-    ∷ (NoReverse, 27)
-    ∷ (NoHidden, 28)
-    ∷ (NotCrossedOut, 29)
-    ∷ (Framed, 51)
-    ∷ (Encircled, 52)
-    ∷ (OverLined, 53)
-    ∷ (NotFramedOrEncircled, 54)
-    ∷ (NotOverLined, 55)
+-- the code of an attribute: the number of the command that sets it
+abbrev pub attribute_code : Attribute → ℕ
+attribute_code Reset = 0
+attribute_code Bold = 1
+attribute_code Dim = 2
+attribute_code Italic = 3
+attribute_code Underlined = 4
+attribute_code SlowBlink = 5
+attribute_code RapidBlink = 6
+attribute_code Reverse = 7
+attribute_code Hidden = 8
+attribute_code CrossedOut = 9
+attribute_code Fraktur = 20
+attribute_code NoBold = 21
+attribute_code NormalIntensity = 22
+attribute_code NoItalic = 23
+attribute_code NoUnderline = 24
+attribute_code NoBlink = 25
+attribute_code NoReverse = 27
+attribute_code NoHidden = 28
+attribute_code NotCrossedOut = 29
+attribute_code Framed = 51
+attribute_code Encircled = 52
+attribute_code OverLined = 53
+attribute_code NotFramedOrEncircled = 54
+attribute_code NotOverLined = 55
+
+-- the attributes in the order of that table, in which a style's are written
+abbrev pub all_attributes : List Attribute
+all_attributes =
+    Reset
+    ∷ Bold
+    ∷ Dim
+    ∷ Italic
+    ∷ Underlined
+    ∷ SlowBlink
+    ∷ RapidBlink
+    ∷ Reverse
+    ∷ Hidden
+    ∷ CrossedOut
+    ∷ Fraktur
+    ∷ NoBold
+    ∷ NormalIntensity
+    ∷ NoItalic
+    ∷ NoUnderline
+    ∷ NoBlink
+    ∷ NoReverse
+    ∷ NoHidden
+    ∷ NotCrossedOut
+    ∷ Framed
+    ∷ Encircled
+    ∷ OverLined
+    ∷ NotFramedOrEncircled
+    ∷ NotOverLined
     ∷ []
 
--- the place of an attribute: its row in the table, and its bit in a set
+-- the place of an attribute in that order, which is also that of its bit in a set
 abbrev pub place : Attribute → ℕ
 place Reset = 0
 place Bold = 1
@@ -59,7 +85,3 @@ place Encircled = 20
 place OverLined = 21
 place NotFramedOrEncircled = 22
 place NotOverLined = 23
-
--- the code of an attribute
-abbrev pub attribute_code : Attribute → ℕ
-attribute_code a = (slice_index_or attribute_table (place a) (Reset, 0)).1

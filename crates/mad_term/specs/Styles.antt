@@ -1,12 +1,12 @@
 -- The bytes of colors, attributes and pieces.
-use Rattle.std.specs.Prelude.{ℕ, ◌+◌, ◌==◌, ◌||◌, not, List, [], ◌∷◌, ◌++◌, Bool, true, false, Option, Some, None, is_some, if◌then◌else◌}
+use Rattle.std.specs.Prelude.{◌≡◌, ℕ, ◌+◌, ◌==◌, ◌||◌, not, List, [], ◌∷◌, ◌++◌, Bool, true, false, Option, Some, None, is_some, if◌then◌else◌}
 use Rattle.std.specs.List.{flat_map}
 use Rattle.mad_term.specs.declared.attribute.Attribute.{Attribute}
 use Rattle.mad_term.specs.declared.attributes.Attributes.{Attributes}
 use Rattle.mad_term.specs.declared.color.Color.{Color}
 use Rattle.mad_term.specs.declared.color.Color.TheVariants.{Reset, Black, DarkGrey, Red, DarkRed, Green, DarkGreen, Yellow, DarkYellow, Blue, DarkBlue, Magenta, DarkMagenta, Cyan, DarkCyan, White, Grey, Rgb, AnsiValue}
 use Rattle.mad_term.specs.declared.styles.ContentStyle.{ContentStyle}
-use Rattle.mad_term.specs.Attribute.{attribute_table, attribute_code}
+use Rattle.mad_term.specs.Attribute.{all_attributes, attribute_code}
 use Rattle.mad_term.specs.Attributes.{attribute_bits, has_attribute}
 use Rattle.mad_term.specs.Color.{color_number}
 use Rattle.mad_term.specs.Commands.{sgr_bytes}
@@ -22,27 +22,37 @@ abbrev pub color_numbers : ℕ → Color → List ℕ
 color_numbers kind (Rgb r g b) = kind ∷ 2 ∷ r ∷ g ∷ b ∷ []
 color_numbers kind color = palette_numbers kind (color_number color)
 
+abbrev pub color_bytes : ℕ → Color → List ℕ
+color_bytes kind color = sgr_bytes (color_numbers kind color)
+
 abbrev pub foreground_bytes : Color → List ℕ
-foreground_bytes color = sgr_bytes (color_numbers 38 color)
+foreground_bytes = color_bytes 38
 
 abbrev pub background_bytes : Color → List ℕ
-background_bytes color = sgr_bytes (color_numbers 48 color)
+background_bytes = color_bytes 48
 
 abbrev pub underline_bytes : Color → List ℕ
-underline_bytes color = sgr_bytes (color_numbers 58 color)
+underline_bytes = color_bytes 58
 
 -- an attribute has a command of its own
 abbrev pub attribute_bytes : Attribute → List ℕ
 attribute_bytes a = sgr_bytes (attribute_code a ∷ [])
 
--- the attributes of a set, in the order of the table
+-- the attributes of a set, in their order
 abbrev pub attributes_bytes : Attributes → List ℕ
-attributes_bytes s = flat_map (λ row. if has_attribute s row.0 then sgr_bytes (row.1 ∷ []) else []) attribute_table
+attributes_bytes s = flat_map (λ a. if has_attribute s a then attribute_bytes a else []) all_attributes
 
 -- the command of a color that is present
 abbrev pub present_bytes : (Color → List ℕ) → Option Color → List ℕ
 present_bytes bytes None = []
 present_bytes bytes (Some color) = bytes color
+
+-- the style sets nothing
+pub record IsPlain (s : ContentStyle) : Type 0 where
+  pub foreground : s.foreground_color ≡ None
+  pub background : s.background_color ≡ None
+  pub underline : s.underline_color ≡ None
+  pub attributes : attribute_bits s.attributes ≡ 0
 
 -- what a style writes before a text: background, foreground, underline color, attributes, each if it is present
 abbrev pub opening_bytes : ContentStyle → List ℕ

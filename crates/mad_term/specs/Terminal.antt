@@ -8,7 +8,7 @@ use Rattle.mad_term.specs.declared.color.Color.{Color}
 use Rattle.mad_term.specs.declared.color.Color.TheVariants.{AnsiValue, Rgb}
 use Rattle.mad_term.specs.declared.attribute.Attribute.{Attribute}
 use Rattle.mad_term.specs.declared.attribute.Attribute.TheVariants.{Reset}
-use Rattle.mad_term.specs.Attribute.{place, attribute_table}
+use Rattle.mad_term.specs.Attribute.{place, attribute_code, all_attributes}
 use Rattle.mad_term.specs.Glyph.{Glyph, Look}
 use Rattle.mad_term.specs.Grid.{Grid, plain_pen, put_list, painted, glyphs, is_tail, blank}
 
@@ -87,7 +87,7 @@ switched_on a p = record p { codes = bit_or p.codes (2 ^ place a) }
 
 -- the attribute of a code
 abbrev pub attribute_of : ℕ → Option Attribute
-attribute_of n = option_map (λ row. row.0) (find (λ row. row.1 == n) attribute_table)
+attribute_of n = find (λ a. attribute_code a == n) all_attributes
 
 -- the default colour for characters, behind them or for the lines below, or an attribute
 abbrev pub with_code : ℕ → Look → Option Look

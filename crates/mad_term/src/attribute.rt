@@ -33,10 +33,70 @@ pub enum Attribute {
 }
 
 impl Attribute {
-    /// Its place among the attributes, from 0 to 23.
+    /// All attributes, in the order in which a style's are written.
+    pub const ALL: [Attribute; 24] = [
+        Attribute::Reset,
+        Attribute::Bold,
+        Attribute::Dim,
+        Attribute::Italic,
+        Attribute::Underlined,
+        Attribute::SlowBlink,
+        Attribute::RapidBlink,
+        Attribute::Reverse,
+        Attribute::Hidden,
+        Attribute::CrossedOut,
+        Attribute::Fraktur,
+        Attribute::NoBold,
+        Attribute::NormalIntensity,
+        Attribute::NoItalic,
+        Attribute::NoUnderline,
+        Attribute::NoBlink,
+        Attribute::NoReverse,
+        Attribute::NoHidden,
+        Attribute::NotCrossedOut,
+        Attribute::Framed,
+        Attribute::Encircled,
+        Attribute::OverLined,
+        Attribute::NotFramedOrEncircled,
+        Attribute::NotOverLined,
+    ];
+
+    /// Its place in `ALL`.
     pub(crate) fn place(self) -> u32
         ensures { result ≡ place self }
     {
         self as u32
+    }
+
+    /// Its code: the number of the command that sets it.
+    pub fn code(self) -> u8
+        ensures { result ≡ attribute_code self }
+    {
+        match self {
+            Attribute::Reset => 0,
+            Attribute::Bold => 1,
+            Attribute::Dim => 2,
+            Attribute::Italic => 3,
+            Attribute::Underlined => 4,
+            Attribute::SlowBlink => 5,
+            Attribute::RapidBlink => 6,
+            Attribute::Reverse => 7,
+            Attribute::Hidden => 8,
+            Attribute::CrossedOut => 9,
+            Attribute::Fraktur => 20,
+            Attribute::NoBold => 21,
+            Attribute::NormalIntensity => 22,
+            Attribute::NoItalic => 23,
+            Attribute::NoUnderline => 24,
+            Attribute::NoBlink => 25,
+            Attribute::NoReverse => 27,
+            Attribute::NoHidden => 28,
+            Attribute::NotCrossedOut => 29,
+            Attribute::Framed => 51,
+            Attribute::Encircled => 52,
+            Attribute::OverLined => 53,
+            Attribute::NotFramedOrEncircled => 54,
+            Attribute::NotOverLined => 55,
+        }
     }
 }

@@ -1,5 +1,8 @@
 //! The colors of a terminal.
 
+ghost use Rattle.std.specs.Prelude.{◌≡◌};
+ghost use Rattle.mad_term.specs.Color.{color_number};
+
 /// A color of the foreground, of the background or of an underline.
 ///
 /// A named color is one of the first sixteen numbers of the terminal's palette, `AnsiValue` any of
@@ -25,4 +28,32 @@ pub enum Color {
     Grey,
     Rgb { r: u8, g: u8, b: u8 },
     AnsiValue(u8),
+}
+
+impl Color {
+    /// Its number in the terminal's palette. `Reset` and a mix of red, green and blue have none.
+    pub fn number(self) -> Option<u8>
+        ensures { result ≡ color_number self }
+    {
+        match self {
+            Color::Reset | Color::Rgb { .. } => None,
+            Color::Black => Some(0),
+            Color::DarkRed => Some(1),
+            Color::DarkGreen => Some(2),
+            Color::DarkYellow => Some(3),
+            Color::DarkBlue => Some(4),
+            Color::DarkMagenta => Some(5),
+            Color::DarkCyan => Some(6),
+            Color::Grey => Some(7),
+            Color::DarkGrey => Some(8),
+            Color::Red => Some(9),
+            Color::Green => Some(10),
+            Color::Yellow => Some(11),
+            Color::Blue => Some(12),
+            Color::Magenta => Some(13),
+            Color::Cyan => Some(14),
+            Color::White => Some(15),
+            Color::AnsiValue(number) => Some(number),
+        }
+    }
 }

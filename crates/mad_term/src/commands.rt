@@ -53,6 +53,10 @@ impl fmt::Display for Clear {
 ghost use Rattle.mad_term.specs.Commands.{move_to_bytes, clear_bytes};
 
 /// Appends the command that moves the cursor to column `x` of row `y`, both counted from 0.
+///
+/// # Errors
+///
+/// Want of memory.
 pub fn push_move(row: &mut String, x: u16, y: u16) -> Result<(), AllocError>
     ensures { OnOk result (string_bytes row.new ≡ string_bytes row.old ++ move_to_bytes x y) }
 {
@@ -61,6 +65,10 @@ pub fn push_move(row: &mut String, x: u16, y: u16) -> Result<(), AllocError>
 }
 
 /// Appends the command that erases.
+///
+/// # Errors
+///
+/// Want of memory.
 pub fn push_clear(row: &mut String, what: ClearType) -> Result<(), AllocError>
     ensures { OnOk result (string_bytes row.new ≡ string_bytes row.old ++ clear_bytes what) }
 {

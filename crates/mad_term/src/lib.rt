@@ -38,4 +38,4 @@ pub use reader::NotPlain;
 pub use screen::Screen;
 pub use scripted::{CutOut, ScriptSource};
 pub use streams::Stream;
-pub use styles::ContentStyle;
+pub use styles::{ContentStyle, StyledContent, push_background, push_foreground, push_styled};

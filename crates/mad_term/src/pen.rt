@@ -104,32 +104,8 @@ impl Pen {
 fn attribute_of(code: u32) -> Option<Attribute>
     ensures { result ≡ attribute_of code }
 {
-    let attribute = match code {
-        0 => Attribute::Reset,
-        1 => Attribute::Bold,
-        2 => Attribute::Dim,
-        3 => Attribute::Italic,
-        4 => Attribute::Underlined,
-        5 => Attribute::SlowBlink,
-        6 => Attribute::RapidBlink,
-        7 => Attribute::Reverse,
-        8 => Attribute::Hidden,
-        9 => Attribute::CrossedOut,
-        20 => Attribute::Fraktur,
-        21 => Attribute::NoBold,
-        22 => Attribute::NormalIntensity,
-        23 => Attribute::NoItalic,
-        24 => Attribute::NoUnderline,
-        25 => Attribute::NoBlink,
-        27 => Attribute::NoReverse,
-        28 => Attribute::NoHidden,
-        29 => Attribute::NotCrossedOut,
-        51 => Attribute::Framed,
-        52 => Attribute::Encircled,
-        53 => Attribute::OverLined,
-        54 => Attribute::NotFramedOrEncircled,
-        55 => Attribute::NotOverLined,
-        _ => return None,
-    };
-    Some(attribute)
+    Attribute::ALL
+        .iter()
+        .copied()
+        .find(|a| u32::from(a.code()) == code)
 }

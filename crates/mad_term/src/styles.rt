@@ -1,13 +1,211 @@
-//! Styles, and texts written in them.
+//! Styles, and the commands that a piece, a text in a style, is written with.
 
+ghost use Rattle.std.specs.Prelude.{◌≡◌, ◌++◌, ◌↔◌, IsTrue, OnOk, string_bytes};
+ghost use Rattle.mad_term.specs.Styles.{foreground_bytes, background_bytes, piece_bytes, closing_bytes};
+
+use crate::attribute::Attribute;
 use crate::attributes::Attributes;
 use crate::color::Color;
+use std::alloc::AllocError;
+use std::fmt;
 
-/// How a text is written: what is `None` and what the set hasn't got stays as it is.
+/// How a text is written: a color that is `None` and an attribute that the set hasn't got stay as
+/// they are.
 #[derive(Clone, Copy, Debug, PartialEq, Eq)]
 pub struct ContentStyle {
     pub foreground_color: Option<Color>,
     pub background_color: Option<Color>,
     pub underline_color: Option<Color>,
     pub attributes: Attributes,
+}
+
+impl Default for ContentStyle {
+    ghost use Rattle.mad_term.specs.Styles.{IsPlain};
+
+    ghost is_default = { IsPlain };
+
+    fn default() -> ContentStyle {
+        ContentStyle {
+            foreground_color: None,
+            background_color: None,
+            underline_color: None,
+            attributes: Attributes::default(),
+        }
+    }
+}
+
+impl ContentStyle {
+    ghost use Rattle.mad_term.specs.Styles.{IsPlain};
+
+    /// Whether the style sets nothing.
+    pub fn is_plain(&self) -> bool
+        ensures { IsTrue result ↔ IsPlain self.now }
+    {
+        self.foreground_color.is_none()
+            && self.background_color.is_none()
+            && self.underline_color.is_none()
+            && self.attributes.is_empty()
+    }
+}
+
+// The first number of the command that sets a color: what is colored. One more gives its default.
+const FOREGROUND: u8 = 38;
+const BACKGROUND: u8 = 48;
+const UNDERLINE: u8 = 58;
+
+// The command that sets a color, or nothing where there is none.
+#[derive(Clone, Copy)]
+struct ColorCommand {
+    kind: u8,
+    color: Option<Color>,
+}
+
+impl fmt::Display for ColorCommand {
+    ghost use Rattle.std.specs.Prelude.{Some};
+    ghost use Rattle.mad_term.specs.Styles.{present_bytes, color_bytes};
+
+    ghost output = { λ c. Some (present_bytes (color_bytes c.kind) c.color) };
+
+    #[tactic(auto, using(std::proofs::lemmas::Fmt::decimal_digit))]
+    fn fmt<W: fmt::Write>(&self, f: &mut fmt::Formatter<W>) -> fmt::Result {
+        let kind = self.kind;
+        let Some(color) = self.color else {
+            return Ok(());
+        };
+        if let Color::Rgb { r, g, b } = color {
+            return write!(f, "\x1b[{kind};2;{r};{g};{b}m");
+        }
+        match color.number() {
+            Some(number) => write!(f, "\x1b[{kind};5;{number}m"),
+            None => {
+                let default = u32::from(kind) + 1;
+                write!(f, "\x1b[{default}m")
+            }
+        }
+    }
+}
+
+// The commands that set the attributes of a set, each its own.
+#[derive(Clone, Copy)]
+struct AttributeCommands(Attributes);
+
+impl fmt::Display for AttributeCommands {
+    ghost use Rattle.std.specs.Prelude.{Some};
+    ghost use Rattle.mad_term.specs.Styles.{attributes_bytes};
+
+    ghost output = { λ c. Some (attributes_bytes c.0) };
+
+    fn fmt<W: fmt::Write>(&self, f: &mut fmt::Formatter<W>) -> fmt::Result {
+        for attribute in &Attribute::ALL {
+            if self.0.has(*attribute) {
+                let code = attribute.code();
+                write!(f, "\x1b[{code}m")?;
+            }
+        }
+        Ok(())
+    }
+}
+
+// What makes the pen plain again after a text in this style.
+#[tactic(auto, using(std::proofs::lemmas::Fmt::decimal_digit))]
+fn closing_text(style: &ContentStyle) -> &'static str
+    ensures { result.now ≡ closing_bytes style.now }
+{
+    if style.underline_color.is_some() || !style.attributes.is_empty() {
+        return "\x1b[0m";
+    }
+    match (style.background_color, style.foreground_color) {
+        (Some(_), Some(_)) => "\x1b[49m\x1b[39m",
+        (Some(_), None) => "\x1b[49m",
+        (None, Some(_)) => "\x1b[39m",
+        (None, None) => "",
+    }
+}
+
+/// A piece: a text in a style. It is written as its style's commands, the text, and what makes the
+/// pen plain again.
+#[derive(Clone, Copy, Debug, PartialEq, Eq)]
+pub struct StyledContent<'a> {
+    pub style: ContentStyle,
+    pub content: &'a str,
+}
+
+impl fmt::Display for StyledContent<'_> {
+    ghost use Rattle.std.specs.Prelude.{Some};
+    ghost use Rattle.mad_term.specs.Styles.{piece_bytes};
+
+    ghost output = { λ p. Some (piece_bytes p.style p.content.now) };
+
+    fn fmt<W: fmt::Write>(&self, f: &mut fmt::Formatter<W>) -> fmt::Result {
+        let background = ColorCommand {
+            kind: BACKGROUND,
+            color: self.style.background_color,
+        };
+        let foreground = ColorCommand {
+            kind: FOREGROUND,
+            color: self.style.foreground_color,
+        };
+        let underline = ColorCommand {
+            kind: UNDERLINE,
+            color: self.style.underline_color,
+        };
+        let attributes = AttributeCommands(self.style.attributes);
+        let content = self.content;
+        let closing = closing_text(&self.style);
+        write!(
+            f,
+            "{background}{foreground}{underline}{attributes}{content}{closing}"
+        )
+    }
+}
+
+/// Appends the command that sets the foreground.
+///
+/// # Errors
+///
+/// Want of memory.
+pub fn push_foreground(row: &mut String, color: Color) -> Result<(), AllocError>
+    ensures { OnOk result (string_bytes row.new ≡ string_bytes row.old ++ foreground_bytes color) }
+{
+    let command = ColorCommand {
+        kind: FOREGROUND,
+        color: Some(color),
+    };
+    write!(row, "{command}")
+}
+
+/// Appends the command that sets the background.
+///
+/// # Errors
+///
+/// Want of memory.
+pub fn push_background(row: &mut String, color: Color) -> Result<(), AllocError>
+    ensures { OnOk result (string_bytes row.new ≡ string_bytes row.old ++ background_bytes color) }
+{
+    let command = ColorCommand {
+        kind: BACKGROUND,
+        color: Some(color),
+    };
+    write!(row, "{command}")
+}
+
+/// Appends a piece: a text in a style. An empty text writes its style's commands too, and a plain
+/// style none.
+///
+/// # Errors
+///
+/// Want of memory.
+#[tactic(auto, using(crate::proofs::Pieces::plain_piece))]
+pub fn push_styled(row: &mut String, style: &ContentStyle, text: &str) -> Result<(), AllocError>
+    ensures { OnOk result (string_bytes row.new ≡ string_bytes row.old ++ piece_bytes style.now text.now) }
+{
+    // Most texts are plain, and need no formatting.
+    if style.is_plain() {
+        return row.push_str(text);
+    }
+    let piece = StyledContent {
+        style: *style,
+        content: text,
+    };
+    write!(row, "{piece}")
 }
