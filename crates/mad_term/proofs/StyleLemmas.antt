@@ -64,7 +64,7 @@ underline_restyles (colors.AnsiValue n) p h =
     ap (λ t. cond t (Some (record p { underline = Some (colors.AnsiValue n) })) None) test
 underline_restyles _ p h = refl
 
-color_small : (kind : ℕ) (c : Color) → kind < 100 → IsColor c → AreSmall (color_numbers kind c)
+pub color_small : (kind : ℕ) (c : Color) → kind < 100 → IsColor c → AreSmall (color_numbers kind c)
 color_small kind (colors.Rgb r g b) low h = (omega arith, (omega arith, (omega arith, (omega arith, (omega arith, tt)))))
 color_small kind (colors.AnsiValue n) low h = (omega arith, (omega arith, (omega arith, tt)))
 color_small kind colors.Reset low h = (omega arith, tt)
@@ -92,7 +92,7 @@ code_switches : (a : Attribute) (p : Look) → with_code (attribute_code a) p �
 code_switches Reset p = refl
 code_switches _ p = refl
 
-code_small : (a : Attribute) → attribute_code a < 100
+pub code_small : (a : Attribute) → attribute_code a < 100
 code_small Reset = omega arith
 code_small _ = omega arith
 
