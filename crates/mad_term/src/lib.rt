@@ -7,28 +7,37 @@
 //! 3. [`streams`]: the readers and writers of the standard library as devices.
 //! 4. [`scripted`]: devices for tests, which fail where one wants them to.
 //! 5. [`color`], [`attribute`], [`attributes`]: how a text may look.
+//! 6. [`pen`], [`cell`], [`screen`], [`reader`]: the plain terminal, which says what bytes show.
 #![tactic(auto)]
 
 mod attribute;
 mod attributes;
+mod cell;
 mod color;
 mod columns;
 mod commands;
 mod devices;
 mod errors;
 mod queue;
+mod pen;
+mod reader;
+mod screen;
 mod scripted;
 mod streams;
 mod styles;
 
 pub use attribute::Attribute;
 pub use attributes::{AttributeBits, Attributes};
+pub use cell::Cell;
 pub use color::Color;
 pub use columns::char_columns;
 pub use commands::{Clear, ClearType, MoveTo, push_clear, push_move};
 pub use devices::{Out, Source, put_all};
 pub use errors::{Error, InsufficientWidthError};
 pub use queue::{queue_bg, queue_clear, queue_fg, queue_move, queue_styled};
+pub use pen::Pen;
+pub use reader::NotPlain;
+pub use screen::Screen;
 pub use scripted::{CutOut, ScriptSource};
 pub use streams::Stream;
 pub use styles::{ContentStyle, StyledContent, push_background, push_foreground, push_styled};
