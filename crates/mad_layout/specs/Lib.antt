@@ -6,6 +6,10 @@ pub mod Indents
 pub mod Keeps
 pub mod LeastWrap
 pub mod Lines
+pub mod Pieces
 pub mod PlacedLines
+pub mod Rows
+pub mod SkinParts
+pub mod Skins
 pub mod Styles
 pub mod Wraps

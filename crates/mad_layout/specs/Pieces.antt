@@ -1,5 +1,6 @@
 -- Pieces: the texts of which a row is made, each in one style.
-use Rattle.std.specs.Prelude.{ℕ, zero, suc, ◌×◌, List, [], ◌∷◌, ◌++◌, map, chars, replicate}
+use Rattle.std.specs.Prelude.{ℕ, zero, suc, List, [], ◌∷◌, ◌++◌, map, replicate}
+use Rattle.std.specs.Str.{chars}
 use Rattle.std.specs.List.{flat_map}
 use Rattle.mad_term.specs.declared.styles.ContentStyle.{ContentStyle}
 use Rattle.mad_term.specs.Glyph.{Glyph, Look}
@@ -8,16 +9,16 @@ use Rattle.mad_term.specs.Painting.{look_of_style, piece_cells}
 use Rattle.mad_style.specs.declared.compound_styles.CompoundStyle.{CompoundStyle}
 
 -- a text, in bytes, in one style
-pub record Piece : Type 0 where
+pub record RowPiece : Type 0 where
   pub style : ContentStyle
   pub text : List ℕ
 
 -- what is written of a row's pieces
-abbrev pub pieces_bytes : List Piece → List ℕ
+abbrev pub pieces_bytes : List RowPiece → List ℕ
 pieces_bytes ps = flat_map (λ p. piece_bytes p.style p.text) ps
 
 -- the cells that they show
-abbrev pub pieces_cells : List Piece → List Glyph
+abbrev pub pieces_cells : List RowPiece → List Glyph
 pieces_cells ps = flat_map (λ p. piece_cells p.style p.text) ps
 
 -- a character, and the pen that it is written with
@@ -26,14 +27,14 @@ pub record PennedChar : Type 0 where
   pub pen : Look
 
 -- the characters of pieces in order, each with its pen
-abbrev pub penned_chars : List Piece → List PennedChar
+abbrev pub penned_chars : List RowPiece → List PennedChar
 penned_chars ps = flat_map (λ p. map (λ c. record { char = c; pen = look_of_style p.style }) (chars p.text)) ps
 
 -- so many spaces as one piece; none of none
-abbrev pub spaces : CompoundStyle → ℕ → List Piece
+abbrev pub spaces : CompoundStyle → ℕ → List RowPiece
 spaces style zero = []
 spaces style (suc n) = record { style = style.object_style; text = replicate (suc n) 32 } ∷ []
 
 -- so many spaces, each a piece of its own
-abbrev pub single_spaces : CompoundStyle → ℕ → List Piece
+abbrev pub single_spaces : CompoundStyle → ℕ → List RowPiece
 single_spaces style n = replicate n (record { style = style.object_style; text = 32 ∷ [] })

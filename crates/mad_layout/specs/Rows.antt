@@ -1,6 +1,7 @@
 -- Rows: what is written of a line, piece by piece.
-use Rattle.std.specs.Prelude.{ℕ, ◌+◌, ◌-◌, Bool, true, false, List, [], ◌∷◌, ◌++◌, map, Option, Some, None, unwrap_or, slice_get, if◌then◌else◌, decimal, encode_utf8}
+use Rattle.std.specs.Prelude.{ℕ, ◌+◌, ◌-◌, Bool, true, List, [], ◌∷◌, ◌++◌, map, Option, Some, None, unwrap_or, if◌then◌else◌, decimal, encode_utf8}
 use Rattle.mad_md.specs.declared.alignment.Alignment.{Alignment}
+use Rattle.mad_md.specs.declared.alignment.Alignment.TheVariants.{Unspecified}
 use Rattle.mad_md.specs.declared.compound.Compound.{Compound}
 use Rattle.mad_style.specs.declared.kinds.CompositeKind.{CompositeKind}
 use Rattle.mad_style.specs.declared.kinds.CompositeKind.TheVariants.{Paragraph, Header, ListItem, ListItemFollowUp, OrderedListItem, OrderedListItemFollowUp, Code, Quote}
@@ -16,22 +17,22 @@ use Rattle.mad_layout.specs.declared.composite.FmtComposite.{FmtComposite}
 use Rattle.mad_layout.specs.declared.line.FmtLine.{FmtLine}
 use Rattle.mad_layout.specs.declared.line.FmtLine.TheVariants.{Normal}
 use Rattle.mad_layout.specs.Indents.{kept, ordered_indent}
-use Rattle.mad_layout.specs.Pieces.{Piece, PennedChar, penned_chars, spaces, single_spaces}
+use Rattle.mad_layout.specs.Pieces.{RowPiece, PennedChar, penned_chars, spaces, single_spaces}
 use Rattle.mad_layout.specs.Styles.{line_style, compound_style, ordered_item_style}
 
 -- ---- in front of a line's text
 
 -- a character in its style
-abbrev pub char_piece : StyledChar → Piece
+abbrev pub char_piece : StyledChar → RowPiece
 char_piece c = record { style = (char_style c).object_style; text = encode_utf8 (char_alone c) }
 
 -- one space in the paragraph's style
-abbrev pub mark_space : MadSkin → Piece
+abbrev pub mark_space : MadSkin → RowPiece
 mark_space skin = record { style = skin.paragraph.compound_style.object_style; text = 32 ∷ [] }
 
 -- the mark of a line: an item's bullet or number behind the spaces of its depth, or as many spaces on a line that follows
 -- one and is indented as it is; a quote's mark
-abbrev pub mark_pieces : MadSkin → CompositeKind → List Piece
+abbrev pub mark_pieces : MadSkin → CompositeKind → List RowPiece
 mark_pieces skin Paragraph = []
 mark_pieces skin (Header level) = []
 mark_pieces skin (ListItem depth) = single_spaces skin.paragraph.compound_style depth ++ (char_piece skin.bullet ∷ mark_space skin ∷ [])
@@ -46,7 +47,7 @@ mark_pieces skin Code = []
 mark_pieces skin Quote = char_piece skin.quote_mark ∷ mark_space skin ∷ []
 
 -- a compound of a line in this style
-abbrev pub compound_piece : MadSkin → LineStyle → Compound → Piece
+abbrev pub compound_piece : MadSkin → LineStyle → Compound → RowPiece
 compound_piece skin style p = record { style = (compound_style skin style p).object_style; text = p.src.now }
 
 -- ---- beside it
@@ -66,7 +67,7 @@ place_of None = None
 place_of (Some s) = Some s.width
 
 abbrev pub align_in : Option Spacing → Alignment
-align_in None = Alignment.Unspecified
+align_in None = Unspecified
 align_in (Some s) = s.align
 
 -- the columns of a line with its own place
@@ -82,7 +83,7 @@ margins_of skin outer l = unwrap_or l.margins (margins_at (line_style skin l.kin
 -- The pieces of a composite at an outer width with these margins: the blanks left of it in the paragraph's style, those of
 -- its own place in its own style, its mark, its compounds, and the blanks right of it; those in the paragraph's style only
 -- where they are asked for.
-abbrev pub composite_pieces : MadSkin → Option ℕ → ℕ × ℕ → Bool → FmtComposite → List Piece
+abbrev pub composite_pieces : MadSkin → Option ℕ → ℕ × ℕ → Bool → FmtComposite → List RowPiece
 composite_pieces skin outer margins right l =
     let style = line_style skin l.kind in
     let columns = inner_columns l + margins.0 + margins.1 in
@@ -94,12 +95,12 @@ composite_pieces skin outer margins right l =
     ++ (if right then spaces skin.paragraph.compound_style (right_of_place style.align columns outer + margins.1) else [])))))
 
 -- the pieces of a line at an outer width, with its margins
-abbrev pub line_pieces : MadSkin → Option ℕ → Bool → FmtLine → List Piece
+abbrev pub line_pieces : MadSkin → Option ℕ → Bool → FmtLine → List RowPiece
 line_pieces skin outer right (Normal l) = composite_pieces skin outer (margins_of skin outer l) right l
 
 -- what a place of so many columns shows: a line, filled up on its right; or, past the last line, spaces in the
 -- paragraph's style
-abbrev pub row_pieces : MadSkin → ℕ → Option FmtLine → List Piece
+abbrev pub row_pieces : MadSkin → ℕ → Option FmtLine → List RowPiece
 row_pieces skin width (Some line) = line_pieces skin (Some width) true line
 row_pieces skin width None = spaces skin.paragraph.compound_style width
 

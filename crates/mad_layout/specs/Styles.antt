@@ -7,7 +7,8 @@ use Rattle.mad_style.specs.declared.kinds.CompositeKind.{CompositeKind}
 use Rattle.mad_style.specs.declared.kinds.CompositeKind.TheVariants.{Header, Code}
 use Rattle.mad_style.specs.declared.line_styles.LineStyle.{LineStyle}
 use Rattle.mad_style.specs.declared.ordered_items.OrderedItemStyle.{OrderedItemStyle}
-use Rattle.mad_style.specs.CompoundStyles.{overwritten}
+use Rattle.mad_style.specs.CompoundStyles.{overwritten, plain_style}
+use Rattle.mad_style.specs.StyledChars.{styled_char}
 use Rattle.mad_layout.specs.declared.skin.MadSkin.{MadSkin}
 
 -- the header of this level, which is counted from 1; the paragraph's style at a level without a header
@@ -36,6 +37,10 @@ compound_style skin style p =
     if bytes_eq p.src.now ellipsis_bytes then skin.ellipsis
     else overwritten_if p.code skin.inline_code (overwritten_if p.bold skin.bold (overwritten_if p.strikeout skin.strikeout (overwritten_if p.italic skin.italic style.compound_style)))
 
+-- an ordered item without style: a number and a dot
+abbrev pub plain_item_style : OrderedItemStyle
+plain_item_style = record { index_style = plain_style; index_suffix = styled_char plain_style 46 }
+
 -- how items of this level look; levels past the last take the last
 abbrev pub ordered_item_style : MadSkin → ℕ → OrderedItemStyle
-ordered_item_style skin level = unwrap_or (slice_get skin.ordered_item_styles (min level 3)) skin.ordered_item_styles_default
+ordered_item_style skin level = unwrap_or (slice_get skin.ordered_item_styles (min level 3)) plain_item_style
