@@ -7,7 +7,8 @@ use Rattle.mad_fit.specs.declared.tokens.Token.{Token}
 use Rattle.mad_layout.specs.declared.room.Room.{Room}
 use Rattle.mad_layout.specs.declared.composite.FmtComposite.{FmtComposite}
 use Rattle.mad_layout.specs.Breaks.{Piece, total_width}
-use Rattle.mad_layout.specs.Wraps.{token_run, capped}
+use Rattle.mad_fit.specs.Tokens.{token_run}
+use Rattle.mad_layout.specs.Wraps.{capped}
 
 -- the line holds these tokens, behind an indent
 pub record HoldsTokens (kind : CompositeKind) (indent : ℕ) (spacing : Option Spacing) (ts : List Token) (l : FmtComposite) : Type 0 where
