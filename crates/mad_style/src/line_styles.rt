@@ -1,10 +1,12 @@
 //! How a line looks, and where it stands.
 
-ghost use Rattle.std.specs.Prelude.{◌≡◌};
+ghost use Rattle.std.specs.Prelude.{◌≡◌, ◌∷◌, [], encode_utf8};
+ghost use Rattle.mad_term.specs.Draws.{Draws};
 
 use crate::compound_styles::CompoundStyle;
 use mad_md::Alignment;
-use mad_term::{Attribute, Color};
+use mad_term::{Attribute, Color, Error, Out};
+use std::alloc::Global;
 
 /// How the text of a line looks, on which side it stands, and how many columns stay free on its left
 /// and on its right.
@@ -43,6 +45,7 @@ impl From<CompoundStyle> for LineStyle {
 impl LineStyle {
     ghost use Rattle.mad_style.specs.CompoundStyles.{foreground_set, background_set, attribute_added};
     ghost use Rattle.mad_style.specs.LineStyles.{unmargined, margins_at};
+    ghost use Rattle.mad_style.specs.Runs.{run_bytes};
 
     /// A style without margins.
     pub fn new(compound_style: CompoundStyle, align: Alignment) -> Self
@@ -98,5 +101,50 @@ impl LineStyle {
         ensures { self.new ≡ record self.old { compound_style = attribute_added self.old.compound_style attr } }
     {
         self.compound_style.add_attr(attr);
+    }
+
+    /// Writes a text `count` times in this style, as one piece; nothing at all if `count` is 0.
+    ///
+    /// # Errors
+    ///
+    /// A fault of the device, or want of memory before anything went out.
+    pub fn repeat_string<O: Out>(
+        &self,
+        alloc: Global,
+        out: &mut O,
+        text: &str,
+        count: usize,
+    ) -> Result<(), Error>
+        ensures { Draws (O.seen out.old) (run_bytes self.now.compound_style text.now count) result (O.seen out.new) }
+    {
+        self.compound_style.repeat_string(alloc, out, text, count)
+    }
+
+    /// Writes a character `count` times in this style, as one piece; nothing at all if `count` is 0.
+    ///
+    /// # Errors
+    ///
+    /// A fault of the device, or want of memory before anything went out.
+    pub fn repeat_char<O: Out>(
+        &self,
+        alloc: Global,
+        out: &mut O,
+        c: char,
+        count: usize,
+    ) -> Result<(), Error>
+        ensures { Draws (O.seen out.old) (run_bytes self.now.compound_style (encode_utf8 c) count) result (O.seen out.new) }
+    {
+        self.compound_style.repeat_char(alloc, out, c, count)
+    }
+
+    /// Writes `count` spaces in this style, as one piece; nothing at all if `count` is 0.
+    ///
+    /// # Errors
+    ///
+    /// A fault of the device, or want of memory before anything went out.
+    pub fn repeat_space<O: Out>(&self, alloc: Global, out: &mut O, count: usize) -> Result<(), Error>
+        ensures { Draws (O.seen out.old) (run_bytes self.now.compound_style (32 ∷ []) count) result (O.seen out.new) }
+    {
+        self.compound_style.repeat_space(alloc, out, count)
     }
 }

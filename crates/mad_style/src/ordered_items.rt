@@ -52,6 +52,16 @@ impl OrderedItemStyle {
 pub fn ordered_item_indent(level: u8, index: u32) -> usize
     ensures { result ≡ length (decimal index) + 2 + level }
 {
-    let digits = index.checked_ilog10().map_or(1, |power| power + 1);
-    digits as usize + 2 + usize::from(level)
+    digit_count(index) as usize + 2 + usize::from(level)
+}
+
+// The digits that a number is written with.
+#[tactic(auto, using(std::proofs::lemmas::Fmt::decimal_digit, crate::proofs::Digits::length_decimal))]
+fn digit_count(number: u32) -> u32
+    ensures { result ≡ length (decimal number) }
+{
+    match number.checked_ilog10() {
+        Some(power) => power + 1,
+        None => 1,
+    }
 }

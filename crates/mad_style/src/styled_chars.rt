@@ -1,9 +1,14 @@
 //! A character in a style.
 
-ghost use Rattle.std.specs.Prelude.{◌≡◌};
+ghost use Rattle.std.specs.Prelude.{◌≡◌, ◌++◌, IfOk, OnOk, encode_utf8, string_bytes};
+ghost use Rattle.std.specs.List.{repeat};
+ghost use Rattle.mad_term.specs.Draws.{Draws};
 
 use crate::compound_styles::CompoundStyle;
-use mad_term::Color;
+use crate::styled_texts::StyledText;
+use mad_term::{Color, Error, Out, push_styled};
+use std::alloc::{AllocError, Global};
+use std::fmt;
 
 /// A character in a style: a bullet, a mark of quotes, a rule, a side of a scroll bar.
 #[derive(Clone, Copy, Debug, PartialEq)]
@@ -14,6 +19,7 @@ pub struct StyledChar {
 
 impl StyledChar {
     ghost use Rattle.mad_style.specs.CompoundStyles.{plain_style, foreground_set, background_set};
+    ghost use Rattle.mad_style.specs.Runs.{run_style, styled_char_bytes, char_run_bytes};
     ghost use Rattle.mad_style.specs.StyledChars.{char_style, char_alone, styled_char, colored_char};
 
     /// A character in a style.
@@ -101,5 +107,87 @@ impl StyledChar {
         ensures { self.new ≡ styled_char compound_style (char_alone self.old) }
     {
         self.compound_style = compound_style;
+    }
+
+    /// The character `count` times in its style; at 0 an empty text without style.
+    ///
+    /// # Errors
+    ///
+    /// Want of memory.
+    pub fn repeated(&self, alloc: Global, count: usize) -> Result<StyledText, AllocError>
+        ensures style { IfOk result (λ text. text.style ≡ run_style (char_style self.now) count) }
+        ensures content { IfOk result (λ text. string_bytes text.content ≡ repeat count (encode_utf8 (char_alone self.now))) }
+    {
+        let style = if count == 0 {
+            CompoundStyle::default().object_style
+        } else {
+            self.compound_style.object_style
+        };
+        let mut buffer = [0; 4];
+        let content = self.nude_char.encode_utf8(&mut buffer).repeat(alloc, count)?;
+        Ok(StyledText { style, content })
+    }
+
+    /// Writes the character `count` times in its style, as one piece; nothing at all if `count` is 0.
+    ///
+    /// # Errors
+    ///
+    /// A fault of the device, or want of memory before anything went out.
+    pub fn queue_repeat<O: Out>(&self, alloc: Global, out: &mut O, count: usize) -> Result<(), Error>
+        ensures { Draws (O.seen out.old) (char_run_bytes self.now count) result (O.seen out.new) }
+    {
+        self.compound_style.repeat_char(alloc, out, self.nude_char, count)
+    }
+
+    /// Writes the character in its style, as one piece.
+    ///
+    /// # Errors
+    ///
+    /// A fault of the device, or want of memory before anything went out.
+    pub fn queue<O: Out>(&self, alloc: Global, out: &mut O) -> Result<(), Error>
+        ensures { Draws (O.seen out.old) (styled_char_bytes self.now) result (O.seen out.new) }
+    {
+        let mut buffer = [0; 4];
+        self.compound_style.queue(alloc, out, self.nude_char.encode_utf8(&mut buffer))
+    }
+
+    /// Appends the character in its style, as one piece.
+    ///
+    /// # Errors
+    ///
+    /// Want of memory.
+    pub fn push(&self, row: &mut String) -> Result<(), AllocError>
+        ensures { OnOk result (string_bytes row.new ≡ string_bytes row.old ++ styled_char_bytes self.now) }
+    {
+        let mut buffer = [0; 4];
+        let text = self.nude_char.encode_utf8(&mut buffer);
+        push_styled(row, &self.compound_style.object_style, text)
+    }
+
+    /// Appends the character `count` times in its style, as one piece; nothing at all if `count` is 0.
+    ///
+    /// # Errors
+    ///
+    /// Want of memory.
+    pub fn push_repeated(&self, row: &mut String, count: usize) -> Result<(), AllocError>
+        ensures { OnOk result (string_bytes row.new ≡ string_bytes row.old ++ char_run_bytes self.now count) }
+    {
+        let mut buffer = [0; 4];
+        let text = self.nude_char.encode_utf8(&mut buffer);
+        self.compound_style.push_repeated(row, text, count)
+    }
+}
+
+impl fmt::Display for StyledChar {
+    ghost use Rattle.std.specs.Prelude.{Some};
+    ghost use Rattle.mad_style.specs.Runs.{styled_char_bytes};
+
+    ghost output = { λ c. Some (styled_char_bytes c) };
+
+    /// Writes the character in its style, as one piece.
+    fn fmt<W: fmt::Write>(&self, f: &mut fmt::Formatter<W>) -> fmt::Result {
+        let mut buffer = [0; 4];
+        let piece = self.compound_style.apply_to(self.nude_char.encode_utf8(&mut buffer));
+        write!(f, "{piece}")
     }
 }
