@@ -11,6 +11,7 @@ use Rattle.mad_md.specs.declared.compound.Compound.{Compound}
 use Rattle.mad_fit.specs.Columns.{width_of}
 use Rattle.mad_fit.specs.Tokens.{IsAlike, StopsBefore, IsInCompound, IsTokenAt, AreTokensFrom, AreTokensOf, token_text}
 use Rattle.mad_fit.specs.declared.tokens.Token.{Token}
+use Rattle.mad_fit.proofs.AllLemmas.{all_push}
 use Rattle.mad_fit.proofs.FlaggedLemmas.{flagged-append, width_of-append}
 use Rattle.mad_fit.proofs.TextLemmas.{chars_take_more}
 
@@ -21,10 +22,6 @@ pub record IsFront (max : ℕ) (f : Flags) (bs : List ℕ) (end : ℕ) (blank : 
   pub rest : IsUtf8 (drop end bs)
   pub alike : IsAlike max blank width (flagged f (chars (take end bs)))
   pub bound : width ≤ end
-
-all_push : {A : Type 0} (P : A → Type 0) (xs : List A) (y : A) → AllByRecursion P xs → P y → AllByRecursion P (xs ++ y ∷ [])
-all_push P [] y h p = (p, tt)
-all_push P (x ∷ xs) y h p = (h.0, all_push P xs y h.1 p)
 
 alike_push : (max width : ℕ) (blank : Bool) (xs : List FlaggedChar) (y : FlaggedChar) → IsAlike max blank width xs → is_blank y ≡ blank → width + char_columns y.char ≤ max
     → IsAlike max blank (width + char_columns y.char) (xs ++ y ∷ [])

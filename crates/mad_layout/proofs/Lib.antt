@@ -1,0 +1,3 @@
+pub mod BoundLemmas
+pub mod Least
+pub mod PlaceLemmas

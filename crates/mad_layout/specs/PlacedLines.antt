@@ -1,13 +1,15 @@
--- Lines that hold tokens.
-use Rattle.std.specs.Prelude.{◌≡◌, ℕ, ◌+◌, List, [], ◌∷◌, map, Option, None}
+-- Lines that hold tokens, for the private calls that place them.
+use Rattle.std.specs.Prelude.{◌≡◌, ℕ, ◌+◌, ◌<◌, ◌≤◌, List, [], ◌∷◌, map, length, Option, None}
+use Rattle.std.specs.List.{AllByRecursion}
 use Rattle.mad_md.specs.Flagged.{run_of}
 use Rattle.mad_style.specs.declared.kinds.CompositeKind.{CompositeKind}
 use Rattle.mad_fit.specs.declared.spacing.Spacing.{Spacing}
 use Rattle.mad_fit.specs.declared.tokens.Token.{Token}
+use Rattle.mad_fit.specs.Tokens.{token_run}
 use Rattle.mad_layout.specs.declared.room.Room.{Room}
 use Rattle.mad_layout.specs.declared.composite.FmtComposite.{FmtComposite}
-use Rattle.mad_layout.specs.Breaks.{Piece, total_width}
-use Rattle.mad_layout.specs.Wraps.{token_run, capped}
+use Rattle.mad_layout.specs.Breaks.{Piece, joined, total_width, FitsFrom, FittingBreak}
+use Rattle.mad_layout.specs.Wraps.{capped, GapsForced}
 
 -- the line holds these tokens, behind an indent
 pub record HoldsTokens (kind : CompositeKind) (indent : ℕ) (spacing : Option Spacing) (ts : List Token) (l : FmtComposite) : Type 0 where
@@ -17,12 +19,29 @@ pub record HoldsTokens (kind : CompositeKind) (indent : ℕ) (spacing : Option S
   pub spacing_is : l.spacing ≡ spacing
   pub margins_are : l.margins ≡ None
 
--- each line holds the tokens of its piece
+-- each line holds the tokens of its piece: the first in a kind and behind an indent, the others in and behind others
 abbrev pub HoldPieces : CompositeKind → CompositeKind → ℕ → ℕ → Option Spacing → List (Piece Token) → List FmtComposite → Type 0
 HoldPieces k o i j spacing [] [] = Unit {0}
 HoldPieces k o i j spacing [] (l ∷ ls) = ⊥
 HoldPieces k o i j spacing (p ∷ ps) [] = ⊥
 HoldPieces k o i j spacing (p ∷ ps) (l ∷ ls) = HoldsTokens k i spacing p.line l × HoldPieces o o j j spacing ps ls
 
-abbrev pub ArePlacedLines : Room → CompositeKind → CompositeKind → Option Spacing → List Token → List FmtComposite → Type 0
-ArePlacedLines r k o spacing ts lines = Unit {0}
+-- each token fits on each line
+pub record TokensHaveRoom (r : Room) (ts : List Token) : Type 0 where
+  pub first : r.first ≤ r.width
+  pub other : r.other ≤ r.first
+  pub each : AllByRecursion (λ t. r.first + t.width ≤ r.width) ts
+
+-- no line is without a token
+abbrev pub SomeOnEach : List (Piece Token) → Type 0
+SomeOnEach ps = AllByRecursion (λ p. 0 < length p.line) ps
+
+-- the tokens are placed on these lines
+pub record ArePlacedLines (r : Room) (kind other : CompositeKind) (spacing : Option Spacing) (ts : List Token) (lines : List FmtComposite) : Type 0 where
+  pub pieces : List (Piece Token)
+  pub covers : joined pieces ≡ ts
+  pub gaps : GapsForced r.first r pieces
+  pub holds : HoldPieces kind other r.first r.other spacing pieces lines
+  pub fits : TokensHaveRoom r ts → FitsFrom r.first r pieces
+  pub some : TokensHaveRoom r ts → 0 < length ts → SomeOnEach pieces
+  pub least : (ps : List (Piece Token)) → FittingBreak r ts ps → length lines ≤ length ps

@@ -2,11 +2,11 @@
 use Rattle.std.specs.Prelude.{◌≡◌, ℕ, ◌+◌, ◌-◌, ◌^◌, ◌<◌, ◌≤◌, ◌⊎◌, min, true, false, List, [], ◌∷◌, ◌++◌, map, length, Option, None, Contains}
 use Rattle.std.specs.List.{AllByRecursion}
 use Rattle.mad_term.specs.Columns.{char_columns}
-use Rattle.mad_md.specs.Flagged.{Flags, FlaggedChar, Run, run_of, flags_of, flagged_text}
+use Rattle.mad_md.specs.Flagged.{FlaggedChar, run_of, flagged_text}
 use Rattle.mad_md.specs.declared.compound.Compound.{Compound}
 use Rattle.mad_style.specs.declared.kinds.CompositeKind.{CompositeKind}
 use Rattle.mad_fit.specs.Columns.{width_of}
-use Rattle.mad_fit.specs.Tokens.{AreTokensOf, token_text, flagged_token}
+use Rattle.mad_fit.specs.Tokens.{AreTokensOf, token_run, tokens_text}
 use Rattle.mad_fit.specs.declared.tokens.Token.{Token}
 use Rattle.mad_layout.specs.Breaks.{Piece, joined, total_width, AllBlank, FittingBreak, EndsWithLine}
 use Rattle.mad_layout.specs.CleanCut.{is_cut_clean, drops_middle}
@@ -51,18 +51,9 @@ HaveKinds first other (l ∷ ls) = (l.kind ≡ first) × HaveKinds other other l
 abbrev pub NoneEmpty : List Compound → Type 0
 NoneEmpty ps = AllByRecursion (λ p. 0 < length p.src.now) ps
 
--- what a token says, whatever its address
-abbrev pub token_run : Token → Run
-token_run t = record { flags = flags_of t.compound; text = token_text t }
-
 -- the compound is one of the source or one of its tokens
 abbrev pub IsPartOf : List Compound → List Token → Compound → Type 0
 IsPartOf ps ts q = ((p : Compound) × Contains ps p × (run_of q ≡ run_of p)) ⊎ ((t : Token) × Contains ts t × (run_of q ≡ token_run t))
-
--- the flagged text of tokens
-abbrev pub tokens_text : List Token → List FlaggedChar
-tokens_text [] = []
-tokens_text (t ∷ ts) = flagged_token t ++ tokens_text ts
 
 -- each gap is blank, and one that isn't empty begins with a token that doesn't fit behind its line
 abbrev pub GapsForced : ℕ → Room → List (Piece Token) → Type 0

@@ -33,3 +33,6 @@ pub use ordered_items::{MAX_ORDERED_LIST_DEPTH, OrderedItemStyle, ordered_item_i
 pub use scroll_bars::ScrollBarStyle;
 pub use styled_chars::StyledChar;
 pub use styled_texts::StyledText;
+
+#[cfg(test)]
+mod tests;

@@ -111,7 +111,7 @@ impl CompoundStyle {
     /// # Errors
     ///
     /// A fault of the device, or want of memory before anything went out.
-    #[tactic(auto, using(mad_term::proofs::Traces::took_none, mad_term::proofs::QueueExits::memory_first))]
+    #[tactic(auto, using(mad_term::proofs::QueueExits::memory_first))]
     pub fn repeat_string<O: Out>(
         &self,
         alloc: Global,
@@ -121,11 +121,10 @@ impl CompoundStyle {
     ) -> Result<(), Error>
         ensures { Draws (O.seen out.old) (run_bytes self.now text.now count) result (O.seen out.new) }
     {
-        if count == 0 {
-            return Ok(());
-        }
-        let content = text.repeat(alloc, count)?;
-        self.queue(alloc, out, content.as_str())
+        let mut bytes = String::new(alloc);
+        self.push_repeated(&mut bytes, text, count)?;
+        put_all(out, bytes.as_bytes())?;
+        Ok(())
     }
 
     /// Writes a character `count` times in this style, as one piece; nothing at all if `count` is 0.

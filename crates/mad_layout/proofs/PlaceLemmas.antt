@@ -1,0 +1,310 @@
+-- Placing tokens on lines, step by step.
+use Rattle.std.proofs.Common.{◌≡◌, ℕ, ◌≤◌, ◌<◌, ◌+◌, ◌-◌, ◌^◌, min, Bool, true, false, Option, Some, None, List, [], ◌∷◌, ◌++◌, map, length, take, drop, refl, sym, ap, ◌∙◌, arith, subst, append-nil, append_assoc, nat_le, get_or, ◌⊎◌, inl, inr, if◌then◌else◌}
+use Rattle.std.proofs.lemmas.Bool.Decides.{nat_tests}
+use Rattle.std.proofs.lemmas.List.{map-append, at_drop_more, take_more, length-append}
+use Rattle.std.specs.List.{AllByRecursion}
+use Rattle.mad_md.specs.Flagged.{Run, run_of}
+use Rattle.mad_md.specs.declared.compound.Compound.{Compound}
+use Rattle.mad_style.specs.declared.kinds.CompositeKind.{CompositeKind}
+use Rattle.mad_fit.specs.declared.spacing.Spacing.{Spacing}
+use Rattle.mad_fit.specs.declared.tokens.Token.{Token}
+use Rattle.mad_fit.specs.Tokens.{token_run}
+use Rattle.mad_fit.proofs.AllLemmas.{all_push, all_front, all_back}
+use Rattle.mad_layout.specs.Breaks.{Piece, joined, total_width, AllBlank, FitsFrom, FittingBreak}
+use Rattle.mad_layout.specs.Greedy.{Placing, left_of, fits_in, taken, begin_line, place_by, place, place_all}
+use Rattle.mad_layout.specs.PlacedLines.{HoldsTokens, HoldPieces, TokensHaveRoom, SomeOnEach, ArePlacedLines}
+use Rattle.mad_layout.specs.Wraps.{capped, GapsForced}
+use Rattle.mad_layout.specs.declared.room.Room.{Room}
+use Rattle.mad_layout.specs.declared.composite.FmtComposite.{FmtComposite}
+
+-- the indent and the kind of the line after these
+abbrev pub next_indent : Room → List (Piece Token) → ℕ
+next_indent r [] = r.first
+next_indent r (p ∷ ps) = r.other
+
+abbrev pub next_kind : CompositeKind → CompositeKind → List (Piece Token) → CompositeKind
+next_kind k o [] = k
+next_kind k o (p ∷ ps) = o
+
+-- The tokens are placed: on whole lines, and on the line that is being made. After it a gap may have begun.
+pub record Progress (r : Room) (k o : CompositeKind) (spacing : Option Spacing) (ts : List Token) (lines : List FmtComposite) (line : FmtComposite) (left : Option ℕ) (ended : Bool) : Type 0 where
+  pub pieces : List (Piece Token)
+  pub tokens : List Token
+  pub gap : List Token
+  pub covers : joined pieces ++ (tokens ++ gap) ≡ ts
+  pub gaps : GapsForced r.first r pieces
+  pub gap_blank : AllBlank gap
+  pub no_gap : ended ≡ false → gap ≡ []
+  pub some_gap : ended ≡ true → 0 < length gap
+  pub forced_here : (t : Token) (others : List Token) → gap ≡ t ∷ others → r.width < next_indent r pieces + total_width tokens + t.width
+  pub holds : HoldPieces k o r.first r.other spacing pieces lines
+  pub holds_line : HoldsTokens (next_kind k o pieces) (next_indent r pieces) spacing tokens line
+  pub left_is : left ≡ left_of r.width (next_indent r pieces + total_width tokens)
+  pub fits : TokensHaveRoom r ts → FitsFrom r.first r pieces
+  pub line_fits : TokensHaveRoom r ts → next_indent r pieces + total_width tokens ≤ r.width
+  pub some : TokensHaveRoom r ts → SomeOnEach pieces
+  pub some_here : TokensHaveRoom r ts → 0 < length ts → 0 < length tokens
+
+-- ---- lists that grow at their end
+
+pub total_width-push : (ts : List Token) (t : Token) → total_width (ts ++ t ∷ []) ≡ total_width ts + t.width
+total_width-push [] t = omega arith
+total_width-push (x ∷ ts) t = omega (arith, total_width-push ts t)
+
+room_front : (r : Room) (xs ys : List Token) → TokensHaveRoom r (xs ++ ys) → TokensHaveRoom r xs
+room_front r xs ys h = record { first = h.first; other = h.other; each = all_front _ xs ys h.each }
+
+room_last : (r : Room) (xs : List Token) (t : Token) → TokensHaveRoom r (xs ++ t ∷ []) → r.first + t.width ≤ r.width
+room_last r xs t h = (all_back (λ t. r.first + t.width ≤ r.width) xs (t ∷ []) h.each).0
+
+joined-push : {A : Type 0} (ps : List (Piece A)) (p : Piece A) → joined (ps ++ p ∷ []) ≡ joined ps ++ (p.line ++ p.gap)
+joined-push [] p = ap (λ g. p.line ++ g) (append-nil p.gap)
+joined-push (q ∷ ps) p = ap (λ g. q.line ++ (q.gap ++ g)) (joined-push ps p) ∙ ap (λ g. q.line ++ g) (sym (append_assoc q.gap (joined ps) (p.line ++ p.gap))) ∙ sym (append_assoc q.line (q.gap ++ joined ps) (p.line ++ p.gap))
+
+fit_from_other : (r : Room) (ps : List (Piece Token)) (p : Piece Token) → FitsFrom r.other r ps → r.other + total_width p.line ≤ r.width → AllBlank p.gap → FitsFrom r.other r (ps ++ p ∷ [])
+fit_from_other r [] p h l b = (l, b, tt)
+fit_from_other r (q ∷ ps) p h l b = (h.0, h.1, fit_from_other r ps p h.2 l b)
+
+fit_push : (r : Room) (ps : List (Piece Token)) (p : Piece Token) → FitsFrom r.first r ps → next_indent r ps + total_width p.line ≤ r.width → AllBlank p.gap → FitsFrom r.first r (ps ++ p ∷ [])
+fit_push r [] p h l b = (l, b, tt)
+fit_push r (q ∷ ps) p h l b = (h.0, h.1, fit_from_other r ps p h.2 l b)
+
+forced_from_other : (r : Room) (ps : List (Piece Token)) (p : Piece Token) → GapsForced r.other r ps → AllBlank p.gap
+    → ((t : Token) (others : List Token) → p.gap ≡ t ∷ others → r.width < r.other + total_width p.line + t.width) → GapsForced r.other r (ps ++ p ∷ [])
+forced_from_other r [] p h b l = (b, l, tt)
+forced_from_other r (q ∷ ps) p h b l = (h.0, h.1, forced_from_other r ps p h.2 b l)
+
+forced_push : (r : Room) (ps : List (Piece Token)) (p : Piece Token) → GapsForced r.first r ps → AllBlank p.gap
+    → ((t : Token) (others : List Token) → p.gap ≡ t ∷ others → r.width < next_indent r ps + total_width p.line + t.width) → GapsForced r.first r (ps ++ p ∷ [])
+forced_push r [] p h b l = (b, l, tt)
+forced_push r (q ∷ ps) p h b l = (h.0, h.1, forced_from_other r ps p h.2 b l)
+
+holds_from_other : (o : CompositeKind) (j : ℕ) (sp : Option Spacing) (ps : List (Piece Token)) (ls : List FmtComposite) (p : Piece Token) (l : FmtComposite)
+    → HoldPieces o o j j sp ps ls → HoldsTokens o j sp p.line l → HoldPieces o o j j sp (ps ++ p ∷ []) (ls ++ l ∷ [])
+holds_from_other o j sp [] [] p l h g = (g, tt)
+holds_from_other o j sp [] (m ∷ ls) p l h g = absurd h
+holds_from_other o j sp (q ∷ ps) [] p l h g = absurd h
+holds_from_other o j sp (q ∷ ps) (m ∷ ls) p l h g = (h.0, holds_from_other o j sp ps ls p l h.1 g)
+
+holds_push : (r : Room) (k o : CompositeKind) (sp : Option Spacing) (ps : List (Piece Token)) (ls : List FmtComposite) (p : Piece Token) (l : FmtComposite)
+    → HoldPieces k o r.first r.other sp ps ls → HoldsTokens (next_kind k o ps) (next_indent r ps) sp p.line l → HoldPieces k o r.first r.other sp (ps ++ p ∷ []) (ls ++ l ∷ [])
+holds_push r k o sp [] [] p l h g = (g, tt)
+holds_push r k o sp [] (m ∷ ls) p l h g = absurd h
+holds_push r k o sp (q ∷ ps) [] p l h g = absurd h
+holds_push r k o sp (q ∷ ps) (m ∷ ls) p l h g = (h.0, holds_from_other o r.other sp ps ls p l h.1 g)
+
+next_indent-push : (r : Room) (ps : List (Piece Token)) (p : Piece Token) → next_indent r (ps ++ p ∷ []) ≡ r.other
+next_indent-push r [] p = refl
+next_indent-push r (q ∷ ps) p = refl
+
+next_kind-push : (k o : CompositeKind) (ps : List (Piece Token)) (p : Piece Token) → next_kind k o (ps ++ p ∷ []) ≡ o
+next_kind-push k o [] p = refl
+next_kind-push k o (q ∷ ps) p = refl
+
+-- ---- a line that takes a token
+
+-- the line with one token more
+pub record AddsToken (old : FmtComposite) (t : Token) (new : FmtComposite) : Type 0 where
+  pub compound : Compound
+  pub run_is : run_of compound ≡ token_run t
+  pub text : new.compounds.items ≡ old.compounds.items ++ compound ∷ []
+  pub length : new.visible_length ≡ capped (old.visible_length + t.width)
+  pub kind : new.kind ≡ old.kind
+  pub spacing : new.spacing ≡ old.spacing
+  pub margins : new.margins ≡ old.margins
+
+-- a line without text
+pub record IsBegun (kind : CompositeKind) (indent : ℕ) (spacing : Option Spacing) (l : FmtComposite) : Type 0 where
+  pub kind_is : l.kind ≡ kind
+  pub empty : l.compounds.items ≡ []
+  pub length_is : l.visible_length ≡ indent
+  pub spacing_is : l.spacing ≡ spacing
+  pub margins_are : l.margins ≡ None
+  pub small : indent < 2 ^ 64
+
+holds_none : (k : CompositeKind) (i : ℕ) (sp : Option Spacing) (l : FmtComposite) → IsBegun k i sp l → HoldsTokens k i sp [] l
+holds_none k i sp l h = record {
+  kind_is = h.kind_is;
+  runs = ap (map run_of) h.empty;
+  length_is = omega (arith, h.length_is, h.small);
+  spacing_is = h.spacing_is;
+  margins_are = h.margins_are;
+}
+
+holds_more : (k : CompositeKind) (i : ℕ) (sp : Option Spacing) (ts : List Token) (t : Token) (old new : FmtComposite) → HoldsTokens k i sp ts old → AddsToken old t new → HoldsTokens k i sp (ts ++ t ∷ []) new
+holds_more k i sp ts t old new h a = record {
+  kind_is = a.kind ∙ h.kind_is;
+  runs = ap (map run_of) a.text ∙ map-append run_of old.compounds.items (a.compound ∷ []) ∙ ap (λ l. l ++ run_of a.compound ∷ []) h.runs ∙ ap (λ x. map token_run ts ++ x ∷ []) a.run_is ∙ sym (map-append token_run ts (t ∷ []));
+  length_is = omega (arith, a.length, h.length_is, total_width-push ts t);
+  spacing_is = a.spacing ∙ h.spacing_is;
+  margins_are = a.margins ∙ h.margins_are;
+}
+
+-- ---- tests
+
+-- the first token of a gap stays first
+first_stays : (gap others : List Token) (t u : Token) → 0 < length gap → gap ++ t ∷ [] ≡ u ∷ others → (more : List Token) × (gap ≡ u ∷ more)
+first_stays [] others t u l e = absurd (omega arith)
+first_stays (x ∷ gap) others t u l e = (gap, let same : x ≡ u = cc in ap (λ y. y ∷ gap) same)
+
+passes_by : (width used n : ℕ) (b : Bool) → nat_le used width ≡ b → fits_in (if b then Some (width - used) else None) n ≡ false → width < used + n
+passes_by width used n true e h = grind (arith, nat_tests)
+passes_by width used n false e h = grind (arith, nat_tests)
+
+-- a token that doesn't fit passes the width
+pub passes_width : (width used n : ℕ) → fits_in (left_of width used) n ≡ false → width < used + n
+passes_width width used n h = passes_by width used n (nat_le used width) refl h
+
+forced_more : (r : Room) (ended : Bool) (left : Option ℕ) (used : ℕ) (gap : List Token) (t : Token) → left ≡ left_of r.width used → (ended ≡ false → gap ≡ []) → (ended ≡ true → 0 < length gap)
+    → ((u : Token) (others : List Token) → gap ≡ u ∷ others → r.width < used + u.width) → (ended ≡ true) ⊎ (fits_in left t.width ≡ false)
+    → (u : Token) (others : List Token) → gap ++ t ∷ [] ≡ u ∷ others → r.width < used + u.width
+forced_more r true left used gap t is none some here why u others e = let first = first_stays gap others t u (some refl) e in here u first.0 first.1
+forced_more r false left used gap t is none some here (inl h) u others e = absurd (cc)
+forced_more r false left used gap t is none some here (inr h) u others e =
+    let alone : t ∷ [] ≡ u ∷ others = ap (λ g. g ++ t ∷ []) (sym (none refl)) ∙ e in
+    let same : t ≡ u = cc in
+    subst (λ (v : Token). r.width < used + v.width) same (passes_width r.width used t.width (ap (λ l. fits_in l t.width) (sym is) ∙ h))
+
+le_from_test : (a b : ℕ) → nat_le a b ≡ true → a ≤ b
+le_from_test a b e = grind (arith, nat_tests)
+
+left_of-some : (width used : ℕ) → used ≤ width → left_of width used ≡ Some (width - used)
+left_of-some width used h = let e : nat_le used width ≡ true = grind (arith, nat_tests) in ap (λ b. if b then Some (width - used) else None) e
+
+fits_room : (width used n : ℕ) (b : Bool) → nat_le used width ≡ b → fits_in (if b then Some (width - used) else None) n ≡ true → used ≤ width
+fits_room width used n true e h = le_from_test used width e
+fits_room width used n false e h = absurd (cc)
+
+-- a token that fits
+pub fits_within : (width used n : ℕ) → fits_in (left_of width used) n ≡ true → (used + n ≤ width) × (taken (left_of width used) n ≡ left_of width (used + n))
+fits_within width used n h =
+    let inside : used ≤ width = fits_room width used n (nat_le used width) refl h in
+    let some : left_of width used ≡ Some (width - used) = left_of-some width used inside in
+    let room : n ≤ width - used = le_from_test n (width - used) (ap (λ l. fits_in l n) (sym some) ∙ h) in
+    (omega arith, ap (λ l. taken l n) some ∙ ap Some (omega arith) ∙ sym (left_of-some width (used + n) (omega arith)))
+
+-- where each token has room, there is one on a line that doesn't take another
+some_before : (r : Room) (ended : Bool) (left : Option ℕ) (ps : List (Piece Token)) (tokens gap ts : List Token) (t : Token) → left ≡ left_of r.width (next_indent r ps + total_width tokens) → joined ps ++ (tokens ++ gap) ≡ ts
+    → (ended ≡ true → 0 < length gap) → (0 < length ts → 0 < length tokens) → r.other ≤ r.first → r.first + t.width ≤ r.width → (ended ≡ true) ⊎ (fits_in left t.width ≡ false) → 0 < length tokens
+some_before r ended left ps (x ∷ tokens) gap ts t is covers some here other room why = omega arith
+some_before r ended left ps [] gap ts t is covers some here other room (inl e) =
+    here (omega (arith, ap length covers, length-append (joined ps) gap, some e))
+some_before r ended left [] [] gap ts t is covers some here other room (inr f) =
+    absurd (omega (arith, passes_width r.width (r.first + 0) t.width (ap (λ l. fits_in l t.width) (sym is) ∙ f)))
+some_before r ended left (p ∷ ps) [] gap ts t is covers some here other room (inr f) =
+    absurd (omega (arith, passes_width r.width (r.other + 0) t.width (ap (λ l. fits_in l t.width) (sym is) ∙ f)))
+
+-- ---- the state of placing, and a step
+
+pub progress_start : (r : Room) (k o : CompositeKind) (sp : Option Spacing) (l : FmtComposite) → IsBegun k r.first sp l → Progress r k o sp [] [] l (left_of r.width r.first) false
+progress_start r k o sp l begun = record {
+  pieces = [];
+  tokens = [];
+  gap = [];
+  covers = refl;
+  gaps = tt;
+  gap_blank = tt;
+  no_gap = λ _. refl;
+  some_gap = λ e. absurd (cc);
+  forced_here = λ t others e. absurd (cc);
+  holds = tt;
+  holds_line = holds_none k r.first sp l begun;
+  left_is = ap (left_of r.width) (omega arith);
+  fits = λ _. tt;
+  line_fits = λ h. omega (arith, h.first);
+  some = λ _. tt;
+  some_here = λ _ l. absurd (omega arith);
+}
+
+pub progress_fits : (r : Room) (k o : CompositeKind) (sp : Option Spacing) (ts : List Token) (t : Token) (lines : List FmtComposite) (line new : FmtComposite) (left : Option ℕ) → Progress r k o sp ts lines line left false
+    → fits_in left t.width ≡ true → AddsToken line t new → Progress r k o sp (ts ++ t ∷ []) lines new (taken left t.width) false
+progress_fits r k o sp ts t lines line new left h fits adds =
+    let used = next_indent r h.pieces + total_width h.tokens in
+    let within = fits_within r.width used t.width (rw (sym h.left_is) fits) in
+    let more : used + t.width ≡ next_indent r h.pieces + total_width (h.tokens ++ t ∷ []) = omega (arith, total_width-push h.tokens t) in
+    record {
+      pieces = h.pieces;
+      tokens = h.tokens ++ t ∷ [];
+      gap = [];
+      covers =
+          let all : joined h.pieces ++ h.tokens ≡ ts = ap (λ g. joined h.pieces ++ g) (sym (append-nil h.tokens)) ∙ ap (λ g. joined h.pieces ++ (h.tokens ++ g)) (sym (h.no_gap refl)) ∙ h.covers in
+          ap (λ g. joined h.pieces ++ g) (append-nil (h.tokens ++ t ∷ [])) ∙ sym (append_assoc (joined h.pieces) h.tokens (t ∷ [])) ∙ ap (λ g. g ++ t ∷ []) all;
+      gaps = h.gaps;
+      gap_blank = tt;
+      no_gap = λ _. refl;
+      some_gap = λ e. absurd (cc);
+      forced_here = λ t others e. absurd (cc);
+      holds = h.holds;
+      holds_line = holds_more (next_kind k o h.pieces) (next_indent r h.pieces) sp h.tokens t line new h.holds_line adds;
+      left_is = ap (λ l. taken l t.width) h.left_is ∙ within.1 ∙ ap (left_of r.width) more;
+      fits = λ room. h.fits (room_front r ts (t ∷ []) room);
+      line_fits = λ room. omega (arith, within.0, more);
+      some = λ room. h.some (room_front r ts (t ∷ []) room);
+      some_here = λ _ _. omega (arith, length-append h.tokens (t ∷ []));
+    }
+
+pub progress_ends : (r : Room) (k o : CompositeKind) (sp : Option Spacing) (ts : List Token) (t : Token) (lines : List FmtComposite) (line : FmtComposite) (left : Option ℕ) (ended : Bool) → Progress r k o sp ts lines line left ended
+    → t.blank ≡ true → (ended ≡ true) ⊎ (fits_in left t.width ≡ false) → Progress r k o sp (ts ++ t ∷ []) lines line left true
+progress_ends r k o sp ts t lines line left ended h blank why = record {
+  pieces = h.pieces;
+  tokens = h.tokens;
+  gap = h.gap ++ t ∷ [];
+  covers = ap (λ g. joined h.pieces ++ g) (sym (append_assoc h.tokens h.gap (t ∷ []))) ∙ sym (append_assoc (joined h.pieces) (h.tokens ++ h.gap) (t ∷ [])) ∙ ap (λ g. g ++ t ∷ []) h.covers;
+  gaps = h.gaps;
+  gap_blank = all_push (λ t. t.blank ≡ true) h.gap t h.gap_blank blank;
+  no_gap = λ e. absurd (cc);
+  some_gap = λ _. omega (arith, length-append h.gap (t ∷ []));
+  forced_here = forced_more r ended left (next_indent r h.pieces + total_width h.tokens) h.gap t h.left_is h.no_gap h.some_gap h.forced_here why;
+  holds = h.holds;
+  holds_line = h.holds_line;
+  left_is = h.left_is;
+  fits = λ room. h.fits (room_front r ts (t ∷ []) room);
+  line_fits = λ room. h.line_fits (room_front r ts (t ∷ []) room);
+  some = λ room. h.some (room_front r ts (t ∷ []) room);
+  some_here = λ room _. some_before r ended left h.pieces h.tokens h.gap ts t h.left_is h.covers h.some_gap (h.some_here (room_front r ts (t ∷ []) room)) room.other (room_last r ts t room) why;
+}
+
+pub progress_begins : (r : Room) (k o : CompositeKind) (sp : Option Spacing) (ts : List Token) (t : Token) (lines new_lines : List FmtComposite) (line begun new : FmtComposite) (left : Option ℕ) (ended : Bool)
+    → Progress r k o sp ts lines line left ended → (ended ≡ true) ⊎ (fits_in left t.width ≡ false) → new_lines ≡ lines ++ line ∷ [] → IsBegun o r.other sp begun → AddsToken begun t new
+    → Progress r k o sp (ts ++ t ∷ []) new_lines new (left_of r.width (r.other + t.width)) false
+progress_begins r k o sp ts t lines new_lines line begun new left ended h why pushed begins adds =
+    let p : Piece Token = record { line = h.tokens; gap = h.gap } in
+    let indent : next_indent r (h.pieces ++ p ∷ []) ≡ r.other = next_indent-push r h.pieces p in
+    let kind : next_kind k o (h.pieces ++ p ∷ []) ≡ o = next_kind-push k o h.pieces p in
+    let held : HoldsTokens o r.other sp (t ∷ []) new = holds_more o r.other sp [] t begun new (holds_none o r.other sp begun begins) adds in
+    record {
+      pieces = h.pieces ++ p ∷ [];
+      tokens = t ∷ [];
+      gap = [];
+      covers = ap (λ g. g ++ t ∷ []) (joined-push h.pieces p ∙ h.covers);
+      gaps = forced_push r h.pieces p h.gaps h.gap_blank h.forced_here;
+      gap_blank = tt;
+      no_gap = λ _. refl;
+      some_gap = λ e. absurd (cc);
+      forced_here = λ t others e. absurd (cc);
+      holds = subst (HoldPieces k o r.first r.other sp (h.pieces ++ p ∷ [])) (sym pushed) (holds_push r k o sp h.pieces lines p line h.holds h.holds_line);
+      holds_line = subst (λ q. HoldsTokens q (next_indent r (h.pieces ++ p ∷ [])) sp (t ∷ []) new) (sym kind) (subst (λ i. HoldsTokens o i sp (t ∷ []) new) (sym indent) held);
+      left_is = ap (left_of r.width) (omega (arith, indent));
+      fits = λ room. let before = room_front r ts (t ∷ []) room in fit_push r h.pieces p (h.fits before) (h.line_fits before) h.gap_blank;
+      line_fits = λ room. omega (arith, indent, room_last r ts t room, room.other);
+      some = λ room.
+          let before = room_front r ts (t ∷ []) room in
+          all_push (λ (q : Piece Token). 0 < length q.line) h.pieces p (h.some before)
+          (some_before r ended left h.pieces h.tokens h.gap ts t h.left_is h.covers h.some_gap (h.some_here before) room.other (room_last r ts t room) why);
+      some_here = λ _ _. omega arith;
+    }
+
+-- the end: the last line is whole
+pub placed_all : (r : Room) (k o : CompositeKind) (sp : Option Spacing) (ts : List Token) (lines new : List FmtComposite) (line : FmtComposite) (left : Option ℕ) (ended : Bool) → Progress r k o sp ts lines line left ended
+    → new ≡ lines ++ line ∷ [] → ((ps : List (Piece Token)) → FittingBreak r ts ps → length new ≤ length ps) → ArePlacedLines r k o sp ts new
+placed_all r k o sp ts lines new line left ended h pushed least =
+    let p : Piece Token = record { line = h.tokens; gap = h.gap } in
+    record {
+      pieces = h.pieces ++ p ∷ [];
+      covers = joined-push h.pieces p ∙ h.covers;
+      gaps = forced_push r h.pieces p h.gaps h.gap_blank h.forced_here;
+      holds = subst (HoldPieces k o r.first r.other sp (h.pieces ++ p ∷ [])) (sym pushed) (holds_push r k o sp h.pieces lines p line h.holds h.holds_line);
+      fits = λ room. fit_push r h.pieces p (h.fits room) (h.line_fits room) h.gap_blank;
+      some = λ room there. all_push (λ (q : Piece Token). 0 < length q.line) h.pieces p (h.some room) (h.some_here room there);
+      least = least;
+    }
