@@ -142,7 +142,12 @@ impl LineStyle {
     /// # Errors
     ///
     /// A fault of the device, or want of memory before anything went out.
-    pub fn repeat_space<O: Out>(&self, alloc: Global, out: &mut O, count: usize) -> Result<(), Error>
+    pub fn repeat_space<O: Out>(
+        &self,
+        alloc: Global,
+        out: &mut O,
+        count: usize,
+    ) -> Result<(), Error>
         ensures { Draws (O.seen out.old) (run_bytes self.now.compound_style (32 ∷ []) count) result (O.seen out.new) }
     {
         self.compound_style.repeat_space(alloc, out, count)

@@ -2,6 +2,7 @@
 //! What goes to a device is made whole first, and then put.
 
 ghost use Rattle.std.specs.Prelude.{◌≡◌, ◌∷◌, [], ◌++◌, OnOk, encode_utf8, string_bytes};
+ghost use Rattle.std.specs.List.{repeat};
 ghost use Rattle.mad_term.specs.Commands.{clear_bytes};
 ghost use Rattle.mad_term.specs.Draws.{Draws};
 ghost use Rattle.mad_term.specs.Styles.{foreground_bytes, background_bytes, present_bytes, piece_bytes};
@@ -94,7 +95,12 @@ impl CompoundStyle {
     ///
     /// A fault of the device, or want of memory before anything went out.
     #[tactic(auto, using(mad_term::proofs::QueueExits::memory_first))]
-    pub fn clear<O: Out>(&self, alloc: Global, out: &mut O, clear_type: ClearType) -> Result<(), Error>
+    pub fn clear<O: Out>(
+        &self,
+        alloc: Global,
+        out: &mut O,
+        clear_type: ClearType,
+    ) -> Result<(), Error>
         ensures { Draws (O.seen out.old) (present_bytes background_bytes self.now.object_style.background_color ++ clear_bytes clear_type) result (O.seen out.new) }
     {
         let mut bytes = String::new(alloc);
@@ -150,7 +156,12 @@ impl CompoundStyle {
     /// # Errors
     ///
     /// A fault of the device, or want of memory before anything went out.
-    pub fn repeat_space<O: Out>(&self, alloc: Global, out: &mut O, count: usize) -> Result<(), Error>
+    pub fn repeat_space<O: Out>(
+        &self,
+        alloc: Global,
+        out: &mut O,
+        count: usize,
+    ) -> Result<(), Error>
         ensures { Draws (O.seen out.old) (run_bytes self.now (32 ∷ []) count) result (O.seen out.new) }
     {
         self.repeat_string(alloc, out, " ", count)
@@ -162,13 +173,33 @@ impl CompoundStyle {
     /// # Errors
     ///
     /// Want of memory.
-    pub fn push_repeated(&self, row: &mut String, text: &str, count: usize) -> Result<(), AllocError>
+    #[tactic(auto, using(mad_term::proofs::Pieces::plain_piece))]
+    pub fn push_repeated(
+        &self,
+        row: &mut String,
+        text: &str,
+        count: usize,
+    ) -> Result<(), AllocError>
         ensures { OnOk result (string_bytes row.new ≡ string_bytes row.old ++ run_bytes self.now text.now count) }
     {
+        // Most runs are of plain spaces, and need no formatting.
+        if self.object_style.is_plain() {
+            return push_copies(row, text, count);
+        }
         if count == 0 {
             return Ok(());
         }
         let content = text.repeat(*row.allocator(), count)?;
         push_styled(row, &self.object_style, content.as_str())
     }
+}
+
+// Appends a text `count` times.
+fn push_copies(row: &mut String, text: &str, count: usize) -> Result<(), AllocError>
+    ensures { OnOk result (string_bytes row.new ≡ string_bytes row.old ++ repeat count text.now) }
+{
+    for _ in 0..count {
+        row.push_str(text)?;
+    }
+    Ok(())
 }

@@ -54,7 +54,7 @@ impl StyledChar {
     }
 
     /// The character alone.
-    pub fn get_char(&self) -> char
+    pub const fn get_char(&self) -> char
         ensures { result ≡ char_alone self.now }
     {
         self.nude_char
@@ -68,7 +68,7 @@ impl StyledChar {
     }
 
     /// The foreground, if it is set.
-    pub fn get_fg(&self) -> Option<Color>
+    pub const fn get_fg(&self) -> Option<Color>
         ensures { result ≡ (char_style self.now).object_style.foreground_color }
     {
         self.compound_style.get_fg()
@@ -82,7 +82,7 @@ impl StyledChar {
     }
 
     /// The background, if it is set.
-    pub fn get_bg(&self) -> Option<Color>
+    pub const fn get_bg(&self) -> Option<Color>
         ensures { result ≡ (char_style self.now).object_style.background_color }
     {
         self.compound_style.get_bg()
@@ -124,7 +124,10 @@ impl StyledChar {
             self.compound_style.object_style
         };
         let mut buffer = [0; 4];
-        let content = self.nude_char.encode_utf8(&mut buffer).repeat(alloc, count)?;
+        let content = self
+            .nude_char
+            .encode_utf8(&mut buffer)
+            .repeat(alloc, count)?;
         Ok(StyledText { style, content })
     }
 
@@ -133,10 +136,16 @@ impl StyledChar {
     /// # Errors
     ///
     /// A fault of the device, or want of memory before anything went out.
-    pub fn queue_repeat<O: Out>(&self, alloc: Global, out: &mut O, count: usize) -> Result<(), Error>
+    pub fn queue_repeat<O: Out>(
+        &self,
+        alloc: Global,
+        out: &mut O,
+        count: usize,
+    ) -> Result<(), Error>
         ensures { Draws (O.seen out.old) (char_run_bytes self.now count) result (O.seen out.new) }
     {
-        self.compound_style.repeat_char(alloc, out, self.nude_char, count)
+        self.compound_style
+            .repeat_char(alloc, out, self.nude_char, count)
     }
 
     /// Writes the character in its style, as one piece.
@@ -148,7 +157,8 @@ impl StyledChar {
         ensures { Draws (O.seen out.old) (styled_char_bytes self.now) result (O.seen out.new) }
     {
         let mut buffer = [0; 4];
-        self.compound_style.queue(alloc, out, self.nude_char.encode_utf8(&mut buffer))
+        self.compound_style
+            .queue(alloc, out, self.nude_char.encode_utf8(&mut buffer))
     }
 
     /// Appends the character in its style, as one piece.
@@ -187,7 +197,9 @@ impl fmt::Display for StyledChar {
     /// Writes the character in its style, as one piece.
     fn fmt<W: fmt::Write>(&self, f: &mut fmt::Formatter<W>) -> fmt::Result {
         let mut buffer = [0; 4];
-        let piece = self.compound_style.apply_to(self.nude_char.encode_utf8(&mut buffer));
+        let piece = self
+            .compound_style
+            .apply_to(self.nude_char.encode_utf8(&mut buffer));
         write!(f, "{piece}")
     }
 }
