@@ -77,7 +77,7 @@ pub fn push_clear(row: &mut String, what: ClearType) -> Result<(), AllocError>
 
 // The command that erases.
 #[tactic(auto, using(std::proofs::lemmas::Fmt::decimal_digit))]
-fn clear_text(what: ClearType) -> &'static str
+pub(crate) fn clear_text(what: ClearType) -> &'static str
     ensures { result.now ≡ clear_bytes what }
 {
     match what {
@@ -88,3 +88,6 @@ fn clear_text(what: ClearType) -> &'static str
         ClearType::UntilNewLine => "\x1b[K",
     }
 }
+
+#[cfg(test)]
+mod tests;

@@ -47,6 +47,28 @@ fn a_script_ends_or_fails_behind_its_bytes(rt: HostRuntime) -> Result<(), Fail> 
     Ok(())
 }
 
+/// A writer that takes nothing and fails at its flush.
+#[derive(Drop)]
+struct Stuck;
+
+impl io::Write for Stuck {
+    fn write(&mut self, _bytes: &[u8]) -> io::Result<usize> {
+        Ok(0)
+    }
+
+    fn flush(&mut self) -> io::Result<()> {
+        Err(io::Error::new(io::ErrorKind::Other, "stuck"))
+    }
+}
+
+#[test]
+fn a_stuck_writer_is_a_fault_and_not_an_endless_loop(rt: HostRuntime) {
+    let mut out = Stream::new(Stuck);
+    assert!(rt; put_all(&mut out, b"").is_ok());
+    assert!(rt; put_all(&mut out, TEXT).is_err());
+    assert!(rt; out.flush().is_err());
+}
+
 #[test]
 fn writers_and_readers_of_std_are_devices(rt: HostRuntime) -> Result<(), Fail> {
     let mut taken = Vec::new(rt.alloc());

@@ -1,0 +1,13 @@
+-- The exits of a call that makes its bytes before it puts any.
+use Rattle.std.proofs.Common.{◌≡◌, ℕ, List, Result}
+use Rattle.std.specs.Result.{IsErrAnd}
+use Rattle.mad_term.specs.declared.errors.Error.{Error}
+use Rattle.mad_term.specs.declared.errors.Error.TheVariants.{Memory}
+use Rattle.mad_term.specs.Trace.{Trace}
+use Rattle.mad_term.specs.Draws.{Draws}
+use Rattle.mad_term.proofs.Exits.{refused_exit}
+use Rattle.mad_term.proofs.Traces.{stopped_before}
+
+-- memory was wanted before the first byte
+pub memory_first : {T : Type 0} (r : Result T Error) (old : Trace) (text : List ℕ) → IsErrAnd r (λ e. e ≡ Memory) → Draws old text r old
+memory_first r old text h = refused_exit r Memory old old text h (stopped_before old text)

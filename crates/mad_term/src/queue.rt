@@ -1,0 +1,98 @@
+//! Commands and pieces, written to a device. What is written is made whole first, and then put.
+
+ghost use Rattle.mad_term.specs.Commands.{move_to_bytes, clear_bytes};
+ghost use Rattle.mad_term.specs.Draws.{Draws};
+ghost use Rattle.mad_term.specs.Styles.{foreground_bytes, background_bytes, piece_bytes, IsStyle};
+
+use crate::color::Color;
+use crate::commands::{ClearType, clear_text, push_move};
+use crate::devices::{Out, put_all};
+use crate::errors::Error;
+use crate::styles::{ContentStyle, push_background, push_foreground, push_styled};
+use std::alloc::Global;
+
+/// Moves the cursor to column `x` of row `y`, both counted from 0.
+///
+/// # Errors
+///
+/// A fault of the device, or want of memory before anything went out.
+#[tactic(auto, using(crate::proofs::QueueExits::memory_first))]
+pub fn queue_move<O: Out>(alloc: Global, out: &mut O, x: u16, y: u16) -> Result<(), Error>
+    ensures { Draws (O.seen out.old) (move_to_bytes x y) result (O.seen out.new) }
+{
+    let mut bytes = String::new(alloc);
+    push_move(&mut bytes, x, y)?;
+    put_all(out, bytes.as_bytes())?;
+    Ok(())
+}
+
+/// Erases a part of the screen.
+///
+/// # Errors
+///
+/// A fault of the device.
+pub fn queue_clear<O: Out>(out: &mut O, what: ClearType) -> Result<(), Error>
+    ensures { Draws (O.seen out.old) (clear_bytes what) result (O.seen out.new) }
+{
+    put_all(out, clear_text(what).as_bytes())?;
+    Ok(())
+}
+
+/// Sets the foreground.
+///
+/// # Errors
+///
+/// A fault of the device, or want of memory before anything went out.
+#[tactic(auto, using(crate::proofs::QueueExits::memory_first))]
+pub fn queue_fg<O: Out>(alloc: Global, out: &mut O, color: Color) -> Result<(), Error>
+    ensures { Draws (O.seen out.old) (foreground_bytes color) result (O.seen out.new) }
+{
+    let mut bytes = String::new(alloc);
+    push_foreground(&mut bytes, color)?;
+    put_all(out, bytes.as_bytes())?;
+    Ok(())
+}
+
+/// Sets the background.
+///
+/// # Errors
+///
+/// A fault of the device, or want of memory before anything went out.
+#[tactic(auto, using(crate::proofs::QueueExits::memory_first))]
+pub fn queue_bg<O: Out>(alloc: Global, out: &mut O, color: Color) -> Result<(), Error>
+    ensures { Draws (O.seen out.old) (background_bytes color) result (O.seen out.new) }
+{
+    let mut bytes = String::new(alloc);
+    push_background(&mut bytes, color)?;
+    put_all(out, bytes.as_bytes())?;
+    Ok(())
+}
+
+/// Writes a piece: a text in a style.
+///
+/// # Errors
+///
+/// A fault of the device, or want of memory before anything went out.
+#[tactic(auto, using(crate::proofs::Pieces::plain_piece, crate::proofs::QueueExits::memory_first))]
+pub fn queue_styled<O: Out>(
+    alloc: Global,
+    out: &mut O,
+    style: ContentStyle,
+    text: &str,
+) -> Result<(), Error>
+    ensures writes { Draws (O.seen out.old) (piece_bytes style text.now) result (O.seen out.new) }
+    ensures bytes { IsStyle style }
+{
+    // A plain text goes out as it is.
+    if style.is_plain() {
+        put_all(out, text.as_bytes())?;
+        return Ok(());
+    }
+    let mut bytes = String::new(alloc);
+    push_styled(&mut bytes, style, text)?;
+    put_all(out, bytes.as_bytes())?;
+    Ok(())
+}
+
+#[cfg(test)]
+mod tests;
