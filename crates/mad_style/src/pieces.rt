@@ -45,7 +45,7 @@ impl CompoundStyle {
     pub fn queue<O: Out>(&self, alloc: Global, out: &mut O, text: &str) -> Result<(), Error>
         ensures { Draws (O.seen out.old) (piece_bytes self.now.object_style text.now) result (O.seen out.new) }
     {
-        queue_styled(alloc, out, &self.object_style, text)
+        queue_styled(alloc, out, self.object_style, text)
     }
 
     /// Writes a text in this style, as [`CompoundStyle::queue`] does.
@@ -190,7 +190,7 @@ impl CompoundStyle {
             return Ok(());
         }
         let content = text.repeat(*row.allocator(), count)?;
-        push_styled(row, &self.object_style, content.as_str())
+        push_styled(row, self.object_style, content.as_str())
     }
 }
 

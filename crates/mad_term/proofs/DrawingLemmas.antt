@@ -13,7 +13,8 @@ use Rattle.mad_term.specs.Drawing.{drawing, PaintRows, AreWide, IsOutside, Shows
 use Rattle.mad_term.proofs.PutList.{put_list-same, put_list-other}
 use Rattle.mad_term.proofs.Reading.{then_leads, nothing_leads, move_leads}
 use Rattle.mad_term.proofs.PaintingLemmas.{painted_is_grid, rest_fits}
-use Rattle.mad_term.proofs.Paints.{move_ascii, read_leads}
+use Rattle.mad_term.proofs.AsciiCommands.{ascii_move_to}
+use Rattle.mad_term.proofs.Paints.{read_leads}
 
 -- ---- one row
 
@@ -68,7 +69,7 @@ painted_rows g left top (r ∷ rs) = painted_rows (painted (at g left top) r) le
 -- a move, a row's bytes, and more
 drawing_chars : (left top : ℕ) (t : List ℕ) (ts : List (List ℕ)) → left + 1 < 2 ^ 32 → top + 1 < 2 ^ 32 → IsUtf8 t → IsUtf8 (drawing left (suc top) ts) → IsUtf8 (drawing left top (t ∷ ts)) × (chars (drawing left top (t ∷ ts)) ≡ move_to_bytes left top ++ (chars t ++ chars (drawing left (suc top) ts)))
 drawing_chars left top t ts small_x small_y text texts =
-    let ascii = move_ascii left top small_x small_y in
+    let ascii = ascii_move_to left top (omega arith) (omega arith) in
     let move : IsUtf8 (move_to_bytes left top) = IsUtf8-from_ascii (move_to_bytes left top) ascii in
     let rest = drawing left (suc top) ts in (
       IsUtf8-append (move_to_bytes left top) (t ++ rest) move (IsUtf8-append t rest text texts),

@@ -1,29 +1,21 @@
 -- What bytes paint, from pieces to rows. These are the lemmas that drawing is proved by.
-use Rattle.std.proofs.Common.{◌≡◌, ℕ, suc, zero, ◌+◌, ◌^◌, ◌<◌, ◌≤◌, Bool, true, false, cond, List, [], ◌∷◌, ◌++◌, length, replicate, Option, Some, None, refl, ap, sym, ◌∙◌, subst, arith, length-append, append_assoc, IsUtf8, IsTrue}
-use Rattle.std.specs.Prelude.{decimal, IsAscii, IsSome, option_and_then, unwrap_or}
-use Rattle.std.specs.List.{AllByRecursion, flat_map, sum_by}
+use Rattle.std.proofs.Common.{◌≡◌, ℕ, suc, zero, ◌+◌, ◌<◌, ◌≤◌, false, cond, List, [], ◌∷◌, ◌++◌, length, replicate, Option, Some, None, refl, ap, sym, ◌∙◌, subst, arith, length-append, append_assoc, IsUtf8}
+use Rattle.std.specs.Prelude.{IsAscii, IsSome, option_and_then, unwrap_or}
+use Rattle.std.specs.List.{AllByRecursion, flat_map}
 use Rattle.std.specs.Str.{chars, is_utf8}
-use Rattle.std.proofs.lemmas.Str.{chars-append, chars-nil, chars-IsAscii, IsUtf8-append, IsUtf8-nil, IsUtf8-from_ascii, is_utf8-from_IsUtf8, IsAscii-append}
-use Rattle.std.proofs.lemmas.Str.Ascii.{IsAscii-cons, IsAscii-nil}
-use Rattle.std.proofs.lemmas.Fmt.{IsAscii-decimal}
-use Rattle.std.proofs.lemmas.List.{append-nil}
+use Rattle.std.proofs.lemmas.Str.{chars-append, chars-nil, chars-IsAscii, IsUtf8-append, IsUtf8-nil, IsUtf8-from_ascii, is_utf8-from_IsUtf8}
 use Rattle.unicode_width.specs.Width.{char_width}
-use Rattle.mad_term.specs.declared.attribute.Attribute.{Attribute}
-use Rattle.mad_term.specs.declared.attributes.Attributes.{Attributes}
-use Rattle.mad_term.specs.declared.color.Color.{Color}
 use Rattle.mad_term.specs.declared.styles.ContentStyle.{ContentStyle}
-use Rattle.mad_term.specs.Attribute.{attribute_code, all_attributes}
-use Rattle.mad_term.specs.Attributes.{attribute_bits, has_attribute}
 use Rattle.mad_term.specs.Columns.{char_columns}
-use Rattle.mad_term.specs.Commands.{command_bytes, sgr_bytes, move_to_bytes}
-use Rattle.mad_term.specs.Styles.{color_numbers, color_bytes, foreground_bytes, background_bytes, underline_bytes, attribute_bytes, attributes_bytes, present_bytes, opening_bytes, closing_bytes, piece_bytes}
+use Rattle.mad_term.specs.Styles.{opening_bytes, closing_bytes, piece_bytes, IsStyle}
 use Rattle.mad_term.specs.Glyph.{Glyph, Look}
-use Rattle.mad_term.specs.Grid.{Grid, IsGrid, plain_pen, painted, glyphs}
+use Rattle.mad_term.specs.Grid.{Grid, plain_pen, painted, glyphs}
 use Rattle.mad_term.specs.Terminal.{Leads, ground, feed_all, settled, after_bytes}
-use Rattle.mad_term.specs.Painting.{attach, joined, cells_of, IsPrinted, IsWhole, IsShown, HasColumns, CharsPaint, Paints, look_of_style, piece_cells, IsColor, IsColored, IsStyle}
-use Rattle.mad_term.proofs.Reading.{then_leads, nothing_leads, AreSmall}
-use Rattle.mad_term.proofs.PaintingLemmas.{text_leads, painted-append, painted-nil, painted_columns, fewer_columns, length-cells_of}
-use Rattle.mad_term.proofs.StyleLemmas.{piece_paints, color_small, code_small}
+use Rattle.mad_term.specs.Painting.{attach, joined, cells_of, IsPrinted, IsWhole, IsShown, HasColumns, CharsPaint, Paints, piece_cells}
+use Rattle.mad_term.proofs.AsciiCommands.{ascii_opening, ascii_closing}
+use Rattle.mad_term.proofs.Reading.{then_leads, nothing_leads}
+use Rattle.mad_term.proofs.PaintingLemmas.{text_leads, painted-append, painted-nil, painted_columns, fewer_columns}
+use Rattle.mad_term.proofs.StyleLemmas.{piece_paints}
 
 -- ---- from bytes to characters
 
@@ -31,51 +23,6 @@ pub read_leads : (g new : Grid) (bytes : List ℕ) → IsUtf8 bytes → Leads (g
 unfolding after_bytes Leads
 read_leads g new bytes text h =
     ap (λ b. cond b (option_and_then settled (feed_all (chars bytes) (ground g))) None) (is_utf8-from_IsUtf8 bytes text) ∙ ap (option_and_then settled) h
-
--- the bytes of a command are ASCII
-more_ascii : (ns : List ℕ) → AreSmall ns → IsAscii (flat_map (λ m. 59 ∷ decimal m) ns)
-more_ascii [] h = IsAscii-nil
-more_ascii (n ∷ ns) h = IsAscii-append (59 ∷ decimal n) (flat_map (λ m. 59 ∷ decimal m) ns) (IsAscii-cons 59 (decimal n) (omega arith) (IsAscii-decimal n (omega (arith, h.0)))) (more_ascii ns h.1)
-
-pub command_ascii : (ns : List ℕ) (letter : ℕ) → AreSmall ns → letter < 128 → IsAscii (command_bytes ns letter)
-command_ascii [] letter h low = IsAscii-cons 27 (91 ∷ letter ∷ []) (omega arith) (IsAscii-cons 91 (letter ∷ []) (omega arith) (IsAscii-cons letter [] low IsAscii-nil))
-command_ascii (n ∷ ns) letter h low =
-    let others : List ℕ = flat_map (λ m. 59 ∷ decimal m) ns in
-    IsAscii-cons 27 (91 ∷ (decimal n ++ others ++ letter ∷ [])) (omega arith) (IsAscii-cons 91 (decimal n ++ others ++ letter ∷ []) (omega arith)
-    (IsAscii-append (decimal n ++ others) (letter ∷ []) (IsAscii-append (decimal n) others (IsAscii-decimal n (omega (arith, h.0))) (more_ascii ns h.1)) (IsAscii-cons letter [] low IsAscii-nil)))
-
-pub move_ascii : (x y : ℕ) → x + 1 < 2 ^ 32 → y + 1 < 2 ^ 32 → IsAscii (move_to_bytes x y)
-move_ascii x y small_x small_y = command_ascii ((y + 1) ∷ (x + 1) ∷ []) 72 (small_y, (small_x, tt)) (omega arith)
-
-present_ascii : (kind : ℕ) (o : Option Color) → kind < 100 → IsColored o → IsAscii (present_bytes (color_bytes kind) o)
-present_ascii kind None low h = IsAscii-nil
-present_ascii kind (Some c) low h = command_ascii (color_numbers kind c) 109 (color_small kind c low h) (omega arith)
-
-attribute_ascii : (b : Bool) (a : Attribute) → IsAscii (cond b (attribute_bytes a) [])
-attribute_ascii true a = command_ascii (attribute_code a ∷ []) 109 (omega (arith, code_small a), tt) (omega arith)
-attribute_ascii false a = IsAscii-nil
-
-attributes_ascii : (s : Attributes) (list : List Attribute) → IsAscii (flat_map (λ a. cond (has_attribute s a) (attribute_bytes a) []) list)
-attributes_ascii s [] = IsAscii-nil
-attributes_ascii s (a ∷ rest) = IsAscii-append (cond (has_attribute s a) (attribute_bytes a) []) (flat_map (λ b. cond (has_attribute s b) (attribute_bytes b) []) rest) (attribute_ascii (has_attribute s a) a) (attributes_ascii s rest)
-
-opening_ascii : (s : ContentStyle) → IsStyle s → IsAscii (opening_bytes s)
-opening_ascii s h =
-    let attributes : IsAscii (attributes_bytes s.attributes) = attributes_ascii s.attributes all_attributes in
-    IsAscii-append (present_bytes background_bytes s.background_color) (present_bytes foreground_bytes s.foreground_color ++ (present_bytes underline_bytes s.underline_color ++ attributes_bytes s.attributes)) (present_ascii 48 s.background_color (omega arith) h.background)
-    (IsAscii-append (present_bytes foreground_bytes s.foreground_color) (present_bytes underline_bytes s.underline_color ++ attributes_bytes s.attributes) (present_ascii 38 s.foreground_color (omega arith) h.foreground)
-    (IsAscii-append (present_bytes underline_bytes s.underline_color) (attributes_bytes s.attributes) (present_ascii 58 s.underline_color (omega arith) h.underline) attributes))
-
-default_ascii : (n : ℕ) (o : Option Color) → n < 100 → IsAscii (present_bytes (λ _. sgr_bytes (n ∷ [])) o)
-default_ascii n None low = IsAscii-nil
-default_ascii n (Some c) low = command_ascii (n ∷ []) 109 (omega arith, tt) (omega arith)
-
-closing_ascii_by : (t : Bool) (s : ContentStyle) → IsAscii (cond t (sgr_bytes (0 ∷ [])) (present_bytes (λ _. sgr_bytes (49 ∷ [])) s.background_color ++ present_bytes (λ _. sgr_bytes (39 ∷ [])) s.foreground_color))
-closing_ascii_by true s = command_ascii (0 ∷ []) 109 (omega arith, tt) (omega arith)
-closing_ascii_by false s = IsAscii-append (present_bytes (λ _. sgr_bytes (49 ∷ [])) s.background_color) (present_bytes (λ _. sgr_bytes (39 ∷ [])) s.foreground_color) (default_ascii 49 s.background_color (omega arith)) (default_ascii 39 s.foreground_color (omega arith))
-
-closing_ascii : (s : ContentStyle) → IsAscii (closing_bytes s)
-closing_ascii s = closing_ascii_by _ s
 
 -- ASCII round a text
 ascii_first : (a bs : List ℕ) → IsAscii a → IsUtf8 bs → IsUtf8 (a ++ bs) × (chars (a ++ bs) ≡ a ++ chars bs)
@@ -119,8 +66,8 @@ paints_plain bytes text shown = record {
 -- a piece: a text in a style
 pub paints_piece : (s : ContentStyle) (bytes : List ℕ) → IsStyle s → IsUtf8 bytes → IsShown (chars bytes) → Paints (piece_bytes s bytes) (piece_cells s bytes)
 paints_piece s bytes known text shown =
-    let closed : IsUtf8 (bytes ++ closing_bytes s) × (chars (bytes ++ closing_bytes s) ≡ chars bytes ++ closing_bytes s) = ascii_last bytes (closing_bytes s) text (closing_ascii s) in
-    let opened : IsUtf8 (opening_bytes s ++ (bytes ++ closing_bytes s)) × (chars (opening_bytes s ++ (bytes ++ closing_bytes s)) ≡ opening_bytes s ++ chars (bytes ++ closing_bytes s)) = ascii_first (opening_bytes s) (bytes ++ closing_bytes s) (opening_ascii s known) closed.0 in
+    let closed : IsUtf8 (bytes ++ closing_bytes s) × (chars (bytes ++ closing_bytes s) ≡ chars bytes ++ closing_bytes s) = ascii_last bytes (closing_bytes s) text (ascii_closing s) in
+    let opened : IsUtf8 (opening_bytes s ++ (bytes ++ closing_bytes s)) × (chars (opening_bytes s ++ (bytes ++ closing_bytes s)) ≡ opening_bytes s ++ chars (bytes ++ closing_bytes s)) = ascii_first (opening_bytes s) (bytes ++ closing_bytes s) (ascii_opening s known) closed.0 in
     record {
       text = opened.0;
       paints = subst (λ (cs : List ℕ). CharsPaint cs (piece_cells s bytes)) (sym (opened.1 ∙ ap (λ l. opening_bytes s ++ l) closed.1)) (piece_paints s (chars bytes) known shown);

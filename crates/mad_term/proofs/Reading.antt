@@ -61,9 +61,9 @@ decimal_leads g ps n fits =
 -- ---- commands
 
 -- numbers that the terminal can read
-abbrev pub AreSmall : List ℕ → Type 0
-AreSmall [] = Unit {0}
-AreSmall (n ∷ ns) = (n < 2 ^ 32) × AreSmall ns
+abbrev pub AreReadable : List ℕ → Type 0
+AreReadable [] = Unit {0}
+AreReadable (n ∷ ns) = (n < 2 ^ 32) × AreReadable ns
 
 -- it ends a sequence
 pub record IsLetter (c : ℕ) : Type 0 where
@@ -77,7 +77,7 @@ last_feeds g new ps n letter is done =
     ∙ ap (option_map ground) done
 
 -- what follows a command's first number
-rest_leads : (g new : Grid) (letter : ℕ) → IsLetter letter → (ns ps : List ℕ) (n : ℕ) → AreSmall ns → perform letter (ps ++ n ∷ ns) g ≡ Some new → Leads (numbers g ps (Some n)) (flat_map (λ m. 59 ∷ decimal m) ns ++ letter ∷ []) (ground new)
+rest_leads : (g new : Grid) (letter : ℕ) → IsLetter letter → (ns ps : List ℕ) (n : ℕ) → AreReadable ns → perform letter (ps ++ n ∷ ns) g ≡ Some new → Leads (numbers g ps (Some n)) (flat_map (λ m. 59 ∷ decimal m) ns ++ letter ∷ []) (ground new)
 rest_leads g new letter is [] ps n small done = one_leads _ _ _ (last_feeds g new ps n letter is done)
 rest_leads g new letter is (m ∷ ns) ps n small done =
     let others : List ℕ = flat_map (λ k. 59 ∷ decimal k) ns in
@@ -88,7 +88,7 @@ rest_leads g new letter is (m ∷ ns) ps n small done =
     (then_leads _ _ _ (decimal m) (others ++ letter ∷ []) (decimal_leads g (ps ++ n ∷ []) m small.0) behind))
 
 -- a command does what its letter and its numbers say
-pub command_leads : (g new : Grid) (ns : List ℕ) (letter : ℕ) → AreSmall ns → IsLetter letter → perform letter ns g ≡ Some new → Leads (ground g) (command_bytes ns letter) (ground new)
+pub command_leads : (g new : Grid) (ns : List ℕ) (letter : ℕ) → AreReadable ns → IsLetter letter → perform letter ns g ≡ Some new → Leads (ground g) (command_bytes ns letter) (ground new)
 command_leads g new [] letter small is done =
     next_leads _ _ _ 27 _ refl (next_leads _ _ _ 91 _ refl
     (one_leads _ _ _ (ap (λ b. cond b (option_map (λ m. numbers g [] (Some m)) (with_digit None (letter - 48))) (end_number g [] None letter)) is.no_digit ∙ ap (option_map ground) done)))

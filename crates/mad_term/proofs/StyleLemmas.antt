@@ -14,13 +14,14 @@ use Rattle.mad_term.specs.declared.color.Color.TheVariants as colors
 use Rattle.mad_term.specs.declared.styles.ContentStyle.{ContentStyle}
 use Rattle.mad_term.specs.Attribute.{place, attribute_code, all_attributes}
 use Rattle.mad_term.specs.Attributes.{attribute_bits, has_attribute}
+use Rattle.mad_term.specs.Color.{IsColor, IsColorOrNone}
 use Rattle.mad_term.specs.Commands.{sgr_bytes}
-use Rattle.mad_term.specs.Styles.{palette_numbers, color_numbers, foreground_bytes, background_bytes, underline_bytes, attribute_bytes, attributes_bytes, present_bytes, opening_bytes, closing_bytes, piece_bytes}
+use Rattle.mad_term.specs.Styles.{palette_numbers, color_numbers, foreground_bytes, background_bytes, underline_bytes, attribute_bytes, attributes_bytes, present_bytes, opening_bytes, closing_bytes, piece_bytes, IsStyle}
 use Rattle.mad_term.specs.Glyph.{Glyph, Look}
 use Rattle.mad_term.specs.Grid.{Grid, IsGrid, plain_pen, painted}
 use Rattle.mad_term.specs.Terminal.{Leads, ground, restyled, with_code, switched_on, perform}
-use Rattle.mad_term.specs.Painting.{cells_of, IsShown, HasColumns, CharsPaint, shown_color, look_of_style, IsColor, IsColored, IsStyle}
-use Rattle.mad_term.proofs.Reading.{then_leads, nothing_leads, command_leads, AreSmall, letter_sgr}
+use Rattle.mad_term.specs.Painting.{cells_of, IsShown, HasColumns, CharsPaint, shown_color, look_of_style}
+use Rattle.mad_term.proofs.Reading.{then_leads, nothing_leads, command_leads, AreReadable, letter_sgr}
 use Rattle.mad_term.proofs.PaintingLemmas.{text_leads}
 use Rattle.mad_term.proofs.CodeLemmas.{bits_to, no_bits, bits_more, bits_same}
 
@@ -28,16 +29,16 @@ use Rattle.mad_term.proofs.CodeLemmas.{bits_to, no_bits, bits_more, bits_same}
 abbrev pub with_pen : Grid → Look → Grid
 with_pen g p = record g { pen = p }
 
-pub sgr_leads : (g : Grid) (ns : List ℕ) (p : Look) → AreSmall ns → restyled ns g.pen ≡ Some p → Leads (ground g) (sgr_bytes ns) (ground (with_pen g p))
+pub sgr_leads : (g : Grid) (ns : List ℕ) (p : Look) → AreReadable ns → restyled ns g.pen ≡ Some p → Leads (ground g) (sgr_bytes ns) (ground (with_pen g p))
 sgr_leads g ns p small e = command_leads g (with_pen g p) ns 109 small letter_sgr (ap (option_map (λ q. with_pen g q)) e)
 
 -- ---- colors
 
-palette_small : (kind : ℕ) (o : Option ℕ) → kind < 100 → ((n : ℕ) → o ≡ Some n → n < 256) → AreSmall (palette_numbers kind o)
+palette_small : (kind : ℕ) (o : Option ℕ) → kind < 100 → ((n : ℕ) → o ≡ Some n → n < 256) → AreReadable (palette_numbers kind o)
 palette_small kind None low h = (omega arith, tt)
 palette_small kind (Some n) low h = let byte : n < 256 = h n refl in (omega arith, (omega arith, (omega arith, tt)))
 
-foreground_restyles : (c : Color) (p : Look) → IsColor c → restyled (color_numbers 38 c) p ≡ Some (record p { fg = shown_color c })
+pub foreground_restyles : (c : Color) (p : Look) → IsColor c → restyled (color_numbers 38 c) p ≡ Some (record p { fg = shown_color c })
 foreground_restyles (colors.Rgb r g b) p h =
     let test : (ltb r 256 && ltb g 256 && ltb b 256) ≡ true = grind (arith, nat_tests) in
     ap (λ t. cond t (Some (record p { fg = Some (colors.Rgb r g b) })) None) test
@@ -46,7 +47,7 @@ foreground_restyles (colors.AnsiValue n) p h =
     ap (λ t. cond t (Some (record p { fg = Some (colors.AnsiValue n) })) None) test
 foreground_restyles _ p h = refl
 
-background_restyles : (c : Color) (p : Look) → IsColor c → restyled (color_numbers 48 c) p ≡ Some (record p { bg = shown_color c })
+pub background_restyles : (c : Color) (p : Look) → IsColor c → restyled (color_numbers 48 c) p ≡ Some (record p { bg = shown_color c })
 background_restyles (colors.Rgb r g b) p h =
     let test : (ltb r 256 && ltb g 256 && ltb b 256) ≡ true = grind (arith, nat_tests) in
     ap (λ t. cond t (Some (record p { bg = Some (colors.Rgb r g b) })) None) test
@@ -64,7 +65,7 @@ underline_restyles (colors.AnsiValue n) p h =
     ap (λ t. cond t (Some (record p { underline = Some (colors.AnsiValue n) })) None) test
 underline_restyles _ p h = refl
 
-pub color_small : (kind : ℕ) (c : Color) → kind < 100 → IsColor c → AreSmall (color_numbers kind c)
+pub color_small : (kind : ℕ) (c : Color) → kind < 100 → IsColor c → AreReadable (color_numbers kind c)
 color_small kind (colors.Rgb r g b) low h = (omega arith, (omega arith, (omega arith, (omega arith, (omega arith, tt)))))
 color_small kind (colors.AnsiValue n) low h = (omega arith, (omega arith, (omega arith, tt)))
 color_small kind colors.Reset low h = (omega arith, tt)
@@ -74,15 +75,15 @@ color_small kind _ low h = (omega arith, (omega arith, (omega arith, tt)))
 abbrev pub shown : Option Color → Option Color
 shown o = option_and_then shown_color o
 
-pub background_leads : (g : Grid) (o : Option Color) → IsColored o → Leads (ground (with_pen g plain_pen)) (present_bytes background_bytes o) (ground (with_pen g (record plain_pen { bg = shown o })))
+pub background_leads : (g : Grid) (o : Option Color) → IsColorOrNone o → Leads (ground (with_pen g plain_pen)) (present_bytes background_bytes o) (ground (with_pen g (record plain_pen { bg = shown o })))
 background_leads g None h = nothing_leads _
 background_leads g (Some c) h = sgr_leads (with_pen g plain_pen) (color_numbers 48 c) _ (color_small 48 c (omega arith) h) (background_restyles c plain_pen h)
 
-pub foreground_leads : (g : Grid) (b o : Option Color) → IsColored o → Leads (ground (with_pen g (record plain_pen { bg = b }))) (present_bytes foreground_bytes o) (ground (with_pen g (record plain_pen { bg = b; fg = shown o })))
+pub foreground_leads : (g : Grid) (b o : Option Color) → IsColorOrNone o → Leads (ground (with_pen g (record plain_pen { bg = b }))) (present_bytes foreground_bytes o) (ground (with_pen g (record plain_pen { bg = b; fg = shown o })))
 foreground_leads g b None h = nothing_leads _
 foreground_leads g b (Some c) h = sgr_leads (with_pen g (record plain_pen { bg = b })) (color_numbers 38 c) _ (color_small 38 c (omega arith) h) (foreground_restyles c (record plain_pen { bg = b }) h)
 
-pub underline_leads : (g : Grid) (b f o : Option Color) → IsColored o → Leads (ground (with_pen g (record plain_pen { bg = b; fg = f }))) (present_bytes underline_bytes o) (ground (with_pen g (record plain_pen { bg = b; fg = f; underline = shown o })))
+pub underline_leads : (g : Grid) (b f o : Option Color) → IsColorOrNone o → Leads (ground (with_pen g (record plain_pen { bg = b; fg = f }))) (present_bytes underline_bytes o) (ground (with_pen g (record plain_pen { bg = b; fg = f; underline = shown o })))
 underline_leads g b f None h = nothing_leads _
 underline_leads g b f (Some c) h = sgr_leads (with_pen g (record plain_pen { bg = b; fg = f })) (color_numbers 58 c) _ (color_small 58 c (omega arith) h) (underline_restyles c (record plain_pen { bg = b; fg = f }) h)
 
@@ -92,7 +93,7 @@ code_switches : (a : Attribute) (p : Look) → with_code (attribute_code a) p �
 code_switches Reset p = refl
 code_switches _ p = refl
 
-pub code_small : (a : Attribute) → attribute_code a < 100
+code_small : (a : Attribute) → attribute_code a < 100
 code_small Reset = omega arith
 code_small _ = omega arith
 

@@ -15,4 +15,5 @@ pub mod Stages
 pub mod Stream
 pub mod Styles
 pub mod Terminal
+pub mod TerminalLaws
 pub mod Trace

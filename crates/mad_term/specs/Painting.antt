@@ -10,7 +10,6 @@ use Rattle.mad_term.specs.declared.styles.ContentStyle.{ContentStyle}
 use Rattle.mad_term.specs.Attributes.{attribute_bits, has_attribute}
 use Rattle.mad_term.specs.Color.{color_number}
 use Rattle.mad_term.specs.Columns.{char_columns}
-use Rattle.mad_term.specs.Styles.{piece_bytes}
 use Rattle.mad_term.specs.Glyph.{Glyph, Look}
 use Rattle.mad_term.specs.Grid.{Grid, IsGrid, plain_pen, painted, glyphs}
 use Rattle.mad_term.specs.Terminal.{Leads, ground}
@@ -87,19 +86,3 @@ look_of_style s =
 -- the cells of a text in a style
 abbrev pub piece_cells : ContentStyle → List ℕ → List Glyph
 piece_cells s text = cells_of (look_of_style s) (chars text)
-
--- the numbers of a color are bytes
-abbrev pub IsColor : Color → Type 0
-IsColor (Rgb r g b) = (r < 256) × (g < 256) × (b < 256)
-IsColor (AnsiValue n) = n < 256
-IsColor _ = Unit {0}
-
-abbrev pub IsColored : Option Color → Type 0
-IsColored None = Unit {0}
-IsColored (Some c) = IsColor c
-
--- as those of every style are that a program has
-pub record IsStyle (s : ContentStyle) : Type 0 where
-  pub foreground : IsColored s.foreground_color
-  pub background : IsColored s.background_color
-  pub underline : IsColored s.underline_color

@@ -8,6 +8,7 @@
 //! 4. [`scripted`]: devices for tests, which fail where one wants them to.
 //! 5. [`color`], [`attribute`], [`attributes`]: how a text may look.
 //! 6. [`pen`], [`cell`], [`screen`], [`reader`]: the plain terminal, which says what bytes show.
+//! 7. [`laws`]: what drawing relies on.
 #![tactic(auto)]
 
 mod attribute;
@@ -18,8 +19,9 @@ mod columns;
 mod commands;
 mod devices;
 mod errors;
-mod queue;
+pub mod laws;
 mod pen;
+mod queue;
 mod reader;
 mod screen;
 mod scripted;
@@ -34,8 +36,8 @@ pub use columns::char_columns;
 pub use commands::{Clear, ClearType, MoveTo, push_clear, push_move};
 pub use devices::{Out, Source, put_all};
 pub use errors::{Error, InsufficientWidthError};
-pub use queue::{queue_bg, queue_clear, queue_fg, queue_move, queue_styled};
 pub use pen::Pen;
+pub use queue::{queue_bg, queue_clear, queue_fg, queue_move, queue_styled};
 pub use reader::NotPlain;
 pub use screen::Screen;
 pub use scripted::{CutOut, ScriptSource};

@@ -5,6 +5,7 @@ ghost use Rattle.mad_term.specs.Stages.{reading_of};
 
 use crate::screen::Screen;
 use std::alloc::AllocError;
+use std::fmt;
 
 /// How far a sequence has come.
 #[derive(Clone, Copy, Debug, PartialEq, Eq)]
@@ -31,6 +32,22 @@ pub enum NotPlain {
     /// There was not the memory for it.
     Memory,
 }
+
+impl fmt::Display for NotPlain {
+    ghost use Rattle.std.specs.Prelude.{Some};
+    ghost use Rattle.mad_term.specs.Stages.{refusal_text};
+
+    ghost output = { λ e. Some (refusal_text e) };
+
+    fn fmt<W: fmt::Write>(&self, f: &mut fmt::Formatter<W>) -> fmt::Result {
+        match self {
+            NotPlain::Undefined => write!(f, "not plain terminal output"),
+            NotPlain::Memory => write!(f, "want of memory"),
+        }
+    }
+}
+
+impl std::error::Error for NotPlain {}
 
 impl From<AllocError> for NotPlain {
     ghost use Rattle.mad_term.specs.declared.reader.NotPlain.TheVariants.{Memory};
