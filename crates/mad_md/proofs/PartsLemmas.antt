@@ -8,8 +8,8 @@ use Rattle.std.proofs.lemmas.Bool.Decides.{nat_tests}
 use Rattle.std.proofs.lemmas.List.{append-nil, drop-drop, drop_all, get_or_at, length-append, length-take, length-take-le, map-append, take_all, take_more, take-take}
 use Rattle.std.proofs.lemmas.List.Splits.{slice_split-cons_no, slice_split_none, slice_split_first, length-slice_split, join_with_byte-slice_split}
 use Rattle.std.proofs.lemmas.List.Sums.{fails_before_first, prefix_len-le-length}
-use Rattle.mad_md.specs.Lines.{StyledRuns, styled_runs, LineContent, normal, content_of}
-use Rattle.mad_md.specs.Parts.{HasNoNewline, AreParts, without_last_empty, LinePlace, places_from, line_places}
+use Rattle.mad_md.specs.Lines.{StyledRuns, styled_runs, normal, content_of}
+use Rattle.mad_md.specs.Parts.{HasNoNewline, AreParts, without_last_empty, places_from, line_places}
 use Rattle.mad_md.specs.ReadRaw.{raw_runs, raw_line, IsReadRaw}
 use Rattle.mad_md.specs.declared.composite.Composite.{Composite}
 use Rattle.mad_md.specs.declared.composite.CompositeStyle.TheVariants.{Paragraph}
@@ -198,7 +198,7 @@ cut_more src rest part after lines new some h part_is after_is pushed =
     ap (λ t. normal (record { style = Paragraph; runs = raw_runs t })) (sym slice) in
     let lines_are : part ∷ without_last_empty (slice_split is_newline after) ≡ without_last_empty (slice_split is_newline rest) =
     ap (λ p. p ∷ without_last_empty (slice_split is_newline after)) part_is
-        ∙ ap (λ t. before_first is_newline rest ∷ without_last_empty (slice_split is_newline t)) after_is ∙ sym (first_line rest some) in
+    ∙ ap (λ t. before_first is_newline rest ∷ without_last_empty (slice_split is_newline t)) after_is ∙ sym (first_line rest some) in
     record {
       at = next;
       follows = sym (ap (λ m. drop m src) lands) ∙ sym (drop-drop (n + 1) h.at src) ∙ ap (drop (n + 1)) h.follows ∙ sym after_is;
@@ -215,5 +215,6 @@ cut_end src rest text none h =
     record {
       parts = slice_split is_newline src;
       cut = split_is_parts src;
+      only = λ others parts. parts_unique src others parts;
       each = λ others parts. whole ∙ ap (λ ps. map (raw_line src) (line_places ps)) (sym (parts_unique src others parts));
     }
