@@ -1,10 +1,10 @@
 -- Pieces: the texts of which a row is made, each in one style.
 use Rattle.std.specs.Prelude.{ℕ, zero, suc, List, [], ◌∷◌, ◌++◌, map, replicate}
 use Rattle.std.specs.Str.{chars}
-use Rattle.std.specs.List.{flat_map}
+use Rattle.std.specs.List.{AllByRecursion, flat_map}
 use Rattle.mad_term.specs.declared.styles.ContentStyle.{ContentStyle}
 use Rattle.mad_term.specs.Glyph.{Glyph, Look}
-use Rattle.mad_term.specs.Styles.{piece_bytes}
+use Rattle.mad_term.specs.Styles.{IsStyle, piece_bytes}
 use Rattle.mad_term.specs.Painting.{look_of_style, piece_cells}
 use Rattle.mad_style.specs.declared.compound_styles.CompoundStyle.{CompoundStyle}
 
@@ -38,3 +38,7 @@ spaces style (suc n) = record { style = style.object_style; text = replicate (su
 -- so many spaces, each a piece of its own
 abbrev pub single_spaces : CompoundStyle → ℕ → List RowPiece
 single_spaces style n = replicate n (record { style = style.object_style; text = 32 ∷ [] })
+
+-- The colors of each piece's style are numbers of the terminal's, as those of every style are that a program has.
+abbrev pub AreKnown : List RowPiece → Type 0
+AreKnown ps = AllByRecursion (λ p. IsStyle p.style) ps

@@ -26,6 +26,10 @@ use Rattle.mad_layout.specs.Styles.{line_style, compound_style, ordered_item_sty
 abbrev pub char_piece : StyledChar → RowPiece
 char_piece c = record { style = (char_style c).object_style; text = encode_utf8 (char_alone c) }
 
+-- a number
+abbrev pub number_piece : CompoundStyle → ℕ → RowPiece
+number_piece style n = record { style = style.object_style; text = decimal n }
+
 -- one space in the paragraph's style
 abbrev pub mark_space : MadSkin → RowPiece
 mark_space skin = record { style = skin.paragraph.compound_style.object_style; text = 32 ∷ [] }
@@ -39,7 +43,7 @@ mark_pieces skin (ListItem depth) = single_spaces skin.paragraph.compound_style 
 mark_pieces skin (ListItemFollowUp depth) = single_spaces skin.paragraph.compound_style (kept skin.list_items_indentation_mode (2 + depth))
 mark_pieces skin (OrderedListItem level index) =
     single_spaces skin.paragraph.compound_style level
-    ++ (record { style = (ordered_item_style skin level).index_style.object_style; text = decimal index }
+    ++ (number_piece (ordered_item_style skin level).index_style index
     ∷ char_piece (ordered_item_style skin level).index_suffix ∷ mark_space skin ∷ [])
 mark_pieces skin (OrderedListItemFollowUp level index) =
     single_spaces skin.paragraph.compound_style (kept skin.list_items_indentation_mode (ordered_indent level index))

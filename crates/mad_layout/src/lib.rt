@@ -16,6 +16,7 @@ pub mod indents;
 pub mod line;
 mod placing;
 pub mod room;
+mod rows;
 pub mod skin;
 #[cfg(test)]
 mod tests;

@@ -171,7 +171,7 @@ impl StyledChar {
     {
         let mut buffer = [0; 4];
         let text = self.nude_char.encode_utf8(&mut buffer);
-        push_styled(row, &self.compound_style.object_style, text)
+        push_styled(row, self.compound_style.object_style, text)
     }
 
     /// Appends the character `count` times in its style, as one piece; nothing at all if `count` is 0.
