@@ -1,32 +1,91 @@
 -- Pieces of spaces, and pieces in a row.
-use Rattle.std.proofs.Common.{◌≡◌, ℕ, zero, suc, ◌+◌, ◌==◌, Bool, true, false, List, [], ◌∷◌, ◌++◌, map, replicate, if◌then◌else◌, refl, ap, sym, ◌∙◌, append_assoc, arith}
+use Rattle.std.proofs.Common.{◌≡◌, ℕ, zero, suc, ◌+◌, ◌==◌, Bool, true, false, List, [], ◌∷◌, ◌++◌, map, replicate, Result, Ok, Err, OnOk, ◌<◌, length, drop, get_or, if◌then◌else◌, refl, ap, sym, ◌∙◌, append_assoc, arith}
+use Rattle.std.proofs.lemmas.Bool.Decides.{nat_tests}
 use Rattle.std.specs.List.{AllByRecursion, flat_map, repeat}
-use Rattle.std.proofs.lemmas.List.{append-nil, flat_map-append}
+use Rattle.std.proofs.lemmas.List.{append-nil, at_drop_more}
+use Rattle.std.proofs.lemmas.List.Concat.{flat_map-append}
 use Rattle.mad_term.specs.declared.styles.ContentStyle.{ContentStyle}
 use Rattle.mad_term.specs.Styles.{IsStyle, piece_bytes}
 use Rattle.mad_style.specs.declared.compound_styles.CompoundStyle.{CompoundStyle}
 use Rattle.mad_style.specs.Runs.{run_bytes}
-use Rattle.mad_layout.specs.Pieces.{RowPiece, pieces_bytes, spaces, single_spaces, AreKnown}
+use Rattle.mad_layout.specs.Pieces.{RowPiece, pieces_bytes, spaces, single_spaces, AreKnown, Appends}
 
 -- a text of one byte so many times
 pub repeat-one : (n b : ℕ) → repeat n (b ∷ []) ≡ replicate n b
-repeat-one zero b = ?
-repeat-one (suc n) b = ?
+repeat-one zero b = refl
+repeat-one (suc n) b = ap (λ xs. b ∷ xs) (repeat-one n b)
+
+not_zero : (n : ℕ) → (suc n == 0) ≡ false
+not_zero n = grind (arith, nat_tests)
 
 -- a run of spaces is a piece of them
 pub run-spaces : (style : CompoundStyle) (n : ℕ) → run_bytes style (32 ∷ []) n ≡ pieces_bytes (spaces style n)
 run-spaces style zero = refl
-run-spaces style (suc n) = ap (λ text. piece_bytes style.object_style text) (repeat-one (suc n) 32) ∙ sym (append-nil (piece_bytes style.object_style (replicate (suc n) 32)))
+run-spaces style (suc n) =
+    rw (not_zero n) (ap (λ text. piece_bytes style.object_style text) (repeat-one (suc n) 32) ∙ sym (append-nil (piece_bytes style.object_style (replicate (suc n) 32))))
 
 pub spaces_known : (style : CompoundStyle) (n : ℕ) → IsStyle style.object_style → AreKnown (spaces style n)
 spaces_known style zero known = tt
 spaces_known style (suc n) known = (known, tt)
 
 -- single spaces, one more
+single-suc : (style : CompoundStyle) (n : ℕ) → pieces_bytes (single_spaces style (suc n)) ≡ pieces_bytes (single_spaces style n) ++ piece_bytes style.object_style (32 ∷ [])
+single-suc style zero = append-nil (piece_bytes style.object_style (32 ∷ []))
+single-suc style (suc n) =
+    let space : List ℕ = piece_bytes style.object_style (32 ∷ []) in
+    ap (λ bytes. space ++ bytes) (single-suc style n) ∙ sym (append_assoc space (pieces_bytes (single_spaces style n)) space)
+
 pub single-more : (style : CompoundStyle) (n : ℕ) → pieces_bytes (single_spaces style (n + 1)) ≡ pieces_bytes (single_spaces style n) ++ piece_bytes style.object_style (32 ∷ [])
-single-more style zero = ?
-single-more style (suc n) = ?
+single-more style n = let e : n + 1 ≡ suc n = omega arith in ap (λ k. pieces_bytes (single_spaces style k)) e ∙ single-suc style n
 
 pub single_known : (style : CompoundStyle) (n : ℕ) → IsStyle style.object_style → AreKnown (single_spaces style n)
 single_known style zero known = tt
 single_known style (suc n) known = (known, single_known style n known)
+
+-- what holds anyhow holds where a call has succeeded
+pub always_ok : {T E : Type 0} (P : Type 0) (r : Result T E) → P → OnOk r P
+always_ok {T} {E} P (Ok x) h = h
+always_ok {T} {E} P (Err e) h = tt
+
+-- pieces behind pieces
+pub known_both : (ps qs : List RowPiece) → AreKnown ps → AreKnown qs → AreKnown (ps ++ qs)
+known_both [] qs h k = k
+known_both (p ∷ ps) qs h k = (h.0, known_both ps qs h.1 k)
+
+pub appends_both : (a b c : List ℕ) (ps qs : List RowPiece) → Appends a ps b → Appends b qs c → Appends a (ps ++ qs) c
+appends_both a b c ps qs h k = record {
+  bytes =
+    k.bytes ∙ ap (λ xs. xs ++ pieces_bytes qs) h.bytes ∙ append_assoc a (pieces_bytes ps) (pieces_bytes qs)
+    ∙ ap (λ xs. a ++ xs) (sym (flat_map-append (λ (p : RowPiece). piece_bytes p.style p.text) ps qs));
+  known = known_both ps qs h.known k.known;
+}
+
+pub appends_nothing : (a : List ℕ) → Appends a [] a
+appends_nothing a = record { bytes = sym (append-nil a); known = tt }
+
+pub then_ok : {T E : Type 0} (P Q : Type 0) (r : Result T E) → (P → Q) → OnOk r P → OnOk r Q
+then_ok {T} {E} P Q (Ok x) f h = f h
+then_ok {T} {E} P Q (Err e) f h = tt
+
+-- one piece more
+pub appends_one : (a b c : List ℕ) (ps : List RowPiece) (p : RowPiece) → Appends a ps b → c ≡ b ++ piece_bytes p.style p.text → IsStyle p.style → Appends a (ps ++ p ∷ []) c
+appends_one a b c ps p h e known =
+    appends_both a b c ps (p ∷ []) h (record { bytes = e ∙ ap (λ xs. b ++ xs) (sym (append-nil (piece_bytes p.style p.text))); known = (known, tt) })
+
+-- three calls in turn
+pub appends_three : (a b c d : List ℕ) (ps qs rs : List RowPiece) → Appends a ps b → Appends b qs c → Appends c rs d → Appends a (ps ++ (qs ++ rs)) d
+appends_three a b c d ps qs rs h k l = appends_both a b d ps (qs ++ rs) h (appends_both b c d qs rs k l)
+
+-- spaces as one piece
+pub appends_spaces : (old new : List ℕ) (style : CompoundStyle) (n : ℕ) → IsStyle style.object_style → new ≡ old ++ run_bytes style (32 ∷ []) n → Appends old (spaces style n) new
+appends_spaces old new style n known e = record {
+  bytes = e ∙ ap (λ xs. old ++ xs) (run-spaces style n);
+  known = spaces_known style n known;
+}
+
+-- the piece of one element more
+pub more_pieces : {X : Type 0} (f : X → RowPiece) (xs : List X) (i : ℕ) (d : X) (done all : List RowPiece)
+    → i < length xs → done ++ map f (drop i xs) ≡ all → (done ++ f (get_or xs i d) ∷ []) ++ map f (drop (i + 1) xs) ≡ all
+more_pieces {X} f xs i d done all inside held =
+    let next : drop i xs ≡ get_or xs i d ∷ drop (i + 1) xs = at_drop_more (λ ys. ys) xs i d inside in
+    append_assoc done (f (get_or xs i d) ∷ []) (map f (drop (i + 1) xs)) ∙ ap (λ rest. done ++ map f rest) (sym next) ∙ held

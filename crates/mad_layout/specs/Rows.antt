@@ -74,9 +74,21 @@ abbrev pub align_in : Option Spacing → Alignment
 align_in None = Unspecified
 align_in (Some s) = s.align
 
+-- the blank columns left and right of a line in its own place, by its cached length
+abbrev pub inner_blanks : FmtComposite → ℕ × ℕ
+inner_blanks l =
+    (left_of_place (align_in l.spacing) l.visible_length (place_of l.spacing),
+     right_of_place (align_in l.spacing) l.visible_length (place_of l.spacing))
+
 -- the columns of a line with its own place
 abbrev pub inner_columns : FmtComposite → ℕ
 inner_columns l = unwrap_or (place_of l.spacing) l.visible_length
+
+-- the blank columns left and right of a line's own place at an outer width, with these margins
+abbrev pub outer_blanks : Alignment → Option ℕ → ℕ × ℕ → FmtComposite → ℕ × ℕ
+outer_blanks align outer margins l =
+    (left_of_place align (inner_columns l + margins.0 + margins.1) outer + margins.0,
+     right_of_place align (inner_columns l + margins.0 + margins.1) outer + margins.1)
 
 -- the margins of a line: those of its layout, else those of its style at the outer width
 abbrev pub margins_of : MadSkin → Option ℕ → FmtComposite → ℕ × ℕ
@@ -90,13 +102,13 @@ margins_of skin outer l = unwrap_or l.margins (margins_at (line_style skin l.kin
 abbrev pub composite_pieces : MadSkin → Option ℕ → ℕ × ℕ → Bool → FmtComposite → List RowPiece
 composite_pieces skin outer margins right l =
     let style = line_style skin l.kind in
-    let columns = inner_columns l + margins.0 + margins.1 in
-    spaces skin.paragraph.compound_style (left_of_place style.align columns outer + margins.0)
-    ++ (spaces style.compound_style (left_of_place (align_in l.spacing) l.visible_length (place_of l.spacing))
+    let blanks = outer_blanks style.align outer margins l in
+    spaces skin.paragraph.compound_style blanks.0
+    ++ (spaces style.compound_style (inner_blanks l).0
     ++ (mark_pieces skin l.kind
     ++ (map (compound_piece skin style) l.compounds.items
-    ++ (spaces style.compound_style (right_of_place (align_in l.spacing) l.visible_length (place_of l.spacing))
-    ++ (if right then spaces skin.paragraph.compound_style (right_of_place style.align columns outer + margins.1) else [])))))
+    ++ (spaces style.compound_style (inner_blanks l).1
+    ++ (if right then spaces skin.paragraph.compound_style blanks.1 else [])))))
 
 -- the pieces of a line at an outer width, with its margins
 abbrev pub line_pieces : MadSkin → Option ℕ → Bool → FmtLine → List RowPiece

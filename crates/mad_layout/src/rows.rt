@@ -1,9 +1,8 @@
 //! Rows: what is written of a line, piece by piece, at the end of a row that is being built.
 
-ghost use Rattle.std.specs.Prelude.{◌≡◌, ◌+◌, ◌++◌, ◌∷◌, [], OnOk, map, string_bytes};
-ghost use Rattle.mad_layout.specs.Pieces.{AreKnown, pieces_bytes, spaces, single_spaces};
-ghost use Rattle.mad_layout.specs.Rows.{char_piece, compound_piece, number_piece, mark_pieces, composite_pieces, line_pieces, row_pieces, inner_columns};
-ghost use Rattle.mad_layout.specs.Wraps.{capped};
+ghost use Rattle.std.specs.Prelude.{◌≡◌, ◌∷◌, [], OnOk, map, string_bytes};
+ghost use Rattle.mad_layout.specs.Pieces.{Appends, spaces, single_spaces};
+ghost use Rattle.mad_layout.specs.Rows.{char_piece, compound_piece, number_piece, mark_pieces, composite_pieces, line_pieces, row_pieces, inner_blanks, outer_blanks};
 ghost use Rattle.std.specs.Option.{option_copied};
 
 use crate::composite::FmtComposite;
@@ -11,15 +10,14 @@ use crate::indents::indent_of;
 use crate::line::FmtLine;
 use crate::skin::MadSkin;
 use mad_fit::spacing::Spacing;
-use mad_md::Compound;
+use mad_md::{Alignment, Compound};
 use mad_style::{CompositeKind, CompoundStyle, LineStyle, StyledChar};
 use mad_term::push_styled;
 use std::alloc::AllocError;
 
 // Spaces, as one piece; nothing at all of none.
 fn push_spaces(row: &mut String, style: CompoundStyle, count: usize) -> Result<(), AllocError>
-    ensures writes { OnOk result (string_bytes row.new ≡ string_bytes row.old ++ pieces_bytes (spaces style count)) }
-    ensures known { OnOk result (AreKnown (spaces style count)) }
+    ensures { OnOk result (Appends (string_bytes row.old) (spaces style count) (string_bytes row.new)) }
 {
     style.push_repeated(row, " ", count)
 }
@@ -30,10 +28,9 @@ fn push_single_spaces(
     style: CompoundStyle,
     count: usize,
 ) -> Result<(), AllocError>
-    ensures writes { OnOk result (string_bytes row.new ≡ string_bytes row.old ++ pieces_bytes (single_spaces style count)) }
-    ensures known { OnOk result (AreKnown (single_spaces style count)) }
+    ensures { OnOk result (Appends (string_bytes row.old) (single_spaces style count) (string_bytes row.new)) }
 {
-    for _ in 0..count {
+    for _done in 0..count {
         push_styled(row, style.object_style, " ")?;
     }
     Ok(())
@@ -41,8 +38,7 @@ fn push_single_spaces(
 
 // A character in its style.
 fn push_char(row: &mut String, c: StyledChar) -> Result<(), AllocError>
-    ensures writes { OnOk result (string_bytes row.new ≡ string_bytes row.old ++ pieces_bytes (char_piece c ∷ [])) }
-    ensures known { OnOk result (AreKnown (char_piece c ∷ [])) }
+    ensures { OnOk result (Appends (string_bytes row.old) (char_piece c ∷ []) (string_bytes row.new)) }
 {
     let mut buffer = [0; 4];
     let text = c.nude_char().encode_utf8(&mut buffer);
@@ -51,18 +47,17 @@ fn push_char(row: &mut String, c: StyledChar) -> Result<(), AllocError>
 
 // What stands in front of a line's text.
 fn push_mark(row: &mut String, skin: &MadSkin, kind: CompositeKind) -> Result<(), AllocError>
-    ensures writes { OnOk result (string_bytes row.new ≡ string_bytes row.old ++ pieces_bytes (mark_pieces skin.now kind)) }
-    ensures known { OnOk result (AreKnown (mark_pieces skin.now kind)) }
+    ensures { OnOk result (Appends (string_bytes row.old) (mark_pieces skin.now kind) (string_bytes row.new)) }
 {
     let blank = skin.paragraph.compound_style;
     match kind {
         CompositeKind::ListItem(depth) => {
-            push_single_spaces(row, blank, usize::from(depth))?;
+            push_single_spaces(row, blank, depth as usize)?;
             push_char(row, skin.bullet)?;
             push_single_spaces(row, blank, 1)
         }
         CompositeKind::OrderedListItem { level, index } => {
-            push_single_spaces(row, blank, usize::from(level))?;
+            push_single_spaces(row, blank, level as usize)?;
             let style = skin.ordered_item_style(level);
             push_number(row, style.index_style, index)?;
             push_char(row, style.index_suffix)?;
@@ -81,8 +76,7 @@ fn push_mark(row: &mut String, skin: &MadSkin, kind: CompositeKind) -> Result<()
 
 // The number of an item of an ordered list.
 fn push_number(row: &mut String, style: CompoundStyle, number: u32) -> Result<(), AllocError>
-    ensures writes { OnOk result (string_bytes row.new ≡ string_bytes row.old ++ pieces_bytes (number_piece style number ∷ [])) }
-    ensures known { OnOk result (AreKnown (number_piece style number ∷ [])) }
+    ensures { OnOk result (Appends (string_bytes row.old) (number_piece style number ∷ []) (string_bytes row.new)) }
 {
     let text = number.to_string(*row.allocator())?;
     push_styled(row, style.object_style, text.as_str())
@@ -95,14 +89,24 @@ fn push_compounds(
     style: &LineStyle,
     compounds: &[Compound],
 ) -> Result<(), AllocError>
-    ensures writes { OnOk result (string_bytes row.new ≡ string_bytes row.old ++ pieces_bytes (map (compound_piece skin.now style.now) compounds.now)) }
-    ensures known { OnOk result (AreKnown (map (compound_piece skin.now style.now) compounds.now)) }
+    ensures { OnOk result (Appends (string_bytes row.old) (map (compound_piece skin.now style.now) compounds.now) (string_bytes row.new)) }
 {
     for compound in compounds {
-        let style = skin.compound_style(style, compound);
-        push_styled(row, style.object_style, compound.src)?;
+        push_compound(row, skin, style, compound)?;
     }
     Ok(())
+}
+
+fn push_compound(
+    row: &mut String,
+    skin: &MadSkin,
+    style: &LineStyle,
+    compound: &Compound,
+) -> Result<(), AllocError>
+    ensures { OnOk result (Appends (string_bytes row.old) (compound_piece skin.now style.now compound.now ∷ []) (string_bytes row.new)) }
+{
+    let style = skin.compound_style(style, compound);
+    push_styled(row, style.object_style, compound.src)
 }
 
 /// Where a composite stands in a row, in columns.
@@ -124,35 +128,41 @@ pub(crate) fn push_composite(
     composite: &FmtComposite,
     place: RowPlace,
 ) -> Result<(), AllocError>
-    ensures writes { OnOk result (string_bytes row.new ≡ string_bytes row.old
-        ++ pieces_bytes (composite_pieces skin.now place.outer place.margins place.right composite.now)) }
-    ensures known { OnOk result (AreKnown (composite_pieces skin.now place.outer place.margins place.right composite.now)) }
+    ensures { OnOk result (Appends (string_bytes row.old) (composite_pieces skin.now place.outer place.margins place.right composite.now) (string_bytes row.new)) }
 {
     let style = skin.line_style(composite.kind);
     let blank = skin.paragraph.compound_style;
-    let columns = columns_with(composite, place.margins);
-    let (left, right) = Spacing::optional_completions(style.align, columns, place.outer);
-    let (inner_left, inner_right) = composite.completions();
-    push_spaces(row, blank, left + place.margins.0)?;
+    let (left, right) = outer_blanks(composite, style.align, place);
+    let (inner_left, inner_right) = inner_blanks(composite);
+    push_spaces(row, blank, left)?;
     push_spaces(row, style.compound_style, inner_left)?;
     push_mark(row, skin, composite.kind)?;
     push_compounds(row, skin, style, &composite.compounds)?;
     push_spaces(row, style.compound_style, inner_right)?;
-    if place.right {
-        push_spaces(row, blank, right + place.margins.1)?;
-    }
-    Ok(())
+    push_spaces(row, blank, if place.right { right } else { 0 })
 }
 
-// The columns of a composite in its own place, with margins; `usize::MAX` where there are more.
-fn columns_with(composite: &FmtComposite, margins: (usize, usize)) -> usize
-    ensures { result ≡ capped (inner_columns composite.now + margins.0 + margins.1) }
+// The blank columns left and right of a composite in its own place.
+fn inner_blanks(composite: &FmtComposite) -> (usize, usize)
+    ensures { result ≡ inner_blanks composite.now }
+{
+    composite.completions()
+}
+
+// The blank columns left and right of a composite's own place at the outer width, with the margins.
+fn outer_blanks(composite: &FmtComposite, align: Alignment, place: RowPlace) -> (usize, usize)
+    ensures { result ≡ outer_blanks align place.outer place.margins composite.now }
 {
     let inner = match &composite.spacing {
         Some(spacing) => spacing.width,
         None => composite.visible_length,
     };
-    inner.saturating_add(margins.0).saturating_add(margins.1)
+    let (left_margin, right_margin) = place.margins;
+    let columns = inner
+        .saturating_add(left_margin)
+        .saturating_add(right_margin);
+    let (left, right) = Spacing::optional_completions(align, columns, place.outer);
+    (left + left_margin, right + right_margin)
 }
 
 /// Appends a line at an outer width, in columns, with the margins of its layout, or where it has none of its style's.
@@ -163,8 +173,7 @@ pub(crate) fn push_line(
     outer: Option<usize>,
     right: bool,
 ) -> Result<(), AllocError>
-    ensures writes { OnOk result (string_bytes row.new ≡ string_bytes row.old ++ pieces_bytes (line_pieces skin.now outer right line.now)) }
-    ensures known { OnOk result (AreKnown (line_pieces skin.now outer right line.now)) }
+    ensures { OnOk result (Appends (string_bytes row.old) (line_pieces skin.now outer right line.now) (string_bytes row.new)) }
 {
     match line {
         FmtLine::Normal(composite) => {
@@ -189,8 +198,7 @@ pub(crate) fn push_row(
     line: Option<&FmtLine>,
     width: usize,
 ) -> Result<(), AllocError>
-    ensures writes { OnOk result (string_bytes row.new ≡ string_bytes row.old ++ pieces_bytes (row_pieces skin.now width (option_copied line.entry))) }
-    ensures known { OnOk result (AreKnown (row_pieces skin.now width (option_copied line.entry))) }
+    ensures { OnOk result (Appends (string_bytes row.old) (row_pieces skin.now width (option_copied line.entry)) (string_bytes row.new)) }
 {
     match line {
         Some(line) => push_line(row, skin, line, Some(width), true),
