@@ -2,6 +2,7 @@
 use Rattle.std.specs.Prelude.{ℕ, ◌+◌, ◌-◌, Bool, true, List, [], ◌∷◌, ◌++◌, map, Option, Some, None, unwrap_or, if◌then◌else◌, decimal, encode_utf8}
 use Rattle.mad_md.specs.declared.alignment.Alignment.{Alignment}
 use Rattle.mad_md.specs.declared.alignment.Alignment.TheVariants.{Unspecified}
+use Rattle.mad_md.specs.Flagged.{Run, run_of}
 use Rattle.mad_md.specs.declared.compound.Compound.{Compound}
 use Rattle.mad_style.specs.declared.kinds.CompositeKind.{CompositeKind}
 use Rattle.mad_style.specs.declared.kinds.CompositeKind.TheVariants.{Paragraph, Header, ListItem, ListItemFollowUp, OrderedListItem, OrderedListItemFollowUp, Code, Quote}
@@ -50,9 +51,13 @@ mark_pieces skin (OrderedListItemFollowUp level index) =
 mark_pieces skin Code = []
 mark_pieces skin Quote = char_piece skin.quote_mark ∷ mark_space skin ∷ []
 
--- a compound of a line in this style
+-- what a compound says, in a line of this style
+abbrev pub run_piece : MadSkin → LineStyle → Run → RowPiece
+run_piece skin style p = record { style = (compound_style skin style p).object_style; text = p.text }
+
+-- a compound in a line of this style
 abbrev pub compound_piece : MadSkin → LineStyle → Compound → RowPiece
-compound_piece skin style p = record { style = (compound_style skin style p).object_style; text = p.src.now }
+compound_piece skin style p = run_piece skin style (run_of p)
 
 -- ---- beside it
 

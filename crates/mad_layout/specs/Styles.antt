@@ -1,7 +1,7 @@
 -- The styles of a skin's parts.
 use Rattle.std.specs.Prelude.{ℕ, zero, suc, Bool, List, [], ◌∷◌, slice_get, unwrap_or, min, if◌then◌else◌}
 use Rattle.std.specs.Str.{bytes_eq}
-use Rattle.mad_md.specs.declared.compound.Compound.{Compound}
+use Rattle.mad_md.specs.Flagged.{Run}
 use Rattle.mad_style.specs.declared.compound_styles.CompoundStyle.{CompoundStyle}
 use Rattle.mad_style.specs.declared.kinds.CompositeKind.{CompositeKind}
 use Rattle.mad_style.specs.declared.kinds.CompositeKind.TheVariants.{Header, Code}
@@ -32,10 +32,10 @@ overwritten_if flag other style = if flag then overwritten style other else styl
 
 -- The style of a compound: the ellipsis has its own; else its line's, overwritten with those of its flags, italic first,
 -- then strikeout, bold and code.
-abbrev pub compound_style : MadSkin → LineStyle → Compound → CompoundStyle
+abbrev pub compound_style : MadSkin → LineStyle → Run → CompoundStyle
 compound_style skin style p =
-    if bytes_eq p.src.now ellipsis_bytes then skin.ellipsis
-    else overwritten_if p.code skin.inline_code (overwritten_if p.bold skin.bold (overwritten_if p.strikeout skin.strikeout (overwritten_if p.italic skin.italic style.compound_style)))
+    if bytes_eq p.text ellipsis_bytes then skin.ellipsis
+    else overwritten_if p.flags.code skin.inline_code (overwritten_if p.flags.bold skin.bold (overwritten_if p.flags.strikeout skin.strikeout (overwritten_if p.flags.italic skin.italic style.compound_style)))
 
 -- an ordered item without style: a number and a dot
 abbrev pub plain_item_style : OrderedItemStyle

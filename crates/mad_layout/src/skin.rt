@@ -108,7 +108,7 @@ fn default_quote_mark() -> StyledChar
 }
 
 impl MadSkin {
-    ghost use Rattle.mad_md.specs.Flagged.{flagged_text};
+    ghost use Rattle.mad_md.specs.Flagged.{flagged_text, run_of};
     ghost use Rattle.mad_fit.specs.Columns.{width_of};
     ghost use Rattle.mad_layout.specs.Indents.{indent};
     ghost use Rattle.mad_layout.specs.Skins.{no_style_skin};
@@ -172,7 +172,7 @@ impl MadSkin {
     /// An ellipsis has its own; any other has its line's, overwritten with those of its flags: italic first, then
     /// strikeout, bold and code.
     pub fn compound_style(&self, line_style: &LineStyle, compound: &Compound) -> CompoundStyle
-        ensures { result ≡ compound_style self.now line_style.now compound.now }
+        ensures { result ≡ compound_style self.now line_style.now (run_of compound.now) }
     {
         if compound.src == ELLIPSIS {
             return self.ellipsis;
