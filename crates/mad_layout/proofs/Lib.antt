@@ -1,3 +1,4 @@
 pub mod BoundLemmas
 pub mod Least
+pub mod MeasureLemmas
 pub mod PlaceLemmas
