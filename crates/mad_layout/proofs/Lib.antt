@@ -1,4 +1,7 @@
 pub mod BoundLemmas
+pub mod CutLemmas
+pub mod KeepLemmas
 pub mod Least
 pub mod MeasureLemmas
 pub mod PlaceLemmas
+pub mod WrapLemmas
