@@ -32,7 +32,7 @@ pub tokens_text-append : (xs ys : List Token) → tokens_text (xs ++ ys) ≡ tok
 tokens_text-append [] ys = refl
 tokens_text-append (x ∷ xs) ys = ap (λ l. flagged_token x ++ l) (tokens_text-append xs ys) ∙ sym (append_assoc (flagged_token x) (tokens_text xs) (tokens_text ys))
 
-text_from : (max start : ℕ) (p : Compound) (ts : List Token) → AreTokensFrom max p start ts → tokens_text ts ≡ flagged (flags_of p) (chars (drop start p.src.now))
+pub text_from : (max start : ℕ) (p : Compound) (ts : List Token) → AreTokensFrom max p start ts → tokens_text ts ≡ flagged (flags_of p) (chars (drop start p.src.now))
 text_from max start p [] h = sym (ap (λ n. flagged (flags_of p) (chars (drop n p.src.now))) h ∙ ap (λ l. flagged (flags_of p) (chars l)) (drop_all (length p.src.now) p.src.now (omega arith)) ∙ ap (flagged (flags_of p)) chars-nil)
 text_from max start p (t ∷ ts) (first, more) = ap (λ l. flagged_token t ++ l) (text_from max t.end_in_compound p ts more) ∙ sym (text_at max start p t first)
 
@@ -58,7 +58,7 @@ all_honest max (p ∷ ps) ts (own, others, joins, first, more) =
     subst (AllByRecursion (IsHonest max)) (sym joins) (all_joined (IsHonest max) own others (tokens_honest max 0 p own first) (all_honest max ps others more))
 
 -- a token has a character
-some_of : (cs bs : List ℕ) → encode_utf8_all cs ≡ bs → 0 < length bs → 0 < length cs
+pub some_of : (cs bs : List ℕ) → encode_utf8_all cs ≡ bs → 0 < length bs → 0 < length cs
 some_of [] bs e h = absurd (omega (arith, ap length e))
 some_of (c ∷ cs) bs e h = omega arith
 
@@ -69,3 +69,8 @@ length-token_text t h =
 pub some_flagged : (t : Token) → IsInCompound t → 0 < length (flagged_token t)
 some_flagged t h =
     omega (arith, some_of (chars (token_text t)) (token_text t) (encodes-chars (token_text t) h.utf8) (omega (arith, length-token_text t h, h.some)), length-map {B = FlaggedChar} (chars (token_text t)) (λ c. record { char = c; flags = flags_of t.compound }))
+
+-- a compound that isn't empty has a character
+pub some_compound : (p : Compound) → IsUtf8 p.src.now → 0 < length p.src.now → 0 < length (flagged_of p)
+some_compound p u h =
+    omega (arith, some_of (chars p.src.now) p.src.now (encodes-chars p.src.now u) h, length-map {B = FlaggedChar} (chars p.src.now) (λ c. record { char = c; flags = flags_of p }))

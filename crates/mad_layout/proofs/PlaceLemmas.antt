@@ -3,12 +3,12 @@ use Rattle.std.proofs.Common.{◌≡◌, ℕ, ◌≤◌, ◌<◌, ◌+◌, ◌-�
 use Rattle.std.proofs.lemmas.Bool.Decides.{nat_tests}
 use Rattle.std.proofs.lemmas.List.{map-append, at_drop_more, take_more, length-append}
 use Rattle.std.specs.List.{AllByRecursion}
-use Rattle.mad_md.specs.Flagged.{Run, run_of}
+use Rattle.mad_md.specs.Flagged.{Flags, Run, run_of, flags_of}
 use Rattle.mad_md.specs.declared.compound.Compound.{Compound}
 use Rattle.mad_style.specs.declared.kinds.CompositeKind.{CompositeKind}
 use Rattle.mad_fit.specs.declared.spacing.Spacing.{Spacing}
 use Rattle.mad_fit.specs.declared.tokens.Token.{Token}
-use Rattle.mad_fit.specs.Tokens.{token_run}
+use Rattle.mad_fit.specs.Tokens.{token_run, token_text}
 use Rattle.mad_fit.proofs.AllLemmas.{all_push, all_front, all_back}
 use Rattle.mad_layout.specs.Breaks.{Piece, joined, total_width, AllBlank, FitsFrom, FittingBreak}
 use Rattle.mad_layout.specs.Greedy.{Placing, left_of, fits_in, taken, begin_line, place_by, place, place_all}
@@ -106,27 +106,31 @@ next_kind-push k o (q ∷ ps) p = refl
 -- the line with one token more
 pub record AddsToken (old : FmtComposite) (t : Token) (new : FmtComposite) : Type 0 where
   pub compound : Compound
-  pub run_is : run_of compound ≡ token_run t
+  pub bytes : compound.src.now ≡ token_text t
+  pub flags : flags_of compound ≡ flags_of t.compound
   pub text : new.compounds.items ≡ old.compounds.items ++ compound ∷ []
   pub length : new.visible_length ≡ capped (old.visible_length + t.width)
   pub kind : new.kind ≡ old.kind
   pub spacing : new.spacing ≡ old.spacing
   pub margins : new.margins ≡ old.margins
 
+-- a token as a compound
+pub run_is_of : (t : Token) (q : Compound) → q.src.now ≡ token_text t → flags_of q ≡ flags_of t.compound → run_of q ≡ token_run t
+run_is_of t q text flags = ap (λ (f : Flags). record { flags = f; text = q.src.now }) flags ∙ ap (λ b. record { flags = flags_of t.compound; text = b }) text
+
 -- a line without text
 pub record IsBegun (kind : CompositeKind) (indent : ℕ) (spacing : Option Spacing) (l : FmtComposite) : Type 0 where
   pub kind_is : l.kind ≡ kind
   pub empty : l.compounds.items ≡ []
-  pub length_is : l.visible_length ≡ indent
+  pub length_is : l.visible_length ≡ capped indent
   pub spacing_is : l.spacing ≡ spacing
   pub margins_are : l.margins ≡ None
-  pub small : indent < 2 ^ 64
 
 holds_none : (k : CompositeKind) (i : ℕ) (sp : Option Spacing) (l : FmtComposite) → IsBegun k i sp l → HoldsTokens k i sp [] l
 holds_none k i sp l h = record {
   kind_is = h.kind_is;
   runs = ap (map run_of) h.empty;
-  length_is = omega (arith, h.length_is, h.small);
+  length_is = omega (arith, h.length_is);
   spacing_is = h.spacing_is;
   margins_are = h.margins_are;
 }
@@ -134,7 +138,7 @@ holds_none k i sp l h = record {
 holds_more : (k : CompositeKind) (i : ℕ) (sp : Option Spacing) (ts : List Token) (t : Token) (old new : FmtComposite) → HoldsTokens k i sp ts old → AddsToken old t new → HoldsTokens k i sp (ts ++ t ∷ []) new
 holds_more k i sp ts t old new h a = record {
   kind_is = a.kind ∙ h.kind_is;
-  runs = ap (map run_of) a.text ∙ map-append run_of old.compounds.items (a.compound ∷ []) ∙ ap (λ l. l ++ run_of a.compound ∷ []) h.runs ∙ ap (λ x. map token_run ts ++ x ∷ []) a.run_is ∙ sym (map-append token_run ts (t ∷ []));
+  runs = ap (map run_of) a.text ∙ map-append run_of old.compounds.items (a.compound ∷ []) ∙ ap (λ l. l ++ run_of a.compound ∷ []) h.runs ∙ ap (λ x. map token_run ts ++ x ∷ []) (run_is_of t a.compound a.bytes a.flags) ∙ sym (map-append token_run ts (t ∷ []));
   length_is = omega (arith, a.length, h.length_is, total_width-push ts t);
   spacing_is = a.spacing ∙ h.spacing_is;
   margins_are = a.margins ∙ h.margins_are;
@@ -308,3 +312,85 @@ placed_all r k o sp ts lines new line left ended h pushed least =
       some = λ room there. all_push (λ (q : Piece Token). 0 < length q.line) h.pieces p (h.some room) (h.some_here room there);
       least = least;
     }
+
+-- ---- the lines that are counted beside
+
+place_more : (r : Room) (s new : Placing) (ts : List Token) (i : ℕ) (d : Token) (all : Placing) → i < length ts → place_all r s (drop i ts) ≡ all
+    → place r s (get_or ts i d) ≡ new → place_all r new (drop (i + 1) ts) ≡ all
+place_more r s new ts i d all l held e =
+    ap (λ s. place_all r s (drop (i + 1) ts)) (sym e) ∙ ap (place_all r s) (sym (at_drop_more (λ l. l) ts i d l)) ∙ held
+
+place_by-fits : (r : Room) (s : Placing) (n : ℕ) (e f b : Bool) → e ≡ false → f ≡ true → place_by r s n e f b ≡ record { lines = s.lines; left = taken s.left n; ended = s.ended }
+place_by-fits r s n true f b he hf = absurd (cc)
+place_by-fits r s n false true b he hf = refl
+place_by-fits r s n false false b he hf = absurd (cc)
+
+place_by-ends : (r : Room) (s : Placing) (n : ℕ) (e f b : Bool) → s.ended ≡ e → b ≡ true → (e ≡ true) ⊎ (f ≡ false) → place_by r s n e f b ≡ record { lines = s.lines; left = s.left; ended = true }
+place_by-ends r s n true f true se hb h = ap (λ e. record s { ended = e }) se
+place_by-ends r s n true f false se hb h = absurd (cc)
+place_by-ends r s n false true b se hb (inl h) = absurd (cc)
+place_by-ends r s n false true b se hb (inr h) = absurd (cc)
+place_by-ends r s n false false true se hb h = refl
+place_by-ends r s n false false false se hb h = absurd (cc)
+
+place_by-begins : (r : Room) (s : Placing) (n : ℕ) (e f b : Bool) → b ≡ false → (e ≡ true) ⊎ (f ≡ false) → place_by r s n e f b ≡ begin_line r s n
+place_by-begins r s n true f true hb h = absurd (cc)
+place_by-begins r s n true f false hb h = refl
+place_by-begins r s n false true b hb (inl h) = absurd (cc)
+place_by-begins r s n false true b hb (inr h) = absurd (cc)
+place_by-begins r s n false false true hb h = absurd (cc)
+place_by-begins r s n false false false hb h = refl
+
+pub count_fits : (r : Room) (s : Placing) (ts : List Token) (i : ℕ) (d : Token) (all : Placing) → i < length ts → place_all r s (drop i ts) ≡ all
+    → s.ended ≡ false → fits_in s.left (get_or ts i d).width ≡ true
+    → place_all r (record { lines = s.lines; left = taken s.left (get_or ts i d).width; ended = s.ended }) (drop (i + 1) ts) ≡ all
+count_fits r s ts i d all l held he hf = place_more r s _ ts i d all l held (place_by-fits r s (get_or ts i d).width s.ended (fits_in s.left (get_or ts i d).width) (get_or ts i d).blank he hf)
+
+pub count_ends : (r : Room) (s : Placing) (ts : List Token) (i : ℕ) (d : Token) (all : Placing) → i < length ts → place_all r s (drop i ts) ≡ all
+    → (get_or ts i d).blank ≡ true → (s.ended ≡ true) ⊎ (fits_in s.left (get_or ts i d).width ≡ false)
+    → place_all r (record { lines = s.lines; left = s.left; ended = true }) (drop (i + 1) ts) ≡ all
+count_ends r s ts i d all l held hb h = place_more r s _ ts i d all l held (place_by-ends r s (get_or ts i d).width s.ended (fits_in s.left (get_or ts i d).width) (get_or ts i d).blank refl hb h)
+
+pub count_begins : (r : Room) (s : Placing) (ts : List Token) (i : ℕ) (d : Token) (all : Placing) → i < length ts → place_all r s (drop i ts) ≡ all
+    → (get_or ts i d).blank ≡ false → (s.ended ≡ true) ⊎ (fits_in s.left (get_or ts i d).width ≡ false)
+    → place_all r (begin_line r s (get_or ts i d).width) (drop (i + 1) ts) ≡ all
+count_begins r s ts i d all l held hb h = place_more r s _ ts i d all l held (place_by-begins r s (get_or ts i d).width s.ended (fits_in s.left (get_or ts i d).width) (get_or ts i d).blank hb h)
+
+-- ---- a turn of the loop over the tokens, by its three ways
+
+pub step_fits : (r : Room) (k o : CompositeKind) (sp : Option Spacing) (all : List Token) (i : ℕ) (d : Token) (lines : List FmtComposite) (line new : FmtComposite) (left new_left : Option ℕ) (ended : Bool) (n : ℕ) (total : Placing) → i < length all
+    → Progress r k o sp (take i all) lines line left ended → place_all r (record { lines = n; left = left; ended = ended }) (drop i all) ≡ total
+    → ended ≡ false → fits_in left (get_or all i d).width ≡ true → taken left (get_or all i d).width ≡ new_left → AddsToken line (get_or all i d) new
+    → Progress r k o sp (take (i + 1) all) lines new new_left ended × (place_all r (record { lines = n; left = new_left; ended = ended }) (drop (i + 1) all) ≡ total)
+step_fits r k o sp all i d lines line new left new_left ended n total l placed count he hf took adds =
+    let open_line : Progress r k o sp (take i all) lines line left false = subst (Progress r k o sp (take i all) lines line left) he placed in
+    let next = progress_fits r k o sp (take i all) (get_or all i d) lines line new left open_line hf adds in
+    let at_left = subst (λ t. Progress r k o sp (take i all ++ get_or all i d ∷ []) lines new t false) took next in
+    let at_ended = subst (Progress r k o sp (take i all ++ get_or all i d ∷ []) lines new new_left) (sym he) at_left in (
+      subst (λ ts. Progress r k o sp ts lines new new_left ended) (sym (take_more all i d l)) at_ended,
+      subst (λ t. place_all r (record { lines = n; left = t; ended = ended }) (drop (i + 1) all) ≡ total) took
+          (count_fits r (record { lines = n; left = left; ended = ended }) all i d total l count he hf),
+    )
+
+pub step_ends : (r : Room) (k o : CompositeKind) (sp : Option Spacing) (all : List Token) (i : ℕ) (d : Token) (lines : List FmtComposite) (line : FmtComposite) (left : Option ℕ) (ended : Bool) (n : ℕ) (total : Placing) → i < length all
+    → Progress r k o sp (take i all) lines line left ended → place_all r (record { lines = n; left = left; ended = ended }) (drop i all) ≡ total
+    → (get_or all i d).blank ≡ true → (ended ≡ true) ⊎ (fits_in left (get_or all i d).width ≡ false)
+    → Progress r k o sp (take (i + 1) all) lines line left true × (place_all r (record { lines = n; left = left; ended = true }) (drop (i + 1) all) ≡ total)
+step_ends r k o sp all i d lines line left ended n total l placed count hb h = (
+  subst (λ ts. Progress r k o sp ts lines line left true) (sym (take_more all i d l)) (progress_ends r k o sp (take i all) (get_or all i d) lines line left ended placed hb h),
+  count_ends r (record { lines = n; left = left; ended = ended }) all i d total l count hb h,
+)
+
+pub step_begins : (r : Room) (k o : CompositeKind) (sp : Option Spacing) (all : List Token) (i : ℕ) (d : Token) (lines new_lines : List FmtComposite) (line begun new : FmtComposite) (left new_left : Option ℕ) (ended : Bool) (n new_n : ℕ) (total : Placing) → i < length all
+    → Progress r k o sp (take i all) lines line left ended → place_all r (record { lines = n; left = left; ended = ended }) (drop i all) ≡ total
+    → (get_or all i d).blank ≡ false → (ended ≡ true) ⊎ (fits_in left (get_or all i d).width ≡ false)
+    → new_lines ≡ lines ++ line ∷ [] → new_n ≡ n + 1 → IsBegun o r.other sp begun → AddsToken begun (get_or all i d) new → new_left ≡ left_of r.width (r.other + (get_or all i d).width)
+    → Progress r k o sp (take (i + 1) all) new_lines new new_left false × (place_all r (record { lines = new_n; left = new_left; ended = false }) (drop (i + 1) all) ≡ total)
+step_begins r k o sp all i d lines new_lines line begun new left new_left ended n new_n total l placed count hb h pushed counted begins adds room =
+    let next = progress_begins r k o sp (take i all) (get_or all i d) lines new_lines line begun new left ended placed h pushed begins adds in
+    let at_left = subst (λ t. Progress r k o sp (take i all ++ get_or all i d ∷ []) new_lines new t false) (sym room) next in (
+      subst (λ ts. Progress r k o sp ts new_lines new new_left false) (sym (take_more all i d l)) at_left,
+      ap (λ m. place_all r (record { lines = m; left = new_left; ended = false }) (drop (i + 1) all)) counted
+          ∙ ap (λ t. place_all r (record { lines = n + 1; left = t; ended = false }) (drop (i + 1) all)) room
+          ∙ count_begins r (record { lines = n; left = left; ended = ended }) all i d total l count hb h,
+    )

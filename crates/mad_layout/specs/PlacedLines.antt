@@ -1,10 +1,13 @@
 -- Lines that hold tokens, for the private calls that place them.
 use Rattle.std.specs.Prelude.{◌≡◌, ℕ, ◌+◌, ◌<◌, ◌≤◌, List, [], ◌∷◌, map, length, Option, None}
 use Rattle.std.specs.List.{AllByRecursion}
-use Rattle.mad_md.specs.Flagged.{run_of}
+use Rattle.std.specs.Str.{IsUtf8}
+use Rattle.mad_md.specs.Flagged.{run_of, flagged_of}
+use Rattle.mad_md.specs.declared.compound.Compound.{Compound}
 use Rattle.mad_style.specs.declared.kinds.CompositeKind.{CompositeKind}
 use Rattle.mad_fit.specs.declared.spacing.Spacing.{Spacing}
 use Rattle.mad_fit.specs.declared.tokens.Token.{Token}
+use Rattle.mad_fit.specs.Columns.{width_of}
 use Rattle.mad_fit.specs.Tokens.{token_run}
 use Rattle.mad_layout.specs.declared.room.Room.{Room}
 use Rattle.mad_layout.specs.declared.composite.FmtComposite.{FmtComposite}
@@ -45,3 +48,20 @@ pub record ArePlacedLines (r : Room) (kind other : CompositeKind) (spacing : Opt
   pub fits : TokensHaveRoom r ts → FitsFrom r.first r pieces
   pub some : TokensHaveRoom r ts → 0 < length ts → SomeOnEach pieces
   pub least : (ps : List (Piece Token)) → FittingBreak r ts ps → length lines ≤ length ps
+
+-- the line holds this one compound, behind an indent
+pub record HoldsCompound (kind : CompositeKind) (indent : ℕ) (spacing : Option Spacing) (p : Compound) (l : FmtComposite) : Type 0 where
+  pub kind_is : l.kind ≡ kind
+  pub compounds_are : l.compounds.items ≡ p ∷ []
+  pub length_is : l.visible_length ≡ capped (indent + width_of (flagged_of p))
+  pub spacing_is : l.spacing ≡ spacing
+  pub margins_are : l.margins ≡ None
+  pub utf8 : IsUtf8 p.src.now
+
+-- two lines hold a compound each
+pub record AreTwoLines (r : Room) (kind other : CompositeKind) (spacing : Option Spacing) (front back : Compound) (lines : List FmtComposite) : Type 0 where
+  pub first : FmtComposite
+  pub second : FmtComposite
+  pub lines_are : lines ≡ first ∷ second ∷ []
+  pub holds_first : HoldsCompound kind r.first spacing front first
+  pub holds_second : HoldsCompound other r.other spacing back second

@@ -1,17 +1,15 @@
 -- What a composite is wrapped into.
-use Rattle.std.specs.Prelude.{◌≡◌, ℕ, ◌+◌, ◌-◌, ◌^◌, ◌<◌, ◌≤◌, ◌⊎◌, min, true, false, List, [], ◌∷◌, ◌++◌, map, length, Option, None, Contains}
+use Rattle.std.specs.Prelude.{◌≡◌, ℕ, ◌+◌, ◌-◌, ◌^◌, ◌<◌, ◌≤◌, min, List, [], ◌∷◌, ◌++◌, map, length, Contains}
 use Rattle.std.specs.List.{AllByRecursion}
 use Rattle.mad_term.specs.Columns.{char_columns}
 use Rattle.mad_md.specs.Flagged.{FlaggedChar, run_of, flagged_text}
 use Rattle.mad_md.specs.declared.compound.Compound.{Compound}
 use Rattle.mad_style.specs.declared.kinds.CompositeKind.{CompositeKind}
 use Rattle.mad_fit.specs.Columns.{width_of}
-use Rattle.mad_fit.specs.Tokens.{AreTokensOf, token_run, tokens_text}
+use Rattle.mad_fit.specs.Tokens.{token_run, tokens_text}
 use Rattle.mad_fit.specs.declared.tokens.Token.{Token}
-use Rattle.mad_layout.specs.Breaks.{Piece, joined, total_width, AllBlank, FittingBreak, EndsWithLine}
-use Rattle.mad_layout.specs.CleanCut.{is_cut_clean, drops_middle}
-use Rattle.mad_layout.specs.Indents.{follow_up, indent, room_of}
-use Rattle.mad_layout.specs.Keeps.{Keeps}
+use Rattle.mad_layout.specs.Breaks.{Piece, joined, total_width, AllBlank}
+use Rattle.mad_layout.specs.Indents.{indent}
 use Rattle.mad_layout.specs.declared.room.Room.{Room}
 use Rattle.mad_layout.specs.declared.skin.MadSkin.{MadSkin}
 use Rattle.mad_layout.specs.declared.composite.FmtComposite.{FmtComposite}
@@ -51,9 +49,9 @@ HaveKinds first other (l ∷ ls) = (l.kind ≡ first) × HaveKinds other other l
 abbrev pub NoneEmpty : List Compound → Type 0
 NoneEmpty ps = AllByRecursion (λ p. 0 < length p.src.now) ps
 
--- the compound is one of the source or one of its tokens
-abbrev pub IsPartOf : List Compound → List Token → Compound → Type 0
-IsPartOf ps ts q = ((p : Compound) × Contains ps p × (run_of q ≡ run_of p)) ⊎ ((t : Token) × Contains ts t × (run_of q ≡ token_run t))
+-- each compound of the line is one of these, or one of these tokens
+abbrev pub IsMadeOf : List Compound → List Token → FmtComposite → Type 0
+IsMadeOf ps ts l = AllByRecursion (Contains (map run_of ps ++ map token_run ts)) (map run_of l.compounds.items)
 
 -- each gap is blank, and one that isn't empty begins with a token that doesn't fit behind its line
 abbrev pub GapsForced : ℕ → Room → List (Piece Token) → Type 0

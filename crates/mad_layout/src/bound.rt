@@ -1,7 +1,7 @@
-ghost use Rattle.std.specs.Prelude.{◌≡◌, ◌≤◌, ◌<◌, ◌+◌, ◌↔◌, List, length, IfOk, IsTrue, nat_lt};
+ghost use Rattle.std.specs.Prelude.{◌≡◌, ◌≤◌, ◌<◌, ◌+◌, ◌↔◌, List, length, IfOk, IsTrue, nat_lt, slice_get};
 ghost use Rattle.mad_fit.specs.declared.tokens.Token.{Token};
 ghost use Rattle.mad_layout.specs.Breaks.{Piece, FittingBreak, EndsWithLine, total_width};
-ghost use Rattle.mad_layout.specs.Bounds.{are_starts, are_starts_from};
+ghost use Rattle.mad_layout.specs.Bounds.{are_starts, are_starts_from, is_blank_token};
 ghost use Rattle.mad_layout.specs.Indents.{room_of};
 ghost use Rattle.mad_layout.specs.LeastWrap.{AreTokensIn};
 ghost use Rattle.mad_term.specs.declared.errors.Error.TheVariants.{InsufficientWidth};
@@ -131,13 +131,23 @@ fn check_from(tokens: &[Token], room: Room, starts: &[usize]) -> bool
         if !is_wider(&tokens[start..next + 1], room.width, indent) {
             return false;
         }
-        if i + 1 < starts.len() && tokens[next].blank {
+        if i + 1 < starts.len() && is_blank_at(tokens, next) {
             return false;
         }
         start = next;
         indent = room.other;
     }
     true
+}
+
+// Whether there is such a token, and it is blank.
+fn is_blank_at(tokens: &[Token], n: usize) -> bool
+    ensures { result ≡ is_blank_token (slice_get tokens.now n) }
+{
+    match tokens.get(n) {
+        Some(token) => token.blank,
+        None => false,
+    }
 }
 
 // Whether the tokens behind an indent are wider than the width.

@@ -50,7 +50,7 @@ impl<'s> FmtComposite<'s> {
     ) -> Self
         ensures kind { result.kind ≡ kind }
         ensures empty { result.compounds.items ≡ [] }
-        ensures length { result.visible_length ≡ indent }
+        ensures length { result.visible_length ≡ capped indent }
         ensures spacing { result.spacing ≡ spacing }
         ensures margins { result.margins ≡ None }
     {

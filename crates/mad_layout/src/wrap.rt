@@ -1,6 +1,8 @@
 ghost use Rattle.std.specs.Prelude.{◌≡◌, ◌≤◌, ◌<◌, ◌↔◌, IfOk};
 ghost use Rattle.mad_layout.specs.Wraps.{IsMeasured};
+ghost use Rattle.mad_layout.specs.Indents.{follow_up};
 ghost use Rattle.mad_layout.specs.LeastWrap.{IsWrap};
+ghost use Rattle.mad_layout.specs.PlacedLines.{AreTwoLines};
 ghost use Rattle.mad_term.specs.declared.errors.Error.TheVariants.{InsufficientWidth};
 
 use crate::clean_cut::clean_cut;
@@ -30,20 +32,25 @@ pub fn hard_wrap_composite<'s>(
     if width < 3 {
         return Err(Error::InsufficientWidth(InsufficientWidthError { available_width: width }));
     }
-    let room = Room::of(skin, composite.kind, width);
-    Ok(wrapped(alloc, composite, room)?)
+    Ok(wrapped(alloc, composite, width, skin)?)
 }
 
+// What a composite that is too wide is wrapped into, at any width.
 fn wrapped<'s>(
     alloc: Global,
     composite: &FmtComposite<'s>,
-    room: Room,
+    width: usize,
+    skin: &MadSkin,
 ) -> Result<Vec<FmtComposite<'s>>, AllocError>
+    requires wider { width < composite.now.visible_length }
+    requires measured { IsMeasured skin.now composite.now }
+    ensures { IfOk result (λ lines. IsWrap skin.now width composite.now lines.items) }
 {
+    let room = Room::of(skin, composite.kind, width);
     match clean_cut(&composite.compounds, room) {
         Some((front, back)) => cut_lines(alloc, composite, room, front, back),
         None => {
-            let tokens = tokenize(alloc, &composite.compounds, room.width.saturating_sub(room.first))?;
+            let tokens = tokenize(alloc, &composite.compounds, width.saturating_sub(room.first))?;
             place(alloc, &tokens, room, composite.kind, composite.spacing)
         }
     }
@@ -56,7 +63,9 @@ fn cut_lines<'s>(
     room: Room,
     front: Compound<'s>,
     back: Compound<'s>,
-) -> Result<Vec<FmtComposite<'s>>, AllocError> {
+) -> Result<Vec<FmtComposite<'s>>, AllocError>
+    ensures { IfOk result (λ lines. AreTwoLines room composite.now.kind (follow_up composite.now.kind) composite.now.spacing front.entry back.entry lines.items) }
+{
     let mut lines = Vec::new(alloc);
     let mut first = FmtComposite::begun(alloc, composite.kind, room.first, composite.spacing);
     first.add_compound(front)?;
