@@ -5,4 +5,5 @@ pub mod Least
 pub mod MeasureLemmas
 pub mod PieceLemmas
 pub mod PlaceLemmas
+pub mod RowLemmas
 pub mod WrapLemmas

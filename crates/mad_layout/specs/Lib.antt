@@ -1,6 +1,7 @@
 pub mod Bounds
 pub mod Breaks
 pub mod CleanCut
+pub mod Drawable
 pub mod Greedy
 pub mod Indents
 pub mod Keeps
