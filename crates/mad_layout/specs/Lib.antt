@@ -4,8 +4,10 @@ pub mod CleanCut
 pub mod Greedy
 pub mod Indents
 pub mod Keeps
+pub mod LeastBound
 pub mod LeastWrap
 pub mod Lines
 pub mod PlacedLines
 pub mod Styles
+pub mod WrappedLines
 pub mod Wraps
