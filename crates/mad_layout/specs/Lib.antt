@@ -5,6 +5,7 @@ pub mod Drawable
 pub mod Greedy
 pub mod Indents
 pub mod Keeps
+pub mod LeastBound
 pub mod LeastWrap
 pub mod Lines
 pub mod Pieces
@@ -13,4 +14,5 @@ pub mod Rows
 pub mod SkinParts
 pub mod Skins
 pub mod Styles
+pub mod WrappedLines
 pub mod Wraps

@@ -1,10 +1,11 @@
-ghost use Rattle.std.specs.Prelude.{◌≡◌, ◌≤◌, ◌<◌, ◌+◌, ◌↔◌, List, length, IfOk, IsTrue, nat_lt, slice_get};
+ghost use Rattle.std.specs.Prelude.{◌≡◌, ◌≤◌, ◌<◌, ◌+◌, ◌↔◌, List, length, IfOk, IfErr, IsTrue, nat_lt, slice_get};
 ghost use Rattle.mad_fit.specs.declared.tokens.Token.{Token};
 ghost use Rattle.mad_layout.specs.Breaks.{Piece, FittingBreak, EndsWithLine, total_width};
 ghost use Rattle.mad_layout.specs.Bounds.{are_starts, are_starts_from, is_blank_token};
 ghost use Rattle.mad_layout.specs.Indents.{room_of};
 ghost use Rattle.mad_layout.specs.LeastWrap.{AreTokensIn};
-ghost use Rattle.mad_term.specs.declared.errors.Error.TheVariants.{InsufficientWidth};
+ghost use Rattle.mad_layout.specs.LeastBound.{IsBound};
+ghost use Rattle.mad_term.specs.declared.errors.Error.TheVariants.{InsufficientWidth, Memory};
 
 use crate::clean_cut::clean_cut;
 use crate::composite::FmtComposite;
@@ -98,6 +99,11 @@ pub fn check_wrap_bound(
     skin: &MadSkin,
     bound: &WrapBound,
 ) -> Result<bool, Error>
+    ensures exact { IfOk result (λ is. (ts : List Token) → AreTokensIn (room_of skin.now composite.now.kind width) composite.now.compounds.items ts
+        → is ≡ are_starts (room_of skin.now composite.now.kind width) ts bound.now.starts.items) }
+    ensures bound { IfOk result (λ is. IsTrue is → IsBound (room_of skin.now composite.now.kind width) composite.now.compounds.items (length bound.now.starts.items)) }
+    ensures refused { width < 3 → result ≡ Err (InsufficientWidth (record { available_width = width })) }
+    ensures memory { 3 ≤ width → IfErr result (λ e. e ≡ Memory) }
 {
     if width < 3 {
         return Err(Error::InsufficientWidth(InsufficientWidthError { available_width: width }));

@@ -1,9 +1,11 @@
-ghost use Rattle.std.specs.Prelude.{◌≡◌, ◌≤◌, ◌<◌, ◌↔◌, IfOk};
+ghost use Rattle.std.specs.Prelude.{◌≡◌, ◌≤◌, ◌<◌, ◌⊎◌, ◌++◌, List, map, IfOk, IfErr, OnOk};
 ghost use Rattle.mad_layout.specs.Wraps.{IsMeasured};
+ghost use Rattle.mad_layout.specs.WrappedLines.{AllMeasured, AllFit, AreLinesWrapped, IsLineMeasured, LineFits, IsLineWrapped, IsWrapped, FitsWithMargins, line_with};
+ghost use Rattle.mad_layout.specs.declared.line.FmtLine.{FmtLine};
 ghost use Rattle.mad_layout.specs.Indents.{follow_up};
 ghost use Rattle.mad_layout.specs.LeastWrap.{IsWrap};
 ghost use Rattle.mad_layout.specs.PlacedLines.{AreTwoLines};
-ghost use Rattle.mad_term.specs.declared.errors.Error.TheVariants.{InsufficientWidth};
+ghost use Rattle.mad_term.specs.declared.errors.Error.TheVariants.{InsufficientWidth, Memory};
 
 use crate::clean_cut::clean_cut;
 use crate::composite::FmtComposite;
@@ -27,7 +29,8 @@ pub fn hard_wrap_composite<'s>(
     requires wider { width < composite.now.visible_length }
     requires measured { IsMeasured skin.now composite.now }
     ensures wrapped { IfOk result (λ lines. IsWrap skin.now width composite.now lines.items) }
-    ensures refused { (result ≡ Err (InsufficientWidth (record { available_width = width }))) ↔ (width < 3) }
+    ensures refused { width < 3 → result ≡ Err (InsufficientWidth (record { available_width = width })) }
+    ensures memory { 3 ≤ width → IfErr result (λ e. e ≡ Memory) }
 {
     if width < 3 {
         return Err(Error::InsufficientWidth(InsufficientWidthError { available_width: width }));
@@ -77,42 +80,88 @@ fn cut_lines<'s>(
 }
 
 /// Wraps the composites among the lines that are wider than `width` columns with their style's margins.
+///
+/// A line that fits stays as it is. Any other composite is wrapped, as `hard_wrap_composite` does, in the columns that
+/// the margins leave, which is refused at a width under 3. Each line keeps in its field `margins` the margins that it was
+/// laid out with.
 pub fn hard_wrap_lines<'s>(
     alloc: Global,
     lines: Vec<FmtLine<'s>>,
     width: usize,
     skin: &MadSkin,
 ) -> Result<Vec<FmtLine<'s>>, Error>
+    requires { AllMeasured skin.now lines.items }
+    ensures wrapped { IfOk result (λ wrapped. AreLinesWrapped skin.now width lines.entry.items wrapped.items) }
+    ensures narrow { width < 3 → IfOk result (λ _. AllFit skin.now width lines.entry.items) }
+    ensures refused { IfErr result (λ e. (e ≡ Memory) ⊎ ((e ≡ InsufficientWidth (record { available_width = width })) × (width < 3) × ¬ (AllFit skin.now width lines.entry.items))) }
 {
     let mut wrapped = Vec::new(alloc);
     for line in lines {
-        match line {
-            FmtLine::Normal(composite) => push_wrapped(alloc, &mut wrapped, composite, width, skin)?,
-        }
+        push_line(alloc, &mut wrapped, line, width, skin)?;
     }
     Ok(wrapped)
 }
 
-// Puts a composite behind the lines that are there: itself if it fits with its style's margins, else what it is wrapped into.
+// Puts what a line becomes behind the lines that are there.
+fn push_line<'s>(
+    alloc: Global,
+    lines: &mut Vec<FmtLine<'s>>,
+    line: FmtLine<'s>,
+    width: usize,
+    skin: &MadSkin,
+) -> Result<(), Error>
+    requires { IsLineMeasured skin.now line }
+    ensures wrapped { OnOk result ((own : List FmtLine) × (lines.new.items ≡ lines.old.items ++ own) × IsLineWrapped skin.now width line.entry own) }
+    ensures narrow { width < 3 → OnOk result (LineFits skin.now width line.entry) }
+    ensures refused { IfErr result (λ e. (e ≡ Memory) ⊎ ((e ≡ InsufficientWidth (record { available_width = width })) × (width < 3) × ¬ (LineFits skin.now width line.entry))) }
+{
+    match line {
+        FmtLine::Normal(composite) => push_wrapped(alloc, lines, composite, width, skin),
+    }
+}
+
+// Puts what a composite becomes behind the lines that are there.
 fn push_wrapped<'s>(
     alloc: Global,
     lines: &mut Vec<FmtLine<'s>>,
-    mut composite: FmtComposite<'s>,
+    composite: FmtComposite<'s>,
     width: usize,
     skin: &MadSkin,
 ) -> Result<(), Error>
     requires { IsMeasured skin.now composite }
+    ensures wrapped { OnOk result ((own : List FmtLine) × (lines.new.items ≡ lines.old.items ++ own) × IsWrapped skin.now width composite.entry own) }
+    ensures narrow { width < 3 → OnOk result (FitsWithMargins skin.now width composite.entry) }
+    ensures refused { IfErr result (λ e. (e ≡ Memory) ⊎ ((e ≡ InsufficientWidth (record { available_width = width })) × (width < 3) × ¬ (FitsWithMargins skin.now width composite.entry))) }
 {
     let margins = skin.line_style(composite.kind).margins_in(Some(width));
     let inner = width - margins.0 - margins.1;
     if composite.visible_length <= inner {
-        composite.margins = Some(margins);
-        lines.push(FmtLine::Normal(composite))?;
+        lines.push(line_with(margins, composite))?;
         return Ok(());
     }
-    for mut line in hard_wrap_composite(alloc, &composite, inner, skin)? {
-        line.margins = Some(margins);
-        lines.push(FmtLine::Normal(line))?;
+    let wrap = hard_wrap_composite(alloc, &composite, inner, skin)?;
+    push_lines(lines, wrap, margins)?;
+    Ok(())
+}
+
+// Puts composites behind the lines that are there, each with these margins.
+fn push_lines<'s>(
+    lines: &mut Vec<FmtLine<'s>>,
+    wrap: Vec<FmtComposite<'s>>,
+    margins: (usize, usize),
+) -> Result<(), AllocError>
+    ensures { OnOk result (lines.new.items ≡ lines.old.items ++ map (line_with margins) wrap.entry.items) }
+{
+    for composite in wrap {
+        lines.push(line_with(margins, composite))?;
     }
     Ok(())
+}
+
+fn line_with<'s>(margins: (usize, usize), composite: FmtComposite<'s>) -> FmtLine<'s>
+    ensures { result ≡ line_with margins composite.entry }
+{
+    let mut line = composite;
+    line.margins = Some(margins);
+    FmtLine::Normal(line)
 }
