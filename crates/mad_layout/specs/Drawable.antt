@@ -6,6 +6,8 @@ use Rattle.mad_term.specs.Painting.{IsShown}
 use Rattle.mad_fit.specs.Columns.{columns}
 use Rattle.mad_layout.specs.declared.skin.MadSkin.{MadSkin}
 use Rattle.mad_layout.specs.declared.composite.FmtComposite.{FmtComposite}
+use Rattle.mad_layout.specs.declared.line.FmtLine.{FmtLine}
+use Rattle.mad_layout.specs.declared.line.FmtLine.TheVariants.{Normal}
 use Rattle.mad_layout.specs.Indents.{indent}
 use Rattle.mad_layout.specs.Pieces.{RowPiece}
 use Rattle.mad_layout.specs.Rows.{mark_pieces, compound_piece}
@@ -35,3 +37,10 @@ pub record IsDrawable (skin : MadSkin) (width : ℕ) (l : FmtComposite) : Type 0
   pub mark : AreShownPieces (mark_pieces skin l.kind)
   pub indent_is : pieces_columns (mark_pieces skin l.kind) ≡ indent skin.list_items_indentation_mode l.kind
   pub text : AreShownPieces (map (compound_piece skin (line_style skin l.kind)) l.compounds.items)
+
+-- all lines do so
+abbrev pub IsDrawableLine : MadSkin → ℕ → FmtLine → Type 0
+IsDrawableLine skin width (Normal l) = IsDrawable skin width l
+
+abbrev pub AreDrawable : MadSkin → ℕ → List FmtLine → Type 0
+AreDrawable skin width lines = AllByRecursion (IsDrawableLine skin width) lines

@@ -5,12 +5,15 @@ pub mod Drawable
 pub mod Greedy
 pub mod Indents
 pub mod Keeps
+pub mod Layouts
 pub mod LeastBound
 pub mod LeastWrap
 pub mod Lines
 pub mod Pieces
 pub mod PlacedLines
+pub mod Premises
 pub mod Rows
+pub mod Shown
 pub mod SkinParts
 pub mod Skins
 pub mod Styles
