@@ -1,5 +1,5 @@
 -- The layout of a text.
-use Rattle.std.specs.Prelude.{◌≡◌, ℕ, List, [], ◌∷◌, map, Option, Some, None, nat_lt, if◌then◌else◌}
+use Rattle.std.specs.Prelude.{◌≡◌, ℕ, List, [], ◌∷◌, map, Option, Some, None, nat_lt, MatchBool}
 use Rattle.mad_md.specs.Flagged.{run_of}
 use Rattle.mad_md.specs.Lines.{StyledRuns, LineContent, normal, table_row, table_rule, horizontal_rule}
 use Rattle.mad_style.specs.Kinds.{kind_of}
@@ -42,4 +42,4 @@ pub record IsLayout (skin : MadSkin) (width : ℕ) (text : List StyledRuns) (lin
 -- a layout at a width, if there is one; nothing is wrapped at a width under three, nor without a width
 abbrev pub IsLayoutAt : MadSkin → Option ℕ → List StyledRuns → List FmtLine → Type 0
 IsLayoutAt skin None text lines = AreRead skin text lines
-IsLayoutAt skin (Some width) text lines = if nat_lt width 3 then AreRead skin text lines else IsLayout skin width text lines
+IsLayoutAt skin (Some width) text lines = MatchBool (nat_lt width 3) (AreRead skin text lines) (IsLayout skin width text lines)

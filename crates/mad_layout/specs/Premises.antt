@@ -16,11 +16,11 @@ use Rattle.mad_layout.specs.Styles.{line_style}
 use Rattle.mad_layout.specs.Wraps.{HasRoom}
 use Rattle.mad_layout.specs.declared.skin.MadSkin.{MadSkin}
 
--- Each widthless character is no whitespace and stands right behind one that isn't blank; `open` says whether what stands in
+-- Each widthless character is no whitespace and stands right behind one that isn't blank; `behind` says whether what stands in
 -- front of all is such a one.
 abbrev pub AreJoined : Bool → List FlaggedChar → Type 0
-AreJoined open [] = Unit {0}
-AreJoined open (x ∷ xs) = (char_columns x.char ≡ 0 → (is_whitespace x.char ≡ false) × (open ≡ true)) × AreJoined (not (is_blank x)) xs
+AreJoined behind [] = Unit {0}
+AreJoined behind (x ∷ xs) = (char_columns x.char ≡ 0 → (is_whitespace x.char ≡ false) × (behind ≡ true)) × AreJoined (not (is_blank x)) xs
 
 -- A run that isn't empty, without control characters, each widthless character behind a non-blank one of the same run.
 pub record IsPlainRun (r : Run) : Type 0 where
