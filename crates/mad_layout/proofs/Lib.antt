@@ -6,4 +6,5 @@ pub mod MeasureLemmas
 pub mod PieceLemmas
 pub mod PlaceLemmas
 pub mod RowLemmas
+pub mod ShownLemmas
 pub mod WrapLemmas
