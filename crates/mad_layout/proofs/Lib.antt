@@ -1,3 +1,4 @@
+pub mod AreaLemmas
 pub mod BoundLemmas
 pub mod CutLemmas
 pub mod KeepLemmas

@@ -12,6 +12,8 @@
 pub mod bound;
 mod clean_cut;
 pub mod composite;
+pub mod drawing;
+pub mod fmt_text;
 pub mod indents;
 pub mod line;
 mod placing;
@@ -25,6 +27,8 @@ pub mod wrap;
 
 pub use bound::{WrapBound, check_wrap_bound, wrap_bound};
 pub use composite::FmtComposite;
+pub use drawing::draw_text;
+pub use fmt_text::FmtText;
 pub use indents::composite_kind_widths;
 pub use line::FmtLine;
 pub use skin::MadSkin;
