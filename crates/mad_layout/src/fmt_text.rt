@@ -63,6 +63,7 @@ impl<'k, 's> FmtText<'k, 's> {
 }
 
 // The lines of a text, laid out at a width.
+#[tactic(auto, using(crate::proofs::LayoutLemmas::read_measured, crate::proofs::LayoutLemmas::wrapped_layout, crate::proofs::LayoutLemmas::unwrapped_layout))]
 fn layout<'s>(
     alloc: Global,
     skin: &MadSkin,
@@ -90,8 +91,9 @@ fn measured_lines<'s>(
 {
     let mut lines = Vec::with_capacity(alloc, text.lines.len())?;
     for line in text.lines {
-        if let Line::Normal(composite) = line {
-            lines.push(FmtLine::from(composite, skin))?;
+        match line {
+            Line::Normal(composite) => lines.push(FmtLine::from(composite, skin))?,
+            Line::TableRow(_) | Line::TableRule(_) | Line::HorizontalRule => {}
         }
     }
     Ok(lines)
