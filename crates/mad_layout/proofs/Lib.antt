@@ -1,5 +1,6 @@
 pub mod BoundLemmas
 pub mod CutLemmas
+pub mod DrawableLemmas
 pub mod KeepLemmas
 pub mod Least
 pub mod MeasureLemmas
@@ -7,3 +8,4 @@ pub mod PieceLemmas
 pub mod PlaceLemmas
 pub mod RowLemmas
 pub mod WrapLemmas
+pub mod WholeTokens

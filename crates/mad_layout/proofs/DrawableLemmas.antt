@@ -1,0 +1,1 @@
+-- A layout is drawn exactly.
