@@ -7,5 +7,5 @@ pub mod MeasureLemmas
 pub mod PieceLemmas
 pub mod PlaceLemmas
 pub mod RowLemmas
-pub mod WrapLemmas
 pub mod WholeTokens
+pub mod WrapLemmas
