@@ -1,6 +1,7 @@
 pub mod AreaLemmas
 pub mod BoundLemmas
 pub mod CutLemmas
+pub mod DrawableLemmas
 pub mod KeepLemmas
 pub mod LayoutLemmas
 pub mod Least
@@ -9,4 +10,5 @@ pub mod PieceLemmas
 pub mod PlaceLemmas
 pub mod RowLemmas
 pub mod ShownLemmas
+pub mod WholeTokens
 pub mod WrapLemmas
