@@ -3,7 +3,9 @@ pub mod Breaks
 pub mod CleanCut
 pub mod Drawable
 pub mod Greedy
+pub mod InArea
 pub mod Indents
+pub mod Inlines
 pub mod Keeps
 pub mod Layouts
 pub mod LeastBound

@@ -115,6 +115,11 @@ composite_pieces skin outer margins right l =
     ++ (spaces style.compound_style (inner_blanks l).1
     ++ (if right then spaces skin.paragraph.compound_style blanks.1 else [])))))
 
+-- the pieces of a composite that stands by itself: its style's left margin, its mark, and what its compounds say
+abbrev pub free_pieces : MadSkin → CompositeKind → List Run → List RowPiece
+free_pieces skin kind runs =
+    spaces skin.paragraph.compound_style (line_style skin kind).left_margin ++ (mark_pieces skin kind ++ map (run_piece skin (line_style skin kind)) runs)
+
 -- the pieces of a line at an outer width, with its margins
 abbrev pub line_pieces : MadSkin → Option ℕ → Bool → FmtLine → List RowPiece
 line_pieces skin outer right (Normal l) = composite_pieces skin outer (margins_of skin outer l) right l

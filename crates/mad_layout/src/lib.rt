@@ -13,6 +13,7 @@ pub mod bound;
 mod clean_cut;
 pub mod composite;
 pub mod drawing;
+pub mod fmt_inline;
 pub mod fmt_text;
 pub mod indents;
 pub mod line;
@@ -23,11 +24,13 @@ pub mod skin;
 #[cfg(test)]
 mod tests;
 pub mod wrap;
+mod writing;
 
 
 pub use bound::{WrapBound, check_wrap_bound, wrap_bound};
 pub use composite::FmtComposite;
 pub use drawing::draw_text;
+pub use fmt_inline::{FmtInline, inline};
 pub use fmt_text::FmtText;
 pub use indents::composite_kind_widths;
 pub use line::FmtLine;
