@@ -1,15 +1,21 @@
 -- From a layout to what its area shows.
-use Rattle.std.proofs.Common.{◌≡◌, ℕ, ◌+◌, ◌-◌, ◌^◌, ◌<◌, ◌≤◌, List, Option, Some, Result, Ok, Err, OnOk, IfOk, ap, sym, ◌∙◌, subst, arith}
+use Rattle.std.proofs.Common.{◌≡◌, ℕ, ◌+◌, ◌-◌, ◌^◌, ◌<◌, ◌≤◌, List, [], ◌++◌, inl, inr, Option, Some, Result, Ok, Err, OnOk, IfOk, ap, sym, ◌∙◌, subst, arith}
 use Rattle.std.specs.Prelude.{Bool, false, nat_lt, MatchBool}
 use Rattle.std.proofs.lemmas.Bool.Decides.{nat_tests}
 use Rattle.mad_md.specs.Lines.{StyledRuns, contents}
 use Rattle.mad_md.specs.ReadByMarks.{IsReadByMarks}
 use Rattle.mad_md.specs.declared.text.Text.{Text}
-use Rattle.mad_term.specs.Trace.{Trace, TookWith}
+use Rattle.std.proofs.lemmas.List.{append-nil}
+use Rattle.std.specs.Result.{IsErrAnd}
+use Rattle.std.specs.declared.io.Error as io
+use Rattle.mad_term.specs.declared.errors.Error.{Error}
+use Rattle.mad_term.specs.declared.errors.Error.TheVariants.{IO}
+use Rattle.mad_term.specs.Trace.{Trace, TookWith, after, failed, CutShort}
+use Rattle.mad_term.proofs.Exits.{refused_exit}
 use Rattle.mad_fit.specs.Areas.{IsWithinLimits}
 use Rattle.mad_fit.specs.declared.area.Area.{Area}
 use Rattle.mad_layout.specs.Drawable.{AreDrawable}
-use Rattle.mad_layout.specs.InArea.{IsAreaLayout, ShowsText}
+use Rattle.mad_layout.specs.InArea.{IsAreaLayout, ShowsText, WritesInArea}
 use Rattle.mad_layout.specs.Layouts.{composites, AreRead, IsLayout, IsLayoutAt}
 use Rattle.mad_layout.specs.Premises.{KeepsPremises}
 use Rattle.mad_layout.specs.Shown.{AreShownIn}
@@ -48,3 +54,12 @@ text_shown {T} {E} (Ok x) skin markdown area lines old new limits laid_out h =
           h (layout_is_drawable skin (area.width - 1) area.width (composites (contents laid_out.text)) lines (omega arith) (omega (arith, limits.columns)) premises layout);
     }
 text_shown {T} {E} (Err x) skin markdown area lines old new limits laid_out h = tt
+
+-- a flush that failed behind a text
+flush_failed : (old mid new : Trace) (text : List ℕ) → mid ≡ after old text → new ≡ failed mid → CutShort old text new
+flush_failed old mid new text went fault = record { front = text; rest = []; whole = append-nil text; went = fault ∙ ap failed went }
+
+pub area_not_flushed : {T U : Type 0} (r : Result T Error) (done : U) (e : io.Error) (skin : MadSkin) (markdown : List ℕ) (area : Area) (old mid new : Trace) → WritesInArea {T = U} skin markdown area old (Ok done) mid → new ≡ failed mid
+    → IsErrAnd r (λ x. x ≡ IO e) → WritesInArea skin markdown area old r new
+area_not_flushed {T} {U} r done e skin markdown area old mid new (inl h) fault is = inl (h.0, h.1, refused_exit r (IO e) old new _ is (flush_failed old mid new _ h.2 fault))
+area_not_flushed {T} {U} r done e skin markdown area old mid new (inr h) fault is = absurd (cc)

@@ -1,5 +1,5 @@
 -- Pieces of spaces, and pieces in a row.
-use Rattle.std.proofs.Common.{◌≡◌, ℕ, zero, suc, ◌+◌, ◌==◌, Bool, true, false, List, [], ◌∷◌, ◌++◌, map, replicate, Result, Ok, Err, OnOk, ◌<◌, length, drop, get_or, if◌then◌else◌, refl, ap, sym, ◌∙◌, append_assoc, arith}
+use Rattle.std.proofs.Common.{◌≡◌, ℕ, zero, suc, ◌+◌, ◌==◌, Bool, true, false, List, [], ◌∷◌, ◌++◌, map, replicate, Result, Ok, Err, OnOk, ◌<◌, length, drop, get_or, if◌then◌else◌, refl, ap, sym, subst, ◌∙◌, append_assoc, arith}
 use Rattle.std.proofs.lemmas.Bool.Decides.{nat_tests}
 use Rattle.std.specs.List.{AllByRecursion, flat_map, repeat}
 use Rattle.std.proofs.lemmas.List.{append-nil, at_drop_more}
@@ -8,6 +8,13 @@ use Rattle.mad_term.specs.declared.styles.ContentStyle.{ContentStyle}
 use Rattle.mad_term.specs.Styles.{IsStyle, piece_bytes}
 use Rattle.mad_style.specs.declared.compound_styles.CompoundStyle.{CompoundStyle}
 use Rattle.mad_style.specs.Runs.{run_bytes}
+use Rattle.mad_md.specs.Flagged.{run_of}
+use Rattle.mad_md.specs.declared.compound.Compound.{Compound}
+use Rattle.mad_style.specs.declared.line_styles.LineStyle.{LineStyle}
+use Rattle.mad_layout.specs.declared.skin.MadSkin.{MadSkin}
+use Rattle.mad_style.specs.declared.kinds.CompositeKind.{CompositeKind}
+use Rattle.mad_layout.specs.Styles.{line_style}
+use Rattle.mad_layout.specs.Rows.{compound_piece, run_piece, mark_pieces, free_pieces}
 use Rattle.mad_layout.specs.Pieces.{RowPiece, pieces_bytes, spaces, single_spaces, AreKnown, Appends}
 
 -- a text of one byte so many times
@@ -89,3 +96,20 @@ pub more_pieces : {X : Type 0} (f : X → RowPiece) (xs : List X) (i : ℕ) (d :
 more_pieces {X} f xs i d done all inside held =
     let next : drop i xs ≡ get_or xs i d ∷ drop (i + 1) xs = at_drop_more (λ ys. ys) xs i d inside in
     append_assoc done (f (get_or xs i d) ∷ []) (map f (drop (i + 1) xs)) ∙ ap (λ rest. done ++ map f rest) (sym next) ∙ held
+
+-- the pieces of compounds are those of what they say
+pub pieces_of_runs : (skin : MadSkin) (style : LineStyle) (ps : List Compound) → map (compound_piece skin style) ps ≡ map (run_piece skin style) (map run_of ps)
+pieces_of_runs skin style [] = refl
+pieces_of_runs skin style (p ∷ ps) = ap (λ qs. compound_piece skin style p ∷ qs) (pieces_of_runs skin style ps)
+
+-- a composite that stands by itself, as it is written
+pub free_appended : (skin : MadSkin) (kind k : CompositeKind) (style : LineStyle) (ps : List Compound) (old a b new : List ℕ) → kind ≡ k → style ≡ line_style skin kind
+    → Appends old (spaces skin.paragraph.compound_style style.left_margin) a → Appends a (mark_pieces skin kind) b → Appends b (map (compound_piece skin style) ps) new
+    → Appends old (free_pieces skin k (map run_of ps)) new
+free_appended skin kind k style ps old a b new kind_is style_is blanks mark text =
+    let blank : CompoundStyle = skin.paragraph.compound_style in
+    let pieces : spaces blank style.left_margin ++ (mark_pieces skin kind ++ map (compound_piece skin style) ps) ≡ free_pieces skin k (map run_of ps) =
+    ap (λ (s : LineStyle). spaces blank s.left_margin ++ (mark_pieces skin kind ++ map (compound_piece skin s) ps)) style_is
+    ∙ ap (λ (x : CompositeKind). spaces blank (line_style skin x).left_margin ++ (mark_pieces skin x ++ map (compound_piece skin (line_style skin x)) ps)) kind_is
+    ∙ ap (λ xs. spaces blank (line_style skin k).left_margin ++ (mark_pieces skin k ++ xs)) (pieces_of_runs skin (line_style skin k) ps) in
+    subst (λ (xs : List RowPiece). Appends old xs new) pieces (appends_three old a b new (spaces blank style.left_margin) (mark_pieces skin kind) (map (compound_piece skin style) ps) blanks mark text)

@@ -1,8 +1,10 @@
 //! Rows: what is written of a line, piece by piece, at the end of a row that is being built.
 
 ghost use Rattle.std.specs.Prelude.{◌≡◌, ◌∷◌, [], OnOk, map, string_bytes};
+ghost use Rattle.mad_md.specs.Flagged.{run_of};
+ghost use Rattle.mad_style.specs.Kinds.{kind_of};
 ghost use Rattle.mad_layout.specs.Pieces.{Appends, spaces, single_spaces};
-ghost use Rattle.mad_layout.specs.Rows.{char_piece, compound_piece, number_piece, mark_pieces, composite_pieces, line_pieces, row_pieces, inner_blanks, outer_blanks};
+ghost use Rattle.mad_layout.specs.Rows.{char_piece, compound_piece, number_piece, mark_pieces, composite_pieces, free_pieces, line_pieces, row_pieces, inner_blanks, outer_blanks};
 ghost use Rattle.std.specs.Option.{option_copied};
 
 use crate::composite::FmtComposite;
@@ -10,7 +12,7 @@ use crate::indents::indent_of;
 use crate::line::FmtLine;
 use crate::skin::MadSkin;
 use mad_fit::spacing::Spacing;
-use mad_md::{Alignment, Compound};
+use mad_md::{Alignment, Composite, Compound};
 use mad_style::{CompositeKind, CompoundStyle, LineStyle, StyledChar};
 use mad_term::push_styled;
 use std::alloc::AllocError;
@@ -204,4 +206,19 @@ pub(crate) fn push_row(
         Some(line) => push_line(row, skin, line, Some(width), true),
         None => push_spaces(row, skin.paragraph.compound_style, width),
     }
+}
+
+/// Appends a composite that stands by itself: its style's left margin, its mark and its compounds.
+pub(crate) fn push_free(
+    row: &mut String,
+    skin: &MadSkin,
+    composite: &Composite,
+) -> Result<(), AllocError>
+    ensures { OnOk result (Appends (string_bytes row.old) (free_pieces skin.now (kind_of composite.now.style) (map run_of composite.now.compounds.items)) (string_bytes row.new)) }
+{
+    let kind = CompositeKind::from(composite.style);
+    let style = skin.line_style(kind);
+    push_spaces(row, skin.paragraph.compound_style, style.left_margin)?;
+    push_mark(row, skin, kind)?;
+    push_compounds(row, skin, style, &composite.compounds)
 }
