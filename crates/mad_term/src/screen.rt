@@ -231,3 +231,6 @@ impl Screen {
         *self.cells.allocator()
     }
 }
+
+#[cfg(test)]
+mod tests;
