@@ -1,12 +1,13 @@
 // The plain terminal's screen.
-ghost use Rattle.std.specs.Prelude.{◌≡◌, ◌<◌, ◌≤◌, ◌+◌, ◌*◌, ◌^◌, None, Some, suc, IfOk, OnOk, MatchBool, length, vec_len, replicate};
+ghost use Rattle.std.specs.Prelude.{◌≡◌, ◌<◌, ◌≤◌, ◌+◌, ◌*◌, ◌^◌, None, Some, suc, IfOk, OnOk, OnErr, IsErrOf, MatchBool, length, vec_len, replicate};
 ghost use Rattle.std.specs.Option.{option_copied};
 ghost use Rattle.mad_term.specs.Glyph.{look_of};
 ghost use Rattle.mad_term.specs.Grid.{cell_on_screen, empty_grid};
-ghost use Rattle.mad_term.specs.Terminal.{put, put_wide, go_to, erased, erase_row, erase_screen, perform};
+ghost use Rattle.mad_term.specs.Terminal.{after_bytes, put, put_wide, go_to, erased, erase_row, erase_screen, perform};
 
 use crate::cell::{Cell, copy_all, erase, find_head, lay};
 use crate::pen::Pen;
+use crate::reader::{NotPlain, Reader};
 use std::alloc::{AllocError, Global};
 use std::marker::Model;
 use unicode_width::UnicodeWidthChar;
@@ -78,6 +79,34 @@ impl Screen {
         ensures { look_of result ≡ self.now.pen }
     {
         self.pen
+    }
+
+    /// Reads a text: characters in UTF-8, and the sequences that this crate writes. A text that comes in parts can be
+    /// read part by part, if no part ends inside a character or a sequence.
+    ///
+    /// It takes time that grows with the screen too, since the text is read on a copy.
+    ///
+    /// # Errors
+    ///
+    /// `Undefined` where a plain terminal can't read the text, and `Memory` where there is not the memory to. The screen
+    /// is then as it was.
+    pub fn read_bytes(&mut self, bytes: &[u8]) -> Result<(), NotPlain>
+        ensures read { OnOk result (after_bytes self.old bytes.now ≡ Some self.new) }
+        ensures not_plain { IsErrOf result NotPlain.Undefined → after_bytes self.old bytes.now ≡ None }
+        ensures err { OnErr result (self.new ≡ self.old) }
+    {
+        let Ok(text) = std::str::from_utf8(bytes) else {
+            return Err(NotPlain::Undefined);
+        };
+        let mut reader = Reader::new(*self.cells.allocator(), self.copy()?);
+        if !reader.run(text)? {
+            return Err(NotPlain::Undefined);
+        }
+        let Some(screen) = reader.finish() else {
+            return Err(NotPlain::Undefined);
+        };
+        *self = screen;
+        Ok(())
     }
 
     fn row_start(&self) -> usize
@@ -222,13 +251,6 @@ impl Screen {
             y: self.y,
             pen: self.pen,
         })
-    }
-
-    /// Where its memory comes from.
-    pub(crate) fn alloc(&self) -> Global
-        ensures { result ≡ result }
-    {
-        *self.cells.allocator()
     }
 }
 

@@ -32,4 +32,4 @@ returns-clause-read c =
     let run : feed_all (chars c.in-Ok.text.now) (reading_of c.new-reader.result) ≡ Some (reading_of c.run.new.self) = grind arith in
     read_is c.args.self.now c.args.bytes.now (Some (reading_of c.run.new.self)) c.in-Ok.ensures.cases.1
     (ap (λ l. feed_all l (ground c.args.self.now)) (sym same) ∙ ap (feed_all (chars c.in-Ok.text.now)) (sym here) ∙ run)
-    ∙ sym c.in-Some.ensures
+    ∙ sym c.in-Some.ensures ∙ ap Some (sym c.drop-2.view_is)
