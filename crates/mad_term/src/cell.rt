@@ -11,8 +11,10 @@ use std::marker::Model;
 /// What one cell of a screen shows. A further column of a wide character is a tail, which has no characters.
 #[derive(Debug, Drop)]
 pub struct Cell {
-    chars: Vec<char>,
-    pen: Pen,
+    /// The character and the widthless ones joined to it, in the order in which they came.
+    pub chars: Vec<char>,
+    /// The pen that it was written with.
+    pub pen: Pen,
 }
 
 impl Model for Cell {
@@ -31,20 +33,6 @@ impl Cell {
         let mut chars = Vec::new(alloc);
         chars.push(c)?;
         Ok(Cell { chars, pen })
-    }
-
-    /// The character and the widthless ones joined to it.
-    pub fn chars(&self) -> &[char]
-        ensures { result.now ≡ self.now.chars }
-    {
-        self.chars.as_slice()
-    }
-
-    /// The pen that it was written with.
-    pub fn pen(&self) -> Pen
-        ensures { look_of result ≡ self.now.pen }
-    {
-        self.pen
     }
 
     /// Whether it is a further column of a wide character.

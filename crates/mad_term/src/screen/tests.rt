@@ -22,7 +22,7 @@ fn picture(alloc: Global, screen: &Screen) -> Result<String, Fail> {
             if cell.is_tail() {
                 picture.push('·')?;
             }
-            for c in cell.chars() {
+            for c in &cell.chars {
                 picture.push(*c)?;
             }
         }
@@ -36,7 +36,7 @@ fn pens(alloc: Global, screen: &Screen) -> Result<String, Fail> {
     let mut picture = String::new(alloc);
     for y in 0..screen.height {
         for x in 0..screen.width {
-            let pen = screen.cell(x, y).ok_or("no cell")?.pen();
+            let pen = screen.cell(x, y).ok_or("no cell")?.pen;
             let bare = Pen { bg: None, ..pen };
             picture.push(if pen == Pen::plain() {
                 '.'
@@ -140,7 +140,7 @@ fn the_pen_after_each_command(rt: HostRuntime) -> Result<(), Fail> {
         assert!(rt; screen.pen() == pen);
         screen.read_bytes("\u{4e00}".as_bytes())?;
         for x in 0..2 {
-            assert!(rt; screen.cell(x, 0).ok_or("no cell")?.pen() == pen);
+            assert!(rt; screen.cell(x, 0).ok_or("no cell")?.pen == pen);
         }
     }
     Ok(())
@@ -235,9 +235,9 @@ fn pieces_are_read_back(rt: HostRuntime) -> Result<(), Fail> {
         push_styled(&mut row, style, "a\u{301}\u{4e00}")?;
         let screen = screen_after(alloc, 4, 1, row.as_bytes())?;
         assert_eq!(rt; picture(alloc, &screen)?.as_str(), "a\u{301}\u{4e00}· |");
-        assert!(rt; screen.cell(0, 0).ok_or("no cell")?.pen() == pen);
-        assert!(rt; screen.cell(2, 0).ok_or("no cell")?.pen() == pen);
-        assert!(rt; screen.cell(3, 0).ok_or("no cell")?.pen() == Pen::plain());
+        assert!(rt; screen.cell(0, 0).ok_or("no cell")?.pen == pen);
+        assert!(rt; screen.cell(2, 0).ok_or("no cell")?.pen == pen);
+        assert!(rt; screen.cell(3, 0).ok_or("no cell")?.pen == Pen::plain());
         assert!(rt; screen.pen() == Pen::plain());
     }
     Ok(())
