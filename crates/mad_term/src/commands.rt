@@ -75,7 +75,7 @@ pub fn push_clear(row: &mut String, what: ClearType) -> Result<(), AllocError>
     row.push_str(clear_text(what))
 }
 
-// The command that erases.
+/// The text of the command that erases.
 #[tactic(auto, using(std::proofs::lemmas::Fmt::decimal_digit))]
 pub(crate) fn clear_text(what: ClearType) -> &'static str
     ensures { result.now ≡ clear_bytes what }

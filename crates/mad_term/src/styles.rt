@@ -51,7 +51,9 @@ impl ContentStyle {
 
 // The first number of the command that sets a color: what is colored. One more gives its default.
 const FOREGROUND: u8 = 38;
+
 const BACKGROUND: u8 = 48;
+
 const UNDERLINE: u8 = 58;
 
 // The command that sets a color, or nothing where there is none.
