@@ -2,7 +2,7 @@
 use Rattle.std.specs.Prelude.{◌≡◌, ℕ, suc, ◌+◌, ◌-◌, ◌*◌, ◌≤◌, ◌&&◌, nat_lt, Bool, true, false, List, [], ◌∷◌, length, Option, Some, None, if◌then◌else◌, replicate, slice_index_or, slice_set}
 use Rattle.mad_term.specs.Glyph.{Glyph, Look}
 
--- the default pen: no colour, no attribute
+-- the default pen: no color, no attribute
 abbrev pub plain_pen : Look
 plain_pen = record { fg = None; bg = None; underline = None; codes = 0 }
 

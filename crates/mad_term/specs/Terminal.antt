@@ -89,7 +89,7 @@ switched_on a p = record p { codes = bit_or p.codes (2 ^ place a) }
 abbrev pub attribute_of : ℕ → Option Attribute
 attribute_of n = find (λ a. attribute_code a == n) all_attributes
 
--- the default colour for characters, behind them or for the lines below, or an attribute
+-- the default color for characters, behind them or for the lines below, or an attribute
 abbrev pub with_code : ℕ → Look → Option Look
 with_code n p =
     if n == 39 then Some (record p { fg = None })
@@ -97,14 +97,14 @@ with_code n p =
     else if n == 59 then Some (record p { underline = None })
     else option_map (λ a. switched_on a p) (attribute_of n)
 
--- a colour for characters, behind them or for the lines below
+-- a color for characters, behind them or for the lines below
 abbrev pub with_color : ℕ → Color → Look → Option Look
 with_color n c p =
     if n == 38 then Some (record p { fg = Some c })
     else if n == 48 then Some (record p { bg = Some c })
     else if n == 58 then Some (record p { underline = Some c }) else None
 
--- one code, or one colour by number or by its three parts
+-- one code, or one color by number or by its three parts
 abbrev pub restyled : List ℕ → Look → Option Look
 restyled (n ∷ []) p = with_code n p
 restyled (n ∷ kind ∷ number ∷ []) p = if (kind == 5) && nat_lt number 256 then with_color n (AnsiValue number) p else None

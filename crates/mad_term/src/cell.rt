@@ -1,4 +1,5 @@
-// The cells of a screen.
+//! The cells of a screen.
+
 ghost use Rattle.std.specs.Prelude.{◌≡◌, ◌<◌, ◌≤◌, ◌+◌, ◌-◌, [], ◌∷◌, IfOk, IfSome, OnOk, length, vec_len, replicate};
 ghost use Rattle.mad_term.specs.Glyph.{look_of};
 ghost use Rattle.mad_term.specs.Grid.{put_list, is_tail, glyphs};
@@ -67,6 +68,7 @@ impl Cell {
         self.pen = pen;
     }
 
+    /// Joins a widthless character to those that it shows.
     pub(crate) fn join(&mut self, c: char) -> Result<(), AllocError>
         ensures { OnOk result (self.new ≡ joined_glyph self.old c) }
     {
@@ -106,7 +108,7 @@ pub(crate) fn erase(
 {
     let space = Pen {
         bg: pen.bg,
-        ..Pen::plain()
+        ..Pen::default()
     };
     let end = to.min(cells.len());
     for at in from..end {
@@ -131,6 +133,7 @@ pub(crate) fn find_head(cells: &[Cell], start: usize, x: usize) -> Option<usize>
     None
 }
 
+/// Copies of the cells, on memory of their own.
 pub(crate) fn copy_all(alloc: Global, cells: &[Cell]) -> Result<Vec<Cell>, AllocError>
     ensures { IfOk result (λ copies. copies.items ≡ cells.now) }
 {

@@ -1,6 +1,6 @@
 //! What drawing relies on: laws of the plain terminal, each a function that does nothing and states its law.
 
-ghost use Rattle.mad_term.specs.TerminalLaws.{ReadsInTurn, MovesTheCursor, Erases, Colors, ShowsCharacters, CountsColumns, PaintedIsRead, Composes, ChangesNoOtherPlace, DrawsRows};
+ghost use Rattle.mad_term.specs.TerminalLaws.{ReadsInTurn, MovesTheCursor, Erases, Colors, ShowsCharacters, CountsColumns, PaintedIsRead, Composes, ChangesNoOtherPlace, DrawsRows, DrawsStrips};
 
 /// A text behind another is read from the screen that the first one leaves.
 pub fn texts_are_read_in_turn()
@@ -59,5 +59,11 @@ pub fn other_places_stay()
 /// Rows of bytes that paint rows of cells show these in an area, and change no cell outside it.
 pub fn rows_are_drawn()
     ensures { DrawsRows }
+{
+}
+
+/// Runs of cells at any places are shown there, the later ones over those before, and nothing else changes.
+pub fn strips_are_drawn()
+    ensures { DrawsStrips }
 {
 }

@@ -1,8 +1,9 @@
-// The plain terminal's screen.
+//! The plain terminal: a screen that reads bytes.
+
 ghost use Rattle.std.specs.Prelude.{◌≡◌, ◌<◌, ◌≤◌, ◌+◌, ◌*◌, ◌^◌, None, Some, suc, IfOk, OnOk, OnErr, IsErrOf, MatchBool, length, vec_len, replicate};
 ghost use Rattle.std.specs.Option.{option_copied};
 ghost use Rattle.mad_term.specs.Glyph.{look_of};
-ghost use Rattle.mad_term.specs.Grid.{cell_on_screen, empty_grid};
+ghost use Rattle.mad_term.specs.Grid.{IsGrid, cell_on_screen, empty_grid};
 ghost use Rattle.mad_term.specs.Terminal.{after_bytes, put, put_wide, go_to, erased, erase_row, erase_screen, perform};
 
 use crate::cell::{Cell, copy_all, erase, find_head, lay};
@@ -12,7 +13,17 @@ use std::alloc::{AllocError, Global};
 use std::marker::Model;
 use unicode_width::UnicodeWidthChar;
 
-/// A screen as a plain terminal keeps it: rows of cells, a cursor and a pen.
+/// The screen of a plain terminal: rows of cells, a cursor and a pen.
+///
+/// It reads characters and the sequences that this crate writes, exactly as they are written: moves (`ESC[row;columnH`,
+/// counted from one), one color or one attribute in a command (`ESC[..m`) and erasures (`ESC[J`, `ESC[1J`, `ESC[2J`,
+/// `ESC[K`, `ESC[2K`). A character takes the columns that `unicode_width` gives it, itself in the first and tails in the
+/// others; a widthless one joins the first cell to the left that is no tail. Half of a wide character can be overwritten,
+/// and the other half stays. Erasing leaves spaces with the pen's background alone, and the cursor where it was.
+///
+/// All else is undefined: other sequences, numbers with a leading zero or missing, colors past 255, a move off the screen
+/// (also to the column past the last), a character without room before the right edge, a widthless one in column 0, a
+/// control character. A screen may have no rows or no columns; every character on it is undefined.
 #[derive(Debug, Drop)]
 pub struct Screen {
     width: u16,
@@ -36,10 +47,11 @@ impl Model for Screen {
 
 impl Screen {
     /// An empty screen of `width` columns and `height` rows: spaces in the default pen, the cursor in the first place.
+    /// It keeps the allocator, and fails where there is not the memory.
     pub fn new(alloc: Global, width: u16, height: u16) -> Result<Self, AllocError>
         ensures { IfOk result (λ screen. screen ≡ empty_grid width height) }
     {
-        let pen = Pen::plain();
+        let pen = Pen::default();
         let count = usize::from(height) * usize::from(width);
         let mut cells = Vec::with_capacity(alloc, count)?;
         for _i in 0..count {
@@ -69,7 +81,8 @@ impl Screen {
 
     /// The cursor's column and row, counted from zero. The column is the width once a row's last column was written.
     pub fn cursor(&self) -> (u16, u16)
-        ensures { result ≡ (self.now.x, self.now.y) }
+        ensures place { result ≡ (self.now.x, self.now.y) }
+        ensures on_screen { IsGrid self.now }
     {
         (self.x, self.y)
     }
@@ -240,7 +253,7 @@ impl Screen {
         }
     }
 
-    pub(crate) fn copy(&self) -> Result<Self, AllocError>
+    fn copy(&self) -> Result<Self, AllocError>
         ensures { IfOk result (λ screen. screen ≡ self.now) }
     {
         Ok(Screen {

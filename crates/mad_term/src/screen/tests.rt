@@ -38,9 +38,9 @@ fn pens(alloc: Global, screen: &Screen) -> Result<String, Fail> {
         for x in 0..screen.width {
             let pen = screen.cell(x, y).ok_or("no cell")?.pen;
             let bare = Pen { bg: None, ..pen };
-            picture.push(if pen == Pen::plain() {
+            picture.push(if pen == Pen::default() {
                 '.'
-            } else if bare == Pen::plain() {
+            } else if bare == Pen::default() {
                 'b'
             } else {
                 'p'
@@ -119,7 +119,7 @@ fn with(attributes: &[Attribute]) -> Attributes {
 #[test]
 fn the_pen_after_each_command(rt: HostRuntime) -> Result<(), Fail> {
     let alloc = rt.alloc();
-    let plain = Pen::plain();
+    let plain = Pen::default();
     let rgb = Color::Rgb { r: 1, g: 2, b: 3 };
     let cases = [
         ("\x1b[38;5;0m", Pen { fg: Some(Color::AnsiValue(0)), ..plain }),
@@ -228,7 +228,7 @@ fn pieces_are_read_back(rt: HostRuntime) -> Result<(), Fail> {
     };
     let plain_bold = Pen {
         codes: with(&[Attribute::Bold]),
-        ..Pen::plain()
+        ..Pen::default()
     };
     for (style, pen) in [(style, drawn), (reset, plain_bold)] {
         let mut row = String::new(alloc);
@@ -237,8 +237,8 @@ fn pieces_are_read_back(rt: HostRuntime) -> Result<(), Fail> {
         assert_eq!(rt; picture(alloc, &screen)?.as_str(), "a\u{301}\u{4e00}· |");
         assert!(rt; screen.cell(0, 0).ok_or("no cell")?.pen == pen);
         assert!(rt; screen.cell(2, 0).ok_or("no cell")?.pen == pen);
-        assert!(rt; screen.cell(3, 0).ok_or("no cell")?.pen == Pen::plain());
-        assert!(rt; screen.pen() == Pen::plain());
+        assert!(rt; screen.cell(3, 0).ok_or("no cell")?.pen == Pen::default());
+        assert!(rt; screen.pen() == Pen::default());
     }
     Ok(())
 }
