@@ -7,9 +7,9 @@ ghost use Rattle.mad_term.specs.declared.attribute.Attribute.{Attribute};
 use crate::attribute::Attribute;
 use bitflags::{Flag, Flags};
 
-/// A word with one bit for each attribute, at its place.
+// A word with one bit for each attribute, at its place. A word alone may have other bits too.
 #[derive(Clone, Copy, Debug, PartialEq, Eq)]
-pub struct AttributeBits(u32);
+struct AttributeBits(u32);
 
 impl AttributeBits {
     // Each attribute's name, and the word with its bit alone.

@@ -1,4 +1,5 @@
-//! The commands that move the cursor and erase.
+//! The commands that move the cursor and erase: CUP, ED and EL of ECMA-48, in the forms that this
+//! project's profile has of them.
 
 ghost use Rattle.std.specs.Prelude.{◌≡◌, ◌++◌, Some, OnOk, string_bytes};
 
@@ -56,7 +57,7 @@ ghost use Rattle.mad_term.specs.Commands.{move_to_bytes, clear_bytes};
 ///
 /// # Errors
 ///
-/// Want of memory.
+/// Want of memory. What the row then ends with is open.
 pub fn push_move(row: &mut String, x: u16, y: u16) -> Result<(), AllocError>
     ensures { OnOk result (string_bytes row.new ≡ string_bytes row.old ++ move_to_bytes x y) }
 {
@@ -68,7 +69,7 @@ pub fn push_move(row: &mut String, x: u16, y: u16) -> Result<(), AllocError>
 ///
 /// # Errors
 ///
-/// Want of memory.
+/// Want of memory. What the row then ends with is open.
 pub fn push_clear(row: &mut String, what: ClearType) -> Result<(), AllocError>
     ensures { OnOk result (string_bytes row.new ≡ string_bytes row.old ++ clear_bytes what) }
 {

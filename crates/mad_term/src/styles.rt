@@ -1,4 +1,7 @@
 //! Styles, and the commands that a piece, a text in a style, is written with.
+//!
+//! The commands are SGR of ECMA-48. The numbers after 38 and 48, the codes 58 and 59 and the meaning
+//! of 21 are those of this project's profile. Colors are always written.
 
 ghost use Rattle.std.specs.Prelude.{◌≡◌, ◌++◌, ◌↔◌, IsTrue, OnOk, string_bytes};
 ghost use Rattle.mad_term.specs.Styles.{foreground_bytes, background_bytes, piece_bytes, closing_bytes, IsStyle};
@@ -69,7 +72,6 @@ impl fmt::Display for ColorCommand {
 
     ghost output = { λ c. Some (present_bytes (color_bytes c.kind) c.color) };
 
-    #[tactic(auto, using(std::proofs::lemmas::Fmt::decimal_digit))]
     fn fmt<W: fmt::Write>(&self, f: &mut fmt::Formatter<W>) -> fmt::Result {
         let kind = self.kind;
         let Some(color) = self.color else {
@@ -166,7 +168,7 @@ impl fmt::Display for StyledContent<'_> {
 ///
 /// # Errors
 ///
-/// Want of memory.
+/// Want of memory. What the row then ends with is open.
 pub fn push_foreground(row: &mut String, color: Color) -> Result<(), AllocError>
     ensures { OnOk result (string_bytes row.new ≡ string_bytes row.old ++ foreground_bytes color) }
 {
@@ -181,7 +183,7 @@ pub fn push_foreground(row: &mut String, color: Color) -> Result<(), AllocError>
 ///
 /// # Errors
 ///
-/// Want of memory.
+/// Want of memory. What the row then ends with is open.
 pub fn push_background(row: &mut String, color: Color) -> Result<(), AllocError>
     ensures { OnOk result (string_bytes row.new ≡ string_bytes row.old ++ background_bytes color) }
 {
@@ -197,7 +199,7 @@ pub fn push_background(row: &mut String, color: Color) -> Result<(), AllocError>
 ///
 /// # Errors
 ///
-/// Want of memory.
+/// Want of memory. What the row then ends with is open.
 #[tactic(auto, using(crate::proofs::Pieces::plain_piece))]
 pub fn push_styled(row: &mut String, style: ContentStyle, text: &str) -> Result<(), AllocError>
     ensures writes { OnOk result (string_bytes row.new ≡ string_bytes row.old ++ piece_bytes style text.now) }
