@@ -1,12 +1,8 @@
 -- The bytes of commands, read by the plain terminal.
-use Rattle.std.proofs.Common.{◌≡◌, ℕ, suc, ◌+◌, ◌^◌, ◌<◌, ◌≤◌, List, [], ◌∷◌, Some, refl, ap, sym, ◌∙◌, subst, arith, lit<, length}
+use Rattle.std.proofs.Common.{◌≡◌, ℕ, ◌^◌, ◌<◌, List, [], ◌∷◌, Some, refl, ap, sym, subst, arith, lit<, length}
 use Rattle.std.specs.Prelude.{IsAscii, option_map}
-use Rattle.std.specs.Str.{chars}
 use Rattle.std.proofs.lemmas.Str.{chars-IsAscii, IsUtf8-from_ascii}
-use Rattle.mad_term.specs.declared.color.Color.{Color}
-use Rattle.mad_term.specs.Color.{IsColor}
 use Rattle.mad_term.specs.Commands.{command_bytes, move_to_bytes}
-use Rattle.mad_term.specs.Styles.{color_numbers}
 use Rattle.mad_term.specs.Glyph.{Glyph, Look}
 use Rattle.mad_term.specs.Grid.{Grid, painted}
 use Rattle.mad_term.specs.Terminal.{Leads, ground, perform, restyled, after_bytes}

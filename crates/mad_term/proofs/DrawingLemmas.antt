@@ -1,5 +1,5 @@
 -- Rows on the grid.
-use Rattle.std.proofs.Common.{◌≡◌, ◌≢◌, ◌⊎◌, inl, inr, ⊎_elim, ℕ, suc, zero, ◌+◌, ◌*◌, ◌^◌, ◌<◌, ◌≤◌, List, [], ◌∷◌, ◌++◌, length, get_or, Some, refl, ap, sym, ◌∙◌, subst, arith, length-append, IsUtf8}
+use Rattle.std.proofs.Common.{◌≡◌, ◌≢◌, ◌⊎◌, inl, inr, ⊎_elim, ℕ, suc, zero, ◌+◌, ◌*◌, ◌^◌, ◌<◌, ◌≤◌, List, [], ◌∷◌, ◌++◌, length, get_or, refl, ap, sym, ◌∙◌, subst, arith, IsUtf8}
 use Rattle.std.specs.Str.{chars}
 use Rattle.std.proofs.lemmas.Str.{chars-append, chars-nil, chars-IsAscii, IsUtf8-append, IsUtf8-nil, IsUtf8-from_ascii}
 use Rattle.std.proofs.lemmas.Nat.{row_fits}
@@ -7,9 +7,9 @@ use Rattle.std.proofs.lemmas.Bool.{cases_lt}
 use Rattle.mad_term.specs.Commands.{move_to_bytes}
 use Rattle.mad_term.specs.Glyph.{Glyph}
 use Rattle.mad_term.specs.Grid.{Grid, IsGrid, put_list, painted, blank, plain_pen, cell_at}
-use Rattle.mad_term.specs.Terminal.{Leads, ground, after_bytes}
-use Rattle.mad_term.specs.Painting.{HasColumns, Paints}
-use Rattle.mad_term.specs.Drawing.{drawing, PaintRows, AreWide, IsOutside, ShowsRows, FitsArea, DrawnAs}
+use Rattle.mad_term.specs.Terminal.{Leads, ground}
+use Rattle.mad_term.specs.Painting.{HasColumns}
+use Rattle.mad_term.specs.Drawing.{drawing, PaintRows, AreWide, IsOutside, ShowsRows, DrawnAs}
 use Rattle.mad_term.proofs.PutList.{put_list-same, put_list-other}
 use Rattle.mad_term.proofs.Reading.{then_leads, nothing_leads, move_leads}
 use Rattle.mad_term.proofs.PaintingLemmas.{painted_is_grid, rest_fits}
@@ -86,11 +86,12 @@ drawing_leads (t ∷ ts) (r ∷ rs) g left top w paints wide h pen some fits_x f
     let fits : left + length r ≤ g.width = omega (arith, wide.0) in
     let there : HasColumns (at g left top) (length r) = at_columns g left top (length r) h (omega arith) fits in
     let below : IsUtf8 (drawing left (suc top) ts) × Leads (ground (painted (at g left top) r)) (chars (drawing left (suc top) ts)) (ground (painted_rows g left top (r ∷ rs))) = drawing_leads ts rs (painted (at g left top) r) left (suc top) w paints.1 wide.1 (painted_is_grid (at g left top) r there.grid fits) pen some fits_x (omega arith) small_x (omega arith) in
-    let bytes : IsUtf8 (drawing left top (t ∷ ts)) × (chars (drawing left top (t ∷ ts)) ≡ move_to_bytes left top ++ (chars t ++ chars (drawing left (suc top) ts))) = drawing_chars left top t ts small_x (omega arith) paints.0.text below.0 in
-    (bytes.0,
-    subst (λ (cs : List ℕ). Leads (ground g) cs (ground (painted_rows g left top (r ∷ rs)))) (sym bytes.1)
-    (then_leads _ _ _ (move_to_bytes left top) (chars t ++ chars (drawing left (suc top) ts)) (move_leads g left top (omega arith) (omega arith) (omega arith) (omega arith))
-    (then_leads _ _ _ (chars t) (chars (drawing left (suc top) ts)) (paints.0.paints (at g left top) there pen) below.1)))
+    let bytes : IsUtf8 (drawing left top (t ∷ ts)) × (chars (drawing left top (t ∷ ts)) ≡ move_to_bytes left top ++ (chars t ++ chars (drawing left (suc top) ts))) = drawing_chars left top t ts small_x (omega arith) paints.0.text below.0 in (
+      bytes.0,
+      subst (λ (cs : List ℕ). Leads (ground g) cs (ground (painted_rows g left top (r ∷ rs)))) (sym bytes.1)
+          (then_leads _ _ _ (move_to_bytes left top) (chars t ++ chars (drawing left (suc top) ts)) (move_leads g left top (omega arith) (omega arith) (omega arith) (omega arith))
+          (then_leads _ _ _ (chars t) (chars (drawing left (suc top) ts)) (paints.0.paints (at g left top) there pen) below.1)),
+    )
 
 -- the places of the first row and of those below it
 inside_step : (r : List Glyph) (rs : List (List Glyph)) (g new : Grid) (left top w : ℕ) → length r ≡ w → IsGrid g → left + w ≤ g.width → top < g.height → ShowsRows left (suc top) w rs (painted (at g left top) r) new → (i j : ℕ) → i < w → j < suc (length rs) → cell_at new (left + i) (top + j) ≡ get_or (get_or (r ∷ rs) j []) i blank

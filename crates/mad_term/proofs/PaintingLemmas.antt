@@ -12,7 +12,7 @@ use Rattle.mad_term.specs.Columns.{char_columns}
 use Rattle.mad_term.specs.Glyph.{Glyph, Look}
 use Rattle.mad_term.specs.Grid.{Grid, IsGrid, put_list, painted, glyphs, blank, is_tail}
 use Rattle.mad_term.specs.Terminal.{Escape, put, put_wide, join_at, joined_glyph, head_before, feed, Leads, ground}
-use Rattle.mad_term.specs.Painting.{attach, joined, cells_of, IsPrinted, IsWhole, IsShown, HasColumns}
+use Rattle.mad_term.specs.Painting.{attach, joined, cells_of, IsPrinted, IsShown, HasColumns}
 use Rattle.mad_term.proofs.PutList.{put_list-append, put_list-same, set-put_list, length-put_list}
 use Rattle.mad_term.proofs.Reading.{nothing_leads, next_leads}
 

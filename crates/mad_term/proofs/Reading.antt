@@ -1,10 +1,10 @@
 -- What the terminal makes of characters, one text after another, and of commands.
-use Rattle.std.proofs.Common.{◌≡◌, ℕ, ◌+◌, ◌-◌, ◌*◌, ◌/◌, ◌%◌, ◌^◌, ◌<◌, ◌≤◌, Bool, true, false, cond, ltb, leb, eqb, List, [], ◌∷◌, ◌++◌, Option, Some, None, refl, ap, ◌∙◌, sym, subst, arith, append_assoc}
-use Rattle.std.specs.Prelude.{option_and_then, option_map, unwrap_or, ◌&&◌, decimal}
+use Rattle.std.proofs.Common.{◌≡◌, ℕ, ◌+◌, ◌-◌, ◌*◌, ◌/◌, ◌%◌, ◌^◌, ◌<◌, ◌≤◌, true, false, cond, ltb, leb, eqb, List, [], ◌∷◌, ◌++◌, Option, Some, None, refl, ap, ◌∙◌, sym, subst, arith, append_assoc}
+use Rattle.std.specs.Prelude.{option_and_then, option_map, ◌&&◌, decimal}
 use Rattle.std.specs.List.{flat_map}
 use Rattle.std.proofs.lemmas.Fmt.{decimal_by_steps}
 use Rattle.std.proofs.lemmas.Bool.Decides.{nat_tests}
-use Rattle.mad_term.specs.Commands.{command_bytes, numbers_bytes, move_to_bytes}
+use Rattle.mad_term.specs.Commands.{command_bytes, move_to_bytes}
 use Rattle.mad_term.specs.Grid.{Grid}
 use Rattle.mad_term.specs.Terminal.{Reading, feed, feed_all, Leads, ground, numbers, with_digit, end_number, go_to, is_digit, perform}
 

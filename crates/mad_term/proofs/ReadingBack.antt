@@ -37,9 +37,10 @@ was_text g new bytes h = tested (is_utf8 bytes) (option_and_then settled (feed_a
 pub read_was : (g new : Grid) (bytes : List ℕ) → after_bytes g bytes ≡ Some new → IsUtf8 bytes × Leads (ground g) (chars bytes) (ground new)
 unfolding after_bytes Leads
 read_was g new bytes h =
-    let text : is_utf8 bytes ≡ true = was_text g new bytes h in
-    (IsUtf8-from_is_utf8 bytes text,
-    ended (feed_all (chars bytes) (ground g)) new (ap (λ b. cond b (option_and_then settled (feed_all (chars bytes) (ground g))) None) (sym text) ∙ h))
+    let text : is_utf8 bytes ≡ true = was_text g new bytes h in (
+      IsUtf8-from_is_utf8 bytes text,
+      ended (feed_all (chars bytes) (ground g)) new (ap (λ b. cond b (option_and_then settled (feed_all (chars bytes) (ground g))) None) (sym text) ∙ h),
+    )
 
 pub read_in_turn : (g mid new : Grid) (a b : List ℕ) → after_bytes g a ≡ Some mid → after_bytes mid b ≡ Some new → after_bytes g (a ++ b) ≡ Some new
 read_in_turn g mid new a b p q =

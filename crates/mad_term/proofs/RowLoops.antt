@@ -3,7 +3,6 @@ use Rattle.std.proofs.Common.{◌≡◌, ℕ, suc, ◌+◌, ◌<◌, List, [], �
 use Rattle.std.proofs.lemmas.List.{append-nil, take_more, take-append-drop, map-append, length-map, length-take-le}
 use Rattle.mad_term.specs.Commands.{move_to_bytes}
 use Rattle.mad_term.specs.Glyph.{Glyph}
-use Rattle.mad_term.specs.Painting.{Paints}
 use Rattle.mad_term.specs.Drawing.{drawing, PaintRows}
 
 pub drawing-append : (left top : ℕ) (a b : List (List ℕ)) → drawing left top (a ++ b) ≡ drawing left top a ++ drawing left (top + length a) b

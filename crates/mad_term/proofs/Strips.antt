@@ -1,15 +1,14 @@
 -- Runs of cells at any places of a screen.
-use Rattle.std.proofs.Common.{◌≡◌, ◌≢◌, ◌⊎◌, inl, inr, ⊎_elim, ℕ, suc, zero, ◌+◌, ◌-◌, ◌^◌, ◌<◌, ◌≤◌, true, false, cond, List, [], ◌∷◌, ◌++◌, length, get_or, Some, refl, ap, sym, ◌∙◌, subst, arith, append_assoc, IsUtf8}
+use Rattle.std.proofs.Common.{◌≡◌, ◌≢◌, ◌⊎◌, inl, inr, ⊎_elim, ℕ, ◌+◌, ◌-◌, ◌<◌, ◌≤◌, true, false, cond, List, [], ◌∷◌, ◌++◌, length, get_or, Some, refl, ap, sym, ◌∙◌, subst, arith, IsUtf8}
 use Rattle.std.specs.List.{AllByRecursion}
 use Rattle.std.specs.Str.{chars}
 use Rattle.std.proofs.lemmas.Str.{chars-append, chars-nil, chars-IsAscii, IsUtf8-append, IsUtf8-nil, IsUtf8-from_ascii}
 use Rattle.std.proofs.lemmas.Bool.{cases_eq, cases_lt}
 use Rattle.std.proofs.lemmas.Bool.Decides.{nat_tests}
 use Rattle.mad_term.specs.Commands.{move_to_bytes}
-use Rattle.mad_term.specs.Glyph.{Glyph}
 use Rattle.mad_term.specs.Grid.{Grid, IsGrid, painted, blank, plain_pen, cell_at}
 use Rattle.mad_term.specs.Terminal.{Leads, ground, after_bytes}
-use Rattle.mad_term.specs.Painting.{HasColumns, Paints}
+use Rattle.mad_term.specs.Painting.{HasColumns}
 use Rattle.mad_term.specs.Drawing.{Strip, strips_bytes, FitsScreen, covers, cell_under, ShowsStrips}
 use Rattle.mad_term.proofs.AsciiCommands.{ascii_move_to}
 use Rattle.mad_term.proofs.Reading.{then_leads, nothing_leads, move_leads}
@@ -32,27 +31,31 @@ strip_is_grid g s h fits = painted_is_grid (at g s.x s.y) s.cells (at_columns g 
 still_fit : (g : Grid) (s : Strip) (strips : List Strip) → AllByRecursion (FitsScreen g) strips → AllByRecursion (FitsScreen (with_strip g s)) strips
 unfolding painted
 still_fit g s [] h = tt
-still_fit g s (t ∷ strips) h = (record {
-  paints = h.0.paints;
-  some = h.0.some;
-  columns = h.0.columns;
-  row = h.0.row;
-  small_column = h.0.small_column;
-  small_row = h.0.small_row;
-}, still_fit g s strips h.1)
+still_fit g s (t ∷ strips) h = (
+  record {
+    paints = h.0.paints;
+    some = h.0.some;
+    columns = h.0.columns;
+    row = h.0.row;
+    small_column = h.0.small_column;
+    small_row = h.0.small_row;
+  },
+  still_fit g s strips h.1,
+)
 
 -- a move and its bytes
 strip_leads : (g : Grid) (s : Strip) → IsGrid g → g.pen ≡ plain_pen → FitsScreen g s → IsUtf8 (move_to_bytes s.x s.y ++ s.bytes) × Leads (ground g) (chars (move_to_bytes s.x s.y ++ s.bytes)) (ground (with_strip g s))
 strip_leads g s h pen fits =
     let ascii = ascii_move_to s.x s.y (omega (arith, fits.small_column)) (omega (arith, fits.small_row)) in
     let move : IsUtf8 (move_to_bytes s.x s.y) = IsUtf8-from_ascii (move_to_bytes s.x s.y) ascii in
-    let columns : HasColumns (at g s.x s.y) (length s.cells) = at_columns g s.x s.y (length s.cells) h fits.row fits.columns in
-    (IsUtf8-append (move_to_bytes s.x s.y) s.bytes move fits.paints.text,
-    subst (λ (cs : List ℕ). Leads (ground g) cs (ground (with_strip g s)))
-    (sym (chars-append (move_to_bytes s.x s.y) s.bytes move ∙ ap (λ l. l ++ chars s.bytes) (chars-IsAscii (move_to_bytes s.x s.y) ascii)))
-    (then_leads (ground g) (ground (at g s.x s.y)) (ground (with_strip g s)) (move_to_bytes s.x s.y) (chars s.bytes)
-    (move_leads g s.x s.y (omega (arith, fits.some, fits.columns)) fits.row (omega (arith, fits.small_column)) (omega (arith, fits.small_row)))
-    (fits.paints.paints (at g s.x s.y) columns pen)))
+    let columns : HasColumns (at g s.x s.y) (length s.cells) = at_columns g s.x s.y (length s.cells) h fits.row fits.columns in (
+      IsUtf8-append (move_to_bytes s.x s.y) s.bytes move fits.paints.text,
+      subst (λ (cs : List ℕ). Leads (ground g) cs (ground (with_strip g s)))
+          (sym (chars-append (move_to_bytes s.x s.y) s.bytes move ∙ ap (λ l. l ++ chars s.bytes) (chars-IsAscii (move_to_bytes s.x s.y) ascii)))
+          (then_leads (ground g) (ground (at g s.x s.y)) (ground (with_strip g s)) (move_to_bytes s.x s.y) (chars s.bytes)
+          (move_leads g s.x s.y (omega (arith, fits.some, fits.columns)) fits.row (omega (arith, fits.small_column)) (omega (arith, fits.small_row)))
+          (fits.paints.paints (at g s.x s.y) columns pen)),
+    )
 
 strips_lead : (strips : List Strip) (g : Grid) → IsGrid g → g.pen ≡ plain_pen → AllByRecursion (FitsScreen g) strips → IsUtf8 (strips_bytes strips) × Leads (ground g) (chars (strips_bytes strips)) (ground (with_strips g strips))
 unfolding painted
@@ -60,10 +63,11 @@ strips_lead [] g h pen fits = (IsUtf8-nil, subst (λ (cs : List ℕ). Leads (gro
 strips_lead (s ∷ strips) g h pen fits =
     let first : List ℕ = move_to_bytes s.x s.y ++ s.bytes in
     let one : IsUtf8 first × Leads (ground g) (chars first) (ground (with_strip g s)) = strip_leads g s h pen fits.0 in
-    let rest : IsUtf8 (strips_bytes strips) × Leads (ground (with_strip g s)) (chars (strips_bytes strips)) (ground (with_strips (with_strip g s) strips)) = strips_lead strips (with_strip g s) (strip_is_grid g s h fits.0) pen (still_fit g s strips fits.1) in
-    (IsUtf8-append first (strips_bytes strips) one.0 rest.0,
-    subst (λ (cs : List ℕ). Leads (ground g) cs (ground (with_strips (with_strip g s) strips))) (sym (chars-append first (strips_bytes strips) one.0))
-    (then_leads (ground g) (ground (with_strip g s)) (ground (with_strips (with_strip g s) strips)) (chars first) (chars (strips_bytes strips)) one.1 rest.1))
+    let rest : IsUtf8 (strips_bytes strips) × Leads (ground (with_strip g s)) (chars (strips_bytes strips)) (ground (with_strips (with_strip g s) strips)) = strips_lead strips (with_strip g s) (strip_is_grid g s h fits.0) pen (still_fit g s strips fits.1) in (
+      IsUtf8-append first (strips_bytes strips) one.0 rest.0,
+      subst (λ (cs : List ℕ). Leads (ground g) cs (ground (with_strips (with_strip g s) strips))) (sym (chars-append first (strips_bytes strips) one.0))
+          (then_leads (ground g) (ground (with_strip g s)) (ground (with_strips (with_strip g s) strips)) (chars first) (chars (strips_bytes strips)) one.1 rest.1),
+    )
 
 -- a place after one strip
 covered : (g : Grid) (s : Strip) (x y : ℕ) → IsGrid g → FitsScreen g s → y ≡ s.y → s.x ≤ x → x < s.x + length s.cells → cell_at (with_strip g s) x y ≡ get_or s.cells (x - s.x) blank
@@ -107,6 +111,10 @@ pub strips_drawn : (strips : List Strip) (g : Grid) → IsGrid g → g.pen ≡ p
 strips_drawn strips g h pen fits =
     let new : Grid = with_strips g strips in
     let read : IsUtf8 (strips_bytes strips) × Leads (ground g) (chars (strips_bytes strips)) (ground new) = strips_lead strips g h pen fits in
-    let kept : IsGrid new × (new.pen ≡ g.pen) × (new.width ≡ g.width) × (new.height ≡ g.height) = strips_keep strips g h fits in
-    (new, read_leads g new (strips_bytes strips) read.0 read.1, kept.0, kept.1 ∙ pen,
-    record { width = kept.2; height = kept.3; cells = λ x y in_width. after_strips strips g x y h fits in_width })
+    let kept : IsGrid new × (new.pen ≡ g.pen) × (new.width ≡ g.width) × (new.height ≡ g.height) = strips_keep strips g h fits in (
+      new,
+      read_leads g new (strips_bytes strips) read.0 read.1,
+      kept.0,
+      kept.1 ∙ pen,
+      record { width = kept.2; height = kept.3; cells = λ x y in_width. after_strips strips g x y h fits in_width },
+    )

@@ -1,5 +1,5 @@
 -- The commands of a style, read by the plain terminal.
-use Rattle.std.proofs.Common.{◌≡◌, ℕ, suc, zero, ◌+◌, ◌-◌, ◌^◌, ◌<◌, ◌≤◌, Bool, true, false, cond, ltb, eqb, List, [], ◌∷◌, ◌++◌, length, Option, Some, None, refl, ap, sym, ◌∙◌, subst, arith, add-zero}
+use Rattle.std.proofs.Common.{◌≡◌, ℕ, suc, ◌+◌, ◌-◌, ◌^◌, ◌<◌, ◌≤◌, Bool, true, false, cond, ltb, eqb, List, [], ◌∷◌, ◌++◌, length, Option, Some, None, refl, ap, sym, ◌∙◌, subst, arith, add-zero}
 use Rattle.std.specs.Prelude.{option_map, option_and_then, ◌&&◌, ◌||◌, not, is_some}
 use Rattle.std.specs.List.{flat_map}
 use Rattle.std.specs.Int.{bit_at}
@@ -12,14 +12,14 @@ use Rattle.mad_term.specs.declared.attributes.Attributes.{Attributes}
 use Rattle.mad_term.specs.declared.color.Color.{Color}
 use Rattle.mad_term.specs.declared.color.Color.TheVariants as colors
 use Rattle.mad_term.specs.declared.styles.ContentStyle.{ContentStyle}
-use Rattle.mad_term.specs.Attribute.{place, attribute_code, all_attributes}
+use Rattle.mad_term.specs.Attribute.{place, attribute_code}
 use Rattle.mad_term.specs.Attributes.{attribute_bits, has_attribute}
 use Rattle.mad_term.specs.Color.{IsColor, IsColorOrNone}
 use Rattle.mad_term.specs.Commands.{sgr_bytes}
 use Rattle.mad_term.specs.Styles.{palette_numbers, color_numbers, foreground_bytes, background_bytes, underline_bytes, attribute_bytes, attributes_bytes, present_bytes, opening_bytes, closing_bytes, piece_bytes, IsStyle}
 use Rattle.mad_term.specs.Glyph.{Glyph, Look}
-use Rattle.mad_term.specs.Grid.{Grid, IsGrid, plain_pen, painted}
-use Rattle.mad_term.specs.Terminal.{Leads, ground, restyled, with_code, switched_on, perform}
+use Rattle.mad_term.specs.Grid.{Grid, plain_pen, painted}
+use Rattle.mad_term.specs.Terminal.{Leads, ground, restyled, with_code, switched_on}
 use Rattle.mad_term.specs.Painting.{cells_of, IsShown, HasColumns, CharsPaint, shown_color, look_of_style}
 use Rattle.mad_term.proofs.Reading.{then_leads, nothing_leads, command_leads, AreReadable, letter_sgr}
 use Rattle.mad_term.proofs.PaintingLemmas.{text_leads}

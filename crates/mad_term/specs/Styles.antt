@@ -1,10 +1,10 @@
 -- The bytes of colors, attributes and pieces.
-use Rattle.std.specs.Prelude.{◌≡◌, ℕ, ◌+◌, ◌==◌, ◌||◌, not, List, [], ◌∷◌, ◌++◌, Bool, true, false, Option, Some, None, is_some, if◌then◌else◌}
+use Rattle.std.specs.Prelude.{◌≡◌, ℕ, ◌+◌, ◌==◌, ◌||◌, not, List, [], ◌∷◌, ◌++◌, Option, Some, None, is_some, if◌then◌else◌}
 use Rattle.std.specs.List.{flat_map}
 use Rattle.mad_term.specs.declared.attribute.Attribute.{Attribute}
 use Rattle.mad_term.specs.declared.attributes.Attributes.{Attributes}
 use Rattle.mad_term.specs.declared.color.Color.{Color}
-use Rattle.mad_term.specs.declared.color.Color.TheVariants.{Reset, Black, DarkGrey, Red, DarkRed, Green, DarkGreen, Yellow, DarkYellow, Blue, DarkBlue, Magenta, DarkMagenta, Cyan, DarkCyan, White, Grey, Rgb, AnsiValue}
+use Rattle.mad_term.specs.declared.color.Color.TheVariants.{Rgb}
 use Rattle.mad_term.specs.declared.styles.ContentStyle.{ContentStyle}
 use Rattle.mad_term.specs.Attribute.{all_attributes, attribute_code}
 use Rattle.mad_term.specs.Attributes.{attribute_bits, has_attribute}

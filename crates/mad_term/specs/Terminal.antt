@@ -1,6 +1,6 @@
 -- The plain terminal: what each character does to a screen, and so what a text does. A text that it can't read has no
 -- result.
-use Rattle.std.specs.Prelude.{◌≡◌, ℕ, zero, suc, ◌+◌, ◌-◌, ◌*◌, ◌^◌, min, ◌==◌, nat_lt, nat_le, ◌&&◌, Bool, true, false, List, [], ◌∷◌, ◌++◌, Option, Some, None, option_map, option_and_then, if◌then◌else◌, replicate, slice_index_or, slice_set, find}
+use Rattle.std.specs.Prelude.{◌≡◌, ℕ, zero, suc, ◌+◌, ◌-◌, ◌*◌, ◌^◌, min, ◌==◌, nat_lt, nat_le, ◌&&◌, Bool, false, List, [], ◌∷◌, ◌++◌, Option, Some, None, option_map, option_and_then, if◌then◌else◌, replicate, slice_index_or, slice_set, find}
 use Rattle.std.specs.Str.{chars, is_utf8}
 use Rattle.std.specs.Int.RustNames.{bit_or}
 use Rattle.unicode_width.specs.Width.{char_width}

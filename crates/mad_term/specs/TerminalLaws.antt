@@ -1,5 +1,5 @@
 -- What drawing relies on, said of the plain terminal's definition.
-use Rattle.std.specs.Prelude.{◌≡◌, ◌⊎◌, ℕ, ◌+◌, ◌^◌, ◌<◌, ◌≤◌, min, List, [], ◌∷◌, ◌++◌, length, Option, Some, None}
+use Rattle.std.specs.Prelude.{◌≡◌, ℕ, ◌+◌, ◌^◌, ◌<◌, min, List, [], ◌∷◌, ◌++◌, length, Some}
 use Rattle.std.specs.List.{sum_by, AllByRecursion}
 use Rattle.std.specs.Str.{chars, IsUtf8}
 use Rattle.mad_term.specs.declared.color.Color.{Color}

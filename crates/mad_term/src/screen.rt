@@ -181,8 +181,7 @@ impl Screen {
                 if 1 <= *row
                     && *row <= u32::from(self.height)
                     && 1 <= *column
-                    && *column <= u32::from(self.width) =>
-            {
+                    && *column <= u32::from(self.width) => {
                 self.x = *column as u16 - 1;
                 self.y = *row as u16 - 1;
                 true
@@ -215,10 +214,11 @@ impl Screen {
         ensures { IfOk result (λ done. MatchBool done (erase_screen numbers.now self.old ≡ Some self.new) (erase_screen numbers.now self.old ≡ None)) }
     {
         let start = self.row_start();
+        let behind = (usize::from(self.x) + 1).min(usize::from(self.width));
         let end = usize::from(self.height) * usize::from(self.width);
         let (from, to) = match numbers {
             [] => (start + usize::from(self.x), end),
-            [1] => (0, start + (usize::from(self.x) + 1).min(usize::from(self.width))),
+            [1] => (0, start + behind),
             [2] => (0, end),
             _ => return Ok(false),
         };

@@ -68,7 +68,11 @@ fn wide_and_joined_characters(rt: HostRuntime) -> Result<(), Fail> {
         ("\u{4e00}\x1b[1;1Hx", "x·  |    |", (1, 0)),
         ("\u{4e00}\x1b[1;2Hx", "\u{4e00}x  |    |", (2, 0)),
         // Through the tail that is left, a mark joins the first cell that is none.
-        ("\u{4e00}\x1b[1;1Hx\x1b[1;3H\u{301}", "x\u{301}·  |    |", (2, 0)),
+        (
+            "\u{4e00}\x1b[1;1Hx\x1b[1;3H\u{301}",
+            "x\u{301}·  |    |",
+            (2, 0),
+        ),
         // The last place, and a move away from past the last column.
         ("\x1b[2;4Hz\x1b[1;2Hy", " y  |   z|", (2, 0)),
     ];
@@ -116,24 +120,45 @@ fn with(attributes: &[Attribute]) -> Attributes {
     set
 }
 
+fn fg(color: Color) -> Pen {
+    Pen {
+        fg: Some(color),
+        ..Pen::default()
+    }
+}
+
+fn bg(color: Color) -> Pen {
+    Pen {
+        bg: Some(color),
+        ..Pen::default()
+    }
+}
+
+fn codes(attributes: &[Attribute]) -> Pen {
+    Pen {
+        codes: with(attributes),
+        ..Pen::default()
+    }
+}
+
 #[test]
 fn the_pen_after_each_command(rt: HostRuntime) -> Result<(), Fail> {
+    use Attribute::{Bold, Fraktur, Italic, NormalIntensity, NotOverLined, Underlined};
     let alloc = rt.alloc();
-    let plain = Pen::default();
     let rgb = Color::Rgb { r: 1, g: 2, b: 3 };
     let cases = [
-        ("\x1b[38;5;0m", Pen { fg: Some(Color::AnsiValue(0)), ..plain }),
-        ("\x1b[48;5;255m", Pen { bg: Some(Color::AnsiValue(255)), ..plain }),
-        ("\x1b[58;2;1;2;3m", Pen { underline: Some(rgb), ..plain }),
-        ("\x1b[38;2;1;2;3m\x1b[48;5;9m\x1b[39m", Pen { bg: Some(Color::AnsiValue(9)), ..plain }),
-        ("\x1b[48;5;9m\x1b[49m", plain),
-        ("\x1b[58;5;9m\x1b[59m", plain),
-        ("\x1b[1m\x1b[4m\x1b[1m", Pen { codes: with(&[Attribute::Bold, Attribute::Underlined]), ..plain }),
-        ("\x1b[55m\x1b[20m", Pen { codes: with(&[Attribute::Fraktur, Attribute::NotOverLined]), ..plain }),
-        // The codes that switch off are kept too: only code 0 takes any away.
-        ("\x1b[1m\x1b[22m", Pen { codes: with(&[Attribute::Bold, Attribute::NormalIntensity]), ..plain }),
-        ("\x1b[1m\x1b[38;5;1m\x1b[0m", plain),
-        ("\x1b[1m\x1b[38;5;1m\x1b[0m\x1b[3m", Pen { codes: with(&[Attribute::Italic]), ..plain }),
+        ("\x1b[38;5;0m", fg(Color::AnsiValue(0))),
+        ("\x1b[38;2;1;2;3m", fg(rgb)),
+        ("\x1b[48;5;255m", bg(Color::AnsiValue(255))),
+        ("\x1b[38;5;1m\x1b[48;2;1;2;3m\x1b[39m", bg(rgb)),
+        ("\x1b[48;5;9m\x1b[49m", Pen::default()),
+        ("\x1b[58;5;9m\x1b[59m", Pen::default()),
+        ("\x1b[1m\x1b[4m\x1b[1m", codes(&[Bold, Underlined])),
+        ("\x1b[55m\x1b[20m", codes(&[Fraktur, NotOverLined])),
+        // A code that switches something off is kept too: only code 0 takes any away.
+        ("\x1b[1m\x1b[22m", codes(&[Bold, NormalIntensity])),
+        ("\x1b[1m\x1b[58;5;1m\x1b[0m", Pen::default()),
+        ("\x1b[1m\x1b[38;5;1m\x1b[0m\x1b[3m", codes(&[Italic])),
     ];
     for (text, pen) in cases {
         let mut screen = screen_after(alloc, 2, 1, text.as_bytes())?;
@@ -146,38 +171,104 @@ fn the_pen_after_each_command(rt: HostRuntime) -> Result<(), Fail> {
     Ok(())
 }
 
+const CUT: [&[u8]; 8] = [
+    b"\xff",
+    b"\xe4\xb8",
+    b"\xc3(",
+    b"\x1b",
+    b"\x1b[",
+    b"\x1b[1",
+    b"\x1b[1;",
+    b"\x1b[38;5",
+];
+
+const UNKNOWN: [&[u8]; 10] = [
+    b"\x1b]0;a",
+    b"\x1bM",
+    b"\x1b[1A",
+    b"\x1b[?25l",
+    b"\x1b[3J",
+    b"\x1b[1K",
+    b"\x1b[26m",
+    b"\x1b[100m",
+    b"\x1b[30m",
+    b"\x1b\x1b[1m",
+];
+
+// Numbers that are missing, too many, too great, or have a leading zero.
+const MISWRITTEN: [&[u8]; 29] = [
+    b"\x1b[H",
+    b"\x1b[1H",
+    b"\x1b[;1H",
+    b"\x1b[1;H",
+    b"\x1b[1;1;1H",
+    b"\x1b[01;1H",
+    b"\x1b[1;01H",
+    b"\x1b[4294967296;1H",
+    b"\x1b[4294967297;1H",
+    b"\x1b[m",
+    b"\x1b[00m",
+    b"\x1b[01m",
+    b"\x1b[1;2m",
+    b"\x1b[0;1m",
+    b"\x1b[99999999999999999999m",
+    b"\x1b[38m",
+    b"\x1b[38;5m",
+    b"\x1b[38;5;01m",
+    b"\x1b[38;5;1;1m",
+    b"\x1b[38;5;256m",
+    b"\x1b[38;2;1;2m",
+    b"\x1b[48;2;1;2;256m",
+    b"\x1b[58;3;1m",
+    b"\x1b[39;5;1m",
+    b"\x1b[0J",
+    b"\x1b[;J",
+    b"\x1b[2;2J",
+    b"\x1b[0K",
+    b"\x1b[2;K",
+];
+
+// Moves off the screen, also to the column past the last; characters without room, with nothing to join, controls.
+const MISPLACED: [&[u8]; 13] = [
+    b"\x1b[0;1H",
+    b"\x1b[1;0H",
+    b"\x1b[4;1H",
+    b"\x1b[1;4H",
+    b"\x1b[1;3H\xe4\xb8\x80",
+    b"\x1b[1;3Hdd",
+    b"\xcc\x81",
+    b"\x1b[1;1H\xcc\x81",
+    b"\n",
+    b"\r",
+    b"\t",
+    b"\x7f",
+    b"\xc2\x85",
+];
+
 #[test]
 fn texts_that_no_plain_terminal_reads(rt: HostRuntime) -> Result<(), Fail> {
     let alloc = rt.alloc();
-    let cases: [&[u8]; 60] = [
-        // No UTF-8, and cut sequences.
-        b"\xff", b"\xe4\xb8", b"\xc3(", b"\x1b", b"\x1b[", b"\x1b[1", b"\x1b[1;", b"\x1b[38;5",
-        // Unknown ones.
-        b"\x1b]0;a", b"\x1bM", b"\x1b[1A", b"\x1b[?25l", b"\x1b[3J", b"\x1b[1K", b"\x1b[26m", b"\x1b[100m", b"\x1b[30m", b"\x1b\x1b[1m",
-        // Numbers that are missing, too many, or not as they are written.
-        b"\x1b[H", b"\x1b[m", b"\x1b[0J", b"\x1b[0K", b"\x1b[1H", b"\x1b[;1H", b"\x1b[1;H", b"\x1b[1;1;1H", b"\x1b[01;1H", b"\x1b[1;01H",
-        b"\x1b[1;2m", b"\x1b[00m", b"\x1b[01m", b"\x1b[0;1m", b"\x1b[2;2J", b"\x1b[;J", b"\x1b[2;K", b"\x1b[4294967296;1H", b"\x1b[4294967297;1H",
-        b"\x1b[99999999999999999999m",
-        // Colors.
-        b"\x1b[38;5;256m", b"\x1b[38;5m", b"\x1b[38;5;1;1m", b"\x1b[38;5;01m", b"\x1b[38;2;1;2m", b"\x1b[48;2;1;2;256m", b"\x1b[58;3;1m", b"\x1b[39;5;1m", b"\x1b[38m",
-        // Moves off the screen, also to the column past the last.
-        b"\x1b[0;1H", b"\x1b[1;0H", b"\x1b[4;1H", b"\x1b[1;4H",
-        // Characters: no room, nothing to join, controls.
-        b"\x1b[1;3H\xe4\xb8\x80", b"abc\x1b[1;3Hdd", b"\xcc\x81", b"\x1b[2;1H\xcc\x81", b"\n", b"\r", b"\t", b"\x7f", b"\xc2\x85",
-    ];
+    let cases = CUT
+        .iter()
+        .chain(&UNKNOWN)
+        .chain(&MISWRITTEN)
+        .chain(&MISPLACED);
     for text in cases {
-        let mut screen = screen_after(alloc, 3, 3, b"abc\x1b[1m")?;
-        screen.read_bytes(b"\x1b[2;1H")?;
-        let pen = screen.pen();
-        assert!(rt; screen.read_bytes(text) == Err(NotPlain::Undefined), "{text:?}");
+        let mut screen = screen_after(alloc, 3, 3, b"abc\x1b[2;1H\x1b[1m")?;
+        assert!(rt;
+            screen.read_bytes(text) == Err(NotPlain::Undefined),
+            "{text:?}"
+        );
         // Also behind a text that it would read.
-        let mut longer = b"x\x1b[3m".to_vec(alloc)?;
-        longer.extend_from_slice(b"\x1b[2;1H")?;
+        let mut longer = b"x\x1b[3m\x1b[2J\x1b[2;1H".to_vec(alloc)?;
         longer.extend_from_slice(text)?;
-        assert!(rt; screen.read_bytes(&longer) == Err(NotPlain::Undefined), "{text:?}");
+        assert!(rt;
+            screen.read_bytes(&longer) == Err(NotPlain::Undefined),
+            "{text:?}"
+        );
         assert_eq!(rt; picture(alloc, &screen)?.as_str(), "abc|   |   |");
         assert_eq!(rt; screen.cursor(), (0, 1));
-        assert!(rt; screen.pen() == pen);
+        assert!(rt; screen.pen() == codes(&[Attribute::Bold]));
     }
     Ok(())
 }
@@ -188,7 +279,10 @@ fn screens_without_rows_or_columns(rt: HostRuntime) -> Result<(), Fail> {
     for (width, height) in [(0, 0), (0, 3), (3, 0)] {
         let mut screen = Screen::new(alloc, width, height)?;
         for text in ["a", "\u{301}", "\x1b[1;1H"] {
-            assert!(rt; screen.read_bytes(text.as_bytes()) == Err(NotPlain::Undefined), "{text:?}");
+            assert!(rt;
+                screen.read_bytes(text.as_bytes()) == Err(NotPlain::Undefined),
+                "{text:?}"
+            );
         }
         screen.read_bytes(b"\x1b[1m\x1b[J\x1b[1J\x1b[2J\x1b[K\x1b[2K")?;
         assert_eq!(rt; screen.cursor(), (0, 0));
@@ -201,7 +295,13 @@ fn screens_without_rows_or_columns(rt: HostRuntime) -> Result<(), Fail> {
 #[test]
 fn cells_outside_are_none(rt: HostRuntime) -> Result<(), Fail> {
     let screen = screen_after(rt.alloc(), 3, 2, b"")?;
-    for (x, y, there) in [(0, 0, true), (2, 1, true), (3, 0, false), (0, 2, false), (65535, 65535, false)] {
+    for (x, y, there) in [
+        (0, 0, true),
+        (2, 1, true),
+        (3, 0, false),
+        (0, 2, false),
+        (65535, 65535, false),
+    ] {
         assert_eq!(rt; screen.cell(x, y).is_some(), there);
     }
     Ok(())
@@ -226,11 +326,7 @@ fn pieces_are_read_back(rt: HostRuntime) -> Result<(), Fail> {
         attributes: with(&[Attribute::Reset, Attribute::Bold]),
         ..style
     };
-    let plain_bold = Pen {
-        codes: with(&[Attribute::Bold]),
-        ..Pen::default()
-    };
-    for (style, pen) in [(style, drawn), (reset, plain_bold)] {
+    for (style, pen) in [(style, drawn), (reset, codes(&[Attribute::Bold]))] {
         let mut row = String::new(alloc);
         push_styled(&mut row, style, "a\u{301}\u{4e00}")?;
         let screen = screen_after(alloc, 4, 1, row.as_bytes())?;
