@@ -43,6 +43,8 @@ impl ContentStyle {
     /// Whether the style sets nothing.
     pub fn is_plain(self) -> bool
         ensures plain { IsTrue result ↔ IsPlain self }
+
+        // The numbers of its colors are bytes, which a terminal asks for that reads them.
         ensures bytes { IsStyle self }
     {
         self.foreground_color.is_none()
@@ -100,7 +102,12 @@ impl fmt::Display for AttributeCommands {
 
     ghost output = { λ c. Some (attributes_bytes c.0) };
 
+    #[tactic(auto, using(crate::proofs::Pieces::no_attributes))]
     fn fmt<W: fmt::Write>(&self, f: &mut fmt::Formatter<W>) -> fmt::Result {
+        // Most styles have none.
+        if self.0.is_empty() {
+            return Ok(());
+        }
         for attribute in &Attribute::ALL {
             if self.0.has(*attribute) {
                 let code = attribute.code();
@@ -203,6 +210,8 @@ pub fn push_background(row: &mut String, color: Color) -> Result<(), AllocError>
 #[tactic(auto, using(crate::proofs::Pieces::plain_piece))]
 pub fn push_styled(row: &mut String, style: ContentStyle, text: &str) -> Result<(), AllocError>
     ensures writes { OnOk result (string_bytes row.new ≡ string_bytes row.old ++ piece_bytes style text.now) }
+
+    // The numbers of its colors are bytes, which a terminal asks for that reads them.
     ensures bytes { IsStyle style }
 {
     // Most texts are plain, and need no formatting.
