@@ -1,6 +1,6 @@
 //! What drawing relies on: laws of the plain terminal, each a function that does nothing and states its law.
 
-ghost use Rattle.mad_term.specs.TerminalLaws.{ReadsInTurn, MovesTheCursor, Erases, Colors, ShowsCharacters, CountsColumns, PaintedIsRead, Composes, ChangesNoOtherPlace, DrawsRows, DrawsStrips};
+ghost use Rattle.mad_term.specs.TerminalLaws.{ReadsInTurn, MovesTheCursor, Erases, ErasesPlaces, Colors, ShowsCharacters, CountsColumns, PaintedIsRead, Composes, ChangesNoOtherPlace, DrawsRows, DrawsStrips};
 
 /// A text behind another is read from the screen that the first one leaves.
 pub fn texts_are_read_in_turn()
@@ -15,6 +15,11 @@ pub fn moves_set_the_cursor()
 /// Each erasure leaves spaces of the pen's background in its places, and the cursor where it was.
 pub fn erasures_leave_spaces()
     ensures { Erases }
+{}
+
+/// Erased places are spaces with the pen's background alone, and the others stay.
+pub fn erased_places_are_spaces()
+    ensures { ErasesPlaces }
 {}
 
 /// The command of a foreground or a background gives the pen that color.
