@@ -69,6 +69,7 @@ erased_place g from to x y h in_width in_height =
         let count : length (replicate (to - from) (space_of g.pen)) ≡ to - from = length-replicate (to - from) (space_of g.pen) in
         put_list-other g.cells from (replicate (to - from) (space_of g.pen)) i blank (⊎_elim (λ a. inl a) (λ a. inr (omega arith)) out)
         ∙ sym (ap (λ b. cond b (space_of g.pen) (get_or g.cells i blank)) test)
+
     covered : (i : ℕ) → i < length g.cells → from ≤ i → i < to → (leb from i && ltb i to) ≡ true → get_or (put_list g.cells from (replicate (to - from) (space_of g.pen))) i blank ≡ cond (leb from i && ltb i to) (space_of g.pen) (get_or g.cells i blank)
     covered i below behind inside test =
         let space : Glyph = space_of g.pen in

@@ -51,6 +51,7 @@ painted g gs = record g { cells = put_list g.cells (g.y * g.width + g.x) gs; x =
 abbrev pub glyphs : List ℕ → ℕ → Look → List Glyph
 glyphs chars k pen = record { chars = chars; pen = pen } ∷ replicate k (record { chars = []; pen = pen })
 
+-- whether there are no characters
 abbrev pub has_none : List ℕ → Bool
 has_none [] = true
 has_none (c ∷ cs) = false

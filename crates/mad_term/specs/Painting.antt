@@ -22,6 +22,7 @@ attach None pen c r = r
 attach (Some zero) pen c r = (c ∷ r.0, r.1)
 attach (Some (suc k)) pen c r = ([], glyphs (c ∷ r.0) k pen ++ r.1)
 
+-- so from the end of a text to its front
 abbrev pub joined : Look → List ℕ → List ℕ × List Glyph
 joined pen [] = ([], [])
 joined pen (c ∷ cs) = attach (char_width false c) pen c (joined pen cs)
@@ -71,7 +72,7 @@ shown_color (Rgb r g b) = Some (Rgb r g b)
 shown_color c = option_map AnsiValue (color_number c)
 
 -- the pen that a style writes with, where the pen was plain: Reset comes behind the colors, before the other attributes,
--- and isn't kept itself
+-- and isn't kept itself (2 ^ 24 - 2 ^ 1 has the bits of all attributes but Reset)
 abbrev pub look_of_style : ContentStyle → Look
 look_of_style s =
     let codes = bit_and (attribute_bits s.attributes) (2 ^ 24 - 2 ^ 1) in

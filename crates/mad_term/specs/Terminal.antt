@@ -20,6 +20,7 @@ head_before cells start zero = None
 head_before cells start (suc x) =
     if is_tail (slice_index_or cells (start + x) blank) then head_before cells start x else Some (start + x)
 
+-- a cell with one more character joined to it
 abbrev pub joined_glyph : Glyph → ℕ → Glyph
 joined_glyph g c = record g { chars = g.chars ++ c ∷ [] }
 
@@ -56,7 +57,7 @@ space_of p = record { chars = 32 ∷ []; pen = record plain_pen { bg = p.bg } }
 unfoldable pub erased : ℕ → ℕ → Grid → Grid
 erased from to g = record g { cells = put_list g.cells from (replicate (to - from) (space_of g.pen)) }
 
--- the places where the cursor's row begins and ends, and where the screen ends
+-- the places where the cursor's row begins and ends, and where the screen ends; places are counted along the rows
 abbrev pub row_start : Grid → ℕ
 row_start g = g.y * g.width
 
@@ -112,7 +113,7 @@ restyled (n ∷ kind ∷ r ∷ g ∷ b ∷ []) p =
     if (kind == 2) && nat_lt r 256 && nat_lt g 256 && nat_lt b 256 then with_color n (Rgb r g b) p else None
 restyled _ p = None
 
--- the command that a letter ends: `H`, `m`, `J` or `K`
+-- the command that a letter ends: 72 is `H`, 109 `m`, 74 `J`, 75 `K`
 abbrev pub perform : ℕ → List ℕ → Grid → Option Grid
 perform c ps g =
     if c == 72 then go_to ps g
@@ -134,12 +135,15 @@ pub record Reading : Type 0 where
   pub grid : Grid
   pub mode : Mode
 
+-- outside a sequence
 abbrev pub ground : Grid → Reading
 ground g = record { grid = g; mode = Ground }
 
+-- among the numbers of a sequence
 abbrev pub numbers : Grid → List ℕ → Option ℕ → Reading
 numbers g ps now = record { grid = g; mode = Numbers ps now }
 
+-- 0 to 9
 abbrev pub is_digit : ℕ → Bool
 is_digit c = nat_le 48 c && nat_le c 57
 
@@ -148,13 +152,14 @@ abbrev pub with_digit : Option ℕ → ℕ → Option ℕ
 with_digit None d = Some d
 with_digit (Some n) d = if n == 0 then None else if nat_lt (n * 10 + d) (2 ^ 32) then Some (n * 10 + d) else None
 
--- what ends a number, or stands where none is: a semicolon asks for one more, a letter ends the sequence
+-- what ends a number, or stands where none is: a semicolon (59) asks for one more, a letter ends the sequence
 abbrev pub end_number : Grid → List ℕ → Option ℕ → ℕ → Option Reading
 end_number g [] None c = option_map ground (perform c [] g)
 end_number g (p ∷ ps) None c = None
 end_number g ps (Some n) c =
     if c == 59 then Some (numbers g (ps ++ n ∷ []) None) else option_map ground (perform c (ps ++ n ∷ []) g)
 
+-- what a character does, by how far a sequence has come: 27 is ESC, 91 is `[`
 abbrev pub feed_in : Mode → Grid → ℕ → Option Reading
 feed_in Ground g c = if c == 27 then Some (record { grid = g; mode = Escape }) else option_map ground (put g c)
 feed_in Escape g c = if c == 91 then Some (numbers g [] None) else None
@@ -176,6 +181,7 @@ Leads r cs s = feed_all cs r ≡ Some s
 
 -- ---- texts
 
+-- a text may end outside a sequence alone
 abbrev pub settled_in : Mode → Grid → Option Grid
 settled_in Ground g = Some g
 settled_in Escape g = None

@@ -88,4 +88,4 @@ abbrev pub ErasesPlaces : Type 0
 ErasesPlaces =
     (g : Grid) (from to x y : ℕ) → IsGrid g → x < g.width → y < g.height
     → cell_at (erased from to g) x y
-        ≡ (if nat_le from (y * g.width + x) && nat_lt (y * g.width + x) to then space_of g.pen else cell_at g x y)
+    ≡ (if nat_le from (y * g.width + x) && nat_lt (y * g.width + x) to then space_of g.pen else cell_at g x y)

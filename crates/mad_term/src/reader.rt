@@ -36,9 +36,9 @@ pub enum NotPlain {
 
 impl fmt::Display for NotPlain {
     ghost use Rattle.std.specs.Prelude.{Some};
-    ghost use Rattle.mad_term.specs.Stages.{refusal_text};
+    ghost use Rattle.mad_term.specs.Errors.{refused_text};
 
-    ghost output = { λ e. Some (refusal_text e) };
+    ghost output = { λ e. Some (refused_text e) };
 
     fn fmt<W: fmt::Write>(&self, f: &mut fmt::Formatter<W>) -> fmt::Result {
         match self {
