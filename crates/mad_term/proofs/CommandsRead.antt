@@ -11,7 +11,7 @@ use Rattle.std.proofs.lemmas.Str.{chars-IsAscii, IsUtf8-from_ascii}
 use Rattle.mad_term.specs.Commands.{command_bytes, move_to_bytes}
 use Rattle.mad_term.specs.Glyph.{Glyph, Look}
 use Rattle.mad_term.specs.Grid.{Grid, IsGrid, painted, put_list, blank, cell_at}
-use Rattle.mad_term.specs.Terminal.{Leads, ground, perform, restyled, erased, space_of, after_bytes}
+use Rattle.mad_term.specs.Terminal.{Leads, resting, perform, restyled, erased, space_of, after_bytes}
 use Rattle.mad_term.specs.Painting.{HasColumns}
 use Rattle.mad_term.specs.TerminalLaws.{PaintsPlaces}
 use Rattle.mad_term.proofs.AsciiCommands.{AreSmall, ascii_command, ascii_move_to}
@@ -23,9 +23,9 @@ small_from_readable : (ns : List ℕ) → AreReadable ns → AreSmall ns
 small_from_readable [] h = tt
 small_from_readable (n ∷ ns) h = (omega (arith, h.0), small_from_readable ns h.1)
 
-ascii_read : (g new : Grid) (bytes : List ℕ) → IsAscii bytes → Leads (ground g) bytes (ground new) → after_bytes g bytes ≡ Some new
+ascii_read : (g new : Grid) (bytes : List ℕ) → IsAscii bytes → Leads (resting g) bytes (resting new) → after_bytes g bytes ≡ Some new
 ascii_read g new bytes ascii h =
-    read_leads g new bytes (IsUtf8-from_ascii bytes ascii) (subst (λ (cs : List ℕ). Leads (ground g) cs (ground new)) (sym (chars-IsAscii bytes ascii)) h)
+    read_leads g new bytes (IsUtf8-from_ascii bytes ascii) (subst (λ (cs : List ℕ). Leads (resting g) cs (resting new)) (sym (chars-IsAscii bytes ascii)) h)
 
 -- a command by its letter and its numbers
 pub command_read : (g new : Grid) (ns : List ℕ) (letter : ℕ) → AreReadable ns → IsLetter letter → letter < 128 → perform letter ns g ≡ Some new → after_bytes g (command_bytes ns letter) ≡ Some new

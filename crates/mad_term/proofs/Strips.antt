@@ -7,7 +7,7 @@ use Rattle.std.proofs.lemmas.Bool.{cases_eq, cases_lt}
 use Rattle.std.proofs.lemmas.Bool.Decides.{nat_tests}
 use Rattle.mad_term.specs.Commands.{move_to_bytes}
 use Rattle.mad_term.specs.Grid.{Grid, IsGrid, painted, blank, plain_pen, cell_at}
-use Rattle.mad_term.specs.Terminal.{Leads, ground, after_bytes}
+use Rattle.mad_term.specs.Terminal.{Leads, resting, after_bytes}
 use Rattle.mad_term.specs.Painting.{HasColumns}
 use Rattle.mad_term.specs.Drawing.{Strip, strips_bytes, FitsScreen, covers, cell_under, ShowsStrips}
 use Rattle.mad_term.proofs.AsciiCommands.{ascii_move_to}
@@ -44,29 +44,29 @@ still_fit g s (t ∷ strips) h = (
 )
 
 -- a move and its bytes
-strip_leads : (g : Grid) (s : Strip) → IsGrid g → g.pen ≡ plain_pen → FitsScreen g s → IsUtf8 (move_to_bytes s.x s.y ++ s.bytes) × Leads (ground g) (chars (move_to_bytes s.x s.y ++ s.bytes)) (ground (with_strip g s))
+strip_leads : (g : Grid) (s : Strip) → IsGrid g → g.pen ≡ plain_pen → FitsScreen g s → IsUtf8 (move_to_bytes s.x s.y ++ s.bytes) × Leads (resting g) (chars (move_to_bytes s.x s.y ++ s.bytes)) (resting (with_strip g s))
 strip_leads g s h pen fits =
     let ascii = ascii_move_to s.x s.y (omega (arith, fits.small_column)) (omega (arith, fits.small_row)) in
     let move : IsUtf8 (move_to_bytes s.x s.y) = IsUtf8-from_ascii (move_to_bytes s.x s.y) ascii in
     let columns : HasColumns (at g s.x s.y) (length s.cells) = at_columns g s.x s.y (length s.cells) h fits.row fits.columns in (
       IsUtf8-append (move_to_bytes s.x s.y) s.bytes move fits.paints.text,
-      subst (λ (cs : List ℕ). Leads (ground g) cs (ground (with_strip g s)))
+      subst (λ (cs : List ℕ). Leads (resting g) cs (resting (with_strip g s)))
           (sym (chars-append (move_to_bytes s.x s.y) s.bytes move ∙ ap (λ l. l ++ chars s.bytes) (chars-IsAscii (move_to_bytes s.x s.y) ascii)))
-          (then_leads (ground g) (ground (at g s.x s.y)) (ground (with_strip g s)) (move_to_bytes s.x s.y) (chars s.bytes)
+          (then_leads (resting g) (resting (at g s.x s.y)) (resting (with_strip g s)) (move_to_bytes s.x s.y) (chars s.bytes)
           (move_leads g s.x s.y (omega (arith, fits.some, fits.columns)) fits.row (omega (arith, fits.small_column)) (omega (arith, fits.small_row)))
           (fits.paints.paints (at g s.x s.y) columns pen)),
     )
 
-strips_lead : (strips : List Strip) (g : Grid) → IsGrid g → g.pen ≡ plain_pen → AllByRecursion (FitsScreen g) strips → IsUtf8 (strips_bytes strips) × Leads (ground g) (chars (strips_bytes strips)) (ground (with_strips g strips))
+strips_lead : (strips : List Strip) (g : Grid) → IsGrid g → g.pen ≡ plain_pen → AllByRecursion (FitsScreen g) strips → IsUtf8 (strips_bytes strips) × Leads (resting g) (chars (strips_bytes strips)) (resting (with_strips g strips))
 unfolding painted
-strips_lead [] g h pen fits = (IsUtf8-nil, subst (λ (cs : List ℕ). Leads (ground g) cs (ground g)) (sym chars-nil) (nothing_leads _))
+strips_lead [] g h pen fits = (IsUtf8-nil, subst (λ (cs : List ℕ). Leads (resting g) cs (resting g)) (sym chars-nil) (nothing_leads _))
 strips_lead (s ∷ strips) g h pen fits =
     let first : List ℕ = move_to_bytes s.x s.y ++ s.bytes in
-    let one : IsUtf8 first × Leads (ground g) (chars first) (ground (with_strip g s)) = strip_leads g s h pen fits.0 in
-    let rest : IsUtf8 (strips_bytes strips) × Leads (ground (with_strip g s)) (chars (strips_bytes strips)) (ground (with_strips (with_strip g s) strips)) = strips_lead strips (with_strip g s) (strip_is_grid g s h fits.0) pen (still_fit g s strips fits.1) in (
+    let one : IsUtf8 first × Leads (resting g) (chars first) (resting (with_strip g s)) = strip_leads g s h pen fits.0 in
+    let rest : IsUtf8 (strips_bytes strips) × Leads (resting (with_strip g s)) (chars (strips_bytes strips)) (resting (with_strips (with_strip g s) strips)) = strips_lead strips (with_strip g s) (strip_is_grid g s h fits.0) pen (still_fit g s strips fits.1) in (
       IsUtf8-append first (strips_bytes strips) one.0 rest.0,
-      subst (λ (cs : List ℕ). Leads (ground g) cs (ground (with_strips (with_strip g s) strips))) (sym (chars-append first (strips_bytes strips) one.0))
-          (then_leads (ground g) (ground (with_strip g s)) (ground (with_strips (with_strip g s) strips)) (chars first) (chars (strips_bytes strips)) one.1 rest.1),
+      subst (λ (cs : List ℕ). Leads (resting g) cs (resting (with_strips (with_strip g s) strips))) (sym (chars-append first (strips_bytes strips) one.0))
+          (then_leads (resting g) (resting (with_strip g s)) (resting (with_strips (with_strip g s) strips)) (chars first) (chars (strips_bytes strips)) one.1 rest.1),
     )
 
 -- a place after one strip
@@ -110,7 +110,7 @@ strips_keep (s ∷ strips) g h fits = strips_keep strips (with_strip g s) (strip
 pub strips_drawn : (strips : List Strip) (g : Grid) → IsGrid g → g.pen ≡ plain_pen → AllByRecursion (FitsScreen g) strips → (new : Grid) × (after_bytes g (strips_bytes strips) ≡ Some new) × IsGrid new × (new.pen ≡ plain_pen) × ShowsStrips strips g new
 strips_drawn strips g h pen fits =
     let new : Grid = with_strips g strips in
-    let read : IsUtf8 (strips_bytes strips) × Leads (ground g) (chars (strips_bytes strips)) (ground new) = strips_lead strips g h pen fits in
+    let read : IsUtf8 (strips_bytes strips) × Leads (resting g) (chars (strips_bytes strips)) (resting new) = strips_lead strips g h pen fits in
     let kept : IsGrid new × (new.pen ≡ g.pen) × (new.width ≡ g.width) × (new.height ≡ g.height) = strips_keep strips g h fits in (
       new,
       read_leads g new (strips_bytes strips) read.0 read.1,

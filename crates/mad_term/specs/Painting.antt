@@ -12,7 +12,7 @@ use Rattle.mad_term.specs.Color.{color_number}
 use Rattle.mad_term.specs.Columns.{char_columns}
 use Rattle.mad_term.specs.Glyph.{Glyph, Look}
 use Rattle.mad_term.specs.Grid.{Grid, IsGrid, plain_pen, painted, glyphs}
-use Rattle.mad_term.specs.Terminal.{Leads, ground}
+use Rattle.mad_term.specs.Terminal.{Leads, resting}
 
 -- ---- characters
 
@@ -57,7 +57,7 @@ pub record HasColumns (g : Grid) (n : ℕ) : Type 0 where
 -- Characters that, read with the plain pen where there are columns for these cells, write them from the cursor on and
 -- leave the plain pen.
 abbrev pub CharsPaint : List ℕ → List Glyph → Type 0
-CharsPaint cs gs = (g : Grid) → HasColumns g (length gs) → g.pen ≡ plain_pen → Leads (ground g) cs (ground (painted g gs))
+CharsPaint cs gs = (g : Grid) → HasColumns g (length gs) → g.pen ≡ plain_pen → Leads (resting g) cs (resting (painted g gs))
 
 -- bytes whose characters do so
 pub record Paints (bytes : List ℕ) (cells : List Glyph) : Type 0 where

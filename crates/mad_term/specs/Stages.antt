@@ -3,11 +3,11 @@ use Rattle.std.specs.Prelude.{ℕ, List, Option}
 use Rattle.mad_term.specs.declared.reader.Stage.{Stage}
 use Rattle.mad_term.specs.declared.reader.Stage.TheVariants.{Text, Escaped, InNumbers}
 use Rattle.mad_term.specs.declared.reader.Reader.{Reader}
-use Rattle.mad_term.specs.Terminal.{Mode, Ground, Escape, Numbers, Reading}
+use Rattle.mad_term.specs.Terminal.{Mode, Outside, Escape, Numbers, Reading}
 
 -- the stage of the code, with its numbers, as a mode
 abbrev pub mode_of : Stage → List ℕ → Option ℕ → Mode
-mode_of Text ps now = Ground
+mode_of Text ps now = Outside
 mode_of Escaped ps now = Escape
 mode_of InNumbers ps now = Numbers ps now
 

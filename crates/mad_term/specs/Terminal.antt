@@ -126,7 +126,7 @@ perform c ps g =
 
 -- how far a sequence has come: outside one, behind ESC, or among the numbers, behind these and with so much of the next
 pub data Mode : Type 0 where
-  Ground : Mode
+  Outside : Mode
   Escape : Mode
   Numbers : List ℕ → Option ℕ → Mode
 
@@ -136,8 +136,8 @@ pub record Reading : Type 0 where
   pub mode : Mode
 
 -- outside a sequence
-abbrev pub ground : Grid → Reading
-ground g = record { grid = g; mode = Ground }
+abbrev pub resting : Grid → Reading
+resting g = record { grid = g; mode = Outside }
 
 -- among the numbers of a sequence
 abbrev pub numbers : Grid → List ℕ → Option ℕ → Reading
@@ -154,14 +154,14 @@ with_digit (Some n) d = if n == 0 then None else if nat_lt (n * 10 + d) (2 ^ 32)
 
 -- what ends a number, or stands where none is: a semicolon (59) asks for one more, a letter ends the sequence
 abbrev pub end_number : Grid → List ℕ → Option ℕ → ℕ → Option Reading
-end_number g [] None c = option_map ground (perform c [] g)
+end_number g [] None c = option_map resting (perform c [] g)
 end_number g (p ∷ ps) None c = None
 end_number g ps (Some n) c =
-    if c == 59 then Some (numbers g (ps ++ n ∷ []) None) else option_map ground (perform c (ps ++ n ∷ []) g)
+    if c == 59 then Some (numbers g (ps ++ n ∷ []) None) else option_map resting (perform c (ps ++ n ∷ []) g)
 
 -- what a character does, by how far a sequence has come: 27 is ESC, 91 is `[`
 abbrev pub feed_in : Mode → Grid → ℕ → Option Reading
-feed_in Ground g c = if c == 27 then Some (record { grid = g; mode = Escape }) else option_map ground (put g c)
+feed_in Outside g c = if c == 27 then Some (record { grid = g; mode = Escape }) else option_map resting (put g c)
 feed_in Escape g c = if c == 91 then Some (numbers g [] None) else None
 feed_in (Numbers ps now) g c =
     if is_digit c then option_map (λ n. numbers g ps (Some n)) (with_digit now (c - 48)) else end_number g ps now c
@@ -183,7 +183,7 @@ Leads r cs s = feed_all cs r ≡ Some s
 
 -- a text may end outside a sequence alone
 abbrev pub settled_in : Mode → Grid → Option Grid
-settled_in Ground g = Some g
+settled_in Outside g = Some g
 settled_in Escape g = None
 settled_in (Numbers ps now) g = None
 
@@ -193,4 +193,4 @@ settled r = settled_in r.mode r.grid
 
 -- the screen after these bytes, if the plain terminal can read them
 unfoldable pub after_bytes : Grid → List ℕ → Option Grid
-after_bytes g bytes = if is_utf8 bytes then option_and_then settled (feed_all (chars bytes) (ground g)) else None
+after_bytes g bytes = if is_utf8 bytes then option_and_then settled (feed_all (chars bytes) (resting g)) else None

@@ -1,7 +1,7 @@
 //! How a screen reads a text: character by character, with the sequence that it is in the middle of.
 
 ghost use Rattle.std.specs.Prelude.{◌≡◌, ◌<◌, None, Some, IfOk, MatchBool, chars};
-ghost use Rattle.mad_term.specs.Terminal.{feed, feed_all, settled, with_digit, ground};
+ghost use Rattle.mad_term.specs.Terminal.{feed, feed_all, settled, with_digit, resting};
 ghost use Rattle.mad_term.specs.Stages.{reading_of};
 
 use crate::screen::Screen;
@@ -75,7 +75,7 @@ fn with_digit(now: Option<u32>, digit: u32) -> Option<u32>
 impl Reader {
     /// Outside a sequence, before any text.
     pub(crate) fn new(alloc: Global, screen: Screen) -> Self
-        ensures { reading_of result ≡ ground screen }
+        ensures { reading_of result ≡ resting screen }
     {
         Reader {
             screen,
