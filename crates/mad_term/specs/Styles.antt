@@ -8,7 +8,7 @@ use Rattle.mad_term.specs.declared.color.Color.TheVariants.{Reset, Black, DarkGr
 use Rattle.mad_term.specs.declared.styles.ContentStyle.{ContentStyle}
 use Rattle.mad_term.specs.Attribute.{all_attributes, attribute_code}
 use Rattle.mad_term.specs.Attributes.{attribute_bits, has_attribute}
-use Rattle.mad_term.specs.Color.{color_number}
+use Rattle.mad_term.specs.Color.{color_number, IsColorOrNone}
 use Rattle.mad_term.specs.Commands.{sgr_bytes}
 
 -- a number of the palette, or the default
@@ -46,6 +46,12 @@ attributes_bytes s = flat_map (λ a. if has_attribute s a then attribute_bytes a
 abbrev pub present_bytes : (Color → List ℕ) → Option Color → List ℕ
 present_bytes bytes None = []
 present_bytes bytes (Some color) = bytes color
+
+-- the numbers of a style's colors are bytes, as they are in every style that a program holds
+pub record IsStyle (s : ContentStyle) : Type 0 where
+  pub foreground : IsColorOrNone s.foreground_color
+  pub background : IsColorOrNone s.background_color
+  pub underline : IsColorOrNone s.underline_color
 
 -- the style sets nothing
 pub record IsPlain (s : ContentStyle) : Type 0 where

@@ -1,6 +1,6 @@
 //! Sets of attributes.
 
-ghost use Rattle.std.specs.Prelude.{⊤, ◌≡◌, ◌≢◌, ◌==◌, ◌||◌, ◌^◌, ◌<◌, true, false};
+ghost use Rattle.std.specs.Prelude.{⊤, ◌≡◌, ◌≢◌, ◌==◌, ◌||◌, ◌^◌, ◌<◌, ◌↔◌, IsTrue, true, false};
 ghost use Rattle.std.specs.Int.RustNames.{bit_or};
 ghost use Rattle.mad_term.specs.declared.attribute.Attribute.{Attribute};
 
@@ -135,9 +135,39 @@ impl Attributes {
     }
 
     /// Whether the set has no attribute.
+    #[tactic(auto, using(crate::proofs::SameAttributes::no_bits, crate::proofs::SameAttributes::no_attribute))]
     pub fn is_empty(self) -> bool
-        ensures { result ≡ (attribute_bits self == 0) }
+        ensures value { result ≡ (attribute_bits self == 0) }
+        ensures none { IsTrue result ↔ ((a : Attribute) → has_attribute self a ≡ false) }
     {
         self.bits.is_empty()
+    }
+}
+
+#[cfg(test)]
+mod tests {
+    use super::*;
+
+    #[test]
+    fn sets_keep_their_other_attributes(rt: HostRuntime) {
+        let mut set = Attributes::from(Attribute::Reset);
+        set.set(Attribute::NotOverLined);
+        set.set(Attribute::Bold);
+        set.set(Attribute::Bold);
+        set.unset(Attribute::Dim);
+        set.unset(Attribute::Reset);
+        let mut other = Attributes::from(Attribute::NotOverLined);
+        assert_ne!(rt; set, other);
+        other.extend(Attributes::from(Attribute::Bold));
+        assert_eq!(rt; set, other);
+        for attribute in Attribute::ALL {
+            let wanted = matches!(attribute, Attribute::Bold | Attribute::NotOverLined);
+            assert_eq!(rt; set.has(attribute), wanted);
+        }
+        set.unset(Attribute::Bold);
+        assert!(rt; !set.is_empty());
+        set.unset(Attribute::NotOverLined);
+        assert!(rt; set.is_empty());
+        assert_eq!(rt; set, Attributes::default());
     }
 }

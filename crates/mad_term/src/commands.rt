@@ -88,3 +88,6 @@ pub(crate) fn clear_text(what: ClearType) -> &'static str
         ClearType::UntilNewLine => "\x1b[K",
     }
 }
+
+#[cfg(test)]
+mod tests;

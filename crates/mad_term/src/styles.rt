@@ -1,7 +1,7 @@
 //! Styles, and the commands that a piece, a text in a style, is written with.
 
 ghost use Rattle.std.specs.Prelude.{◌≡◌, ◌++◌, ◌↔◌, IsTrue, OnOk, string_bytes};
-ghost use Rattle.mad_term.specs.Styles.{foreground_bytes, background_bytes, piece_bytes, closing_bytes};
+ghost use Rattle.mad_term.specs.Styles.{foreground_bytes, background_bytes, piece_bytes, closing_bytes, IsStyle};
 
 use crate::attribute::Attribute;
 use crate::attributes::Attributes;
@@ -35,11 +35,12 @@ impl Default for ContentStyle {
 }
 
 impl ContentStyle {
-    ghost use Rattle.mad_term.specs.Styles.{IsPlain};
+    ghost use Rattle.mad_term.specs.Styles.{IsPlain, IsStyle};
 
     /// Whether the style sets nothing.
-    pub fn is_plain(&self) -> bool
-        ensures { IsTrue result ↔ IsPlain self.now }
+    pub fn is_plain(self) -> bool
+        ensures plain { IsTrue result ↔ IsPlain self }
+        ensures bytes { IsStyle self }
     {
         self.foreground_color.is_none()
             && self.background_color.is_none()
@@ -108,8 +109,8 @@ impl fmt::Display for AttributeCommands {
 
 // What makes the pen plain again after a text in this style.
 #[tactic(auto, using(std::proofs::lemmas::Fmt::decimal_digit))]
-fn closing_text(style: &ContentStyle) -> &'static str
-    ensures { result.now ≡ closing_bytes style.now }
+fn closing_text(style: ContentStyle) -> &'static str
+    ensures { result.now ≡ closing_bytes style }
 {
     if style.underline_color.is_some() || !style.attributes.is_empty() {
         return "\x1b[0m";
@@ -151,7 +152,7 @@ impl fmt::Display for StyledContent<'_> {
         };
         let attributes = AttributeCommands(self.style.attributes);
         let content = self.content;
-        let closing = closing_text(&self.style);
+        let closing = closing_text(self.style);
         write!(
             f,
             "{background}{foreground}{underline}{attributes}{content}{closing}"
@@ -196,16 +197,20 @@ pub fn push_background(row: &mut String, color: Color) -> Result<(), AllocError>
 ///
 /// Want of memory.
 #[tactic(auto, using(crate::proofs::Pieces::plain_piece))]
-pub fn push_styled(row: &mut String, style: &ContentStyle, text: &str) -> Result<(), AllocError>
-    ensures { OnOk result (string_bytes row.new ≡ string_bytes row.old ++ piece_bytes style.now text.now) }
+pub fn push_styled(row: &mut String, style: ContentStyle, text: &str) -> Result<(), AllocError>
+    ensures writes { OnOk result (string_bytes row.new ≡ string_bytes row.old ++ piece_bytes style text.now) }
+    ensures bytes { IsStyle style }
 {
     // Most texts are plain, and need no formatting.
     if style.is_plain() {
         return row.push_str(text);
     }
     let piece = StyledContent {
-        style: *style,
+        style,
         content: text,
     };
     write!(row, "{piece}")
 }
+
+#[cfg(test)]
+mod tests;
