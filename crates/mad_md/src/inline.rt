@@ -7,9 +7,9 @@ ghost use Rattle.mad_md.specs.ReadInline.{IsReadInline};
 use crate::compound::Compound;
 use std::alloc::{AllocError, Global};
 
-/// A mark inside a line. Each toggles the flag of its name.
+// A mark inside a line. Each turns the flag of its name.
 #[derive(Clone, Copy)]
-pub enum Mark {
+pub(crate) enum Mark {
     Bold,
     Strikeout,
     Italic,
@@ -28,13 +28,10 @@ impl Mark {
     }
 }
 
-/// Reads the inline marks of a line: its compounds in order, each a slice of the line.
+/// The compounds of a line's inline reading, in one pass over its bytes.
 ///
-/// Outside code `**` toggles bold, `~~` strikeout, `*` italic, and a backquote opens code, the longest
-/// mark first; in code only a backquote counts, and closes it. A `*` that is the last character while
-/// italic is off is text. A mark that is left open holds to the end. A compound is what stands between
-/// two neighbouring marks or ends, where that isn't empty. Only want of memory is an error.
-pub fn read_inline<'s>(alloc: Global, line: &'s str) -> Result<Vec<Compound<'s>>, AllocError>
+/// Each mark is ASCII, so a place beside one is a border of characters.
+pub(crate) fn read_inline<'s>(alloc: Global, line: &'s str) -> Result<Vec<Compound<'s>>, AllocError>
     ensures { IfOk result (λ compounds. IsReadInline line.now compounds.items) }
 {
     let bytes = line.as_bytes();
@@ -66,8 +63,8 @@ fn push_run<'s>(
     requires order { start ≤ end }
     requires start { IsCharBoundary style.src.now start }
     requires end { IsCharBoundary style.src.now end }
-    ensures { OnOk result (map run_of compounds.new.items
-        ≡ map run_of compounds.old.items ++ map (run_at style.entry.src.now) (unless_empty (flags_of style.entry) start end)) }
+    ensures { OnOk result (map run_of compounds.new.items ≡ map run_of compounds.old.items
+        ++ map (run_at style.entry.src.now) (unless_empty (flags_of style.entry) start end)) }
 {
     if start < end {
         compounds.push(style.sub(start, end))?;

@@ -21,9 +21,3 @@ pub enum Line<'s> {
     TableRule(TableRule),
     HorizontalRule,
 }
-
-/// A text, as its lines from the first to the last.
-#[derive(Debug, PartialEq, Drop)]
-pub struct Text<'s> {
-    pub lines: Vec<Line<'s>>,
-}
