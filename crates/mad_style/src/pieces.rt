@@ -204,6 +204,11 @@ impl CompoundStyle {
 fn push_copies(row: &mut String, text: &str, count: usize) -> Result<(), AllocError>
     ensures { OnOk result (string_bytes row.new ≡ string_bytes row.old ++ repeat count text.now) }
 {
+    if text.is_empty() {
+        return Ok(());
+    }
+    // One growth; where the bytes are more than a `usize` counts, it is refused.
+    row.reserve(text.len().saturating_mul(count))?;
     for _ in 0..count {
         row.push_str(text)?;
     }
