@@ -5,7 +5,7 @@ use Rattle.std.specs.List.{AllByRecursion, flat_map, repeat}
 use Rattle.std.proofs.lemmas.List.{append-nil, at_drop_more}
 use Rattle.std.proofs.lemmas.List.Concat.{flat_map-append}
 use Rattle.mad_term.specs.declared.styles.ContentStyle.{ContentStyle}
-use Rattle.mad_term.specs.Styles.{IsStyle, piece_bytes}
+use Rattle.mad_term.specs.Styles.{IsStyle, piece_bytes, styled_run_bytes}
 use Rattle.mad_style.specs.declared.compound_styles.CompoundStyle.{CompoundStyle}
 use Rattle.mad_style.specs.Runs.{run_bytes}
 use Rattle.mad_md.specs.Flagged.{run_of}
@@ -113,3 +113,7 @@ free_appended skin kind k style ps old a b new kind_is style_is blanks mark text
     ∙ ap (λ (x : CompositeKind). spaces blank (line_style skin x).left_margin ++ (mark_pieces skin x ++ map (compound_piece skin (line_style skin x)) ps)) kind_is
     ∙ ap (λ xs. spaces blank (line_style skin k).left_margin ++ (mark_pieces skin k ++ xs)) (pieces_of_runs skin (line_style skin k) ps) in
     subst (λ (xs : List RowPiece). Appends old xs new) pieces (appends_three old a b new (spaces blank style.left_margin) (mark_pieces skin kind) (map (compound_piece skin style) ps) blanks mark text)
+
+-- a run of spaces, as a device or a formatter is given it
+pub run_of_spaces : (style : CompoundStyle) (n : ℕ) → styled_run_bytes style.object_style (32 ∷ []) n ≡ pieces_bytes (spaces style n)
+run_of_spaces style n = run-spaces style n

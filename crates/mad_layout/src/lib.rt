@@ -12,6 +12,7 @@
 pub mod bound;
 mod clean_cut;
 pub mod composite;
+mod display;
 pub mod drawing;
 pub mod fmt_inline;
 pub mod fmt_text;

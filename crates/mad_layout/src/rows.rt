@@ -145,14 +145,14 @@ pub(crate) fn push_composite(
 }
 
 // The blank columns left and right of a composite in its own place.
-fn inner_blanks(composite: &FmtComposite) -> (usize, usize)
+pub(crate) fn inner_blanks(composite: &FmtComposite) -> (usize, usize)
     ensures { result ≡ inner_blanks composite.now }
 {
     composite.completions()
 }
 
 // The blank columns left and right of a composite's own place at the outer width, with the margins.
-fn outer_blanks(composite: &FmtComposite, align: Alignment, place: RowPlace) -> (usize, usize)
+pub(crate) fn outer_blanks(composite: &FmtComposite, align: Alignment, place: RowPlace) -> (usize, usize)
     ensures { result ≡ outer_blanks align place.outer place.margins composite.now }
 {
     let inner = match &composite.spacing {
