@@ -3,6 +3,7 @@ pub mod BoundLemmas
 pub mod CutLemmas
 pub mod DrawableLemmas
 pub mod HeadlineLemmas
+pub mod InlineLemmas
 pub mod KeepLemmas
 pub mod LayoutLemmas
 pub mod Least
