@@ -1,6 +1,6 @@
 //! The worked rows: what composites are wrapped into, and their bounds.
 
-ghost use Rattle.std.specs.Prelude.{◌≡◌};
+ghost use Rattle.std.specs.Prelude.{IfOk};
 ghost use Rattle.mad_layout.specs.Wraps.{IsMeasured};
 
 use crate::bound::{WrapBound, check_wrap_bound, wrap_bound};
@@ -154,6 +154,7 @@ fn items_without_and_with_room(rt: HostRuntime) -> Result<(), Fail> {
     let first_only = skin_with(0, 0, ListItemsIndentationMode::FirstLineOnly);
     let item = composite(alloc, "abcdef gh", CompositeStyle::ListItem(0), &block)?;
     assert_wrap(&rt, alloc, &item, 8, &block, "|abcdef|\n|gh|\n")?;
+    assert!(rt; item.visible_length > 8);
     let lines = hard_wrap_composite(alloc, &item, 8, &block)?;
     assert_eq!(rt; lines.len(), 2);
     assert_eq!(rt; (lines[0].kind, lines[0].visible_length), (CompositeKind::ListItem(0), 8));
