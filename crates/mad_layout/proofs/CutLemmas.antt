@@ -135,6 +135,8 @@ cut_wrap r skin source front back lines wide is two =
       least = λ ts tokens. record {
         parts = (made_of_one ps ts k r.first source.spacing front two.first first cut.has_front, (made_of_one ps ts o r.other source.spacing back two.second second cut.has_back, tt));
         placed = λ all. subst (ArePlaced r ts) texts (two_placed r front back ts (subst (λ (qs : List Compound). AreTokensIn r qs ts) (cut.two all) tokens));
+        full = λ off. absurd (let on : is_cut_clean r ps ≡ true = ap is_some is in cc);
+        cut = λ _. refl;
         least = λ breaks fitting end. two_lines r ts breaks fitting end (omega (arith, wide.wider, total_is r ps ts tokens));
         least_dropping = λ off. absurd (let on : is_cut_clean r ps ≡ true = ap is_some is in cc);
       };

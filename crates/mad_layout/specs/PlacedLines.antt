@@ -12,7 +12,7 @@ use Rattle.mad_fit.specs.Tokens.{token_run}
 use Rattle.mad_layout.specs.declared.room.Room.{Room}
 use Rattle.mad_layout.specs.declared.composite.FmtComposite.{FmtComposite}
 use Rattle.mad_layout.specs.Breaks.{Piece, joined, total_width, FitsFrom, FittingBreak}
-use Rattle.mad_layout.specs.Wraps.{capped, GapsForced}
+use Rattle.mad_layout.specs.Wraps.{capped, GapsForced, LinesForced}
 
 -- the line holds these tokens, behind an indent
 pub record HoldsTokens (kind : CompositeKind) (indent : ℕ) (spacing : Option Spacing) (ts : List Token) (l : FmtComposite) : Type 0 where
@@ -44,6 +44,7 @@ pub record ArePlacedLines (r : Room) (kind other : CompositeKind) (spacing : Opt
   pub pieces : List (Piece Token)
   pub covers : joined pieces ≡ ts
   pub gaps : GapsForced r.first r pieces
+  pub forced : LinesForced r.first r pieces
   pub holds : HoldPieces kind other r.first r.other spacing pieces lines
   pub fits : TokensHaveRoom r ts → FitsFrom r.first r pieces
   pub some : TokensHaveRoom r ts → 0 < length ts → SomeOnEach pieces
