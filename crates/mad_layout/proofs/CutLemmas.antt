@@ -105,6 +105,7 @@ two_placed r front back ts (own, others, joins, first, (own', others', joins', s
     let max = r.width - r.first in
     record {
       pieces = record { line = own; gap = [] } ∷ record { line = own'; gap = [] } ∷ [];
+      some_line = omega arith;
       covers = ap (λ l. own ++ l) (ap (λ l. own' ++ l) (sym none) ∙ sym joins') ∙ sym joins;
       texts = ap (λ x. x ∷ tokens_text own' ∷ []) (text_from max 0 front own first) ∙ ap (λ x. flagged_of front ∷ x ∷ []) (text_from max 0 back own' second);
       gaps = (tt, λ t more e. absurd (cc), (tt, λ t more e. absurd (cc), tt));

@@ -4,4 +4,6 @@ pub mod KeepLemmas
 pub mod Least
 pub mod MeasureLemmas
 pub mod PlaceLemmas
+pub mod StartLemmas
+pub mod StartsOfLemmas
 pub mod WrapLemmas

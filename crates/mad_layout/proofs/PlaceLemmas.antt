@@ -56,13 +56,13 @@ pub total_width-push : (ts : List Token) (t : Token) → total_width (ts ++ t �
 total_width-push [] t = omega arith
 total_width-push (x ∷ ts) t = omega (arith, total_width-push ts t)
 
-room_front : (r : Room) (xs ys : List Token) → TokensHaveRoom r (xs ++ ys) → TokensHaveRoom r xs
+pub room_front : (r : Room) (xs ys : List Token) → TokensHaveRoom r (xs ++ ys) → TokensHaveRoom r xs
 room_front r xs ys h = record { first = h.first; other = h.other; each = all_front _ xs ys h.each }
 
-room_last : (r : Room) (xs : List Token) (t : Token) → TokensHaveRoom r (xs ++ t ∷ []) → r.first + t.width ≤ r.width
+pub room_last : (r : Room) (xs : List Token) (t : Token) → TokensHaveRoom r (xs ++ t ∷ []) → r.first + t.width ≤ r.width
 room_last r xs t h = (all_back (λ t. r.first + t.width ≤ r.width) xs (t ∷ []) h.each).0
 
-joined-push : {A : Type 0} (ps : List (Piece A)) (p : Piece A) → joined (ps ++ p ∷ []) ≡ joined ps ++ (p.line ++ p.gap)
+pub joined-push : {A : Type 0} (ps : List (Piece A)) (p : Piece A) → joined (ps ++ p ∷ []) ≡ joined ps ++ (p.line ++ p.gap)
 joined-push [] p = ap (λ g. p.line ++ g) (append-nil p.gap)
 joined-push (q ∷ ps) p = ap (λ g. q.line ++ (q.gap ++ g)) (joined-push ps p) ∙ ap (λ g. q.line ++ g) (sym (append_assoc q.gap (joined ps) (p.line ++ p.gap))) ∙ sym (append_assoc q.line (q.gap ++ joined ps) (p.line ++ p.gap))
 
@@ -70,7 +70,7 @@ fit_from_other : (r : Room) (ps : List (Piece Token)) (p : Piece Token) → Fits
 fit_from_other r [] p h l b = (l, b, tt)
 fit_from_other r (q ∷ ps) p h l b = (h.0, h.1, fit_from_other r ps p h.2 l b)
 
-fit_push : (r : Room) (ps : List (Piece Token)) (p : Piece Token) → FitsFrom r.first r ps → next_indent r ps + total_width p.line ≤ r.width → AllBlank p.gap → FitsFrom r.first r (ps ++ p ∷ [])
+pub fit_push : (r : Room) (ps : List (Piece Token)) (p : Piece Token) → FitsFrom r.first r ps → next_indent r ps + total_width p.line ≤ r.width → AllBlank p.gap → FitsFrom r.first r (ps ++ p ∷ [])
 fit_push r [] p h l b = (l, b, tt)
 fit_push r (q ∷ ps) p h l b = (h.0, h.1, fit_from_other r ps p h.2 l b)
 
@@ -79,7 +79,7 @@ forced_from_other : (r : Room) (ps : List (Piece Token)) (p : Piece Token) → G
 forced_from_other r [] p h b l = (b, l, tt)
 forced_from_other r (q ∷ ps) p h b l = (h.0, h.1, forced_from_other r ps p h.2 b l)
 
-forced_push : (r : Room) (ps : List (Piece Token)) (p : Piece Token) → GapsForced r.first r ps → AllBlank p.gap
+pub forced_push : (r : Room) (ps : List (Piece Token)) (p : Piece Token) → GapsForced r.first r ps → AllBlank p.gap
     → ((t : Token) (others : List Token) → p.gap ≡ t ∷ others → r.width < next_indent r ps + total_width p.line + t.width) → GapsForced r.first r (ps ++ p ∷ [])
 forced_push r [] p h b l = (b, l, tt)
 forced_push r (q ∷ ps) p h b l = (h.0, h.1, forced_from_other r ps p h.2 b l)
@@ -98,7 +98,7 @@ holds_push r k o sp [] (m ∷ ls) p l h g = absurd h
 holds_push r k o sp (q ∷ ps) [] p l h g = absurd h
 holds_push r k o sp (q ∷ ps) (m ∷ ls) p l h g = (h.0, holds_from_other o r.other sp ps ls p l h.1 g)
 
-next_indent-push : (r : Room) (ps : List (Piece Token)) (p : Piece Token) → next_indent r (ps ++ p ∷ []) ≡ r.other
+pub next_indent-push : (r : Room) (ps : List (Piece Token)) (p : Piece Token) → next_indent r (ps ++ p ∷ []) ≡ r.other
 next_indent-push r [] p = refl
 next_indent-push r (q ∷ ps) p = refl
 
@@ -107,7 +107,7 @@ next_kind-push k o [] p = refl
 next_kind-push k o (q ∷ ps) p = refl
 
 -- a line that grows keeps its beginning
-lines_grow : (i : ℕ) (r : Room) (ps : List (Piece Token)) (line gap more gap' : List Token) → LinesForced i r (ps ++ record { line = line; gap = gap } ∷ []) → LinesForced i r (ps ++ record { line = line ++ more; gap = gap' } ∷ [])
+pub lines_grow : (i : ℕ) (r : Room) (ps : List (Piece Token)) (line gap more gap' : List Token) → LinesForced i r (ps ++ record { line = line; gap = gap } ∷ []) → LinesForced i r (ps ++ record { line = line ++ more; gap = gap' } ∷ [])
 lines_grow i r [] line gap more gap' h = tt
 lines_grow i r (q ∷ []) line gap more gap' h = (
   record { first = h.0.first; others = h.0.others ++ more; begins = ap (λ l. l ++ more) h.0.begins; solid = h.0.solid; passes = h.0.passes },
@@ -121,7 +121,7 @@ lines_from_other r [] p q h b = (b, tt)
 lines_from_other r (x ∷ []) p q h b = (h.0, (b, tt))
 lines_from_other r (x ∷ y ∷ ps) p q h b = (h.0, lines_from_other r (y ∷ ps) p q h.1 b)
 
-lines_push : (r : Room) (ps : List (Piece Token)) (p q : Piece Token) → LinesForced r.first r (ps ++ p ∷ []) → BeginsAfter (next_indent r ps) r p q → LinesForced r.first r ((ps ++ p ∷ []) ++ q ∷ [])
+pub lines_push : (r : Room) (ps : List (Piece Token)) (p q : Piece Token) → LinesForced r.first r (ps ++ p ∷ []) → BeginsAfter (next_indent r ps) r p q → LinesForced r.first r ((ps ++ p ∷ []) ++ q ∷ [])
 lines_push r [] p q h b = (b, tt)
 lines_push r (x ∷ []) p q h b = (h.0, (b, tt))
 lines_push r (x ∷ y ∷ ps) p q h b = (h.0, lines_from_other r (y ∷ ps) p q h.1 b)
@@ -184,7 +184,7 @@ passes_by width used n false e h = grind (arith, nat_tests)
 pub passes_width : (width used n : ℕ) → fits_in (left_of width used) n ≡ false → width < used + n
 passes_width width used n h = passes_by width used n (nat_le used width) refl h
 
-forced_more : (r : Room) (ended : Bool) (left : Option ℕ) (used : ℕ) (gap : List Token) (t : Token) → left ≡ left_of r.width used → (ended ≡ false → gap ≡ []) → (ended ≡ true → 0 < length gap)
+pub forced_more : (r : Room) (ended : Bool) (left : Option ℕ) (used : ℕ) (gap : List Token) (t : Token) → left ≡ left_of r.width used → (ended ≡ false → gap ≡ []) → (ended ≡ true → 0 < length gap)
     → ((u : Token) (others : List Token) → gap ≡ u ∷ others → r.width < used + u.width) → (ended ≡ true) ⊎ (fits_in left t.width ≡ false)
     → (u : Token) (others : List Token) → gap ++ t ∷ [] ≡ u ∷ others → r.width < used + u.width
 forced_more r true left used gap t is none some here why u others e = let first = first_stays gap others t u (some refl) e in here u first.0 first.1
@@ -213,7 +213,7 @@ fits_within width used n h =
     (omega arith, ap (λ l. taken l n) some ∙ ap Some (omega arith) ∙ sym (left_of-some width (used + n) (omega arith)))
 
 -- where each token has room, there is one on a line that doesn't take another
-some_before : (r : Room) (ended : Bool) (left : Option ℕ) (ps : List (Piece Token)) (tokens gap ts : List Token) (t : Token) → left ≡ left_of r.width (next_indent r ps + total_width tokens) → joined ps ++ (tokens ++ gap) ≡ ts
+pub some_before : (r : Room) (ended : Bool) (left : Option ℕ) (ps : List (Piece Token)) (tokens gap ts : List Token) (t : Token) → left ≡ left_of r.width (next_indent r ps + total_width tokens) → joined ps ++ (tokens ++ gap) ≡ ts
     → (ended ≡ true → 0 < length gap) → (0 < length ts → 0 < length tokens) → r.other ≤ r.first → r.first + t.width ≤ r.width → (ended ≡ true) ⊎ (fits_in left t.width ≡ false) → 0 < length tokens
 some_before r ended left ps (x ∷ tokens) gap ts t is covers some here other room why = omega arith
 some_before r ended left ps [] gap ts t is covers some here other room (inl e) =
@@ -226,13 +226,13 @@ some_before r ended left (p ∷ ps) [] gap ts t is covers some here other room (
 -- ---- the state of placing, and a step
 
 -- a token that doesn't fit, or comes after one that doesn't, passes the width behind the line and the gap
-passes_gap : (r : Room) (ended : Bool) (left : Option ℕ) (used : ℕ) (gap : List Token) (t : Token) → left ≡ left_of r.width used → (ended ≡ true → 0 < length gap)
+pub passes_gap : (r : Room) (ended : Bool) (left : Option ℕ) (used : ℕ) (gap : List Token) (t : Token) → left ≡ left_of r.width used → (ended ≡ true → 0 < length gap)
     → ((u : Token) (others : List Token) → gap ≡ u ∷ others → r.width < used + u.width) → (ended ≡ true) ⊎ (fits_in left t.width ≡ false) → r.width < used + total_width gap + t.width
 passes_gap r ended left used (u ∷ gap) t is some here why = omega (arith, here u gap refl)
 passes_gap r ended left used [] t is some here (inl e) = absurd (omega (arith, some e))
 passes_gap r ended left used [] t is some here (inr f) = omega (arith, passes_width r.width used t.width (ap (λ l. fits_in l t.width) (sym is) ∙ f))
 
-pub shape_start : (r : Room) → Shape r [] (left_of r.width r.first) false
+unfoldable pub shape_start : (r : Room) → Shape r [] (left_of r.width r.first) false
 shape_start r = record {
   pieces = [];
   tokens = [];
@@ -251,7 +251,7 @@ shape_start r = record {
   some_here = λ _ l. absurd (omega arith);
 }
 
-pub shape_fits : (r : Room) (ts : List Token) (t : Token) (left : Option ℕ) → Shape r ts left false → fits_in left t.width ≡ true → Shape r (ts ++ t ∷ []) (taken left t.width) false
+unfoldable pub shape_fits : (r : Room) (ts : List Token) (t : Token) (left : Option ℕ) → Shape r ts left false → fits_in left t.width ≡ true → Shape r (ts ++ t ∷ []) (taken left t.width) false
 shape_fits r ts t left h fits =
     let used = next_indent r h.pieces + total_width h.tokens in
     let within = fits_within r.width used t.width (rw (sym h.left_is) fits) in
@@ -276,7 +276,7 @@ shape_fits r ts t left h fits =
       some_here = λ _ _. omega (arith, length-append h.tokens (t ∷ []));
     }
 
-pub shape_ends : (r : Room) (ts : List Token) (t : Token) (left : Option ℕ) (ended : Bool) → Shape r ts left ended → t.blank ≡ true → (ended ≡ true) ⊎ (fits_in left t.width ≡ false) → Shape r (ts ++ t ∷ []) left true
+unfoldable pub shape_ends : (r : Room) (ts : List Token) (t : Token) (left : Option ℕ) (ended : Bool) → Shape r ts left ended → t.blank ≡ true → (ended ≡ true) ⊎ (fits_in left t.width ≡ false) → Shape r (ts ++ t ∷ []) left true
 shape_ends r ts t left ended h blank why = record {
   pieces = h.pieces;
   tokens = h.tokens;
@@ -295,7 +295,7 @@ shape_ends r ts t left ended h blank why = record {
   some_here = λ room _. some_before r ended left h.pieces h.tokens h.gap ts t h.left_is h.covers h.some_gap (h.some_here (room_front r ts (t ∷ []) room)) room.other (room_last r ts t room) why;
 }
 
-pub shape_begins : (r : Room) (ts : List Token) (t : Token) (left : Option ℕ) (ended : Bool) → Shape r ts left ended → t.blank ≡ false → (ended ≡ true) ⊎ (fits_in left t.width ≡ false)
+unfoldable pub shape_begins : (r : Room) (ts : List Token) (t : Token) (left : Option ℕ) (ended : Bool) → Shape r ts left ended → t.blank ≡ false → (ended ≡ true) ⊎ (fits_in left t.width ≡ false)
     → Shape r (ts ++ t ∷ []) (left_of r.width (r.other + t.width)) false
 shape_begins r ts t left ended h solid why =
     let p : Piece Token = record { line = h.tokens; gap = h.gap } in
@@ -363,6 +363,7 @@ placed_all r k o sp ts lines new line left ended h pushed least =
     let p : Piece Token = record { line = s.tokens; gap = s.gap } in
     record {
       pieces = s.pieces ++ p ∷ [];
+      some_line = omega (arith, length-append s.pieces (p ∷ []));
       covers = joined-push s.pieces p ∙ s.covers;
       gaps = forced_push r s.pieces p s.gaps s.gap_blank s.forced_here;
       forced = s.forced;

@@ -87,8 +87,8 @@ placed_wrap r skin source ts lines wide uncut tokens h =
           let same = all_unique max ps ts us tokens others in
           subst (λ x. IsLeastBreak r ps x lines) same (record {
             parts = parts_are ps ts [] k o r.first r.other sp h.pieces lines h.holds h.covers;
-            placed = λ _. record { pieces = h.pieces; covers = h.covers; texts = texts; gaps = h.gaps };
-            full = λ _. record { placed = record { pieces = h.pieces; covers = h.covers; texts = texts; gaps = h.gaps }; forced = h.forced };
+            placed = λ _. record { pieces = h.pieces; some_line = h.some_line; covers = h.covers; texts = texts; gaps = h.gaps };
+            full = λ _. record { placed = record { pieces = h.pieces; some_line = h.some_line; covers = h.covers; texts = texts; gaps = h.gaps }; forced = h.forced };
             cut = λ on. absurd (let off : is_cut_clean r ps ≡ false = ap is_some uncut in cc);
             least = λ breaks fitting _. h.least breaks fitting;
             least_dropping = λ _ breaks fitting. h.least breaks fitting;

@@ -61,6 +61,7 @@ GapsForced indent r (p ∷ ps) = AllBlank p.gap × ((t : Token) (others : List T
 -- The tokens stand on these lines, in order, but for blank ones behind a line that is full.
 pub record ArePlaced (r : Room) (ts : List Token) (lines : List (List FlaggedChar)) : Type 0 where
   pub pieces : List (Piece Token)
+  pub some_line : 0 < length pieces
   pub covers : joined pieces ≡ ts
   pub texts : map (λ p. tokens_text p.line) pieces ≡ lines
   pub gaps : GapsForced r.first r pieces
