@@ -48,7 +48,7 @@ pub record IsHonest (max : ℕ) (t : Token) : Type 0 where
   pub alike : IsAlike max t.blank t.width (flagged_token t)
   pub place : IsInCompound t
 
-tokens_honest : (max start : ℕ) (p : Compound) (ts : List Token) → AreTokensFrom max p start ts → AllByRecursion (IsHonest max) ts
+pub tokens_honest : (max start : ℕ) (p : Compound) (ts : List Token) → AreTokensFrom max p start ts → AllByRecursion (IsHonest max) ts
 tokens_honest max start p [] h = tt
 tokens_honest max start p (t ∷ ts) (first, more) = (record { alike = first.alike; place = first.place }, tokens_honest max t.end_in_compound p ts more)
 

@@ -45,7 +45,7 @@ later p (q ∷ ps) h = h
 pub lt_from_test : (a b : ℕ) → nat_lt a b ≡ true → a < b
 lt_from_test a b e = grind (arith, nat_tests)
 
-eq_from_test : (a b : ℕ) → (a == b) ≡ true → a ≡ b
+pub eq_from_test : (a b : ℕ) → (a == b) ≡ true → a ≡ b
 eq_from_test a b e = grind (arith, nat_tests)
 
 not_both : (b : Bool) → b ≡ true → not b ≡ true → ⊥

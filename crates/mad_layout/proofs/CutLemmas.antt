@@ -38,11 +38,11 @@ pub record IsCut (r : Room) (ps : List Compound) (front back : Compound) : Type 
   pub none_empty : NoneEmpty ps → (0 < length front.src.now) × (0 < length back.src.now)
   pub two : drops_middle r ps ≡ false → ps ≡ front ∷ back ∷ []
 
-made_by : {A : Type 0} (b : Bool) (x y : A) → (if b then Some x else None) ≡ Some y → (b ≡ true) × (x ≡ y)
+pub made_by : {A : Type 0} (b : Bool) (x y : A) → (if b then Some x else None) ≡ Some y → (b ≡ true) × (x ≡ y)
 made_by true x y e = (refl, cc)
 made_by false x y e = absurd (cc)
 
-le_from_test : (a b : ℕ) → nat_le a b ≡ true → a ≤ b
+pub le_from_test : (a b : ℕ) → nat_le a b ≡ true → a ≤ b
 le_from_test a b e = grind (arith, nat_tests)
 
 white_flagged : (f : Flags) (cs : List ℕ) → list_all is_whitespace cs ≡ true → AllWhite (flagged f cs)

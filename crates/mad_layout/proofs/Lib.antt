@@ -1,4 +1,5 @@
 pub mod BoundLemmas
+pub mod BoundOfLemmas
 pub mod CutLemmas
 pub mod KeepLemmas
 pub mod Least

@@ -26,7 +26,7 @@ both_true false b h g = absurd (cc)
 lt_test : (a b : ℕ) → a < b → nat_lt a b ≡ true
 lt_test a b h = grind (arith, nat_tests)
 
-none_left : (n : ℕ) (b : Bool) → n ≡ 0 → (n == 0) || b ≡ true
+pub none_left : (n : ℕ) (b : Bool) → n ≡ 0 → (n == 0) || b ≡ true
 none_left n b h = grind (arith, nat_tests)
 
 not_blank : (n : ℕ) (b : Bool) → b ≡ false → (n == 0) || not b ≡ true
@@ -34,7 +34,7 @@ not_blank n false h = elim (n == 0) as (λ v. v || true ≡ true) [ true ↦ ref
 not_blank n true h = absurd (cc)
 
 -- one start more
-step_true : (i s n : ℕ) (r : Room) (ts : List Token) (ns : List ℕ) → s < n → n < length ts → r.width < i + total_width (slice_range ts s (n + 1)) → (length ns == 0) || not (is_blank_token (slice_get ts n)) ≡ true
+pub step_true : (i s n : ℕ) (r : Room) (ts : List Token) (ns : List ℕ) → s < n → n < length ts → r.width < i + total_width (slice_range ts s (n + 1)) → (length ns == 0) || not (is_blank_token (slice_get ts n)) ≡ true
     → are_starts_from r.other r ts n ns ≡ true → are_starts_from i r ts s (n ∷ ns) ≡ true
 step_true i s n r ts ns rises inside wide solid rest =
     both_true _ _ (lt_test s n rises) (both_true _ _ (lt_test n (length ts) inside) (both_true _ _ (lt_test r.width (i + total_width (slice_range ts s (n + 1))) wide) (both_true _ _ solid rest)))
