@@ -67,6 +67,9 @@ impl Area {
 }
 
 impl Default for Area {
+    ghost is_default = { λ area. area ≡ record { left = 0; top = 0; width = 5; height = 1 } };
+
+    /// The area of a place that isn't known yet.
     fn default() -> Self {
         Self::uninitialized()
     }

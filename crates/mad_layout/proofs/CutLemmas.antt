@@ -133,6 +133,11 @@ cut_wrap r skin source front back lines wide is two =
             omega (arith, some_compound front first.utf8 there.0, ap length text1),
             (omega (arith, some_compound back second.utf8 there.1, ap length text2), tt),
           );
+      none_empty = λ full.
+          let there = cut.none_empty full in (
+            subst NoneEmpty (sym first.compounds_are) (there.0, tt),
+            (subst NoneEmpty (sym second.compounds_are) (there.1, tt), tt),
+          );
       least = λ ts tokens. record {
         parts = (made_of_one ps ts k r.first source.spacing front two.first first cut.has_front, (made_of_one ps ts o r.other source.spacing back two.second second cut.has_back, tt));
         placed = λ all. subst (ArePlaced r ts) texts (two_placed r front back ts (subst (λ (qs : List Compound). AreTokensIn r qs ts) (cut.two all) tokens));

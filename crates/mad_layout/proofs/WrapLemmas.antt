@@ -23,7 +23,7 @@ use Rattle.mad_layout.specs.Wraps.{text_of, IsMeasured, HasRoom, LinesFit}
 use Rattle.mad_layout.specs.declared.room.Room.{Room}
 use Rattle.mad_layout.specs.declared.skin.MadSkin.{MadSkin}
 use Rattle.mad_layout.specs.declared.composite.FmtComposite.{FmtComposite}
-use Rattle.mad_layout.proofs.KeepLemmas.{texts_are, keeps_pieces, tokens_room, width_is, fit_pieces, some_pieces, kinds_are, spacing_is, margins_are, measured_are, parts_are}
+use Rattle.mad_layout.proofs.KeepLemmas.{texts_are, keeps_pieces, tokens_room, width_is, fit_pieces, some_pieces, kinds_are, spacing_is, margins_are, measured_are, parts_are, filled_pieces}
 
 -- the lines after the first are indented no further
 pub other-le : (mode : ListItemsIndentationMode) (kind : CompositeKind) → indent mode (follow_up kind) ≤ indent mode kind
@@ -83,6 +83,7 @@ placed_wrap r skin source ts lines wide uncut tokens h =
       some = λ room _.
           let there = some_tokens r ts (omega (arith, wide.wider, total_is r ps ts tokens)) room.first in
           some_pieces max k o r.first r.other sp h.pieces lines h.holds honest (h.some (room_for_tokens r ps ts lower tokens room) there);
+      none_empty = λ _. filled_pieces max k o r.first r.other sp h.pieces lines h.holds honest;
       least = λ us others.
           let same = all_unique max ps ts us tokens others in
           subst (λ x. IsLeastBreak r ps x lines) same (record {

@@ -40,6 +40,8 @@ pub record IsWrapIn (r : Room) (skin : MadSkin) (source : FmtComposite) (lines :
   pub fits : HasRoom r (text_of source) → LinesFit r.first r (map text_of lines)
   -- with room, and where no compound is empty, each line has a character
   pub some : HasRoom r (text_of source) → NoneEmpty source.compounds.items → AllByRecursion (λ l. 0 < length (text_of l)) lines
+  -- no compound is empty where none of the source is
+  pub none_empty : NoneEmpty source.compounds.items → AllByRecursion (λ l. NoneEmpty l.compounds.items) lines
   -- with the fewest lines
   pub least : (ts : List Token) → AreTokensIn r source.compounds.items ts → IsLeastBreak r source.compounds.items ts lines
   pub kinds : HaveKinds source.kind (follow_up source.kind) lines
