@@ -1,5 +1,5 @@
 -- The starts that bound the lines of a composite.
-use Rattle.std.proofs.Common.{◌≡◌, ℕ, zero, suc, ◌≤◌, ◌<◌, ◌+◌, ◌-◌, ◌==◌, ◌&&◌, not, Bool, true, false, Option, Some, None, is_some, if◌then◌else◌, List, [], ◌∷◌, ◌++◌, map, chars, length, take, drop, slice_range, slice_get, refl, sym, ap, ◌∙◌, arith, subst, append-nil, ◌⊎◌, inl, inr}
+use Rattle.std.proofs.Common.{◌≡◌, ℕ, zero, suc, ◌≤◌, ◌<◌, ◌+◌, ◌-◌, ◌==◌, ◌&&◌, not, Bool, true, false, Some, None, is_some, if◌then◌else◌, List, [], ◌∷◌, ◌++◌, chars, length, take, drop, slice_range, slice_get, refl, sym, ap, ◌∙◌, arith, subst, append-nil, inl, inr}
 use Rattle.std.proofs.lemmas.Bool.{and_parts}
 use Rattle.std.proofs.lemmas.List.{take-append-drop, length-map}
 use Rattle.std.specs.List.{AllByRecursion, list_all}
@@ -197,7 +197,7 @@ cut_starts_of r ps ts starts lower tokens on (inr (i, past, is)) space =
     let are : starts ≡ 0 ∷ i ∷ [] = is some in
     let slice : slice_range ts 0 (i + 1) ≡ take (i + 1) ts = ap (λ n. take n ts) (omega arith) in
     let passes : are_starts r ts starts ≡ true =
-        ap (are_starts r ts) are ∙ step_true r.first 0 i r ts [] some past.inside (omega (arith, past.passes, ap total_width slice)) (none_left 0 (not (is_blank_token (slice_get ts i))) refl) refl in
+    ap (are_starts r ts) are ∙ step_true r.first 0 i r ts [] some past.inside (omega (arith, past.passes, ap total_width slice)) (none_left 0 (not (is_blank_token (slice_get ts i))) refl) refl in
     let checked : (us : List Token) → AreTokensIn r ps us → are_starts r us starts ≡ true = λ us others. subst (λ (x : List Token). are_starts r x starts ≡ true) (all_unique max ps ts us tokens others) passes in
     record {
       checked = checked;

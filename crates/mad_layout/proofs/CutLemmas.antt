@@ -2,10 +2,10 @@
 use Rattle.std.proofs.Common.{◌≡◌, ℕ, ◌≤◌, ◌<◌, ◌+◌, ◌-◌, Bool, true, false, ◌&&◌, nat_le, List, [], ◌∷◌, ◌++◌, map, chars, length, Option, Some, None, is_some, if◌then◌else◌, Contains, refl, sym, ap, ◌∙◌, arith, subst, append-nil}
 use Rattle.std.proofs.lemmas.Bool.{and_parts}
 use Rattle.std.proofs.lemmas.Bool.Decides.{nat_tests}
-use Rattle.std.proofs.lemmas.List.Elements.{Contains-append_left, Contains-append_right}
+use Rattle.std.proofs.lemmas.List.Elements.{Contains-append_left}
 use Rattle.std.specs.List.{AllByRecursion, list_all}
 use Rattle.std.specs.Char.{is_whitespace}
-use Rattle.mad_md.specs.Flagged.{Flags, FlaggedChar, Run, flagged, flags_of, flagged_of, flagged_text, run_of}
+use Rattle.mad_md.specs.Flagged.{Flags, FlaggedChar, flagged, flags_of, flagged_of, flagged_text, run_of}
 use Rattle.mad_md.specs.declared.compound.Compound.{Compound}
 use Rattle.mad_style.specs.declared.kinds.CompositeKind.{CompositeKind}
 use Rattle.mad_fit.specs.Columns.{width_of}
@@ -13,13 +13,12 @@ use Rattle.mad_fit.specs.Tokens.{tokens_text, token_run}
 use Rattle.mad_fit.specs.declared.spacing.Spacing.{Spacing}
 use Rattle.mad_fit.specs.declared.tokens.Token.{Token}
 use Rattle.mad_fit.proofs.TokenTexts.{text_from, some_compound}
-use Rattle.mad_layout.specs.Breaks.{Piece, joined, total_width, FittingBreak, EndsWithLine}
 use Rattle.mad_layout.specs.CleanCut.{fits_behind, both_fit, is_white, clean_cut, is_cut_clean, drops_middle}
 use Rattle.mad_layout.specs.Indents.{indent, follow_up}
 use Rattle.mad_layout.specs.Keeps.{AllWhite, Keeps}
-use Rattle.mad_layout.specs.LeastWrap.{AreTokensIn, IsLeastBreak, IsWrapIn}
+use Rattle.mad_layout.specs.LeastWrap.{AreTokensIn, IsWrapIn}
 use Rattle.mad_layout.specs.PlacedLines.{HoldsCompound, AreTwoLines}
-use Rattle.mad_layout.specs.Wraps.{text_of, IsMeasured, HasRoom, LinesFit, NoneEmpty, IsMadeOf, ArePlaced}
+use Rattle.mad_layout.specs.Wraps.{text_of, LinesFit, NoneEmpty, IsMadeOf, ArePlaced}
 use Rattle.mad_layout.specs.declared.room.Room.{Room}
 use Rattle.mad_layout.specs.declared.skin.MadSkin.{MadSkin}
 use Rattle.mad_layout.specs.declared.composite.FmtComposite.{FmtComposite}

@@ -1,9 +1,8 @@
 -- Placing tokens on lines, step by step.
-use Rattle.std.proofs.Common.{◌≡◌, ℕ, ◌≤◌, ◌<◌, ◌+◌, ◌-◌, ◌^◌, min, Bool, true, false, Option, Some, None, List, [], ◌∷◌, ◌++◌, map, length, take, drop, refl, sym, ap, ◌∙◌, arith, subst, append-nil, append_assoc, nat_le, get_or, ◌⊎◌, inl, inr, if◌then◌else◌}
+use Rattle.std.proofs.Common.{◌≡◌, ℕ, ◌≤◌, ◌<◌, ◌+◌, ◌-◌, Bool, true, false, Option, Some, None, List, [], ◌∷◌, ◌++◌, map, length, take, drop, refl, sym, ap, ◌∙◌, arith, subst, append-nil, append_assoc, nat_le, get_or, ◌⊎◌, inl, inr, if◌then◌else◌}
 use Rattle.std.proofs.lemmas.Bool.Decides.{nat_tests}
 use Rattle.std.proofs.lemmas.List.{map-append, at_drop_more, take_more, length-append}
-use Rattle.std.specs.List.{AllByRecursion}
-use Rattle.mad_md.specs.Flagged.{Flags, Run, run_of, flags_of}
+use Rattle.mad_md.specs.Flagged.{Flags, run_of, flags_of}
 use Rattle.mad_md.specs.declared.compound.Compound.{Compound}
 use Rattle.mad_style.specs.declared.kinds.CompositeKind.{CompositeKind}
 use Rattle.mad_fit.specs.declared.spacing.Spacing.{Spacing}

@@ -1,15 +1,14 @@
 -- The starts of placed lines, step by step.
-use Rattle.std.proofs.Common.{◌≡◌, ℕ, ◌≤◌, ◌<◌, ◌+◌, ◌-◌, ◌==◌, Bool, true, false, Option, Some, None, is_some, if◌then◌else◌, List, [], ◌∷◌, ◌++◌, length, take, refl, sym, ap, ◌∙◌, arith, subst, append-nil, append_assoc, ◌⊎◌, inl, inr, get_or}
+use Rattle.std.proofs.Common.{◌≡◌, ℕ, ◌≤◌, ◌<◌, ◌+◌, ◌==◌, Bool, true, false, Option, Some, None, is_some, if◌then◌else◌, List, [], ◌∷◌, ◌++◌, length, take, refl, sym, ap, ◌∙◌, arith, subst, append-nil, ◌⊎◌, inl, inr, get_or}
 use Rattle.std.proofs.lemmas.Bool.Decides.{nat_tests}
 use Rattle.std.proofs.lemmas.List.{length-append, take_more}
 use Rattle.std.specs.Option.{option_or}
 use Rattle.mad_fit.specs.declared.tokens.Token.{Token}
-use Rattle.mad_fit.proofs.AllLemmas.{all_front, all_back}
 use Rattle.mad_layout.specs.Breaks.{Piece, joined, total_width}
 use Rattle.mad_layout.specs.Greedy.{left_of, fits_in, taken}
 use Rattle.mad_layout.specs.PlacedLines.{TokensHaveRoom, starts_from, dropped_after, dropped_from, ArePlacedStarts}
 use Rattle.mad_layout.specs.declared.room.Room.{Room}
-use Rattle.mad_layout.proofs.PlaceLemmas.{Shape, shape_start, shape_fits, shape_ends, shape_begins, next_indent, fits_within, passes_width, total_width-push, joined-push, fit_push, forced_push, some_before, room_front, room_last}
+use Rattle.mad_layout.proofs.PlaceLemmas.{Shape, shape_start, shape_fits, shape_ends, shape_begins, fits_within, passes_width, total_width-push, joined-push, fit_push, forced_push, some_before, room_front, room_last}
 
 starts_from-push : (n : ℕ) (ps : List (Piece Token)) (p : Piece Token) → starts_from n (ps ++ p ∷ []) ≡ starts_from n ps ++ (n + length (joined ps)) ∷ []
 starts_from-push n [] p = ap (λ m. m ∷ []) (omega arith)
@@ -102,20 +101,20 @@ starts_all r ts left dropped starts all h none some =
     let p : Piece Token = record { line = s.tokens; gap = s.gap } in
     let lines : 0 < length (s.pieces ++ p ∷ []) = omega (arith, length-append s.pieces (p ∷ [])) in
     let before : TokensHaveRoom r ts → starts ≡ starts_from 0 (s.pieces ++ p ∷ []) =
-        λ room. h.starts_are room ∙ ap (λ m. starts_from 0 s.pieces ++ m ∷ []) (omega arith) ∙ sym (starts_from-push 0 s.pieces p) in
+    λ room. h.starts_are room ∙ ap (λ m. starts_from 0 s.pieces ++ m ∷ []) (omega arith) ∙ sym (starts_from-push 0 s.pieces p) in
     let by : (d : Option ℕ) → dropped ≡ d → TokensHaveRoom r ts → all ≡ starts_from 0 (s.pieces ++ p ∷ []) ++ dropped_from 0 (s.pieces ++ p ∷ []) =
-        λ d. elim d as (λ d. dropped ≡ d → TokensHaveRoom r ts → all ≡ starts_from 0 (s.pieces ++ p ∷ []) ++ dropped_from 0 (s.pieces ++ p ∷ [])) [
-          | None ↦ λ e room.
-              let empty = dropped_none (0 + length (joined s.pieces)) p (s.no_gap (ap (λ (d : Option ℕ). is_some d) e)) in
-              none e ∙ before room ∙ sym (append-nil (starts_from 0 (s.pieces ++ p ∷ []))) ∙ ap (λ l. starts_from 0 (s.pieces ++ p ∷ []) ++ l) (sym (dropped_from-push 0 s.pieces p ∙ empty))
-          | Some n ↦ λ e room.
-              let gap = s.some_gap (ap (λ (d : Option ℕ). is_some d) e) in
-              let place = h.dropped_is n e in
-              let there : 0 < n = omega (arith, place, s.some_here room (omega (arith, length_so_far r ts left (is_some dropped) s, gap))) in
-              let one = dropped_some (0 + length (joined s.pieces)) p gap in
-              let here : n ≡ 0 + length (joined s.pieces) + length s.tokens = omega (arith, place) in
-              some n e there ∙ ap (λ l. l ++ n ∷ []) (before room) ∙ ap (λ m. starts_from 0 (s.pieces ++ p ∷ []) ++ m ∷ []) here ∙ ap (λ l. starts_from 0 (s.pieces ++ p ∷ []) ++ l) (sym (dropped_from-push 0 s.pieces p ∙ one))
-        ] in
+    λ d. elim d as (λ d. dropped ≡ d → TokensHaveRoom r ts → all ≡ starts_from 0 (s.pieces ++ p ∷ []) ++ dropped_from 0 (s.pieces ++ p ∷ [])) [
+      | None ↦ λ e room.
+          let empty = dropped_none (0 + length (joined s.pieces)) p (s.no_gap (ap (λ (d : Option ℕ). is_some d) e)) in
+          none e ∙ before room ∙ sym (append-nil (starts_from 0 (s.pieces ++ p ∷ []))) ∙ ap (λ l. starts_from 0 (s.pieces ++ p ∷ []) ++ l) (sym (dropped_from-push 0 s.pieces p ∙ empty))
+      | Some n ↦ λ e room.
+          let gap = s.some_gap (ap (λ (d : Option ℕ). is_some d) e) in
+          let place = h.dropped_is n e in
+          let there : 0 < n = omega (arith, place, s.some_here room (omega (arith, length_so_far r ts left (is_some dropped) s, gap))) in
+          let one = dropped_some (0 + length (joined s.pieces)) p gap in
+          let here : n ≡ 0 + length (joined s.pieces) + length s.tokens = omega (arith, place) in
+          some n e there ∙ ap (λ l. l ++ n ∷ []) (before room) ∙ ap (λ m. starts_from 0 (s.pieces ++ p ∷ []) ++ m ∷ []) here ∙ ap (λ l. starts_from 0 (s.pieces ++ p ∷ []) ++ l) (sym (dropped_from-push 0 s.pieces p ∙ one))
+    ] in
     record {
       pieces = s.pieces ++ p ∷ [];
       some_line = lines;

@@ -1,5 +1,5 @@
 -- The starts of placed lines pass the checker, and there are as many as lines.
-use Rattle.std.proofs.Common.{◌≡◌, ℕ, ◌≤◌, ◌<◌, ◌+◌, ◌-◌, ◌==◌, ◌&&◌, ◌||◌, not, nat_lt, Bool, true, false, Option, Some, None, if◌then◌else◌, List, [], ◌∷◌, ◌++◌, map, length, take, drop, get_or, slice_range, slice_get, refl, sym, ap, ◌∙◌, arith, subst, append-nil, append_assoc, ◌⊎◌, inl, inr}
+use Rattle.std.proofs.Common.{◌≡◌, ℕ, ◌≤◌, ◌<◌, ◌+◌, ◌-◌, ◌==◌, ◌&&◌, ◌||◌, not, nat_lt, Bool, true, false, Some, if◌then◌else◌, List, [], ◌∷◌, ◌++◌, map, length, take, drop, get_or, slice_range, slice_get, refl, sym, ap, ◌∙◌, arith, subst, append-nil, append_assoc, ◌⊎◌, inl, inr}
 use Rattle.std.proofs.Math.Seq.{drop-append_seam, take-append-add}
 use Rattle.std.proofs.lemmas.Bool.Decides.{nat_tests}
 use Rattle.std.proofs.lemmas.List.{length-append, get_or-drop, nil_from_length}
@@ -10,7 +10,7 @@ use Rattle.mad_fit.specs.Tokens.{tokens_text}
 use Rattle.mad_fit.proofs.AllLemmas.{all_front, all_back}
 use Rattle.mad_fit.proofs.TokenTexts.{IsHonest}
 use Rattle.mad_layout.specs.Bounds.{is_blank_token, are_starts_from, are_starts}
-use Rattle.mad_layout.specs.Breaks.{Piece, joined, total_width, AllBlank, FitsFrom, FittingBreak, EndsWithLine}
+use Rattle.mad_layout.specs.Breaks.{Piece, joined, total_width, AllBlank, FitsFrom, EndsWithLine}
 use Rattle.mad_layout.specs.LeastBound.{dropped_at_end}
 use Rattle.mad_layout.specs.PlacedLines.{TokensHaveRoom, SomeOnEach, starts_from, dropped_after, dropped_from}
 use Rattle.mad_layout.specs.Wraps.{GapsForced, LinesForced, LinesFit}
@@ -61,13 +61,13 @@ start_after : (i : ℕ) (r : Room) (ts pre mid rest : List Token) (t : Token) (n
     → (length ns ≡ 0) ⊎ (t.blank ≡ false) → are_starts_from r.other r ts n ns ≡ true → are_starts_from i r ts s (n ∷ ns) ≡ true
 start_after i r ts pre mid rest t ns s n joins from to some wide solid more =
     let at : slice_range ts s (n + 1) ≡ mid ++ t ∷ [] =
-        ap (λ l. slice_range l s (n + 1)) joins ∙ ap (λ m. slice_range (pre ++ (mid ++ t ∷ rest)) m (n + 1)) from ∙ ap (λ m. slice_range (pre ++ (mid ++ t ∷ rest)) (length pre) (m + 1)) (omega (arith, from, to)) ∙ slice_at pre mid rest t in
+    ap (λ l. slice_range l s (n + 1)) joins ∙ ap (λ m. slice_range (pre ++ (mid ++ t ∷ rest)) m (n + 1)) from ∙ ap (λ m. slice_range (pre ++ (mid ++ t ∷ rest)) (length pre) (m + 1)) (omega (arith, from, to)) ∙ slice_at pre mid rest t in
     let read : slice_get ts n ≡ Some t = ap (λ l. slice_get l n) joins ∙ ap (slice_get (pre ++ (mid ++ t ∷ rest))) (omega (arith, from, to)) ∙ token_at pre mid rest t in
     let test : (length ns == 0) || not (is_blank_token (slice_get ts n)) ≡ true =
-        elim solid as (λ _. (length ns == 0) || not (is_blank_token (slice_get ts n)) ≡ true) [
-          | inl last ↦ none_left (length ns) (not (is_blank_token (slice_get ts n))) last
-          | inr full ↦ not_blank (length ns) (is_blank_token (slice_get ts n)) (ap is_blank_token read ∙ full)
-        ] in
+    elim solid as (λ _. (length ns == 0) || not (is_blank_token (slice_get ts n)) ≡ true) [
+      | inl last ↦ none_left (length ns) (not (is_blank_token (slice_get ts n))) last
+      | inr full ↦ not_blank (length ns) (is_blank_token (slice_get ts n)) (ap is_blank_token read ∙ full)
+    ] in
     step_true i s n r ts ns (omega arith) (omega (arith, ap length joins, length-append pre (mid ++ t ∷ rest), length-append mid (t ∷ rest)))
     (omega (arith, wide, ap total_width at, total_width-append mid (t ∷ []))) test more
 
@@ -76,14 +76,14 @@ full_from : (i : ℕ) (r : Room) (ts pre : List Token) (p : Piece Token) (ps : L
     → are_starts_from i r ts s (starts_from (s + (length p.line + length p.gap)) ps ++ dropped_from s (p ∷ ps)) ≡ true
 full_from i r ts pre p [] s joins from gaps forced some =
     let by : (gap : List Token) → p.gap ≡ gap → are_starts_from i r ts s (dropped_after s p) ≡ true =
-        λ gap. elim gap as (λ gap. p.gap ≡ gap → are_starts_from i r ts s (dropped_after s p) ≡ true) [
-          | [] ↦ λ e. ap (are_starts_from i r ts s) (dropped_none s p e)
-          | g ∷ gs ↦ λ e.
-              let there : 0 < length p.gap = omega (arith, ap length e) in
-              let all : ts ≡ pre ++ (p.line ++ g ∷ (gs ++ [])) = joins ∙ ap (λ l. pre ++ (p.line ++ (l ++ []))) e in
-              ap (are_starts_from i r ts s) (dropped_some s p there)
-              ∙ start_after i r ts pre p.line (gs ++ []) g [] s (s + length p.line) all from refl some.0 (gaps.1 g gs e) (inl refl) refl
-        ] in
+    λ gap. elim gap as (λ gap. p.gap ≡ gap → are_starts_from i r ts s (dropped_after s p) ≡ true) [
+      | [] ↦ λ e. ap (are_starts_from i r ts s) (dropped_none s p e)
+      | g ∷ gs ↦ λ e.
+          let there : 0 < length p.gap = omega (arith, ap length e) in
+          let all : ts ≡ pre ++ (p.line ++ g ∷ (gs ++ [])) = joins ∙ ap (λ l. pre ++ (p.line ++ (l ++ []))) e in
+          ap (are_starts_from i r ts s) (dropped_some s p there)
+          ∙ start_after i r ts pre p.line (gs ++ []) g [] s (s + length p.line) all from refl some.0 (gaps.1 g gs e) (inl refl) refl
+    ] in
     by p.gap refl
 full_from i r ts pre p (q ∷ qs) s joins from gaps forced some =
     let t = forced.0.first in
@@ -92,9 +92,9 @@ full_from i r ts pre p (q ∷ qs) s joins from gaps forced some =
     let rest = forced.0.others ++ (q.gap ++ joined qs) in
     let size = length-append p.line p.gap in
     let all : ts ≡ pre ++ (mid ++ t ∷ rest) =
-        joins ∙ ap (λ l. pre ++ l) (sym (append_assoc p.line p.gap (joined (q ∷ qs)))) ∙ ap (λ l. pre ++ (mid ++ (l ++ (q.gap ++ joined qs)))) forced.0.begins in
+    joins ∙ ap (λ l. pre ++ l) (sym (append_assoc p.line p.gap (joined (q ∷ qs)))) ∙ ap (λ l. pre ++ (mid ++ (l ++ (q.gap ++ joined qs)))) forced.0.begins in
     let again : ts ≡ (pre ++ mid) ++ joined (q ∷ qs) =
-        joins ∙ ap (λ l. pre ++ l) (sym (append_assoc p.line p.gap (joined (q ∷ qs)))) ∙ sym (append_assoc pre mid (joined (q ∷ qs))) in
+    joins ∙ ap (λ l. pre ++ l) (sym (append_assoc p.line p.gap (joined (q ∷ qs)))) ∙ sym (append_assoc pre mid (joined (q ∷ qs))) in
     let more = full_from r.other r ts (pre ++ mid) q qs n again (omega (arith, from, size, length-append pre mid)) gaps.2 forced.1 some.1 in
     start_after i r ts pre mid rest t _ s n all from (omega (arith, size)) (omega (arith, size, some.0)) (omega (arith, forced.0.passes, total_width-append p.line p.gap)) (inr forced.0.solid) more
 

@@ -1,5 +1,5 @@
 -- Placed tokens are a wrap of their composite.
-use Rattle.std.proofs.Common.{◌≡◌, ℕ, ◌≤◌, ◌<◌, ◌+◌, ◌-◌, true, false, List, [], ◌∷◌, ◌++◌, map, length, Option, Some, None, Result, Ok, Err, IfOk, is_some, refl, sym, ap, ◌∙◌, arith, subst}
+use Rattle.std.proofs.Common.{◌≡◌, ℕ, ◌≤◌, ◌<◌, ◌+◌, ◌-◌, false, List, [], ◌∷◌, map, length, None, Result, Ok, Err, IfOk, is_some, refl, sym, ap, ◌∙◌, arith, subst}
 use Rattle.std.specs.List.{AllByRecursion}
 use Rattle.mad_term.specs.Columns.{char_columns}
 use Rattle.mad_md.specs.Flagged.{flagged_text}
@@ -9,13 +9,13 @@ use Rattle.mad_style.specs.declared.kinds.CompositeKind.TheVariants.{Paragraph, 
 use Rattle.mad_style.specs.declared.kinds.ListItemsIndentationMode.{ListItemsIndentationMode}
 use Rattle.mad_style.specs.declared.kinds.ListItemsIndentationMode.TheVariants.{FirstLineOnly, Block}
 use Rattle.mad_fit.specs.Columns.{width_of}
-use Rattle.mad_fit.specs.Tokens.{AreTokensOf, tokens_text}
+use Rattle.mad_fit.specs.Tokens.{tokens_text}
 use Rattle.mad_fit.specs.declared.tokens.Token.{Token}
 use Rattle.mad_fit.proofs.TokenTexts.{IsHonest, text_of_all, all_honest}
 use Rattle.mad_fit.proofs.UniqueLemmas.{all_unique}
-use Rattle.mad_layout.specs.Breaks.{Piece, joined, total_width, FittingBreak}
-use Rattle.mad_layout.specs.CleanCut.{clean_cut, is_cut_clean, drops_middle}
-use Rattle.mad_layout.specs.Indents.{indent, follow_up, kept, room_of}
+use Rattle.mad_layout.specs.Breaks.{joined, total_width}
+use Rattle.mad_layout.specs.CleanCut.{clean_cut, is_cut_clean}
+use Rattle.mad_layout.specs.Indents.{indent, follow_up, room_of}
 use Rattle.mad_layout.specs.Keeps.{Keeps}
 use Rattle.mad_layout.specs.LeastWrap.{AreTokensIn, IsLeastBreak, IsWrapIn}
 use Rattle.mad_layout.specs.PlacedLines.{TokensHaveRoom, ArePlacedLines}

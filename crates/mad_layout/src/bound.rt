@@ -25,7 +25,10 @@ pub struct WrapBound {
     pub starts: Vec<usize>,
 }
 
-/// Starts that show how many lines each fitting break of the composite has at least.
+/// Starts that show how many lines each break of the composite has at least that fits in `width` columns.
+///
+/// Where each character has room, there are as many as `hard_wrap_composite` gives lines, and one more where that drops
+/// blanks after the last; a composite that fits has one. A width under 3 is refused. One pass over the text.
 pub fn wrap_bound(
     alloc: Global,
     composite: &FmtComposite,
@@ -38,10 +41,12 @@ pub fn wrap_bound(
     ensures memory { 3 ≤ width → IfErr result (λ e. e ≡ Memory) }
 {
     if width < 3 {
-        return Err(Error::InsufficientWidth(InsufficientWidthError { available_width: width }));
+        return Err(Error::InsufficientWidth(InsufficientWidthError {
+            available_width: width,
+        }));
     }
     let room = Room::of(skin, composite.kind, width);
-    let tokens = tokenize(alloc, &composite.compounds, room.width.saturating_sub(room.first))?;
+    let tokens = tokenize(alloc, &composite.compounds, room.token_limit())?;
     let starts = match clean_cut(&composite.compounds, room) {
         Some(_) => cut_starts(alloc, &tokens, room)?,
         None => line_starts(alloc, &tokens, room)?,
@@ -114,7 +119,11 @@ fn push_start(starts: &mut Vec<usize>, start: usize) -> Result<(), AllocError>
     Ok(())
 }
 
-/// Whether these starts show that each fitting break of the composite has at least as many lines.
+/// Whether these starts show that each break of the composite that fits in `width` columns has at least as many lines.
+///
+/// They do if they begin with 0, rise, are numbers of tokens (0 always is), all but the first and the last of tokens that
+/// aren't blank, and the tokens from each start up to and with the next are wider than the line of that number. A width
+/// under 3 is refused. One pass over the text.
 pub fn check_wrap_bound(
     alloc: Global,
     composite: &FmtComposite,
@@ -129,10 +138,12 @@ pub fn check_wrap_bound(
     ensures memory { 3 ≤ width → IfErr result (λ e. e ≡ Memory) }
 {
     if width < 3 {
-        return Err(Error::InsufficientWidth(InsufficientWidthError { available_width: width }));
+        return Err(Error::InsufficientWidth(InsufficientWidthError {
+            available_width: width,
+        }));
     }
     let room = Room::of(skin, composite.kind, width);
-    let tokens = tokenize(alloc, &composite.compounds, room.width.saturating_sub(room.first))?;
+    let tokens = tokenize(alloc, &composite.compounds, room.token_limit())?;
     Ok(check_starts(&tokens, room, &bound.starts))
 }
 

@@ -147,7 +147,11 @@ impl<'s> FmtComposite<'s> {
     }
 
     /// Puts a compound behind the others, whose columns are known.
-    pub(crate) fn add_measured(&mut self, compound: Compound<'s>, width: usize) -> Result<(), AllocError>
+    pub(crate) fn add_measured(
+        &mut self,
+        compound: Compound<'s>,
+        width: usize,
+    ) -> Result<(), AllocError>
         ensures text { OnOk result (self.new.compounds.items ≡ self.old.compounds.items ++ compound.entry ∷ []) }
         ensures length { OnOk result (self.new.visible_length ≡ capped (self.old.visible_length + width)) }
         ensures kind { self.new.kind ≡ self.old.kind }

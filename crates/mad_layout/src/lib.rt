@@ -8,7 +8,6 @@
 // 6. `bound`: starts of lines that show that no break has fewer.
 #![tactic(auto)]
 
-
 pub mod bound;
 mod clean_cut;
 pub mod composite;
@@ -20,7 +19,6 @@ pub mod skin;
 #[cfg(test)]
 mod tests;
 pub mod wrap;
-
 
 pub use bound::{WrapBound, check_wrap_bound, wrap_bound};
 pub use composite::FmtComposite;

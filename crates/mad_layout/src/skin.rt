@@ -3,8 +3,7 @@ ghost use Rattle.std.specs.Prelude.{◌≡◌, ◌+◌};
 use crate::indents::indent_of;
 use mad_fit::measure::columns;
 use mad_md::Compound;
-use mad_style::{CompositeKind, ListItemsIndentationMode};
-use mad_style::LineStyle;
+use mad_style::{CompositeKind, LineStyle, ListItemsIndentationMode};
 
 /// The styles of a text, as far as its layout needs them.
 #[derive(Clone, PartialEq, Debug, Drop)]
@@ -44,7 +43,7 @@ impl MadSkin {
     {
         match kind {
             CompositeKind::Code => &self.code_block,
-            CompositeKind::Header(level) if level >= 1 && level <= 8 => &self.headers[level as usize - 1],
+            CompositeKind::Header(level @ 1..=8) => &self.headers[level as usize - 1],
             _ => &self.paragraph,
         }
     }

@@ -10,8 +10,8 @@ use crate::skin::MadSkin;
 use crate::wrap::{hard_wrap_composite, hard_wrap_lines};
 use mad_fit::spacing::Spacing;
 use mad_md::{Alignment, Composite, CompositeStyle, Compound};
-use mad_term::Error;
 use mad_style::{CompositeKind, CompoundStyle, LineStyle, ListItemsIndentationMode};
+use mad_term::Error;
 use std::alloc::{AllocError, Global};
 use std::process::Abort;
 
@@ -157,7 +157,8 @@ fn a_long_italic_sentence_or_want_of_memory(rt: HostRuntime) {
 
 fn a_long_italic_sentence_rows(rt: &impl Abort, alloc: Global) -> Result<(), Error> {
     let skin = plain_skin();
-    let text = "*Now I'll describe this example with more words than necessary, in order to be sure to demonstrate scrolling (and **wrapping**, too, thanks to long sentences).*";
+    let text =
+        "*Now I'll describe this example with more words than necessary, in order to be sure to demonstrate scrolling (and **wrapping**, too, thanks to long sentences).*";
     let composite = composite(alloc, text, CompositeStyle::Paragraph, &skin)?;
     assert!(rt; composite.visible_length > 120);
     let lines = hard_wrap_composite(alloc, &composite, 120, &skin)?;
@@ -188,8 +189,14 @@ fn items_without_and_with_room_rows(rt: &impl Abort, alloc: Global) -> Result<()
     assert!(rt; item.visible_length > 8);
     let lines = hard_wrap_composite(alloc, &item, 8, &block)?;
     assert_eq!(rt; lines.len(), 2);
-    assert_eq!(rt; (lines[0].kind, lines[0].visible_length), (CompositeKind::ListItem(0), 8));
-    assert_eq!(rt; (lines[1].kind, lines[1].visible_length), (CompositeKind::ListItemFollowUp(0), 4));
+    assert_eq!(rt;
+        (lines[0].kind, lines[0].visible_length),
+        (CompositeKind::ListItem(0), 8)
+    );
+    assert_eq!(rt;
+        (lines[1].kind, lines[1].visible_length),
+        (CompositeKind::ListItemFollowUp(0), 4)
+    );
     let deep = composite(alloc, "ab", CompositeStyle::ListItem(255), &block)?;
     assert_wrap(rt, alloc, &deep, 3, &block, "\n|a|\n|b|\n")?;
     assert_bound(rt, alloc, &deep, 3, &block, &[0, 1])?;
@@ -223,7 +230,10 @@ fn starts_that_show_nothing_rows(rt: &impl Abort, alloc: Global) -> Result<(), E
         let bound = WrapBound {
             starts: starts.to_vec(alloc)?,
         };
-        assert_eq!(rt; check_wrap_bound(alloc, &composite, 5, &skin, &bound)?, wanted);
+        assert_eq!(rt;
+            check_wrap_bound(alloc, &composite, 5, &skin, &bound)?,
+            wanted
+        );
     }
     assert_bound(rt, alloc, &composite, 9, &skin, &[0])
 }
@@ -271,7 +281,12 @@ fn margins_of_the_style_or_want_of_memory(rt: HostRuntime) {
 fn margins_of_the_style_rows(rt: &impl Abort, alloc: Global) -> Result<(), Error> {
     let rows = [
         (2, 3, "|aaaa|| |\n|bbbb|| |\n|cccc|\n", (2, 3)),
-        (usize::MAX, usize::MAX, "|aaaa|| ||bbbb|| |\n|cccc|\n", (0, 0)),
+        (
+            usize::MAX,
+            usize::MAX,
+            "|aaaa|| ||bbbb|| |\n|cccc|\n",
+            (0, 0),
+        ),
     ];
     for (left, right, wanted, margins) in rows {
         let skin = skin_with(left, right, ListItemsIndentationMode::Block);

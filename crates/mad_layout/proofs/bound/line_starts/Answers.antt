@@ -1,4 +1,4 @@
-use Rattle.std.proofs.Common.{◌≡◌, ◌+◌, ◌++◌, ◌∷◌, ◌<◌, [], Some, None, take, get_or, is_some, length, refl, sym, ap, ◌∙◌, arith, subst}
+use Rattle.std.proofs.Common.{◌≡◌, ◌++◌, ◌∷◌, ◌<◌, [], Some, None, take, length, sym, ap, ◌∙◌, arith, subst}
 use Rattle.std.proofs.lemmas.List.{take_all, take_more, length-take}
 use Rattle.mad_layout.specs.PlacedLines.{ArePlacedStarts}
 use Rattle.mad_layout.proofs.StartLemmas.{StartsSoFar, starts_begin, starts_fit, starts_end, starts_next, starts_all}
@@ -34,6 +34,6 @@ returns c =
       | in-Some-dropped+in_ok-push_start-2 w ↦
           starts_all _ _ _ _ _ c.match-dropped.starts.items held (λ e. absurd (let was = w.in-Some-dropped.is in cc))
           (λ n e. let same : w.in-Some-dropped.first ≡ n = (let was = w.in-Some-dropped.is in cc) in
-            subst (λ m. 0 < m → c.match-dropped.starts.items ≡ c.loop-i.starts.items ++ m ∷ []) same (λ some. ap (λ v. v.items) w.starts-is ∙ w.in_ok-push_start-2.ensures some))
+          subst (λ m. 0 < m → c.match-dropped.starts.items ≡ c.loop-i.starts.items ++ m ∷ []) same (λ some. ap (λ v. v.items) w.starts-is ∙ w.in_ok-push_start-2.ensures some))
       | in_default-dropped w ↦ starts_all _ _ _ _ _ c.match-dropped.starts.items held (λ e. ap (λ v. v.items) w.starts-is) (λ n e. absurd (w.in_default-dropped.not-Some n e))
     ]
