@@ -1,5 +1,6 @@
 pub mod AreaLemmas
 pub mod BoundLemmas
+pub mod BoundOfLemmas
 pub mod CutLemmas
 pub mod DrawableLemmas
 pub mod HeadlineLemmas
@@ -12,5 +13,7 @@ pub mod PieceLemmas
 pub mod PlaceLemmas
 pub mod RowLemmas
 pub mod ShownLemmas
+pub mod StartLemmas
+pub mod StartsOfLemmas
 pub mod WholeTokens
 pub mod WrapLemmas

@@ -8,7 +8,6 @@
 // 6. `bound`: starts of lines that show that no break has fewer.
 #![tactic(auto)]
 
-
 pub mod bound;
 mod clean_cut;
 pub mod composite;
@@ -26,7 +25,6 @@ pub mod skin;
 mod tests;
 pub mod wrap;
 mod writing;
-
 
 pub use bound::{WrapBound, check_wrap_bound, wrap_bound};
 pub use composite::FmtComposite;

@@ -153,9 +153,7 @@ impl MadSkin {
     {
         match kind {
             CompositeKind::Code => &self.code_block,
-            CompositeKind::Header(level) if level >= 1 && level <= 8 => {
-                &self.headers[level as usize - 1]
-            }
+            CompositeKind::Header(level @ 1..=8) => &self.headers[level as usize - 1],
             _ => &self.paragraph,
         }
     }
