@@ -1,16 +1,15 @@
 -- A composite by itself is displayed as it is written.
-use Rattle.std.proofs.Common.{◌≡◌, ℕ, zero, ◌+◌, List, [], ◌∷◌, ◌++◌, map, Option, None, Result, Ok, Err, IfOk, ap, sym, ◌∙◌, subst, arith}
+use Rattle.std.proofs.Common.{◌≡◌, ℕ, ◌+◌, List, [], ◌++◌, map, None, ap, ◌∙◌, arith}
 use Rattle.std.specs.Prelude.{false, unwrap_or}
 use Rattle.std.proofs.lemmas.List.{append-nil}
-use Rattle.mad_md.specs.Flagged.{Run, run_of, run_at}
-use Rattle.mad_md.specs.Inline.{Item, IsInlineReading, runs}
+use Rattle.mad_md.specs.Flagged.{run_of}
 use Rattle.mad_style.specs.declared.compound_styles.CompoundStyle.{CompoundStyle}
 use Rattle.mad_style.specs.declared.line_styles.LineStyle.{LineStyle}
 use Rattle.mad_style.specs.declared.kinds.CompositeKind.TheVariants.{Paragraph}
 use Rattle.mad_style.specs.LineStyles.{margins_at}
-use Rattle.mad_layout.specs.Inlines.{IsInlineOf, IsDisplayedAsWritten, inline_bytes}
+use Rattle.mad_layout.specs.Inlines.{IsInlineOf, IsDisplayedAsWritten}
 use Rattle.mad_layout.specs.Pieces.{RowPiece, pieces_bytes, spaces}
-use Rattle.mad_layout.specs.Rows.{align_in, place_of, left_of_place, right_of_place, inner_blanks, margins_of, mark_pieces, run_piece, compound_piece, composite_pieces, free_pieces}
+use Rattle.mad_layout.specs.Rows.{align_in, place_of, left_of_place, right_of_place, inner_blanks, margins_of, mark_pieces, compound_piece, composite_pieces, free_pieces}
 use Rattle.mad_layout.specs.Styles.{line_style}
 use Rattle.mad_layout.specs.declared.skin.MadSkin.{MadSkin}
 use Rattle.mad_layout.specs.declared.composite.FmtComposite.{FmtComposite}

@@ -1,10 +1,9 @@
 -- Pieces of spaces, and pieces in a row.
-use Rattle.std.proofs.Common.{◌≡◌, ℕ, zero, suc, ◌+◌, ◌==◌, Bool, true, false, List, [], ◌∷◌, ◌++◌, map, replicate, Result, Ok, Err, OnOk, ◌<◌, length, drop, take, get_or, if◌then◌else◌, refl, ap, sym, subst, ◌∙◌, append_assoc, arith}
+use Rattle.std.proofs.Common.{◌≡◌, ℕ, zero, suc, ◌+◌, ◌==◌, false, List, [], ◌∷◌, ◌++◌, map, replicate, Result, Ok, Err, OnOk, ◌<◌, length, drop, take, get_or, refl, ap, sym, subst, ◌∙◌, append_assoc, arith}
 use Rattle.std.proofs.lemmas.Bool.Decides.{nat_tests}
-use Rattle.std.specs.List.{AllByRecursion, flat_map, repeat}
+use Rattle.std.specs.List.{flat_map, repeat}
 use Rattle.std.proofs.lemmas.List.{append-nil, at_drop_more, flat_map_more, map-append, take_more}
 use Rattle.std.proofs.lemmas.List.Concat.{flat_map-append}
-use Rattle.mad_term.specs.declared.styles.ContentStyle.{ContentStyle}
 use Rattle.mad_term.specs.Styles.{IsStyle, piece_bytes, styled_run_bytes}
 use Rattle.mad_style.specs.declared.compound_styles.CompoundStyle.{CompoundStyle}
 use Rattle.mad_style.specs.Runs.{run_bytes}
@@ -62,8 +61,8 @@ known_both (p ∷ ps) qs h k = (h.0, known_both ps qs h.1 k)
 pub appends_both : (a b c : List ℕ) (ps qs : List RowPiece) → Appends a ps b → Appends b qs c → Appends a (ps ++ qs) c
 appends_both a b c ps qs h k = record {
   bytes =
-    k.bytes ∙ ap (λ xs. xs ++ pieces_bytes qs) h.bytes ∙ append_assoc a (pieces_bytes ps) (pieces_bytes qs)
-    ∙ ap (λ xs. a ++ xs) (sym (flat_map-append (λ (p : RowPiece). piece_bytes p.style p.text) ps qs));
+      k.bytes ∙ ap (λ xs. xs ++ pieces_bytes qs) h.bytes ∙ append_assoc a (pieces_bytes ps) (pieces_bytes qs)
+      ∙ ap (λ xs. a ++ xs) (sym (flat_map-append (λ (p : RowPiece). piece_bytes p.style p.text) ps qs));
   known = known_both ps qs h.known k.known;
 }
 

@@ -178,12 +178,31 @@ impl fmt::Display for PlacedComposite<'_, '_> {
         let (left, right) = outer_blanks(self.composite, style.align, self.place);
         let (inner_left, inner_right) = inner_blanks(self.composite);
         let blank = self.skin.paragraph.compound_style;
-        let left = Spaces { style: blank, count: left };
-        let inner_left = Spaces { style: style.compound_style, count: inner_left };
-        let mark = Mark { skin: self.skin, kind: self.composite.kind };
-        let compounds = Compounds { skin: self.skin, style, compounds: &self.composite.compounds };
-        let inner_right = Spaces { style: style.compound_style, count: inner_right };
-        let right = Spaces { style: blank, count: if self.place.right { right } else { 0 } };
+        let left = Spaces {
+            style: blank,
+            count: left,
+        };
+        let inner_left = Spaces {
+            style: style.compound_style,
+            count: inner_left,
+        };
+        let mark = Mark {
+            skin: self.skin,
+            kind: self.composite.kind,
+        };
+        let compounds = Compounds {
+            skin: self.skin,
+            style,
+            compounds: &self.composite.compounds,
+        };
+        let inner_right = Spaces {
+            style: style.compound_style,
+            count: inner_right,
+        };
+        let right = Spaces {
+            style: blank,
+            count: if self.place.right { right } else { 0 },
+        };
         write!(f, "{left}{inner_left}{mark}{compounds}{inner_right}{right}")
     }
 }
@@ -209,7 +228,11 @@ impl fmt::Display for PlacedLine<'_, '_> {
                 let placed = PlacedComposite {
                     skin: self.skin,
                     composite,
-                    place: RowPlace { outer: self.outer, margins, right: false },
+                    place: RowPlace {
+                        outer: self.outer,
+                        margins,
+                        right: false,
+                    },
                 };
                 write!(f, "{placed}")
             }

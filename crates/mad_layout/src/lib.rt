@@ -34,5 +34,5 @@ pub use fmt_text::FmtText;
 pub use indents::composite_kind_widths;
 pub use line::FmtLine;
 pub use skin::MadSkin;
-pub use writing::print_inline;
 pub use wrap::{hard_wrap_composite, hard_wrap_lines};
+pub use writing::print_inline;

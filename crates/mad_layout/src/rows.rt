@@ -66,7 +66,11 @@ fn push_mark(row: &mut String, skin: &MadSkin, kind: CompositeKind) -> Result<()
             push_single_spaces(row, blank, 1)
         }
         CompositeKind::ListItemFollowUp(_) | CompositeKind::OrderedListItemFollowUp { .. } => {
-            push_single_spaces(row, blank, indent_of(kind, skin.list_items_indentation_mode))
+            push_single_spaces(
+                row,
+                blank,
+                indent_of(kind, skin.list_items_indentation_mode),
+            )
         }
         CompositeKind::Quote => {
             push_char(row, skin.quote_mark)?;
@@ -152,7 +156,11 @@ pub(crate) fn inner_blanks(composite: &FmtComposite) -> (usize, usize)
 }
 
 // The blank columns left and right of a composite's own place at the outer width, with the margins.
-pub(crate) fn outer_blanks(composite: &FmtComposite, align: Alignment, place: RowPlace) -> (usize, usize)
+pub(crate) fn outer_blanks(
+    composite: &FmtComposite,
+    align: Alignment,
+    place: RowPlace,
+) -> (usize, usize)
     ensures { result ≡ outer_blanks align place.outer place.margins composite.now }
 {
     let inner = match &composite.spacing {

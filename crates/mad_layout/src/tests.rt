@@ -27,6 +27,7 @@ fn skin_with(left_margin: usize, right_margin: usize, mode: ListItemsIndentation
         code_block: style,
         headers: [style; 8],
         list_items_indentation_mode: mode,
+        ..MadSkin::no_style()
     }
 }
 
