@@ -4,9 +4,16 @@ pub mod Attributes
 pub mod Color
 pub mod Columns
 pub mod Commands
+pub mod Drawing
 pub mod Draws
 pub mod Errors
+pub mod Glyph
+pub mod Grid
+pub mod Painting
 pub mod Scripted
+pub mod Stages
 pub mod Stream
 pub mod Styles
+pub mod Terminal
+pub mod TerminalLaws
 pub mod Trace

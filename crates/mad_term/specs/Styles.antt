@@ -1,6 +1,6 @@
 -- The bytes of colors, attributes and pieces.
 use Rattle.std.specs.Prelude.{◌≡◌, ℕ, ◌+◌, ◌==◌, ◌||◌, not, List, [], ◌∷◌, ◌++◌, Option, Some, None, is_some, if◌then◌else◌}
-use Rattle.std.specs.List.{flat_map}
+use Rattle.std.specs.List.{flat_map, repeat}
 use Rattle.mad_term.specs.declared.attribute.Attribute.{Attribute}
 use Rattle.mad_term.specs.declared.attributes.Attributes.{Attributes}
 use Rattle.mad_term.specs.declared.color.Color.{Color}
@@ -80,3 +80,7 @@ closing_bytes s =
 -- a piece: one text in one style
 abbrev pub piece_bytes : ContentStyle → List ℕ → List ℕ
 piece_bytes style text = opening_bytes style ++ (text ++ closing_bytes style)
+
+-- a run: a text so many times in one style, as one piece; a run of none writes nothing
+abbrev pub styled_run_bytes : ContentStyle → List ℕ → ℕ → List ℕ
+styled_run_bytes style text count = if count == 0 then [] else piece_bytes style (repeat count text)

@@ -10,28 +10,41 @@
 //! 6. [`color`], [`attribute`], [`attributes`]: how a text may look.
 //! 7. [`commands`], [`styles`]: the bytes of moves, erasures and texts in a style, by Display and in a row buffer.
 //! 8. [`queue`]: the same, to a device.
+//! 9. [`pen`], [`cell`], [`screen`], [`reader`]: the plain terminal, which says what bytes show.
+//! 10. [`laws`]: what drawing relies on.
 #![tactic(auto)]
 
 mod attribute;
 mod attributes;
+mod cell;
 mod color;
 mod columns;
 mod commands;
 mod devices;
 mod errors;
+pub mod laws;
+mod pen;
 mod queue;
+mod reader;
+mod runs;
+mod screen;
 mod scripted;
 mod streams;
 mod styles;
 
 pub use attribute::Attribute;
 pub use attributes::Attributes;
+pub use cell::Cell;
 pub use color::Color;
 pub use columns::char_columns;
 pub use commands::{Clear, ClearType, MoveTo, push_clear, push_move};
 pub use devices::{Out, Source, put_all};
 pub use errors::{Error, InsufficientWidthError};
+pub use pen::Pen;
 pub use queue::{queue_bg, queue_clear, queue_fg, queue_move, queue_styled};
+pub use reader::NotPlain;
+pub use runs::{StyledNumber, StyledRun};
+pub use screen::Screen;
 pub use scripted::{CutOut, ScriptSource};
 pub use streams::Stream;
 pub use styles::{ContentStyle, StyledContent, push_background, push_foreground, push_styled};

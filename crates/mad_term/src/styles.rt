@@ -118,9 +118,37 @@ impl fmt::Display for AttributeCommands {
     }
 }
 
+// What a style writes before a text.
+#[derive(Clone, Copy)]
+pub(crate) struct StyleOpening(pub(crate) ContentStyle);
+
+impl fmt::Display for StyleOpening {
+    ghost use Rattle.std.specs.Prelude.{Some};
+    ghost use Rattle.mad_term.specs.Styles.{opening_bytes};
+
+    ghost output = { λ o. Some (opening_bytes o.0) };
+
+    fn fmt<W: fmt::Write>(&self, f: &mut fmt::Formatter<W>) -> fmt::Result {
+        let background = ColorCommand {
+            kind: BACKGROUND,
+            color: self.0.background_color,
+        };
+        let foreground = ColorCommand {
+            kind: FOREGROUND,
+            color: self.0.foreground_color,
+        };
+        let underline = ColorCommand {
+            kind: UNDERLINE,
+            color: self.0.underline_color,
+        };
+        let attributes = AttributeCommands(self.0.attributes);
+        write!(f, "{background}{foreground}{underline}{attributes}")
+    }
+}
+
 // What makes the pen plain again after a text in this style.
 #[tactic(auto, using(std::proofs::lemmas::Fmt::decimal_digit))]
-fn closing_text(style: ContentStyle) -> &'static str
+pub(crate) fn closing_text(style: ContentStyle) -> &'static str
     ensures { result.now ≡ closing_bytes style }
 {
     if style.underline_color.is_some() || !style.attributes.is_empty() {
@@ -149,25 +177,10 @@ impl fmt::Display for StyledContent<'_> {
     ghost output = { λ p. Some (piece_bytes p.style p.content.now) };
 
     fn fmt<W: fmt::Write>(&self, f: &mut fmt::Formatter<W>) -> fmt::Result {
-        let background = ColorCommand {
-            kind: BACKGROUND,
-            color: self.style.background_color,
-        };
-        let foreground = ColorCommand {
-            kind: FOREGROUND,
-            color: self.style.foreground_color,
-        };
-        let underline = ColorCommand {
-            kind: UNDERLINE,
-            color: self.style.underline_color,
-        };
-        let attributes = AttributeCommands(self.style.attributes);
+        let opening = StyleOpening(self.style);
         let content = self.content;
         let closing = closing_text(self.style);
-        write!(
-            f,
-            "{background}{foreground}{underline}{attributes}{content}{closing}"
-        )
+        write!(f, "{opening}{content}{closing}")
     }
 }
 

@@ -1,0 +1,4 @@
+pub mod Areas
+pub mod Columns
+pub mod Completions
+pub mod Tokens

@@ -1,0 +1,139 @@
+-- A layout of a plain text is drawn exactly.
+use Rattle.std.proofs.Common.{◌≡◌, ℕ, zero, suc, ◌+◌, ◌-◌, ◌^◌, ◌<◌, ◌≤◌, inl, inr, List, [], ◌∷◌, ◌++◌, map, Some, None, Contains, refl, sym, ap, ◌∙◌, subst, arith}
+use Rattle.std.specs.List.{AllByRecursion}
+use Rattle.std.specs.Str.{IsUtf8}
+use Rattle.std.proofs.lemmas.Bool.Decides.{nat_tests}
+use Rattle.mad_term.specs.Columns.{char_columns}
+use Rattle.mad_md.specs.Flagged.{FlaggedChar, run_of, flagged_of, flagged_text}
+use Rattle.mad_md.specs.Lines.{StyledRuns}
+use Rattle.mad_md.specs.declared.compound.Compound.{Compound}
+use Rattle.mad_style.specs.Kinds.{kind_of}
+use Rattle.mad_style.specs.LineStyles.{margins_at}
+use Rattle.mad_style.specs.declared.kinds.CompositeKind.{CompositeKind}
+use Rattle.mad_style.specs.declared.kinds.CompositeKind.TheVariants.{Paragraph}
+use Rattle.mad_style.specs.declared.line_styles.LineStyle.{LineStyle}
+use Rattle.mad_fit.specs.Columns.{width_of}
+use Rattle.mad_fit.specs.Tokens.{token_run}
+use Rattle.mad_fit.specs.declared.tokens.Token.{Token}
+use Rattle.mad_fit.proofs.AllLemmas.{all_joined, all_each}
+use Rattle.mad_layout.specs.Drawable.{AreShownPieces, pieces_columns, IsDrawableLine, AreDrawable}
+use Rattle.mad_layout.specs.Indents.{indent, follow_up, room_of}
+use Rattle.mad_layout.specs.Layouts.{IsRead, AreRead, IsLayout}
+use Rattle.mad_layout.specs.Premises.{IsPlainRun, runs_text, IsPlainLine, KeepsPremises}
+use Rattle.mad_layout.specs.Rows.{mark_pieces, compound_piece}
+use Rattle.mad_layout.specs.Styles.{line_style}
+use Rattle.mad_layout.specs.WrappedLines.{margins_of, line_with, IsWrapped, AreLinesWrapped}
+use Rattle.mad_layout.specs.Wraps.{text_of, columns_of, IsMeasured, HasRoom, LinesFit, HaveKinds, IsMadeOf}
+use Rattle.mad_layout.specs.declared.room.Room.{Room}
+use Rattle.mad_layout.specs.declared.skin.MadSkin.{MadSkin}
+use Rattle.mad_layout.specs.declared.composite.FmtComposite.{FmtComposite}
+use Rattle.mad_layout.specs.declared.line.FmtLine.{FmtLine}
+use Rattle.mad_layout.specs.declared.line.FmtLine.TheVariants.{Normal}
+use Rattle.mad_layout.proofs.WholeTokens.{IsShownRun, plain_is_shown, tokens_shown, tokens_are_there}
+
+-- ---- one line
+
+-- what holds of each element holds of one of them
+each_of : {X : Type 0} (P : X → Type 0) (xs : List X) (x : X) → AllByRecursion P xs → Contains xs x → P x
+each_of P [] x h (k, inside, e) = absurd (omega (arith, inside))
+each_of P (y ∷ ys) x h (zero, inside, e) = subst P e h.0
+each_of P (y ∷ ys) x h (suc k, inside, e) = each_of P ys x h.1 (k, omega (arith, inside), e)
+
+pieces_shown : (skin : MadSkin) (style : LineStyle) (ps : List Compound) → AllByRecursion IsShownRun (map run_of ps) → AreShownPieces (map (compound_piece skin style) ps)
+pieces_shown skin style [] h = tt
+pieces_shown skin style (p ∷ ps) h = (record { utf8 = h.0.utf8; shown = h.0.shown }, pieces_shown skin style ps h.1)
+
+-- a paragraph that fits with these margins
+drawable : (skin : MadSkin) (drawn : ℕ) (margins : ℕ × ℕ) (l : FmtComposite) → drawn < 2 ^ 64 - 1 → l.kind ≡ Paragraph → l.spacing ≡ None → IsMeasured skin l
+    → margins.0 + columns_of skin l + margins.1 ≤ drawn → AllByRecursion IsShownRun (map run_of l.compounds.items) → IsDrawableLine skin drawn (line_with margins l)
+drawable skin drawn margins l bound kind spacing measured fits shown = record {
+  spacing = spacing;
+  margins = margins;
+  margins_are = refl;
+  measured = omega (arith, measured, fits, bound);
+  fits = fits;
+  mark = subst (λ k. AreShownPieces (mark_pieces skin k)) (sym kind) tt;
+  indent_is = subst (λ k. pieces_columns (mark_pieces skin k) ≡ indent skin.list_items_indentation_mode k) (sym kind) refl;
+  text = pieces_shown skin (line_style skin l.kind) l.compounds.items shown;
+}
+
+-- the lines of a paragraph that is wrapped in what its margins leave
+wrapped_drawable : (skin : MadSkin) (drawn first : ℕ) (margins : ℕ × ℕ) (r : Room) (ps : List Compound) (ts : List Token) (wrap : List FmtComposite) → drawn < 2 ^ 64 - 1
+    → margins.0 + r.width + margins.1 ≤ drawn → AllByRecursion IsShownRun (map run_of ps ++ map token_run ts) → HaveKinds Paragraph Paragraph wrap → AllByRecursion (λ l. l.spacing ≡ None) wrap
+    → AllByRecursion (IsMeasured skin) wrap → LinesFit first r (map text_of wrap) → AllByRecursion (IsMadeOf ps ts) wrap → AreDrawable skin drawn (map (line_with margins) wrap)
+wrapped_drawable skin drawn first margins r ps ts [] bound inside shown kinds spacing measured fits parts = tt
+wrapped_drawable skin drawn first margins r ps ts (l ∷ ls) bound inside shown kinds spacing measured fits parts =
+    let runs = map run_of ps ++ map token_run ts in
+    let none : indent skin.list_items_indentation_mode l.kind ≡ 0 = ap (indent skin.list_items_indentation_mode) kinds.0 in (
+      drawable skin drawn margins l bound kinds.0 spacing.0 measured.0 (omega (arith, none, fits.0, inside))
+          (all_each (Contains runs) IsShownRun (λ x has. each_of IsShownRun runs x shown has) (map run_of l.compounds.items) parts.0),
+      wrapped_drawable skin drawn r.other margins r ps ts ls bound inside shown kinds.1 spacing.1 measured.1 fits.1 parts.1,
+    )
+
+-- ---- a composite as it was read
+
+runs_are : (ps : List Compound) → runs_text (map run_of ps) ≡ flagged_text ps
+runs_are [] = refl
+runs_are (p ∷ ps) = ap (λ l. flagged_of p ++ l) (runs_are ps)
+
+utf8_of : (ps : List Compound) → AllByRecursion IsPlainRun (map run_of ps) → AllByRecursion (λ p. IsUtf8 p.src.now) ps
+utf8_of [] h = tt
+utf8_of (p ∷ ps) h = (h.0.utf8, utf8_of ps h.1)
+
+margins-le : (style : LineStyle) (width : ℕ) → (margins_at style (Some width)).0 + (margins_at style (Some width)).1 ≤ width
+margins-le style width = grind (arith, nat_tests)
+
+-- where the composite doesn't fit, its characters have room
+has_room : (skin : MadSkin) (width : ℕ) (line : StyledRuns) (source : FmtComposite) → IsPlainLine skin width line → IsRead skin line source
+    → width < source.visible_length + (margins_of skin width source).0 + (margins_of skin width source).1
+    → HasRoom (room_of skin source.kind (width - (margins_of skin width source).0 - (margins_of skin width source).1)) (text_of source)
+has_room skin width line source plain read wide =
+    let left = λ (k : CompositeKind). width - (margins_at (line_style skin k) (Some width)).0 - (margins_at (line_style skin k) (Some width)).1 in
+    let premise = λ (k : CompositeKind) (text : List FlaggedChar). left k < indent skin.list_items_indentation_mode k + width_of text → HasRoom (room_of skin k (left k)) text in
+    let text : runs_text line.runs ≡ text_of source = ap runs_text (sym read.runs) ∙ runs_are source.compounds.items in
+    let room : premise source.kind (text_of source) = subst (λ k. premise k (text_of source)) (sym read.kind) (subst (premise (kind_of line.style)) text plain.room) in
+    room (omega (arith, wide, read.measured, margins-le (line_style skin source.kind) width))
+
+read_drawable : (skin : MadSkin) (width drawn : ℕ) (line : StyledRuns) (source : FmtComposite) (lines : List FmtLine) → width ≤ drawn → drawn < 2 ^ 64 - 1
+    → IsPlainLine skin width line → IsRead skin line source → IsWrapped skin width source lines → AreDrawable skin drawn lines
+read_drawable skin width drawn line source lines narrower bound plain read (inl (fits, same)) =
+    let kind : source.kind ≡ Paragraph = read.kind ∙ ap kind_of plain.paragraph in
+    let margins : ℕ × ℕ = margins_of skin width source in
+    let runs : AllByRecursion IsPlainRun (map run_of source.compounds.items) = subst (AllByRecursion IsPlainRun) (sym read.runs) plain.runs in
+    let one = drawable skin drawn margins source bound kind read.spacing read.measured (omega (arith, fits, read.measured, narrower, bound))
+    (all_each IsPlainRun IsShownRun plain_is_shown (map run_of source.compounds.items) runs) in
+    subst (AreDrawable skin drawn) (sym same) (one, tt)
+read_drawable skin width drawn line source lines narrower bound plain read (inr (wide, (wrap, wraps, same))) =
+    let kind : source.kind ≡ Paragraph = read.kind ∙ ap kind_of plain.paragraph in
+    let ps = source.compounds.items in
+    let margins : ℕ × ℕ = margins_of skin width source in
+    let r : Room = room_of skin source.kind (width - margins.0 - margins.1) in
+    let runs : AllByRecursion IsPlainRun (map run_of ps) = subst (AllByRecursion IsPlainRun) (sym read.runs) plain.runs in
+    let room : HasRoom r (text_of source) = has_room skin width line source plain read wide in
+    let narrow : AllByRecursion (λ x. char_columns x.char ≤ r.width - r.first) (flagged_text ps) =
+    all_each (λ x. r.first + char_columns x.char ≤ r.width) (λ x. char_columns x.char ≤ r.width - r.first) (λ x h. omega (arith, h)) (flagged_text ps) room.each in
+    let tokens = tokens_are_there (r.width - r.first) ps (utf8_of ps runs) in
+    let shown = all_joined IsShownRun (map run_of ps) (map token_run tokens.0) (all_each IsPlainRun IsShownRun plain_is_shown (map run_of ps) runs)
+    (tokens_shown (r.width - r.first) ps tokens.0 runs narrow tokens.1) in
+    subst (AreDrawable skin drawn) (sym same)
+    (wrapped_drawable skin drawn r.first margins r ps tokens.0 wrap bound (omega (arith, narrower, margins-le (line_style skin source.kind) width)) shown
+    (subst (λ k. HaveKinds k (follow_up k) wrap) kind wraps.kinds)
+    (subst (λ s. AllByRecursion (λ (l : FmtComposite). l.spacing ≡ s) wrap) read.spacing wraps.spacing)
+    wraps.measured (wraps.fits room) (wraps.least tokens.0 tokens.1).parts)
+
+-- ---- a text
+
+lines_drawable : (skin : MadSkin) (width drawn : ℕ) (text : List StyledRuns) (read lines : List FmtLine) → width ≤ drawn → drawn < 2 ^ 64 - 1
+    → KeepsPremises skin width text → AreRead skin text read → AreLinesWrapped skin width read lines → AreDrawable skin drawn lines
+lines_drawable skin width drawn [] [] lines narrower bound keeps reads wraps = subst (AreDrawable skin drawn) (sym wraps) tt
+lines_drawable skin width drawn [] (l ∷ ls) lines narrower bound keeps reads wraps = absurd reads
+lines_drawable skin width drawn (c ∷ cs) [] lines narrower bound keeps reads wraps = absurd reads
+lines_drawable skin width drawn (c ∷ cs) (Normal l ∷ ls) lines narrower bound keeps reads (own, others, joins, here, more) =
+    subst (AreDrawable skin drawn) (sym joins)
+    (all_joined (IsDrawableLine skin drawn) own others (read_drawable skin width drawn c l own narrower bound keeps.0 reads.0 here)
+    (lines_drawable skin width drawn cs ls others narrower bound keeps.1 reads.1 more))
+
+-- A layout of a text that keeps the premises is drawn exactly in a row at least as wide.
+pub layout_is_drawable : (skin : MadSkin) (width drawn : ℕ) (text : List StyledRuns) (lines : List FmtLine) → width ≤ drawn → drawn < 2 ^ 64 - 1
+    → KeepsPremises skin width text → IsLayout skin width text lines → AreDrawable skin drawn lines
+layout_is_drawable skin width drawn text lines narrower bound keeps layout = lines_drawable skin width drawn text layout.read lines narrower bound keeps layout.reads layout.wraps

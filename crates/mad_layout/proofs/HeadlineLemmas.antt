@@ -1,0 +1,64 @@
+-- From a layout to what its area shows.
+use Rattle.std.proofs.Common.{◌≡◌, ℕ, ◌-◌, ◌≤◌, List, [], inl, inr, Some, Result, Ok, Err, OnOk, IfOk, ap, ◌∙◌, subst, arith}
+use Rattle.std.specs.Prelude.{Bool, false, nat_lt, MatchBool}
+use Rattle.std.proofs.lemmas.Bool.Decides.{nat_tests}
+use Rattle.mad_md.specs.Lines.{StyledRuns, contents}
+use Rattle.mad_md.specs.ReadByMarks.{IsReadByMarks}
+use Rattle.mad_md.specs.declared.text.Text.{Text}
+use Rattle.std.proofs.lemmas.List.{append-nil}
+use Rattle.std.specs.Result.{IsErrAnd}
+use Rattle.std.specs.declared.io.Error as io
+use Rattle.mad_term.specs.declared.errors.Error.{Error}
+use Rattle.mad_term.specs.declared.errors.Error.TheVariants.{IO}
+use Rattle.mad_term.specs.Trace.{Trace, TookWith, after, failed, CutShort}
+use Rattle.mad_term.proofs.Exits.{refused_exit}
+use Rattle.mad_fit.specs.Areas.{IsWithinLimits}
+use Rattle.mad_fit.specs.declared.area.Area.{Area}
+use Rattle.mad_layout.specs.Drawable.{AreDrawable}
+use Rattle.mad_layout.specs.InArea.{IsAreaLayout, ShowsText, WritesInArea}
+use Rattle.mad_layout.specs.Layouts.{composites, AreRead, IsLayout, IsLayoutAt}
+use Rattle.mad_layout.specs.Shown.{AreShownIn}
+use Rattle.mad_layout.specs.declared.skin.MadSkin.{MadSkin}
+use Rattle.mad_layout.specs.declared.line.FmtLine.{FmtLine}
+use Rattle.mad_layout.specs.declared.fmt_text.FmtText.{FmtText}
+use Rattle.mad_layout.proofs.DrawableLemmas.{layout_is_drawable}
+
+-- a text that was laid out for an area
+pub area_layout : {E : Type 0} (r : Result FmtText E) (skin : MadSkin) (markdown : List ℕ) (area : Area) (width : ℕ) → width ≡ area.width - 1
+    → IfOk r (λ laid_out. (text : Text) × IsReadByMarks markdown text × IsLayoutAt skin (Some width) (composites (contents text)) laid_out.lines.items)
+    → IfOk r (λ laid_out. IsAreaLayout skin markdown area laid_out.lines.items)
+area_layout {E} (Ok laid_out) skin markdown area width e h = record {
+  text = h.0;
+  read = h.1;
+  layout = subst (λ (w : ℕ). IsLayoutAt skin (Some w) (composites (contents h.0)) laid_out.lines.items) e h.2;
+}
+area_layout {E} (Err x) skin markdown area width e h = tt
+
+-- at a width of three and more the text is wrapped
+wrapped_at : (skin : MadSkin) (width : ℕ) (text : List StyledRuns) (lines : List FmtLine) → 3 ≤ width → IsLayoutAt skin (Some width) text lines → IsLayout skin width text lines
+wrapped_at skin width text lines wide h =
+    let test : nat_lt width 3 ≡ false = grind (arith, nat_tests) in
+    subst (λ (b : Bool). MatchBool b (AreRead skin text lines) (IsLayout skin width text lines)) test h
+
+-- what an area shows of such a text
+pub text_shown : {T E : Type 0} (r : Result T E) (skin : MadSkin) (markdown : List ℕ) (area : Area) (lines : List FmtLine) (old new : Trace) → IsWithinLimits area → IsAreaLayout skin markdown area lines
+    → OnOk r (AreDrawable skin area.width lines → TookWith old new (AreShownIn skin lines area 0))
+    → OnOk r (4 ≤ area.width → ShowsText skin markdown area old new)
+text_shown {T} {E} (Ok x) skin markdown area lines old new limits laid_out h =
+    λ wide. record {
+      lines = lines;
+      laid_out = laid_out;
+      shown = λ premises.
+          let layout : IsLayout skin (area.width - 1) (composites (contents laid_out.text)) lines = wrapped_at skin (area.width - 1) (composites (contents laid_out.text)) lines (omega arith) laid_out.layout in
+          h (layout_is_drawable skin (area.width - 1) area.width (composites (contents laid_out.text)) lines (omega arith) (omega (arith, limits.columns)) premises layout);
+    }
+text_shown {T} {E} (Err x) skin markdown area lines old new limits laid_out h = tt
+
+-- a flush that failed behind a text
+flush_failed : (old mid new : Trace) (text : List ℕ) → mid ≡ after old text → new ≡ failed mid → CutShort old text new
+flush_failed old mid new text went fault = record { front = text; rest = []; whole = append-nil text; went = fault ∙ ap failed went }
+
+pub area_not_flushed : {T U : Type 0} (r : Result T Error) (done : U) (e : io.Error) (skin : MadSkin) (markdown : List ℕ) (area : Area) (old mid new : Trace) → WritesInArea {T = U} skin markdown area old (Ok done) mid → new ≡ failed mid
+    → IsErrAnd r (λ x. x ≡ IO e) → WritesInArea skin markdown area old r new
+area_not_flushed {T} {U} r done e skin markdown area old mid new (inl h) fault is = inl (h.0, h.1, refused_exit r (IO e) old new _ is (flush_failed old mid new _ h.2 fault))
+area_not_flushed {T} {U} r done e skin markdown area old mid new (inr h) fault is = absurd (cc)

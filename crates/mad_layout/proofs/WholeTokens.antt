@@ -1,0 +1,276 @@
+-- The tokens of a plain text begin with a character that takes columns; and there are tokens of each text.
+use Rattle.std.proofs.Common.{◌≡◌, ℕ, zero, suc, ◌+◌, ◌-◌, ◌<◌, ◌≤◌, ◌≢◌, ◌⊎◌, inl, inr, Bool, true, false, not, ◌&&◌, List, [], ◌∷◌, ◌++◌, map, chars, length, drop, refl, sym, ap, ◌∙◌, subst, arith, encode_utf8_all}
+use Rattle.std.specs.List.{AllByRecursion}
+use Rattle.std.specs.Char.{encode_utf8, len_utf8, is_whitespace}
+use Rattle.std.specs.Str.{IsUtf8, IsCharBoundary}
+use Rattle.std.proofs.lemmas.Bool.{false≢true, cases_lt}
+use Rattle.std.proofs.lemmas.Str.{encodes-chars, len_utf8_bounds, chars_past_char, drop_past_char, IsCharBoundary-from_drop}
+use Rattle.std.proofs.lemmas.List.{drop-drop, length-drop, map-append}
+use Rattle.mad_term.specs.Columns.{char_columns}
+use Rattle.mad_term.specs.Painting.{IsPrinted, IsWhole, IsShown}
+use Rattle.mad_term.proofs.CharColumns.{char_columns-le}
+use Rattle.mad_md.specs.Flagged.{Flags, FlaggedChar, Run, flagged, flags_of, run_of, flagged_of, flagged_text, is_blank}
+use Rattle.mad_md.specs.declared.compound.Compound.{Compound}
+use Rattle.mad_fit.specs.Tokens.{StopsBefore, IsAlike, IsTokenAt, AreTokensFrom, AreTokensOf, flagged_token, token_text, token_run}
+use Rattle.mad_fit.specs.declared.tokens.Token.{Token}
+use Rattle.mad_fit.proofs.AllLemmas.{all_joined, all_front, all_back}
+use Rattle.mad_fit.proofs.TokenLemmas.{IsFront, front_start, front_more, token_is}
+use Rattle.mad_fit.proofs.TokenTexts.{text_at, some_flagged}
+use Rattle.mad_layout.specs.Premises.{AreJoined, IsPlainRun}
+
+-- ---- characters without their flags
+
+abbrev pub plain_text : List FlaggedChar → List ℕ
+plain_text xs = map (λ (x : FlaggedChar). x.char) xs
+
+plain-flagged : (f : Flags) (cs : List ℕ) → plain_text (flagged f cs) ≡ cs
+plain-flagged f [] = refl
+plain-flagged f (c ∷ cs) = ap (λ l. c ∷ l) (plain-flagged f cs)
+
+printed_front : (cs ds : List ℕ) → IsPrinted (cs ++ ds) → IsPrinted cs
+printed_front [] ds h = tt
+printed_front (c ∷ cs) ds h = (h.0, printed_front cs ds h.1)
+
+printed_back : (cs ds : List ℕ) → IsPrinted (cs ++ ds) → IsPrinted ds
+printed_back [] ds h = h
+printed_back (c ∷ cs) ds h = printed_back cs ds h.1
+
+whole_front : (cs ds : List ℕ) → IsWhole (cs ++ ds) → IsWhole cs
+whole_front [] ds h = tt
+whole_front (c ∷ cs) ds h = h
+
+positive : (n : ℕ) → (n ≡ 0 → ⊥) → 0 < n
+positive zero h = absurd (h refl)
+positive (suc n) h = omega arith
+
+-- ---- a text that is cut into tokens
+
+-- whether a character that isn't blank stands in front of what follows these
+abbrev behind : Bool → List FlaggedChar → Bool
+behind b [] = b
+behind b (x ∷ xs) = behind (not (is_blank x)) xs
+
+joined_back : (b : Bool) (xs ys : List FlaggedChar) → AreJoined b (xs ++ ys) → AreJoined (behind b xs) ys
+joined_back b [] ys h = h
+joined_back b (x ∷ xs) ys h = joined_back (not (is_blank x)) xs ys h.1
+
+behind_alike : (b blank : Bool) (xs : List FlaggedChar) → 0 < length xs → AllByRecursion (λ x. is_blank x ≡ blank) xs → behind b xs ≡ not blank
+behind_alike b blank [] some h = absurd (omega arith)
+behind_alike b blank (x ∷ []) some h = ap not h.0
+behind_alike b blank (x ∷ y ∷ xs) some h = behind_alike (not (is_blank x)) blank (y ∷ xs) (omega arith) h.1
+
+-- what is left of a plain text where a token begins
+record IsRest (max : ℕ) (xs : List FlaggedChar) : Type 0 where
+  printed : IsPrinted (plain_text xs)
+  whole : IsWhole (plain_text xs)
+  ahead : Bool
+  joined : AreJoined ahead xs
+  narrow : AllByRecursion (λ x. char_columns x.char ≤ max) xs
+
+not_blank : (blank : Bool) → not blank ≡ true → blank ≡ false
+not_blank false h = refl
+not_blank true h = absurd (false≢true h)
+
+-- a widthless character behind a token would be part of it
+none_widthless : (max w : ℕ) (blank : Bool) (xs ys : List FlaggedChar) (y : FlaggedChar) → 0 < length xs → IsAlike max blank w xs → AllByRecursion (λ x. char_columns x.char ≤ max) xs
+    → StopsBefore max blank w (y ∷ ys) → char_columns y.char ≡ 0 → is_whitespace y.char ≡ false → not blank ≡ true → ⊥
+none_widthless max w blank [] ys y some alike narrow stops none black after = absurd (omega arith)
+none_widthless max w blank xs ys y some alike narrow (inl differs) none black after =
+    differs (ap (λ (v : Bool). v && not y.flags.code) black ∙ sym (not_blank blank after))
+none_widthless max w blank (x ∷ []) ys y some alike narrow (inr passes) none black after = omega (arith, alike.counts, narrow.0, passes, none)
+none_widthless max w blank (x ∷ z ∷ xs) ys y some alike narrow (inr passes) none black after = omega (arith, alike.within (omega arith), passes, none)
+
+whole_behind : (max w : ℕ) (blank b : Bool) (xs ys : List FlaggedChar) → 0 < length xs → IsAlike max blank w xs → AllByRecursion (λ x. char_columns x.char ≤ max) xs
+    → StopsBefore max blank w ys → AreJoined (behind b xs) ys → IsWhole (plain_text ys)
+whole_behind max w blank b xs [] some alike narrow stops joined = tt
+whole_behind max w blank b xs (y ∷ ys) some alike narrow stops joined =
+    positive (char_columns y.char) (λ none.
+    none_widthless max w blank xs ys y some alike narrow stops none (joined.0 none).0 (sym (behind_alike b blank xs some alike.alike) ∙ (joined.0 none).1))
+
+-- the text in front is shown, and where the next begins the rest is as this was
+cut_rest : (max w : ℕ) (blank : Bool) (xs ys : List FlaggedChar) → 0 < length xs → IsAlike max blank w xs → StopsBefore max blank w ys → IsRest max (xs ++ ys)
+    → IsShown (plain_text xs) × IsRest max ys
+cut_rest max w blank xs ys some alike stops h =
+    let cut : plain_text (xs ++ ys) ≡ plain_text xs ++ plain_text ys = map-append (λ (x : FlaggedChar). x.char) xs ys in
+    let printed : IsPrinted (plain_text xs ++ plain_text ys) = subst IsPrinted cut h.printed in
+    let whole : IsWhole (plain_text xs ++ plain_text ys) = subst IsWhole cut h.whole in
+    let joined : AreJoined (behind h.ahead xs) ys = joined_back h.ahead xs ys h.joined in (
+      record { printed = printed_front (plain_text xs) (plain_text ys) printed; whole = whole_front (plain_text xs) (plain_text ys) whole },
+      record {
+        printed = printed_back (plain_text xs) (plain_text ys) printed;
+        whole = whole_behind max w blank h.ahead xs ys some alike (all_front (λ x. char_columns x.char ≤ max) xs ys h.narrow) stops joined;
+        ahead = behind h.ahead xs;
+        joined = joined;
+        narrow = all_back (λ x. char_columns x.char ≤ max) xs ys h.narrow;
+      },
+    )
+
+-- ---- runs that are shown
+
+-- the run's text shows cells of its own
+pub record IsShownRun (r : Run) : Type 0 where
+  pub utf8 : IsUtf8 r.text
+  pub shown : IsShown (chars r.text)
+
+joined_whole : (f : Flags) (cs : List ℕ) → AreJoined false (flagged f cs) → IsWhole cs
+joined_whole f [] h = tt
+joined_whole f (c ∷ cs) h = positive (char_columns c) (λ none. false≢true (h.0 none).1)
+
+pub plain_is_shown : (r : Run) → IsPlainRun r → IsShownRun r
+plain_is_shown r h = record { utf8 = h.utf8; shown = record { printed = h.printed; whole = joined_whole r.flags (chars r.text) h.joined } }
+
+shown_from : (max start : ℕ) (p : Compound) (ts : List Token) → AreTokensFrom max p start ts → IsRest max (flagged (flags_of p) (chars (drop start p.src.now)))
+    → AllByRecursion IsShownRun (map token_run ts)
+shown_from max start p [] h rest = tt
+shown_from max start p (t ∷ ts) (first, more) rest =
+    let cut = cut_rest max t.width t.blank (flagged_token t) (flagged (flags_of p) (chars (drop t.end_in_compound p.src.now))) (some_flagged t first.place) first.alike first.stops
+    (subst (IsRest max) (text_at max start p t first) rest) in (
+      record { utf8 = first.place.utf8; shown = subst IsShown (plain-flagged (flags_of t.compound) (chars (token_text t))) cut.0 },
+      shown_from max t.end_in_compound p ts more cut.1,
+    )
+
+rest_at_start : (max : ℕ) (p : Compound) → IsPlainRun (run_of p) → AllByRecursion (λ x. char_columns x.char ≤ max) (flagged_of p) → IsRest max (flagged_of p)
+rest_at_start max p h narrow =
+    let same : plain_text (flagged_of p) ≡ chars p.src.now = plain-flagged (flags_of p) (chars p.src.now) in
+    record {
+      printed = subst IsPrinted (sym same) h.printed;
+      whole = subst IsWhole (sym same) (joined_whole (flags_of p) (chars p.src.now) h.joined);
+      ahead = false;
+      joined = h.joined;
+      narrow = narrow;
+    }
+
+-- the tokens of plain compounds are shown
+pub tokens_shown : (max : ℕ) (ps : List Compound) (ts : List Token) → AllByRecursion IsPlainRun (map run_of ps) → AllByRecursion (λ x. char_columns x.char ≤ max) (flagged_text ps)
+    → AreTokensOf max ps ts → AllByRecursion IsShownRun (map token_run ts)
+tokens_shown max [] ts plain narrow h = subst (λ (l : List Token). AllByRecursion IsShownRun (map token_run l)) (sym h) tt
+tokens_shown max (p ∷ ps) ts plain narrow (own, others, joins, first, more) =
+    let is = λ (x : FlaggedChar). char_columns x.char ≤ max in
+    let here = shown_from max 0 p own first (rest_at_start max p plain.0 (all_front is (flagged_of p) (flagged_text ps) narrow)) in
+    let behind_it = tokens_shown max ps others plain.1 (all_back is (flagged_of p) (flagged_text ps) narrow) more in
+    subst (AllByRecursion IsShownRun) (sym (ap (map token_run) joins ∙ map-append token_run own others)) (all_joined IsShownRun (map token_run own) (map token_run others) here behind_it)
+
+-- ---- there are tokens
+
+-- a token is begun and not ended, and these characters follow it
+record IsOpen (max : ℕ) (p : Compound) (start end width : ℕ) (blank : Bool) (cs : List ℕ) : Type 0 where
+  inside : start ≤ length p.src.now
+  border : IsCharBoundary p.src.now start
+  some : start < end
+  front : IsFront max (flags_of p) (drop start p.src.now) (end - start) blank width
+  follows : chars (drop end p.src.now) ≡ cs
+
+-- the rest of a text behind its first character
+splits : (bs cs : List ℕ) (c : ℕ) → IsUtf8 bs → chars bs ≡ c ∷ cs → bs ≡ encode_utf8 c ++ encode_utf8_all cs
+splits bs cs c utf8 e = sym (encodes-chars bs utf8) ∙ ap encode_utf8_all e
+
+empty : (bs : List ℕ) → IsUtf8 bs → chars bs ≡ [] → length bs ≡ 0
+empty bs utf8 e = ap length (sym (encodes-chars bs utf8) ∙ ap encode_utf8_all e)
+
+chars_behind : (bs cs : List ℕ) (c : ℕ) → IsUtf8 bs → chars bs ≡ c ∷ cs → chars (encode_utf8_all cs) ≡ cs
+chars_behind bs cs c utf8 e =
+    let both : c ∷ chars (encode_utf8_all cs) ≡ c ∷ cs = sym (chars_past_char bs (encode_utf8_all cs) c utf8 (splits bs cs c utf8 e)) ∙ e in
+    cc
+
+-- what follows the open token
+open_rest : (max start end width : ℕ) (p : Compound) (blank : Bool) (cs : List ℕ) → IsOpen max p start end width blank cs → drop (end - start) (drop start p.src.now) ≡ drop end p.src.now
+open_rest max start end width p blank cs h = drop-drop (end - start) start p.src.now ∙ ap (λ n. drop n p.src.now) (omega (arith, h.some))
+
+-- what becomes of the next character
+abbrev Takes : ℕ → Bool → ℕ → FlaggedChar → Type 0
+Takes max blank width x = ((is_blank x ≡ blank) × (width + char_columns x.char ≤ max)) ⊎ ((is_blank x ≢ blank) ⊎ (max < width + char_columns x.char))
+
+same_or_not : (a b : Bool) → (a ≡ b) ⊎ (a ≢ b)
+same_or_not false false = inl refl
+same_or_not false true = inr false≢true
+same_or_not true false = inr (λ e. false≢true (sym e))
+same_or_not true true = inl refl
+
+takes : (max width : ℕ) (blank : Bool) (x : FlaggedChar) → Takes max blank width x
+takes max width blank x = elim (same_or_not (is_blank x) blank) as (λ _. Takes max blank width x) [
+  | inl same ↦ elim (cases_lt max (width + char_columns x.char)) as (λ _. Takes max blank width x) [
+    | inl passes ↦ inr (inr passes)
+    | inr fits ↦ inl (same, fits)
+  ]
+  | inr differs ↦ inr (inl differs)
+]
+
+-- an open token takes in the next character
+open_more : (max start end width : ℕ) (p : Compound) (blank : Bool) (c : ℕ) (cs : List ℕ) → IsOpen max p start end width blank (c ∷ cs)
+    → is_blank (record { char = c; flags = flags_of p }) ≡ blank → width + char_columns c ≤ max → IsOpen max p start (end + len_utf8 c) (width + char_columns c) blank cs
+open_more max start end width p blank c cs h same fits =
+    let bs = p.src.now in
+    let there = open_rest max start end width p blank (c ∷ cs) h in
+    let utf8 : IsUtf8 (drop end bs) = subst IsUtf8 there h.front.rest in
+    let parts : drop end bs ≡ encode_utf8 c ++ encode_utf8_all cs = splits (drop end bs) cs c utf8 h.follows in
+    let one : (end - start) + len_utf8 c ≡ (end + len_utf8 c) - start = omega (arith, h.some) in
+    record {
+      inside = h.inside;
+      border = h.border;
+      some = omega (arith, h.some);
+      front = subst (λ n. IsFront max (flags_of p) (drop start bs) n blank (width + char_columns c)) one
+          (front_more max (flags_of p) (drop start bs) (encode_utf8_all cs) (end - start) c width blank blank h.front (there ∙ parts) (char_columns-le c) same (inr (refl, fits)));
+      follows = ap chars (drop_past_char bs (encode_utf8_all cs) end c parts) ∙ chars_behind (drop end bs) cs c utf8 h.follows;
+    }
+
+-- a token is begun with the next character
+open_new : (max start : ℕ) (p : Compound) (c : ℕ) (cs : List ℕ) → start ≤ length p.src.now → IsUtf8 (drop start p.src.now) → chars (drop start p.src.now) ≡ c ∷ cs
+    → IsOpen max p start (start + len_utf8 c) (char_columns c) (is_blank (record { char = c; flags = flags_of p })) cs
+open_new max start p c cs inside utf8 follows =
+    let bs = p.src.now in
+    let b = is_blank (record { char = c; flags = flags_of p }) in
+    let parts : drop start bs ≡ encode_utf8 c ++ encode_utf8_all cs = splits (drop start bs) cs c utf8 follows in
+    let one : 0 + len_utf8 c ≡ (start + len_utf8 c) - start = omega arith in
+    let none : 0 + char_columns c ≡ char_columns c = omega arith in
+    let front : IsFront max (flags_of p) (drop start bs) (0 + len_utf8 c) b (0 + char_columns c) =
+    front_more max (flags_of p) (drop start bs) (encode_utf8_all cs) 0 c 0 b b (front_start max (flags_of p) (drop start bs) b utf8) parts (char_columns-le c) refl (inl refl) in
+    record {
+      inside = inside;
+      border = IsCharBoundary-from_drop bs start inside utf8;
+      some = omega (arith, (len_utf8_bounds c).0);
+      front = subst (λ n. IsFront max (flags_of p) (drop start bs) n b (char_columns c)) one (subst (IsFront max (flags_of p) (drop start bs) (0 + len_utf8 c) b) none front);
+      follows = ap chars (drop_past_char bs (encode_utf8_all cs) start c parts) ∙ chars_behind (drop start bs) cs c utf8 follows;
+    }
+
+-- the open token ends
+ended : (max start end width : ℕ) (p : Compound) (blank : Bool) (cs : List ℕ) → IsOpen max p start end width blank cs → StopsBefore max blank width (flagged (flags_of p) cs)
+    → IsTokenAt max p start (record { compound = p; blank = blank; width = width; start_in_compound = start; end_in_compound = end })
+ended max start end width p blank cs h stops =
+    let there = open_rest max start end width p blank cs h in
+    token_is max start end width blank p (record { compound = p; blank = blank; width = width; start_in_compound = start; end_in_compound = end }) h.inside h.border h.some h.front
+    (subst (λ (l : List ℕ). StopsBefore max blank width (flagged (flags_of p) l)) (sym (ap chars there ∙ h.follows)) stops) refl
+
+end_inside : (max start end width : ℕ) (p : Compound) (blank : Bool) (cs : List ℕ) → IsOpen max p start end width blank cs → end ≤ length p.src.now
+end_inside max start end width p blank cs h = omega (arith, h.some, h.inside, h.front.within, length-drop start p.src.now)
+
+tokens_from : (max : ℕ) (p : Compound) (cs : List ℕ) (start end width : ℕ) (blank : Bool) → IsOpen max p start end width blank cs → (ts : List Token) × AreTokensFrom max p start ts
+tokens_from max p [] start end width blank h =
+    let there = open_rest max start end width p blank [] h in
+    let none : length (drop end p.src.now) ≡ 0 = empty (drop end p.src.now) (subst IsUtf8 there h.front.rest) h.follows in (
+      record { compound = p; blank = blank; width = width; start_in_compound = start; end_in_compound = end } ∷ [],
+      (ended max start end width p blank [] h tt, omega (arith, none, end_inside max start end width p blank [] h, length-drop end p.src.now)),
+    )
+tokens_from max p (c ∷ cs) start end width blank h =
+    elim (takes max width blank (record { char = c; flags = flags_of p })) as (λ _. (ts : List Token) × AreTokensFrom max p start ts) [
+      | inl more ↦ tokens_from max p cs start (end + len_utf8 c) (width + char_columns c) blank (open_more max start end width p blank c cs h more.0 more.1)
+      | inr stops ↦
+          let utf8 : IsUtf8 (drop end p.src.now) = subst IsUtf8 (open_rest max start end width p blank (c ∷ cs) h) h.front.rest in
+          let others = tokens_from max p cs end (end + len_utf8 c) (char_columns c) (is_blank (record { char = c; flags = flags_of p }))
+          (open_new max end p c cs (end_inside max start end width p blank (c ∷ cs) h) utf8 h.follows) in (
+            record { compound = p; blank = blank; width = width; start_in_compound = start; end_in_compound = end } ∷ others.0,
+            (ended max start end width p blank (c ∷ cs) h stops, others.1),
+          )
+    ]
+
+tokens_at_start : (max : ℕ) (p : Compound) (cs : List ℕ) → IsUtf8 p.src.now → chars p.src.now ≡ cs → (ts : List Token) × AreTokensFrom max p 0 ts
+tokens_at_start max p [] utf8 e = ([], sym (empty p.src.now utf8 e))
+tokens_at_start max p (c ∷ cs) utf8 e =
+    tokens_from max p cs 0 (0 + len_utf8 c) (char_columns c) (is_blank (record { char = c; flags = flags_of p })) (open_new max 0 p c cs (omega arith) utf8 e)
+
+-- there are tokens of texts
+pub tokens_are_there : (max : ℕ) (ps : List Compound) → AllByRecursion (λ p. IsUtf8 p.src.now) ps → (ts : List Token) × AreTokensOf max ps ts
+tokens_are_there max [] h = ([], refl)
+tokens_are_there max (p ∷ ps) h =
+    let own = tokens_at_start max p (chars p.src.now) h.0 refl in
+    let others = tokens_are_there max ps h.1 in
+    (own.0 ++ others.0, (own.0, others.0, refl, own.1, others.1))

@@ -1,0 +1,8 @@
+use Rattle.std.proofs.Common.{ap, ◌∙◌, drop}
+use Rattle.mad_layout.proofs.AreaLemmas.{shown_text}
+use Rattle.mad_layout.proofs.drawing.draw_text.Goals as goal
+
+pub returns-clause-shown : goal.returns-clause-shown
+returns-clause-shown g c =
+    let from = c.lines_from-lines.ensures ∙ ap (drop c.args.scroll) c.as_slice.ensures.value in
+    shown_text c.draw_rows.result c.args.text.now.skin.now c.args.text.now.lines.items _ c.args.area.now c.args.scroll _ _ c.requires from c.draw_rows.ensures.writes c.draw_rows.ensures.known

@@ -1,0 +1,4 @@
+use Rattle.mad_layout.proofs.fmt_text.FmtText.raw_str.Goals as goal
+
+pub returns-clause-lines : goal.returns-clause-lines
+returns-clause-lines c = (c.in_ok-text.text, c.in_ok-text.ensures, c.in_ok-lines.ensures)

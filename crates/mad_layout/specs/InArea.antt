@@ -1,0 +1,34 @@
+-- The headline: what a text shows that was written in an area.
+use Rattle.std.specs.Prelude.{◌≡◌, ◌⊎◌, ℕ, ◌-◌, List, Some, Result, IsErrOf}
+use Rattle.mad_md.specs.Lines.{contents}
+use Rattle.mad_md.specs.ReadByMarks.{IsReadByMarks}
+use Rattle.mad_md.specs.declared.text.Text.{Text}
+use Rattle.mad_term.specs.Draws.{Draws}
+use Rattle.mad_term.specs.Trace.{Trace, TookWith}
+use Rattle.mad_term.specs.declared.errors.Error.{Error}
+use Rattle.mad_term.specs.declared.errors.Error.TheVariants.{Memory}
+use Rattle.mad_fit.specs.declared.area.Area.{Area}
+use Rattle.mad_layout.specs.Layouts.{composites, IsLayoutAt}
+use Rattle.mad_layout.specs.Premises.{KeepsPremises}
+use Rattle.mad_layout.specs.Shown.{area_bytes, AreShownIn}
+use Rattle.mad_layout.specs.declared.skin.MadSkin.{MadSkin}
+use Rattle.mad_layout.specs.declared.line.FmtLine.{FmtLine}
+
+-- The lines are a layout of the text for an area, one column narrower than the area. Each line's wrap is a least one.
+pub record IsAreaLayout (skin : MadSkin) (markdown : List ℕ) (area : Area) (lines : List FmtLine) : Type 0 where
+  pub text : Text
+  pub read : IsReadByMarks markdown text
+  pub layout : IsLayoutAt skin (Some (area.width - 1)) (composites (contents text)) lines
+
+-- What the call does to its device: it draws such a layout, from its first line on; or memory for the layout was refused, and
+-- nothing went out.
+abbrev pub WritesInArea : {T : Type 0} → MadSkin → List ℕ → Area → Trace → Result T Error → Trace → Type 0
+WritesInArea skin markdown area old r new =
+    ((lines : List FmtLine) × IsAreaLayout skin markdown area lines × Draws old (area_bytes skin lines area 0) r new) ⊎ (IsErrOf r Memory × (new ≡ old))
+
+-- What a plain terminal shows that reads what was written, where the text keeps the premises: the first rows of the layout in the
+-- area, every other cell as before, and the plain pen again.
+pub record ShowsText (skin : MadSkin) (markdown : List ℕ) (area : Area) (old new : Trace) : Type 0 where
+  pub lines : List FmtLine
+  pub laid_out : IsAreaLayout skin markdown area lines
+  pub shown : KeepsPremises skin (area.width - 1) (composites (contents laid_out.text)) → TookWith old new (AreShownIn skin lines area 0)

@@ -1,0 +1,54 @@
+-- Wrapping with the fewest lines: what a composite that doesn't fit is wrapped into, at a width.
+use Rattle.std.specs.Prelude.{◌≡◌, ℕ, ◌-◌, ◌<◌, ◌≤◌, true, false, List, map, length, None}
+use Rattle.std.specs.List.{AllByRecursion}
+use Rattle.mad_md.specs.declared.compound.Compound.{Compound}
+use Rattle.mad_fit.specs.Tokens.{AreTokensOf}
+use Rattle.mad_fit.specs.declared.tokens.Token.{Token}
+use Rattle.mad_layout.specs.Breaks.{Piece, FittingBreak, EndsWithLine}
+use Rattle.mad_layout.specs.CleanCut.{is_cut_clean, drops_middle}
+use Rattle.mad_layout.specs.Indents.{follow_up, room_of}
+use Rattle.mad_layout.specs.Keeps.{Keeps}
+use Rattle.mad_layout.specs.Wraps.{text_of, IsMeasured, HasRoom, LinesFit, HaveKinds, NoneEmpty, IsMadeOf, ArePlaced, AreFull}
+use Rattle.mad_layout.specs.declared.room.Room.{Room}
+use Rattle.mad_layout.specs.declared.skin.MadSkin.{MadSkin}
+use Rattle.mad_layout.specs.declared.composite.FmtComposite.{FmtComposite}
+
+-- the tokens of compounds, as they are cut for lines with this room
+abbrev pub AreTokensIn : Room → List Compound → List Token → Type 0
+AreTokensIn r ps ts = AreTokensOf (r.width - r.first) ps ts
+
+-- The lines are the tokens of these compounds in order, or a clean cut, and no fitting break has fewer.
+pub record IsLeastBreak (r : Room) (ps : List Compound) (ts : List Token) (lines : List FmtComposite) : Type 0 where
+  -- each compound is one of the source or a token of one
+  pub parts : AllByRecursion (IsMadeOf ps ts) lines
+  -- but where a clean cut drops a middle, only blank tokens are dropped, and these only behind a line that is full
+  pub placed : drops_middle r ps ≡ false → ArePlaced r ts (map text_of lines)
+  -- and but where the text is cut clean, no line ends before it must
+  pub full : is_cut_clean r ps ≡ false → AreFull r ts (map text_of lines)
+  -- a clean cut makes two lines
+  pub cut : is_cut_clean r ps ≡ true → length lines ≡ 2
+  -- no fitting break that ends with its last line has fewer lines
+  pub least : (breaks : List (Piece Token)) → FittingBreak r ts breaks → EndsWithLine breaks → length lines ≤ length breaks
+  -- nor has one that drops blanks after its last line, but where the text is cut clean
+  pub least_dropping : is_cut_clean r ps ≡ false → (breaks : List (Piece Token)) → FittingBreak r ts breaks → length lines ≤ length breaks
+
+-- The lines are the composite wrapped at a width, in room that its kind leaves.
+pub record IsWrapIn (r : Room) (skin : MadSkin) (source : FmtComposite) (lines : List FmtComposite) : Type 0 where
+  -- no character is lost but whitespace between lines and after the last
+  pub keeps : Keeps (text_of source) (map text_of lines)
+  -- with room each line fits
+  pub fits : HasRoom r (text_of source) → LinesFit r.first r (map text_of lines)
+  -- with room, and where no compound is empty, each line has a character
+  pub some : HasRoom r (text_of source) → NoneEmpty source.compounds.items → AllByRecursion (λ l. 0 < length (text_of l)) lines
+  -- no compound is empty where none of the source is
+  pub none_empty : NoneEmpty source.compounds.items → AllByRecursion (λ l. NoneEmpty l.compounds.items) lines
+  -- with the fewest lines
+  pub least : (ts : List Token) → AreTokensIn r source.compounds.items ts → IsLeastBreak r source.compounds.items ts lines
+  pub kinds : HaveKinds source.kind (follow_up source.kind) lines
+  pub measured : AllByRecursion (IsMeasured skin) lines
+  pub spacing : AllByRecursion (λ l. l.spacing ≡ source.spacing) lines
+  pub margins : AllByRecursion (λ l. l.margins ≡ None) lines
+
+-- The lines are the composite wrapped at a width.
+abbrev pub IsWrap : MadSkin → ℕ → FmtComposite → List FmtComposite → Type 0
+IsWrap skin width source lines = IsWrapIn (room_of skin source.kind width) skin source lines

@@ -1,0 +1,50 @@
+-- What a text has to keep for its rows to be shown exactly.
+use Rattle.std.specs.Prelude.{◌≡◌, ℕ, ◌+◌, ◌-◌, ◌<◌, Bool, true, false, not, List, [], ◌∷◌, Some}
+use Rattle.std.specs.List.{AllByRecursion, flat_map}
+use Rattle.std.specs.Char.{is_whitespace}
+use Rattle.std.specs.Str.{chars, IsUtf8}
+use Rattle.mad_md.specs.Flagged.{FlaggedChar, Run, flagged, is_blank}
+use Rattle.mad_md.specs.Lines.{StyledRuns}
+use Rattle.mad_md.specs.declared.composite.CompositeStyle.TheVariants.{Paragraph}
+use Rattle.mad_term.specs.Columns.{char_columns}
+use Rattle.mad_term.specs.Painting.{IsPrinted}
+use Rattle.mad_style.specs.Kinds.{kind_of}
+use Rattle.mad_style.specs.LineStyles.{margins_at}
+use Rattle.mad_fit.specs.Columns.{width_of}
+use Rattle.mad_layout.specs.Indents.{indent, room_of}
+use Rattle.mad_layout.specs.Styles.{line_style}
+use Rattle.mad_layout.specs.Wraps.{HasRoom}
+use Rattle.mad_layout.specs.declared.skin.MadSkin.{MadSkin}
+
+-- Each widthless character is no whitespace and stands right behind one that isn't blank; `behind` says whether what stands in
+-- front of all is such a one.
+abbrev pub AreJoined : Bool → List FlaggedChar → Type 0
+AreJoined behind [] = Unit {0}
+AreJoined behind (x ∷ xs) = (char_columns x.char ≡ 0 → (is_whitespace x.char ≡ false) × (behind ≡ true)) × AreJoined (not (is_blank x)) xs
+
+-- A run that isn't empty, without control characters, each widthless character behind a non-blank one of the same run.
+pub record IsPlainRun (r : Run) : Type 0 where
+  pub utf8 : IsUtf8 r.text
+  pub printed : IsPrinted (chars r.text)
+  pub joined : AreJoined false (flagged r.flags (chars r.text))
+
+-- the flagged text of runs
+abbrev pub runs_text : List Run → List FlaggedChar
+runs_text rs = flat_map (λ r. flagged r.flags (chars r.text)) rs
+
+-- what a line's margins leave of a width
+abbrev pub inner_width : MadSkin → ℕ → StyledRuns → ℕ
+inner_width skin width line =
+    let margins = margins_at (line_style skin (kind_of line.style)) (Some width) in width - margins.0 - margins.1
+
+-- A line whose text is plain and joined, and that has room where it doesn't fit. (Only paragraphs are read so far, so no mark
+-- stands in front of a line.)
+pub record IsPlainLine (skin : MadSkin) (width : ℕ) (line : StyledRuns) : Type 0 where
+  pub paragraph : line.style ≡ Paragraph
+  pub runs : AllByRecursion IsPlainRun line.runs
+  pub room : inner_width skin width line < indent skin.list_items_indentation_mode (kind_of line.style) + width_of (runs_text line.runs)
+      → HasRoom (room_of skin (kind_of line.style) (inner_width skin width line)) (runs_text line.runs)
+
+-- so is each line of the text, at a layout's width
+abbrev pub KeepsPremises : MadSkin → ℕ → List StyledRuns → Type 0
+KeepsPremises skin width text = AllByRecursion (IsPlainLine skin width) text

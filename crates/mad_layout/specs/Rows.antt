@@ -1,0 +1,137 @@
+-- Rows: what is written of a line, piece by piece.
+use Rattle.std.specs.Prelude.{ℕ, ◌+◌, ◌-◌, Bool, true, List, [], ◌∷◌, ◌++◌, map, Option, Some, None, unwrap_or, if◌then◌else◌, decimal, encode_utf8}
+use Rattle.mad_md.specs.declared.alignment.Alignment.{Alignment}
+use Rattle.mad_md.specs.declared.alignment.Alignment.TheVariants.{Unspecified}
+use Rattle.mad_md.specs.Flagged.{Run, run_of}
+use Rattle.mad_md.specs.declared.compound.Compound.{Compound}
+use Rattle.mad_style.specs.declared.kinds.CompositeKind.{CompositeKind}
+use Rattle.mad_style.specs.declared.kinds.CompositeKind.TheVariants.{Paragraph, Header, ListItem, ListItemFollowUp, OrderedListItem, OrderedListItemFollowUp, Code, Quote}
+use Rattle.mad_style.specs.declared.compound_styles.CompoundStyle.{CompoundStyle}
+use Rattle.mad_style.specs.declared.line_styles.LineStyle.{LineStyle}
+use Rattle.mad_style.specs.declared.styled_chars.StyledChar.{StyledChar}
+use Rattle.mad_style.specs.LineStyles.{margins_at}
+use Rattle.mad_style.specs.StyledChars.{char_style, char_alone}
+use Rattle.mad_fit.specs.declared.spacing.Spacing.{Spacing}
+use Rattle.mad_fit.specs.Completions.{left_completion}
+use Rattle.mad_layout.specs.declared.skin.MadSkin.{MadSkin}
+use Rattle.mad_layout.specs.declared.composite.FmtComposite.{FmtComposite}
+use Rattle.mad_layout.specs.declared.line.FmtLine.{FmtLine}
+use Rattle.mad_layout.specs.declared.line.FmtLine.TheVariants.{Normal}
+use Rattle.mad_layout.specs.Indents.{kept, ordered_indent}
+use Rattle.mad_layout.specs.Pieces.{RowPiece, PennedChar, penned_chars, spaces, single_spaces}
+use Rattle.mad_layout.specs.Styles.{line_style, compound_style, ordered_item_style}
+
+-- ---- in front of a line's text
+
+-- a character in its style
+abbrev pub char_piece : StyledChar → RowPiece
+char_piece c = record { style = (char_style c).object_style; text = encode_utf8 (char_alone c) }
+
+-- a number
+abbrev pub number_piece : CompoundStyle → ℕ → RowPiece
+number_piece style n = record { style = style.object_style; text = decimal n }
+
+-- one space in the paragraph's style
+abbrev pub mark_space : MadSkin → RowPiece
+mark_space skin = record { style = skin.paragraph.compound_style.object_style; text = 32 ∷ [] }
+
+-- the mark of a line: an item's bullet or number behind the spaces of its depth, or as many spaces on a line that follows
+-- one and is indented as it is; a quote's mark
+abbrev pub mark_pieces : MadSkin → CompositeKind → List RowPiece
+mark_pieces skin Paragraph = []
+mark_pieces skin (Header level) = []
+mark_pieces skin (ListItem depth) = single_spaces skin.paragraph.compound_style depth ++ (char_piece skin.bullet ∷ mark_space skin ∷ [])
+mark_pieces skin (ListItemFollowUp depth) = single_spaces skin.paragraph.compound_style (kept skin.list_items_indentation_mode (2 + depth))
+mark_pieces skin (OrderedListItem level index) =
+    single_spaces skin.paragraph.compound_style level
+    ++ (number_piece (ordered_item_style skin level).index_style index
+    ∷ char_piece (ordered_item_style skin level).index_suffix ∷ mark_space skin ∷ [])
+mark_pieces skin (OrderedListItemFollowUp level index) =
+    single_spaces skin.paragraph.compound_style (kept skin.list_items_indentation_mode (ordered_indent level index))
+mark_pieces skin Code = []
+mark_pieces skin Quote = char_piece skin.quote_mark ∷ mark_space skin ∷ []
+
+-- what a compound says, in a line of this style
+abbrev pub run_piece : MadSkin → LineStyle → Run → RowPiece
+run_piece skin style p = record { style = (compound_style skin style p).object_style; text = p.text }
+
+-- a compound in a line of this style
+abbrev pub compound_piece : MadSkin → LineStyle → Compound → RowPiece
+compound_piece skin style p = run_piece skin style (run_of p)
+
+-- ---- beside it
+
+-- the columns left and right of so many columns in a place; none where there is no place
+abbrev pub left_of_place : Alignment → ℕ → Option ℕ → ℕ
+left_of_place align inner None = 0
+left_of_place align inner (Some outer) = left_completion align (outer - inner)
+
+abbrev pub right_of_place : Alignment → ℕ → Option ℕ → ℕ
+right_of_place align inner None = 0
+right_of_place align inner (Some outer) = (outer - inner) - left_completion align (outer - inner)
+
+-- a line's own place, and how it stands in it
+abbrev pub place_of : Option Spacing → Option ℕ
+place_of None = None
+place_of (Some s) = Some s.width
+
+abbrev pub align_in : Option Spacing → Alignment
+align_in None = Unspecified
+align_in (Some s) = s.align
+
+-- the blank columns left and right of a line in its own place, by its cached length
+abbrev pub inner_blanks : FmtComposite → ℕ × ℕ
+inner_blanks l = (
+  left_of_place (align_in l.spacing) l.visible_length (place_of l.spacing),
+  right_of_place (align_in l.spacing) l.visible_length (place_of l.spacing),
+)
+
+-- the columns of a line with its own place
+abbrev pub inner_columns : FmtComposite → ℕ
+inner_columns l = unwrap_or (place_of l.spacing) l.visible_length
+
+-- the blank columns left and right of a line's own place at an outer width, with these margins
+abbrev pub outer_blanks : Alignment → Option ℕ → ℕ × ℕ → FmtComposite → ℕ × ℕ
+outer_blanks align outer margins l = (
+  left_of_place align (inner_columns l + margins.0 + margins.1) outer + margins.0,
+  right_of_place align (inner_columns l + margins.0 + margins.1) outer + margins.1,
+)
+
+-- the margins of a line: those of its layout, else those of its style at the outer width
+abbrev pub margins_of : MadSkin → Option ℕ → FmtComposite → ℕ × ℕ
+margins_of skin outer l = unwrap_or l.margins (margins_at (line_style skin l.kind) outer)
+
+-- ---- a line
+
+-- The pieces of a composite at an outer width with these margins: the blanks left of it in the paragraph's style, those of
+-- its own place in its own style, its mark, its compounds, and the blanks right of it; those in the paragraph's style only
+-- where they are asked for.
+abbrev pub composite_pieces : MadSkin → Option ℕ → ℕ × ℕ → Bool → FmtComposite → List RowPiece
+composite_pieces skin outer margins right l =
+    let style = line_style skin l.kind in
+    let blanks = outer_blanks style.align outer margins l in
+    spaces skin.paragraph.compound_style blanks.0
+    ++ (spaces style.compound_style (inner_blanks l).0
+    ++ (mark_pieces skin l.kind
+    ++ (map (compound_piece skin style) l.compounds.items
+    ++ (spaces style.compound_style (inner_blanks l).1
+    ++ (if right then spaces skin.paragraph.compound_style blanks.1 else [])))))
+
+-- the pieces of a composite that stands by itself: its style's left margin, its mark, and what its compounds say
+abbrev pub free_pieces : MadSkin → CompositeKind → List Run → List RowPiece
+free_pieces skin kind runs =
+    spaces skin.paragraph.compound_style (line_style skin kind).left_margin ++ (mark_pieces skin kind ++ map (run_piece skin (line_style skin kind)) runs)
+
+-- the pieces of a line at an outer width, with its margins
+abbrev pub line_pieces : MadSkin → Option ℕ → Bool → FmtLine → List RowPiece
+line_pieces skin outer right (Normal l) = composite_pieces skin outer (margins_of skin outer l) right l
+
+-- what a place of so many columns shows: a line, filled up on its right; or, past the last line, spaces in the
+-- paragraph's style
+abbrev pub row_pieces : MadSkin → ℕ → Option FmtLine → List RowPiece
+row_pieces skin width (Some line) = line_pieces skin (Some width) true line
+row_pieces skin width None = spaces skin.paragraph.compound_style width
+
+-- The row of a line at a drawn width: its characters in order, each with its pen.
+abbrev pub row_of : MadSkin → ℕ → Option FmtLine → List PennedChar
+row_of skin width line = penned_chars (row_pieces skin width line)

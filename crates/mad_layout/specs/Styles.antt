@@ -1,0 +1,46 @@
+-- The styles of a skin's parts.
+use Rattle.std.specs.Prelude.{ℕ, zero, suc, Bool, List, [], ◌∷◌, slice_get, unwrap_or, min, if◌then◌else◌}
+use Rattle.std.specs.Str.{bytes_eq}
+use Rattle.mad_md.specs.Flagged.{Run}
+use Rattle.mad_style.specs.declared.compound_styles.CompoundStyle.{CompoundStyle}
+use Rattle.mad_style.specs.declared.kinds.CompositeKind.{CompositeKind}
+use Rattle.mad_style.specs.declared.kinds.CompositeKind.TheVariants.{Header, Code}
+use Rattle.mad_style.specs.declared.line_styles.LineStyle.{LineStyle}
+use Rattle.mad_style.specs.declared.ordered_items.OrderedItemStyle.{OrderedItemStyle}
+use Rattle.mad_style.specs.CompoundStyles.{overwritten, plain_style}
+use Rattle.mad_style.specs.StyledChars.{styled_char}
+use Rattle.mad_layout.specs.declared.skin.MadSkin.{MadSkin}
+
+-- the header of this level, which is counted from 1; the paragraph's style at a level without a header
+abbrev pub header_style : MadSkin → ℕ → LineStyle
+header_style skin zero = skin.paragraph
+header_style skin (suc n) = unwrap_or (slice_get skin.headers n) skin.paragraph
+
+-- code blocks and headers have styles of their own, all else the paragraph's
+abbrev pub line_style : MadSkin → CompositeKind → LineStyle
+line_style skin Code = skin.code_block
+line_style skin (Header level) = header_style skin level
+line_style skin _ = skin.paragraph
+
+-- the bytes of the ellipsis …
+abbrev pub ellipsis_bytes : List ℕ
+ellipsis_bytes = 226 ∷ 128 ∷ 166 ∷ []
+
+-- a style overwritten with another where a flag is on
+abbrev pub overwritten_if : Bool → CompoundStyle → CompoundStyle → CompoundStyle
+overwritten_if flag other style = if flag then overwritten style other else style
+
+-- The style of a compound: the ellipsis has its own; else its line's, overwritten with those of its flags, italic first,
+-- then strikeout, bold and code.
+abbrev pub compound_style : MadSkin → LineStyle → Run → CompoundStyle
+compound_style skin style p =
+    if bytes_eq p.text ellipsis_bytes then skin.ellipsis
+    else overwritten_if p.flags.code skin.inline_code (overwritten_if p.flags.bold skin.bold (overwritten_if p.flags.strikeout skin.strikeout (overwritten_if p.flags.italic skin.italic style.compound_style)))
+
+-- an ordered item without style: a number and a dot
+abbrev pub plain_item_style : OrderedItemStyle
+plain_item_style = record { index_style = plain_style; index_suffix = styled_char plain_style 46 }
+
+-- how items of this level look; levels past the last take the last
+abbrev pub ordered_item_style : MadSkin → ℕ → OrderedItemStyle
+ordered_item_style skin level = unwrap_or (slice_get skin.ordered_item_styles (min level 3)) plain_item_style

@@ -1,0 +1,54 @@
+-- Lines of a layout that are wrapped at a width.
+use Rattle.std.specs.Prelude.{◌≡◌, ℕ, ◌+◌, ◌-◌, ◌<◌, ◌≤◌, ◌⊎◌, List, [], ◌∷◌, ◌++◌, map, Some}
+use Rattle.std.specs.List.{AllByRecursion}
+use Rattle.mad_style.specs.LineStyles.{margins_at}
+use Rattle.mad_layout.specs.LeastWrap.{IsWrap}
+use Rattle.mad_layout.specs.Styles.{line_style}
+use Rattle.mad_layout.specs.Wraps.{IsMeasured}
+use Rattle.mad_layout.specs.declared.skin.MadSkin.{MadSkin}
+use Rattle.mad_layout.specs.declared.composite.FmtComposite.{FmtComposite}
+use Rattle.mad_layout.specs.declared.line.FmtLine.{FmtLine}
+use Rattle.mad_layout.specs.declared.line.FmtLine.TheVariants.{Normal}
+
+-- the margins (left, right) of a composite at a width, those of its kind's style
+abbrev pub margins_of : MadSkin → ℕ → FmtComposite → ℕ × ℕ
+margins_of skin width l = margins_at (line_style skin l.kind) (Some width)
+
+-- the composite fits with its margins, by its cached length
+abbrev pub FitsWithMargins : MadSkin → ℕ → FmtComposite → Type 0
+FitsWithMargins skin width l = l.visible_length + (margins_of skin width l).0 + (margins_of skin width l).1 ≤ width
+
+-- the composite as a line that keeps these margins
+abbrev pub line_with : ℕ × ℕ → FmtComposite → FmtLine
+line_with margins l = Normal (record l { margins = Some margins })
+
+-- A composite that fits with its margins stays, any other is wrapped in what they leave of the width. Each line keeps them.
+abbrev pub IsWrapped : MadSkin → ℕ → FmtComposite → List FmtLine → Type 0
+IsWrapped skin width source lines =
+    let margins = margins_of skin width source in
+    (FitsWithMargins skin width source × (lines ≡ line_with margins source ∷ []))
+    ⊎ ((width < source.visible_length + margins.0 + margins.1)
+    × ((wrap : List FmtComposite) × IsWrap skin (width - margins.0 - margins.1) source wrap × (lines ≡ map (line_with margins) wrap)))
+
+-- what becomes of a line
+abbrev pub IsLineWrapped : MadSkin → ℕ → FmtLine → List FmtLine → Type 0
+IsLineWrapped skin width (Normal source) lines = IsWrapped skin width source lines
+
+-- what becomes of each of the lines, in order
+abbrev pub AreLinesWrapped : MadSkin → ℕ → List FmtLine → List FmtLine → Type 0
+AreLinesWrapped skin width [] lines = lines ≡ []
+AreLinesWrapped skin width (l ∷ ls) lines = (own : List FmtLine) × (others : List FmtLine) × (lines ≡ own ++ others) × IsLineWrapped skin width l own × AreLinesWrapped skin width ls others
+
+-- the line's cached length is right, and it fits with its margins
+abbrev pub IsLineMeasured : MadSkin → FmtLine → Type 0
+IsLineMeasured skin (Normal l) = IsMeasured skin l
+
+abbrev pub LineFits : MadSkin → ℕ → FmtLine → Type 0
+LineFits skin width (Normal l) = FitsWithMargins skin width l
+
+-- all of them
+abbrev pub AllMeasured : MadSkin → List FmtLine → Type 0
+AllMeasured skin lines = AllByRecursion (IsLineMeasured skin) lines
+
+abbrev pub AllFit : MadSkin → ℕ → List FmtLine → Type 0
+AllFit skin width lines = AllByRecursion (LineFits skin width) lines

@@ -1,0 +1,165 @@
+ghost use Rattle.std.specs.Prelude.{◌≡◌, ◌≤◌, ◌+◌, ◌++◌, ◌∷◌, [], min, IfOk, OnOk, OnErr, MatchOption};
+ghost use Rattle.mad_fit.specs.Columns.{width_of};
+ghost use Rattle.mad_fit.specs.Completions.{Completes};
+ghost use Rattle.mad_md.specs.Flagged.{flagged_of, flagged_text};
+
+use crate::indents::indent_of;
+use crate::skin::MadSkin;
+use mad_fit::measure::columns;
+use mad_fit::spacing::Spacing;
+use mad_md::{Composite, Compound};
+use mad_style::CompositeKind;
+use std::alloc::{AllocError, Global};
+
+/// A line of compounds, with the columns that it takes.
+#[derive(Debug, Drop)]
+pub struct FmtComposite<'s> {
+    /// What kind of line it is, which decides its indent and its style.
+    pub kind: CompositeKind,
+    /// Its text.
+    pub compounds: Vec<Compound<'s>>,
+    /// The columns of its indent and its text, `usize::MAX` where there are more.
+    pub visible_length: usize,
+    /// The place that it is to fill, and how it stands in it.
+    pub spacing: Option<Spacing>,
+    /// The blank columns (left, right) that its layout left beside it.
+    pub margins: Option<(usize, usize)>,
+}
+
+impl<'s> FmtComposite<'s> {
+    ghost use Rattle.mad_style.specs.Kinds.{kind_of};
+    ghost use Rattle.mad_layout.specs.Wraps.{capped, IsMeasured};
+
+    /// An empty paragraph.
+    pub fn new(alloc: Global) -> Self
+        ensures kind { result.kind ≡ CompositeKind.Paragraph }
+        ensures empty { result.compounds.items ≡ [] }
+        ensures length { result.visible_length ≡ 0 }
+        ensures spacing { result.spacing ≡ None }
+        ensures margins { result.margins ≡ None }
+    {
+        Self::begun(alloc, CompositeKind::Paragraph, 0, None)
+    }
+
+    /// A line without text, with the columns in front of it.
+    pub(crate) fn begun(
+        alloc: Global,
+        kind: CompositeKind,
+        indent: usize,
+        spacing: Option<Spacing>,
+    ) -> Self
+        ensures kind { result.kind ≡ kind }
+        ensures empty { result.compounds.items ≡ [] }
+        ensures length { result.visible_length ≡ capped indent }
+        ensures spacing { result.spacing ≡ spacing }
+        ensures margins { result.margins ≡ None }
+    {
+        FmtComposite {
+            kind,
+            compounds: Vec::new(alloc),
+            visible_length: indent,
+            spacing,
+            margins: None,
+        }
+    }
+
+    /// A composite as it was read, measured with the indent that it has in this skin.
+    pub fn from(composite: Composite<'s>, skin: &MadSkin) -> Self
+        ensures kind { result.kind ≡ kind_of composite.entry.style }
+        ensures text { result.compounds.items ≡ composite.entry.compounds.items }
+        ensures measured { IsMeasured skin.now result }
+        ensures spacing { result.spacing ≡ None }
+        ensures margins { result.margins ≡ None }
+    {
+        let Composite { style, compounds } = composite;
+        let kind = CompositeKind::from(style);
+        let visible_length = skin.visible_composite_length(kind, &compounds);
+        FmtComposite {
+            kind,
+            compounds,
+            visible_length,
+            spacing: None,
+            margins: None,
+        }
+    }
+
+    /// A paragraph of one compound.
+    pub fn from_compound(alloc: Global, compound: Compound<'s>) -> Result<Self, AllocError>
+        ensures kind { IfOk result (λ l. l.kind ≡ CompositeKind.Paragraph) }
+        ensures text { IfOk result (λ l. l.compounds.items ≡ compound.entry ∷ []) }
+        ensures length { IfOk result (λ l. l.visible_length ≡ capped (width_of (flagged_of compound.entry))) }
+        ensures spacing { IfOk result (λ l. l.spacing ≡ None) }
+        ensures margins { IfOk result (λ l. l.margins ≡ None) }
+    {
+        let mut composite = Self::new(alloc);
+        composite.add_compound(compound)?;
+        Ok(composite)
+    }
+
+    /// A copy, which borrows the same texts.
+    pub fn try_clone(&self, alloc: Global) -> Result<Self, AllocError>
+        ensures kind { IfOk result (λ l. l.kind ≡ self.now.kind) }
+        ensures text { IfOk result (λ l. l.compounds.items ≡ self.now.compounds.items) }
+        ensures length { IfOk result (λ l. l.visible_length ≡ self.now.visible_length) }
+        ensures spacing { IfOk result (λ l. l.spacing ≡ self.now.spacing) }
+        ensures margins { IfOk result (λ l. l.margins ≡ self.now.margins) }
+    {
+        Ok(FmtComposite {
+            kind: self.kind,
+            compounds: self.compounds.as_slice().to_vec(alloc)?,
+            visible_length: self.visible_length,
+            spacing: self.spacing,
+            margins: self.margins,
+        })
+    }
+
+    /// The blank columns (left, right) that fill its place, by its cached length; none where it has no spacing.
+    pub fn completions(&self) -> (usize, usize)
+        ensures { MatchOption self.now.spacing ((result.0 ≡ 0) × (result.1 ≡ 0)) (λ s. Completes s.align self.now.visible_length s.width result) }
+    {
+        match &self.spacing {
+            Some(place) => place.completions_for(self.visible_length),
+            None => (0, 0),
+        }
+    }
+
+    /// Measures it again, with the indent that it has in this skin.
+    pub fn recompute_width(&mut self, skin: &MadSkin)
+        ensures measured { IsMeasured skin.now self.new }
+        ensures kind { self.new.kind ≡ self.old.kind }
+        ensures text { self.new.compounds.items ≡ self.old.compounds.items }
+        ensures spacing { self.new.spacing ≡ self.old.spacing }
+        ensures margins { self.new.margins ≡ self.old.margins }
+    {
+        let columns = skin.visible_composite_length(self.kind, &self.compounds);
+        self.visible_length = columns;
+    }
+
+    /// Puts a compound behind the others, and its columns into the cached length.
+    pub fn add_compound(&mut self, compound: Compound<'s>) -> Result<(), AllocError>
+        ensures text { OnOk result (self.new.compounds.items ≡ self.old.compounds.items ++ compound.entry ∷ []) }
+        ensures length { OnOk result (self.new.visible_length ≡ capped (self.old.visible_length + width_of (flagged_of compound.entry))) }
+        ensures kind { self.new.kind ≡ self.old.kind }
+        ensures spacing { self.new.spacing ≡ self.old.spacing }
+        ensures margins { self.new.margins ≡ self.old.margins }
+    {
+        self.add_measured(compound, columns(compound.src))
+    }
+
+    /// Puts a compound behind the others, whose columns are known.
+    pub(crate) fn add_measured(
+        &mut self,
+        compound: Compound<'s>,
+        width: usize,
+    ) -> Result<(), AllocError>
+        ensures text { OnOk result (self.new.compounds.items ≡ self.old.compounds.items ++ compound.entry ∷ []) }
+        ensures length { OnOk result (self.new.visible_length ≡ capped (self.old.visible_length + width)) }
+        ensures kind { self.new.kind ≡ self.old.kind }
+        ensures spacing { self.new.spacing ≡ self.old.spacing }
+        ensures margins { self.new.margins ≡ self.old.margins }
+    {
+        self.compounds.push(compound)?;
+        self.visible_length = self.visible_length.saturating_add(width);
+        Ok(())
+    }
+}

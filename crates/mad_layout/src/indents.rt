@@ -1,0 +1,56 @@
+ghost use Rattle.std.specs.Prelude.{◌≡◌, ◌≤◌};
+ghost use Rattle.mad_layout.specs.Indents.{follow_up, indent, kept};
+
+use crate::skin::MadSkin;
+use mad_style::{CompositeKind, ListItemsIndentationMode, ordered_item_indent};
+
+/// The columns in front of the first line of a composite of this kind, and in front of its other lines.
+///
+/// These are the columns of bullets, numbers and quote marks with their spaces, and of the blanks that stand for
+/// them in lines that follow: as many in block mode, none where only the first line is indented.
+pub fn composite_kind_widths(kind: CompositeKind, skin: &MadSkin) -> (usize, usize)
+    ensures first { result.0 ≡ indent skin.now.list_items_indentation_mode kind }
+    ensures other { result.1 ≡ indent skin.now.list_items_indentation_mode (follow_up kind) }
+{
+    let mode = skin.list_items_indentation_mode;
+    (indent_of(kind, mode), indent_of(follow_up(kind), mode))
+}
+
+/// The kind of the lines after the first: of an item its own follow-up, any other kind stays.
+pub(crate) fn follow_up(kind: CompositeKind) -> CompositeKind
+    ensures { result ≡ follow_up kind }
+{
+    match kind {
+        CompositeKind::ListItem(depth) => CompositeKind::ListItemFollowUp(depth),
+        CompositeKind::OrderedListItem { level, index } => {
+            CompositeKind::OrderedListItemFollowUp { level, index }
+        }
+        other => other,
+    }
+}
+
+/// The columns in front of a line of this kind.
+pub(crate) fn indent_of(kind: CompositeKind, mode: ListItemsIndentationMode) -> usize
+    ensures { result ≡ indent mode kind }
+{
+    match kind {
+        CompositeKind::ListItem(depth) => 2 + depth as usize,
+        CompositeKind::ListItemFollowUp(depth) => kept(mode, 2 + depth as usize),
+        CompositeKind::OrderedListItem { level, index } => ordered_item_indent(level, index),
+        CompositeKind::OrderedListItemFollowUp { level, index } => {
+            kept(mode, ordered_item_indent(level, index))
+        }
+        CompositeKind::Quote => 2,
+        CompositeKind::Paragraph | CompositeKind::Header(_) | CompositeKind::Code => 0,
+    }
+}
+
+// What a mode leaves of an indent on the lines that follow.
+fn kept(mode: ListItemsIndentationMode, indent: usize) -> usize
+    ensures { result ≡ kept mode indent }
+{
+    match mode {
+        ListItemsIndentationMode::FirstLineOnly => 0,
+        ListItemsIndentationMode::Block => indent,
+    }
+}

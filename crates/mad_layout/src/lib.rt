@@ -1,0 +1,38 @@
+// Layout of flagged texts in lines of limited width. In the order of the work:
+//
+// 1. `skin`: the styles of lines, as far as their layout needs them.
+// 2. `indents`, `room`: the columns that a line of a kind has for its text.
+// 3. `composite`, `line`: a line with its cached width.
+// 4. `clean_cut`, `placing`: the two ways of breaking a text that is too wide.
+// 5. `wrap`: wrapping composites and lists of lines, with the fewest lines.
+// 6. `bound`: starts of lines that show that no break has fewer.
+#![tactic(auto)]
+
+pub mod bound;
+mod clean_cut;
+pub mod composite;
+mod display;
+pub mod drawing;
+pub mod fmt_inline;
+pub mod fmt_text;
+pub mod indents;
+pub mod line;
+mod placing;
+pub mod room;
+mod rows;
+pub mod skin;
+#[cfg(test)]
+mod tests;
+pub mod wrap;
+mod writing;
+
+pub use bound::{WrapBound, check_wrap_bound, wrap_bound};
+pub use composite::FmtComposite;
+pub use drawing::draw_text;
+pub use fmt_inline::{FmtInline, inline};
+pub use fmt_text::FmtText;
+pub use indents::composite_kind_widths;
+pub use line::FmtLine;
+pub use skin::MadSkin;
+pub use wrap::{hard_wrap_composite, hard_wrap_lines};
+pub use writing::print_inline;

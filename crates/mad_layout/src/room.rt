@@ -1,0 +1,38 @@
+ghost use Rattle.std.specs.Prelude.{◌≡◌, ◌-◌};
+ghost use Rattle.mad_layout.specs.Indents.{room_of};
+
+use crate::indents::composite_kind_widths;
+use crate::skin::MadSkin;
+use mad_style::CompositeKind;
+
+/// The columns that the lines of a wrapped composite have.
+#[derive(Clone, Copy, Debug)]
+pub struct Room {
+    /// The columns in front of the first line.
+    pub first: usize,
+    /// The columns in front of the other lines.
+    pub other: usize,
+    /// The columns of a line with those in front of it.
+    pub width: usize,
+}
+
+impl Room {
+    /// The room of a composite's lines at a width.
+    pub fn of(skin: &MadSkin, kind: CompositeKind, width: usize) -> Self
+        ensures { result ≡ room_of skin.now kind width }
+    {
+        let (first, other) = composite_kind_widths(kind, skin);
+        Room {
+            first,
+            other,
+            width,
+        }
+    }
+
+    /// The columns of the widest token that fits on the first line, where a token isn't a single character.
+    pub fn token_limit(&self) -> usize
+        ensures { result ≡ self.now.width - self.now.first }
+    {
+        self.width.saturating_sub(self.first)
+    }
+}

@@ -1,0 +1,193 @@
+//! The styles of a text's parts.
+
+ghost use Rattle.std.specs.Prelude.{◌≡◌, ◌+◌};
+ghost use Rattle.mad_layout.specs.SkinParts.{header_line, first_header_line, default_header_lines, default_quote};
+
+use crate::indents::indent_of;
+use mad_fit::measure::columns;
+use mad_md::{Alignment, Compound, MAX_HEADER_DEPTH};
+use mad_style::{
+    CompositeKind, CompoundStyle, LineStyle, ListItemsIndentationMode, MAX_ORDERED_LIST_DEPTH,
+    OrderedItemStyle, StyledChar, gray,
+};
+use mad_term::Attribute;
+
+/// The text that stands for what was left out.
+pub(crate) const ELLIPSIS: &str = "…";
+
+/// The styles of a text's parts.
+#[derive(Clone, PartialEq, Debug, Drop)]
+pub struct MadSkin {
+    /// The style of paragraphs, items and quotes, and of the blanks beside all lines.
+    pub paragraph: LineStyle,
+    /// What bold text adds to its line's style.
+    pub bold: CompoundStyle,
+    /// What italic text adds to its line's style.
+    pub italic: CompoundStyle,
+    /// What struck out text adds to its line's style.
+    pub strikeout: CompoundStyle,
+    /// What code adds to its line's style.
+    pub inline_code: CompoundStyle,
+    /// The style of code blocks.
+    pub code_block: LineStyle,
+    /// The styles of headers, those of the first level first.
+    pub headers: [LineStyle; MAX_HEADER_DEPTH],
+    /// The mark of an item of a list.
+    pub bullet: StyledChar,
+    /// How the numbers of items look, by level.
+    pub ordered_item_styles: [OrderedItemStyle; MAX_ORDERED_LIST_DEPTH],
+    /// The mark of a quote.
+    pub quote_mark: StyledChar,
+    /// The style of an ellipsis.
+    pub ellipsis: CompoundStyle,
+    /// Whether the lines of an item after its first are indented.
+    pub list_items_indentation_mode: ListItemsIndentationMode,
+}
+
+impl Default for MadSkin {
+    ghost use Rattle.mad_layout.specs.Skins.{default_skin};
+
+    ghost is_default = { λ skin. skin ≡ default_skin };
+
+    /// Bold, italic and struck out text as such, code light on dark, headers underlined and the first bold and
+    /// centered.
+    fn default() -> Self {
+        let code = CompoundStyle::with_fgbg(gray(17), gray(3));
+        Self {
+            paragraph: LineStyle::default(),
+            bold: CompoundStyle::with_attr(Attribute::Bold),
+            italic: CompoundStyle::with_attr(Attribute::Italic),
+            strikeout: CompoundStyle::with_attr(Attribute::CrossedOut),
+            inline_code: code,
+            code_block: LineStyle::from(code),
+            headers: default_headers(),
+            bullet: StyledChar::from_fg_char(gray(8), '•'),
+            ordered_item_styles: [OrderedItemStyle::default(); MAX_ORDERED_LIST_DEPTH],
+            quote_mark: default_quote_mark(),
+            ellipsis: CompoundStyle::default(),
+            list_items_indentation_mode: ListItemsIndentationMode::default(),
+        }
+    }
+}
+
+// Headers are underlined, and the first is bold and centered too.
+fn default_headers() -> [LineStyle; MAX_HEADER_DEPTH]
+    ensures { result ≡ default_header_lines }
+{
+    let header = default_header();
+    let first = first_header();
+    [
+        first, header, header, header, header, header, header, header,
+    ]
+}
+
+fn default_header() -> LineStyle
+    ensures { result ≡ header_line }
+{
+    let mut header = LineStyle::default();
+    header.add_attr(Attribute::Underlined);
+    header
+}
+
+fn first_header() -> LineStyle
+    ensures { result ≡ first_header_line }
+{
+    let mut header = default_header();
+    header.add_attr(Attribute::Bold);
+    header.align = Alignment::Center;
+    header
+}
+
+// A bold half block in light gray.
+fn default_quote_mark() -> StyledChar
+    ensures { result ≡ default_quote }
+{
+    let mut style = CompoundStyle::with_attr(Attribute::Bold);
+    style.set_fg(gray(12));
+    StyledChar::new(style, '▐')
+}
+
+impl MadSkin {
+    ghost use Rattle.mad_md.specs.Flagged.{flagged_text, run_of};
+    ghost use Rattle.mad_fit.specs.Columns.{width_of};
+    ghost use Rattle.mad_layout.specs.Indents.{indent};
+    ghost use Rattle.mad_layout.specs.Skins.{no_style_skin};
+    ghost use Rattle.mad_layout.specs.Styles.{line_style, compound_style, ordered_item_style};
+    ghost use Rattle.mad_layout.specs.Wraps.{capped};
+
+    /// The marks of the default skin, and no style.
+    pub fn no_style() -> Self
+        ensures { result ≡ no_style_skin }
+    {
+        Self {
+            paragraph: LineStyle::default(),
+            bold: CompoundStyle::default(),
+            italic: CompoundStyle::default(),
+            strikeout: CompoundStyle::default(),
+            inline_code: CompoundStyle::default(),
+            code_block: LineStyle::default(),
+            headers: [LineStyle::default(); MAX_HEADER_DEPTH],
+            bullet: StyledChar::nude('•'),
+            ordered_item_styles: [OrderedItemStyle::no_style(); MAX_ORDERED_LIST_DEPTH],
+            quote_mark: StyledChar::nude('▐'),
+            ellipsis: CompoundStyle::default(),
+            list_items_indentation_mode: ListItemsIndentationMode::default(),
+        }
+    }
+
+    /// The columns of a line of this kind: its indent and its compounds, `usize::MAX` where there are more.
+    pub fn visible_composite_length(&self, kind: CompositeKind, compounds: &[Compound]) -> usize
+        ensures { result ≡ capped (indent self.now.list_items_indentation_mode kind + width_of (flagged_text compounds.now)) }
+    {
+        let mut length = indent_of(kind, self.list_items_indentation_mode);
+        for compound in compounds {
+            length = length.saturating_add(columns(compound.src));
+        }
+        length
+    }
+
+    /// The style of a line of this kind: code blocks and the headers of levels 1 to 8 have their own, all else the
+    /// paragraph's.
+    pub fn line_style(&self, kind: CompositeKind) -> &LineStyle
+        ensures { result.now ≡ line_style self.now kind }
+    {
+        match kind {
+            CompositeKind::Code => &self.code_block,
+            CompositeKind::Header(level @ 1..=8) => &self.headers[level as usize - 1],
+            _ => &self.paragraph,
+        }
+    }
+
+    /// How the items of an ordered list look at a level, counted from 0; levels past the last take the last.
+    pub fn ordered_item_style(&self, level: u8) -> &OrderedItemStyle
+        ensures { result.now ≡ ordered_item_style self.now level }
+    {
+        &self.ordered_item_styles[usize::from(level).min(MAX_ORDERED_LIST_DEPTH - 1)]
+    }
+
+    /// The style of a compound in a line of that style.
+    ///
+    /// An ellipsis has its own; any other has its line's, overwritten with those of its flags: italic first, then
+    /// strikeout, bold and code.
+    pub fn compound_style(&self, line_style: &LineStyle, compound: &Compound) -> CompoundStyle
+        ensures { result ≡ compound_style self.now line_style.now (run_of compound.now) }
+    {
+        if compound.src == ELLIPSIS {
+            return self.ellipsis;
+        }
+        let mut style = line_style.compound_style;
+        if compound.italic {
+            style.overwrite_with(&self.italic);
+        }
+        if compound.strikeout {
+            style.overwrite_with(&self.strikeout);
+        }
+        if compound.bold {
+            style.overwrite_with(&self.bold);
+        }
+        if compound.code {
+            style.overwrite_with(&self.inline_code);
+        }
+        style
+    }
+}

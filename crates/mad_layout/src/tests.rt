@@ -1,0 +1,306 @@
+//! The worked rows: what composites are wrapped into, and their bounds.
+
+ghost use Rattle.std.specs.Prelude.{IfOk};
+ghost use Rattle.mad_layout.specs.Wraps.{IsMeasured};
+
+use crate::bound::{WrapBound, check_wrap_bound, wrap_bound};
+use crate::composite::FmtComposite;
+use crate::line::FmtLine;
+use crate::skin::MadSkin;
+use crate::wrap::{hard_wrap_composite, hard_wrap_lines};
+use mad_fit::spacing::Spacing;
+use mad_md::{Alignment, Composite, CompositeStyle, Compound};
+use mad_style::{CompositeKind, CompoundStyle, LineStyle, ListItemsIndentationMode};
+use mad_term::Error;
+use std::alloc::{AllocError, Global};
+use std::process::Abort;
+
+fn skin_with(left_margin: usize, right_margin: usize, mode: ListItemsIndentationMode) -> MadSkin {
+    let style = LineStyle {
+        compound_style: CompoundStyle::default(),
+        align: Alignment::Unspecified,
+        left_margin,
+        right_margin,
+    };
+    MadSkin {
+        paragraph: style,
+        code_block: style,
+        headers: [style; 8],
+        list_items_indentation_mode: mode,
+        ..MadSkin::no_style()
+    }
+}
+
+fn plain_skin() -> MadSkin {
+    skin_with(0, 0, ListItemsIndentationMode::Block)
+}
+
+// The composite that inline marks make, in a style.
+fn composite<'s>(
+    alloc: Global,
+    text: &'s str,
+    style: CompositeStyle,
+    skin: &MadSkin,
+) -> Result<FmtComposite<'s>, AllocError>
+    ensures { IfOk result (IsMeasured skin.now) }
+{
+    let read = Composite::from_inline(alloc, text)?;
+    let read = Composite {
+        style,
+        compounds: read.compounds,
+    };
+    Ok(FmtComposite::from(read, skin))
+}
+
+// Whether the rows hold, as far as memory goes. A row that doesn't hold ends the process.
+fn is_done_or_want_of_memory(outcome: Result<(), Error>) -> bool {
+    matches!(outcome, Ok(()) | Err(Error::Memory))
+}
+
+// A line as text: each compound between bars, behind the letters of its flags.
+fn push_picture(picture: &mut String, line: &FmtComposite) -> Result<(), AllocError> {
+    for compound in &line.compounds {
+        let flags = [
+            (compound.bold, "b"),
+            (compound.italic, "i"),
+            (compound.code, "c"),
+            (compound.strikeout, "s"),
+        ];
+        for (is_on, letter) in flags {
+            if is_on {
+                picture.push_str(letter)?;
+            }
+        }
+        picture.push_str("|")?;
+        picture.push_str(compound.src)?;
+        picture.push_str("|")?;
+    }
+    picture.push_str("\n")
+}
+
+fn assert_wrap(
+    rt: &impl Abort,
+    alloc: Global,
+    composite: &FmtComposite,
+    width: usize,
+    skin: &MadSkin,
+    wanted: &str,
+) -> Result<(), Error>
+    requires { IsMeasured skin.now composite.now }
+{
+    assert!(rt; composite.visible_length > width);
+    let mut picture = String::new(alloc);
+    for line in &hard_wrap_composite(alloc, composite, width, skin)? {
+        push_picture(&mut picture, line)?;
+    }
+    assert_eq!(rt; picture.as_str(), wanted);
+    Ok(())
+}
+
+fn assert_bound(
+    rt: &impl Abort,
+    alloc: Global,
+    composite: &FmtComposite,
+    width: usize,
+    skin: &MadSkin,
+    wanted: &[usize],
+) -> Result<(), Error> {
+    let bound = wrap_bound(alloc, composite, width, skin)?;
+    assert_eq!(rt; bound.starts.as_slice(), wanted);
+    assert!(rt; check_wrap_bound(alloc, composite, width, skin, &bound)?);
+    Ok(())
+}
+
+#[test]
+fn paragraphs_in_pictures(rt: HostRuntime) -> Result<(), Error> {
+    paragraphs_in_pictures_rows(&rt, rt.alloc())
+}
+
+#[test]
+fn paragraphs_in_pictures_or_want_of_memory(rt: HostRuntime) {
+    let outcome = paragraphs_in_pictures_rows(&rt, rt.alloc());
+    assert!(rt; is_done_or_want_of_memory(outcome));
+}
+
+fn paragraphs_in_pictures_rows(rt: &impl Abort, alloc: Global) -> Result<(), Error> {
+    let skin = plain_skin();
+    let rows: [(&str, usize, &str, &[usize]); 7] = [
+        // The blanks that don't fit are dropped, and the word after them begins the next line.
+        ("abcdefgh   ab", 10, "|abcdefgh|\n|ab|\n", &[0, 2]),
+        // Two compounds that fit on a line each.
+        ("abcdefgh**   **", 10, "|abcdefgh|\nb|   |\n", &[0, 1]),
+        ("aaa bb cc", 5, "|aaa|| |\n|bb|| ||cc|\n", &[0, 2]),
+        // Blanks at the end make no line of their own.
+        ("abcde   ", 5, "|abcde|\n", &[0, 1]),
+        ("概要概要", 3, "|概|\n|要|\n|概|\n|要|\n", &[0, 1, 2, 3]),
+        ("syntax coloring", 8, "|syntax|| |\n|coloring|\n", &[0, 2]),
+        // A middle of whitespace is dropped, in code too.
+        ("**abcd**` `*efgh*", 5, "b|abcd|\ni|efgh|\n", &[0, 2]),
+    ];
+    for (text, width, wanted, starts) in rows {
+        let composite = composite(alloc, text, CompositeStyle::Paragraph, &skin)?;
+        assert_wrap(rt, alloc, &composite, width, &skin, wanted)?;
+        assert_bound(rt, alloc, &composite, width, &skin, starts)?;
+    }
+    Ok(())
+}
+
+#[test]
+fn a_long_italic_sentence(rt: HostRuntime) -> Result<(), Error> {
+    a_long_italic_sentence_rows(&rt, rt.alloc())
+}
+
+#[test]
+fn a_long_italic_sentence_or_want_of_memory(rt: HostRuntime) {
+    let outcome = a_long_italic_sentence_rows(&rt, rt.alloc());
+    assert!(rt; is_done_or_want_of_memory(outcome));
+}
+
+fn a_long_italic_sentence_rows(rt: &impl Abort, alloc: Global) -> Result<(), Error> {
+    let skin = plain_skin();
+    let text =
+        "*Now I'll describe this example with more words than necessary, in order to be sure to demonstrate scrolling (and **wrapping**, too, thanks to long sentences).*";
+    let composite = composite(alloc, text, CompositeStyle::Paragraph, &skin)?;
+    assert!(rt; composite.visible_length > 120);
+    let lines = hard_wrap_composite(alloc, &composite, 120, &skin)?;
+    assert_eq!(rt; lines.len(), 2);
+    assert!(rt; !lines[1].compounds.is_empty());
+    let first = lines[1].compounds[0];
+    assert_eq!(rt; first.src, "wrapping");
+    assert!(rt; first.bold && first.italic && !first.code && !first.strikeout);
+    Ok(())
+}
+
+#[test]
+fn items_without_and_with_room(rt: HostRuntime) -> Result<(), Error> {
+    items_without_and_with_room_rows(&rt, rt.alloc())
+}
+
+#[test]
+fn items_without_and_with_room_or_want_of_memory(rt: HostRuntime) {
+    let outcome = items_without_and_with_room_rows(&rt, rt.alloc());
+    assert!(rt; is_done_or_want_of_memory(outcome));
+}
+
+fn items_without_and_with_room_rows(rt: &impl Abort, alloc: Global) -> Result<(), Error> {
+    let block = plain_skin();
+    let first_only = skin_with(0, 0, ListItemsIndentationMode::FirstLineOnly);
+    let item = composite(alloc, "abcdef gh", CompositeStyle::ListItem(0), &block)?;
+    assert_wrap(rt, alloc, &item, 8, &block, "|abcdef|\n|gh|\n")?;
+    assert!(rt; item.visible_length > 8);
+    let lines = hard_wrap_composite(alloc, &item, 8, &block)?;
+    assert_eq!(rt; lines.len(), 2);
+    assert_eq!(rt;
+        (lines[0].kind, lines[0].visible_length),
+        (CompositeKind::ListItem(0), 8)
+    );
+    assert_eq!(rt;
+        (lines[1].kind, lines[1].visible_length),
+        (CompositeKind::ListItemFollowUp(0), 4)
+    );
+    let deep = composite(alloc, "ab", CompositeStyle::ListItem(255), &block)?;
+    assert_wrap(rt, alloc, &deep, 3, &block, "\n|a|\n|b|\n")?;
+    assert_bound(rt, alloc, &deep, 3, &block, &[0, 1])?;
+    let deep = composite(alloc, "ab", CompositeStyle::ListItem(255), &first_only)?;
+    assert_wrap(rt, alloc, &deep, 3, &first_only, "\n|a||b|\n")?;
+    assert_bound(rt, alloc, &deep, 3, &first_only, &[0])
+}
+
+#[test]
+fn starts_that_show_nothing(rt: HostRuntime) -> Result<(), Error> {
+    starts_that_show_nothing_rows(&rt, rt.alloc())
+}
+
+#[test]
+fn starts_that_show_nothing_or_want_of_memory(rt: HostRuntime) {
+    let outcome = starts_that_show_nothing_rows(&rt, rt.alloc());
+    assert!(rt; is_done_or_want_of_memory(outcome));
+}
+
+fn starts_that_show_nothing_rows(rt: &impl Abort, alloc: Global) -> Result<(), Error> {
+    let skin = plain_skin();
+    let composite = composite(alloc, "aaa bb cc", CompositeStyle::Paragraph, &skin)?;
+    let rows: [(&[usize], bool); 5] = [
+        (&[0, 2], true),
+        (&[0, 1, 2], false),
+        (&[0, 2, 4], false),
+        (&[], false),
+        (&[0], true),
+    ];
+    for (starts, wanted) in rows {
+        let bound = WrapBound {
+            starts: starts.to_vec(alloc)?,
+        };
+        assert_eq!(rt;
+            check_wrap_bound(alloc, &composite, 5, &skin, &bound)?,
+            wanted
+        );
+    }
+    assert_bound(rt, alloc, &composite, 9, &skin, &[0])
+}
+
+#[test]
+fn a_width_under_three(rt: HostRuntime) -> Result<(), Error> {
+    a_width_under_three_rows(&rt, rt.alloc())
+}
+
+#[test]
+fn a_width_under_three_or_want_of_memory(rt: HostRuntime) {
+    let outcome = a_width_under_three_rows(&rt, rt.alloc());
+    assert!(rt; is_done_or_want_of_memory(outcome));
+}
+
+fn a_width_under_three_rows(rt: &impl Abort, alloc: Global) -> Result<(), Error> {
+    let skin = plain_skin();
+    let composite = composite(alloc, "abc", CompositeStyle::Paragraph, &skin)?;
+    assert!(rt; composite.visible_length > 2);
+    assert!(rt; is_refused(hard_wrap_composite(alloc, &composite, 2, &skin), 2));
+    assert!(rt; is_refused(wrap_bound(alloc, &composite, 2, &skin), 2));
+    let bound = wrap_bound(alloc, &composite, 3, &skin)?;
+    assert!(rt; is_refused(check_wrap_bound(alloc, &composite, 2, &skin, &bound), 2));
+    Ok(())
+}
+
+fn is_refused<T: Drop>(outcome: Result<T, Error>, width: usize) -> bool {
+    match outcome {
+        Err(Error::InsufficientWidth(error)) => error.available_width == width,
+        _ => false,
+    }
+}
+
+#[test]
+fn margins_of_the_style(rt: HostRuntime) -> Result<(), Error> {
+    margins_of_the_style_rows(&rt, rt.alloc())
+}
+
+#[test]
+fn margins_of_the_style_or_want_of_memory(rt: HostRuntime) {
+    let outcome = margins_of_the_style_rows(&rt, rt.alloc());
+    assert!(rt; is_done_or_want_of_memory(outcome));
+}
+
+fn margins_of_the_style_rows(rt: &impl Abort, alloc: Global) -> Result<(), Error> {
+    let rows = [
+        (2, 3, "|aaaa|| |\n|bbbb|| |\n|cccc|\n", (2, 3)),
+        (
+            usize::MAX,
+            usize::MAX,
+            "|aaaa|| ||bbbb|| |\n|cccc|\n",
+            (0, 0),
+        ),
+    ];
+    for (left, right, wanted, margins) in rows {
+        let skin = skin_with(left, right, ListItemsIndentationMode::Block);
+        let composite = composite(alloc, "aaaa bbbb cccc", CompositeStyle::Paragraph, &skin)?;
+        let mut lines = Vec::new(alloc);
+        lines.push(FmtLine::Normal(composite))?;
+        let mut picture = String::new(alloc);
+        for line in &hard_wrap_lines(alloc, lines, 12, &skin)? {
+            let FmtLine::Normal(line) = line;
+            assert_eq!(rt; line.margins, Some(margins));
+            push_picture(&mut picture, line)?;
+        }
+        assert_eq!(rt; picture.as_str(), wanted);
+    }
+    Ok(())
+}

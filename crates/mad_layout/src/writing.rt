@@ -1,0 +1,173 @@
+//! The writing calls of a skin.
+
+ghost use Rattle.std.specs.Prelude.{◌≡◌, ◌-◌, ◌≤◌, IfOk, OnOk, Some};
+ghost use Rattle.mad_term.specs.Draws.{Draws};
+ghost use Rattle.mad_fit.specs.Areas.{IsWithinLimits};
+ghost use Rattle.mad_layout.specs.InArea.{IsAreaLayout, WritesInArea, ShowsText};
+ghost use Rattle.mad_layout.specs.Inlines.{WritesInline, composite_bytes};
+
+use crate::drawing::draw_text;
+use crate::fmt_text::FmtText;
+use crate::rows::push_free;
+use crate::skin::MadSkin;
+use mad_fit::area::Area;
+use mad_md::Composite;
+use mad_term::{Error, Out, put_all};
+use std::alloc::{AllocError, Global};
+
+impl MadSkin {
+    /// A text with inline marks, laid out for an area: at a width one column less than the area's. Only want of memory
+    /// is an error.
+    pub fn area_text<'k, 's>(
+        &'k self,
+        alloc: Global,
+        markdown: &'s str,
+        area: &Area,
+    ) -> Result<FmtText<'k, 's>, AllocError>
+        ensures skin { IfOk result (λ text. text.skin.now ≡ self.now) }
+        ensures width { IfOk result (λ text. text.width ≡ Some (area.now.width - 1)) }
+        ensures lines { IfOk result (λ text. IsAreaLayout self.now markdown.now area.now text.lines.items) }
+    {
+        let width = (area.width as usize).saturating_sub(1);
+        FmtText::from(alloc, self, markdown, Some(width))
+    }
+
+    /// Writes a text with inline marks in an area: its first rows, each filling the area's width, and below the last
+    /// one spaces in the paragraph's style. Nothing is flushed.
+    ///
+    /// The area's right and bottom have to fit a `u16`.
+    ///
+    /// # Errors
+    ///
+    /// A fault of the device, or want of memory. What went out by then is a beginning of the whole.
+    pub fn write_in_area_on<O: Out>(
+        &self,
+        alloc: Global,
+        out: &mut O,
+        markdown: &str,
+        area: &Area,
+    ) -> Result<(), Error>
+        requires { IsWithinLimits area.now }
+        ensures writes { WritesInArea self.now markdown.now area.now (O.seen out.old) result (O.seen out.new) }
+        ensures shown { OnOk result (4 ≤ area.now.width → ShowsText self.now markdown.now area.now (O.seen out.old) (O.seen out.new)) }
+    {
+        let text = self.area_text(alloc, markdown, area)?;
+        draw_text(alloc, out, &text, area, 0)
+    }
+
+    /// Writes a text in an area, as [`MadSkin::write_in_area_on`] does, and flushes.
+    ///
+    /// # Errors
+    ///
+    /// A fault of the device, at its flush too, or want of memory. What went out by then is a beginning of the whole.
+    pub fn write_in_area<O: Out>(
+        &self,
+        alloc: Global,
+        out: &mut O,
+        markdown: &str,
+        area: &Area,
+    ) -> Result<(), Error>
+        requires { IsWithinLimits area.now }
+        ensures writes { WritesInArea self.now markdown.now area.now (O.seen out.old) result (O.seen out.new) }
+        ensures shown { OnOk result (4 ≤ area.now.width → ShowsText self.now markdown.now area.now (O.seen out.old) (O.seen out.new)) }
+    {
+        self.write_in_area_on(alloc, out, markdown, area)?;
+        out.flush()?;
+        Ok(())
+    }
+
+    /// Writes a composite by itself, without a width: its style's left margin, its mark, its compounds. Nothing is
+    /// flushed.
+    ///
+    /// # Errors
+    ///
+    /// A fault of the device, or want of memory before anything went out.
+    #[tactic(auto, using(mad_term::proofs::QueueExits::memory_first))]
+    pub fn write_composite<O: Out>(
+        &self,
+        alloc: Global,
+        out: &mut O,
+        composite: &Composite,
+    ) -> Result<(), Error>
+        ensures { Draws (O.seen out.old) (composite_bytes self.now composite.now) result (O.seen out.new) }
+    {
+        let mut row = String::new(alloc);
+        push_free(&mut row, self, composite)?;
+        put_all(out, row.as_bytes())?;
+        Ok(())
+    }
+
+    /// Writes a composite, as [`MadSkin::write_composite`] does.
+    ///
+    /// # Errors
+    ///
+    /// A fault of the device, or want of memory before anything went out.
+    pub fn print_composite<O: Out>(
+        &self,
+        alloc: Global,
+        out: &mut O,
+        composite: &Composite,
+    ) -> Result<(), Error>
+        ensures { Draws (O.seen out.old) (composite_bytes self.now composite.now) result (O.seen out.new) }
+    {
+        self.write_composite(alloc, out, composite)
+    }
+
+    /// Writes one line of text with inline marks, without a width. Nothing is flushed.
+    ///
+    /// # Errors
+    ///
+    /// A fault of the device, or want of memory before anything went out.
+    #[tactic(auto, using(mad_term::proofs::QueueExits::memory_first))]
+    pub fn write_inline_on<O: Out>(
+        &self,
+        alloc: Global,
+        out: &mut O,
+        src: &str,
+    ) -> Result<(), Error>
+        ensures { WritesInline self.now src.now (O.seen out.old) result (O.seen out.new) }
+    {
+        let composite = Composite::from_inline(alloc, src)?;
+        self.write_composite(alloc, out, &composite)
+    }
+
+    /// Writes one line of text with inline marks, as [`MadSkin::write_inline_on`] does.
+    ///
+    /// # Errors
+    ///
+    /// A fault of the device, or want of memory before anything went out.
+    pub fn print_inline<O: Out>(&self, alloc: Global, out: &mut O, src: &str) -> Result<(), Error>
+        ensures { WritesInline self.now src.now (O.seen out.old) result (O.seen out.new) }
+    {
+        self.write_inline_on(alloc, out, src)
+    }
+
+    /// Writes one line of text with inline marks, as [`MadSkin::write_inline_on`] does, and flushes.
+    ///
+    /// # Errors
+    ///
+    /// A fault of the device, at its flush too, or want of memory before anything went out.
+    pub fn write_inline<O: Out>(&self, alloc: Global, out: &mut O, src: &str) -> Result<(), Error>
+        ensures { WritesInline self.now src.now (O.seen out.old) result (O.seen out.new) }
+    {
+        self.write_inline_on(alloc, out, src)?;
+        out.flush()?;
+        Ok(())
+    }
+}
+
+/// Writes one line of text with inline marks in a skin, as [`MadSkin::print_inline`] does.
+///
+/// # Errors
+///
+/// A fault of the device, or want of memory before anything went out.
+pub fn print_inline<O: Out>(
+    alloc: Global,
+    skin: &MadSkin,
+    out: &mut O,
+    src: &str,
+) -> Result<(), Error>
+    ensures { WritesInline skin.now src.now (O.seen out.old) result (O.seen out.new) }
+{
+    skin.print_inline(alloc, out, src)
+}

@@ -1,0 +1,7 @@
+pub mod AttributeSets
+pub mod Borders
+pub mod CompoundStyles
+pub mod Kinds
+pub mod LineStyles
+pub mod Runs
+pub mod StyledChars

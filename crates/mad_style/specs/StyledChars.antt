@@ -1,0 +1,23 @@
+-- Characters in a style.
+use Rattle.std.specs.Prelude.{ℕ, Some, None}
+use Rattle.mad_term.specs.declared.color.Color.{Color}
+use Rattle.mad_style.specs.declared.compound_styles.CompoundStyle.{CompoundStyle}
+use Rattle.mad_style.specs.declared.styled_chars.StyledChar.{StyledChar}
+use Rattle.mad_style.specs.AttributeSets.{no_attributes}
+use Rattle.mad_style.specs.CompoundStyles.{text_style}
+
+-- its style
+abbrev pub char_style : StyledChar → CompoundStyle
+char_style c = c.compound_style
+
+-- the character itself
+abbrev pub char_alone : StyledChar → ℕ
+char_alone c = c.nude_char
+
+-- this character in this style
+abbrev pub styled_char : CompoundStyle → ℕ → StyledChar
+styled_char style c = record { compound_style = style; nude_char = c }
+
+-- this character in this foreground
+abbrev pub colored_char : Color → ℕ → StyledChar
+colored_char color c = styled_char (text_style (Some color) None no_attributes) c

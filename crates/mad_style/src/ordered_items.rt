@@ -1,0 +1,67 @@
+//! How the numbers of an ordered list look, and how far they push its items in.
+
+ghost use Rattle.std.specs.Prelude.{◌≡◌, ◌+◌, length, decimal};
+ghost use Rattle.mad_term.specs.declared.color.Color.TheVariants.{AnsiValue};
+
+use crate::colors::gray;
+use crate::compound_styles::CompoundStyle;
+use crate::styled_chars::StyledChar;
+
+/// How many levels of an ordered list have a style of their own; deeper ones take the last.
+pub const MAX_ORDERED_LIST_DEPTH: usize = 4;
+
+/// How the number of an item of an ordered list looks, and the mark behind it.
+#[derive(Clone, Copy, Debug, PartialEq)]
+pub struct OrderedItemStyle {
+    pub index_style: CompoundStyle,
+    pub index_suffix: StyledChar,
+}
+
+impl Default for OrderedItemStyle {
+    ghost use Rattle.mad_style.specs.CompoundStyles.{plain_style};
+    ghost use Rattle.mad_style.specs.StyledChars.{colored_char};
+
+    ghost is_default = { λ style. style ≡ record { index_style = plain_style; index_suffix = colored_char (AnsiValue 244) 46 } };
+
+    /// A number without style, and a gray dot.
+    fn default() -> Self {
+        Self {
+            index_style: CompoundStyle::default(),
+            index_suffix: StyledChar::from_fg_char(gray(12), '.'),
+        }
+    }
+}
+
+impl OrderedItemStyle {
+    ghost use Rattle.mad_style.specs.CompoundStyles.{plain_style};
+    ghost use Rattle.mad_style.specs.StyledChars.{styled_char};
+
+    /// A number and a dot without style.
+    pub fn no_style() -> Self
+        ensures { result ≡ record { index_style = plain_style; index_suffix = styled_char plain_style 46 } }
+    {
+        Self {
+            index_style: CompoundStyle::default(),
+            index_suffix: StyledChar::nude('.'),
+        }
+    }
+}
+
+/// The columns in front of the text of an item of an ordered list: a column for each level and each
+/// digit of its number, and one for the mark and the space behind it.
+pub fn ordered_item_indent(level: u8, index: u32) -> usize
+    ensures { result ≡ length (decimal index) + 2 + level }
+{
+    digit_count(index) as usize + 2 + usize::from(level)
+}
+
+// The digits that a number is written with.
+#[tactic(auto, using(std::proofs::lemmas::Fmt::decimal_digit, crate::proofs::Digits::length_decimal))]
+fn digit_count(number: u32) -> u32
+    ensures { result ≡ length (decimal number) }
+{
+    match number.checked_ilog10() {
+        Some(power) => power + 1,
+        None => 1,
+    }
+}

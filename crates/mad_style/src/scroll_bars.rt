@@ -1,0 +1,76 @@
+//! How a scroll bar looks.
+
+ghost use Rattle.std.specs.Prelude.{◌≡◌, unwrap_or};
+ghost use Rattle.mad_term.specs.declared.color.Color.TheVariants.{AnsiValue};
+
+use crate::colors::gray;
+use crate::styled_chars::StyledChar;
+use mad_term::Color;
+
+// The right half of a cell, so that a bar stands clear of the text on its left.
+const RIGHT_HALF: char = '▐';
+
+/// How a scroll bar looks: the thumb, which stands for what is shown, and the track elsewhere.
+#[derive(Clone, Debug, Drop, PartialEq)]
+pub struct ScrollBarStyle {
+    pub track: StyledChar,
+    pub thumb: StyledChar,
+}
+
+impl Default for ScrollBarStyle {
+    ghost use Rattle.mad_style.specs.StyledChars.{colored_char};
+
+    ghost is_default = { λ bar. bar ≡ record { track = colored_char (AnsiValue 237) 0x2590; thumb = colored_char (AnsiValue 253) 0x2590 } };
+
+    /// A light gray thumb on a dark gray track.
+    fn default() -> Self {
+        Self::new()
+    }
+}
+
+impl From<StyledChar> for ScrollBarStyle {
+    ghost use Rattle.mad_style.specs.StyledChars.{char_style, char_alone, colored_char};
+
+    ghost from_gives = { λ c bar. bar ≡ record {
+      track = colored_char (unwrap_or (char_style c).object_style.background_color (AnsiValue 237)) (char_alone c);
+      thumb = colored_char (unwrap_or (char_style c).object_style.foreground_color (AnsiValue 253)) (char_alone c);
+    } };
+
+    /// A bar of this character: its thumb has the character's foreground, its track the character's
+    /// background, both as foregrounds, and where one is absent the gray of the default bar.
+    fn from(styled_char: StyledChar) -> Self {
+        let nude_char = styled_char.nude_char();
+        let track = styled_char.get_bg().unwrap_or(gray(5));
+        let thumb = styled_char.get_fg().unwrap_or(gray(21));
+        Self {
+            track: StyledChar::from_fg_char(track, nude_char),
+            thumb: StyledChar::from_fg_char(thumb, nude_char),
+        }
+    }
+}
+
+impl ScrollBarStyle {
+    ghost use Rattle.mad_style.specs.CompoundStyles.{background_set};
+    ghost use Rattle.mad_style.specs.StyledChars.{char_style, char_alone, styled_char, colored_char};
+
+    /// A light gray thumb on a dark gray track, both of the character `▐`.
+    pub fn new() -> Self
+        ensures { result ≡ record { track = colored_char (AnsiValue 237) 0x2590; thumb = colored_char (AnsiValue 253) 0x2590 } }
+    {
+        Self {
+            track: StyledChar::from_fg_char(gray(5), RIGHT_HALF),
+            thumb: StyledChar::from_fg_char(gray(21), RIGHT_HALF),
+        }
+    }
+
+    /// Sets the background of the track and of the thumb.
+    pub fn set_bg(&mut self, bg: Color)
+        ensures { self.new ≡ record {
+          track = styled_char (background_set (char_style self.old.track) bg) (char_alone self.old.track);
+          thumb = styled_char (background_set (char_style self.old.thumb) bg) (char_alone self.old.thumb);
+        } }
+    {
+        self.track.set_bg(bg);
+        self.thumb.set_bg(bg);
+    }
+}
