@@ -148,14 +148,14 @@ pub(crate) fn push_composite(
     push_spaces(row, blank, if place.right { right } else { 0 })
 }
 
-// The blank columns left and right of a composite in its own place.
+/// The blank columns left and right of a composite in its own place.
 pub(crate) fn inner_blanks(composite: &FmtComposite) -> (usize, usize)
     ensures { result ≡ inner_blanks composite.now }
 {
     composite.completions()
 }
 
-// The blank columns left and right of a composite's own place at the outer width, with the margins.
+/// The blank columns left and right of a composite's own place at the outer width, with the margins.
 pub(crate) fn outer_blanks(
     composite: &FmtComposite,
     align: Alignment,

@@ -146,7 +146,7 @@ impl fmt::Display for StyleOpening {
     }
 }
 
-// What makes the pen plain again after a text in this style.
+/// What makes the pen plain again after a text in this style.
 #[tactic(auto, using(std::proofs::lemmas::Fmt::decimal_digit))]
 pub(crate) fn closing_text(style: ContentStyle) -> &'static str
     ensures { result.now ≡ closing_bytes style }
