@@ -2,6 +2,7 @@ pub mod AreaLemmas
 pub mod BoundLemmas
 pub mod CutLemmas
 pub mod DrawableLemmas
+pub mod DrawnLayouts
 pub mod HeadlineLemmas
 pub mod KeepLemmas
 pub mod LayoutLemmas

@@ -1,6 +1,7 @@
 //! Inline texts: one line, without a width.
 
 ghost use Rattle.std.specs.Prelude.{◌≡◌, IfOk};
+ghost use Rattle.mad_layout.specs.Inlines.{IsInlineOf};
 
 use crate::composite::FmtComposite;
 use crate::skin::MadSkin;
@@ -17,8 +18,6 @@ pub struct FmtInline<'k, 's> {
 }
 
 impl MadSkin {
-    ghost use Rattle.mad_layout.specs.Inlines.{IsInlineOf};
-
     /// A line of text, its inline marks read. Only want of memory is an error.
     pub fn inline<'k, 's>(
         &'k self,
