@@ -244,13 +244,13 @@ fn write_past_the_end(rt: &impl Abort, alloc: Global) -> Result<(), Error> {
     let skin = MadSkin::no_style();
     let text = FmtText::raw_str(alloc, &skin, "a\nb\nc\nd\ne", Some(3))?;
     let area = area_of([0, 0, 3, 3]);
-    let mut view = TextView::from(&area, &text);
     let rows = [
         (4, "\x1b[1;1He  \x1b[2;1H   \x1b[3;1H   "),
         (100, "\x1b[1;1H   \x1b[2;1H   \x1b[3;1H   "),
         (usize::MAX, "\x1b[1;1H   \x1b[2;1H   \x1b[3;1H   "),
     ];
     for (scroll, wanted) in rows {
+        let mut view = TextView::from(&area, &text);
         view.scroll = scroll;
         let mut out = CutOut::new(alloc, 54, 54, false)?;
         let done = view.write_on(alloc, &mut out);
