@@ -17,11 +17,13 @@ use Rattle.mad_fit.specs.Tokens.{token_run}
 use Rattle.mad_fit.specs.declared.tokens.Token.{Token}
 use Rattle.mad_fit.proofs.AllLemmas.{all_joined, all_each}
 use Rattle.mad_layout.specs.Drawable.{AreShownPieces, pieces_columns, IsDrawableLine, AreDrawable}
+use Rattle.mad_layout.specs.FittingLayouts.{IsFittingWrap, IsFitted, AreLinesFitted, IsFittingLayout}
 use Rattle.mad_layout.specs.Indents.{indent, follow_up, room_of}
 use Rattle.mad_layout.specs.Layouts.{IsRead, AreRead, IsLayout}
 use Rattle.mad_layout.specs.Premises.{IsPlainRun, runs_text, IsPlainLine, KeepsPremises}
 use Rattle.mad_layout.specs.Rows.{mark_pieces, compound_piece}
 use Rattle.mad_layout.specs.Styles.{line_style}
+use Rattle.mad_layout.specs.LeastWrap.{IsWrap}
 use Rattle.mad_layout.specs.WrappedLines.{margins_of, line_with, IsWrapped, AreLinesWrapped}
 use Rattle.mad_layout.specs.Wraps.{text_of, columns_of, IsMeasured, HasRoom, LinesFit, HaveKinds, IsMadeOf}
 use Rattle.mad_layout.specs.declared.room.Room.{Room}
@@ -95,7 +97,7 @@ has_room skin width line source plain read wide =
     room (omega (arith, wide, read.measured, margins-le (line_style skin source.kind) width))
 
 read_drawable : (skin : MadSkin) (width drawn : ℕ) (line : StyledRuns) (source : FmtComposite) (lines : List FmtLine) → width ≤ drawn → drawn < 2 ^ 64 - 1
-    → IsPlainLine skin width line → IsRead skin line source → IsWrapped skin width source lines → AreDrawable skin drawn lines
+    → IsPlainLine skin width line → IsRead skin line source → IsFitted skin width source lines → AreDrawable skin drawn lines
 read_drawable skin width drawn line source lines narrower bound plain read (inl (fits, same)) =
     let kind : source.kind ≡ Paragraph = read.kind ∙ ap kind_of plain.paragraph in
     let margins : ℕ × ℕ = margins_of skin width source in
@@ -117,14 +119,14 @@ read_drawable skin width drawn line source lines narrower bound plain read (inr 
     (tokens_shown (r.width - r.first) ps tokens.0 runs narrow tokens.1) in
     subst (AreDrawable skin drawn) (sym same)
     (wrapped_drawable skin drawn r.first margins r ps tokens.0 wrap bound (omega (arith, narrower, margins-le (line_style skin source.kind) width)) shown
-    (subst (λ k. HaveKinds k (follow_up k) wrap) kind wraps.kinds)
-    (subst (λ s. AllByRecursion (λ (l : FmtComposite). l.spacing ≡ s) wrap) read.spacing wraps.spacing)
-    wraps.measured (wraps.fits room) (wraps.least tokens.0 tokens.1).parts)
+        (subst (λ k. HaveKinds k (follow_up k) wrap) kind wraps.kinds)
+        (subst (λ s. AllByRecursion (λ (l : FmtComposite). l.spacing ≡ s) wrap) read.spacing wraps.spacing)
+        wraps.measured (wraps.fits room) (wraps.parts tokens.0 tokens.1))
 
 -- ---- a text
 
 lines_drawable : (skin : MadSkin) (width drawn : ℕ) (text : List StyledRuns) (read lines : List FmtLine) → width ≤ drawn → drawn < 2 ^ 64 - 1
-    → KeepsPremises skin width text → AreRead skin text read → AreLinesWrapped skin width read lines → AreDrawable skin drawn lines
+    → KeepsPremises skin width text → AreRead skin text read → AreLinesFitted skin width read lines → AreDrawable skin drawn lines
 lines_drawable skin width drawn [] [] lines narrower bound keeps reads wraps = subst (AreDrawable skin drawn) (sym wraps) tt
 lines_drawable skin width drawn [] (l ∷ ls) lines narrower bound keeps reads wraps = absurd reads
 lines_drawable skin width drawn (c ∷ cs) [] lines narrower bound keeps reads wraps = absurd reads
@@ -133,7 +135,34 @@ lines_drawable skin width drawn (c ∷ cs) (Normal l ∷ ls) lines narrower boun
     (all_joined (IsDrawableLine skin drawn) own others (read_drawable skin width drawn c l own narrower bound keeps.0 reads.0 here)
     (lines_drawable skin width drawn cs ls others narrower bound keeps.1 reads.1 more))
 
--- A layout of a text that keeps the premises is drawn exactly in a row at least as wide.
+-- A layout of a text that keeps the premises is drawn exactly in a row at least as wide, however many lines it has.
+pub fitting_is_drawable : (skin : MadSkin) (width drawn : ℕ) (text : List StyledRuns) (lines : List FmtLine) → width ≤ drawn → drawn < 2 ^ 64 - 1
+    → KeepsPremises skin width text → IsFittingLayout skin width text lines → AreDrawable skin drawn lines
+fitting_is_drawable skin width drawn text lines narrower bound keeps layout = lines_drawable skin width drawn text layout.read lines narrower bound keeps layout.reads layout.fitted
+
+-- ---- a layout with the fewest lines
+
+wrap_fits : (skin : MadSkin) (width : ℕ) (source : FmtComposite) (lines : List FmtComposite) → IsWrap skin width source lines → IsFittingWrap skin width source lines
+wrap_fits skin width source lines wrap = record {
+  keeps = wrap.keeps;
+  fits = wrap.fits;
+  parts = λ ts tokens. (wrap.least ts tokens).parts;
+  kinds = wrap.kinds;
+  measured = wrap.measured;
+  spacing = wrap.spacing;
+  margins = wrap.margins;
+}
+
+lines_fit : (skin : MadSkin) (width : ℕ) (read lines : List FmtLine) → AreLinesWrapped skin width read lines → AreLinesFitted skin width read lines
+lines_fit skin width [] lines wraps = wraps
+lines_fit skin width (Normal l ∷ ls) lines (own, others, joins, inl here, more) = (own, others, joins, inl here, lines_fit skin width ls others more)
+lines_fit skin width (Normal l ∷ ls) lines (own, others, joins, inr (wide, (wrap, wraps, same)), more) =
+    let margins = margins_of skin width l in
+    (own, others, joins, inr (wide, (wrap, wrap_fits skin (width - margins.0 - margins.1) l wrap wraps, same)), lines_fit skin width ls others more)
+
+pub layout_fits : (skin : MadSkin) (width : ℕ) (text : List StyledRuns) (lines : List FmtLine) → IsLayout skin width text lines → IsFittingLayout skin width text lines
+layout_fits skin width text lines layout = record { read = layout.read; reads = layout.reads; fitted = lines_fit skin width layout.read lines layout.wraps }
+
 pub layout_is_drawable : (skin : MadSkin) (width drawn : ℕ) (text : List StyledRuns) (lines : List FmtLine) → width ≤ drawn → drawn < 2 ^ 64 - 1
     → KeepsPremises skin width text → IsLayout skin width text lines → AreDrawable skin drawn lines
-layout_is_drawable skin width drawn text lines narrower bound keeps layout = lines_drawable skin width drawn text layout.read lines narrower bound keeps layout.reads layout.wraps
+layout_is_drawable skin width drawn text lines narrower bound keeps layout = fitting_is_drawable skin width drawn text lines narrower bound keeps (layout_fits skin width text lines layout)

@@ -3,6 +3,7 @@ pub mod BoundLemmas
 pub mod BoundOfLemmas
 pub mod CutLemmas
 pub mod DrawableLemmas
+pub mod DrawnLayouts
 pub mod HeadlineLemmas
 pub mod InlineLemmas
 pub mod KeepLemmas

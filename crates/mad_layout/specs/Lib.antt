@@ -2,6 +2,7 @@ pub mod Bounds
 pub mod Breaks
 pub mod CleanCut
 pub mod Drawable
+pub mod FittingLayouts
 pub mod Greedy
 pub mod InArea
 pub mod Indents
@@ -16,6 +17,7 @@ pub mod PlacedLines
 pub mod Premises
 pub mod Rows
 pub mod Shown
+pub mod ShownLayouts
 pub mod SkinParts
 pub mod Skins
 pub mod Styles

@@ -11,6 +11,7 @@ ghost use Rattle.mad_fit.specs.Areas.{IsWithinLimits};
 ghost use Rattle.mad_layout.specs.Drawable.{AreDrawable};
 ghost use Rattle.mad_layout.specs.Pieces.{AreKnown, pieces_bytes};
 ghost use Rattle.mad_layout.specs.Rows.{row_pieces};
+ghost use Rattle.mad_layout.specs.ShownLayouts.{ShowsLayout};
 ghost use Rattle.mad_layout.specs.Shown.{rows_from, area_bytes, AreShownIn};
 
 use crate::fmt_text::FmtText;
@@ -43,6 +44,9 @@ pub fn draw_text<O: Out>(
     // What a plain terminal shows that reads it, where each line fits the area and holds no control character.
     ensures shown { OnOk result (AreDrawable text.now.skin.now area.now.width text.now.lines.items
         → TookWith (O.seen out.old) (O.seen out.new) (AreShownIn text.now.skin.now text.now.lines.items area.now scroll)) }
+
+    // The same where the lines are a layout, at no more than the area's width, of a text that keeps the premises.
+    ensures shown_layout { OnOk result (ShowsLayout text.now.skin.now text.now.lines.items area.now scroll (O.seen out.old) (O.seen out.new)) }
 {
     let lines = lines_from(text.lines.as_slice(), scroll);
     draw_rows(alloc, out, text.skin, lines, area)

@@ -1,0 +1,17 @@
+-- What an area shows of a layout that was drawn in it.
+use Rattle.std.specs.Prelude.{ℕ, ◌≤◌, List}
+use Rattle.mad_md.specs.Lines.{StyledRuns}
+use Rattle.mad_term.specs.Trace.{Trace, TookWith}
+use Rattle.mad_fit.specs.declared.area.Area.{Area}
+use Rattle.mad_layout.specs.FittingLayouts.{IsFittingLayout}
+use Rattle.mad_layout.specs.Premises.{KeepsPremises}
+use Rattle.mad_layout.specs.Shown.{AreShownIn}
+use Rattle.mad_layout.specs.declared.skin.MadSkin.{MadSkin}
+use Rattle.mad_layout.specs.declared.line.FmtLine.{FmtLine}
+
+-- What a plain terminal shows that reads what was written, where the lines are a layout of a text that keeps the premises, at a width
+-- that isn't more than the area's: the lines in the area from `scroll` on, every other cell as before, and the plain pen again.
+abbrev pub ShowsLayout : MadSkin → List FmtLine → Area → ℕ → Trace → Trace → Type 0
+ShowsLayout skin lines area scroll old new =
+    (source : List StyledRuns) (width : ℕ) → width ≤ area.width → KeepsPremises skin width source → IsFittingLayout skin width source lines
+    → TookWith old new (AreShownIn skin lines area scroll)

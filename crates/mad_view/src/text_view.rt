@@ -1,0 +1,98 @@
+//! A laid out text in an area.
+
+ghost use Rattle.std.specs.Prelude.{◌≡◌, OnOk, vec_len};
+ghost use Rattle.mad_term.specs.Draws.{Draws};
+ghost use Rattle.mad_term.specs.Trace.{TookWith};
+ghost use Rattle.mad_fit.specs.Areas.{IsWithinLimits};
+ghost use Rattle.mad_layout.specs.Drawable.{AreDrawable};
+ghost use Rattle.mad_layout.specs.Shown.{area_bytes, AreShownIn};
+ghost use Rattle.mad_layout.specs.ShownLayouts.{ShowsLayout};
+ghost use Rattle.mad_view.specs.Scrolls.{scroll_within};
+
+use mad_fit::area::Area;
+use mad_layout::{FmtText, draw_text};
+use mad_term::{Error, Out};
+use std::alloc::Global;
+
+/// A text in an area of the screen, which shows as many of its lines as the area has rows.
+#[derive(Debug, Drop)]
+pub struct TextView<'a, 't> {
+    area: &'a Area,
+    text: &'t FmtText<'t, 't>,
+    /// The number of its first line that is shown. All numbers are allowed: past the last line the area is blank.
+    pub scroll: usize,
+}
+
+impl<'a, 't> TextView<'a, 't> {
+    /// A view of a text in an area, from its first line on.
+    pub fn from(area: &'a Area, text: &'t FmtText<'_, '_>) -> Self
+        ensures { result ≡ record { area = area.entry; text = text.entry; scroll = 0 } }
+    {
+        TextView {
+            area,
+            text,
+            scroll: 0,
+        }
+    }
+
+    /// How many lines the text has.
+    pub fn content_height(&self) -> usize
+        ensures { result ≡ vec_len self.now.text.now.lines }
+    {
+        self.text.lines.len()
+    }
+
+    /// Scrolls so that the line of this number comes first, and answers which one does then: the text's last line stays
+    /// in the area's last row, and a text that fits isn't scrolled.
+    pub fn set_scroll(&mut self, scroll: usize) -> usize
+        ensures kept { self.new ≡ record self.old { scroll = scroll_within (vec_len self.old.text.now.lines) self.old.area.now.height scroll } }
+        ensures answer { result ≡ self.new.scroll }
+    {
+        let hidden = self
+            .content_height()
+            .saturating_sub(usize::from(self.area.height));
+        self.scroll = scroll.min(hidden);
+        self.scroll
+    }
+
+    /// Draws the text's lines in the area, that of the view's scroll first. Each row fills the area's width; past the
+    /// last line there are spaces in the paragraph's style. Nothing is flushed, and the view is not changed.
+    ///
+    /// The area's right and bottom have to fit a `u16`.
+    ///
+    /// # Errors
+    ///
+    /// A fault of the device, or want of memory. What went out by then is a beginning of the whole.
+    pub fn write_on<O: Out>(&self, alloc: Global, out: &mut O) -> Result<(), Error>
+        requires { IsWithinLimits self.now.area.now }
+        ensures writes { let text = self.now.text.now in Draws (O.seen out.old) (area_bytes text.skin.now text.lines.items self.now.area.now self.now.scroll) result (O.seen out.new) }
+
+    // What a plain terminal shows that reads it, where each line fits the area and holds no control character.
+    ensures shown { let text = self.now.text.now in OnOk result (AreDrawable text.skin.now self.now.area.now.width text.lines.items
+        → TookWith (O.seen out.old) (O.seen out.new) (AreShownIn text.skin.now text.lines.items self.now.area.now self.now.scroll)) }
+
+    // The same where the lines are a layout of a text that keeps the premises, at most as wide as the area.
+    ensures shown_layout { let text = self.now.text.now in OnOk result (ShowsLayout text.skin.now text.lines.items self.now.area.now self.now.scroll (O.seen out.old) (O.seen out.new)) }
+    {
+        draw_text(alloc, out, self.text, self.area, self.scroll)
+    }
+
+    /// Draws the text as [`TextView::write_on`] does, and flushes. The view is not changed.
+    ///
+    /// The area's right and bottom have to fit a `u16`.
+    ///
+    /// # Errors
+    ///
+    /// A fault of the device, at its flush too, or want of memory. What went out by then is a beginning of the whole.
+    pub fn write<O: Out>(&self, alloc: Global, out: &mut O) -> Result<(), Error>
+        requires { IsWithinLimits self.now.area.now }
+        ensures writes { let text = self.now.text.now in Draws (O.seen out.old) (area_bytes text.skin.now text.lines.items self.now.area.now self.now.scroll) result (O.seen out.new) }
+        ensures shown { let text = self.now.text.now in OnOk result (AreDrawable text.skin.now self.now.area.now.width text.lines.items
+            → TookWith (O.seen out.old) (O.seen out.new) (AreShownIn text.skin.now text.lines.items self.now.area.now self.now.scroll)) }
+        ensures shown_layout { let text = self.now.text.now in OnOk result (ShowsLayout text.skin.now text.lines.items self.now.area.now self.now.scroll (O.seen out.old) (O.seen out.new)) }
+    {
+        self.write_on(alloc, out)?;
+        out.flush()?;
+        Ok(())
+    }
+}
