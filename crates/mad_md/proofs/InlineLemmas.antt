@@ -145,6 +145,7 @@ read_end bs flags compounds new start i l h pushed =
     record {
       reading = all.0;
       reads = reads;
+      only = λ items other. inline_reading_unique bs items all.0 other reads;
       each = λ items other. runs_are ∙ ap (λ x. map (run_at bs) (runs x)) (inline_reading_unique bs all.0 items reads other);
     }
 

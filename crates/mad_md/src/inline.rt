@@ -28,8 +28,9 @@ impl Mark {
     }
 }
 
-// The compounds of a line's inline reading, in one pass over its bytes. Each mark is ASCII, so a place
-// beside one is a border of characters.
+/// The compounds of a line's inline reading, in one pass over its bytes.
+///
+/// Each mark is ASCII, so a place beside one is a border of characters.
 pub(crate) fn read_inline<'s>(alloc: Global, line: &'s str) -> Result<Vec<Compound<'s>>, AllocError>
     ensures { IfOk result (λ compounds. IsReadInline line.now compounds.items) }
 {

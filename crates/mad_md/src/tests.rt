@@ -14,8 +14,15 @@ fn expect_inline(
     wanted: &[Compound],
 ) -> Result<(), Fail> {
     let composite = Composite::from_inline(alloc, line)?;
-    assert!(rt; composite.style == CompositeStyle::Paragraph, "the style of {line:?}");
-    assert_eq!(rt; composite.compounds.as_slice(), wanted, "the compounds of {line:?}");
+    assert!(rt;
+        composite.style == CompositeStyle::Paragraph,
+        "the style of {line:?}"
+    );
+    assert_eq!(rt;
+        composite.compounds.as_slice(),
+        wanted,
+        "the compounds of {line:?}"
+    );
     Ok(())
 }
 
@@ -53,14 +60,25 @@ fn inline_marks(rt: HostRuntime) -> Result<(), Fail> {
 
 fn expect_raw(rt: &impl Abort, alloc: Global, src: &str, wanted: &[&str]) -> Result<(), Fail> {
     let text = Text::raw_str(alloc, src)?;
-    assert_eq!(rt; text.lines.len(), wanted.len(), "how many lines {src:?} has");
+    assert_eq!(rt;
+        text.lines.len(),
+        wanted.len(),
+        "how many lines {src:?} has"
+    );
     for (line, want) in text.lines.iter().zip(wanted) {
         let Line::Normal(composite) = line else {
             assert!(rt; false, "a line of {src:?} is no composite");
             continue;
         };
-        assert!(rt; composite.style == CompositeStyle::Paragraph, "the style of {want:?} in {src:?}");
-        assert_eq!(rt; composite.compounds.len(), usize::from(!want.is_empty()), "{want:?} in {src:?}");
+        assert!(rt;
+            composite.style == CompositeStyle::Paragraph,
+            "the style of {want:?} in {src:?}"
+        );
+        assert_eq!(rt;
+            composite.compounds.len(),
+            usize::from(!want.is_empty()),
+            "{want:?} in {src:?}"
+        );
         for compound in &composite.compounds {
             assert_eq!(rt; *compound, Compound::raw_str(want), "{want:?} in {src:?}");
         }
