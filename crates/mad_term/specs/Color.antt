@@ -1,5 +1,5 @@
 -- The colors by number.
-use Rattle.std.specs.Prelude.{ℕ, Option, Some, None}
+use Rattle.std.specs.Prelude.{ℕ, ◌<◌, Option, Some, None}
 use Rattle.mad_term.specs.declared.color.Color.{Color}
 use Rattle.mad_term.specs.declared.color.Color.TheVariants.{Reset, Black, DarkGrey, Red, DarkRed, Green, DarkGreen, Yellow, DarkYellow, Blue, DarkBlue, Magenta, DarkMagenta, Cyan, DarkCyan, White, Grey, Rgb, AnsiValue}
 
@@ -24,3 +24,14 @@ color_number White = Some 15
 color_number Grey = Some 7
 color_number (Rgb r g b) = None
 color_number (AnsiValue n) = Some n
+
+-- the numbers of a color are bytes
+abbrev pub IsColor : Color → Type 0
+IsColor (Rgb r g b) = (r < 256) × (g < 256) × (b < 256)
+IsColor (AnsiValue n) = n < 256
+IsColor _ = Unit {0}
+
+-- so where there is a color
+abbrev pub IsColorOrNone : Option Color → Type 0
+IsColorOrNone None = Unit {0}
+IsColorOrNone (Some color) = IsColor color

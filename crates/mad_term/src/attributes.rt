@@ -1,43 +1,115 @@
 //! Sets of attributes.
 
-ghost use Rattle.std.specs.Prelude.{⊤, ◌≡◌, ◌≢◌, ◌==◌, ◌||◌, ◌^◌, ◌<◌, true, false};
+ghost use Rattle.std.specs.Prelude.{⊤, ◌≡◌, ◌≢◌, ◌==◌, ◌||◌, ◌^◌, ◌<◌, ◌↔◌, IsTrue, true, false};
 ghost use Rattle.std.specs.Int.RustNames.{bit_or};
 ghost use Rattle.mad_term.specs.declared.attribute.Attribute.{Attribute};
 
 use crate::attribute::Attribute;
 use bitflags::{Flag, Flags};
 
-/// A word with one bit for each attribute, at its place.
+// A word with one bit for each attribute, at its place. A word alone may have other bits too.
 #[derive(Clone, Copy, Debug, PartialEq, Eq)]
-pub struct AttributeBits(u32);
+struct AttributeBits(u32);
 
 impl AttributeBits {
     // Each attribute's name, and the word with its bit alone.
     const NAMES: &'static [Flag<AttributeBits>] = &[
-        Flag { name: "Reset", value: AttributeBits(1 << 0) },
-        Flag { name: "Bold", value: AttributeBits(1 << 1) },
-        Flag { name: "Dim", value: AttributeBits(1 << 2) },
-        Flag { name: "Italic", value: AttributeBits(1 << 3) },
-        Flag { name: "Underlined", value: AttributeBits(1 << 4) },
-        Flag { name: "SlowBlink", value: AttributeBits(1 << 5) },
-        Flag { name: "RapidBlink", value: AttributeBits(1 << 6) },
-        Flag { name: "Reverse", value: AttributeBits(1 << 7) },
-        Flag { name: "Hidden", value: AttributeBits(1 << 8) },
-        Flag { name: "CrossedOut", value: AttributeBits(1 << 9) },
-        Flag { name: "Fraktur", value: AttributeBits(1 << 10) },
-        Flag { name: "NoBold", value: AttributeBits(1 << 11) },
-        Flag { name: "NormalIntensity", value: AttributeBits(1 << 12) },
-        Flag { name: "NoItalic", value: AttributeBits(1 << 13) },
-        Flag { name: "NoUnderline", value: AttributeBits(1 << 14) },
-        Flag { name: "NoBlink", value: AttributeBits(1 << 15) },
-        Flag { name: "NoReverse", value: AttributeBits(1 << 16) },
-        Flag { name: "NoHidden", value: AttributeBits(1 << 17) },
-        Flag { name: "NotCrossedOut", value: AttributeBits(1 << 18) },
-        Flag { name: "Framed", value: AttributeBits(1 << 19) },
-        Flag { name: "Encircled", value: AttributeBits(1 << 20) },
-        Flag { name: "OverLined", value: AttributeBits(1 << 21) },
-        Flag { name: "NotFramedOrEncircled", value: AttributeBits(1 << 22) },
-        Flag { name: "NotOverLined", value: AttributeBits(1 << 23) },
+        Flag {
+            name: "Reset",
+            value: AttributeBits(1 << 0),
+        },
+        Flag {
+            name: "Bold",
+            value: AttributeBits(1 << 1),
+        },
+        Flag {
+            name: "Dim",
+            value: AttributeBits(1 << 2),
+        },
+        Flag {
+            name: "Italic",
+            value: AttributeBits(1 << 3),
+        },
+        Flag {
+            name: "Underlined",
+            value: AttributeBits(1 << 4),
+        },
+        Flag {
+            name: "SlowBlink",
+            value: AttributeBits(1 << 5),
+        },
+        Flag {
+            name: "RapidBlink",
+            value: AttributeBits(1 << 6),
+        },
+        Flag {
+            name: "Reverse",
+            value: AttributeBits(1 << 7),
+        },
+        Flag {
+            name: "Hidden",
+            value: AttributeBits(1 << 8),
+        },
+        Flag {
+            name: "CrossedOut",
+            value: AttributeBits(1 << 9),
+        },
+        Flag {
+            name: "Fraktur",
+            value: AttributeBits(1 << 10),
+        },
+        Flag {
+            name: "NoBold",
+            value: AttributeBits(1 << 11),
+        },
+        Flag {
+            name: "NormalIntensity",
+            value: AttributeBits(1 << 12),
+        },
+        Flag {
+            name: "NoItalic",
+            value: AttributeBits(1 << 13),
+        },
+        Flag {
+            name: "NoUnderline",
+            value: AttributeBits(1 << 14),
+        },
+        Flag {
+            name: "NoBlink",
+            value: AttributeBits(1 << 15),
+        },
+        Flag {
+            name: "NoReverse",
+            value: AttributeBits(1 << 16),
+        },
+        Flag {
+            name: "NoHidden",
+            value: AttributeBits(1 << 17),
+        },
+        Flag {
+            name: "NotCrossedOut",
+            value: AttributeBits(1 << 18),
+        },
+        Flag {
+            name: "Framed",
+            value: AttributeBits(1 << 19),
+        },
+        Flag {
+            name: "Encircled",
+            value: AttributeBits(1 << 20),
+        },
+        Flag {
+            name: "OverLined",
+            value: AttributeBits(1 << 21),
+        },
+        Flag {
+            name: "NotFramedOrEncircled",
+            value: AttributeBits(1 << 22),
+        },
+        Flag {
+            name: "NotOverLined",
+            value: AttributeBits(1 << 23),
+        },
     ];
 }
 
@@ -135,9 +207,39 @@ impl Attributes {
     }
 
     /// Whether the set has no attribute.
+    #[tactic(auto, using(crate::proofs::SameAttributes::no_bits, crate::proofs::SameAttributes::no_attribute))]
     pub fn is_empty(self) -> bool
-        ensures { result ≡ (attribute_bits self == 0) }
+        ensures value { result ≡ (attribute_bits self == 0) }
+        ensures none { IsTrue result ↔ ((a : Attribute) → has_attribute self a ≡ false) }
     {
         self.bits.is_empty()
+    }
+}
+
+#[cfg(test)]
+mod tests {
+    use super::*;
+
+    #[test]
+    fn sets_keep_their_other_attributes(rt: HostRuntime) {
+        let mut set = Attributes::from(Attribute::Reset);
+        set.set(Attribute::NotOverLined);
+        set.set(Attribute::Bold);
+        set.set(Attribute::Bold);
+        set.unset(Attribute::Dim);
+        set.unset(Attribute::Reset);
+        let mut other = Attributes::from(Attribute::NotOverLined);
+        assert_ne!(rt; set, other);
+        other.extend(Attributes::from(Attribute::Bold));
+        assert_eq!(rt; set, other);
+        for attribute in Attribute::ALL {
+            let wanted = matches!(attribute, Attribute::Bold | Attribute::NotOverLined);
+            assert_eq!(rt; set.has(attribute), wanted);
+        }
+        set.unset(Attribute::Bold);
+        assert!(rt; !set.is_empty());
+        set.unset(Attribute::NotOverLined);
+        assert!(rt; set.is_empty());
+        assert_eq!(rt; set, Attributes::default());
     }
 }

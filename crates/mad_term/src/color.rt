@@ -1,7 +1,7 @@
 //! The colors of a terminal.
 
 ghost use Rattle.std.specs.Prelude.{◌≡◌};
-ghost use Rattle.mad_term.specs.Color.{color_number};
+ghost use Rattle.mad_term.specs.Color.{color_number, IsColor};
 
 /// A color of the foreground, of the background or of an underline.
 ///
@@ -33,7 +33,10 @@ pub enum Color {
 impl Color {
     /// Its number in the terminal's palette. `Reset` and a mix of red, green and blue have none.
     pub fn number(self) -> Option<u8>
-        ensures { result ≡ color_number self }
+        ensures value { result ≡ color_number self }
+
+        // Its own numbers are bytes, which a terminal asks for that reads them.
+        ensures bytes { IsColor self }
     {
         match self {
             Color::Reset | Color::Rgb { .. } => None,

@@ -6,7 +6,10 @@
 //! 2. [`devices`]: what takes bytes ([`Out`]) and what gives them ([`Source`]), and [`put_all`].
 //! 3. [`streams`]: the readers and writers of the standard library as devices.
 //! 4. [`scripted`]: devices for tests, which fail where one wants them to.
-//! 5. [`color`], [`attribute`], [`attributes`]: how a text may look.
+//! 5. [`columns`]: how wide a character is.
+//! 6. [`color`], [`attribute`], [`attributes`]: how a text may look.
+//! 7. [`commands`], [`styles`]: the bytes of moves, erasures and texts in a style, by Display and in a row buffer.
+//! 8. [`queue`]: the same, to a device.
 #![tactic(auto)]
 
 mod attribute;
@@ -22,7 +25,7 @@ mod streams;
 mod styles;
 
 pub use attribute::Attribute;
-pub use attributes::{AttributeBits, Attributes};
+pub use attributes::Attributes;
 pub use color::Color;
 pub use columns::char_columns;
 pub use commands::{Clear, ClearType, MoveTo, push_clear, push_move};

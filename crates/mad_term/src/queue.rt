@@ -2,7 +2,7 @@
 
 ghost use Rattle.mad_term.specs.Commands.{move_to_bytes, clear_bytes};
 ghost use Rattle.mad_term.specs.Draws.{Draws};
-ghost use Rattle.mad_term.specs.Styles.{foreground_bytes, background_bytes, piece_bytes};
+ghost use Rattle.mad_term.specs.Styles.{foreground_bytes, background_bytes, piece_bytes, IsStyle};
 
 use crate::color::Color;
 use crate::commands::{ClearType, clear_text, push_move};
@@ -77,10 +77,13 @@ pub fn queue_bg<O: Out>(alloc: Global, out: &mut O, color: Color) -> Result<(), 
 pub fn queue_styled<O: Out>(
     alloc: Global,
     out: &mut O,
-    style: &ContentStyle,
+    style: ContentStyle,
     text: &str,
 ) -> Result<(), Error>
-    ensures { Draws (O.seen out.old) (piece_bytes style.now text.now) result (O.seen out.new) }
+    ensures writes { Draws (O.seen out.old) (piece_bytes style text.now) result (O.seen out.new) }
+
+    // The numbers of its colors are bytes, which a terminal asks for that reads them.
+    ensures bytes { IsStyle style }
 {
     // A plain text goes out as it is.
     if style.is_plain() {
@@ -92,3 +95,6 @@ pub fn queue_styled<O: Out>(
     put_all(out, bytes.as_bytes())?;
     Ok(())
 }
+
+#[cfg(test)]
+mod tests;

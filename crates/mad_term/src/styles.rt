@@ -1,7 +1,10 @@
 //! Styles, and the commands that a piece, a text in a style, is written with.
+//!
+//! The commands are SGR of ECMA-48. The numbers after 38 and 48, the codes 58 and 59 and the meaning
+//! of 21 are those of this project's profile. Colors are always written.
 
 ghost use Rattle.std.specs.Prelude.{◌≡◌, ◌++◌, ◌↔◌, IsTrue, OnOk, string_bytes};
-ghost use Rattle.mad_term.specs.Styles.{foreground_bytes, background_bytes, piece_bytes, closing_bytes};
+ghost use Rattle.mad_term.specs.Styles.{foreground_bytes, background_bytes, piece_bytes, closing_bytes, IsStyle};
 
 use crate::attribute::Attribute;
 use crate::attributes::Attributes;
@@ -35,11 +38,14 @@ impl Default for ContentStyle {
 }
 
 impl ContentStyle {
-    ghost use Rattle.mad_term.specs.Styles.{IsPlain};
+    ghost use Rattle.mad_term.specs.Styles.{IsPlain, IsStyle};
 
     /// Whether the style sets nothing.
-    pub fn is_plain(&self) -> bool
-        ensures { IsTrue result ↔ IsPlain self.now }
+    pub fn is_plain(self) -> bool
+        ensures plain { IsTrue result ↔ IsPlain self }
+
+        // The numbers of its colors are bytes, which a terminal asks for that reads them.
+        ensures bytes { IsStyle self }
     {
         self.foreground_color.is_none()
             && self.background_color.is_none()
@@ -50,7 +56,9 @@ impl ContentStyle {
 
 // The first number of the command that sets a color: what is colored. One more gives its default.
 const FOREGROUND: u8 = 38;
+
 const BACKGROUND: u8 = 48;
+
 const UNDERLINE: u8 = 58;
 
 // The command that sets a color, or nothing where there is none.
@@ -66,7 +74,6 @@ impl fmt::Display for ColorCommand {
 
     ghost output = { λ c. Some (present_bytes (color_bytes c.kind) c.color) };
 
-    #[tactic(auto, using(std::proofs::lemmas::Fmt::decimal_digit))]
     fn fmt<W: fmt::Write>(&self, f: &mut fmt::Formatter<W>) -> fmt::Result {
         let kind = self.kind;
         let Some(color) = self.color else {
@@ -95,7 +102,12 @@ impl fmt::Display for AttributeCommands {
 
     ghost output = { λ c. Some (attributes_bytes c.0) };
 
+    #[tactic(auto, using(crate::proofs::Pieces::no_attributes))]
     fn fmt<W: fmt::Write>(&self, f: &mut fmt::Formatter<W>) -> fmt::Result {
+        // Most styles have none.
+        if self.0.is_empty() {
+            return Ok(());
+        }
         for attribute in &Attribute::ALL {
             if self.0.has(*attribute) {
                 let code = attribute.code();
@@ -108,8 +120,8 @@ impl fmt::Display for AttributeCommands {
 
 // What makes the pen plain again after a text in this style.
 #[tactic(auto, using(std::proofs::lemmas::Fmt::decimal_digit))]
-fn closing_text(style: &ContentStyle) -> &'static str
-    ensures { result.now ≡ closing_bytes style.now }
+fn closing_text(style: ContentStyle) -> &'static str
+    ensures { result.now ≡ closing_bytes style }
 {
     if style.underline_color.is_some() || !style.attributes.is_empty() {
         return "\x1b[0m";
@@ -151,7 +163,7 @@ impl fmt::Display for StyledContent<'_> {
         };
         let attributes = AttributeCommands(self.style.attributes);
         let content = self.content;
-        let closing = closing_text(&self.style);
+        let closing = closing_text(self.style);
         write!(
             f,
             "{background}{foreground}{underline}{attributes}{content}{closing}"
@@ -163,7 +175,7 @@ impl fmt::Display for StyledContent<'_> {
 ///
 /// # Errors
 ///
-/// Want of memory.
+/// Want of memory. What the row then ends with is open.
 pub fn push_foreground(row: &mut String, color: Color) -> Result<(), AllocError>
     ensures { OnOk result (string_bytes row.new ≡ string_bytes row.old ++ foreground_bytes color) }
 {
@@ -178,7 +190,7 @@ pub fn push_foreground(row: &mut String, color: Color) -> Result<(), AllocError>
 ///
 /// # Errors
 ///
-/// Want of memory.
+/// Want of memory. What the row then ends with is open.
 pub fn push_background(row: &mut String, color: Color) -> Result<(), AllocError>
     ensures { OnOk result (string_bytes row.new ≡ string_bytes row.old ++ background_bytes color) }
 {
@@ -194,18 +206,24 @@ pub fn push_background(row: &mut String, color: Color) -> Result<(), AllocError>
 ///
 /// # Errors
 ///
-/// Want of memory.
+/// Want of memory. What the row then ends with is open.
 #[tactic(auto, using(crate::proofs::Pieces::plain_piece))]
-pub fn push_styled(row: &mut String, style: &ContentStyle, text: &str) -> Result<(), AllocError>
-    ensures { OnOk result (string_bytes row.new ≡ string_bytes row.old ++ piece_bytes style.now text.now) }
+pub fn push_styled(row: &mut String, style: ContentStyle, text: &str) -> Result<(), AllocError>
+    ensures writes { OnOk result (string_bytes row.new ≡ string_bytes row.old ++ piece_bytes style text.now) }
+
+    // The numbers of its colors are bytes, which a terminal asks for that reads them.
+    ensures bytes { IsStyle style }
 {
     // Most texts are plain, and need no formatting.
     if style.is_plain() {
         return row.push_str(text);
     }
     let piece = StyledContent {
-        style: *style,
+        style,
         content: text,
     };
     write!(row, "{piece}")
 }
+
+#[cfg(test)]
+mod tests;
