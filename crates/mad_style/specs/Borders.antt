@@ -17,7 +17,7 @@ standard_borders =
       right_junction = 0x2524;
       bottom_junction = 0x2534;
       left_junction = 0x251C;
-      cross = 0x253C
+      cross = 0x253C;
     }
 
 -- hyphens, bars and, where they meet, plus signs
@@ -34,7 +34,7 @@ ascii_borders =
       right_junction = 43;
       bottom_junction = 43;
       left_junction = 43;
-      cross = 43
+      cross = 43;
     }
 
 -- lines with round corners: ╭ ╮ ╯ ╰
@@ -44,7 +44,7 @@ rounded_borders =
       top_left_corner = 0x256D;
       top_right_corner = 0x256E;
       bottom_right_corner = 0x256F;
-      bottom_left_corner = 0x2570
+      bottom_left_corner = 0x2570;
     }
 
 -- the set of a name

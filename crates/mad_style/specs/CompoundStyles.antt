@@ -4,7 +4,6 @@ use Rattle.std.specs.Option.{option_or}
 use Rattle.mad_term.specs.declared.attribute.Attribute.{Attribute}
 use Rattle.mad_term.specs.declared.attributes.Attributes.{Attributes}
 use Rattle.mad_term.specs.declared.color.Color.{Color}
-use Rattle.mad_term.specs.declared.styles.ContentStyle.{ContentStyle}
 use Rattle.mad_style.specs.declared.compound_styles.CompoundStyle.{CompoundStyle}
 use Rattle.mad_style.specs.AttributeSets.{no_attributes, only, joined}
 
@@ -16,8 +15,8 @@ text_style foreground background attributes =
         foreground_color = foreground;
         background_color = background;
         underline_color = None;
-        attributes = attributes
-      }
+        attributes = attributes;
+      };
     }
 
 -- the style in which nothing is set
@@ -36,7 +35,7 @@ background_set style color = record style { object_style = record style.object_s
 abbrev pub attribute_added : CompoundStyle → Attribute → CompoundStyle
 attribute_added style a =
     record style {
-      object_style = record style.object_style { attributes = joined style.object_style.attributes (only a) }
+      object_style = record style.object_style { attributes = joined style.object_style.attributes (only a) };
     }
 
 -- a style overwritten with another: the other's foreground and background where they are present, and the attributes of
@@ -47,6 +46,6 @@ overwritten style other =
       object_style = record style.object_style {
         foreground_color = option_or other.object_style.foreground_color style.object_style.foreground_color;
         background_color = option_or other.object_style.background_color style.object_style.background_color;
-        attributes = joined style.object_style.attributes other.object_style.attributes
-      }
+        attributes = joined style.object_style.attributes other.object_style.attributes;
+      };
     }

@@ -1,6 +1,6 @@
 //! How the text of a compound looks.
 
-ghost use Rattle.std.specs.Prelude.{◌≡◌, ◌≢◌, Some, None, false};
+ghost use Rattle.std.specs.Prelude.{◌≡◌, ◌≢◌, ◌||◌, Some, None, false, true};
 ghost use Rattle.mad_term.specs.declared.attribute.Attribute.{Attribute};
 ghost use Rattle.mad_term.specs.Attribute.{place};
 ghost use Rattle.mad_term.specs.Attributes.{has_attribute};
@@ -49,7 +49,7 @@ impl CompoundStyle {
     ghost use Rattle.mad_style.specs.CompoundStyles.{text_style, foreground_set, background_set, attribute_added, overwritten};
 
     /// A style of these colors and attributes, without a color of its own for the underline.
-    pub fn new(
+    pub const fn new(
         foreground_color: Option<Color>,
         background_color: Option<Color>,
         attributes: Attributes,
@@ -118,7 +118,9 @@ impl CompoundStyle {
 
     /// Puts an attribute in.
     pub fn add_attr(&mut self, attr: Attribute)
-        ensures { self.new ≡ attribute_added self.old attr }
+        ensures value { self.new ≡ attribute_added self.old attr }
+        ensures has { has_attribute self.new.object_style.attributes attr ≡ true }
+        ensures others { (b : Attribute) → place b ≢ place attr → has_attribute self.new.object_style.attributes b ≡ has_attribute self.old.object_style.attributes b }
     {
         self.object_style.attributes.set(attr);
     }
@@ -142,7 +144,8 @@ impl CompoundStyle {
     /// Puts another style over this one: its foreground and its background replace this one's where they
     /// are present, and its attributes are added.
     pub fn overwrite_with(&mut self, other: &Self)
-        ensures { self.new ≡ overwritten self.old other.now }
+        ensures value { self.new ≡ overwritten self.old other.now }
+        ensures attributes { (a : Attribute) → has_attribute self.new.object_style.attributes a ≡ (has_attribute self.old.object_style.attributes a || has_attribute other.now.object_style.attributes a) }
     {
         let over = &other.object_style;
         let style = &mut self.object_style;
@@ -152,14 +155,14 @@ impl CompoundStyle {
     }
 
     /// The foreground, if it is set.
-    pub fn get_fg(&self) -> Option<Color>
+    pub const fn get_fg(&self) -> Option<Color>
         ensures { result ≡ self.now.object_style.foreground_color }
     {
         self.object_style.foreground_color
     }
 
     /// The background, if it is set.
-    pub fn get_bg(&self) -> Option<Color>
+    pub const fn get_bg(&self) -> Option<Color>
         ensures { result ≡ self.now.object_style.background_color }
     {
         self.object_style.background_color

@@ -32,7 +32,10 @@ impl From<CompositeStyle> for CompositeKind {
             CompositeStyle::Paragraph => Self::Paragraph,
             CompositeStyle::Header(level) => Self::Header(level),
             CompositeStyle::ListItem(level) => Self::ListItem(level),
-            CompositeStyle::OrderedListItem { level, index } => Self::OrderedListItem { level, index },
+            CompositeStyle::OrderedListItem { level, index } => Self::OrderedListItem {
+                level,
+                index,
+            },
             CompositeStyle::Code => Self::Code,
             CompositeStyle::Quote => Self::Quote,
         }

@@ -2,9 +2,10 @@
 //! What goes to a device is made whole first, and then put.
 
 ghost use Rattle.std.specs.Prelude.{◌≡◌, ◌∷◌, [], ◌++◌, OnOk, encode_utf8, string_bytes};
+ghost use Rattle.std.specs.List.{repeat};
 ghost use Rattle.mad_term.specs.Commands.{clear_bytes};
 ghost use Rattle.mad_term.specs.Draws.{Draws};
-ghost use Rattle.mad_term.specs.Styles.{foreground_bytes, background_bytes, present_bytes, piece_bytes};
+ghost use Rattle.mad_term.specs.Styles.{foreground_bytes, background_bytes, present_bytes, piece_bytes, IsStyle};
 
 use crate::compound_styles::CompoundStyle;
 use crate::styled_chars::StyledChar;
@@ -42,9 +43,10 @@ impl CompoundStyle {
     ///
     /// A fault of the device, or want of memory before anything went out.
     pub fn queue<O: Out>(&self, alloc: Global, out: &mut O, text: &str) -> Result<(), Error>
-        ensures { Draws (O.seen out.old) (piece_bytes self.now.object_style text.now) result (O.seen out.new) }
+        ensures writes { Draws (O.seen out.old) (piece_bytes self.now.object_style text.now) result (O.seen out.new) }
+        ensures bytes { IsStyle self.now.object_style }
     {
-        queue_styled(alloc, out, &self.object_style, text)
+        queue_styled(alloc, out, self.object_style, text)
     }
 
     /// Writes a text in this style, as [`CompoundStyle::queue`] does.
@@ -53,7 +55,8 @@ impl CompoundStyle {
     ///
     /// A fault of the device, or want of memory before anything went out.
     pub fn queue_str<O: Out>(&self, alloc: Global, out: &mut O, text: &str) -> Result<(), Error>
-        ensures { Draws (O.seen out.old) (piece_bytes self.now.object_style text.now) result (O.seen out.new) }
+        ensures writes { Draws (O.seen out.old) (piece_bytes self.now.object_style text.now) result (O.seen out.new) }
+        ensures bytes { IsStyle self.now.object_style }
     {
         self.queue(alloc, out, text)
     }
@@ -94,7 +97,12 @@ impl CompoundStyle {
     ///
     /// A fault of the device, or want of memory before anything went out.
     #[tactic(auto, using(mad_term::proofs::QueueExits::memory_first))]
-    pub fn clear<O: Out>(&self, alloc: Global, out: &mut O, clear_type: ClearType) -> Result<(), Error>
+    pub fn clear<O: Out>(
+        &self,
+        alloc: Global,
+        out: &mut O,
+        clear_type: ClearType,
+    ) -> Result<(), Error>
         ensures { Draws (O.seen out.old) (present_bytes background_bytes self.now.object_style.background_color ++ clear_bytes clear_type) result (O.seen out.new) }
     {
         let mut bytes = String::new(alloc);
@@ -119,7 +127,8 @@ impl CompoundStyle {
         text: &str,
         count: usize,
     ) -> Result<(), Error>
-        ensures { Draws (O.seen out.old) (run_bytes self.now text.now count) result (O.seen out.new) }
+        ensures writes { Draws (O.seen out.old) (run_bytes self.now text.now count) result (O.seen out.new) }
+        ensures bytes { IsStyle self.now.object_style }
     {
         let mut bytes = String::new(alloc);
         self.push_repeated(&mut bytes, text, count)?;
@@ -139,7 +148,8 @@ impl CompoundStyle {
         c: char,
         count: usize,
     ) -> Result<(), Error>
-        ensures { Draws (O.seen out.old) (run_bytes self.now (encode_utf8 c) count) result (O.seen out.new) }
+        ensures writes { Draws (O.seen out.old) (run_bytes self.now (encode_utf8 c) count) result (O.seen out.new) }
+        ensures bytes { IsStyle self.now.object_style }
     {
         let mut buffer = [0; 4];
         self.repeat_string(alloc, out, c.encode_utf8(&mut buffer), count)
@@ -150,8 +160,14 @@ impl CompoundStyle {
     /// # Errors
     ///
     /// A fault of the device, or want of memory before anything went out.
-    pub fn repeat_space<O: Out>(&self, alloc: Global, out: &mut O, count: usize) -> Result<(), Error>
-        ensures { Draws (O.seen out.old) (run_bytes self.now (32 ∷ []) count) result (O.seen out.new) }
+    pub fn repeat_space<O: Out>(
+        &self,
+        alloc: Global,
+        out: &mut O,
+        count: usize,
+    ) -> Result<(), Error>
+        ensures writes { Draws (O.seen out.old) (run_bytes self.now (32 ∷ []) count) result (O.seen out.new) }
+        ensures bytes { IsStyle self.now.object_style }
     {
         self.repeat_string(alloc, out, " ", count)
     }
@@ -162,13 +178,39 @@ impl CompoundStyle {
     /// # Errors
     ///
     /// Want of memory.
-    pub fn push_repeated(&self, row: &mut String, text: &str, count: usize) -> Result<(), AllocError>
-        ensures { OnOk result (string_bytes row.new ≡ string_bytes row.old ++ run_bytes self.now text.now count) }
+    #[tactic(auto, using(mad_term::proofs::Pieces::plain_piece))]
+    pub fn push_repeated(
+        &self,
+        row: &mut String,
+        text: &str,
+        count: usize,
+    ) -> Result<(), AllocError>
+        ensures writes { OnOk result (string_bytes row.new ≡ string_bytes row.old ++ run_bytes self.now text.now count) }
+        ensures bytes { IsStyle self.now.object_style }
     {
+        // Most runs are of plain spaces, and need no formatting.
+        if self.object_style.is_plain() {
+            return push_copies(row, text, count);
+        }
         if count == 0 {
             return Ok(());
         }
         let content = text.repeat(*row.allocator(), count)?;
-        push_styled(row, &self.object_style, content.as_str())
+        push_styled(row, self.object_style, content.as_str())
     }
+}
+
+// Appends a text `count` times.
+fn push_copies(row: &mut String, text: &str, count: usize) -> Result<(), AllocError>
+    ensures { OnOk result (string_bytes row.new ≡ string_bytes row.old ++ repeat count text.now) }
+{
+    if text.is_empty() {
+        return Ok(());
+    }
+    // One growth; where the bytes are more than a `usize` counts, it is refused.
+    row.reserve(text.len().saturating_mul(count))?;
+    for _ in 0..count {
+        row.push_str(text)?;
+    }
+    Ok(())
 }

@@ -33,7 +33,7 @@ impl From<StyledChar> for ScrollBarStyle {
 
     ghost from_gives = { λ c bar. bar ≡ record {
       track = colored_char (unwrap_or (char_style c).object_style.background_color (AnsiValue 237)) (char_alone c);
-      thumb = colored_char (unwrap_or (char_style c).object_style.foreground_color (AnsiValue 253)) (char_alone c)
+      thumb = colored_char (unwrap_or (char_style c).object_style.foreground_color (AnsiValue 253)) (char_alone c);
     } };
 
     /// A bar of this character: its thumb has the character's foreground, its track the character's
@@ -65,12 +65,10 @@ impl ScrollBarStyle {
 
     /// Sets the background of the track and of the thumb.
     pub fn set_bg(&mut self, bg: Color)
-        ensures {
-            self.new ≡ record {
-              track = styled_char (background_set (char_style self.old.track) bg) (char_alone self.old.track);
-              thumb = styled_char (background_set (char_style self.old.thumb) bg) (char_alone self.old.thumb)
-            }
-        }
+        ensures { self.new ≡ record {
+          track = styled_char (background_set (char_style self.old.track) bg) (char_alone self.old.track);
+          thumb = styled_char (background_set (char_style self.old.thumb) bg) (char_alone self.old.thumb);
+        } }
     {
         self.track.set_bg(bg);
         self.thumb.set_bg(bg);

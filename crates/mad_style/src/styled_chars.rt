@@ -3,6 +3,7 @@
 ghost use Rattle.std.specs.Prelude.{◌≡◌, ◌++◌, IfOk, OnOk, encode_utf8, string_bytes};
 ghost use Rattle.std.specs.List.{repeat};
 ghost use Rattle.mad_term.specs.Draws.{Draws};
+ghost use Rattle.mad_term.specs.Styles.{IsStyle};
 
 use crate::compound_styles::CompoundStyle;
 use crate::styled_texts::StyledText;
@@ -54,7 +55,7 @@ impl StyledChar {
     }
 
     /// The character alone.
-    pub fn get_char(&self) -> char
+    pub const fn get_char(&self) -> char
         ensures { result ≡ char_alone self.now }
     {
         self.nude_char
@@ -68,7 +69,7 @@ impl StyledChar {
     }
 
     /// The foreground, if it is set.
-    pub fn get_fg(&self) -> Option<Color>
+    pub const fn get_fg(&self) -> Option<Color>
         ensures { result ≡ (char_style self.now).object_style.foreground_color }
     {
         self.compound_style.get_fg()
@@ -82,7 +83,7 @@ impl StyledChar {
     }
 
     /// The background, if it is set.
-    pub fn get_bg(&self) -> Option<Color>
+    pub const fn get_bg(&self) -> Option<Color>
         ensures { result ≡ (char_style self.now).object_style.background_color }
     {
         self.compound_style.get_bg()
@@ -124,7 +125,10 @@ impl StyledChar {
             self.compound_style.object_style
         };
         let mut buffer = [0; 4];
-        let content = self.nude_char.encode_utf8(&mut buffer).repeat(alloc, count)?;
+        let content = self
+            .nude_char
+            .encode_utf8(&mut buffer)
+            .repeat(alloc, count)?;
         Ok(StyledText { style, content })
     }
 
@@ -133,10 +137,17 @@ impl StyledChar {
     /// # Errors
     ///
     /// A fault of the device, or want of memory before anything went out.
-    pub fn queue_repeat<O: Out>(&self, alloc: Global, out: &mut O, count: usize) -> Result<(), Error>
-        ensures { Draws (O.seen out.old) (char_run_bytes self.now count) result (O.seen out.new) }
+    pub fn queue_repeat<O: Out>(
+        &self,
+        alloc: Global,
+        out: &mut O,
+        count: usize,
+    ) -> Result<(), Error>
+        ensures writes { Draws (O.seen out.old) (char_run_bytes self.now count) result (O.seen out.new) }
+        ensures bytes { IsStyle (char_style self.now).object_style }
     {
-        self.compound_style.repeat_char(alloc, out, self.nude_char, count)
+        self.compound_style
+            .repeat_char(alloc, out, self.nude_char, count)
     }
 
     /// Writes the character in its style, as one piece.
@@ -145,10 +156,12 @@ impl StyledChar {
     ///
     /// A fault of the device, or want of memory before anything went out.
     pub fn queue<O: Out>(&self, alloc: Global, out: &mut O) -> Result<(), Error>
-        ensures { Draws (O.seen out.old) (styled_char_bytes self.now) result (O.seen out.new) }
+        ensures writes { Draws (O.seen out.old) (styled_char_bytes self.now) result (O.seen out.new) }
+        ensures bytes { IsStyle (char_style self.now).object_style }
     {
         let mut buffer = [0; 4];
-        self.compound_style.queue(alloc, out, self.nude_char.encode_utf8(&mut buffer))
+        self.compound_style
+            .queue(alloc, out, self.nude_char.encode_utf8(&mut buffer))
     }
 
     /// Appends the character in its style, as one piece.
@@ -157,11 +170,12 @@ impl StyledChar {
     ///
     /// Want of memory.
     pub fn push(&self, row: &mut String) -> Result<(), AllocError>
-        ensures { OnOk result (string_bytes row.new ≡ string_bytes row.old ++ styled_char_bytes self.now) }
+        ensures writes { OnOk result (string_bytes row.new ≡ string_bytes row.old ++ styled_char_bytes self.now) }
+        ensures bytes { IsStyle (char_style self.now).object_style }
     {
         let mut buffer = [0; 4];
         let text = self.nude_char.encode_utf8(&mut buffer);
-        push_styled(row, &self.compound_style.object_style, text)
+        push_styled(row, self.compound_style.object_style, text)
     }
 
     /// Appends the character `count` times in its style, as one piece; nothing at all if `count` is 0.
@@ -170,7 +184,8 @@ impl StyledChar {
     ///
     /// Want of memory.
     pub fn push_repeated(&self, row: &mut String, count: usize) -> Result<(), AllocError>
-        ensures { OnOk result (string_bytes row.new ≡ string_bytes row.old ++ char_run_bytes self.now count) }
+        ensures writes { OnOk result (string_bytes row.new ≡ string_bytes row.old ++ char_run_bytes self.now count) }
+        ensures bytes { IsStyle (char_style self.now).object_style }
     {
         let mut buffer = [0; 4];
         let text = self.nude_char.encode_utf8(&mut buffer);
@@ -187,7 +202,9 @@ impl fmt::Display for StyledChar {
     /// Writes the character in its style, as one piece.
     fn fmt<W: fmt::Write>(&self, f: &mut fmt::Formatter<W>) -> fmt::Result {
         let mut buffer = [0; 4];
-        let piece = self.compound_style.apply_to(self.nude_char.encode_utf8(&mut buffer));
+        let piece = self
+            .compound_style
+            .apply_to(self.nude_char.encode_utf8(&mut buffer));
         write!(f, "{piece}")
     }
 }

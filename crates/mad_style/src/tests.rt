@@ -2,7 +2,9 @@
 
 use super::*;
 use mad_md::{Alignment, CompositeStyle};
-use mad_term::{Attribute, Attributes, ClearType, Color, ContentStyle, CutOut, Error, Out, put_all};
+use mad_term::{
+    Attribute, Attributes, ClearType, Color, ContentStyle, CutOut, Error, Out, put_all,
+};
 use std::test::Fail;
 
 #[test]
@@ -39,7 +41,10 @@ fn the_attributes_of_written_styles(rt: HostRuntime) {
 fn a_setter_leaves_the_neighbours(rt: HostRuntime) {
     let bold = Attributes::from(Attribute::Bold);
     let mut style = CompoundStyle::default();
-    assert_eq!(rt; style, CompoundStyle::new(None, None, Attributes::default()));
+    assert_eq!(rt;
+        style,
+        CompoundStyle::new(None, None, Attributes::default())
+    );
     style.set_fg(Color::Red);
     assert_eq!(rt; style, CompoundStyle::with_fg(Color::Red));
     style.set_bg(Color::Blue);
@@ -48,8 +53,14 @@ fn a_setter_leaves_the_neighbours(rt: HostRuntime) {
     style.add_attr(Attribute::Bold);
     style.add_attr(Attribute::Dim);
     style.remove_attr(Attribute::Dim);
-    assert_eq!(rt; style, CompoundStyle::new(Some(Color::Green), Some(Color::Black), bold));
-    assert_eq!(rt; (style.get_fg(), style.get_bg()), (Some(Color::Green), Some(Color::Black)));
+    assert_eq!(rt;
+        style,
+        CompoundStyle::new(Some(Color::Green), Some(Color::Black), bold)
+    );
+    assert_eq!(rt;
+        (style.get_fg(), style.get_bg()),
+        (Some(Color::Green), Some(Color::Black))
+    );
     assert!(rt; style.has_attr(Attribute::Bold) && !style.has_attr(Attribute::Dim));
     assert_eq!(rt; style.attrs(), bold);
 
@@ -60,7 +71,10 @@ fn a_setter_leaves_the_neighbours(rt: HostRuntime) {
     assert_eq!(rt; line.compound_style, style);
     line.set_fg(Color::Red);
     line.set_bg(Color::Blue);
-    assert_eq!(rt; (line.align, line.left_margin, line.right_margin), (Alignment::Center, 1, 0));
+    assert_eq!(rt;
+        (line.align, line.left_margin, line.right_margin),
+        (Alignment::Center, 1, 0)
+    );
 }
 
 #[test]
@@ -101,7 +115,11 @@ fn margins_go_where_they_leave_less_than_three_columns(rt: HostRuntime) {
             right_margin,
             ..LineStyle::default()
         };
-        assert_eq!(rt; style.margins_in(width), expected, "{left_margin}, {right_margin}");
+        assert_eq!(rt;
+            style.margins_in(width),
+            expected,
+            "{left_margin}, {right_margin}"
+        );
     }
 }
 
@@ -118,7 +136,11 @@ fn indents_of_items_of_ordered_lists(rt: HostRuntime) {
         (255, u32::MAX, 267),
     ];
     for (level, index, expected) in cases {
-        assert_eq!(rt; ordered_item_indent(level, index), expected, "{index} at level {level}");
+        assert_eq!(rt;
+            ordered_item_indent(level, index),
+            expected,
+            "{index} at level {level}"
+        );
     }
 }
 
@@ -126,14 +148,29 @@ fn indents_of_items_of_ordered_lists(rt: HostRuntime) {
 fn made_styles_of_items_and_bars(rt: HostRuntime) -> Result<(), Fail> {
     let item = OrderedItemStyle::default();
     assert_eq!(rt; item.index_style, CompoundStyle::default());
-    assert_eq!(rt; item.index_suffix, StyledChar::from_fg_char(Color::AnsiValue(244), '.'));
-    assert_eq!(rt; OrderedItemStyle::no_style().index_suffix, StyledChar::nude('.'));
+    assert_eq!(rt;
+        item.index_suffix,
+        StyledChar::from_fg_char(Color::AnsiValue(244), '.')
+    );
+    assert_eq!(rt;
+        OrderedItemStyle::no_style().index_suffix,
+        StyledChar::nude('.')
+    );
 
     let mut bar = ScrollBarStyle::default();
-    assert_eq!(rt; bar.track, StyledChar::from_fg_char(Color::AnsiValue(237), '\u{2590}'));
-    assert_eq!(rt; bar.thumb, StyledChar::from_fg_char(Color::AnsiValue(253), '\u{2590}'));
+    assert_eq!(rt;
+        bar.track,
+        StyledChar::from_fg_char(Color::AnsiValue(237), '\u{2590}')
+    );
+    assert_eq!(rt;
+        bar.thumb,
+        StyledChar::from_fg_char(Color::AnsiValue(253), '\u{2590}')
+    );
     bar.set_bg(Color::Blue);
-    assert_eq!(rt; (bar.track.get_bg(), bar.thumb.get_bg()), (Some(Color::Blue), Some(Color::Blue)));
+    assert_eq!(rt;
+        (bar.track.get_bg(), bar.thumb.get_bg()),
+        (Some(Color::Blue), Some(Color::Blue))
+    );
     assert_eq!(rt; bar.clone()?.track.get_fg(), Some(Color::AnsiValue(237)));
 
     let mut mark = CompoundStyle::with_fgbg(Color::Red, Color::Blue).style_char('#');
@@ -143,8 +180,14 @@ fn made_styles_of_items_and_bars(rt: HostRuntime) -> Result<(), Fail> {
     mark.set_compound_style(CompoundStyle::default());
     mark.set_char('|');
     let plain = ScrollBarStyle::from(mark);
-    assert_eq!(rt; plain.thumb, StyledChar::from_fg_char(Color::AnsiValue(253), '|'));
-    assert_eq!(rt; plain.track, StyledChar::from_fg_char(Color::AnsiValue(237), '|'));
+    assert_eq!(rt;
+        plain.thumb,
+        StyledChar::from_fg_char(Color::AnsiValue(253), '|')
+    );
+    assert_eq!(rt;
+        plain.track,
+        StyledChar::from_fg_char(Color::AnsiValue(237), '|')
+    );
     Ok(())
 }
 
@@ -153,8 +196,14 @@ fn a_styled_character_hands_out_what_was_set(rt: HostRuntime) {
     let mut mark = StyledChar::new(CompoundStyle::with_bg(Color::Blue), '>');
     mark.set_fg(Color::Red);
     mark.set_bg(Color::Black);
-    assert_eq!(rt; (mark.get_fg(), mark.get_bg()), (Some(Color::Red), Some(Color::Black)));
-    assert_eq!(rt; *mark.compound_style(), CompoundStyle::with_fgbg(Color::Red, Color::Black));
+    assert_eq!(rt;
+        (mark.get_fg(), mark.get_bg()),
+        (Some(Color::Red), Some(Color::Black))
+    );
+    assert_eq!(rt;
+        *mark.compound_style(),
+        CompoundStyle::with_fgbg(Color::Red, Color::Black)
+    );
     mark.set_char('<');
     assert_eq!(rt; (mark.get_char(), mark.nude_char()), ('<', '<'));
 }
@@ -162,9 +211,18 @@ fn a_styled_character_hands_out_what_was_set(rt: HostRuntime) {
 #[test]
 fn border_sets_are_spelled_and_named(rt: HostRuntime) {
     let cases = [
-        ("standard", ['─', '│', '┌', '┐', '┘', '└', '┬', '┤', '┴', '├', '┼']),
-        ("ascii", ['-', '|', '+', '+', '+', '+', '+', '+', '+', '+', '+']),
-        ("rounded", ['─', '│', '╭', '╮', '╯', '╰', '┬', '┤', '┴', '├', '┼']),
+        (
+            "standard",
+            ['─', '│', '┌', '┐', '┘', '└', '┬', '┤', '┴', '├', '┼'],
+        ),
+        (
+            "ascii",
+            ['-', '|', '+', '+', '+', '+', '+', '+', '+', '+', '+'],
+        ),
+        (
+            "rounded",
+            ['─', '│', '╭', '╮', '╯', '╰', '┬', '┤', '┴', '├', '┼'],
+        ),
     ];
     for (key, [horizontal, vertical, a, b, c, d, e, f, g, h, cross]) in cases {
         let set = TableBorderChars {
@@ -185,9 +243,18 @@ fn border_sets_are_spelled_and_named(rt: HostRuntime) {
         let other = TableBorderChars { cross: '*', ..set };
         assert!(rt; other.key().is_none(), "{key}");
     }
-    assert_eq!(rt; TableBorderChars::by_key("standard"), Some(STANDARD_TABLE_BORDER_CHARS));
-    assert_eq!(rt; TableBorderChars::by_key("ascii"), Some(ASCII_TABLE_BORDER_CHARS));
-    assert_eq!(rt; TableBorderChars::by_key("rounded"), Some(ROUNDED_TABLE_BORDER_CHARS));
+    assert_eq!(rt;
+        TableBorderChars::by_key("standard"),
+        Some(STANDARD_TABLE_BORDER_CHARS)
+    );
+    assert_eq!(rt;
+        TableBorderChars::by_key("ascii"),
+        Some(ASCII_TABLE_BORDER_CHARS)
+    );
+    assert_eq!(rt;
+        TableBorderChars::by_key("rounded"),
+        Some(ROUNDED_TABLE_BORDER_CHARS)
+    );
     for unknown in ["", "Standard", "standard ", "round"] {
         assert_eq!(rt; TableBorderChars::by_key(unknown), None, "{unknown}");
     }
@@ -195,19 +262,31 @@ fn border_sets_are_spelled_and_named(rt: HostRuntime) {
 
 #[test]
 fn kinds_of_what_was_read(rt: HostRuntime) {
-    let read = CompositeStyle::OrderedListItem { level: 2, index: 10 };
+    let read = CompositeStyle::OrderedListItem {
+        level: 2,
+        index: 10,
+    };
     let cases = [
         (CompositeStyle::Paragraph, CompositeKind::Paragraph),
         (CompositeStyle::Header(8), CompositeKind::Header(8)),
         (CompositeStyle::ListItem(3), CompositeKind::ListItem(3)),
-        (read, CompositeKind::OrderedListItem { level: 2, index: 10 }),
+        (
+            read,
+            CompositeKind::OrderedListItem {
+                level: 2,
+                index: 10,
+            },
+        ),
         (CompositeStyle::Code, CompositeKind::Code),
         (CompositeStyle::Quote, CompositeKind::Quote),
     ];
     for (style, kind) in cases {
         assert_eq!(rt; CompositeKind::from(style), kind);
     }
-    assert_eq!(rt; ListItemsIndentationMode::default(), ListItemsIndentationMode::Block);
+    assert_eq!(rt;
+        ListItemsIndentationMode::default(),
+        ListItemsIndentationMode::Block
+    );
 }
 
 // Each call once, a bar behind each; runs of none show as two bars.
@@ -270,6 +349,9 @@ fn what_is_shown_and_pushed_is_what_is_written(rt: HostRuntime) -> Result<(), Fa
     let twice = mark.repeated(alloc, 2)?;
     assert!(rt; twice.to_string(alloc)?.as_str() == row.as_str());
     assert_eq!(rt; twice.as_piece().style, mark.compound_style().object_style);
+    row.clear();
+    CompoundStyle::default().push_repeated(&mut row, "ab", 2)?;
+    assert!(rt; row.as_str() == "abab");
     let none = mark.repeated(alloc, 0)?;
     assert_eq!(rt; none.style, ContentStyle::default());
     assert!(rt; none.content.is_empty());
@@ -290,5 +372,21 @@ fn a_fault_in_mid_stream_leaves_a_front(rt: HostRuntime) -> Result<(), Fail> {
         assert!(rt; out.taken() == &whole.as_bytes()[..room], "at room {room}");
         assert_eq!(rt; out.faults(), 1, "at room {room}");
     }
+    Ok(())
+}
+
+#[test]
+fn a_run_that_no_memory_holds_is_refused_before_any_byte(rt: HostRuntime) -> Result<(), Fail> {
+    let alloc = rt.alloc();
+    let mut out = CutOut::new(alloc, 4, 100, false)?;
+    for style in [CompoundStyle::default(), CompoundStyle::with_fg(Color::Red)] {
+        let spaces = style.repeat_space(alloc, &mut out, usize::MAX);
+        assert!(rt; matches!(spaces, Err(Error::Memory)));
+        let pairs = style.repeat_string(alloc, &mut out, "ab", usize::MAX);
+        assert!(rt; matches!(pairs, Err(Error::Memory)));
+        assert!(rt; style.style_char('x').repeated(alloc, usize::MAX).is_err());
+    }
+    CompoundStyle::default().repeat_string(alloc, &mut out, "", usize::MAX)?;
+    assert!(rt; out.taken().is_empty());
     Ok(())
 }
