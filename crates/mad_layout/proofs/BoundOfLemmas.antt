@@ -23,7 +23,8 @@ use Rattle.mad_layout.specs.declared.room.Room.{Room}
 use Rattle.mad_layout.proofs.BoundLemmas.{bound, total_width-append, eq_from_test}
 use Rattle.mad_layout.proofs.CutLemmas.{le_from_test}
 use Rattle.mad_layout.proofs.KeepLemmas.{width_is}
-use Rattle.mad_layout.proofs.StartsOfLemmas.{step_true, none_left, full_starts, ClosedBreak, closed, length-starts, fits_back}
+use Rattle.mad_layout.proofs.CheckerSteps.{step_true, none_left}
+use Rattle.mad_layout.proofs.StartsOfLemmas.{full_starts, ClosedBreak, closed, length-starts, fits_back}
 use Rattle.mad_layout.proofs.WrapLemmas.{room_for_tokens, total_is}
 
 -- a single start is 0

@@ -1,5 +1,6 @@
 pub mod BoundLemmas
 pub mod BoundOfLemmas
+pub mod CheckerSteps
 pub mod CutLemmas
 pub mod KeepLemmas
 pub mod Least
