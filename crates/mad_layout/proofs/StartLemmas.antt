@@ -99,10 +99,10 @@ last_some i r (p ∷ p' ∷ ps) q h some = last_some r.other r (p' ∷ ps) q h.1
 some_between : (r : Room) (ts : List Token) (left : Option ℕ) (ended : Bool) (h : Shape r ts left ended) → 0 < length (joined h.pieces) + length h.tokens + length h.gap → 0 < length (h.tokens ++ h.gap)
 some_between r ts left ended h some =
     let by : (ps : List (Piece Token)) → h.pieces ≡ ps → 0 < length (h.tokens ++ h.gap) =
-        λ ps. elim ps as (λ ps. h.pieces ≡ ps → 0 < length (h.tokens ++ h.gap)) [
-          | [] ↦ λ e. omega (arith, some, ap (λ (l : List (Piece Token)). length (joined l)) e, length-append h.tokens h.gap)
-          | p ∷ ps ↦ λ e. omega (arith, last_some r.first r h.pieces (record { line = h.tokens; gap = h.gap }) h.forced (omega (arith, ap length e)), length-append h.tokens h.gap)
-        ] in
+    λ ps. elim ps as (λ ps. h.pieces ≡ ps → 0 < length (h.tokens ++ h.gap)) [
+      | [] ↦ λ e. omega (arith, some, ap (λ (l : List (Piece Token)). length (joined l)) e, length-append h.tokens h.gap)
+      | p ∷ ps ↦ λ e. omega (arith, last_some r.first r h.pieces (record { line = h.tokens; gap = h.gap }) h.forced (omega (arith, ap length e)), length-append h.tokens h.gap)
+    ] in
     by h.pieces refl
 
 -- what the checker says of the starts where one more is begun, or the first line has no token
@@ -115,7 +115,7 @@ next_checked r ts t left dropped starts new_starts i indent h place solid why pu
     let size = length_so_far r ts left (is_some dropped) s in
     let there = some_between r ts left (is_some dropped) s (omega (arith, place, size, some)) in
     let joins : all ≡ joined s.pieces ++ (mid ++ t ∷ rest) =
-        sym e ∙ append_assoc ts (t ∷ []) rest ∙ ap (λ l. l ++ t ∷ rest) (sym s.covers) ∙ append_assoc (joined s.pieces) mid (t ∷ rest) in
+    sym e ∙ append_assoc ts (t ∷ []) rest ∙ ap (λ l. l ++ t ∷ rest) (sym s.covers) ∙ append_assoc (joined s.pieces) mid (t ∷ rest) in
     let wide = passes_gap r (is_some dropped) left (next_indent r s.pieces + total_width s.tokens) s.gap t s.left_is s.some_gap s.forced_here why in
     let step = start_after h.indent r all (joined s.pieces) mid rest t ns (length (joined s.pieces)) i joins refl (omega (arith, place, size, length-append s.tokens s.gap)) there
     (omega (arith, wide, h.indent_is o, total_width-append s.tokens s.gap)) (inr solid) more in
@@ -130,37 +130,37 @@ starts_next r ts t left new_left dropped ended starts new_starts i h is place so
     let fails : (is_some dropped ≡ true) ⊎ (fits_in left t.width ≡ false) = subst (λ e. (e ≡ true) ⊎ (fits_in left t.width ≡ false)) is why in
     let all : length (joined (s.pieces ++ p ∷ [])) ≡ i = ap length (joined-push s.pieces p ∙ s.covers) ∙ sym place in
     let are : TokensHaveRoom r (ts ++ t ∷ []) → new_starts ≡ starts_from 0 (s.pieces ++ p ∷ []) ++ length (joined (s.pieces ++ p ∷ [])) ∷ [] = λ room.
-        let before = room_front r ts (t ∷ []) room in
-        let there = some_before r (is_some dropped) left s.pieces s.tokens s.gap ts t s.left_is s.covers s.some_gap (s.some_here before) room.other (room_last r ts t room) fails in
-        let some : 0 < i = omega (arith, place, length_so_far r ts left (is_some dropped) s, there) in
-        pushed.0 some ∙ ap (λ l. l ++ i ∷ []) (h.starts_are before)
-        ∙ ap (λ m. (starts_from 0 s.pieces ++ m ∷ []) ++ i ∷ []) (omega arith)
-        ∙ ap (λ l. l ++ i ∷ []) (sym (starts_from-push 0 s.pieces p)) ∙ ap (λ m. starts_from 0 (s.pieces ++ p ∷ []) ++ m ∷ []) (sym all) in
+    let before = room_front r ts (t ∷ []) room in
+    let there = some_before r (is_some dropped) left s.pieces s.tokens s.gap ts t s.left_is s.covers s.some_gap (s.some_here before) room.other (room_last r ts t room) fails in
+    let some : 0 < i = omega (arith, place, length_so_far r ts left (is_some dropped) s, there) in
+    pushed.0 some ∙ ap (λ l. l ++ i ∷ []) (h.starts_are before)
+    ∙ ap (λ m. (starts_from 0 s.pieces ++ m ∷ []) ++ i ∷ []) (omega arith)
+    ∙ ap (λ l. l ++ i ∷ []) (sym (starts_from-push 0 s.pieces p)) ∙ ap (λ m. starts_from 0 (s.pieces ++ p ∷ []) ++ m ∷ []) (sym all) in
     let by : (n : ℕ) → i ≡ n → StartsSoFar r (ts ++ t ∷ []) (left_of r.width (r.other + t.width)) None new_starts =
-        λ n. elim n as (λ n. i ≡ n → StartsSoFar r (ts ++ t ∷ []) (left_of r.width (r.other + t.width)) None new_starts) [
-          | zero ↦ λ e. record {
-            shape = shape_begins r ts t left (is_some dropped) s solid fails;
-            starts_are = are;
-            dropped_is = λ n e. absurd (cc);
-            indent = h.indent;
-            indent_is = λ o. omega (arith, h.indent_is o, o, next_indent-push r s.pieces p, first_line r s.pieces);
-            checked = λ whole rest joins o ns more.
-                let none : length (joined s.pieces) ≡ 0 = omega (arith, place, e, length_so_far r ts left (is_some dropped) s) in
-                let same : length (joined (s.pieces ++ p ∷ [])) ≡ length (joined s.pieces) = all ∙ e ∙ sym none in
-                ap (λ l. are_starts r whole (l ++ ns)) (pushed.1 e)
-                ∙ h.checked whole (t ∷ rest) (sym (append_assoc ts (t ∷ []) rest) ∙ joins) o ns (ap (λ m. are_starts_from h.indent r whole m ns) (sym same) ∙ more);
-          }
-          | suc m ↦ λ e. record {
-            shape = shape_begins r ts t left (is_some dropped) s solid fails;
-            starts_are = are;
-            dropped_is = λ n e. absurd (cc);
-            indent = r.other;
-            indent_is = λ o. omega (arith, next_indent-push r s.pieces p);
-            checked = λ whole rest joins o ns more.
-                let some : 0 < i = omega (arith, e) in
-                next_checked r ts t left dropped starts new_starts i h.indent h place solid fails (pushed.0 some) some whole rest joins o ns (ap (λ m. are_starts_from r.other r whole m ns) (sym all) ∙ more);
-          }
-        ] in
+    λ n. elim n as (λ n. i ≡ n → StartsSoFar r (ts ++ t ∷ []) (left_of r.width (r.other + t.width)) None new_starts) [
+      | zero ↦ λ e. record {
+        shape = shape_begins r ts t left (is_some dropped) s solid fails;
+        starts_are = are;
+        dropped_is = λ n e. absurd (cc);
+        indent = h.indent;
+        indent_is = λ o. omega (arith, h.indent_is o, o, next_indent-push r s.pieces p, first_line r s.pieces);
+        checked = λ whole rest joins o ns more.
+            let none : length (joined s.pieces) ≡ 0 = omega (arith, place, e, length_so_far r ts left (is_some dropped) s) in
+            let same : length (joined (s.pieces ++ p ∷ [])) ≡ length (joined s.pieces) = all ∙ e ∙ sym none in
+            ap (λ l. are_starts r whole (l ++ ns)) (pushed.1 e)
+            ∙ h.checked whole (t ∷ rest) (sym (append_assoc ts (t ∷ []) rest) ∙ joins) o ns (ap (λ m. are_starts_from h.indent r whole m ns) (sym same) ∙ more);
+      }
+      | suc m ↦ λ e. record {
+        shape = shape_begins r ts t left (is_some dropped) s solid fails;
+        starts_are = are;
+        dropped_is = λ n e. absurd (cc);
+        indent = r.other;
+        indent_is = λ o. omega (arith, next_indent-push r s.pieces p);
+        checked = λ whole rest joins o ns more.
+            let some : 0 < i = omega (arith, e) in
+            next_checked r ts t left dropped starts new_starts i h.indent h place solid fails (pushed.0 some) some whole rest joins o ns (ap (λ m. are_starts_from r.other r whole m ns) (sym all) ∙ more);
+      }
+    ] in
     subst (λ l. StartsSoFar r (ts ++ t ∷ []) l None new_starts) (sym room_is) (by i refl)
 
 pub dropped_none : (n : ℕ) (p : Piece Token) → p.gap ≡ [] → dropped_after n p ≡ []
@@ -180,12 +180,12 @@ dropped_checked : (r : Room) (ts : List Token) (left : Option ℕ) (dropped : Op
 dropped_checked r ts left dropped starts all n g gs h gap place same some o =
     let s = h.shape in
     let there : 0 < length s.tokens =
-        let by : (ps : List (Piece Token)) → s.pieces ≡ ps → 0 < length s.tokens =
-            λ ps. elim ps as (λ ps. s.pieces ≡ ps → 0 < length s.tokens) [
-              | [] ↦ λ e. omega (arith, some, place, ap (λ (l : List (Piece Token)). length (joined l)) e)
-              | p ∷ ps ↦ λ e. last_some r.first r s.pieces (record { line = s.tokens; gap = s.gap }) s.forced (omega (arith, ap length e))
-            ] in
-        by s.pieces refl in
+    let by : (ps : List (Piece Token)) → s.pieces ≡ ps → 0 < length s.tokens =
+    λ ps. elim ps as (λ ps. s.pieces ≡ ps → 0 < length s.tokens) [
+      | [] ↦ λ e. omega (arith, some, place, ap (λ (l : List (Piece Token)). length (joined l)) e)
+      | p ∷ ps ↦ λ e. last_some r.first r s.pieces (record { line = s.tokens; gap = s.gap }) s.forced (omega (arith, ap length e))
+    ] in
+    by s.pieces refl in
     let joins : ts ≡ joined s.pieces ++ (s.tokens ++ g ∷ gs) = sym s.covers ∙ ap (λ l. joined s.pieces ++ (s.tokens ++ l)) gap in
     let step = start_after h.indent r ts (joined s.pieces) s.tokens gs g [] (length (joined s.pieces)) n joins refl (omega (arith, place)) there (omega (arith, s.forced_here g gs gap, h.indent_is o)) (inl refl) refl in
     ap (are_starts r ts) same ∙ h.checked ts [] (append-nil ts) o (n ∷ []) step
@@ -194,24 +194,24 @@ end_checked : (r : Room) (ts : List Token) (left : Option ℕ) (dropped : Option
     → ((n : ℕ) → dropped ≡ Some n → (0 < n → all ≡ starts ++ n ∷ []) × (n ≡ 0 → all ≡ starts)) → r.other ≤ r.first → are_starts r ts all ≡ true
 end_checked r ts left dropped starts all h none some o =
     let by : (d : Option ℕ) → dropped ≡ d → are_starts r ts all ≡ true =
-        λ d. elim d as (λ d. dropped ≡ d → are_starts r ts all ≡ true) [
-          | None ↦ λ e. so_checked r ts left dropped starts all h (none e) o
-          | Some n ↦ λ e.
-              let is = some n e in
-              let filled = h.shape.some_gap (ap (λ (d : Option ℕ). is_some d) e) in
-              let on_gap : (gap : List Token) → h.shape.gap ≡ gap → are_starts r ts all ≡ true =
-                  λ gap. elim gap as (λ gap. h.shape.gap ≡ gap → are_starts r ts all ≡ true) [
-                    | [] ↦ λ f. absurd (omega (arith, filled, ap length f))
-                    | g ∷ gs ↦ λ f.
-                        let on : (m : ℕ) → n ≡ m → are_starts r ts all ≡ true =
-                            λ m. elim m as (λ m. n ≡ m → are_starts r ts all ≡ true) [
-                              | zero ↦ λ z. so_checked r ts left dropped starts all h (is.1 z) o
-                              | suc m ↦ λ z. let some : 0 < n = omega (arith, z) in dropped_checked r ts left dropped starts all n g gs h f (h.dropped_is n e) (is.0 some) some o
-                            ] in
-                        on n refl
-                  ] in
-              on_gap h.shape.gap refl
-        ] in
+    λ d. elim d as (λ d. dropped ≡ d → are_starts r ts all ≡ true) [
+      | None ↦ λ e. so_checked r ts left dropped starts all h (none e) o
+      | Some n ↦ λ e.
+          let is = some n e in
+          let filled = h.shape.some_gap (ap (λ (d : Option ℕ). is_some d) e) in
+          let on_gap : (gap : List Token) → h.shape.gap ≡ gap → are_starts r ts all ≡ true =
+          λ gap. elim gap as (λ gap. h.shape.gap ≡ gap → are_starts r ts all ≡ true) [
+            | [] ↦ λ f. absurd (omega (arith, filled, ap length f))
+            | g ∷ gs ↦ λ f.
+                let on : (m : ℕ) → n ≡ m → are_starts r ts all ≡ true =
+                λ m. elim m as (λ m. n ≡ m → are_starts r ts all ≡ true) [
+                  | zero ↦ λ z. so_checked r ts left dropped starts all h (is.1 z) o
+                  | suc m ↦ λ z. let some : 0 < n = omega (arith, z) in dropped_checked r ts left dropped starts all n g gs h f (h.dropped_is n e) (is.0 some) some o
+                ] in
+                on n refl
+          ] in
+          on_gap h.shape.gap refl
+    ] in
     by dropped refl
 
 -- the end: the last line is whole, and the first token that was dropped behind it is a start too

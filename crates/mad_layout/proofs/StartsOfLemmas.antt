@@ -1,15 +1,13 @@
 -- The starts of placed lines pass the checker, and there are as many as lines.
-use Rattle.std.proofs.Common.{◌≡◌, ℕ, ◌≤◌, ◌<◌, ◌+◌, ◌-◌, ◌==◌, ◌&&◌, ◌||◌, not, nat_lt, Bool, true, false, Some, if◌then◌else◌, List, [], ◌∷◌, ◌++◌, map, length, take, drop, get_or, slice_range, slice_get, refl, sym, ap, ◌∙◌, arith, subst, append-nil, append_assoc, ◌⊎◌, inl, inr}
-use Rattle.std.proofs.Math.Seq.{drop-append_seam, take-append-add}
+use Rattle.std.proofs.Common.{◌≡◌, ℕ, ◌≤◌, ◌<◌, ◌+◌, ◌==◌, Bool, true, false, if◌then◌else◌, List, [], ◌∷◌, ◌++◌, map, length, refl, sym, ap, ◌∙◌, arith, subst, append-nil, append_assoc, inl, inr}
 use Rattle.std.proofs.lemmas.Bool.Decides.{nat_tests}
-use Rattle.std.proofs.lemmas.List.{length-append, get_or-drop, nil_from_length}
-use Rattle.std.proofs.lemmas.Option.{slice_get-get_or}
+use Rattle.std.proofs.lemmas.List.{length-append, nil_from_length}
 use Rattle.std.specs.List.{AllByRecursion}
 use Rattle.mad_fit.specs.declared.tokens.Token.{Token}
 use Rattle.mad_fit.specs.Tokens.{tokens_text}
 use Rattle.mad_fit.proofs.AllLemmas.{all_front, all_back}
 use Rattle.mad_fit.proofs.TokenTexts.{IsHonest}
-use Rattle.mad_layout.specs.Bounds.{is_blank_token, are_starts_from, are_starts}
+use Rattle.mad_layout.specs.Bounds.{are_starts_from, are_starts}
 use Rattle.mad_layout.specs.Breaks.{Piece, joined, total_width, AllBlank, FitsFrom, EndsWithLine}
 use Rattle.mad_layout.specs.LeastBound.{dropped_at_end}
 use Rattle.mad_layout.specs.PlacedLines.{TokensHaveRoom, SomeOnEach, starts_from, dropped_after, dropped_from}

@@ -324,7 +324,11 @@ fn indents_in_both_modes(rt: HostRuntime) {
     ];
     for (kind, in_block, in_first_only) in rows {
         assert_eq!(rt; composite_kind_widths(kind, &block), in_block, "{kind:?}");
-        assert_eq!(rt; composite_kind_widths(kind, &first_only), in_first_only, "{kind:?}");
+        assert_eq!(rt;
+            composite_kind_widths(kind, &first_only),
+            in_first_only,
+            "{kind:?}"
+        );
     }
 }
 

@@ -58,13 +58,13 @@ checked_of c =
           let own = w.in_ok-starts-in-Some.starts.items in
           let room : r.first ≤ r.width = cut_has_room r ps (ap is_some (cut ∙ w.in-Some.is)) in
           let h : AreCutStarts r ts own =
-              subst (λ (r : Room). AreCutStarts r ts own) c.of-room.ensures
-              (subst (λ ts. AreCutStarts c.of-room.result ts own) w.deref-in-Some.ensures.value (w.in_ok-starts-in-Some.ensures (subst (λ (r : Room). r.first ≤ r.width) (sym c.of-room.ensures) room))) in
+          subst (λ (r : Room). AreCutStarts r ts own) c.of-room.ensures
+          (subst (λ ts. AreCutStarts c.of-room.result ts own) w.deref-in-Some.ensures.value (w.in_ok-starts-in-Some.ensures (subst (λ (r : Room). r.first ≤ r.width) (sym c.of-room.ensures) room))) in
           subst (λ v. AreChecked r ps v.items) (sym w.starts-is) (cut_checked r ps ts own (tokens_are c) h)
       | in-None+in_ok-starts-in-None w ↦
           let own = w.in_ok-starts-in-None.starts.items in
           let h : ArePlacedStarts r ts own =
-              subst (λ (r : Room). ArePlacedStarts r ts own) c.of-room.ensures (subst (λ ts. ArePlacedStarts c.of-room.result ts own) w.deref-in-None.ensures.value w.in_ok-starts-in-None.ensures) in
+          subst (λ (r : Room). ArePlacedStarts r ts own) c.of-room.ensures (subst (λ ts. ArePlacedStarts c.of-room.result ts own) w.deref-in-None.ensures.value w.in_ok-starts-in-None.ensures) in
           subst (λ v. AreChecked r ps v.items) (sym w.starts-is) (placed_checked r ps ts own lower (tokens_are c) h)
     ]
 
