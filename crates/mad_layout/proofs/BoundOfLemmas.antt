@@ -15,7 +15,7 @@ use Rattle.mad_fit.proofs.UniqueLemmas.{all_unique}
 use Rattle.mad_layout.specs.Bounds.{is_blank_token, are_starts_from, are_starts}
 use Rattle.mad_layout.specs.Breaks.{Piece, joined, total_width, AllBlank, FitsFrom, FittingBreak, EndsWithLine}
 use Rattle.mad_layout.specs.CleanCut.{fits_behind, both_fit, is_white, clean_cut, is_cut_clean}
-use Rattle.mad_layout.specs.LeastBound.{IsBound, IsAttained, dropped_at_end, drops_code, AreStartsOf}
+use Rattle.mad_layout.specs.LeastBound.{IsBound, IsAttained, AreChecked, dropped_at_end, drops_code, AreStartsOf}
 use Rattle.mad_layout.specs.LeastWrap.{AreTokensIn}
 use Rattle.mad_layout.specs.PlacedLines.{TokensHaveRoom, starts_from, dropped_from, ArePlacedStarts, IsFirstPast, AreCutStarts}
 use Rattle.mad_layout.specs.Wraps.{HasRoom, LinesFit, AreFull}
@@ -23,7 +23,8 @@ use Rattle.mad_layout.specs.declared.room.Room.{Room}
 use Rattle.mad_layout.proofs.BoundLemmas.{bound, total_width-append, eq_from_test}
 use Rattle.mad_layout.proofs.CutLemmas.{le_from_test}
 use Rattle.mad_layout.proofs.KeepLemmas.{width_is}
-use Rattle.mad_layout.proofs.StartsOfLemmas.{step_true, none_left, full_starts, ClosedBreak, closed, length-starts, fits_back}
+use Rattle.mad_layout.proofs.CheckerSteps.{step_true, none_left}
+use Rattle.mad_layout.proofs.StartsOfLemmas.{full_starts, ClosedBreak, closed, length-starts, fits_back}
 use Rattle.mad_layout.proofs.WrapLemmas.{room_for_tokens, total_is}
 
 -- a single start is 0
@@ -69,15 +70,13 @@ placed_starts_of r ps ts starts lower tokens uncut h space =
     let max = r.width - r.first in
     let room = room_for_tokens r ps ts lower tokens space in
     let are = h.starts_are room in
-    let passes : are_starts r ts starts ≡ true = ap (are_starts r ts) are ∙ full_starts r ts h.pieces h.some_line h.covers h.gaps h.forced room in
+    let passes : are_starts r ts starts ≡ true = h.checked lower in
     let c = closed_break r ts h.pieces h.some_line h.covers (h.fits room) room in
     let size : length c.breaks ≡ length starts = omega (arith, c.count, length-starts h.pieces, ap length are) in
     let checked : (us : List Token) → AreTokensIn r ps us → are_starts r us starts ≡ true = λ us others. subst (λ (x : List Token). are_starts r x starts ≡ true) (all_unique max ps ts us tokens others) passes in
     let attained : IsAttained r ps (length starts) = λ us others. (c.breaks, subst (λ (x : List Token). FittingBreak r x c.breaks) (all_unique max ps ts us tokens others) (fitting_of r ts h.pieces h.covers c), c.ends, size) in
     let low : IsBound r ps (length starts) = λ us others breaks fits ends. bound r us starts (checked us others) breaks fits ends in
     record {
-      checked = checked;
-      bound = low;
       attained = λ _. attained;
       lines = λ _ us others lines full fit. count_is r ps us (length starts) lines full others (room_for_tokens r ps us lower others space) fit (low us others) (attained us others);
       cut = λ on. absurd (let off : is_cut_clean r ps ≡ false = ap is_some uncut in cc);
@@ -176,10 +175,7 @@ pub cut_starts_of : (r : Room) (ps : List Compound) (ts : List Token) (starts : 
 unfolding TwoLines
 cut_starts_of r ps ts starts lower tokens on (inl (fits, are)) space =
     let max = r.width - r.first in
-    let checked : (us : List Token) → AreTokensIn r ps us → are_starts r us starts ≡ true = λ us others. ap (are_starts r us) are in
     record {
-      checked = checked;
-      bound = λ us others breaks fitting ends. bound r us starts (checked us others) breaks fitting ends;
       attained = λ _ us others. (
         record { line = us; gap = [] } ∷ [],
         one_line_break r us (subst (λ (x : List Token). r.first + total_width x ≤ r.width) (all_unique max ps ts us tokens others) fits),
@@ -190,20 +186,38 @@ cut_starts_of r ps ts starts lower tokens on (inl (fits, are)) space =
       cut = λ _ wide. absurd (omega (arith, fits, wide, total_is r ps ts tokens));
       whole = λ _. are;
     }
-cut_starts_of r ps ts starts lower tokens on (inr (i, past, is)) space =
+cut_starts_of r ps ts starts lower tokens on (inr (i, past, is, none)) space =
     let max = r.width - r.first in
     let room = room_for_tokens r ps ts lower tokens space in
     let some = some_past r ts i past room in
     let are : starts ≡ 0 ∷ i ∷ [] = is some in
-    let slice : slice_range ts 0 (i + 1) ≡ take (i + 1) ts = ap (λ n. take n ts) (omega arith) in
-    let passes : are_starts r ts starts ≡ true =
-    ap (are_starts r ts) are ∙ step_true r.first 0 i r ts [] some past.inside (omega (arith, past.passes, ap total_width slice)) (none_left 0 (not (is_blank_token (slice_get ts i))) refl) refl in
-    let checked : (us : List Token) → AreTokensIn r ps us → are_starts r us starts ≡ true = λ us others. subst (λ (x : List Token). are_starts r x starts ≡ true) (all_unique max ps ts us tokens others) passes in
     record {
-      checked = checked;
-      bound = λ us others breaks fitting ends. bound r us starts (checked us others) breaks fitting ends;
       attained = λ off us others. let two = cut_break r ps us on off others in (two.0, two.1, two.2, two.3 ∙ ap length (sym are));
       lines = λ off. absurd (cc);
       cut = λ _ _ us others. (i, are, subst (λ (x : List Token). r.first + total_width (take i x) ≤ r.width) (all_unique max ps ts us tokens others) (past.before space.first));
       whole = λ fits. absurd (omega (arith, past.passes, fits, total_is r ps ts tokens, total_take-le (i + 1) ts));
     }
+
+-- ---- what the checker says, with room or without
+
+-- what holds of the tokens holds of each list of them
+each_tokens : (r : Room) (ps : List Compound) (ts : List Token) (starts : List ℕ) → AreTokensIn r ps ts → are_starts r ts starts ≡ true → AreChecked r ps starts
+each_tokens r ps ts starts tokens passes us others = subst (λ (x : List Token). are_starts r x starts ≡ true) (all_unique (r.width - r.first) ps ts us tokens others) passes
+
+pub placed_checked : (r : Room) (ps : List Compound) (ts : List Token) (starts : List ℕ) → r.other ≤ r.first → AreTokensIn r ps ts → ArePlacedStarts r ts starts → AreChecked r ps starts
+placed_checked r ps ts starts lower tokens h = each_tokens r ps ts starts tokens (h.checked lower)
+
+cut_passes : (r : Room) (ts : List Token) (starts : List ℕ) (i : ℕ) → IsFirstPast r ts i → (0 < i → starts ≡ 0 ∷ i ∷ []) → (i ≡ 0 → starts ≡ 0 ∷ []) → are_starts r ts starts ≡ true
+cut_passes r ts starts zero past some none = ap (are_starts r ts) (none refl)
+cut_passes r ts starts (suc n) past some none =
+    let i = suc n in
+    let slice : slice_range ts 0 (i + 1) ≡ take (i + 1) ts = ap (λ n. take n ts) (omega arith) in
+    ap (are_starts r ts) (some (omega arith)) ∙ step_true r.first 0 i r ts [] (omega arith) past.inside (omega (arith, past.passes, ap total_width slice)) (none_left 0 (not (is_blank_token (slice_get ts i))) refl) refl
+
+pub cut_checked : (r : Room) (ps : List Compound) (ts : List Token) (starts : List ℕ) → AreTokensIn r ps ts → AreCutStarts r ts starts → AreChecked r ps starts
+cut_checked r ps ts starts tokens (inl (fits, are)) = each_tokens r ps ts starts tokens (ap (are_starts r ts) are)
+cut_checked r ps ts starts tokens (inr (i, past, some, none)) = each_tokens r ps ts starts tokens (cut_passes r ts starts i past some none)
+
+-- so each fitting break has as many lines
+pub checked_bound : (r : Room) (ps : List Compound) (starts : List ℕ) → AreChecked r ps starts → IsBound r ps (length starts)
+checked_bound r ps starts checked us others breaks fits ends = bound r us starts (checked us others) breaks fits ends

@@ -90,6 +90,18 @@ cut_is r (a ∷ m ∷ b ∷ []) front back e =
     subst (λ (q : Compound × Compound). IsCut r (a ∷ m ∷ b ∷ []) q.0 q.1) made.1 (cut_of_three r a m b made.0)
 cut_is r (a ∷ b ∷ c ∷ d ∷ ps) front back e = absurd (cc)
 
+-- a clean cut has room for the first line's indent
+some_made : {A : Type 0} (b : Bool) (x : A) → is_some (if b then Some x else None) ≡ true → b ≡ true
+some_made true x e = refl
+some_made false x e = absurd (cc)
+
+pub cut_has_room : (r : Room) (ps : List Compound) → is_cut_clean r ps ≡ true → r.first ≤ r.width
+cut_has_room r [] e = absurd (cc)
+cut_has_room r (a ∷ []) e = absurd (cc)
+cut_has_room r (a ∷ b ∷ []) e = let cut = cut_of_two r a b (some_made (both_fit r a b) (a, b) e) in omega (arith, cut.fits_first)
+cut_has_room r (a ∷ m ∷ b ∷ []) e = let cut = cut_of_three r a m b (some_made (is_white m && both_fit r a b) (a, b) e) in omega (arith, cut.fits_first)
+cut_has_room r (a ∷ b ∷ c ∷ d ∷ ps) e = absurd (cc)
+
 -- the text of a line that holds one compound
 text_is : (k : CompositeKind) (i : ℕ) (sp : Option Spacing) (p : Compound) (l : FmtComposite) → HoldsCompound k i sp p l → text_of l ≡ flagged_of p
 text_is k i sp p l h = ap flagged_text h.compounds_are ∙ append-nil (flagged_of p)

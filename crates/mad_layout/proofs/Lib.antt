@@ -1,6 +1,7 @@
 pub mod AreaLemmas
 pub mod BoundLemmas
 pub mod BoundOfLemmas
+pub mod CheckerSteps
 pub mod CutLemmas
 pub mod DrawableLemmas
 pub mod DrawnLayouts

@@ -30,13 +30,13 @@ abbrev pub drops_code : Room → List Compound → Bool
 drops_code r (front ∷ middle ∷ back ∷ []) = is_cut_clean r (front ∷ middle ∷ back ∷ []) && middle.code
 drops_code r _ = false
 
+-- The checker says yes to these starts.
+abbrev pub AreChecked : Room → List Compound → List ℕ → Type 0
+AreChecked r ps starts = (ts : List Token) → AreTokensIn r ps ts → are_starts r ts starts ≡ true
+
 -- The starts of the lines of a wrap of the compounds, where each character has room.
 pub record AreStartsOf (r : Room) (ps : List Compound) (starts : List ℕ) : Type 0 where
-  -- the checker says yes to them
-  pub checked : (ts : List Token) → AreTokensIn r ps ts → are_starts r ts starts ≡ true
-  -- so each fitting break has at least as many lines
-  pub bound : IsBound r ps (length starts)
-  -- and one has just so many, but where a clean cut drops a middle in code
+  -- some fitting break has just so many lines, but where a clean cut drops a middle in code
   pub attained : drops_code r ps ≡ false → IsAttained r ps (length starts)
   -- there are as many as lines, and one more where blanks are dropped after the last
   pub lines : is_cut_clean r ps ≡ false → (ts : List Token) → AreTokensIn r ps ts → (lines : List (List FlaggedChar)) → (full : AreFull r ts lines) → LinesFit r.first r lines

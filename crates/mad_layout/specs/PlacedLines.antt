@@ -1,5 +1,5 @@
 -- Lines that hold tokens, for the private calls that place them.
-use Rattle.std.specs.Prelude.{◌≡◌, ℕ, ◌+◌, ◌<◌, ◌≤◌, ◌⊎◌, ◌==◌, if◌then◌else◌, List, [], ◌∷◌, ◌++◌, map, length, take, Option, None}
+use Rattle.std.specs.Prelude.{◌≡◌, ℕ, true, ◌+◌, ◌<◌, ◌≤◌, ◌⊎◌, ◌==◌, if◌then◌else◌, List, [], ◌∷◌, ◌++◌, map, length, take, Option, None}
 use Rattle.std.specs.List.{AllByRecursion}
 use Rattle.std.specs.Str.{IsUtf8}
 use Rattle.mad_md.specs.Flagged.{run_of, flagged_of}
@@ -11,6 +11,7 @@ use Rattle.mad_fit.specs.Columns.{width_of}
 use Rattle.mad_fit.specs.Tokens.{token_run}
 use Rattle.mad_layout.specs.declared.room.Room.{Room}
 use Rattle.mad_layout.specs.declared.composite.FmtComposite.{FmtComposite}
+use Rattle.mad_layout.specs.Bounds.{are_starts}
 use Rattle.mad_layout.specs.Breaks.{Piece, joined, total_width, FitsFrom, FittingBreak}
 use Rattle.mad_layout.specs.Wraps.{capped, GapsForced, LinesForced}
 
@@ -91,6 +92,7 @@ pub record ArePlacedStarts (r : Room) (ts : List Token) (starts : List ℕ) : Ty
   pub forced : LinesForced r.first r pieces
   pub fits : TokensHaveRoom r ts → FitsFrom r.first r pieces
   pub starts_are : TokensHaveRoom r ts → starts ≡ starts_from 0 pieces ++ dropped_from 0 pieces
+  pub checked : r.other ≤ r.first → are_starts r ts starts ≡ true
 
 -- the first token with which the tokens from the first on pass the first line, if one is
 pub record IsFirstPast (r : Room) (ts : List Token) (i : ℕ) : Type 0 where
@@ -100,4 +102,4 @@ pub record IsFirstPast (r : Room) (ts : List Token) (i : ℕ) : Type 0 where
 
 -- the starts of a clean cut in a first line with room: 0, and the first token that passes the line, if one does
 abbrev pub AreCutStarts : Room → List Token → List ℕ → Type 0
-AreCutStarts r ts starts = ((r.first + total_width ts ≤ r.width) × (starts ≡ 0 ∷ [])) ⊎ ((i : ℕ) × IsFirstPast r ts i × (0 < i → starts ≡ 0 ∷ i ∷ []))
+AreCutStarts r ts starts = ((r.first + total_width ts ≤ r.width) × (starts ≡ 0 ∷ [])) ⊎ ((i : ℕ) × IsFirstPast r ts i × (0 < i → starts ≡ 0 ∷ i ∷ []) × (i ≡ 0 → starts ≡ 0 ∷ []))

@@ -4,7 +4,7 @@ ghost use Rattle.mad_layout.specs.Breaks.{Piece, FittingBreak, EndsWithLine, tot
 ghost use Rattle.mad_layout.specs.Bounds.{are_starts, are_starts_from, is_blank_token};
 ghost use Rattle.mad_layout.specs.Indents.{room_of};
 ghost use Rattle.mad_layout.specs.LeastWrap.{AreTokensIn};
-ghost use Rattle.mad_layout.specs.LeastBound.{IsBound, AreStartsOf};
+ghost use Rattle.mad_layout.specs.LeastBound.{IsBound, AreChecked, AreStartsOf};
 ghost use Rattle.mad_layout.specs.PlacedLines.{ArePlacedStarts, AreCutStarts, IsFirstPast};
 ghost use Rattle.mad_layout.specs.Wraps.{HasRoom, text_of};
 ghost use Rattle.mad_term.specs.declared.errors.Error.TheVariants.{InsufficientWidth, Memory};
@@ -35,6 +35,8 @@ pub fn wrap_bound(
     width: usize,
     skin: &MadSkin,
 ) -> Result<WrapBound, Error>
+    ensures checked { IfOk result (λ bound. AreChecked (room_of skin.now composite.now.kind width) composite.now.compounds.items bound.starts.items) }
+    ensures bound { IfOk result (λ bound. IsBound (room_of skin.now composite.now.kind width) composite.now.compounds.items (length bound.starts.items)) }
     ensures starts { HasRoom (room_of skin.now composite.now.kind width) (text_of composite.now)
         → IfOk result (λ bound. AreStartsOf (room_of skin.now composite.now.kind width) composite.now.compounds.items bound.starts.items) }
     ensures refused { width < 3 → result ≡ Err (InsufficientWidth (record { available_width = width })) }
@@ -111,7 +113,7 @@ fn line_starts(alloc: Global, tokens: &[Token], room: Room) -> Result<Vec<usize>
 // Puts a start behind the others. The very first token is a start already: where there is no room for it, it begins the
 // second line, and the first line has none.
 fn push_start(starts: &mut Vec<usize>, start: usize) -> Result<(), AllocError>
-    ensures { OnOk result (0 < start → starts.new.items ≡ starts.old.items ++ start ∷ []) }
+    ensures { OnOk result ((0 < start → starts.new.items ≡ starts.old.items ++ start ∷ []) × (start ≡ 0 → starts.new.items ≡ starts.old.items)) }
 {
     if start > 0 {
         starts.push(start)?;

@@ -5,6 +5,7 @@ ghost use Rattle.mad_layout.specs.Wraps.{IsMeasured};
 
 use crate::bound::{WrapBound, check_wrap_bound, wrap_bound};
 use crate::composite::FmtComposite;
+use crate::indents::composite_kind_widths;
 use crate::line::FmtLine;
 use crate::skin::MadSkin;
 use crate::wrap::{hard_wrap_composite, hard_wrap_lines};
@@ -302,5 +303,78 @@ fn margins_of_the_style_rows(rt: &impl Abort, alloc: Global) -> Result<(), Error
         }
         assert_eq!(rt; picture.as_str(), wanted);
     }
+    Ok(())
+}
+
+#[test]
+fn indents_in_both_modes(rt: HostRuntime) {
+    let block = plain_skin();
+    let first_only = skin_with(0, 0, ListItemsIndentationMode::FirstLineOnly);
+    let ordered = CompositeKind::OrderedListItem {
+        level: 0,
+        index: 100,
+    };
+    let rows = [
+        (CompositeKind::Paragraph, (0, 0), (0, 0)),
+        (CompositeKind::Header(1), (0, 0), (0, 0)),
+        (CompositeKind::ListItem(3), (5, 5), (5, 0)),
+        (CompositeKind::ListItemFollowUp(3), (5, 5), (0, 0)),
+        (ordered, (5, 5), (5, 0)),
+        (CompositeKind::Quote, (2, 2), (2, 2)),
+        (CompositeKind::Code, (0, 0), (0, 0)),
+    ];
+    for (kind, in_block, in_first_only) in rows {
+        assert_eq!(rt; composite_kind_widths(kind, &block), in_block, "{kind:?}");
+        assert_eq!(rt;
+            composite_kind_widths(kind, &first_only),
+            in_first_only,
+            "{kind:?}"
+        );
+    }
+}
+
+#[test]
+fn a_header_of_level_zero_is_a_paragraph(rt: HostRuntime) {
+    let mut skin = skin_with(1, 0, ListItemsIndentationMode::Block);
+    skin.headers[0].left_margin = 2;
+    skin.headers[7].left_margin = 3;
+    skin.code_block.left_margin = 4;
+    let rows = [
+        (CompositeKind::Header(0), 1),
+        (CompositeKind::Header(1), 2),
+        (CompositeKind::Header(8), 3),
+        (CompositeKind::Header(9), 1),
+        (CompositeKind::Code, 4),
+        (CompositeKind::Quote, 1),
+    ];
+    for (kind, margin) in rows {
+        assert_eq!(rt; skin.line_style(kind).left_margin, margin, "{kind:?}");
+    }
+}
+
+#[test]
+fn composites_measured_and_copied(rt: HostRuntime) -> Result<(), Error> {
+    let alloc = rt.alloc();
+    let skin = plain_skin();
+    assert_eq!(rt; FmtComposite::new(alloc).visible_length, 0);
+    let mut line = FmtComposite::from_compound(alloc, Compound::raw_str("概要"))?;
+    line.add_compound(Compound::raw_str("ab").bold())?;
+    assert_eq!(rt; line.visible_length, 6);
+    assert_eq!(rt; line.completions(), (0, 0));
+    line.kind = CompositeKind::Quote;
+    line.recompute_width(&skin);
+    assert_eq!(rt; line.visible_length, 8);
+    line.spacing = Some(Spacing {
+        width: 13,
+        align: Alignment::Center,
+    });
+    assert_eq!(rt; line.completions(), (2, 3));
+    let copy = line.try_clone(alloc)?;
+    assert_eq!(rt; (copy.kind, copy.visible_length), (line.kind, 8));
+    let mut picture = String::new(alloc);
+    push_picture(&mut picture, &copy)?;
+    assert_eq!(rt; picture.as_str(), "|概要|b|ab|\n");
+    let read = Composite::from_inline(alloc, "*a* b")?;
+    assert_eq!(rt; FmtLine::from(read, &skin).visible_length(), 3);
     Ok(())
 }

@@ -34,6 +34,6 @@ returns c =
       | in-Some-dropped+in_ok-push_start-2 w ↦
           starts_all _ _ _ _ _ c.match-dropped.starts.items held (λ e. absurd (let was = w.in-Some-dropped.is in cc))
           (λ n e. let same : w.in-Some-dropped.first ≡ n = (let was = w.in-Some-dropped.is in cc) in
-          subst (λ m. 0 < m → c.match-dropped.starts.items ≡ c.loop-i.starts.items ++ m ∷ []) same (λ some. ap (λ v. v.items) w.starts-is ∙ w.in_ok-push_start-2.ensures some))
+          subst (λ m. (0 < m → c.match-dropped.starts.items ≡ c.loop-i.starts.items ++ m ∷ []) × (m ≡ 0 → c.match-dropped.starts.items ≡ c.loop-i.starts.items)) same (λ some. ap (λ v. v.items) w.starts-is ∙ w.in_ok-push_start-2.ensures.0 some, λ zero. ap (λ v. v.items) w.starts-is ∙ w.in_ok-push_start-2.ensures.1 zero))
       | in_default-dropped w ↦ starts_all _ _ _ _ _ c.match-dropped.starts.items held (λ e. ap (λ v. v.items) w.starts-is) (λ n e. absurd (w.in_default-dropped.not-Some n e))
     ]
