@@ -50,7 +50,7 @@ pub record IsDone (words : List (List ℕ)) (old new : Devices) : Type 0 where
   pub call : KnownCall words
   pub text : List ℕ
   pub read : HasRead old.input text new.input
-  pub wrote : WritesCall call.skin call.command text old.out (Ok tt) new.out
+  pub wrote : WritesCall call.skin call.command text old.out (Ok (tt {0})) new.out
 
 -- the input failed, or there was no memory for it; nothing was written
 pub record FailsToRead (words : List (List ℕ)) (old : Devices) (failure : Failure) (new : Devices) : Type 0 where
@@ -65,7 +65,7 @@ pub record FailsToWrite (words : List (List ℕ)) (old : Devices) (failure : Fai
   pub read : HasRead old.input text new.input
   pub error : Error
   pub so : failure_of error ≡ failure
-  pub wrote : WritesCall call.skin call.command text old.out (Err error) new.out
+  pub wrote : WritesCall {T = Unit {0}} call.skin call.command text old.out (Err error) new.out
 
 -- the output took everything, and then its flush failed
 pub record FailsToFlush (words : List (List ℕ)) (old new : Devices) : Type 0 where
@@ -73,7 +73,7 @@ pub record FailsToFlush (words : List (List ℕ)) (old new : Devices) : Type 0 w
   pub text : List ℕ
   pub read : HasRead old.input text new.input
   pub written : Trace
-  pub wrote : WritesCall call.skin call.command text old.out (Ok tt) written
+  pub wrote : WritesCall call.skin call.command text old.out (Ok (tt {0})) written
   pub unflushed : new.out ≡ failed written
 
 -- the whole input was read and is no text; nothing was written

@@ -1,6 +1,6 @@
 //! What the arguments ask for.
 
-ghost use Rattle.std.specs.Prelude.{◌≡◌, ◌≢◌, MatchOption, IfOk, map, string_bytes};
+ghost use Rattle.std.specs.Prelude.{◌≡◌, [], ◌∷◌, MatchOption, map, string_bytes};
 ghost use Rattle.termimad.specs.declared.Area.{Area as SomeArea};
 ghost use Rattle.termimad_view.specs.Calls.{Asks, IsNoCall, IsAreaOf, IsSkinWord, AsksArea, skin_of};
 
@@ -37,6 +37,17 @@ pub struct Call {
 }
 
 impl SkinWord {
+    // The skin's name that a word is.
+    fn named(word: &str) -> Self
+        ensures { IsSkinWord (word.now ∷ []) result }
+    {
+        if word == "default" {
+            SkinWord::Default
+        } else {
+            SkinWord::Unknown
+        }
+    }
+
     /// The skin, where the program knows it: no style without a word.
     pub fn skin(self) -> Option<MadSkin>
         ensures { result ≡ skin_of self }
@@ -107,8 +118,7 @@ fn parse_skin_word(words: &[String]) -> Option<SkinWord>
 {
     match words {
         [] => Some(SkinWord::Absent),
-        [word] if word.as_str() == "default" => Some(SkinWord::Default),
-        [_] => Some(SkinWord::Unknown),
+        [word] => Some(SkinWord::named(word.as_str())),
         _ => None,
     }
 }

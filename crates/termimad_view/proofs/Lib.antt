@@ -1,0 +1,3 @@
+pub mod RunSteps
+pub mod Sources
+pub mod Writings
