@@ -67,6 +67,9 @@ impl Area {
 }
 
 impl Default for Area {
+    ghost is_default = { λ area. area ≡ record { left = 0; top = 0; width = 5; height = 1 } };
+
+    /// The area of a place that isn't known yet.
     fn default() -> Self {
         Self::uninitialized()
     }
@@ -81,7 +84,14 @@ mod tests {
         let area = Area::new(3, 2, 4, 1);
         assert_eq!(rt; area.right(), 7);
         assert_eq!(rt; area.bottom(), 3);
-        let cases = [(3, 2, true), (6, 2, true), (7, 2, false), (2, 2, false), (3, 1, false), (3, 3, false)];
+        let cases = [
+            (3, 2, true),
+            (6, 2, true),
+            (7, 2, false),
+            (2, 2, false),
+            (3, 1, false),
+            (3, 3, false),
+        ];
         for (x, y, wanted) in cases {
             assert_eq!(rt; area.contains(x, y), wanted);
         }

@@ -23,7 +23,14 @@ mod tests {
 
     #[test]
     fn wide_widthless_and_control_characters(rt: HostRuntime) {
-        let cases = [("", 0), ("abc", 3), ("概要", 4), ("e\u{301}", 1), ("a\tb\n", 2), ("…", 1)];
+        let cases = [
+            ("", 0),
+            ("abc", 3),
+            ("概要", 4),
+            ("e\u{301}", 1),
+            ("a\tb\n", 2),
+            ("…", 1),
+        ];
         for (text, wanted) in cases {
             assert_eq!(rt; columns(text), wanted, "{text:?}");
         }

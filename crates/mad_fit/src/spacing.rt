@@ -66,9 +66,15 @@ mod tests {
         ];
         for (align, inner, outer, wanted) in cases {
             assert_eq!(rt; Spacing::completions(align, inner, outer), wanted);
-            let spacing = Spacing { width: outer, align };
+            let spacing = Spacing {
+                width: outer,
+                align,
+            };
             assert_eq!(rt; spacing.completions_for(inner), wanted);
-            assert_eq!(rt; Spacing::optional_completions(align, inner, Some(outer)), wanted);
+            assert_eq!(rt;
+                Spacing::optional_completions(align, inner, Some(outer)),
+                wanted
+            );
             assert_eq!(rt; Spacing::optional_completions(align, inner, None), (0, 0));
         }
     }

@@ -32,7 +32,8 @@ impl<'s> Token<'s> {
         ensures text { result.src.now ≡ token_text self.now }
         ensures flags { flags_of result ≡ flags_of self.now.compound }
     {
-        self.compound.sub(self.start_in_compound, self.end_in_compound)
+        self.compound
+            .sub(self.start_in_compound, self.end_in_compound)
     }
 }
 
@@ -149,8 +150,20 @@ mod tests {
     fn blanks_code_and_wide_characters(rt: HostRuntime) -> Result<(), Fail> {
         let alloc = rt.alloc();
         let raw = Compound::raw_str;
-        assert_tokens(&rt, alloc, raw("abcdefgh   ab"), 10, &[(8, 8, false), (11, 3, true), (13, 2, false)])?;
-        assert_tokens(&rt, alloc, raw("abcdefgh"), 3, &[(3, 3, false), (6, 3, false), (8, 2, false)])?;
+        assert_tokens(
+            &rt,
+            alloc,
+            raw("abcdefgh   ab"),
+            10,
+            &[(8, 8, false), (11, 3, true), (13, 2, false)],
+        )?;
+        assert_tokens(
+            &rt,
+            alloc,
+            raw("abcdefgh"),
+            3,
+            &[(3, 3, false), (6, 3, false), (8, 2, false)],
+        )?;
         assert_tokens(&rt, alloc, raw("a b").code(), 10, &[(3, 3, false)])?;
         assert_tokens(&rt, alloc, raw("概要"), 1, &[(3, 2, false), (6, 2, false)])?;
         assert_tokens(&rt, alloc, raw("概要"), 4, &[(6, 4, false)])?;

@@ -12,7 +12,7 @@ use Rattle.mad_fit.specs.declared.tokens.Token.{Token}
 use Rattle.mad_layout.specs.declared.room.Room.{Room}
 use Rattle.mad_layout.specs.Breaks.{Piece, joined, total_width, FitsFrom, FittingBreak, EndsWithLine}
 
-total_width-append : (xs ys : List Token) → total_width (xs ++ ys) ≡ total_width xs + total_width ys
+pub total_width-append : (xs ys : List Token) → total_width (xs ++ ys) ≡ total_width xs + total_width ys
 total_width-append [] ys = omega arith
 total_width-append (x ∷ xs) ys = omega (arith, total_width-append xs ys)
 
@@ -42,10 +42,10 @@ later : (p : Piece Token) (ps : List (Piece Token)) → EndsWithLine (p ∷ ps) 
 later p [] h = tt
 later p (q ∷ ps) h = h
 
-lt_from_test : (a b : ℕ) → nat_lt a b ≡ true → a < b
+pub lt_from_test : (a b : ℕ) → nat_lt a b ≡ true → a < b
 lt_from_test a b e = grind (arith, nat_tests)
 
-eq_from_test : (a b : ℕ) → (a == b) ≡ true → a ≡ b
+pub eq_from_test : (a b : ℕ) → (a == b) ≡ true → a ≡ b
 eq_from_test a b e = grind (arith, nat_tests)
 
 not_both : (b : Bool) → b ≡ true → not b ≡ true → ⊥

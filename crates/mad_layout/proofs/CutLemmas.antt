@@ -2,10 +2,10 @@
 use Rattle.std.proofs.Common.{◌≡◌, ℕ, ◌≤◌, ◌<◌, ◌+◌, ◌-◌, Bool, true, false, ◌&&◌, nat_le, List, [], ◌∷◌, ◌++◌, map, chars, length, Option, Some, None, is_some, if◌then◌else◌, Contains, refl, sym, ap, ◌∙◌, arith, subst, append-nil}
 use Rattle.std.proofs.lemmas.Bool.{and_parts}
 use Rattle.std.proofs.lemmas.Bool.Decides.{nat_tests}
-use Rattle.std.proofs.lemmas.List.Elements.{Contains-append_left, Contains-append_right}
+use Rattle.std.proofs.lemmas.List.Elements.{Contains-append_left}
 use Rattle.std.specs.List.{AllByRecursion, list_all}
 use Rattle.std.specs.Char.{is_whitespace}
-use Rattle.mad_md.specs.Flagged.{Flags, FlaggedChar, Run, flagged, flags_of, flagged_of, flagged_text, run_of}
+use Rattle.mad_md.specs.Flagged.{Flags, FlaggedChar, flagged, flags_of, flagged_of, flagged_text, run_of}
 use Rattle.mad_md.specs.declared.compound.Compound.{Compound}
 use Rattle.mad_style.specs.declared.kinds.CompositeKind.{CompositeKind}
 use Rattle.mad_fit.specs.Columns.{width_of}
@@ -13,13 +13,12 @@ use Rattle.mad_fit.specs.Tokens.{tokens_text, token_run}
 use Rattle.mad_fit.specs.declared.spacing.Spacing.{Spacing}
 use Rattle.mad_fit.specs.declared.tokens.Token.{Token}
 use Rattle.mad_fit.proofs.TokenTexts.{text_from, some_compound}
-use Rattle.mad_layout.specs.Breaks.{Piece, joined, total_width, FittingBreak, EndsWithLine}
 use Rattle.mad_layout.specs.CleanCut.{fits_behind, both_fit, is_white, clean_cut, is_cut_clean, drops_middle}
 use Rattle.mad_layout.specs.Indents.{indent, follow_up}
 use Rattle.mad_layout.specs.Keeps.{AllWhite, Keeps}
-use Rattle.mad_layout.specs.LeastWrap.{AreTokensIn, IsLeastBreak, IsWrapIn}
+use Rattle.mad_layout.specs.LeastWrap.{AreTokensIn, IsWrapIn}
 use Rattle.mad_layout.specs.PlacedLines.{HoldsCompound, AreTwoLines}
-use Rattle.mad_layout.specs.Wraps.{text_of, IsMeasured, HasRoom, LinesFit, NoneEmpty, IsMadeOf, ArePlaced}
+use Rattle.mad_layout.specs.Wraps.{text_of, LinesFit, NoneEmpty, IsMadeOf, ArePlaced}
 use Rattle.mad_layout.specs.declared.room.Room.{Room}
 use Rattle.mad_layout.specs.declared.skin.MadSkin.{MadSkin}
 use Rattle.mad_layout.specs.declared.composite.FmtComposite.{FmtComposite}
@@ -38,11 +37,11 @@ pub record IsCut (r : Room) (ps : List Compound) (front back : Compound) : Type 
   pub none_empty : NoneEmpty ps → (0 < length front.src.now) × (0 < length back.src.now)
   pub two : drops_middle r ps ≡ false → ps ≡ front ∷ back ∷ []
 
-made_by : {A : Type 0} (b : Bool) (x y : A) → (if b then Some x else None) ≡ Some y → (b ≡ true) × (x ≡ y)
+pub made_by : {A : Type 0} (b : Bool) (x y : A) → (if b then Some x else None) ≡ Some y → (b ≡ true) × (x ≡ y)
 made_by true x y e = (refl, cc)
 made_by false x y e = absurd (cc)
 
-le_from_test : (a b : ℕ) → nat_le a b ≡ true → a ≤ b
+pub le_from_test : (a b : ℕ) → nat_le a b ≡ true → a ≤ b
 le_from_test a b e = grind (arith, nat_tests)
 
 white_flagged : (f : Flags) (cs : List ℕ) → list_all is_whitespace cs ≡ true → AllWhite (flagged f cs)
@@ -105,6 +104,7 @@ two_placed r front back ts (own, others, joins, first, (own', others', joins', s
     let max = r.width - r.first in
     record {
       pieces = record { line = own; gap = [] } ∷ record { line = own'; gap = [] } ∷ [];
+      some_line = omega arith;
       covers = ap (λ l. own ++ l) (ap (λ l. own' ++ l) (sym none) ∙ sym joins') ∙ sym joins;
       texts = ap (λ x. x ∷ tokens_text own' ∷ []) (text_from max 0 front own first) ∙ ap (λ x. flagged_of front ∷ x ∷ []) (text_from max 0 back own' second);
       gaps = (tt, λ t more e. absurd (cc), (tt, λ t more e. absurd (cc), tt));
@@ -132,9 +132,16 @@ cut_wrap r skin source front back lines wide is two =
             omega (arith, some_compound front first.utf8 there.0, ap length text1),
             (omega (arith, some_compound back second.utf8 there.1, ap length text2), tt),
           );
+      none_empty = λ full.
+          let there = cut.none_empty full in (
+            subst NoneEmpty (sym first.compounds_are) (there.0, tt),
+            (subst NoneEmpty (sym second.compounds_are) (there.1, tt), tt),
+          );
       least = λ ts tokens. record {
         parts = (made_of_one ps ts k r.first source.spacing front two.first first cut.has_front, (made_of_one ps ts o r.other source.spacing back two.second second cut.has_back, tt));
         placed = λ all. subst (ArePlaced r ts) texts (two_placed r front back ts (subst (λ (qs : List Compound). AreTokensIn r qs ts) (cut.two all) tokens));
+        full = λ off. absurd (let on : is_cut_clean r ps ≡ true = ap is_some is in cc);
+        cut = λ _. refl;
         least = λ breaks fitting end. two_lines r ts breaks fitting end (omega (arith, wide.wider, total_is r ps ts tokens));
         least_dropping = λ off. absurd (let on : is_cut_clean r ps ≡ true = ap is_some is in cc);
       };

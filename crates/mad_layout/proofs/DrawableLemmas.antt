@@ -64,10 +64,11 @@ wrapped_drawable : (skin : MadSkin) (drawn first : ℕ) (margins : ℕ × ℕ) (
 wrapped_drawable skin drawn first margins r ps ts [] bound inside shown kinds spacing measured fits parts = tt
 wrapped_drawable skin drawn first margins r ps ts (l ∷ ls) bound inside shown kinds spacing measured fits parts =
     let runs = map run_of ps ++ map token_run ts in
-    let none : indent skin.list_items_indentation_mode l.kind ≡ 0 = ap (indent skin.list_items_indentation_mode) kinds.0 in
-    (drawable skin drawn margins l bound kinds.0 spacing.0 measured.0 (omega (arith, none, fits.0, inside))
-        (all_each (Contains runs) IsShownRun (λ x has. each_of IsShownRun runs x shown has) (map run_of l.compounds.items) parts.0),
-     wrapped_drawable skin drawn r.other margins r ps ts ls bound inside shown kinds.1 spacing.1 measured.1 fits.1 parts.1)
+    let none : indent skin.list_items_indentation_mode l.kind ≡ 0 = ap (indent skin.list_items_indentation_mode) kinds.0 in (
+      drawable skin drawn margins l bound kinds.0 spacing.0 measured.0 (omega (arith, none, fits.0, inside))
+          (all_each (Contains runs) IsShownRun (λ x has. each_of IsShownRun runs x shown has) (map run_of l.compounds.items) parts.0),
+      wrapped_drawable skin drawn r.other margins r ps ts ls bound inside shown kinds.1 spacing.1 measured.1 fits.1 parts.1,
+    )
 
 -- ---- a composite as it was read
 
@@ -100,7 +101,7 @@ read_drawable skin width drawn line source lines narrower bound plain read (inl 
     let margins : ℕ × ℕ = margins_of skin width source in
     let runs : AllByRecursion IsPlainRun (map run_of source.compounds.items) = subst (AllByRecursion IsPlainRun) (sym read.runs) plain.runs in
     let one = drawable skin drawn margins source bound kind read.spacing read.measured (omega (arith, fits, read.measured, narrower, bound))
-        (all_each IsPlainRun IsShownRun plain_is_shown (map run_of source.compounds.items) runs) in
+    (all_each IsPlainRun IsShownRun plain_is_shown (map run_of source.compounds.items) runs) in
     subst (AreDrawable skin drawn) (sym same) (one, tt)
 read_drawable skin width drawn line source lines narrower bound plain read (inr (wide, (wrap, wraps, same))) =
     let kind : source.kind ≡ Paragraph = read.kind ∙ ap kind_of plain.paragraph in
@@ -113,12 +114,12 @@ read_drawable skin width drawn line source lines narrower bound plain read (inr 
     all_each (λ x. r.first + char_columns x.char ≤ r.width) (λ x. char_columns x.char ≤ r.width - r.first) (λ x h. omega (arith, h)) (flagged_text ps) room.each in
     let tokens = tokens_are_there (r.width - r.first) ps (utf8_of ps runs) in
     let shown = all_joined IsShownRun (map run_of ps) (map token_run tokens.0) (all_each IsPlainRun IsShownRun plain_is_shown (map run_of ps) runs)
-        (tokens_shown (r.width - r.first) ps tokens.0 runs narrow tokens.1) in
+    (tokens_shown (r.width - r.first) ps tokens.0 runs narrow tokens.1) in
     subst (AreDrawable skin drawn) (sym same)
     (wrapped_drawable skin drawn r.first margins r ps tokens.0 wrap bound (omega (arith, narrower, margins-le (line_style skin source.kind) width)) shown
-        (subst (λ k. HaveKinds k (follow_up k) wrap) kind wraps.kinds)
-        (subst (λ s. AllByRecursion (λ (l : FmtComposite). l.spacing ≡ s) wrap) read.spacing wraps.spacing)
-        wraps.measured (wraps.fits room) (wraps.least tokens.0 tokens.1).parts)
+    (subst (λ k. HaveKinds k (follow_up k) wrap) kind wraps.kinds)
+    (subst (λ s. AllByRecursion (λ (l : FmtComposite). l.spacing ≡ s) wrap) read.spacing wraps.spacing)
+    wraps.measured (wraps.fits room) (wraps.least tokens.0 tokens.1).parts)
 
 -- ---- a text
 
@@ -130,7 +131,7 @@ lines_drawable skin width drawn (c ∷ cs) [] lines narrower bound keeps reads w
 lines_drawable skin width drawn (c ∷ cs) (Normal l ∷ ls) lines narrower bound keeps reads (own, others, joins, here, more) =
     subst (AreDrawable skin drawn) (sym joins)
     (all_joined (IsDrawableLine skin drawn) own others (read_drawable skin width drawn c l own narrower bound keeps.0 reads.0 here)
-        (lines_drawable skin width drawn cs ls others narrower bound keeps.1 reads.1 more))
+    (lines_drawable skin width drawn cs ls others narrower bound keeps.1 reads.1 more))
 
 -- A layout of a text that keeps the premises is drawn exactly in a row at least as wide.
 pub layout_is_drawable : (skin : MadSkin) (width drawn : ℕ) (text : List StyledRuns) (lines : List FmtLine) → width ≤ drawn → drawn < 2 ^ 64 - 1

@@ -1,26 +1,26 @@
 -- Lines that hold the pieces of a list of tokens keep its text, and fit.
-use Rattle.std.proofs.Common.{◌≡◌, ℕ, ◌≤◌, ◌<◌, ◌+◌, ◌-◌, Bool, true, not, List, [], ◌∷◌, ◌++◌, map, chars, length, Option, None, refl, sym, ap, ◌∙◌, arith, subst, append_assoc, append-nil, Contains}
+use Rattle.std.proofs.Common.{◌≡◌, ℕ, ◌≤◌, ◌<◌, ◌+◌, ◌-◌, Bool, true, not, List, [], ◌∷◌, ◌++◌, map, chars, length, Option, None, refl, sym, ap, ◌∙◌, arith, subst, append_assoc, Contains}
 use Rattle.std.proofs.lemmas.Bool.{and_parts}
 use Rattle.std.proofs.lemmas.List.{map-append, length-append}
-use Rattle.std.proofs.lemmas.List.Elements.{Contains-append_left, Contains-append_right}
+use Rattle.std.proofs.lemmas.List.Elements.{Contains-append_right}
 use Rattle.std.specs.List.{AllByRecursion}
 use Rattle.std.specs.Char.{is_whitespace}
 use Rattle.mad_term.specs.Columns.{char_columns}
-use Rattle.mad_md.specs.Flagged.{Flags, FlaggedChar, Run, flagged, flags_of, flagged_of, flagged_text, run_of, is_blank}
+use Rattle.mad_md.specs.Flagged.{FlaggedChar, Run, flagged, flagged_text, run_of, is_blank}
 use Rattle.mad_md.specs.declared.compound.Compound.{Compound}
 use Rattle.mad_style.specs.declared.kinds.CompositeKind.{CompositeKind}
 use Rattle.mad_fit.specs.Columns.{width_of}
-use Rattle.mad_fit.specs.Tokens.{IsAlike, token_text, flagged_token, tokens_text, token_run}
+use Rattle.mad_fit.specs.Tokens.{IsAlike, flagged_token, tokens_text, token_run}
 use Rattle.mad_fit.specs.declared.spacing.Spacing.{Spacing}
 use Rattle.mad_fit.specs.declared.tokens.Token.{Token}
 use Rattle.mad_fit.proofs.AllLemmas.{all_joined, all_front, all_back, all_each}
 use Rattle.mad_fit.proofs.FlaggedLemmas.{width_of-append}
-use Rattle.mad_fit.proofs.TokenTexts.{IsHonest, tokens_text-append, some_flagged}
+use Rattle.mad_fit.proofs.TokenTexts.{IsHonest, tokens_text-append, some_flagged, length-token_text}
 use Rattle.mad_layout.specs.Breaks.{Piece, joined, total_width, AllBlank, FitsFrom}
 use Rattle.mad_layout.specs.Indents.{indent}
 use Rattle.mad_layout.specs.Keeps.{AllWhite, Keeps}
-use Rattle.mad_layout.specs.PlacedLines.{HoldsTokens, HoldPieces, TokensHaveRoom, SomeOnEach}
-use Rattle.mad_layout.specs.Wraps.{text_of, IsMeasured, LinesFit, HaveKinds, IsMadeOf, GapsForced}
+use Rattle.mad_layout.specs.PlacedLines.{HoldPieces, SomeOnEach}
+use Rattle.mad_layout.specs.Wraps.{text_of, IsMeasured, LinesFit, HaveKinds, NoneEmpty, IsMadeOf, GapsForced}
 use Rattle.mad_layout.specs.declared.room.Room.{Room}
 use Rattle.mad_layout.specs.declared.skin.MadSkin.{MadSkin}
 use Rattle.mad_layout.specs.declared.composite.FmtComposite.{FmtComposite}
@@ -170,7 +170,7 @@ made_of cs all pre post ts l same joins =
     let runs : map token_run all ≡ map token_run pre ++ (map token_run ts ++ map token_run post) =
     ap (map token_run) (sym joins) ∙ map-append token_run pre (ts ++ post) ∙ ap (λ x. map token_run pre ++ x) (map-append token_run ts post) in
     let held = all_each (Contains (map token_run pre ++ (map token_run ts ++ map token_run post))) (Contains (map run_of cs ++ (map token_run pre ++ (map token_run ts ++ map token_run post))))
-        (λ x h. Contains-append_right (map run_of cs) (map token_run pre ++ (map token_run ts ++ map token_run post)) x h) (map token_run ts) (contained (map token_run pre) (map token_run ts) (map token_run post)) in
+    (λ x h. Contains-append_right (map run_of cs) (map token_run pre ++ (map token_run ts ++ map token_run post)) x h) (map token_run ts) (contained (map token_run pre) (map token_run ts) (map token_run post)) in
     subst (AllByRecursion (Contains (map run_of cs ++ map token_run all))) (sym same) (subst (λ x. AllByRecursion (Contains (map run_of cs ++ x)) (map token_run ts)) (sym runs) held)
 
 pub parts_are : (cs : List Compound) (all pre : List Token) (k o : CompositeKind) (i j : ℕ) (sp : Option Spacing) (ps : List (Piece Token)) (ls : List FmtComposite) → HoldPieces k o i j sp ps ls → pre ++ joined ps ≡ all
@@ -181,4 +181,24 @@ parts_are cs all pre k o i j sp (p ∷ ps) [] h e = absurd h
 parts_are cs all pre k o i j sp (p ∷ ps) (l ∷ ls) h e = (
   made_of cs all pre (p.gap ++ joined ps) p.line l h.0.runs e,
   parts_are cs all (pre ++ (p.line ++ p.gap)) o o j j sp ps ls h.1 (append_assoc pre (p.line ++ p.gap) (joined ps) ∙ ap (λ x. pre ++ x) (append_assoc p.line p.gap (joined ps)) ∙ e),
+)
+
+-- ---- no compound is empty
+
+filled : (max : ℕ) (cs : List Compound) (ts : List Token) → map run_of cs ≡ map token_run ts → AllByRecursion (IsHonest max) ts → NoneEmpty cs
+filled max [] ts h g = tt
+filled max (c ∷ cs) [] h g = absurd (cc)
+filled max (c ∷ cs) (t ∷ ts) h g =
+    let head : run_of c ≡ token_run t = cc in
+    let tail : map run_of cs ≡ map token_run ts = cc in
+    (omega (arith, ap (λ (x : Run). length x.text) head, length-token_text t g.0.place, g.0.place.some), filled max cs ts tail g.1)
+
+pub filled_pieces : (max : ℕ) (k o : CompositeKind) (i j : ℕ) (sp : Option Spacing) (ps : List (Piece Token)) (ls : List FmtComposite) → HoldPieces k o i j sp ps ls → AllByRecursion (IsHonest max) (joined ps)
+    → AllByRecursion (λ l. NoneEmpty l.compounds.items) ls
+filled_pieces max k o i j sp [] [] h g = tt
+filled_pieces max k o i j sp [] (l ∷ ls) h g = absurd h
+filled_pieces max k o i j sp (p ∷ ps) [] h g = absurd h
+filled_pieces max k o i j sp (p ∷ ps) (l ∷ ls) h g = (
+  filled max l.compounds.items p.line h.0.runs (line_of (IsHonest max) p ps g),
+  filled_pieces max o o j j sp ps ls h.1 (rest_of (IsHonest max) p ps g),
 )

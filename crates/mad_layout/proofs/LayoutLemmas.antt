@@ -1,14 +1,14 @@
 -- Layouts, line by line.
-use Rattle.std.proofs.Common.{◌≡◌, ℕ, ◌<◌, ◌≤◌, arith, List, [], ◌∷◌, ◌++◌, map, refl, ap, sym, ◌∙◌, subst, append_assoc}
+use Rattle.std.proofs.Common.{◌≡◌, ℕ, ◌<◌, ◌≤◌, arith, List, [], ◌∷◌, ◌++◌, map, ap, sym, ◌∙◌, subst, append_assoc}
 use Rattle.std.proofs.lemmas.List.{append-nil}
 use Rattle.mad_md.specs.Flagged.{run_of}
-use Rattle.mad_md.specs.Lines.{StyledRuns, LineContent, styled_runs, content_of}
+use Rattle.mad_md.specs.Lines.{StyledRuns, styled_runs, content_of}
 use Rattle.mad_md.specs.declared.composite.Composite.{Composite}
 use Rattle.mad_md.specs.declared.line.Line.{Line}
 use Rattle.mad_md.specs.declared.line.Line.TheVariants as read
 use Rattle.std.specs.Prelude.{Some, Bool, true, false, nat_lt, MatchBool}
 use Rattle.std.proofs.lemmas.Bool.Decides.{nat_tests}
-use Rattle.mad_layout.specs.Layouts.{composites, AreRead, IsRead, IsLayout, IsLayoutAt}
+use Rattle.mad_layout.specs.Layouts.{composites, AreRead, IsLayout, IsLayoutAt}
 use Rattle.mad_layout.specs.WrappedLines.{AllMeasured, AreLinesWrapped}
 use Rattle.mad_layout.specs.Lines.{IsLineOf}
 use Rattle.mad_layout.specs.declared.skin.MadSkin.{MadSkin}
@@ -17,13 +17,16 @@ use Rattle.mad_layout.specs.declared.line.FmtLine.TheVariants.{Normal}
 
 -- a composite that was measured stands for what was read
 line_read : (skin : MadSkin) (composite : Composite) (line : FmtLine) (cs : List StyledRuns) (more : List FmtLine) → IsLineOf skin composite line → AreRead skin cs more → AreRead skin (styled_runs composite ∷ cs) (line ∷ more)
-line_read skin composite (Normal l) cs more h held = (record {
-  kind = h.kind;
-  runs = ap (map run_of) h.text;
-  measured = h.measured;
-  spacing = h.spacing;
-  margins = h.margins;
-}, held)
+line_read skin composite (Normal l) cs more h held = (
+  record {
+    kind = h.kind;
+    runs = ap (map run_of) h.text;
+    measured = h.measured;
+    spacing = h.spacing;
+    margins = h.margins;
+  },
+  held,
+)
 
 -- What has been measured of a text, with whatever the rest of its lines is measured as, is all of it.
 abbrev pub MeasuredSoFar : MadSkin → List Line → List Line → List FmtLine → Type 0

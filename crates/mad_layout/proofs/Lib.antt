@@ -1,8 +1,10 @@
 pub mod AreaLemmas
 pub mod BoundLemmas
+pub mod BoundOfLemmas
 pub mod CutLemmas
 pub mod DrawableLemmas
 pub mod HeadlineLemmas
+pub mod InlineLemmas
 pub mod KeepLemmas
 pub mod LayoutLemmas
 pub mod Least
@@ -11,5 +13,7 @@ pub mod PieceLemmas
 pub mod PlaceLemmas
 pub mod RowLemmas
 pub mod ShownLemmas
+pub mod StartLemmas
+pub mod StartsOfLemmas
 pub mod WholeTokens
 pub mod WrapLemmas

@@ -1,5 +1,5 @@
 -- The columns of compounds, summed up to the greatest usize.
-use Rattle.std.proofs.Common.{◌≡◌, ℕ, ◌+◌, ◌<◌, ◌≤◌, List, ◌∷◌, chars, length, drop, get_or, sym, ap, ◌∙◌, arith}
+use Rattle.std.proofs.Common.{◌≡◌, ℕ, ◌+◌, ◌<◌, List, ◌∷◌, chars, length, drop, get_or, ap, arith}
 use Rattle.std.proofs.lemmas.List.{at_drop_more}
 use Rattle.mad_md.specs.Flagged.{flags_of, flagged_of, flagged_text}
 use Rattle.mad_md.specs.declared.compound.Compound.{Compound}

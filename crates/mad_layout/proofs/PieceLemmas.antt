@@ -1,11 +1,10 @@
 -- Pieces of spaces, and pieces in a row.
-use Rattle.std.proofs.Common.{◌≡◌, ℕ, zero, suc, ◌+◌, ◌==◌, Bool, true, false, List, [], ◌∷◌, ◌++◌, map, replicate, Result, Ok, Err, OnOk, ◌<◌, length, drop, get_or, if◌then◌else◌, refl, ap, sym, subst, ◌∙◌, append_assoc, arith}
+use Rattle.std.proofs.Common.{◌≡◌, ℕ, zero, suc, ◌+◌, ◌==◌, false, List, [], ◌∷◌, ◌++◌, map, replicate, Result, Ok, Err, OnOk, ◌<◌, length, drop, take, get_or, refl, ap, sym, subst, ◌∙◌, append_assoc, arith}
 use Rattle.std.proofs.lemmas.Bool.Decides.{nat_tests}
-use Rattle.std.specs.List.{AllByRecursion, flat_map, repeat}
-use Rattle.std.proofs.lemmas.List.{append-nil, at_drop_more}
+use Rattle.std.specs.List.{flat_map, repeat}
+use Rattle.std.proofs.lemmas.List.{append-nil, at_drop_more, flat_map_more, map-append, take_more}
 use Rattle.std.proofs.lemmas.List.Concat.{flat_map-append}
-use Rattle.mad_term.specs.declared.styles.ContentStyle.{ContentStyle}
-use Rattle.mad_term.specs.Styles.{IsStyle, piece_bytes}
+use Rattle.mad_term.specs.Styles.{IsStyle, piece_bytes, styled_run_bytes}
 use Rattle.mad_style.specs.declared.compound_styles.CompoundStyle.{CompoundStyle}
 use Rattle.mad_style.specs.Runs.{run_bytes}
 use Rattle.mad_md.specs.Flagged.{run_of}
@@ -62,8 +61,8 @@ known_both (p ∷ ps) qs h k = (h.0, known_both ps qs h.1 k)
 pub appends_both : (a b c : List ℕ) (ps qs : List RowPiece) → Appends a ps b → Appends b qs c → Appends a (ps ++ qs) c
 appends_both a b c ps qs h k = record {
   bytes =
-    k.bytes ∙ ap (λ xs. xs ++ pieces_bytes qs) h.bytes ∙ append_assoc a (pieces_bytes ps) (pieces_bytes qs)
-    ∙ ap (λ xs. a ++ xs) (sym (flat_map-append (λ (p : RowPiece). piece_bytes p.style p.text) ps qs));
+      k.bytes ∙ ap (λ xs. xs ++ pieces_bytes qs) h.bytes ∙ append_assoc a (pieces_bytes ps) (pieces_bytes qs)
+      ∙ ap (λ xs. a ++ xs) (sym (flat_map-append (λ (p : RowPiece). piece_bytes p.style p.text) ps qs));
   known = known_both ps qs h.known k.known;
 }
 
@@ -113,3 +112,24 @@ free_appended skin kind k style ps old a b new kind_is style_is blanks mark text
     ∙ ap (λ (x : CompositeKind). spaces blank (line_style skin x).left_margin ++ (mark_pieces skin x ++ map (compound_piece skin (line_style skin x)) ps)) kind_is
     ∙ ap (λ xs. spaces blank (line_style skin k).left_margin ++ (mark_pieces skin k ++ xs)) (pieces_of_runs skin (line_style skin k) ps) in
     subst (λ (xs : List RowPiece). Appends old xs new) pieces (appends_three old a b new (spaces blank style.left_margin) (mark_pieces skin kind) (map (compound_piece skin style) ps) blanks mark text)
+
+-- a run of spaces, as a device or a formatter is given it
+pub run_of_spaces : (style : CompoundStyle) (n : ℕ) → styled_run_bytes style.object_style (32 ∷ []) n ≡ pieces_bytes (spaces style n)
+run_of_spaces style n = run-spaces style n
+
+-- the bytes of the pieces of one element more
+pub pieces_taken : {X : Type 0} (f : X → RowPiece) (xs : List X) (i : ℕ) (d : X) → i < length xs
+    → pieces_bytes (map f (take i xs)) ++ piece_bytes (f (get_or xs i d)).style (f (get_or xs i d)).text ≡ pieces_bytes (map f (take (i + 1) xs))
+pieces_taken {X} f xs i d inside =
+    let last : RowPiece = f (get_or xs i d) in
+    ap (λ r. pieces_bytes (map f (take i xs)) ++ r) (sym (append-nil (piece_bytes last.style last.text)))
+    ∙ sym (flat_map-append (λ (p : RowPiece). piece_bytes p.style p.text) (map f (take i xs)) (last ∷ []))
+    ∙ ap pieces_bytes (sym (map-append f (take i xs) (get_or xs i d ∷ [])))
+    ∙ ap (λ ys. pieces_bytes (map f ys)) (sym (take_more xs i d inside))
+
+-- the bytes of one element more
+pub bytes_taken : {X : Type 0} (f : X → List ℕ) (xs : List X) (i : ℕ) (d : X) → i < length xs → flat_map f (take i xs) ++ f (get_or xs i d) ≡ flat_map f (take (i + 1) xs)
+bytes_taken {X} f xs i d inside = flat_map_more f [] (take i xs) (get_or xs i d) ∙ ap (flat_map f) (sym (take_more xs i d inside))
+
+pub bytes_taken_of : {X : Type 0} (f : X → List ℕ) (xs : List X) (i : ℕ) (x : X) → i < length xs → x ≡ get_or xs i x → flat_map f (take i xs) ++ f x ≡ flat_map f (take (i + 1) xs)
+bytes_taken_of {X} f xs i x inside is = ap (λ y. flat_map f (take i xs) ++ f y) is ∙ bytes_taken f xs i x inside

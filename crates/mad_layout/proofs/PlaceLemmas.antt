@@ -1,9 +1,8 @@
 -- Placing tokens on lines, step by step.
-use Rattle.std.proofs.Common.{◌≡◌, ℕ, ◌≤◌, ◌<◌, ◌+◌, ◌-◌, ◌^◌, min, Bool, true, false, Option, Some, None, List, [], ◌∷◌, ◌++◌, map, length, take, drop, refl, sym, ap, ◌∙◌, arith, subst, append-nil, append_assoc, nat_le, get_or, ◌⊎◌, inl, inr, if◌then◌else◌}
+use Rattle.std.proofs.Common.{◌≡◌, ℕ, ◌≤◌, ◌<◌, ◌+◌, ◌-◌, Bool, true, false, Option, Some, None, List, [], ◌∷◌, ◌++◌, map, length, take, drop, refl, sym, ap, ◌∙◌, arith, subst, append-nil, append_assoc, nat_le, get_or, ◌⊎◌, inl, inr, if◌then◌else◌}
 use Rattle.std.proofs.lemmas.Bool.Decides.{nat_tests}
 use Rattle.std.proofs.lemmas.List.{map-append, at_drop_more, take_more, length-append}
-use Rattle.std.specs.List.{AllByRecursion}
-use Rattle.mad_md.specs.Flagged.{Flags, Run, run_of, flags_of}
+use Rattle.mad_md.specs.Flagged.{Flags, run_of, flags_of}
 use Rattle.mad_md.specs.declared.compound.Compound.{Compound}
 use Rattle.mad_style.specs.declared.kinds.CompositeKind.{CompositeKind}
 use Rattle.mad_fit.specs.declared.spacing.Spacing.{Spacing}
@@ -13,7 +12,7 @@ use Rattle.mad_fit.proofs.AllLemmas.{all_push, all_front, all_back}
 use Rattle.mad_layout.specs.Breaks.{Piece, joined, total_width, AllBlank, FitsFrom, FittingBreak}
 use Rattle.mad_layout.specs.Greedy.{Placing, left_of, fits_in, taken, begin_line, place_by, place, place_all}
 use Rattle.mad_layout.specs.PlacedLines.{HoldsTokens, HoldPieces, TokensHaveRoom, SomeOnEach, ArePlacedLines}
-use Rattle.mad_layout.specs.Wraps.{capped, GapsForced}
+use Rattle.mad_layout.specs.Wraps.{capped, GapsForced, BeginsAfter, LinesForced}
 use Rattle.mad_layout.specs.declared.room.Room.{Room}
 use Rattle.mad_layout.specs.declared.composite.FmtComposite.{FmtComposite}
 
@@ -26,8 +25,8 @@ abbrev pub next_kind : CompositeKind → CompositeKind → List (Piece Token) �
 next_kind k o [] = k
 next_kind k o (p ∷ ps) = o
 
--- The tokens are placed: on whole lines, and on the line that is being made. After it a gap may have begun.
-pub record Progress (r : Room) (k o : CompositeKind) (spacing : Option Spacing) (ts : List Token) (lines : List FmtComposite) (line : FmtComposite) (left : Option ℕ) (ended : Bool) : Type 0 where
+-- The tokens are broken into pieces, and a line that is being made. After it a gap may have begun.
+pub record Shape (r : Room) (ts : List Token) (left : Option ℕ) (ended : Bool) : Type 0 where
   pub pieces : List (Piece Token)
   pub tokens : List Token
   pub gap : List Token
@@ -37,13 +36,18 @@ pub record Progress (r : Room) (k o : CompositeKind) (spacing : Option Spacing) 
   pub no_gap : ended ≡ false → gap ≡ []
   pub some_gap : ended ≡ true → 0 < length gap
   pub forced_here : (t : Token) (others : List Token) → gap ≡ t ∷ others → r.width < next_indent r pieces + total_width tokens + t.width
-  pub holds : HoldPieces k o r.first r.other spacing pieces lines
-  pub holds_line : HoldsTokens (next_kind k o pieces) (next_indent r pieces) spacing tokens line
+  pub forced : LinesForced r.first r (pieces ++ record { line = tokens; gap = gap } ∷ [])
   pub left_is : left ≡ left_of r.width (next_indent r pieces + total_width tokens)
   pub fits : TokensHaveRoom r ts → FitsFrom r.first r pieces
   pub line_fits : TokensHaveRoom r ts → next_indent r pieces + total_width tokens ≤ r.width
   pub some : TokensHaveRoom r ts → SomeOnEach pieces
   pub some_here : TokensHaveRoom r ts → 0 < length ts → 0 < length tokens
+
+-- The tokens stand on lines: the pieces on whole lines, and the others on the line that is being made.
+pub record Progress (r : Room) (k o : CompositeKind) (spacing : Option Spacing) (ts : List Token) (lines : List FmtComposite) (line : FmtComposite) (left : Option ℕ) (ended : Bool) : Type 0 where
+  pub shape : Shape r ts left ended
+  pub holds : HoldPieces k o r.first r.other spacing shape.pieces lines
+  pub holds_line : HoldsTokens (next_kind k o shape.pieces) (next_indent r shape.pieces) spacing shape.tokens line
 
 -- ---- lists that grow at their end
 
@@ -51,13 +55,13 @@ pub total_width-push : (ts : List Token) (t : Token) → total_width (ts ++ t �
 total_width-push [] t = omega arith
 total_width-push (x ∷ ts) t = omega (arith, total_width-push ts t)
 
-room_front : (r : Room) (xs ys : List Token) → TokensHaveRoom r (xs ++ ys) → TokensHaveRoom r xs
+pub room_front : (r : Room) (xs ys : List Token) → TokensHaveRoom r (xs ++ ys) → TokensHaveRoom r xs
 room_front r xs ys h = record { first = h.first; other = h.other; each = all_front _ xs ys h.each }
 
-room_last : (r : Room) (xs : List Token) (t : Token) → TokensHaveRoom r (xs ++ t ∷ []) → r.first + t.width ≤ r.width
+pub room_last : (r : Room) (xs : List Token) (t : Token) → TokensHaveRoom r (xs ++ t ∷ []) → r.first + t.width ≤ r.width
 room_last r xs t h = (all_back (λ t. r.first + t.width ≤ r.width) xs (t ∷ []) h.each).0
 
-joined-push : {A : Type 0} (ps : List (Piece A)) (p : Piece A) → joined (ps ++ p ∷ []) ≡ joined ps ++ (p.line ++ p.gap)
+pub joined-push : {A : Type 0} (ps : List (Piece A)) (p : Piece A) → joined (ps ++ p ∷ []) ≡ joined ps ++ (p.line ++ p.gap)
 joined-push [] p = ap (λ g. p.line ++ g) (append-nil p.gap)
 joined-push (q ∷ ps) p = ap (λ g. q.line ++ (q.gap ++ g)) (joined-push ps p) ∙ ap (λ g. q.line ++ g) (sym (append_assoc q.gap (joined ps) (p.line ++ p.gap))) ∙ sym (append_assoc q.line (q.gap ++ joined ps) (p.line ++ p.gap))
 
@@ -65,7 +69,7 @@ fit_from_other : (r : Room) (ps : List (Piece Token)) (p : Piece Token) → Fits
 fit_from_other r [] p h l b = (l, b, tt)
 fit_from_other r (q ∷ ps) p h l b = (h.0, h.1, fit_from_other r ps p h.2 l b)
 
-fit_push : (r : Room) (ps : List (Piece Token)) (p : Piece Token) → FitsFrom r.first r ps → next_indent r ps + total_width p.line ≤ r.width → AllBlank p.gap → FitsFrom r.first r (ps ++ p ∷ [])
+pub fit_push : (r : Room) (ps : List (Piece Token)) (p : Piece Token) → FitsFrom r.first r ps → next_indent r ps + total_width p.line ≤ r.width → AllBlank p.gap → FitsFrom r.first r (ps ++ p ∷ [])
 fit_push r [] p h l b = (l, b, tt)
 fit_push r (q ∷ ps) p h l b = (h.0, h.1, fit_from_other r ps p h.2 l b)
 
@@ -74,7 +78,7 @@ forced_from_other : (r : Room) (ps : List (Piece Token)) (p : Piece Token) → G
 forced_from_other r [] p h b l = (b, l, tt)
 forced_from_other r (q ∷ ps) p h b l = (h.0, h.1, forced_from_other r ps p h.2 b l)
 
-forced_push : (r : Room) (ps : List (Piece Token)) (p : Piece Token) → GapsForced r.first r ps → AllBlank p.gap
+pub forced_push : (r : Room) (ps : List (Piece Token)) (p : Piece Token) → GapsForced r.first r ps → AllBlank p.gap
     → ((t : Token) (others : List Token) → p.gap ≡ t ∷ others → r.width < next_indent r ps + total_width p.line + t.width) → GapsForced r.first r (ps ++ p ∷ [])
 forced_push r [] p h b l = (b, l, tt)
 forced_push r (q ∷ ps) p h b l = (h.0, h.1, forced_from_other r ps p h.2 b l)
@@ -93,13 +97,33 @@ holds_push r k o sp [] (m ∷ ls) p l h g = absurd h
 holds_push r k o sp (q ∷ ps) [] p l h g = absurd h
 holds_push r k o sp (q ∷ ps) (m ∷ ls) p l h g = (h.0, holds_from_other o r.other sp ps ls p l h.1 g)
 
-next_indent-push : (r : Room) (ps : List (Piece Token)) (p : Piece Token) → next_indent r (ps ++ p ∷ []) ≡ r.other
+pub next_indent-push : (r : Room) (ps : List (Piece Token)) (p : Piece Token) → next_indent r (ps ++ p ∷ []) ≡ r.other
 next_indent-push r [] p = refl
 next_indent-push r (q ∷ ps) p = refl
 
 next_kind-push : (k o : CompositeKind) (ps : List (Piece Token)) (p : Piece Token) → next_kind k o (ps ++ p ∷ []) ≡ o
 next_kind-push k o [] p = refl
 next_kind-push k o (q ∷ ps) p = refl
+
+-- a line that grows keeps its beginning
+pub lines_grow : (i : ℕ) (r : Room) (ps : List (Piece Token)) (line gap more gap' : List Token) → LinesForced i r (ps ++ record { line = line; gap = gap } ∷ []) → LinesForced i r (ps ++ record { line = line ++ more; gap = gap' } ∷ [])
+lines_grow i r [] line gap more gap' h = tt
+lines_grow i r (q ∷ []) line gap more gap' h = (
+  record { first = h.0.first; others = h.0.others ++ more; begins = ap (λ l. l ++ more) h.0.begins; solid = h.0.solid; passes = h.0.passes },
+  tt,
+)
+lines_grow i r (q ∷ q' ∷ ps) line gap more gap' h = (h.0, lines_grow r.other r (q' ∷ ps) line gap more gap' h.1)
+
+-- one line more
+lines_from_other : (r : Room) (ps : List (Piece Token)) (p q : Piece Token) → LinesForced r.other r (ps ++ p ∷ []) → BeginsAfter r.other r p q → LinesForced r.other r ((ps ++ p ∷ []) ++ q ∷ [])
+lines_from_other r [] p q h b = (b, tt)
+lines_from_other r (x ∷ []) p q h b = (h.0, (b, tt))
+lines_from_other r (x ∷ y ∷ ps) p q h b = (h.0, lines_from_other r (y ∷ ps) p q h.1 b)
+
+pub lines_push : (r : Room) (ps : List (Piece Token)) (p q : Piece Token) → LinesForced r.first r (ps ++ p ∷ []) → BeginsAfter (next_indent r ps) r p q → LinesForced r.first r ((ps ++ p ∷ []) ++ q ∷ [])
+lines_push r [] p q h b = (b, tt)
+lines_push r (x ∷ []) p q h b = (h.0, (b, tt))
+lines_push r (x ∷ y ∷ ps) p q h b = (h.0, lines_from_other r (y ∷ ps) p q h.1 b)
 
 -- ---- a line that takes a token
 
@@ -159,7 +183,7 @@ passes_by width used n false e h = grind (arith, nat_tests)
 pub passes_width : (width used n : ℕ) → fits_in (left_of width used) n ≡ false → width < used + n
 passes_width width used n h = passes_by width used n (nat_le used width) refl h
 
-forced_more : (r : Room) (ended : Bool) (left : Option ℕ) (used : ℕ) (gap : List Token) (t : Token) → left ≡ left_of r.width used → (ended ≡ false → gap ≡ []) → (ended ≡ true → 0 < length gap)
+pub forced_more : (r : Room) (ended : Bool) (left : Option ℕ) (used : ℕ) (gap : List Token) (t : Token) → left ≡ left_of r.width used → (ended ≡ false → gap ≡ []) → (ended ≡ true → 0 < length gap)
     → ((u : Token) (others : List Token) → gap ≡ u ∷ others → r.width < used + u.width) → (ended ≡ true) ⊎ (fits_in left t.width ≡ false)
     → (u : Token) (others : List Token) → gap ++ t ∷ [] ≡ u ∷ others → r.width < used + u.width
 forced_more r true left used gap t is none some here why u others e = let first = first_stays gap others t u (some refl) e in here u first.0 first.1
@@ -188,7 +212,7 @@ fits_within width used n h =
     (omega arith, ap (λ l. taken l n) some ∙ ap Some (omega arith) ∙ sym (left_of-some width (used + n) (omega arith)))
 
 -- where each token has room, there is one on a line that doesn't take another
-some_before : (r : Room) (ended : Bool) (left : Option ℕ) (ps : List (Piece Token)) (tokens gap ts : List Token) (t : Token) → left ≡ left_of r.width (next_indent r ps + total_width tokens) → joined ps ++ (tokens ++ gap) ≡ ts
+pub some_before : (r : Room) (ended : Bool) (left : Option ℕ) (ps : List (Piece Token)) (tokens gap ts : List Token) (t : Token) → left ≡ left_of r.width (next_indent r ps + total_width tokens) → joined ps ++ (tokens ++ gap) ≡ ts
     → (ended ≡ true → 0 < length gap) → (0 < length ts → 0 < length tokens) → r.other ≤ r.first → r.first + t.width ≤ r.width → (ended ≡ true) ⊎ (fits_in left t.width ≡ false) → 0 < length tokens
 some_before r ended left ps (x ∷ tokens) gap ts t is covers some here other room why = omega arith
 some_before r ended left ps [] gap ts t is covers some here other room (inl e) =
@@ -200,8 +224,15 @@ some_before r ended left (p ∷ ps) [] gap ts t is covers some here other room (
 
 -- ---- the state of placing, and a step
 
-pub progress_start : (r : Room) (k o : CompositeKind) (sp : Option Spacing) (l : FmtComposite) → IsBegun k r.first sp l → Progress r k o sp [] [] l (left_of r.width r.first) false
-progress_start r k o sp l begun = record {
+-- a token that doesn't fit, or comes after one that doesn't, passes the width behind the line and the gap
+pub passes_gap : (r : Room) (ended : Bool) (left : Option ℕ) (used : ℕ) (gap : List Token) (t : Token) → left ≡ left_of r.width used → (ended ≡ true → 0 < length gap)
+    → ((u : Token) (others : List Token) → gap ≡ u ∷ others → r.width < used + u.width) → (ended ≡ true) ⊎ (fits_in left t.width ≡ false) → r.width < used + total_width gap + t.width
+passes_gap r ended left used (u ∷ gap) t is some here why = omega (arith, here u gap refl)
+passes_gap r ended left used [] t is some here (inl e) = absurd (omega (arith, some e))
+passes_gap r ended left used [] t is some here (inr f) = omega (arith, passes_width r.width used t.width (ap (λ l. fits_in l t.width) (sym is) ∙ f))
+
+unfoldable pub shape_start : (r : Room) → Shape r [] (left_of r.width r.first) false
+shape_start r = record {
   pieces = [];
   tokens = [];
   gap = [];
@@ -211,8 +242,7 @@ progress_start r k o sp l begun = record {
   no_gap = λ _. refl;
   some_gap = λ e. absurd (cc);
   forced_here = λ t others e. absurd (cc);
-  holds = tt;
-  holds_line = holds_none k r.first sp l begun;
+  forced = tt;
   left_is = ap (left_of r.width) (omega arith);
   fits = λ _. tt;
   line_fits = λ h. omega (arith, h.first);
@@ -220,9 +250,8 @@ progress_start r k o sp l begun = record {
   some_here = λ _ l. absurd (omega arith);
 }
 
-pub progress_fits : (r : Room) (k o : CompositeKind) (sp : Option Spacing) (ts : List Token) (t : Token) (lines : List FmtComposite) (line new : FmtComposite) (left : Option ℕ) → Progress r k o sp ts lines line left false
-    → fits_in left t.width ≡ true → AddsToken line t new → Progress r k o sp (ts ++ t ∷ []) lines new (taken left t.width) false
-progress_fits r k o sp ts t lines line new left h fits adds =
+unfoldable pub shape_fits : (r : Room) (ts : List Token) (t : Token) (left : Option ℕ) → Shape r ts left false → fits_in left t.width ≡ true → Shape r (ts ++ t ∷ []) (taken left t.width) false
+shape_fits r ts t left h fits =
     let used = next_indent r h.pieces + total_width h.tokens in
     let within = fits_within r.width used t.width (rw (sym h.left_is) fits) in
     let more : used + t.width ≡ next_indent r h.pieces + total_width (h.tokens ++ t ∷ []) = omega (arith, total_width-push h.tokens t) in
@@ -238,8 +267,7 @@ progress_fits r k o sp ts t lines line new left h fits adds =
       no_gap = λ _. refl;
       some_gap = λ e. absurd (cc);
       forced_here = λ t others e. absurd (cc);
-      holds = h.holds;
-      holds_line = holds_more (next_kind k o h.pieces) (next_indent r h.pieces) sp h.tokens t line new h.holds_line adds;
+      forced = lines_grow r.first r h.pieces h.tokens h.gap (t ∷ []) [] h.forced;
       left_is = ap (λ l. taken l t.width) h.left_is ∙ within.1 ∙ ap (left_of r.width) more;
       fits = λ room. h.fits (room_front r ts (t ∷ []) room);
       line_fits = λ room. omega (arith, within.0, more);
@@ -247,9 +275,8 @@ progress_fits r k o sp ts t lines line new left h fits adds =
       some_here = λ _ _. omega (arith, length-append h.tokens (t ∷ []));
     }
 
-pub progress_ends : (r : Room) (k o : CompositeKind) (sp : Option Spacing) (ts : List Token) (t : Token) (lines : List FmtComposite) (line : FmtComposite) (left : Option ℕ) (ended : Bool) → Progress r k o sp ts lines line left ended
-    → t.blank ≡ true → (ended ≡ true) ⊎ (fits_in left t.width ≡ false) → Progress r k o sp (ts ++ t ∷ []) lines line left true
-progress_ends r k o sp ts t lines line left ended h blank why = record {
+unfoldable pub shape_ends : (r : Room) (ts : List Token) (t : Token) (left : Option ℕ) (ended : Bool) → Shape r ts left ended → t.blank ≡ true → (ended ≡ true) ⊎ (fits_in left t.width ≡ false) → Shape r (ts ++ t ∷ []) left true
+shape_ends r ts t left ended h blank why = record {
   pieces = h.pieces;
   tokens = h.tokens;
   gap = h.gap ++ t ∷ [];
@@ -259,8 +286,7 @@ progress_ends r k o sp ts t lines line left ended h blank why = record {
   no_gap = λ e. absurd (cc);
   some_gap = λ _. omega (arith, length-append h.gap (t ∷ []));
   forced_here = forced_more r ended left (next_indent r h.pieces + total_width h.tokens) h.gap t h.left_is h.no_gap h.some_gap h.forced_here why;
-  holds = h.holds;
-  holds_line = h.holds_line;
+  forced = subst (λ l. LinesForced r.first r (h.pieces ++ record { line = l; gap = h.gap ++ t ∷ [] } ∷ [])) (append-nil h.tokens) (lines_grow r.first r h.pieces h.tokens h.gap [] (h.gap ++ t ∷ []) h.forced);
   left_is = h.left_is;
   fits = λ room. h.fits (room_front r ts (t ∷ []) room);
   line_fits = λ room. h.line_fits (room_front r ts (t ∷ []) room);
@@ -268,14 +294,12 @@ progress_ends r k o sp ts t lines line left ended h blank why = record {
   some_here = λ room _. some_before r ended left h.pieces h.tokens h.gap ts t h.left_is h.covers h.some_gap (h.some_here (room_front r ts (t ∷ []) room)) room.other (room_last r ts t room) why;
 }
 
-pub progress_begins : (r : Room) (k o : CompositeKind) (sp : Option Spacing) (ts : List Token) (t : Token) (lines new_lines : List FmtComposite) (line begun new : FmtComposite) (left : Option ℕ) (ended : Bool)
-    → Progress r k o sp ts lines line left ended → (ended ≡ true) ⊎ (fits_in left t.width ≡ false) → new_lines ≡ lines ++ line ∷ [] → IsBegun o r.other sp begun → AddsToken begun t new
-    → Progress r k o sp (ts ++ t ∷ []) new_lines new (left_of r.width (r.other + t.width)) false
-progress_begins r k o sp ts t lines new_lines line begun new left ended h why pushed begins adds =
+unfoldable pub shape_begins : (r : Room) (ts : List Token) (t : Token) (left : Option ℕ) (ended : Bool) → Shape r ts left ended → t.blank ≡ false → (ended ≡ true) ⊎ (fits_in left t.width ≡ false)
+    → Shape r (ts ++ t ∷ []) (left_of r.width (r.other + t.width)) false
+shape_begins r ts t left ended h solid why =
     let p : Piece Token = record { line = h.tokens; gap = h.gap } in
+    let q : Piece Token = record { line = t ∷ []; gap = [] } in
     let indent : next_indent r (h.pieces ++ p ∷ []) ≡ r.other = next_indent-push r h.pieces p in
-    let kind : next_kind k o (h.pieces ++ p ∷ []) ≡ o = next_kind-push k o h.pieces p in
-    let held : HoldsTokens o r.other sp (t ∷ []) new = holds_more o r.other sp [] t begun new (holds_none o r.other sp begun begins) adds in
     record {
       pieces = h.pieces ++ p ∷ [];
       tokens = t ∷ [];
@@ -286,8 +310,8 @@ progress_begins r k o sp ts t lines new_lines line begun new left ended h why pu
       no_gap = λ _. refl;
       some_gap = λ e. absurd (cc);
       forced_here = λ t others e. absurd (cc);
-      holds = subst (HoldPieces k o r.first r.other sp (h.pieces ++ p ∷ [])) (sym pushed) (holds_push r k o sp h.pieces lines p line h.holds h.holds_line);
-      holds_line = subst (λ q. HoldsTokens q (next_indent r (h.pieces ++ p ∷ [])) sp (t ∷ []) new) (sym kind) (subst (λ i. HoldsTokens o i sp (t ∷ []) new) (sym indent) held);
+      forced = lines_push r h.pieces p q h.forced
+          (record { first = t; others = []; begins = refl; solid = solid; passes = passes_gap r ended left (next_indent r h.pieces + total_width h.tokens) h.gap t h.left_is h.some_gap h.forced_here why });
       left_is = ap (left_of r.width) (omega (arith, indent));
       fits = λ room. let before = room_front r ts (t ∷ []) room in fit_push r h.pieces p (h.fits before) (h.line_fits before) h.gap_blank;
       line_fits = λ room. omega (arith, indent, room_last r ts t room, room.other);
@@ -298,18 +322,53 @@ progress_begins r k o sp ts t lines new_lines line begun new left ended h why pu
       some_here = λ _ _. omega arith;
     }
 
+pub progress_start : (r : Room) (k o : CompositeKind) (sp : Option Spacing) (l : FmtComposite) → IsBegun k r.first sp l → Progress r k o sp [] [] l (left_of r.width r.first) false
+unfolding shape_start
+progress_start r k o sp l begun = record { shape = shape_start r; holds = tt; holds_line = holds_none k r.first sp l begun }
+
+pub progress_fits : (r : Room) (k o : CompositeKind) (sp : Option Spacing) (ts : List Token) (t : Token) (lines : List FmtComposite) (line new : FmtComposite) (left : Option ℕ) → Progress r k o sp ts lines line left false
+    → fits_in left t.width ≡ true → AddsToken line t new → Progress r k o sp (ts ++ t ∷ []) lines new (taken left t.width) false
+unfolding shape_fits
+progress_fits r k o sp ts t lines line new left h fits adds = record {
+  shape = shape_fits r ts t left h.shape fits;
+  holds = h.holds;
+  holds_line = holds_more (next_kind k o h.shape.pieces) (next_indent r h.shape.pieces) sp h.shape.tokens t line new h.holds_line adds;
+}
+
+pub progress_ends : (r : Room) (k o : CompositeKind) (sp : Option Spacing) (ts : List Token) (t : Token) (lines : List FmtComposite) (line : FmtComposite) (left : Option ℕ) (ended : Bool) → Progress r k o sp ts lines line left ended
+    → t.blank ≡ true → (ended ≡ true) ⊎ (fits_in left t.width ≡ false) → Progress r k o sp (ts ++ t ∷ []) lines line left true
+unfolding shape_ends
+progress_ends r k o sp ts t lines line left ended h blank why = record { shape = shape_ends r ts t left ended h.shape blank why; holds = h.holds; holds_line = h.holds_line }
+
+pub progress_begins : (r : Room) (k o : CompositeKind) (sp : Option Spacing) (ts : List Token) (t : Token) (lines new_lines : List FmtComposite) (line begun new : FmtComposite) (left : Option ℕ) (ended : Bool)
+    → Progress r k o sp ts lines line left ended → t.blank ≡ false → (ended ≡ true) ⊎ (fits_in left t.width ≡ false) → new_lines ≡ lines ++ line ∷ [] → IsBegun o r.other sp begun → AddsToken begun t new
+    → Progress r k o sp (ts ++ t ∷ []) new_lines new (left_of r.width (r.other + t.width)) false
+unfolding shape_begins
+progress_begins r k o sp ts t lines new_lines line begun new left ended h solid why pushed begins adds =
+    let s = h.shape in
+    let p : Piece Token = record { line = s.tokens; gap = s.gap } in
+    let held : HoldsTokens o r.other sp (t ∷ []) new = holds_more o r.other sp [] t begun new (holds_none o r.other sp begun begins) adds in
+    record {
+      shape = shape_begins r ts t left ended s solid why;
+      holds = subst (HoldPieces k o r.first r.other sp (s.pieces ++ p ∷ [])) (sym pushed) (holds_push r k o sp s.pieces lines p line h.holds h.holds_line);
+      holds_line = subst (λ q. HoldsTokens q (next_indent r (s.pieces ++ p ∷ [])) sp (t ∷ []) new) (sym (next_kind-push k o s.pieces p)) (subst (λ i. HoldsTokens o i sp (t ∷ []) new) (sym (next_indent-push r s.pieces p)) held);
+    }
+
 -- the end: the last line is whole
 pub placed_all : (r : Room) (k o : CompositeKind) (sp : Option Spacing) (ts : List Token) (lines new : List FmtComposite) (line : FmtComposite) (left : Option ℕ) (ended : Bool) → Progress r k o sp ts lines line left ended
     → new ≡ lines ++ line ∷ [] → ((ps : List (Piece Token)) → FittingBreak r ts ps → length new ≤ length ps) → ArePlacedLines r k o sp ts new
 placed_all r k o sp ts lines new line left ended h pushed least =
-    let p : Piece Token = record { line = h.tokens; gap = h.gap } in
+    let s = h.shape in
+    let p : Piece Token = record { line = s.tokens; gap = s.gap } in
     record {
-      pieces = h.pieces ++ p ∷ [];
-      covers = joined-push h.pieces p ∙ h.covers;
-      gaps = forced_push r h.pieces p h.gaps h.gap_blank h.forced_here;
-      holds = subst (HoldPieces k o r.first r.other sp (h.pieces ++ p ∷ [])) (sym pushed) (holds_push r k o sp h.pieces lines p line h.holds h.holds_line);
-      fits = λ room. fit_push r h.pieces p (h.fits room) (h.line_fits room) h.gap_blank;
-      some = λ room there. all_push (λ (q : Piece Token). 0 < length q.line) h.pieces p (h.some room) (h.some_here room there);
+      pieces = s.pieces ++ p ∷ [];
+      some_line = omega (arith, length-append s.pieces (p ∷ []));
+      covers = joined-push s.pieces p ∙ s.covers;
+      gaps = forced_push r s.pieces p s.gaps s.gap_blank s.forced_here;
+      forced = s.forced;
+      holds = subst (HoldPieces k o r.first r.other sp (s.pieces ++ p ∷ [])) (sym pushed) (holds_push r k o sp s.pieces lines p line h.holds h.holds_line);
+      fits = λ room. fit_push r s.pieces p (s.fits room) (s.line_fits room) s.gap_blank;
+      some = λ room there. all_push (λ (q : Piece Token). 0 < length q.line) s.pieces p (s.some room) (s.some_here room there);
       least = least;
     }
 
@@ -387,7 +446,7 @@ pub step_begins : (r : Room) (k o : CompositeKind) (sp : Option Spacing) (all : 
     → new_lines ≡ lines ++ line ∷ [] → new_n ≡ n + 1 → IsBegun o r.other sp begun → AddsToken begun (get_or all i d) new → new_left ≡ left_of r.width (r.other + (get_or all i d).width)
     → Progress r k o sp (take (i + 1) all) new_lines new new_left false × (place_all r (record { lines = new_n; left = new_left; ended = false }) (drop (i + 1) all) ≡ total)
 step_begins r k o sp all i d lines new_lines line begun new left new_left ended n new_n total l placed count hb h pushed counted begins adds room =
-    let next = progress_begins r k o sp (take i all) (get_or all i d) lines new_lines line begun new left ended placed h pushed begins adds in
+    let next = progress_begins r k o sp (take i all) (get_or all i d) lines new_lines line begun new left ended placed hb h pushed begins adds in
     let at_left = subst (λ t. Progress r k o sp (take i all ++ get_or all i d ∷ []) new_lines new t false) (sym room) next in (
       subst (λ ts. Progress r k o sp ts new_lines new new_left false) (sym (take_more all i d l)) at_left,
       ap (λ m. place_all r (record { lines = m; left = new_left; ended = false }) (drop (i + 1) all)) counted

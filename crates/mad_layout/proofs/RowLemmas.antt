@@ -1,12 +1,12 @@
 -- Rows: what their pieces paint, and how many columns they fill.
-use Rattle.std.proofs.Common.{◌≡◌, ℕ, zero, suc, ◌+◌, ◌-◌, ◌/◌, ◌≤◌, List, [], ◌∷◌, ◌++◌, map, length, length-append, replicate, Option, Some, None, refl, ap, sym, ◌∙◌, subst, arith, lit<, IsUtf8}
+use Rattle.std.proofs.Common.{◌≡◌, ℕ, zero, suc, ◌+◌, ◌-◌, ◌≤◌, List, [], ◌∷◌, ◌++◌, map, length, length-append, replicate, Some, refl, ap, sym, ◌∙◌, subst, arith, lit<}
 use Rattle.std.specs.Prelude.{unwrap_or, true}
-use Rattle.std.specs.List.{AllByRecursion, flat_map, sum_by}
+use Rattle.std.specs.List.{AllByRecursion, sum_by}
 use Rattle.std.specs.Str.{chars, IsAscii}
 use Rattle.std.proofs.lemmas.Str.Ascii.{IsAscii-cons, IsAscii-nil}
 use Rattle.std.proofs.lemmas.List.{length-replicate}
 use Rattle.std.proofs.lemmas.List.Sums.{sum_by-cons}
-use Rattle.std.proofs.lemmas.Str.{IsUtf8-from_ascii, chars-IsAscii, chars-nil}
+use Rattle.std.proofs.lemmas.Str.{IsUtf8-from_ascii, chars-IsAscii}
 use Rattle.mad_md.specs.declared.alignment.Alignment.{Alignment}
 use Rattle.mad_md.specs.declared.alignment.Alignment.TheVariants.{Unspecified, Left, Center, Right}
 use Rattle.mad_md.specs.declared.compound.Compound.{Compound}
@@ -28,11 +28,9 @@ use Rattle.mad_layout.specs.declared.skin.MadSkin.{MadSkin}
 use Rattle.mad_layout.specs.declared.composite.FmtComposite.{FmtComposite}
 use Rattle.mad_layout.specs.declared.line.FmtLine.TheVariants.{Normal}
 use Rattle.mad_layout.specs.Drawable.{IsShownPiece, AreShownPieces, pieces_columns, IsDrawable}
-use Rattle.mad_layout.specs.Indents.{indent}
 use Rattle.mad_layout.specs.Pieces.{RowPiece, AreKnown, pieces_bytes, pieces_cells, spaces}
-use Rattle.mad_layout.specs.Rows.{compound_piece, mark_pieces, left_of_place, right_of_place, align_in, place_of, inner_columns, inner_blanks, outer_blanks, margins_of, composite_pieces, line_pieces}
+use Rattle.mad_layout.specs.Rows.{compound_piece, mark_pieces, left_of_place, right_of_place, align_in, place_of, inner_columns, inner_blanks, outer_blanks, margins_of, line_pieces}
 use Rattle.mad_layout.specs.Styles.{line_style}
-use Rattle.mad_layout.specs.Wraps.{columns_of}
 
 -- ---- what pieces paint
 
@@ -80,10 +78,13 @@ spaces_columns style (suc n) =
 
 pub shown_spaces : (style : CompoundStyle) (n : ℕ) → AreShownPieces (spaces style n)
 shown_spaces style zero = tt
-shown_spaces style (suc n) = (record {
-  utf8 = IsUtf8-from_ascii (replicate (suc n) 32) (ascii_spaces (suc n));
-  shown = subst IsShown (sym (chars-IsAscii (replicate (suc n) 32) (ascii_spaces (suc n)))) (spaces_shown (suc n));
-}, tt)
+shown_spaces style (suc n) = (
+  record {
+    utf8 = IsUtf8-from_ascii (replicate (suc n) 32) (ascii_spaces (suc n));
+    shown = subst IsShown (sym (chars-IsAscii (replicate (suc n) 32) (ascii_spaces (suc n)))) (spaces_shown (suc n));
+  },
+  tt,
+)
 
 -- ---- compounds
 

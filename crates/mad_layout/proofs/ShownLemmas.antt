@@ -1,25 +1,24 @@
 -- What an area shows of the lines that were drawn in it.
-use Rattle.std.proofs.Common.{◌≡◌, ℕ, zero, suc, ◌+◌, ◌-◌, ◌^◌, ◌<◌, ◌≤◌, List, [], ◌∷◌, ◌++◌, map, length, drop, get_or, Option, Some, None, refl, ap, sym, ◌∙◌, subst, arith, append_assoc}
-use Rattle.std.specs.Prelude.{true, IsSome, slice_get, unwrap_or}
-use Rattle.std.specs.List.{AllByRecursion, flat_map}
+use Rattle.std.proofs.Common.{◌≡◌, ℕ, zero, suc, ◌+◌, ◌^◌, ◌<◌, List, [], ◌∷◌, ◌++◌, map, length, drop, get_or, Option, Some, None, refl, ap, sym, ◌∙◌, subst, arith, append_assoc}
+use Rattle.std.specs.Prelude.{IsSome, slice_get, unwrap_or}
+use Rattle.std.specs.List.{AllByRecursion}
 use Rattle.std.specs.Str.{chars}
 use Rattle.mad_term.specs.Columns.{char_columns}
 use Rattle.std.proofs.lemmas.List.{length-map}
 use Rattle.std.proofs.Math.ListN.{get_or-map}
 use Rattle.mad_term.specs.Drawing.{PaintRows, AreWide, ShowsRows, FitsArea, IsOutside}
 use Rattle.mad_term.specs.Glyph.{Glyph, Look}
-use Rattle.mad_term.specs.Grid.{Grid, IsGrid, plain_pen, cell_at, blank, glyphs}
-use Rattle.mad_term.specs.Painting.{attach, joined, cells_of, IsPrinted, IsWhole, IsShown, piece_cells, look_of_style}
-use Rattle.mad_term.specs.Terminal.{after_bytes}
+use Rattle.mad_term.specs.Grid.{blank, glyphs}
+use Rattle.mad_term.specs.Painting.{attach, joined, IsPrinted, IsShown, look_of_style}
 use Rattle.mad_term.proofs.DrawingLemmas.{drawn}
 use Rattle.mad_fit.specs.declared.area.Area.{Area}
 use Rattle.mad_layout.specs.declared.skin.MadSkin.{MadSkin}
 use Rattle.mad_layout.specs.declared.line.FmtLine.{FmtLine}
 use Rattle.mad_layout.specs.declared.line.FmtLine.TheVariants.{Normal}
-use Rattle.mad_layout.specs.Drawable.{IsShownPiece, AreShownPieces, IsDrawableLine, AreDrawable, pieces_columns}
+use Rattle.mad_layout.specs.Drawable.{AreShownPieces, AreDrawable, pieces_columns}
 use Rattle.mad_layout.specs.Pieces.{RowPiece, PennedChar, AreKnown, pieces_bytes, pieces_cells, penned_chars}
 use Rattle.mad_layout.specs.Rows.{row_pieces, row_of}
-use Rattle.mad_layout.specs.Shown.{rows_from, area_bytes, row_joined, row_cells, ShowsInArea, IsOnScreen, AreShownIn}
+use Rattle.mad_layout.specs.Shown.{rows_from, area_bytes, row_joined, row_cells, AreShownIn}
 use Rattle.mad_layout.proofs.RowLemmas.{pieces_paint, length-pieces_cells, spaces_columns, shown_spaces, line_columns, line_shown}
 
 -- ---- a row
@@ -82,7 +81,6 @@ some_columns (Some n) pen c r h = refl
 joined_by_columns : (pen : Look) (c : ℕ) (cs : List ℕ) → IsPrinted (c ∷ cs) → joined pen (c ∷ cs) ≡ attach (Some (char_columns c)) pen c (joined pen cs)
 unfolding char_columns
 joined_by_columns pen c cs h = some_columns _ pen c (joined pen cs) h.0
-
 
 attach-append : (n : ℕ) (pen : Look) (c : ℕ) (r : List ℕ × List Glyph) (rest : List Glyph) → attach (Some n) pen c (r.0, r.1 ++ rest) ≡ ((attach (Some n) pen c r).0, (attach (Some n) pen c r).1 ++ rest)
 attach-append zero pen c r rest = refl

@@ -85,7 +85,7 @@ whole_behind : (max w : ℕ) (blank b : Bool) (xs ys : List FlaggedChar) → 0 <
 whole_behind max w blank b xs [] some alike narrow stops joined = tt
 whole_behind max w blank b xs (y ∷ ys) some alike narrow stops joined =
     positive (char_columns y.char) (λ none.
-      none_widthless max w blank xs ys y some alike narrow stops none (joined.0 none).0 (sym (behind_alike b blank xs some alike.alike) ∙ (joined.0 none).1))
+    none_widthless max w blank xs ys y some alike narrow stops none (joined.0 none).0 (sym (behind_alike b blank xs some alike.alike) ∙ (joined.0 none).1))
 
 -- the text in front is shown, and where the next begins the rest is as this was
 cut_rest : (max w : ℕ) (blank : Bool) (xs ys : List FlaggedChar) → 0 < length xs → IsAlike max blank w xs → StopsBefore max blank w ys → IsRest max (xs ++ ys)
@@ -94,15 +94,16 @@ cut_rest max w blank xs ys some alike stops h =
     let cut : plain_text (xs ++ ys) ≡ plain_text xs ++ plain_text ys = map-append (λ (x : FlaggedChar). x.char) xs ys in
     let printed : IsPrinted (plain_text xs ++ plain_text ys) = subst IsPrinted cut h.printed in
     let whole : IsWhole (plain_text xs ++ plain_text ys) = subst IsWhole cut h.whole in
-    let joined : AreJoined (behind h.ahead xs) ys = joined_back h.ahead xs ys h.joined in
-    (record { printed = printed_front (plain_text xs) (plain_text ys) printed; whole = whole_front (plain_text xs) (plain_text ys) whole },
-     record {
-       printed = printed_back (plain_text xs) (plain_text ys) printed;
-       whole = whole_behind max w blank h.ahead xs ys some alike (all_front (λ x. char_columns x.char ≤ max) xs ys h.narrow) stops joined;
-       ahead = behind h.ahead xs;
-       joined = joined;
-       narrow = all_back (λ x. char_columns x.char ≤ max) xs ys h.narrow;
-     })
+    let joined : AreJoined (behind h.ahead xs) ys = joined_back h.ahead xs ys h.joined in (
+      record { printed = printed_front (plain_text xs) (plain_text ys) printed; whole = whole_front (plain_text xs) (plain_text ys) whole },
+      record {
+        printed = printed_back (plain_text xs) (plain_text ys) printed;
+        whole = whole_behind max w blank h.ahead xs ys some alike (all_front (λ x. char_columns x.char ≤ max) xs ys h.narrow) stops joined;
+        ahead = behind h.ahead xs;
+        joined = joined;
+        narrow = all_back (λ x. char_columns x.char ≤ max) xs ys h.narrow;
+      },
+    )
 
 -- ---- runs that are shown
 
@@ -123,9 +124,10 @@ shown_from : (max start : ℕ) (p : Compound) (ts : List Token) → AreTokensFro
 shown_from max start p [] h rest = tt
 shown_from max start p (t ∷ ts) (first, more) rest =
     let cut = cut_rest max t.width t.blank (flagged_token t) (flagged (flags_of p) (chars (drop t.end_in_compound p.src.now))) (some_flagged t first.place) first.alike first.stops
-        (subst (IsRest max) (text_at max start p t first) rest) in
-    (record { utf8 = first.place.utf8; shown = subst IsShown (plain-flagged (flags_of t.compound) (chars (token_text t))) cut.0 },
-     shown_from max t.end_in_compound p ts more cut.1)
+    (subst (IsRest max) (text_at max start p t first) rest) in (
+      record { utf8 = first.place.utf8; shown = subst IsShown (plain-flagged (flags_of t.compound) (chars (token_text t))) cut.0 },
+      shown_from max t.end_in_compound p ts more cut.1,
+    )
 
 rest_at_start : (max : ℕ) (p : Compound) → IsPlainRun (run_of p) → AllByRecursion (λ x. char_columns x.char ≤ max) (flagged_of p) → IsRest max (flagged_of p)
 rest_at_start max p h narrow =
@@ -187,9 +189,9 @@ same_or_not true true = inl refl
 takes : (max width : ℕ) (blank : Bool) (x : FlaggedChar) → Takes max blank width x
 takes max width blank x = elim (same_or_not (is_blank x) blank) as (λ _. Takes max blank width x) [
   | inl same ↦ elim (cases_lt max (width + char_columns x.char)) as (λ _. Takes max blank width x) [
-      | inl passes ↦ inr (inr passes)
-      | inr fits ↦ inl (same, fits)
-    ]
+    | inl passes ↦ inr (inr passes)
+    | inr fits ↦ inl (same, fits)
+  ]
   | inr differs ↦ inr (inl differs)
 ]
 
@@ -244,18 +246,20 @@ end_inside max start end width p blank cs h = omega (arith, h.some, h.inside, h.
 tokens_from : (max : ℕ) (p : Compound) (cs : List ℕ) (start end width : ℕ) (blank : Bool) → IsOpen max p start end width blank cs → (ts : List Token) × AreTokensFrom max p start ts
 tokens_from max p [] start end width blank h =
     let there = open_rest max start end width p blank [] h in
-    let none : length (drop end p.src.now) ≡ 0 = empty (drop end p.src.now) (subst IsUtf8 there h.front.rest) h.follows in
-    (record { compound = p; blank = blank; width = width; start_in_compound = start; end_in_compound = end } ∷ [],
-     (ended max start end width p blank [] h tt, omega (arith, none, end_inside max start end width p blank [] h, length-drop end p.src.now)))
+    let none : length (drop end p.src.now) ≡ 0 = empty (drop end p.src.now) (subst IsUtf8 there h.front.rest) h.follows in (
+      record { compound = p; blank = blank; width = width; start_in_compound = start; end_in_compound = end } ∷ [],
+      (ended max start end width p blank [] h tt, omega (arith, none, end_inside max start end width p blank [] h, length-drop end p.src.now)),
+    )
 tokens_from max p (c ∷ cs) start end width blank h =
     elim (takes max width blank (record { char = c; flags = flags_of p })) as (λ _. (ts : List Token) × AreTokensFrom max p start ts) [
       | inl more ↦ tokens_from max p cs start (end + len_utf8 c) (width + char_columns c) blank (open_more max start end width p blank c cs h more.0 more.1)
       | inr stops ↦
           let utf8 : IsUtf8 (drop end p.src.now) = subst IsUtf8 (open_rest max start end width p blank (c ∷ cs) h) h.front.rest in
           let others = tokens_from max p cs end (end + len_utf8 c) (char_columns c) (is_blank (record { char = c; flags = flags_of p }))
-              (open_new max end p c cs (end_inside max start end width p blank (c ∷ cs) h) utf8 h.follows) in
-          (record { compound = p; blank = blank; width = width; start_in_compound = start; end_in_compound = end } ∷ others.0,
-           (ended max start end width p blank (c ∷ cs) h stops, others.1))
+          (open_new max end p c cs (end_inside max start end width p blank (c ∷ cs) h) utf8 h.follows) in (
+            record { compound = p; blank = blank; width = width; start_in_compound = start; end_in_compound = end } ∷ others.0,
+            (ended max start end width p blank (c ∷ cs) h stops, others.1),
+          )
     ]
 
 tokens_at_start : (max : ℕ) (p : Compound) (cs : List ℕ) → IsUtf8 p.src.now → chars p.src.now ≡ cs → (ts : List Token) × AreTokensFrom max p 0 ts

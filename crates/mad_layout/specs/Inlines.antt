@@ -1,5 +1,5 @@
 -- Inline texts and composites that stand by themselves.
-use Rattle.std.specs.Prelude.{◌≡◌, ℕ, List, None, Result, map}
+use Rattle.std.specs.Prelude.{◌≡◌, ℕ, List, None, false, Result, map}
 use Rattle.mad_md.specs.Flagged.{run_of, run_at}
 use Rattle.mad_md.specs.Inline.{Item, IsInlineReading, runs}
 use Rattle.mad_md.specs.declared.composite.Composite.{Composite}
@@ -8,7 +8,7 @@ use Rattle.mad_term.specs.Trace.{Trace}
 use Rattle.mad_term.specs.declared.errors.Error.{Error}
 use Rattle.mad_style.specs.Kinds.{kind_of}
 use Rattle.mad_layout.specs.Pieces.{pieces_bytes}
-use Rattle.mad_layout.specs.Rows.{free_pieces}
+use Rattle.mad_layout.specs.Rows.{composite_pieces, free_pieces, margins_of}
 use Rattle.mad_md.specs.ReadInline.{IsReadInline}
 use Rattle.mad_style.specs.declared.kinds.CompositeKind.TheVariants.{Paragraph}
 use Rattle.mad_layout.specs.Wraps.{IsMeasured}
@@ -34,3 +34,7 @@ inline_bytes skin src items = pieces_bytes (free_pieces skin Paragraph (map (run
 -- What a call does that writes a line of text: it draws the bytes of each reading of the line. (There is exactly one.)
 abbrev pub WritesInline : {T : Type 0} → MadSkin → List ℕ → Trace → Result T Error → Trace → Type 0
 WritesInline skin src old r new = (items : List Item) → IsInlineReading src items → Draws old (inline_bytes skin src items) r new
+
+-- the line is displayed by the bytes that are written of it
+abbrev pub IsDisplayedAsWritten : MadSkin → List ℕ → FmtComposite → Type 0
+IsDisplayedAsWritten skin src l = (items : List Item) → IsInlineReading src items → pieces_bytes (composite_pieces skin None (margins_of skin None l) false l) ≡ inline_bytes skin src items

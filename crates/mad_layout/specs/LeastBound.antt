@@ -1,9 +1,14 @@
 -- How many lines each fitting break has at least, and that some has no more.
-use Rattle.std.specs.Prelude.{◌≡◌, ℕ, ◌≤◌, List, length}
+use Rattle.std.specs.Prelude.{◌≡◌, ℕ, ◌+◌, ◌≤◌, ◌<◌, ◌==◌, ◌&&◌, Bool, true, false, if◌then◌else◌, List, [], ◌∷◌, length, take}
+use Rattle.mad_md.specs.Flagged.{FlaggedChar, flagged_text}
 use Rattle.mad_md.specs.declared.compound.Compound.{Compound}
 use Rattle.mad_fit.specs.declared.tokens.Token.{Token}
-use Rattle.mad_layout.specs.Breaks.{Piece, FittingBreak, EndsWithLine}
+use Rattle.mad_fit.specs.Columns.{width_of}
+use Rattle.mad_layout.specs.Bounds.{are_starts}
+use Rattle.mad_layout.specs.Breaks.{Piece, FittingBreak, EndsWithLine, total_width}
+use Rattle.mad_layout.specs.CleanCut.{is_cut_clean}
 use Rattle.mad_layout.specs.LeastWrap.{AreTokensIn}
+use Rattle.mad_layout.specs.Wraps.{AreFull, LinesFit}
 use Rattle.mad_layout.specs.declared.room.Room.{Room}
 
 -- each fitting break of the compounds' tokens that ends with its last line has at least n lines
@@ -13,3 +18,30 @@ IsBound r ps n = (ts : List Token) → AreTokensIn r ps ts → (breaks : List (P
 -- one has just so many
 abbrev pub IsAttained : Room → List Compound → ℕ → Type 0
 IsAttained r ps n = (ts : List Token) → AreTokensIn r ps ts → (breaks : List (Piece Token)) × FittingBreak r ts breaks × EndsWithLine breaks × (length breaks ≡ n)
+
+-- one where a last line has blanks dropped after it, none else
+abbrev pub dropped_at_end : List (Piece Token) → ℕ
+dropped_at_end [] = 0
+dropped_at_end (p ∷ []) = if length p.gap == 0 then 0 else 1
+dropped_at_end (p ∷ q ∷ ps) = dropped_at_end (q ∷ ps)
+
+-- a clean cut drops a middle in code
+abbrev pub drops_code : Room → List Compound → Bool
+drops_code r (front ∷ middle ∷ back ∷ []) = is_cut_clean r (front ∷ middle ∷ back ∷ []) && middle.code
+drops_code r _ = false
+
+-- The starts of the lines of a wrap of the compounds, where each character has room.
+pub record AreStartsOf (r : Room) (ps : List Compound) (starts : List ℕ) : Type 0 where
+  -- the checker says yes to them
+  pub checked : (ts : List Token) → AreTokensIn r ps ts → are_starts r ts starts ≡ true
+  -- so each fitting break has at least as many lines
+  pub bound : IsBound r ps (length starts)
+  -- and one has just so many, but where a clean cut drops a middle in code
+  pub attained : drops_code r ps ≡ false → IsAttained r ps (length starts)
+  -- there are as many as lines, and one more where blanks are dropped after the last
+  pub lines : is_cut_clean r ps ≡ false → (ts : List Token) → AreTokensIn r ps ts → (lines : List (List FlaggedChar)) → (full : AreFull r ts lines) → LinesFit r.first r lines
+      → length starts ≡ length lines + dropped_at_end full.placed.pieces
+  -- in a clean cut of a text that doesn't fit, there are two, the second being the first token with which the tokens pass the first line
+  pub cut : is_cut_clean r ps ≡ true → r.width < r.first + width_of (flagged_text ps) → (ts : List Token) → AreTokensIn r ps ts → (i : ℕ) × (starts ≡ 0 ∷ i ∷ []) × (r.first + total_width (take i ts) ≤ r.width)
+  -- a text that fits has one
+  pub whole : r.first + width_of (flagged_text ps) ≤ r.width → starts ≡ 0 ∷ []

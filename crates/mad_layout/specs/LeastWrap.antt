@@ -1,5 +1,5 @@
 -- Wrapping with the fewest lines: what a composite that doesn't fit is wrapped into, at a width.
-use Rattle.std.specs.Prelude.{◌≡◌, ℕ, ◌-◌, ◌<◌, ◌≤◌, false, List, map, length, None}
+use Rattle.std.specs.Prelude.{◌≡◌, ℕ, ◌-◌, ◌<◌, ◌≤◌, true, false, List, map, length, None}
 use Rattle.std.specs.List.{AllByRecursion}
 use Rattle.mad_md.specs.declared.compound.Compound.{Compound}
 use Rattle.mad_fit.specs.Tokens.{AreTokensOf}
@@ -8,7 +8,7 @@ use Rattle.mad_layout.specs.Breaks.{Piece, FittingBreak, EndsWithLine}
 use Rattle.mad_layout.specs.CleanCut.{is_cut_clean, drops_middle}
 use Rattle.mad_layout.specs.Indents.{follow_up, room_of}
 use Rattle.mad_layout.specs.Keeps.{Keeps}
-use Rattle.mad_layout.specs.Wraps.{text_of, IsMeasured, HasRoom, LinesFit, HaveKinds, NoneEmpty, IsMadeOf, ArePlaced}
+use Rattle.mad_layout.specs.Wraps.{text_of, IsMeasured, HasRoom, LinesFit, HaveKinds, NoneEmpty, IsMadeOf, ArePlaced, AreFull}
 use Rattle.mad_layout.specs.declared.room.Room.{Room}
 use Rattle.mad_layout.specs.declared.skin.MadSkin.{MadSkin}
 use Rattle.mad_layout.specs.declared.composite.FmtComposite.{FmtComposite}
@@ -23,6 +23,10 @@ pub record IsLeastBreak (r : Room) (ps : List Compound) (ts : List Token) (lines
   pub parts : AllByRecursion (IsMadeOf ps ts) lines
   -- but where a clean cut drops a middle, only blank tokens are dropped, and these only behind a line that is full
   pub placed : drops_middle r ps ≡ false → ArePlaced r ts (map text_of lines)
+  -- and but where the text is cut clean, no line ends before it must
+  pub full : is_cut_clean r ps ≡ false → AreFull r ts (map text_of lines)
+  -- a clean cut makes two lines
+  pub cut : is_cut_clean r ps ≡ true → length lines ≡ 2
   -- no fitting break that ends with its last line has fewer lines
   pub least : (breaks : List (Piece Token)) → FittingBreak r ts breaks → EndsWithLine breaks → length lines ≤ length breaks
   -- nor has one that drops blanks after its last line, but where the text is cut clean
@@ -36,6 +40,8 @@ pub record IsWrapIn (r : Room) (skin : MadSkin) (source : FmtComposite) (lines :
   pub fits : HasRoom r (text_of source) → LinesFit r.first r (map text_of lines)
   -- with room, and where no compound is empty, each line has a character
   pub some : HasRoom r (text_of source) → NoneEmpty source.compounds.items → AllByRecursion (λ l. 0 < length (text_of l)) lines
+  -- no compound is empty where none of the source is
+  pub none_empty : NoneEmpty source.compounds.items → AllByRecursion (λ l. NoneEmpty l.compounds.items) lines
   -- with the fewest lines
   pub least : (ts : List Token) → AreTokensIn r source.compounds.items ts → IsLeastBreak r source.compounds.items ts lines
   pub kinds : HaveKinds source.kind (follow_up source.kind) lines

@@ -19,5 +19,6 @@ pub mod Shown
 pub mod SkinParts
 pub mod Skins
 pub mod Styles
+pub mod Texts
 pub mod WrappedLines
 pub mod Wraps

@@ -1,5 +1,5 @@
 -- Lines that hold tokens, for the private calls that place them.
-use Rattle.std.specs.Prelude.{◌≡◌, ℕ, ◌+◌, ◌<◌, ◌≤◌, List, [], ◌∷◌, map, length, Option, None}
+use Rattle.std.specs.Prelude.{◌≡◌, ℕ, ◌+◌, ◌<◌, ◌≤◌, ◌⊎◌, ◌==◌, if◌then◌else◌, List, [], ◌∷◌, ◌++◌, map, length, take, Option, None}
 use Rattle.std.specs.List.{AllByRecursion}
 use Rattle.std.specs.Str.{IsUtf8}
 use Rattle.mad_md.specs.Flagged.{run_of, flagged_of}
@@ -12,7 +12,7 @@ use Rattle.mad_fit.specs.Tokens.{token_run}
 use Rattle.mad_layout.specs.declared.room.Room.{Room}
 use Rattle.mad_layout.specs.declared.composite.FmtComposite.{FmtComposite}
 use Rattle.mad_layout.specs.Breaks.{Piece, joined, total_width, FitsFrom, FittingBreak}
-use Rattle.mad_layout.specs.Wraps.{capped, GapsForced}
+use Rattle.mad_layout.specs.Wraps.{capped, GapsForced, LinesForced}
 
 -- the line holds these tokens, behind an indent
 pub record HoldsTokens (kind : CompositeKind) (indent : ℕ) (spacing : Option Spacing) (ts : List Token) (l : FmtComposite) : Type 0 where
@@ -42,8 +42,10 @@ SomeOnEach ps = AllByRecursion (λ p. 0 < length p.line) ps
 -- the tokens are placed on these lines
 pub record ArePlacedLines (r : Room) (kind other : CompositeKind) (spacing : Option Spacing) (ts : List Token) (lines : List FmtComposite) : Type 0 where
   pub pieces : List (Piece Token)
+  pub some_line : 0 < length pieces
   pub covers : joined pieces ≡ ts
   pub gaps : GapsForced r.first r pieces
+  pub forced : LinesForced r.first r pieces
   pub holds : HoldPieces kind other r.first r.other spacing pieces lines
   pub fits : TokensHaveRoom r ts → FitsFrom r.first r pieces
   pub some : TokensHaveRoom r ts → 0 < length ts → SomeOnEach pieces
@@ -65,3 +67,37 @@ pub record AreTwoLines (r : Room) (kind other : CompositeKind) (spacing : Option
   pub lines_are : lines ≡ first ∷ second ∷ []
   pub holds_first : HoldsCompound kind r.first spacing front first
   pub holds_second : HoldsCompound other r.other spacing back second
+
+-- the numbers of the tokens that begin the lines of pieces, the first of which begins at the n-th token
+abbrev pub starts_from : ℕ → List (Piece Token) → List ℕ
+starts_from n [] = []
+starts_from n (p ∷ ps) = n ∷ starts_from (n + (length p.line + length p.gap)) ps
+
+-- the number of the first token that is dropped after a last line which begins at the n-th token, if one is
+abbrev pub dropped_after : ℕ → Piece Token → List ℕ
+dropped_after n p = if length p.gap == 0 then [] else (n + length p.line) ∷ []
+
+abbrev pub dropped_from : ℕ → List (Piece Token) → List ℕ
+dropped_from n [] = []
+dropped_from n (p ∷ []) = dropped_after n p
+dropped_from n (p ∷ q ∷ ps) = dropped_from (n + (length p.line + length p.gap)) (q ∷ ps)
+
+-- these tokens begin the lines of a placing, and the last is the first that is dropped at its end, if one is
+pub record ArePlacedStarts (r : Room) (ts : List Token) (starts : List ℕ) : Type 0 where
+  pub pieces : List (Piece Token)
+  pub some_line : 0 < length pieces
+  pub covers : joined pieces ≡ ts
+  pub gaps : GapsForced r.first r pieces
+  pub forced : LinesForced r.first r pieces
+  pub fits : TokensHaveRoom r ts → FitsFrom r.first r pieces
+  pub starts_are : TokensHaveRoom r ts → starts ≡ starts_from 0 pieces ++ dropped_from 0 pieces
+
+-- the first token with which the tokens from the first on pass the first line, if one is
+pub record IsFirstPast (r : Room) (ts : List Token) (i : ℕ) : Type 0 where
+  pub inside : i < length ts
+  pub before : r.first ≤ r.width → r.first + total_width (take i ts) ≤ r.width
+  pub passes : r.width < r.first + total_width (take (i + 1) ts)
+
+-- the starts of a clean cut in a first line with room: 0, and the first token that passes the line, if one does
+abbrev pub AreCutStarts : Room → List Token → List ℕ → Type 0
+AreCutStarts r ts starts = ((r.first + total_width ts ≤ r.width) × (starts ≡ 0 ∷ [])) ⊎ ((i : ℕ) × IsFirstPast r ts i × (0 < i → starts ≡ 0 ∷ i ∷ []))

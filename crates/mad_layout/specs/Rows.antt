@@ -81,9 +81,10 @@ align_in (Some s) = s.align
 
 -- the blank columns left and right of a line in its own place, by its cached length
 abbrev pub inner_blanks : FmtComposite → ℕ × ℕ
-inner_blanks l =
-    (left_of_place (align_in l.spacing) l.visible_length (place_of l.spacing),
-     right_of_place (align_in l.spacing) l.visible_length (place_of l.spacing))
+inner_blanks l = (
+  left_of_place (align_in l.spacing) l.visible_length (place_of l.spacing),
+  right_of_place (align_in l.spacing) l.visible_length (place_of l.spacing),
+)
 
 -- the columns of a line with its own place
 abbrev pub inner_columns : FmtComposite → ℕ
@@ -91,9 +92,10 @@ inner_columns l = unwrap_or (place_of l.spacing) l.visible_length
 
 -- the blank columns left and right of a line's own place at an outer width, with these margins
 abbrev pub outer_blanks : Alignment → Option ℕ → ℕ × ℕ → FmtComposite → ℕ × ℕ
-outer_blanks align outer margins l =
-    (left_of_place align (inner_columns l + margins.0 + margins.1) outer + margins.0,
-     right_of_place align (inner_columns l + margins.0 + margins.1) outer + margins.1)
+outer_blanks align outer margins l = (
+  left_of_place align (inner_columns l + margins.0 + margins.1) outer + margins.0,
+  right_of_place align (inner_columns l + margins.0 + margins.1) outer + margins.1,
+)
 
 -- the margins of a line: those of its layout, else those of its style at the outer width
 abbrev pub margins_of : MadSkin → Option ℕ → FmtComposite → ℕ × ℕ

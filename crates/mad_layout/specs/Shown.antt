@@ -1,5 +1,5 @@
 -- What an area shows of lines that were drawn in it.
-use Rattle.std.specs.Prelude.{◌≡◌, ℕ, zero, suc, ◌+◌, ◌<◌, ◌≤◌, List, [], ◌∷◌, map, drop, Option, Some, None, slice_get, slice_index_or}
+use Rattle.std.specs.Prelude.{◌≡◌, ℕ, zero, suc, ◌+◌, ◌<◌, ◌≤◌, List, [], ◌∷◌, map, drop, Some, None, slice_get, slice_index_or}
 use Rattle.mad_term.specs.Drawing.{drawing, IsOutside}
 use Rattle.mad_term.specs.Glyph.{Glyph}
 use Rattle.mad_term.specs.Grid.{Grid, IsGrid, plain_pen, cell_at, blank}

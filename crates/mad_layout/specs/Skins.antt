@@ -27,7 +27,7 @@ default_skin =
       ordered_item_styles = replicate 4 (record { index_style = plain_style; index_suffix = colored_char (AnsiValue 244) 46 });
       quote_mark = default_quote;
       ellipsis = plain_style;
-      list_items_indentation_mode = Block
+      list_items_indentation_mode = Block;
     }
 
 -- the same marks, without style
@@ -45,5 +45,5 @@ no_style_skin =
       ordered_item_styles = replicate 4 (record { index_style = plain_style; index_suffix = styled_char plain_style 46 });
       quote_mark = styled_char plain_style 0x2590;
       ellipsis = plain_style;
-      list_items_indentation_mode = Block
+      list_items_indentation_mode = Block;
     }

@@ -1,5 +1,5 @@
 -- What a composite is wrapped into.
-use Rattle.std.specs.Prelude.{◌≡◌, ℕ, ◌+◌, ◌-◌, ◌^◌, ◌<◌, ◌≤◌, min, List, [], ◌∷◌, ◌++◌, map, length, Contains}
+use Rattle.std.specs.Prelude.{◌≡◌, ℕ, ◌+◌, ◌-◌, ◌^◌, ◌<◌, ◌≤◌, min, false, List, [], ◌∷◌, ◌++◌, map, length, Contains}
 use Rattle.std.specs.List.{AllByRecursion}
 use Rattle.mad_term.specs.Columns.{char_columns}
 use Rattle.mad_md.specs.Flagged.{FlaggedChar, run_of, flagged_text}
@@ -61,6 +61,26 @@ GapsForced indent r (p ∷ ps) = AllBlank p.gap × ((t : Token) (others : List T
 -- The tokens stand on these lines, in order, but for blank ones behind a line that is full.
 pub record ArePlaced (r : Room) (ts : List Token) (lines : List (List FlaggedChar)) : Type 0 where
   pub pieces : List (Piece Token)
+  pub some_line : 0 < length pieces
   pub covers : joined pieces ≡ ts
   pub texts : map (λ p. tokens_text p.line) pieces ≡ lines
   pub gaps : GapsForced r.first r pieces
+
+-- a line begins with a token that isn't blank, and that doesn't fit behind the line before it with what is dropped between them
+pub record BeginsAfter (indent : ℕ) (r : Room) (before p : Piece Token) : Type 0 where
+  pub first : Token
+  pub others : List Token
+  pub begins : p.line ≡ first ∷ others
+  pub solid : first.blank ≡ false
+  pub passes : r.width < indent + total_width before.line + total_width before.gap + first.width
+
+-- each line but the first begins so
+abbrev pub LinesForced : ℕ → Room → List (Piece Token) → Type 0
+LinesForced indent r [] = Unit {0}
+LinesForced indent r (p ∷ []) = Unit {0}
+LinesForced indent r (p ∷ q ∷ ps) = BeginsAfter indent r p q × LinesForced r.other r (q ∷ ps)
+
+-- The tokens stand on these lines, and no line ends before it must.
+pub record AreFull (r : Room) (ts : List Token) (lines : List (List FlaggedChar)) : Type 0 where
+  pub placed : ArePlaced r ts lines
+  pub forced : LinesForced r.first r placed.pieces

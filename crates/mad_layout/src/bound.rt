@@ -1,10 +1,12 @@
-ghost use Rattle.std.specs.Prelude.{◌≡◌, ◌≤◌, ◌<◌, ◌+◌, ◌↔◌, List, length, IfOk, IfErr, IsTrue, nat_lt, slice_get};
+ghost use Rattle.std.specs.Prelude.{◌≡◌, ℕ, ◌≤◌, ◌<◌, ◌+◌, ◌∷◌, ◌++◌, [], MatchOption, OnOk, List, length, IfOk, IfErr, IsTrue, nat_lt, slice_get};
 ghost use Rattle.mad_fit.specs.declared.tokens.Token.{Token};
 ghost use Rattle.mad_layout.specs.Breaks.{Piece, FittingBreak, EndsWithLine, total_width};
 ghost use Rattle.mad_layout.specs.Bounds.{are_starts, are_starts_from, is_blank_token};
 ghost use Rattle.mad_layout.specs.Indents.{room_of};
 ghost use Rattle.mad_layout.specs.LeastWrap.{AreTokensIn};
-ghost use Rattle.mad_layout.specs.LeastBound.{IsBound};
+ghost use Rattle.mad_layout.specs.LeastBound.{IsBound, AreStartsOf};
+ghost use Rattle.mad_layout.specs.PlacedLines.{ArePlacedStarts, AreCutStarts, IsFirstPast};
+ghost use Rattle.mad_layout.specs.Wraps.{HasRoom, text_of};
 ghost use Rattle.mad_term.specs.declared.errors.Error.TheVariants.{InsufficientWidth, Memory};
 
 use crate::clean_cut::clean_cut;
@@ -23,19 +25,28 @@ pub struct WrapBound {
     pub starts: Vec<usize>,
 }
 
-/// Starts that show how many lines each fitting break of the composite has at least.
+/// Starts that show how many lines each break of the composite has at least that fits in `width` columns.
+///
+/// Where each character has room, there are as many as `hard_wrap_composite` gives lines, and one more where that drops
+/// blanks after the last; a composite that fits has one. A width under 3 is refused. One pass over the text.
 pub fn wrap_bound(
     alloc: Global,
     composite: &FmtComposite,
     width: usize,
     skin: &MadSkin,
 ) -> Result<WrapBound, Error>
+    ensures starts { HasRoom (room_of skin.now composite.now.kind width) (text_of composite.now)
+        → IfOk result (λ bound. AreStartsOf (room_of skin.now composite.now.kind width) composite.now.compounds.items bound.starts.items) }
+    ensures refused { width < 3 → result ≡ Err (InsufficientWidth (record { available_width = width })) }
+    ensures memory { 3 ≤ width → IfErr result (λ e. e ≡ Memory) }
 {
     if width < 3 {
-        return Err(Error::InsufficientWidth(InsufficientWidthError { available_width: width }));
+        return Err(Error::InsufficientWidth(InsufficientWidthError {
+            available_width: width,
+        }));
     }
     let room = Room::of(skin, composite.kind, width);
-    let tokens = tokenize(alloc, &composite.compounds, room.width.saturating_sub(room.first))?;
+    let tokens = tokenize(alloc, &composite.compounds, room.token_limit())?;
     let starts = match clean_cut(&composite.compounds, room) {
         Some(_) => cut_starts(alloc, &tokens, room)?,
         None => line_starts(alloc, &tokens, room)?,
@@ -44,24 +55,35 @@ pub fn wrap_bound(
 }
 
 // The starts of a clean cut: 0, and the first token with which the tokens pass the first line.
-fn cut_starts(alloc: Global, tokens: &[Token], room: Room) -> Result<Vec<usize>, AllocError> {
+fn cut_starts(alloc: Global, tokens: &[Token], room: Room) -> Result<Vec<usize>, AllocError>
+    ensures { IfOk result (λ starts. room.first ≤ room.width → AreCutStarts room tokens.now starts.items) }
+{
     let mut starts = Vec::new(alloc);
     starts.push(0)?;
-    let mut left = left_of(room.width, room.first);
-    for (i, token) in tokens.iter().enumerate() {
-        let Some(after) = left_with(left, false, token.width) else {
-            if i > 0 {
-                starts.push(i)?;
-            }
-            return Ok(starts);
-        };
-        left = Some(after);
+    if let Some(i) = first_past(tokens, room) {
+        push_start(&mut starts, i)?;
     }
     Ok(starts)
 }
 
+// The first token with which the tokens from the first on pass the first line.
+fn first_past(tokens: &[Token], room: Room) -> Option<usize>
+    ensures { MatchOption result (room.first ≤ room.width → room.first + total_width tokens.now ≤ room.width) (IsFirstPast room tokens.now) }
+{
+    let mut left = left_of(room.width, room.first);
+    for (i, token) in tokens.iter().enumerate() {
+        let Some(after) = left_with(left, false, token.width) else {
+            return Some(i);
+        };
+        left = Some(after);
+    }
+    None
+}
+
 // The tokens that begin the lines, and the first of the blanks that are dropped at the end.
-fn line_starts(alloc: Global, tokens: &[Token], room: Room) -> Result<Vec<usize>, AllocError> {
+fn line_starts(alloc: Global, tokens: &[Token], room: Room) -> Result<Vec<usize>, AllocError>
+    ensures { IfOk result (λ starts. ArePlacedStarts room tokens.now starts.items) }
+{
     let mut starts = Vec::new(alloc);
     starts.push(0)?;
     let mut left = left_of(room.width, room.first);
@@ -73,10 +95,7 @@ fn line_starts(alloc: Global, tokens: &[Token], room: Room) -> Result<Vec<usize>
                 dropped = dropped.or(Some(i));
                 continue;
             }
-            // Where there is no room for the very first token, it begins the second line, and the first line has none.
-            if i > 0 {
-                starts.push(i)?;
-            }
+            push_start(&mut starts, i)?;
             left = left_after(room, token.width);
             dropped = None;
             continue;
@@ -84,14 +103,27 @@ fn line_starts(alloc: Global, tokens: &[Token], room: Room) -> Result<Vec<usize>
         left = Some(after);
     }
     if let Some(first) = dropped {
-        if first > 0 {
-            starts.push(first)?;
-        }
+        push_start(&mut starts, first)?;
     }
     Ok(starts)
 }
 
-/// Whether these starts show that each fitting break of the composite has at least as many lines.
+// Puts a start behind the others. The very first token is a start already: where there is no room for it, it begins the
+// second line, and the first line has none.
+fn push_start(starts: &mut Vec<usize>, start: usize) -> Result<(), AllocError>
+    ensures { OnOk result (0 < start → starts.new.items ≡ starts.old.items ++ start ∷ []) }
+{
+    if start > 0 {
+        starts.push(start)?;
+    }
+    Ok(())
+}
+
+/// Whether these starts show that each break of the composite that fits in `width` columns has at least as many lines.
+///
+/// They do if they begin with 0, rise, are numbers of tokens (0 always is), all but the first and the last of tokens that
+/// aren't blank, and the tokens from each start up to and with the next are wider than the line of that number. A width
+/// under 3 is refused. One pass over the text.
 pub fn check_wrap_bound(
     alloc: Global,
     composite: &FmtComposite,
@@ -106,10 +138,12 @@ pub fn check_wrap_bound(
     ensures memory { 3 ≤ width → IfErr result (λ e. e ≡ Memory) }
 {
     if width < 3 {
-        return Err(Error::InsufficientWidth(InsufficientWidthError { available_width: width }));
+        return Err(Error::InsufficientWidth(InsufficientWidthError {
+            available_width: width,
+        }));
     }
     let room = Room::of(skin, composite.kind, width);
-    let tokens = tokenize(alloc, &composite.compounds, room.width.saturating_sub(room.first))?;
+    let tokens = tokenize(alloc, &composite.compounds, room.token_limit())?;
     Ok(check_starts(&tokens, room, &bound.starts))
 }
 

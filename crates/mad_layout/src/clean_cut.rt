@@ -13,11 +13,12 @@ pub(crate) fn clean_cut<'s>(
 ) -> Option<(Compound<'s>, Compound<'s>)>
     ensures { result ≡ clean_cut room compounds.now }
 {
-    match compounds {
-        [front, back] if both_fit(front, back, room) => Some((*front, *back)),
-        [front, middle, back] if is_white(middle) && both_fit(front, back, room) => Some((*front, *back)),
-        _ => None,
-    }
+    let (front, back) = match compounds {
+        [front, back] => (front, back),
+        [front, middle, back] if is_white(middle) => (front, back),
+        _ => return None,
+    };
+    both_fit(front, back, room).then_some((*front, *back))
 }
 
 fn both_fit(front: &Compound, back: &Compound, room: Room) -> bool

@@ -71,11 +71,13 @@ impl<'s> FmtComposite<'s> {
         ensures spacing { result.spacing ≡ None }
         ensures margins { result.margins ≡ None }
     {
-        let kind = CompositeKind::from(composite.style);
+        let Composite { style, compounds } = composite;
+        let kind = CompositeKind::from(style);
+        let visible_length = skin.visible_composite_length(kind, &compounds);
         FmtComposite {
-            visible_length: skin.visible_composite_length(kind, &composite.compounds),
             kind,
-            compounds: composite.compounds,
+            compounds,
+            visible_length,
             spacing: None,
             margins: None,
         }
@@ -116,7 +118,7 @@ impl<'s> FmtComposite<'s> {
         ensures { MatchOption self.now.spacing ((result.0 ≡ 0) × (result.1 ≡ 0)) (λ s. Completes s.align self.now.visible_length s.width result) }
     {
         match &self.spacing {
-            Some(spacing) => spacing.completions_for(self.visible_length),
+            Some(place) => place.completions_for(self.visible_length),
             None => (0, 0),
         }
     }
@@ -129,7 +131,8 @@ impl<'s> FmtComposite<'s> {
         ensures spacing { self.new.spacing ≡ self.old.spacing }
         ensures margins { self.new.margins ≡ self.old.margins }
     {
-        self.visible_length = skin.visible_composite_length(self.kind, &self.compounds);
+        let columns = skin.visible_composite_length(self.kind, &self.compounds);
+        self.visible_length = columns;
     }
 
     /// Puts a compound behind the others, and its columns into the cached length.
@@ -144,7 +147,11 @@ impl<'s> FmtComposite<'s> {
     }
 
     /// Puts a compound behind the others, whose columns are known.
-    pub(crate) fn add_measured(&mut self, compound: Compound<'s>, width: usize) -> Result<(), AllocError>
+    pub(crate) fn add_measured(
+        &mut self,
+        compound: Compound<'s>,
+        width: usize,
+    ) -> Result<(), AllocError>
         ensures text { OnOk result (self.new.compounds.items ≡ self.old.compounds.items ++ compound.entry ∷ []) }
         ensures length { OnOk result (self.new.visible_length ≡ capped (self.old.visible_length + width)) }
         ensures kind { self.new.kind ≡ self.old.kind }

@@ -1,7 +1,7 @@
 //! Inline texts: one line, without a width.
 
 ghost use Rattle.std.specs.Prelude.{◌≡◌, IfOk};
-ghost use Rattle.mad_layout.specs.Inlines.{IsInlineOf};
+ghost use Rattle.mad_layout.specs.Inlines.{IsInlineOf, IsDisplayedAsWritten};
 
 use crate::composite::FmtComposite;
 use crate::skin::MadSkin;
@@ -19,6 +19,7 @@ pub struct FmtInline<'k, 's> {
 
 impl MadSkin {
     /// A line of text, its inline marks read. Only want of memory is an error.
+    #[tactic(auto, using(crate::proofs::InlineLemmas::displayed))]
     pub fn inline<'k, 's>(
         &'k self,
         alloc: Global,
@@ -26,6 +27,9 @@ impl MadSkin {
     ) -> Result<FmtInline<'k, 's>, AllocError>
         ensures skin { IfOk result (λ inline. inline.skin.now ≡ self.now) }
         ensures composite { IfOk result (λ inline. IsInlineOf self.now src.now inline.composite) }
+
+        // It is displayed by the bytes that are written of it.
+        ensures displayed { IfOk result (λ inline. IsDisplayedAsWritten self.now src.now inline.composite) }
     {
         let composite = Composite::from_inline(alloc, src)?;
         Ok(FmtInline {
@@ -43,6 +47,7 @@ pub fn inline<'k, 's>(
 ) -> Result<FmtInline<'k, 's>, AllocError>
     ensures skin { IfOk result (λ inline. inline.skin.now ≡ skin.now) }
     ensures composite { IfOk result (λ inline. IsInlineOf skin.now src.now inline.composite) }
+    ensures displayed { IfOk result (λ inline. IsDisplayedAsWritten skin.now src.now inline.composite) }
 {
     skin.inline(alloc, src)
 }

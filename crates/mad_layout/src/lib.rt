@@ -1,17 +1,23 @@
-// Layout of flagged texts in lines of limited width. In the order of the work:
-//
-// 1. `skin`: the styles of lines, as far as their layout needs them.
-// 2. `indents`, `room`: the columns that a line of a kind has for its text.
-// 3. `composite`, `line`: a line with its cached width.
-// 4. `clean_cut`, `placing`: the two ways of breaking a text that is too wide.
-// 5. `wrap`: wrapping composites and lists of lines, with the fewest lines.
-// 6. `bound`: starts of lines that show that no break has fewer.
+//! Layout of texts in lines of limited width, and drawing them.
+//!
+//! In the order of the work:
+//!
+//! 1. [`skin`]: the styles of a text's parts.
+//! 2. [`indents`], [`room`]: the columns that a line of a kind has for its text.
+//! 3. [`composite`], [`line`]: a line with its cached width.
+//! 4. `clean_cut`, `placing`: the two ways of breaking a text that is too wide.
+//! 5. [`wrap`]: wrapping composites and lists of lines, with the fewest lines.
+//! 6. [`bound`]: starts of lines that show that no break has fewer.
+//! 7. [`fmt_text`], [`fmt_inline`]: reading a text and laying it out; reading one line.
+//! 8. `rows`: what is written of a line, piece by piece.
+//! 9. [`drawing`]: the rows of a text in an area of the screen.
+//! 10. `writing`: the writing calls of a skin; `display`: texts as displayed values.
 #![tactic(auto)]
-
 
 pub mod bound;
 mod clean_cut;
 pub mod composite;
+mod display;
 pub mod drawing;
 pub mod fmt_inline;
 pub mod fmt_text;
@@ -26,7 +32,6 @@ mod tests;
 pub mod wrap;
 mod writing;
 
-
 pub use bound::{WrapBound, check_wrap_bound, wrap_bound};
 pub use composite::FmtComposite;
 pub use drawing::draw_text;
@@ -35,5 +40,5 @@ pub use fmt_text::FmtText;
 pub use indents::composite_kind_widths;
 pub use line::FmtLine;
 pub use skin::MadSkin;
-pub use writing::print_inline;
 pub use wrap::{hard_wrap_composite, hard_wrap_lines};
+pub use writing::print_inline;

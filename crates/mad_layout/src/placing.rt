@@ -51,7 +51,7 @@ pub(crate) fn place<'s>(
     Ok(lines)
 }
 
-// What is left of a line's columns with a token on it, if the line hasn't ended and the token fits.
+/// What is left of a line's columns with a token on it, if the line hasn't ended and the token fits.
 pub(crate) fn left_with(left: Option<usize>, ended: bool, width: usize) -> Option<usize>
     ensures some { IfSome result (λ after. (ended ≡ false) × (fits_in left width ≡ true) × (taken left width ≡ Some after)) }
     ensures none { IfNone result ((ended ≡ true) ⊎ (fits_in left width ≡ false)) }
@@ -63,13 +63,14 @@ pub(crate) fn left_with(left: Option<usize>, ended: bool, width: usize) -> Optio
     }
 }
 
-// What is left of a later line that begins with a token, if the token fits on it.
+/// What is left of a later line that begins with a token, if the token fits on it.
 pub(crate) fn left_after(room: Room, width: usize) -> Option<usize>
     ensures { result ≡ left_of room.width (room.other + width) }
 {
     room.width.checked_sub(room.other)?.checked_sub(width)
 }
 
+/// What is left of a width behind so many columns, if they fit.
 pub(crate) fn left_of(width: usize, used: usize) -> Option<usize>
     ensures { result ≡ left_of width used }
 {

@@ -1,4 +1,4 @@
-ghost use Rattle.std.specs.Prelude.{◌≡◌, ◌+◌, ◌↔◌, ◌≤◌, IsTrue};
+ghost use Rattle.std.specs.Prelude.{◌≡◌, ◌-◌};
 ghost use Rattle.mad_layout.specs.Indents.{room_of};
 
 use crate::indents::composite_kind_widths;
@@ -27,5 +27,12 @@ impl Room {
             other,
             width,
         }
+    }
+
+    /// The columns of the widest token that fits on the first line, where a token isn't a single character.
+    pub fn token_limit(&self) -> usize
+        ensures { result ≡ self.now.width - self.now.first }
+    {
+        self.width.saturating_sub(self.first)
     }
 }

@@ -4,7 +4,7 @@ ghost use Rattle.std.specs.Prelude.{◌≡◌, ◌∷◌, [], OnOk, map, string_
 ghost use Rattle.mad_md.specs.Flagged.{run_of};
 ghost use Rattle.mad_style.specs.Kinds.{kind_of};
 ghost use Rattle.mad_layout.specs.Pieces.{Appends, spaces, single_spaces};
-ghost use Rattle.mad_layout.specs.Rows.{char_piece, compound_piece, number_piece, mark_pieces, composite_pieces, free_pieces, line_pieces, row_pieces, inner_blanks, outer_blanks};
+ghost use Rattle.mad_layout.specs.Rows.{char_piece, compound_piece, number_piece, mark_pieces, composite_pieces, free_pieces, line_pieces, row_pieces, inner_blanks, outer_blanks, margins_of};
 ghost use Rattle.std.specs.Option.{option_copied};
 
 use crate::composite::FmtComposite;
@@ -66,7 +66,11 @@ fn push_mark(row: &mut String, skin: &MadSkin, kind: CompositeKind) -> Result<()
             push_single_spaces(row, blank, 1)
         }
         CompositeKind::ListItemFollowUp(_) | CompositeKind::OrderedListItemFollowUp { .. } => {
-            push_single_spaces(row, blank, indent_of(kind, skin.list_items_indentation_mode))
+            push_single_spaces(
+                row,
+                blank,
+                indent_of(kind, skin.list_items_indentation_mode),
+            )
         }
         CompositeKind::Quote => {
             push_char(row, skin.quote_mark)?;
@@ -144,15 +148,19 @@ pub(crate) fn push_composite(
     push_spaces(row, blank, if place.right { right } else { 0 })
 }
 
-// The blank columns left and right of a composite in its own place.
-fn inner_blanks(composite: &FmtComposite) -> (usize, usize)
+/// The blank columns left and right of a composite in its own place.
+pub(crate) fn inner_blanks(composite: &FmtComposite) -> (usize, usize)
     ensures { result ≡ inner_blanks composite.now }
 {
     composite.completions()
 }
 
-// The blank columns left and right of a composite's own place at the outer width, with the margins.
-fn outer_blanks(composite: &FmtComposite, align: Alignment, place: RowPlace) -> (usize, usize)
+/// The blank columns left and right of a composite's own place at the outer width, with the margins.
+pub(crate) fn outer_blanks(
+    composite: &FmtComposite,
+    align: Alignment,
+    place: RowPlace,
+) -> (usize, usize)
     ensures { result ≡ outer_blanks align place.outer place.margins composite.now }
 {
     let inner = match &composite.spacing {
@@ -167,6 +175,20 @@ fn outer_blanks(composite: &FmtComposite, align: Alignment, place: RowPlace) -> 
     (left + left_margin, right + right_margin)
 }
 
+/// The margins of a composite: those of its layout, or where it has none those of its style at the outer width.
+pub(crate) fn margins_of(
+    skin: &MadSkin,
+    composite: &FmtComposite,
+    outer: Option<usize>,
+) -> (usize, usize)
+    ensures { result ≡ margins_of skin.now outer composite.now }
+{
+    match composite.margins {
+        Some(margins) => margins,
+        None => skin.line_style(composite.kind).margins_in(outer),
+    }
+}
+
 /// Appends a line at an outer width, in columns, with the margins of its layout, or where it has none of its style's.
 pub(crate) fn push_line(
     row: &mut String,
@@ -179,13 +201,9 @@ pub(crate) fn push_line(
 {
     match line {
         FmtLine::Normal(composite) => {
-            let margins = match composite.margins {
-                Some(margins) => margins,
-                None => skin.line_style(composite.kind).margins_in(outer),
-            };
             let place = RowPlace {
                 outer,
-                margins,
+                margins: margins_of(skin, composite, outer),
                 right,
             };
             push_composite(row, skin, composite, place)

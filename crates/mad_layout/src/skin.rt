@@ -15,6 +15,9 @@ use mad_term::Attribute;
 /// The text that stands for what was left out.
 pub(crate) const ELLIPSIS: &str = "…";
 
+/// How the numbers of items look, by the level of their list.
+pub type OrderedItemStyles = [OrderedItemStyle; MAX_ORDERED_LIST_DEPTH];
+
 /// The styles of a text's parts.
 #[derive(Clone, PartialEq, Debug, Drop)]
 pub struct MadSkin {
@@ -35,7 +38,7 @@ pub struct MadSkin {
     /// The mark of an item of a list.
     pub bullet: StyledChar,
     /// How the numbers of items look, by level.
-    pub ordered_item_styles: [OrderedItemStyle; MAX_ORDERED_LIST_DEPTH],
+    pub ordered_item_styles: OrderedItemStyles,
     /// The mark of a quote.
     pub quote_mark: StyledChar,
     /// The style of an ellipsis.
@@ -119,6 +122,7 @@ impl MadSkin {
     pub fn no_style() -> Self
         ensures { result ≡ no_style_skin }
     {
+        let item = OrderedItemStyle::no_style();
         Self {
             paragraph: LineStyle::default(),
             bold: CompoundStyle::default(),
@@ -128,7 +132,7 @@ impl MadSkin {
             code_block: LineStyle::default(),
             headers: [LineStyle::default(); MAX_HEADER_DEPTH],
             bullet: StyledChar::nude('•'),
-            ordered_item_styles: [OrderedItemStyle::no_style(); MAX_ORDERED_LIST_DEPTH],
+            ordered_item_styles: [item; MAX_ORDERED_LIST_DEPTH],
             quote_mark: StyledChar::nude('▐'),
             ellipsis: CompoundStyle::default(),
             list_items_indentation_mode: ListItemsIndentationMode::default(),
@@ -153,9 +157,7 @@ impl MadSkin {
     {
         match kind {
             CompositeKind::Code => &self.code_block,
-            CompositeKind::Header(level) if level >= 1 && level <= 8 => {
-                &self.headers[level as usize - 1]
-            }
+            CompositeKind::Header(level @ 1..=8) => &self.headers[level as usize - 1],
             _ => &self.paragraph,
         }
     }

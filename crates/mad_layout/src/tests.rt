@@ -1,6 +1,6 @@
 //! The worked rows: what composites are wrapped into, and their bounds.
 
-ghost use Rattle.std.specs.Prelude.{◌≡◌};
+ghost use Rattle.std.specs.Prelude.{IfOk};
 ghost use Rattle.mad_layout.specs.Wraps.{IsMeasured};
 
 use crate::bound::{WrapBound, check_wrap_bound, wrap_bound};
@@ -10,11 +10,10 @@ use crate::skin::MadSkin;
 use crate::wrap::{hard_wrap_composite, hard_wrap_lines};
 use mad_fit::spacing::Spacing;
 use mad_md::{Alignment, Composite, CompositeStyle, Compound};
-use mad_term::Error;
 use mad_style::{CompositeKind, CompoundStyle, LineStyle, ListItemsIndentationMode};
+use mad_term::Error;
 use std::alloc::{AllocError, Global};
 use std::process::Abort;
-use std::test::Fail;
 
 fn skin_with(left_margin: usize, right_margin: usize, mode: ListItemsIndentationMode) -> MadSkin {
     let style = LineStyle {
@@ -28,6 +27,7 @@ fn skin_with(left_margin: usize, right_margin: usize, mode: ListItemsIndentation
         code_block: style,
         headers: [style; 8],
         list_items_indentation_mode: mode,
+        ..MadSkin::no_style()
     }
 }
 
@@ -50,6 +50,11 @@ fn composite<'s>(
         compounds: read.compounds,
     };
     Ok(FmtComposite::from(read, skin))
+}
+
+// Whether the rows hold, as far as memory goes. A row that doesn't hold ends the process.
+fn is_done_or_want_of_memory(outcome: Result<(), Error>) -> bool {
+    matches!(outcome, Ok(()) | Err(Error::Memory))
 }
 
 // A line as text: each compound between bars, behind the letters of its flags.
@@ -80,7 +85,7 @@ fn assert_wrap(
     width: usize,
     skin: &MadSkin,
     wanted: &str,
-) -> Result<(), Fail>
+) -> Result<(), Error>
     requires { IsMeasured skin.now composite.now }
 {
     assert!(rt; composite.visible_length > width);
@@ -99,7 +104,7 @@ fn assert_bound(
     width: usize,
     skin: &MadSkin,
     wanted: &[usize],
-) -> Result<(), Fail> {
+) -> Result<(), Error> {
     let bound = wrap_bound(alloc, composite, width, skin)?;
     assert_eq!(rt; bound.starts.as_slice(), wanted);
     assert!(rt; check_wrap_bound(alloc, composite, width, skin, &bound)?);
@@ -107,8 +112,17 @@ fn assert_bound(
 }
 
 #[test]
-fn paragraphs_in_pictures(rt: HostRuntime) -> Result<(), Fail> {
-    let alloc = rt.alloc();
+fn paragraphs_in_pictures(rt: HostRuntime) -> Result<(), Error> {
+    paragraphs_in_pictures_rows(&rt, rt.alloc())
+}
+
+#[test]
+fn paragraphs_in_pictures_or_want_of_memory(rt: HostRuntime) {
+    let outcome = paragraphs_in_pictures_rows(&rt, rt.alloc());
+    assert!(rt; is_done_or_want_of_memory(outcome));
+}
+
+fn paragraphs_in_pictures_rows(rt: &impl Abort, alloc: Global) -> Result<(), Error> {
     let skin = plain_skin();
     let rows: [(&str, usize, &str, &[usize]); 7] = [
         // The blanks that don't fit are dropped, and the word after them begins the next line.
@@ -125,17 +139,27 @@ fn paragraphs_in_pictures(rt: HostRuntime) -> Result<(), Fail> {
     ];
     for (text, width, wanted, starts) in rows {
         let composite = composite(alloc, text, CompositeStyle::Paragraph, &skin)?;
-        assert_wrap(&rt, alloc, &composite, width, &skin, wanted)?;
-        assert_bound(&rt, alloc, &composite, width, &skin, starts)?;
+        assert_wrap(rt, alloc, &composite, width, &skin, wanted)?;
+        assert_bound(rt, alloc, &composite, width, &skin, starts)?;
     }
     Ok(())
 }
 
 #[test]
-fn a_long_italic_sentence(rt: HostRuntime) -> Result<(), Fail> {
-    let alloc = rt.alloc();
+fn a_long_italic_sentence(rt: HostRuntime) -> Result<(), Error> {
+    a_long_italic_sentence_rows(&rt, rt.alloc())
+}
+
+#[test]
+fn a_long_italic_sentence_or_want_of_memory(rt: HostRuntime) {
+    let outcome = a_long_italic_sentence_rows(&rt, rt.alloc());
+    assert!(rt; is_done_or_want_of_memory(outcome));
+}
+
+fn a_long_italic_sentence_rows(rt: &impl Abort, alloc: Global) -> Result<(), Error> {
     let skin = plain_skin();
-    let text = "*Now I'll describe this example with more words than necessary, in order to be sure to demonstrate scrolling (and **wrapping**, too, thanks to long sentences).*";
+    let text =
+        "*Now I'll describe this example with more words than necessary, in order to be sure to demonstrate scrolling (and **wrapping**, too, thanks to long sentences).*";
     let composite = composite(alloc, text, CompositeStyle::Paragraph, &skin)?;
     assert!(rt; composite.visible_length > 120);
     let lines = hard_wrap_composite(alloc, &composite, 120, &skin)?;
@@ -148,27 +172,52 @@ fn a_long_italic_sentence(rt: HostRuntime) -> Result<(), Fail> {
 }
 
 #[test]
-fn items_without_and_with_room(rt: HostRuntime) -> Result<(), Fail> {
-    let alloc = rt.alloc();
-    let block = plain_skin();
-    let first_only = skin_with(0, 0, ListItemsIndentationMode::FirstLineOnly);
-    let item = composite(alloc, "abcdef gh", CompositeStyle::ListItem(0), &block)?;
-    assert_wrap(&rt, alloc, &item, 8, &block, "|abcdef|\n|gh|\n")?;
-    let lines = hard_wrap_composite(alloc, &item, 8, &block)?;
-    assert_eq!(rt; lines.len(), 2);
-    assert_eq!(rt; (lines[0].kind, lines[0].visible_length), (CompositeKind::ListItem(0), 8));
-    assert_eq!(rt; (lines[1].kind, lines[1].visible_length), (CompositeKind::ListItemFollowUp(0), 4));
-    let deep = composite(alloc, "ab", CompositeStyle::ListItem(255), &block)?;
-    assert_wrap(&rt, alloc, &deep, 3, &block, "\n|a|\n|b|\n")?;
-    assert_bound(&rt, alloc, &deep, 3, &block, &[0, 1])?;
-    let deep = composite(alloc, "ab", CompositeStyle::ListItem(255), &first_only)?;
-    assert_wrap(&rt, alloc, &deep, 3, &first_only, "\n|a||b|\n")?;
-    assert_bound(&rt, alloc, &deep, 3, &first_only, &[0])
+fn items_without_and_with_room(rt: HostRuntime) -> Result<(), Error> {
+    items_without_and_with_room_rows(&rt, rt.alloc())
 }
 
 #[test]
-fn starts_that_show_nothing(rt: HostRuntime) -> Result<(), Fail> {
-    let alloc = rt.alloc();
+fn items_without_and_with_room_or_want_of_memory(rt: HostRuntime) {
+    let outcome = items_without_and_with_room_rows(&rt, rt.alloc());
+    assert!(rt; is_done_or_want_of_memory(outcome));
+}
+
+fn items_without_and_with_room_rows(rt: &impl Abort, alloc: Global) -> Result<(), Error> {
+    let block = plain_skin();
+    let first_only = skin_with(0, 0, ListItemsIndentationMode::FirstLineOnly);
+    let item = composite(alloc, "abcdef gh", CompositeStyle::ListItem(0), &block)?;
+    assert_wrap(rt, alloc, &item, 8, &block, "|abcdef|\n|gh|\n")?;
+    assert!(rt; item.visible_length > 8);
+    let lines = hard_wrap_composite(alloc, &item, 8, &block)?;
+    assert_eq!(rt; lines.len(), 2);
+    assert_eq!(rt;
+        (lines[0].kind, lines[0].visible_length),
+        (CompositeKind::ListItem(0), 8)
+    );
+    assert_eq!(rt;
+        (lines[1].kind, lines[1].visible_length),
+        (CompositeKind::ListItemFollowUp(0), 4)
+    );
+    let deep = composite(alloc, "ab", CompositeStyle::ListItem(255), &block)?;
+    assert_wrap(rt, alloc, &deep, 3, &block, "\n|a|\n|b|\n")?;
+    assert_bound(rt, alloc, &deep, 3, &block, &[0, 1])?;
+    let deep = composite(alloc, "ab", CompositeStyle::ListItem(255), &first_only)?;
+    assert_wrap(rt, alloc, &deep, 3, &first_only, "\n|a||b|\n")?;
+    assert_bound(rt, alloc, &deep, 3, &first_only, &[0])
+}
+
+#[test]
+fn starts_that_show_nothing(rt: HostRuntime) -> Result<(), Error> {
+    starts_that_show_nothing_rows(&rt, rt.alloc())
+}
+
+#[test]
+fn starts_that_show_nothing_or_want_of_memory(rt: HostRuntime) {
+    let outcome = starts_that_show_nothing_rows(&rt, rt.alloc());
+    assert!(rt; is_done_or_want_of_memory(outcome));
+}
+
+fn starts_that_show_nothing_rows(rt: &impl Abort, alloc: Global) -> Result<(), Error> {
     let skin = plain_skin();
     let composite = composite(alloc, "aaa bb cc", CompositeStyle::Paragraph, &skin)?;
     let rows: [(&[usize], bool); 5] = [
@@ -182,14 +231,26 @@ fn starts_that_show_nothing(rt: HostRuntime) -> Result<(), Fail> {
         let bound = WrapBound {
             starts: starts.to_vec(alloc)?,
         };
-        assert_eq!(rt; check_wrap_bound(alloc, &composite, 5, &skin, &bound)?, wanted);
+        assert_eq!(rt;
+            check_wrap_bound(alloc, &composite, 5, &skin, &bound)?,
+            wanted
+        );
     }
-    assert_bound(&rt, alloc, &composite, 9, &skin, &[0])
+    assert_bound(rt, alloc, &composite, 9, &skin, &[0])
 }
 
 #[test]
-fn a_width_under_three(rt: HostRuntime) -> Result<(), Fail> {
-    let alloc = rt.alloc();
+fn a_width_under_three(rt: HostRuntime) -> Result<(), Error> {
+    a_width_under_three_rows(&rt, rt.alloc())
+}
+
+#[test]
+fn a_width_under_three_or_want_of_memory(rt: HostRuntime) {
+    let outcome = a_width_under_three_rows(&rt, rt.alloc());
+    assert!(rt; is_done_or_want_of_memory(outcome));
+}
+
+fn a_width_under_three_rows(rt: &impl Abort, alloc: Global) -> Result<(), Error> {
     let skin = plain_skin();
     let composite = composite(alloc, "abc", CompositeStyle::Paragraph, &skin)?;
     assert!(rt; composite.visible_length > 2);
@@ -208,11 +269,25 @@ fn is_refused<T: Drop>(outcome: Result<T, Error>, width: usize) -> bool {
 }
 
 #[test]
-fn margins_of_the_style(rt: HostRuntime) -> Result<(), Fail> {
-    let alloc = rt.alloc();
+fn margins_of_the_style(rt: HostRuntime) -> Result<(), Error> {
+    margins_of_the_style_rows(&rt, rt.alloc())
+}
+
+#[test]
+fn margins_of_the_style_or_want_of_memory(rt: HostRuntime) {
+    let outcome = margins_of_the_style_rows(&rt, rt.alloc());
+    assert!(rt; is_done_or_want_of_memory(outcome));
+}
+
+fn margins_of_the_style_rows(rt: &impl Abort, alloc: Global) -> Result<(), Error> {
     let rows = [
         (2, 3, "|aaaa|| |\n|bbbb|| |\n|cccc|\n", (2, 3)),
-        (usize::MAX, usize::MAX, "|aaaa|| ||bbbb|| |\n|cccc|\n", (0, 0)),
+        (
+            usize::MAX,
+            usize::MAX,
+            "|aaaa|| ||bbbb|| |\n|cccc|\n",
+            (0, 0),
+        ),
     ];
     for (left, right, wanted, margins) in rows {
         let skin = skin_with(left, right, ListItemsIndentationMode::Block);

@@ -19,7 +19,16 @@ use mad_md::Compound;
 use mad_term::{Error, InsufficientWidthError};
 use std::alloc::{AllocError, Global};
 
-/// Wraps a composite that is wider than `width` columns.
+/// Wraps a composite that is wider than `width` columns, in the fewest lines.
+///
+/// The lines keep the composite's text but for whitespace between them and after the last. Where each character has room
+/// behind the first line's indent, each line fits, and no break at the borders of tokens that fits and drops only blanks
+/// between lines has fewer. Two compounds that fit on a line each, also round one of whitespace, are cut there; any other
+/// text is cut into tokens, which are placed one after the other. The first line has the composite's kind, and the others
+/// the kind that follows it; all have its spacing, and no margins.
+///
+/// The composite has to be wider than the width, and its cached length right. A width under 3 is refused. One pass over
+/// the text; no character is copied.
 pub fn hard_wrap_composite<'s>(
     alloc: Global,
     composite: &FmtComposite<'s>,
@@ -33,7 +42,9 @@ pub fn hard_wrap_composite<'s>(
     ensures memory { 3 ≤ width → IfErr result (λ e. e ≡ Memory) }
 {
     if width < 3 {
-        return Err(Error::InsufficientWidth(InsufficientWidthError { available_width: width }));
+        return Err(Error::InsufficientWidth(InsufficientWidthError {
+            available_width: width,
+        }));
     }
     Ok(wrapped(alloc, composite, width, skin)?)
 }
@@ -53,7 +64,7 @@ fn wrapped<'s>(
     match clean_cut(&composite.compounds, room) {
         Some((front, back)) => cut_lines(alloc, composite, room, front, back),
         None => {
-            let tokens = tokenize(alloc, &composite.compounds, width.saturating_sub(room.first))?;
+            let tokens = tokenize(alloc, &composite.compounds, room.token_limit())?;
             place(alloc, &tokens, room, composite.kind, composite.spacing)
         }
     }
@@ -73,7 +84,12 @@ fn cut_lines<'s>(
     let mut first = FmtComposite::begun(alloc, composite.kind, room.first, composite.spacing);
     first.add_compound(front)?;
     lines.push(first)?;
-    let mut second = FmtComposite::begun(alloc, follow_up(composite.kind), room.other, composite.spacing);
+    let mut second = FmtComposite::begun(
+        alloc,
+        follow_up(composite.kind),
+        room.other,
+        composite.spacing,
+    );
     second.add_compound(back)?;
     lines.push(second)?;
     Ok(lines)

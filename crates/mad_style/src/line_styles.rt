@@ -2,6 +2,7 @@
 
 ghost use Rattle.std.specs.Prelude.{◌≡◌, ◌∷◌, [], encode_utf8};
 ghost use Rattle.mad_term.specs.Draws.{Draws};
+ghost use Rattle.mad_term.specs.Styles.{IsStyle};
 
 use crate::compound_styles::CompoundStyle;
 use mad_md::Alignment;
@@ -115,7 +116,8 @@ impl LineStyle {
         text: &str,
         count: usize,
     ) -> Result<(), Error>
-        ensures { Draws (O.seen out.old) (run_bytes self.now.compound_style text.now count) result (O.seen out.new) }
+        ensures writes { Draws (O.seen out.old) (run_bytes self.now.compound_style text.now count) result (O.seen out.new) }
+        ensures bytes { IsStyle self.now.compound_style.object_style }
     {
         self.compound_style.repeat_string(alloc, out, text, count)
     }
@@ -132,7 +134,8 @@ impl LineStyle {
         c: char,
         count: usize,
     ) -> Result<(), Error>
-        ensures { Draws (O.seen out.old) (run_bytes self.now.compound_style (encode_utf8 c) count) result (O.seen out.new) }
+        ensures writes { Draws (O.seen out.old) (run_bytes self.now.compound_style (encode_utf8 c) count) result (O.seen out.new) }
+        ensures bytes { IsStyle self.now.compound_style.object_style }
     {
         self.compound_style.repeat_char(alloc, out, c, count)
     }
@@ -148,7 +151,8 @@ impl LineStyle {
         out: &mut O,
         count: usize,
     ) -> Result<(), Error>
-        ensures { Draws (O.seen out.old) (run_bytes self.now.compound_style (32 ∷ []) count) result (O.seen out.new) }
+        ensures writes { Draws (O.seen out.old) (run_bytes self.now.compound_style (32 ∷ []) count) result (O.seen out.new) }
+        ensures bytes { IsStyle self.now.compound_style.object_style }
     {
         self.compound_style.repeat_space(alloc, out, count)
     }

@@ -5,7 +5,7 @@ ghost use Rattle.std.specs.Prelude.{◌≡◌, ◌∷◌, [], ◌++◌, OnOk, en
 ghost use Rattle.std.specs.List.{repeat};
 ghost use Rattle.mad_term.specs.Commands.{clear_bytes};
 ghost use Rattle.mad_term.specs.Draws.{Draws};
-ghost use Rattle.mad_term.specs.Styles.{foreground_bytes, background_bytes, present_bytes, piece_bytes};
+ghost use Rattle.mad_term.specs.Styles.{foreground_bytes, background_bytes, present_bytes, piece_bytes, IsStyle};
 
 use crate::compound_styles::CompoundStyle;
 use crate::styled_chars::StyledChar;
@@ -43,7 +43,8 @@ impl CompoundStyle {
     ///
     /// A fault of the device, or want of memory before anything went out.
     pub fn queue<O: Out>(&self, alloc: Global, out: &mut O, text: &str) -> Result<(), Error>
-        ensures { Draws (O.seen out.old) (piece_bytes self.now.object_style text.now) result (O.seen out.new) }
+        ensures writes { Draws (O.seen out.old) (piece_bytes self.now.object_style text.now) result (O.seen out.new) }
+        ensures bytes { IsStyle self.now.object_style }
     {
         queue_styled(alloc, out, self.object_style, text)
     }
@@ -54,7 +55,8 @@ impl CompoundStyle {
     ///
     /// A fault of the device, or want of memory before anything went out.
     pub fn queue_str<O: Out>(&self, alloc: Global, out: &mut O, text: &str) -> Result<(), Error>
-        ensures { Draws (O.seen out.old) (piece_bytes self.now.object_style text.now) result (O.seen out.new) }
+        ensures writes { Draws (O.seen out.old) (piece_bytes self.now.object_style text.now) result (O.seen out.new) }
+        ensures bytes { IsStyle self.now.object_style }
     {
         self.queue(alloc, out, text)
     }
@@ -125,7 +127,8 @@ impl CompoundStyle {
         text: &str,
         count: usize,
     ) -> Result<(), Error>
-        ensures { Draws (O.seen out.old) (run_bytes self.now text.now count) result (O.seen out.new) }
+        ensures writes { Draws (O.seen out.old) (run_bytes self.now text.now count) result (O.seen out.new) }
+        ensures bytes { IsStyle self.now.object_style }
     {
         let mut bytes = String::new(alloc);
         self.push_repeated(&mut bytes, text, count)?;
@@ -145,7 +148,8 @@ impl CompoundStyle {
         c: char,
         count: usize,
     ) -> Result<(), Error>
-        ensures { Draws (O.seen out.old) (run_bytes self.now (encode_utf8 c) count) result (O.seen out.new) }
+        ensures writes { Draws (O.seen out.old) (run_bytes self.now (encode_utf8 c) count) result (O.seen out.new) }
+        ensures bytes { IsStyle self.now.object_style }
     {
         let mut buffer = [0; 4];
         self.repeat_string(alloc, out, c.encode_utf8(&mut buffer), count)
@@ -162,7 +166,8 @@ impl CompoundStyle {
         out: &mut O,
         count: usize,
     ) -> Result<(), Error>
-        ensures { Draws (O.seen out.old) (run_bytes self.now (32 ∷ []) count) result (O.seen out.new) }
+        ensures writes { Draws (O.seen out.old) (run_bytes self.now (32 ∷ []) count) result (O.seen out.new) }
+        ensures bytes { IsStyle self.now.object_style }
     {
         self.repeat_string(alloc, out, " ", count)
     }
@@ -180,7 +185,8 @@ impl CompoundStyle {
         text: &str,
         count: usize,
     ) -> Result<(), AllocError>
-        ensures { OnOk result (string_bytes row.new ≡ string_bytes row.old ++ run_bytes self.now text.now count) }
+        ensures writes { OnOk result (string_bytes row.new ≡ string_bytes row.old ++ run_bytes self.now text.now count) }
+        ensures bytes { IsStyle self.now.object_style }
     {
         // Most runs are of plain spaces, and need no formatting.
         if self.object_style.is_plain() {
@@ -198,6 +204,11 @@ impl CompoundStyle {
 fn push_copies(row: &mut String, text: &str, count: usize) -> Result<(), AllocError>
     ensures { OnOk result (string_bytes row.new ≡ string_bytes row.old ++ repeat count text.now) }
 {
+    if text.is_empty() {
+        return Ok(());
+    }
+    // One growth; where the bytes are more than a `usize` counts, it is refused.
+    row.reserve(text.len().saturating_mul(count))?;
     for _ in 0..count {
         row.push_str(text)?;
     }

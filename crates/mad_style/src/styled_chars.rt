@@ -3,6 +3,7 @@
 ghost use Rattle.std.specs.Prelude.{◌≡◌, ◌++◌, IfOk, OnOk, encode_utf8, string_bytes};
 ghost use Rattle.std.specs.List.{repeat};
 ghost use Rattle.mad_term.specs.Draws.{Draws};
+ghost use Rattle.mad_term.specs.Styles.{IsStyle};
 
 use crate::compound_styles::CompoundStyle;
 use crate::styled_texts::StyledText;
@@ -142,7 +143,8 @@ impl StyledChar {
         out: &mut O,
         count: usize,
     ) -> Result<(), Error>
-        ensures { Draws (O.seen out.old) (char_run_bytes self.now count) result (O.seen out.new) }
+        ensures writes { Draws (O.seen out.old) (char_run_bytes self.now count) result (O.seen out.new) }
+        ensures bytes { IsStyle (char_style self.now).object_style }
     {
         self.compound_style
             .repeat_char(alloc, out, self.nude_char, count)
@@ -154,7 +156,8 @@ impl StyledChar {
     ///
     /// A fault of the device, or want of memory before anything went out.
     pub fn queue<O: Out>(&self, alloc: Global, out: &mut O) -> Result<(), Error>
-        ensures { Draws (O.seen out.old) (styled_char_bytes self.now) result (O.seen out.new) }
+        ensures writes { Draws (O.seen out.old) (styled_char_bytes self.now) result (O.seen out.new) }
+        ensures bytes { IsStyle (char_style self.now).object_style }
     {
         let mut buffer = [0; 4];
         self.compound_style
@@ -167,7 +170,8 @@ impl StyledChar {
     ///
     /// Want of memory.
     pub fn push(&self, row: &mut String) -> Result<(), AllocError>
-        ensures { OnOk result (string_bytes row.new ≡ string_bytes row.old ++ styled_char_bytes self.now) }
+        ensures writes { OnOk result (string_bytes row.new ≡ string_bytes row.old ++ styled_char_bytes self.now) }
+        ensures bytes { IsStyle (char_style self.now).object_style }
     {
         let mut buffer = [0; 4];
         let text = self.nude_char.encode_utf8(&mut buffer);
@@ -180,7 +184,8 @@ impl StyledChar {
     ///
     /// Want of memory.
     pub fn push_repeated(&self, row: &mut String, count: usize) -> Result<(), AllocError>
-        ensures { OnOk result (string_bytes row.new ≡ string_bytes row.old ++ char_run_bytes self.now count) }
+        ensures writes { OnOk result (string_bytes row.new ≡ string_bytes row.old ++ char_run_bytes self.now count) }
+        ensures bytes { IsStyle (char_style self.now).object_style }
     {
         let mut buffer = [0; 4];
         let text = self.nude_char.encode_utf8(&mut buffer);

@@ -374,3 +374,19 @@ fn a_fault_in_mid_stream_leaves_a_front(rt: HostRuntime) -> Result<(), Fail> {
     }
     Ok(())
 }
+
+#[test]
+fn a_run_that_no_memory_holds_is_refused_before_any_byte(rt: HostRuntime) -> Result<(), Fail> {
+    let alloc = rt.alloc();
+    let mut out = CutOut::new(alloc, 4, 100, false)?;
+    for style in [CompoundStyle::default(), CompoundStyle::with_fg(Color::Red)] {
+        let spaces = style.repeat_space(alloc, &mut out, usize::MAX);
+        assert!(rt; matches!(spaces, Err(Error::Memory)));
+        let pairs = style.repeat_string(alloc, &mut out, "ab", usize::MAX);
+        assert!(rt; matches!(pairs, Err(Error::Memory)));
+        assert!(rt; style.style_char('x').repeated(alloc, usize::MAX).is_err());
+    }
+    CompoundStyle::default().repeat_string(alloc, &mut out, "", usize::MAX)?;
+    assert!(rt; out.taken().is_empty());
+    Ok(())
+}

@@ -52,7 +52,7 @@ pub mix_written : (kind r g b : ℕ) → 27 ∷ 91 ∷ (decimal kind ++ 59 ∷ 5
 mix_written kind r g b =
     whole kind (2 ∷ r ∷ g ∷ b ∷ []) (59 ∷ 50 ∷ 59 ∷ (decimal r ++ 59 ∷ (decimal g ++ 59 ∷ (decimal b ++ 109 ∷ []))))
     (sym (next 2 (r ∷ g ∷ b ∷ []) ∙ ap (λ d. 59 ∷ (d ++ after_first (r ∷ g ∷ b ∷ []))) two
-        ∙ ap (λ l. 59 ∷ 50 ∷ l) (next r (g ∷ b ∷ []) ∙ ap (λ l. 59 ∷ (decimal r ++ l)) (next g (b ∷ []) ∙ ap (λ l. 59 ∷ (decimal g ++ l)) (next b [])))))
+    ∙ ap (λ l. 59 ∷ 50 ∷ l) (next r (g ∷ b ∷ []) ∙ ap (λ l. 59 ∷ (decimal r ++ l)) (next g (b ∷ []) ∙ ap (λ l. 59 ∷ (decimal g ++ l)) (next b [])))))
 
 -- a color with a number
 pub numbered : (kind : ℕ) (color : Color) (n : ℕ) → color_number color ≡ Some n → color_numbers kind color ≡ kind ∷ 5 ∷ n ∷ []

@@ -1,5 +1,5 @@
 -- Rows on the grid.
-use Rattle.std.proofs.Common.{◌≡◌, ◌≢◌, ◌⊎◌, inl, inr, ⊎_elim, ℕ, suc, zero, ◌+◌, ◌*◌, ◌^◌, ◌<◌, ◌≤◌, List, [], ◌∷◌, ◌++◌, length, get_or, Some, refl, ap, sym, ◌∙◌, subst, arith, length-append, IsUtf8}
+use Rattle.std.proofs.Common.{◌≡◌, ◌≢◌, ◌⊎◌, inl, inr, ⊎_elim, ℕ, suc, zero, ◌+◌, ◌*◌, ◌^◌, ◌<◌, ◌≤◌, List, [], ◌∷◌, ◌++◌, length, get_or, refl, ap, sym, ◌∙◌, subst, arith, IsUtf8}
 use Rattle.std.specs.Str.{chars}
 use Rattle.std.proofs.lemmas.Str.{chars-append, chars-nil, chars-IsAscii, IsUtf8-append, IsUtf8-nil, IsUtf8-from_ascii}
 use Rattle.std.proofs.lemmas.Nat.{row_fits}
@@ -7,9 +7,9 @@ use Rattle.std.proofs.lemmas.Bool.{cases_lt}
 use Rattle.mad_term.specs.Commands.{move_to_bytes}
 use Rattle.mad_term.specs.Glyph.{Glyph}
 use Rattle.mad_term.specs.Grid.{Grid, IsGrid, put_list, painted, blank, plain_pen, cell_at}
-use Rattle.mad_term.specs.Terminal.{Leads, ground, after_bytes}
-use Rattle.mad_term.specs.Painting.{HasColumns, Paints}
-use Rattle.mad_term.specs.Drawing.{drawing, PaintRows, AreWide, IsOutside, ShowsRows, FitsArea, DrawnAs}
+use Rattle.mad_term.specs.Terminal.{Leads, resting}
+use Rattle.mad_term.specs.Painting.{HasColumns}
+use Rattle.mad_term.specs.Drawing.{drawing, PaintRows, AreWide, IsOutside, ShowsRows, DrawnAs}
 use Rattle.mad_term.proofs.PutList.{put_list-same, put_list-other}
 use Rattle.mad_term.proofs.Reading.{then_leads, nothing_leads, move_leads}
 use Rattle.mad_term.proofs.PaintingLemmas.{painted_is_grid, rest_fits}
@@ -77,20 +77,21 @@ drawing_chars left top t ts small_x small_y text texts =
           ∙ ap (λ l. move_to_bytes left top ++ l) (chars-append t rest text),
     )
 
-pub drawing_leads : (ts : List (List ℕ)) (rs : List (List Glyph)) (g : Grid) (left top w : ℕ) → PaintRows ts rs → AreWide w rs → IsGrid g → g.pen ≡ plain_pen → 0 < w → left + w ≤ g.width → top + length rs ≤ g.height → left + 1 < 2 ^ 32 → top + length rs < 2 ^ 32 → IsUtf8 (drawing left top ts) × Leads (ground g) (chars (drawing left top ts)) (ground (painted_rows g left top rs))
+pub drawing_leads : (ts : List (List ℕ)) (rs : List (List Glyph)) (g : Grid) (left top w : ℕ) → PaintRows ts rs → AreWide w rs → IsGrid g → g.pen ≡ plain_pen → 0 < w → left + w ≤ g.width → top + length rs ≤ g.height → left + 1 < 2 ^ 32 → top + length rs < 2 ^ 32 → IsUtf8 (drawing left top ts) × Leads (resting g) (chars (drawing left top ts)) (resting (painted_rows g left top rs))
 unfolding painted
-drawing_leads [] [] g left top w paints wide h pen some fits_x fits_y small_x small_y = (IsUtf8-nil, subst (λ (cs : List ℕ). Leads (ground g) cs (ground g)) (sym chars-nil) (nothing_leads _))
+drawing_leads [] [] g left top w paints wide h pen some fits_x fits_y small_x small_y = (IsUtf8-nil, subst (λ (cs : List ℕ). Leads (resting g) cs (resting g)) (sym chars-nil) (nothing_leads _))
 drawing_leads [] (r ∷ rs) g left top w paints wide h pen some fits_x fits_y small_x small_y = absurd paints
 drawing_leads (t ∷ ts) [] g left top w paints wide h pen some fits_x fits_y small_x small_y = absurd paints
 drawing_leads (t ∷ ts) (r ∷ rs) g left top w paints wide h pen some fits_x fits_y small_x small_y =
     let fits : left + length r ≤ g.width = omega (arith, wide.0) in
     let there : HasColumns (at g left top) (length r) = at_columns g left top (length r) h (omega arith) fits in
-    let below : IsUtf8 (drawing left (suc top) ts) × Leads (ground (painted (at g left top) r)) (chars (drawing left (suc top) ts)) (ground (painted_rows g left top (r ∷ rs))) = drawing_leads ts rs (painted (at g left top) r) left (suc top) w paints.1 wide.1 (painted_is_grid (at g left top) r there.grid fits) pen some fits_x (omega arith) small_x (omega arith) in
-    let bytes : IsUtf8 (drawing left top (t ∷ ts)) × (chars (drawing left top (t ∷ ts)) ≡ move_to_bytes left top ++ (chars t ++ chars (drawing left (suc top) ts))) = drawing_chars left top t ts small_x (omega arith) paints.0.text below.0 in
-    (bytes.0,
-    subst (λ (cs : List ℕ). Leads (ground g) cs (ground (painted_rows g left top (r ∷ rs)))) (sym bytes.1)
-    (then_leads _ _ _ (move_to_bytes left top) (chars t ++ chars (drawing left (suc top) ts)) (move_leads g left top (omega arith) (omega arith) (omega arith) (omega arith))
-    (then_leads _ _ _ (chars t) (chars (drawing left (suc top) ts)) (paints.0.paints (at g left top) there pen) below.1)))
+    let below : IsUtf8 (drawing left (suc top) ts) × Leads (resting (painted (at g left top) r)) (chars (drawing left (suc top) ts)) (resting (painted_rows g left top (r ∷ rs))) = drawing_leads ts rs (painted (at g left top) r) left (suc top) w paints.1 wide.1 (painted_is_grid (at g left top) r there.grid fits) pen some fits_x (omega arith) small_x (omega arith) in
+    let bytes : IsUtf8 (drawing left top (t ∷ ts)) × (chars (drawing left top (t ∷ ts)) ≡ move_to_bytes left top ++ (chars t ++ chars (drawing left (suc top) ts))) = drawing_chars left top t ts small_x (omega arith) paints.0.text below.0 in (
+      bytes.0,
+      subst (λ (cs : List ℕ). Leads (resting g) cs (resting (painted_rows g left top (r ∷ rs)))) (sym bytes.1)
+          (then_leads _ _ _ (move_to_bytes left top) (chars t ++ chars (drawing left (suc top) ts)) (move_leads g left top (omega arith) (omega arith) (omega arith) (omega arith))
+          (then_leads _ _ _ (chars t) (chars (drawing left (suc top) ts)) (paints.0.paints (at g left top) there pen) below.1)),
+    )
 
 -- the places of the first row and of those below it
 inside_step : (r : List Glyph) (rs : List (List Glyph)) (g new : Grid) (left top w : ℕ) → length r ≡ w → IsGrid g → left + w ≤ g.width → top < g.height → ShowsRows left (suc top) w rs (painted (at g left top) r) new → (i j : ℕ) → i < w → j < suc (length rs) → cell_at new (left + i) (top + j) ≡ get_or (get_or (r ∷ rs) j []) i blank
@@ -145,7 +146,7 @@ painted_rows_is_grid (r ∷ rs) g left top w wide h fits_x fits_y =
 pub drawn : (left top : ℕ) (ts : List (List ℕ)) (rs : List (List Glyph)) → left < 2 ^ 16 → top + length rs < 2 ^ 32 → PaintRows ts rs → DrawnAs left top rs (drawing left top ts)
 drawn left top ts rs small_x small_y paints g w fits =
     let new : Grid = painted_rows g left top rs in
-    let read : IsUtf8 (drawing left top ts) × Leads (ground g) (chars (drawing left top ts)) (ground new) = drawing_leads ts rs g left top w paints fits.wide fits.grid fits.pen fits.some fits.columns fits.lines (omega arith) small_y in (
+    let read : IsUtf8 (drawing left top ts) × Leads (resting g) (chars (drawing left top ts)) (resting new) = drawing_leads ts rs g left top w paints fits.wide fits.grid fits.pen fits.some fits.columns fits.lines (omega arith) small_y in (
       new,
       read_leads g new (drawing left top ts) read.0 read.1,
       painted_rows_is_grid rs g left top w fits.wide fits.grid fits.columns fits.lines,

@@ -11,8 +11,8 @@ use Rattle.unicode_width.specs.Width.{char_width}
 use Rattle.mad_term.specs.Columns.{char_columns}
 use Rattle.mad_term.specs.Glyph.{Glyph, Look}
 use Rattle.mad_term.specs.Grid.{Grid, IsGrid, put_list, painted, glyphs, blank, is_tail}
-use Rattle.mad_term.specs.Terminal.{Escape, put, put_wide, join_at, joined_glyph, head_before, feed, Leads, ground}
-use Rattle.mad_term.specs.Painting.{attach, joined, cells_of, IsPrinted, IsWhole, IsShown, HasColumns}
+use Rattle.mad_term.specs.Terminal.{Escape, put, put_wide, join_at, joined_glyph, head_before, feed, Leads, resting}
+use Rattle.mad_term.specs.Painting.{attach, joined, cells_of, IsPrinted, IsShown, HasColumns}
 use Rattle.mad_term.proofs.PutList.{put_list-append, put_list-same, set-put_list, length-put_list}
 use Rattle.mad_term.proofs.Reading.{nothing_leads, next_leads}
 
@@ -71,19 +71,19 @@ printed_no_escape c w e =
     clash h = cc
 
 -- a character outside a sequence, in a row of the screen
-printed_feeds : (g : Grid) (c w : ℕ) → g.y < g.height → char_width false c ≡ Some w → feed (ground g) c ≡ option_map ground (put_wide (Some w) g c)
+printed_feeds : (g : Grid) (c w : ℕ) → g.y < g.height → char_width false c ≡ Some w → feed (resting g) c ≡ option_map resting (put_wide (Some w) g c)
 printed_feeds g c w in_rows e =
     let on_screen : ltb g.y g.height ≡ true = grind (arith, nat_tests) in
-    ap (λ b. cond b (Some (record { grid = g; mode = Escape })) (option_map ground (put g c))) (printed_no_escape c w e)
-    ∙ ap (λ b. option_map ground (cond b (put_wide (char_width false c) g c) None)) on_screen
-    ∙ ap (λ o. option_map ground (put_wide o g c)) e
+    ap (λ b. cond b (Some (record { grid = g; mode = Escape })) (option_map resting (put g c))) (printed_no_escape c w e)
+    ∙ ap (λ b. option_map resting (cond b (put_wide (char_width false c) g c) None)) on_screen
+    ∙ ap (λ o. option_map resting (put_wide o g c)) e
 
-pub wide_feeds : (g : Grid) (c k : ℕ) → char_width false c ≡ Some (suc k) → HasColumns g (suc k) → feed (ground g) c ≡ Some (ground (painted g (glyphs (c ∷ []) k g.pen)))
+pub wide_feeds : (g : Grid) (c k : ℕ) → char_width false c ≡ Some (suc k) → HasColumns g (suc k) → feed (resting g) c ≡ Some (resting (painted g (glyphs (c ∷ []) k g.pen)))
 wide_feeds g c k e h =
     let fits : g.x + suc k ≤ g.width = h.columns in
     let test : leb (g.x + suc k) g.width ≡ true = grind (arith, nat_tests) in
     printed_feeds g c (suc k) h.row e
-    ∙ ap (λ b. option_map ground (cond b (Some (painted g (glyphs (c ∷ []) k g.pen))) None)) test
+    ∙ ap (λ b. option_map resting (cond b (Some (painted g (glyphs (c ∷ []) k g.pen))) None)) test
 
 -- ---- a widthless character
 
@@ -114,7 +114,7 @@ tail_there g chars k i h below =
     ∙ get_or-replicate k i (record { chars = []; pen = g.pen }) blank below
 
 -- it joins the character before it
-pub mark_feeds : (g : Grid) (c m k : ℕ) (done : List ℕ) → HasColumns g (suc k) → char_width false m ≡ Some 0 → feed (ground (painted g (glyphs (c ∷ done) k g.pen))) m ≡ Some (ground (painted g (glyphs (c ∷ (done ++ m ∷ [])) k g.pen)))
+pub mark_feeds : (g : Grid) (c m k : ℕ) (done : List ℕ) → HasColumns g (suc k) → char_width false m ≡ Some 0 → feed (resting (painted g (glyphs (c ∷ done) k g.pen))) m ≡ Some (resting (painted g (glyphs (c ∷ (done ++ m ∷ [])) k g.pen)))
 unfolding painted
 mark_feeds g c m k done h e =
     let start = g.y * g.width in
@@ -126,10 +126,10 @@ mark_feeds g c m k done h e =
     let found : head_before cells start (g.x + suc k) ≡ Some (start + g.x) = head_found cells start g.x k (λ i below. ap is_tail (tail_there g (c ∷ done) k i h below)) (ap is_tail there) in
     let length_is : length (glyphs (c ∷ done) k g.pen) ≡ suc k = ap suc (length-replicate k (record { chars = []; pen = g.pen })) in
     printed_feeds r m 0 h.row e
-    ∙ ap (λ n. option_map ground (join_at r m (head_before cells start n))) (ap (λ n. g.x + n) length_is)
-    ∙ ap (λ o. option_map ground (join_at r m o)) found
-    ∙ ap (λ (a : Glyph). Some (ground (record r { cells = set cells (start + g.x) (joined_glyph a m) }))) there
-    ∙ ap (λ l. Some (ground (record r { cells = l })))
+    ∙ ap (λ n. option_map resting (join_at r m (head_before cells start n))) (ap (λ n. g.x + n) length_is)
+    ∙ ap (λ o. option_map resting (join_at r m o)) found
+    ∙ ap (λ (a : Glyph). Some (resting (record r { cells = set cells (start + g.x) (joined_glyph a m) }))) there
+    ∙ ap (λ l. Some (resting (record r { cells = l })))
     (set-put_list (set g.cells (start + g.x) G) (suc (start + g.x)) (start + g.x) T (joined_glyph G m) (omega arith)
     ∙ ap (λ l. put_list l (suc (start + g.x)) T) (set-set g.cells (start + g.x) G (joined_glyph G m)))
 
@@ -140,15 +140,15 @@ length-glyphs chars k pen = ap suc (length-replicate k (record { chars = []; pen
 
 -- the statement of `rest_leads` at a text
 abbrev RestLeads : List ℕ → Type 0
-RestLeads cs = (g : Grid) (c : ℕ) (done : List ℕ) (k : ℕ) → HasColumns g (suc k + length (joined g.pen cs).1) → Leads (ground (painted g (glyphs (c ∷ done) k g.pen))) cs (ground (painted g (glyphs (c ∷ (done ++ (joined g.pen cs).0)) k g.pen ++ (joined g.pen cs).1)))
+RestLeads cs = (g : Grid) (c : ℕ) (done : List ℕ) (k : ℕ) → HasColumns g (suc k + length (joined g.pen cs).1) → Leads (resting (painted g (glyphs (c ∷ done) k g.pen))) cs (resting (painted g (glyphs (c ∷ (done ++ (joined g.pen cs).0)) k g.pen ++ (joined g.pen cs).1)))
 
-rest_step : (o : Option ℕ) (d : ℕ) (cs : List ℕ) → char_width false d ≡ o → IsSome o → RestLeads cs → (g : Grid) (c : ℕ) (done : List ℕ) (k : ℕ) → HasColumns g (suc k + length (attach o g.pen d (joined g.pen cs)).1) → Leads (ground (painted g (glyphs (c ∷ done) k g.pen))) (d ∷ cs) (ground (painted g (glyphs (c ∷ (done ++ (attach o g.pen d (joined g.pen cs)).0)) k g.pen ++ (attach o g.pen d (joined g.pen cs)).1)))
+rest_step : (o : Option ℕ) (d : ℕ) (cs : List ℕ) → char_width false d ≡ o → IsSome o → RestLeads cs → (g : Grid) (c : ℕ) (done : List ℕ) (k : ℕ) → HasColumns g (suc k + length (attach o g.pen d (joined g.pen cs)).1) → Leads (resting (painted g (glyphs (c ∷ done) k g.pen))) (d ∷ cs) (resting (painted g (glyphs (c ∷ (done ++ (attach o g.pen d (joined g.pen cs)).0)) k g.pen ++ (attach o g.pen d (joined g.pen cs)).1)))
 unfolding painted
 rest_step None d cs e some ih g c done k h = absurd (false≢true some)
 rest_step (Some zero) d cs e some ih g c done k h =
     let j : List ℕ × List Glyph = joined g.pen cs in
     next_leads _ _ _ _ _ (mark_feeds g c d k done (fewer_columns g (suc k + length j.1) (suc k) h (omega arith)) e)
-    (subst (λ (l : List ℕ). Leads (ground (painted g (glyphs (c ∷ (done ++ d ∷ [])) k g.pen))) cs (ground (painted g (glyphs (c ∷ l) k g.pen ++ j.1)))) (append_assoc done (d ∷ []) j.0)
+    (subst (λ (l : List ℕ). Leads (resting (painted g (glyphs (c ∷ (done ++ d ∷ [])) k g.pen))) cs (resting (painted g (glyphs (c ∷ l) k g.pen ++ j.1)))) (append_assoc done (d ∷ []) j.0)
     (ih g c (done ++ d ∷ []) k h))
 rest_step (Some (suc n)) d cs e some ih g c done k h =
     let j : List ℕ × List Glyph = joined g.pen cs in
@@ -159,20 +159,20 @@ rest_step (Some (suc n)) d cs e some ih g c done k h =
     let r : Grid = painted g a in
     let left : HasColumns r (suc n + length j.1) = painted_columns g a (suc k + length b) (suc n + length j.1) h (omega arith) in
     next_leads _ _ _ _ _ (wide_feeds r d n e (fewer_columns r (suc n + length j.1) (suc n) left (omega arith)))
-    (subst (λ (s : Grid). Leads (ground (painted r (glyphs (d ∷ []) n g.pen))) cs (ground s))
+    (subst (λ (s : Grid). Leads (resting (painted r (glyphs (d ∷ []) n g.pen))) cs (resting s))
     (painted-append g a b ∙ ap (λ (l : List ℕ). painted g (glyphs (c ∷ l) k g.pen ++ b)) (sym (append-nil done)))
     (ih r d [] n left))
 
 -- what is left of a text, behind a character that was printed with some marks
 rest_leads : (cs : List ℕ) → IsPrinted cs → RestLeads cs
 rest_leads [] printed g c done k h =
-    subst (λ (s : Grid). Leads (ground (painted g (glyphs (c ∷ done) k g.pen))) [] (ground s))
+    subst (λ (s : Grid). Leads (resting (painted g (glyphs (c ∷ done) k g.pen))) [] (resting s))
     (ap (painted g) (ap (λ (l : List ℕ). glyphs (c ∷ l) k g.pen) (sym (append-nil done)) ∙ sym (append-nil (glyphs (c ∷ (done ++ [])) k g.pen))))
     (nothing_leads _)
 rest_leads (d ∷ cs) printed g c done k h =
     rest_step (char_width false d) d cs refl printed.0 (rest_leads cs printed.1) g c done k h
 
-text_step : (o : Option ℕ) (d : ℕ) (cs : List ℕ) → char_width false d ≡ o → IsSome o → RestLeads cs → (g : Grid) → 0 < unwrap_or o 0 → HasColumns g (length (attach o g.pen d (joined g.pen cs)).1) → Leads (ground g) (d ∷ cs) (ground (painted g (attach o g.pen d (joined g.pen cs)).1))
+text_step : (o : Option ℕ) (d : ℕ) (cs : List ℕ) → char_width false d ≡ o → IsSome o → RestLeads cs → (g : Grid) → 0 < unwrap_or o 0 → HasColumns g (length (attach o g.pen d (joined g.pen cs)).1) → Leads (resting g) (d ∷ cs) (resting (painted g (attach o g.pen d (joined g.pen cs)).1))
 text_step None d cs e some ih g whole h = absurd (false≢true some)
 text_step (Some zero) d cs e some ih g whole h = absurd (omega arith)
 text_step (Some (suc n)) d cs e some ih g whole h =
@@ -182,9 +182,9 @@ text_step (Some (suc n)) d cs e some ih g whole h =
     next_leads _ _ _ _ _ (wide_feeds g d n e (fewer_columns g (length b) (suc n) h (omega arith))) (ih g d [] n (fewer_columns g (length b) (suc n + length j.1) h (omega arith)))
 
 -- characters with cells of their own show these in the pen, and the cursor stands behind them
-pub text_leads : (cs : List ℕ) (g : Grid) → IsShown cs → HasColumns g (length (cells_of g.pen cs)) → Leads (ground g) cs (ground (painted g (cells_of g.pen cs)))
+pub text_leads : (cs : List ℕ) (g : Grid) → IsShown cs → HasColumns g (length (cells_of g.pen cs)) → Leads (resting g) cs (resting (painted g (cells_of g.pen cs)))
 unfolding char_columns
-text_leads [] g shown h = subst (λ (s : Grid). Leads (ground g) [] (ground s)) (sym (painted-nil g)) (nothing_leads _)
+text_leads [] g shown h = subst (λ (s : Grid). Leads (resting g) [] (resting s)) (sym (painted-nil g)) (nothing_leads _)
 text_leads (d ∷ cs) g shown h = text_step (char_width false d) d cs refl shown.printed.0 (rest_leads cs shown.printed.1) g shown.whole h
 
 -- ---- columns

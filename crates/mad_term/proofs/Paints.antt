@@ -1,8 +1,8 @@
 -- What bytes paint, from pieces to rows. These are the lemmas that drawing is proved by.
-use Rattle.std.proofs.Common.{◌≡◌, ℕ, suc, zero, ◌+◌, ◌<◌, ◌≤◌, false, cond, List, [], ◌∷◌, ◌++◌, length, replicate, Option, Some, None, refl, ap, sym, ◌∙◌, subst, arith, length-append, append_assoc, IsUtf8}
+use Rattle.std.proofs.Common.{◌≡◌, ℕ, suc, zero, ◌+◌, ◌<◌, false, cond, List, [], ◌∷◌, ◌++◌, length, replicate, Option, Some, None, refl, ap, sym, ◌∙◌, subst, arith, length-append, append_assoc, IsUtf8}
 use Rattle.std.specs.Prelude.{IsAscii, IsSome, option_and_then, unwrap_or}
 use Rattle.std.specs.List.{AllByRecursion, flat_map}
-use Rattle.std.specs.Str.{chars, is_utf8}
+use Rattle.std.specs.Str.{chars}
 use Rattle.std.proofs.lemmas.Str.{chars-append, chars-nil, chars-IsAscii, IsUtf8-append, IsUtf8-nil, IsUtf8-from_ascii, is_utf8-from_IsUtf8}
 use Rattle.unicode_width.specs.Width.{char_width}
 use Rattle.mad_term.specs.declared.styles.ContentStyle.{ContentStyle}
@@ -10,7 +10,7 @@ use Rattle.mad_term.specs.Columns.{char_columns}
 use Rattle.mad_term.specs.Styles.{opening_bytes, closing_bytes, piece_bytes, IsStyle}
 use Rattle.mad_term.specs.Glyph.{Glyph, Look}
 use Rattle.mad_term.specs.Grid.{Grid, plain_pen, painted, glyphs}
-use Rattle.mad_term.specs.Terminal.{Leads, ground, feed_all, settled, after_bytes}
+use Rattle.mad_term.specs.Terminal.{Leads, resting, feed_all, settled, after_bytes}
 use Rattle.mad_term.specs.Painting.{attach, joined, cells_of, IsPrinted, IsWhole, IsShown, HasColumns, CharsPaint, Paints, piece_cells}
 use Rattle.mad_term.proofs.AsciiCommands.{ascii_opening, ascii_closing}
 use Rattle.mad_term.proofs.Reading.{then_leads, nothing_leads}
@@ -19,10 +19,10 @@ use Rattle.mad_term.proofs.StyleLemmas.{piece_paints}
 
 -- ---- from bytes to characters
 
-pub read_leads : (g new : Grid) (bytes : List ℕ) → IsUtf8 bytes → Leads (ground g) (chars bytes) (ground new) → after_bytes g bytes ≡ Some new
+pub read_leads : (g new : Grid) (bytes : List ℕ) → IsUtf8 bytes → Leads (resting g) (chars bytes) (resting new) → after_bytes g bytes ≡ Some new
 unfolding after_bytes Leads
 read_leads g new bytes text h =
-    ap (λ b. cond b (option_and_then settled (feed_all (chars bytes) (ground g))) None) (is_utf8-from_IsUtf8 bytes text) ∙ ap (option_and_then settled) h
+    ap (λ b. cond b (option_and_then settled (feed_all (chars bytes) (resting g))) None) (is_utf8-from_IsUtf8 bytes text) ∙ ap (option_and_then settled) h
 
 -- ASCII round a text
 ascii_first : (a bs : List ℕ) → IsAscii a → IsUtf8 bs → IsUtf8 (a ++ bs) × (chars (a ++ bs) ≡ a ++ chars bs)
@@ -39,14 +39,14 @@ ascii_last bs b text ascii = (IsUtf8-append bs b text (IsUtf8-from_ascii b ascii
 pub paints_nothing : Paints [] []
 paints_nothing = record {
   text = IsUtf8-nil;
-  paints = λ g h pen. subst (λ (cs : List ℕ). Leads (ground g) cs (ground (painted g []))) (sym chars-nil) (subst (λ (r : Grid). Leads (ground g) [] (ground r)) (sym (painted-nil g)) (nothing_leads _));
+  paints = λ g h pen. subst (λ (cs : List ℕ). Leads (resting g) cs (resting (painted g []))) (sym chars-nil) (subst (λ (r : Grid). Leads (resting g) [] (resting r)) (sym (painted-nil g)) (nothing_leads _));
 }
 
 chars_both : (s t : List ℕ) (a b : List Glyph) → CharsPaint s a → CharsPaint t b → CharsPaint (s ++ t) (a ++ b)
 unfolding painted
 chars_both s t a b p q g h pen =
     let both : length (a ++ b) ≡ length a + length b = length-append a b in
-    subst (λ (r : Grid). Leads (ground g) (s ++ t) (ground r)) (painted-append g a b)
+    subst (λ (r : Grid). Leads (resting g) (s ++ t) (resting r)) (painted-append g a b)
     (then_leads _ _ _ s t (p g (fewer_columns g (length (a ++ b)) (length a) h (omega arith)) pen) (q (painted g a) (painted_columns g a (length (a ++ b)) (length b) h (omega arith)) pen))
 
 -- one text and then another
@@ -60,7 +60,7 @@ paints_both s t a b p q = record {
 pub paints_plain : (bytes : List ℕ) → IsUtf8 bytes → IsShown (chars bytes) → Paints bytes (cells_of plain_pen (chars bytes))
 paints_plain bytes text shown = record {
   text = text;
-  paints = λ g h pen. subst (λ (p : Look). HasColumns g (length (cells_of p (chars bytes))) → Leads (ground g) (chars bytes) (ground (painted g (cells_of p (chars bytes))))) pen (text_leads (chars bytes) g shown) h;
+  paints = λ g h pen. subst (λ (p : Look). HasColumns g (length (cells_of p (chars bytes))) → Leads (resting g) (chars bytes) (resting (painted g (cells_of p (chars bytes))))) pen (text_leads (chars bytes) g shown) h;
 }
 
 -- a piece: a text in a style

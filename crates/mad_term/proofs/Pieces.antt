@@ -1,5 +1,5 @@
 -- Pieces of plain styles.
-use Rattle.std.proofs.Common.{◌≡◌, ℕ, List, [], ◌∷◌, ◌++◌, ◌==◌, ◌||◌, not, Option, Some, None, is_some, if◌then◌else◌, refl, ap, sym, ◌∙◌}
+use Rattle.std.proofs.Common.{◌≡◌, ℕ, List, [], ◌==◌, if◌then◌else◌, ap}
 use Rattle.std.specs.Int.{bit_at}
 use Rattle.std.specs.List.{flat_map}
 use Rattle.std.proofs.lemmas.List.{append-nil}
@@ -7,7 +7,7 @@ use Rattle.mad_term.specs.declared.attributes.Attributes.{Attributes}
 use Rattle.mad_term.specs.declared.styles.ContentStyle.{ContentStyle}
 use Rattle.mad_term.specs.Attribute.{all_attributes, place}
 use Rattle.mad_term.specs.Attributes.{attribute_bits}
-use Rattle.mad_term.specs.Styles.{IsPlain, attribute_bytes, attributes_bytes, closing_bytes, piece_bytes, present_bytes, background_bytes, foreground_bytes, underline_bytes}
+use Rattle.mad_term.specs.Styles.{IsPlain, attribute_bytes, attributes_bytes, piece_bytes}
 
 abbrev bytes_of_bits : ℕ → List ℕ
 bytes_of_bits n = flat_map (λ a. if bit_at n (place a) == 1 then attribute_bytes a else []) all_attributes

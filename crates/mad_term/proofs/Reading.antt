@@ -1,12 +1,12 @@
 -- What the terminal makes of characters, one text after another, and of commands.
-use Rattle.std.proofs.Common.{◌≡◌, ℕ, ◌+◌, ◌-◌, ◌*◌, ◌/◌, ◌%◌, ◌^◌, ◌<◌, ◌≤◌, Bool, true, false, cond, ltb, leb, eqb, List, [], ◌∷◌, ◌++◌, Option, Some, None, refl, ap, ◌∙◌, sym, subst, arith, append_assoc}
-use Rattle.std.specs.Prelude.{option_and_then, option_map, unwrap_or, ◌&&◌, decimal}
+use Rattle.std.proofs.Common.{◌≡◌, ℕ, ◌+◌, ◌-◌, ◌*◌, ◌/◌, ◌%◌, ◌^◌, ◌<◌, ◌≤◌, true, false, cond, ltb, leb, eqb, List, [], ◌∷◌, ◌++◌, Option, Some, None, refl, ap, ◌∙◌, sym, subst, arith, append_assoc}
+use Rattle.std.specs.Prelude.{option_and_then, option_map, ◌&&◌, decimal}
 use Rattle.std.specs.List.{flat_map}
 use Rattle.std.proofs.lemmas.Fmt.{decimal_by_steps}
 use Rattle.std.proofs.lemmas.Bool.Decides.{nat_tests}
-use Rattle.mad_term.specs.Commands.{command_bytes, numbers_bytes, move_to_bytes}
+use Rattle.mad_term.specs.Commands.{command_bytes, move_to_bytes}
 use Rattle.mad_term.specs.Grid.{Grid}
-use Rattle.mad_term.specs.Terminal.{Reading, feed, feed_all, Leads, ground, numbers, with_digit, end_number, go_to, is_digit, perform}
+use Rattle.mad_term.specs.Terminal.{Reading, feed, feed_all, Leads, resting, numbers, with_digit, end_number, go_to, is_digit, perform}
 
 at_each : (a b : List ℕ) → ((r : Reading) → feed_all (a ++ b) r ≡ option_and_then (feed_all b) (feed_all a r)) → (o : Option Reading) → option_and_then (feed_all (a ++ b)) o ≡ option_and_then (feed_all b) (option_and_then (feed_all a) o)
 at_each a b h None = refl
@@ -70,32 +70,32 @@ pub record IsLetter (c : ℕ) : Type 0 where
   pub no_digit : is_digit c ≡ false
   pub no_separator : eqb c 59 ≡ false
 
-last_feeds : (g new : Grid) (ps : List ℕ) (n letter : ℕ) → IsLetter letter → perform letter (ps ++ n ∷ []) g ≡ Some new → feed (numbers g ps (Some n)) letter ≡ Some (ground new)
+last_feeds : (g new : Grid) (ps : List ℕ) (n letter : ℕ) → IsLetter letter → perform letter (ps ++ n ∷ []) g ≡ Some new → feed (numbers g ps (Some n)) letter ≡ Some (resting new)
 last_feeds g new ps n letter is done =
     ap (λ b. cond b (option_map (λ m. numbers g ps (Some m)) (with_digit (Some n) (letter - 48))) (end_number g ps (Some n) letter)) is.no_digit
-    ∙ ap (λ b. cond b (Some (numbers g (ps ++ n ∷ []) None)) (option_map ground (perform letter (ps ++ n ∷ []) g))) is.no_separator
-    ∙ ap (option_map ground) done
+    ∙ ap (λ b. cond b (Some (numbers g (ps ++ n ∷ []) None)) (option_map resting (perform letter (ps ++ n ∷ []) g))) is.no_separator
+    ∙ ap (option_map resting) done
 
 -- what follows a command's first number
-rest_leads : (g new : Grid) (letter : ℕ) → IsLetter letter → (ns ps : List ℕ) (n : ℕ) → AreReadable ns → perform letter (ps ++ n ∷ ns) g ≡ Some new → Leads (numbers g ps (Some n)) (flat_map (λ m. 59 ∷ decimal m) ns ++ letter ∷ []) (ground new)
+rest_leads : (g new : Grid) (letter : ℕ) → IsLetter letter → (ns ps : List ℕ) (n : ℕ) → AreReadable ns → perform letter (ps ++ n ∷ ns) g ≡ Some new → Leads (numbers g ps (Some n)) (flat_map (λ m. 59 ∷ decimal m) ns ++ letter ∷ []) (resting new)
 rest_leads g new letter is [] ps n small done = one_leads _ _ _ (last_feeds g new ps n letter is done)
 rest_leads g new letter is (m ∷ ns) ps n small done =
     let others : List ℕ = flat_map (λ k. 59 ∷ decimal k) ns in
     let regrouped : (ps ++ n ∷ []) ++ m ∷ ns ≡ ps ++ n ∷ m ∷ ns = append_assoc ps (n ∷ []) (m ∷ ns) in
-    let behind : Leads (numbers g (ps ++ n ∷ []) (Some m)) (others ++ letter ∷ []) (ground new) = rest_leads g new letter is ns (ps ++ n ∷ []) m small.1 (ap (λ l. perform letter l g) regrouped ∙ done) in
+    let behind : Leads (numbers g (ps ++ n ∷ []) (Some m)) (others ++ letter ∷ []) (resting new) = rest_leads g new letter is ns (ps ++ n ∷ []) m small.1 (ap (λ l. perform letter l g) regrouped ∙ done) in
     next_leads _ _ _ 59 (decimal m ++ others ++ letter ∷ []) refl
-    (subst (λ (l : List ℕ). Leads (numbers g (ps ++ n ∷ []) None) l (ground new)) (sym (append_assoc (decimal m) others (letter ∷ [])))
+    (subst (λ (l : List ℕ). Leads (numbers g (ps ++ n ∷ []) None) l (resting new)) (sym (append_assoc (decimal m) others (letter ∷ [])))
     (then_leads _ _ _ (decimal m) (others ++ letter ∷ []) (decimal_leads g (ps ++ n ∷ []) m small.0) behind))
 
 -- a command does what its letter and its numbers say
-pub command_leads : (g new : Grid) (ns : List ℕ) (letter : ℕ) → AreReadable ns → IsLetter letter → perform letter ns g ≡ Some new → Leads (ground g) (command_bytes ns letter) (ground new)
+pub command_leads : (g new : Grid) (ns : List ℕ) (letter : ℕ) → AreReadable ns → IsLetter letter → perform letter ns g ≡ Some new → Leads (resting g) (command_bytes ns letter) (resting new)
 command_leads g new [] letter small is done =
     next_leads _ _ _ 27 _ refl (next_leads _ _ _ 91 _ refl
-    (one_leads _ _ _ (ap (λ b. cond b (option_map (λ m. numbers g [] (Some m)) (with_digit None (letter - 48))) (end_number g [] None letter)) is.no_digit ∙ ap (option_map ground) done)))
+    (one_leads _ _ _ (ap (λ b. cond b (option_map (λ m. numbers g [] (Some m)) (with_digit None (letter - 48))) (end_number g [] None letter)) is.no_digit ∙ ap (option_map resting) done)))
 command_leads g new (n ∷ ns) letter small is done =
     let others : List ℕ = flat_map (λ k. 59 ∷ decimal k) ns in
     next_leads _ _ _ 27 _ refl (next_leads _ _ _ 91 _ refl
-    (subst (λ (l : List ℕ). Leads (numbers g [] None) l (ground new)) (sym (append_assoc (decimal n) others (letter ∷ [])))
+    (subst (λ (l : List ℕ). Leads (numbers g [] None) l (resting new)) (sym (append_assoc (decimal n) others (letter ∷ [])))
     (then_leads _ _ _ (decimal n) (others ++ letter ∷ []) (decimal_leads g [] n small.0) (rest_leads g new letter is ns [] n small.1 done))))
 
 pub letter_move : IsLetter 72
@@ -119,6 +119,6 @@ go_to_there g x y in_width in_height =
     ∙ ap (λ n. Some (record g { x = n; y = y + 1 - 1 })) column ∙ ap (λ n. Some (record g { x = x; y = n })) row
 
 -- the cursor is at the place, and nothing else has changed
-pub move_leads : (g : Grid) (x y : ℕ) → x < g.width → y < g.height → x + 1 < 2 ^ 32 → y + 1 < 2 ^ 32 → Leads (ground g) (move_to_bytes x y) (ground (record g { x = x; y = y }))
+pub move_leads : (g : Grid) (x y : ℕ) → x < g.width → y < g.height → x + 1 < 2 ^ 32 → y + 1 < 2 ^ 32 → Leads (resting g) (move_to_bytes x y) (resting (record g { x = x; y = y }))
 move_leads g x y in_width in_height small_x small_y =
     command_leads g (record g { x = x; y = y }) ((y + 1) ∷ (x + 1) ∷ []) 72 (small_y, (small_x, tt)) letter_move (go_to_there g x y in_width in_height)

@@ -1,5 +1,5 @@
 -- The commands of a style, read by the plain terminal.
-use Rattle.std.proofs.Common.{◌≡◌, ℕ, suc, zero, ◌+◌, ◌-◌, ◌^◌, ◌<◌, ◌≤◌, Bool, true, false, cond, ltb, eqb, List, [], ◌∷◌, ◌++◌, length, Option, Some, None, refl, ap, sym, ◌∙◌, subst, arith, add-zero}
+use Rattle.std.proofs.Common.{◌≡◌, ℕ, suc, ◌+◌, ◌-◌, ◌^◌, ◌<◌, ◌≤◌, Bool, true, false, cond, ltb, eqb, List, [], ◌∷◌, ◌++◌, length, Option, Some, None, refl, ap, sym, ◌∙◌, subst, arith, add-zero}
 use Rattle.std.specs.Prelude.{option_map, option_and_then, ◌&&◌, ◌||◌, not, is_some}
 use Rattle.std.specs.List.{flat_map}
 use Rattle.std.specs.Int.{bit_at}
@@ -12,14 +12,14 @@ use Rattle.mad_term.specs.declared.attributes.Attributes.{Attributes}
 use Rattle.mad_term.specs.declared.color.Color.{Color}
 use Rattle.mad_term.specs.declared.color.Color.TheVariants as colors
 use Rattle.mad_term.specs.declared.styles.ContentStyle.{ContentStyle}
-use Rattle.mad_term.specs.Attribute.{place, attribute_code, all_attributes}
+use Rattle.mad_term.specs.Attribute.{place, attribute_code}
 use Rattle.mad_term.specs.Attributes.{attribute_bits, has_attribute}
 use Rattle.mad_term.specs.Color.{IsColor, IsColorOrNone}
 use Rattle.mad_term.specs.Commands.{sgr_bytes}
 use Rattle.mad_term.specs.Styles.{palette_numbers, color_numbers, foreground_bytes, background_bytes, underline_bytes, attribute_bytes, attributes_bytes, present_bytes, opening_bytes, closing_bytes, piece_bytes, IsStyle}
 use Rattle.mad_term.specs.Glyph.{Glyph, Look}
-use Rattle.mad_term.specs.Grid.{Grid, IsGrid, plain_pen, painted}
-use Rattle.mad_term.specs.Terminal.{Leads, ground, restyled, with_code, switched_on, perform}
+use Rattle.mad_term.specs.Grid.{Grid, plain_pen, painted}
+use Rattle.mad_term.specs.Terminal.{Leads, resting, restyled, with_code, switched_on}
 use Rattle.mad_term.specs.Painting.{cells_of, IsShown, HasColumns, CharsPaint, shown_color, look_of_style}
 use Rattle.mad_term.proofs.Reading.{then_leads, nothing_leads, command_leads, AreReadable, letter_sgr}
 use Rattle.mad_term.proofs.PaintingLemmas.{text_leads}
@@ -29,7 +29,7 @@ use Rattle.mad_term.proofs.CodeLemmas.{bits_to, no_bits, bits_more, bits_same}
 abbrev pub with_pen : Grid → Look → Grid
 with_pen g p = record g { pen = p }
 
-pub sgr_leads : (g : Grid) (ns : List ℕ) (p : Look) → AreReadable ns → restyled ns g.pen ≡ Some p → Leads (ground g) (sgr_bytes ns) (ground (with_pen g p))
+pub sgr_leads : (g : Grid) (ns : List ℕ) (p : Look) → AreReadable ns → restyled ns g.pen ≡ Some p → Leads (resting g) (sgr_bytes ns) (resting (with_pen g p))
 sgr_leads g ns p small e = command_leads g (with_pen g p) ns 109 small letter_sgr (ap (option_map (λ q. with_pen g q)) e)
 
 -- ---- colors
@@ -75,15 +75,15 @@ color_small kind _ low h = (omega arith, (omega arith, (omega arith, tt)))
 abbrev pub shown : Option Color → Option Color
 shown o = option_and_then shown_color o
 
-pub background_leads : (g : Grid) (o : Option Color) → IsColorOrNone o → Leads (ground (with_pen g plain_pen)) (present_bytes background_bytes o) (ground (with_pen g (record plain_pen { bg = shown o })))
+pub background_leads : (g : Grid) (o : Option Color) → IsColorOrNone o → Leads (resting (with_pen g plain_pen)) (present_bytes background_bytes o) (resting (with_pen g (record plain_pen { bg = shown o })))
 background_leads g None h = nothing_leads _
 background_leads g (Some c) h = sgr_leads (with_pen g plain_pen) (color_numbers 48 c) _ (color_small 48 c (omega arith) h) (background_restyles c plain_pen h)
 
-pub foreground_leads : (g : Grid) (b o : Option Color) → IsColorOrNone o → Leads (ground (with_pen g (record plain_pen { bg = b }))) (present_bytes foreground_bytes o) (ground (with_pen g (record plain_pen { bg = b; fg = shown o })))
+pub foreground_leads : (g : Grid) (b o : Option Color) → IsColorOrNone o → Leads (resting (with_pen g (record plain_pen { bg = b }))) (present_bytes foreground_bytes o) (resting (with_pen g (record plain_pen { bg = b; fg = shown o })))
 foreground_leads g b None h = nothing_leads _
 foreground_leads g b (Some c) h = sgr_leads (with_pen g (record plain_pen { bg = b })) (color_numbers 38 c) _ (color_small 38 c (omega arith) h) (foreground_restyles c (record plain_pen { bg = b }) h)
 
-pub underline_leads : (g : Grid) (b f o : Option Color) → IsColorOrNone o → Leads (ground (with_pen g (record plain_pen { bg = b; fg = f }))) (present_bytes underline_bytes o) (ground (with_pen g (record plain_pen { bg = b; fg = f; underline = shown o })))
+pub underline_leads : (g : Grid) (b f o : Option Color) → IsColorOrNone o → Leads (resting (with_pen g (record plain_pen { bg = b; fg = f }))) (present_bytes underline_bytes o) (resting (with_pen g (record plain_pen { bg = b; fg = f; underline = shown o })))
 underline_leads g b f None h = nothing_leads _
 underline_leads g b f (Some c) h = sgr_leads (with_pen g (record plain_pen { bg = b; fg = f })) (color_numbers 58 c) _ (color_small 58 c (omega arith) h) (underline_restyles c (record plain_pen { bg = b; fg = f }) h)
 
@@ -97,7 +97,7 @@ code_small : (a : Attribute) → attribute_code a < 100
 code_small Reset = omega arith
 code_small _ = omega arith
 
-attribute_leads : (g : Grid) (p : Look) (a : Attribute) → Leads (ground (with_pen g p)) (attribute_bytes a) (ground (with_pen g (switched_on a p)))
+attribute_leads : (g : Grid) (p : Look) (a : Attribute) → Leads (resting (with_pen g p)) (attribute_bytes a) (resting (with_pen g (switched_on a p)))
 attribute_leads g p a = sgr_leads (with_pen g p) (attribute_code a ∷ []) (switched_on a p) (omega (arith, code_small a), tt) (code_switches a p)
 
 -- an attribute after the first is kept
@@ -120,26 +120,26 @@ bit_none n k e = let small : bit_at n k < 2 = bit_at-lt n k in grind (arith, nat
 bit_there : (n k : ℕ) → eqb (bit_at n k) 1 ≡ true → bit_at n k ≡ 1
 bit_there n k e = grind (arith, nat_tests)
 
-part_leads : (g : Grid) (p : Look) (s : Attributes) (a : Attribute) (k : ℕ) (b : Bool) → has_attribute s a ≡ b → 1 ≤ k → place a ≡ k → Leads (ground (with_pen g (record p { codes = bits_to (attribute_bits s) k }))) (cond b (attribute_bytes a) []) (ground (with_pen g (record p { codes = bits_to (attribute_bits s) (suc k) })))
+part_leads : (g : Grid) (p : Look) (s : Attributes) (a : Attribute) (k : ℕ) (b : Bool) → has_attribute s a ≡ b → 1 ≤ k → place a ≡ k → Leads (resting (with_pen g (record p { codes = bits_to (attribute_bits s) k }))) (cond b (attribute_bytes a) []) (resting (with_pen g (record p { codes = bits_to (attribute_bits s) (suc k) })))
 part_leads g p s a k true e some at =
     let bits = attribute_bits s in
     let before : Look = record p { codes = bits_to bits k } in
     let there : bit_at bits k ≡ 1 = ap (bit_at bits) (sym at) ∙ bit_there bits (place a) e in
-    subst (λ (q : Look). Leads (ground (with_pen g before)) (attribute_bytes a) (ground (with_pen g q)))
+    subst (λ (q : Look). Leads (resting (with_pen g before)) (attribute_bytes a) (resting (with_pen g q)))
     (is_kept a before (omega arith) ∙ ap (λ n. record p { codes = bit_or (bits_to bits k) (2 ^ n) }) at ∙ ap (λ n. record p { codes = n }) (bits_more bits k some there))
     (attribute_leads g before a)
 part_leads g p s a k false e some at =
     let bits = attribute_bits s in
     let before : Look = record p { codes = bits_to bits k } in
     let none : bit_at bits k ≡ 0 = ap (bit_at bits) (sym at) ∙ bit_none bits (place a) e in
-    subst (λ (n : ℕ). Leads (ground (with_pen g before)) [] (ground (with_pen g (record p { codes = n })))) (bits_same bits k some none) (nothing_leads _)
+    subst (λ (n : ℕ). Leads (resting (with_pen g before)) [] (resting (with_pen g (record p { codes = n })))) (bits_same bits k some none) (nothing_leads _)
 
-parts_leads : (g : Grid) (p : Look) (s : Attributes) (rest : List Attribute) (k : ℕ) → 1 ≤ k → AtPlaces k rest → Leads (ground (with_pen g (record p { codes = bits_to (attribute_bits s) k }))) (flat_map (part_bytes s) rest) (ground (with_pen g (record p { codes = bits_to (attribute_bits s) (k + length rest) })))
+parts_leads : (g : Grid) (p : Look) (s : Attributes) (rest : List Attribute) (k : ℕ) → 1 ≤ k → AtPlaces k rest → Leads (resting (with_pen g (record p { codes = bits_to (attribute_bits s) k }))) (flat_map (part_bytes s) rest) (resting (with_pen g (record p { codes = bits_to (attribute_bits s) (k + length rest) })))
 parts_leads g p s [] k some at =
-    subst (λ (n : ℕ). Leads (ground (with_pen g (record p { codes = bits_to (attribute_bits s) k }))) [] (ground (with_pen g (record p { codes = bits_to (attribute_bits s) n })))) (sym (add-zero k)) (nothing_leads _)
+    subst (λ (n : ℕ). Leads (resting (with_pen g (record p { codes = bits_to (attribute_bits s) k }))) [] (resting (with_pen g (record p { codes = bits_to (attribute_bits s) n })))) (sym (add-zero k)) (nothing_leads _)
 parts_leads g p s (a ∷ rest) k some at =
     let count : suc k + length rest ≡ k + length (a ∷ rest) = omega arith in
-    subst (λ (n : ℕ). Leads (ground (with_pen g (record p { codes = bits_to (attribute_bits s) k }))) (part_bytes s a ++ flat_map (part_bytes s) rest) (ground (with_pen g (record p { codes = bits_to (attribute_bits s) n })))) count
+    subst (λ (n : ℕ). Leads (resting (with_pen g (record p { codes = bits_to (attribute_bits s) k }))) (part_bytes s a ++ flat_map (part_bytes s) rest) (resting (with_pen g (record p { codes = bits_to (attribute_bits s) n })))) count
     (then_leads _ _ _ (part_bytes s a) (flat_map (part_bytes s) rest)
     (part_leads g p s a k (has_attribute s a) refl some at.0)
     (parts_leads g p s rest (suc k) (omega arith) at.1))
@@ -150,7 +150,7 @@ abbrev colors_of : Bool → Look → Look
 colors_of true p = plain_pen
 colors_of false p = p
 
-first_leads : (g : Grid) (p : Look) (b : Bool) → p.codes ≡ 0 → Leads (ground (with_pen g p)) (cond b (attribute_bytes Reset) []) (ground (with_pen g (colors_of b p)))
+first_leads : (g : Grid) (p : Look) (b : Bool) → p.codes ≡ 0 → Leads (resting (with_pen g p)) (cond b (attribute_bytes Reset) []) (resting (with_pen g (colors_of b p)))
 first_leads g p true none = attribute_leads g p Reset
 first_leads g p false none = nothing_leads _
 
@@ -165,12 +165,12 @@ after_reset = Bold ∷ Dim ∷ Italic ∷ Underlined ∷ SlowBlink ∷ RapidBlin
 after_reset_places : AtPlaces 1 after_reset
 after_reset_places = (refl, (refl, (refl, (refl, (refl, (refl, (refl, (refl, (refl, (refl, (refl, (refl, (refl, (refl, (refl, (refl, (refl, (refl, (refl, (refl, (refl, (refl, (refl, tt)))))))))))))))))))))))
 
-pub attributes_leads : (g : Grid) (p : Look) (s : Attributes) → p.codes ≡ 0 → Leads (ground (with_pen g p)) (attributes_bytes s) (ground (with_pen g (record (colors_of (has_attribute s Reset) p) { codes = bits_to (attribute_bits s) 24 })))
+pub attributes_leads : (g : Grid) (p : Look) (s : Attributes) → p.codes ≡ 0 → Leads (resting (with_pen g p)) (attributes_bytes s) (resting (with_pen g (record (colors_of (has_attribute s Reset) p) { codes = bits_to (attribute_bits s) 24 })))
 attributes_leads g p s none =
     let b : Bool = has_attribute s Reset in
     let bits = attribute_bits s in
     then_leads _ _ _ (part_bytes s Reset) (flat_map (part_bytes s) after_reset) (first_leads g p b none)
-    (subst (λ (q : Look). Leads (ground (with_pen g q)) (flat_map (part_bytes s) after_reset) (ground (with_pen g (record (colors_of b p) { codes = bits_to bits 24 })))) (sym (no_codes b p bits none))
+    (subst (λ (q : Look). Leads (resting (with_pen g q)) (flat_map (part_bytes s) after_reset) (resting (with_pen g (record (colors_of b p) { codes = bits_to bits 24 })))) (sym (no_codes b p bits none))
     (parts_leads g (colors_of b p) s after_reset 1 (omega arith) after_reset_places))
 
 -- ---- a whole piece
@@ -183,7 +183,7 @@ kept_colors : (b : Bool) (f g u : Option Color) (n : ℕ) → record (colors_of 
 kept_colors true f g u n = refl
 kept_colors false f g u n = refl
 
-pub opening_leads : (g : Grid) (s : ContentStyle) → IsStyle s → Leads (ground (with_pen g plain_pen)) (opening_bytes s) (ground (with_pen g (look_of_style s)))
+pub opening_leads : (g : Grid) (s : ContentStyle) → IsStyle s → Leads (resting (with_pen g plain_pen)) (opening_bytes s) (resting (with_pen g (look_of_style s)))
 opening_leads g s known =
     let b = shown s.background_color in
     let f = shown s.foreground_color in
@@ -193,7 +193,7 @@ opening_leads g s known =
     then_leads _ _ _ (present_bytes background_bytes s.background_color) (present_bytes foreground_bytes s.foreground_color ++ (present_bytes underline_bytes s.underline_color ++ attributes_bytes s.attributes)) (background_leads g s.background_color known.background)
     (then_leads _ _ _ (present_bytes foreground_bytes s.foreground_color) (present_bytes underline_bytes s.underline_color ++ attributes_bytes s.attributes) (foreground_leads g b s.foreground_color known.foreground)
     (then_leads _ _ _ (present_bytes underline_bytes s.underline_color) (attributes_bytes s.attributes) (underline_leads g b f s.underline_color known.underline)
-    (subst (λ (q : Look). Leads (ground (with_pen g colored)) (attributes_bytes s.attributes) (ground (with_pen g q))) (kept_colors reset f b u (bits_to (attribute_bits s.attributes) 24))
+    (subst (λ (q : Look). Leads (resting (with_pen g colored)) (attributes_bytes s.attributes) (resting (with_pen g q))) (kept_colors reset f b u (bits_to (attribute_bits s.attributes) 24))
     (attributes_leads g colored s.attributes refl))))
 
 no_underline : (o : Option Color) (t : Bool) → (is_some o || t) ≡ false → o ≡ None
@@ -219,22 +219,22 @@ colored_alone s h =
     ap (λ n. look_at (eqb (bit_at n 0) 1) f b (shown s.underline_color) (bit_and n (2 ^ 24 - 2 ^ 1))) none
     ∙ ap (λ u. look_at false f b (shown u) 0) (no_underline s.underline_color _ h)
 
-default_background : (g : Grid) (f : Option Color) (o : Option Color) → Leads (ground (with_pen g (record plain_pen { fg = f; bg = shown o }))) (present_bytes (λ _. sgr_bytes (49 ∷ [])) o) (ground (with_pen g (record plain_pen { fg = f })))
+default_background : (g : Grid) (f : Option Color) (o : Option Color) → Leads (resting (with_pen g (record plain_pen { fg = f; bg = shown o }))) (present_bytes (λ _. sgr_bytes (49 ∷ [])) o) (resting (with_pen g (record plain_pen { fg = f })))
 default_background g f None = nothing_leads _
 default_background g f (Some c) = sgr_leads (with_pen g (record plain_pen { fg = f; bg = shown (Some c) })) (49 ∷ []) _ (omega arith, tt) refl
 
-default_foreground : (g : Grid) (o : Option Color) → Leads (ground (with_pen g (record plain_pen { fg = shown o }))) (present_bytes (λ _. sgr_bytes (39 ∷ [])) o) (ground (with_pen g plain_pen))
+default_foreground : (g : Grid) (o : Option Color) → Leads (resting (with_pen g (record plain_pen { fg = shown o }))) (present_bytes (λ _. sgr_bytes (39 ∷ [])) o) (resting (with_pen g plain_pen))
 default_foreground g None = nothing_leads _
 default_foreground g (Some c) = sgr_leads (with_pen g (record plain_pen { fg = shown (Some c) })) (39 ∷ []) _ (omega arith, tt) refl
 
-closing_by : (g : Grid) (s : ContentStyle) (t : Bool) → (is_some s.underline_color || not (eqb (attribute_bits s.attributes) 0)) ≡ t → Leads (ground (with_pen g (look_of_style s))) (cond t (sgr_bytes (0 ∷ [])) (present_bytes (λ _. sgr_bytes (49 ∷ [])) s.background_color ++ present_bytes (λ _. sgr_bytes (39 ∷ [])) s.foreground_color)) (ground (with_pen g plain_pen))
+closing_by : (g : Grid) (s : ContentStyle) (t : Bool) → (is_some s.underline_color || not (eqb (attribute_bits s.attributes) 0)) ≡ t → Leads (resting (with_pen g (look_of_style s))) (cond t (sgr_bytes (0 ∷ [])) (present_bytes (λ _. sgr_bytes (49 ∷ [])) s.background_color ++ present_bytes (λ _. sgr_bytes (39 ∷ [])) s.foreground_color)) (resting (with_pen g plain_pen))
 closing_by g s true e = sgr_leads (with_pen g (look_of_style s)) (0 ∷ []) plain_pen (omega arith, tt) refl
 closing_by g s false e =
     let defaults = present_bytes (λ _. sgr_bytes (49 ∷ [])) s.background_color in
-    subst (λ (q : Look). Leads (ground (with_pen g q)) (defaults ++ present_bytes (λ _. sgr_bytes (39 ∷ [])) s.foreground_color) (ground (with_pen g plain_pen))) (sym (colored_alone s e))
+    subst (λ (q : Look). Leads (resting (with_pen g q)) (defaults ++ present_bytes (λ _. sgr_bytes (39 ∷ [])) s.foreground_color) (resting (with_pen g plain_pen))) (sym (colored_alone s e))
     (then_leads _ _ _ defaults (present_bytes (λ _. sgr_bytes (39 ∷ [])) s.foreground_color) (default_background g (shown s.foreground_color) s.background_color) (default_foreground g s.foreground_color))
 
-pub closing_leads : (g : Grid) (s : ContentStyle) → Leads (ground (with_pen g (look_of_style s))) (closing_bytes s) (ground (with_pen g plain_pen))
+pub closing_leads : (g : Grid) (s : ContentStyle) → Leads (resting (with_pen g (look_of_style s))) (closing_bytes s) (resting (with_pen g plain_pen))
 closing_leads g s = closing_by g s (is_some s.underline_color || not (eqb (attribute_bits s.attributes) 0)) refl
 
 -- the commands of a style round characters
@@ -244,6 +244,6 @@ piece_paints s cs known is_shown g h pen =
     let p : Look = look_of_style s in
     let gs : List Glyph = cells_of p cs in
     let columns : HasColumns (with_pen g p) (length gs) = record { grid = record { full = h.grid.full; column = h.grid.column; row = h.grid.row }; row = h.row; columns = h.columns } in
-    subst (λ (q : Look). Leads (ground (with_pen g q)) (piece_bytes s cs) (ground (with_pen (painted g gs) q))) (sym pen)
+    subst (λ (q : Look). Leads (resting (with_pen g q)) (piece_bytes s cs) (resting (with_pen (painted g gs) q))) (sym pen)
     (then_leads _ _ _ (opening_bytes s) (cs ++ closing_bytes s) (opening_leads g s known)
     (then_leads _ _ _ cs (closing_bytes s) (text_leads cs (with_pen g p) is_shown columns) (closing_leads (painted g gs) s)))

@@ -1,5 +1,6 @@
 -- Rows that are drawn in an area of a screen.
-use Rattle.std.specs.Prelude.{◌≡◌, ◌⊎◌, ℕ, suc, ◌+◌, ◌<◌, ◌≤◌, List, [], ◌∷◌, ◌++◌, length, Some, slice_index_or}
+use Rattle.std.specs.Prelude.{◌≡◌, ◌⊎◌, ℕ, suc, ◌+◌, ◌-◌, ◌^◌, ◌<◌, ◌≤◌, ◌==◌, nat_lt, nat_le, ◌&&◌, Bool, List, [], ◌∷◌, ◌++◌, length, Some, slice_index_or, if◌then◌else◌}
+use Rattle.std.specs.List.{flat_map}
 use Rattle.mad_term.specs.Commands.{move_to_bytes}
 use Rattle.mad_term.specs.Glyph.{Glyph}
 use Rattle.mad_term.specs.Grid.{Grid, IsGrid, plain_pen, cell_at, blank}
@@ -49,3 +50,40 @@ abbrev pub DrawnAs : ℕ → ℕ → List (List Glyph) → List ℕ → Type 0
 DrawnAs left top rows bytes =
     (g : Grid) (w : ℕ) → FitsArea left top w rows g
     → (new : Grid) × (after_bytes g bytes ≡ Some new) × IsGrid new × (new.pen ≡ plain_pen) × ShowsRows left top w rows g new
+
+-- ---- runs of cells at any places
+
+-- the cursor goes to column x of row y, and these bytes write these cells
+pub record Strip : Type 0 where
+  pub x : ℕ
+  pub y : ℕ
+  pub bytes : List ℕ
+  pub cells : List Glyph
+
+abbrev pub strips_bytes : List Strip → List ℕ
+strips_bytes = flat_map (λ s. move_to_bytes s.x s.y ++ s.bytes)
+
+-- the bytes paint the cells, and these have places on the screen
+pub record FitsScreen (g : Grid) (s : Strip) : Type 0 where
+  pub paints : Paints s.bytes s.cells
+  pub some : 0 < length s.cells
+  pub columns : s.x + length s.cells ≤ g.width
+  pub row : s.y < g.height
+  pub small_column : s.x < 2 ^ 16
+  pub small_row : s.y < 2 ^ 16
+
+-- whether column x of row y is among its places
+abbrev pub covers : Strip → ℕ → ℕ → Bool
+covers s x y = (y == s.y) && nat_le s.x x && nat_lt x (s.x + length s.cells)
+
+-- what a place shows after them: the cell of the last one that covers it, or what it showed before
+abbrev pub cell_under : List Strip → ℕ → ℕ → Glyph → Glyph
+cell_under [] x y before = before
+cell_under (s ∷ strips) x y before =
+    cell_under strips x y (if covers s x y then slice_index_or s.cells (x - s.x) blank else before)
+
+-- the screen has the strips on it, and nothing else has changed
+pub record ShowsStrips (strips : List Strip) (old new : Grid) : Type 0 where
+  pub width : new.width ≡ old.width
+  pub height : new.height ≡ old.height
+  pub cells : (x y : ℕ) → x < old.width → cell_at new x y ≡ cell_under strips x y (cell_at old x y)

@@ -2,7 +2,7 @@
 use Rattle.std.specs.Prelude.{◌≡◌, ℕ, suc, ◌+◌, ◌-◌, ◌*◌, ◌≤◌, ◌&&◌, nat_lt, Bool, true, false, List, [], ◌∷◌, length, Option, Some, None, if◌then◌else◌, replicate, slice_index_or, slice_set}
 use Rattle.mad_term.specs.Glyph.{Glyph, Look}
 
--- the default pen: no colour, no attribute
+-- the default pen: no color, no attribute
 abbrev pub plain_pen : Look
 plain_pen = record { fg = None; bg = None; underline = None; codes = 0 }
 
@@ -51,6 +51,7 @@ painted g gs = record g { cells = put_list g.cells (g.y * g.width + g.x) gs; x =
 abbrev pub glyphs : List ℕ → ℕ → Look → List Glyph
 glyphs chars k pen = record { chars = chars; pen = pen } ∷ replicate k (record { chars = []; pen = pen })
 
+-- whether there are no characters
 abbrev pub has_none : List ℕ → Bool
 has_none [] = true
 has_none (c ∷ cs) = false

@@ -1,5 +1,5 @@
 -- What a text paints: the cells that the plain terminal shows of it.
-use Rattle.std.specs.Prelude.{◌≡◌, ℕ, zero, suc, ◌+◌, ◌-◌, ◌^◌, ◌<◌, ◌≤◌, Bool, false, List, [], ◌∷◌, ◌++◌, length, Option, Some, None, IsSome, option_map, option_and_then, if◌then◌else◌}
+use Rattle.std.specs.Prelude.{◌≡◌, ℕ, zero, suc, ◌+◌, ◌-◌, ◌^◌, ◌<◌, ◌≤◌, false, List, [], ◌∷◌, ◌++◌, length, Option, Some, None, IsSome, option_map, option_and_then, if◌then◌else◌}
 use Rattle.std.specs.Str.{chars, IsUtf8}
 use Rattle.std.specs.Int.RustNames.{bit_and}
 use Rattle.unicode_width.specs.Width.{char_width}
@@ -12,7 +12,7 @@ use Rattle.mad_term.specs.Color.{color_number}
 use Rattle.mad_term.specs.Columns.{char_columns}
 use Rattle.mad_term.specs.Glyph.{Glyph, Look}
 use Rattle.mad_term.specs.Grid.{Grid, IsGrid, plain_pen, painted, glyphs}
-use Rattle.mad_term.specs.Terminal.{Leads, ground}
+use Rattle.mad_term.specs.Terminal.{Leads, resting}
 
 -- ---- characters
 
@@ -22,6 +22,7 @@ attach None pen c r = r
 attach (Some zero) pen c r = (c ∷ r.0, r.1)
 attach (Some (suc k)) pen c r = ([], glyphs (c ∷ r.0) k pen ++ r.1)
 
+-- so from the end of a text to its front
 abbrev pub joined : Look → List ℕ → List ℕ × List Glyph
 joined pen [] = ([], [])
 joined pen (c ∷ cs) = attach (char_width false c) pen c (joined pen cs)
@@ -56,7 +57,7 @@ pub record HasColumns (g : Grid) (n : ℕ) : Type 0 where
 -- Characters that, read with the plain pen where there are columns for these cells, write them from the cursor on and
 -- leave the plain pen.
 abbrev pub CharsPaint : List ℕ → List Glyph → Type 0
-CharsPaint cs gs = (g : Grid) → HasColumns g (length gs) → g.pen ≡ plain_pen → Leads (ground g) cs (ground (painted g gs))
+CharsPaint cs gs = (g : Grid) → HasColumns g (length gs) → g.pen ≡ plain_pen → Leads (resting g) cs (resting (painted g gs))
 
 -- bytes whose characters do so
 pub record Paints (bytes : List ℕ) (cells : List Glyph) : Type 0 where
@@ -71,7 +72,7 @@ shown_color (Rgb r g b) = Some (Rgb r g b)
 shown_color c = option_map AnsiValue (color_number c)
 
 -- the pen that a style writes with, where the pen was plain: Reset comes behind the colors, before the other attributes,
--- and isn't kept itself
+-- and isn't kept itself (2 ^ 24 - 2 ^ 1 has the bits of all attributes but Reset)
 abbrev pub look_of_style : ContentStyle → Look
 look_of_style s =
     let codes = bit_and (attribute_bits s.attributes) (2 ^ 24 - 2 ^ 1) in

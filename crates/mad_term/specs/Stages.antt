@@ -1,21 +1,16 @@
 -- How far the reader of a screen has come, as the terminal's own words.
-use Rattle.std.specs.Prelude.{ℕ, List, Option, codes}
+use Rattle.std.specs.Prelude.{ℕ, List, Option}
 use Rattle.mad_term.specs.declared.reader.Stage.{Stage}
 use Rattle.mad_term.specs.declared.reader.Stage.TheVariants.{Text, Escaped, InNumbers}
 use Rattle.mad_term.specs.declared.reader.Reader.{Reader}
-use Rattle.mad_term.specs.declared.reader.NotPlain.{NotPlain}
-use Rattle.mad_term.specs.declared.reader.NotPlain.TheVariants.{Undefined, Memory}
-use Rattle.mad_term.specs.Terminal.{Mode, Ground, Escape, Numbers, Reading}
+use Rattle.mad_term.specs.Terminal.{Mode, Outside, Escape, Numbers, Reading}
 
+-- the stage of the code, with its numbers, as a mode
 abbrev pub mode_of : Stage → List ℕ → Option ℕ → Mode
-mode_of Text ps now = Ground
+mode_of Text ps now = Outside
 mode_of Escaped ps now = Escape
 mode_of InNumbers ps now = Numbers ps now
 
+-- the screen in the middle of a text
 abbrev pub reading_of : Reader → Reading
 reading_of r = record { grid = r.screen; mode = mode_of r.stage r.numbers.items r.now }
-
--- the text of a refusal
-abbrev pub refusal_text : NotPlain → List ℕ
-refusal_text Undefined = codes "not plain terminal output"
-refusal_text Memory = codes "want of memory"

@@ -1,17 +1,17 @@
 -- The bytes of colors, attributes and pieces.
-use Rattle.std.specs.Prelude.{◌≡◌, ℕ, ◌+◌, ◌==◌, ◌||◌, not, List, [], ◌∷◌, ◌++◌, Bool, true, false, Option, Some, None, is_some, if◌then◌else◌}
-use Rattle.std.specs.List.{flat_map}
+use Rattle.std.specs.Prelude.{◌≡◌, ℕ, ◌+◌, ◌==◌, ◌||◌, not, List, [], ◌∷◌, ◌++◌, Option, Some, None, is_some, if◌then◌else◌}
+use Rattle.std.specs.List.{flat_map, repeat}
 use Rattle.mad_term.specs.declared.attribute.Attribute.{Attribute}
 use Rattle.mad_term.specs.declared.attributes.Attributes.{Attributes}
 use Rattle.mad_term.specs.declared.color.Color.{Color}
-use Rattle.mad_term.specs.declared.color.Color.TheVariants.{Reset, Black, DarkGrey, Red, DarkRed, Green, DarkGreen, Yellow, DarkYellow, Blue, DarkBlue, Magenta, DarkMagenta, Cyan, DarkCyan, White, Grey, Rgb, AnsiValue}
+use Rattle.mad_term.specs.declared.color.Color.TheVariants.{Rgb}
 use Rattle.mad_term.specs.declared.styles.ContentStyle.{ContentStyle}
 use Rattle.mad_term.specs.Attribute.{all_attributes, attribute_code}
 use Rattle.mad_term.specs.Attributes.{attribute_bits, has_attribute}
 use Rattle.mad_term.specs.Color.{color_number, IsColorOrNone}
 use Rattle.mad_term.specs.Commands.{sgr_bytes}
 
--- a number of the palette, or the default
+-- the numbers that set a color of the palette, or the default where there is no number
 abbrev pub palette_numbers : ℕ → Option ℕ → List ℕ
 palette_numbers kind None = (kind + 1) ∷ []
 palette_numbers kind (Some n) = kind ∷ 5 ∷ n ∷ []
@@ -22,6 +22,7 @@ abbrev pub color_numbers : ℕ → Color → List ℕ
 color_numbers kind (Rgb r g b) = kind ∷ 2 ∷ r ∷ g ∷ b ∷ []
 color_numbers kind color = palette_numbers kind (color_number color)
 
+-- the command that sets a color of this kind
 abbrev pub color_bytes : ℕ → Color → List ℕ
 color_bytes kind color = sgr_bytes (color_numbers kind color)
 
@@ -34,11 +35,11 @@ background_bytes = color_bytes 48
 abbrev pub underline_bytes : Color → List ℕ
 underline_bytes = color_bytes 58
 
--- an attribute has a command of its own
+-- the command that sets an attribute
 abbrev pub attribute_bytes : Attribute → List ℕ
 attribute_bytes a = sgr_bytes (attribute_code a ∷ [])
 
--- the attributes of a set, in their order
+-- those of a set's attributes, each a command of its own, in the order of the table of codes
 abbrev pub attributes_bytes : Attributes → List ℕ
 attributes_bytes s = flat_map (λ a. if has_attribute s a then attribute_bytes a else []) all_attributes
 
@@ -79,3 +80,7 @@ closing_bytes s =
 -- a piece: one text in one style
 abbrev pub piece_bytes : ContentStyle → List ℕ → List ℕ
 piece_bytes style text = opening_bytes style ++ (text ++ closing_bytes style)
+
+-- a run: a text so many times in one style, as one piece; a run of none writes nothing
+abbrev pub styled_run_bytes : ContentStyle → List ℕ → ℕ → List ℕ
+styled_run_bytes style text count = if count == 0 then [] else piece_bytes style (repeat count text)

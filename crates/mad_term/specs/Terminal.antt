@@ -1,6 +1,6 @@
 -- The plain terminal: what each character does to a screen, and so what a text does. A text that it can't read has no
 -- result.
-use Rattle.std.specs.Prelude.{◌≡◌, ℕ, zero, suc, ◌+◌, ◌-◌, ◌*◌, ◌^◌, min, ◌==◌, nat_lt, nat_le, ◌&&◌, Bool, true, false, List, [], ◌∷◌, ◌++◌, Option, Some, None, option_map, option_and_then, if◌then◌else◌, replicate, slice_index_or, slice_set, find}
+use Rattle.std.specs.Prelude.{◌≡◌, ℕ, zero, suc, ◌+◌, ◌-◌, ◌*◌, ◌^◌, min, ◌==◌, nat_lt, nat_le, ◌&&◌, Bool, false, List, [], ◌∷◌, ◌++◌, Option, Some, None, option_map, option_and_then, if◌then◌else◌, replicate, slice_index_or, slice_set, find}
 use Rattle.std.specs.Str.{chars, is_utf8}
 use Rattle.std.specs.Int.RustNames.{bit_or}
 use Rattle.unicode_width.specs.Width.{char_width}
@@ -20,6 +20,7 @@ head_before cells start zero = None
 head_before cells start (suc x) =
     if is_tail (slice_index_or cells (start + x) blank) then head_before cells start x else Some (start + x)
 
+-- a cell with one more character joined to it
 abbrev pub joined_glyph : Glyph → ℕ → Glyph
 joined_glyph g c = record g { chars = g.chars ++ c ∷ [] }
 
@@ -56,7 +57,7 @@ space_of p = record { chars = 32 ∷ []; pen = record plain_pen { bg = p.bg } }
 unfoldable pub erased : ℕ → ℕ → Grid → Grid
 erased from to g = record g { cells = put_list g.cells from (replicate (to - from) (space_of g.pen)) }
 
--- the places where the cursor's row begins and ends, and where the screen ends
+-- the places where the cursor's row begins and ends, and where the screen ends; places are counted along the rows
 abbrev pub row_start : Grid → ℕ
 row_start g = g.y * g.width
 
@@ -89,7 +90,7 @@ switched_on a p = record p { codes = bit_or p.codes (2 ^ place a) }
 abbrev pub attribute_of : ℕ → Option Attribute
 attribute_of n = find (λ a. attribute_code a == n) all_attributes
 
--- the default colour for characters, behind them or for the lines below, or an attribute
+-- the default color for characters, behind them or for the lines below, or an attribute
 abbrev pub with_code : ℕ → Look → Option Look
 with_code n p =
     if n == 39 then Some (record p { fg = None })
@@ -97,14 +98,14 @@ with_code n p =
     else if n == 59 then Some (record p { underline = None })
     else option_map (λ a. switched_on a p) (attribute_of n)
 
--- a colour for characters, behind them or for the lines below
+-- a color for characters, behind them or for the lines below
 abbrev pub with_color : ℕ → Color → Look → Option Look
 with_color n c p =
     if n == 38 then Some (record p { fg = Some c })
     else if n == 48 then Some (record p { bg = Some c })
     else if n == 58 then Some (record p { underline = Some c }) else None
 
--- one code, or one colour by number or by its three parts
+-- one code, or one color by number or by its three parts
 abbrev pub restyled : List ℕ → Look → Option Look
 restyled (n ∷ []) p = with_code n p
 restyled (n ∷ kind ∷ number ∷ []) p = if (kind == 5) && nat_lt number 256 then with_color n (AnsiValue number) p else None
@@ -112,7 +113,7 @@ restyled (n ∷ kind ∷ r ∷ g ∷ b ∷ []) p =
     if (kind == 2) && nat_lt r 256 && nat_lt g 256 && nat_lt b 256 then with_color n (Rgb r g b) p else None
 restyled _ p = None
 
--- the command that a letter ends: `H`, `m`, `J` or `K`
+-- the command that a letter ends: 72 is `H`, 109 `m`, 74 `J`, 75 `K`
 abbrev pub perform : ℕ → List ℕ → Grid → Option Grid
 perform c ps g =
     if c == 72 then go_to ps g
@@ -125,7 +126,7 @@ perform c ps g =
 
 -- how far a sequence has come: outside one, behind ESC, or among the numbers, behind these and with so much of the next
 pub data Mode : Type 0 where
-  Ground : Mode
+  Outside : Mode
   Escape : Mode
   Numbers : List ℕ → Option ℕ → Mode
 
@@ -134,12 +135,15 @@ pub record Reading : Type 0 where
   pub grid : Grid
   pub mode : Mode
 
-abbrev pub ground : Grid → Reading
-ground g = record { grid = g; mode = Ground }
+-- outside a sequence
+abbrev pub resting : Grid → Reading
+resting g = record { grid = g; mode = Outside }
 
+-- among the numbers of a sequence
 abbrev pub numbers : Grid → List ℕ → Option ℕ → Reading
 numbers g ps now = record { grid = g; mode = Numbers ps now }
 
+-- 0 to 9
 abbrev pub is_digit : ℕ → Bool
 is_digit c = nat_le 48 c && nat_le c 57
 
@@ -148,15 +152,16 @@ abbrev pub with_digit : Option ℕ → ℕ → Option ℕ
 with_digit None d = Some d
 with_digit (Some n) d = if n == 0 then None else if nat_lt (n * 10 + d) (2 ^ 32) then Some (n * 10 + d) else None
 
--- what ends a number, or stands where none is: a semicolon asks for one more, a letter ends the sequence
+-- what ends a number, or stands where none is: a semicolon (59) asks for one more, a letter ends the sequence
 abbrev pub end_number : Grid → List ℕ → Option ℕ → ℕ → Option Reading
-end_number g [] None c = option_map ground (perform c [] g)
+end_number g [] None c = option_map resting (perform c [] g)
 end_number g (p ∷ ps) None c = None
 end_number g ps (Some n) c =
-    if c == 59 then Some (numbers g (ps ++ n ∷ []) None) else option_map ground (perform c (ps ++ n ∷ []) g)
+    if c == 59 then Some (numbers g (ps ++ n ∷ []) None) else option_map resting (perform c (ps ++ n ∷ []) g)
 
+-- what a character does, by how far a sequence has come: 27 is ESC, 91 is `[`
 abbrev pub feed_in : Mode → Grid → ℕ → Option Reading
-feed_in Ground g c = if c == 27 then Some (record { grid = g; mode = Escape }) else option_map ground (put g c)
+feed_in Outside g c = if c == 27 then Some (record { grid = g; mode = Escape }) else option_map resting (put g c)
 feed_in Escape g c = if c == 91 then Some (numbers g [] None) else None
 feed_in (Numbers ps now) g c =
     if is_digit c then option_map (λ n. numbers g ps (Some n)) (with_digit now (c - 48)) else end_number g ps now c
@@ -176,8 +181,9 @@ Leads r cs s = feed_all cs r ≡ Some s
 
 -- ---- texts
 
+-- a text may end outside a sequence alone
 abbrev pub settled_in : Mode → Grid → Option Grid
-settled_in Ground g = Some g
+settled_in Outside g = Some g
 settled_in Escape g = None
 settled_in (Numbers ps now) g = None
 
@@ -187,4 +193,4 @@ settled r = settled_in r.mode r.grid
 
 -- the screen after these bytes, if the plain terminal can read them
 unfoldable pub after_bytes : Grid → List ℕ → Option Grid
-after_bytes g bytes = if is_utf8 bytes then option_and_then settled (feed_all (chars bytes) (ground g)) else None
+after_bytes g bytes = if is_utf8 bytes then option_and_then settled (feed_all (chars bytes) (resting g)) else None

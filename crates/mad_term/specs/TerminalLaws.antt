@@ -1,6 +1,6 @@
 -- What drawing relies on, said of the plain terminal's definition.
-use Rattle.std.specs.Prelude.{◌≡◌, ◌⊎◌, ℕ, ◌+◌, ◌^◌, ◌<◌, ◌≤◌, min, List, [], ◌∷◌, ◌++◌, length, Option, Some, None}
-use Rattle.std.specs.List.{sum_by, flat_map, AllByRecursion}
+use Rattle.std.specs.Prelude.{◌≡◌, ℕ, ◌+◌, ◌^◌, ◌<◌, min, List, [], ◌∷◌, ◌++◌, length, Some, ◌*◌, ◌&&◌, nat_lt, nat_le, if◌then◌else◌}
+use Rattle.std.specs.List.{sum_by, AllByRecursion}
 use Rattle.std.specs.Str.{chars, IsUtf8}
 use Rattle.mad_term.specs.declared.color.Color.{Color}
 use Rattle.mad_term.specs.declared.commands.ClearType.TheVariants.{All, FromCursorDown, FromCursorUp, CurrentLine, UntilNewLine}
@@ -10,10 +10,10 @@ use Rattle.mad_term.specs.Columns.{char_columns}
 use Rattle.mad_term.specs.Commands.{move_to_bytes, clear_bytes}
 use Rattle.mad_term.specs.Styles.{foreground_bytes, background_bytes, piece_bytes, IsStyle}
 use Rattle.mad_term.specs.Glyph.{Glyph, Look}
-use Rattle.mad_term.specs.Grid.{Grid, IsGrid, plain_pen, painted}
-use Rattle.mad_term.specs.Terminal.{after_bytes, erased, row_start, row_end, screen_end}
+use Rattle.mad_term.specs.Grid.{Grid, IsGrid, plain_pen, painted, cell_at}
+use Rattle.mad_term.specs.Terminal.{after_bytes, erased, space_of, row_start, row_end, screen_end}
 use Rattle.mad_term.specs.Painting.{cells_of, IsShown, HasColumns, Paints, shown_color, piece_cells}
-use Rattle.mad_term.specs.Drawing.{drawing, PaintRows, ShowsRows, DrawnAs}
+use Rattle.mad_term.specs.Drawing.{drawing, PaintRows, ShowsRows, DrawnAs, Strip, strips_bytes, FitsScreen, ShowsStrips}
 
 -- a text behind another is read where that one ended
 abbrev pub ReadsInTurn : Type 0
@@ -76,3 +76,16 @@ abbrev pub DrawsRows : Type 0
 DrawsRows =
     (left top : ℕ) (texts : List (List ℕ)) (rows : List (List Glyph)) → left < 2 ^ 16 → top + length rows < 2 ^ 32 → PaintRows texts rows
     → DrawnAs left top rows (drawing left top texts)
+
+-- runs of cells at any places of a screen are shown there, the later ones over those before, and nothing else changes
+abbrev pub DrawsStrips : Type 0
+DrawsStrips =
+    (strips : List Strip) (g : Grid) → IsGrid g → g.pen ≡ plain_pen → AllByRecursion (FitsScreen g) strips
+    → (new : Grid) × (after_bytes g (strips_bytes strips) ≡ Some new) × IsGrid new × (new.pen ≡ plain_pen) × ShowsStrips strips g new
+
+-- erased places are spaces with the pen's background alone, and the others stay; a place is counted along the rows
+abbrev pub ErasesPlaces : Type 0
+ErasesPlaces =
+    (g : Grid) (from to x y : ℕ) → IsGrid g → x < g.width → y < g.height
+    → cell_at (erased from to g) x y
+    ≡ (if nat_le from (y * g.width + x) && nat_lt (y * g.width + x) to then space_of g.pen else cell_at g x y)

@@ -1,4 +1,5 @@
-// The cells of a screen.
+//! The cells of a screen.
+
 ghost use Rattle.std.specs.Prelude.{◌≡◌, ◌<◌, ◌≤◌, ◌+◌, ◌-◌, [], ◌∷◌, IfOk, IfSome, OnOk, length, vec_len, replicate};
 ghost use Rattle.mad_term.specs.Glyph.{look_of};
 ghost use Rattle.mad_term.specs.Grid.{put_list, is_tail, glyphs};
@@ -11,8 +12,10 @@ use std::marker::Model;
 /// What one cell of a screen shows. A further column of a wide character is a tail, which has no characters.
 #[derive(Debug, Drop)]
 pub struct Cell {
-    chars: Vec<char>,
-    pen: Pen,
+    /// The character and the widthless ones joined to it, in the order in which they came.
+    pub chars: Vec<char>,
+    /// The pen that it was written with.
+    pub pen: Pen,
 }
 
 impl Model for Cell {
@@ -31,20 +34,6 @@ impl Cell {
         let mut chars = Vec::new(alloc);
         chars.push(c)?;
         Ok(Cell { chars, pen })
-    }
-
-    /// The character and the widthless ones joined to it.
-    pub fn chars(&self) -> &[char]
-        ensures { result.now ≡ self.now.chars }
-    {
-        self.chars.as_slice()
-    }
-
-    /// The pen that it was written with.
-    pub fn pen(&self) -> Pen
-        ensures { look_of result ≡ self.now.pen }
-    {
-        self.pen
     }
 
     /// Whether it is a further column of a wide character.
@@ -79,6 +68,7 @@ impl Cell {
         self.pen = pen;
     }
 
+    /// Joins a widthless character to those that it shows.
     pub(crate) fn join(&mut self, c: char) -> Result<(), AllocError>
         ensures { OnOk result (self.new ≡ joined_glyph self.old c) }
     {
@@ -118,7 +108,7 @@ pub(crate) fn erase(
 {
     let space = Pen {
         bg: pen.bg,
-        ..Pen::plain()
+        ..Pen::default()
     };
     let end = to.min(cells.len());
     for at in from..end {
@@ -143,6 +133,7 @@ pub(crate) fn find_head(cells: &[Cell], start: usize, x: usize) -> Option<usize>
     None
 }
 
+/// Copies of the cells, on memory of their own.
 pub(crate) fn copy_all(alloc: Global, cells: &[Cell]) -> Result<Vec<Cell>, AllocError>
     ensures { IfOk result (λ copies. copies.items ≡ cells.now) }
 {

@@ -34,6 +34,8 @@ impl Color {
     /// Its number in the terminal's palette. `Reset` and a mix of red, green and blue have none.
     pub fn number(self) -> Option<u8>
         ensures value { result ≡ color_number self }
+
+        // Its own numbers are bytes, which a terminal asks for that reads them.
         ensures bytes { IsColor self }
     {
         match self {

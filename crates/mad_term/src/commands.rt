@@ -1,4 +1,5 @@
-//! The commands that move the cursor and erase.
+//! The commands that move the cursor and erase: CUP, ED and EL of ECMA-48, in the forms that this
+//! project's profile has of them.
 
 ghost use Rattle.std.specs.Prelude.{◌≡◌, ◌++◌, Some, OnOk, string_bytes};
 
@@ -56,7 +57,7 @@ ghost use Rattle.mad_term.specs.Commands.{move_to_bytes, clear_bytes};
 ///
 /// # Errors
 ///
-/// Want of memory.
+/// Want of memory. What the row then ends with is open.
 pub fn push_move(row: &mut String, x: u16, y: u16) -> Result<(), AllocError>
     ensures { OnOk result (string_bytes row.new ≡ string_bytes row.old ++ move_to_bytes x y) }
 {
@@ -68,14 +69,14 @@ pub fn push_move(row: &mut String, x: u16, y: u16) -> Result<(), AllocError>
 ///
 /// # Errors
 ///
-/// Want of memory.
+/// Want of memory. What the row then ends with is open.
 pub fn push_clear(row: &mut String, what: ClearType) -> Result<(), AllocError>
     ensures { OnOk result (string_bytes row.new ≡ string_bytes row.old ++ clear_bytes what) }
 {
     row.push_str(clear_text(what))
 }
 
-// The command that erases.
+/// The text of the command that erases.
 #[tactic(auto, using(std::proofs::lemmas::Fmt::decimal_digit))]
 pub(crate) fn clear_text(what: ClearType) -> &'static str
     ensures { result.now ≡ clear_bytes what }

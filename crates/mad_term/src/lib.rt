@@ -6,9 +6,12 @@
 //! 2. [`devices`]: what takes bytes ([`Out`]) and what gives them ([`Source`]), and [`put_all`].
 //! 3. [`streams`]: the readers and writers of the standard library as devices.
 //! 4. [`scripted`]: devices for tests, which fail where one wants them to.
-//! 5. [`color`], [`attribute`], [`attributes`]: how a text may look.
-//! 6. [`pen`], [`cell`], [`screen`], [`reader`]: the plain terminal, which says what bytes show.
-//! 7. [`laws`]: what drawing relies on.
+//! 5. [`columns`]: how wide a character is.
+//! 6. [`color`], [`attribute`], [`attributes`]: how a text may look.
+//! 7. [`commands`], [`styles`]: the bytes of moves, erasures and texts in a style, by Display and in a row buffer.
+//! 8. [`queue`]: the same, to a device.
+//! 9. [`pen`], [`cell`], [`screen`], [`reader`]: the plain terminal, which says what bytes show.
+//! 10. [`laws`]: what drawing relies on.
 #![tactic(auto)]
 
 mod attribute;
@@ -23,13 +26,14 @@ pub mod laws;
 mod pen;
 mod queue;
 mod reader;
+mod runs;
 mod screen;
 mod scripted;
 mod streams;
 mod styles;
 
 pub use attribute::Attribute;
-pub use attributes::{AttributeBits, Attributes};
+pub use attributes::Attributes;
 pub use cell::Cell;
 pub use color::Color;
 pub use columns::char_columns;
@@ -39,6 +43,7 @@ pub use errors::{Error, InsufficientWidthError};
 pub use pen::Pen;
 pub use queue::{queue_bg, queue_clear, queue_fg, queue_move, queue_styled};
 pub use reader::NotPlain;
+pub use runs::{StyledNumber, StyledRun};
 pub use screen::Screen;
 pub use scripted::{CutOut, ScriptSource};
 pub use streams::Stream;

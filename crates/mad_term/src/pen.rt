@@ -1,32 +1,38 @@
-// What the plain terminal writes characters with.
+//! The pen of the plain terminal.
+
 ghost use Rattle.std.specs.Prelude.{◌≡◌, option_map};
 ghost use Rattle.mad_term.specs.Glyph.{look_of};
-ghost use Rattle.mad_term.specs.Grid.{plain_pen};
 ghost use Rattle.mad_term.specs.Terminal.{restyled, attribute_of, switched_on, with_code, with_color};
 
 use crate::attribute::Attribute;
 use crate::attributes::Attributes;
 use crate::color::Color;
 
-/// How a terminal shows the characters that it puts on the screen: three colours and a set of attributes. A colour that is
-/// `None` is the terminal's default; one that is there is an `AnsiValue` or an `Rgb`.
+/// How a terminal shows the characters that it puts on the screen: three colors and a set of attributes.
+///
+/// A color that is `None` is the terminal's default, as `Reset` makes it. One that is there is an `AnsiValue` (named colors
+/// by their numbers) or an `Rgb`.
 #[derive(Clone, Copy, Debug, PartialEq, Eq)]
 pub struct Pen {
-    /// The colour of characters.
+    /// The color of characters.
     pub fg: Option<Color>,
-    /// The colour behind them.
+    /// The color behind them.
     pub bg: Option<Color>,
-    /// The colour of lines below them.
+    /// The color of lines below them.
     pub underline: Option<Color>,
-    /// The attributes that were switched on since the pen was last the default one.
+    /// The attributes whose codes came since the pen was last made the default one. Codes that switch something off are
+    /// attributes like the others; `Reset`, code 0, makes the pen the default one and isn't kept.
     pub codes: Attributes,
 }
 
-impl Pen {
-    /// The default pen: no colour, no attribute.
-    pub fn plain() -> Self
-        ensures { look_of result ≡ plain_pen }
-    {
+impl Default for Pen {
+    ghost use Rattle.mad_term.specs.Glyph.{look_of};
+    ghost use Rattle.mad_term.specs.Grid.{plain_pen};
+
+    ghost is_default = { λ p. look_of p ≡ plain_pen };
+
+    /// The default pen: no color, no attribute.
+    fn default() -> Self {
         Pen {
             fg: None,
             bg: None,
@@ -34,7 +40,9 @@ impl Pen {
             codes: Attributes::default(),
         }
     }
+}
 
+impl Pen {
     /// The pen after the command `m` with these numbers, if it is one.
     pub(crate) fn restyled(self, numbers: &[u32]) -> Option<Self>
         ensures { option_map look_of result ≡ restyled numbers.now (look_of self) }
@@ -92,7 +100,7 @@ impl Pen {
         ensures { look_of result ≡ switched_on attribute (look_of self) }
     {
         if attribute == Attribute::Reset {
-            return Pen::plain();
+            return Pen::default();
         }
         let mut codes = self.codes;
         codes.set(attribute);

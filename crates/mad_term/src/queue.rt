@@ -81,6 +81,8 @@ pub fn queue_styled<O: Out>(
     text: &str,
 ) -> Result<(), Error>
     ensures writes { Draws (O.seen out.old) (piece_bytes style text.now) result (O.seen out.new) }
+
+    // The numbers of its colors are bytes, which a terminal asks for that reads them.
     ensures bytes { IsStyle style }
 {
     // A plain text goes out as it is.

@@ -1,10 +1,11 @@
-// How a screen reads bytes.
-ghost use Rattle.std.specs.Prelude.{◌≡◌, ◌<◌, ◌≤◌, ◌+◌, ◌^◌, None, Some, [], ◌∷◌, IfOk, OnOk, OnErr, IsErrOf, MatchBool, chars};
-ghost use Rattle.mad_term.specs.Terminal.{feed, feed_all, settled, after_bytes, with_digit, Ground};
+//! How a screen reads a text: character by character, with the sequence that it is in the middle of.
+
+ghost use Rattle.std.specs.Prelude.{◌≡◌, ◌<◌, None, Some, IfOk, MatchBool, chars};
+ghost use Rattle.mad_term.specs.Terminal.{feed, feed_all, settled, with_digit, resting};
 ghost use Rattle.mad_term.specs.Stages.{reading_of};
 
 use crate::screen::Screen;
-use std::alloc::AllocError;
+use std::alloc::{AllocError, Global};
 use std::fmt;
 
 /// How far a sequence has come.
@@ -35,9 +36,9 @@ pub enum NotPlain {
 
 impl fmt::Display for NotPlain {
     ghost use Rattle.std.specs.Prelude.{Some};
-    ghost use Rattle.mad_term.specs.Stages.{refusal_text};
+    ghost use Rattle.mad_term.specs.Errors.{refused_text};
 
-    ghost output = { λ e. Some (refusal_text e) };
+    ghost output = { λ e. Some (refused_text e) };
 
     fn fmt<W: fmt::Write>(&self, f: &mut fmt::Formatter<W>) -> fmt::Result {
         match self {
@@ -72,12 +73,13 @@ fn with_digit(now: Option<u32>, digit: u32) -> Option<u32>
 }
 
 impl Reader {
-    fn new(screen: Screen) -> Self
-        ensures { reading_of result ≡ record { grid = screen; mode = Ground } }
+    /// Outside a sequence, before any text.
+    pub(crate) fn new(alloc: Global, screen: Screen) -> Self
+        ensures { reading_of result ≡ resting screen }
     {
         Reader {
-            numbers: Vec::new(screen.alloc()),
             screen,
+            numbers: Vec::new(alloc),
             stage: Stage::Text,
             now: None,
         }
@@ -131,7 +133,7 @@ impl Reader {
     }
 
     /// The screen, if no sequence is cut off.
-    fn finish(self) -> Option<Screen>
+    pub(crate) fn finish(self) -> Option<Screen>
         ensures { result ≡ settled (reading_of self) }
     {
         let Reader {
@@ -147,7 +149,7 @@ impl Reader {
     }
 
     /// Characters, one after another. It answers whether the terminal can read them.
-    fn run(&mut self, text: &str) -> Result<bool, AllocError>
+    pub(crate) fn run(&mut self, text: &str) -> Result<bool, AllocError>
         ensures { IfOk result (λ done. MatchBool done (feed_all (chars text.now) (reading_of self.old) ≡ Some (reading_of self.new)) (feed_all (chars text.now) (reading_of self.old) ≡ None)) }
     {
         for c in text.chars() {
@@ -156,29 +158,5 @@ impl Reader {
             }
         }
         Ok(true)
-    }
-}
-
-impl Screen {
-    /// Reads a text: UTF-8 characters and the sequences that this crate writes. It fails by `Undefined` where the plain
-    /// terminal can't read the text, and by `Memory` where there is not the memory to; the screen is then unchanged. It
-    /// reads on a copy of the screen, so that a call takes time that grows with the screen too.
-    pub fn read_bytes(&mut self, bytes: &[u8]) -> Result<(), NotPlain>
-        ensures read { OnOk result (after_bytes self.old bytes.now ≡ Some self.new) }
-        ensures not_plain { IsErrOf result NotPlain.Undefined → after_bytes self.old bytes.now ≡ None }
-        ensures err { OnErr result (self.new ≡ self.old) }
-    {
-        let Ok(text) = std::str::from_utf8(bytes) else {
-            return Err(NotPlain::Undefined);
-        };
-        let mut reader = Reader::new(self.copy()?);
-        if !reader.run(text)? {
-            return Err(NotPlain::Undefined);
-        }
-        let Some(screen) = reader.finish() else {
-            return Err(NotPlain::Undefined);
-        };
-        *self = screen;
-        Ok(())
     }
 }

@@ -1,17 +1,29 @@
-// The plain terminal's screen.
-ghost use Rattle.std.specs.Prelude.{◌≡◌, ◌<◌, ◌≤◌, ◌+◌, ◌*◌, ◌^◌, None, Some, suc, IfOk, OnOk, MatchBool, length, vec_len, replicate};
+//! The plain terminal: a screen that reads bytes.
+
+ghost use Rattle.std.specs.Prelude.{◌≡◌, ◌<◌, ◌≤◌, ◌+◌, ◌*◌, ◌^◌, None, Some, suc, IfOk, OnOk, OnErr, IsErrOf, MatchBool, length, vec_len, replicate};
 ghost use Rattle.std.specs.Option.{option_copied};
 ghost use Rattle.mad_term.specs.Glyph.{look_of};
-ghost use Rattle.mad_term.specs.Grid.{cell_on_screen, empty_grid};
-ghost use Rattle.mad_term.specs.Terminal.{put, put_wide, go_to, erased, erase_row, erase_screen, perform};
+ghost use Rattle.mad_term.specs.Grid.{IsGrid, cell_on_screen, empty_grid};
+ghost use Rattle.mad_term.specs.Terminal.{after_bytes, put, put_wide, go_to, erased, erase_row, erase_screen, perform};
 
 use crate::cell::{Cell, copy_all, erase, find_head, lay};
 use crate::pen::Pen;
+use crate::reader::{NotPlain, Reader};
 use std::alloc::{AllocError, Global};
 use std::marker::Model;
 use unicode_width::UnicodeWidthChar;
 
-/// A screen as a plain terminal keeps it: rows of cells, a cursor and a pen.
+/// The screen of a plain terminal: rows of cells, a cursor and a pen.
+///
+/// It reads characters and the sequences that this crate writes, exactly as they are written: moves (`ESC[row;columnH`,
+/// counted from one), one color or one attribute in a command (`ESC[..m`) and erasures (`ESC[J`, `ESC[1J`, `ESC[2J`,
+/// `ESC[K`, `ESC[2K`). A character takes the columns that `unicode_width` gives it, itself in the first and tails in the
+/// others; a widthless one joins the first cell to the left that is no tail. Half of a wide character can be overwritten,
+/// and the other half stays. Erasing leaves spaces with the pen's background alone, and the cursor where it was.
+///
+/// All else is undefined: other sequences, numbers with a leading zero or missing, colors past 255, a move off the screen
+/// (also to the column past the last), a character without room before the right edge, a widthless one in column 0, a
+/// control character. A screen may have no rows or no columns; every character on it is undefined.
 #[derive(Debug, Drop)]
 pub struct Screen {
     width: u16,
@@ -35,10 +47,11 @@ impl Model for Screen {
 
 impl Screen {
     /// An empty screen of `width` columns and `height` rows: spaces in the default pen, the cursor in the first place.
+    /// It keeps the allocator, and fails where there is not the memory.
     pub fn new(alloc: Global, width: u16, height: u16) -> Result<Self, AllocError>
         ensures { IfOk result (λ screen. screen ≡ empty_grid width height) }
     {
-        let pen = Pen::plain();
+        let pen = Pen::default();
         let count = usize::from(height) * usize::from(width);
         let mut cells = Vec::with_capacity(alloc, count)?;
         for _i in 0..count {
@@ -68,7 +81,8 @@ impl Screen {
 
     /// The cursor's column and row, counted from zero. The column is the width once a row's last column was written.
     pub fn cursor(&self) -> (u16, u16)
-        ensures { result ≡ (self.now.x, self.now.y) }
+        ensures place { result ≡ (self.now.x, self.now.y) }
+        ensures on_screen { IsGrid self.now }
     {
         (self.x, self.y)
     }
@@ -78,6 +92,34 @@ impl Screen {
         ensures { look_of result ≡ self.now.pen }
     {
         self.pen
+    }
+
+    /// Reads a text: characters in UTF-8, and the sequences that this crate writes. A text that comes in parts can be
+    /// read part by part, if no part ends inside a character or a sequence.
+    ///
+    /// It takes time that grows with the screen too, since the text is read on a copy.
+    ///
+    /// # Errors
+    ///
+    /// `Undefined` where a plain terminal can't read the text, and `Memory` where there is not the memory to. The screen
+    /// is then as it was.
+    pub fn read_bytes(&mut self, bytes: &[u8]) -> Result<(), NotPlain>
+        ensures read { OnOk result (after_bytes self.old bytes.now ≡ Some self.new) }
+        ensures not_plain { IsErrOf result NotPlain.Undefined → after_bytes self.old bytes.now ≡ None }
+        ensures err { OnErr result (self.new ≡ self.old) }
+    {
+        let Ok(text) = std::str::from_utf8(bytes) else {
+            return Err(NotPlain::Undefined);
+        };
+        let mut reader = Reader::new(*self.cells.allocator(), self.copy()?);
+        if !reader.run(text)? {
+            return Err(NotPlain::Undefined);
+        }
+        let Some(screen) = reader.finish() else {
+            return Err(NotPlain::Undefined);
+        };
+        *self = screen;
+        Ok(())
     }
 
     fn row_start(&self) -> usize
@@ -139,8 +181,7 @@ impl Screen {
                 if 1 <= *row
                     && *row <= u32::from(self.height)
                     && 1 <= *column
-                    && *column <= u32::from(self.width) =>
-            {
+                    && *column <= u32::from(self.width) => {
                 self.x = *column as u16 - 1;
                 self.y = *row as u16 - 1;
                 true
@@ -173,10 +214,11 @@ impl Screen {
         ensures { IfOk result (λ done. MatchBool done (erase_screen numbers.now self.old ≡ Some self.new) (erase_screen numbers.now self.old ≡ None)) }
     {
         let start = self.row_start();
+        let behind = (usize::from(self.x) + 1).min(usize::from(self.width));
         let end = usize::from(self.height) * usize::from(self.width);
         let (from, to) = match numbers {
             [] => (start + usize::from(self.x), end),
-            [1] => (0, start + (usize::from(self.x) + 1).min(usize::from(self.width))),
+            [1] => (0, start + behind),
             [2] => (0, end),
             _ => return Ok(false),
         };
@@ -211,7 +253,7 @@ impl Screen {
         }
     }
 
-    pub(crate) fn copy(&self) -> Result<Self, AllocError>
+    fn copy(&self) -> Result<Self, AllocError>
         ensures { IfOk result (λ screen. screen ≡ self.now) }
     {
         Ok(Screen {
@@ -223,11 +265,7 @@ impl Screen {
             pen: self.pen,
         })
     }
-
-    /// Where its memory comes from.
-    pub(crate) fn alloc(&self) -> Global
-        ensures { result ≡ result }
-    {
-        *self.cells.allocator()
-    }
 }
+
+#[cfg(test)]
+mod tests;

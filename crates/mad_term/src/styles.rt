@@ -1,4 +1,7 @@
 //! Styles, and the commands that a piece, a text in a style, is written with.
+//!
+//! The commands are SGR of ECMA-48. The numbers after 38 and 48, the codes 58 and 59 and the meaning
+//! of 21 are those of this project's profile. Colors are always written.
 
 ghost use Rattle.std.specs.Prelude.{◌≡◌, ◌++◌, ◌↔◌, IsTrue, OnOk, string_bytes};
 ghost use Rattle.mad_term.specs.Styles.{foreground_bytes, background_bytes, piece_bytes, closing_bytes, IsStyle};
@@ -40,6 +43,8 @@ impl ContentStyle {
     /// Whether the style sets nothing.
     pub fn is_plain(self) -> bool
         ensures plain { IsTrue result ↔ IsPlain self }
+
+        // The numbers of its colors are bytes, which a terminal asks for that reads them.
         ensures bytes { IsStyle self }
     {
         self.foreground_color.is_none()
@@ -51,7 +56,9 @@ impl ContentStyle {
 
 // The first number of the command that sets a color: what is colored. One more gives its default.
 const FOREGROUND: u8 = 38;
+
 const BACKGROUND: u8 = 48;
+
 const UNDERLINE: u8 = 58;
 
 // The command that sets a color, or nothing where there is none.
@@ -67,7 +74,6 @@ impl fmt::Display for ColorCommand {
 
     ghost output = { λ c. Some (present_bytes (color_bytes c.kind) c.color) };
 
-    #[tactic(auto, using(std::proofs::lemmas::Fmt::decimal_digit))]
     fn fmt<W: fmt::Write>(&self, f: &mut fmt::Formatter<W>) -> fmt::Result {
         let kind = self.kind;
         let Some(color) = self.color else {
@@ -96,7 +102,12 @@ impl fmt::Display for AttributeCommands {
 
     ghost output = { λ c. Some (attributes_bytes c.0) };
 
+    #[tactic(auto, using(crate::proofs::Pieces::no_attributes))]
     fn fmt<W: fmt::Write>(&self, f: &mut fmt::Formatter<W>) -> fmt::Result {
+        // Most styles have none.
+        if self.0.is_empty() {
+            return Ok(());
+        }
         for attribute in &Attribute::ALL {
             if self.0.has(*attribute) {
                 let code = attribute.code();
@@ -107,9 +118,37 @@ impl fmt::Display for AttributeCommands {
     }
 }
 
-// What makes the pen plain again after a text in this style.
+// What a style writes before a text.
+#[derive(Clone, Copy)]
+pub(crate) struct StyleOpening(pub(crate) ContentStyle);
+
+impl fmt::Display for StyleOpening {
+    ghost use Rattle.std.specs.Prelude.{Some};
+    ghost use Rattle.mad_term.specs.Styles.{opening_bytes};
+
+    ghost output = { λ o. Some (opening_bytes o.0) };
+
+    fn fmt<W: fmt::Write>(&self, f: &mut fmt::Formatter<W>) -> fmt::Result {
+        let background = ColorCommand {
+            kind: BACKGROUND,
+            color: self.0.background_color,
+        };
+        let foreground = ColorCommand {
+            kind: FOREGROUND,
+            color: self.0.foreground_color,
+        };
+        let underline = ColorCommand {
+            kind: UNDERLINE,
+            color: self.0.underline_color,
+        };
+        let attributes = AttributeCommands(self.0.attributes);
+        write!(f, "{background}{foreground}{underline}{attributes}")
+    }
+}
+
+/// What makes the pen plain again after a text in this style.
 #[tactic(auto, using(std::proofs::lemmas::Fmt::decimal_digit))]
-fn closing_text(style: ContentStyle) -> &'static str
+pub(crate) fn closing_text(style: ContentStyle) -> &'static str
     ensures { result.now ≡ closing_bytes style }
 {
     if style.underline_color.is_some() || !style.attributes.is_empty() {
@@ -138,25 +177,10 @@ impl fmt::Display for StyledContent<'_> {
     ghost output = { λ p. Some (piece_bytes p.style p.content.now) };
 
     fn fmt<W: fmt::Write>(&self, f: &mut fmt::Formatter<W>) -> fmt::Result {
-        let background = ColorCommand {
-            kind: BACKGROUND,
-            color: self.style.background_color,
-        };
-        let foreground = ColorCommand {
-            kind: FOREGROUND,
-            color: self.style.foreground_color,
-        };
-        let underline = ColorCommand {
-            kind: UNDERLINE,
-            color: self.style.underline_color,
-        };
-        let attributes = AttributeCommands(self.style.attributes);
+        let opening = StyleOpening(self.style);
         let content = self.content;
         let closing = closing_text(self.style);
-        write!(
-            f,
-            "{background}{foreground}{underline}{attributes}{content}{closing}"
-        )
+        write!(f, "{opening}{content}{closing}")
     }
 }
 
@@ -164,7 +188,7 @@ impl fmt::Display for StyledContent<'_> {
 ///
 /// # Errors
 ///
-/// Want of memory.
+/// Want of memory. What the row then ends with is open.
 pub fn push_foreground(row: &mut String, color: Color) -> Result<(), AllocError>
     ensures { OnOk result (string_bytes row.new ≡ string_bytes row.old ++ foreground_bytes color) }
 {
@@ -179,7 +203,7 @@ pub fn push_foreground(row: &mut String, color: Color) -> Result<(), AllocError>
 ///
 /// # Errors
 ///
-/// Want of memory.
+/// Want of memory. What the row then ends with is open.
 pub fn push_background(row: &mut String, color: Color) -> Result<(), AllocError>
     ensures { OnOk result (string_bytes row.new ≡ string_bytes row.old ++ background_bytes color) }
 {
@@ -195,10 +219,12 @@ pub fn push_background(row: &mut String, color: Color) -> Result<(), AllocError>
 ///
 /// # Errors
 ///
-/// Want of memory.
+/// Want of memory. What the row then ends with is open.
 #[tactic(auto, using(crate::proofs::Pieces::plain_piece))]
 pub fn push_styled(row: &mut String, style: ContentStyle, text: &str) -> Result<(), AllocError>
     ensures writes { OnOk result (string_bytes row.new ≡ string_bytes row.old ++ piece_bytes style text.now) }
+
+    // The numbers of its colors are bytes, which a terminal asks for that reads them.
     ensures bytes { IsStyle style }
 {
     // Most texts are plain, and need no formatting.

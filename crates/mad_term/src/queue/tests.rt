@@ -7,7 +7,8 @@ use crate::scripted::CutOut;
 use std::test::Fail;
 
 // One of each call, and their bytes.
-const BYTES: &[u8; 63] = b"\x1b[5;3H\x1b[2J\x1b[38;5;9m\x1b[48;2;1;2;3m\x1b[49m\x1b[38;5;9m\x1b[1mbold\x1b[0mplain";
+const BYTES: &[u8; 63] =
+    b"\x1b[5;3H\x1b[2J\x1b[38;5;9m\x1b[48;2;1;2;3m\x1b[49m\x1b[38;5;9m\x1b[1mbold\x1b[0mplain";
 
 fn queue_all(alloc: Global, out: &mut CutOut) -> Result<(), Error> {
     queue_move(alloc, out, 2, 4)?;
@@ -35,7 +36,10 @@ fn a_device_takes_a_front_of_the_commands(rt: HostRuntime) -> Result<(), Fail> {
                 return Err(Fail::from("want of memory"));
             }
             assert_eq!(rt; queued.is_ok(), room == 63, "at room {room}");
-            assert!(rt; out.taken() == &BYTES[..room], "at room {room}, step {step}");
+            assert!(rt;
+                out.taken() == &BYTES[..room],
+                "at room {room}, step {step}"
+            );
             assert_eq!(rt; out.faults(), u64::from(room < 63), "at room {room}");
         }
     }

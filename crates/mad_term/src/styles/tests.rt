@@ -150,11 +150,7 @@ fn pieces_have_the_parts_that_are_present(rt: HostRuntime) -> Result<(), Fail> {
         (nothing, "", ""),
         (foreground, "x", "\x1b[38;5;2mx\x1b[39m"),
         (background, "x", "\x1b[48;5;1mx\x1b[49m"),
-        (
-            colored,
-            "x",
-            "\x1b[48;5;1m\x1b[38;5;2mx\x1b[49m\x1b[39m",
-        ),
+        (colored, "x", "\x1b[48;5;1m\x1b[38;5;2mx\x1b[49m\x1b[39m"),
         (colored, "", "\x1b[48;5;1m\x1b[38;5;2m\x1b[49m\x1b[39m"),
         (reset, "x", "\x1b[49m\x1b[39m\x1b[59mx\x1b[0m"),
         (

@@ -13,7 +13,7 @@ tokens_are : (c : goal.After-drop-tokens) → AreTokensIn (room_of c.args.skin.n
 tokens_are c =
     let r = room_of c.args.skin.now c.args.composite.now.kind c.args.width in
     let ps = c.args.composite.now.compounds.items in
-    let limit : c.saturating_sub.result ≡ r.width - r.first = c.saturating_sub.ensures ∙ ap (λ (r : Room). r.width - r.first) c.of-room.ensures in
+    let limit : c.token_limit.result ≡ r.width - r.first = c.token_limit.ensures ∙ ap (λ (r : Room). r.width - r.first) c.of-room.ensures in
     subst (AreTokensOf (r.width - r.first) ps) (sym c.deref-2.ensures.value)
     (subst (λ ps. AreTokensOf (r.width - r.first) ps c.in_ok-tokens.tokens.items) c.deref.ensures.value
     (subst (λ n. AreTokensOf n c.deref.result.now c.in_ok-tokens.tokens.items) limit c.in_ok-tokens.ensures))

@@ -1,4 +1,3 @@
-use Rattle.std.proofs.Common.{[], ◌∷◌, ◌++◌}
 use Rattle.mad_layout.specs.Rows.{compound_piece}
 use Rattle.mad_layout.proofs.PieceLemmas.{appends_both, more_pieces}
 use Rattle.mad_layout.proofs.rows.push_compounds.Goals as goal

@@ -1,4 +1,3 @@
-use Rattle.std.proofs.Common.{List, string_bytes}
 use Rattle.mad_layout.proofs.PieceLemmas.{free_appended, then_ok}
 use Rattle.mad_layout.proofs.rows.push_free.Goals as goal
 

@@ -1,5 +1,4 @@
-use Rattle.std.proofs.Common.{◌≡◌, [], ◌∷◌, ◌++◌, ap, ◌∙◌, arith, rules}
-use Rattle.mad_layout.proofs.MeasureLemmas.{capped-add}
+use Rattle.std.proofs.Common.{[], ◌∷◌, ◌++◌, ap, ◌∙◌, arith, rules}
 use Rattle.mad_layout.proofs.wrap.cut_lines.Goals as goal
 
 pub returns : goal.returns

@@ -1,4 +1,4 @@
-use Rattle.std.proofs.Common.{◌≡◌, ◌++◌, ◌∷◌, [], ap, ◌∙◌, arith, refl, sym, subst, append_assoc, append-nil}
+use Rattle.std.proofs.Common.{◌≡◌, ◌++◌, [], ap, ◌∙◌, arith, refl, sym, subst, append_assoc, append-nil}
 use Rattle.std.specs.Vec.Iter.{into_iter_items}
 use Rattle.std.proofs.lemmas.Grind.{common_steps}
 use Rattle.mad_layout.specs.WrappedLines.{AreLinesWrapped, AllMeasured, AllFit}

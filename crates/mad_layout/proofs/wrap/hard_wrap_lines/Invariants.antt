@@ -1,4 +1,4 @@
-use Rattle.std.proofs.Common.{◌≡◌, ◌++◌, ◌<◌, List}
+use Rattle.std.proofs.Common.{◌++◌, ◌<◌, List}
 use Rattle.std.specs.Vec.Iter.{into_iter_items}
 use Rattle.mad_layout.specs.WrappedLines.{AreLinesWrapped, AllMeasured, AllFit}
 use Rattle.mad_layout.specs.declared.line.FmtLine.{FmtLine}

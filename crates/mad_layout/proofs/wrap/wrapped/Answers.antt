@@ -1,5 +1,4 @@
 use Rattle.std.proofs.Common.{◌≡◌, ◌-◌, Some, None, sym, ap, ◌∙◌, subst}
-use Rattle.std.specs.List.{AllByRecursion}
 use Rattle.mad_fit.specs.Tokens.{IsInCompound, AreTokensOf}
 use Rattle.mad_fit.proofs.AllLemmas.{all_each}
 use Rattle.mad_fit.proofs.TokenTexts.{IsHonest, all_honest}
@@ -7,14 +6,15 @@ use Rattle.mad_layout.specs.CleanCut.{clean_cut}
 use Rattle.mad_layout.specs.Indents.{room_of, follow_up}
 use Rattle.mad_layout.specs.LeastWrap.{AreTokensIn}
 use Rattle.mad_layout.specs.PlacedLines.{AreTwoLines, ArePlacedLines}
+use Rattle.mad_layout.specs.declared.room.Room.{Room}
 use Rattle.mad_layout.proofs.CutLemmas.{cut_wrap}
 use Rattle.mad_layout.proofs.WrapLemmas.{too_wide, placed_wrap, ok_each}
 use Rattle.mad_layout.proofs.wrap.wrapped.Goals as goal
 
 pub place-requires : goal.place-requires
 place-requires c =
-    let tokens = subst (AreTokensOf c.saturating_sub.result c.deref-in-None.result.now) (sym c.deref-in-None-2.ensures.value) c.in_ok-tokens-in-None.ensures in
-    all_each (IsHonest c.saturating_sub.result) IsInCompound (λ t h. h.place) c.deref-in-None-2.result.now (all_honest _ _ _ tokens)
+    let tokens = subst (AreTokensOf c.token_limit.result c.deref-in-None.result.now) (sym c.deref-in-None-2.ensures.value) c.in_ok-tokens-in-None.ensures in
+    all_each (IsHonest c.token_limit.result) IsInCompound (λ t h. h.place) c.deref-in-None-2.result.now (all_honest _ _ _ tokens)
 
 pub returns-in-Some : goal.returns-in-Some
 returns-in-Some c =
@@ -32,7 +32,7 @@ returns-in_ok-tokens-in-None c =
     let ts = c.deref-in-None-2.result.now in
     let is : clean_cut r source.compounds.items ≡ None =
     ap (λ r. clean_cut r source.compounds.items) (sym c.of-room.ensures) ∙ ap (clean_cut c.of-room.result) (sym c.deref.ensures.value) ∙ sym c.clean_cut.ensures ∙ c.in-None.is in
-    let limit : c.saturating_sub.result ≡ r.width - r.first = c.saturating_sub.ensures ∙ ap (λ r. c.args.width - r.first) c.of-room.ensures in
+    let limit : c.token_limit.result ≡ r.width - r.first = c.token_limit.ensures ∙ ap (λ (r : Room). r.width - r.first) c.of-room.ensures in
     let tokens : AreTokensIn r source.compounds.items ts =
     subst (AreTokensOf (r.width - r.first) source.compounds.items) (sym c.deref-in-None-2.ensures.value)
     (subst (λ ps. AreTokensOf (r.width - r.first) ps c.in_ok-tokens-in-None.tokens.items) c.deref-in-None.ensures.value

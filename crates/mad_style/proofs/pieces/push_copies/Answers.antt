@@ -1,7 +1,14 @@
-use Rattle.std.proofs.Common.{◌≡◌, ℕ, zero, suc, ◌+◌, List, ◌++◌, ap, sym, ◌∙◌, string_bytes, append_assoc, add-one, arith}
+use Rattle.std.proofs.Common.{◌≡◌, [], ◌∷◌, length, refl, ℕ, zero, suc, ◌+◌, List, ◌++◌, ap, sym, ◌∙◌, string_bytes, append_assoc, add-one, arith}
 use Rattle.std.specs.List.{repeat}
 use Rattle.std.proofs.lemmas.List.{append-nil}
+use Rattle.std.proofs.lemmas.Bool.{eqb-true}
 use Rattle.mad_style.proofs.pieces.push_copies.Goals as goal
+
+-- copies of nothing
+repeat_empty : (n : ℕ) (xs : List ℕ) → length xs ≡ 0 → repeat n xs ≡ []
+repeat_empty zero xs e = refl
+repeat_empty (suc n) [] e = repeat_empty n [] e
+repeat_empty (suc n) (x ∷ xs) e = absurd (omega (arith, e))
 
 -- one copy more
 repeat_more : (n : ℕ) (xs : List ℕ) → repeat n xs ++ xs ≡ repeat (suc n) xs
@@ -18,3 +25,8 @@ loop-preserved c =
           ∙ append_assoc (string_bytes c.args.row.now) (repeat c.loop.counter c.args.text.now) c.args.text.now
           ∙ ap (λ ys. string_bytes c.args.row.now ++ ys) copies,
     )
+
+pub returns-then-is_empty : goal.returns-then-is_empty
+returns-then-is_empty c =
+    let none : repeat c.args.count c.args.text.now ≡ [] = repeat_empty c.args.count c.args.text.now (eqb-true (length c.args.text.now) 0 (sym c.is_empty.ensures ∙ c.if-is_empty.true)) in
+    rw none (sym (append-nil (string_bytes c.args.row.now)))

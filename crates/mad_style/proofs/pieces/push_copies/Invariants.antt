@@ -4,4 +4,4 @@ use Rattle.mad_style.proofs.pieces.push_copies.Given as goal
 
 -- so many copies as there were turns
 abbrev pub invariant-loop : goal.invariant-loop
-invariant-loop l = (l.counter ≤ l.count) × (string_bytes l.row ≡ string_bytes l.initial.row ++ repeat l.counter l.text)
+invariant-loop l = (l.counter ≤ l.count) × (string_bytes l.row ≡ string_bytes l.fn.row ++ repeat l.counter l.text)

@@ -1,4 +1,4 @@
-use Rattle.std.proofs.Common.{◌≡◌, ℕ, ◌+◌, ◌-◌, ◌≤◌, ◌<◌, ⊎_elim, [], ◌∷◌, List, slice_set, replicate, ap, ◌∙◌, sym, arith, length, min, length-set}
+use Rattle.std.proofs.Common.{◌≡◌, ℕ, ◌+◌, ◌-◌, ◌≤◌, ◌<◌, ⊎_elim, [], ◌∷◌, List, slice_set, replicate, ap, ◌∙◌, arith, length, min, length-set}
 use Rattle.std.proofs.lemmas.Bool.{cases_lt}
 use Rattle.mad_term.specs.Glyph.{Glyph, Look, look_of}
 use Rattle.mad_term.specs.Grid.{put_list}

@@ -1,4 +1,4 @@
-use Rattle.std.proofs.Common.{rules, ◌≡◌, ◌++◌}
+use Rattle.std.proofs.Common.{rules}
 use Rattle.mad_term.proofs.CommandBytes.{default_foreground, default_background}
 use Rattle.mad_term.proofs.styles.closing_text.Goals as goal
 

@@ -1,4 +1,4 @@
-use Rattle.std.proofs.Common.{chars, sym, ap, ◌∙◌, ◌+◌, rules}
+use Rattle.std.proofs.Common.{chars, sym, ◌∙◌}
 use Rattle.mad_md.specs.Flagged.{flags_of}
 use Rattle.mad_fit.proofs.FlaggedLemmas.{width_of-flagged}
 use Rattle.mad_layout.proofs.composite.FmtComposite.add_compound.Goals as goal

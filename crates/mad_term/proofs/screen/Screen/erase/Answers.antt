@@ -1,5 +1,4 @@
-use Rattle.std.proofs.Common.{◌≡◌, ◌∙◌, rules}
-use Rattle.std.specs.Prelude.{OnOk}
+use Rattle.std.proofs.Common.{◌∙◌, rules}
 use Rattle.mad_term.specs.Terminal.{erased}
 use Rattle.mad_term.proofs.screen.Screen.erase.Goals as goal
 

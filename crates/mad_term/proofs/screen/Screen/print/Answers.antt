@@ -1,4 +1,4 @@
-use Rattle.std.proofs.Common.{◌≡◌, ℕ, ◌+◌, ◌*◌, [], ◌∷◌, ap, sym, ◌∙◌, length, arith}
+use Rattle.std.proofs.Common.{◌≡◌, ℕ, ◌+◌, ◌*◌, [], ◌∷◌, ap, sym, ◌∙◌, arith}
 use Rattle.mad_term.specs.Glyph.{look_of}
 use Rattle.mad_term.specs.Grid.{Grid, put_list, glyphs}
 use Rattle.mad_term.proofs.Finding.{print_is}

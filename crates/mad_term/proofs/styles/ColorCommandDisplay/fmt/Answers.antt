@@ -14,8 +14,8 @@ pub returns-in-Some-number : goal.returns-in-Some-number
 returns-in-Some-number g c = record {
   writes = λ p ok.
       has_written_of_eq _ _ _ _ _ (palette_written _ _
-          ∙ ap sgr_bytes (sym (numbered c.args.self.now.kind c.in-Some.color c.in-Some-number.number (search rules)))
-          ∙ sym (ap (present_bytes (color_bytes c.args.self.now.kind)) c.in-Some.is))
+      ∙ ap sgr_bytes (sym (numbered c.args.self.now.kind c.in-Some.color c.in-Some-number.number (search rules)))
+      ∙ sym (ap (present_bytes (color_bytes c.args.self.now.kind)) c.in-Some.is))
       (c.write-in-Some-number.ensures.writes p ok);
   styled = tt;
 }

@@ -1,0 +1,209 @@
+-- The starts that bound the lines of a composite.
+use Rattle.std.proofs.Common.{◌≡◌, ℕ, zero, suc, ◌≤◌, ◌<◌, ◌+◌, ◌-◌, ◌==◌, ◌&&◌, not, Bool, true, false, Some, None, is_some, if◌then◌else◌, List, [], ◌∷◌, ◌++◌, chars, length, take, drop, slice_range, slice_get, refl, sym, ap, ◌∙◌, arith, subst, append-nil, inl, inr}
+use Rattle.std.proofs.lemmas.Bool.{and_parts}
+use Rattle.std.proofs.lemmas.List.{take-append-drop, length-map}
+use Rattle.std.specs.List.{AllByRecursion, list_all}
+use Rattle.std.specs.Char.{is_whitespace}
+use Rattle.mad_md.specs.Flagged.{Flags, FlaggedChar, flagged, flags_of, flagged_of, flagged_text, is_blank}
+use Rattle.mad_md.specs.declared.compound.Compound.{Compound}
+use Rattle.mad_fit.specs.Columns.{width_of}
+use Rattle.mad_fit.specs.Tokens.{AreTokensFrom, flagged_token, tokens_text}
+use Rattle.mad_fit.specs.declared.tokens.Token.{Token}
+use Rattle.mad_fit.proofs.AllLemmas.{all_each, all_front, all_back}
+use Rattle.mad_fit.proofs.TokenTexts.{IsHonest, tokens_honest, all_honest, text_from, some_flagged}
+use Rattle.mad_fit.proofs.UniqueLemmas.{all_unique}
+use Rattle.mad_layout.specs.Bounds.{is_blank_token, are_starts_from, are_starts}
+use Rattle.mad_layout.specs.Breaks.{Piece, joined, total_width, AllBlank, FitsFrom, FittingBreak, EndsWithLine}
+use Rattle.mad_layout.specs.CleanCut.{fits_behind, both_fit, is_white, clean_cut, is_cut_clean}
+use Rattle.mad_layout.specs.LeastBound.{IsBound, IsAttained, dropped_at_end, drops_code, AreStartsOf}
+use Rattle.mad_layout.specs.LeastWrap.{AreTokensIn}
+use Rattle.mad_layout.specs.PlacedLines.{TokensHaveRoom, starts_from, dropped_from, ArePlacedStarts, IsFirstPast, AreCutStarts}
+use Rattle.mad_layout.specs.Wraps.{HasRoom, LinesFit, AreFull}
+use Rattle.mad_layout.specs.declared.room.Room.{Room}
+use Rattle.mad_layout.proofs.BoundLemmas.{bound, total_width-append, eq_from_test}
+use Rattle.mad_layout.proofs.CutLemmas.{le_from_test}
+use Rattle.mad_layout.proofs.KeepLemmas.{width_is}
+use Rattle.mad_layout.proofs.StartsOfLemmas.{step_true, none_left, full_starts, ClosedBreak, closed, length-starts, fits_back}
+use Rattle.mad_layout.proofs.WrapLemmas.{room_for_tokens, total_is}
+
+-- a single start is 0
+one_start : (r : Room) (ts : List Token) (starts : List ℕ) → are_starts r ts starts ≡ true → length starts ≤ 1 → starts ≡ 0 ∷ []
+one_start r ts [] e h = absurd (cc)
+one_start r ts (s ∷ []) e h = ap (λ n. n ∷ []) (eq_from_test s 0 (and_parts (s == 0) (are_starts_from r.first r ts s []) e).0)
+one_start r ts (s ∷ n ∷ ns) e h = absurd (omega arith)
+
+-- all tokens on one line, where they fit
+one_line_break : (r : Room) (ts : List Token) → r.first + total_width ts ≤ r.width → FittingBreak r ts (record { line = ts; gap = [] } ∷ [])
+one_line_break r ts fits = record { some_line = omega arith; covers = append-nil ts; fits = (fits, tt, tt) }
+
+-- ---- outside clean cuts
+
+-- room on later lines
+other_room : (r : Room) (ts : List Token) → TokensHaveRoom r ts → AllByRecursion (λ t. r.other + t.width ≤ r.width) ts
+other_room r ts room = let lower = room.other in all_each (λ t. r.first + t.width ≤ r.width) (λ t. r.other + t.width ≤ r.width) (λ t h. omega arith) ts room.each
+
+-- a break that ends with a line, of as many lines as these pieces have starts
+closed_break : (r : Room) (ts : List Token) (ps : List (Piece Token)) → 0 < length ps → joined ps ≡ ts → FitsFrom r.first r ps → TokensHaveRoom r ts → ClosedBreak r.first r ps
+closed_break r ts ps some covers fits room = closed r.first r ps some fits (subst (AllByRecursion (λ t. r.other + t.width ≤ r.width)) (sym covers) (other_room r ts room))
+
+fitting_of : (r : Room) (ts : List Token) (ps : List (Piece Token)) → joined ps ≡ ts → (c : ClosedBreak r.first r ps) → FittingBreak r ts c.breaks
+fitting_of r ts ps covers c = record { some_line = c.some_line; covers = c.covers ∙ covers; fits = c.fits }
+
+-- as many starts as lines, and one more where blanks are dropped at the end
+count_is : (r : Room) (ps : List Compound) (ts : List Token) (n : ℕ) (lines : List (List FlaggedChar)) (full : AreFull r ts lines) → AreTokensIn r ps ts → TokensHaveRoom r ts → LinesFit r.first r lines
+    → ((breaks : List (Piece Token)) → FittingBreak r ts breaks → EndsWithLine breaks → n ≤ length breaks) → ((breaks : List (Piece Token)) × FittingBreak r ts breaks × EndsWithLine breaks × (length breaks ≡ n))
+    → n ≡ length lines + dropped_at_end full.placed.pieces
+count_is r ps ts n lines full tokens room fit low (breaks, fitting, ends, size) =
+    let h = full.placed in
+    let max = r.width - r.first in
+    let honest = subst (AllByRecursion (IsHonest max)) (sym h.covers) (all_honest max ps ts tokens) in
+    let fits = fits_back max r.first r h.pieces honest h.gaps (subst (LinesFit r.first r) (sym h.texts) fit) in
+    let c = closed_break r ts h.pieces h.some_line h.covers fits room in
+    let upper = low c.breaks (fitting_of r ts h.pieces h.covers c) c.ends in
+    let lower = bound r ts (starts_from 0 h.pieces ++ dropped_from 0 h.pieces) (full_starts r ts h.pieces h.some_line h.covers h.gaps full.forced room) breaks fitting ends in
+    let as_many : length h.pieces ≡ length lines = sym (length-map {B = List FlaggedChar} h.pieces (λ p. tokens_text p.line)) ∙ ap length h.texts in
+    omega (arith, upper, lower, c.count, length-starts h.pieces, as_many, size)
+
+pub placed_starts_of : (r : Room) (ps : List Compound) (ts : List Token) (starts : List ℕ) → r.other ≤ r.first → AreTokensIn r ps ts → clean_cut r ps ≡ None → ArePlacedStarts r ts starts → HasRoom r (flagged_text ps) → AreStartsOf r ps starts
+placed_starts_of r ps ts starts lower tokens uncut h space =
+    let max = r.width - r.first in
+    let room = room_for_tokens r ps ts lower tokens space in
+    let are = h.starts_are room in
+    let passes : are_starts r ts starts ≡ true = ap (are_starts r ts) are ∙ full_starts r ts h.pieces h.some_line h.covers h.gaps h.forced room in
+    let c = closed_break r ts h.pieces h.some_line h.covers (h.fits room) room in
+    let size : length c.breaks ≡ length starts = omega (arith, c.count, length-starts h.pieces, ap length are) in
+    let checked : (us : List Token) → AreTokensIn r ps us → are_starts r us starts ≡ true = λ us others. subst (λ (x : List Token). are_starts r x starts ≡ true) (all_unique max ps ts us tokens others) passes in
+    let attained : IsAttained r ps (length starts) = λ us others. (c.breaks, subst (λ (x : List Token). FittingBreak r x c.breaks) (all_unique max ps ts us tokens others) (fitting_of r ts h.pieces h.covers c), c.ends, size) in
+    let low : IsBound r ps (length starts) = λ us others breaks fits ends. bound r us starts (checked us others) breaks fits ends in
+    record {
+      checked = checked;
+      bound = low;
+      attained = λ _. attained;
+      lines = λ _ us others lines full fit. count_is r ps us (length starts) lines full others (room_for_tokens r ps us lower others space) fit (low us others) (attained us others);
+      cut = λ on. absurd (let off : is_cut_clean r ps ≡ false = ap is_some uncut in cc);
+      whole = λ fits. one_start r ts starts passes (low ts tokens (record { line = ts; gap = [] } ∷ []) (one_line_break r ts (omega (arith, fits, total_is r ps ts tokens))) refl);
+    }
+
+-- ---- clean cuts
+
+-- the tokens of a compound take its columns
+compound_width : (max : ℕ) (p : Compound) (own : List Token) → AreTokensFrom max p 0 own → total_width own ≡ width_of (flagged_of p)
+compound_width max p own tokens = width_is max own (tokens_honest max 0 p own tokens) ∙ ap width_of (text_from max 0 p own tokens)
+
+white_blank : (f : Flags) (cs : List ℕ) → list_all is_whitespace cs ≡ true → f.code ≡ false → AllByRecursion (λ x. is_blank x ≡ true) (flagged f cs)
+white_blank f [] h off = tt
+white_blank f (c ∷ cs) h off = let parts = and_parts (is_whitespace c) (list_all is_whitespace cs) h in (ap (λ (w : Bool). w && not f.code) parts.0 ∙ ap not off, white_blank f cs parts.1 off)
+
+-- a token of blank characters is blank
+blank_token : (b : Bool) (xs : List FlaggedChar) → 0 < length xs → AllByRecursion (λ x. is_blank x ≡ b) xs → AllByRecursion (λ x. is_blank x ≡ true) xs → b ≡ true
+blank_token b [] some h g = absurd (omega arith)
+blank_token b (x ∷ xs) some h g = sym h.0 ∙ g.0
+
+blank_tokens : (max : ℕ) (ts : List Token) → AllByRecursion (IsHonest max) ts → AllByRecursion (λ x. is_blank x ≡ true) (tokens_text ts) → AllBlank ts
+blank_tokens max [] h g = tt
+blank_tokens max (t ∷ ts) h g = (
+  blank_token t.blank (flagged_token t) (some_flagged t h.0.place) h.0.alike.alike (all_front (λ x. is_blank x ≡ true) (flagged_token t) (tokens_text ts) g),
+  blank_tokens max ts h.1 (all_back (λ x. is_blank x ≡ true) (flagged_token t) (tokens_text ts) g),
+)
+
+middle_blank : (max : ℕ) (m : Compound) (own : List Token) → AreTokensFrom max m 0 own → is_white m ≡ true → m.code ≡ false → AllBlank own
+middle_blank max m own tokens white off =
+    blank_tokens max own (tokens_honest max 0 m own tokens) (subst (AllByRecursion (λ x. is_blank x ≡ true)) (sym (text_from max 0 m own tokens)) (white_blank (flags_of m) (chars m.src.now) white off))
+
+was_made : {A : Type 0} (b : Bool) (x : A) → is_some (if b then Some x else None) ≡ true → b ≡ true
+was_made true x e = refl
+was_made false x e = absurd (cc)
+
+-- a break of two lines
+TwoLines : Room → List Token → Type 0
+TwoLines r ts = (breaks : List (Piece Token)) × FittingBreak r ts breaks × EndsWithLine breaks × (length breaks ≡ 2)
+
+cut_break : (r : Room) (ps : List Compound) (ts : List Token) → is_cut_clean r ps ≡ true → drops_code r ps ≡ false → AreTokensIn r ps ts → TwoLines r ts
+unfolding TwoLines
+cut_break r [] ts on off tokens = absurd (cc)
+cut_break r (a ∷ []) ts on off tokens = absurd (cc)
+cut_break r (a ∷ b ∷ []) ts on off (own, others, joins, first, (own', others', joins', second, none)) =
+    let max = r.width - r.first in
+    let fit = and_parts (fits_behind r.first r.width a) (fits_behind r.other r.width b) (was_made (both_fit r a b) (a, b) on) in
+    let front : Piece Token = record { line = own; gap = [] } in
+    let back : Piece Token = record { line = own'; gap = [] } in (
+      front ∷ back ∷ [],
+      record {
+        some_line = omega arith;
+        covers = ap (λ l. own ++ l) (ap (λ l. own' ++ l) (sym none) ∙ sym joins') ∙ sym joins;
+        fits = (
+          omega (arith, le_from_test (r.first + width_of (flagged_of a)) r.width fit.0, compound_width max a own first),
+          tt,
+          (omega (arith, le_from_test (r.other + width_of (flagged_of b)) r.width fit.1, compound_width max b own' second), tt, tt),
+        );
+      },
+      refl,
+      refl,
+    )
+cut_break r (a ∷ m ∷ b ∷ []) ts on off (own, others, joins, first, (own', others', joins', middle, (own'', others'', joins'', last, none))) =
+    let max = r.width - r.first in
+    let test = was_made (is_white m && both_fit r a b) (a, b) on in
+    let white = and_parts (is_white m) (both_fit r a b) test in
+    let fit = and_parts (fits_behind r.first r.width a) (fits_behind r.other r.width b) white.1 in
+    let plain : m.code ≡ false = sym (ap (λ (t : Bool). t && m.code) on) ∙ off in
+    let front : Piece Token = record { line = own; gap = own' } in
+    let back : Piece Token = record { line = own''; gap = [] } in (
+      front ∷ back ∷ [],
+      record {
+        some_line = omega arith;
+        covers = ap (λ l. own ++ l) (ap (λ l. own' ++ l) (ap (λ l. own'' ++ l) (sym none) ∙ sym joins'') ∙ sym joins') ∙ sym joins;
+        fits = (
+          omega (arith, le_from_test (r.first + width_of (flagged_of a)) r.width fit.0, compound_width max a own first),
+          middle_blank max m own' middle white.0 plain,
+          (omega (arith, le_from_test (r.other + width_of (flagged_of b)) r.width fit.1, compound_width max b own'' last), tt, tt),
+        );
+      },
+      refl,
+      refl,
+    )
+cut_break r (a ∷ b ∷ c ∷ d ∷ ps) ts on off tokens = absurd (cc)
+
+-- the first token fits, so the one that passes the line isn't the first
+some_past : (r : Room) (ts : List Token) (i : ℕ) → IsFirstPast r ts i → TokensHaveRoom r ts → 0 < i
+some_past r [] i h room = absurd (omega (arith, h.inside))
+some_past r (t ∷ ts) zero h room = absurd (omega (arith, h.passes, room.each.0))
+some_past r (t ∷ ts) (suc i) h room = omega arith
+
+total_take-le : (i : ℕ) (ts : List Token) → total_width (take i ts) ≤ total_width ts
+total_take-le i ts = omega (arith, total_width-append (take i ts) (drop i ts), ap total_width (take-append-drop i ts))
+
+pub cut_starts_of : (r : Room) (ps : List Compound) (ts : List Token) (starts : List ℕ) → r.other ≤ r.first → AreTokensIn r ps ts → is_cut_clean r ps ≡ true → AreCutStarts r ts starts → HasRoom r (flagged_text ps) → AreStartsOf r ps starts
+unfolding TwoLines
+cut_starts_of r ps ts starts lower tokens on (inl (fits, are)) space =
+    let max = r.width - r.first in
+    let checked : (us : List Token) → AreTokensIn r ps us → are_starts r us starts ≡ true = λ us others. ap (are_starts r us) are in
+    record {
+      checked = checked;
+      bound = λ us others breaks fitting ends. bound r us starts (checked us others) breaks fitting ends;
+      attained = λ _ us others. (
+        record { line = us; gap = [] } ∷ [],
+        one_line_break r us (subst (λ (x : List Token). r.first + total_width x ≤ r.width) (all_unique max ps ts us tokens others) fits),
+        refl,
+        ap length (sym are),
+      );
+      lines = λ off. absurd (cc);
+      cut = λ _ wide. absurd (omega (arith, fits, wide, total_is r ps ts tokens));
+      whole = λ _. are;
+    }
+cut_starts_of r ps ts starts lower tokens on (inr (i, past, is)) space =
+    let max = r.width - r.first in
+    let room = room_for_tokens r ps ts lower tokens space in
+    let some = some_past r ts i past room in
+    let are : starts ≡ 0 ∷ i ∷ [] = is some in
+    let slice : slice_range ts 0 (i + 1) ≡ take (i + 1) ts = ap (λ n. take n ts) (omega arith) in
+    let passes : are_starts r ts starts ≡ true =
+    ap (are_starts r ts) are ∙ step_true r.first 0 i r ts [] some past.inside (omega (arith, past.passes, ap total_width slice)) (none_left 0 (not (is_blank_token (slice_get ts i))) refl) refl in
+    let checked : (us : List Token) → AreTokensIn r ps us → are_starts r us starts ≡ true = λ us others. subst (λ (x : List Token). are_starts r x starts ≡ true) (all_unique max ps ts us tokens others) passes in
+    record {
+      checked = checked;
+      bound = λ us others breaks fitting ends. bound r us starts (checked us others) breaks fitting ends;
+      attained = λ off us others. let two = cut_break r ps us on off others in (two.0, two.1, two.2, two.3 ∙ ap length (sym are));
+      lines = λ off. absurd (cc);
+      cut = λ _ _ us others. (i, are, subst (λ (x : List Token). r.first + total_width (take i x) ≤ r.width) (all_unique max ps ts us tokens others) (past.before space.first));
+      whole = λ fits. absurd (omega (arith, past.passes, fits, total_is r ps ts tokens, total_take-le (i + 1) ts));
+    }

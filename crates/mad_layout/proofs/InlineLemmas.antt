@@ -1,0 +1,35 @@
+-- A composite by itself is displayed as it is written.
+use Rattle.std.proofs.Common.{◌≡◌, ℕ, ◌+◌, List, [], ◌++◌, map, None, ap, ◌∙◌, arith}
+use Rattle.std.specs.Prelude.{false, unwrap_or}
+use Rattle.std.proofs.lemmas.List.{append-nil}
+use Rattle.mad_md.specs.Flagged.{run_of}
+use Rattle.mad_style.specs.declared.compound_styles.CompoundStyle.{CompoundStyle}
+use Rattle.mad_style.specs.declared.line_styles.LineStyle.{LineStyle}
+use Rattle.mad_style.specs.declared.kinds.CompositeKind.TheVariants.{Paragraph}
+use Rattle.mad_style.specs.LineStyles.{margins_at}
+use Rattle.mad_layout.specs.Inlines.{IsInlineOf, IsDisplayedAsWritten}
+use Rattle.mad_layout.specs.Pieces.{RowPiece, pieces_bytes, spaces}
+use Rattle.mad_layout.specs.Rows.{align_in, place_of, left_of_place, right_of_place, inner_blanks, margins_of, mark_pieces, compound_piece, composite_pieces, free_pieces}
+use Rattle.mad_layout.specs.Styles.{line_style}
+use Rattle.mad_layout.specs.declared.skin.MadSkin.{MadSkin}
+use Rattle.mad_layout.specs.declared.composite.FmtComposite.{FmtComposite}
+use Rattle.mad_layout.proofs.PieceLemmas.{pieces_of_runs}
+
+free_is : (skin : MadSkin) (l : FmtComposite) → l.spacing ≡ None → l.margins ≡ None → composite_pieces skin None (margins_of skin None l) false l ≡ free_pieces skin l.kind (map run_of l.compounds.items)
+free_is skin l spacing margins =
+    let style : LineStyle = line_style skin l.kind in
+    let blank : CompoundStyle = skin.paragraph.compound_style in
+    let left : (margins_of skin None l).0 ≡ style.left_margin = ap (λ o. (unwrap_or o (margins_at style None)).0) margins in
+    let outer : 0 + (margins_of skin None l).0 ≡ style.left_margin = omega (arith, left) in
+    let inner_left : (inner_blanks l).0 ≡ 0 = ap (λ s. left_of_place (align_in s) l.visible_length (place_of s)) spacing in
+    let inner_right : (inner_blanks l).1 ≡ 0 = ap (λ s. right_of_place (align_in s) l.visible_length (place_of s)) spacing in
+    let text : List RowPiece = map (compound_piece skin style) l.compounds.items in
+    ap (λ n. spaces blank n ++ (spaces style.compound_style (inner_blanks l).0 ++ (mark_pieces skin l.kind ++ (text ++ (spaces style.compound_style (inner_blanks l).1 ++ []))))) outer
+    ∙ ap (λ n. spaces blank style.left_margin ++ (spaces style.compound_style n ++ (mark_pieces skin l.kind ++ (text ++ (spaces style.compound_style (inner_blanks l).1 ++ []))))) inner_left
+    ∙ ap (λ n. spaces blank style.left_margin ++ (mark_pieces skin l.kind ++ (text ++ (spaces style.compound_style n ++ [])))) inner_right
+    ∙ ap (λ ps. spaces blank style.left_margin ++ (mark_pieces skin l.kind ++ ps)) (append-nil text ∙ pieces_of_runs skin style l.compounds.items)
+
+pub displayed : (skin : MadSkin) (src : List ℕ) (l : FmtComposite) → IsInlineOf skin src l → IsDisplayedAsWritten skin src l
+displayed skin src l h items reading =
+    ap pieces_bytes (free_is skin l h.spacing h.margins ∙ ap (λ kind. free_pieces skin kind (map run_of l.compounds.items)) h.kind
+    ∙ ap (free_pieces skin Paragraph) (h.read.each items reading))

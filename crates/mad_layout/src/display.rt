@@ -1,0 +1,302 @@
+//! Texts and inline texts as displayed values: the same bytes as the writing calls, piece by piece, without memory.
+
+ghost use Rattle.std.specs.Prelude.{◌≡◌, Some};
+ghost use Rattle.mad_layout.specs.Pieces.{pieces_bytes, spaces, single_spaces};
+ghost use Rattle.mad_layout.specs.Rows.{mark_pieces};
+
+use crate::composite::FmtComposite;
+use crate::fmt_inline::FmtInline;
+use crate::fmt_text::FmtText;
+use crate::indents::indent_of;
+use crate::line::FmtLine;
+use crate::rows::{RowPlace, inner_blanks, margins_of, outer_blanks};
+use crate::skin::MadSkin;
+use mad_md::Compound;
+use mad_style::{CompositeKind, CompoundStyle, LineStyle};
+use mad_term::{StyledContent, StyledNumber, StyledRun};
+use std::fmt;
+
+// Spaces, as one piece; nothing at all of none.
+#[derive(Clone, Copy)]
+struct Spaces {
+    style: CompoundStyle,
+    count: usize,
+}
+
+impl fmt::Display for Spaces {
+    ghost output = { λ s. Some (pieces_bytes (spaces s.style s.count)) };
+
+    #[tactic(auto, using(crate::proofs::PieceLemmas::run_of_spaces))]
+    fn fmt<W: fmt::Write>(&self, f: &mut fmt::Formatter<W>) -> fmt::Result {
+        let run = StyledRun {
+            style: self.style.object_style,
+            content: " ",
+            count: self.count,
+        };
+        write!(f, "{run}")
+    }
+}
+
+// Spaces, each a piece of its own.
+#[derive(Clone, Copy)]
+struct SingleSpaces {
+    style: CompoundStyle,
+    count: usize,
+}
+
+impl fmt::Display for SingleSpaces {
+    ghost output = { λ s. Some (pieces_bytes (single_spaces s.style s.count)) };
+
+    fn fmt<W: fmt::Write>(&self, f: &mut fmt::Formatter<W>) -> fmt::Result {
+        let space = StyledContent {
+            style: self.style.object_style,
+            content: " ",
+        };
+        for _done in 0..self.count {
+            write!(f, "{space}")?;
+        }
+        Ok(())
+    }
+}
+
+// What stands in front of a line's text.
+#[derive(Clone, Copy)]
+struct Mark<'a> {
+    skin: &'a MadSkin,
+    kind: CompositeKind,
+}
+
+impl Mark<'_> {
+    fn spaces(&self, count: usize) -> SingleSpaces
+        ensures { result ≡ record { style = self.now.skin.now.paragraph.compound_style; count = count } }
+    {
+        SingleSpaces {
+            style: self.skin.paragraph.compound_style,
+            count,
+        }
+    }
+}
+
+impl fmt::Display for Mark<'_> {
+    ghost output = { λ m. Some (pieces_bytes (mark_pieces m.skin.now m.kind)) };
+
+    fn fmt<W: fmt::Write>(&self, f: &mut fmt::Formatter<W>) -> fmt::Result {
+        let space = self.spaces(1);
+        match self.kind {
+            CompositeKind::ListItem(depth) => {
+                let depth = self.spaces(depth as usize);
+                let bullet = self.skin.bullet;
+                write!(f, "{depth}{bullet}{space}")
+            }
+            CompositeKind::OrderedListItem { level, index } => {
+                let style = self.skin.ordered_item_style(level);
+                let depth = self.spaces(level as usize);
+                let number = StyledNumber {
+                    style: style.index_style.object_style,
+                    number: index,
+                };
+                let suffix = style.index_suffix;
+                write!(f, "{depth}{number}{suffix}{space}")
+            }
+            CompositeKind::ListItemFollowUp(_) | CompositeKind::OrderedListItemFollowUp { .. } => {
+                let mode = self.skin.list_items_indentation_mode;
+                let indent = self.spaces(indent_of(self.kind, mode));
+                write!(f, "{indent}")
+            }
+            CompositeKind::Quote => {
+                let mark = self.skin.quote_mark;
+                write!(f, "{mark}{space}")
+            }
+            CompositeKind::Paragraph | CompositeKind::Header(_) | CompositeKind::Code => Ok(()),
+        }
+    }
+}
+
+// A compound in a line of that style.
+#[derive(Clone, Copy)]
+struct PlacedCompound<'a, 's> {
+    skin: &'a MadSkin,
+    style: &'a LineStyle,
+    compound: &'a Compound<'s>,
+}
+
+impl fmt::Display for PlacedCompound<'_, '_> {
+    ghost use Rattle.mad_term.specs.Styles.{piece_bytes};
+    ghost use Rattle.mad_layout.specs.Rows.{compound_piece};
+
+    ghost output = { λ c. Some (piece_bytes (compound_piece c.skin.now c.style.now c.compound.now).style (compound_piece c.skin.now c.style.now c.compound.now).text) };
+
+    fn fmt<W: fmt::Write>(&self, f: &mut fmt::Formatter<W>) -> fmt::Result {
+        let style = self.skin.compound_style(self.style, self.compound);
+        let piece = style.apply_to(self.compound.src);
+        write!(f, "{piece}")
+    }
+}
+
+// The compounds of a line of that style.
+#[derive(Clone, Copy)]
+struct Compounds<'a, 's> {
+    skin: &'a MadSkin,
+    style: &'a LineStyle,
+    compounds: &'a [Compound<'s>],
+}
+
+impl fmt::Display for Compounds<'_, '_> {
+    ghost use Rattle.std.specs.Prelude.{map};
+    ghost use Rattle.mad_layout.specs.Rows.{compound_piece};
+
+    ghost output = { λ c. Some (pieces_bytes (map (compound_piece c.skin.now c.style.now) c.compounds.now)) };
+
+    fn fmt<W: fmt::Write>(&self, f: &mut fmt::Formatter<W>) -> fmt::Result {
+        for compound in self.compounds {
+            let placed = PlacedCompound {
+                skin: self.skin,
+                style: self.style,
+                compound,
+            };
+            write!(f, "{placed}")?;
+        }
+        Ok(())
+    }
+}
+
+// A composite at its place in a row.
+#[derive(Clone, Copy)]
+struct PlacedComposite<'a, 's> {
+    skin: &'a MadSkin,
+    composite: &'a FmtComposite<'s>,
+    place: RowPlace,
+}
+
+impl fmt::Display for PlacedComposite<'_, '_> {
+    ghost use Rattle.mad_layout.specs.Rows.{composite_pieces};
+
+    ghost output = { λ c. Some (pieces_bytes (composite_pieces c.skin.now c.place.outer c.place.margins c.place.right c.composite.now)) };
+
+    fn fmt<W: fmt::Write>(&self, f: &mut fmt::Formatter<W>) -> fmt::Result {
+        let style = self.skin.line_style(self.composite.kind);
+        let (left, right) = outer_blanks(self.composite, style.align, self.place);
+        let (inner_left, inner_right) = inner_blanks(self.composite);
+        let blank = self.skin.paragraph.compound_style;
+        let left = Spaces {
+            style: blank,
+            count: left,
+        };
+        let inner_left = Spaces {
+            style: style.compound_style,
+            count: inner_left,
+        };
+        let mark = Mark {
+            skin: self.skin,
+            kind: self.composite.kind,
+        };
+        let compounds = Compounds {
+            skin: self.skin,
+            style,
+            compounds: &self.composite.compounds,
+        };
+        let inner_right = Spaces {
+            style: style.compound_style,
+            count: inner_right,
+        };
+        let right = Spaces {
+            style: blank,
+            count: if self.place.right { right } else { 0 },
+        };
+        write!(f, "{left}{inner_left}{mark}{compounds}{inner_right}{right}")
+    }
+}
+
+// A line at an outer width, with its margins.
+#[derive(Clone, Copy)]
+struct PlacedLine<'a, 's> {
+    skin: &'a MadSkin,
+    line: &'a FmtLine<'s>,
+    outer: Option<usize>,
+}
+
+impl fmt::Display for PlacedLine<'_, '_> {
+    ghost use Rattle.std.specs.Prelude.{false};
+    ghost use Rattle.mad_layout.specs.Rows.{line_pieces};
+
+    ghost output = { λ l. Some (pieces_bytes (line_pieces l.skin.now l.outer false l.line.now)) };
+
+    fn fmt<W: fmt::Write>(&self, f: &mut fmt::Formatter<W>) -> fmt::Result {
+        match self.line {
+            FmtLine::Normal(composite) => {
+                let margins = margins_of(self.skin, composite, self.outer);
+                let placed = PlacedComposite {
+                    skin: self.skin,
+                    composite,
+                    place: RowPlace {
+                        outer: self.outer,
+                        margins,
+                        right: false,
+                    },
+                };
+                write!(f, "{placed}")
+            }
+        }
+    }
+}
+
+impl fmt::Display for FmtInline<'_, '_> {
+    ghost use Rattle.std.specs.Prelude.{None, false};
+    ghost use Rattle.mad_layout.specs.Rows.{composite_pieces, margins_of};
+
+    ghost output = { λ i. Some (pieces_bytes (composite_pieces i.skin.now None (margins_of i.skin.now None i.composite) false i.composite)) };
+
+    fn fmt<W: fmt::Write>(&self, f: &mut fmt::Formatter<W>) -> fmt::Result {
+        let placed = PlacedComposite {
+            skin: self.skin,
+            composite: &self.composite,
+            place: RowPlace {
+                outer: None,
+                margins: margins_of(self.skin, &self.composite, None),
+                right: false,
+            },
+        };
+        write!(f, "{placed}")
+    }
+}
+
+// Lines at an outer width, each ended by a newline.
+#[derive(Clone, Copy)]
+struct PlacedLines<'a, 's> {
+    skin: &'a MadSkin,
+    lines: &'a [FmtLine<'s>],
+    outer: Option<usize>,
+}
+
+impl fmt::Display for PlacedLines<'_, '_> {
+    ghost use Rattle.mad_layout.specs.Texts.{text_bytes};
+
+    ghost output = { λ l. Some (text_bytes l.skin.now l.outer l.lines.now) };
+
+    fn fmt<W: fmt::Write>(&self, f: &mut fmt::Formatter<W>) -> fmt::Result {
+        for line in self.lines {
+            let placed = PlacedLine {
+                skin: self.skin,
+                line,
+                outer: self.outer,
+            };
+            write!(f, "{placed}\n")?;
+        }
+        Ok(())
+    }
+}
+
+impl fmt::Display for FmtText<'_, '_> {
+    ghost use Rattle.mad_layout.specs.Texts.{text_bytes};
+
+    ghost output = { λ t. Some (text_bytes t.skin.now t.width t.lines.items) };
+
+    fn fmt<W: fmt::Write>(&self, f: &mut fmt::Formatter<W>) -> fmt::Result {
+        let lines = PlacedLines {
+            skin: self.skin,
+            lines: self.lines.as_slice(),
+            outer: self.width,
+        };
+        write!(f, "{lines}")
+    }
+}

@@ -1,0 +1,74 @@
+//! Runs: a text so many times, as one piece.
+
+use crate::styles::{ContentStyle, StyleOpening, closing_text};
+use std::fmt;
+
+/// A text so many times in a style, as one piece; nothing at all if `count` is 0.
+#[derive(Clone, Copy, Debug, PartialEq, Eq)]
+pub struct StyledRun<'a> {
+    pub style: ContentStyle,
+    pub content: &'a str,
+    pub count: usize,
+}
+
+impl fmt::Display for StyledRun<'_> {
+    ghost use Rattle.std.specs.Prelude.{Some};
+    ghost use Rattle.mad_term.specs.Styles.{styled_run_bytes};
+
+    ghost output = { λ r. Some (styled_run_bytes r.style r.content.now r.count) };
+
+    fn fmt<W: fmt::Write>(&self, f: &mut fmt::Formatter<W>) -> fmt::Result {
+        if self.count == 0 {
+            return Ok(());
+        }
+        let opening = StyleOpening(self.style);
+        let copies = Copies {
+            content: self.content,
+            count: self.count,
+        };
+        let closing = closing_text(self.style);
+        write!(f, "{opening}{copies}{closing}")
+    }
+}
+
+// A text so many times.
+#[derive(Clone, Copy)]
+struct Copies<'a> {
+    content: &'a str,
+    count: usize,
+}
+
+impl fmt::Display for Copies<'_> {
+    ghost use Rattle.std.specs.Prelude.{Some};
+    ghost use Rattle.std.specs.List.{repeat};
+
+    ghost output = { λ c. Some (repeat c.count c.content.now) };
+
+    fn fmt<W: fmt::Write>(&self, f: &mut fmt::Formatter<W>) -> fmt::Result {
+        for _ in 0..self.count {
+            f.write_str(self.content)?;
+        }
+        Ok(())
+    }
+}
+
+/// A number in a style, in decimal, as one piece.
+#[derive(Clone, Copy, Debug, PartialEq, Eq)]
+pub struct StyledNumber {
+    pub style: ContentStyle,
+    pub number: u32,
+}
+
+impl fmt::Display for StyledNumber {
+    ghost use Rattle.std.specs.Prelude.{Some, decimal};
+    ghost use Rattle.mad_term.specs.Styles.{piece_bytes};
+
+    ghost output = { λ n. Some (piece_bytes n.style (decimal n.number)) };
+
+    fn fmt<W: fmt::Write>(&self, f: &mut fmt::Formatter<W>) -> fmt::Result {
+        let opening = StyleOpening(self.style);
+        let number = self.number;
+        let closing = closing_text(self.style);
+        write!(f, "{opening}{number}{closing}")
+    }
+}
