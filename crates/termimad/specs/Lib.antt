@@ -56,5 +56,6 @@ pub use Rattle.mad_layout.specs.Shown
 pub use Rattle.mad_layout.specs.SkinParts
 pub use Rattle.mad_layout.specs.Skins
 pub use Rattle.mad_layout.specs.Styles as SkinStyles
+pub use Rattle.mad_layout.specs.Texts
 pub use Rattle.mad_layout.specs.WrappedLines
 pub use Rattle.mad_layout.specs.Wraps

@@ -34,6 +34,6 @@ pub use mad_style::{
 };
 pub use mad_term::{
     Attribute, Attributes, Clear, ClearType, Color, ContentStyle, CutOut, Error, InsufficientWidthError,
-    MoveTo, Out, ScriptSource, Source, Stream, StyledContent, char_columns, put_all, queue_bg, queue_clear, queue_fg,
+    MoveTo, Out, ScriptSource, Source, Stream, StyledContent, StyledNumber, StyledRun, char_columns, put_all, queue_bg, queue_clear, queue_fg,
     queue_move, queue_styled,
 };
