@@ -1,1 +1,3 @@
-pub mod Saying
+pub mod RunSteps
+pub mod Sources
+pub mod Writings

@@ -1,1 +1,6 @@
-pub mod Usage
+pub mod Calls
+pub mod Failures
+pub mod Lines
+pub mod Numbers
+pub mod Reading
+pub mod Runs

@@ -1,38 +1,63 @@
-//! The program over any devices.
+//! A run of the program, over any devices.
 
-ghost use Rattle.std.specs.Prelude.{◌≡◌};
-ghost use Rattle.termimad_view.specs.Usage.{usage, SaysOnce};
+ghost use Rattle.std.specs.Prelude.{◌≡◌, ◌↔◌, map, string_bytes};
+ghost use Rattle.termimad_view.specs.Calls.{IsNoCall, AsksUnknownSkin};
+ghost use Rattle.termimad_view.specs.Runs.{Devices, RunsTo, HasRun};
 
-use mad_term::{Out, Source, put_all};
+use crate::call::parse_call;
+use crate::failure::{Failure, refuse};
+use crate::input::read_all;
+use crate::writing::write_call;
 use std::alloc::Global;
-
-/// The status of arguments that the program doesn't know.
-pub const STATUS_USAGE: u8 = 2;
-
-/// The status of a run that was refused memory.
-pub const STATUS_MEMORY: u8 = 5;
-
-/// What the program says of its arguments.
-const USAGE: &[u8] = b"usage: termimad-view area L T W H [SKIN] | text W [SKIN] | inline [SKIN]\n";
+use termimad::{Out, Source};
 
 /// Runs the program on its arguments, without its own name, and answers its status.
 ///
-/// No command is there yet: each call writes the usage line to `err` and answers [`STATUS_USAGE`]. A fault of `err`
-/// changes no status.
+/// The arguments are checked first, then the skin; then the input is read whole and decoded, and then the output is
+/// written and flushed. A failure is said on `err`, in one line; a fault of `err` changes no status.
 pub fn run<I: Source, O: Out, E: Out>(
-    _alloc: Global,
-    _args: &[String],
-    _input: &mut I,
-    _out: &mut O,
+    alloc: Global,
+    args: &[String],
+    input: &mut I,
+    out: &mut O,
     err: &mut E,
 ) -> u8
-    ensures status { result ≡ STATUS_USAGE }
-    ensures unread { I.seen _input.new ≡ I.seen _input.old }
-    ensures unwritten { O.seen _out.new ≡ O.seen _out.old }
-    ensures said { SaysOnce (E.seen err.old) usage (E.seen err.new) }
+    ensures run { HasRun (map string_bytes args.now)
+        (record { input = I.seen input.old; out = O.seen out.old }) result
+        (record { input = I.seen input.new; out = O.seen out.new }) (E.seen err.old) (E.seen err.new) }
+    ensures usage { (result ≡ 2) ↔ IsNoCall (map string_bytes args.now) }
+    ensures skin { (result ≡ 4) ↔ AsksUnknownSkin (map string_bytes args.now) }
 {
-    let _ = put_all(err, USAGE);
-    STATUS_USAGE
+    match execute(alloc, args, input, out) {
+        Ok(()) => 0,
+        Err(failure) => refuse(err, failure),
+    }
+}
+
+// Does what the arguments ask for.
+fn execute<I: Source, O: Out>(
+    alloc: Global,
+    args: &[String],
+    input: &mut I,
+    out: &mut O,
+) -> Result<(), Failure>
+    ensures { RunsTo (map string_bytes args.now)
+        (record { input = I.seen input.old; out = O.seen out.old }) result
+        (record { input = I.seen input.new; out = O.seen out.new }) }
+{
+    let Some(call) = parse_call(args) else {
+        return Err(Failure::Usage);
+    };
+    let Some(skin) = call.skin.skin() else {
+        return Err(Failure::Skin);
+    };
+    let bytes = read_all(alloc, input)?;
+    let Ok(text) = str::from_utf8(bytes.as_slice()) else {
+        return Err(Failure::NotUtf8);
+    };
+    write_call(alloc, out, &skin, &call.command, text)?;
+    out.flush()?;
+    Ok(())
 }
 
 #[cfg(test)]

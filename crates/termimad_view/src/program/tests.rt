@@ -1,24 +1,238 @@
-//! What the program writes, byte for byte.
+//! What the program answers, writes and says, byte for byte. A call is given as its words with bars between them.
 
 use super::*;
-use mad_term::{CutOut, ScriptSource};
+use std::alloc::AllocError;
+use std::process::Abort;
 use std::test::Fail;
+use termimad::{CutOut, ScriptSource};
 
-const USAGE_LINE: &[u8] =
+const IO: &[u8] = b"termimad-view: io\n";
+const USAGE: &[u8] =
     b"usage: termimad-view area L T W H [SKIN] | text W [SKIN] | inline [SKIN]\n";
+const NOT_UTF8: &[u8] = b"termimad-view: input is not UTF-8\n";
+const SKIN: &[u8] = b"termimad-view: skin\n";
+const MEMORY: &[u8] = b"termimad-view: memory\n";
+
+// `area 0 0 12 3` of `hello`, 54 bytes.
+const HELLO: &[u8] = b"\x1b[1;1Hhello       \x1b[2;1H            \x1b[3;1H            ";
+
+// `inline default` of `**some** x`.
+const SOME: &[u8] = b"\x1b[1msome\x1b[0m x\n";
+
+// More than any of these calls writes.
+const ROOM: usize = 1000;
+
+fn words_of(alloc: Global, call: &str) -> Result<Vec<String>, AllocError> {
+    let mut words = Vec::new(alloc);
+    for word in call.split('|') {
+        words.push(String::from_str(alloc, word)?)?;
+    }
+    Ok(words)
+}
+
+// Runs a call with room for all, and looks at everything that it leaves.
+fn expect(
+    rt: &(impl Abort + AllocGlobal),
+    call: &str,
+    input: &[u8],
+    status: u8,
+    written: &[u8],
+    said: &[u8],
+) -> Result<(), AllocError> {
+    let alloc = rt.alloc();
+    let words = words_of(alloc, call)?;
+    let mut source = ScriptSource::new(input, false);
+    let mut out = CutOut::new(alloc, ROOM, ROOM, false)?;
+    let mut err = CutOut::new(alloc, ROOM, ROOM, false)?;
+    let answer = run(alloc, words.as_slice(), &mut source, &mut out, &mut err);
+    assert_eq!(rt; answer, status, "{call}");
+    assert!(rt; out.taken() == written, "{call}: the output");
+    assert!(rt; err.taken() == said, "{call}: what was said");
+    let unread: &[u8] = if status == 2 || status == 4 { input } else { b"" };
+    assert!(rt; source.left() == unread, "{call}: the input");
+    Ok(())
+}
 
 #[test]
-fn each_call_writes_the_usage_line(rt: HostRuntime) -> Result<(), Fail> {
-    let alloc = rt.alloc();
-    for room in [0, 10, 1000] {
-        let mut input = ScriptSource::new(b"unread", false);
-        let mut out = CutOut::new(alloc, 1000, 1000, false)?;
-        let mut err = CutOut::new(alloc, 1000, room, false)?;
-        let status = run(alloc, &[], &mut input, &mut out, &mut err);
-        assert_eq!(rt; status, 2, "at room {room}");
-        assert!(rt; input.left() == b"unread".as_slice());
-        assert!(rt; out.taken().is_empty());
-        assert!(rt; err.taken() == &USAGE_LINE[..room.min(USAGE_LINE.len())]);
+fn words_that_are_no_call_are_refused_unread(rt: HostRuntime) -> Result<(), Fail> {
+    let calls = [
+        "", "nothing", "Area|0|0|12|3", "area", "area|0|0|12", "area|0|0|12|3|default|more",
+        "inline|default|more", "text|20", "text|20|default", "inline |default",
+    ];
+    for call in calls {
+        expect(&rt, call, b"hello", 2, b"", USAGE)?;
+    }
+    let mut source = ScriptSource::new(b"hello", false);
+    let mut out = CutOut::new(rt.alloc(), ROOM, ROOM, false)?;
+    let mut err = CutOut::new(rt.alloc(), ROOM, ROOM, false)?;
+    assert_eq!(rt; run(rt.alloc(), &[], &mut source, &mut out, &mut err), 2);
+    assert!(rt; err.taken() == USAGE);
+    Ok(())
+}
+
+#[test]
+fn numbers_are_digits_of_a_value_of_at_most_65535(rt: HostRuntime) -> Result<(), Fail> {
+    let refused = [
+        "+1", "65536", "", " 1", "1 ", "-1", "0x1", "1.0", "１", "99999999999999999999",
+    ];
+    for number in refused {
+        for call in ["area|N|0|12|3", "area|0|N|12|3", "area|0|0|N|3", "area|0|0|12|N"] {
+            let call = call.replace(rt.alloc(), 'N', number)?;
+            expect(&rt, call.as_str(), b"hello", 2, b"", USAGE)?;
+        }
+    }
+    for call in ["area|0|0|3|3", "area|65532|0|4|3", "area|0|65535|12|1", "area|65535|65535|65535|65535"] {
+        expect(&rt, call, b"hello", 2, b"", USAGE)?;
+    }
+    for call in ["area|0|0|0012|3", "area|00000000|0|12|3"] {
+        expect(&rt, call, b"hello", 0, HELLO, b"")?;
+    }
+    for call in ["area|65531|65535|4|0", "area|65523|0|00000000000000000004|0"] {
+        expect(&rt, call, b"hello", 0, b"", b"")?;
     }
     Ok(())
+}
+
+#[test]
+fn a_text_is_written_in_its_area(rt: HostRuntime) -> Result<(), Fail> {
+    expect(&rt, "area|0|0|12|3", b"hello", 0, HELLO, b"")?;
+    expect(&rt, "area|0|0|12|3|default", b"hello", 0, HELLO, b"")?;
+    expect(&rt, "area|0|0|4|0", b"hello", 0, b"", b"")?;
+    expect(&rt, "area|3|2|4|1", b"", 0, b"\x1b[3;4H    ", b"")?;
+    expect(&rt, "area|0|0|4|1", "概要".as_bytes(), 0, "\x1b[1;1H概  ".as_bytes(), b"")?;
+    Ok(())
+}
+
+#[test]
+fn a_line_loses_one_end_and_gets_a_newline(rt: HostRuntime) -> Result<(), Fail> {
+    let rows: [(&[u8], &[u8]); 8] = [
+        (b"", b"\n"), (b"a", b"a\n"), (b"a\n", b"a\n"), (b"a\r\n", b"a\n"), (b"a\n\n", b"a\n\n"),
+        (b"a\r", b"a\r\n"), (b"\r\n", b"\n"), (b"**some** x", b"some x\n"),
+    ];
+    for (input, written) in rows {
+        expect(&rt, "inline", input, 0, written, b"")?;
+    }
+    expect(&rt, "inline|default", b"**some** x", 0, SOME, b"")?;
+    expect(&rt, "inline|default", b"a ~~b~~", 0, b"a \x1b[9mb\x1b[0m\n", b"")?;
+    Ok(())
+}
+
+#[test]
+fn other_skins_and_inputs_that_are_no_text_are_refused(rt: HostRuntime) -> Result<(), Fail> {
+    for call in ["inline|no_style", "inline|", "inline|Default", "area|0|0|12|3|dark", "area|0|0|4|0|"] {
+        expect(&rt, call, b"\xff", 4, b"", SKIN)?;
+    }
+    // The arguments come before the skin.
+    expect(&rt, "area|0|0|3|3|dark", b"hello", 2, b"", USAGE)?;
+    for input in [b"\xff".as_slice(), b"hello \xe2\x82", b"\xc0\x80", b"\xed\xa0\x80"] {
+        for call in ["inline", "area|0|0|12|3", "area|0|0|4|0|default"] {
+            expect(&rt, call, input, 3, b"", NOT_UTF8)?;
+        }
+    }
+    Ok(())
+}
+
+#[test]
+fn a_failing_input_writes_nothing(rt: HostRuntime) -> Result<(), Fail> {
+    let alloc = rt.alloc();
+    for call in ["area|0|0|12|3", "inline", "area|0|0|4|0"] {
+        for count in 0..6 {
+            let words = words_of(alloc, call)?;
+            let mut source = ScriptSource::new(&b"hello"[..count], true);
+            let mut out = CutOut::new(alloc, ROOM, ROOM, false)?;
+            let mut err = CutOut::new(alloc, ROOM, ROOM, false)?;
+            let status = run(alloc, words.as_slice(), &mut source, &mut out, &mut err);
+            assert_eq!(rt; status, 1, "{call}: after {count} bytes");
+            assert!(rt; out.taken().is_empty());
+            assert!(rt; err.taken() == IO);
+            assert_eq!(rt; source.faults(), 1);
+        }
+    }
+    Ok(())
+}
+
+// Runs a call with so much room on an output that may fail at its flush.
+fn expect_front(
+    rt: &(impl Abort + AllocGlobal),
+    call: &str,
+    input: &[u8],
+    whole: &[u8],
+    room: usize,
+    flush_fails: bool,
+) -> Result<(), AllocError> {
+    let alloc = rt.alloc();
+    let words = words_of(alloc, call)?;
+    for step in [1, 7, ROOM] {
+        let mut source = ScriptSource::new(input, false);
+        let mut out = CutOut::new(alloc, step, room, flush_fails)?;
+        let mut err = CutOut::new(alloc, ROOM, ROOM, false)?;
+        let fails = flush_fails || room < whole.len();
+        let status = run(alloc, words.as_slice(), &mut source, &mut out, &mut err);
+        assert_eq!(rt; status, u8::from(fails), "{call}: at room {room}");
+        assert!(rt; out.taken() == &whole[..room.min(whole.len())], "{call}: at room {room}");
+        assert!(rt; err.taken() == if fails { IO } else { b"" }, "{call}: at room {room}");
+        assert_eq!(rt; out.faults(), u64::from(fails));
+    }
+    Ok(())
+}
+
+#[test]
+fn a_failing_output_has_taken_a_beginning(rt: HostRuntime) -> Result<(), Fail> {
+    for room in 0..56 {
+        expect_front(&rt, "area|0|0|12|3", b"hello", HELLO, room, false)?;
+        expect_front(&rt, "inline|default", b"**some** x", SOME, room, false)?;
+    }
+    expect_front(&rt, "area|0|0|12|3", b"hello", HELLO, ROOM, true)?;
+    expect_front(&rt, "inline|default", b"**some** x", SOME, ROOM, true)?;
+    expect_front(&rt, "area|0|0|4|0", b"hello", b"", ROOM, true)?;
+    Ok(())
+}
+
+#[test]
+fn a_failing_standard_error_changes_no_status(rt: HostRuntime) -> Result<(), Fail> {
+    let alloc = rt.alloc();
+    let rows: [(&str, u8, &[u8]); 3] = [("inline", 3, NOT_UTF8), ("area", 2, USAGE), ("inline|", 4, SKIN)];
+    for (call, status, line) in rows {
+        for room in 0..line.len() {
+            let words = words_of(alloc, call)?;
+            let mut source = ScriptSource::new(b"\xff", false);
+            let mut out = CutOut::new(alloc, ROOM, ROOM, false)?;
+            let mut err = CutOut::new(alloc, ROOM, room, false)?;
+            let answer = run(alloc, words.as_slice(), &mut source, &mut out, &mut err);
+            assert_eq!(rt; answer, status, "{call}: at room {room}");
+            assert!(rt; err.taken() == &line[..room]);
+        }
+    }
+    Ok(())
+}
+
+// Runs a call whose memory may be refused: its row, or a front of it with status 5.
+fn expect_or_memory(
+    rt: &(impl Abort + AllocGlobal),
+    call: &str,
+    input: &[u8],
+    whole: &[u8],
+) -> Result<(), AllocError> {
+    let alloc = rt.alloc();
+    let words = words_of(alloc, call)?;
+    let mut source = ScriptSource::new(input, false);
+    let mut out = CutOut::new(alloc, ROOM, ROOM, false)?;
+    let mut err = CutOut::new(alloc, ROOM, ROOM, false)?;
+    let status = run(alloc, words.as_slice(), &mut source, &mut out, &mut err);
+    if status == 5 {
+        assert!(rt; whole.starts_with(out.taken()), "{call}");
+        assert!(rt; err.taken() == MEMORY, "{call}");
+        return Err(AllocError);
+    }
+    assert_eq!(rt; status, 0, "{call}");
+    assert!(rt; out.taken() == whole, "{call}");
+    assert!(rt; err.taken().is_empty(), "{call}");
+    Ok(())
+}
+
+#[test]
+fn a_run_is_its_row_or_memory(rt: HostRuntime) {
+    // Want of memory is an answer here.
+    let _ = expect_or_memory(&rt, "area|0|0|12|3", b"hello", HELLO);
+    let _ = expect_or_memory(&rt, "inline|default", b"**some** x", SOME);
 }

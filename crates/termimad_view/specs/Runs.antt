@@ -1,0 +1,105 @@
+-- The headline of the program: what a run does to its devices, and how it ends.
+use Rattle.std.specs.Prelude.{◌≡◌, ◌⊎◌, ℕ, List, [], ◌∷◌, ◌++◌, codes, Option, Some, None, unwrap_or, Result, Ok, Err, IsUtf8, nat_eq}
+use Rattle.termimad.specs.Inline.{Item, IsInlineReading}
+use Rattle.termimad.specs.Draws.{Draws}
+use Rattle.termimad.specs.Trace.{Trace, failed}
+use Rattle.termimad.specs.declared.Error.{Error}
+use Rattle.termimad.specs.InArea.{WritesInArea}
+use Rattle.termimad.specs.Inlines.{inline_bytes}
+use Rattle.termimad.specs.declared.MadSkin.{MadSkin}
+use Rattle.termimad_view.specs.declared.call.Command.{Command}
+use Rattle.termimad_view.specs.declared.call.Command.TheVariants.{InArea, Inline}
+use Rattle.termimad_view.specs.declared.call.SkinWord.{SkinWord}
+use Rattle.termimad_view.specs.declared.failure.Failure.{Failure}
+use Rattle.termimad_view.specs.declared.failure.Failure.TheVariants.{Io, Usage, NotUtf8, Skin, Memory}
+use Rattle.termimad_view.specs.Calls.{Asks, IsNoCall, AsksUnknownSkin, skin_of}
+use Rattle.termimad_view.specs.Failures.{failure_of, status_of, line_of, SaysOnce}
+use Rattle.termimad_view.specs.Reading.{ReadsWhole, ReadingFails}
+use Rattle.termimad_view.specs.Lines.{IsLineOf}
+
+-- the input and the output of a run
+pub record Devices : Type 0 where
+  pub input : Trace
+  pub out : Trace
+
+-- the words are a call, in a skin that the program knows
+pub record KnownCall (words : List (List ℕ)) : Type 0 where
+  pub command : Command
+  pub skin_word : SkinWord
+  pub asks : Asks words command skin_word
+  pub skin : MadSkin
+  pub known : skin_of skin_word ≡ Some skin
+
+-- what `inline` writes of a line: the bytes of each reading of its marks, and a newline (there is exactly one reading)
+abbrev pub WritesLine : {T : Type 0} → MadSkin → List ℕ → Trace → Result T Error → Trace → Type 0
+WritesLine skin line old r new =
+    (items : List Item) → IsInlineReading line items → Draws old (inline_bytes skin line items ++ (10 ∷ [])) r new
+
+-- what the output is asked to take of a text: the text in its area; or its line without the end of line
+abbrev pub WritesCall : {T : Type 0} → MadSkin → Command → List ℕ → Trace → Result T Error → Trace → Type 0
+WritesCall skin (InArea area) text old r new = WritesInArea skin text area old r new
+WritesCall skin Inline text old r new = (line : List ℕ) × IsLineOf text line × WritesLine skin line old r new
+
+-- The input was read whole and is a text.
+pub record HasRead (old : Trace) (text : List ℕ) (new : Trace) : Type 0 where
+  pub whole : ReadsWhole old text new
+  pub decoded : IsUtf8 text
+
+-- status 0: the whole input is a text, and the output took what the call writes of it
+pub record IsDone (words : List (List ℕ)) (old new : Devices) : Type 0 where
+  pub call : KnownCall words
+  pub text : List ℕ
+  pub read : HasRead old.input text new.input
+  pub wrote : WritesCall call.skin call.command text old.out (Ok (tt {0})) new.out
+
+-- the input failed, or there was no memory for it; nothing was written
+pub record FailsToRead (words : List (List ℕ)) (old : Devices) (failure : Failure) (new : Devices) : Type 0 where
+  pub call : KnownCall words
+  pub stopped : ReadingFails old.input failure new.input
+  pub unwritten : new.out ≡ old.out
+
+-- the whole input was read, and writing was refused
+pub record FailsToWrite (words : List (List ℕ)) (old : Devices) (failure : Failure) (new : Devices) : Type 0 where
+  pub call : KnownCall words
+  pub text : List ℕ
+  pub read : HasRead old.input text new.input
+  pub error : Error
+  pub so : failure_of error ≡ failure
+  pub wrote : WritesCall {T = Unit {0}} call.skin call.command text old.out (Err error) new.out
+
+-- the output took everything, and then its flush failed
+pub record FailsToFlush (words : List (List ℕ)) (old new : Devices) : Type 0 where
+  pub call : KnownCall words
+  pub text : List ℕ
+  pub read : HasRead old.input text new.input
+  pub written : Trace
+  pub wrote : WritesCall call.skin call.command text old.out (Ok (tt {0})) written
+  pub unflushed : new.out ≡ failed written
+
+-- the whole input was read and is no text; nothing was written
+pub record IsNoText (words : List (List ℕ)) (old new : Devices) : Type 0 where
+  pub call : KnownCall words
+  pub bytes : List ℕ
+  pub read : ReadsWhole old.input bytes new.input
+  pub undecoded : ¬ (IsUtf8 bytes)
+  pub unwritten : new.out ≡ old.out
+
+-- What a run has done, by how it ended. The arguments come first, then the skin, then the input, and the output last.
+abbrev pub RunsTo : {T : Type 0} → List (List ℕ) → Devices → Result T Failure → Devices → Type 0
+RunsTo words old (Ok x) new = IsDone words old new
+RunsTo words old (Err Usage) new = IsNoCall words × (new ≡ old)
+RunsTo words old (Err Skin) new = AsksUnknownSkin words × (new ≡ old)
+RunsTo words old (Err NotUtf8) new = IsNoText words old new
+RunsTo words old (Err Io) new = FailsToRead words old Io new ⊎ (FailsToWrite words old Io new ⊎ FailsToFlush words old new)
+RunsTo words old (Err Memory) new = FailsToRead words old Memory new ⊎ FailsToWrite words old Memory new
+
+-- A run ended with this status: without a failure it is 0 and nothing is said; a failure has its own, and its line is said once.
+abbrev pub Answers : {T : Type 0} → Result T Failure → ℕ → Trace → Trace → Type 0
+Answers (Ok x) status old new = (status ≡ 0) × (new ≡ old)
+Answers (Err failure) status old new = (status ≡ status_of failure) × SaysOnce old (line_of failure) new
+
+-- A run, whole: there is a way of ending that its devices show, and that its status and its words on standard error tell.
+pub record HasRun (words : List (List ℕ)) (old : Devices) (status : ℕ) (new : Devices) (said_old said_new : Trace) : Type 0 where
+  pub outcome : Result (Unit {0}) Failure
+  pub did : RunsTo words old outcome new
+  pub told : Answers outcome status said_old said_new

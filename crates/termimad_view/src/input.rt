@@ -1,0 +1,24 @@
+//! Reading a source to its end.
+
+ghost use Rattle.std.specs.Prelude.{MatchResult};
+ghost use Rattle.termimad_view.specs.Reading.{ReadsWhole, ReadingFails};
+
+use crate::failure::Failure;
+use std::alloc::Global;
+use termimad::Source;
+
+/// All the bytes that a source has.
+///
+/// # Errors
+///
+/// The first fault of the source, or want of memory for its bytes. Those that were read by then are gone.
+pub fn read_all<I: Source>(alloc: Global, input: &mut I) -> Result<Vec<u8>, Failure>
+    ensures { MatchResult result (λ bytes. ReadsWhole (I.seen input.old) bytes.items (I.seen input.new))
+        (λ failure. ReadingFails (I.seen input.old) failure (I.seen input.new)) }
+{
+    let mut bytes = Vec::new(alloc);
+    while let Some(byte) = input.get()? {
+        bytes.push(byte)?;
+    }
+    Ok(bytes)
+}

@@ -1,0 +1,51 @@
+//! What a call writes of its text.
+
+ghost use Rattle.termimad_view.specs.Calls.{IsWithin};
+ghost use Rattle.termimad_view.specs.Lines.{IsLineOf};
+ghost use Rattle.termimad_view.specs.Runs.{WritesCall, WritesLine};
+
+use crate::call::Command;
+use std::alloc::Global;
+use termimad::{Error, MadSkin, Out, put_all};
+
+/// Writes a text in an area, or as one line with inline marks and a newline. Nothing is flushed.
+///
+/// An area has to lie within the limits of a screen: its right and bottom fit a `u16`.
+///
+/// # Errors
+///
+/// A fault of the device, or want of memory. What went out by then is a beginning of the whole.
+pub fn write_call<O: Out>(
+    alloc: Global,
+    out: &mut O,
+    skin: &MadSkin,
+    command: &Command,
+    text: &str,
+) -> Result<(), Error>
+    requires { IsWithin command.now }
+    ensures { WritesCall skin.now command.now text.now (O.seen out.old) result (O.seen out.new) }
+{
+    match command {
+        Command::InArea(area) => skin.write_in_area_on(alloc, out, text, area),
+        Command::Inline => write_line(alloc, out, skin, line_of(text)),
+    }
+}
+
+// Writes a line with inline marks, and a newline.
+fn write_line<O: Out>(alloc: Global, out: &mut O, skin: &MadSkin, line: &str) -> Result<(), Error>
+    ensures { WritesLine skin.now line.now (O.seen out.old) result (O.seen out.new) }
+{
+    skin.write_inline_on(alloc, out, line)?;
+    put_all(out, b"\n")?;
+    Ok(())
+}
+
+// A text without its end of line: a final `\n`, and a `\r` before it.
+fn line_of(text: &str) -> &str
+    ensures { IsLineOf text.entry.now result.now }
+{
+    let Some(line) = text.strip_suffix('\n') else {
+        return text;
+    };
+    line.strip_suffix('\r').unwrap_or(line)
+}
