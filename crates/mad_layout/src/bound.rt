@@ -27,8 +27,9 @@ pub struct WrapBound {
 
 /// Starts that show how many lines each break of the composite has at least that fits in `width` columns.
 ///
-/// Where each character has room, there are as many as `hard_wrap_composite` gives lines, and one more where that drops
-/// blanks after the last; a composite that fits has one. A width under 3 is refused. One pass over the text.
+/// `check_wrap_bound` says yes to them. Where each character has room, there are as many as `hard_wrap_composite` gives
+/// lines, and one more where that drops blanks after the last; a composite that fits has one. A width under 3 is refused.
+/// One pass over the text.
 pub fn wrap_bound(
     alloc: Global,
     composite: &FmtComposite,
