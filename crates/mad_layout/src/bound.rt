@@ -14,7 +14,7 @@ use crate::composite::FmtComposite;
 use crate::placing::{left_after, left_of, left_with};
 use crate::room::Room;
 use crate::skin::MadSkin;
-use mad_fit::tokens::{Token, tokenize};
+use mad_fit::{Token, tokenize};
 use mad_term::{Error, InsufficientWidthError};
 use std::alloc::{AllocError, Global};
 

@@ -1,7 +1,7 @@
 ghost use Rattle.std.specs.Prelude.{◌≡◌, ◌+◌};
 
 use crate::indents::indent_of;
-use mad_fit::measure::columns;
+use mad_fit::columns;
 use mad_md::Compound;
 use mad_style::{CompositeKind, LineStyle, ListItemsIndentationMode};
 
