@@ -14,7 +14,7 @@ use crate::composite::FmtComposite;
 use crate::placing::{left_after, left_of, left_with};
 use crate::room::Room;
 use crate::skin::MadSkin;
-use mad_fit::tokens::{Token, tokenize};
+use mad_fit::{Token, tokenize};
 use mad_term::{Error, InsufficientWidthError};
 use std::alloc::{AllocError, Global};
 
@@ -27,8 +27,9 @@ pub struct WrapBound {
 
 /// Starts that show how many lines each break of the composite has at least that fits in `width` columns.
 ///
-/// Where each character has room, there are as many as `hard_wrap_composite` gives lines, and one more where that drops
-/// blanks after the last; a composite that fits has one. A width under 3 is refused. One pass over the text.
+/// `check_wrap_bound` says yes to them. Where each character has room, there are as many as `hard_wrap_composite` gives
+/// lines, and one more where that drops blanks after the last; a composite that fits has one. A width under 3 is refused.
+/// One pass over the text.
 pub fn wrap_bound(
     alloc: Global,
     composite: &FmtComposite,

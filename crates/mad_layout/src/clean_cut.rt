@@ -2,7 +2,7 @@ ghost use Rattle.std.specs.Prelude.{◌≡◌, ◌↔◌};
 ghost use Rattle.mad_layout.specs.CleanCut.{clean_cut, fits_behind, is_white, both_fit};
 
 use crate::room::Room;
-use mad_fit::measure::columns;
+use mad_fit::columns;
 use mad_md::Compound;
 
 /// The two compounds that a clean cut puts on a line each, where one is made: those of two compounds, or the outer ones

@@ -5,8 +5,7 @@ ghost use Rattle.mad_md.specs.Flagged.{flagged_of, flagged_text};
 
 use crate::indents::indent_of;
 use crate::skin::MadSkin;
-use mad_fit::measure::columns;
-use mad_fit::spacing::Spacing;
+use mad_fit::{Spacing, columns};
 use mad_md::{Composite, Compound};
 use mad_style::CompositeKind;
 use std::alloc::{AllocError, Global};

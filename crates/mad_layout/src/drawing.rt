@@ -18,7 +18,7 @@ use crate::fmt_text::FmtText;
 use crate::line::FmtLine;
 use crate::rows::push_row;
 use crate::skin::MadSkin;
-use mad_fit::area::Area;
+use mad_fit::Area;
 use mad_term::{Error, Out, push_move, put_all};
 use std::alloc::Global;
 

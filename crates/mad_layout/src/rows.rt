@@ -11,7 +11,7 @@ use crate::composite::FmtComposite;
 use crate::indents::indent_of;
 use crate::line::FmtLine;
 use crate::skin::MadSkin;
-use mad_fit::spacing::Spacing;
+use mad_fit::Spacing;
 use mad_md::{Alignment, Composite, Compound};
 use mad_style::{CompositeKind, CompoundStyle, LineStyle, StyledChar};
 use mad_term::push_styled;

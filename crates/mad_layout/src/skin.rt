@@ -4,7 +4,7 @@ ghost use Rattle.std.specs.Prelude.{◌≡◌, ◌+◌};
 ghost use Rattle.mad_layout.specs.SkinParts.{header_line, first_header_line, default_header_lines, default_quote};
 
 use crate::indents::indent_of;
-use mad_fit::measure::columns;
+use mad_fit::columns;
 use mad_md::{Alignment, Compound, MAX_HEADER_DEPTH};
 use mad_style::{
     CompositeKind, CompoundStyle, LineStyle, ListItemsIndentationMode, MAX_ORDERED_LIST_DEPTH,

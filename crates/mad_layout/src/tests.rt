@@ -9,7 +9,7 @@ use crate::indents::composite_kind_widths;
 use crate::line::FmtLine;
 use crate::skin::MadSkin;
 use crate::wrap::{hard_wrap_composite, hard_wrap_lines};
-use mad_fit::spacing::Spacing;
+use mad_fit::Spacing;
 use mad_md::{Alignment, Composite, CompositeStyle, Compound};
 use mad_style::{CompositeKind, CompoundStyle, LineStyle, ListItemsIndentationMode};
 use mad_term::Error;

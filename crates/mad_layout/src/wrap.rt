@@ -14,7 +14,7 @@ use crate::line::FmtLine;
 use crate::placing::place;
 use crate::room::Room;
 use crate::skin::MadSkin;
-use mad_fit::tokens::tokenize;
+use mad_fit::tokenize;
 use mad_md::Compound;
 use mad_term::{Error, InsufficientWidthError};
 use std::alloc::{AllocError, Global};

@@ -10,7 +10,7 @@ use crate::drawing::draw_text;
 use crate::fmt_text::FmtText;
 use crate::rows::push_free;
 use crate::skin::MadSkin;
-use mad_fit::area::Area;
+use mad_fit::Area;
 use mad_md::Composite;
 use mad_term::{Error, Out, put_all};
 use std::alloc::{AllocError, Global};

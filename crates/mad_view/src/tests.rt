@@ -5,7 +5,7 @@
 ghost use Rattle.mad_fit.specs.Areas.{IsWithinLimits};
 
 use crate::text_view::TextView;
-use mad_fit::area::Area;
+use mad_fit::Area;
 use mad_layout::{FmtText, MadSkin};
 use mad_term::{CutOut, Error, NotPlain, Pen, Screen};
 use std::alloc::Global;

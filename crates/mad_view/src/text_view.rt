@@ -9,7 +9,7 @@ ghost use Rattle.mad_layout.specs.Shown.{area_bytes, AreShownIn};
 ghost use Rattle.mad_layout.specs.ShownLayouts.{ShowsLayout};
 ghost use Rattle.mad_view.specs.Scrolls.{scroll_within};
 
-use mad_fit::area::Area;
+use mad_fit::Area;
 use mad_layout::{FmtText, draw_text};
 use mad_term::{Error, Out};
 use std::alloc::Global;

@@ -17,9 +17,7 @@ pub mod wrap {
 pub use mad_md as md;
 pub use mad_term as term;
 
-pub use mad_fit::area::Area;
-pub use mad_fit::spacing::Spacing;
-pub use mad_fit::tokens::{Token, tokenize};
+pub use mad_fit::{Area, Spacing, Token, tokenize};
 pub use mad_layout::{
     FmtComposite, FmtInline, FmtLine, FmtText, MadSkin, composite_kind_widths, draw_text, inline, print_inline,
 };
