@@ -46,7 +46,10 @@ fn assert_written(
         }
         Err(Error::IO(_)) => {
             assert!(rt; room < wanted.len());
-            assert!(rt; out.taken() == &wanted[..room.min(wanted.len())], "at room {room}");
+            assert!(rt;
+                out.taken() == &wanted[..room.min(wanted.len())],
+                "at room {room}"
+            );
             assert_eq!(rt; out.faults(), 1);
             return Ok(());
         }
@@ -77,12 +80,7 @@ fn texts_in_areas(rt: HostRuntime) -> Result<(), Fail> {
 }
 
 // `hello` in an area, on a device with so much room that takes so many bytes at a put.
-fn write_hello(
-    rt: &impl Abort,
-    alloc: Global,
-    step: usize,
-    room: usize,
-) -> Result<(), Error> {
+fn write_hello(rt: &impl Abort, alloc: Global, step: usize, room: usize) -> Result<(), Error> {
     let skin = MadSkin::no_style();
     let mut out = CutOut::new(alloc, step, room, false)?;
     let done = skin.write_in_area_on(alloc, &mut out, "hello", &area_of([0, 0, 12, 3]));
@@ -119,7 +117,8 @@ fn a_row_and_the_beginning_of_the_next_or_memory(rt: HostRuntime) -> Result<(), 
 // A screen of four rows of 14 dots.
 fn dots(rt: &impl Abort, alloc: Global) -> Result<Screen, Error> {
     let mut screen = Screen::new(alloc, 14, 4)?;
-    let bytes = b"\x1b[1;1H..............\x1b[2;1H..............\x1b[3;1H..............\x1b[4;1H..............";
+    let bytes =
+        b"\x1b[1;1H..............\x1b[2;1H..............\x1b[3;1H..............\x1b[4;1H..............";
     read(rt, &mut screen, bytes)?;
     Ok(screen)
 }
@@ -158,7 +157,11 @@ fn assert_shown(
     read(rt, &mut screen, bytes)?;
     assert!(rt; screen.pen() == Pen::plain());
     for (y, row) in wanted.into_iter().enumerate() {
-        assert_eq!(rt; picture(rt, alloc, &screen, y as u16)?.as_str(), row, "in row {y}");
+        assert_eq!(rt;
+            picture(rt, alloc, &screen, y as u16)?.as_str(),
+            row,
+            "in row {y}"
+        );
     }
     Ok(())
 }
@@ -168,7 +171,11 @@ fn show_areas(rt: &impl Abort, alloc: Global) -> Result<(), Error> {
     let blank = "            ..";
     let dots = "..............";
     let rows = [
-        ("hello", [0, 0, 12, 3], ["hello       ..", blank, blank, dots]),
+        (
+            "hello",
+            [0, 0, 12, 3],
+            ["hello       ..", blank, blank, dots],
+        ),
         ("", [3, 2, 4, 1], [dots, dots, "...    .......", dots]),
         ("概要", [0, 0, 4, 1], ["概  ..........", dots, dots, dots]),
     ];
@@ -231,7 +238,14 @@ fn the_last_line_stays_in_the_last_row_or_memory(rt: HostRuntime) -> Result<(), 
 fn scroll_two_lines(rt: &impl Abort, alloc: Global) -> Result<(), Error> {
     let skin = MadSkin::no_style();
     let text = FmtText::raw_str(alloc, &skin, "a\nb", Some(3))?;
-    assert_view(rt, alloc, &text, 1, 0, "\x1b[1;1Ha  \x1b[2;1Hb  \x1b[3;1H   ")
+    assert_view(
+        rt,
+        alloc,
+        &text,
+        1,
+        0,
+        "\x1b[1;1Ha  \x1b[2;1Hb  \x1b[3;1H   ",
+    )
 }
 
 #[test]
@@ -270,7 +284,12 @@ fn flush_a_view(rt: &impl Abort, alloc: Global) -> Result<(), Error> {
     let text = FmtText::raw_str(alloc, &skin, "hello", Some(11))?;
     let area = area_of([0, 0, 12, 3]);
     let view = TextView::from(&area, &text);
-    let rows = [(false, false, 0), (false, true, 0), (true, false, 0), (true, true, 1)];
+    let rows = [
+        (false, false, 0),
+        (false, true, 0),
+        (true, false, 0),
+        (true, true, 1),
+    ];
     for (flushes, fails, faults) in rows {
         let mut out = CutOut::new(alloc, 54, 54, fails)?;
         let done = if flushes {

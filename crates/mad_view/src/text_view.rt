@@ -67,12 +67,12 @@ impl<'a, 't> TextView<'a, 't> {
         requires { IsWithinLimits self.now.area.now }
         ensures writes { let text = self.now.text.now in Draws (O.seen out.old) (area_bytes text.skin.now text.lines.items self.now.area.now self.now.scroll) result (O.seen out.new) }
 
-    // What a plain terminal shows that reads it, where each line fits the area and holds no control character.
-    ensures shown { let text = self.now.text.now in OnOk result (AreDrawable text.skin.now self.now.area.now.width text.lines.items
-        → TookWith (O.seen out.old) (O.seen out.new) (AreShownIn text.skin.now text.lines.items self.now.area.now self.now.scroll)) }
+        // What a plain terminal shows that reads it, where each line fits the area and holds no control character.
+        ensures shown { let text = self.now.text.now in OnOk result (AreDrawable text.skin.now self.now.area.now.width text.lines.items
+            → TookWith (O.seen out.old) (O.seen out.new) (AreShownIn text.skin.now text.lines.items self.now.area.now self.now.scroll)) }
 
-    // The same where the lines are a layout of a text that keeps the premises, at most as wide as the area.
-    ensures shown_layout { let text = self.now.text.now in OnOk result (ShowsLayout text.skin.now text.lines.items self.now.area.now self.now.scroll (O.seen out.old) (O.seen out.new)) }
+        // The same where the lines are a layout of a text that keeps the premises, at most as wide as the area.
+        ensures shown_layout { let text = self.now.text.now in OnOk result (ShowsLayout text.skin.now text.lines.items self.now.area.now self.now.scroll (O.seen out.old) (O.seen out.new)) }
     {
         draw_text(alloc, out, self.text, self.area, self.scroll)
     }
