@@ -119,9 +119,9 @@ read_drawable skin width drawn line source lines narrower bound plain read (inr 
     (tokens_shown (r.width - r.first) ps tokens.0 runs narrow tokens.1) in
     subst (AreDrawable skin drawn) (sym same)
     (wrapped_drawable skin drawn r.first margins r ps tokens.0 wrap bound (omega (arith, narrower, margins-le (line_style skin source.kind) width)) shown
-        (subst (λ k. HaveKinds k (follow_up k) wrap) kind wraps.kinds)
-        (subst (λ s. AllByRecursion (λ (l : FmtComposite). l.spacing ≡ s) wrap) read.spacing wraps.spacing)
-        wraps.measured (wraps.fits room) (wraps.parts tokens.0 tokens.1))
+    (subst (λ k. HaveKinds k (follow_up k) wrap) kind wraps.kinds)
+    (subst (λ s. AllByRecursion (λ (l : FmtComposite). l.spacing ≡ s) wrap) read.spacing wraps.spacing)
+    wraps.measured (wraps.fits room) (wraps.parts tokens.0 tokens.1))
 
 -- ---- a text
 
