@@ -231,6 +231,13 @@ fn expect_or_memory(
 }
 
 #[test]
+fn a_run_is_its_row(rt: HostRuntime) -> Result<(), Fail> {
+    expect_or_memory(&rt, "area|0|0|12|3", b"hello", HELLO)?;
+    expect_or_memory(&rt, "inline|default", b"**some** x", SOME)?;
+    Ok(())
+}
+
+#[test]
 fn a_run_is_its_row_or_memory(rt: HostRuntime) {
     // Want of memory is an answer here.
     let _ = expect_or_memory(&rt, "area|0|0|12|3", b"hello", HELLO);
