@@ -24,7 +24,7 @@ use Rattle.mad_layout.specs.Premises.{IsPlainRun, runs_text, IsPlainLine, KeepsP
 use Rattle.mad_layout.specs.Rows.{mark_pieces, compound_piece}
 use Rattle.mad_layout.specs.Styles.{line_style}
 use Rattle.mad_layout.specs.LeastWrap.{IsWrap}
-use Rattle.mad_layout.specs.WrappedLines.{margins_of, line_with, IsWrapped, AreLinesWrapped}
+use Rattle.mad_layout.specs.WrappedLines.{margins_of, line_with, AreLinesWrapped}
 use Rattle.mad_layout.specs.Wraps.{text_of, columns_of, IsMeasured, HasRoom, LinesFit, HaveKinds, IsMadeOf}
 use Rattle.mad_layout.specs.declared.room.Room.{Room}
 use Rattle.mad_layout.specs.declared.skin.MadSkin.{MadSkin}

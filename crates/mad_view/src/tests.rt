@@ -88,13 +88,18 @@ fn write_hello(rt: &impl Abort, alloc: Global, step: usize, room: usize) -> Resu
 }
 
 #[test]
-fn each_room_and_byte_by_byte_or_memory(rt: HostRuntime) -> Result<(), Fail> {
+fn each_room_and_byte_by_byte(rt: HostRuntime) -> Result<(), Fail> {
     for room in 0..55 {
         for step in [1, 54] {
-            or_memory(write_hello(&rt, rt.alloc(), step, room))?;
+            write_hello(&rt, rt.alloc(), step, room)?;
         }
     }
     Ok(())
+}
+
+#[test]
+fn hello_in_an_area_or_memory(rt: HostRuntime) -> Result<(), Fail> {
+    or_memory(write_hello(&rt, rt.alloc(), 54, 54))
 }
 
 fn write_with_room_for_a_row(rt: &impl Abort, alloc: Global) -> Result<(), Error> {
@@ -138,8 +143,8 @@ fn picture(rt: &impl Abort, alloc: Global, screen: &Screen, y: u16) -> Result<St
     let mut picture = String::new(alloc);
     for x in 0..14 {
         if let Some(cell) = screen.cell(x, y) {
-            assert!(rt; cell.pen() == Pen::plain());
-            for c in cell.chars() {
+            assert!(rt; cell.pen == Pen::default());
+            for c in cell.chars.iter() {
                 picture.push(*c)?;
             }
         }
@@ -155,7 +160,7 @@ fn assert_shown(
 ) -> Result<(), Error> {
     let mut screen = dots(rt, alloc)?;
     read(rt, &mut screen, bytes)?;
-    assert!(rt; screen.pen() == Pen::plain());
+    assert!(rt; screen.pen() == Pen::default());
     for (y, row) in wanted.into_iter().enumerate() {
         assert_eq!(rt;
             picture(rt, alloc, &screen, y as u16)?.as_str(),
@@ -185,6 +190,11 @@ fn show_areas(rt: &impl Abort, alloc: Global) -> Result<(), Error> {
         assert_shown(rt, alloc, out.taken(), wanted)?;
     }
     Ok(())
+}
+
+#[test]
+fn areas_in_pictures(rt: HostRuntime) -> Result<(), Fail> {
+    Ok(show_areas(&rt, rt.alloc())?)
 }
 
 #[test]
@@ -228,6 +238,11 @@ fn scroll_five_lines(rt: &impl Abort, alloc: Global) -> Result<(), Error> {
         assert_view(rt, alloc, &text, asked, kept, wanted)?;
     }
     Ok(())
+}
+
+#[test]
+fn the_last_line_stays_in_the_last_row(rt: HostRuntime) -> Result<(), Fail> {
+    Ok(scroll_five_lines(&rt, rt.alloc())?)
 }
 
 #[test]

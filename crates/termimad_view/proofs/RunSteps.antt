@@ -55,7 +55,7 @@ pub flush_exit : {T : Type 0} (words : List (List ℕ)) (r : Result T Failure) (
 flush_exit {T} words r text old new written call is read h out =
     let p = err_from_is_err_and r is in
     subst (λ (s : Result T Failure). RunsTo words old s new) (sym (p.1 ∙ ap Err p.2))
-      (inr (inr (record { call = call; text = text; read = read; written = written; wrote = h; unflushed = out })))
+    (inr (inr (record { call = call; text = text; read = read; written = written; wrote = h; unflushed = out })))
 
 -- a flush changes nothing of what was written
 pub flushed : (skin : MadSkin) (command : Command) (text : List ℕ) (old written new : Trace) → WritesCall {T = Unit {0}} skin command text old (Ok (tt {0})) written → new ≡ written → WritesCall {T = Unit {0}} skin command text old (Ok (tt {0})) new

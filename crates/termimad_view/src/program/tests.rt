@@ -7,10 +7,13 @@ use std::test::Fail;
 use termimad::{CutOut, ScriptSource};
 
 const IO: &[u8] = b"termimad-view: io\n";
-const USAGE: &[u8] =
-    b"usage: termimad-view area L T W H [SKIN] | text W [SKIN] | inline [SKIN]\n";
+
+const USAGE: &[u8] = b"usage: termimad-view area L T W H [SKIN] | text W [SKIN] | inline [SKIN]\n";
+
 const NOT_UTF8: &[u8] = b"termimad-view: input is not UTF-8\n";
+
 const SKIN: &[u8] = b"termimad-view: skin\n";
+
 const MEMORY: &[u8] = b"termimad-view: memory\n";
 
 // `area 0 0 12 3` of `hello`, 54 bytes.
@@ -48,7 +51,11 @@ fn expect(
     assert_eq!(rt; answer, status, "{call}");
     assert!(rt; out.taken() == written, "{call}: the output");
     assert!(rt; err.taken() == said, "{call}: what was said");
-    let unread: &[u8] = if status == 2 || status == 4 { input } else { b"" };
+    let unread: &[u8] = if status == 2 || status == 4 {
+        input
+    } else {
+        b""
+    };
     assert!(rt; source.left() == unread, "{call}: the input");
     Ok(())
 }
@@ -56,8 +63,16 @@ fn expect(
 #[test]
 fn words_that_are_no_call_are_refused_unread(rt: HostRuntime) -> Result<(), Fail> {
     let calls = [
-        "", "nothing", "Area|0|0|12|3", "area", "area|0|0|12", "area|0|0|12|3|default|more",
-        "inline|default|more", "text|20", "text|20|default", "inline |default",
+        "",
+        "nothing",
+        "Area|0|0|12|3",
+        "area",
+        "area|0|0|12",
+        "area|0|0|12|3|default|more",
+        "inline|default|more",
+        "text|20",
+        "text|20|default",
+        "inline |default",
     ];
     for call in calls {
         expect(&rt, call, b"hello", 2, b"", USAGE)?;
@@ -73,21 +88,43 @@ fn words_that_are_no_call_are_refused_unread(rt: HostRuntime) -> Result<(), Fail
 #[test]
 fn numbers_are_digits_of_a_value_of_at_most_65535(rt: HostRuntime) -> Result<(), Fail> {
     let refused = [
-        "+1", "65536", "", " 1", "1 ", "-1", "0x1", "1.0", "１", "99999999999999999999",
+        "+1",
+        "65536",
+        "",
+        " 1",
+        "1 ",
+        "-1",
+        "0x1",
+        "1.0",
+        "１",
+        "99999999999999999999",
     ];
     for number in refused {
-        for call in ["area|N|0|12|3", "area|0|N|12|3", "area|0|0|N|3", "area|0|0|12|N"] {
+        for call in [
+            "area|N|0|12|3",
+            "area|0|N|12|3",
+            "area|0|0|N|3",
+            "area|0|0|12|N",
+        ] {
             let call = call.replace(rt.alloc(), 'N', number)?;
             expect(&rt, call.as_str(), b"hello", 2, b"", USAGE)?;
         }
     }
-    for call in ["area|0|0|3|3", "area|65532|0|4|3", "area|0|65535|12|1", "area|65535|65535|65535|65535"] {
+    for call in [
+        "area|0|0|3|3",
+        "area|65532|0|4|3",
+        "area|0|65535|12|1",
+        "area|65535|65535|65535|65535",
+    ] {
         expect(&rt, call, b"hello", 2, b"", USAGE)?;
     }
     for call in ["area|0|0|0012|3", "area|00000000|0|12|3"] {
         expect(&rt, call, b"hello", 0, HELLO, b"")?;
     }
-    for call in ["area|65531|65535|4|0", "area|65523|0|00000000000000000004|0"] {
+    for call in [
+        "area|65531|65535|4|0",
+        "area|65523|0|00000000000000000004|0",
+    ] {
         expect(&rt, call, b"hello", 0, b"", b"")?;
     }
     Ok(())
@@ -99,32 +136,63 @@ fn a_text_is_written_in_its_area(rt: HostRuntime) -> Result<(), Fail> {
     expect(&rt, "area|0|0|12|3|default", b"hello", 0, HELLO, b"")?;
     expect(&rt, "area|0|0|4|0", b"hello", 0, b"", b"")?;
     expect(&rt, "area|3|2|4|1", b"", 0, b"\x1b[3;4H    ", b"")?;
-    expect(&rt, "area|0|0|4|1", "概要".as_bytes(), 0, "\x1b[1;1H概  ".as_bytes(), b"")?;
+    expect(
+        &rt,
+        "area|0|0|4|1",
+        "概要".as_bytes(),
+        0,
+        "\x1b[1;1H概  ".as_bytes(),
+        b"",
+    )?;
     Ok(())
 }
 
 #[test]
 fn a_line_loses_one_end_and_gets_a_newline(rt: HostRuntime) -> Result<(), Fail> {
     let rows: [(&[u8], &[u8]); 8] = [
-        (b"", b"\n"), (b"a", b"a\n"), (b"a\n", b"a\n"), (b"a\r\n", b"a\n"), (b"a\n\n", b"a\n\n"),
-        (b"a\r", b"a\r\n"), (b"\r\n", b"\n"), (b"**some** x", b"some x\n"),
+        (b"", b"\n"),
+        (b"a", b"a\n"),
+        (b"a\n", b"a\n"),
+        (b"a\r\n", b"a\n"),
+        (b"a\n\n", b"a\n\n"),
+        (b"a\r", b"a\r\n"),
+        (b"\r\n", b"\n"),
+        (b"**some** x", b"some x\n"),
     ];
     for (input, written) in rows {
         expect(&rt, "inline", input, 0, written, b"")?;
     }
     expect(&rt, "inline|default", b"**some** x", 0, SOME, b"")?;
-    expect(&rt, "inline|default", b"a ~~b~~", 0, b"a \x1b[9mb\x1b[0m\n", b"")?;
+    expect(
+        &rt,
+        "inline|default",
+        b"a ~~b~~",
+        0,
+        b"a \x1b[9mb\x1b[0m\n",
+        b"",
+    )?;
     Ok(())
 }
 
 #[test]
 fn other_skins_and_inputs_that_are_no_text_are_refused(rt: HostRuntime) -> Result<(), Fail> {
-    for call in ["inline|no_style", "inline|", "inline|Default", "area|0|0|12|3|dark", "area|0|0|4|0|"] {
+    for call in [
+        "inline|no_style",
+        "inline|",
+        "inline|Default",
+        "area|0|0|12|3|dark",
+        "area|0|0|4|0|",
+    ] {
         expect(&rt, call, b"\xff", 4, b"", SKIN)?;
     }
     // The arguments come before the skin.
     expect(&rt, "area|0|0|3|3|dark", b"hello", 2, b"", USAGE)?;
-    for input in [b"\xff".as_slice(), b"hello \xe2\x82", b"\xc0\x80", b"\xed\xa0\x80"] {
+    for input in [
+        b"\xff".as_slice(),
+        b"hello \xe2\x82",
+        b"\xc0\x80",
+        b"\xed\xa0\x80",
+    ] {
         for call in ["inline", "area|0|0|12|3", "area|0|0|4|0|default"] {
             expect(&rt, call, input, 3, b"", NOT_UTF8)?;
         }
@@ -169,8 +237,14 @@ fn expect_front(
         let fails = flush_fails || room < whole.len();
         let status = run(alloc, words.as_slice(), &mut source, &mut out, &mut err);
         assert_eq!(rt; status, u8::from(fails), "{call}: at room {room}");
-        assert!(rt; out.taken() == &whole[..room.min(whole.len())], "{call}: at room {room}");
-        assert!(rt; err.taken() == if fails { IO } else { b"" }, "{call}: at room {room}");
+        assert!(rt;
+            out.taken() == &whole[..room.min(whole.len())],
+            "{call}: at room {room}"
+        );
+        assert!(rt;
+            err.taken() == if fails { IO } else { b"" },
+            "{call}: at room {room}"
+        );
         assert_eq!(rt; out.faults(), u64::from(fails));
     }
     Ok(())
@@ -191,7 +265,11 @@ fn a_failing_output_has_taken_a_beginning(rt: HostRuntime) -> Result<(), Fail> {
 #[test]
 fn a_failing_standard_error_changes_no_status(rt: HostRuntime) -> Result<(), Fail> {
     let alloc = rt.alloc();
-    let rows: [(&str, u8, &[u8]); 3] = [("inline", 3, NOT_UTF8), ("area", 2, USAGE), ("inline|", 4, SKIN)];
+    let rows: [(&str, u8, &[u8]); 3] = [
+        ("inline", 3, NOT_UTF8),
+        ("area", 2, USAGE),
+        ("inline|", 4, SKIN),
+    ];
     for (call, status, line) in rows {
         for room in 0..line.len() {
             let words = words_of(alloc, call)?;
@@ -227,6 +305,13 @@ fn expect_or_memory(
     assert_eq!(rt; status, 0, "{call}");
     assert!(rt; out.taken() == whole, "{call}");
     assert!(rt; err.taken().is_empty(), "{call}");
+    Ok(())
+}
+
+#[test]
+fn a_run_is_its_row(rt: HostRuntime) -> Result<(), Fail> {
+    expect_or_memory(&rt, "area|0|0|12|3", b"hello", HELLO)?;
+    expect_or_memory(&rt, "inline|default", b"**some** x", SOME)?;
     Ok(())
 }
 

@@ -18,14 +18,14 @@ returns-in_default-from_utf8 g c = record {
 pub returns-in_err-write_call : goal.returns-in_err-write_call
 returns-in_err-write_call g c =
     write_exit _ _ _ _ _ _ (known_call _ _ _ _ _ c.in-Some.ensures c.skin.ensures c.in-Some-skin.is) c.from_residual-in_err-write_call.ensures.1
-      (has_read _ _ _ _ _ c.in_ok-bytes.ensures c.as_slice.ensures.value c.in-Ok.ensures.cases.0 c.in-Ok.ensures.cases.1)
-      c.in_err-write_call.ensures
+    (has_read _ _ _ _ _ c.in_ok-bytes.ensures c.as_slice.ensures.value c.in-Ok.ensures.cases.0 c.in-Ok.ensures.cases.1)
+    c.in_err-write_call.ensures
 
 pub returns-in_err-flush : goal.returns-in_err-flush
 returns-in_err-flush g c =
     flush_exit _ _ _ _ _ _ (known_call _ _ _ _ _ c.in-Some.ensures c.skin.ensures c.in-Some-skin.is) c.from_residual-in_err-flush.ensures.1
-      (has_read _ _ _ _ _ c.in_ok-bytes.ensures c.as_slice.ensures.value c.in-Ok.ensures.cases.0 c.in-Ok.ensures.cases.1)
-      c.in_ok-write_call.ensures c.in_err-flush.ensures
+    (has_read _ _ _ _ _ c.in_ok-bytes.ensures c.as_slice.ensures.value c.in-Ok.ensures.cases.0 c.in-Ok.ensures.cases.1)
+    c.in_ok-write_call.ensures c.in_err-flush.ensures
 
 pub returns : goal.returns
 returns g c = record {

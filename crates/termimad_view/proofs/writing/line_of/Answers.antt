@@ -10,6 +10,6 @@ returns-in_default c =
 pub returns : goal.returns
 returns c =
     line_found c.args.text.now c.in-Some.line c.strip_suffix-2.result c.unwrap_or.result
-      (strip_suffix_char 10 c.args.text.now (Some c.in-Some.line) c.in-Some.ensures.cases (omega arith))
-      (strip_suffix_char 13 c.in-Some.line.now c.strip_suffix-2.result c.strip_suffix-2.ensures.cases (omega arith))
-      c.unwrap_or.ensures
+    (strip_suffix_char 10 c.args.text.now (Some c.in-Some.line) c.in-Some.ensures.cases (omega arith))
+    (strip_suffix_char 13 c.in-Some.line.now c.strip_suffix-2.result c.strip_suffix-2.ensures.cases (omega arith))
+    c.unwrap_or.ensures
