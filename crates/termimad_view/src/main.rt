@@ -23,6 +23,9 @@ use std::process::ExitCode;
 use std::{env, io};
 use termimad::{Out, Stream};
 
+/// How many bytes of the input one call of the system asks for.
+const INPUT_BLOCK: usize = 1 << 16;
+
 fn main(rt: HostRuntime) -> ExitCode {
     let mut err = Stream::new(rt.stderr());
     ExitCode::from(match run_on_standard_streams(&rt, &mut err) {
@@ -34,7 +37,8 @@ fn main(rt: HostRuntime) -> ExitCode {
 // Reads and writes through buffers, so that neither a byte nor a row is a call of the system.
 fn run_on_standard_streams<E: Out>(rt: &HostRuntime, err: &mut E) -> Result<u8, Failure> {
     let args = arguments(rt)?;
-    let reader = BufReader::new(rt.alloc(), rt.reader()).map_err(|_| Failure::Memory)?;
+    let reader = BufReader::with_capacity(rt.alloc(), INPUT_BLOCK, rt.reader());
+    let reader = reader.map_err(|_| Failure::Memory)?;
     let writer = BufWriter::new(rt.alloc(), io::writer(rt)).map_err(|_| Failure::Memory)?;
     let mut input = Stream::new(reader);
     let mut out = Stream::new(writer);
