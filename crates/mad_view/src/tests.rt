@@ -119,6 +119,31 @@ fn a_row_and_the_beginning_of_the_next_or_memory(rt: HostRuntime) -> Result<(), 
     or_memory(write_with_room_for_a_row(&rt, rt.alloc()))
 }
 
+fn write_inlines(rt: &impl Abort, alloc: Global) -> Result<(), Error> {
+    let skin = MadSkin::default();
+    let rows = [
+        ("**some** x", "\x1b[1msome\x1b[0m x"),
+        ("`c`", "\x1b[48;5;235m\x1b[38;5;249mc\x1b[49m\x1b[39m"),
+        ("a ~~b~~", "a \x1b[9mb\x1b[0m"),
+    ];
+    for (line, wanted) in rows {
+        let mut out = CutOut::new(alloc, 54, 54, false)?;
+        let done = skin.write_inline_on(alloc, &mut out, line);
+        assert_written(rt, done, &out, 54, wanted)?;
+    }
+    Ok(())
+}
+
+#[test]
+fn lines_in_the_default_skin(rt: HostRuntime) -> Result<(), Fail> {
+    Ok(write_inlines(&rt, rt.alloc())?)
+}
+
+#[test]
+fn lines_in_the_default_skin_or_memory(rt: HostRuntime) -> Result<(), Fail> {
+    or_memory(write_inlines(&rt, rt.alloc()))
+}
+
 // A screen of four rows of 14 dots.
 fn dots(rt: &impl Abort, alloc: Global) -> Result<Screen, Error> {
     let mut screen = Screen::new(alloc, 14, 4)?;
