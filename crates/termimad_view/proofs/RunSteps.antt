@@ -13,7 +13,7 @@ use Rattle.termimad_view.specs.declared.failure.Failure.TheVariants.{Io, Usage, 
 use Rattle.termimad_view.specs.Calls.{Asks, skin_of}
 use Rattle.termimad_view.specs.Failures.{failure_of}
 use Rattle.termimad_view.specs.Reading.{ReadsWhole, ReadingFails}
-use Rattle.termimad_view.specs.Runs.{Devices, KnownCall, HasRead, WritesCall, RunsTo, FailsToRead, FailsToWrite}
+use Rattle.termimad_view.specs.Runs.{Devices, KnownCall, HasRead, WritesCall, ShowsCall, RunsTo}
 
 -- the call that was parsed, in a skin that was found
 abbrev pub known_call : (words : List (List ℕ)) (command : Command) (word : SkinWord) (found : Option MadSkin) (skin : MadSkin) → Asks words command word → found ≡ skin_of word → found ≡ Some skin → KnownCall words
@@ -61,3 +61,7 @@ flush_exit {T} words r text old new written call is read h out =
 pub flushed : (skin : MadSkin) (command : Command) (text : List ℕ) (old written new : Trace) → WritesCall {T = Unit {0}} skin command text old (Ok (tt {0})) written → new ≡ written → WritesCall {T = Unit {0}} skin command text old (Ok (tt {0})) new
 flushed skin command text old written new h is =
     subst (λ (t : Trace). WritesCall {T = Unit {0}} skin command text old (Ok (tt {0})) t) (sym is) h
+
+-- nor of what it shows
+pub still_shown : (skin : MadSkin) (command : Command) (text : List ℕ) (old written new : Trace) → ShowsCall skin command text old written → new ≡ written → ShowsCall skin command text old new
+still_shown skin command text old written new h is = subst (λ (t : Trace). ShowsCall skin command text old t) (sym is) h

@@ -2,8 +2,8 @@
 use Rattle.std.proofs.Common.{◌≡◌, ◌≢◌, ℕ, List, [], ◌∷◌, ◌++◌, Option, Some, None, MatchOption, unwrap_or, Bor, ap, sym, ◌∙◌, subst, inl, inr, append_assoc}
 use Rattle.mad_term.specs.declared.errors.Error.{Error}
 use Rattle.mad_term.specs.declared.errors.Error.TheVariants.{IO, InsufficientWidth, Memory}
-use Rattle.mad_term.specs.Trace.{Trace, after}
-use Rattle.mad_term.specs.Draws.{Draws, Refused}
+use Rattle.mad_term.specs.Trace.{Trace}
+use Rattle.mad_term.specs.Draws.{Refused}
 use Rattle.termimad_view.specs.Lines.{IsLineOf}
 use Rattle.mad_term.proofs.Traces.{cut_in_first, stopped_in_first}
 

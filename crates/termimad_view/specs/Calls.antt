@@ -38,10 +38,10 @@ Asks [] command skin = ⊥
 Asks (name ∷ words) (InArea area) skin = (name ≡ codes "area") × AsksArea words area skin
 Asks (name ∷ words) Inline skin = (name ≡ codes "inline") × IsSkinWord words skin
 
--- the command keeps within the limits of a screen
-abbrev pub IsWithin : Command → Type 0
-IsWithin (InArea area) = IsWithinLimits area
-IsWithin Inline = ⊤
+-- the command's area has four columns at least, and lies within the limits of a screen
+abbrev pub HasRoom : Command → Type 0
+HasRoom (InArea area) = (4 ≤ area.width) × IsWithinLimits area
+HasRoom Inline = ⊤
 
 -- the words ask for nothing that the program does
 abbrev pub IsNoCall : List (List ℕ) → Type 0

@@ -1,10 +1,10 @@
 -- The headline of the program: what a run does to its devices, and how it ends.
-use Rattle.std.specs.Prelude.{◌≡◌, ◌⊎◌, ℕ, List, [], ◌∷◌, ◌++◌, codes, Option, Some, None, unwrap_or, Result, Ok, Err, IsUtf8, nat_eq}
+use Rattle.std.specs.Prelude.{◌≡◌, ◌⊎◌, ℕ, List, [], ◌∷◌, ◌++◌, Some, Result, Ok, Err, IsUtf8, ⊤}
 use Rattle.termimad.specs.Inline.{Item, IsInlineReading}
 use Rattle.termimad.specs.Draws.{Draws}
 use Rattle.termimad.specs.Trace.{Trace, failed}
 use Rattle.termimad.specs.declared.Error.{Error}
-use Rattle.termimad.specs.InArea.{WritesInArea}
+use Rattle.termimad.specs.InArea.{WritesInArea, ShowsText}
 use Rattle.termimad.specs.Inlines.{inline_bytes}
 use Rattle.termimad.specs.declared.MadSkin.{MadSkin}
 use Rattle.termimad_view.specs.declared.call.Command.{Command}
@@ -40,6 +40,11 @@ abbrev pub WritesCall : {T : Type 0} → MadSkin → Command → List ℕ → Tr
 WritesCall skin (InArea area) text old r new = WritesInArea skin text area old r new
 WritesCall skin Inline text old r new = (line : List ℕ) × IsLineOf text line × WritesLine skin line old r new
 
+-- what a plain terminal shows that reads what was written: the first rows of the text in its area
+abbrev pub ShowsCall : MadSkin → Command → List ℕ → Trace → Trace → Type 0
+ShowsCall skin (InArea area) text old new = ShowsText skin text area old new
+ShowsCall skin Inline text old new = ⊤
+
 -- The input was read whole and is a text.
 pub record HasRead (old : Trace) (text : List ℕ) (new : Trace) : Type 0 where
   pub whole : ReadsWhole old text new
@@ -51,6 +56,7 @@ pub record IsDone (words : List (List ℕ)) (old new : Devices) : Type 0 where
   pub text : List ℕ
   pub read : HasRead old.input text new.input
   pub wrote : WritesCall call.skin call.command text old.out (Ok (tt {0})) new.out
+  pub shown : ShowsCall call.skin call.command text old.out new.out
 
 -- the input failed, or there was no memory for it; nothing was written
 pub record FailsToRead (words : List (List ℕ)) (old : Devices) (failure : Failure) (new : Devices) : Type 0 where

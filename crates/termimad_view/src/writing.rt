@@ -1,8 +1,9 @@
 //! What a call writes of its text.
 
-ghost use Rattle.termimad_view.specs.Calls.{IsWithin};
+ghost use Rattle.std.specs.Prelude.{OnOk};
+ghost use Rattle.termimad_view.specs.Calls.{HasRoom};
 ghost use Rattle.termimad_view.specs.Lines.{IsLineOf};
-ghost use Rattle.termimad_view.specs.Runs.{WritesCall, WritesLine};
+ghost use Rattle.termimad_view.specs.Runs.{WritesCall, ShowsCall, WritesLine};
 
 use crate::call::Command;
 use std::alloc::Global;
@@ -10,7 +11,7 @@ use termimad::{Error, MadSkin, Out, put_all};
 
 /// Writes a text in an area, or as one line with inline marks and a newline. Nothing is flushed.
 ///
-/// An area has to lie within the limits of a screen: its right and bottom fit a `u16`.
+/// An area has to have four columns at least and lie within the limits of a screen: its right and bottom fit a `u16`.
 ///
 /// # Errors
 ///
@@ -22,8 +23,9 @@ pub fn write_call<O: Out>(
     command: &Command,
     text: &str,
 ) -> Result<(), Error>
-    requires { IsWithin command.now }
-    ensures { WritesCall skin.now command.now text.now (O.seen out.old) result (O.seen out.new) }
+    requires { HasRoom command.now }
+    ensures writes { WritesCall skin.now command.now text.now (O.seen out.old) result (O.seen out.new) }
+    ensures shown { OnOk result (ShowsCall skin.now command.now text.now (O.seen out.old) (O.seen out.new)) }
 {
     match command {
         Command::InArea(area) => skin.write_in_area_on(alloc, out, text, area),

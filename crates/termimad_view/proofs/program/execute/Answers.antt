@@ -1,5 +1,5 @@
 use Rattle.std.proofs.Common.{refl, subst, List, ℕ, IsUtf8}
-use Rattle.termimad_view.proofs.RunSteps.{known_call, has_read, read_exit, write_exit, flush_exit, flushed}
+use Rattle.termimad_view.proofs.RunSteps.{known_call, has_read, read_exit, write_exit, flush_exit, flushed, still_shown}
 use Rattle.termimad_view.proofs.program.execute.Goals as goal
 
 pub returns-in_err-bytes : goal.returns-in_err-bytes
@@ -19,18 +19,19 @@ pub returns-in_err-write_call : goal.returns-in_err-write_call
 returns-in_err-write_call g c =
     write_exit _ _ _ _ _ _ (known_call _ _ _ _ _ c.in-Some.ensures c.skin.ensures c.in-Some-skin.is) c.from_residual-in_err-write_call.ensures.1
     (has_read _ _ _ _ _ c.in_ok-bytes.ensures c.as_slice.ensures.value c.in-Ok.ensures.cases.0 c.in-Ok.ensures.cases.1)
-    c.in_err-write_call.ensures
+    c.in_err-write_call.ensures.writes
 
 pub returns-in_err-flush : goal.returns-in_err-flush
 returns-in_err-flush g c =
     flush_exit _ _ _ _ _ _ (known_call _ _ _ _ _ c.in-Some.ensures c.skin.ensures c.in-Some-skin.is) c.from_residual-in_err-flush.ensures.1
     (has_read _ _ _ _ _ c.in_ok-bytes.ensures c.as_slice.ensures.value c.in-Ok.ensures.cases.0 c.in-Ok.ensures.cases.1)
-    c.in_ok-write_call.ensures c.in_err-flush.ensures
+    c.in_ok-write_call.ensures.writes c.in_err-flush.ensures
 
 pub returns : goal.returns
 returns g c = record {
   call = known_call _ _ _ _ _ c.in-Some.ensures c.skin.ensures c.in-Some-skin.is;
   text = c.in-Ok.text.now;
   read = has_read _ _ _ _ _ c.in_ok-bytes.ensures c.as_slice.ensures.value c.in-Ok.ensures.cases.0 c.in-Ok.ensures.cases.1;
-  wrote = flushed _ _ _ _ _ _ c.in_ok-write_call.ensures c.in_ok-flush.ensures;
+  wrote = flushed _ _ _ _ _ _ c.in_ok-write_call.ensures.writes c.in_ok-flush.ensures;
+  shown = still_shown _ _ _ _ _ _ c.in_ok-write_call.ensures.shown c.in_ok-flush.ensures;
 }
