@@ -1,4 +1,4 @@
--- Starts of lines that show that no fitting break has fewer lines.
+-- Starts of lines that show that no fitting break that ends with its last line has fewer.
 use Rattle.std.specs.Prelude.{ℕ, ◌+◌, Bool, true, false, not, ◌&&◌, ◌||◌, ◌==◌, nat_lt, List, [], ◌∷◌, length, slice_range, slice_get, Option, Some, None}
 use Rattle.mad_fit.specs.declared.tokens.Token.{Token}
 use Rattle.mad_layout.specs.declared.room.Room.{Room}

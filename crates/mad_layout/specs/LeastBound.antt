@@ -1,4 +1,4 @@
--- How many lines each fitting break has at least, and that some has no more.
+-- How many lines each fitting break that ends with its last line has at least, and that some has no more.
 use Rattle.std.specs.Prelude.{◌≡◌, ℕ, ◌+◌, ◌≤◌, ◌<◌, ◌==◌, ◌&&◌, Bool, true, false, if◌then◌else◌, List, [], ◌∷◌, length, take}
 use Rattle.mad_md.specs.Flagged.{FlaggedChar, flagged_text}
 use Rattle.mad_md.specs.declared.compound.Compound.{Compound}
@@ -41,7 +41,7 @@ pub record AreStartsOf (r : Room) (ps : List Compound) (starts : List ℕ) : Typ
   -- there are as many as lines, and one more where blanks are dropped after the last
   pub lines : is_cut_clean r ps ≡ false → (ts : List Token) → AreTokensIn r ps ts → (lines : List (List FlaggedChar)) → (full : AreFull r ts lines) → LinesFit r.first r lines
       → length starts ≡ length lines + dropped_at_end full.placed.pieces
-  -- in a clean cut of a text that doesn't fit, there are two, the second being the first token with which the tokens pass the first line
+  -- in a clean cut of a text that doesn't fit, there are two, and the tokens before the second fit on the first line
   pub cut : is_cut_clean r ps ≡ true → r.width < r.first + width_of (flagged_text ps) → (ts : List Token) → AreTokensIn r ps ts → (i : ℕ) × (starts ≡ 0 ∷ i ∷ []) × (r.first + total_width (take i ts) ≤ r.width)
   -- a text that fits has one
   pub whole : r.first + width_of (flagged_text ps) ≤ r.width → starts ≡ 0 ∷ []

@@ -17,7 +17,7 @@ use Rattle.mad_layout.specs.declared.composite.FmtComposite.{FmtComposite}
 abbrev pub AreTokensIn : Room → List Compound → List Token → Type 0
 AreTokensIn r ps ts = AreTokensOf (r.width - r.first) ps ts
 
--- The lines are the tokens of these compounds in order, or a clean cut, and no fitting break has fewer.
+-- The lines are the tokens of these compounds in order, or a clean cut, and no fitting break that ends with its last line has fewer.
 pub record IsLeastBreak (r : Room) (ps : List Compound) (ts : List Token) (lines : List FmtComposite) : Type 0 where
   -- each compound is one of the source or a token of one
   pub parts : AllByRecursion (IsMadeOf ps ts) lines

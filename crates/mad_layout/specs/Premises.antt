@@ -22,7 +22,7 @@ abbrev pub AreJoined : Bool → List FlaggedChar → Type 0
 AreJoined behind [] = Unit {0}
 AreJoined behind (x ∷ xs) = (char_columns x.char ≡ 0 → (is_whitespace x.char ≡ false) × (behind ≡ true)) × AreJoined (not (is_blank x)) xs
 
--- A run that isn't empty, without control characters, each widthless character behind a non-blank one of the same run.
+-- A run without control characters, each widthless character behind a non-blank one of the same run.
 pub record IsPlainRun (r : Run) : Type 0 where
   pub utf8 : IsUtf8 r.text
   pub printed : IsPrinted (chars r.text)

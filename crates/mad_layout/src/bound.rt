@@ -18,18 +18,20 @@ use mad_fit::{Token, tokenize};
 use mad_term::{Error, InsufficientWidthError};
 use std::alloc::{AllocError, Global};
 
-/// Starts of lines, as numbers of tokens, which show that no fitting break has fewer lines than there are starts.
+/// Starts of lines, as numbers of tokens, which show that no fitting break that ends with its last line has fewer lines
+/// than there are starts.
 #[derive(Debug, Drop)]
 pub struct WrapBound {
     /// The number of the token that begins each line, 0 for the first.
     pub starts: Vec<usize>,
 }
 
-/// Starts that show how many lines each break of the composite has at least that fits in `width` columns.
+/// Starts that show how many lines each break of the composite has at least that fits in `width` columns and drops no
+/// blanks after its last line.
 ///
 /// `check_wrap_bound` says yes to them. Where each character has room, there are as many as `hard_wrap_composite` gives
 /// lines, and one more where that drops blanks after the last; a composite that fits has one. A width under 3 is refused.
-/// One pass over the text.
+/// The time is linear in the text.
 pub fn wrap_bound(
     alloc: Global,
     composite: &FmtComposite,
@@ -122,11 +124,12 @@ fn push_start(starts: &mut Vec<usize>, start: usize) -> Result<(), AllocError>
     Ok(())
 }
 
-/// Whether these starts show that each break of the composite that fits in `width` columns has at least as many lines.
+/// Whether these starts show that each break of the composite that fits in `width` columns, and drops no blanks after its
+/// last line, has at least as many lines. Other starts may be right too, and are not shown to be by this check.
 ///
 /// They do if they begin with 0, rise, are numbers of tokens (0 always is), all but the first and the last of tokens that
 /// aren't blank, and the tokens from each start up to and with the next are wider than the line of that number. A width
-/// under 3 is refused. One pass over the text.
+/// under 3 is refused. The time is linear in the text.
 pub fn check_wrap_bound(
     alloc: Global,
     composite: &FmtComposite,

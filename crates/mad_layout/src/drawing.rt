@@ -41,7 +41,8 @@ pub fn draw_text<O: Out>(
     requires { IsWithinLimits area.now }
     ensures writes { Draws (O.seen out.old) (area_bytes text.now.skin.now text.now.lines.items area.now scroll) result (O.seen out.new) }
 
-    // What a plain terminal shows that reads it, where each line fits the area and holds no control character.
+    // What a plain terminal shows that reads it, where each line, as a layout left it, fits the area with its margins, and no
+    // piece of it holds a control character or begins with a widthless one.
     ensures shown { OnOk result (AreDrawable text.now.skin.now area.now.width text.now.lines.items
         → TookWith (O.seen out.old) (O.seen out.new) (AreShownIn text.now.skin.now text.now.lines.items area.now scroll)) }
 

@@ -27,8 +27,8 @@ use std::alloc::{AllocError, Global};
 /// text is cut into tokens, which are placed one after the other. The first line has the composite's kind, and the others
 /// the kind that follows it; all have its spacing, and no margins.
 ///
-/// The composite has to be wider than the width, and its cached length right. A width under 3 is refused. One pass over
-/// the text; no character is copied.
+/// The composite has to be wider than the width, and its cached length right. A width under 3 is refused. The time is
+/// linear in the text; no character is copied.
 pub fn hard_wrap_composite<'s>(
     alloc: Global,
     composite: &FmtComposite<'s>,

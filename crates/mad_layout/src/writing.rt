@@ -81,7 +81,7 @@ impl MadSkin {
     ///
     /// # Errors
     ///
-    /// A fault of the device, or want of memory before anything went out.
+    /// A fault of the device, or want of memory. What went out by then is a beginning of the whole.
     #[tactic(auto, using(mad_term::proofs::QueueExits::memory_first))]
     pub fn write_composite<O: Out>(
         &self,
@@ -101,7 +101,7 @@ impl MadSkin {
     ///
     /// # Errors
     ///
-    /// A fault of the device, or want of memory before anything went out.
+    /// A fault of the device, or want of memory. What went out by then is a beginning of the whole.
     pub fn print_composite<O: Out>(
         &self,
         alloc: Global,
@@ -117,7 +117,7 @@ impl MadSkin {
     ///
     /// # Errors
     ///
-    /// A fault of the device, or want of memory before anything went out.
+    /// A fault of the device, or want of memory. What went out by then is a beginning of the whole.
     #[tactic(auto, using(mad_term::proofs::QueueExits::memory_first))]
     pub fn write_inline_on<O: Out>(
         &self,
@@ -135,7 +135,7 @@ impl MadSkin {
     ///
     /// # Errors
     ///
-    /// A fault of the device, or want of memory before anything went out.
+    /// A fault of the device, or want of memory. What went out by then is a beginning of the whole.
     pub fn print_inline<O: Out>(&self, alloc: Global, out: &mut O, src: &str) -> Result<(), Error>
         ensures { WritesInline self.now src.now (O.seen out.old) result (O.seen out.new) }
     {
@@ -146,7 +146,7 @@ impl MadSkin {
     ///
     /// # Errors
     ///
-    /// A fault of the device, at its flush too, or want of memory before anything went out.
+    /// A fault of the device, at its flush too, or want of memory. What went out by then is a beginning of the whole.
     pub fn write_inline<O: Out>(&self, alloc: Global, out: &mut O, src: &str) -> Result<(), Error>
         ensures { WritesInline self.now src.now (O.seen out.old) result (O.seen out.new) }
     {
@@ -160,7 +160,7 @@ impl MadSkin {
 ///
 /// # Errors
 ///
-/// A fault of the device, or want of memory before anything went out.
+/// A fault of the device, or want of memory. What went out by then is a beginning of the whole.
 pub fn print_inline<O: Out>(
     alloc: Global,
     skin: &MadSkin,

@@ -42,8 +42,8 @@ impl<'a, 't> TextView<'a, 't> {
         self.text.lines.len()
     }
 
-    /// Scrolls so that the line of this number comes first, and answers which one does then: the text's last line stays
-    /// in the area's last row, and a text that fits isn't scrolled.
+    /// Scrolls so that the line of this number comes first, but no further than to where the text's last line stands in the
+    /// area's last row, so a text that fits isn't scrolled; answers the scroll that is set.
     pub fn set_scroll(&mut self, scroll: usize) -> usize
         ensures kept { self.new ≡ record self.old { scroll = scroll_within (vec_len self.old.text.now.lines) self.old.area.now.height scroll } }
         ensures answer { result ≡ self.new.scroll }
@@ -67,7 +67,8 @@ impl<'a, 't> TextView<'a, 't> {
         requires { IsWithinLimits self.now.area.now }
         ensures writes { let text = self.now.text.now in Draws (O.seen out.old) (area_bytes text.skin.now text.lines.items self.now.area.now self.now.scroll) result (O.seen out.new) }
 
-        // What a plain terminal shows that reads it, where each line fits the area and holds no control character.
+        // What a plain terminal shows that reads it, where each line, as a layout left it, fits the area with its margins, and
+        // no piece of it holds a control character or begins with a widthless one.
         ensures shown { let text = self.now.text.now in OnOk result (AreDrawable text.skin.now self.now.area.now.width text.lines.items
             → TookWith (O.seen out.old) (O.seen out.new) (AreShownIn text.skin.now text.lines.items self.now.area.now self.now.scroll)) }
 
