@@ -1,5 +1,5 @@
 -- A clean cut is a wrap of its composite.
-use Rattle.std.proofs.Common.{◌≡◌, ℕ, ◌≤◌, ◌<◌, ◌+◌, ◌-◌, Bool, true, false, ◌&&◌, nat_le, List, [], ◌∷◌, ◌++◌, map, chars, length, Option, Some, None, is_some, if◌then◌else◌, Contains, refl, sym, ap, ◌∙◌, arith, subst, append-nil}
+use Rattle.std.proofs.Common.{◌≡◌, ℕ, ◌≤◌, ◌<◌, ◌+◌, ◌-◌, Bool, true, false, ◌&&◌, nat_le, List, [], ◌∷◌, ◌++◌, map, chars, length, Option, Some, None, is_some, unwrap_or, if◌then◌else◌, Contains, refl, sym, ap, ◌∙◌, arith, subst, append-nil}
 use Rattle.std.proofs.lemmas.Bool.{and_parts}
 use Rattle.std.proofs.lemmas.Bool.Decides.{nat_tests}
 use Rattle.std.proofs.lemmas.List.Elements.{Contains-append_left}
@@ -18,7 +18,7 @@ use Rattle.mad_layout.specs.Indents.{indent, follow_up}
 use Rattle.mad_layout.specs.Keeps.{AllWhite, Keeps}
 use Rattle.mad_layout.specs.LeastWrap.{AreTokensIn, IsWrapIn}
 use Rattle.mad_layout.specs.PlacedLines.{HoldsCompound, AreTwoLines}
-use Rattle.mad_layout.specs.Wraps.{text_of, LinesFit, NoneEmpty, IsMadeOf, ArePlaced}
+use Rattle.mad_layout.specs.Wraps.{runs_of, text_of, LinesFit, NoneEmpty, IsMadeOf, ArePlaced}
 use Rattle.mad_layout.specs.declared.room.Room.{Room}
 use Rattle.mad_layout.specs.declared.skin.MadSkin.{MadSkin}
 use Rattle.mad_layout.specs.declared.composite.FmtComposite.{FmtComposite}
@@ -122,6 +122,16 @@ two_placed r front back ts (own, others, joins, first, (own', others', joins', s
       gaps = (tt, λ t more e. absurd (cc), (tt, λ t more e. absurd (cc), tt));
     }
 
+-- the lines that hold these two compounds say what these say
+cut_runs : (k o : CompositeKind) (i j : ℕ) (sp : Option Spacing) (front back : Compound) (first second : FmtComposite) → HoldsCompound k i sp front first → HoldsCompound o j sp back second
+    → (front' back' : Compound) → (cut : Option (Compound × Compound)) → cut ≡ Some (front, back) → cut ≡ Some (front', back') → map runs_of (first ∷ second ∷ []) ≡ (run_of front' ∷ []) ∷ (run_of back' ∷ []) ∷ []
+cut_runs k o i j sp front back first second h g front' back' cut is is' =
+    let e = sym is ∙ is' in
+    let fronts : front ≡ front' = ap (λ (q : Option (Compound × Compound)). (unwrap_or q (front, back)).0) e in
+    let backs : back ≡ back' = ap (λ (q : Option (Compound × Compound)). (unwrap_or q (front, back)).1) e in
+    ap (λ cs. map run_of cs ∷ runs_of second ∷ []) h.compounds_are ∙ ap (λ cs. (run_of front ∷ []) ∷ map run_of cs ∷ []) g.compounds_are
+    ∙ ap (λ p. (run_of p ∷ []) ∷ (run_of back ∷ []) ∷ []) fronts ∙ ap (λ p. (run_of front' ∷ []) ∷ (run_of p ∷ []) ∷ []) backs
+
 pub cut_wrap : (r : Room) (skin : MadSkin) (source : FmtComposite) (front back : Compound) (lines : List FmtComposite) → IsTooWide r skin source → clean_cut r source.compounds.items ≡ Some (front, back)
     → AreTwoLines r source.kind (follow_up source.kind) source.spacing front back lines → IsWrapIn r skin source lines
 cut_wrap r skin source front back lines wide is two =
@@ -149,11 +159,13 @@ cut_wrap r skin source front back lines wide is two =
             subst NoneEmpty (sym first.compounds_are) (there.0, tt),
             (subst NoneEmpty (sym second.compounds_are) (there.1, tt), tt),
           );
+      cut = λ front' back' is'. cut_runs k o r.first r.other source.spacing front back two.first two.second first second front' back' (clean_cut r ps) is is';
+      cuts = λ off. absurd (let on : is_cut_clean r ps ≡ true = ap is_some is in cc);
       least = λ ts tokens. record {
         parts = (made_of_one ps ts k r.first source.spacing front two.first first cut.has_front, (made_of_one ps ts o r.other source.spacing back two.second second cut.has_back, tt));
         placed = λ all. subst (ArePlaced r ts) texts (two_placed r front back ts (subst (λ (qs : List Compound). AreTokensIn r qs ts) (cut.two all) tokens));
         full = λ off. absurd (let on : is_cut_clean r ps ≡ true = ap is_some is in cc);
-        cut = λ _. refl;
+        one_by_one = λ off. absurd (let on : is_cut_clean r ps ≡ true = ap is_some is in cc);
         least = λ breaks fitting end. two_lines r ts breaks fitting end (omega (arith, wide.wider, total_is r ps ts tokens));
         least_dropping = λ off. absurd (let on : is_cut_clean r ps ≡ true = ap is_some is in cc);
       };

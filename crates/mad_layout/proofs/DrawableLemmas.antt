@@ -24,7 +24,7 @@ use Rattle.mad_layout.specs.Premises.{IsPlainRun, runs_text, IsPlainLine, KeepsP
 use Rattle.mad_layout.specs.Rows.{mark_pieces, compound_piece}
 use Rattle.mad_layout.specs.Styles.{line_style}
 use Rattle.mad_layout.specs.LeastWrap.{IsWrap}
-use Rattle.mad_layout.specs.WrappedLines.{margins_of, line_with, AreLinesWrapped}
+use Rattle.mad_layout.specs.WrappedLines.{style_margins, line_with, AreLinesWrapped}
 use Rattle.mad_layout.specs.Wraps.{text_of, columns_of, IsMeasured, HasRoom, LinesFit, HaveKinds, IsMadeOf}
 use Rattle.mad_layout.specs.declared.room.Room.{Room}
 use Rattle.mad_layout.specs.declared.skin.MadSkin.{MadSkin}
@@ -87,8 +87,8 @@ margins-le style width = grind (arith, nat_tests)
 
 -- where the composite doesn't fit, its characters have room
 has_room : (skin : MadSkin) (width : ℕ) (line : StyledRuns) (source : FmtComposite) → IsPlainLine skin width line → IsRead skin line source
-    → width < source.visible_length + (margins_of skin width source).0 + (margins_of skin width source).1
-    → HasRoom (room_of skin source.kind (width - (margins_of skin width source).0 - (margins_of skin width source).1)) (text_of source)
+    → width < source.visible_length + (style_margins skin width source).0 + (style_margins skin width source).1
+    → HasRoom (room_of skin source.kind (width - (style_margins skin width source).0 - (style_margins skin width source).1)) (text_of source)
 has_room skin width line source plain read wide =
     let left = λ (k : CompositeKind). width - (margins_at (line_style skin k) (Some width)).0 - (margins_at (line_style skin k) (Some width)).1 in
     let premise = λ (k : CompositeKind) (text : List FlaggedChar). left k < indent skin.list_items_indentation_mode k + width_of text → HasRoom (room_of skin k (left k)) text in
@@ -100,7 +100,7 @@ read_drawable : (skin : MadSkin) (width drawn : ℕ) (line : StyledRuns) (source
     → IsPlainLine skin width line → IsRead skin line source → IsFitted skin width source lines → AreDrawable skin drawn lines
 read_drawable skin width drawn line source lines narrower bound plain read (inl (fits, same)) =
     let kind : source.kind ≡ Paragraph = read.kind ∙ ap kind_of plain.paragraph in
-    let margins : ℕ × ℕ = margins_of skin width source in
+    let margins : ℕ × ℕ = style_margins skin width source in
     let runs : AllByRecursion IsPlainRun (map run_of source.compounds.items) = subst (AllByRecursion IsPlainRun) (sym read.runs) plain.runs in
     let one = drawable skin drawn margins source bound kind read.spacing read.measured (omega (arith, fits, read.measured, narrower, bound))
     (all_each IsPlainRun IsShownRun plain_is_shown (map run_of source.compounds.items) runs) in
@@ -108,7 +108,7 @@ read_drawable skin width drawn line source lines narrower bound plain read (inl 
 read_drawable skin width drawn line source lines narrower bound plain read (inr (wide, (wrap, wraps, same))) =
     let kind : source.kind ≡ Paragraph = read.kind ∙ ap kind_of plain.paragraph in
     let ps = source.compounds.items in
-    let margins : ℕ × ℕ = margins_of skin width source in
+    let margins : ℕ × ℕ = style_margins skin width source in
     let r : Room = room_of skin source.kind (width - margins.0 - margins.1) in
     let runs : AllByRecursion IsPlainRun (map run_of ps) = subst (AllByRecursion IsPlainRun) (sym read.runs) plain.runs in
     let room : HasRoom r (text_of source) = has_room skin width line source plain read wide in
@@ -157,7 +157,7 @@ lines_fit : (skin : MadSkin) (width : ℕ) (read lines : List FmtLine) → AreLi
 lines_fit skin width [] lines wraps = wraps
 lines_fit skin width (Normal l ∷ ls) lines (own, others, joins, inl here, more) = (own, others, joins, inl here, lines_fit skin width ls others more)
 lines_fit skin width (Normal l ∷ ls) lines (own, others, joins, inr (wide, (wrap, wraps, same)), more) =
-    let margins = margins_of skin width l in
+    let margins = style_margins skin width l in
     (own, others, joins, inr (wide, (wrap, wrap_fits skin (width - margins.0 - margins.1) l wrap wraps, same)), lines_fit skin width ls others more)
 
 pub layout_fits : (skin : MadSkin) (width : ℕ) (text : List StyledRuns) (lines : List FmtLine) → IsLayout skin width text lines → IsFittingLayout skin width text lines

@@ -1,13 +1,20 @@
 -- A composite by itself is displayed as it is written.
-use Rattle.std.proofs.Common.{◌≡◌, ℕ, ◌+◌, List, [], ◌++◌, map, None, ap, ◌∙◌, arith}
+use Rattle.std.proofs.Common.{◌≡◌, ℕ, ◌+◌, List, [], ◌++◌, map, None, Result, ap, sym, subst, ◌∙◌, inl, arith}
 use Rattle.std.specs.Prelude.{false, unwrap_or}
 use Rattle.std.proofs.lemmas.List.{append-nil}
 use Rattle.mad_md.specs.Flagged.{run_of}
+use Rattle.mad_md.specs.ReadInline.{IsReadInline}
+use Rattle.mad_md.specs.declared.composite.Composite.{Composite}
+use Rattle.mad_md.specs.declared.composite.CompositeStyle.TheVariants.{Paragraph as Plain}
+use Rattle.mad_term.specs.Draws.{Draws}
+use Rattle.mad_term.specs.Trace.{Trace}
+use Rattle.mad_term.specs.declared.errors.Error.{Error}
 use Rattle.mad_style.specs.declared.compound_styles.CompoundStyle.{CompoundStyle}
 use Rattle.mad_style.specs.declared.line_styles.LineStyle.{LineStyle}
 use Rattle.mad_style.specs.declared.kinds.CompositeKind.TheVariants.{Paragraph}
+use Rattle.mad_style.specs.Kinds.{kind_of}
 use Rattle.mad_style.specs.LineStyles.{margins_at}
-use Rattle.mad_layout.specs.Inlines.{IsInlineOf, IsDisplayedAsWritten}
+use Rattle.mad_layout.specs.Inlines.{IsInlineOf, IsDisplayedAsWritten, WritesInline, composite_bytes}
 use Rattle.mad_layout.specs.Pieces.{RowPiece, pieces_bytes, spaces}
 use Rattle.mad_layout.specs.Rows.{align_in, place_of, left_of_place, right_of_place, inner_blanks, margins_of, mark_pieces, compound_piece, composite_pieces, free_pieces}
 use Rattle.mad_layout.specs.Styles.{line_style}
@@ -33,3 +40,10 @@ pub displayed : (skin : MadSkin) (src : List ℕ) (l : FmtComposite) → IsInlin
 displayed skin src l h items reading =
     ap pieces_bytes (free_is skin l h.spacing h.margins ∙ ap (λ kind. free_pieces skin kind (map run_of l.compounds.items)) h.kind
     ∙ ap (free_pieces skin Paragraph) (h.read.each items reading))
+
+-- a paragraph that is a line's reading is drawn as the line
+pub written : {T : Type 0} (skin : MadSkin) (src : List ℕ) (read : Composite) (old : Trace) (r : Result T Error) (new : Trace) → read.style ≡ Plain → IsReadInline src read.compounds.items
+    → Draws old (composite_bytes skin read) r new → WritesInline skin src old r new
+written skin src read old r new style reads drawn =
+    let bytes = ap (λ s. pieces_bytes (free_pieces skin (kind_of s) (map run_of read.compounds.items))) style ∙ ap (λ runs. pieces_bytes (free_pieces skin Paragraph runs)) (reads.each reads.reading reads.reads) in
+    inl (reads.reading, reads.reads, subst (λ b. Draws old b r new) bytes drawn)

@@ -20,7 +20,7 @@ use Rattle.mad_layout.specs.Breaks.{Piece, joined, total_width, AllBlank, FitsFr
 use Rattle.mad_layout.specs.Indents.{indent}
 use Rattle.mad_layout.specs.Keeps.{AllWhite, Keeps}
 use Rattle.mad_layout.specs.PlacedLines.{HoldPieces, SomeOnEach}
-use Rattle.mad_layout.specs.Wraps.{text_of, IsMeasured, LinesFit, HaveKinds, NoneEmpty, IsMadeOf, GapsForced}
+use Rattle.mad_layout.specs.Wraps.{runs_of, text_of, IsMeasured, LinesFit, HaveKinds, NoneEmpty, IsMadeOf, GapsForced}
 use Rattle.mad_layout.specs.declared.room.Room.{Room}
 use Rattle.mad_layout.specs.declared.skin.MadSkin.{MadSkin}
 use Rattle.mad_layout.specs.declared.composite.FmtComposite.{FmtComposite}
@@ -123,6 +123,13 @@ some_pieces max k o i j sp (p ∷ ps) (l ∷ ls) h g some = (
 )
 
 -- ---- what each line says of itself
+
+pub runs_are : (k o : CompositeKind) (i j : ℕ) (sp : Option Spacing) (ps : List (Piece Token)) (ls : List FmtComposite) → HoldPieces k o i j sp ps ls → map runs_of ls ≡ map (λ p. map token_run p.line) ps
+runs_are k o i j sp [] [] h = refl
+runs_are k o i j sp [] (l ∷ ls) h = absurd h
+runs_are k o i j sp (p ∷ ps) [] h = absurd h
+runs_are k o i j sp (p ∷ ps) (l ∷ ls) h = ap (λ x. x ∷ map runs_of ls) h.0.runs ∙ ap (λ x. map token_run p.line ∷ x) (runs_are o o j j sp ps ls h.1)
+
 
 pub kinds_are : (k o : CompositeKind) (i j : ℕ) (sp : Option Spacing) (ps : List (Piece Token)) (ls : List FmtComposite) → HoldPieces k o i j sp ps ls → HaveKinds k o ls
 kinds_are k o i j sp [] [] h = tt

@@ -4,7 +4,8 @@ use Rattle.std.proofs.lemmas.Bool.Decides.{nat_tests}
 use Rattle.mad_fit.specs.declared.tokens.Token.{Token}
 use Rattle.mad_layout.specs.declared.room.Room.{Room}
 use Rattle.mad_layout.specs.Breaks.{Piece, joined, total_width, AllBlank, FitsFrom, FittingBreak}
-use Rattle.mad_layout.specs.Greedy.{Placing, left_of, fits_in, taken, begin_line, place_by, place, place_all, at_start}
+use Rattle.mad_layout.specs.LineRoom.{left_of, fits_in, taken}
+use Rattle.mad_layout.proofs.Greedy.{Placing, begin_line, place_by, place, place_all, at_start}
 
 -- at least n columns are left
 abbrev HasLeft : Option ℕ → ℕ → Type 0

@@ -5,6 +5,7 @@ pub mod CheckerSteps
 pub mod CutLemmas
 pub mod DrawableLemmas
 pub mod DrawnLayouts
+pub mod Greedy
 pub mod HeadlineLemmas
 pub mod InlineLemmas
 pub mod KeepLemmas

@@ -10,7 +10,8 @@ use Rattle.mad_fit.specs.declared.tokens.Token.{Token}
 use Rattle.mad_fit.specs.Tokens.{token_run, token_text}
 use Rattle.mad_fit.proofs.AllLemmas.{all_push, all_front, all_back}
 use Rattle.mad_layout.specs.Breaks.{Piece, joined, total_width, AllBlank, FitsFrom, FittingBreak}
-use Rattle.mad_layout.specs.Greedy.{Placing, left_of, fits_in, taken, begin_line, place_by, place, place_all}
+use Rattle.mad_layout.specs.LineRoom.{left_of, fits_in, taken}
+use Rattle.mad_layout.proofs.Greedy.{Placing, begin_line, place_by, place, place_all}
 use Rattle.mad_layout.specs.PlacedLines.{HoldsTokens, HoldPieces, TokensHaveRoom, SomeOnEach, ArePlacedLines}
 use Rattle.mad_layout.specs.Wraps.{capped, GapsForced, BeginsAfter, LinesForced}
 use Rattle.mad_layout.specs.declared.room.Room.{Room}

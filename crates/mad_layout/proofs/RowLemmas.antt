@@ -1,7 +1,7 @@
 -- Rows: what their pieces paint, and how many columns they fill.
 use Rattle.std.proofs.Common.{◌≡◌, ℕ, zero, suc, ◌+◌, ◌-◌, ◌≤◌, List, [], ◌∷◌, ◌++◌, map, length, length-append, replicate, Some, refl, ap, sym, ◌∙◌, subst, arith, lit<}
 use Rattle.std.specs.Prelude.{unwrap_or, true}
-use Rattle.std.specs.List.{AllByRecursion, sum_by}
+use Rattle.std.specs.List.{AllByRecursion, flat_map, sum_by}
 use Rattle.std.specs.Str.{chars, IsAscii}
 use Rattle.std.proofs.lemmas.Str.Ascii.{IsAscii-cons, IsAscii-nil}
 use Rattle.std.proofs.lemmas.List.{length-replicate}
@@ -13,6 +13,7 @@ use Rattle.mad_md.specs.declared.compound.Compound.{Compound}
 use Rattle.mad_md.specs.Flagged.{flagged_text, flagged_of, flags_of}
 use Rattle.mad_term.specs.Columns.{char_columns}
 use Rattle.mad_term.specs.Painting.{Paints, piece_cells, IsShown, look_of_style}
+use Rattle.mad_term.specs.Glyph.{Glyph}
 use Rattle.mad_term.specs.Grid.{plain_pen}
 use Rattle.mad_term.specs.Styles.{piece_bytes}
 use Rattle.mad_term.proofs.Paints.{paints_row, paints_piece, spaces_shown, spaces_cells}
@@ -28,11 +29,15 @@ use Rattle.mad_layout.specs.declared.skin.MadSkin.{MadSkin}
 use Rattle.mad_layout.specs.declared.composite.FmtComposite.{FmtComposite}
 use Rattle.mad_layout.specs.declared.line.FmtLine.TheVariants.{Normal}
 use Rattle.mad_layout.specs.Drawable.{IsShownPiece, AreShownPieces, pieces_columns, IsDrawable}
-use Rattle.mad_layout.specs.Pieces.{RowPiece, AreKnown, pieces_bytes, pieces_cells, spaces}
+use Rattle.mad_layout.specs.Pieces.{RowPiece, AreKnown, pieces_bytes, spaces}
 use Rattle.mad_layout.specs.Rows.{compound_piece, mark_pieces, left_of_place, right_of_place, align_in, place_of, inner_columns, inner_blanks, outer_blanks, margins_of, line_pieces}
 use Rattle.mad_layout.specs.Styles.{line_style}
 
 -- ---- what pieces paint
+
+-- the cells that pieces show
+abbrev pub pieces_cells : List RowPiece → List Glyph
+pieces_cells ps = flat_map (λ p. piece_cells p.style p.text) ps
 
 each_paints : (ps : List RowPiece) → AreKnown ps → AreShownPieces ps → AllByRecursion (λ p. Paints (piece_bytes p.style p.text) (piece_cells p.style p.text)) ps
 each_paints [] known shown = tt

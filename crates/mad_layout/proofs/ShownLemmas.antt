@@ -16,10 +16,10 @@ use Rattle.mad_layout.specs.declared.skin.MadSkin.{MadSkin}
 use Rattle.mad_layout.specs.declared.line.FmtLine.{FmtLine}
 use Rattle.mad_layout.specs.declared.line.FmtLine.TheVariants.{Normal}
 use Rattle.mad_layout.specs.Drawable.{AreShownPieces, AreDrawable, pieces_columns}
-use Rattle.mad_layout.specs.Pieces.{RowPiece, PennedChar, AreKnown, pieces_bytes, pieces_cells, penned_chars}
+use Rattle.mad_layout.specs.Pieces.{RowPiece, PennedChar, AreKnown, pieces_bytes, penned_chars}
 use Rattle.mad_layout.specs.Rows.{row_pieces, row_of}
 use Rattle.mad_layout.specs.Shown.{rows_from, area_bytes, row_joined, row_cells, AreShownIn}
-use Rattle.mad_layout.proofs.RowLemmas.{pieces_paint, length-pieces_cells, spaces_columns, shown_spaces, line_columns, line_shown}
+use Rattle.mad_layout.proofs.RowLemmas.{pieces_cells, pieces_paint, length-pieces_cells, spaces_columns, shown_spaces, line_columns, line_shown}
 
 -- ---- a row
 

@@ -5,7 +5,7 @@ use Rattle.std.proofs.lemmas.List.{length-append, take_more}
 use Rattle.std.specs.Option.{option_or}
 use Rattle.mad_fit.specs.declared.tokens.Token.{Token}
 use Rattle.mad_layout.specs.Breaks.{Piece, joined, total_width}
-use Rattle.mad_layout.specs.Greedy.{left_of, fits_in, taken}
+use Rattle.mad_layout.specs.LineRoom.{left_of, fits_in, taken}
 use Rattle.mad_layout.specs.PlacedLines.{TokensHaveRoom, starts_from, dropped_after, dropped_from, ArePlacedStarts}
 use Rattle.mad_layout.specs.declared.room.Room.{Room}
 use Rattle.mad_layout.specs.Bounds.{are_starts_from, are_starts}

@@ -1,5 +1,5 @@
 -- Placed tokens are a wrap of their composite.
-use Rattle.std.proofs.Common.{◌≡◌, ℕ, ◌≤◌, ◌<◌, ◌+◌, ◌-◌, false, List, [], ◌∷◌, map, length, None, Result, Ok, Err, IfOk, is_some, refl, sym, ap, ◌∙◌, arith, subst}
+use Rattle.std.proofs.Common.{◌≡◌, ℕ, ◌≤◌, ◌<◌, ◌+◌, ◌-◌, false, List, [], ◌∷◌, map, length, None, Result, Ok, Err, IfOk, refl, sym, ap, ◌∙◌, arith, subst}
 use Rattle.std.specs.List.{AllByRecursion}
 use Rattle.mad_term.specs.Columns.{char_columns}
 use Rattle.mad_md.specs.Flagged.{flagged_text}
@@ -14,7 +14,7 @@ use Rattle.mad_fit.specs.declared.tokens.Token.{Token}
 use Rattle.mad_fit.proofs.TokenTexts.{IsHonest, text_of_all, all_honest}
 use Rattle.mad_fit.proofs.UniqueLemmas.{all_unique}
 use Rattle.mad_layout.specs.Breaks.{joined, total_width}
-use Rattle.mad_layout.specs.CleanCut.{clean_cut, is_cut_clean}
+use Rattle.mad_layout.specs.CleanCut.{clean_cut}
 use Rattle.mad_layout.specs.Indents.{indent, follow_up, room_of}
 use Rattle.mad_layout.specs.Keeps.{Keeps}
 use Rattle.mad_layout.specs.LeastWrap.{AreTokensIn, IsLeastBreak, IsWrapIn}
@@ -23,7 +23,7 @@ use Rattle.mad_layout.specs.Wraps.{text_of, IsMeasured, HasRoom, LinesFit}
 use Rattle.mad_layout.specs.declared.room.Room.{Room}
 use Rattle.mad_layout.specs.declared.skin.MadSkin.{MadSkin}
 use Rattle.mad_layout.specs.declared.composite.FmtComposite.{FmtComposite}
-use Rattle.mad_layout.proofs.KeepLemmas.{texts_are, keeps_pieces, tokens_room, width_is, fit_pieces, some_pieces, kinds_are, spacing_is, margins_are, measured_are, parts_are, filled_pieces}
+use Rattle.mad_layout.proofs.KeepLemmas.{texts_are, runs_are, keeps_pieces, tokens_room, width_is, fit_pieces, some_pieces, kinds_are, spacing_is, margins_are, measured_are, parts_are, filled_pieces}
 
 -- the lines after the first are indented no further
 pub other-le : (mode : ListItemsIndentationMode) (kind : CompositeKind) → indent mode (follow_up kind) ≤ indent mode kind
@@ -83,6 +83,8 @@ placed_wrap r skin source ts lines wide uncut tokens h =
       some = λ room _.
           let there = some_tokens r ts (omega (arith, wide.wider, total_is r ps ts tokens)) room.first in
           some_pieces max k o r.first r.other sp h.pieces lines h.holds honest (h.some (room_for_tokens r ps ts lower tokens room) there);
+      cut = λ front back is. absurd (cc);
+      cuts = λ _. (ts, tokens);
       none_empty = λ _. filled_pieces max k o r.first r.other sp h.pieces lines h.holds honest;
       least = λ us others.
           let same = all_unique max ps ts us tokens others in
@@ -90,7 +92,7 @@ placed_wrap r skin source ts lines wide uncut tokens h =
             parts = parts_are ps ts [] k o r.first r.other sp h.pieces lines h.holds h.covers;
             placed = λ _. record { pieces = h.pieces; some_line = h.some_line; covers = h.covers; texts = texts; gaps = h.gaps };
             full = λ _. record { placed = record { pieces = h.pieces; some_line = h.some_line; covers = h.covers; texts = texts; gaps = h.gaps }; forced = h.forced };
-            cut = λ on. absurd (let off : is_cut_clean r ps ≡ false = ap is_some uncut in cc);
+            one_by_one = λ _. runs_are k o r.first r.other sp h.pieces lines h.holds;
             least = λ breaks fitting _. h.least breaks fitting;
             least_dropping = λ _ breaks fitting. h.least breaks fitting;
           });

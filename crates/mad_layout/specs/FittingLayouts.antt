@@ -7,7 +7,7 @@ use Rattle.mad_layout.specs.Indents.{follow_up, room_of}
 use Rattle.mad_layout.specs.Keeps.{Keeps}
 use Rattle.mad_layout.specs.Layouts.{AreRead}
 use Rattle.mad_layout.specs.LeastWrap.{AreTokensIn}
-use Rattle.mad_layout.specs.WrappedLines.{margins_of, FitsWithMargins, line_with}
+use Rattle.mad_layout.specs.WrappedLines.{style_margins, FitsWithMargins, line_with}
 use Rattle.mad_layout.specs.Wraps.{text_of, IsMeasured, HasRoom, LinesFit, HaveKinds, IsMadeOf}
 use Rattle.mad_layout.specs.declared.skin.MadSkin.{MadSkin}
 use Rattle.mad_layout.specs.declared.composite.FmtComposite.{FmtComposite}
@@ -28,7 +28,7 @@ pub record IsFittingWrap (skin : MadSkin) (width : ℕ) (source : FmtComposite) 
 -- A composite that fits with its margins stays, any other is wrapped so in what they leave of the width. Each line keeps them.
 abbrev pub IsFitted : MadSkin → ℕ → FmtComposite → List FmtLine → Type 0
 IsFitted skin width source lines =
-    let margins = margins_of skin width source in
+    let margins = style_margins skin width source in
     (FitsWithMargins skin width source × (lines ≡ line_with margins source ∷ []))
     ⊎ ((width < source.visible_length + margins.0 + margins.1)
     × ((wrap : List FmtComposite) × IsFittingWrap skin (width - margins.0 - margins.1) source wrap × (lines ≡ map (line_with margins) wrap)))

@@ -1,11 +1,12 @@
 -- Inline texts and composites that stand by themselves.
-use Rattle.std.specs.Prelude.{◌≡◌, ℕ, List, None, false, Result, map}
+use Rattle.std.specs.Prelude.{◌≡◌, ◌⊎◌, ℕ, List, None, false, Result, IsErrOf, map}
 use Rattle.mad_md.specs.Flagged.{run_of, run_at}
 use Rattle.mad_md.specs.Inline.{Item, IsInlineReading, runs}
 use Rattle.mad_md.specs.declared.composite.Composite.{Composite}
 use Rattle.mad_term.specs.Draws.{Draws}
 use Rattle.mad_term.specs.Trace.{Trace}
 use Rattle.mad_term.specs.declared.errors.Error.{Error}
+use Rattle.mad_term.specs.declared.errors.Error.TheVariants.{Memory}
 use Rattle.mad_style.specs.Kinds.{kind_of}
 use Rattle.mad_layout.specs.Pieces.{pieces_bytes}
 use Rattle.mad_layout.specs.Rows.{composite_pieces, free_pieces, margins_of}
@@ -31,9 +32,11 @@ composite_bytes skin composite = pieces_bytes (free_pieces skin (kind_of composi
 abbrev pub inline_bytes : MadSkin → List ℕ → List Item → List ℕ
 inline_bytes skin src items = pieces_bytes (free_pieces skin Paragraph (map (run_at src) (runs items)))
 
--- What a call does that writes a line of text: it draws the bytes of each reading of the line. (There is exactly one.)
+-- What a call does that writes a line of text: it draws the bytes of the line's reading, of which there is exactly one; or memory
+-- for it was refused, and nothing went out.
 abbrev pub WritesInline : {T : Type 0} → MadSkin → List ℕ → Trace → Result T Error → Trace → Type 0
-WritesInline skin src old r new = (items : List Item) → IsInlineReading src items → Draws old (inline_bytes skin src items) r new
+WritesInline skin src old r new =
+    ((items : List Item) × IsInlineReading src items × Draws old (inline_bytes skin src items) r new) ⊎ (IsErrOf r Memory × (new ≡ old))
 
 -- the line is displayed by the bytes that are written of it
 abbrev pub IsDisplayedAsWritten : MadSkin → List ℕ → FmtComposite → Type 0

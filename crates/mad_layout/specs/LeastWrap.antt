@@ -1,14 +1,15 @@
 -- Wrapping with the fewest lines: what a composite that doesn't fit is wrapped into, at a width.
-use Rattle.std.specs.Prelude.{◌≡◌, ℕ, ◌-◌, ◌<◌, ◌≤◌, true, false, List, map, length, None}
+use Rattle.std.specs.Prelude.{◌≡◌, ℕ, ◌-◌, ◌<◌, ◌≤◌, false, List, [], ◌∷◌, map, length, Some, None}
 use Rattle.std.specs.List.{AllByRecursion}
+use Rattle.mad_md.specs.Flagged.{run_of}
 use Rattle.mad_md.specs.declared.compound.Compound.{Compound}
-use Rattle.mad_fit.specs.Tokens.{AreTokensOf}
+use Rattle.mad_fit.specs.Tokens.{token_run, AreTokensOf}
 use Rattle.mad_fit.specs.declared.tokens.Token.{Token}
 use Rattle.mad_layout.specs.Breaks.{Piece, FittingBreak, EndsWithLine}
-use Rattle.mad_layout.specs.CleanCut.{is_cut_clean, drops_middle}
+use Rattle.mad_layout.specs.CleanCut.{clean_cut, is_cut_clean, drops_middle}
 use Rattle.mad_layout.specs.Indents.{follow_up, room_of}
 use Rattle.mad_layout.specs.Keeps.{Keeps}
-use Rattle.mad_layout.specs.Wraps.{text_of, IsMeasured, HasRoom, LinesFit, HaveKinds, NoneEmpty, IsMadeOf, ArePlaced, AreFull}
+use Rattle.mad_layout.specs.Wraps.{runs_of, text_of, IsMeasured, HasRoom, LinesFit, HaveKinds, NoneEmpty, IsMadeOf, ArePlaced, AreFull}
 use Rattle.mad_layout.specs.declared.room.Room.{Room}
 use Rattle.mad_layout.specs.declared.skin.MadSkin.{MadSkin}
 use Rattle.mad_layout.specs.declared.composite.FmtComposite.{FmtComposite}
@@ -25,8 +26,8 @@ pub record IsLeastBreak (r : Room) (ps : List Compound) (ts : List Token) (lines
   pub placed : drops_middle r ps ≡ false → ArePlaced r ts (map text_of lines)
   -- and but where the text is cut clean, no line ends before it must
   pub full : is_cut_clean r ps ≡ false → AreFull r ts (map text_of lines)
-  -- a clean cut makes two lines
-  pub cut : is_cut_clean r ps ≡ true → length lines ≡ 2
+  -- and each token is a compound of its own
+  pub one_by_one : (uncut : is_cut_clean r ps ≡ false) → map runs_of lines ≡ map (λ p. map token_run p.line) (full uncut).placed.pieces
   -- no fitting break that ends with its last line has fewer lines
   pub least : (breaks : List (Piece Token)) → FittingBreak r ts breaks → EndsWithLine breaks → length lines ≤ length breaks
   -- nor has one that drops blanks after its last line, but where the text is cut clean
@@ -42,7 +43,11 @@ pub record IsWrapIn (r : Room) (skin : MadSkin) (source : FmtComposite) (lines :
   pub some : HasRoom r (text_of source) → NoneEmpty source.compounds.items → AllByRecursion (λ l. 0 < length (text_of l)) lines
   -- no compound is empty where none of the source is
   pub none_empty : NoneEmpty source.compounds.items → AllByRecursion (λ l. NoneEmpty l.compounds.items) lines
-  -- with the fewest lines
+  -- a clean cut is two lines of a compound each
+  pub cut : (front back : Compound) → clean_cut r source.compounds.items ≡ Some (front, back) → map runs_of lines ≡ (run_of front ∷ []) ∷ (run_of back ∷ []) ∷ []
+  -- any other text is cut into tokens,
+  pub cuts : is_cut_clean r source.compounds.items ≡ false → (ts : List Token) × AreTokensIn r source.compounds.items ts
+  -- and none of them makes fewer lines
   pub least : (ts : List Token) → AreTokensIn r source.compounds.items ts → IsLeastBreak r source.compounds.items ts lines
   pub kinds : HaveKinds source.kind (follow_up source.kind) lines
   pub measured : AllByRecursion (IsMeasured skin) lines

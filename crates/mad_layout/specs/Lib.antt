@@ -3,7 +3,6 @@ pub mod Breaks
 pub mod CleanCut
 pub mod Drawable
 pub mod FittingLayouts
-pub mod Greedy
 pub mod InArea
 pub mod Indents
 pub mod Inlines
@@ -11,6 +10,7 @@ pub mod Keeps
 pub mod Layouts
 pub mod LeastBound
 pub mod LeastWrap
+pub mod LineRoom
 pub mod Lines
 pub mod Pieces
 pub mod PlacedLines

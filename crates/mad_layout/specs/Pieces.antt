@@ -3,9 +3,9 @@ use Rattle.std.specs.Prelude.{◌≡◌, ℕ, zero, suc, List, [], ◌∷◌, �
 use Rattle.std.specs.Str.{chars}
 use Rattle.std.specs.List.{AllByRecursion, flat_map}
 use Rattle.mad_term.specs.declared.styles.ContentStyle.{ContentStyle}
-use Rattle.mad_term.specs.Glyph.{Glyph, Look}
+use Rattle.mad_term.specs.Glyph.{Look}
 use Rattle.mad_term.specs.Styles.{IsStyle, piece_bytes}
-use Rattle.mad_term.specs.Painting.{look_of_style, piece_cells}
+use Rattle.mad_term.specs.Painting.{look_of_style}
 use Rattle.mad_style.specs.declared.compound_styles.CompoundStyle.{CompoundStyle}
 
 -- a text, in bytes, in one style
@@ -16,10 +16,6 @@ pub record RowPiece : Type 0 where
 -- what is written of a row's pieces
 abbrev pub pieces_bytes : List RowPiece → List ℕ
 pieces_bytes ps = flat_map (λ p. piece_bytes p.style p.text) ps
-
--- the cells that they show
-abbrev pub pieces_cells : List RowPiece → List Glyph
-pieces_cells ps = flat_map (λ p. piece_cells p.style p.text) ps
 
 -- a character, and the pen that it is written with
 pub record PennedChar : Type 0 where

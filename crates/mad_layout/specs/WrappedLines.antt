@@ -11,12 +11,12 @@ use Rattle.mad_layout.specs.declared.line.FmtLine.{FmtLine}
 use Rattle.mad_layout.specs.declared.line.FmtLine.TheVariants.{Normal}
 
 -- the margins (left, right) of a composite at a width, those of its kind's style
-abbrev pub margins_of : MadSkin → ℕ → FmtComposite → ℕ × ℕ
-margins_of skin width l = margins_at (line_style skin l.kind) (Some width)
+abbrev pub style_margins : MadSkin → ℕ → FmtComposite → ℕ × ℕ
+style_margins skin width l = margins_at (line_style skin l.kind) (Some width)
 
 -- the composite fits with its margins, by its cached length
 abbrev pub FitsWithMargins : MadSkin → ℕ → FmtComposite → Type 0
-FitsWithMargins skin width l = l.visible_length + (margins_of skin width l).0 + (margins_of skin width l).1 ≤ width
+FitsWithMargins skin width l = l.visible_length + (style_margins skin width l).0 + (style_margins skin width l).1 ≤ width
 
 -- the composite as a line that keeps these margins
 abbrev pub line_with : ℕ × ℕ → FmtComposite → FmtLine
@@ -25,7 +25,7 @@ line_with margins l = Normal (record l { margins = Some margins })
 -- A composite that fits with its margins stays, any other is wrapped in what they leave of the width. Each line keeps them.
 abbrev pub IsWrapped : MadSkin → ℕ → FmtComposite → List FmtLine → Type 0
 IsWrapped skin width source lines =
-    let margins = margins_of skin width source in
+    let margins = style_margins skin width source in
     (FitsWithMargins skin width source × (lines ≡ line_with margins source ∷ []))
     ⊎ ((width < source.visible_length + margins.0 + margins.1)
     × ((wrap : List FmtComposite) × IsWrap skin (width - margins.0 - margins.1) source wrap × (lines ≡ map (line_with margins) wrap)))

@@ -2,7 +2,7 @@
 use Rattle.std.specs.Prelude.{◌≡◌, ℕ, ◌+◌, ◌-◌, ◌^◌, ◌<◌, ◌≤◌, min, false, List, [], ◌∷◌, ◌++◌, map, length, Contains}
 use Rattle.std.specs.List.{AllByRecursion}
 use Rattle.mad_term.specs.Columns.{char_columns}
-use Rattle.mad_md.specs.Flagged.{FlaggedChar, run_of, flagged_text}
+use Rattle.mad_md.specs.Flagged.{FlaggedChar, Run, run_of, flagged_text}
 use Rattle.mad_md.specs.declared.compound.Compound.{Compound}
 use Rattle.mad_style.specs.declared.kinds.CompositeKind.{CompositeKind}
 use Rattle.mad_fit.specs.Columns.{width_of}
@@ -17,6 +17,10 @@ use Rattle.mad_layout.specs.declared.composite.FmtComposite.{FmtComposite}
 -- the flagged text of a composite
 abbrev pub text_of : FmtComposite → List FlaggedChar
 text_of l = flagged_text l.compounds.items
+
+-- what the compounds of a composite say
+abbrev pub runs_of : FmtComposite → List Run
+runs_of l = map run_of l.compounds.items
 
 -- a number of columns as a usize, its greatest value where there are more
 abbrev pub capped : ℕ → ℕ
@@ -51,7 +55,7 @@ NoneEmpty ps = AllByRecursion (λ p. 0 < length p.src.now) ps
 
 -- each compound of the line is one of these, or one of these tokens
 abbrev pub IsMadeOf : List Compound → List Token → FmtComposite → Type 0
-IsMadeOf ps ts l = AllByRecursion (Contains (map run_of ps ++ map token_run ts)) (map run_of l.compounds.items)
+IsMadeOf ps ts l = AllByRecursion (Contains (map run_of ps ++ map token_run ts)) (runs_of l)
 
 -- each gap is blank, and one that isn't empty begins with a token that doesn't fit behind its line
 abbrev pub GapsForced : ℕ → Room → List (Piece Token) → Type 0

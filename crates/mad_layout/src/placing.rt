@@ -3,7 +3,7 @@ ghost use Rattle.std.specs.List.{AllByRecursion};
 ghost use Rattle.mad_fit.specs.Tokens.{IsInCompound};
 ghost use Rattle.mad_fit.specs.declared.tokens.Token.{Token};
 ghost use Rattle.mad_layout.specs.Indents.{follow_up};
-ghost use Rattle.mad_layout.specs.Greedy.{left_of, fits_in, taken};
+ghost use Rattle.mad_layout.specs.LineRoom.{left_of, fits_in, taken};
 ghost use Rattle.mad_layout.specs.PlacedLines.{ArePlacedLines};
 
 use crate::composite::FmtComposite;

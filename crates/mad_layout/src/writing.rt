@@ -1,7 +1,8 @@
 //! The writing calls of a skin.
 
-ghost use Rattle.std.specs.Prelude.{◌≡◌, ◌-◌, ◌≤◌, IfOk, OnOk, Some};
+ghost use Rattle.std.specs.Prelude.{◌≡◌, ◌-◌, ◌≤◌, IfOk, IsErrOf, OnOk, Some};
 ghost use Rattle.mad_term.specs.Draws.{Draws};
+ghost use Rattle.mad_term.specs.declared.errors.Error.TheVariants.{Memory};
 ghost use Rattle.mad_fit.specs.Areas.{IsWithinLimits};
 ghost use Rattle.mad_layout.specs.InArea.{IsAreaLayout, WritesInArea, ShowsText};
 ghost use Rattle.mad_layout.specs.Inlines.{WritesInline, composite_bytes};
@@ -81,7 +82,7 @@ impl MadSkin {
     ///
     /// # Errors
     ///
-    /// A fault of the device, or want of memory. What went out by then is a beginning of the whole.
+    /// A fault of the device; what went out by then is a beginning of the whole. Or want of memory, before the first byte.
     #[tactic(auto, using(mad_term::proofs::QueueExits::memory_first))]
     pub fn write_composite<O: Out>(
         &self,
@@ -89,7 +90,8 @@ impl MadSkin {
         out: &mut O,
         composite: &Composite,
     ) -> Result<(), Error>
-        ensures { Draws (O.seen out.old) (composite_bytes self.now composite.now) result (O.seen out.new) }
+        ensures writes { Draws (O.seen out.old) (composite_bytes self.now composite.now) result (O.seen out.new) }
+        ensures early { IsErrOf result Memory → O.seen out.new ≡ O.seen out.old }
     {
         let mut row = String::new(alloc);
         push_free(&mut row, self, composite)?;
@@ -101,14 +103,15 @@ impl MadSkin {
     ///
     /// # Errors
     ///
-    /// A fault of the device, or want of memory. What went out by then is a beginning of the whole.
+    /// A fault of the device; what went out by then is a beginning of the whole. Or want of memory, before the first byte.
     pub fn print_composite<O: Out>(
         &self,
         alloc: Global,
         out: &mut O,
         composite: &Composite,
     ) -> Result<(), Error>
-        ensures { Draws (O.seen out.old) (composite_bytes self.now composite.now) result (O.seen out.new) }
+        ensures writes { Draws (O.seen out.old) (composite_bytes self.now composite.now) result (O.seen out.new) }
+        ensures early { IsErrOf result Memory → O.seen out.new ≡ O.seen out.old }
     {
         self.write_composite(alloc, out, composite)
     }
@@ -117,15 +120,16 @@ impl MadSkin {
     ///
     /// # Errors
     ///
-    /// A fault of the device, or want of memory. What went out by then is a beginning of the whole.
-    #[tactic(auto, using(mad_term::proofs::QueueExits::memory_first))]
+    /// A fault of the device; what went out by then is a beginning of the whole. Or want of memory, before the first byte.
+    #[tactic(auto, using(crate::proofs::InlineLemmas::written))]
     pub fn write_inline_on<O: Out>(
         &self,
         alloc: Global,
         out: &mut O,
         src: &str,
     ) -> Result<(), Error>
-        ensures { WritesInline self.now src.now (O.seen out.old) result (O.seen out.new) }
+        ensures writes { WritesInline self.now src.now (O.seen out.old) result (O.seen out.new) }
+        ensures early { IsErrOf result Memory → O.seen out.new ≡ O.seen out.old }
     {
         let composite = Composite::from_inline(alloc, src)?;
         self.write_composite(alloc, out, &composite)
@@ -135,9 +139,10 @@ impl MadSkin {
     ///
     /// # Errors
     ///
-    /// A fault of the device, or want of memory. What went out by then is a beginning of the whole.
+    /// A fault of the device; what went out by then is a beginning of the whole. Or want of memory, before the first byte.
     pub fn print_inline<O: Out>(&self, alloc: Global, out: &mut O, src: &str) -> Result<(), Error>
-        ensures { WritesInline self.now src.now (O.seen out.old) result (O.seen out.new) }
+        ensures writes { WritesInline self.now src.now (O.seen out.old) result (O.seen out.new) }
+        ensures early { IsErrOf result Memory → O.seen out.new ≡ O.seen out.old }
     {
         self.write_inline_on(alloc, out, src)
     }
@@ -146,9 +151,11 @@ impl MadSkin {
     ///
     /// # Errors
     ///
-    /// A fault of the device, at its flush too, or want of memory. What went out by then is a beginning of the whole.
+    /// A fault of the device, at its flush too; what went out by then is a beginning of the whole. Or want of memory, before
+    /// the first byte.
     pub fn write_inline<O: Out>(&self, alloc: Global, out: &mut O, src: &str) -> Result<(), Error>
-        ensures { WritesInline self.now src.now (O.seen out.old) result (O.seen out.new) }
+        ensures writes { WritesInline self.now src.now (O.seen out.old) result (O.seen out.new) }
+        ensures early { IsErrOf result Memory → O.seen out.new ≡ O.seen out.old }
     {
         self.write_inline_on(alloc, out, src)?;
         out.flush()?;
@@ -160,14 +167,15 @@ impl MadSkin {
 ///
 /// # Errors
 ///
-/// A fault of the device, or want of memory. What went out by then is a beginning of the whole.
+/// A fault of the device; what went out by then is a beginning of the whole. Or want of memory, before the first byte.
 pub fn print_inline<O: Out>(
     alloc: Global,
     skin: &MadSkin,
     out: &mut O,
     src: &str,
 ) -> Result<(), Error>
-    ensures { WritesInline skin.now src.now (O.seen out.old) result (O.seen out.new) }
+    ensures writes { WritesInline skin.now src.now (O.seen out.old) result (O.seen out.new) }
+    ensures early { IsErrOf result Memory → O.seen out.new ≡ O.seen out.old }
 {
     skin.print_inline(alloc, out, src)
 }

@@ -39,7 +39,7 @@ pub use Rattle.mad_layout.specs.Bounds
 pub use Rattle.mad_layout.specs.Breaks
 pub use Rattle.mad_layout.specs.CleanCut
 pub use Rattle.mad_layout.specs.Drawable
-pub use Rattle.mad_layout.specs.Greedy
+pub use Rattle.mad_layout.specs.FittingLayouts
 pub use Rattle.mad_layout.specs.InArea
 pub use Rattle.mad_layout.specs.Indents
 pub use Rattle.mad_layout.specs.Inlines
@@ -47,12 +47,14 @@ pub use Rattle.mad_layout.specs.Keeps
 pub use Rattle.mad_layout.specs.Layouts
 pub use Rattle.mad_layout.specs.LeastBound
 pub use Rattle.mad_layout.specs.LeastWrap
+pub use Rattle.mad_layout.specs.LineRoom
 pub use Rattle.mad_layout.specs.Lines as LayoutLines
 pub use Rattle.mad_layout.specs.Pieces
 pub use Rattle.mad_layout.specs.PlacedLines
 pub use Rattle.mad_layout.specs.Premises
 pub use Rattle.mad_layout.specs.Rows
 pub use Rattle.mad_layout.specs.Shown
+pub use Rattle.mad_layout.specs.ShownLayouts
 pub use Rattle.mad_layout.specs.SkinParts
 pub use Rattle.mad_layout.specs.Skins
 pub use Rattle.mad_layout.specs.Styles as SkinStyles

@@ -1,9 +1,10 @@
 -- The headline of the program: what a run does to its devices, and how it ends.
-use Rattle.std.specs.Prelude.{◌≡◌, ◌⊎◌, ℕ, List, [], ◌∷◌, ◌++◌, Some, Result, Ok, Err, IsUtf8, ⊤}
+use Rattle.std.specs.Prelude.{◌≡◌, ◌⊎◌, ℕ, List, [], ◌∷◌, ◌++◌, Some, Result, Ok, Err, IsErrOf, IsUtf8, ⊤}
 use Rattle.termimad.specs.Inline.{Item, IsInlineReading}
 use Rattle.termimad.specs.Draws.{Draws}
 use Rattle.termimad.specs.Trace.{Trace, failed}
 use Rattle.termimad.specs.declared.Error.{Error}
+use Rattle.termimad.specs.declared.Error.TheVariants.{Memory as NoMemory}
 use Rattle.termimad.specs.InArea.{WritesInArea, ShowsText}
 use Rattle.termimad.specs.Inlines.{inline_bytes}
 use Rattle.termimad.specs.declared.MadSkin.{MadSkin}
@@ -15,7 +16,7 @@ use Rattle.termimad_view.specs.declared.failure.Failure.TheVariants.{Io, Usage, 
 use Rattle.termimad_view.specs.Calls.{Asks, IsNoCall, AsksUnknownSkin, skin_of}
 use Rattle.termimad_view.specs.Failures.{failure_of, status_of, line_of, SaysOnce}
 use Rattle.termimad_view.specs.Reading.{ReadsWhole, ReadingFails}
-use Rattle.termimad_view.specs.Lines.{IsLineOf}
+use Rattle.termimad_view.specs.Lines.{IsWithoutLineEnd}
 
 -- the input and the output of a run
 pub record Devices : Type 0 where
@@ -30,15 +31,16 @@ pub record KnownCall (words : List (List ℕ)) : Type 0 where
   pub skin : MadSkin
   pub known : skin_of skin_word ≡ Some skin
 
--- what `inline` writes of a line: the bytes of each reading of its marks, and a newline (there is exactly one reading)
+-- what `inline` writes of a line: the bytes of its reading, of which there is exactly one, and a newline; or memory for it was
+-- refused, and nothing went out
 abbrev pub WritesLine : {T : Type 0} → MadSkin → List ℕ → Trace → Result T Error → Trace → Type 0
 WritesLine skin line old r new =
-    (items : List Item) → IsInlineReading line items → Draws old (inline_bytes skin line items ++ (10 ∷ [])) r new
+    ((items : List Item) × IsInlineReading line items × Draws old (inline_bytes skin line items ++ (10 ∷ [])) r new) ⊎ (IsErrOf r NoMemory × (new ≡ old))
 
 -- what the output is asked to take of a text: the text in its area; or its line without the end of line
 abbrev pub WritesCall : {T : Type 0} → MadSkin → Command → List ℕ → Trace → Result T Error → Trace → Type 0
 WritesCall skin (InArea area) text old r new = WritesInArea skin text area old r new
-WritesCall skin Inline text old r new = (line : List ℕ) × IsLineOf text line × WritesLine skin line old r new
+WritesCall skin Inline text old r new = (line : List ℕ) × IsWithoutLineEnd text line × WritesLine skin line old r new
 
 -- what a plain terminal shows that reads what was written: the first rows of the text in its area
 abbrev pub ShowsCall : MadSkin → Command → List ℕ → Trace → Trace → Type 0

@@ -2,7 +2,7 @@
 
 ghost use Rattle.std.specs.Prelude.{OnOk};
 ghost use Rattle.termimad_view.specs.Calls.{HasRoom};
-ghost use Rattle.termimad_view.specs.Lines.{IsLineOf};
+ghost use Rattle.termimad_view.specs.Lines.{IsWithoutLineEnd};
 ghost use Rattle.termimad_view.specs.Runs.{WritesCall, ShowsCall, WritesLine};
 
 use crate::call::Command;
@@ -44,7 +44,7 @@ fn write_line<O: Out>(alloc: Global, out: &mut O, skin: &MadSkin, line: &str) ->
 
 // A text without its end of line: a final `\n`, and a `\r` before it.
 fn line_of(text: &str) -> &str
-    ensures { IsLineOf text.entry.now result.now }
+    ensures { IsWithoutLineEnd text.entry.now result.now }
 {
     let Some(line) = text.strip_suffix('\n') else {
         return text;

@@ -1,6 +1,6 @@
 use Rattle.std.proofs.Common.{◌≡◌, ◌≤◌, ◌+◌, take}
 use Rattle.mad_layout.specs.Breaks.{total_width}
-use Rattle.mad_layout.specs.Greedy.{left_of}
+use Rattle.mad_layout.specs.LineRoom.{left_of}
 use Rattle.mad_layout.proofs.bound.first_past.Given as goal
 
 abbrev pub invariant-loop-i : goal.invariant-loop-i

@@ -1,7 +1,7 @@
 use Rattle.std.proofs.Common.{◌≡◌, ◌+◌, ◌++◌, ◌∷◌, [], take, refl, sym, ap, ◌∙◌, arith, subst, vec_len}
 use Rattle.std.proofs.lemmas.List.{take_all, at_drop_all}
 use Rattle.mad_layout.specs.declared.composite.FmtComposite.{FmtComposite}
-use Rattle.mad_layout.specs.Greedy.{Placing, place_all}
+use Rattle.mad_layout.proofs.Greedy.{Placing, place_all}
 use Rattle.mad_layout.specs.Indents.{follow_up}
 use Rattle.mad_layout.proofs.Least.{least}
 use Rattle.mad_layout.proofs.PlaceLemmas.{Progress, progress_start, step_fits, step_ends, step_begins, placed_all}

@@ -1,5 +1,5 @@
 use Rattle.std.proofs.Common.{◌≡◌, ◌+◌, take, drop, vec_len}
-use Rattle.mad_layout.specs.Greedy.{place_all, at_start}
+use Rattle.mad_layout.proofs.Greedy.{place_all, at_start}
 use Rattle.mad_layout.specs.Indents.{follow_up}
 use Rattle.mad_layout.proofs.PlaceLemmas.{Progress}
 use Rattle.mad_layout.proofs.placing.place.Given as goal

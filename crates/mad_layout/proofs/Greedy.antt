@@ -1,6 +1,7 @@
 -- Placing tokens one after the other.
-use Rattle.std.specs.Prelude.{ℕ, ◌+◌, ◌-◌, Bool, true, false, List, [], ◌∷◌, Option, Some, None, if◌then◌else◌, nat_le}
+use Rattle.std.proofs.Common.{ℕ, ◌+◌, Bool, true, false, List, [], ◌∷◌, Option}
 use Rattle.mad_fit.specs.declared.tokens.Token.{Token}
+use Rattle.mad_layout.specs.LineRoom.{left_of, fits_in, taken}
 use Rattle.mad_layout.specs.declared.room.Room.{Room}
 
 -- how many lines there are, the columns left on the line (none where it overflows), and whether the line has ended
@@ -8,18 +9,6 @@ pub record Placing : Type 0 where
   pub lines : ℕ
   pub left : Option ℕ
   pub ended : Bool
-
--- the columns left of a width
-abbrev pub left_of : ℕ → ℕ → Option ℕ
-left_of width used = if nat_le used width then Some (width - used) else None
-
-abbrev pub fits_in : Option ℕ → ℕ → Bool
-fits_in None n = false
-fits_in (Some left) n = nat_le n left
-
-abbrev pub taken : Option ℕ → ℕ → Option ℕ
-taken None n = None
-taken (Some left) n = Some (left - n)
 
 abbrev pub begin_line : Room → Placing → ℕ → Placing
 begin_line r s n = record { lines = s.lines + 1; left = left_of r.width (r.other + n); ended = false }
