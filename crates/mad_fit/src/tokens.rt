@@ -46,7 +46,8 @@ pub fn tokenize<'s>(
     compounds: &[Compound<'s>],
     max: usize,
 ) -> Result<Vec<Token<'s>>, AllocError>
-    ensures { IfOk result (λ tokens. AreTokensOf max compounds.now tokens.items) }
+    ensures tokens { IfOk result (λ tokens. AreTokensOf max compounds.now tokens.items) }
+    ensures only { IfOk result (λ tokens. (others : List Token) → AreTokensOf max compounds.now others → others ≡ tokens.items) }
 {
     let mut tokens = Vec::new(alloc);
     for compound in compounds {
