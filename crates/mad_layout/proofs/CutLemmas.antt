@@ -160,7 +160,7 @@ cut_wrap r skin source front back lines wide is two =
             (subst NoneEmpty (sym second.compounds_are) (there.1, tt), tt),
           );
       cut = λ front' back' is'. cut_runs k o r.first r.other source.spacing front back two.first two.second first second front' back' (clean_cut r ps) is is';
-      cuts = λ off. absurd (let on : is_cut_clean r ps ≡ true = ap is_some is in cc);
+      tokenized = λ off. absurd (let on : is_cut_clean r ps ≡ true = ap is_some is in cc);
       least = λ ts tokens. record {
         parts = (made_of_one ps ts k r.first source.spacing front two.first first cut.has_front, (made_of_one ps ts o r.other source.spacing back two.second second cut.has_back, tt));
         placed = λ all. subst (ArePlaced r ts) texts (two_placed r front back ts (subst (λ (qs : List Compound). AreTokensIn r qs ts) (cut.two all) tokens));

@@ -84,7 +84,7 @@ placed_wrap r skin source ts lines wide uncut tokens h =
           let there = some_tokens r ts (omega (arith, wide.wider, total_is r ps ts tokens)) room.first in
           some_pieces max k o r.first r.other sp h.pieces lines h.holds honest (h.some (room_for_tokens r ps ts lower tokens room) there);
       cut = λ front back is. absurd (cc);
-      cuts = λ _. (ts, tokens);
+      tokenized = λ _. record { tokens = ts; cut = tokens; only = λ us others. all_unique _ ps us ts others tokens };
       none_empty = λ _. filled_pieces max k o r.first r.other sp h.pieces lines h.holds honest;
       least = λ us others.
           let same = all_unique max ps ts us tokens others in

@@ -18,6 +18,12 @@ use Rattle.mad_layout.specs.declared.composite.FmtComposite.{FmtComposite}
 abbrev pub AreTokensIn : Room → List Compound → List Token → Type 0
 AreTokensIn r ps ts = AreTokensOf (r.width - r.first) ps ts
 
+-- there are tokens of the compounds, and only these
+pub record AreTokenized (r : Room) (ps : List Compound) : Type 0 where
+  pub tokens : List Token
+  pub cut : AreTokensIn r ps tokens
+  pub only : (ts : List Token) → AreTokensIn r ps ts → ts ≡ tokens
+
 -- The lines are the tokens of these compounds in order, or a clean cut, and no fitting break that ends with its last line has fewer.
 pub record IsLeastBreak (r : Room) (ps : List Compound) (ts : List Token) (lines : List FmtComposite) : Type 0 where
   -- each compound is one of the source or a token of one
@@ -45,9 +51,9 @@ pub record IsWrapIn (r : Room) (skin : MadSkin) (source : FmtComposite) (lines :
   pub none_empty : NoneEmpty source.compounds.items → AllByRecursion (λ l. NoneEmpty l.compounds.items) lines
   -- a clean cut is two lines of a compound each
   pub cut : (front back : Compound) → clean_cut r source.compounds.items ≡ Some (front, back) → map runs_of lines ≡ (run_of front ∷ []) ∷ (run_of back ∷ []) ∷ []
-  -- any other text is cut into tokens,
-  pub cuts : is_cut_clean r source.compounds.items ≡ false → (ts : List Token) × AreTokensIn r source.compounds.items ts
-  -- and none of them makes fewer lines
+  -- any other text has tokens,
+  pub tokenized : is_cut_clean r source.compounds.items ≡ false → AreTokenized r source.compounds.items
+  -- and these are placed on the fewest lines
   pub least : (ts : List Token) → AreTokensIn r source.compounds.items ts → IsLeastBreak r source.compounds.items ts lines
   pub kinds : HaveKinds source.kind (follow_up source.kind) lines
   pub measured : AllByRecursion (IsMeasured skin) lines

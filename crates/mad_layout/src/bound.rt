@@ -3,7 +3,7 @@ ghost use Rattle.mad_fit.specs.declared.tokens.Token.{Token};
 ghost use Rattle.mad_layout.specs.Breaks.{Piece, FittingBreak, EndsWithLine, total_width};
 ghost use Rattle.mad_layout.specs.Bounds.{are_starts, are_starts_from, is_blank_token};
 ghost use Rattle.mad_layout.specs.Indents.{room_of};
-ghost use Rattle.mad_layout.specs.LeastWrap.{AreTokensIn};
+ghost use Rattle.mad_layout.specs.LeastWrap.{AreTokensIn, AreTokenized};
 ghost use Rattle.mad_layout.specs.LeastBound.{IsBound, AreChecked, AreStartsOf};
 ghost use Rattle.mad_layout.specs.PlacedLines.{ArePlacedStarts, AreCutStarts, IsFirstPast};
 ghost use Rattle.mad_layout.specs.Wraps.{HasRoom, text_of};
@@ -38,6 +38,7 @@ pub fn wrap_bound(
     width: usize,
     skin: &MadSkin,
 ) -> Result<WrapBound, Error>
+    ensures tokenized { IfOk result (λ _. AreTokenized (room_of skin.now composite.now.kind width) composite.now.compounds.items) }
     ensures checked { IfOk result (λ bound. AreChecked (room_of skin.now composite.now.kind width) composite.now.compounds.items bound.starts.items) }
     ensures bound { IfOk result (λ bound. IsBound (room_of skin.now composite.now.kind width) composite.now.compounds.items (length bound.starts.items)) }
     ensures starts { HasRoom (room_of skin.now composite.now.kind width) (text_of composite.now)
@@ -137,6 +138,7 @@ pub fn check_wrap_bound(
     skin: &MadSkin,
     bound: &WrapBound,
 ) -> Result<bool, Error>
+    ensures tokenized { IfOk result (λ _. AreTokenized (room_of skin.now composite.now.kind width) composite.now.compounds.items) }
     ensures exact { IfOk result (λ is. (ts : List Token) → AreTokensIn (room_of skin.now composite.now.kind width) composite.now.compounds.items ts
         → is ≡ are_starts (room_of skin.now composite.now.kind width) ts bound.now.starts.items) }
     ensures bound { IfOk result (λ is. IsTrue is → IsBound (room_of skin.now composite.now.kind width) composite.now.compounds.items (length bound.now.starts.items)) }

@@ -16,7 +16,7 @@ tokens_are c =
     let limit : c.token_limit.result ≡ r.width - r.first = c.token_limit.ensures ∙ ap (λ (r : Room). r.width - r.first) c.of-room.ensures in
     subst (AreTokensOf (r.width - r.first) ps) (sym c.deref-2.ensures.value)
     (subst (λ ps. AreTokensOf (r.width - r.first) ps c.in_ok-tokens.tokens.items) c.deref.ensures.value
-    (subst (λ n. AreTokensOf n c.deref.result.now c.in_ok-tokens.tokens.items) limit c.in_ok-tokens.ensures))
+    (subst (λ n. AreTokensOf n c.deref.result.now c.in_ok-tokens.tokens.items) limit c.in_ok-tokens.ensures.tokens))
 
 pub returns-clause-exact : goal.returns-clause-exact
 returns-clause-exact c ts tokens =
@@ -30,3 +30,6 @@ returns-clause-bound c on ts tokens breaks fits end =
     let same = all_unique _ _ ts c.deref-2.result.now tokens (tokens_are c) in
     let fitting = subst (λ (r : Room). FittingBreak r c.deref-2.result.now breaks) (sym c.of-room.ensures) (subst (λ ts. FittingBreak r ts breaks) same fits) in
     omega (arith, c.check_starts.ensures.bound on breaks fitting end, ap length c.deref-3.ensures.value)
+
+pub returns-clause-tokenized : goal.returns-clause-tokenized
+returns-clause-tokenized c = record { tokens = c.deref-2.result.now; cut = tokens_are c; only = λ ts others. all_unique _ _ ts c.deref-2.result.now others (tokens_are c) }

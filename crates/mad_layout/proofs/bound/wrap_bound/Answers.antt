@@ -1,5 +1,6 @@
 use Rattle.std.proofs.Common.{◌≡◌, ◌≤◌, ◌-◌, None, true, is_some, sym, ap, ◌∙◌, subst}
 use Rattle.mad_fit.specs.Tokens.{AreTokensOf}
+use Rattle.mad_fit.proofs.UniqueLemmas.{all_unique}
 use Rattle.mad_layout.specs.CleanCut.{clean_cut, is_cut_clean}
 use Rattle.mad_layout.specs.Indents.{room_of}
 use Rattle.mad_layout.specs.LeastBound.{AreChecked, AreStartsOf}
@@ -18,7 +19,7 @@ tokens_are c =
     let r = room_of c.args.skin.now c.args.composite.now.kind c.args.width in
     let limit : c.token_limit.result ≡ r.width - r.first = c.token_limit.ensures ∙ ap (λ (r : Room). r.width - r.first) c.of-room.ensures in
     subst (λ ps. AreTokensOf (r.width - r.first) ps c.in_ok-tokens.tokens.items) c.deref.ensures.value
-    (subst (λ n. AreTokensOf n c.deref.result.now c.in_ok-tokens.tokens.items) limit c.in_ok-tokens.ensures)
+    (subst (λ n. AreTokensOf n c.deref.result.now c.in_ok-tokens.tokens.items) limit c.in_ok-tokens.ensures.tokens)
 
 pub returns-clause-starts : goal.returns-clause-starts
 returns-clause-starts c space =
@@ -73,3 +74,6 @@ returns-clause-checked c = checked_of c
 
 pub returns-clause-bound : goal.returns-clause-bound
 returns-clause-bound c = checked_bound _ _ _ (checked_of c)
+
+pub returns-clause-tokenized : goal.returns-clause-tokenized
+returns-clause-tokenized c = record { tokens = c.in_ok-tokens.tokens.items; cut = tokens_are c; only = λ ts others. all_unique _ _ ts c.in_ok-tokens.tokens.items others (tokens_are c) }

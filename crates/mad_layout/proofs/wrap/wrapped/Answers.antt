@@ -13,7 +13,7 @@ use Rattle.mad_layout.proofs.wrap.wrapped.Goals as goal
 
 pub place-requires : goal.place-requires
 place-requires c =
-    let tokens = subst (AreTokensOf c.token_limit.result c.deref-in-None.result.now) (sym c.deref-in-None-2.ensures.value) c.in_ok-tokens-in-None.ensures in
+    let tokens = subst (AreTokensOf c.token_limit.result c.deref-in-None.result.now) (sym c.deref-in-None-2.ensures.value) c.in_ok-tokens-in-None.ensures.tokens in
     all_each (IsHonest c.token_limit.result) IsInCompound (λ t h. h.place) c.deref-in-None-2.result.now (all_honest _ _ _ tokens)
 
 pub returns-in-Some : goal.returns-in-Some
@@ -36,6 +36,6 @@ returns-in_ok-tokens-in-None c =
     let tokens : AreTokensIn r source.compounds.items ts =
     subst (AreTokensOf (r.width - r.first) source.compounds.items) (sym c.deref-in-None-2.ensures.value)
     (subst (λ ps. AreTokensOf (r.width - r.first) ps c.in_ok-tokens-in-None.tokens.items) c.deref-in-None.ensures.value
-    (subst (λ n. AreTokensOf n c.deref-in-None.result.now c.in_ok-tokens-in-None.tokens.items) limit c.in_ok-tokens-in-None.ensures)) in
+    (subst (λ n. AreTokensOf n c.deref-in-None.result.now c.in_ok-tokens-in-None.tokens.items) limit c.in_ok-tokens-in-None.ensures.tokens)) in
     ok_each _ _ (λ lines h. placed_wrap r c.args.skin.now source ts lines.items (too_wide c.args.skin.now c.args.width source c.requires.wider c.requires.measured) is tokens
     (subst (λ r. ArePlacedLines r source.kind (follow_up source.kind) source.spacing ts lines.items) c.of-room.ensures h)) c.place.result c.place.ensures
