@@ -15,9 +15,10 @@ use Rattle.mad_fit.proofs.UniqueLemmas.{all_unique}
 use Rattle.mad_layout.specs.Bounds.{is_blank_token, are_starts_from, are_starts}
 use Rattle.mad_layout.specs.Breaks.{Piece, joined, total_width, AllBlank, FitsFrom, FittingBreak, EndsWithLine}
 use Rattle.mad_layout.specs.CleanCut.{fits_behind, both_fit, is_white, clean_cut, is_cut_clean}
-use Rattle.mad_layout.specs.LeastBound.{IsBound, IsAttained, AreChecked, dropped_at_end, drops_code, AreStartsOf}
+use Rattle.mad_layout.specs.LeastBound.{IsBound, IsAttained, AreChecked, drops_code, AreStartsOf}
 use Rattle.mad_layout.specs.LeastWrap.{AreTokensIn}
-use Rattle.mad_layout.specs.PlacedLines.{TokensHaveRoom, starts_from, dropped_from, ArePlacedStarts, IsFirstPast, AreCutStarts}
+use Rattle.mad_layout.specs.LineStarts.{starts_of}
+use Rattle.mad_layout.specs.PlacedLines.{TokensHaveRoom, ArePlacedStarts, IsFirstPast, AreCutStarts}
 use Rattle.mad_layout.specs.Wraps.{HasRoom, LinesFit, AreFull}
 use Rattle.mad_layout.specs.declared.room.Room.{Room}
 use Rattle.mad_layout.proofs.BoundLemmas.{bound, total_width-append, eq_from_test}
@@ -25,6 +26,7 @@ use Rattle.mad_layout.proofs.CutLemmas.{le_from_test}
 use Rattle.mad_layout.proofs.KeepLemmas.{width_is}
 use Rattle.mad_layout.proofs.CheckerSteps.{step_true, none_left}
 use Rattle.mad_layout.proofs.StartsOfLemmas.{full_starts, ClosedBreak, closed, length-starts, fits_back}
+use Rattle.mad_layout.proofs.PlacingLemmas.{one_placing}
 use Rattle.mad_layout.proofs.WrapLemmas.{room_for_tokens, total_is}
 
 -- a single start is 0
@@ -50,21 +52,6 @@ closed_break r ts ps some covers fits room = closed r.first r ps some fits (subs
 fitting_of : (r : Room) (ts : List Token) (ps : List (Piece Token)) → joined ps ≡ ts → (c : ClosedBreak r.first r ps) → FittingBreak r ts c.breaks
 fitting_of r ts ps covers c = record { some_line = c.some_line; covers = c.covers ∙ covers; fits = c.fits }
 
--- as many starts as lines, and one more where blanks are dropped at the end
-count_is : (r : Room) (ps : List Compound) (ts : List Token) (n : ℕ) (lines : List (List FlaggedChar)) (full : AreFull r ts lines) → AreTokensIn r ps ts → TokensHaveRoom r ts → LinesFit r.first r lines
-    → ((breaks : List (Piece Token)) → FittingBreak r ts breaks → EndsWithLine breaks → n ≤ length breaks) → ((breaks : List (Piece Token)) × FittingBreak r ts breaks × EndsWithLine breaks × (length breaks ≡ n))
-    → n ≡ length lines + dropped_at_end full.placed.pieces
-count_is r ps ts n lines full tokens room fit low (breaks, fitting, ends, size) =
-    let h = full.placed in
-    let max = r.width - r.first in
-    let honest = subst (AllByRecursion (IsHonest max)) (sym h.covers) (all_honest max ps ts tokens) in
-    let fits = fits_back max r.first r h.pieces honest h.gaps (subst (LinesFit r.first r) (sym h.texts) fit) in
-    let c = closed_break r ts h.pieces h.some_line h.covers fits room in
-    let upper = low c.breaks (fitting_of r ts h.pieces h.covers c) c.ends in
-    let lower = bound r ts (starts_from 0 h.pieces ++ dropped_from 0 h.pieces) (full_starts r ts h.pieces h.some_line h.covers h.gaps full.forced room) breaks fitting ends in
-    let as_many : length h.pieces ≡ length lines = sym (length-map {B = List FlaggedChar} h.pieces (λ p. tokens_text p.line)) ∙ ap length h.texts in
-    omega (arith, upper, lower, c.count, length-starts h.pieces, as_many, size)
-
 pub placed_starts_of : (r : Room) (ps : List Compound) (ts : List Token) (starts : List ℕ) → r.other ≤ r.first → AreTokensIn r ps ts → clean_cut r ps ≡ None → ArePlacedStarts r ts starts → HasRoom r (flagged_text ps) → AreStartsOf r ps starts
 placed_starts_of r ps ts starts lower tokens uncut h space =
     let max = r.width - r.first in
@@ -74,11 +61,15 @@ placed_starts_of r ps ts starts lower tokens uncut h space =
     let c = closed_break r ts h.pieces h.some_line h.covers (h.fits room) room in
     let size : length c.breaks ≡ length starts = omega (arith, c.count, length-starts h.pieces, ap length are) in
     let checked : (us : List Token) → AreTokensIn r ps us → are_starts r us starts ≡ true = λ us others. subst (λ (x : List Token). are_starts r x starts ≡ true) (all_unique max ps ts us tokens others) passes in
-    let attained : IsAttained r ps (length starts) = λ us others. (c.breaks, subst (λ (x : List Token). FittingBreak r x c.breaks) (all_unique max ps ts us tokens others) (fitting_of r ts h.pieces h.covers c), c.ends, size) in
+    let attained : IsAttained r ps (length starts) = (ts, tokens, c.breaks, fitting_of r ts h.pieces h.covers c, c.ends, size) in
     let low : IsBound r ps (length starts) = λ us others breaks fits ends. bound r us starts (checked us others) breaks fits ends in
     record {
       attained = λ _. attained;
-      lines = λ _ us others lines full fit. count_is r ps us (length starts) lines full others (room_for_tokens r ps us lower others space) fit (low us others) (attained us others);
+      lines = λ _ us others lines full.
+          let same = all_unique max ps us ts others tokens in
+          let placed = full.placed in
+          are ∙ ap starts_of (one_placing r ts h.pieces placed.pieces h.some_line placed.some_line
+          (record { gaps = h.gaps; forced = h.forced; within = h.within }) (record { gaps = placed.gaps; forced = full.forced; within = full.within }) (h.covers ∙ sym (placed.covers ∙ same)));
       cut = λ on. absurd (let off : is_cut_clean r ps ≡ false = ap is_some uncut in cc);
       whole = λ fits. one_start r ts starts passes (low ts tokens (record { line = ts; gap = [] } ∷ []) (one_line_break r ts (omega (arith, fits, total_is r ps ts tokens))) refl);
     }
@@ -176,12 +167,7 @@ unfolding TwoLines
 cut_starts_of r ps ts starts lower tokens on (inl (fits, are)) space =
     let max = r.width - r.first in
     record {
-      attained = λ _ us others. (
-        record { line = us; gap = [] } ∷ [],
-        one_line_break r us (subst (λ (x : List Token). r.first + total_width x ≤ r.width) (all_unique max ps ts us tokens others) fits),
-        refl,
-        ap length (sym are),
-      );
+      attained = λ _. (ts, tokens, record { line = ts; gap = [] } ∷ [], one_line_break r ts fits, refl, ap length (sym are));
       lines = λ off. absurd (cc);
       cut = λ _ wide. absurd (omega (arith, fits, wide, total_is r ps ts tokens));
       whole = λ _. are;
@@ -192,7 +178,7 @@ cut_starts_of r ps ts starts lower tokens on (inr (i, past, is, none)) space =
     let some = some_past r ts i past room in
     let are : starts ≡ 0 ∷ i ∷ [] = is some in
     record {
-      attained = λ off us others. let two = cut_break r ps us on off others in (two.0, two.1, two.2, two.3 ∙ ap length (sym are));
+      attained = λ off. let two = cut_break r ps ts on off tokens in (ts, tokens, two.0, two.1, two.2, two.3 ∙ ap length (sym are));
       lines = λ off. absurd (cc);
       cut = λ _ _ us others. (i, are, subst (λ (x : List Token). r.first + total_width (take i x) ≤ r.width) (all_unique max ps ts us tokens others) (past.before space.first));
       whole = λ fits. absurd (omega (arith, past.passes, fits, total_is r ps ts tokens, total_take-le (i + 1) ts));

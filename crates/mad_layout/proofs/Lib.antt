@@ -14,6 +14,7 @@ pub mod Least
 pub mod MeasureLemmas
 pub mod PieceLemmas
 pub mod PlaceLemmas
+pub mod PlacingLemmas
 pub mod RowLemmas
 pub mod ShownLemmas
 pub mod StartLemmas

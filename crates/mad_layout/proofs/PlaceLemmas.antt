@@ -13,7 +13,7 @@ use Rattle.mad_layout.specs.Breaks.{Piece, joined, total_width, AllBlank, FitsFr
 use Rattle.mad_layout.specs.LineRoom.{left_of, fits_in, taken}
 use Rattle.mad_layout.proofs.Greedy.{Placing, begin_line, place_by, place, place_all}
 use Rattle.mad_layout.specs.PlacedLines.{HoldsTokens, HoldPieces, TokensHaveRoom, SomeOnEach, ArePlacedLines}
-use Rattle.mad_layout.specs.Wraps.{capped, GapsForced, BeginsAfter, LinesForced}
+use Rattle.mad_layout.specs.Wraps.{capped, GapsForced, BeginsAfter, LinesForced, LinesWithin}
 use Rattle.mad_layout.specs.declared.room.Room.{Room}
 use Rattle.mad_layout.specs.declared.composite.FmtComposite.{FmtComposite}
 
@@ -21,6 +21,11 @@ use Rattle.mad_layout.specs.declared.composite.FmtComposite.{FmtComposite}
 abbrev pub next_indent : Room → List (Piece Token) → ℕ
 next_indent r [] = r.first
 next_indent r (p ∷ ps) = r.other
+
+-- the tokens that stand on that line at any width
+abbrev pub next_placed : List (Piece Token) → ℕ
+next_placed [] = 0
+next_placed (p ∷ ps) = 1
 
 abbrev pub next_kind : CompositeKind → CompositeKind → List (Piece Token) → CompositeKind
 next_kind k o [] = k
@@ -39,6 +44,8 @@ pub record Shape (r : Room) (ts : List Token) (left : Option ℕ) (ended : Bool)
   pub forced_here : (t : Token) (others : List Token) → gap ≡ t ∷ others → r.width < next_indent r pieces + total_width tokens + t.width
   pub forced : LinesForced r.first r (pieces ++ record { line = tokens; gap = gap } ∷ [])
   pub left_is : left ≡ left_of r.width (next_indent r pieces + total_width tokens)
+  pub within : LinesWithin 0 r.first r pieces
+  pub within_here : next_placed pieces < length tokens → next_indent r pieces + total_width tokens ≤ r.width
   pub fits : TokensHaveRoom r ts → FitsFrom r.first r pieces
   pub line_fits : TokensHaveRoom r ts → next_indent r pieces + total_width tokens ≤ r.width
   pub some : TokensHaveRoom r ts → SomeOnEach pieces
@@ -74,6 +81,14 @@ pub fit_push : (r : Room) (ps : List (Piece Token)) (p : Piece Token) → FitsFr
 fit_push r [] p h l b = (l, b, tt)
 fit_push r (q ∷ ps) p h l b = (h.0, h.1, fit_from_other r ps p h.2 l b)
 
+within_from_other : (r : Room) (ps : List (Piece Token)) (p : Piece Token) → LinesWithin 1 r.other r ps → (1 < length p.line → r.other + total_width p.line ≤ r.width) → LinesWithin 1 r.other r (ps ++ p ∷ [])
+within_from_other r [] p h l = (l, tt)
+within_from_other r (q ∷ ps) p h l = (h.0, within_from_other r ps p h.1 l)
+
+pub within_push : (r : Room) (ps : List (Piece Token)) (p : Piece Token) → LinesWithin 0 r.first r ps → (next_placed ps < length p.line → next_indent r ps + total_width p.line ≤ r.width) → LinesWithin 0 r.first r (ps ++ p ∷ [])
+within_push r [] p h l = (l, tt)
+within_push r (q ∷ ps) p h l = (h.0, within_from_other r ps p h.1 l)
+
 forced_from_other : (r : Room) (ps : List (Piece Token)) (p : Piece Token) → GapsForced r.other r ps → AllBlank p.gap
     → ((t : Token) (others : List Token) → p.gap ≡ t ∷ others → r.width < r.other + total_width p.line + t.width) → GapsForced r.other r (ps ++ p ∷ [])
 forced_from_other r [] p h b l = (b, l, tt)
@@ -101,6 +116,10 @@ holds_push r k o sp (q ∷ ps) (m ∷ ls) p l h g = (h.0, holds_from_other o r.o
 pub next_indent-push : (r : Room) (ps : List (Piece Token)) (p : Piece Token) → next_indent r (ps ++ p ∷ []) ≡ r.other
 next_indent-push r [] p = refl
 next_indent-push r (q ∷ ps) p = refl
+
+pub next_placed-push : (ps : List (Piece Token)) (p : Piece Token) → next_placed (ps ++ p ∷ []) ≡ 1
+next_placed-push [] p = refl
+next_placed-push (q ∷ ps) p = refl
 
 next_kind-push : (k o : CompositeKind) (ps : List (Piece Token)) (p : Piece Token) → next_kind k o (ps ++ p ∷ []) ≡ o
 next_kind-push k o [] p = refl
@@ -245,6 +264,8 @@ shape_start r = record {
   forced_here = λ t others e. absurd (cc);
   forced = tt;
   left_is = ap (left_of r.width) (omega arith);
+  within = tt;
+  within_here = λ l. absurd (omega arith);
   fits = λ _. tt;
   line_fits = λ h. omega (arith, h.first);
   some = λ _. tt;
@@ -270,6 +291,8 @@ shape_fits r ts t left h fits =
       forced_here = λ t others e. absurd (cc);
       forced = lines_grow r.first r h.pieces h.tokens h.gap (t ∷ []) [] h.forced;
       left_is = ap (λ l. taken l t.width) h.left_is ∙ within.1 ∙ ap (left_of r.width) more;
+      within = h.within;
+      within_here = λ _. omega (arith, within.0, more);
       fits = λ room. h.fits (room_front r ts (t ∷ []) room);
       line_fits = λ room. omega (arith, within.0, more);
       some = λ room. h.some (room_front r ts (t ∷ []) room);
@@ -289,6 +312,8 @@ shape_ends r ts t left ended h blank why = record {
   forced_here = forced_more r ended left (next_indent r h.pieces + total_width h.tokens) h.gap t h.left_is h.no_gap h.some_gap h.forced_here why;
   forced = subst (λ l. LinesForced r.first r (h.pieces ++ record { line = l; gap = h.gap ++ t ∷ [] } ∷ [])) (append-nil h.tokens) (lines_grow r.first r h.pieces h.tokens h.gap [] (h.gap ++ t ∷ []) h.forced);
   left_is = h.left_is;
+  within = h.within;
+  within_here = h.within_here;
   fits = λ room. h.fits (room_front r ts (t ∷ []) room);
   line_fits = λ room. h.line_fits (room_front r ts (t ∷ []) room);
   some = λ room. h.some (room_front r ts (t ∷ []) room);
@@ -314,6 +339,8 @@ shape_begins r ts t left ended h solid why =
       forced = lines_push r h.pieces p q h.forced
           (record { first = t; others = []; begins = refl; solid = solid; passes = passes_gap r ended left (next_indent r h.pieces + total_width h.tokens) h.gap t h.left_is h.some_gap h.forced_here why });
       left_is = ap (left_of r.width) (omega (arith, indent));
+      within = within_push r h.pieces p h.within h.within_here;
+      within_here = λ l. absurd (omega (arith, l, next_placed-push h.pieces p));
       fits = λ room. let before = room_front r ts (t ∷ []) room in fit_push r h.pieces p (h.fits before) (h.line_fits before) h.gap_blank;
       line_fits = λ room. omega (arith, indent, room_last r ts t room, room.other);
       some = λ room.
@@ -367,6 +394,7 @@ placed_all r k o sp ts lines new line left ended h pushed least =
       covers = joined-push s.pieces p ∙ s.covers;
       gaps = forced_push r s.pieces p s.gaps s.gap_blank s.forced_here;
       forced = s.forced;
+      within = within_push r s.pieces p s.within s.within_here;
       holds = subst (HoldPieces k o r.first r.other sp (s.pieces ++ p ∷ [])) (sym pushed) (holds_push r k o sp s.pieces lines p line h.holds h.holds_line);
       fits = λ room. fit_push r s.pieces p (s.fits room) (s.line_fits room) s.gap_blank;
       some = λ room there. all_push (λ (q : Piece Token). 0 < length q.line) s.pieces p (s.some room) (s.some_here room there);

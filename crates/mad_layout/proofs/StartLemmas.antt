@@ -6,13 +6,14 @@ use Rattle.std.specs.Option.{option_or}
 use Rattle.mad_fit.specs.declared.tokens.Token.{Token}
 use Rattle.mad_layout.specs.Breaks.{Piece, joined, total_width}
 use Rattle.mad_layout.specs.LineRoom.{left_of, fits_in, taken}
-use Rattle.mad_layout.specs.PlacedLines.{TokensHaveRoom, starts_from, dropped_after, dropped_from, ArePlacedStarts}
+use Rattle.mad_layout.specs.LineStarts.{starts_from, dropped_after, dropped_from}
+use Rattle.mad_layout.specs.PlacedLines.{TokensHaveRoom, ArePlacedStarts}
 use Rattle.mad_layout.specs.declared.room.Room.{Room}
 use Rattle.mad_layout.specs.Bounds.{are_starts_from, are_starts}
 use Rattle.mad_layout.specs.Wraps.{LinesForced}
 use Rattle.mad_layout.proofs.BoundLemmas.{total_width-append}
 use Rattle.mad_layout.proofs.CheckerSteps.{start_after}
-use Rattle.mad_layout.proofs.PlaceLemmas.{next_indent-push, passes_gap, Shape, shape_start, shape_fits, shape_ends, shape_begins, fits_within, passes_width, total_width-push, joined-push, fit_push, forced_push, some_before, room_front, room_last, next_indent}
+use Rattle.mad_layout.proofs.PlaceLemmas.{next_indent-push, passes_gap, Shape, shape_start, shape_fits, shape_ends, shape_begins, fits_within, passes_width, total_width-push, joined-push, fit_push, forced_push, within_push, some_before, room_front, room_last, next_indent}
 
 starts_from-push : (n : ℕ) (ps : List (Piece Token)) (p : Piece Token) → starts_from n (ps ++ p ∷ []) ≡ starts_from n ps ++ (n + length (joined ps)) ∷ []
 starts_from-push n [] p = ap (λ m. m ∷ []) (omega arith)
@@ -242,6 +243,7 @@ starts_all r ts left dropped starts all h none some =
       covers = joined-push s.pieces p ∙ s.covers;
       gaps = forced_push r s.pieces p s.gaps s.gap_blank s.forced_here;
       forced = s.forced;
+      within = within_push r s.pieces p s.within s.within_here;
       fits = λ room. fit_push r s.pieces p (s.fits room) (s.line_fits room) s.gap_blank;
       starts_are = by dropped refl;
       checked = λ o. end_checked r ts left dropped starts all h none some o;

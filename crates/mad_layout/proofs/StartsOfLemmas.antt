@@ -9,8 +9,8 @@ use Rattle.mad_fit.proofs.AllLemmas.{all_front, all_back}
 use Rattle.mad_fit.proofs.TokenTexts.{IsHonest}
 use Rattle.mad_layout.specs.Bounds.{are_starts_from, are_starts}
 use Rattle.mad_layout.specs.Breaks.{Piece, joined, total_width, AllBlank, FitsFrom, EndsWithLine}
-use Rattle.mad_layout.specs.LeastBound.{dropped_at_end}
-use Rattle.mad_layout.specs.PlacedLines.{TokensHaveRoom, SomeOnEach, starts_from, dropped_after, dropped_from}
+use Rattle.mad_layout.specs.LineStarts.{starts_from, dropped_after, dropped_from, starts_of}
+use Rattle.mad_layout.specs.PlacedLines.{TokensHaveRoom, SomeOnEach}
 use Rattle.mad_layout.specs.Wraps.{GapsForced, LinesForced, LinesFit}
 use Rattle.mad_layout.specs.declared.room.Room.{Room}
 use Rattle.mad_layout.proofs.BoundLemmas.{total_width-append}
@@ -80,6 +80,12 @@ full_starts r (t ∷ ts) (p ∷ ps) some covers gaps forced room =
     full_from r.first r (t ∷ ts) [] p ps 0 (sym covers) refl gaps forced (here, later_some r.first r p ps forced)
 
 -- ---- a break with as many lines
+
+-- one where a last line has blanks dropped after it, none else
+abbrev pub dropped_at_end : List (Piece Token) → ℕ
+dropped_at_end [] = 0
+dropped_at_end (p ∷ []) = if length p.gap == 0 then 0 else 1
+dropped_at_end (p ∷ q ∷ ps) = dropped_at_end (q ∷ ps)
 
 split_last : (x : Token) (xs : List Token) → (front : List Token) × (last : Token) × (front ++ last ∷ [] ≡ x ∷ xs)
 split_last x [] = ([], x, refl)

@@ -91,7 +91,7 @@ placed_wrap r skin source ts lines wide uncut tokens h =
           subst (λ x. IsLeastBreak r ps x lines) same (record {
             parts = parts_are ps ts [] k o r.first r.other sp h.pieces lines h.holds h.covers;
             placed = λ _. record { pieces = h.pieces; some_line = h.some_line; covers = h.covers; texts = texts; gaps = h.gaps };
-            full = λ _. record { placed = record { pieces = h.pieces; some_line = h.some_line; covers = h.covers; texts = texts; gaps = h.gaps }; forced = h.forced };
+            full = λ _. record { placed = record { pieces = h.pieces; some_line = h.some_line; covers = h.covers; texts = texts; gaps = h.gaps }; forced = h.forced; within = h.within };
             one_by_one = λ _. runs_are k o r.first r.other sp h.pieces lines h.holds;
             least = λ breaks fitting _. h.least breaks fitting;
             least_dropping = λ _ breaks fitting. h.least breaks fitting;

@@ -1,5 +1,5 @@
 -- How many lines each fitting break that ends with its last line has at least, and that some has no more.
-use Rattle.std.specs.Prelude.{◌≡◌, ℕ, ◌+◌, ◌≤◌, ◌<◌, ◌==◌, ◌&&◌, Bool, true, false, if◌then◌else◌, List, [], ◌∷◌, length, take}
+use Rattle.std.specs.Prelude.{◌≡◌, ℕ, ◌+◌, ◌≤◌, ◌<◌, ◌&&◌, Bool, true, false, List, [], ◌∷◌, length, take}
 use Rattle.mad_md.specs.Flagged.{FlaggedChar, flagged_text}
 use Rattle.mad_md.specs.declared.compound.Compound.{Compound}
 use Rattle.mad_fit.specs.declared.tokens.Token.{Token}
@@ -8,22 +8,17 @@ use Rattle.mad_layout.specs.Bounds.{are_starts}
 use Rattle.mad_layout.specs.Breaks.{Piece, FittingBreak, EndsWithLine, total_width}
 use Rattle.mad_layout.specs.CleanCut.{is_cut_clean}
 use Rattle.mad_layout.specs.LeastWrap.{AreTokensIn}
-use Rattle.mad_layout.specs.Wraps.{AreFull, LinesFit}
+use Rattle.mad_layout.specs.LineStarts.{starts_of}
+use Rattle.mad_layout.specs.Wraps.{AreFull}
 use Rattle.mad_layout.specs.declared.room.Room.{Room}
 
 -- each fitting break of the compounds' tokens that ends with its last line has at least n lines
 abbrev pub IsBound : Room → List Compound → ℕ → Type 0
 IsBound r ps n = (ts : List Token) → AreTokensIn r ps ts → (breaks : List (Piece Token)) → FittingBreak r ts breaks → EndsWithLine breaks → n ≤ length breaks
 
--- one has just so many
+-- there are tokens, and a break of them, with just so many
 abbrev pub IsAttained : Room → List Compound → ℕ → Type 0
-IsAttained r ps n = (ts : List Token) → AreTokensIn r ps ts → (breaks : List (Piece Token)) × FittingBreak r ts breaks × EndsWithLine breaks × (length breaks ≡ n)
-
--- one where a last line has blanks dropped after it, none else
-abbrev pub dropped_at_end : List (Piece Token) → ℕ
-dropped_at_end [] = 0
-dropped_at_end (p ∷ []) = if length p.gap == 0 then 0 else 1
-dropped_at_end (p ∷ q ∷ ps) = dropped_at_end (q ∷ ps)
+IsAttained r ps n = (ts : List Token) × AreTokensIn r ps ts × (breaks : List (Piece Token)) × FittingBreak r ts breaks × EndsWithLine breaks × (length breaks ≡ n)
 
 -- a clean cut drops a middle in code
 abbrev pub drops_code : Room → List Compound → Bool
@@ -34,13 +29,12 @@ drops_code r _ = false
 abbrev pub AreChecked : Room → List Compound → List ℕ → Type 0
 AreChecked r ps starts = (ts : List Token) → AreTokensIn r ps ts → are_starts r ts starts ≡ true
 
--- The starts of the lines of a wrap of the compounds, where each character has room.
+-- The starts of the lines of a wrap of the compounds, where each character has room; of a text that is cut clean, the starts of a bound.
 pub record AreStartsOf (r : Room) (ps : List Compound) (starts : List ℕ) : Type 0 where
   -- some fitting break has just so many lines, but where a clean cut drops a middle in code
   pub attained : drops_code r ps ≡ false → IsAttained r ps (length starts)
-  -- there are as many as lines, and one more where blanks are dropped after the last
-  pub lines : is_cut_clean r ps ≡ false → (ts : List Token) → AreTokensIn r ps ts → (lines : List (List FlaggedChar)) → (full : AreFull r ts lines) → LinesFit r.first r lines
-      → length starts ≡ length lines + dropped_at_end full.placed.pieces
+  -- they are the starts of the lines of the placing
+  pub lines : is_cut_clean r ps ≡ false → (ts : List Token) → AreTokensIn r ps ts → (lines : List (List FlaggedChar)) → (full : AreFull r ts lines) → starts ≡ starts_of full.placed.pieces
   -- in a clean cut of a text that doesn't fit, there are two, and the tokens before the second fit on the first line
   pub cut : is_cut_clean r ps ≡ true → r.width < r.first + width_of (flagged_text ps) → (ts : List Token) → AreTokensIn r ps ts → (i : ℕ) × (starts ≡ 0 ∷ i ∷ []) × (r.first + total_width (take i ts) ≤ r.width)
   -- a text that fits has one

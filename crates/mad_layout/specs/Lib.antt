@@ -11,6 +11,7 @@ pub mod Layouts
 pub mod LeastBound
 pub mod LeastWrap
 pub mod LineRoom
+pub mod LineStarts
 pub mod Lines
 pub mod Pieces
 pub mod PlacedLines

@@ -1,5 +1,5 @@
 -- Lines that hold tokens, for the private calls that place them.
-use Rattle.std.specs.Prelude.{◌≡◌, ℕ, true, ◌+◌, ◌<◌, ◌≤◌, ◌⊎◌, ◌==◌, if◌then◌else◌, List, [], ◌∷◌, ◌++◌, map, length, take, Option, None}
+use Rattle.std.specs.Prelude.{◌≡◌, ℕ, true, ◌+◌, ◌<◌, ◌≤◌, ◌⊎◌, List, [], ◌∷◌, ◌++◌, map, length, take, Option, None}
 use Rattle.std.specs.List.{AllByRecursion}
 use Rattle.std.specs.Str.{IsUtf8}
 use Rattle.mad_md.specs.Flagged.{run_of, flagged_of}
@@ -13,7 +13,8 @@ use Rattle.mad_layout.specs.declared.room.Room.{Room}
 use Rattle.mad_layout.specs.declared.composite.FmtComposite.{FmtComposite}
 use Rattle.mad_layout.specs.Bounds.{are_starts}
 use Rattle.mad_layout.specs.Breaks.{Piece, joined, total_width, FitsFrom, FittingBreak}
-use Rattle.mad_layout.specs.Wraps.{capped, GapsForced, LinesForced}
+use Rattle.mad_layout.specs.LineStarts.{starts_of}
+use Rattle.mad_layout.specs.Wraps.{capped, GapsForced, LinesForced, LinesWithin}
 
 -- the line holds these tokens, behind an indent
 pub record HoldsTokens (kind : CompositeKind) (indent : ℕ) (spacing : Option Spacing) (ts : List Token) (l : FmtComposite) : Type 0 where
@@ -47,6 +48,7 @@ pub record ArePlacedLines (r : Room) (kind other : CompositeKind) (spacing : Opt
   pub covers : joined pieces ≡ ts
   pub gaps : GapsForced r.first r pieces
   pub forced : LinesForced r.first r pieces
+  pub within : LinesWithin 0 r.first r pieces
   pub holds : HoldPieces kind other r.first r.other spacing pieces lines
   pub fits : TokensHaveRoom r ts → FitsFrom r.first r pieces
   pub some : TokensHaveRoom r ts → 0 < length ts → SomeOnEach pieces
@@ -69,20 +71,6 @@ pub record AreTwoLines (r : Room) (kind other : CompositeKind) (spacing : Option
   pub holds_first : HoldsCompound kind r.first spacing front first
   pub holds_second : HoldsCompound other r.other spacing back second
 
--- the numbers of the tokens that begin the lines of pieces, the first of which begins at the n-th token
-abbrev pub starts_from : ℕ → List (Piece Token) → List ℕ
-starts_from n [] = []
-starts_from n (p ∷ ps) = n ∷ starts_from (n + (length p.line + length p.gap)) ps
-
--- the number of the first token that is dropped after a last line which begins at the n-th token, if one is
-abbrev pub dropped_after : ℕ → Piece Token → List ℕ
-dropped_after n p = if length p.gap == 0 then [] else (n + length p.line) ∷ []
-
-abbrev pub dropped_from : ℕ → List (Piece Token) → List ℕ
-dropped_from n [] = []
-dropped_from n (p ∷ []) = dropped_after n p
-dropped_from n (p ∷ q ∷ ps) = dropped_from (n + (length p.line + length p.gap)) (q ∷ ps)
-
 -- these tokens begin the lines of a placing, and the last is the first that is dropped at its end, if one is
 pub record ArePlacedStarts (r : Room) (ts : List Token) (starts : List ℕ) : Type 0 where
   pub pieces : List (Piece Token)
@@ -90,8 +78,9 @@ pub record ArePlacedStarts (r : Room) (ts : List Token) (starts : List ℕ) : Ty
   pub covers : joined pieces ≡ ts
   pub gaps : GapsForced r.first r pieces
   pub forced : LinesForced r.first r pieces
+  pub within : LinesWithin 0 r.first r pieces
   pub fits : TokensHaveRoom r ts → FitsFrom r.first r pieces
-  pub starts_are : TokensHaveRoom r ts → starts ≡ starts_from 0 pieces ++ dropped_from 0 pieces
+  pub starts_are : TokensHaveRoom r ts → starts ≡ starts_of pieces
   pub checked : r.other ≤ r.first → are_starts r ts starts ≡ true
 
 -- the first token with which the tokens from the first on pass the first line, if one is

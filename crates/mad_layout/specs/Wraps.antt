@@ -84,7 +84,13 @@ LinesForced indent r [] = Unit {0}
 LinesForced indent r (p ∷ []) = Unit {0}
 LinesForced indent r (p ∷ q ∷ ps) = BeginsAfter indent r p q × LinesForced r.other r (q ∷ ps)
 
--- The tokens stand on these lines, and no line ends before it must.
+-- each line fits, or has no more than so many tokens: none on the first line, and on another the one that it begins with
+abbrev pub LinesWithin : ℕ → ℕ → Room → List (Piece Token) → Type 0
+LinesWithin placed indent r [] = Unit {0}
+LinesWithin placed indent r (p ∷ ps) = (placed < length p.line → indent + total_width p.line ≤ r.width) × LinesWithin 1 r.other r ps
+
+-- The tokens stand on these lines, no line ends before it must, and none goes on past the width. There is one such placing.
 pub record AreFull (r : Room) (ts : List Token) (lines : List (List FlaggedChar)) : Type 0 where
   pub placed : ArePlaced r ts lines
   pub forced : LinesForced r.first r placed.pieces
+  pub within : LinesWithin 0 r.first r placed.pieces

@@ -48,6 +48,7 @@ pub use Rattle.mad_layout.specs.Layouts
 pub use Rattle.mad_layout.specs.LeastBound
 pub use Rattle.mad_layout.specs.LeastWrap
 pub use Rattle.mad_layout.specs.LineRoom
+pub use Rattle.mad_layout.specs.LineStarts
 pub use Rattle.mad_layout.specs.Lines as LayoutLines
 pub use Rattle.mad_layout.specs.Pieces
 pub use Rattle.mad_layout.specs.PlacedLines
