@@ -25,7 +25,7 @@ use Rattle.mad_layout.proofs.BoundLemmas.{bound, total_width-append, eq_from_tes
 use Rattle.mad_layout.proofs.CutLemmas.{le_from_test}
 use Rattle.mad_layout.proofs.KeepLemmas.{width_is}
 use Rattle.mad_layout.proofs.CheckerSteps.{step_true, none_left}
-use Rattle.mad_layout.proofs.StartsOfLemmas.{full_starts, ClosedBreak, closed, length-starts, fits_back}
+use Rattle.mad_layout.proofs.ClosedBreaks.{ClosedBreak, closed, length-starts}
 use Rattle.mad_layout.proofs.PlacingLemmas.{one_placing}
 use Rattle.mad_layout.proofs.WrapLemmas.{room_for_tokens, total_is}
 

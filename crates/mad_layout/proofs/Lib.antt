@@ -2,6 +2,7 @@ pub mod AreaLemmas
 pub mod BoundLemmas
 pub mod BoundOfLemmas
 pub mod CheckerSteps
+pub mod ClosedBreaks
 pub mod CutLemmas
 pub mod DrawableLemmas
 pub mod DrawnLayouts
@@ -18,6 +19,5 @@ pub mod PlacingLemmas
 pub mod RowLemmas
 pub mod ShownLemmas
 pub mod StartLemmas
-pub mod StartsOfLemmas
 pub mod WholeTokens
 pub mod WrapLemmas

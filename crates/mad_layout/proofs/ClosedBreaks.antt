@@ -1,4 +1,4 @@
--- The starts of placed lines pass the checker, and there are as many as lines.
+-- A break that ends with a line, of as many lines as pieces have starts.
 use Rattle.std.proofs.Common.{◌≡◌, ℕ, ◌≤◌, ◌<◌, ◌+◌, ◌==◌, Bool, true, false, if◌then◌else◌, List, [], ◌∷◌, ◌++◌, map, length, refl, sym, ap, ◌∙◌, arith, subst, append-nil, append_assoc, inl, inr}
 use Rattle.std.proofs.lemmas.Bool.Decides.{nat_tests}
 use Rattle.std.proofs.lemmas.List.{length-append, nil_from_length}
@@ -17,67 +17,6 @@ use Rattle.mad_layout.proofs.BoundLemmas.{total_width-append}
 use Rattle.mad_layout.proofs.CheckerSteps.{start_after}
 use Rattle.mad_layout.proofs.KeepLemmas.{width_is, line_of, rest_of}
 use Rattle.mad_layout.proofs.StartLemmas.{dropped_none, dropped_some}
-
--- the starts of these pieces, from the second on, and of what is dropped at the end
-full_from : (i : ℕ) (r : Room) (ts pre : List Token) (p : Piece Token) (ps : List (Piece Token)) (s : ℕ) → ts ≡ pre ++ joined (p ∷ ps) → s ≡ length pre → GapsForced i r (p ∷ ps) → LinesForced i r (p ∷ ps) → SomeOnEach (p ∷ ps)
-    → are_starts_from i r ts s (starts_from (s + (length p.line + length p.gap)) ps ++ dropped_from s (p ∷ ps)) ≡ true
-full_from i r ts pre p [] s joins from gaps forced some =
-    let by : (gap : List Token) → p.gap ≡ gap → are_starts_from i r ts s (dropped_after s p) ≡ true =
-    λ gap. elim gap as (λ gap. p.gap ≡ gap → are_starts_from i r ts s (dropped_after s p) ≡ true) [
-      | [] ↦ λ e. ap (are_starts_from i r ts s) (dropped_none s p e)
-      | g ∷ gs ↦ λ e.
-          let there : 0 < length p.gap = omega (arith, ap length e) in
-          let all : ts ≡ pre ++ (p.line ++ g ∷ (gs ++ [])) = joins ∙ ap (λ l. pre ++ (p.line ++ (l ++ []))) e in
-          ap (are_starts_from i r ts s) (dropped_some s p there)
-          ∙ start_after i r ts pre p.line (gs ++ []) g [] s (s + length p.line) all from refl some.0 (gaps.1 g gs e) (inl refl) refl
-    ] in
-    by p.gap refl
-full_from i r ts pre p (q ∷ qs) s joins from gaps forced some =
-    let t = forced.0.first in
-    let n = s + (length p.line + length p.gap) in
-    let mid = p.line ++ p.gap in
-    let rest = forced.0.others ++ (q.gap ++ joined qs) in
-    let size = length-append p.line p.gap in
-    let all : ts ≡ pre ++ (mid ++ t ∷ rest) =
-    joins ∙ ap (λ l. pre ++ l) (sym (append_assoc p.line p.gap (joined (q ∷ qs)))) ∙ ap (λ l. pre ++ (mid ++ (l ++ (q.gap ++ joined qs)))) forced.0.begins in
-    let again : ts ≡ (pre ++ mid) ++ joined (q ∷ qs) =
-    joins ∙ ap (λ l. pre ++ l) (sym (append_assoc p.line p.gap (joined (q ∷ qs)))) ∙ sym (append_assoc pre mid (joined (q ∷ qs))) in
-    let more = full_from r.other r ts (pre ++ mid) q qs n again (omega (arith, from, size, length-append pre mid)) gaps.2 forced.1 some.1 in
-    start_after i r ts pre mid rest t _ s n all from (omega (arith, size)) (omega (arith, size, some.0)) (omega (arith, forced.0.passes, total_width-append p.line p.gap)) (inr forced.0.solid) more
-
--- lines after the first have a token
-later_some : (i : ℕ) (r : Room) (p : Piece Token) (ps : List (Piece Token)) → LinesForced i r (p ∷ ps) → SomeOnEach ps
-later_some i r p [] h = tt
-later_some i r p (q ∷ qs) h = (omega (arith, ap length h.0.begins), later_some r.other r q qs h.1)
-
--- with room, and where there are tokens, so has the first
-first_some : (r : Room) (line gap : List Token) (ps : List (Piece Token)) → 0 < length (joined (record { line = line; gap = gap } ∷ ps)) → GapsForced r.first r (record { line = line; gap = gap } ∷ ps) → LinesForced r.first r (record { line = line; gap = gap } ∷ ps)
-    → AllByRecursion (λ t. r.first + t.width ≤ r.width) (joined (record { line = line; gap = gap } ∷ ps)) → 0 < length line
-first_some r (x ∷ line) gap ps there gaps forced room = omega arith
-first_some r [] (g ∷ gs) ps there gaps forced room = absurd (omega (arith, gaps.1 g gs refl, room.0))
-first_some r [] [] [] there gaps forced room = absurd (omega arith)
-first_some r [] [] (q ∷ qs) there gaps forced room =
-    let here : AllByRecursion (λ t. r.first + t.width ≤ r.width) (forced.0.first ∷ forced.0.others) = subst (AllByRecursion (λ t. r.first + t.width ≤ r.width)) forced.0.begins (all_front (λ t. r.first + t.width ≤ r.width) q.line (q.gap ++ joined qs) room) in
-    absurd (omega (arith, forced.0.passes, here.0))
-
--- where there are no tokens, there is one line
-one_line : (i : ℕ) (r : Room) (p : Piece Token) (ps : List (Piece Token)) → joined (p ∷ ps) ≡ [] → LinesForced i r (p ∷ ps) → (ps ≡ []) × (length p.gap ≡ 0)
-one_line i r p [] e h = (refl, omega (arith, ap length e, length-append p.line (p.gap ++ []), length-append p.gap []))
-one_line i r p (q ∷ qs) e h =
-    absurd (omega (arith, ap length e, length-append p.line (p.gap ++ joined (q ∷ qs)), length-append p.gap (joined (q ∷ qs)), length-append q.line (q.gap ++ joined qs), ap length h.0.begins))
-
--- the starts of placed lines pass the checker
-pub full_starts : (r : Room) (ts : List Token) (ps : List (Piece Token)) → 0 < length ps → joined ps ≡ ts → GapsForced r.first r ps → LinesForced r.first r ps → TokensHaveRoom r ts
-    → are_starts r ts (starts_from 0 ps ++ dropped_from 0 ps) ≡ true
-full_starts r ts [] some covers gaps forced room = absurd (omega arith)
-full_starts r [] (p ∷ ps) some covers gaps forced room =
-    let one = one_line r.first r p ps covers forced in
-    let none : p.gap ≡ [] = nil_from_length p.gap one.1 in
-    ap (λ (qs : List (Piece Token)). are_starts r [] (starts_from 0 (p ∷ qs) ++ dropped_from 0 (p ∷ qs))) one.0 ∙ ap (λ l. are_starts r [] (0 ∷ l)) (dropped_none 0 p none)
-full_starts r (t ∷ ts) (p ∷ ps) some covers gaps forced room =
-    let each = subst (AllByRecursion (λ t. r.first + t.width ≤ r.width)) (sym covers) room.each in
-    let here = first_some r p.line p.gap ps (omega (arith, ap length covers)) gaps forced each in
-    full_from r.first r (t ∷ ts) [] p ps 0 (sym covers) refl gaps forced (here, later_some r.first r p ps forced)
 
 -- ---- a break with as many lines
 
@@ -165,12 +104,3 @@ length-dropped_from n (p ∷ q ∷ ps) = length-dropped_from (n + (length p.line
 
 pub length-starts : (ps : List (Piece Token)) → length (starts_from 0 ps ++ dropped_from 0 ps) ≡ length ps + dropped_at_end ps
 length-starts ps = omega (arith, length-append (starts_from 0 ps) (dropped_from 0 ps), length-starts_from 0 ps, length-dropped_from 0 ps)
-
--- lines of pieces that fit by their text fit by their tokens
-pub fits_back : (max i : ℕ) (r : Room) (ps : List (Piece Token)) → AllByRecursion (IsHonest max) (joined ps) → GapsForced i r ps → LinesFit i r (map (λ p. tokens_text p.line) ps) → FitsFrom i r ps
-fits_back max i r [] h gaps fit = tt
-fits_back max i r (p ∷ ps) h gaps fit = (
-  omega (arith, fit.0, width_is max p.line (line_of (IsHonest max) p ps h)),
-  gaps.0,
-  fits_back max r.other r ps (rest_of (IsHonest max) p ps h) gaps.2 fit.1,
-)
