@@ -10,7 +10,7 @@ use Rattle.std.specs.List.{AllByRecursion}
 use Rattle.mad_layout.specs.Bounds.{is_blank_token, are_starts_from, are_starts}
 use Rattle.mad_fit.specs.declared.tokens.Token.{Token}
 use Rattle.mad_layout.specs.declared.room.Room.{Room}
-use Rattle.mad_layout.specs.Breaks.{Piece, joined, total_width, FitsFrom, FittingBreak, EndsWithLine}
+use Rattle.mad_layout.specs.Breaks.{LineAndGap, joined, total_width, FitsFrom, FittingBreak, EndsWithLine}
 
 pub total_width-append : (xs ys : List Token) → total_width (xs ++ ys) ≡ total_width xs + total_width ys
 total_width-append [] ys = omega arith
@@ -34,11 +34,11 @@ all_at P [] zs t h = h.0
 all_at P (x ∷ xs) zs t h = all_at P xs zs t h.1
 
 -- one more piece is there where tokens are left
-some_piece : (p : Piece Token) (ps : List (Piece Token)) (more after : List Token) (t : Token) → EndsWithLine (p ∷ ps) → p.gap ++ joined ps ≡ more ++ t ∷ after → 0 < length ps
+some_piece : (p : LineAndGap Token) (ps : List (LineAndGap Token)) (more after : List Token) (t : Token) → EndsWithLine (p ∷ ps) → p.gap ++ joined ps ≡ more ++ t ∷ after → 0 < length ps
 some_piece p [] more after t h e = absurd (omega (arith, ap length (sym e ∙ ap (λ g. g ++ []) h), length-append more (t ∷ after)))
 some_piece p (q ∷ ps) more after t h e = omega arith
 
-later : (p : Piece Token) (ps : List (Piece Token)) → EndsWithLine (p ∷ ps) → EndsWithLine ps
+later : (p : LineAndGap Token) (ps : List (LineAndGap Token)) → EndsWithLine (p ∷ ps) → EndsWithLine ps
 later p [] h = tt
 later p (q ∷ ps) h = h
 
@@ -61,7 +61,7 @@ slice_next ts s n d o l =
     ∙ ap (λ b. take (n - s) (drop s ts) ++ b ∷ []) (get_or-drop s ts (n - s) d ∙ ap (λ k. get_or ts k d) place)
 
 -- the break's line began at the start s or before it, with the tokens extra
-pub at_least_from : (d : Token) (r : Room) (ts : List Token) (ns : List ℕ) (s indent : ℕ) (extra : List Token) (ps : List (Piece Token)) → 0 < length ps → are_starts_from indent r ts s ns ≡ true → FitsFrom indent r ps → EndsWithLine ps
+pub at_least_from : (d : Token) (r : Room) (ts : List Token) (ns : List ℕ) (s indent : ℕ) (extra : List Token) (ps : List (LineAndGap Token)) → 0 < length ps → are_starts_from indent r ts s ns ≡ true → FitsFrom indent r ps → EndsWithLine ps
     → joined ps ≡ extra ++ drop s ts → 1 + length ns ≤ length ps
 at_least_from d r ts [] s indent extra ps some b fits end e = omega arith
 at_least_from d r ts (n ∷ ns) s indent extra [] some b fits end e = absurd (omega arith)
@@ -102,7 +102,7 @@ no_starts : (r : Room) (ns : List ℕ) (s indent : ℕ) → are_starts_from inde
 no_starts r [] s indent b = refl
 no_starts r (n ∷ ns) s indent b = let parts = and_parts (nat_lt s n) _ b in let inside = and_parts (nat_lt n 0) _ parts.1 in absurd (omega (arith, lt_from_test n 0 inside.0))
 
-pub bound : (r : Room) (ts : List Token) (starts : List ℕ) → are_starts r ts starts ≡ true → (ps : List (Piece Token)) → FittingBreak r ts ps → EndsWithLine ps → length starts ≤ length ps
+pub bound : (r : Room) (ts : List Token) (starts : List ℕ) → are_starts r ts starts ≡ true → (ps : List (LineAndGap Token)) → FittingBreak r ts ps → EndsWithLine ps → length starts ≤ length ps
 bound r ts [] b ps fits end = absurd (cc)
 bound r [] (s ∷ ns) b ps fits end =
     let parts = and_parts (s == 0) (are_starts_from r.first r [] s ns) b in
@@ -114,7 +114,7 @@ bound r (d ∷ ts) (s ∷ ns) b ps fits end =
     omega (arith, rec)
 
 -- where the whole is too wide for one line, a break that drops nothing at its end has two
-pub two_lines : (r : Room) (ts : List Token) (ps : List (Piece Token)) → FittingBreak r ts ps → EndsWithLine ps → r.width < r.first + total_width ts → 2 ≤ length ps
+pub two_lines : (r : Room) (ts : List Token) (ps : List (LineAndGap Token)) → FittingBreak r ts ps → EndsWithLine ps → r.width < r.first + total_width ts → 2 ≤ length ps
 two_lines r ts [] b end wide = absurd (omega (arith, b.some_line))
 two_lines r ts (p ∷ []) b end wide =
     let all : p.line ++ [] ≡ ts = ap (λ g. p.line ++ (g ++ [])) (sym end) ∙ b.covers in

@@ -13,7 +13,7 @@ use Rattle.mad_fit.proofs.AllLemmas.{all_each, all_front, all_back}
 use Rattle.mad_fit.proofs.TokenTexts.{IsHonest, tokens_honest, all_honest, text_from, some_flagged}
 use Rattle.mad_fit.proofs.UniqueLemmas.{all_unique}
 use Rattle.mad_layout.specs.Bounds.{is_blank_token, are_starts_from, are_starts}
-use Rattle.mad_layout.specs.Breaks.{Piece, joined, total_width, AllBlank, FitsFrom, FittingBreak, EndsWithLine}
+use Rattle.mad_layout.specs.Breaks.{LineAndGap, joined, total_width, AllBlank, FitsFrom, FittingBreak, EndsWithLine}
 use Rattle.mad_layout.specs.CleanCut.{fits_behind, both_fit, is_white, clean_cut, is_cut_clean}
 use Rattle.mad_layout.specs.LeastBound.{IsBound, IsAttained, AreChecked, drops_code, AreStartsOf}
 use Rattle.mad_layout.specs.LeastWrap.{AreTokensIn}
@@ -46,10 +46,10 @@ other_room : (r : Room) (ts : List Token) → TokensHaveRoom r ts → AllByRecur
 other_room r ts room = let lower = room.other in all_each (λ t. r.first + t.width ≤ r.width) (λ t. r.other + t.width ≤ r.width) (λ t h. omega arith) ts room.each
 
 -- a break that ends with a line, of as many lines as these pieces have starts
-closed_break : (r : Room) (ts : List Token) (ps : List (Piece Token)) → 0 < length ps → joined ps ≡ ts → FitsFrom r.first r ps → TokensHaveRoom r ts → ClosedBreak r.first r ps
+closed_break : (r : Room) (ts : List Token) (ps : List (LineAndGap Token)) → 0 < length ps → joined ps ≡ ts → FitsFrom r.first r ps → TokensHaveRoom r ts → ClosedBreak r.first r ps
 closed_break r ts ps some covers fits room = closed r.first r ps some fits (subst (AllByRecursion (λ t. r.other + t.width ≤ r.width)) (sym covers) (other_room r ts room))
 
-fitting_of : (r : Room) (ts : List Token) (ps : List (Piece Token)) → joined ps ≡ ts → (c : ClosedBreak r.first r ps) → FittingBreak r ts c.breaks
+fitting_of : (r : Room) (ts : List Token) (ps : List (LineAndGap Token)) → joined ps ≡ ts → (c : ClosedBreak r.first r ps) → FittingBreak r ts c.breaks
 fitting_of r ts ps covers c = record { some_line = c.some_line; covers = c.covers ∙ covers; fits = c.fits }
 
 pub placed_starts_of : (r : Room) (ps : List Compound) (ts : List Token) (starts : List ℕ) → r.other ≤ r.first → AreTokensIn r ps ts → clean_cut r ps ≡ None → ArePlacedStarts r ts starts → HasRoom r (flagged_text ps) → AreStartsOf r ps starts
@@ -106,7 +106,7 @@ was_made false x e = absurd (cc)
 
 -- a break of two lines
 TwoLines : Room → List Token → Type 0
-TwoLines r ts = (breaks : List (Piece Token)) × FittingBreak r ts breaks × EndsWithLine breaks × (length breaks ≡ 2)
+TwoLines r ts = (breaks : List (LineAndGap Token)) × FittingBreak r ts breaks × EndsWithLine breaks × (length breaks ≡ 2)
 
 cut_break : (r : Room) (ps : List Compound) (ts : List Token) → is_cut_clean r ps ≡ true → drops_code r ps ≡ false → AreTokensIn r ps ts → TwoLines r ts
 unfolding TwoLines
@@ -115,8 +115,8 @@ cut_break r (a ∷ []) ts on off tokens = absurd (cc)
 cut_break r (a ∷ b ∷ []) ts on off (own, others, joins, first, (own', others', joins', second, none)) =
     let max = r.width - r.first in
     let fit = and_parts (fits_behind r.first r.width a) (fits_behind r.other r.width b) (was_made (both_fit r a b) (a, b) on) in
-    let front : Piece Token = record { line = own; gap = [] } in
-    let back : Piece Token = record { line = own'; gap = [] } in (
+    let front : LineAndGap Token = record { line = own; gap = [] } in
+    let back : LineAndGap Token = record { line = own'; gap = [] } in (
       front ∷ back ∷ [],
       record {
         some_line = omega arith;
@@ -136,8 +136,8 @@ cut_break r (a ∷ m ∷ b ∷ []) ts on off (own, others, joins, first, (own', 
     let white = and_parts (is_white m) (both_fit r a b) test in
     let fit = and_parts (fits_behind r.first r.width a) (fits_behind r.other r.width b) white.1 in
     let plain : m.code ≡ false = sym (ap (λ (t : Bool). t && m.code) on) ∙ off in
-    let front : Piece Token = record { line = own; gap = own' } in
-    let back : Piece Token = record { line = own''; gap = [] } in (
+    let front : LineAndGap Token = record { line = own; gap = own' } in
+    let back : LineAndGap Token = record { line = own''; gap = [] } in (
       front ∷ back ∷ [],
       record {
         some_line = omega arith;

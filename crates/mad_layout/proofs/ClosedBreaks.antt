@@ -8,7 +8,7 @@ use Rattle.mad_fit.specs.Tokens.{tokens_text}
 use Rattle.mad_fit.proofs.AllLemmas.{all_front, all_back}
 use Rattle.mad_fit.proofs.TokenTexts.{IsHonest}
 use Rattle.mad_layout.specs.Bounds.{are_starts_from, are_starts}
-use Rattle.mad_layout.specs.Breaks.{Piece, joined, total_width, AllBlank, FitsFrom, EndsWithLine}
+use Rattle.mad_layout.specs.Breaks.{LineAndGap, joined, total_width, AllBlank, FitsFrom, EndsWithLine}
 use Rattle.mad_layout.specs.LineStarts.{starts_from, dropped_after, dropped_from, starts_of}
 use Rattle.mad_layout.specs.PlacedLines.{TokensHaveRoom, SomeOnEach}
 use Rattle.mad_layout.specs.Wraps.{GapsForced, LinesForced, LinesFit}
@@ -21,7 +21,7 @@ use Rattle.mad_layout.proofs.StartLemmas.{dropped_none, dropped_some}
 -- ---- a break with as many lines
 
 -- one where a last line has blanks dropped after it, none else
-abbrev pub dropped_at_end : List (Piece Token) → ℕ
+abbrev pub dropped_at_end : List (LineAndGap Token) → ℕ
 dropped_at_end [] = 0
 dropped_at_end (p ∷ []) = if length p.gap == 0 then 0 else 1
 dropped_at_end (p ∷ q ∷ ps) = dropped_at_end (q ∷ ps)
@@ -31,8 +31,8 @@ split_last x [] = ([], x, refl)
 split_last x (y ∷ ys) = let more = split_last y ys in (x ∷ more.0, more.1, ap (λ l. x ∷ l) more.2)
 
 -- a break of the tokens of these pieces that ends with a line: what was dropped at the end ends with a line of one token
-pub record ClosedBreak (i : ℕ) (r : Room) (ps : List (Piece Token)) : Type 0 where
-  pub breaks : List (Piece Token)
+pub record ClosedBreak (i : ℕ) (r : Room) (ps : List (LineAndGap Token)) : Type 0 where
+  pub breaks : List (LineAndGap Token)
   pub some_line : 0 < length breaks
   pub covers : joined breaks ≡ joined ps
   pub fits : FitsFrom i r breaks
@@ -65,11 +65,11 @@ close_last i r line (g ∷ gs) fit blank room =
       count = let some : (length (g ∷ gs) == 0) ≡ false = grind (arith, nat_tests) in ap (λ (b : Bool). 1 + (if b then 0 else 1)) (sym some);
     }
 
-ends_cons : (p : Piece Token) (ps : List (Piece Token)) → 0 < length ps → EndsWithLine ps → EndsWithLine (p ∷ ps)
+ends_cons : (p : LineAndGap Token) (ps : List (LineAndGap Token)) → 0 < length ps → EndsWithLine ps → EndsWithLine (p ∷ ps)
 ends_cons p [] some h = absurd (omega arith)
 ends_cons p (q ∷ qs) some h = h
 
-close_from : (i : ℕ) (r : Room) (p : Piece Token) (ps : List (Piece Token)) → FitsFrom i r (p ∷ ps) → AllByRecursion (λ t. r.other + t.width ≤ r.width) (joined (p ∷ ps)) → ClosedBreak i r (p ∷ ps)
+close_from : (i : ℕ) (r : Room) (p : LineAndGap Token) (ps : List (LineAndGap Token)) → FitsFrom i r (p ∷ ps) → AllByRecursion (λ t. r.other + t.width ≤ r.width) (joined (p ∷ ps)) → ClosedBreak i r (p ∷ ps)
 close_from i r p [] fits room =
     close_last i r p.line p.gap fits.0 fits.1 (all_front (λ t. r.other + t.width ≤ r.width) p.gap [] (all_back (λ t. r.other + t.width ≤ r.width) p.line (p.gap ++ []) room))
 close_from i r p (q ∷ qs) fits room =
@@ -83,24 +83,24 @@ close_from i r p (q ∷ qs) fits room =
       count = omega (arith, more.count);
     }
 
-pub closed : (i : ℕ) (r : Room) (ps : List (Piece Token)) → 0 < length ps → FitsFrom i r ps → AllByRecursion (λ t. r.other + t.width ≤ r.width) (joined ps) → ClosedBreak i r ps
+pub closed : (i : ℕ) (r : Room) (ps : List (LineAndGap Token)) → 0 < length ps → FitsFrom i r ps → AllByRecursion (λ t. r.other + t.width ≤ r.width) (joined ps) → ClosedBreak i r ps
 closed i r [] some fits room = absurd (omega arith)
 closed i r (p ∷ ps) some fits room = close_from i r p ps fits room
 
 -- ---- how many starts there are
 
-length-starts_from : (n : ℕ) (ps : List (Piece Token)) → length (starts_from n ps) ≡ length ps
+length-starts_from : (n : ℕ) (ps : List (LineAndGap Token)) → length (starts_from n ps) ≡ length ps
 length-starts_from n [] = refl
 length-starts_from n (p ∷ ps) = omega (arith, length-starts_from (n + (length p.line + length p.gap)) ps)
 
-length-dropped_after : (n : ℕ) (p : Piece Token) (b : Bool) → length (if b then [] else (n + length p.line) ∷ []) ≡ (if b then 0 else 1)
+length-dropped_after : (n : ℕ) (p : LineAndGap Token) (b : Bool) → length (if b then [] else (n + length p.line) ∷ []) ≡ (if b then 0 else 1)
 length-dropped_after n p true = refl
 length-dropped_after n p false = refl
 
-length-dropped_from : (n : ℕ) (ps : List (Piece Token)) → length (dropped_from n ps) ≡ dropped_at_end ps
+length-dropped_from : (n : ℕ) (ps : List (LineAndGap Token)) → length (dropped_from n ps) ≡ dropped_at_end ps
 length-dropped_from n [] = refl
 length-dropped_from n (p ∷ []) = length-dropped_after n p (length p.gap == 0)
 length-dropped_from n (p ∷ q ∷ ps) = length-dropped_from (n + (length p.line + length p.gap)) (q ∷ ps)
 
-pub length-starts : (ps : List (Piece Token)) → length (starts_from 0 ps ++ dropped_from 0 ps) ≡ length ps + dropped_at_end ps
+pub length-starts : (ps : List (LineAndGap Token)) → length (starts_from 0 ps ++ dropped_from 0 ps) ≡ length ps + dropped_at_end ps
 length-starts ps = omega (arith, length-append (starts_from 0 ps) (dropped_from 0 ps), length-starts_from 0 ps, length-dropped_from 0 ps)

@@ -17,14 +17,14 @@ use Rattle.mad_fit.specs.Tokens.{token_run}
 use Rattle.mad_fit.specs.declared.tokens.Token.{Token}
 use Rattle.mad_fit.proofs.AllLemmas.{all_joined, all_each}
 use Rattle.mad_layout.specs.Drawable.{AreShownPieces, pieces_columns, IsDrawableLine, AreDrawable}
-use Rattle.mad_layout.specs.FittingLayouts.{IsFittingWrap, IsFitted, AreLinesFitted, IsFittingLayout}
+use Rattle.mad_layout.specs.FittingLayouts.{IsFittingWrap, IsFittingLayout}
 use Rattle.mad_layout.specs.Indents.{indent, follow_up, room_of}
 use Rattle.mad_layout.specs.Layouts.{IsRead, AreRead, IsLayout}
 use Rattle.mad_layout.specs.Premises.{IsPlainRun, runs_text, IsPlainLine, KeepsPremises}
 use Rattle.mad_layout.specs.Rows.{mark_pieces, compound_piece}
 use Rattle.mad_layout.specs.Styles.{line_style}
 use Rattle.mad_layout.specs.LeastWrap.{IsWrap}
-use Rattle.mad_layout.specs.WrappedLines.{style_margins, line_with, AreLinesWrapped}
+use Rattle.mad_layout.specs.WrappedLines.{style_margins, line_with, AreLinesWrapped, IsLaidOutBy, AreLaidOutBy}
 use Rattle.mad_layout.specs.Wraps.{text_of, columns_of, IsMeasured, HasRoom, LinesFit, HaveKinds, IsMadeOf}
 use Rattle.mad_layout.specs.declared.room.Room.{Room}
 use Rattle.mad_layout.specs.declared.skin.MadSkin.{MadSkin}
@@ -97,7 +97,7 @@ has_room skin width line source plain read wide =
     room (omega (arith, wide, read.measured, margins-le (line_style skin source.kind) width))
 
 read_drawable : (skin : MadSkin) (width drawn : ℕ) (line : StyledRuns) (source : FmtComposite) (lines : List FmtLine) → width ≤ drawn → drawn < 2 ^ 64 - 1
-    → IsPlainLine skin width line → IsRead skin line source → IsFitted skin width source lines → AreDrawable skin drawn lines
+    → IsPlainLine skin width line → IsRead skin line source → IsLaidOutBy IsFittingWrap skin width source lines → AreDrawable skin drawn lines
 read_drawable skin width drawn line source lines narrower bound plain read (inl (fits, same)) =
     let kind : source.kind ≡ Paragraph = read.kind ∙ ap kind_of plain.paragraph in
     let margins : ℕ × ℕ = style_margins skin width source in
@@ -126,7 +126,7 @@ read_drawable skin width drawn line source lines narrower bound plain read (inr 
 -- ---- a text
 
 lines_drawable : (skin : MadSkin) (width drawn : ℕ) (text : List StyledRuns) (read lines : List FmtLine) → width ≤ drawn → drawn < 2 ^ 64 - 1
-    → KeepsPremises skin width text → AreRead skin text read → AreLinesFitted skin width read lines → AreDrawable skin drawn lines
+    → KeepsPremises skin width text → AreRead skin text read → AreLaidOutBy IsFittingWrap skin width read lines → AreDrawable skin drawn lines
 lines_drawable skin width drawn [] [] lines narrower bound keeps reads wraps = subst (AreDrawable skin drawn) (sym wraps) tt
 lines_drawable skin width drawn [] (l ∷ ls) lines narrower bound keeps reads wraps = absurd reads
 lines_drawable skin width drawn (c ∷ cs) [] lines narrower bound keeps reads wraps = absurd reads
@@ -153,7 +153,7 @@ wrap_fits skin width source lines wrap = record {
   margins = wrap.margins;
 }
 
-lines_fit : (skin : MadSkin) (width : ℕ) (read lines : List FmtLine) → AreLinesWrapped skin width read lines → AreLinesFitted skin width read lines
+lines_fit : (skin : MadSkin) (width : ℕ) (read lines : List FmtLine) → AreLinesWrapped skin width read lines → AreLaidOutBy IsFittingWrap skin width read lines
 lines_fit skin width [] lines wraps = wraps
 lines_fit skin width (Normal l ∷ ls) lines (own, others, joins, inl here, more) = (own, others, joins, inl here, lines_fit skin width ls others more)
 lines_fit skin width (Normal l ∷ ls) lines (own, others, joins, inr (wide, (wrap, wraps, same)), more) =

@@ -1,5 +1,5 @@
 -- From a layout to what its area shows.
-use Rattle.std.proofs.Common.{◌≡◌, ℕ, ◌-◌, ◌≤◌, List, [], inl, inr, Some, Result, Ok, Err, OnOk, IfOk, ap, ◌∙◌, subst, arith}
+use Rattle.std.proofs.Common.{◌≡◌, ℕ, ◌-◌, ◌≤◌, List, [], inl, inr, Option, Some, None, Result, Ok, Err, OnOk, IfOk, ap, ◌∙◌, subst, arith}
 use Rattle.std.specs.Prelude.{Bool, false, nat_lt, MatchBool}
 use Rattle.std.proofs.lemmas.Bool.Decides.{nat_tests}
 use Rattle.mad_md.specs.Lines.{StyledRuns, contents}
@@ -15,13 +15,14 @@ use Rattle.mad_term.proofs.Exits.{refused_exit}
 use Rattle.mad_fit.specs.Areas.{IsWithinLimits}
 use Rattle.mad_fit.specs.declared.area.Area.{Area}
 use Rattle.mad_layout.specs.Drawable.{AreDrawable}
+use Rattle.mad_layout.specs.FittingLayouts.{IsFittingLayoutAt}
 use Rattle.mad_layout.specs.InArea.{IsAreaLayout, ShowsText, WritesInArea}
 use Rattle.mad_layout.specs.Layouts.{composites, AreRead, IsLayout, IsLayoutAt}
 use Rattle.mad_layout.specs.Shown.{AreShownIn}
 use Rattle.mad_layout.specs.declared.skin.MadSkin.{MadSkin}
 use Rattle.mad_layout.specs.declared.line.FmtLine.{FmtLine}
 use Rattle.mad_layout.specs.declared.fmt_text.FmtText.{FmtText}
-use Rattle.mad_layout.proofs.DrawableLemmas.{layout_is_drawable}
+use Rattle.mad_layout.proofs.DrawableLemmas.{layout_fits, layout_is_drawable}
 
 -- a text that was laid out for an area
 pub area_layout : {E : Type 0} (r : Result FmtText E) (skin : MadSkin) (markdown : List ℕ) (area : Area) (width : ℕ) → width ≡ area.width - 1
@@ -39,6 +40,11 @@ wrapped_at : (skin : MadSkin) (width : ℕ) (text : List StyledRuns) (lines : Li
 wrapped_at skin width text lines wide h =
     let test : nat_lt width 3 ≡ false = grind (arith, nat_tests) in
     subst (λ (b : Bool). MatchBool b (AreRead skin text lines) (IsLayout skin width text lines)) test h
+
+-- so it is a fitting layout
+pub layout_fitting : (skin : MadSkin) (width : Option ℕ) (text : List StyledRuns) (lines : List FmtLine) → IsLayoutAt skin width text lines → IsFittingLayoutAt skin width text lines
+layout_fitting skin None text lines h = tt
+layout_fitting skin (Some width) text lines h = λ wide. layout_fits skin width text lines (wrapped_at skin width text lines wide h)
 
 -- what an area shows of such a text
 pub text_shown : {T E : Type 0} (r : Result T E) (skin : MadSkin) (markdown : List ℕ) (area : Area) (lines : List FmtLine) (old new : Trace) → IsWithinLimits area → IsAreaLayout skin markdown area lines

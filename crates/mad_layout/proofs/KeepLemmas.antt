@@ -16,7 +16,7 @@ use Rattle.mad_fit.specs.declared.tokens.Token.{Token}
 use Rattle.mad_fit.proofs.AllLemmas.{all_joined, all_front, all_back, all_each}
 use Rattle.mad_fit.proofs.FlaggedLemmas.{width_of-append}
 use Rattle.mad_fit.proofs.TokenTexts.{IsHonest, tokens_text-append, some_flagged, length-token_text}
-use Rattle.mad_layout.specs.Breaks.{Piece, joined, total_width, AllBlank, FitsFrom}
+use Rattle.mad_layout.specs.Breaks.{LineAndGap, joined, total_width, AllBlank, FitsFrom}
 use Rattle.mad_layout.specs.Indents.{indent}
 use Rattle.mad_layout.specs.Keeps.{AllWhite, Keeps}
 use Rattle.mad_layout.specs.PlacedLines.{HoldPieces, SomeOnEach}
@@ -36,14 +36,14 @@ text_of_runs (c ∷ cs) (t ∷ ts) h =
     let tail : map run_of cs ≡ map token_run ts = cc in
     ap (λ (x : Run). flagged x.flags (chars x.text) ++ flagged_text cs) head ∙ ap (λ l. flagged_token t ++ l) (text_of_runs cs ts tail)
 
-pub texts_are : (k o : CompositeKind) (i j : ℕ) (sp : Option Spacing) (ps : List (Piece Token)) (ls : List FmtComposite) → HoldPieces k o i j sp ps ls → map (λ p. tokens_text p.line) ps ≡ map text_of ls
+pub texts_are : (k o : CompositeKind) (i j : ℕ) (sp : Option Spacing) (ps : List (LineAndGap Token)) (ls : List FmtComposite) → HoldPieces k o i j sp ps ls → map (λ p. tokens_text p.line) ps ≡ map text_of ls
 texts_are k o i j sp [] [] h = refl
 texts_are k o i j sp [] (l ∷ ls) h = absurd h
 texts_are k o i j sp (p ∷ ps) [] h = absurd h
 texts_are k o i j sp (p ∷ ps) (l ∷ ls) h =
     ap (λ x. x ∷ map (λ p. tokens_text p.line) ps) (sym (text_of_runs l.compounds.items p.line h.0.runs)) ∙ ap (λ xs. text_of l ∷ xs) (texts_are o o j j sp ps ls h.1)
 
-pub lengths_are : (k o : CompositeKind) (i j : ℕ) (sp : Option Spacing) (ps : List (Piece Token)) (ls : List FmtComposite) → HoldPieces k o i j sp ps ls → length ps ≡ length ls
+pub lengths_are : (k o : CompositeKind) (i j : ℕ) (sp : Option Spacing) (ps : List (LineAndGap Token)) (ls : List FmtComposite) → HoldPieces k o i j sp ps ls → length ps ≡ length ls
 lengths_are k o i j sp [] [] h = refl
 lengths_are k o i j sp [] (l ∷ ls) h = absurd h
 lengths_are k o i j sp (p ∷ ps) [] h = absurd h
@@ -61,7 +61,7 @@ gap_is_white max (t ∷ ts) h g =
     (all_each (λ x. is_blank x ≡ t.blank) (λ x. is_whitespace x.char ≡ true) (λ x e. blank_is_white x (e ∙ h.0)) (flagged_token t) g.0.alike.alike)
     (gap_is_white max ts h.1 g.1)
 
-pub keeps_pieces : (max indent : ℕ) (r : Room) (ps : List (Piece Token)) → GapsForced indent r ps → AllByRecursion (IsHonest max) (joined ps) → Keeps (tokens_text (joined ps)) (map (λ p. tokens_text p.line) ps)
+pub keeps_pieces : (max indent : ℕ) (r : Room) (ps : List (LineAndGap Token)) → GapsForced indent r ps → AllByRecursion (IsHonest max) (joined ps) → Keeps (tokens_text (joined ps)) (map (λ p. tokens_text p.line) ps)
 keeps_pieces max indent r [] h g = refl
 keeps_pieces max indent r (p ∷ ps) h g =
     let after = all_back (IsHonest max) p.line (p.gap ++ joined ps) g in (
@@ -93,13 +93,13 @@ width_is max [] h = refl
 width_is max (t ∷ ts) h = omega (arith, h.0.alike.counts, width_is max ts h.1, width_of-append (flagged_token t) (tokens_text ts))
 
 -- what holds of the tokens of a piece, and of those after it
-pub line_of : (P : Token → Type 0) (p : Piece Token) (ps : List (Piece Token)) → AllByRecursion P (joined (p ∷ ps)) → AllByRecursion P p.line
+pub line_of : (P : Token → Type 0) (p : LineAndGap Token) (ps : List (LineAndGap Token)) → AllByRecursion P (joined (p ∷ ps)) → AllByRecursion P p.line
 line_of P p ps h = all_front P p.line (p.gap ++ joined ps) h
 
-pub rest_of : (P : Token → Type 0) (p : Piece Token) (ps : List (Piece Token)) → AllByRecursion P (joined (p ∷ ps)) → AllByRecursion P (joined ps)
+pub rest_of : (P : Token → Type 0) (p : LineAndGap Token) (ps : List (LineAndGap Token)) → AllByRecursion P (joined (p ∷ ps)) → AllByRecursion P (joined ps)
 rest_of P p ps h = all_back P p.gap (joined ps) (all_back P p.line (p.gap ++ joined ps) h)
 
-pub fit_pieces : (max indent : ℕ) (r : Room) (ps : List (Piece Token)) → AllByRecursion (IsHonest max) (joined ps) → FitsFrom indent r ps → LinesFit indent r (map (λ p. tokens_text p.line) ps)
+pub fit_pieces : (max indent : ℕ) (r : Room) (ps : List (LineAndGap Token)) → AllByRecursion (IsHonest max) (joined ps) → FitsFrom indent r ps → LinesFit indent r (map (λ p. tokens_text p.line) ps)
 fit_pieces max indent r [] h fit = tt
 fit_pieces max indent r (p ∷ ps) h fit = (
   omega (arith, fit.0, width_is max p.line (line_of (IsHonest max) p ps h)),
@@ -112,7 +112,7 @@ some_text : (max : ℕ) (ts : List Token) → 0 < length ts → AllByRecursion (
 some_text max [] some h = absurd (omega arith)
 some_text max (t ∷ ts) some h = omega (arith, some_flagged t h.0.place, length-append (flagged_token t) (tokens_text ts))
 
-pub some_pieces : (max : ℕ) (k o : CompositeKind) (i j : ℕ) (sp : Option Spacing) (ps : List (Piece Token)) (ls : List FmtComposite) → HoldPieces k o i j sp ps ls → AllByRecursion (IsHonest max) (joined ps) → SomeOnEach ps
+pub some_pieces : (max : ℕ) (k o : CompositeKind) (i j : ℕ) (sp : Option Spacing) (ps : List (LineAndGap Token)) (ls : List FmtComposite) → HoldPieces k o i j sp ps ls → AllByRecursion (IsHonest max) (joined ps) → SomeOnEach ps
     → AllByRecursion (λ l. 0 < length (text_of l)) ls
 some_pieces max k o i j sp [] [] h g some = tt
 some_pieces max k o i j sp [] (l ∷ ls) h g some = absurd h
@@ -124,32 +124,32 @@ some_pieces max k o i j sp (p ∷ ps) (l ∷ ls) h g some = (
 
 -- ---- what each line says of itself
 
-pub runs_are : (k o : CompositeKind) (i j : ℕ) (sp : Option Spacing) (ps : List (Piece Token)) (ls : List FmtComposite) → HoldPieces k o i j sp ps ls → map runs_of ls ≡ map (λ p. map token_run p.line) ps
+pub runs_are : (k o : CompositeKind) (i j : ℕ) (sp : Option Spacing) (ps : List (LineAndGap Token)) (ls : List FmtComposite) → HoldPieces k o i j sp ps ls → map runs_of ls ≡ map (λ p. map token_run p.line) ps
 runs_are k o i j sp [] [] h = refl
 runs_are k o i j sp [] (l ∷ ls) h = absurd h
 runs_are k o i j sp (p ∷ ps) [] h = absurd h
 runs_are k o i j sp (p ∷ ps) (l ∷ ls) h = ap (λ x. x ∷ map runs_of ls) h.0.runs ∙ ap (λ x. map token_run p.line ∷ x) (runs_are o o j j sp ps ls h.1)
 
 
-pub kinds_are : (k o : CompositeKind) (i j : ℕ) (sp : Option Spacing) (ps : List (Piece Token)) (ls : List FmtComposite) → HoldPieces k o i j sp ps ls → HaveKinds k o ls
+pub kinds_are : (k o : CompositeKind) (i j : ℕ) (sp : Option Spacing) (ps : List (LineAndGap Token)) (ls : List FmtComposite) → HoldPieces k o i j sp ps ls → HaveKinds k o ls
 kinds_are k o i j sp [] [] h = tt
 kinds_are k o i j sp [] (l ∷ ls) h = absurd h
 kinds_are k o i j sp (p ∷ ps) [] h = absurd h
 kinds_are k o i j sp (p ∷ ps) (l ∷ ls) h = (h.0.kind_is, kinds_are o o j j sp ps ls h.1)
 
-pub spacing_is : (k o : CompositeKind) (i j : ℕ) (sp : Option Spacing) (ps : List (Piece Token)) (ls : List FmtComposite) → HoldPieces k o i j sp ps ls → AllByRecursion (λ l. l.spacing ≡ sp) ls
+pub spacing_is : (k o : CompositeKind) (i j : ℕ) (sp : Option Spacing) (ps : List (LineAndGap Token)) (ls : List FmtComposite) → HoldPieces k o i j sp ps ls → AllByRecursion (λ l. l.spacing ≡ sp) ls
 spacing_is k o i j sp [] [] h = tt
 spacing_is k o i j sp [] (l ∷ ls) h = absurd h
 spacing_is k o i j sp (p ∷ ps) [] h = absurd h
 spacing_is k o i j sp (p ∷ ps) (l ∷ ls) h = (h.0.spacing_is, spacing_is o o j j sp ps ls h.1)
 
-pub margins_are : (k o : CompositeKind) (i j : ℕ) (sp : Option Spacing) (ps : List (Piece Token)) (ls : List FmtComposite) → HoldPieces k o i j sp ps ls → AllByRecursion (λ l. l.margins ≡ None) ls
+pub margins_are : (k o : CompositeKind) (i j : ℕ) (sp : Option Spacing) (ps : List (LineAndGap Token)) (ls : List FmtComposite) → HoldPieces k o i j sp ps ls → AllByRecursion (λ l. l.margins ≡ None) ls
 margins_are k o i j sp [] [] h = tt
 margins_are k o i j sp [] (l ∷ ls) h = absurd h
 margins_are k o i j sp (p ∷ ps) [] h = absurd h
 margins_are k o i j sp (p ∷ ps) (l ∷ ls) h = (h.0.margins_are, margins_are o o j j sp ps ls h.1)
 
-pub measured_are : (skin : MadSkin) (max : ℕ) (k o : CompositeKind) (i j : ℕ) (sp : Option Spacing) (ps : List (Piece Token)) (ls : List FmtComposite) → HoldPieces k o i j sp ps ls → AllByRecursion (IsHonest max) (joined ps)
+pub measured_are : (skin : MadSkin) (max : ℕ) (k o : CompositeKind) (i j : ℕ) (sp : Option Spacing) (ps : List (LineAndGap Token)) (ls : List FmtComposite) → HoldPieces k o i j sp ps ls → AllByRecursion (IsHonest max) (joined ps)
     → indent skin.list_items_indentation_mode k ≡ i → indent skin.list_items_indentation_mode o ≡ j → AllByRecursion (IsMeasured skin) ls
 measured_are skin max k o i j sp [] [] h g e f = tt
 measured_are skin max k o i j sp [] (l ∷ ls) h g e f = absurd h
@@ -180,7 +180,7 @@ made_of cs all pre post ts l same joins =
     (λ x h. Contains-append_right (map run_of cs) (map token_run pre ++ (map token_run ts ++ map token_run post)) x h) (map token_run ts) (contained (map token_run pre) (map token_run ts) (map token_run post)) in
     subst (AllByRecursion (Contains (map run_of cs ++ map token_run all))) (sym same) (subst (λ x. AllByRecursion (Contains (map run_of cs ++ x)) (map token_run ts)) (sym runs) held)
 
-pub parts_are : (cs : List Compound) (all pre : List Token) (k o : CompositeKind) (i j : ℕ) (sp : Option Spacing) (ps : List (Piece Token)) (ls : List FmtComposite) → HoldPieces k o i j sp ps ls → pre ++ joined ps ≡ all
+pub parts_are : (cs : List Compound) (all pre : List Token) (k o : CompositeKind) (i j : ℕ) (sp : Option Spacing) (ps : List (LineAndGap Token)) (ls : List FmtComposite) → HoldPieces k o i j sp ps ls → pre ++ joined ps ≡ all
     → AllByRecursion (IsMadeOf cs all) ls
 parts_are cs all pre k o i j sp [] [] h e = tt
 parts_are cs all pre k o i j sp [] (l ∷ ls) h e = absurd h
@@ -200,7 +200,7 @@ filled max (c ∷ cs) (t ∷ ts) h g =
     let tail : map run_of cs ≡ map token_run ts = cc in
     (omega (arith, ap (λ (x : Run). length x.text) head, length-token_text t g.0.place, g.0.place.some), filled max cs ts tail g.1)
 
-pub filled_pieces : (max : ℕ) (k o : CompositeKind) (i j : ℕ) (sp : Option Spacing) (ps : List (Piece Token)) (ls : List FmtComposite) → HoldPieces k o i j sp ps ls → AllByRecursion (IsHonest max) (joined ps)
+pub filled_pieces : (max : ℕ) (k o : CompositeKind) (i j : ℕ) (sp : Option Spacing) (ps : List (LineAndGap Token)) (ls : List FmtComposite) → HoldPieces k o i j sp ps ls → AllByRecursion (IsHonest max) (joined ps)
     → AllByRecursion (λ l. NoneEmpty l.compounds.items) ls
 filled_pieces max k o i j sp [] [] h g = tt
 filled_pieces max k o i j sp [] (l ∷ ls) h g = absurd h

@@ -3,7 +3,7 @@ use Rattle.std.proofs.Common.{◌≡◌, ℕ, ◌+◌, ◌-◌, ◌<◌, ◌≤�
 use Rattle.std.proofs.lemmas.Bool.Decides.{nat_tests}
 use Rattle.mad_fit.specs.declared.tokens.Token.{Token}
 use Rattle.mad_layout.specs.declared.room.Room.{Room}
-use Rattle.mad_layout.specs.Breaks.{Piece, joined, total_width, AllBlank, FitsFrom, FittingBreak}
+use Rattle.mad_layout.specs.Breaks.{LineAndGap, joined, total_width, AllBlank, FitsFrom, FittingBreak}
 use Rattle.mad_layout.specs.LineRoom.{left_of, fits_in, taken}
 use Rattle.mad_layout.proofs.Greedy.{Placing, begin_line, place_by, place, place_all, at_start}
 
@@ -79,7 +79,7 @@ gap_keeps r [] s h = refl
 gap_keeps r (t ∷ ts) s h = gap_keeps r ts (place r s t) h.1 ∙ place_by-blank r s t.width s.ended (fits_in s.left t.width) t.blank h.0
 
 -- over a line and its gap
-piece_keeps : (r : Room) (p : Piece Token) (rest : List Token) (s : Placing) (k n : ℕ) → total_width p.line ≤ n → AllBlank p.gap → Ahead r s k n
+piece_keeps : (r : Room) (p : LineAndGap Token) (rest : List Token) (s : Placing) (k n : ℕ) → total_width p.line ≤ n → AllBlank p.gap → Ahead r s k n
     → (t : Placing) × (place_all r s (p.line ++ (p.gap ++ rest)) ≡ place_all r t rest) × (t.lines ≤ k)
 piece_keeps r p rest s k n fits blank h =
     let after = place_all r (place_all r s p.line) p.gap in (
@@ -88,7 +88,7 @@ piece_keeps r p rest s k n fits blank h =
       omega (arith, gap_keeps r p.gap (place_all r s p.line) blank, line_keeps r p.line s k n fits h),
     )
 
-break_keeps : (r : Room) (ps : List (Piece Token)) (p : Piece Token) (indent k : ℕ) (s : Placing) → FitsFrom indent r (p ∷ ps) → Ahead r s k (r.width - indent)
+break_keeps : (r : Room) (ps : List (LineAndGap Token)) (p : LineAndGap Token) (indent k : ℕ) (s : Placing) → FitsFrom indent r (p ∷ ps) → Ahead r s k (r.width - indent)
     → (place_all r s (joined (p ∷ ps))).lines + 1 ≤ k + length (p ∷ ps)
 break_keeps r [] p indent k s fits h =
     let done = piece_keeps r p [] s k (r.width - indent) (omega arith) fits.1 h in
@@ -98,7 +98,7 @@ break_keeps r (q ∷ ps) p indent k s fits h =
     let more = break_keeps r ps q r.other (k + 1) done.0 fits.2 (inl (omega (arith, done.2), omega (arith, fits.2.0))) in
     omega (arith, ap (λ (t : Placing). t.lines) done.1, more)
 
-pub least : (r : Room) (ts : List Token) (ps : List (Piece Token)) → FittingBreak r ts ps → (place_all r (at_start r) ts).lines ≤ length ps
+pub least : (r : Room) (ts : List Token) (ps : List (LineAndGap Token)) → FittingBreak r ts ps → (place_all r (at_start r) ts).lines ≤ length ps
 least r ts [] b = omega (arith, b.some_line)
 least r ts (p ∷ ps) b =
     let start = break_keeps r ps p r.first 1 (at_start r) b.fits (inr (refl, refl, left_of-has r.width r.first (r.width - r.first) (omega (arith, b.fits.0)))) in

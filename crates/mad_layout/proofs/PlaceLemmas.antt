@@ -9,7 +9,7 @@ use Rattle.mad_fit.specs.declared.spacing.Spacing.{Spacing}
 use Rattle.mad_fit.specs.declared.tokens.Token.{Token}
 use Rattle.mad_fit.specs.Tokens.{token_run, token_text}
 use Rattle.mad_fit.proofs.AllLemmas.{all_push, all_front, all_back}
-use Rattle.mad_layout.specs.Breaks.{Piece, joined, total_width, AllBlank, FitsFrom, FittingBreak}
+use Rattle.mad_layout.specs.Breaks.{LineAndGap, joined, total_width, AllBlank, FitsFrom, FittingBreak}
 use Rattle.mad_layout.specs.LineRoom.{left_of, fits_in, taken}
 use Rattle.mad_layout.proofs.Greedy.{Placing, begin_line, place_by, place, place_all}
 use Rattle.mad_layout.specs.PlacedLines.{HoldsTokens, HoldPieces, TokensHaveRoom, SomeOnEach, ArePlacedLines}
@@ -18,22 +18,22 @@ use Rattle.mad_layout.specs.declared.room.Room.{Room}
 use Rattle.mad_layout.specs.declared.composite.FmtComposite.{FmtComposite}
 
 -- the indent and the kind of the line after these
-abbrev pub next_indent : Room → List (Piece Token) → ℕ
+abbrev pub next_indent : Room → List (LineAndGap Token) → ℕ
 next_indent r [] = r.first
 next_indent r (p ∷ ps) = r.other
 
 -- the tokens that stand on that line at any width
-abbrev pub next_placed : List (Piece Token) → ℕ
+abbrev pub next_placed : List (LineAndGap Token) → ℕ
 next_placed [] = 0
 next_placed (p ∷ ps) = 1
 
-abbrev pub next_kind : CompositeKind → CompositeKind → List (Piece Token) → CompositeKind
+abbrev pub next_kind : CompositeKind → CompositeKind → List (LineAndGap Token) → CompositeKind
 next_kind k o [] = k
 next_kind k o (p ∷ ps) = o
 
 -- The tokens are broken into pieces, and a line that is being made. After it a gap may have begun.
 pub record Shape (r : Room) (ts : List Token) (left : Option ℕ) (ended : Bool) : Type 0 where
-  pub pieces : List (Piece Token)
+  pub pieces : List (LineAndGap Token)
   pub tokens : List Token
   pub gap : List Token
   pub covers : joined pieces ++ (tokens ++ gap) ≡ ts
@@ -69,64 +69,64 @@ room_front r xs ys h = record { first = h.first; other = h.other; each = all_fro
 pub room_last : (r : Room) (xs : List Token) (t : Token) → TokensHaveRoom r (xs ++ t ∷ []) → r.first + t.width ≤ r.width
 room_last r xs t h = (all_back (λ t. r.first + t.width ≤ r.width) xs (t ∷ []) h.each).0
 
-pub joined-push : {A : Type 0} (ps : List (Piece A)) (p : Piece A) → joined (ps ++ p ∷ []) ≡ joined ps ++ (p.line ++ p.gap)
+pub joined-push : {A : Type 0} (ps : List (LineAndGap A)) (p : LineAndGap A) → joined (ps ++ p ∷ []) ≡ joined ps ++ (p.line ++ p.gap)
 joined-push [] p = ap (λ g. p.line ++ g) (append-nil p.gap)
 joined-push (q ∷ ps) p = ap (λ g. q.line ++ (q.gap ++ g)) (joined-push ps p) ∙ ap (λ g. q.line ++ g) (sym (append_assoc q.gap (joined ps) (p.line ++ p.gap))) ∙ sym (append_assoc q.line (q.gap ++ joined ps) (p.line ++ p.gap))
 
-fit_from_other : (r : Room) (ps : List (Piece Token)) (p : Piece Token) → FitsFrom r.other r ps → r.other + total_width p.line ≤ r.width → AllBlank p.gap → FitsFrom r.other r (ps ++ p ∷ [])
+fit_from_other : (r : Room) (ps : List (LineAndGap Token)) (p : LineAndGap Token) → FitsFrom r.other r ps → r.other + total_width p.line ≤ r.width → AllBlank p.gap → FitsFrom r.other r (ps ++ p ∷ [])
 fit_from_other r [] p h l b = (l, b, tt)
 fit_from_other r (q ∷ ps) p h l b = (h.0, h.1, fit_from_other r ps p h.2 l b)
 
-pub fit_push : (r : Room) (ps : List (Piece Token)) (p : Piece Token) → FitsFrom r.first r ps → next_indent r ps + total_width p.line ≤ r.width → AllBlank p.gap → FitsFrom r.first r (ps ++ p ∷ [])
+pub fit_push : (r : Room) (ps : List (LineAndGap Token)) (p : LineAndGap Token) → FitsFrom r.first r ps → next_indent r ps + total_width p.line ≤ r.width → AllBlank p.gap → FitsFrom r.first r (ps ++ p ∷ [])
 fit_push r [] p h l b = (l, b, tt)
 fit_push r (q ∷ ps) p h l b = (h.0, h.1, fit_from_other r ps p h.2 l b)
 
-within_from_other : (r : Room) (ps : List (Piece Token)) (p : Piece Token) → LinesWithin 1 r.other r ps → (1 < length p.line → r.other + total_width p.line ≤ r.width) → LinesWithin 1 r.other r (ps ++ p ∷ [])
+within_from_other : (r : Room) (ps : List (LineAndGap Token)) (p : LineAndGap Token) → LinesWithin 1 r.other r ps → (1 < length p.line → r.other + total_width p.line ≤ r.width) → LinesWithin 1 r.other r (ps ++ p ∷ [])
 within_from_other r [] p h l = (l, tt)
 within_from_other r (q ∷ ps) p h l = (h.0, within_from_other r ps p h.1 l)
 
-pub within_push : (r : Room) (ps : List (Piece Token)) (p : Piece Token) → LinesWithin 0 r.first r ps → (next_placed ps < length p.line → next_indent r ps + total_width p.line ≤ r.width) → LinesWithin 0 r.first r (ps ++ p ∷ [])
+pub within_push : (r : Room) (ps : List (LineAndGap Token)) (p : LineAndGap Token) → LinesWithin 0 r.first r ps → (next_placed ps < length p.line → next_indent r ps + total_width p.line ≤ r.width) → LinesWithin 0 r.first r (ps ++ p ∷ [])
 within_push r [] p h l = (l, tt)
 within_push r (q ∷ ps) p h l = (h.0, within_from_other r ps p h.1 l)
 
-forced_from_other : (r : Room) (ps : List (Piece Token)) (p : Piece Token) → GapsForced r.other r ps → AllBlank p.gap
+forced_from_other : (r : Room) (ps : List (LineAndGap Token)) (p : LineAndGap Token) → GapsForced r.other r ps → AllBlank p.gap
     → ((t : Token) (others : List Token) → p.gap ≡ t ∷ others → r.width < r.other + total_width p.line + t.width) → GapsForced r.other r (ps ++ p ∷ [])
 forced_from_other r [] p h b l = (b, l, tt)
 forced_from_other r (q ∷ ps) p h b l = (h.0, h.1, forced_from_other r ps p h.2 b l)
 
-pub forced_push : (r : Room) (ps : List (Piece Token)) (p : Piece Token) → GapsForced r.first r ps → AllBlank p.gap
+pub forced_push : (r : Room) (ps : List (LineAndGap Token)) (p : LineAndGap Token) → GapsForced r.first r ps → AllBlank p.gap
     → ((t : Token) (others : List Token) → p.gap ≡ t ∷ others → r.width < next_indent r ps + total_width p.line + t.width) → GapsForced r.first r (ps ++ p ∷ [])
 forced_push r [] p h b l = (b, l, tt)
 forced_push r (q ∷ ps) p h b l = (h.0, h.1, forced_from_other r ps p h.2 b l)
 
-holds_from_other : (o : CompositeKind) (j : ℕ) (sp : Option Spacing) (ps : List (Piece Token)) (ls : List FmtComposite) (p : Piece Token) (l : FmtComposite)
+holds_from_other : (o : CompositeKind) (j : ℕ) (sp : Option Spacing) (ps : List (LineAndGap Token)) (ls : List FmtComposite) (p : LineAndGap Token) (l : FmtComposite)
     → HoldPieces o o j j sp ps ls → HoldsTokens o j sp p.line l → HoldPieces o o j j sp (ps ++ p ∷ []) (ls ++ l ∷ [])
 holds_from_other o j sp [] [] p l h g = (g, tt)
 holds_from_other o j sp [] (m ∷ ls) p l h g = absurd h
 holds_from_other o j sp (q ∷ ps) [] p l h g = absurd h
 holds_from_other o j sp (q ∷ ps) (m ∷ ls) p l h g = (h.0, holds_from_other o j sp ps ls p l h.1 g)
 
-holds_push : (r : Room) (k o : CompositeKind) (sp : Option Spacing) (ps : List (Piece Token)) (ls : List FmtComposite) (p : Piece Token) (l : FmtComposite)
+holds_push : (r : Room) (k o : CompositeKind) (sp : Option Spacing) (ps : List (LineAndGap Token)) (ls : List FmtComposite) (p : LineAndGap Token) (l : FmtComposite)
     → HoldPieces k o r.first r.other sp ps ls → HoldsTokens (next_kind k o ps) (next_indent r ps) sp p.line l → HoldPieces k o r.first r.other sp (ps ++ p ∷ []) (ls ++ l ∷ [])
 holds_push r k o sp [] [] p l h g = (g, tt)
 holds_push r k o sp [] (m ∷ ls) p l h g = absurd h
 holds_push r k o sp (q ∷ ps) [] p l h g = absurd h
 holds_push r k o sp (q ∷ ps) (m ∷ ls) p l h g = (h.0, holds_from_other o r.other sp ps ls p l h.1 g)
 
-pub next_indent-push : (r : Room) (ps : List (Piece Token)) (p : Piece Token) → next_indent r (ps ++ p ∷ []) ≡ r.other
+pub next_indent-push : (r : Room) (ps : List (LineAndGap Token)) (p : LineAndGap Token) → next_indent r (ps ++ p ∷ []) ≡ r.other
 next_indent-push r [] p = refl
 next_indent-push r (q ∷ ps) p = refl
 
-pub next_placed-push : (ps : List (Piece Token)) (p : Piece Token) → next_placed (ps ++ p ∷ []) ≡ 1
+pub next_placed-push : (ps : List (LineAndGap Token)) (p : LineAndGap Token) → next_placed (ps ++ p ∷ []) ≡ 1
 next_placed-push [] p = refl
 next_placed-push (q ∷ ps) p = refl
 
-next_kind-push : (k o : CompositeKind) (ps : List (Piece Token)) (p : Piece Token) → next_kind k o (ps ++ p ∷ []) ≡ o
+next_kind-push : (k o : CompositeKind) (ps : List (LineAndGap Token)) (p : LineAndGap Token) → next_kind k o (ps ++ p ∷ []) ≡ o
 next_kind-push k o [] p = refl
 next_kind-push k o (q ∷ ps) p = refl
 
 -- a line that grows keeps its beginning
-pub lines_grow : (i : ℕ) (r : Room) (ps : List (Piece Token)) (line gap more gap' : List Token) → LinesForced i r (ps ++ record { line = line; gap = gap } ∷ []) → LinesForced i r (ps ++ record { line = line ++ more; gap = gap' } ∷ [])
+pub lines_grow : (i : ℕ) (r : Room) (ps : List (LineAndGap Token)) (line gap more gap' : List Token) → LinesForced i r (ps ++ record { line = line; gap = gap } ∷ []) → LinesForced i r (ps ++ record { line = line ++ more; gap = gap' } ∷ [])
 lines_grow i r [] line gap more gap' h = tt
 lines_grow i r (q ∷ []) line gap more gap' h = (
   record { first = h.0.first; others = h.0.others ++ more; begins = ap (λ l. l ++ more) h.0.begins; solid = h.0.solid; passes = h.0.passes },
@@ -135,12 +135,12 @@ lines_grow i r (q ∷ []) line gap more gap' h = (
 lines_grow i r (q ∷ q' ∷ ps) line gap more gap' h = (h.0, lines_grow r.other r (q' ∷ ps) line gap more gap' h.1)
 
 -- one line more
-lines_from_other : (r : Room) (ps : List (Piece Token)) (p q : Piece Token) → LinesForced r.other r (ps ++ p ∷ []) → BeginsAfter r.other r p q → LinesForced r.other r ((ps ++ p ∷ []) ++ q ∷ [])
+lines_from_other : (r : Room) (ps : List (LineAndGap Token)) (p q : LineAndGap Token) → LinesForced r.other r (ps ++ p ∷ []) → BeginsAfter r.other r p q → LinesForced r.other r ((ps ++ p ∷ []) ++ q ∷ [])
 lines_from_other r [] p q h b = (b, tt)
 lines_from_other r (x ∷ []) p q h b = (h.0, (b, tt))
 lines_from_other r (x ∷ y ∷ ps) p q h b = (h.0, lines_from_other r (y ∷ ps) p q h.1 b)
 
-pub lines_push : (r : Room) (ps : List (Piece Token)) (p q : Piece Token) → LinesForced r.first r (ps ++ p ∷ []) → BeginsAfter (next_indent r ps) r p q → LinesForced r.first r ((ps ++ p ∷ []) ++ q ∷ [])
+pub lines_push : (r : Room) (ps : List (LineAndGap Token)) (p q : LineAndGap Token) → LinesForced r.first r (ps ++ p ∷ []) → BeginsAfter (next_indent r ps) r p q → LinesForced r.first r ((ps ++ p ∷ []) ++ q ∷ [])
 lines_push r [] p q h b = (b, tt)
 lines_push r (x ∷ []) p q h b = (h.0, (b, tt))
 lines_push r (x ∷ y ∷ ps) p q h b = (h.0, lines_from_other r (y ∷ ps) p q h.1 b)
@@ -232,7 +232,7 @@ fits_within width used n h =
     (omega arith, ap (λ l. taken l n) some ∙ ap Some (omega arith) ∙ sym (left_of-some width (used + n) (omega arith)))
 
 -- where each token has room, there is one on a line that doesn't take another
-pub some_before : (r : Room) (ended : Bool) (left : Option ℕ) (ps : List (Piece Token)) (tokens gap ts : List Token) (t : Token) → left ≡ left_of r.width (next_indent r ps + total_width tokens) → joined ps ++ (tokens ++ gap) ≡ ts
+pub some_before : (r : Room) (ended : Bool) (left : Option ℕ) (ps : List (LineAndGap Token)) (tokens gap ts : List Token) (t : Token) → left ≡ left_of r.width (next_indent r ps + total_width tokens) → joined ps ++ (tokens ++ gap) ≡ ts
     → (ended ≡ true → 0 < length gap) → (0 < length ts → 0 < length tokens) → r.other ≤ r.first → r.first + t.width ≤ r.width → (ended ≡ true) ⊎ (fits_in left t.width ≡ false) → 0 < length tokens
 some_before r ended left ps (x ∷ tokens) gap ts t is covers some here other room why = omega arith
 some_before r ended left ps [] gap ts t is covers some here other room (inl e) =
@@ -323,8 +323,8 @@ shape_ends r ts t left ended h blank why = record {
 unfoldable pub shape_begins : (r : Room) (ts : List Token) (t : Token) (left : Option ℕ) (ended : Bool) → Shape r ts left ended → t.blank ≡ false → (ended ≡ true) ⊎ (fits_in left t.width ≡ false)
     → Shape r (ts ++ t ∷ []) (left_of r.width (r.other + t.width)) false
 shape_begins r ts t left ended h solid why =
-    let p : Piece Token = record { line = h.tokens; gap = h.gap } in
-    let q : Piece Token = record { line = t ∷ []; gap = [] } in
+    let p : LineAndGap Token = record { line = h.tokens; gap = h.gap } in
+    let q : LineAndGap Token = record { line = t ∷ []; gap = [] } in
     let indent : next_indent r (h.pieces ++ p ∷ []) ≡ r.other = next_indent-push r h.pieces p in
     record {
       pieces = h.pieces ++ p ∷ [];
@@ -345,7 +345,7 @@ shape_begins r ts t left ended h solid why =
       line_fits = λ room. omega (arith, indent, room_last r ts t room, room.other);
       some = λ room.
           let before = room_front r ts (t ∷ []) room in
-          all_push (λ (q : Piece Token). 0 < length q.line) h.pieces p (h.some before)
+          all_push (λ (q : LineAndGap Token). 0 < length q.line) h.pieces p (h.some before)
           (some_before r ended left h.pieces h.tokens h.gap ts t h.left_is h.covers h.some_gap (h.some_here before) room.other (room_last r ts t room) why);
       some_here = λ _ _. omega arith;
     }
@@ -374,7 +374,7 @@ pub progress_begins : (r : Room) (k o : CompositeKind) (sp : Option Spacing) (ts
 unfolding shape_begins
 progress_begins r k o sp ts t lines new_lines line begun new left ended h solid why pushed begins adds =
     let s = h.shape in
-    let p : Piece Token = record { line = s.tokens; gap = s.gap } in
+    let p : LineAndGap Token = record { line = s.tokens; gap = s.gap } in
     let held : HoldsTokens o r.other sp (t ∷ []) new = holds_more o r.other sp [] t begun new (holds_none o r.other sp begun begins) adds in
     record {
       shape = shape_begins r ts t left ended s solid why;
@@ -384,10 +384,10 @@ progress_begins r k o sp ts t lines new_lines line begun new left ended h solid 
 
 -- the end: the last line is whole
 pub placed_all : (r : Room) (k o : CompositeKind) (sp : Option Spacing) (ts : List Token) (lines new : List FmtComposite) (line : FmtComposite) (left : Option ℕ) (ended : Bool) → Progress r k o sp ts lines line left ended
-    → new ≡ lines ++ line ∷ [] → ((ps : List (Piece Token)) → FittingBreak r ts ps → length new ≤ length ps) → ArePlacedLines r k o sp ts new
+    → new ≡ lines ++ line ∷ [] → ((ps : List (LineAndGap Token)) → FittingBreak r ts ps → length new ≤ length ps) → ArePlacedLines r k o sp ts new
 placed_all r k o sp ts lines new line left ended h pushed least =
     let s = h.shape in
-    let p : Piece Token = record { line = s.tokens; gap = s.gap } in
+    let p : LineAndGap Token = record { line = s.tokens; gap = s.gap } in
     record {
       pieces = s.pieces ++ p ∷ [];
       some_line = omega (arith, length-append s.pieces (p ∷ []));
@@ -397,7 +397,7 @@ placed_all r k o sp ts lines new line left ended h pushed least =
       within = within_push r s.pieces p s.within s.within_here;
       holds = subst (HoldPieces k o r.first r.other sp (s.pieces ++ p ∷ [])) (sym pushed) (holds_push r k o sp s.pieces lines p line h.holds h.holds_line);
       fits = λ room. fit_push r s.pieces p (s.fits room) (s.line_fits room) s.gap_blank;
-      some = λ room there. all_push (λ (q : Piece Token). 0 < length q.line) s.pieces p (s.some room) (s.some_here room there);
+      some = λ room there. all_push (λ (q : LineAndGap Token). 0 < length q.line) s.pieces p (s.some room) (s.some_here room there);
       least = least;
     }
 

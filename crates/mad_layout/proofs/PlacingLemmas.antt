@@ -4,19 +4,19 @@ use Rattle.std.proofs.lemmas.List.{length-append}
 use Rattle.mad_fit.specs.declared.tokens.Token.{Token}
 use Rattle.mad_fit.proofs.AllLemmas.{all_back}
 use Rattle.mad_fit.proofs.UniqueLemmas.{Fronts, fronts}
-use Rattle.mad_layout.specs.Breaks.{Piece, joined, total_width, AllBlank}
+use Rattle.mad_layout.specs.Breaks.{LineAndGap, joined, total_width, AllBlank}
 use Rattle.mad_layout.specs.Wraps.{GapsForced, LinesForced, LinesWithin}
 use Rattle.mad_layout.specs.declared.room.Room.{Room}
 use Rattle.mad_layout.proofs.BoundLemmas.{total_width-append}
 
 -- lines that are placed, behind this indent of the first, which has so many tokens at any width
-pub record ArePlacedFrom (placed indent : ℕ) (r : Room) (ps : List (Piece Token)) : Type 0 where
+pub record ArePlacedFrom (placed indent : ℕ) (r : Room) (ps : List (LineAndGap Token)) : Type 0 where
   pub gaps : GapsForced indent r ps
   pub forced : LinesForced indent r ps
   pub within : LinesWithin placed indent r ps
 
 -- the token after a line doesn't fit on it
-passes_next : (i : ℕ) (r : Room) (line gap : List Token) (ps : List (Piece Token)) (y : Token) (rest : List Token) → GapsForced i r (record { line = line; gap = gap } ∷ ps) → LinesForced i r (record { line = line; gap = gap } ∷ ps)
+passes_next : (i : ℕ) (r : Room) (line gap : List Token) (ps : List (LineAndGap Token)) (y : Token) (rest : List Token) → GapsForced i r (record { line = line; gap = gap } ∷ ps) → LinesForced i r (record { line = line; gap = gap } ∷ ps)
     → gap ++ joined ps ≡ y ∷ rest → r.width < i + total_width line + y.width
 passes_next i r line (g ∷ gs) ps y rest gaps forced e =
     let same : g ≡ y = cc in
@@ -29,7 +29,7 @@ passes_next i r line [] (q ∷ qs) y rest gaps forced e =
     omega (arith, b.passes, ap (λ (t : Token). t.width) same)
 
 -- so no placing has it there
-no_longer : (k i : ℕ) (r : Room) (p : Piece Token) (ps : List (Piece Token)) (q : Piece Token) (qs : List (Piece Token)) (y : Token) (zs rest : List Token) → k ≤ length p.line
+no_longer : (k i : ℕ) (r : Room) (p : LineAndGap Token) (ps : List (LineAndGap Token)) (q : LineAndGap Token) (qs : List (LineAndGap Token)) (y : Token) (zs rest : List Token) → k ≤ length p.line
     → ArePlacedFrom k i r (p ∷ ps) → ArePlacedFrom k i r (q ∷ qs) → q.line ≡ p.line ++ y ∷ zs → p.gap ++ joined ps ≡ y ∷ rest → ⊥
 no_longer k i r p ps q qs y zs rest most a b longer next =
     let size = ap length longer ∙ length-append p.line (y ∷ zs) in
@@ -37,7 +37,7 @@ no_longer k i r p ps q qs y zs rest most a b longer next =
     omega (arith, fits, ap total_width longer, total_width-append p.line (y ∷ zs), passes_next i r p.line p.gap ps y rest a.gaps a.forced next)
 
 -- the token behind a gap isn't blank
-solid_next : (i : ℕ) (r : Room) (p : Piece Token) (ps : List (Piece Token)) (y : Token) (rest : List Token) → LinesForced i r (p ∷ ps) → joined ps ≡ y ∷ rest → y.blank ≡ false
+solid_next : (i : ℕ) (r : Room) (p : LineAndGap Token) (ps : List (LineAndGap Token)) (y : Token) (rest : List Token) → LinesForced i r (p ∷ ps) → joined ps ≡ y ∷ rest → y.blank ≡ false
 solid_next i r p [] y rest forced e = absurd (cc)
 solid_next i r p (q ∷ qs) y rest forced e =
     let b = forced.0 in
@@ -46,14 +46,14 @@ solid_next i r p (q ∷ qs) y rest forced e =
     ap (λ (t : Token). t.blank) (sym same) ∙ b.solid
 
 -- so no gap goes on over it
-no_longer_gap : (i : ℕ) (r : Room) (p : Piece Token) (ps : List (Piece Token)) (gap : List Token) (y : Token) (zs rest : List Token) → LinesForced i r (p ∷ ps) → joined ps ≡ y ∷ rest → AllBlank gap → gap ≡ p.gap ++ y ∷ zs → ⊥
+no_longer_gap : (i : ℕ) (r : Room) (p : LineAndGap Token) (ps : List (LineAndGap Token)) (gap : List Token) (y : Token) (zs rest : List Token) → LinesForced i r (p ∷ ps) → joined ps ≡ y ∷ rest → AllBlank gap → gap ≡ p.gap ++ y ∷ zs → ⊥
 no_longer_gap i r p ps gap y zs rest forced next blank longer =
     let on = (all_back (λ t. t.blank ≡ true) p.gap (y ∷ zs) (subst AllBlank longer blank)).0 in
     let off = solid_next i r p ps y rest forced next in
     absurd (let both : true ≡ false = sym on ∙ off in cc)
 
 -- the first lines are the same, and so is what follows them
-same_line : (k i : ℕ) (r : Room) (p : Piece Token) (ps : List (Piece Token)) (q : Piece Token) (qs : List (Piece Token)) → k ≤ length p.line → k ≤ length q.line → ArePlacedFrom k i r (p ∷ ps) → ArePlacedFrom k i r (q ∷ qs)
+same_line : (k i : ℕ) (r : Room) (p : LineAndGap Token) (ps : List (LineAndGap Token)) (q : LineAndGap Token) (qs : List (LineAndGap Token)) → k ≤ length p.line → k ≤ length q.line → ArePlacedFrom k i r (p ∷ ps) → ArePlacedFrom k i r (q ∷ qs)
     → joined (p ∷ ps) ≡ joined (q ∷ qs) → (p.line ≡ q.line) × (p.gap ++ joined ps ≡ q.gap ++ joined qs)
 same_line k i r p ps q qs most_p most_q a b e =
     elim (fronts p.line (p.gap ++ joined ps) q.line (q.gap ++ joined qs) e) as (λ _. (p.line ≡ q.line) × (p.gap ++ joined ps ≡ q.gap ++ joined qs)) [
@@ -63,7 +63,7 @@ same_line k i r p ps q qs most_p most_q a b e =
     ]
 
 -- so are the first gaps, and what follows these
-same_gap : (k i : ℕ) (r : Room) (p : Piece Token) (ps : List (Piece Token)) (q : Piece Token) (qs : List (Piece Token)) → ArePlacedFrom k i r (p ∷ ps) → ArePlacedFrom k i r (q ∷ qs)
+same_gap : (k i : ℕ) (r : Room) (p : LineAndGap Token) (ps : List (LineAndGap Token)) (q : LineAndGap Token) (qs : List (LineAndGap Token)) → ArePlacedFrom k i r (p ∷ ps) → ArePlacedFrom k i r (q ∷ qs)
     → p.gap ++ joined ps ≡ q.gap ++ joined qs → (p.gap ≡ q.gap) × (joined ps ≡ joined qs)
 same_gap k i r p ps q qs a b e =
     elim (fronts p.gap (joined ps) q.gap (joined qs) e) as (λ _. (p.gap ≡ q.gap) × (joined ps ≡ joined qs)) [
@@ -73,19 +73,19 @@ same_gap k i r p ps q qs a b e =
     ]
 
 -- what is placed after a line
-placed_after : (k i : ℕ) (r : Room) (p : Piece Token) (q : Piece Token) (qs : List (Piece Token)) → ArePlacedFrom k i r (p ∷ q ∷ qs) → ArePlacedFrom 1 r.other r (q ∷ qs) × (1 ≤ length q.line)
+placed_after : (k i : ℕ) (r : Room) (p : LineAndGap Token) (q : LineAndGap Token) (qs : List (LineAndGap Token)) → ArePlacedFrom k i r (p ∷ q ∷ qs) → ArePlacedFrom 1 r.other r (q ∷ qs) × (1 ≤ length q.line)
 placed_after k i r p q qs a = (record { gaps = a.gaps.2; forced = a.forced.1; within = a.within.1 }, omega (arith, ap length a.forced.0.begins))
 
-some_next : (k i : ℕ) (r : Room) (p : Piece Token) (q : Piece Token) (qs : List (Piece Token)) → ArePlacedFrom k i r (p ∷ q ∷ qs) → 0 < length (joined (q ∷ qs))
+some_next : (k i : ℕ) (r : Room) (p : LineAndGap Token) (q : LineAndGap Token) (qs : List (LineAndGap Token)) → ArePlacedFrom k i r (p ∷ q ∷ qs) → 0 < length (joined (q ∷ qs))
 some_next k i r p q qs a = omega (arith, (placed_after k i r p q qs a).1, length-append q.line (q.gap ++ joined qs))
 
-same_piece : (p q : Piece Token) (ps qs : List (Piece Token)) → p.line ≡ q.line → p.gap ≡ q.gap → ps ≡ qs → p ∷ ps ≡ q ∷ qs
+same_piece : (p q : LineAndGap Token) (ps qs : List (LineAndGap Token)) → p.line ≡ q.line → p.gap ≡ q.gap → ps ≡ qs → p ∷ ps ≡ q ∷ qs
 same_piece p q ps qs lines gaps rest =
     let line : p ≡ record { line = q.line; gap = p.gap } = ap (λ l. record { line = l; gap = p.gap }) lines in
     let both : p ≡ q = line ∙ ap (λ g. record { line = q.line; gap = g }) gaps in
     ap (λ x. x ∷ ps) both ∙ ap (λ l. q ∷ l) rest
 
-same_pieces : (k i : ℕ) (r : Room) (p : Piece Token) (ps : List (Piece Token)) (q : Piece Token) (qs : List (Piece Token)) → k ≤ length p.line → k ≤ length q.line → ArePlacedFrom k i r (p ∷ ps) → ArePlacedFrom k i r (q ∷ qs)
+same_pieces : (k i : ℕ) (r : Room) (p : LineAndGap Token) (ps : List (LineAndGap Token)) (q : LineAndGap Token) (qs : List (LineAndGap Token)) → k ≤ length p.line → k ≤ length q.line → ArePlacedFrom k i r (p ∷ ps) → ArePlacedFrom k i r (q ∷ qs)
     → joined (p ∷ ps) ≡ joined (q ∷ qs) → p ∷ ps ≡ q ∷ qs
 same_pieces k i r p [] q [] most_p most_q a b e =
     let line = same_line k i r p [] q [] most_p most_q a b e in
@@ -104,7 +104,7 @@ same_pieces k i r p (p' ∷ ps) q (q' ∷ qs) most_p most_q a b e =
     same_piece p q (p' ∷ ps) (q' ∷ qs) line.0 gap.0 (same_pieces 1 r.other r p' ps q' qs next_p.1 next_q.1 next_p.0 next_q.0 gap.1)
 
 -- two placings of the same tokens are the same
-pub one_placing : (r : Room) (ts : List Token) (ps qs : List (Piece Token)) → 0 < length ps → 0 < length qs → ArePlacedFrom 0 r.first r ps → ArePlacedFrom 0 r.first r qs → joined ps ≡ joined qs → ps ≡ qs
+pub one_placing : (r : Room) (ts : List Token) (ps qs : List (LineAndGap Token)) → 0 < length ps → 0 < length qs → ArePlacedFrom 0 r.first r ps → ArePlacedFrom 0 r.first r qs → joined ps ≡ joined qs → ps ≡ qs
 one_placing r ts [] qs some_p some_q a b e = absurd (omega arith)
 one_placing r ts (p ∷ ps) [] some_p some_q a b e = absurd (omega arith)
 one_placing r ts (p ∷ ps) (q ∷ qs) some_p some_q a b e = same_pieces 0 r.first r p ps q qs (omega arith) (omega arith) a b e

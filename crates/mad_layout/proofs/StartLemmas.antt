@@ -4,7 +4,7 @@ use Rattle.std.proofs.lemmas.Bool.Decides.{nat_tests}
 use Rattle.std.proofs.lemmas.List.{length-append, take_more}
 use Rattle.std.specs.Option.{option_or}
 use Rattle.mad_fit.specs.declared.tokens.Token.{Token}
-use Rattle.mad_layout.specs.Breaks.{Piece, joined, total_width}
+use Rattle.mad_layout.specs.Breaks.{LineAndGap, joined, total_width}
 use Rattle.mad_layout.specs.LineRoom.{left_of, fits_in, taken}
 use Rattle.mad_layout.specs.LineStarts.{starts_from, dropped_after, dropped_from}
 use Rattle.mad_layout.specs.PlacedLines.{TokensHaveRoom, ArePlacedStarts}
@@ -15,14 +15,14 @@ use Rattle.mad_layout.proofs.BoundLemmas.{total_width-append}
 use Rattle.mad_layout.proofs.CheckerSteps.{start_after}
 use Rattle.mad_layout.proofs.PlaceLemmas.{next_indent-push, passes_gap, Shape, shape_start, shape_fits, shape_ends, shape_begins, fits_within, passes_width, total_width-push, joined-push, fit_push, forced_push, within_push, some_before, room_front, room_last, next_indent}
 
-starts_from-push : (n : ℕ) (ps : List (Piece Token)) (p : Piece Token) → starts_from n (ps ++ p ∷ []) ≡ starts_from n ps ++ (n + length (joined ps)) ∷ []
+starts_from-push : (n : ℕ) (ps : List (LineAndGap Token)) (p : LineAndGap Token) → starts_from n (ps ++ p ∷ []) ≡ starts_from n ps ++ (n + length (joined ps)) ∷ []
 starts_from-push n [] p = ap (λ m. m ∷ []) (omega arith)
 starts_from-push n (q ∷ ps) p =
     let next = n + (length q.line + length q.gap) in
     let place : next + length (joined ps) ≡ n + length (joined (q ∷ ps)) = omega (arith, length-append q.line (q.gap ++ joined ps), length-append q.gap (joined ps)) in
     ap (λ l. n ∷ l) (starts_from-push next ps p) ∙ ap (λ m. n ∷ (starts_from next ps ++ m ∷ [])) place
 
-dropped_from-push : (n : ℕ) (ps : List (Piece Token)) (p : Piece Token) → dropped_from n (ps ++ p ∷ []) ≡ dropped_after (n + length (joined ps)) p
+dropped_from-push : (n : ℕ) (ps : List (LineAndGap Token)) (p : LineAndGap Token) → dropped_from n (ps ++ p ∷ []) ≡ dropped_after (n + length (joined ps)) p
 dropped_from-push n [] p = ap (λ m. dropped_after m p) (omega arith)
 dropped_from-push n (q ∷ []) p =
     ap (λ m. dropped_after m p) (omega (arith, length-append q.line (q.gap ++ []), length-append q.gap []))
@@ -86,12 +86,12 @@ starts_end r ts t left None new_dropped ended starts i h is place blank why new 
     })
 
 -- no indent is less than that of the later lines
-first_line : (r : Room) (ps : List (Piece Token)) → (next_indent r ps ≡ r.first) ⊎ (next_indent r ps ≡ r.other)
+first_line : (r : Room) (ps : List (LineAndGap Token)) → (next_indent r ps ≡ r.first) ⊎ (next_indent r ps ≡ r.other)
 first_line r [] = inl refl
 first_line r (p ∷ ps) = inr refl
 
 -- lines after the first begin with a token
-last_some : (i : ℕ) (r : Room) (ps : List (Piece Token)) (q : Piece Token) → LinesForced i r (ps ++ q ∷ []) → 0 < length ps → 0 < length q.line
+last_some : (i : ℕ) (r : Room) (ps : List (LineAndGap Token)) (q : LineAndGap Token) → LinesForced i r (ps ++ q ∷ []) → 0 < length ps → 0 < length q.line
 last_some i r [] q h some = absurd (omega arith)
 last_some i r (p ∷ []) q h some = omega (arith, ap length h.0.begins)
 last_some i r (p ∷ p' ∷ ps) q h some = last_some r.other r (p' ∷ ps) q h.1 (omega arith)
@@ -99,9 +99,9 @@ last_some i r (p ∷ p' ∷ ps) q h some = last_some r.other r (p' ∷ ps) q h.1
 -- where a later token than the first comes after a line and its gap, these aren't empty
 some_between : (r : Room) (ts : List Token) (left : Option ℕ) (ended : Bool) (h : Shape r ts left ended) → 0 < length (joined h.pieces) + length h.tokens + length h.gap → 0 < length (h.tokens ++ h.gap)
 some_between r ts left ended h some =
-    let by : (ps : List (Piece Token)) → h.pieces ≡ ps → 0 < length (h.tokens ++ h.gap) =
+    let by : (ps : List (LineAndGap Token)) → h.pieces ≡ ps → 0 < length (h.tokens ++ h.gap) =
     λ ps. elim ps as (λ ps. h.pieces ≡ ps → 0 < length (h.tokens ++ h.gap)) [
-      | [] ↦ λ e. omega (arith, some, ap (λ (l : List (Piece Token)). length (joined l)) e, length-append h.tokens h.gap)
+      | [] ↦ λ e. omega (arith, some, ap (λ (l : List (LineAndGap Token)). length (joined l)) e, length-append h.tokens h.gap)
       | p ∷ ps ↦ λ e. omega (arith, last_some r.first r h.pieces (record { line = h.tokens; gap = h.gap }) h.forced (omega (arith, ap length e)), length-append h.tokens h.gap)
     ] in
     by h.pieces refl
@@ -127,7 +127,7 @@ pub starts_next : (r : Room) (ts : List Token) (t : Token) (left new_left : Opti
 unfolding shape_begins
 starts_next r ts t left new_left dropped ended starts new_starts i h is place solid why pushed room_is =
     let s = h.shape in
-    let p : Piece Token = record { line = s.tokens; gap = s.gap } in
+    let p : LineAndGap Token = record { line = s.tokens; gap = s.gap } in
     let fails : (is_some dropped ≡ true) ⊎ (fits_in left t.width ≡ false) = subst (λ e. (e ≡ true) ⊎ (fits_in left t.width ≡ false)) is why in
     let all : length (joined (s.pieces ++ p ∷ [])) ≡ i = ap length (joined-push s.pieces p ∙ s.covers) ∙ sym place in
     let are : TokensHaveRoom r (ts ++ t ∷ []) → new_starts ≡ starts_from 0 (s.pieces ++ p ∷ []) ++ length (joined (s.pieces ++ p ∷ [])) ∷ [] = λ room.
@@ -164,10 +164,10 @@ starts_next r ts t left new_left dropped ended starts new_starts i h is place so
     ] in
     subst (λ l. StartsSoFar r (ts ++ t ∷ []) l None new_starts) (sym room_is) (by i refl)
 
-pub dropped_none : (n : ℕ) (p : Piece Token) → p.gap ≡ [] → dropped_after n p ≡ []
+pub dropped_none : (n : ℕ) (p : LineAndGap Token) → p.gap ≡ [] → dropped_after n p ≡ []
 dropped_none n p e = ap (λ (g : List Token). if length g == 0 then [] else (n + length p.line) ∷ []) e
 
-pub dropped_some : (n : ℕ) (p : Piece Token) → 0 < length p.gap → dropped_after n p ≡ (n + length p.line) ∷ []
+pub dropped_some : (n : ℕ) (p : LineAndGap Token) → 0 < length p.gap → dropped_after n p ≡ (n + length p.line) ∷ []
 dropped_some n p some = let e : (length p.gap == 0) ≡ false = grind (arith, nat_tests) in ap (λ b. if b then [] else (n + length p.line) ∷ []) e
 
 -- the starts with no more behind them pass the checker
@@ -181,9 +181,9 @@ dropped_checked : (r : Room) (ts : List Token) (left : Option ℕ) (dropped : Op
 dropped_checked r ts left dropped starts all n g gs h gap place same some o =
     let s = h.shape in
     let there : 0 < length s.tokens =
-    let by : (ps : List (Piece Token)) → s.pieces ≡ ps → 0 < length s.tokens =
+    let by : (ps : List (LineAndGap Token)) → s.pieces ≡ ps → 0 < length s.tokens =
     λ ps. elim ps as (λ ps. s.pieces ≡ ps → 0 < length s.tokens) [
-      | [] ↦ λ e. omega (arith, some, place, ap (λ (l : List (Piece Token)). length (joined l)) e)
+      | [] ↦ λ e. omega (arith, some, place, ap (λ (l : List (LineAndGap Token)). length (joined l)) e)
       | p ∷ ps ↦ λ e. last_some r.first r s.pieces (record { line = s.tokens; gap = s.gap }) s.forced (omega (arith, ap length e))
     ] in
     by s.pieces refl in
@@ -220,7 +220,7 @@ pub starts_all : (r : Room) (ts : List Token) (left : Option ℕ) (dropped : Opt
     → (dropped ≡ None → all ≡ starts) → ((n : ℕ) → dropped ≡ Some n → (0 < n → all ≡ starts ++ n ∷ []) × (n ≡ 0 → all ≡ starts)) → ArePlacedStarts r ts all
 starts_all r ts left dropped starts all h none some =
     let s = h.shape in
-    let p : Piece Token = record { line = s.tokens; gap = s.gap } in
+    let p : LineAndGap Token = record { line = s.tokens; gap = s.gap } in
     let lines : 0 < length (s.pieces ++ p ∷ []) = omega (arith, length-append s.pieces (p ∷ [])) in
     let before : TokensHaveRoom r ts → starts ≡ starts_from 0 (s.pieces ++ p ∷ []) =
     λ room. h.starts_are room ∙ ap (λ m. starts_from 0 s.pieces ++ m ∷ []) (omega arith) ∙ sym (starts_from-push 0 s.pieces p) in

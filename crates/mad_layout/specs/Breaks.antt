@@ -5,12 +5,12 @@ use Rattle.mad_fit.specs.declared.tokens.Token.{Token}
 use Rattle.mad_layout.specs.declared.room.Room.{Room}
 
 -- a line, and what is dropped after it
-pub record Piece (A : Type 0) : Type 0 where
+pub record LineAndGap (A : Type 0) : Type 0 where
   pub line : List A
   pub gap : List A
 
 -- line, gap, line, gap, ..
-abbrev pub joined : {A : Type 0} → List (Piece A) → List A
+abbrev pub joined : {A : Type 0} → List (LineAndGap A) → List A
 joined [] = []
 joined (p ∷ ps) = p.line ++ (p.gap ++ joined ps)
 
@@ -24,18 +24,18 @@ abbrev pub AllBlank : List Token → Type 0
 AllBlank ts = AllByRecursion (λ t. t.blank ≡ true) ts
 
 -- A line that is indented so far fits, and so do the lines after it. Only blank tokens are dropped.
-abbrev pub FitsFrom : ℕ → Room → List (Piece Token) → Type 0
+abbrev pub FitsFrom : ℕ → Room → List (LineAndGap Token) → Type 0
 FitsFrom indent r [] = Unit {0}
 FitsFrom indent r (p ∷ ps) = (indent + total_width p.line ≤ r.width) × AllBlank p.gap × FitsFrom r.other r ps
 
 -- A fitting break: the tokens in order as lines and gaps, at least one line, each line fitting.
-pub record FittingBreak (r : Room) (ts : List Token) (ps : List (Piece Token)) : Type 0 where
+pub record FittingBreak (r : Room) (ts : List Token) (ps : List (LineAndGap Token)) : Type 0 where
   pub some_line : 0 < length ps
   pub covers : joined ps ≡ ts
   pub fits : FitsFrom r.first r ps
 
 -- nothing is dropped after the last line
-abbrev pub EndsWithLine : List (Piece Token) → Type 0
+abbrev pub EndsWithLine : List (LineAndGap Token) → Type 0
 EndsWithLine [] = Unit {0}
 EndsWithLine (p ∷ []) = p.gap ≡ []
 EndsWithLine (p ∷ q ∷ ps) = EndsWithLine (q ∷ ps)

@@ -5,7 +5,7 @@ use Rattle.mad_md.specs.declared.compound.Compound.{Compound}
 use Rattle.mad_fit.specs.declared.tokens.Token.{Token}
 use Rattle.mad_fit.specs.Columns.{width_of}
 use Rattle.mad_layout.specs.Bounds.{are_starts}
-use Rattle.mad_layout.specs.Breaks.{Piece, FittingBreak, EndsWithLine, total_width}
+use Rattle.mad_layout.specs.Breaks.{LineAndGap, FittingBreak, EndsWithLine, total_width}
 use Rattle.mad_layout.specs.CleanCut.{is_cut_clean}
 use Rattle.mad_layout.specs.LeastWrap.{AreTokensIn}
 use Rattle.mad_layout.specs.LineStarts.{starts_of}
@@ -14,11 +14,11 @@ use Rattle.mad_layout.specs.declared.room.Room.{Room}
 
 -- each fitting break of the compounds' tokens that ends with its last line has at least n lines
 abbrev pub IsBound : Room → List Compound → ℕ → Type 0
-IsBound r ps n = (ts : List Token) → AreTokensIn r ps ts → (breaks : List (Piece Token)) → FittingBreak r ts breaks → EndsWithLine breaks → n ≤ length breaks
+IsBound r ps n = (ts : List Token) → AreTokensIn r ps ts → (breaks : List (LineAndGap Token)) → FittingBreak r ts breaks → EndsWithLine breaks → n ≤ length breaks
 
 -- there are tokens, and a break of them, with just so many
 abbrev pub IsAttained : Room → List Compound → ℕ → Type 0
-IsAttained r ps n = (ts : List Token) × AreTokensIn r ps ts × (breaks : List (Piece Token)) × FittingBreak r ts breaks × EndsWithLine breaks × (length breaks ≡ n)
+IsAttained r ps n = (ts : List Token) × AreTokensIn r ps ts × (breaks : List (LineAndGap Token)) × FittingBreak r ts breaks × EndsWithLine breaks × (length breaks ≡ n)
 
 -- a clean cut drops a middle in code
 abbrev pub drops_code : Room → List Compound → Bool

@@ -5,7 +5,7 @@ use Rattle.mad_md.specs.Flagged.{run_of}
 use Rattle.mad_md.specs.declared.compound.Compound.{Compound}
 use Rattle.mad_fit.specs.Tokens.{token_run, AreTokensOf}
 use Rattle.mad_fit.specs.declared.tokens.Token.{Token}
-use Rattle.mad_layout.specs.Breaks.{Piece, FittingBreak, EndsWithLine}
+use Rattle.mad_layout.specs.Breaks.{LineAndGap, FittingBreak, EndsWithLine}
 use Rattle.mad_layout.specs.CleanCut.{clean_cut, is_cut_clean, drops_middle}
 use Rattle.mad_layout.specs.Indents.{follow_up, room_of}
 use Rattle.mad_layout.specs.Keeps.{Keeps}
@@ -35,9 +35,9 @@ pub record IsLeastBreak (r : Room) (ps : List Compound) (ts : List Token) (lines
   -- and each token is a compound of its own
   pub one_by_one : (uncut : is_cut_clean r ps ≡ false) → map runs_of lines ≡ map (λ p. map token_run p.line) (full uncut).placed.pieces
   -- no fitting break that ends with its last line has fewer lines
-  pub least : (breaks : List (Piece Token)) → FittingBreak r ts breaks → EndsWithLine breaks → length lines ≤ length breaks
+  pub least : (breaks : List (LineAndGap Token)) → FittingBreak r ts breaks → EndsWithLine breaks → length lines ≤ length breaks
   -- nor has one that drops blanks after its last line, but where the text is cut clean
-  pub least_dropping : is_cut_clean r ps ≡ false → (breaks : List (Piece Token)) → FittingBreak r ts breaks → length lines ≤ length breaks
+  pub least_dropping : is_cut_clean r ps ≡ false → (breaks : List (LineAndGap Token)) → FittingBreak r ts breaks → length lines ≤ length breaks
 
 -- The lines are the composite wrapped at a width, in room that its kind leaves.
 pub record IsWrapIn (r : Room) (skin : MadSkin) (source : FmtComposite) (lines : List FmtComposite) : Type 0 where

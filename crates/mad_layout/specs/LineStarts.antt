@@ -1,22 +1,22 @@
 -- The tokens that begin the lines of a break, by their numbers.
 use Rattle.std.specs.Prelude.{ℕ, ◌+◌, ◌==◌, if◌then◌else◌, List, [], ◌∷◌, ◌++◌, length}
 use Rattle.mad_fit.specs.declared.tokens.Token.{Token}
-use Rattle.mad_layout.specs.Breaks.{Piece}
+use Rattle.mad_layout.specs.Breaks.{LineAndGap}
 
 -- the numbers of the tokens that begin the lines of pieces, the first of which begins at the n-th token
-abbrev pub starts_from : ℕ → List (Piece Token) → List ℕ
+abbrev pub starts_from : ℕ → List (LineAndGap Token) → List ℕ
 starts_from n [] = []
 starts_from n (p ∷ ps) = n ∷ starts_from (n + (length p.line + length p.gap)) ps
 
 -- the number of the first token that is dropped after a last line which begins at the n-th token, if one is
-abbrev pub dropped_after : ℕ → Piece Token → List ℕ
+abbrev pub dropped_after : ℕ → LineAndGap Token → List ℕ
 dropped_after n p = if length p.gap == 0 then [] else (n + length p.line) ∷ []
 
-abbrev pub dropped_from : ℕ → List (Piece Token) → List ℕ
+abbrev pub dropped_from : ℕ → List (LineAndGap Token) → List ℕ
 dropped_from n [] = []
 dropped_from n (p ∷ []) = dropped_after n p
 dropped_from n (p ∷ q ∷ ps) = dropped_from (n + (length p.line + length p.gap)) (q ∷ ps)
 
 -- The tokens that begin the lines, and where blanks are dropped after the last, the first of these.
-abbrev pub starts_of : List (Piece Token) → List ℕ
+abbrev pub starts_of : List (LineAndGap Token) → List ℕ
 starts_of ps = starts_from 0 ps ++ dropped_from 0 ps

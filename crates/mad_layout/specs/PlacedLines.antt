@@ -12,7 +12,7 @@ use Rattle.mad_fit.specs.Tokens.{token_run}
 use Rattle.mad_layout.specs.declared.room.Room.{Room}
 use Rattle.mad_layout.specs.declared.composite.FmtComposite.{FmtComposite}
 use Rattle.mad_layout.specs.Bounds.{are_starts}
-use Rattle.mad_layout.specs.Breaks.{Piece, joined, total_width, FitsFrom, FittingBreak}
+use Rattle.mad_layout.specs.Breaks.{LineAndGap, joined, total_width, FitsFrom, FittingBreak}
 use Rattle.mad_layout.specs.LineStarts.{starts_of}
 use Rattle.mad_layout.specs.Wraps.{capped, GapsForced, LinesForced, LinesWithin}
 
@@ -25,7 +25,7 @@ pub record HoldsTokens (kind : CompositeKind) (indent : ℕ) (spacing : Option S
   pub margins_are : l.margins ≡ None
 
 -- each line holds the tokens of its piece: the first in a kind and behind an indent, the others in and behind others
-abbrev pub HoldPieces : CompositeKind → CompositeKind → ℕ → ℕ → Option Spacing → List (Piece Token) → List FmtComposite → Type 0
+abbrev pub HoldPieces : CompositeKind → CompositeKind → ℕ → ℕ → Option Spacing → List (LineAndGap Token) → List FmtComposite → Type 0
 HoldPieces k o i j spacing [] [] = Unit {0}
 HoldPieces k o i j spacing [] (l ∷ ls) = ⊥
 HoldPieces k o i j spacing (p ∷ ps) [] = ⊥
@@ -38,12 +38,12 @@ pub record TokensHaveRoom (r : Room) (ts : List Token) : Type 0 where
   pub each : AllByRecursion (λ t. r.first + t.width ≤ r.width) ts
 
 -- no line is without a token
-abbrev pub SomeOnEach : List (Piece Token) → Type 0
+abbrev pub SomeOnEach : List (LineAndGap Token) → Type 0
 SomeOnEach ps = AllByRecursion (λ p. 0 < length p.line) ps
 
 -- the tokens are placed on these lines
 pub record ArePlacedLines (r : Room) (kind other : CompositeKind) (spacing : Option Spacing) (ts : List Token) (lines : List FmtComposite) : Type 0 where
-  pub pieces : List (Piece Token)
+  pub pieces : List (LineAndGap Token)
   pub some_line : 0 < length pieces
   pub covers : joined pieces ≡ ts
   pub gaps : GapsForced r.first r pieces
@@ -52,7 +52,7 @@ pub record ArePlacedLines (r : Room) (kind other : CompositeKind) (spacing : Opt
   pub holds : HoldPieces kind other r.first r.other spacing pieces lines
   pub fits : TokensHaveRoom r ts → FitsFrom r.first r pieces
   pub some : TokensHaveRoom r ts → 0 < length ts → SomeOnEach pieces
-  pub least : (ps : List (Piece Token)) → FittingBreak r ts ps → length lines ≤ length ps
+  pub least : (ps : List (LineAndGap Token)) → FittingBreak r ts ps → length lines ≤ length ps
 
 -- the line holds this one compound, behind an indent
 pub record HoldsCompound (kind : CompositeKind) (indent : ℕ) (spacing : Option Spacing) (p : Compound) (l : FmtComposite) : Type 0 where
@@ -73,7 +73,7 @@ pub record AreTwoLines (r : Room) (kind other : CompositeKind) (spacing : Option
 
 -- these tokens begin the lines of a placing, and the last is the first that is dropped at its end, if one is
 pub record ArePlacedStarts (r : Room) (ts : List Token) (starts : List ℕ) : Type 0 where
-  pub pieces : List (Piece Token)
+  pub pieces : List (LineAndGap Token)
   pub some_line : 0 < length pieces
   pub covers : joined pieces ≡ ts
   pub gaps : GapsForced r.first r pieces

@@ -22,27 +22,42 @@ FitsWithMargins skin width l = l.visible_length + (style_margins skin width l).0
 abbrev pub line_with : ℕ × ℕ → FmtComposite → FmtLine
 line_with margins l = Normal (record l { margins = Some margins })
 
+-- what a composite is wrapped into in so many columns: some kind of wrap
+abbrev pub Wrap : Type 1
+Wrap = MadSkin → ℕ → FmtComposite → List FmtComposite → Type 0
+
 -- A composite that fits with its margins stays, any other is wrapped in what they leave of the width. Each line keeps them.
-abbrev pub IsWrapped : MadSkin → ℕ → FmtComposite → List FmtLine → Type 0
-IsWrapped skin width source lines =
+abbrev pub IsLaidOutBy : Wrap → MadSkin → ℕ → FmtComposite → List FmtLine → Type 0
+IsLaidOutBy wraps skin width source lines =
     let margins = style_margins skin width source in
     (FitsWithMargins skin width source × (lines ≡ line_with margins source ∷ []))
     ⊎ ((width < source.visible_length + margins.0 + margins.1)
-    × ((wrap : List FmtComposite) × IsWrap skin (width - margins.0 - margins.1) source wrap × (lines ≡ map (line_with margins) wrap)))
+    × ((wrap : List FmtComposite) × wraps skin (width - margins.0 - margins.1) source wrap × (lines ≡ map (line_with margins) wrap)))
 
 -- what becomes of a line
-abbrev pub IsLineWrapped : MadSkin → ℕ → FmtLine → List FmtLine → Type 0
-IsLineWrapped skin width (Normal source) lines = IsWrapped skin width source lines
+abbrev pub IsLineLaidOutBy : Wrap → MadSkin → ℕ → FmtLine → List FmtLine → Type 0
+IsLineLaidOutBy wraps skin width (Normal source) lines = IsLaidOutBy wraps skin width source lines
 
 -- what becomes of each of the lines, in order
-abbrev pub AreLinesWrapped : MadSkin → ℕ → List FmtLine → List FmtLine → Type 0
-AreLinesWrapped skin width [] lines = lines ≡ []
-AreLinesWrapped skin width (l ∷ ls) lines = (own : List FmtLine) × (others : List FmtLine) × (lines ≡ own ++ others) × IsLineWrapped skin width l own × AreLinesWrapped skin width ls others
+abbrev pub AreLaidOutBy : Wrap → MadSkin → ℕ → List FmtLine → List FmtLine → Type 0
+AreLaidOutBy wraps skin width [] lines = lines ≡ []
+AreLaidOutBy wraps skin width (l ∷ ls) lines = (own : List FmtLine) × (others : List FmtLine) × (lines ≡ own ++ others) × IsLineLaidOutBy wraps skin width l own × AreLaidOutBy wraps skin width ls others
 
--- the line's cached length is right, and it fits with its margins
+-- the same with the fewest lines
+abbrev pub IsWrapped : MadSkin → ℕ → FmtComposite → List FmtLine → Type 0
+IsWrapped = IsLaidOutBy IsWrap
+
+abbrev pub IsLineWrapped : MadSkin → ℕ → FmtLine → List FmtLine → Type 0
+IsLineWrapped = IsLineLaidOutBy IsWrap
+
+abbrev pub AreLinesWrapped : MadSkin → ℕ → List FmtLine → List FmtLine → Type 0
+AreLinesWrapped = AreLaidOutBy IsWrap
+
+-- the line's cached length is right
 abbrev pub IsLineMeasured : MadSkin → FmtLine → Type 0
 IsLineMeasured skin (Normal l) = IsMeasured skin l
 
+-- the line fits with its margins, by that length
 abbrev pub LineFits : MadSkin → ℕ → FmtLine → Type 0
 LineFits skin width (Normal l) = FitsWithMargins skin width l
 

@@ -8,7 +8,7 @@ use Rattle.mad_style.specs.declared.kinds.CompositeKind.{CompositeKind}
 use Rattle.mad_fit.specs.Columns.{width_of}
 use Rattle.mad_fit.specs.Tokens.{token_run, tokens_text}
 use Rattle.mad_fit.specs.declared.tokens.Token.{Token}
-use Rattle.mad_layout.specs.Breaks.{Piece, joined, total_width, AllBlank}
+use Rattle.mad_layout.specs.Breaks.{LineAndGap, joined, total_width, AllBlank}
 use Rattle.mad_layout.specs.Indents.{indent}
 use Rattle.mad_layout.specs.declared.room.Room.{Room}
 use Rattle.mad_layout.specs.declared.skin.MadSkin.{MadSkin}
@@ -58,20 +58,20 @@ abbrev pub IsMadeOf : List Compound → List Token → FmtComposite → Type 0
 IsMadeOf ps ts l = AllByRecursion (Contains (map run_of ps ++ map token_run ts)) (runs_of l)
 
 -- each gap is blank, and one that isn't empty begins with a token that doesn't fit behind its line
-abbrev pub GapsForced : ℕ → Room → List (Piece Token) → Type 0
+abbrev pub GapsForced : ℕ → Room → List (LineAndGap Token) → Type 0
 GapsForced indent r [] = Unit {0}
 GapsForced indent r (p ∷ ps) = AllBlank p.gap × ((t : Token) (others : List Token) → p.gap ≡ t ∷ others → r.width < indent + total_width p.line + t.width) × GapsForced r.other r ps
 
 -- The tokens stand on these lines, in order, but for blank ones behind a line that is full.
 pub record ArePlaced (r : Room) (ts : List Token) (lines : List (List FlaggedChar)) : Type 0 where
-  pub pieces : List (Piece Token)
+  pub pieces : List (LineAndGap Token)
   pub some_line : 0 < length pieces
   pub covers : joined pieces ≡ ts
   pub texts : map (λ p. tokens_text p.line) pieces ≡ lines
   pub gaps : GapsForced r.first r pieces
 
 -- a line begins with a token that isn't blank, and that doesn't fit behind the line before it with what is dropped between them
-pub record BeginsAfter (indent : ℕ) (r : Room) (before p : Piece Token) : Type 0 where
+pub record BeginsAfter (indent : ℕ) (r : Room) (before p : LineAndGap Token) : Type 0 where
   pub first : Token
   pub others : List Token
   pub begins : p.line ≡ first ∷ others
@@ -79,13 +79,13 @@ pub record BeginsAfter (indent : ℕ) (r : Room) (before p : Piece Token) : Type
   pub passes : r.width < indent + total_width before.line + total_width before.gap + first.width
 
 -- each line but the first begins so
-abbrev pub LinesForced : ℕ → Room → List (Piece Token) → Type 0
+abbrev pub LinesForced : ℕ → Room → List (LineAndGap Token) → Type 0
 LinesForced indent r [] = Unit {0}
 LinesForced indent r (p ∷ []) = Unit {0}
 LinesForced indent r (p ∷ q ∷ ps) = BeginsAfter indent r p q × LinesForced r.other r (q ∷ ps)
 
 -- each line fits, or has no more than so many tokens: none on the first line, and on another the one that it begins with
-abbrev pub LinesWithin : ℕ → ℕ → Room → List (Piece Token) → Type 0
+abbrev pub LinesWithin : ℕ → ℕ → Room → List (LineAndGap Token) → Type 0
 LinesWithin placed indent r [] = Unit {0}
 LinesWithin placed indent r (p ∷ ps) = (placed < length p.line → indent + total_width p.line ≤ r.width) × LinesWithin 1 r.other r ps
 

@@ -1,6 +1,6 @@
 ghost use Rattle.std.specs.Prelude.{◌≡◌, ℕ, ◌≤◌, ◌<◌, ◌+◌, ◌∷◌, ◌++◌, [], MatchOption, OnOk, List, length, IfOk, IfErr, IsTrue, nat_lt, slice_get};
 ghost use Rattle.mad_fit.specs.declared.tokens.Token.{Token};
-ghost use Rattle.mad_layout.specs.Breaks.{Piece, FittingBreak, EndsWithLine, total_width};
+ghost use Rattle.mad_layout.specs.Breaks.{LineAndGap, FittingBreak, EndsWithLine, total_width};
 ghost use Rattle.mad_layout.specs.Bounds.{are_starts, are_starts_from, is_blank_token};
 ghost use Rattle.mad_layout.specs.Indents.{room_of};
 ghost use Rattle.mad_layout.specs.LeastWrap.{AreTokensIn, AreTokenized};
@@ -157,7 +157,7 @@ pub fn check_wrap_bound(
 
 fn check_starts(tokens: &[Token], room: Room, starts: &[usize]) -> bool
     ensures exact { result ≡ are_starts room tokens.now starts.now }
-    ensures bound { IsTrue result → (ps : List (Piece Token)) → FittingBreak room tokens.now ps → EndsWithLine ps → length starts.now ≤ length ps }
+    ensures bound { IsTrue result → (ps : List (LineAndGap Token)) → FittingBreak room tokens.now ps → EndsWithLine ps → length starts.now ≤ length ps }
 {
     match starts {
         [] => false,

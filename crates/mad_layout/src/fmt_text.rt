@@ -1,15 +1,18 @@
 //! Texts, laid out.
 
-ghost use Rattle.std.specs.Prelude.{◌≡◌, IfOk, OnOk};
+ghost use Rattle.std.specs.Prelude.{◌≡◌, ◌-◌, IfOk, OnOk, Some};
 ghost use Rattle.mad_md.specs.Lines.{contents};
 ghost use Rattle.mad_md.specs.ReadByMarks.{IsReadByMarks};
 ghost use Rattle.mad_md.specs.ReadRaw.{IsReadRaw};
 ghost use Rattle.mad_md.specs.declared.text.Text.{Text};
+ghost use Rattle.mad_layout.specs.FittingLayouts.{IsFittingLayoutAt};
+ghost use Rattle.mad_layout.specs.InArea.{IsAreaLayout};
 ghost use Rattle.mad_layout.specs.Layouts.{composites, AreRead, IsLayoutAt};
 
 use crate::line::FmtLine;
 use crate::skin::MadSkin;
 use crate::wrap::hard_wrap_lines;
+use mad_fit::Area;
 use mad_md::{Line, Text};
 use std::alloc::{AllocError, Global};
 
@@ -37,6 +40,9 @@ impl<'k, 's> FmtText<'k, 's> {
         ensures skin { IfOk result (λ laid_out. laid_out.skin.now ≡ skin.now) }
         ensures width { IfOk result (λ laid_out. laid_out.width ≡ width) }
         ensures lines { IfOk result (λ laid_out. (text : Text) × IsReadRaw src.now text × IsLayoutAt skin.now width (composites (contents text)) laid_out.lines.items) }
+
+        // So it keeps what a layout keeps that may have more lines: the premise of what an area shows of it.
+        ensures fitting { IfOk result (λ laid_out. (text : Text) × IsReadRaw src.now text × IsFittingLayoutAt skin.now width (composites (contents text)) laid_out.lines.items) }
     {
         let text = Text::raw_str(alloc, src)?;
         let lines = layout(alloc, skin, text, width)?;
@@ -55,10 +61,31 @@ impl<'k, 's> FmtText<'k, 's> {
         ensures skin { IfOk result (λ laid_out. laid_out.skin.now ≡ skin.now) }
         ensures width { IfOk result (λ laid_out. laid_out.width ≡ width) }
         ensures lines { IfOk result (λ laid_out. (text : Text) × IsReadByMarks src.now text × IsLayoutAt skin.now width (composites (contents text)) laid_out.lines.items) }
+
+        // So it keeps what a layout keeps that may have more lines: the premise of what an area shows of it.
+        ensures fitting { IfOk result (λ laid_out. (text : Text) × IsReadByMarks src.now text × IsFittingLayoutAt skin.now width (composites (contents text)) laid_out.lines.items) }
     {
         let text = Text::from_inline(alloc, src)?;
         let lines = layout(alloc, skin, text, width)?;
         Ok(FmtText { skin, lines, width })
+    }
+}
+
+impl MadSkin {
+    /// A text with inline marks, laid out for an area: at a width one column less than the area's. Only want of memory
+    /// is an error.
+    pub fn area_text<'k, 's>(
+        &'k self,
+        alloc: Global,
+        markdown: &'s str,
+        area: &Area,
+    ) -> Result<FmtText<'k, 's>, AllocError>
+        ensures skin { IfOk result (λ text. text.skin.now ≡ self.now) }
+        ensures width { IfOk result (λ text. text.width ≡ Some (area.now.width - 1)) }
+        ensures lines { IfOk result (λ text. IsAreaLayout self.now markdown.now area.now text.lines.items) }
+    {
+        let width = (area.width as usize).saturating_sub(1);
+        FmtText::from(alloc, self, markdown, Some(width))
     }
 }
 

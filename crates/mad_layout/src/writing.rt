@@ -1,38 +1,21 @@
 //! The writing calls of a skin.
 
-ghost use Rattle.std.specs.Prelude.{◌≡◌, ◌-◌, ◌≤◌, IfOk, IsErrOf, OnOk, Some};
+ghost use Rattle.std.specs.Prelude.{◌≡◌, ◌≤◌, IsErrOf, OnOk};
 ghost use Rattle.mad_term.specs.Draws.{Draws};
 ghost use Rattle.mad_term.specs.declared.errors.Error.TheVariants.{Memory};
 ghost use Rattle.mad_fit.specs.Areas.{IsWithinLimits};
-ghost use Rattle.mad_layout.specs.InArea.{IsAreaLayout, WritesInArea, ShowsText};
+ghost use Rattle.mad_layout.specs.InArea.{WritesInArea, ShowsText};
 ghost use Rattle.mad_layout.specs.Inlines.{WritesInline, composite_bytes};
 
 use crate::drawing::draw_text;
-use crate::fmt_text::FmtText;
 use crate::rows::push_free;
 use crate::skin::MadSkin;
 use mad_fit::Area;
 use mad_md::Composite;
 use mad_term::{Error, Out, put_all};
-use std::alloc::{AllocError, Global};
+use std::alloc::Global;
 
 impl MadSkin {
-    /// A text with inline marks, laid out for an area: at a width one column less than the area's. Only want of memory
-    /// is an error.
-    pub fn area_text<'k, 's>(
-        &'k self,
-        alloc: Global,
-        markdown: &'s str,
-        area: &Area,
-    ) -> Result<FmtText<'k, 's>, AllocError>
-        ensures skin { IfOk result (λ text. text.skin.now ≡ self.now) }
-        ensures width { IfOk result (λ text. text.width ≡ Some (area.now.width - 1)) }
-        ensures lines { IfOk result (λ text. IsAreaLayout self.now markdown.now area.now text.lines.items) }
-    {
-        let width = (area.width as usize).saturating_sub(1);
-        FmtText::from(alloc, self, markdown, Some(width))
-    }
-
     /// Writes a text with inline marks in an area: its first rows, each filling the area's width, and below the last
     /// one spaces in the paragraph's style. Nothing is flushed.
     ///

@@ -39,9 +39,9 @@ Asks (name ∷ words) (InArea area) skin = (name ≡ codes "area") × AsksArea w
 Asks (name ∷ words) Inline skin = (name ≡ codes "inline") × IsSkinWord words skin
 
 -- the command's area has four columns at least, and lies within the limits of a screen
-abbrev pub HasRoom : Command → Type 0
-HasRoom (InArea area) = (4 ≤ area.width) × IsWithinLimits area
-HasRoom Inline = ⊤
+abbrev pub IsAllowed : Command → Type 0
+IsAllowed (InArea area) = (4 ≤ area.width) × IsWithinLimits area
+IsAllowed Inline = ⊤
 
 -- the words ask for nothing that the program does
 abbrev pub IsNoCall : List (List ℕ) → Type 0

@@ -1,7 +1,7 @@
 //! What a call writes of its text.
 
 ghost use Rattle.std.specs.Prelude.{OnOk};
-ghost use Rattle.termimad_view.specs.Calls.{HasRoom};
+ghost use Rattle.termimad_view.specs.Calls.{IsAllowed};
 ghost use Rattle.termimad_view.specs.Lines.{IsWithoutLineEnd};
 ghost use Rattle.termimad_view.specs.Runs.{WritesCall, ShowsCall, WritesLine};
 
@@ -23,7 +23,7 @@ pub fn write_call<O: Out>(
     command: &Command,
     text: &str,
 ) -> Result<(), Error>
-    requires { HasRoom command.now }
+    requires { IsAllowed command.now }
     ensures writes { WritesCall skin.now command.now text.now (O.seen out.old) result (O.seen out.new) }
     ensures shown { OnOk result (ShowsCall skin.now command.now text.now (O.seen out.old) (O.seen out.new)) }
 {
