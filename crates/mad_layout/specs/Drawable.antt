@@ -38,9 +38,10 @@ pub record IsDrawable (skin : MadSkin) (width : ℕ) (l : FmtComposite) : Type 0
   pub indent_is : pieces_columns (mark_pieces skin l.kind) ≡ indent skin.list_items_indentation_mode l.kind
   pub text : AreShownPieces (map (compound_piece skin (line_style skin l.kind)) l.compounds.items)
 
--- all lines do so
+-- a line does so
 abbrev pub IsDrawableLine : MadSkin → ℕ → FmtLine → Type 0
 IsDrawableLine skin width (Normal l) = IsDrawable skin width l
 
+-- all lines do so
 abbrev pub AreDrawable : MadSkin → ℕ → List FmtLine → Type 0
 AreDrawable skin width lines = AllByRecursion (IsDrawableLine skin width) lines

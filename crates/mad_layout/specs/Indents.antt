@@ -38,6 +38,6 @@ indent mode (OrderedListItemFollowUp level index) = kept mode (ordered_indent le
 indent mode Code = 0
 indent mode Quote = 2
 
--- the columns in front of the first line of a composite of this kind, in front of its other lines, and of all lines with what follows
+-- the room of a composite of this kind: the columns in front of its first line, those in front of its others, and the lines' width
 abbrev pub room_of : MadSkin → CompositeKind → ℕ → Room
 room_of skin kind width = record { first = indent skin.list_items_indentation_mode kind; other = indent skin.list_items_indentation_mode (follow_up kind); width = width }

@@ -22,15 +22,17 @@ use std::alloc::{AllocError, Global};
 /// than there are starts.
 #[derive(Debug, Drop)]
 pub struct WrapBound {
-    /// The number of the token that begins each line, 0 for the first.
+    /// The number of the token that begins each line, 0 for the first; and where blanks are dropped after the last line,
+    /// that of the first of these.
     pub starts: Vec<usize>,
 }
 
 /// Starts that show how many lines each break of the composite has at least that fits in `width` columns and drops no
 /// blanks after its last line.
 ///
-/// `check_wrap_bound` says yes to them. Where each character has room, there are as many as `hard_wrap_composite` gives
-/// lines, and one more where that drops blanks after the last; a composite that fits has one. A width under 3 is refused.
+/// `check_wrap_bound` says yes to them. Where each character has room, they are the starts of the lines that
+/// `hard_wrap_composite` gives, and of the blanks that it drops after the last; of a clean cut there are two, and a composite
+/// that fits has one. A width under 3 is refused.
 /// The time is linear in the text.
 pub fn wrap_bound(
     alloc: Global,

@@ -7,7 +7,7 @@
 //! 3. [`composite`], [`line`]: a line with its cached width.
 //! 4. `clean_cut`, `placing`: the two ways of breaking a text that is too wide.
 //! 5. [`wrap`]: wrapping composites and lists of lines, with the fewest lines.
-//! 6. [`bound`]: starts of lines that show that no break that ends with its last line has fewer.
+//! 6. [`bound`]: starts of lines that show that no fitting break that ends with its last line has fewer.
 //! 7. [`fmt_text`], [`fmt_inline`]: reading a text and laying it out; reading one line.
 //! 8. `rows`: what is written of a line, piece by piece.
 //! 9. [`drawing`]: the rows of a text in an area of the screen.

@@ -29,7 +29,7 @@ impl Room {
         }
     }
 
-    /// The columns of the widest token that fits on the first line, where a token isn't a single character.
+    /// The columns that tokens are cut for: those behind the first line's indent. A token of one character may take more.
     pub fn token_limit(&self) -> usize
         ensures { result ≡ self.now.width - self.now.first }
     {

@@ -37,7 +37,7 @@ abbrev pub WritesLine : {T : Type 0} → MadSkin → List ℕ → Trace → Resu
 WritesLine skin line old r new =
     ((items : List Item) × IsInlineReading line items × Draws old (inline_bytes skin line items ++ (10 ∷ [])) r new) ⊎ (IsErrOf r NoMemory × (new ≡ old))
 
--- what the output is asked to take of a text: the text in its area; or its line without the end of line
+-- what the output is asked to take of a text: the text in its area; or its line without the end of line, and a newline
 abbrev pub WritesCall : {T : Type 0} → MadSkin → Command → List ℕ → Trace → Result T Error → Trace → Type 0
 WritesCall skin (InArea area) text old r new = WritesInArea skin text area old r new
 WritesCall skin Inline text old r new = (line : List ℕ) × IsWithoutLineEnd text line × WritesLine skin line old r new
