@@ -6,6 +6,7 @@ pub mod ClosedBreaks
 pub mod CutLemmas
 pub mod DrawableLemmas
 pub mod DrawnLayouts
+pub mod Examples
 pub mod Greedy
 pub mod HeadlineLemmas
 pub mod InlineLemmas
