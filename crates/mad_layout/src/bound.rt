@@ -12,10 +12,10 @@ ghost use Rattle.mad_term.specs.declared.errors.Error.TheVariants.{InsufficientW
 use crate::clean_cut::clean_cut;
 use crate::composite::FmtComposite;
 use crate::placing::{left_after, left_of, left_with};
-use crate::room::Room;
+use crate::room::{Room, check_width};
 use crate::skin::MadSkin;
 use mad_fit::{Token, tokenize};
-use mad_term::{Error, InsufficientWidthError};
+use mad_term::Error;
 use std::alloc::{AllocError, Global};
 
 /// Starts of lines, as numbers of tokens, which show that no fitting break that ends with its last line has fewer lines
@@ -48,11 +48,7 @@ pub fn wrap_bound(
     ensures refused { width < 3 → result ≡ Err (InsufficientWidth (record { available_width = width })) }
     ensures memory { 3 ≤ width → IfErr result (λ e. e ≡ Memory) }
 {
-    if width < 3 {
-        return Err(Error::InsufficientWidth(InsufficientWidthError {
-            available_width: width,
-        }));
-    }
+    check_width(width)?;
     let room = Room::of(skin, composite.kind, width);
     let tokens = tokenize(alloc, &composite.compounds, room.token_limit())?;
     let starts = match clean_cut(&composite.compounds, room) {
@@ -147,11 +143,7 @@ pub fn check_wrap_bound(
     ensures refused { width < 3 → result ≡ Err (InsufficientWidth (record { available_width = width })) }
     ensures memory { 3 ≤ width → IfErr result (λ e. e ≡ Memory) }
 {
-    if width < 3 {
-        return Err(Error::InsufficientWidth(InsufficientWidthError {
-            available_width: width,
-        }));
-    }
+    check_width(width)?;
     let room = Room::of(skin, composite.kind, width);
     let tokens = tokenize(alloc, &composite.compounds, room.token_limit())?;
     Ok(check_starts(&tokens, room, &bound.starts))

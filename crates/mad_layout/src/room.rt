@@ -1,9 +1,10 @@
-ghost use Rattle.std.specs.Prelude.{◌≡◌, ◌-◌};
+ghost use Rattle.std.specs.Prelude.{◌≡◌, ◌-◌, ◌≤◌, ◌<◌, IfOk, IfErr};
 ghost use Rattle.mad_layout.specs.Indents.{room_of};
 
 use crate::indents::composite_kind_widths;
 use crate::skin::MadSkin;
 use mad_style::CompositeKind;
+use mad_term::InsufficientWidthError;
 
 /// The columns that the lines of a wrapped composite have.
 #[derive(Clone, Copy, Debug)]
@@ -35,4 +36,17 @@ impl Room {
     {
         self.width.saturating_sub(self.first)
     }
+}
+
+/// Refuses a width, in columns, that is too small to wrap anything in.
+pub(crate) fn check_width(width: usize) -> Result<(), InsufficientWidthError>
+    ensures wide { IfOk result (λ _. 3 ≤ width) }
+    ensures narrow { IfErr result (λ e. (width < 3) × (e ≡ record { available_width = width })) }
+{
+    if width < 3 {
+        return Err(InsufficientWidthError {
+            available_width: width,
+        });
+    }
+    Ok(())
 }

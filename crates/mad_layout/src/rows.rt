@@ -42,9 +42,7 @@ fn push_single_spaces(
 fn push_char(row: &mut String, c: StyledChar) -> Result<(), AllocError>
     ensures { OnOk result (Appends (string_bytes row.old) (char_piece c ∷ []) (string_bytes row.new)) }
 {
-    let mut buffer = [0; 4];
-    let text = c.nude_char().encode_utf8(&mut buffer);
-    push_styled(row, c.compound_style().object_style, text)
+    c.push(row)
 }
 
 // What stands in front of a line's text.

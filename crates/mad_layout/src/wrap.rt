@@ -12,11 +12,11 @@ use crate::composite::FmtComposite;
 use crate::indents::follow_up;
 use crate::line::FmtLine;
 use crate::placing::place;
-use crate::room::Room;
+use crate::room::{Room, check_width};
 use crate::skin::MadSkin;
 use mad_fit::tokenize;
 use mad_md::Compound;
-use mad_term::{Error, InsufficientWidthError};
+use mad_term::Error;
 use std::alloc::{AllocError, Global};
 
 /// Wraps a composite that is wider than `width` columns, in the fewest lines.
@@ -41,11 +41,7 @@ pub fn hard_wrap_composite<'s>(
     ensures refused { width < 3 → result ≡ Err (InsufficientWidth (record { available_width = width })) }
     ensures memory { 3 ≤ width → IfErr result (λ e. e ≡ Memory) }
 {
-    if width < 3 {
-        return Err(Error::InsufficientWidth(InsufficientWidthError {
-            available_width: width,
-        }));
-    }
+    check_width(width)?;
     Ok(wrapped(alloc, composite, width, skin)?)
 }
 
