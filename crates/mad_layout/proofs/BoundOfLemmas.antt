@@ -15,10 +15,10 @@ use Rattle.mad_fit.proofs.UniqueLemmas.{all_unique}
 use Rattle.mad_layout.specs.Bounds.{is_blank_token, are_starts_from, are_starts}
 use Rattle.mad_layout.specs.Breaks.{LineAndGap, joined, total_width, AllBlank, FitsFrom, FittingBreak, EndsWithLine}
 use Rattle.mad_layout.specs.CleanCut.{fits_behind, both_fit, is_white, clean_cut, is_cut_clean}
-use Rattle.mad_layout.specs.LeastBound.{IsBound, IsAttained, AreChecked, drops_code, AreStartsOf}
+use Rattle.mad_layout.specs.LeastBound.{IsBound, IsAttained, AreChecked, drops_code, AreStartsOf, AreFewest, AreCutStarts, IsFirstPast}
 use Rattle.mad_layout.specs.LeastWrap.{AreTokensIn}
 use Rattle.mad_layout.specs.LineStarts.{starts_of}
-use Rattle.mad_layout.specs.PlacedLines.{TokensHaveRoom, ArePlacedStarts, IsFirstPast, AreCutStarts}
+use Rattle.mad_layout.specs.PlacedLines.{TokensHaveRoom, ArePlacedStarts}
 use Rattle.mad_layout.specs.Wraps.{HasRoom, LinesFit, AreFull}
 use Rattle.mad_layout.specs.declared.room.Room.{Room}
 use Rattle.mad_layout.proofs.BoundLemmas.{bound, total_width-append, eq_from_test}
@@ -52,26 +52,27 @@ closed_break r ts ps some covers fits room = closed r.first r ps some fits (subs
 fitting_of : (r : Room) (ts : List Token) (ps : List (LineAndGap Token)) → joined ps ≡ ts → (c : ClosedBreak r.first r ps) → FittingBreak r ts c.breaks
 fitting_of r ts ps covers c = record { some_line = c.some_line; covers = c.covers ∙ covers; fits = c.fits }
 
-pub placed_starts_of : (r : Room) (ps : List Compound) (ts : List Token) (starts : List ℕ) → r.other ≤ r.first → AreTokensIn r ps ts → clean_cut r ps ≡ None → ArePlacedStarts r ts starts → HasRoom r (flagged_text ps) → AreStartsOf r ps starts
-placed_starts_of r ps ts starts lower tokens uncut h space =
-    let max = r.width - r.first in
+-- the one placing
+pub placed_starts_of : (r : Room) (ps : List Compound) (ts : List Token) (starts : List ℕ) → AreTokensIn r ps ts → clean_cut r ps ≡ None → ArePlacedStarts r ts starts → AreStartsOf r ps starts
+placed_starts_of r ps ts starts tokens uncut h = record {
+  lines = λ _ us others lines full.
+      let same = all_unique (r.width - r.first) ps us ts others tokens in
+      let placed = full.placed in
+      h.starts_are ∙ ap starts_of (one_placing r ts h.pieces placed.pieces h.some_line placed.some_line
+      (record { gaps = h.gaps; forced = h.forced; within = h.within }) (record { gaps = placed.gaps; forced = full.forced; within = full.within }) (h.covers ∙ sym (placed.covers ∙ same)));
+  cut = λ on. absurd (let off : is_cut_clean r ps ≡ false = ap is_some uncut in cc);
+}
+
+pub placed_fewest : (r : Room) (ps : List Compound) (ts : List Token) (starts : List ℕ) → r.other ≤ r.first → AreTokensIn r ps ts → clean_cut r ps ≡ None → ArePlacedStarts r ts starts → HasRoom r (flagged_text ps) → AreFewest r ps starts
+placed_fewest r ps ts starts lower tokens uncut h space =
     let room = room_for_tokens r ps ts lower tokens space in
-    let are = h.starts_are room in
     let passes : are_starts r ts starts ≡ true = h.checked lower in
     let c = closed_break r ts h.pieces h.some_line h.covers (h.fits room) room in
-    let size : length c.breaks ≡ length starts = omega (arith, c.count, length-starts h.pieces, ap length are) in
-    let checked : (us : List Token) → AreTokensIn r ps us → are_starts r us starts ≡ true = λ us others. subst (λ (x : List Token). are_starts r x starts ≡ true) (all_unique max ps ts us tokens others) passes in
-    let attained : IsAttained r ps (length starts) = (ts, tokens, c.breaks, fitting_of r ts h.pieces h.covers c, c.ends, size) in
-    let low : IsBound r ps (length starts) = λ us others breaks fits ends. bound r us starts (checked us others) breaks fits ends in
+    let size : length c.breaks ≡ length starts = omega (arith, c.count, length-starts h.pieces, ap length (h.each_start room)) in
     record {
-      attained = λ _. attained;
-      lines = λ _ us others lines full.
-          let same = all_unique max ps us ts others tokens in
-          let placed = full.placed in
-          are ∙ ap starts_of (one_placing r ts h.pieces placed.pieces h.some_line placed.some_line
-          (record { gaps = h.gaps; forced = h.forced; within = h.within }) (record { gaps = placed.gaps; forced = full.forced; within = full.within }) (h.covers ∙ sym (placed.covers ∙ same)));
+      attained = λ _. (ts, tokens, c.breaks, fitting_of r ts h.pieces h.covers c, c.ends, size);
       cut = λ on. absurd (let off : is_cut_clean r ps ≡ false = ap is_some uncut in cc);
-      whole = λ fits. one_start r ts starts passes (low ts tokens (record { line = ts; gap = [] } ∷ []) (one_line_break r ts (omega (arith, fits, total_is r ps ts tokens))) refl);
+      whole = λ fits. one_start r ts starts passes (bound r ts starts passes (record { line = ts; gap = [] } ∷ []) (one_line_break r ts (omega (arith, fits, total_is r ps ts tokens))) refl);
     }
 
 -- ---- clean cuts
@@ -162,25 +163,25 @@ some_past r (t ∷ ts) (suc i) h room = omega arith
 total_take-le : (i : ℕ) (ts : List Token) → total_width (take i ts) ≤ total_width ts
 total_take-le i ts = omega (arith, total_width-append (take i ts) (drop i ts), ap total_width (take-append-drop i ts))
 
-pub cut_starts_of : (r : Room) (ps : List Compound) (ts : List Token) (starts : List ℕ) → r.other ≤ r.first → AreTokensIn r ps ts → is_cut_clean r ps ≡ true → AreCutStarts r ts starts → HasRoom r (flagged_text ps) → AreStartsOf r ps starts
+pub cut_starts_of : (r : Room) (ps : List Compound) (ts : List Token) (starts : List ℕ) → AreTokensIn r ps ts → is_cut_clean r ps ≡ true → AreCutStarts r ts starts → AreStartsOf r ps starts
+cut_starts_of r ps ts starts tokens on h = record {
+  lines = λ off. absurd (cc);
+  cut = λ _ us others. subst (λ (x : List Token). AreCutStarts r x starts) (all_unique (r.width - r.first) ps ts us tokens others) h;
+}
+
+pub cut_fewest : (r : Room) (ps : List Compound) (ts : List Token) (starts : List ℕ) → r.other ≤ r.first → AreTokensIn r ps ts → is_cut_clean r ps ≡ true → AreCutStarts r ts starts → HasRoom r (flagged_text ps) → AreFewest r ps starts
 unfolding TwoLines
-cut_starts_of r ps ts starts lower tokens on (inl (fits, are)) space =
-    let max = r.width - r.first in
-    record {
-      attained = λ _. (ts, tokens, record { line = ts; gap = [] } ∷ [], one_line_break r ts fits, refl, ap length (sym are));
-      lines = λ off. absurd (cc);
-      cut = λ _ wide. absurd (omega (arith, fits, wide, total_is r ps ts tokens));
-      whole = λ _. are;
-    }
-cut_starts_of r ps ts starts lower tokens on (inr (i, past, is, none)) space =
-    let max = r.width - r.first in
+cut_fewest r ps ts starts lower tokens on (inl (fits, are)) space = record {
+  attained = λ _. (ts, tokens, record { line = ts; gap = [] } ∷ [], one_line_break r ts fits, refl, ap length (sym are));
+  cut = λ _ wide. absurd (omega (arith, fits, wide, total_is r ps ts tokens));
+  whole = λ _. are;
+}
+cut_fewest r ps ts starts lower tokens on (inr (i, past, is, none)) space =
     let room = room_for_tokens r ps ts lower tokens space in
-    let some = some_past r ts i past room in
-    let are : starts ≡ 0 ∷ i ∷ [] = is some in
+    let are : starts ≡ 0 ∷ i ∷ [] = is (some_past r ts i past room) in
     record {
       attained = λ off. let two = cut_break r ps ts on off tokens in (ts, tokens, two.0, two.1, two.2, two.3 ∙ ap length (sym are));
-      lines = λ off. absurd (cc);
-      cut = λ _ _ us others. (i, are, subst (λ (x : List Token). r.first + total_width (take i x) ≤ r.width) (all_unique max ps ts us tokens others) (past.before space.first));
+      cut = λ _ _. ap length are;
       whole = λ fits. absurd (omega (arith, past.passes, fits, total_is r ps ts tokens, total_take-le (i + 1) ts));
     }
 

@@ -6,7 +6,7 @@ use Rattle.std.specs.Option.{option_or}
 use Rattle.mad_fit.specs.declared.tokens.Token.{Token}
 use Rattle.mad_layout.specs.Breaks.{LineAndGap, joined, total_width}
 use Rattle.mad_layout.specs.LineRoom.{left_of, fits_in, taken}
-use Rattle.mad_layout.specs.LineStarts.{starts_from, dropped_after, dropped_from}
+use Rattle.mad_layout.specs.LineStarts.{starts_from, dropped_after, dropped_from, from_first, starts_of}
 use Rattle.mad_layout.specs.PlacedLines.{TokensHaveRoom, ArePlacedStarts}
 use Rattle.mad_layout.specs.declared.room.Room.{Room}
 use Rattle.mad_layout.specs.Bounds.{are_starts_from, are_starts}
@@ -32,9 +32,18 @@ dropped_from-push n (q ∷ q' ∷ ps) p =
     dropped_from-push next (q' ∷ ps) p ∙ ap (λ m. dropped_after m p) place
 
 -- the starts of the lines so far, and the first token that was dropped behind the last
+-- a start behind others
+from_first-push : (ns : List ℕ) (i : ℕ) → 0 < i → 0 < length ns → from_first (ns ++ i ∷ []) ≡ from_first ns ++ i ∷ []
+from_first-push [] i some there = absurd (omega arith)
+from_first-push (n ∷ []) zero some there = absurd (omega arith)
+from_first-push (n ∷ []) (suc i) some there = refl
+from_first-push (n ∷ zero ∷ ns) i some there = refl
+from_first-push (n ∷ suc m ∷ ns) i some there = refl
+
 pub record StartsSoFar (r : Room) (ts : List Token) (left : Option ℕ) (dropped : Option ℕ) (starts : List ℕ) : Type 0 where
   pub shape : Shape r ts left (is_some dropped)
   pub starts_are : TokensHaveRoom r ts → starts ≡ starts_from 0 shape.pieces ++ length (joined shape.pieces) ∷ []
+  pub begun : starts ≡ from_first (starts_from 0 shape.pieces ++ length (joined shape.pieces) ∷ [])
   pub dropped_is : (n : ℕ) → dropped ≡ Some n → n ≡ length (joined shape.pieces) + length shape.tokens
   -- the checker's indent of the last start's line, and what it says of starts that go on from there
   pub indent : ℕ
@@ -43,7 +52,7 @@ pub record StartsSoFar (r : Room) (ts : List Token) (left : Option ℕ) (dropped
 
 pub starts_begin : (r : Room) → StartsSoFar r [] (left_of r.width r.first) None (0 ∷ [])
 unfolding shape_start
-starts_begin r = record { shape = shape_start r; starts_are = λ _. refl; dropped_is = λ n e. absurd (cc); indent = r.first; indent_is = λ _. omega arith; checked = λ all rest e o ns h. h }
+starts_begin r = record { shape = shape_start r; starts_are = λ _. refl; begun = refl; dropped_is = λ n e. absurd (cc); indent = r.first; indent_is = λ _. omega arith; checked = λ all rest e o ns h. h }
 
 pub starts_fit : (r : Room) (ts : List Token) (t : Token) (left new_left : Option ℕ) (dropped : Option ℕ) (ended : Bool) (starts : List ℕ) → StartsSoFar r ts left dropped starts → ended ≡ is_some dropped
     → ended ≡ false → fits_in left t.width ≡ true → taken left t.width ≡ new_left → StartsSoFar r (ts ++ t ∷ []) new_left dropped starts
@@ -53,6 +62,7 @@ starts_fit r ts t left new_left None ended starts h is none fits took =
     subst (λ l. StartsSoFar r (ts ++ t ∷ []) l None starts) took (record {
       shape = shape_fits r ts t left h.shape fits;
       starts_are = λ room. h.starts_are (room_front r ts (t ∷ []) room);
+      begun = h.begun;
       dropped_is = λ n e. absurd (cc);
       indent = h.indent;
       indent_is = h.indent_is;
@@ -69,6 +79,7 @@ starts_end r ts t left (Some m) new_dropped ended starts i h is place blank why 
     subst (λ d. StartsSoFar r (ts ++ t ∷ []) left d starts) (sym new) (record {
       shape = shape_ends r ts t left true h.shape blank (inl refl);
       starts_are = λ room. h.starts_are (room_front r ts (t ∷ []) room);
+      begun = h.begun;
       dropped_is = h.dropped_is;
       indent = h.indent;
       indent_is = h.indent_is;
@@ -79,6 +90,7 @@ starts_end r ts t left None new_dropped ended starts i h is place blank why new 
     subst (λ d. StartsSoFar r (ts ++ t ∷ []) left d starts) (sym new) (record {
       shape = shape_ends r ts t left false h.shape blank fails;
       starts_are = λ room. h.starts_are (room_front r ts (t ∷ []) room);
+      begun = h.begun;
       dropped_is = λ n e. let same : i ≡ n = cc in omega (arith, place, same, length_so_far r ts left false h.shape, ap length (h.shape.no_gap refl));
       indent = h.indent;
       indent_is = h.indent_is;
@@ -105,6 +117,23 @@ some_between r ts left ended h some =
       | p ∷ ps ↦ λ e. omega (arith, last_some r.first r h.pieces (record { line = h.tokens; gap = h.gap }) h.forced (omega (arith, ap length e)), length-append h.tokens h.gap)
     ] in
     by h.pieces refl
+
+-- a line's start behind those so far: one that is 0 is that of the first line
+next_start : (r : Room) (ts : List Token) (left : Option ℕ) (ended : Bool) (s : Shape r ts left ended) (starts new : List ℕ) (n : ℕ) → starts ≡ from_first (starts_from 0 s.pieces ++ length (joined s.pieces) ∷ [])
+    → length (joined s.pieces) + length s.tokens ≤ n → (0 < n → new ≡ starts ++ n ∷ []) → (n ≡ 0 → new ≡ starts) → new ≡ from_first ((starts_from 0 s.pieces ++ length (joined s.pieces) ∷ []) ++ n ∷ [])
+next_start r ts left ended s starts new zero begun place some none =
+    let by : (ps : List (LineAndGap Token)) → s.pieces ≡ ps → new ≡ from_first ((starts_from 0 s.pieces ++ length (joined s.pieces) ∷ []) ++ 0 ∷ []) =
+    λ ps. elim ps as (λ ps. s.pieces ≡ ps → new ≡ from_first ((starts_from 0 s.pieces ++ length (joined s.pieces) ∷ []) ++ 0 ∷ [])) [
+      | [] ↦ λ e.
+          none refl ∙ begun ∙ ap (λ (qs : List (LineAndGap Token)). from_first (starts_from 0 qs ++ length (joined qs) ∷ [])) e
+          ∙ ap (λ (qs : List (LineAndGap Token)). from_first ((starts_from 0 qs ++ length (joined qs) ∷ []) ++ 0 ∷ [])) (sym e)
+      | p ∷ ps ↦ λ e. absurd (omega (arith, place, last_some r.first r s.pieces (record { line = s.tokens; gap = s.gap }) s.forced (omega (arith, ap length e))))
+    ] in
+    by s.pieces refl
+next_start r ts left ended s starts new (suc n) begun place some none =
+    let before = starts_from 0 s.pieces ++ length (joined s.pieces) ∷ [] in
+    let there : 0 < length before = omega (arith, length-append (starts_from 0 s.pieces) (length (joined s.pieces) ∷ [])) in
+    some (omega arith) ∙ ap (λ l. l ++ suc n ∷ []) begun ∙ sym (from_first-push before (suc n) (omega arith) there)
 
 -- what the checker says of the starts where one more is begun, or the first line has no token
 next_checked : (r : Room) (ts : List Token) (t : Token) (left : Option ℕ) (dropped : Option ℕ) (starts new_starts : List ℕ) (i indent : ℕ) (h : StartsSoFar r ts left dropped starts) → i ≡ length ts → t.blank ≡ false
@@ -137,11 +166,16 @@ starts_next r ts t left new_left dropped ended starts new_starts i h is place so
     pushed.0 some ∙ ap (λ l. l ++ i ∷ []) (h.starts_are before)
     ∙ ap (λ m. (starts_from 0 s.pieces ++ m ∷ []) ++ i ∷ []) (omega arith)
     ∙ ap (λ l. l ++ i ∷ []) (sym (starts_from-push 0 s.pieces p)) ∙ ap (λ m. starts_from 0 (s.pieces ++ p ∷ []) ++ m ∷ []) (sym all) in
+    let begins : new_starts ≡ from_first (starts_from 0 (s.pieces ++ p ∷ []) ++ length (joined (s.pieces ++ p ∷ [])) ∷ []) =
+    next_start r ts left (is_some dropped) s starts new_starts i h.begun (omega (arith, place, length_so_far r ts left (is_some dropped) s)) pushed.0 pushed.1
+    ∙ ap (λ m. from_first ((starts_from 0 s.pieces ++ m ∷ []) ++ i ∷ [])) (omega arith)
+    ∙ ap (λ l. from_first (l ++ i ∷ [])) (sym (starts_from-push 0 s.pieces p)) ∙ ap (λ m. from_first (starts_from 0 (s.pieces ++ p ∷ []) ++ m ∷ [])) (sym all) in
     let by : (n : ℕ) → i ≡ n → StartsSoFar r (ts ++ t ∷ []) (left_of r.width (r.other + t.width)) None new_starts =
     λ n. elim n as (λ n. i ≡ n → StartsSoFar r (ts ++ t ∷ []) (left_of r.width (r.other + t.width)) None new_starts) [
       | zero ↦ λ e. record {
         shape = shape_begins r ts t left (is_some dropped) s solid fails;
         starts_are = are;
+        begun = begins;
         dropped_is = λ n e. absurd (cc);
         indent = h.indent;
         indent_is = λ o. omega (arith, h.indent_is o, o, next_indent-push r s.pieces p, first_line r s.pieces);
@@ -154,6 +188,7 @@ starts_next r ts t left new_left dropped ended starts new_starts i h is place so
       | suc m ↦ λ e. record {
         shape = shape_begins r ts t left (is_some dropped) s solid fails;
         starts_are = are;
+        begun = begins;
         dropped_is = λ n e. absurd (cc);
         indent = r.other;
         indent_is = λ o. omega (arith, next_indent-push r s.pieces p);
@@ -237,6 +272,22 @@ starts_all r ts left dropped starts all h none some =
           let here : n ≡ 0 + length (joined s.pieces) + length s.tokens = omega (arith, place) in
           (some n e).0 there ∙ ap (λ l. l ++ n ∷ []) (before room) ∙ ap (λ m. starts_from 0 (s.pieces ++ p ∷ []) ++ m ∷ []) here ∙ ap (λ l. starts_from 0 (s.pieces ++ p ∷ []) ++ l) (sym (dropped_from-push 0 s.pieces p ∙ one))
     ] in
+    let same : starts_from 0 s.pieces ++ length (joined s.pieces) ∷ [] ≡ starts_from 0 (s.pieces ++ p ∷ []) =
+    ap (λ m. starts_from 0 s.pieces ++ m ∷ []) (omega arith) ∙ sym (starts_from-push 0 s.pieces p) in
+    let each : (d : Option ℕ) → dropped ≡ d → all ≡ starts_of (s.pieces ++ p ∷ []) =
+    λ d. elim d as (λ d. dropped ≡ d → all ≡ starts_of (s.pieces ++ p ∷ [])) [
+      | None ↦ λ e.
+          let empty = dropped_none (0 + length (joined s.pieces)) p (s.no_gap (ap (λ (d : Option ℕ). is_some d) e)) in
+          none e ∙ h.begun ∙ ap from_first (same ∙ sym (append-nil (starts_from 0 (s.pieces ++ p ∷ []))) ∙ ap (λ l. starts_from 0 (s.pieces ++ p ∷ []) ++ l) (sym (dropped_from-push 0 s.pieces p ∙ empty)))
+      | Some n ↦ λ e.
+          let gap = s.some_gap (ap (λ (d : Option ℕ). is_some d) e) in
+          let place = h.dropped_is n e in
+          let one = dropped_some (0 + length (joined s.pieces)) p gap in
+          let here : n ≡ 0 + length (joined s.pieces) + length s.tokens = omega (arith, place) in
+          next_start r ts left (is_some dropped) s starts all n h.begun (omega (arith, place)) (some n e).0 (some n e).1
+          ∙ ap (λ l. from_first (l ++ n ∷ [])) same ∙ ap (λ m. from_first (starts_from 0 (s.pieces ++ p ∷ []) ++ m ∷ [])) here
+          ∙ ap (λ l. from_first (starts_from 0 (s.pieces ++ p ∷ []) ++ l)) (sym (dropped_from-push 0 s.pieces p ∙ one))
+    ] in
     record {
       pieces = s.pieces ++ p ∷ [];
       some_line = lines;
@@ -245,7 +296,8 @@ starts_all r ts left dropped starts all h none some =
       forced = s.forced;
       within = within_push r s.pieces p s.within s.within_here;
       fits = λ room. fit_push r s.pieces p (s.fits room) (s.line_fits room) s.gap_blank;
-      starts_are = by dropped refl;
+      starts_are = each dropped refl;
+      each_start = by dropped refl;
       checked = λ o. end_checked r ts left dropped starts all h none some o;
     }
 

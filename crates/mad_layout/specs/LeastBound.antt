@@ -1,5 +1,5 @@
 -- How many lines each fitting break that ends with its last line has at least, and that some has no more.
-use Rattle.std.specs.Prelude.{◌≡◌, ℕ, ◌+◌, ◌≤◌, ◌<◌, ◌&&◌, Bool, true, false, List, [], ◌∷◌, length, take}
+use Rattle.std.specs.Prelude.{◌≡◌, ℕ, ◌+◌, ◌≤◌, ◌<◌, ◌⊎◌, ◌&&◌, Bool, true, false, List, [], ◌∷◌, length, take}
 use Rattle.mad_md.specs.Flagged.{FlaggedChar, flagged_text}
 use Rattle.mad_md.specs.declared.compound.Compound.{Compound}
 use Rattle.mad_fit.specs.declared.tokens.Token.{Token}
@@ -29,13 +29,28 @@ drops_code r _ = false
 abbrev pub AreChecked : Room → List Compound → List ℕ → Type 0
 AreChecked r ps starts = (ts : List Token) → AreTokensIn r ps ts → are_starts r ts starts ≡ true
 
--- The starts of the lines of a wrap of the compounds, where each character has room; of a text that is cut clean, the starts of a bound.
+-- the first token with which the tokens from the first on pass the first line, if one is
+pub record IsFirstPast (r : Room) (ts : List Token) (i : ℕ) : Type 0 where
+  pub inside : i < length ts
+  pub before : r.first ≤ r.width → r.first + total_width (take i ts) ≤ r.width
+  pub passes : r.width < r.first + total_width (take (i + 1) ts)
+
+-- the starts of a clean cut in a first line with room: 0, and the first token that passes the line, if one does
+abbrev pub AreCutStarts : Room → List Token → List ℕ → Type 0
+AreCutStarts r ts starts = ((r.first + total_width ts ≤ r.width) × (starts ≡ 0 ∷ [])) ⊎ ((i : ℕ) × IsFirstPast r ts i × (0 < i → starts ≡ 0 ∷ i ∷ []) × (i ≡ 0 → starts ≡ 0 ∷ []))
+
+-- The starts of the lines of a wrap of the compounds; of a text that is cut clean, the starts of a bound.
 pub record AreStartsOf (r : Room) (ps : List Compound) (starts : List ℕ) : Type 0 where
+  -- the starts of the lines of the one placing
+  pub lines : is_cut_clean r ps ≡ false → (ts : List Token) → AreTokensIn r ps ts → (lines : List (List FlaggedChar)) → (full : AreFull r ts lines) → starts ≡ starts_of full.placed.pieces
+  -- in a clean cut, the first token that passes the first line is the second start
+  pub cut : is_cut_clean r ps ≡ true → (ts : List Token) → AreTokensIn r ps ts → AreCutStarts r ts starts
+
+-- There are as few as lines of a break, where each character has room.
+pub record AreFewest (r : Room) (ps : List Compound) (starts : List ℕ) : Type 0 where
   -- some fitting break has just so many lines, but where a clean cut drops a middle in code
   pub attained : drops_code r ps ≡ false → IsAttained r ps (length starts)
-  -- they are the starts of the lines of the placing
-  pub lines : is_cut_clean r ps ≡ false → (ts : List Token) → AreTokensIn r ps ts → (lines : List (List FlaggedChar)) → (full : AreFull r ts lines) → starts ≡ starts_of full.placed.pieces
-  -- in a clean cut of a text that doesn't fit, there are two, and the tokens before the second fit on the first line
-  pub cut : is_cut_clean r ps ≡ true → r.width < r.first + width_of (flagged_text ps) → (ts : List Token) → AreTokensIn r ps ts → (i : ℕ) × (starts ≡ 0 ∷ i ∷ []) × (r.first + total_width (take i ts) ≤ r.width)
+  -- in a clean cut of a text that doesn't fit, there are two
+  pub cut : is_cut_clean r ps ≡ true → r.width < r.first + width_of (flagged_text ps) → length starts ≡ 2
   -- a text that fits has one
   pub whole : r.first + width_of (flagged_text ps) ≤ r.width → starts ≡ 0 ∷ []

@@ -1,5 +1,5 @@
 -- The tokens that begin the lines of a break, by their numbers.
-use Rattle.std.specs.Prelude.{ℕ, ◌+◌, ◌==◌, if◌then◌else◌, List, [], ◌∷◌, ◌++◌, length}
+use Rattle.std.specs.Prelude.{ℕ, zero, suc, ◌+◌, ◌==◌, if◌then◌else◌, List, [], ◌∷◌, ◌++◌, length}
 use Rattle.mad_fit.specs.declared.tokens.Token.{Token}
 use Rattle.mad_layout.specs.Breaks.{LineAndGap}
 
@@ -17,6 +17,13 @@ dropped_from n [] = []
 dropped_from n (p ∷ []) = dropped_after n p
 dropped_from n (p ∷ q ∷ ps) = dropped_from (n + (length p.line + length p.gap)) (q ∷ ps)
 
+-- a second start that is 0, that of a line behind a first one without a token, isn't said again
+abbrev pub from_first : List ℕ → List ℕ
+from_first [] = []
+from_first (n ∷ []) = n ∷ []
+from_first (n ∷ zero ∷ ns) = n ∷ ns
+from_first (n ∷ suc m ∷ ns) = n ∷ suc m ∷ ns
+
 -- The tokens that begin the lines, and where blanks are dropped after the last, the first of these.
 abbrev pub starts_of : List (LineAndGap Token) → List ℕ
-starts_of ps = starts_from 0 ps ++ dropped_from 0 ps
+starts_of ps = from_first (starts_from 0 ps ++ dropped_from 0 ps)

@@ -13,7 +13,7 @@ use Rattle.mad_layout.specs.declared.room.Room.{Room}
 use Rattle.mad_layout.specs.declared.composite.FmtComposite.{FmtComposite}
 use Rattle.mad_layout.specs.Bounds.{are_starts}
 use Rattle.mad_layout.specs.Breaks.{LineAndGap, joined, total_width, FitsFrom, FittingBreak}
-use Rattle.mad_layout.specs.LineStarts.{starts_of}
+use Rattle.mad_layout.specs.LineStarts.{starts_from, dropped_from, starts_of}
 use Rattle.mad_layout.specs.Wraps.{capped, GapsForced, LinesForced, LinesWithin}
 
 -- the line holds these tokens, behind an indent
@@ -80,15 +80,6 @@ pub record ArePlacedStarts (r : Room) (ts : List Token) (starts : List ℕ) : Ty
   pub forced : LinesForced r.first r pieces
   pub within : LinesWithin 0 r.first r pieces
   pub fits : TokensHaveRoom r ts → FitsFrom r.first r pieces
-  pub starts_are : TokensHaveRoom r ts → starts ≡ starts_of pieces
+  pub starts_are : starts ≡ starts_of pieces
+  pub each_start : TokensHaveRoom r ts → starts ≡ starts_from 0 pieces ++ dropped_from 0 pieces
   pub checked : r.other ≤ r.first → are_starts r ts starts ≡ true
-
--- the first token with which the tokens from the first on pass the first line, if one is
-pub record IsFirstPast (r : Room) (ts : List Token) (i : ℕ) : Type 0 where
-  pub inside : i < length ts
-  pub before : r.first ≤ r.width → r.first + total_width (take i ts) ≤ r.width
-  pub passes : r.width < r.first + total_width (take (i + 1) ts)
-
--- the starts of a clean cut in a first line with room: 0, and the first token that passes the line, if one does
-abbrev pub AreCutStarts : Room → List Token → List ℕ → Type 0
-AreCutStarts r ts starts = ((r.first + total_width ts ≤ r.width) × (starts ≡ 0 ∷ [])) ⊎ ((i : ℕ) × IsFirstPast r ts i × (0 < i → starts ≡ 0 ∷ i ∷ []) × (i ≡ 0 → starts ≡ 0 ∷ []))

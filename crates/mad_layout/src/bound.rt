@@ -4,8 +4,8 @@ ghost use Rattle.mad_layout.specs.Breaks.{LineAndGap, FittingBreak, EndsWithLine
 ghost use Rattle.mad_layout.specs.Bounds.{are_starts, are_starts_from, is_blank_token};
 ghost use Rattle.mad_layout.specs.Indents.{room_of};
 ghost use Rattle.mad_layout.specs.LeastWrap.{AreTokensIn, AreTokenized};
-ghost use Rattle.mad_layout.specs.LeastBound.{IsBound, AreChecked, AreStartsOf};
-ghost use Rattle.mad_layout.specs.PlacedLines.{ArePlacedStarts, AreCutStarts, IsFirstPast};
+ghost use Rattle.mad_layout.specs.LeastBound.{IsBound, AreChecked, AreStartsOf, AreFewest, AreCutStarts, IsFirstPast};
+ghost use Rattle.mad_layout.specs.PlacedLines.{ArePlacedStarts};
 ghost use Rattle.mad_layout.specs.Wraps.{HasRoom, text_of};
 ghost use Rattle.mad_term.specs.declared.errors.Error.TheVariants.{InsufficientWidth, Memory};
 
@@ -30,9 +30,11 @@ pub struct WrapBound {
 /// Starts that show how many lines each break of the composite has at least that fits in `width` columns and drops no
 /// blanks after its last line.
 ///
-/// `check_wrap_bound` says yes to them. Where each character has room, they are the starts of the lines that
-/// `hard_wrap_composite` gives, and of the blanks that it drops after the last; of a clean cut there are two, and a composite
-/// that fits has one. A width under 3 is refused.
+/// `check_wrap_bound` says yes to them. They are the starts of the lines that `hard_wrap_composite` gives, and of the blanks
+/// that it drops after the last; a first line without a token and the one behind it both have the start 0, which stands once.
+/// Of a clean cut they are 0 and the first token that passes the first line. Where each character has room, some break has
+/// just so many lines, unless a clean cut drops a middle in code; a composite that fits has one start. A width under 3 is
+/// refused.
 /// The time is linear in the text.
 pub fn wrap_bound(
     alloc: Global,
@@ -43,8 +45,9 @@ pub fn wrap_bound(
     ensures tokenized { IfOk result (λ _. AreTokenized (room_of skin.now composite.now.kind width) composite.now.compounds.items) }
     ensures checked { IfOk result (λ bound. AreChecked (room_of skin.now composite.now.kind width) composite.now.compounds.items bound.starts.items) }
     ensures bound { IfOk result (λ bound. IsBound (room_of skin.now composite.now.kind width) composite.now.compounds.items (length bound.starts.items)) }
-    ensures starts { HasRoom (room_of skin.now composite.now.kind width) (text_of composite.now)
-        → IfOk result (λ bound. AreStartsOf (room_of skin.now composite.now.kind width) composite.now.compounds.items bound.starts.items) }
+    ensures starts { IfOk result (λ bound. AreStartsOf (room_of skin.now composite.now.kind width) composite.now.compounds.items bound.starts.items) }
+    ensures fewest { HasRoom (room_of skin.now composite.now.kind width) (text_of composite.now)
+        → IfOk result (λ bound. AreFewest (room_of skin.now composite.now.kind width) composite.now.compounds.items bound.starts.items) }
     ensures refused { width < 3 → result ≡ Err (InsufficientWidth (record { available_width = width })) }
     ensures memory { 3 ≤ width → IfErr result (λ e. e ≡ Memory) }
 {

@@ -1,5 +1,5 @@
+use Rattle.mad_layout.specs.LeastBound.{AreCutStarts}
 use Rattle.std.proofs.Common.{◌≤◌, ◌∷◌, [], ◌++◌, ap, ◌∙◌, inl, inr}
-use Rattle.mad_layout.specs.PlacedLines.{AreCutStarts}
 use Rattle.mad_layout.proofs.bound.cut_starts.Goals as goal
 use Rattle.mad_layout.proofs.bound.cut_starts.Goals.{in-Some+in_ok-push_start, in_default}
 
