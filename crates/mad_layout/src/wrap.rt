@@ -107,7 +107,8 @@ pub fn hard_wrap_lines<'s>(
     ensures narrow { width < 3 → IfOk result (λ _. AllFit skin.now width lines.entry.items) }
     ensures refused { IfErr result (λ e. (e ≡ Memory) ⊎ ((e ≡ InsufficientWidth (record { available_width = width })) × (width < 3) × ¬ (AllFit skin.now width lines.entry.items))) }
 {
-    let mut wrapped = Vec::new(alloc);
+    // Most lines stay one.
+    let mut wrapped = Vec::with_capacity(alloc, lines.len())?;
     for line in lines {
         push_line(alloc, &mut wrapped, line, width, skin)?;
     }
