@@ -1,19 +1,20 @@
 //! Texts, laid out.
 
-ghost use Rattle.std.specs.Prelude.{◌≡◌, ◌-◌, IfOk, OnOk, Some};
+ghost use Rattle.std.specs.Prelude.{◌≡◌, ◌-◌, ◌≤◌, IfOk, OnOk, Some};
 ghost use Rattle.mad_md.specs.Lines.{contents};
 ghost use Rattle.mad_md.specs.ReadByMarks.{IsReadByMarks};
 ghost use Rattle.mad_md.specs.ReadRaw.{IsReadRaw};
 ghost use Rattle.mad_md.specs.declared.text.Text.{Text};
 ghost use Rattle.mad_layout.specs.FittingLayouts.{IsFittingLayoutAt};
 ghost use Rattle.mad_layout.specs.InArea.{IsAreaLayout};
-ghost use Rattle.mad_layout.specs.Layouts.{composites, AreRead, IsLayoutAt};
+ghost use Rattle.mad_layout.specs.Layouts.{composites, AreRead, IsLayout, IsLayoutAt};
 
 use crate::line::FmtLine;
 use crate::skin::MadSkin;
-use crate::wrap::hard_wrap_lines;
+use crate::wrap::push_line;
 use mad_fit::Area;
 use mad_md::{Line, Text};
+use mad_term::Error;
 use std::alloc::{AllocError, Global};
 
 /// A text that is laid out: its lines, none wider than the width where that can be had.
@@ -90,7 +91,7 @@ impl MadSkin {
 }
 
 // The lines of a text, laid out at a width.
-#[tactic(auto, using(crate::proofs::LayoutLemmas::read_measured, crate::proofs::LayoutLemmas::wrapped_layout, crate::proofs::LayoutLemmas::unwrapped_layout))]
+#[tactic(auto, using(crate::proofs::LayoutLemmas::wrapped_layout, crate::proofs::LayoutLemmas::unwrapped_layout))]
 fn layout<'s>(
     alloc: Global,
     skin: &MadSkin,
@@ -99,13 +100,33 @@ fn layout<'s>(
 ) -> Result<Vec<FmtLine<'s>>, AllocError>
     ensures { IfOk result (λ lines. IsLayoutAt skin.now width (composites (contents text.entry)) lines.items) }
 {
-    let lines = measured_lines(alloc, skin, text)?;
     match width {
-        Some(width) if width >= 3 => {
-            hard_wrap_lines(alloc, lines, width, skin).map_err(|_| AllocError)
-        }
-        _ => Ok(lines),
+        Some(width) if width >= 3 => wrapped_lines(alloc, skin, text, width).map_err(|_| AllocError),
+        _ => measured_lines(alloc, skin, text),
     }
+}
+
+// The lines of a text, each wrapped at a width as soon as it is measured.
+#[tactic(auto, using(crate::proofs::LayoutLemmas::line_measured))]
+fn wrapped_lines<'s>(
+    alloc: Global,
+    skin: &MadSkin,
+    text: Text<'s>,
+    width: usize,
+) -> Result<Vec<FmtLine<'s>>, Error>
+    ensures { IfOk result (λ lines. IsLayout skin.now width (composites (contents text.entry)) lines.items) }
+{
+    // Most lines stay one.
+    let mut lines = Vec::with_capacity(alloc, text.lines.len())?;
+    for line in text.lines {
+        match line {
+            Line::Normal(composite) => {
+                push_line(alloc, &mut lines, FmtLine::from(composite, skin), width, skin)?;
+            }
+            Line::TableRow(_) | Line::TableRule(_) | Line::HorizontalRule => {}
+        }
+    }
+    Ok(lines)
 }
 
 // The lines of a text as they were read, measured.

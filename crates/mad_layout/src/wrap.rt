@@ -115,8 +115,8 @@ pub fn hard_wrap_lines<'s>(
     Ok(wrapped)
 }
 
-// Puts what a line becomes behind the lines that are there.
-fn push_line<'s>(
+/// Puts what a line becomes behind the lines that are there.
+pub(crate) fn push_line<'s>(
     alloc: Global,
     lines: &mut Vec<FmtLine<'s>>,
     line: FmtLine<'s>,
