@@ -51,9 +51,9 @@ pub record IsWrapIn (r : Room) (skin : MadSkin) (source : FmtComposite) (lines :
   pub none_empty : NoneEmpty source.compounds.items → AllByRecursion (λ l. NoneEmpty l.compounds.items) lines
   -- a clean cut is two lines of a compound each
   pub cut : (front back : Compound) → clean_cut r source.compounds.items ≡ Some (front, back) → map runs_of lines ≡ (run_of front ∷ []) ∷ (run_of back ∷ []) ∷ []
-  -- any other text has tokens,
+  -- any other text has tokens, and only these
   pub tokenized : is_cut_clean r source.compounds.items ≡ false → AreTokenized r source.compounds.items
-  -- and these are placed on the fewest lines
+  -- with them the lines are a least break, as those of a clean cut are
   pub least : (ts : List Token) → AreTokensIn r source.compounds.items ts → IsLeastBreak r source.compounds.items ts lines
   pub kinds : HaveKinds source.kind (follow_up source.kind) lines
   pub measured : AllByRecursion (IsMeasured skin) lines
