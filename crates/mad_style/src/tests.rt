@@ -293,7 +293,8 @@ fn kinds_of_what_was_read(rt: HostRuntime) {
 #[test]
 fn what_the_writing_calls_write(rt: HostRuntime) -> Result<(), Fail> {
     let alloc = rt.alloc();
-    let mut out = CutOut::new(alloc, 7, 1000, false)?;
+    // Its flush fails: a call that flushes would be refused.
+    let mut out = CutOut::new(alloc, 7, 1000, true)?;
     let mut bold = CompoundStyle::with_fgbg(Color::Red, Color::Blue);
     bold.add_attr(Attribute::Bold);
     let red = LineStyle::from(CompoundStyle::with_fg(Color::Red));

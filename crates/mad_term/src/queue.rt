@@ -89,7 +89,7 @@ pub fn queue_styled<O: Out>(
     ensures writes { Draws (O.seen out.old) (piece_bytes style text.now) result (O.seen out.new) }
     ensures early { IsErrOf result Memory → O.seen out.new ≡ O.seen out.old }
 
-    // The numbers of its colors are bytes, what reading the piece back needs to know.
+    // The numbers of its colors are bytes: what reading the piece back needs to know.
     ensures bytes { IsStyle style }
 {
     // A plain text goes out as it is.

@@ -82,3 +82,24 @@ fn writers_and_readers_of_std_are_devices(rt: HostRuntime) -> Result<(), Fail> {
     assert!(rt; matches!(source.get(), Ok(None)));
     Ok(())
 }
+
+#[test]
+fn a_sound_writer_takes_thousands_of_bytes(rt: HostRuntime) -> Result<(), Fail> {
+    let alloc = rt.alloc();
+    let text = "0123456789".repeat(alloc, 1000)?;
+    let mut taken = Vec::new(alloc);
+    let mut out = Stream::new(&mut taken);
+    assert!(rt; matches!(out.put(text.as_bytes()), Ok(10000)));
+    assert!(rt; put_all(&mut out, text.as_bytes()).is_ok());
+    assert!(rt; out.flush().is_ok());
+    assert!(rt; taken.as_slice() == text.repeat(alloc, 2)?.as_bytes());
+
+    let mut source = Stream::new(text.as_bytes());
+    for byte in text.as_bytes() {
+        assert!(rt; matches!(source.get(), Ok(Some(got)) if got == *byte));
+    }
+    for _ in 0..2 {
+        assert!(rt; matches!(source.get(), Ok(None)));
+    }
+    Ok(())
+}
