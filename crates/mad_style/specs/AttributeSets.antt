@@ -18,5 +18,5 @@ abbrev pub only : Attribute → Attributes
 only a = record { bits = record { 0 = 2 ^ place a }; within = bit-lt a }
 
 -- the attributes of both sets
-abbrev pub joined : Attributes → Attributes → Attributes
-joined s t = record { bits = record { 0 = bit_or (attribute_bits s) (attribute_bits t) }; within = or_lt 24 _ _ s.within t.within }
+abbrev pub united : Attributes → Attributes → Attributes
+united s t = record { bits = record { 0 = bit_or (attribute_bits s) (attribute_bits t) }; within = or_lt 24 _ _ s.within t.within }

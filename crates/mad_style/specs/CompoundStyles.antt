@@ -5,7 +5,7 @@ use Rattle.mad_term.specs.declared.attribute.Attribute.{Attribute}
 use Rattle.mad_term.specs.declared.attributes.Attributes.{Attributes}
 use Rattle.mad_term.specs.declared.color.Color.{Color}
 use Rattle.mad_style.specs.declared.compound_styles.CompoundStyle.{CompoundStyle}
-use Rattle.mad_style.specs.AttributeSets.{no_attributes, only, joined}
+use Rattle.mad_style.specs.AttributeSets.{no_attributes, only, united}
 
 -- a style of this foreground, this background and these attributes, without a color of its own for the underline
 abbrev pub text_style : Option Color → Option Color → Attributes → CompoundStyle
@@ -35,7 +35,7 @@ background_set style color = record style { object_style = record style.object_s
 abbrev pub attribute_added : CompoundStyle → Attribute → CompoundStyle
 attribute_added style a =
     record style {
-      object_style = record style.object_style { attributes = joined style.object_style.attributes (only a) };
+      object_style = record style.object_style { attributes = united style.object_style.attributes (only a) };
     }
 
 -- a style overwritten with another: the other's foreground and background where they are present, and the attributes of
@@ -46,6 +46,6 @@ overwritten style other =
       object_style = record style.object_style {
         foreground_color = option_or other.object_style.foreground_color style.object_style.foreground_color;
         background_color = option_or other.object_style.background_color style.object_style.background_color;
-        attributes = joined style.object_style.attributes other.object_style.attributes;
+        attributes = united style.object_style.attributes other.object_style.attributes;
       };
     }

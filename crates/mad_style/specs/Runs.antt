@@ -1,8 +1,7 @@
 -- The bytes of runs.
-use Rattle.std.specs.Prelude.{ℕ, List, [], ◌==◌, if◌then◌else◌, encode_utf8}
-use Rattle.std.specs.List.{repeat}
+use Rattle.std.specs.Prelude.{ℕ, List, ◌==◌, if◌then◌else◌, encode_utf8}
 use Rattle.mad_term.specs.declared.styles.ContentStyle.{ContentStyle}
-use Rattle.mad_term.specs.Styles.{piece_bytes}
+use Rattle.mad_term.specs.Styles.{piece_bytes, styled_run_bytes}
 use Rattle.mad_style.specs.declared.compound_styles.CompoundStyle.{CompoundStyle}
 use Rattle.mad_style.specs.declared.styled_chars.StyledChar.{StyledChar}
 use Rattle.mad_style.specs.CompoundStyles.{plain_style}
@@ -10,7 +9,7 @@ use Rattle.mad_style.specs.StyledChars.{char_style, char_alone}
 
 -- a run: a text so many times, as one piece; a run of none writes nothing, no command either
 abbrev pub run_bytes : CompoundStyle → List ℕ → ℕ → List ℕ
-run_bytes style text count = if count == 0 then [] else piece_bytes style.object_style (repeat count text)
+run_bytes style text count = styled_run_bytes style.object_style text count
 
 -- the style that a run is written in: none where nothing is
 abbrev pub run_style : CompoundStyle → ℕ → ContentStyle

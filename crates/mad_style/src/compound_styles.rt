@@ -8,7 +8,7 @@ ghost use Rattle.mad_style.specs.AttributeSets.{no_attributes, only};
 
 use mad_term::{Attribute, Attributes, Color, ContentStyle};
 
-/// The attributes that a style written as text may name, in the order in which they are written.
+/// The attributes that are written of a style as text, in this order.
 pub const ATTRIBUTES: [Attribute; 8] = [
     Attribute::Bold,
     Attribute::Dim,

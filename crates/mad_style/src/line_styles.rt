@@ -1,7 +1,8 @@
 //! How a line looks, and where it stands.
 
-ghost use Rattle.std.specs.Prelude.{◌≡◌, ◌∷◌, [], encode_utf8};
+ghost use Rattle.std.specs.Prelude.{◌≡◌, ◌∷◌, [], IsErrOf, encode_utf8};
 ghost use Rattle.mad_term.specs.Draws.{Draws};
+ghost use Rattle.mad_term.specs.declared.errors.Error.TheVariants.{Memory};
 ghost use Rattle.mad_term.specs.Styles.{IsStyle};
 
 use crate::compound_styles::CompoundStyle;
@@ -117,6 +118,7 @@ impl LineStyle {
         count: usize,
     ) -> Result<(), Error>
         ensures writes { Draws (O.seen out.old) (run_bytes self.now.compound_style text.now count) result (O.seen out.new) }
+        ensures early { IsErrOf result Memory → O.seen out.new ≡ O.seen out.old }
         ensures bytes { IsStyle self.now.compound_style.object_style }
     {
         self.compound_style.repeat_string(alloc, out, text, count)
@@ -135,6 +137,7 @@ impl LineStyle {
         count: usize,
     ) -> Result<(), Error>
         ensures writes { Draws (O.seen out.old) (run_bytes self.now.compound_style (encode_utf8 c) count) result (O.seen out.new) }
+        ensures early { IsErrOf result Memory → O.seen out.new ≡ O.seen out.old }
         ensures bytes { IsStyle self.now.compound_style.object_style }
     {
         self.compound_style.repeat_char(alloc, out, c, count)
@@ -152,6 +155,7 @@ impl LineStyle {
         count: usize,
     ) -> Result<(), Error>
         ensures writes { Draws (O.seen out.old) (run_bytes self.now.compound_style (32 ∷ []) count) result (O.seen out.new) }
+        ensures early { IsErrOf result Memory → O.seen out.new ≡ O.seen out.old }
         ensures bytes { IsStyle self.now.compound_style.object_style }
     {
         self.compound_style.repeat_space(alloc, out, count)

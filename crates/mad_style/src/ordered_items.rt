@@ -48,7 +48,7 @@ impl OrderedItemStyle {
 }
 
 /// The columns in front of the text of an item of an ordered list: a column for each level and each
-/// digit of its number, and one for the mark and the space behind it.
+/// digit of its number, and one each for the mark and the space behind it.
 pub fn ordered_item_indent(level: u8, index: u32) -> usize
     ensures { result ≡ length (decimal index) + 2 + level }
 {

@@ -1,10 +1,11 @@
 //! The writing of texts in a compound's style, to a device or at the end of a row that is being built.
 //! What goes to a device is made whole first, and then put.
 
-ghost use Rattle.std.specs.Prelude.{◌≡◌, ◌∷◌, [], ◌++◌, OnOk, encode_utf8, string_bytes};
+ghost use Rattle.std.specs.Prelude.{◌≡◌, ◌∷◌, [], ◌++◌, IsErrOf, OnOk, encode_utf8, string_bytes};
 ghost use Rattle.std.specs.List.{repeat};
 ghost use Rattle.mad_term.specs.Commands.{clear_bytes};
 ghost use Rattle.mad_term.specs.Draws.{Draws};
+ghost use Rattle.mad_term.specs.declared.errors.Error.TheVariants.{Memory};
 ghost use Rattle.mad_term.specs.Styles.{foreground_bytes, background_bytes, present_bytes, piece_bytes, IsStyle};
 
 use crate::compound_styles::CompoundStyle;
@@ -44,6 +45,7 @@ impl CompoundStyle {
     /// A fault of the device, or want of memory before anything went out.
     pub fn queue<O: Out>(&self, alloc: Global, out: &mut O, text: &str) -> Result<(), Error>
         ensures writes { Draws (O.seen out.old) (piece_bytes self.now.object_style text.now) result (O.seen out.new) }
+        ensures early { IsErrOf result Memory → O.seen out.new ≡ O.seen out.old }
         ensures bytes { IsStyle self.now.object_style }
     {
         queue_styled(alloc, out, self.object_style, text)
@@ -56,6 +58,7 @@ impl CompoundStyle {
     /// A fault of the device, or want of memory before anything went out.
     pub fn queue_str<O: Out>(&self, alloc: Global, out: &mut O, text: &str) -> Result<(), Error>
         ensures writes { Draws (O.seen out.old) (piece_bytes self.now.object_style text.now) result (O.seen out.new) }
+        ensures early { IsErrOf result Memory → O.seen out.new ≡ O.seen out.old }
         ensures bytes { IsStyle self.now.object_style }
     {
         self.queue(alloc, out, text)
@@ -68,7 +71,8 @@ impl CompoundStyle {
     /// A fault of the device, or want of memory before anything went out.
     #[tactic(auto, using(mad_term::proofs::Traces::took_none))]
     pub fn queue_fg<O: Out>(&self, alloc: Global, out: &mut O) -> Result<(), Error>
-        ensures { Draws (O.seen out.old) (present_bytes foreground_bytes self.now.object_style.foreground_color) result (O.seen out.new) }
+        ensures writes { Draws (O.seen out.old) (present_bytes foreground_bytes self.now.object_style.foreground_color) result (O.seen out.new) }
+        ensures early { IsErrOf result Memory → O.seen out.new ≡ O.seen out.old }
     {
         match self.get_fg() {
             Some(color) => mad_term::queue_fg(alloc, out, color),
@@ -83,7 +87,8 @@ impl CompoundStyle {
     /// A fault of the device, or want of memory before anything went out.
     #[tactic(auto, using(mad_term::proofs::Traces::took_none))]
     pub fn queue_bg<O: Out>(&self, alloc: Global, out: &mut O) -> Result<(), Error>
-        ensures { Draws (O.seen out.old) (present_bytes background_bytes self.now.object_style.background_color) result (O.seen out.new) }
+        ensures writes { Draws (O.seen out.old) (present_bytes background_bytes self.now.object_style.background_color) result (O.seen out.new) }
+        ensures early { IsErrOf result Memory → O.seen out.new ≡ O.seen out.old }
     {
         match self.get_bg() {
             Some(color) => mad_term::queue_bg(alloc, out, color),
@@ -103,7 +108,8 @@ impl CompoundStyle {
         out: &mut O,
         clear_type: ClearType,
     ) -> Result<(), Error>
-        ensures { Draws (O.seen out.old) (present_bytes background_bytes self.now.object_style.background_color ++ clear_bytes clear_type) result (O.seen out.new) }
+        ensures writes { Draws (O.seen out.old) (present_bytes background_bytes self.now.object_style.background_color ++ clear_bytes clear_type) result (O.seen out.new) }
+        ensures early { IsErrOf result Memory → O.seen out.new ≡ O.seen out.old }
     {
         let mut bytes = String::new(alloc);
         if let Some(color) = self.get_bg() {
@@ -128,6 +134,7 @@ impl CompoundStyle {
         count: usize,
     ) -> Result<(), Error>
         ensures writes { Draws (O.seen out.old) (run_bytes self.now text.now count) result (O.seen out.new) }
+        ensures early { IsErrOf result Memory → O.seen out.new ≡ O.seen out.old }
         ensures bytes { IsStyle self.now.object_style }
     {
         let mut bytes = String::new(alloc);
@@ -149,6 +156,7 @@ impl CompoundStyle {
         count: usize,
     ) -> Result<(), Error>
         ensures writes { Draws (O.seen out.old) (run_bytes self.now (encode_utf8 c) count) result (O.seen out.new) }
+        ensures early { IsErrOf result Memory → O.seen out.new ≡ O.seen out.old }
         ensures bytes { IsStyle self.now.object_style }
     {
         let mut buffer = [0; 4];
@@ -167,6 +175,7 @@ impl CompoundStyle {
         count: usize,
     ) -> Result<(), Error>
         ensures writes { Draws (O.seen out.old) (run_bytes self.now (32 ∷ []) count) result (O.seen out.new) }
+        ensures early { IsErrOf result Memory → O.seen out.new ≡ O.seen out.old }
         ensures bytes { IsStyle self.now.object_style }
     {
         self.repeat_string(alloc, out, " ", count)

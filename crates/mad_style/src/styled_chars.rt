@@ -1,8 +1,9 @@
 //! A character in a style.
 
-ghost use Rattle.std.specs.Prelude.{◌≡◌, ◌++◌, IfOk, OnOk, encode_utf8, string_bytes};
+ghost use Rattle.std.specs.Prelude.{◌≡◌, ◌++◌, IfOk, IsErrOf, OnOk, encode_utf8, string_bytes};
 ghost use Rattle.std.specs.List.{repeat};
 ghost use Rattle.mad_term.specs.Draws.{Draws};
+ghost use Rattle.mad_term.specs.declared.errors.Error.TheVariants.{Memory};
 ghost use Rattle.mad_term.specs.Styles.{IsStyle};
 
 use crate::compound_styles::CompoundStyle;
@@ -144,6 +145,7 @@ impl StyledChar {
         count: usize,
     ) -> Result<(), Error>
         ensures writes { Draws (O.seen out.old) (char_run_bytes self.now count) result (O.seen out.new) }
+        ensures early { IsErrOf result Memory → O.seen out.new ≡ O.seen out.old }
         ensures bytes { IsStyle (char_style self.now).object_style }
     {
         self.compound_style
@@ -157,6 +159,7 @@ impl StyledChar {
     /// A fault of the device, or want of memory before anything went out.
     pub fn queue<O: Out>(&self, alloc: Global, out: &mut O) -> Result<(), Error>
         ensures writes { Draws (O.seen out.old) (styled_char_bytes self.now) result (O.seen out.new) }
+        ensures early { IsErrOf result Memory → O.seen out.new ≡ O.seen out.old }
         ensures bytes { IsStyle (char_style self.now).object_style }
     {
         let mut buffer = [0; 4];

@@ -103,8 +103,18 @@ fn margins_go_where_they_leave_less_than_three_columns(rt: HostRuntime) {
         (2, 3, Some(7), (0, 0)),
         (2, 3, Some(8), (2, 3)),
         (0, 0, Some(0), (0, 0)),
+        (0, 0, None, (0, 0)),
+        (0, 0, Some(MAX), (0, 0)),
+        (1, 0, Some(3), (0, 0)),
+        (1, 0, Some(4), (1, 0)),
+        (0, 1, Some(3), (0, 0)),
+        (0, 1, Some(4), (0, 1)),
         (MAX, 0, Some(MAX), (0, 0)),
+        (MAX, MAX, Some(0), (0, 0)),
         (MAX, MAX, Some(1), (0, 0)),
+        (MAX, MAX, Some(2), (0, 0)),
+        (MAX, MAX, Some(3), (0, 0)),
+        (MAX, MAX, Some(MAX), (0, 0)),
         (MAX, MAX, None, (MAX, MAX)),
         (MAX - 3, 0, Some(MAX), (MAX - 3, 0)),
         (MAX - 3, 1, Some(MAX), (0, 0)),
@@ -133,6 +143,8 @@ fn indents_of_items_of_ordered_lists(rt: HostRuntime) {
         (0, 99, 4),
         (0, 100, 5),
         (3, 7, 6),
+        (0, u32::MAX, 12),
+        (255, 0, 258),
         (255, u32::MAX, 267),
     ];
     for (level, index, expected) in cases {
@@ -293,7 +305,8 @@ fn kinds_of_what_was_read(rt: HostRuntime) {
 #[test]
 fn what_the_writing_calls_write(rt: HostRuntime) -> Result<(), Fail> {
     let alloc = rt.alloc();
-    let mut out = CutOut::new(alloc, 7, 1000, false)?;
+    // Its flush fails: a call that flushes would be refused.
+    let mut out = CutOut::new(alloc, 7, 1000, true)?;
     let mut bold = CompoundStyle::with_fgbg(Color::Red, Color::Blue);
     bold.add_attr(Attribute::Bold);
     let red = LineStyle::from(CompoundStyle::with_fg(Color::Red));

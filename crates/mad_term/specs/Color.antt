@@ -31,7 +31,7 @@ IsColor (Rgb r g b) = (r < 256) × (g < 256) × (b < 256)
 IsColor (AnsiValue n) = n < 256
 IsColor _ = Unit {0}
 
--- so where there is a color
+-- the numbers of a color are bytes, where there is a color
 abbrev pub IsColorOrNone : Option Color → Type 0
 IsColorOrNone None = Unit {0}
 IsColorOrNone (Some color) = IsColor color

@@ -22,7 +22,7 @@ attach None pen c r = r
 attach (Some zero) pen c r = (c ∷ r.0, r.1)
 attach (Some (suc k)) pen c r = ([], glyphs (c ∷ r.0) k pen ++ r.1)
 
--- so from the end of a text to its front
+-- the same of a whole text in one pen: each character is attached, from the end of the text to its front
 abbrev pub joined : Look → List ℕ → List ℕ × List Glyph
 joined pen [] = ([], [])
 joined pen (c ∷ cs) = attach (char_width false c) pen c (joined pen cs)

@@ -20,6 +20,12 @@ pub record IsCutOut (out : CutOut) (step room : ℕ) (flush_fails : Bool) : Type
   pub flush_is : out.flush_fails ≡ flush_fails
   pub trace_is : cut_trace out ≡ record { bytes = Some []; faults = 0 }
 
+-- it is still the device that it was made as, whatever it has taken since
+pub record IsSameDevice (old new : CutOut) : Type 0 where
+  pub step : new.step ≡ old.step
+  pub room : new.room ≡ old.room
+  pub flush_fails : new.flush_fails ≡ old.flush_fails
+
 -- it tells all that it has left
 abbrev pub script_trace : ScriptSource → Trace
 script_trace source = record { bytes = Some source.left.now; faults = source.faults }
@@ -28,3 +34,7 @@ script_trace source = record { bytes = Some source.left.now; faults = source.fau
 pub record IsScript (source : ScriptSource) (bytes : List ℕ) (fails : Bool) : Type 0 where
   pub fails_is : source.fails ≡ fails
   pub trace_is : script_trace source ≡ record { bytes = Some bytes; faults = 0 }
+
+-- it is still the source that it was made as, whatever it has handed out since
+pub record IsSameSource (old new : ScriptSource) : Type 0 where
+  pub fails : new.fails ≡ old.fails

@@ -35,7 +35,7 @@ impl Color {
     pub fn number(self) -> Option<u8>
         ensures value { result ≡ color_number self }
 
-        // Its own numbers are bytes, which a terminal asks for that reads them.
+        // Its own numbers are bytes: what reading the color back needs to know.
         ensures bytes { IsColor self }
     {
         match self {

@@ -14,7 +14,8 @@ pub trait Out {
     ///
     /// # Errors
     ///
-    /// A fault of the device: nothing of `bytes` was taken, and its count of faults is one higher.
+    /// A fault of the device: nothing of `bytes` was taken, and its count of faults is one higher, unless it is at its
+    /// greatest.
     fn put(&mut self, bytes: &[u8]) -> io::Result<usize>
         ensures { Puts (seen self.old) bytes.now result (seen self.new) };
 
@@ -22,7 +23,7 @@ pub trait Out {
     ///
     /// # Errors
     ///
-    /// A fault of the device; its count of faults is one higher.
+    /// A fault of the device; its count of faults is one higher, unless it is at its greatest.
     fn flush(&mut self) -> io::Result<()>
         ensures { Flushes (seen self.old) result (seen self.new) };
 }
@@ -36,7 +37,7 @@ pub trait Source {
     ///
     /// # Errors
     ///
-    /// A fault of the device: no byte is lost, and its count of faults is one higher.
+    /// A fault of the device: no byte is lost, and its count of faults is one higher, unless it is at its greatest.
     fn get(&mut self) -> io::Result<Option<u8>>
         ensures { Gets (seen self.old) result (seen self.new) };
 }

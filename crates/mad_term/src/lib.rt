@@ -8,7 +8,7 @@
 //! 4. [`scripted`]: devices for tests, which fail where one wants them to.
 //! 5. [`columns`]: how wide a character is.
 //! 6. [`color`], [`attribute`], [`attributes`]: how a text may look.
-//! 7. [`commands`], [`styles`]: the bytes of moves, erasures and texts in a style, by Display and in a row buffer.
+//! 7. [`commands`], [`styles`], [`runs`]: the bytes of moves, erasures and texts in a style, by Display and in a row buffer.
 //! 8. [`queue`]: the same, to a device.
 //! 9. [`pen`], [`cell`], [`screen`], [`reader`]: the plain terminal, which says what bytes show.
 //! 10. [`laws`]: what drawing relies on.
@@ -43,8 +43,10 @@ pub use errors::{Error, InsufficientWidthError};
 pub use pen::Pen;
 pub use queue::{queue_bg, queue_clear, queue_fg, queue_move, queue_styled};
 pub use reader::NotPlain;
-pub use runs::{StyledNumber, StyledRun};
+pub use runs::StyledRun;
 pub use screen::Screen;
 pub use scripted::{CutOut, ScriptSource};
 pub use streams::Stream;
-pub use styles::{ContentStyle, StyledContent, push_background, push_foreground, push_styled};
+pub use styles::{
+    ContentStyle, StyledContent, StyledNumber, push_background, push_foreground, push_styled,
+};

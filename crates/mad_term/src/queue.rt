@@ -1,7 +1,9 @@
 //! Commands and pieces, written to a device. What is written is made whole first, and then put.
 
+ghost use Rattle.std.specs.Prelude.{◌≡◌, IsErrOf};
 ghost use Rattle.mad_term.specs.Commands.{move_to_bytes, clear_bytes};
 ghost use Rattle.mad_term.specs.Draws.{Draws};
+ghost use Rattle.mad_term.specs.declared.errors.Error.TheVariants.{Memory};
 ghost use Rattle.mad_term.specs.Styles.{foreground_bytes, background_bytes, piece_bytes, IsStyle};
 
 use crate::color::Color;
@@ -18,7 +20,8 @@ use std::alloc::Global;
 /// A fault of the device, or want of memory before anything went out.
 #[tactic(auto, using(crate::proofs::QueueExits::memory_first))]
 pub fn queue_move<O: Out>(alloc: Global, out: &mut O, x: u16, y: u16) -> Result<(), Error>
-    ensures { Draws (O.seen out.old) (move_to_bytes x y) result (O.seen out.new) }
+    ensures writes { Draws (O.seen out.old) (move_to_bytes x y) result (O.seen out.new) }
+    ensures early { IsErrOf result Memory → O.seen out.new ≡ O.seen out.old }
 {
     let mut bytes = String::new(alloc);
     push_move(&mut bytes, x, y)?;
@@ -32,7 +35,8 @@ pub fn queue_move<O: Out>(alloc: Global, out: &mut O, x: u16, y: u16) -> Result<
 ///
 /// A fault of the device.
 pub fn queue_clear<O: Out>(out: &mut O, what: ClearType) -> Result<(), Error>
-    ensures { Draws (O.seen out.old) (clear_bytes what) result (O.seen out.new) }
+    ensures writes { Draws (O.seen out.old) (clear_bytes what) result (O.seen out.new) }
+    ensures without_memory { IsErrOf result Memory → ⊥ }
 {
     put_all(out, clear_text(what).as_bytes())?;
     Ok(())
@@ -45,7 +49,8 @@ pub fn queue_clear<O: Out>(out: &mut O, what: ClearType) -> Result<(), Error>
 /// A fault of the device, or want of memory before anything went out.
 #[tactic(auto, using(crate::proofs::QueueExits::memory_first))]
 pub fn queue_fg<O: Out>(alloc: Global, out: &mut O, color: Color) -> Result<(), Error>
-    ensures { Draws (O.seen out.old) (foreground_bytes color) result (O.seen out.new) }
+    ensures writes { Draws (O.seen out.old) (foreground_bytes color) result (O.seen out.new) }
+    ensures early { IsErrOf result Memory → O.seen out.new ≡ O.seen out.old }
 {
     let mut bytes = String::new(alloc);
     push_foreground(&mut bytes, color)?;
@@ -60,7 +65,8 @@ pub fn queue_fg<O: Out>(alloc: Global, out: &mut O, color: Color) -> Result<(), 
 /// A fault of the device, or want of memory before anything went out.
 #[tactic(auto, using(crate::proofs::QueueExits::memory_first))]
 pub fn queue_bg<O: Out>(alloc: Global, out: &mut O, color: Color) -> Result<(), Error>
-    ensures { Draws (O.seen out.old) (background_bytes color) result (O.seen out.new) }
+    ensures writes { Draws (O.seen out.old) (background_bytes color) result (O.seen out.new) }
+    ensures early { IsErrOf result Memory → O.seen out.new ≡ O.seen out.old }
 {
     let mut bytes = String::new(alloc);
     push_background(&mut bytes, color)?;
@@ -81,8 +87,9 @@ pub fn queue_styled<O: Out>(
     text: &str,
 ) -> Result<(), Error>
     ensures writes { Draws (O.seen out.old) (piece_bytes style text.now) result (O.seen out.new) }
+    ensures early { IsErrOf result Memory → O.seen out.new ≡ O.seen out.old }
 
-    // The numbers of its colors are bytes, which a terminal asks for that reads them.
+    // The numbers of its colors are bytes: what reading the piece back needs to know.
     ensures bytes { IsStyle style }
 {
     // A plain text goes out as it is.

@@ -52,23 +52,5 @@ impl fmt::Display for Copies<'_> {
     }
 }
 
-/// A number in a style, in decimal, as one piece.
-#[derive(Clone, Copy, Debug, PartialEq, Eq)]
-pub struct StyledNumber {
-    pub style: ContentStyle,
-    pub number: u32,
-}
-
-impl fmt::Display for StyledNumber {
-    ghost use Rattle.std.specs.Prelude.{Some, decimal};
-    ghost use Rattle.mad_term.specs.Styles.{piece_bytes};
-
-    ghost output = { λ n. Some (piece_bytes n.style (decimal n.number)) };
-
-    fn fmt<W: fmt::Write>(&self, f: &mut fmt::Formatter<W>) -> fmt::Result {
-        let opening = StyleOpening(self.style);
-        let number = self.number;
-        let closing = closing_text(self.style);
-        write!(f, "{opening}{number}{closing}")
-    }
-}
+#[cfg(test)]
+mod tests;

@@ -1,6 +1,6 @@
 //! Devices for tests: all that they took or have left can be read, and they fail where one wants them to.
 
-ghost use Rattle.std.specs.Prelude.{◌≡◌, ◌≤◌, ◌↔◌, IfOk, IsErr, IsTrue, Some, [], length, vec_capacity};
+ghost use Rattle.std.specs.Prelude.{◌≡◌, ◌<◌, ◌≤◌, ◌↔◌, IfOk, IsErr, IsTrue, Some, [], length, vec_capacity};
 ghost use Rattle.mad_term.specs.Trace.{Puts, Flushes, Gets, failed};
 
 use crate::devices::{Out, Source};
@@ -19,10 +19,10 @@ pub struct CutOut {
 }
 
 impl CutOut {
-    ghost use Rattle.mad_term.specs.Scripted.{cut_trace, IsCutOut};
+    ghost use Rattle.mad_term.specs.Scripted.{cut_trace, IsCutOut, IsSameDevice};
 
-    /// A device that takes at most `step` bytes at a put and `room` bytes in all; a put past that is a fault, and so
-    /// is each flush if `flush_fails`.
+    /// A device that takes at most `step` bytes at a put and `room` bytes in all; a put that could take
+    /// nothing is a fault, and so is each flush if `flush_fails`.
     ///
     /// Its room is reserved here, so that no put takes memory.
     pub fn new(
@@ -59,7 +59,8 @@ impl CutOut {
     /// Counts a fault and answers it.
     #[tactic(auto, unfolding(crate::specs::Trace::failed))]
     fn fail(&mut self) -> io::Error
-        ensures { cut_trace self.new ≡ failed (cut_trace self.old) }
+        ensures counted { cut_trace self.new ≡ failed (cut_trace self.old) }
+        ensures keeps { IsSameDevice self.old self.new }
     {
         self.faults = self.faults.saturating_add(1);
         io::Error::new(io::ErrorKind::Other, "no more room")
@@ -67,7 +68,7 @@ impl CutOut {
 }
 
 impl Out for CutOut {
-    ghost use Rattle.mad_term.specs.Scripted.{cut_trace, cut_count};
+    ghost use Rattle.mad_term.specs.Scripted.{cut_trace, cut_count, IsSameDevice};
 
     ghost seen = { cut_trace };
 
@@ -75,7 +76,8 @@ impl Out for CutOut {
     fn put(&mut self, bytes: &[u8]) -> io::Result<usize>
         ensures puts { Puts (cut_trace self.old) bytes.now result (cut_trace self.new) }
         ensures count { IfOk result (λ count. count ≡ cut_count self.old (length bytes.now)) }
-        ensures fault { IsErr result → cut_count self.old (length bytes.now) ≡ 0 }
+        ensures fault { IsErr result ↔ (0 < length bytes.now) × (cut_count self.old (length bytes.now) ≡ 0) }
+        ensures keeps { IsSameDevice self.old self.new }
     {
         if bytes.is_empty() {
             return Ok(0);
@@ -92,6 +94,7 @@ impl Out for CutOut {
     fn flush(&mut self) -> io::Result<()>
         ensures flushes { Flushes (cut_trace self.old) result (cut_trace self.new) }
         ensures fault { IsErr result ↔ IsTrue self.old.flush_fails }
+        ensures keeps { IsSameDevice self.old self.new }
     {
         if self.flush_fails {
             return Err(self.fail());
@@ -138,7 +141,7 @@ impl<'s> ScriptSource<'s> {
 }
 
 impl Source for ScriptSource<'_> {
-    ghost use Rattle.mad_term.specs.Scripted.{script_trace};
+    ghost use Rattle.mad_term.specs.Scripted.{script_trace, IsSameSource};
 
     ghost seen = { script_trace };
 
@@ -146,6 +149,7 @@ impl Source for ScriptSource<'_> {
     fn get(&mut self) -> io::Result<Option<u8>>
         ensures gets { Gets (script_trace self.old) result (script_trace self.new) }
         ensures fault { IsErr result ↔ ((script_trace self.old).bytes ≡ Some []) × IsTrue self.old.fails }
+        ensures keeps { IsSameSource self.old self.new }
     {
         if let [first, rest @ ..] = self.left {
             self.left = rest;

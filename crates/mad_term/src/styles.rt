@@ -44,7 +44,7 @@ impl ContentStyle {
     pub fn is_plain(self) -> bool
         ensures plain { IsTrue result ↔ IsPlain self }
 
-        // The numbers of its colors are bytes, which a terminal asks for that reads them.
+        // The numbers of its colors are bytes: what reading the piece back needs to know.
         ensures bytes { IsStyle self }
     {
         self.foreground_color.is_none()
@@ -184,6 +184,27 @@ impl fmt::Display for StyledContent<'_> {
     }
 }
 
+/// A number in a style, in decimal, as one piece.
+#[derive(Clone, Copy, Debug, PartialEq, Eq)]
+pub struct StyledNumber {
+    pub style: ContentStyle,
+    pub number: u32,
+}
+
+impl fmt::Display for StyledNumber {
+    ghost use Rattle.std.specs.Prelude.{Some, decimal};
+    ghost use Rattle.mad_term.specs.Styles.{piece_bytes};
+
+    ghost output = { λ n. Some (piece_bytes n.style (decimal n.number)) };
+
+    fn fmt<W: fmt::Write>(&self, f: &mut fmt::Formatter<W>) -> fmt::Result {
+        let opening = StyleOpening(self.style);
+        let number = self.number;
+        let closing = closing_text(self.style);
+        write!(f, "{opening}{number}{closing}")
+    }
+}
+
 /// Appends the command that sets the foreground.
 ///
 /// # Errors
@@ -224,7 +245,7 @@ pub fn push_background(row: &mut String, color: Color) -> Result<(), AllocError>
 pub fn push_styled(row: &mut String, style: ContentStyle, text: &str) -> Result<(), AllocError>
     ensures writes { OnOk result (string_bytes row.new ≡ string_bytes row.old ++ piece_bytes style text.now) }
 
-    // The numbers of its colors are bytes, which a terminal asks for that reads them.
+    // The numbers of its colors are bytes: what reading the piece back needs to know.
     ensures bytes { IsStyle style }
 {
     // Most texts are plain, and need no formatting.

@@ -23,6 +23,21 @@ fn a_device_with_room_for_a_front_takes_just_that_front(rt: HostRuntime) -> Resu
 }
 
 #[test]
+fn a_device_that_can_take_nothing_fails_at_each_byte(rt: HostRuntime) -> Result<(), Fail> {
+    for (step, room) in [(0, 0), (0, 54), (54, 0), (usize::MAX, 0)] {
+        let mut out = CutOut::new(rt.alloc(), step, room, false)?;
+        assert!(rt; matches!(out.put(b""), Ok(0)));
+        assert!(rt; put_all(&mut out, b"").is_ok());
+        for turn in 1..4 {
+            assert!(rt; out.put(TEXT).is_err(), "{step}, {room}");
+            assert_eq!(rt; out.faults(), turn, "{step}, {room}");
+        }
+        assert!(rt; out.taken().is_empty());
+    }
+    Ok(())
+}
+
+#[test]
 fn a_failing_flush_is_a_fault_behind_all_bytes(rt: HostRuntime) -> Result<(), Fail> {
     let mut out = CutOut::new(rt.alloc(), 54, 54, true)?;
     assert!(rt; put_all(&mut out, TEXT).is_ok());
@@ -80,5 +95,26 @@ fn writers_and_readers_of_std_are_devices(rt: HostRuntime) -> Result<(), Fail> {
     let mut source = Stream::new(b"x".as_slice());
     assert!(rt; matches!(source.get(), Ok(Some(b'x'))));
     assert!(rt; matches!(source.get(), Ok(None)));
+    Ok(())
+}
+
+#[test]
+fn a_sound_writer_takes_thousands_of_bytes(rt: HostRuntime) -> Result<(), Fail> {
+    let alloc = rt.alloc();
+    let text = "0123456789".repeat(alloc, 1000)?;
+    let mut taken = Vec::new(alloc);
+    let mut out = Stream::new(&mut taken);
+    assert!(rt; matches!(out.put(text.as_bytes()), Ok(10000)));
+    assert!(rt; put_all(&mut out, text.as_bytes()).is_ok());
+    assert!(rt; out.flush().is_ok());
+    assert!(rt; taken.as_slice() == text.repeat(alloc, 2)?.as_bytes());
+
+    let mut source = Stream::new(text.as_bytes());
+    for byte in text.as_bytes() {
+        assert!(rt; matches!(source.get(), Ok(Some(got)) if got == *byte));
+    }
+    for _ in 0..2 {
+        assert!(rt; matches!(source.get(), Ok(None)));
+    }
     Ok(())
 }

@@ -30,7 +30,8 @@ fn a_device_takes_a_front_of_the_commands(rt: HostRuntime) -> Result<(), Fail> {
     let alloc = rt.alloc();
     for room in 0..64 {
         for step in [1, 63] {
-            let mut out = CutOut::new(alloc, step, room, false)?;
+            // Its flush fails: a call that flushes would be refused.
+            let mut out = CutOut::new(alloc, step, room, true)?;
             let queued = queue_all(alloc, &mut out);
             if let Err(Error::Memory) = queued {
                 return Err(Fail::from("want of memory"));

@@ -4,6 +4,7 @@ use super::*;
 use crate::attribute::Attribute;
 use crate::attributes::Attributes;
 use crate::color::Color;
+use crate::commands::push_move;
 use crate::reader::NotPlain;
 use crate::styles::{ContentStyle, push_styled};
 use std::test::Fail;
@@ -335,6 +336,67 @@ fn pieces_are_read_back(rt: HostRuntime) -> Result<(), Fail> {
         assert!(rt; screen.cell(2, 0).ok_or("no cell")?.pen == pen);
         assert!(rt; screen.cell(3, 0).ok_or("no cell")?.pen == Pen::default());
         assert!(rt; screen.pen() == Pen::default());
+    }
+    Ok(())
+}
+
+#[test]
+fn each_refusal_has_its_text(rt: HostRuntime) -> Result<(), Fail> {
+    let alloc = rt.alloc();
+    let undefined = NotPlain::Undefined.to_string(alloc)?;
+    assert!(rt; undefined.as_str() == "not plain terminal output");
+    assert!(rt; NotPlain::Memory.to_string(alloc)?.as_str() == "want of memory");
+    Ok(())
+}
+
+#[test]
+fn a_screen_of_one_cell(rt: HostRuntime) -> Result<(), Fail> {
+    let alloc = rt.alloc();
+    let cases = [
+        ("", " |", (0, 0)),
+        ("a", "a|", (1, 0)),
+        ("a\u{301}", "a\u{301}|", (1, 0)),
+        ("a\x1b[1;1Hb", "b|", (1, 0)),
+        ("a\x1b[K\x1b[J", "a|", (1, 0)),
+        ("a\x1b[1J", " |", (1, 0)),
+        ("a\x1b[2J", " |", (1, 0)),
+        ("a\x1b[2K", " |", (1, 0)),
+    ];
+    for (text, row, cursor) in cases {
+        let screen = screen_after(alloc, 1, 1, text.as_bytes())?;
+        assert_eq!(rt; picture(alloc, &screen)?.as_str(), row, "{text:?}");
+        assert_eq!(rt; screen.cursor(), cursor, "{text:?}");
+    }
+    for text in ["ab", "\u{4e00}", "\u{301}", "\x1b[1;2H", "\x1b[2;1H"] {
+        let mut screen = Screen::new(alloc, 1, 1)?;
+        assert!(rt;
+            screen.read_bytes(text.as_bytes()) == Err(NotPlain::Undefined),
+            "{text:?}"
+        );
+    }
+    Ok(())
+}
+
+// Where the screen has 65535 columns or rows, the last of them is 65534, counted from 0.
+#[test]
+fn moves_to_the_greatest_places(rt: HostRuntime) -> Result<(), Fail> {
+    let alloc = rt.alloc();
+    for (width, height, x, y) in [(u16::MAX, 1, 65534, 0), (1, u16::MAX, 0, 65534)] {
+        let mut row = String::new(alloc);
+        push_move(&mut row, x, y)?;
+        let mut screen = screen_after(alloc, width, height, row.as_bytes())?;
+        assert_eq!(rt; screen.cursor(), (x, y));
+        screen.read_bytes(b"z")?;
+        assert!(rt; screen.cell(x, y).ok_or("no cell")?.chars.as_slice() == ['z'].as_slice());
+        for (past_x, past_y) in [(u16::MAX, y), (x, u16::MAX), (u16::MAX, u16::MAX)] {
+            row.clear();
+            push_move(&mut row, past_x, past_y)?;
+            assert!(rt;
+                screen.read_bytes(row.as_bytes()) == Err(NotPlain::Undefined),
+                "{past_x}, {past_y}"
+            );
+        }
+        assert_eq!(rt; screen.cursor(), (x + 1, y));
     }
     Ok(())
 }

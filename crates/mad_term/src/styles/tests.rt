@@ -175,3 +175,25 @@ fn a_piece_is_appended(rt: HostRuntime) -> Result<(), Fail> {
     assert!(rt; row.as_str() == "before and after");
     Ok(())
 }
+
+#[test]
+fn a_number_in_a_style_is_a_piece_of_its_digits(rt: HostRuntime) -> Result<(), Fail> {
+    let alloc = rt.alloc();
+    let plain = ContentStyle::default();
+    let blue = ContentStyle {
+        background_color: Some(Color::Blue),
+        attributes: Attributes::from(Attribute::Bold),
+        ..plain
+    };
+    let cases = [
+        (plain, 0, "0"),
+        (plain, u32::MAX, "4294967295"),
+        (blue, 0, "\x1b[48;5;12m\x1b[1m0\x1b[0m"),
+        (blue, u32::MAX, "\x1b[48;5;12m\x1b[1m4294967295\x1b[0m"),
+    ];
+    for (style, number, bytes) in cases {
+        let shown = StyledNumber { style, number }.to_string(alloc)?;
+        assert!(rt; shown.as_str() == bytes, "{number}");
+    }
+    Ok(())
+}
