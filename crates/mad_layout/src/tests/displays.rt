@@ -163,6 +163,59 @@ fn lines_in_a_wider_place_rows(rt: &impl Abort, alloc: Global) -> Result<(), Err
     Ok(())
 }
 
+// How a text stands in nine columns, how these stand in thirteen with margins, and what is left and right of them.
+const PLACED: [(Alignment, Alignment, (usize, usize), &str, &str); 7] = [
+    (
+        Alignment::Center,
+        Alignment::Left,
+        (0, 0),
+        "  abcd   ",
+        "    ",
+    ),
+    (
+        Alignment::Center,
+        Alignment::Center,
+        (0, 0),
+        "    abcd   ",
+        "  ",
+    ),
+    (
+        Alignment::Center,
+        Alignment::Right,
+        (0, 0),
+        "      abcd   ",
+        "",
+    ),
+    (
+        Alignment::Right,
+        Alignment::Left,
+        (0, 0),
+        "     abcd",
+        "    ",
+    ),
+    (
+        Alignment::Left,
+        Alignment::Right,
+        (0, 0),
+        "    abcd     ",
+        "",
+    ),
+    (
+        Alignment::Left,
+        Alignment::Left,
+        (1, 2),
+        " abcd     ",
+        "   ",
+    ),
+    (
+        Alignment::Center,
+        Alignment::Right,
+        (1, 2),
+        "    abcd   ",
+        "  ",
+    ),
+];
+
 #[test]
 fn lines_in_a_place_of_their_own(rt: HostRuntime) -> Result<(), Error> {
     lines_in_a_place_of_their_own_rows(&rt, rt.alloc())
@@ -175,59 +228,7 @@ fn lines_in_a_place_of_their_own_or_want_of_memory(rt: HostRuntime) {
 }
 
 fn lines_in_a_place_of_their_own_rows(rt: &impl Abort, alloc: Global) -> Result<(), Error> {
-    let rows = [
-        // In nine columns, and these in thirteen.
-        (
-            Alignment::Center,
-            Alignment::Left,
-            (0, 0),
-            "  abcd   ",
-            "    ",
-        ),
-        (
-            Alignment::Center,
-            Alignment::Center,
-            (0, 0),
-            "    abcd   ",
-            "  ",
-        ),
-        (
-            Alignment::Center,
-            Alignment::Right,
-            (0, 0),
-            "      abcd   ",
-            "",
-        ),
-        (
-            Alignment::Right,
-            Alignment::Left,
-            (0, 0),
-            "     abcd",
-            "    ",
-        ),
-        (
-            Alignment::Left,
-            Alignment::Right,
-            (0, 0),
-            "    abcd     ",
-            "",
-        ),
-        (
-            Alignment::Left,
-            Alignment::Left,
-            (1, 2),
-            " abcd     ",
-            "   ",
-        ),
-        (
-            Alignment::Center,
-            Alignment::Right,
-            (1, 2),
-            "    abcd   ",
-            "  ",
-        ),
-    ];
-    for (inner, outer, margins, shown, right) in rows {
+    for (inner, outer, margins, shown, right) in PLACED {
         let mut skin = skin_with(margins.0, margins.1, ListItemsIndentationMode::Block);
         skin.paragraph.align = outer;
         let spacing = Spacing {

@@ -19,10 +19,138 @@ use mad_term::{Color, CutOut, Error};
 use std::alloc::{AllocError, Global};
 use std::process::Abort;
 
-// An item of an ordered list, with its number.
-fn numbered(level: u8, index: u32) -> CompositeStyle {
-    CompositeStyle::OrderedListItem { level, index }
+// The skins of these rows.
+#[derive(Clone, Copy, Debug)]
+enum Look {
+    Plain,
+    // Without style, and only the first lines of items indented.
+    FirstLineOnly,
+    Default,
+    Colored,
 }
+
+fn skin_of(look: Look) -> MadSkin {
+    match look {
+        Look::Plain => MadSkin::no_style(),
+        Look::FirstLineOnly => skin_with(0, 0, ListItemsIndentationMode::FirstLineOnly),
+        Look::Default => MadSkin::default(),
+        Look::Colored => colored_skin(),
+    }
+}
+
+// A skin in which paragraphs are red, and the numbers of the deepest ordered lists green before a bare dot.
+fn colored_skin() -> MadSkin {
+    let mut skin = MadSkin::no_style();
+    skin.paragraph = LineStyle::from(CompoundStyle::with_fg(Color::Red));
+    skin.ordered_item_styles[3] = OrderedItemStyle {
+        index_style: CompoundStyle::with_fg(Color::Green),
+        ..OrderedItemStyle::no_style()
+    };
+    skin
+}
+
+const ITEM: CompositeStyle = CompositeStyle::ListItem(0);
+
+const SECOND_ITEM: CompositeStyle = CompositeStyle::ListItem(1);
+
+const THIRD_ITEM: CompositeStyle = CompositeStyle::ListItem(2);
+
+const TWELFTH: CompositeStyle = CompositeStyle::OrderedListItem {
+    level: 0,
+    index: 12,
+};
+
+const NESTED_TWELFTH: CompositeStyle = CompositeStyle::OrderedListItem {
+    level: 1,
+    index: 12,
+};
+
+// A text, the width that it is wrapped at, and what is displayed of it.
+const DISPLAYED: [(Look, CompositeStyle, &str, usize, &str); 11] = [
+    (Look::Plain, ITEM, "abcdef gh", 8, "• abcdef\n  gh\n"),
+    (Look::Plain, SECOND_ITEM, "abc def", 6, " • abc\n   def\n"),
+    (Look::Plain, THIRD_ITEM, "ab", 8, "  • ab\n"),
+    (Look::FirstLineOnly, ITEM, "abcdef gh", 8, "• abcdef\ngh\n"),
+    (Look::Plain, NESTED_TWELFTH, "ab", 10, " 12. ab\n"),
+    (Look::Plain, TWELFTH, "abc def", 7, "12. abc\n    def\n"),
+    (Look::FirstLineOnly, TWELFTH, "abc def", 7, "12. abc\ndef\n"),
+    (Look::Plain, CompositeStyle::Quote, "q", 5, "▐ q\n"),
+    (
+        Look::Plain,
+        CompositeStyle::Quote,
+        "aaa bb",
+        5,
+        "▐ aaa\n▐ bb\n",
+    ),
+    (
+        Look::FirstLineOnly,
+        CompositeStyle::Quote,
+        "aaa bb",
+        5,
+        "▐ aaa\n▐ bb\n",
+    ),
+    (
+        Look::Plain,
+        CompositeStyle::Header(1),
+        "abc def",
+        5,
+        "abc \ndef\n",
+    ),
+];
+
+// The same in the default skin.
+const DISPLAYED_BY_DEFAULT: [(Look, CompositeStyle, &str, usize, &str); 7] = [
+    (
+        Look::Default,
+        ITEM,
+        "abcdefghij",
+        8,
+        "\u{1b}[38;5;240m•\u{1b}[39m abcdef\n  ghij\n",
+    ),
+    (
+        Look::Default,
+        THIRD_ITEM,
+        "a **b**",
+        8,
+        "  \u{1b}[38;5;240m•\u{1b}[39m a \u{1b}[1mb\u{1b}[0m\n",
+    ),
+    (
+        Look::Default,
+        NESTED_TWELFTH,
+        "ab",
+        10,
+        " 12\u{1b}[38;5;244m.\u{1b}[39m ab\n",
+    ),
+    (
+        Look::Default,
+        CompositeStyle::Quote,
+        "q",
+        5,
+        "\u{1b}[38;5;244m\u{1b}[1m▐\u{1b}[0m q\n",
+    ),
+    // The first header is centered, and the others aren't.
+    (
+        Look::Default,
+        CompositeStyle::Header(1),
+        "t",
+        5,
+        "  \u{1b}[1m\u{1b}[4mt\u{1b}[0m\n",
+    ),
+    (
+        Look::Default,
+        CompositeStyle::Header(2),
+        "t",
+        5,
+        "\u{1b}[4mt\u{1b}[0m\n",
+    ),
+    (
+        Look::Default,
+        CompositeStyle::Code,
+        "c",
+        5,
+        "\u{1b}[48;5;235m\u{1b}[38;5;249mc\u{1b}[49m\u{1b}[39m\n",
+    ),
+];
 
 // A text of one composite with inline marks, wrapped at a width.
 fn laid_out<'k, 's>(
@@ -42,129 +170,74 @@ fn laid_out<'k, 's>(
     })
 }
 
+fn assert_displayed(
+    rt: &impl Abort,
+    alloc: Global,
+    rows: &[(Look, CompositeStyle, &str, usize, &str)],
+) -> Result<(), Error> {
+    for (look, style, text, width, wanted) in rows {
+        let skin = skin_of(*look);
+        let text = laid_out(alloc, &skin, *style, text, *width)?;
+        assert_eq!(rt; text.to_string(alloc)?.as_str(), *wanted);
+    }
+    Ok(())
+}
+
 #[test]
 fn marked_lines_displayed(rt: HostRuntime) -> Result<(), Error> {
-    marked_lines_displayed_rows(&rt, rt.alloc())
+    assert_displayed(&rt, rt.alloc(), &DISPLAYED)
 }
 
 #[test]
 fn marked_lines_displayed_or_want_of_memory(rt: HostRuntime) {
-    let outcome = marked_lines_displayed_rows(&rt, rt.alloc());
+    let outcome = assert_displayed(&rt, rt.alloc(), &DISPLAYED);
     assert!(rt; is_done_or_want_of_memory(outcome));
-}
-
-fn marked_lines_displayed_rows(rt: &impl Abort, alloc: Global) -> Result<(), Error> {
-    let plain = MadSkin::no_style();
-    let first_only = skin_with(0, 0, ListItemsIndentationMode::FirstLineOnly);
-    let rows = [
-        (
-            &plain,
-            CompositeStyle::ListItem(0),
-            "abcdef gh",
-            8,
-            "• abcdef\n  gh\n",
-        ),
-        (
-            &plain,
-            CompositeStyle::ListItem(1),
-            "abc def",
-            6,
-            " • abc\n   def\n",
-        ),
-        (&plain, CompositeStyle::ListItem(2), "ab", 8, "  • ab\n"),
-        (
-            &first_only,
-            CompositeStyle::ListItem(0),
-            "abcdef gh",
-            8,
-            "• abcdef\ngh\n",
-        ),
-        (&plain, numbered(1, 12), "ab", 10, " 12. ab\n"),
-        (&plain, numbered(0, 12), "abc def", 7, "12. abc\n    def\n"),
-        (&first_only, numbered(0, 12), "abc def", 7, "12. abc\ndef\n"),
-        (&plain, CompositeStyle::Quote, "q", 5, "▐ q\n"),
-        (&plain, CompositeStyle::Quote, "aaa bb", 5, "▐ aaa\n▐ bb\n"),
-        (
-            &first_only,
-            CompositeStyle::Quote,
-            "aaa bb",
-            5,
-            "▐ aaa\n▐ bb\n",
-        ),
-        (
-            &plain,
-            CompositeStyle::Header(1),
-            "abc def",
-            5,
-            "abc \ndef\n",
-        ),
-    ];
-    for (skin, style, text, width, wanted) in rows {
-        let text = laid_out(alloc, skin, style, text, width)?;
-        assert_eq!(rt; text.to_string(alloc)?.as_str(), wanted);
-    }
-    Ok(())
 }
 
 #[test]
 fn marks_of_the_default_skin(rt: HostRuntime) -> Result<(), Error> {
-    marks_of_the_default_skin_rows(&rt, rt.alloc())
+    assert_displayed(&rt, rt.alloc(), &DISPLAYED_BY_DEFAULT)
 }
 
 #[test]
 fn marks_of_the_default_skin_or_want_of_memory(rt: HostRuntime) {
-    let outcome = marks_of_the_default_skin_rows(&rt, rt.alloc());
+    let outcome = assert_displayed(&rt, rt.alloc(), &DISPLAYED_BY_DEFAULT);
     assert!(rt; is_done_or_want_of_memory(outcome));
 }
 
-fn marks_of_the_default_skin_rows(rt: &impl Abort, alloc: Global) -> Result<(), Error> {
-    let skin = MadSkin::default();
-    let rows = [
-        (
-            CompositeStyle::ListItem(0),
-            "abcdefghij",
-            8,
-            "\u{1b}[38;5;240m•\u{1b}[39m abcdef\n  ghij\n",
-        ),
-        (
-            CompositeStyle::ListItem(2),
-            "a **b**",
-            8,
-            "  \u{1b}[38;5;240m•\u{1b}[39m a \u{1b}[1mb\u{1b}[0m\n",
-        ),
-        (
-            numbered(1, 12),
-            "ab",
-            10,
-            " 12\u{1b}[38;5;244m.\u{1b}[39m ab\n",
-        ),
-        (
-            CompositeStyle::Quote,
-            "q",
-            5,
-            "\u{1b}[38;5;244m\u{1b}[1m▐\u{1b}[0m q\n",
-        ),
-        // The first header is centered, and the others aren't.
-        (
-            CompositeStyle::Header(1),
-            "t",
-            5,
-            "  \u{1b}[1m\u{1b}[4mt\u{1b}[0m\n",
-        ),
-        (CompositeStyle::Header(2), "t", 5, "\u{1b}[4mt\u{1b}[0m\n"),
-        (
-            CompositeStyle::Code,
-            "c",
-            5,
-            "\u{1b}[48;5;235m\u{1b}[38;5;249mc\u{1b}[49m\u{1b}[39m\n",
-        ),
-    ];
-    for (style, text, width, wanted) in rows {
-        let text = laid_out(alloc, &skin, style, text, width)?;
-        assert_eq!(rt; text.to_string(alloc)?.as_str(), wanted);
-    }
-    Ok(())
-}
+// A text that is wrapped at eight columns, and what is drawn of it in two rows of nine.
+const DRAWN: [(Look, CompositeStyle, &str, &str); 5] = [
+    (
+        Look::Plain,
+        ITEM,
+        "abcdef gh",
+        "\u{1b}[2;3H• abcdef \u{1b}[3;3H  gh     ",
+    ),
+    (
+        Look::Default,
+        ITEM,
+        "abcdefghij",
+        "\u{1b}[2;3H\u{1b}[38;5;240m•\u{1b}[39m abcdef \u{1b}[3;3H  ghij   ",
+    ),
+    (
+        Look::Plain,
+        NESTED_TWELFTH,
+        "ab cde",
+        "\u{1b}[2;3H 12. ab  \u{1b}[3;3H     cde ",
+    ),
+    (
+        Look::Default,
+        CompositeStyle::Quote,
+        "q",
+        "\u{1b}[2;3H\u{1b}[38;5;244m\u{1b}[1m▐\u{1b}[0m q      \u{1b}[3;3H         ",
+    ),
+    (
+        Look::Default,
+        CompositeStyle::Header(1),
+        "t",
+        "\u{1b}[2;3H    \u{1b}[1m\u{1b}[4mt\u{1b}[0m    \u{1b}[3;3H         ",
+    ),
+];
 
 #[test]
 fn marked_lines_drawn(rt: HostRuntime) -> Result<(), Error> {
@@ -179,58 +252,14 @@ fn marked_lines_drawn_or_want_of_memory(rt: HostRuntime) {
 
 fn marked_lines_drawn_rows(rt: &impl Abort, alloc: Global) -> Result<(), Error> {
     let area = Area::new(2, 1, 9, 2);
-    let plain = MadSkin::no_style();
-    let styled = MadSkin::default();
-    let rows = [
-        (
-            &plain,
-            CompositeStyle::ListItem(0),
-            "abcdef gh",
-            "\u{1b}[2;3H• abcdef \u{1b}[3;3H  gh     ",
-        ),
-        (
-            &styled,
-            CompositeStyle::ListItem(0),
-            "abcdefghij",
-            "\u{1b}[2;3H\u{1b}[38;5;240m•\u{1b}[39m abcdef \u{1b}[3;3H  ghij   ",
-        ),
-        (
-            &plain,
-            numbered(1, 12),
-            "ab cde",
-            "\u{1b}[2;3H 12. ab  \u{1b}[3;3H     cde ",
-        ),
-        (
-            &styled,
-            CompositeStyle::Quote,
-            "q",
-            "\u{1b}[2;3H\u{1b}[38;5;244m\u{1b}[1m▐\u{1b}[0m q      \u{1b}[3;3H         ",
-        ),
-        (
-            &styled,
-            CompositeStyle::Header(1),
-            "t",
-            "\u{1b}[2;3H    \u{1b}[1m\u{1b}[4mt\u{1b}[0m    \u{1b}[3;3H         ",
-        ),
-    ];
-    for (skin, style, text, wanted) in rows {
-        let text = laid_out(alloc, skin, style, text, 8)?;
+    for (look, style, text, wanted) in DRAWN {
+        let skin = skin_of(look);
+        let text = laid_out(alloc, &skin, style, text, 8)?;
         let mut out = CutOut::new(alloc, 11, 100, false)?;
         draw_text(alloc, &mut out, &text, &area, 0)?;
         assert!(rt; out.taken() == wanted.as_bytes(), "{style:?}");
     }
     Ok(())
-}
-
-// A skin in which paragraphs are red, and the numbers of the deepest ordered lists green before a bare dot.
-fn colored_skin() -> MadSkin {
-    let mut skin = MadSkin::no_style();
-    skin.paragraph = LineStyle::from(CompoundStyle::with_fg(Color::Red));
-    skin.ordered_item_styles[3] = OrderedItemStyle {
-        index_style: CompoundStyle::with_fg(Color::Green),
-        ..OrderedItemStyle::no_style()
-    };
-    skin
 }
 
 fn written<'s>(
@@ -242,6 +271,46 @@ fn written<'s>(
     compounds.push(compound)?;
     Ok(Composite { style, compounds })
 }
+
+// What is written of `abcd` by itself.
+const BY_THEMSELVES: [(Look, CompositeStyle, &str); 9] = [
+    (Look::Default, ITEM, "\u{1b}[38;5;240m•\u{1b}[39m abcd"),
+    (
+        Look::Default,
+        CompositeStyle::ListItem(3),
+        "   \u{1b}[38;5;240m•\u{1b}[39m abcd",
+    ),
+    (
+        Look::Default,
+        NESTED_TWELFTH,
+        " 12\u{1b}[38;5;244m.\u{1b}[39m abcd",
+    ),
+    (
+        Look::Default,
+        CompositeStyle::Quote,
+        "\u{1b}[38;5;244m\u{1b}[1m▐\u{1b}[0m abcd",
+    ),
+    // Without a width nothing is centered.
+    (
+        Look::Default,
+        CompositeStyle::Header(1),
+        "\u{1b}[1m\u{1b}[4mabcd\u{1b}[0m",
+    ),
+    (Look::Default, CompositeStyle::Header(0), "abcd"),
+    // Each space in front of a mark, and the one behind it, is a piece in the paragraph's style.
+    (
+        Look::Colored,
+        THIRD_ITEM,
+        "\u{1b}[38;5;9m \u{1b}[39m\u{1b}[38;5;9m \u{1b}[39m•\u{1b}[38;5;9m \u{1b}[39m\u{1b}[38;5;9mabcd\u{1b}[39m",
+    ),
+    (
+        Look::Colored,
+        NESTED_TWELFTH,
+        "\u{1b}[38;5;9m \u{1b}[39m12.\u{1b}[38;5;9m \u{1b}[39m\u{1b}[38;5;9mabcd\u{1b}[39m",
+    ),
+    // A header has its own style, not the paragraph's.
+    (Look::Colored, CompositeStyle::Header(2), "abcd"),
+];
 
 #[test]
 fn composites_by_themselves(rt: HostRuntime) -> Result<(), Error> {
@@ -255,63 +324,9 @@ fn composites_by_themselves_or_want_of_memory(rt: HostRuntime) {
 }
 
 fn composites_by_themselves_rows(rt: &impl Abort, alloc: Global) -> Result<(), Error> {
-    let styled = MadSkin::default();
-    let colored = colored_skin();
-    let abcd = Compound::raw_str("abcd");
-    let rows = [
-        (
-            &styled,
-            CompositeStyle::ListItem(0),
-            abcd,
-            "\u{1b}[38;5;240m•\u{1b}[39m abcd",
-        ),
-        (
-            &styled,
-            CompositeStyle::ListItem(3),
-            abcd,
-            "   \u{1b}[38;5;240m•\u{1b}[39m abcd",
-        ),
-        (
-            &styled,
-            numbered(1, 12),
-            abcd,
-            " 12\u{1b}[38;5;244m.\u{1b}[39m abcd",
-        ),
-        (
-            &styled,
-            CompositeStyle::Quote,
-            abcd.bold(),
-            "\u{1b}[38;5;244m\u{1b}[1m▐\u{1b}[0m \u{1b}[1mabcd\u{1b}[0m",
-        ),
-        // Without a width nothing is centered.
-        (
-            &styled,
-            CompositeStyle::Header(1),
-            abcd,
-            "\u{1b}[1m\u{1b}[4mabcd\u{1b}[0m",
-        ),
-        (&styled, CompositeStyle::Header(0), abcd, "abcd"),
-        // Each space in front of a mark, and the one behind it, is a piece in the paragraph's style.
-        (
-            &colored,
-            CompositeStyle::ListItem(2),
-            abcd,
-            concat!(
-                "\u{1b}[38;5;9m \u{1b}[39m\u{1b}[38;5;9m \u{1b}[39m•",
-                "\u{1b}[38;5;9m \u{1b}[39m\u{1b}[38;5;9mabcd\u{1b}[39m"
-            ),
-        ),
-        (
-            &colored,
-            numbered(1, 7),
-            abcd,
-            "\u{1b}[38;5;9m \u{1b}[39m7.\u{1b}[38;5;9m \u{1b}[39m\u{1b}[38;5;9mabcd\u{1b}[39m",
-        ),
-        // A header has its own style, not the paragraph's.
-        (&colored, CompositeStyle::Header(2), abcd, "abcd"),
-    ];
-    for (skin, style, compound, wanted) in rows {
-        let composite = written(alloc, style, compound)?;
+    for (look, style, wanted) in BY_THEMSELVES {
+        let skin = skin_of(look);
+        let composite = written(alloc, style, Compound::raw_str("abcd"))?;
         for prints in [false, true] {
             let mut out = CutOut::new(alloc, 11, 100, false)?;
             if prints {
@@ -338,7 +353,11 @@ fn numbers_past_the_last_level(rt: HostRuntime) -> Result<(), Error> {
         (5, "     \u{1b}[38;5;10m7\u{1b}[39m. x"),
     ];
     for (level, wanted) in rows {
-        let composite = written(alloc, numbered(level, 7), Compound::raw_str("x"))?;
+        let composite = written(
+            alloc,
+            CompositeStyle::OrderedListItem { level, index: 7 },
+            Compound::raw_str("x"),
+        )?;
         let mut out = CutOut::new(alloc, 11, 100, false)?;
         skin.write_composite(alloc, &mut out, &composite)?;
         assert!(rt; out.taken() == wanted.as_bytes(), "{level}");
