@@ -59,13 +59,12 @@ fn the_default_skin(rt: HostRuntime) {
     assert_eq!(rt; skin.code_block, line_of(code, unaligned));
     let first = style_of(None, None, &[Attribute::Underlined, Attribute::Bold]);
     let other = style_of(None, None, &[Attribute::Underlined]);
-    let [header, others @ ..] = skin.headers;
-    assert_eq!(rt; header, line_of(first, Alignment::Center));
-    for header in others {
-        assert_eq!(rt; header, line_of(other, unaligned));
+    assert_eq!(rt; skin.headers[0], line_of(first, Alignment::Center));
+    for header in &skin.headers[1..] {
+        assert_eq!(rt; *header, line_of(other, unaligned));
     }
     assert_mark(&rt, &skin.bullet, '•', style_of(Some(240), None, &[]));
-    for item in skin.ordered_item_styles {
+    for item in &skin.ordered_item_styles {
         assert_eq!(rt; item.index_style, plain);
         assert_mark(&rt, &item.index_suffix, '.', style_of(Some(244), None, &[]));
     }
@@ -93,12 +92,12 @@ fn the_skin_without_style(rt: HostRuntime) {
         assert_eq!(rt; style, plain);
     }
     assert_eq!(rt; (skin.paragraph, skin.code_block), (line, line));
-    for header in skin.headers {
-        assert_eq!(rt; header, line);
+    for header in &skin.headers {
+        assert_eq!(rt; *header, line);
     }
     assert_mark(&rt, &skin.bullet, '•', plain);
     assert_mark(&rt, &skin.quote_mark, '▐', plain);
-    for item in skin.ordered_item_styles {
+    for item in &skin.ordered_item_styles {
         assert_eq!(rt; item.index_style, plain);
         assert_mark(&rt, &item.index_suffix, '.', plain);
     }
@@ -113,13 +112,11 @@ fn each_kind_has_its_style(rt: HostRuntime) {
     let mut skin = MadSkin::no_style();
     skin.paragraph.left_margin = 1;
     skin.code_block.left_margin = 2;
-    let mut margin = 10;
-    for header in &mut skin.headers {
-        margin += 1;
+    let margins = [11, 12, 13, 14, 15, 16, 17, 18];
+    for (header, margin) in skin.headers.iter_mut().zip(margins) {
         header.left_margin = margin;
     }
-    let deep = (255, u32::MAX);
-    let (level, index) = deep;
+    let (level, index) = (255, u32::MAX);
     let rows = [
         (CompositeKind::Paragraph, 1),
         (CompositeKind::Header(0), 1),
