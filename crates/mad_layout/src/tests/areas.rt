@@ -27,16 +27,7 @@ fn origin_area(width: u16, height: u16) -> Area
 
 #[test]
 fn areas_of_few_columns_or_rows(rt: HostRuntime) -> Result<(), Error> {
-    areas_of_few_columns_or_rows_rows(&rt, rt.alloc())
-}
-
-#[test]
-fn areas_of_few_columns_or_rows_or_want_of_memory(rt: HostRuntime) {
-    let outcome = areas_of_few_columns_or_rows_rows(&rt, rt.alloc());
-    assert!(rt; is_done_or_want_of_memory(outcome));
-}
-
-fn areas_of_few_columns_or_rows_rows(rt: &impl Abort, alloc: Global) -> Result<(), Error> {
+    let alloc = rt.alloc();
     let skin = MadSkin::no_style();
     let rows = [
         (0, 0, "abcd", ""),

@@ -53,16 +53,7 @@ fn three_and_four_lines_rows(rt: &impl Abort, alloc: Global) -> Result<(), Error
 
 #[test]
 fn items_of_several_lines(rt: HostRuntime) -> Result<(), Error> {
-    items_of_several_lines_rows(&rt, rt.alloc())
-}
-
-#[test]
-fn items_of_several_lines_or_want_of_memory(rt: HostRuntime) {
-    let outcome = items_of_several_lines_rows(&rt, rt.alloc());
-    assert!(rt; is_done_or_want_of_memory(outcome));
-}
-
-fn items_of_several_lines_rows(rt: &impl Abort, alloc: Global) -> Result<(), Error> {
+    let alloc = rt.alloc();
     let block = ListItemsIndentationMode::Block;
     let first_only = ListItemsIndentationMode::FirstLineOnly;
     let ordered = CompositeStyle::OrderedListItem {
@@ -95,8 +86,8 @@ fn items_of_several_lines_rows(rt: &impl Abort, alloc: Global) -> Result<(), Err
     for (style, mode, width, wanted, starts) in rows {
         let skin = skin_with(0, 0, mode);
         let item = composite(alloc, WORDS, style, &skin)?;
-        assert_wrap(rt, alloc, &item, width, &skin, wanted)?;
-        assert_bound(rt, alloc, &item, width, &skin, starts)?;
+        assert_wrap(&rt, alloc, &item, width, &skin, wanted)?;
+        assert_bound(&rt, alloc, &item, width, &skin, starts)?;
     }
     Ok(())
 }

@@ -15,6 +15,9 @@ use std::process::Abort;
 // More than any of these calls writes.
 const ROOM: usize = 100;
 
+// `**some** x` in the default skin.
+const SOME: &str = "\u{1b}[1msome\u{1b}[0m x";
+
 // A call that writes one line of text with inline marks.
 #[derive(Clone, Copy, Debug)]
 enum Call {
@@ -77,23 +80,24 @@ fn assert_line(
 }
 
 #[test]
-fn one_line_by_each_call(rt: HostRuntime) -> Result<(), Error> {
-    one_line_by_each_call_rows(&rt, rt.alloc())
+fn bold_text_by_each_call(rt: HostRuntime) -> Result<(), Error> {
+    assert_line(&rt, rt.alloc(), &MadSkin::default(), "**some** x", SOME)
 }
 
 #[test]
-fn one_line_by_each_call_or_want_of_memory(rt: HostRuntime) {
-    let outcome = one_line_by_each_call_rows(&rt, rt.alloc());
+fn bold_text_by_each_call_or_want_of_memory(rt: HostRuntime) {
+    let outcome = assert_line(&rt, rt.alloc(), &MadSkin::default(), "**some** x", SOME);
     assert!(rt; is_done_or_want_of_memory(outcome));
 }
 
-fn one_line_by_each_call_rows(rt: &impl Abort, alloc: Global) -> Result<(), Error> {
+#[test]
+fn one_line_by_each_call(rt: HostRuntime) -> Result<(), Error> {
+    let alloc = rt.alloc();
     let styled = MadSkin::default();
     let mut spaced = MadSkin::no_style();
     spaced.paragraph.left_margin = 4;
     spaced.paragraph.right_margin = 4;
     let rows = [
-        (&styled, "**some** x", "\u{1b}[1msome\u{1b}[0m x"),
         (&styled, "*a*", "\u{1b}[3ma\u{1b}[0m"),
         (
             &styled,
@@ -110,7 +114,7 @@ fn one_line_by_each_call_rows(rt: &impl Abort, alloc: Global) -> Result<(), Erro
         (&spaced, "**some** x", "    some x"),
     ];
     for (skin, line, wanted) in rows {
-        assert_line(rt, alloc, skin, line, wanted)?;
+        assert_line(&rt, alloc, skin, line, wanted)?;
     }
     Ok(())
 }
@@ -132,7 +136,7 @@ fn lines_on_a_device_whose_flush_fails_rows(rt: &impl Abort, alloc: Global) -> R
         let mut out = CutOut::new(alloc, ROOM, ROOM, true)?;
         let done = write_by(call, alloc, &skin, &mut out, "**some** x");
         let flushes = matches!(call, Call::WriteInline);
-        assert_flushed(rt, done, &out, flushes, "\u{1b}[1msome\u{1b}[0m x")?;
+        assert_flushed(rt, done, &out, flushes, SOME)?;
     }
     Ok(())
 }

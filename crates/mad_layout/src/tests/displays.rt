@@ -129,16 +129,7 @@ fn assert_placed(
 
 #[test]
 fn lines_in_a_wider_place(rt: HostRuntime) -> Result<(), Error> {
-    lines_in_a_wider_place_rows(&rt, rt.alloc())
-}
-
-#[test]
-fn lines_in_a_wider_place_or_want_of_memory(rt: HostRuntime) {
-    let outcome = lines_in_a_wider_place_rows(&rt, rt.alloc());
-    assert!(rt; is_done_or_want_of_memory(outcome));
-}
-
-fn lines_in_a_wider_place_rows(rt: &impl Abort, alloc: Global) -> Result<(), Error> {
+    let alloc = rt.alloc();
     let rows = [
         (Alignment::Unspecified, (0, 0), "abcd", "         "),
         (Alignment::Left, (0, 0), "abcd", "         "),
@@ -158,7 +149,7 @@ fn lines_in_a_wider_place_rows(rt: &impl Abort, alloc: Global) -> Result<(), Err
         let mut skin = skin_with(margins.0, margins.1, ListItemsIndentationMode::Block);
         skin.paragraph.align = align;
         let text = placed(alloc, &skin, CompositeKind::Paragraph, None, 13)?;
-        assert_placed(rt, alloc, &text, shown, right)?;
+        assert_placed(&rt, alloc, &text, shown, right)?;
     }
     Ok(())
 }

@@ -56,16 +56,7 @@ const TEXTS: [&str; 9] = [
 
 #[test]
 fn texts_without_wrapping(rt: HostRuntime) -> Result<(), Error> {
-    texts_without_wrapping_rows(&rt, rt.alloc())
-}
-
-#[test]
-fn texts_without_wrapping_or_want_of_memory(rt: HostRuntime) {
-    let outcome = texts_without_wrapping_rows(&rt, rt.alloc());
-    assert!(rt; is_done_or_want_of_memory(outcome));
-}
-
-fn texts_without_wrapping_rows(rt: &impl Abort, alloc: Global) -> Result<(), Error> {
+    let alloc = rt.alloc();
     let skin = MadSkin::no_style();
     let rows = [
         ("", ""),
@@ -310,17 +301,11 @@ fn a_megabyte_of_one_word(rt: HostRuntime) -> Result<(), Error> {
         let wanted = if i < 13107 { 80 } else { 16 };
         assert_eq!(rt; line.visible_length(), wanted, "in line {i}");
     }
-    let whole = paragraph_of(alloc, &[Compound::raw_str(word.as_str())], &skin)?;
+    let whole = FmtComposite::from_compound(alloc, Compound::raw_str(word.as_str()))?;
     assert_eq!(rt; whole.visible_length, 1_048_576);
     let bound = wrap_bound(alloc, &whole, 80, &skin)?;
     assert_eq!(rt; bound.starts.len(), 13108);
     assert!(rt; check_wrap_bound(alloc, &whole, 80, &skin, &bound)?);
-    assert!(rt;
-        skin.inline(alloc, word.as_str())?
-            .to_string(alloc)?
-            .as_str()
-            == word.as_str()
-    );
     Ok(())
 }
 
