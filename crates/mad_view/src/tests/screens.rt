@@ -38,6 +38,7 @@ fn code_pen() -> Pen {
 // The first cells of a row, each with its characters and its pen.
 fn assert_cells(rt: &impl Abort, screen: &Screen, y: u16, wanted: &[(&[char], Pen)]) {
     for (x, (chars, pen)) in wanted.iter().enumerate() {
+        assert!(rt; x < 14);
         let cell = screen.cell(x as u16, y);
         assert!(rt; cell.is_some());
         if let Some(cell) = cell {
@@ -152,13 +153,13 @@ fn show_scrolled_styles(rt: &impl Abort, alloc: Global) -> Result<(), Error> {
     let skin = MadSkin::default();
     let text = FmtText::from(alloc, &skin, "a\n**b**\n~~c~~", Some(3))?;
     let area = area_of([0, 0, 3, 1]);
-    let mut view = TextView::from(&area, &text);
     let rows = [
         (0, 'a', Pen::default()),
         (1, 'b', with_code(Attribute::Bold)),
         (2, 'c', with_code(Attribute::CrossedOut)),
     ];
     for (scroll, c, pen) in rows {
+        let mut view = TextView::from(&area, &text);
         assert_eq!(rt; view.set_scroll(scroll), scroll);
         let mut out = CutOut::new(alloc, 50, 50, false)?;
         view.write_on(alloc, &mut out)?;
