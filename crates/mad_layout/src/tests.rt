@@ -16,6 +16,14 @@ use mad_term::Error;
 use std::alloc::{AllocError, Global};
 use std::process::Abort;
 
+mod areas;
+mod bounds;
+mod calls;
+mod displays;
+mod extremes;
+mod marks;
+mod styles;
+
 fn skin_with(left_margin: usize, right_margin: usize, mode: ListItemsIndentationMode) -> MadSkin {
     let style = LineStyle {
         compound_style: CompoundStyle::default(),

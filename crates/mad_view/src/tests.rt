@@ -12,6 +12,9 @@ use std::alloc::Global;
 use std::process::Abort;
 use std::test::Fail;
 
+mod extremes;
+mod screens;
+
 // Three rows of `hello` in an area of 12 columns.
 const HELLO: &str = "\x1b[1;1Hhello       \x1b[2;1H            \x1b[3;1H            ";
 
