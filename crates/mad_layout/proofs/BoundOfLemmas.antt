@@ -1,7 +1,7 @@
 -- The starts that bound the lines of a composite.
 use Rattle.std.proofs.Common.{◌≡◌, ℕ, zero, suc, ◌≤◌, ◌<◌, ◌+◌, ◌-◌, ◌==◌, ◌&&◌, not, Bool, true, false, Some, None, is_some, if◌then◌else◌, List, [], ◌∷◌, ◌++◌, chars, length, take, drop, slice_range, slice_get, refl, sym, ap, ◌∙◌, arith, subst, append-nil, inl, inr}
 use Rattle.std.proofs.lemmas.Bool.{and_parts}
-use Rattle.std.proofs.lemmas.List.{take-append-drop, length-map}
+use Rattle.std.proofs.lemmas.List.{take-append-drop}
 use Rattle.std.specs.List.{AllByRecursion, list_all}
 use Rattle.std.specs.Char.{is_whitespace}
 use Rattle.mad_md.specs.Flagged.{Flags, FlaggedChar, flagged, flags_of, flagged_of, flagged_text, is_blank}
@@ -10,16 +10,16 @@ use Rattle.mad_fit.specs.Columns.{width_of}
 use Rattle.mad_fit.specs.Tokens.{AreTokensFrom, flagged_token, tokens_text}
 use Rattle.mad_fit.specs.declared.tokens.Token.{Token}
 use Rattle.mad_fit.proofs.AllLemmas.{all_each, all_front, all_back}
-use Rattle.mad_fit.proofs.TokenTexts.{IsHonest, tokens_honest, all_honest, text_from, some_flagged}
+use Rattle.mad_fit.proofs.TokenTexts.{IsHonest, tokens_honest, text_from, some_flagged}
 use Rattle.mad_fit.proofs.UniqueLemmas.{all_unique}
 use Rattle.mad_layout.specs.Bounds.{is_blank_token, are_starts_from, are_starts}
 use Rattle.mad_layout.specs.Breaks.{LineAndGap, joined, total_width, AllBlank, FitsFrom, FittingBreak, EndsWithLine}
 use Rattle.mad_layout.specs.CleanCut.{fits_behind, both_fit, is_white, clean_cut, is_cut_clean}
-use Rattle.mad_layout.specs.LeastBound.{IsBound, IsAttained, AreChecked, drops_code, AreStartsOf, AreFewest, AreCutStarts, IsFirstPast}
+use Rattle.mad_layout.specs.LeastBound.{IsBound, AreChecked, drops_code, AreStartsOf, AreFewest, AreCutStarts, IsFirstPast}
 use Rattle.mad_layout.specs.LeastWrap.{AreTokensIn}
 use Rattle.mad_layout.specs.LineStarts.{starts_of}
 use Rattle.mad_layout.specs.PlacedLines.{TokensHaveRoom, ArePlacedStarts}
-use Rattle.mad_layout.specs.Wraps.{HasRoom, LinesFit, AreFull}
+use Rattle.mad_layout.specs.Wraps.{HasRoom}
 use Rattle.mad_layout.specs.declared.room.Room.{Room}
 use Rattle.mad_layout.proofs.BoundLemmas.{bound, total_width-append, eq_from_test}
 use Rattle.mad_layout.proofs.CutLemmas.{le_from_test}

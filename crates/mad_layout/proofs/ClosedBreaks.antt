@@ -1,22 +1,14 @@
 -- A break that ends with a line, of as many lines as pieces have starts.
-use Rattle.std.proofs.Common.{◌≡◌, ℕ, ◌≤◌, ◌<◌, ◌+◌, ◌==◌, Bool, true, false, if◌then◌else◌, List, [], ◌∷◌, ◌++◌, map, length, refl, sym, ap, ◌∙◌, arith, subst, append-nil, append_assoc, inl, inr}
+use Rattle.std.proofs.Common.{◌≡◌, ℕ, ◌≤◌, ◌<◌, ◌+◌, ◌==◌, Bool, true, false, if◌then◌else◌, List, [], ◌∷◌, ◌++◌, length, refl, sym, ap, ◌∙◌, arith, subst, append-nil}
 use Rattle.std.proofs.lemmas.Bool.Decides.{nat_tests}
-use Rattle.std.proofs.lemmas.List.{length-append, nil_from_length}
+use Rattle.std.proofs.lemmas.List.{length-append}
 use Rattle.std.specs.List.{AllByRecursion}
 use Rattle.mad_fit.specs.declared.tokens.Token.{Token}
-use Rattle.mad_fit.specs.Tokens.{tokens_text}
 use Rattle.mad_fit.proofs.AllLemmas.{all_front, all_back}
-use Rattle.mad_fit.proofs.TokenTexts.{IsHonest}
-use Rattle.mad_layout.specs.Bounds.{are_starts_from, are_starts}
 use Rattle.mad_layout.specs.Breaks.{LineAndGap, joined, total_width, AllBlank, FitsFrom, EndsWithLine}
-use Rattle.mad_layout.specs.LineStarts.{starts_from, dropped_after, dropped_from, starts_of}
-use Rattle.mad_layout.specs.PlacedLines.{TokensHaveRoom, SomeOnEach}
-use Rattle.mad_layout.specs.Wraps.{GapsForced, LinesForced, LinesFit}
+use Rattle.mad_layout.specs.LineStarts.{starts_from, dropped_from}
 use Rattle.mad_layout.specs.declared.room.Room.{Room}
-use Rattle.mad_layout.proofs.BoundLemmas.{total_width-append}
-use Rattle.mad_layout.proofs.CheckerSteps.{start_after}
-use Rattle.mad_layout.proofs.KeepLemmas.{width_is, line_of, rest_of}
-use Rattle.mad_layout.proofs.StartLemmas.{dropped_none, dropped_some}
+use Rattle.mad_layout.proofs.KeepLemmas.{rest_of}
 
 -- ---- a break with as many lines
 

@@ -1,5 +1,5 @@
 -- What an area shows of a layout that was drawn in it.
-use Rattle.std.proofs.Common.{ℕ, ◌≤◌, List, Result, Ok, Err, OnOk, arith}
+use Rattle.std.proofs.Common.{ℕ, List, Result, Ok, Err, OnOk, arith}
 use Rattle.mad_term.specs.Trace.{Trace, TookWith}
 use Rattle.mad_fit.specs.Areas.{IsWithinLimits}
 use Rattle.mad_fit.specs.declared.area.Area.{Area}

@@ -1,19 +1,17 @@
 -- What the headline and the clean cut speak of is there: worked rows.
-use Rattle.std.proofs.Common.{◌≡◌, ℕ, ◌≤◌, ◌<◌, Bool, true, false, List, [], ◌∷◌, ◌++◌, ◌∙◌, chars, length, Option, Some, None, refl, ap, sym, subst, arith, lit<}
+use Rattle.std.proofs.Common.{◌≡◌, ℕ, false, [], ◌∷◌, ◌++◌, ◌∙◌, chars, Option, Some, refl, ap, sym, subst, arith, lit<}
 use Rattle.std.specs.Prelude.{IsSome, unwrap_or}
-use Rattle.std.specs.Str.{IsUtf8, IsAscii}
+use Rattle.std.specs.Str.{IsAscii}
 use Rattle.std.proofs.lemmas.List.{length-replicate}
 use Rattle.std.proofs.lemmas.Str.{IsUtf8-from_ascii, chars-IsAscii}
 use Rattle.std.proofs.lemmas.Str.Ascii.{IsAscii-cons, IsAscii-nil}
 use Rattle.unicode_width.specs.Width.{char_width}
 use Rattle.mad_md.specs.Flagged.{Run, plain, flagged}
-use Rattle.mad_md.specs.Lines.{StyledRuns}
 use Rattle.mad_md.specs.declared.composite.CompositeStyle.TheVariants.{Paragraph}
 use Rattle.mad_term.specs.Columns.{char_columns}
 use Rattle.mad_term.specs.Painting.{IsPrinted}
 use Rattle.mad_term.specs.Grid.{empty_grid, blank}
-use Rattle.mad_fit.specs.declared.area.Area.{Area}
-use Rattle.mad_layout.specs.Premises.{IsPlainRun, IsPlainLine, AreJoined, KeepsPremises, runs_text}
+use Rattle.mad_layout.specs.Premises.{IsPlainRun, AreJoined, KeepsPremises, runs_text}
 use Rattle.mad_fit.specs.Columns.{width_of}
 use Rattle.mad_layout.specs.Shown.{IsOnScreen}
 use Rattle.mad_layout.specs.Skins.{no_style_skin}

@@ -1,5 +1,5 @@
 -- A composite by itself is displayed as it is written.
-use Rattle.std.proofs.Common.{◌≡◌, ℕ, ◌+◌, List, [], ◌++◌, map, None, Result, ap, sym, subst, ◌∙◌, inl, arith}
+use Rattle.std.proofs.Common.{◌≡◌, ℕ, ◌+◌, List, [], ◌++◌, map, None, Result, ap, subst, ◌∙◌, inl, arith}
 use Rattle.std.specs.Prelude.{false, unwrap_or}
 use Rattle.std.proofs.lemmas.List.{append-nil}
 use Rattle.mad_md.specs.Flagged.{run_of}

@@ -130,7 +130,6 @@ runs_are k o i j sp [] (l ∷ ls) h = absurd h
 runs_are k o i j sp (p ∷ ps) [] h = absurd h
 runs_are k o i j sp (p ∷ ps) (l ∷ ls) h = ap (λ x. x ∷ map runs_of ls) h.0.runs ∙ ap (λ x. map token_run p.line ∷ x) (runs_are o o j j sp ps ls h.1)
 
-
 pub kinds_are : (k o : CompositeKind) (i j : ℕ) (sp : Option Spacing) (ps : List (LineAndGap Token)) (ls : List FmtComposite) → HoldPieces k o i j sp ps ls → HaveKinds k o ls
 kinds_are k o i j sp [] [] h = tt
 kinds_are k o i j sp [] (l ∷ ls) h = absurd h

@@ -3,7 +3,7 @@ use Rattle.std.proofs.Common.{◌≡◌, ℕ, ◌≤◌, ◌<◌, ◌+◌, true,
 use Rattle.std.proofs.lemmas.List.{length-append}
 use Rattle.mad_fit.specs.declared.tokens.Token.{Token}
 use Rattle.mad_fit.proofs.AllLemmas.{all_back}
-use Rattle.mad_fit.proofs.UniqueLemmas.{Fronts, fronts}
+use Rattle.mad_fit.proofs.UniqueLemmas.{fronts}
 use Rattle.mad_layout.specs.Breaks.{LineAndGap, joined, total_width, AllBlank}
 use Rattle.mad_layout.specs.Wraps.{GapsForced, LinesForced, LinesWithin}
 use Rattle.mad_layout.specs.declared.room.Room.{Room}

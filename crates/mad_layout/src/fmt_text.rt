@@ -101,7 +101,9 @@ fn layout<'s>(
     ensures { IfOk result (λ lines. IsLayoutAt skin.now width (composites (contents text.entry)) lines.items) }
 {
     match width {
-        Some(width) if width >= 3 => wrapped_lines(alloc, skin, text, width).map_err(|_| AllocError),
+        Some(width) if width >= 3 => wrapped_lines(alloc, skin, text, width).map_err(
+            |_| AllocError,
+        ),
         _ => measured_lines(alloc, skin, text),
     }
 }
@@ -121,7 +123,13 @@ fn wrapped_lines<'s>(
     for line in text.lines {
         match line {
             Line::Normal(composite) => {
-                push_line(alloc, &mut lines, FmtLine::from(composite, skin), width, skin)?;
+                push_line(
+                    alloc,
+                    &mut lines,
+                    FmtLine::from(composite, skin),
+                    width,
+                    skin,
+                )?;
             }
             Line::TableRow(_) | Line::TableRule(_) | Line::HorizontalRule => {}
         }
