@@ -101,9 +101,10 @@ fn layout<'s>(
     ensures { IfOk result (λ lines. IsLayoutAt skin.now width (composites (contents text.entry)) lines.items) }
 {
     match width {
-        Some(width) if width >= 3 => wrapped_lines(alloc, skin, text, width).map_err(
-            |_| AllocError,
-        ),
+        Some(width) if width >= 3 => {
+            let lines = wrapped_lines(alloc, skin, text, width);
+            lines.map_err(|_| AllocError)
+        }
         _ => measured_lines(alloc, skin, text),
     }
 }
