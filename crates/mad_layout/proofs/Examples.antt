@@ -1,4 +1,4 @@
--- What the headline and the clean cut speak of is there: worked rows.
+-- What the headline speaks of is there: a text that keeps the premises, and a screen that has its area.
 use Rattle.std.proofs.Common.{◌≡◌, ℕ, false, [], ◌∷◌, ◌++◌, ◌∙◌, chars, Option, Some, refl, ap, sym, subst, arith, lit<}
 use Rattle.std.specs.Prelude.{IsSome, unwrap_or}
 use Rattle.std.specs.Str.{IsAscii}

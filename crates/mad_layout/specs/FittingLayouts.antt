@@ -30,7 +30,7 @@ pub record IsFittingLayout (skin : MadSkin) (width : ℕ) (text : List StyledRun
   pub reads : AreRead skin text read
   pub fitted : AreLaidOutBy IsFittingWrap skin width read lines
 
--- from three columns on
+-- the same at a width of three columns or more; of a lesser one, or of none, nothing is said
 abbrev pub IsFittingLayoutAt : MadSkin → Option ℕ → List StyledRuns → List FmtLine → Type 0
 IsFittingLayoutAt skin None text lines = ⊤
 IsFittingLayoutAt skin (Some width) text lines = 3 ≤ width → IsFittingLayout skin width text lines

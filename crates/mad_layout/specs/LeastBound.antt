@@ -16,7 +16,7 @@ use Rattle.mad_layout.specs.declared.room.Room.{Room}
 abbrev pub IsBound : Room → List Compound → ℕ → Type 0
 IsBound r ps n = (ts : List Token) → AreTokensIn r ps ts → (breaks : List (LineAndGap Token)) → FittingBreak r ts breaks → EndsWithLine breaks → n ≤ length breaks
 
--- there are tokens, and a break of them, with just so many
+-- there are tokens of the compounds, and a fitting break of them that ends with its last line and has just so many lines
 abbrev pub IsAttained : Room → List Compound → ℕ → Type 0
 IsAttained r ps n = (ts : List Token) × AreTokensIn r ps ts × (breaks : List (LineAndGap Token)) × FittingBreak r ts breaks × EndsWithLine breaks × (length breaks ≡ n)
 
@@ -35,18 +35,18 @@ pub record IsFirstPast (r : Room) (ts : List Token) (i : ℕ) : Type 0 where
   pub before : r.first ≤ r.width → r.first + total_width (take i ts) ≤ r.width
   pub passes : r.width < r.first + total_width (take (i + 1) ts)
 
--- the starts of a clean cut in a first line with room: 0, and the first token that passes the line, if one does
+-- the starts of a clean cut: 0, and the first token that passes the first line, if one does; where that is token 0 itself, 0 alone
 abbrev pub AreCutStarts : Room → List Token → List ℕ → Type 0
 AreCutStarts r ts starts = ((r.first + total_width ts ≤ r.width) × (starts ≡ 0 ∷ [])) ⊎ ((i : ℕ) × IsFirstPast r ts i × (0 < i → starts ≡ 0 ∷ i ∷ []) × (i ≡ 0 → starts ≡ 0 ∷ []))
 
--- The starts of the lines of a wrap of the compounds; of a text that is cut clean, the starts of a bound.
+-- The starts of the lines of a wrap of the compounds; of a text that is cut clean, 0 and the first token that passes the first line.
 pub record AreStartsOf (r : Room) (ps : List Compound) (starts : List ℕ) : Type 0 where
   -- the starts of the lines of the one placing
   pub lines : is_cut_clean r ps ≡ false → (ts : List Token) → AreTokensIn r ps ts → (lines : List (List FlaggedChar)) → (full : AreFull r ts lines) → starts ≡ starts_of full.placed.pieces
   -- in a clean cut, the first token that passes the first line is the second start
   pub cut : is_cut_clean r ps ≡ true → (ts : List Token) → AreTokensIn r ps ts → AreCutStarts r ts starts
 
--- There are as few as lines of a break, where each character has room.
+-- The starts are as few as the lines of some fitting break. (Promised where each character has room.)
 pub record AreFewest (r : Room) (ps : List Compound) (starts : List ℕ) : Type 0 where
   -- some fitting break has just so many lines, but where a clean cut drops a middle in code
   pub attained : drops_code r ps ≡ false → IsAttained r ps (length starts)

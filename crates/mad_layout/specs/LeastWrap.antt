@@ -30,9 +30,9 @@ pub record IsLeastBreak (r : Room) (ps : List Compound) (ts : List Token) (lines
   pub parts : AllByRecursion (IsMadeOf ps ts) lines
   -- but where a clean cut drops a middle, only blank tokens are dropped, and these only behind a line that is full
   pub placed : drops_middle r ps ≡ false → ArePlaced r ts (map text_of lines)
-  -- and but where the text is cut clean, no line ends before it must
+  -- where the text isn't cut clean, no line ends before it must, and none goes on past the width
   pub full : is_cut_clean r ps ≡ false → AreFull r ts (map text_of lines)
-  -- and each token is a compound of its own
+  -- and there each token is a compound of its own
   pub one_by_one : (uncut : is_cut_clean r ps ≡ false) → map runs_of lines ≡ map (λ p. map token_run p.line) (full uncut).placed.pieces
   -- no fitting break that ends with its last line has fewer lines
   pub least : (breaks : List (LineAndGap Token)) → FittingBreak r ts breaks → EndsWithLine breaks → length lines ≤ length breaks

@@ -12,12 +12,13 @@ starts_from n (p ∷ ps) = n ∷ starts_from (n + (length p.line + length p.gap)
 abbrev pub dropped_after : ℕ → LineAndGap Token → List ℕ
 dropped_after n p = if length p.gap == 0 then [] else (n + length p.line) ∷ []
 
+-- the same of pieces, the first of which begins at the n-th token
 abbrev pub dropped_from : ℕ → List (LineAndGap Token) → List ℕ
 dropped_from n [] = []
 dropped_from n (p ∷ []) = dropped_after n p
 dropped_from n (p ∷ q ∷ ps) = dropped_from (n + (length p.line + length p.gap)) (q ∷ ps)
 
--- a second start that is 0, that of a line behind a first one without a token, isn't said again
+-- a second start that is 0, that of a line or of dropped blanks behind a first line without a token, isn't said again
 abbrev pub from_first : List ℕ → List ℕ
 from_first [] = []
 from_first (n ∷ []) = n ∷ []

@@ -43,7 +43,7 @@ abbrev pub AreLaidOutBy : Wrap → MadSkin → ℕ → List FmtLine → List Fmt
 AreLaidOutBy wraps skin width [] lines = lines ≡ []
 AreLaidOutBy wraps skin width (l ∷ ls) lines = (own : List FmtLine) × (others : List FmtLine) × (lines ≡ own ++ others) × IsLineLaidOutBy wraps skin width l own × AreLaidOutBy wraps skin width ls others
 
--- the same with the fewest lines
+-- the same three with the fewest lines
 abbrev pub IsWrapped : MadSkin → ℕ → FmtComposite → List FmtLine → Type 0
 IsWrapped = IsLaidOutBy IsWrap
 

@@ -31,8 +31,9 @@ pub struct WrapBound {
 /// blanks after its last line.
 ///
 /// `check_wrap_bound` says yes to them. They are the starts of the lines that `hard_wrap_composite` gives, and of the blanks
-/// that it drops after the last; a first line without a token and the one behind it both have the start 0, which stands once.
-/// Of a clean cut they are 0 and the first token that passes the first line. Where each character has room, some break has
+/// that it drops after the last; a first line without a token and the line or the blanks behind it both have the start 0, which stands
+/// once.
+/// Of a clean cut they are 0 and the first token behind it that passes the first line, if one does. Where each character has room, some break has
 /// just so many lines, unless a clean cut drops a middle in code; a composite that fits has one start. A width under 3 is
 /// refused.
 /// The time is linear in the text.

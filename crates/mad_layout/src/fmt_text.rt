@@ -42,7 +42,7 @@ impl<'k, 's> FmtText<'k, 's> {
         ensures width { IfOk result (λ laid_out. laid_out.width ≡ width) }
         ensures lines { IfOk result (λ laid_out. (text : Text) × IsReadRaw src.now text × IsLayoutAt skin.now width (composites (contents text)) laid_out.lines.items) }
 
-        // So it keeps what a layout keeps that may have more lines: the premise of what an area shows of it.
+        // So from three columns on the lines are a fitting layout, the premise of what `draw_text` shows (`shown_layout`).
         ensures fitting { IfOk result (λ laid_out. (text : Text) × IsReadRaw src.now text × IsFittingLayoutAt skin.now width (composites (contents text)) laid_out.lines.items) }
     {
         let text = Text::raw_str(alloc, src)?;
@@ -63,7 +63,7 @@ impl<'k, 's> FmtText<'k, 's> {
         ensures width { IfOk result (λ laid_out. laid_out.width ≡ width) }
         ensures lines { IfOk result (λ laid_out. (text : Text) × IsReadByMarks src.now text × IsLayoutAt skin.now width (composites (contents text)) laid_out.lines.items) }
 
-        // So it keeps what a layout keeps that may have more lines: the premise of what an area shows of it.
+        // So from three columns on the lines are a fitting layout, the premise of what `draw_text` shows (`shown_layout`).
         ensures fitting { IfOk result (λ laid_out. (text : Text) × IsReadByMarks src.now text × IsFittingLayoutAt skin.now width (composites (contents text)) laid_out.lines.items) }
     {
         let text = Text::from_inline(alloc, src)?;

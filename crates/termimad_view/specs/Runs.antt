@@ -42,7 +42,7 @@ abbrev pub WritesCall : {T : Type 0} → MadSkin → Command → List ℕ → Tr
 WritesCall skin (InArea area) text old r new = WritesInArea skin text area old r new
 WritesCall skin Inline text old r new = (line : List ℕ) × IsWithoutLineEnd text line × WritesLine skin line old r new
 
--- what a plain terminal shows that reads what was written: the first rows of the text in its area
+-- what a plain terminal shows that reads what was written: the first rows of the text in its area; of `inline` nothing is said
 abbrev pub ShowsCall : MadSkin → Command → List ℕ → Trace → Trace → Type 0
 ShowsCall skin (InArea area) text old new = ShowsText skin text area old new
 ShowsCall skin Inline text old new = ⊤
