@@ -62,9 +62,6 @@ line_measured skin composite (Normal l) h = h.measured
 abbrev pub WrappedSoFar : MadSkin → ℕ → List Line → List Line → List FmtLine → Type 0
 WrappedSoFar skin width all rest lines = (reads more : List FmtLine) → AreRead skin (composites (map content_of rest)) reads → AreLinesWrapped skin width reads more → IsLayout skin width (composites (map content_of all)) (lines ++ more)
 
-pub wrapped_start : (skin : MadSkin) (width : ℕ) (all : List Line) → WrappedSoFar skin width all all []
-wrapped_start skin width all reads more h wraps = record { read = reads; reads = h; wraps = wraps }
-
 pub wrapped_composite : (skin : MadSkin) (width : ℕ) (all rest after : List Line) (lines own new : List FmtLine) (composite : Composite) (line : FmtLine) → WrappedSoFar skin width all rest lines
     → rest ≡ read.Normal composite ∷ after → IsLineOf skin composite line → new ≡ lines ++ own → IsLineWrapped skin width line own → WrappedSoFar skin width all after new
 wrapped_composite skin width all rest after lines own new composite line held next is pushed here reads more h wraps =

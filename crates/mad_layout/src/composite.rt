@@ -134,10 +134,12 @@ impl<'s> FmtComposite<'s> {
         self.visible_length = columns;
     }
 
-    /// Puts a compound behind the others, and its columns into the cached length.
+    /// Puts a compound behind the others, and its columns into the cached length. Only want of memory is an error, and
+    /// leaves both as they were.
     pub fn add_compound(&mut self, compound: Compound<'s>) -> Result<(), AllocError>
         ensures text { OnOk result (self.new.compounds.items ≡ self.old.compounds.items ++ compound.entry ∷ []) }
         ensures length { OnOk result (self.new.visible_length ≡ capped (self.old.visible_length + width_of (flagged_of compound.entry))) }
+        ensures refused { OnErr result ((self.new.compounds.items ≡ self.old.compounds.items) × (self.new.visible_length ≡ self.old.visible_length)) }
         ensures kind { self.new.kind ≡ self.old.kind }
         ensures spacing { self.new.spacing ≡ self.old.spacing }
         ensures margins { self.new.margins ≡ self.old.margins }
@@ -153,6 +155,7 @@ impl<'s> FmtComposite<'s> {
     ) -> Result<(), AllocError>
         ensures text { OnOk result (self.new.compounds.items ≡ self.old.compounds.items ++ compound.entry ∷ []) }
         ensures length { OnOk result (self.new.visible_length ≡ capped (self.old.visible_length + width)) }
+        ensures refused { OnErr result ((self.new.compounds.items ≡ self.old.compounds.items) × (self.new.visible_length ≡ self.old.visible_length)) }
         ensures kind { self.new.kind ≡ self.old.kind }
         ensures spacing { self.new.spacing ≡ self.old.spacing }
         ensures margins { self.new.margins ≡ self.old.margins }

@@ -147,32 +147,6 @@ fn lines_in_the_default_skin_or_memory(rt: HostRuntime) -> Result<(), Fail> {
     or_memory(write_inlines(&rt, rt.alloc()))
 }
 
-// The writing calls of a skin that flush, on a device whose flush fails.
-fn flush_behind_a_text(rt: &impl Abort, alloc: Global) -> Result<(), Error> {
-    let skin = MadSkin::no_style();
-    for in_area in [true, false] {
-        let mut out = CutOut::new(alloc, 54, 54, true)?;
-        let done = if in_area {
-            skin.write_in_area(alloc, &mut out, "hello", &area_of([0, 0, 12, 3]))
-        } else {
-            skin.write_inline(alloc, &mut out, "hello")
-        };
-        if let Err(Error::Memory) = done {
-            return done;
-        }
-        let wanted = if in_area { HELLO } else { "hello" };
-        assert!(rt; matches!(done, Err(Error::IO(_))));
-        assert!(rt; out.taken() == wanted.as_bytes());
-        assert_eq!(rt; out.faults(), 1);
-    }
-    Ok(())
-}
-
-#[test]
-fn a_failing_flush_behind_a_text_or_memory(rt: HostRuntime) -> Result<(), Fail> {
-    or_memory(flush_behind_a_text(&rt, rt.alloc()))
-}
-
 // A screen of four rows of 14 dots.
 fn dots(rt: &impl Abort, alloc: Global) -> Result<Screen, Error> {
     let mut screen = Screen::new(alloc, 14, 4)?;
