@@ -7,11 +7,12 @@ ghost use Rattle.mad_fit.specs.Areas.{IsWithinLimits};
 ghost use Rattle.mad_layout.specs.InArea.{WritesInArea, ShowsText};
 ghost use Rattle.mad_layout.specs.Inlines.{WritesInline, composite_bytes};
 
+use crate::display::FreeComposite;
 use crate::drawing::draw_text;
-use crate::rows::push_free;
 use crate::skin::MadSkin;
 use mad_fit::Area;
 use mad_md::Composite;
+use mad_style::CompositeKind;
 use mad_term::{Error, Out, put_all};
 use std::alloc::Global;
 
@@ -77,7 +78,13 @@ impl MadSkin {
         ensures early { IsErrOf result Memory → O.seen out.new ≡ O.seen out.old }
     {
         let mut row = String::new(alloc);
-        push_free(&mut row, self, composite)?;
+        let margin = self.line_style(CompositeKind::from(composite.style)).left_margin;
+        row.reserve(margin)?;
+        let free = FreeComposite {
+            skin: self,
+            composite,
+        };
+        write!(row, "{free}")?;
         put_all(out, row.as_bytes())?;
         Ok(())
     }
