@@ -11,7 +11,7 @@ use Rattle.mad_md.specs.declared.alignment.Alignment.{Alignment}
 use Rattle.mad_md.specs.declared.alignment.Alignment.TheVariants.{Unspecified, Left, Center, Right}
 use Rattle.mad_md.specs.declared.compound.Compound.{Compound}
 use Rattle.mad_md.specs.Flagged.{flagged_text, flagged_of, flags_of}
-use Rattle.mad_term.specs.Columns.{char_columns}
+use Rattle.mad_columns.specs.Columns.{char_columns}
 use Rattle.mad_term.specs.Painting.{Paints, piece_cells, IsShown, look_of_style}
 use Rattle.mad_term.specs.Glyph.{Glyph}
 use Rattle.mad_term.specs.Grid.{plain_pen}

@@ -3,7 +3,7 @@ use Rattle.std.proofs.Common.{◌≡◌, ℕ, zero, suc, ◌+◌, ◌^◌, ◌<�
 use Rattle.std.specs.Prelude.{IsSome, slice_get, unwrap_or}
 use Rattle.std.specs.List.{AllByRecursion}
 use Rattle.std.specs.Str.{chars}
-use Rattle.mad_term.specs.Columns.{char_columns}
+use Rattle.mad_columns.specs.Columns.{char_columns}
 use Rattle.std.proofs.lemmas.List.{length-map}
 use Rattle.std.proofs.Math.ListN.{get_or-map}
 use Rattle.mad_term.specs.Drawing.{PaintRows, AreWide, ShowsRows, FitsArea, IsOutside}

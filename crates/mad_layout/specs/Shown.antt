@@ -4,7 +4,7 @@ use Rattle.mad_term.specs.Drawing.{drawing, IsOutside}
 use Rattle.mad_term.specs.Glyph.{Glyph}
 use Rattle.mad_term.specs.Grid.{Grid, IsGrid, plain_pen, cell_at, blank}
 use Rattle.mad_term.specs.Painting.{attach}
-use Rattle.mad_term.specs.Columns.{char_columns}
+use Rattle.mad_columns.specs.Columns.{char_columns}
 use Rattle.mad_term.specs.Terminal.{after_bytes}
 use Rattle.mad_fit.specs.declared.area.Area.{Area}
 use Rattle.mad_layout.specs.Pieces.{RowPiece, PennedChar, pieces_bytes}

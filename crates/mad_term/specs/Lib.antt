@@ -2,7 +2,6 @@ pub mod Attribute
 pub mod AttributeNames
 pub mod Attributes
 pub mod Color
-pub mod Columns
 pub mod Commands
 pub mod Drawing
 pub mod Draws

@@ -9,7 +9,7 @@ pub use Rattle.mad_term.specs.Attribute
 pub use Rattle.mad_term.specs.AttributeNames
 pub use Rattle.mad_term.specs.Attributes
 pub use Rattle.mad_term.specs.Color
-pub use Rattle.mad_term.specs.Columns
+pub use Rattle.mad_columns.specs.Columns
 pub use Rattle.mad_term.specs.Commands
 pub use Rattle.mad_term.specs.Drawing
 pub use Rattle.mad_term.specs.Draws

@@ -1,4 +1,4 @@
--- A character takes no more columns than it has bytes in UTF-8.
+-- A character takes no more columns than it has bytes in UTF-8, and at most three.
 use Rattle.std.proofs.Common.{◌≡◌, ℕ, ◌≤◌, ◌<◌, Bool, true, false, nat_lt, nat_le, arith, Some, None, unwrap_or, refl, if◌then◌else◌}
 use Rattle.std.proofs.lemmas.Bool.Decides.{nat_tests}
 use Rattle.std.specs.Char.{len_utf8}
@@ -6,7 +6,7 @@ use Rattle.unicode_width.specs.declared.kind.Kind.{Kind}
 use Rattle.unicode_width.specs.declared.kind.Kind.TheVariants as kinds
 use Rattle.unicode_width.specs.Kind.{kind}
 use Rattle.unicode_width.specs.Width.{of_kind, alone, single, char_width}
-use Rattle.mad_term.specs.Columns.{char_columns}
+use Rattle.mad_columns.specs.Columns.{char_columns}
 
 by_test : (b : Bool) (c n : ℕ) → (b ≡ true → n ≤ len_utf8 c) → unwrap_or (if b then Some n else None) 0 ≤ len_utf8 c
 by_test true c n h = h refl
@@ -44,3 +44,30 @@ unfolding char_columns char_width alone
 char_columns-le c =
     elim (nat_lt c 0x7F) as (λ b. unwrap_or (if b then (if nat_le 0x20 c then Some 1 else None) else if nat_le 0xA0 c then Some (of_kind false c (kind c)).0 else None) 0 ≤ len_utf8 c)
     [ true ↦ low c | false ↦ high c (kind c) (of_kind-le c (kind c)) ]
+
+test-le : (b : Bool) (m n : ℕ) → n ≤ m → unwrap_or (if b then Some n else None) 0 ≤ m
+test-le true m n h = h
+test-le false m n h = omega arith
+
+single-three : (c : ℕ) → (single false c).0 ≤ 3
+single-three c = grind (arith, nat_tests)
+
+of_kind-three : (c : ℕ) (k : Kind) → (of_kind false c k).0 ≤ 3
+of_kind-three c kinds.Zero = omega arith
+of_kind-three c kinds.Narrow = omega arith
+of_kind-three c kinds.Wide = omega arith
+of_kind-three c kinds.Ambiguous = omega arith
+of_kind-three c kinds.Alef = omega arith
+of_kind-three c kinds.KhmerLetter = omega arith
+of_kind-three c kinds.TifinaghConsonant = omega arith
+of_kind-three c kinds.LisuTone = omega arith
+of_kind-three c kinds.RegionalIndicator = omega arith
+of_kind-three c kinds.EmojiModifier = omega arith
+of_kind-three c kinds.Emoji = omega arith
+of_kind-three c kinds.Single = single-three c
+
+pub char_columns-three : (c : ℕ) → char_columns c ≤ 3
+unfolding char_columns char_width alone
+char_columns-three c =
+    elim (nat_lt c 0x7F) as (λ b. unwrap_or (if b then (if nat_le 0x20 c then Some 1 else None) else if nat_le 0xA0 c then Some (of_kind false c (kind c)).0 else None) 0 ≤ 3)
+    [ true ↦ test-le (nat_le 0x20 c) 3 1 (omega arith) | false ↦ test-le (nat_le 0xA0 c) 3 (of_kind false c (kind c)).0 (of_kind-three c (kind c)) ]

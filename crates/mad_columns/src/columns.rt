@@ -2,7 +2,7 @@
 
 ghost use Rattle.std.specs.Prelude.{◌≡◌, ◌≤◌};
 ghost use Rattle.std.specs.Char.{len_utf8};
-ghost use Rattle.mad_term.specs.Columns.{char_columns};
+ghost use Rattle.mad_columns.specs.Columns.{char_columns};
 
 use unicode_width::UnicodeWidthChar;
 
@@ -10,7 +10,8 @@ use unicode_width::UnicodeWidthChar;
 /// and 0 for a control character. They are no more than its bytes in UTF-8.
 pub fn char_columns(c: char) -> usize
     ensures value { result ≡ char_columns c }
-    ensures bound { result ≤ len_utf8 c }
+    ensures bytes { result ≤ len_utf8 c }
+    ensures most { result ≤ 3 }
 {
     c.width().unwrap_or(0)
 }
