@@ -1,7 +1,7 @@
 //! The writing calls of a skin.
 
 ghost use Rattle.std.specs.Prelude.{◌≡◌, ◌≤◌, IsErrOf, OnOk};
-ghost use Rattle.mad_term.specs.Draws.{Draws};
+ghost use Rattle.mad_term.specs.Draws.{Draws, AndFlushes};
 ghost use Rattle.mad_term.specs.declared.errors.Error.TheVariants.{Memory};
 ghost use Rattle.mad_fit.specs.Areas.{IsWithinLimits};
 ghost use Rattle.mad_layout.specs.InArea.{WritesInArea, ShowsText};
@@ -45,6 +45,7 @@ impl MadSkin {
     /// # Errors
     ///
     /// A fault of the device, at its flush too, or want of memory. What went out by then is a beginning of the whole.
+    #[tactic(auto, using(crate::proofs::HeadlineLemmas::shown_flushed))]
     pub fn write_in_area<O: Out>(
         &self,
         alloc: Global,
@@ -53,7 +54,7 @@ impl MadSkin {
         area: &Area,
     ) -> Result<(), Error>
         requires { IsWithinLimits area.now }
-        ensures writes { WritesInArea self.now markdown.now area.now (O.seen out.old) result (O.seen out.new) }
+        ensures writes { AndFlushes (WritesInArea self.now markdown.now area.now) (O.seen out.old) result (O.seen out.new) }
         ensures shown { OnOk result (4 ≤ area.now.width → ShowsText self.now markdown.now area.now (O.seen out.old) (O.seen out.new)) }
     {
         self.write_in_area_on(alloc, out, markdown, area)?;
@@ -144,7 +145,7 @@ impl MadSkin {
     /// A fault of the device, at its flush too; what went out by then is a beginning of the whole. Or want of memory, before
     /// the first byte.
     pub fn write_inline<O: Out>(&self, alloc: Global, out: &mut O, src: &str) -> Result<(), Error>
-        ensures writes { WritesInline self.now src.now (O.seen out.old) result (O.seen out.new) }
+        ensures writes { AndFlushes (WritesInline self.now src.now) (O.seen out.old) result (O.seen out.new) }
         ensures early { IsErrOf result Memory → O.seen out.new ≡ O.seen out.old }
     {
         self.write_inline_on(alloc, out, src)?;

@@ -1,5 +1,5 @@
 use Rattle.std.proofs.Common.{refl, subst, List, ℕ, IsUtf8}
-use Rattle.termimad_view.proofs.RunSteps.{known_call, has_read, read_exit, write_exit, flush_exit, flushed, still_shown}
+use Rattle.termimad_view.proofs.RunSteps.{known_call, has_read, read_exit, write_exit, flush_exit, still_shown}
 use Rattle.termimad_view.proofs.program.execute.Goals as goal
 
 pub returns-in_err-bytes : goal.returns-in_err-bytes
@@ -32,6 +32,8 @@ returns g c = record {
   call = known_call _ _ _ _ _ c.in-Some.ensures c.skin.ensures c.in-Some-skin.is;
   text = c.in-Ok.text.now;
   read = has_read _ _ _ _ _ c.in_ok-bytes.ensures c.as_slice.ensures.value c.in-Ok.ensures.cases.0 c.in-Ok.ensures.cases.1;
-  wrote = flushed _ _ _ _ _ _ c.in_ok-write_call.ensures.writes c.in_ok-flush.ensures;
+  written = _;
+  wrote = c.in_ok-write_call.ensures.writes;
+  flushed = c.in_ok-flush.ensures;
   shown = still_shown _ _ _ _ _ _ c.in_ok-write_call.ensures.shown c.in_ok-flush.ensures;
 }
