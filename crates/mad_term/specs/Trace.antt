@@ -1,19 +1,24 @@
 -- What a device has done, and what a call may do to it.
 use Rattle.std.specs.Prelude.{◌≡◌, ℕ, ◌+◌, ◌-◌, ◌^◌, ◌<◌, ◌≤◌, min, List, [], ◌∷◌, ◌++◌, length, take, Option, Some, option_map, IfSome, Result, MatchResult, MatchOption}
 
--- The bytes that a device has taken (of a source: those that it has left), where it tells them, and how often it
--- has failed.
+-- The bytes that a device has taken (of a source: those that it has left), where it tells them, how often it has
+-- failed, and how often it was flushed (a source never is).
 pub record Trace : Type 0 where
   pub bytes : Option (List ℕ)
   pub faults : ℕ
+  pub flushes : ℕ
 
 -- it has taken this text too
 unfoldable pub after : Trace → List ℕ → Trace
-after t text = record { bytes = option_map (λ b. b ++ text) t.bytes; faults = t.faults }
+after t text = record { bytes = option_map (λ b. b ++ text) t.bytes; faults = t.faults; flushes = t.flushes }
 
 -- it has failed once more; the count stays at its greatest value
 unfoldable pub failed : Trace → Trace
-failed t = record { bytes = t.bytes; faults = min (t.faults + 1) (2 ^ 64 - 1) }
+failed t = record { bytes = t.bytes; faults = min (t.faults + 1) (2 ^ 64 - 1); flushes = t.flushes }
+
+-- it was flushed once more; the count stays at its greatest value
+unfoldable pub flushed : Trace → Trace
+flushed t = record { bytes = t.bytes; faults = t.faults; flushes = min (t.flushes + 1) (2 ^ 64 - 1) }
 
 -- a front of the text went out, then a fault came
 pub record CutShort (old : Trace) (text : List ℕ) (new : Trace) : Type 0 where
@@ -43,13 +48,13 @@ pub record Took (old : Trace) (text : List ℕ) (count : ℕ) (new : Trace) : Ty
 abbrev pub Puts : {E : Type 0} → Trace → List ℕ → Result ℕ E → Trace → Type 0
 Puts old text r new = MatchResult r (λ count. Took old text count new) (λ _. new ≡ failed old)
 
--- what a flush does: nothing to the bytes
+-- what a flush does: it is counted, or it is a fault; nothing happens to the bytes
 abbrev pub Flushes : {T E : Type 0} → Trace → Result T E → Trace → Type 0
-Flushes old r new = MatchResult r (λ _. new ≡ old) (λ _. new ≡ failed old)
+Flushes old r new = MatchResult r (λ _. new ≡ flushed old) (λ _. new ≡ failed old)
 
 -- this byte stands before what a source has left
 unfoldable pub ahead : ℕ → Trace → Trace
-ahead byte t = record { bytes = option_map (λ rest. byte ∷ rest) t.bytes; faults = t.faults }
+ahead byte t = record { bytes = option_map (λ rest. byte ∷ rest) t.bytes; faults = t.faults; flushes = t.flushes }
 
 -- the source is at its end, where it tells its bytes, and has not changed
 pub record Ended (old new : Trace) : Type 0 where

@@ -7,7 +7,7 @@ use std::io;
 
 /// Something that takes bytes.
 pub trait Out {
-    /// The bytes that it has taken, where it tells them, and how often it has failed.
+    /// The bytes that it has taken, where it tells them, how often it has failed, and how often it was flushed.
     ghost seen: { Self → Trace };
 
     /// Takes a front of `bytes`, at least one byte where there is one, and answers how many.
@@ -19,7 +19,7 @@ pub trait Out {
     fn put(&mut self, bytes: &[u8]) -> io::Result<usize>
         ensures { Puts (seen self.old) bytes.now result (seen self.new) };
 
-    /// Hands on what it has kept back.
+    /// Hands on what it has kept back; its count of flushes is one higher, unless it is at its greatest.
     ///
     /// # Errors
     ///

@@ -1,6 +1,6 @@
 //! Devices for tests: all that they took or have left can be read, and they fail where one wants them to.
 
-ghost use Rattle.std.specs.Prelude.{◌≡◌, ◌<◌, ◌≤◌, ◌↔◌, IfOk, IsErr, IsTrue, Some, [], length, vec_capacity};
+ghost use Rattle.std.specs.Prelude.{◌≡◌, ◌<◌, ◌≤◌, ◌+◌, ◌-◌, ◌^◌, ◌↔◌, IfOk, IsErr, IsTrue, Some, [], length, min, vec_capacity};
 ghost use Rattle.mad_term.specs.Trace.{Puts, Flushes, Gets, failed};
 
 use crate::devices::{Out, Source};
@@ -15,11 +15,13 @@ pub struct CutOut {
     room: usize,
     flush_fails: bool,
     faults: u64,
+    flushes: u64,
+    puts: u64,
     ghost reserved: { room ≤ vec_capacity taken },
 }
 
 impl CutOut {
-    ghost use Rattle.mad_term.specs.Scripted.{cut_trace, IsCutOut, IsSameDevice};
+    ghost use Rattle.mad_term.specs.Scripted.{cut_trace, cut_puts, IsCutOut, IsSameDevice};
 
     /// A device that takes at most `step` bytes at a put and `room` bytes in all; a put that could take
     /// nothing is a fault, and so is each flush if `flush_fails`.
@@ -39,6 +41,8 @@ impl CutOut {
             room,
             flush_fails,
             faults: 0,
+            flushes: 0,
+            puts: 0,
         })
     }
 
@@ -56,10 +60,25 @@ impl CutOut {
         self.faults
     }
 
+    /// How often it was flushed.
+    pub fn flushes(&self) -> u64
+        ensures { result ≡ (cut_trace self.now).flushes }
+    {
+        self.flushes
+    }
+
+    /// How often it was put to, puts of nothing and refused ones too.
+    pub fn puts(&self) -> u64
+        ensures { result ≡ cut_puts self.now }
+    {
+        self.puts
+    }
+
     /// Counts a fault and answers it.
     #[tactic(auto, unfolding(crate::specs::Trace::failed))]
     fn fail(&mut self) -> io::Error
         ensures counted { cut_trace self.new ≡ failed (cut_trace self.old) }
+        ensures puts { cut_puts self.new ≡ cut_puts self.old }
         ensures keeps { IsSameDevice self.old self.new }
     {
         self.faults = self.faults.saturating_add(1);
@@ -68,7 +87,7 @@ impl CutOut {
 }
 
 impl Out for CutOut {
-    ghost use Rattle.mad_term.specs.Scripted.{cut_trace, cut_count, IsSameDevice};
+    ghost use Rattle.mad_term.specs.Scripted.{cut_trace, cut_puts, cut_count, IsSameDevice};
 
     ghost seen = { cut_trace };
 
@@ -77,8 +96,10 @@ impl Out for CutOut {
         ensures puts { Puts (cut_trace self.old) bytes.now result (cut_trace self.new) }
         ensures count { IfOk result (λ count. count ≡ cut_count self.old (length bytes.now)) }
         ensures fault { IsErr result ↔ (0 < length bytes.now) × (cut_count self.old (length bytes.now) ≡ 0) }
+        ensures counted { cut_puts self.new ≡ min (cut_puts self.old + 1) (2 ^ 64 - 1) }
         ensures keeps { IsSameDevice self.old self.new }
     {
+        self.puts = self.puts.saturating_add(1);
         if bytes.is_empty() {
             return Ok(0);
         }
@@ -91,14 +112,17 @@ impl Out for CutOut {
         Ok(count)
     }
 
+    #[tactic(auto, unfolding(crate::specs::Trace::flushed))]
     fn flush(&mut self) -> io::Result<()>
         ensures flushes { Flushes (cut_trace self.old) result (cut_trace self.new) }
         ensures fault { IsErr result ↔ IsTrue self.old.flush_fails }
+        ensures no_put { cut_puts self.new ≡ cut_puts self.old }
         ensures keeps { IsSameDevice self.old self.new }
     {
         if self.flush_fails {
             return Err(self.fail());
         }
+        self.flushes = self.flushes.saturating_add(1);
         Ok(())
     }
 }

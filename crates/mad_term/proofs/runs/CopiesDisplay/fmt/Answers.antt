@@ -1,11 +1,10 @@
-use Rattle.std.proofs.Common.{rules, ◌≡◌, ℕ, suc, ◌+◌, ap, ◌∙◌, sym, arith}
+use Rattle.std.proofs.Common.{rules, ◌≡◌, ℕ, List, [], ◌∷◌, ap, ◌∙◌, sym}
 use Rattle.std.specs.List.{repeat}
-use Rattle.std.proofs.Output.{has_written_of_eq, has_written_append}
-use Rattle.mad_term.proofs.Repeating.{repeat-more}
+use Rattle.std.proofs.Output.{has_written_of_eq}
+use Rattle.mad_term.proofs.Repeating.{spaces_in_sixteens}
 use Rattle.mad_term.proofs.runs.CopiesDisplay.fmt.Goals as goal
 
-pub loop-preserved : goal.loop-preserved
-loop-preserved g c = λ p.
-    let text = c.args.self.now.content.now in
-    has_written_of_eq _ _ _ _ _ (repeat-more c.loop.counter text)
-    (has_written_append _ _ _ _ text _ (c.loop.invariant p) (search rules))
+pub returns-then-eq-clause-writes : goal.returns-then-eq-clause-writes
+returns-then-eq-clause-writes g c = λ plain. λ ok.
+    let is : c.args.self.now.content.now ≡ 32 ∷ [] = search rules in
+    has_written_of_eq _ _ _ _ _ (spaces_in_sixteens c.args.self.now.count ∙ ap (repeat c.args.self.now.count) (sym is)) (search rules)
