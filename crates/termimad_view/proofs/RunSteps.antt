@@ -10,17 +10,16 @@ use Rattle.termimad_view.specs.declared.call.Command.{Command}
 use Rattle.termimad_view.specs.declared.call.Command.TheVariants.{InArea, Inline}
 use Rattle.mad_term.proofs.Traces.{took_flushed}
 use Rattle.termimad.specs.Shown.{AreShownIn}
-use Rattle.termimad_view.specs.declared.call.SkinWord.{SkinWord}
 use Rattle.termimad_view.specs.declared.failure.Failure.{Failure}
 use Rattle.termimad_view.specs.declared.failure.Failure.TheVariants.{Io, Usage, NotUtf8, Skin, Memory}
-use Rattle.termimad_view.specs.Calls.{Asks, skin_of}
+use Rattle.termimad_view.specs.Calls.{IsCall}
 use Rattle.termimad_view.specs.Failures.{failure_of}
 use Rattle.termimad_view.specs.Reading.{ReadsWhole, ReadingFails}
 use Rattle.termimad_view.specs.Runs.{Devices, KnownCall, HasRead, WritesCall, ShowsCall, RunsTo}
 
--- the call that was parsed, in a skin that was found
-abbrev pub known_call : (words : List (List ℕ)) (command : Command) (word : SkinWord) (found : Option MadSkin) (skin : MadSkin) → Asks words command word → found ≡ skin_of word → found ≡ Some skin → KnownCall words
-known_call words command word found skin asks is some = record { command = command; skin_word = word; asks = asks; skin = skin; known = sym is ∙ some }
+-- the call that was parsed
+abbrev pub known_call : (words : List (List ℕ)) (command : Command) (skin : MadSkin) → IsCall words command skin → KnownCall words
+known_call words command skin asked = record { command = command; skin = skin; asked = asked }
 
 failed_to_read : (T : Type 0) (words : List (List ℕ)) (failure : Failure) (old new : Devices) → KnownCall words → ReadingFails old.input failure new.input → new.out ≡ old.out → RunsTo {T = T} words old (Err failure) new
 failed_to_read T words Io old new call h out = inl (record { call = call; stopped = h; unwritten = out })

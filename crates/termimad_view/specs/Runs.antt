@@ -10,10 +10,9 @@ use Rattle.termimad.specs.Inlines.{inline_bytes}
 use Rattle.termimad.specs.declared.MadSkin.{MadSkin}
 use Rattle.termimad_view.specs.declared.call.Command.{Command}
 use Rattle.termimad_view.specs.declared.call.Command.TheVariants.{InArea, Inline}
-use Rattle.termimad_view.specs.declared.call.SkinWord.{SkinWord}
 use Rattle.termimad_view.specs.declared.failure.Failure.{Failure}
 use Rattle.termimad_view.specs.declared.failure.Failure.TheVariants.{Io, Usage, NotUtf8, Skin, Memory}
-use Rattle.termimad_view.specs.Calls.{Asks, IsNoCall, AsksUnknownSkin, skin_of}
+use Rattle.termimad_view.specs.Calls.{IsCall, IsNoCall, AsksUnknownSkin}
 use Rattle.termimad_view.specs.Failures.{failure_of, status_of, line_of, SaysOnce}
 use Rattle.termimad_view.specs.Reading.{ReadsWhole, ReadingFails}
 use Rattle.termimad_view.specs.Lines.{IsWithoutLineEnd}
@@ -26,10 +25,8 @@ pub record Devices : Type 0 where
 -- the words are a call, in a skin that the program knows
 pub record KnownCall (words : List (List ℕ)) : Type 0 where
   pub command : Command
-  pub skin_word : SkinWord
-  pub asks : Asks words command skin_word
   pub skin : MadSkin
-  pub known : skin_of skin_word ≡ Some skin
+  pub asked : IsCall words command skin
 
 -- what `inline` writes of a line: the bytes of its reading, of which there is exactly one, and a newline; or memory for it was
 -- refused, and nothing went out
