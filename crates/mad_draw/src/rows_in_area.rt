@@ -15,7 +15,7 @@ use std::alloc::{AllocError, Global};
 /// Rows of pieces that an area is to show.
 pub trait Rows {
     /// The pieces of each row, by its number, counted from 0.
-    ghost row: { Self → ℕ → List RowPiece };
+    ghost pieces: { Self → ℕ → List RowPiece };
 
     /// Appends what is written of the row of this number.
     ///
@@ -23,10 +23,10 @@ pub trait Rows {
     ///
     /// Out of memory. What the text then ends with is open.
     fn push_row(&self, bytes: &mut String, y: u16) -> Result<(), AllocError>
-        ensures writes { OnOk result (string_bytes bytes.new ≡ string_bytes bytes.old ++ pieces_bytes (row self.now y)) }
+        ensures writes { OnOk result (string_bytes bytes.new ≡ string_bytes bytes.old ++ pieces_bytes (pieces self.now y)) }
 
         // The numbers of its colors are bytes: what reading the row back needs to know.
-        ensures known { OnOk result (AreKnown (row self.now y)) };
+        ensures known { OnOk result (AreKnown (pieces self.now y)) };
 }
 
 /// Draws rows in an area, the first one on top, each after a move to its place. Nothing is flushed.
@@ -43,11 +43,11 @@ pub fn draw_rows<O: Out, R: Rows>(
     area: &Area,
 ) -> Result<(), Error>
     requires { IsWithinLimits area.now }
-    ensures writes { Draws (O.seen out.old) (rows_bytes (R.row rows.now) area.now) result (O.seen out.new) }
+    ensures writes { Draws (O.seen out.old) (rows_bytes (R.pieces rows.now) area.now) result (O.seen out.new) }
 
     // What a plain terminal shows that reads it, where each row fills the area's width exactly, and no piece of it holds a control
     // character or begins with a widthless one.
-    ensures shown { OnOk result (FillArea (R.row rows.now) area.now → TookWith (O.seen out.old) (O.seen out.new) (AreRowsShown (R.row rows.now) area.now)) }
+    ensures shown { OnOk result (FillArea (R.pieces rows.now) area.now → TookWith (O.seen out.old) (O.seen out.new) (AreRowsShown (R.pieces rows.now) area.now)) }
 {
     let mut bytes = String::new(alloc);
     for y in 0..area.height {
@@ -66,8 +66,8 @@ fn draw_row<O: Out, R: Rows>(
     y: u16,
 ) -> Result<(), Error>
     requires { area.now.top + y < 2 ^ 16 }
-    ensures writes { Draws (O.seen out.old) (move_to_bytes area.now.left (area.now.top + y) ++ pieces_bytes (R.row rows.now y)) result (O.seen out.new) }
-    ensures known { OnOk result (AreKnown (R.row rows.now y)) }
+    ensures writes { Draws (O.seen out.old) (move_to_bytes area.now.left (area.now.top + y) ++ pieces_bytes (R.pieces rows.now y)) result (O.seen out.new) }
+    ensures known { OnOk result (AreKnown (R.pieces rows.now y)) }
 {
     bytes.clear();
     push_move(bytes, area.left, area.top + y)?;
