@@ -67,7 +67,6 @@ bytes_taken {X} f xs i d inside = flat_map_more f [] (take i xs) (get_or xs i d)
 pub bytes_taken_of : {X : Type 0} (f : X → List ℕ) (xs : List X) (i : ℕ) (x : X) → i < length xs → x ≡ get_or xs i x → flat_map f (take i xs) ++ f x ≡ flat_map f (take (i + 1) xs)
 bytes_taken_of {X} f xs i x inside is = ap (λ y. flat_map f (take i xs) ++ f y) is ∙ bytes_taken f xs i x inside
 
-
 -- ---- colors
 
 pub spaces_known : (style : CompoundStyle) (n : ℕ) → IsStyle style.object_style → AreKnown (spaces style n)

@@ -13,7 +13,7 @@ use Rattle.mad_screen.specs.Painting.{IsPrinted}
 use Rattle.mad_screen.specs.Grid.{empty_grid, blank}
 use Rattle.mad_layout.specs.Premises.{IsPlainRun, AreJoined, KeepsPremises, runs_text}
 use Rattle.mad_fit.specs.Columns.{width_of}
-use Rattle.mad_layout.specs.Shown.{IsOnScreen}
+use Rattle.mad_draw.specs.DrawnRows.{IsOnScreen}
 use Rattle.mad_layout.specs.Skins.{no_style_skin}
 
 -- the text `hello`

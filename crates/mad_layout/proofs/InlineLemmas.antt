@@ -15,7 +15,7 @@ use Rattle.mad_style.specs.declared.kinds.CompositeKind.TheVariants.{Paragraph}
 use Rattle.mad_style.specs.Kinds.{kind_of}
 use Rattle.mad_style.specs.LineStyles.{margins_at}
 use Rattle.mad_layout.specs.Inlines.{IsInlineOf, IsDisplayedAsWritten, WritesInline, composite_bytes}
-use Rattle.mad_layout.specs.Pieces.{RowPiece, pieces_bytes, spaces}
+use Rattle.mad_draw.specs.Pieces.{RowPiece, pieces_bytes, spaces}
 use Rattle.mad_layout.specs.Rows.{align_in, place_of, left_of_place, right_of_place, inner_blanks, margins_of, mark_pieces, compound_piece, composite_pieces, free_pieces}
 use Rattle.mad_layout.specs.Styles.{line_style}
 use Rattle.mad_layout.specs.declared.skin.MadSkin.{MadSkin}

@@ -8,7 +8,7 @@ use Rattle.mad_term.specs.Trace.{Trace}
 use Rattle.mad_term.specs.declared.errors.Error.{Error}
 use Rattle.mad_term.specs.declared.errors.Error.TheVariants.{Memory}
 use Rattle.mad_style.specs.Kinds.{kind_of}
-use Rattle.mad_layout.specs.Pieces.{pieces_bytes}
+use Rattle.mad_draw.specs.Pieces.{pieces_bytes}
 use Rattle.mad_layout.specs.Rows.{composite_pieces, free_pieces, margins_of}
 use Rattle.mad_md.specs.ReadInline.{IsReadInline}
 use Rattle.mad_style.specs.declared.kinds.CompositeKind.TheVariants.{Paragraph}

@@ -35,6 +35,9 @@ pub use Rattle.mad_fit.specs.Areas
 pub use Rattle.mad_fit.specs.Columns as TextColumns
 pub use Rattle.mad_fit.specs.Completions
 pub use Rattle.mad_fit.specs.Tokens
+pub use Rattle.mad_draw.specs.DrawnRows
+pub use Rattle.mad_draw.specs.Pieces
+pub use Rattle.mad_draw.specs.RowCells
 pub use Rattle.mad_layout.specs.Bounds
 pub use Rattle.mad_layout.specs.Breaks
 pub use Rattle.mad_layout.specs.CleanCut
@@ -50,7 +53,6 @@ pub use Rattle.mad_layout.specs.LeastWrap
 pub use Rattle.mad_layout.specs.LineRoom
 pub use Rattle.mad_layout.specs.LineStarts
 pub use Rattle.mad_layout.specs.Lines as LayoutLines
-pub use Rattle.mad_layout.specs.Pieces
 pub use Rattle.mad_layout.specs.PlacedLines
 pub use Rattle.mad_layout.specs.Premises
 pub use Rattle.mad_layout.specs.Rows
