@@ -18,7 +18,7 @@ pub enum Failure {
     NotUtf8,
     /// The program doesn't know the skin.
     Skin,
-    /// Want of memory.
+    /// Out of memory.
     Memory,
 }
 

@@ -11,7 +11,7 @@ use termimad::Source;
 ///
 /// # Errors
 ///
-/// The first fault of the source, or want of memory for its bytes. Those that were read by then are gone.
+/// The first fault of the source, or out of memory for its bytes. Those that were read by then are gone.
 pub fn read_all<I: Source>(alloc: Global, input: &mut I) -> Result<Vec<u8>, Failure>
     ensures { MatchResult result (λ bytes. ReadsWhole (I.seen input.old) bytes.items (I.seen input.new))
         (λ failure. ReadingFails (I.seen input.old) failure (I.seen input.new)) }

@@ -284,8 +284,45 @@ fn a_failing_standard_error_changes_no_status(rt: HostRuntime) -> Result<(), Fai
     Ok(())
 }
 
-// Runs a call whose memory may be refused: its row, or a front of it with status 5.
-fn expect_or_memory(
+// Runs a call on an input of any size, with room for its row and for no byte more.
+fn expect_large(
+    rt: &(impl Abort + AllocGlobal),
+    call: &str,
+    input: &str,
+    written: &str,
+) -> Result<(), AllocError> {
+    let alloc = rt.alloc();
+    let words = words_of(alloc, call)?;
+    let mut source = ScriptSource::new(input.as_bytes(), false);
+    let mut out = CutOut::new(alloc, usize::MAX, written.len(), false)?;
+    let mut err = CutOut::new(alloc, ROOM, ROOM, false)?;
+    let status = run(alloc, words.as_slice(), &mut source, &mut out, &mut err);
+    assert_eq!(rt; status, 0, "{call}");
+    assert!(rt; out.taken() == written.as_bytes(), "{call}: the output");
+    assert_eq!(rt; out.flushes(), 1, "{call}");
+    Ok(())
+}
+
+#[test]
+fn a_megabyte_and_a_line_of_many_marks(rt: HostRuntime) -> Result<(), Fail> {
+    let alloc = rt.alloc();
+    let word = "a".repeat(alloc, 1_000_000)?;
+    // A text is laid out in one column less than its area has.
+    let row = "a".repeat(alloc, 79)?;
+    expect_large(&rt, "inline", word.as_str(), format!(in alloc; "{word}\n")?.as_str())?;
+    let rows = format!(in alloc; "\x1b[1;1H{row} \x1b[2;1H{row} ")?;
+    expect_large(&rt, "area|0|0|80|2", word.as_str(), rows.as_str())?;
+    let marks = "*a*b".repeat(alloc, 50_000)?;
+    let unmarked = format!(in alloc; "{}\n", "ab".repeat(alloc, 50_000)?)?;
+    expect_large(&rt, "inline", marks.as_str(), unmarked.as_str())?;
+    let wide = "a".repeat(alloc, 65_534)?;
+    let row = format!(in alloc; "\x1b[1;1H{wide} ")?;
+    expect_large(&rt, "area|0|0|65535|1", wide.as_str(), row.as_str())?;
+    Ok(())
+}
+
+// Runs a call: its row, or a beginning of it with status 5, where memory is refused.
+fn expect_row(
     rt: &(impl Abort + AllocGlobal),
     call: &str,
     input: &[u8],
@@ -309,15 +346,8 @@ fn expect_or_memory(
 }
 
 #[test]
-fn a_run_is_its_row(rt: HostRuntime) -> Result<(), Fail> {
-    expect_or_memory(&rt, "area|0|0|12|3", b"hello", HELLO)?;
-    expect_or_memory(&rt, "inline|default", b"**some** x", SOME)?;
+fn a_run_is_its_row_or_ends_out_of_memory(rt: HostRuntime) -> Result<(), Fail> {
+    expect_row(&rt, "area|0|0|12|3", b"hello", HELLO)?;
+    expect_row(&rt, "inline|default", b"**some** x", SOME)?;
     Ok(())
-}
-
-#[test]
-fn a_run_is_its_row_or_memory(rt: HostRuntime) {
-    // Want of memory is an answer here.
-    let _ = expect_or_memory(&rt, "area|0|0|12|3", b"hello", HELLO);
-    let _ = expect_or_memory(&rt, "inline|default", b"**some** x", SOME);
 }
