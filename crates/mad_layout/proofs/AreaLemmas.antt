@@ -4,7 +4,7 @@ use Rattle.std.specs.Prelude.{slice_get}
 use Rattle.std.specs.List.{AllByRecursion}
 use Rattle.std.proofs.lemmas.List.{append-nil, map-append, length-map}
 use Rattle.mad_term.specs.Commands.{move_to_bytes}
-use Rattle.mad_term.specs.Drawing.{drawing}
+use Rattle.mad_screen.specs.Drawing.{drawing}
 use Rattle.mad_term.specs.Draws.{Draws, Refused}
 use Rattle.mad_term.specs.Trace.{Trace, after, TookWith}
 use Rattle.mad_term.specs.declared.errors.Error.{Error}

@@ -12,12 +12,12 @@ use Rattle.mad_md.specs.declared.alignment.Alignment.TheVariants.{Unspecified, L
 use Rattle.mad_md.specs.declared.compound.Compound.{Compound}
 use Rattle.mad_md.specs.Flagged.{flagged_text, flagged_of, flags_of}
 use Rattle.mad_columns.specs.Columns.{char_columns}
-use Rattle.mad_term.specs.Painting.{Paints, piece_cells, IsShown, look_of_style}
-use Rattle.mad_term.specs.Glyph.{Glyph}
-use Rattle.mad_term.specs.Grid.{plain_pen}
+use Rattle.mad_screen.specs.Painting.{Paints, piece_cells, IsShown, look_of_style}
+use Rattle.mad_screen.specs.Glyph.{Glyph}
+use Rattle.mad_screen.specs.Grid.{plain_pen}
 use Rattle.mad_term.specs.Styles.{piece_bytes}
-use Rattle.mad_term.proofs.Paints.{paints_row, paints_piece, spaces_shown, spaces_cells}
-use Rattle.mad_term.proofs.PaintingLemmas.{length-cells_of}
+use Rattle.mad_screen.proofs.Paints.{paints_row, paints_piece, spaces_shown, spaces_cells}
+use Rattle.mad_screen.proofs.PaintingLemmas.{length-cells_of}
 use Rattle.mad_style.specs.declared.compound_styles.CompoundStyle.{CompoundStyle}
 use Rattle.mad_style.specs.declared.line_styles.LineStyle.{LineStyle}
 use Rattle.mad_style.specs.LineStyles.{margins_at}

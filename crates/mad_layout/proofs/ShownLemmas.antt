@@ -6,11 +6,11 @@ use Rattle.std.specs.Str.{chars}
 use Rattle.mad_columns.specs.Columns.{char_columns}
 use Rattle.std.proofs.lemmas.List.{length-map}
 use Rattle.std.proofs.Math.ListN.{get_or-map}
-use Rattle.mad_term.specs.Drawing.{PaintRows, AreWide, ShowsRows, FitsArea, IsOutside}
-use Rattle.mad_term.specs.Glyph.{Glyph, Look}
-use Rattle.mad_term.specs.Grid.{blank, glyphs}
-use Rattle.mad_term.specs.Painting.{attach, joined, IsPrinted, IsShown, look_of_style}
-use Rattle.mad_term.proofs.DrawingLemmas.{drawn}
+use Rattle.mad_screen.specs.Drawing.{PaintRows, AreWide, ShowsRows, FitsArea, IsOutside}
+use Rattle.mad_screen.specs.Glyph.{Glyph, Look}
+use Rattle.mad_screen.specs.Grid.{blank, glyphs}
+use Rattle.mad_screen.specs.Painting.{attach, joined, IsPrinted, IsShown, look_of_style}
+use Rattle.mad_screen.proofs.DrawingLemmas.{drawn}
 use Rattle.mad_fit.specs.declared.area.Area.{Area}
 use Rattle.mad_layout.specs.declared.skin.MadSkin.{MadSkin}
 use Rattle.mad_layout.specs.declared.line.FmtLine.{FmtLine}

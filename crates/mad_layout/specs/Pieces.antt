@@ -3,9 +3,9 @@ use Rattle.std.specs.Prelude.{ℕ, zero, suc, List, [], ◌∷◌, map, replicat
 use Rattle.std.specs.Str.{chars}
 use Rattle.std.specs.List.{AllByRecursion, flat_map}
 use Rattle.mad_term.specs.declared.styles.ContentStyle.{ContentStyle}
-use Rattle.mad_term.specs.Glyph.{Look}
+use Rattle.mad_screen.specs.Glyph.{Look}
 use Rattle.mad_term.specs.Styles.{IsStyle, piece_bytes}
-use Rattle.mad_term.specs.Painting.{look_of_style}
+use Rattle.mad_screen.specs.Painting.{look_of_style}
 use Rattle.mad_style.specs.declared.compound_styles.CompoundStyle.{CompoundStyle}
 
 -- a text, in bytes, in one style

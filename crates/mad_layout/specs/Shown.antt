@@ -1,11 +1,11 @@
 -- What an area shows of lines that were drawn in it.
 use Rattle.std.specs.Prelude.{◌≡◌, ℕ, zero, suc, ◌+◌, ◌<◌, ◌≤◌, List, [], ◌∷◌, map, drop, Some, None, slice_get, slice_index_or}
-use Rattle.mad_term.specs.Drawing.{drawing, IsOutside}
-use Rattle.mad_term.specs.Glyph.{Glyph}
-use Rattle.mad_term.specs.Grid.{Grid, IsGrid, plain_pen, cell_at, blank}
-use Rattle.mad_term.specs.Painting.{attach}
+use Rattle.mad_screen.specs.Drawing.{drawing, IsOutside}
+use Rattle.mad_screen.specs.Glyph.{Glyph}
+use Rattle.mad_screen.specs.Grid.{Grid, IsGrid, plain_pen, cell_at, blank}
+use Rattle.mad_screen.specs.Painting.{attach}
 use Rattle.mad_columns.specs.Columns.{char_columns}
-use Rattle.mad_term.specs.Terminal.{after_bytes}
+use Rattle.mad_screen.specs.Terminal.{after_bytes}
 use Rattle.mad_fit.specs.declared.area.Area.{Area}
 use Rattle.mad_layout.specs.Pieces.{RowPiece, PennedChar, pieces_bytes}
 use Rattle.mad_layout.specs.Rows.{row_pieces, row_of}

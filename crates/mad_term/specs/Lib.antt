@@ -3,16 +3,9 @@ pub mod AttributeNames
 pub mod Attributes
 pub mod Color
 pub mod Commands
-pub mod Drawing
 pub mod Draws
 pub mod Errors
-pub mod Glyph
-pub mod Grid
-pub mod Painting
 pub mod Scripted
-pub mod Stages
 pub mod Stream
 pub mod Styles
-pub mod Terminal
-pub mod TerminalLaws
 pub mod Trace
