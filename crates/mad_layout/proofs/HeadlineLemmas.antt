@@ -5,13 +5,14 @@ use Rattle.std.proofs.lemmas.Bool.Decides.{nat_tests}
 use Rattle.mad_md.specs.Lines.{StyledRuns, contents}
 use Rattle.mad_md.specs.ReadByMarks.{IsReadByMarks}
 use Rattle.mad_md.specs.declared.text.Text.{Text}
-use Rattle.std.proofs.lemmas.List.{append-nil}
 use Rattle.std.specs.Result.{IsErrAnd}
 use Rattle.std.specs.declared.io.Error as io
 use Rattle.mad_term.specs.declared.errors.Error.{Error}
 use Rattle.mad_term.specs.declared.errors.Error.TheVariants.{IO}
-use Rattle.mad_term.specs.Trace.{Trace, TookWith, after, failed, CutShort}
-use Rattle.mad_term.proofs.Exits.{refused_exit}
+use Rattle.mad_term.specs.Trace.{Trace, TookWith, failed, flushed}
+use Rattle.mad_term.specs.Draws.{AndFlushes}
+use Rattle.mad_term.proofs.Exits.{flushing_refused}
+use Rattle.mad_term.proofs.Traces.{flush_failed, took_flushed}
 use Rattle.mad_fit.specs.Areas.{IsWithinLimits}
 use Rattle.mad_fit.specs.declared.area.Area.{Area}
 use Rattle.mad_layout.specs.Drawable.{AreDrawable}
@@ -60,11 +61,17 @@ text_shown {T} {E} (Ok x) skin markdown area lines old new limits laid_out h =
     }
 text_shown {T} {E} (Err x) skin markdown area lines old new limits laid_out h = tt
 
--- a flush that failed behind a text
-flush_failed : (old mid new : Trace) (text : List ℕ) → mid ≡ after old text → new ≡ failed mid → CutShort old text new
-flush_failed old mid new text went fault = record { front = text; rest = []; whole = append-nil text; went = fault ∙ ap failed went }
-
+-- the flush failed behind a text
 pub area_not_flushed : {T U : Type 0} (r : Result T Error) (done : U) (e : io.Error) (skin : MadSkin) (markdown : List ℕ) (area : Area) (old mid new : Trace) → WritesInArea {T = U} skin markdown area old (Ok done) mid → new ≡ failed mid
-    → IsErrAnd r (λ x. x ≡ IO e) → WritesInArea skin markdown area old r new
-area_not_flushed {T} {U} r done e skin markdown area old mid new (inl h) fault is = inl (h.0, h.1, refused_exit r (IO e) old new _ is (flush_failed old mid new _ h.2 fault))
+    → IsErrAnd r (λ x. x ≡ IO e) → AndFlushes {T = T} (WritesInArea {T = T} skin markdown area) old r new
+area_not_flushed {T} {U} r done e skin markdown area old mid new (inl h) fault is =
+    flushing_refused {T = T} (WritesInArea {T = T} skin markdown area) r (IO e) old new is (inl (h.0, h.1, flush_failed old mid new _ h.2 fault))
 area_not_flushed {T} {U} r done e skin markdown area old mid new (inr h) fault is = absurd (cc)
+
+-- a flush takes nothing from what a text shows
+pub shown_flushed : (skin : MadSkin) (markdown : List ℕ) (area : Area) (old mid new : Trace) → ShowsText skin markdown area old mid → new ≡ flushed mid → ShowsText skin markdown area old new
+shown_flushed skin markdown area old mid new h e = record {
+  lines = h.lines;
+  laid_out = h.laid_out;
+  shown = λ premises. took_flushed old mid new (AreShownIn skin h.lines area 0) (h.shown premises) e;
+}

@@ -11,6 +11,7 @@ pub mod Greedy
 pub mod HeadlineLemmas
 pub mod InlineLemmas
 pub mod KeepLemmas
+pub mod KnownLemmas
 pub mod LayoutLemmas
 pub mod Least
 pub mod MeasureLemmas

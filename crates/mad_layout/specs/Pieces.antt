@@ -1,5 +1,5 @@
 -- Pieces: the texts of which a row is made, each in one style.
-use Rattle.std.specs.Prelude.{◌≡◌, ℕ, zero, suc, List, [], ◌∷◌, ◌++◌, map, replicate}
+use Rattle.std.specs.Prelude.{ℕ, zero, suc, List, [], ◌∷◌, map, replicate}
 use Rattle.std.specs.Str.{chars}
 use Rattle.std.specs.List.{AllByRecursion, flat_map}
 use Rattle.mad_term.specs.declared.styles.ContentStyle.{ContentStyle}
@@ -38,8 +38,3 @@ single_spaces style n = replicate n (record { style = style.object_style; text =
 -- The colors of each piece's style are numbers of the terminal's, as those of every style are that a program has.
 abbrev pub AreKnown : List RowPiece → Type 0
 AreKnown ps = AllByRecursion (λ p. IsStyle p.style) ps
-
--- A row has got these pieces at its end.
-pub record Appends (old : List ℕ) (ps : List RowPiece) (new : List ℕ) : Type 0 where
-  pub bytes : new ≡ old ++ pieces_bytes ps
-  pub known : AreKnown ps

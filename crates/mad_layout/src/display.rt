@@ -11,7 +11,7 @@ use crate::indents::indent_of;
 use crate::line::FmtLine;
 use crate::rows::{RowPlace, inner_blanks, margins_of, outer_blanks};
 use crate::skin::MadSkin;
-use mad_md::Compound;
+use mad_md::{Composite, Compound};
 use mad_style::{CompositeKind, CompoundStyle, LineStyle};
 use mad_term::{StyledContent, StyledNumber, StyledRun};
 use std::fmt;
@@ -213,13 +213,13 @@ struct PlacedLine<'a, 's> {
     skin: &'a MadSkin,
     line: &'a FmtLine<'s>,
     outer: Option<usize>,
+    right: bool,
 }
 
 impl fmt::Display for PlacedLine<'_, '_> {
-    ghost use Rattle.std.specs.Prelude.{false};
     ghost use Rattle.mad_layout.specs.Rows.{line_pieces};
 
-    ghost output = { λ l. Some (pieces_bytes (line_pieces l.skin.now l.outer false l.line.now)) };
+    ghost output = { λ l. Some (pieces_bytes (line_pieces l.skin.now l.outer l.right l.line.now)) };
 
     fn fmt<W: fmt::Write>(&self, f: &mut fmt::Formatter<W>) -> fmt::Result {
         match self.line {
@@ -231,12 +231,80 @@ impl fmt::Display for PlacedLine<'_, '_> {
                     place: RowPlace {
                         outer: self.outer,
                         margins,
-                        right: false,
+                        right: self.right,
                     },
                 };
                 write!(f, "{placed}")
             }
         }
+    }
+}
+
+/// What a row of so many columns shows: a line, or past the last line spaces in the paragraph's style.
+#[derive(Clone, Copy)]
+pub(crate) struct PlacedRow<'a, 's> {
+    pub skin: &'a MadSkin,
+    pub line: Option<&'a FmtLine<'s>>,
+    pub width: usize,
+}
+
+impl fmt::Display for PlacedRow<'_, '_> {
+    ghost use Rattle.std.specs.Option.{option_copied};
+    ghost use Rattle.mad_layout.specs.Rows.{row_pieces};
+
+    ghost output = { λ r. Some (pieces_bytes (row_pieces r.skin.now r.width (option_copied r.line))) };
+
+    fn fmt<W: fmt::Write>(&self, f: &mut fmt::Formatter<W>) -> fmt::Result {
+        match self.line {
+            Some(line) => {
+                let placed = PlacedLine {
+                    skin: self.skin,
+                    line,
+                    outer: Some(self.width),
+                    right: true,
+                };
+                write!(f, "{placed}")
+            }
+            None => {
+                let spaces = Spaces {
+                    style: self.skin.paragraph.compound_style,
+                    count: self.width,
+                };
+                write!(f, "{spaces}")
+            }
+        }
+    }
+}
+
+/// A composite that stands by itself: its style's left margin, its mark and its compounds.
+#[derive(Clone, Copy)]
+pub(crate) struct FreeComposite<'a, 's> {
+    pub skin: &'a MadSkin,
+    pub composite: &'a Composite<'s>,
+}
+
+impl fmt::Display for FreeComposite<'_, '_> {
+    ghost use Rattle.mad_layout.specs.Inlines.{composite_bytes};
+
+    ghost output = { λ c. Some (composite_bytes c.skin.now c.composite.now) };
+
+    fn fmt<W: fmt::Write>(&self, f: &mut fmt::Formatter<W>) -> fmt::Result {
+        let kind = CompositeKind::from(self.composite.style);
+        let style = self.skin.line_style(kind);
+        let margin = Spaces {
+            style: self.skin.paragraph.compound_style,
+            count: style.left_margin,
+        };
+        let mark = Mark {
+            skin: self.skin,
+            kind,
+        };
+        let compounds = Compounds {
+            skin: self.skin,
+            style,
+            compounds: &self.composite.compounds,
+        };
+        write!(f, "{margin}{mark}{compounds}")
     }
 }
 
@@ -279,6 +347,7 @@ impl fmt::Display for PlacedLines<'_, '_> {
                 skin: self.skin,
                 line,
                 outer: self.outer,
+                right: false,
             };
             write!(f, "{placed}\n")?;
         }

@@ -14,9 +14,10 @@ ghost use Rattle.mad_layout.specs.Rows.{row_pieces};
 ghost use Rattle.mad_layout.specs.ShownLayouts.{ShowsLayout};
 ghost use Rattle.mad_layout.specs.Shown.{rows_from, area_bytes, AreShownIn};
 
+use crate::display::PlacedRow;
 use crate::fmt_text::FmtText;
 use crate::line::FmtLine;
-use crate::rows::push_row;
+use crate::rows::{read_row, row_columns};
 use crate::skin::MadSkin;
 use mad_fit::Area;
 use mad_term::{Error, Out, push_move, put_all};
@@ -102,7 +103,12 @@ fn draw_row<O: Out>(
 {
     row.clear();
     push_move(row, area.left, y)?;
-    push_row(row, skin, line, area.width as usize)?;
+    let width = usize::from(area.width);
+    read_row(skin, line, width);
+    // Margins that no memory has room for are refused before anything is written of the row.
+    row.reserve(row_columns(skin, line, width))?;
+    let shown = PlacedRow { skin, line, width };
+    write!(row, "{shown}")?;
     put_all(out, row.as_bytes())?;
     Ok(())
 }

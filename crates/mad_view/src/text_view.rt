@@ -1,7 +1,7 @@
 //! A laid out text in an area.
 
 ghost use Rattle.std.specs.Prelude.{◌≡◌, OnOk, vec_len};
-ghost use Rattle.mad_term.specs.Draws.{Draws};
+ghost use Rattle.mad_term.specs.Draws.{Draws, DrawsAndFlushes};
 ghost use Rattle.mad_term.specs.Trace.{TookWith};
 ghost use Rattle.mad_fit.specs.Areas.{IsWithinLimits};
 ghost use Rattle.mad_layout.specs.Drawable.{AreDrawable};
@@ -85,9 +85,10 @@ impl<'a, 't> TextView<'a, 't> {
     /// # Errors
     ///
     /// A fault of the device, at its flush too, or want of memory. What went out by then is a beginning of the whole.
+    #[tactic(auto, using(mad_term::proofs::Traces::took_flushed))]
     pub fn write<O: Out>(&self, alloc: Global, out: &mut O) -> Result<(), Error>
         requires { IsWithinLimits self.now.area.now }
-        ensures writes { let text = self.now.text.now in Draws (O.seen out.old) (area_bytes text.skin.now text.lines.items self.now.area.now self.now.scroll) result (O.seen out.new) }
+        ensures writes { let text = self.now.text.now in DrawsAndFlushes (O.seen out.old) (area_bytes text.skin.now text.lines.items self.now.area.now self.now.scroll) result (O.seen out.new) }
         ensures shown { let text = self.now.text.now in OnOk result (AreDrawable text.skin.now self.now.area.now.width text.lines.items
             → TookWith (O.seen out.old) (O.seen out.new) (AreShownIn text.skin.now text.lines.items self.now.area.now self.now.scroll)) }
         ensures shown_layout { let text = self.now.text.now in OnOk result (ShowsLayout text.skin.now text.lines.items self.now.area.now self.now.scroll (O.seen out.old) (O.seen out.new)) }

@@ -18,13 +18,13 @@ more_ahead bytes byte (Some rest) = ap Some (sym (append_assoc bytes (byte ∷ [
 -- nothing was read
 pub ahead_none : (t : Trace) → t ≡ ahead_all [] t
 unfolding ahead_all
-ahead_none t = ap (λ (o : Option (List ℕ)). let r : Trace = record { bytes = o; faults = t.faults } in r) (sym (none_ahead t.bytes))
+ahead_none t = ap (λ (o : Option (List ℕ)). let r : Trace = record { bytes = o; faults = t.faults; flushes = t.flushes } in r) (sym (none_ahead t.bytes))
 
 -- one more byte was read
 pub ahead_more : (old mid new : Trace) (bytes : List ℕ) (byte : ℕ) → old ≡ ahead_all bytes mid → mid ≡ ahead byte new → old ≡ ahead_all (bytes ++ (byte ∷ [])) new
 unfolding ahead_all ahead
 ahead_more old mid new bytes byte p q =
-    p ∙ ap (ahead_all bytes) q ∙ ap (λ (o : Option (List ℕ)). let r : Trace = record { bytes = o; faults = new.faults } in r) (more_ahead bytes byte new.bytes)
+    p ∙ ap (ahead_all bytes) q ∙ ap (λ (o : Option (List ℕ)). let r : Trace = record { bytes = o; faults = new.faults; flushes = new.flushes } in r) (more_ahead bytes byte new.bytes)
 
 -- there was no memory for what was read
 pub memory_exit : {T : Type 0} (r : Result T Failure) (old new : Trace) (bytes : List ℕ) (P : T → Type 0) → IsErrAnd r (λ e. e ≡ Memory) → old ≡ ahead_all bytes new → MatchResult r P (λ failure. ReadingFails old failure new)

@@ -6,7 +6,7 @@ use Rattle.termimad_view.specs.declared.failure.Failure.TheVariants.{Io, Usage, 
 
 -- a source that had these bytes before what it has left
 unfoldable pub ahead_all : List ℕ → Trace → Trace
-ahead_all bytes t = record { bytes = option_map (λ rest. bytes ++ rest) t.bytes; faults = t.faults }
+ahead_all bytes t = record { bytes = option_map (λ rest. bytes ++ rest) t.bytes; faults = t.faults; flushes = t.flushes }
 
 -- These bytes were read, and the source is at its end: where it tells its bytes, they are all that it had.
 pub record ReadsWhole (old : Trace) (bytes : List ℕ) (new : Trace) : Type 0 where
