@@ -3,7 +3,7 @@
 ghost use Rattle.std.specs.Prelude.{◌≡◌};
 ghost use Rattle.termimad_view.specs.Failures.{status_of, line_of, failure_of, SaysOnce};
 
-use std::alloc::AllocFailed;
+use std::alloc::{AllocError, AllocFailed};
 use std::io;
 use termimad::{Error, Out, put_all};
 
@@ -68,6 +68,16 @@ impl<T: Drop> From<AllocFailed<T>> for Failure {
     ghost from_gives = { λ _ failure. failure ≡ Memory };
 
     fn from(_: AllocFailed<T>) -> Self {
+        Failure::Memory
+    }
+}
+
+impl From<AllocError> for Failure {
+    ghost use Rattle.termimad_view.specs.declared.failure.Failure.TheVariants.{Memory};
+
+    ghost from_gives = { λ _ failure. failure ≡ Memory };
+
+    fn from(_: AllocError) -> Self {
         Failure::Memory
     }
 }

@@ -7,6 +7,9 @@ use crate::failure::Failure;
 use std::alloc::Global;
 use termimad::Source;
 
+// How many bytes one fill is asked for.
+const BLOCK: usize = 1 << 14;
+
 /// All the bytes that a source has.
 ///
 /// # Errors
@@ -17,8 +20,12 @@ pub fn read_all<I: Source>(alloc: Global, input: &mut I) -> Result<Vec<u8>, Fail
         (λ failure. ReadingFails (I.seen input.old) failure (I.seen input.new)) }
 {
     let mut bytes = Vec::new(alloc);
-    while let Some(byte) = input.get()? {
-        bytes.push(byte)?;
+    let mut block = [0; BLOCK];
+    loop {
+        let count = input.fill(&mut block)?;
+        if count == 0 {
+            return Ok(bytes);
+        }
+        bytes.extend_from_slice(&block[..count])?;
     }
-    Ok(bytes)
 }
