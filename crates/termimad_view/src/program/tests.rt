@@ -33,7 +33,8 @@ fn words_of(alloc: Global, call: &str) -> Result<Vec<String>, AllocError> {
     Ok(words)
 }
 
-// Runs a call with room for all, and looks at everything that it leaves.
+// Runs a call with room for all, its input handed out in blocks of one byte, of some and of all, and looks at everything
+// that it leaves.
 fn expect(
     rt: &(impl Abort + AllocGlobal),
     call: &str,
@@ -44,19 +45,22 @@ fn expect(
 ) -> Result<(), AllocError> {
     let alloc = rt.alloc();
     let words = words_of(alloc, call)?;
-    let mut source = ScriptSource::new(input, false);
-    let mut out = CutOut::new(alloc, ROOM, ROOM, false)?;
-    let mut err = CutOut::new(alloc, ROOM, ROOM, false)?;
-    let answer = run(alloc, words.as_slice(), &mut source, &mut out, &mut err);
-    assert_eq!(rt; answer, status, "{call}");
-    assert!(rt; out.taken() == written, "{call}: the output");
-    assert!(rt; err.taken() == said, "{call}: what was said");
-    let unread: &[u8] = if status == 2 || status == 4 {
-        input
-    } else {
-        b""
-    };
-    assert!(rt; source.left() == unread, "{call}: the input");
+    for step in [1, 4, usize::MAX] {
+        let mut source = ScriptSource::in_steps(input, step, false);
+        let mut out = CutOut::new(alloc, ROOM, ROOM, false)?;
+        let mut err = CutOut::new(alloc, ROOM, ROOM, false)?;
+        let answer = run(alloc, words.as_slice(), &mut source, &mut out, &mut err);
+        assert_eq!(rt; answer, status, "{call}");
+        assert!(rt; out.taken() == written, "{call}: the output");
+        assert_eq!(rt; out.flushes(), u64::from(status == 0), "{call}: the flushes");
+        assert!(rt; err.taken() == said, "{call}: what was said");
+        let unread: &[u8] = if status == 2 || status == 4 {
+            input
+        } else {
+            b""
+        };
+        assert!(rt; source.left() == unread, "{call}: the input");
+    }
     Ok(())
 }
 
