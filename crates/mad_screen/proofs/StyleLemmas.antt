@@ -12,7 +12,7 @@ use Rattle.mad_term.specs.declared.attributes.Attributes.{Attributes}
 use Rattle.mad_term.specs.declared.color.Color.{Color}
 use Rattle.mad_term.specs.declared.color.Color.TheVariants as colors
 use Rattle.mad_term.specs.declared.styles.ContentStyle.{ContentStyle}
-use Rattle.mad_term.specs.Attribute.{place, attribute_code}
+use Rattle.mad_term.specs.Attribute.{attribute_index, attribute_code}
 use Rattle.mad_term.specs.Attributes.{attribute_bits, has_attribute}
 use Rattle.mad_term.specs.Color.{IsColor, IsColorOrNone}
 use Rattle.mad_term.specs.Commands.{sgr_bytes}
@@ -33,10 +33,6 @@ pub sgr_leads : (g : Grid) (ns : List ℕ) (p : Look) → AreReadable ns → res
 sgr_leads g ns p small e = command_leads g (with_pen g p) ns 109 small letter_sgr (ap (option_map (λ q. with_pen g q)) e)
 
 -- ---- colors
-
-palette_small : (kind : ℕ) (o : Option ℕ) → kind < 100 → ((n : ℕ) → o ≡ Some n → n < 256) → AreReadable (palette_numbers kind o)
-palette_small kind None low h = (omega arith, tt)
-palette_small kind (Some n) low h = let byte : n < 256 = h n refl in (omega arith, (omega arith, (omega arith, tt)))
 
 pub foreground_restyles : (c : Color) (p : Look) → IsColor c → restyled (color_numbers 38 c) p ≡ Some (record p { fg = shown_color c })
 foreground_restyles (colors.Rgb r g b) p h =
@@ -101,14 +97,14 @@ attribute_leads : (g : Grid) (p : Look) (a : Attribute) → Leads (resting (with
 attribute_leads g p a = sgr_leads (with_pen g p) (attribute_code a ∷ []) (switched_on a p) (omega (arith, code_small a), tt) (code_switches a p)
 
 -- an attribute after the first is kept
-is_kept : (a : Attribute) (p : Look) → 0 < place a → switched_on a p ≡ record p { codes = bit_or p.codes (2 ^ place a) }
+is_kept : (a : Attribute) (p : Look) → 0 < attribute_index a → switched_on a p ≡ record p { codes = bit_or p.codes (2 ^ attribute_index a) }
 is_kept Reset p h = absurd (omega arith)
 is_kept _ p h = refl
 
 -- these attributes stand at the places from k on
 abbrev AtPlaces : ℕ → List Attribute → Type 0
 AtPlaces k [] = Unit {0}
-AtPlaces k (a ∷ rest) = (place a ≡ k) × AtPlaces (suc k) rest
+AtPlaces k (a ∷ rest) = (attribute_index a ≡ k) × AtPlaces (suc k) rest
 
 -- the command of an attribute, if a set has it
 abbrev part_bytes : Attributes → Attribute → List ℕ
@@ -120,18 +116,18 @@ bit_none n k e = let small : bit_at n k < 2 = bit_at-lt n k in grind (arith, nat
 bit_there : (n k : ℕ) → eqb (bit_at n k) 1 ≡ true → bit_at n k ≡ 1
 bit_there n k e = grind (arith, nat_tests)
 
-part_leads : (g : Grid) (p : Look) (s : Attributes) (a : Attribute) (k : ℕ) (b : Bool) → has_attribute s a ≡ b → 1 ≤ k → place a ≡ k → Leads (resting (with_pen g (record p { codes = bits_to (attribute_bits s) k }))) (cond b (attribute_bytes a) []) (resting (with_pen g (record p { codes = bits_to (attribute_bits s) (suc k) })))
+part_leads : (g : Grid) (p : Look) (s : Attributes) (a : Attribute) (k : ℕ) (b : Bool) → has_attribute s a ≡ b → 1 ≤ k → attribute_index a ≡ k → Leads (resting (with_pen g (record p { codes = bits_to (attribute_bits s) k }))) (cond b (attribute_bytes a) []) (resting (with_pen g (record p { codes = bits_to (attribute_bits s) (suc k) })))
 part_leads g p s a k true e some at =
     let bits = attribute_bits s in
     let before : Look = record p { codes = bits_to bits k } in
-    let there : bit_at bits k ≡ 1 = ap (bit_at bits) (sym at) ∙ bit_there bits (place a) e in
+    let there : bit_at bits k ≡ 1 = ap (bit_at bits) (sym at) ∙ bit_there bits (attribute_index a) e in
     subst (λ (q : Look). Leads (resting (with_pen g before)) (attribute_bytes a) (resting (with_pen g q)))
     (is_kept a before (omega arith) ∙ ap (λ n. record p { codes = bit_or (bits_to bits k) (2 ^ n) }) at ∙ ap (λ n. record p { codes = n }) (bits_more bits k some there))
     (attribute_leads g before a)
 part_leads g p s a k false e some at =
     let bits = attribute_bits s in
     let before : Look = record p { codes = bits_to bits k } in
-    let none : bit_at bits k ≡ 0 = ap (bit_at bits) (sym at) ∙ bit_none bits (place a) e in
+    let none : bit_at bits k ≡ 0 = ap (bit_at bits) (sym at) ∙ bit_none bits (attribute_index a) e in
     subst (λ (n : ℕ). Leads (resting (with_pen g before)) [] (resting (with_pen g (record p { codes = n })))) (bits_same bits k some none) (nothing_leads _)
 
 parts_leads : (g : Grid) (p : Look) (s : Attributes) (rest : List Attribute) (k : ℕ) → 1 ≤ k → AtPlaces k rest → Leads (resting (with_pen g (record p { codes = bits_to (attribute_bits s) k }))) (flat_map (part_bytes s) rest) (resting (with_pen g (record p { codes = bits_to (attribute_bits s) (k + length rest) })))

@@ -5,7 +5,7 @@ use Rattle.mad_screen.specs.declared.pen.Pen as pens
 use Rattle.mad_term.specs.Attributes.{attribute_bits}
 
 -- A pen as the definitions see it: three colors, `None` for the terminal's default, and the set of attributes as a
--- number, one bit for each at its place.
+-- number, one bit for each at its index.
 pub record Look : Type 0 where
   pub fg : Option Color
   pub bg : Option Color

@@ -8,7 +8,7 @@ use Rattle.mad_term.specs.declared.color.Color.{Color}
 use Rattle.mad_term.specs.declared.color.Color.TheVariants.{AnsiValue, Rgb}
 use Rattle.mad_term.specs.declared.attribute.Attribute.{Attribute}
 use Rattle.mad_term.specs.declared.attribute.Attribute.TheVariants.{Reset}
-use Rattle.mad_term.specs.Attribute.{place, attribute_code, all_attributes}
+use Rattle.mad_term.specs.Attribute.{attribute_index, attribute_code, all_attributes}
 use Rattle.mad_screen.specs.Glyph.{Glyph, Look}
 use Rattle.mad_screen.specs.Grid.{Grid, plain_pen, put_list, painted, glyphs, is_tail, blank}
 
@@ -84,7 +84,7 @@ erase_row _ g = None
 -- the pen once an attribute was switched on; Reset makes it the default one and isn't kept
 abbrev pub switched_on : Attribute → Look → Look
 switched_on Reset p = plain_pen
-switched_on a p = record p { codes = bit_or p.codes (2 ^ place a) }
+switched_on a p = record p { codes = bit_or p.codes (2 ^ attribute_index a) }
 
 -- the attribute of a code
 abbrev pub attribute_of : ℕ → Option Attribute

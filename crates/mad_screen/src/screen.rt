@@ -4,6 +4,7 @@ ghost use Rattle.std.specs.Prelude.{◌≡◌, ◌<◌, ◌≤◌, ◌+◌, ◌*
 ghost use Rattle.std.specs.Option.{option_copied};
 ghost use Rattle.mad_screen.specs.Glyph.{look_of};
 ghost use Rattle.mad_screen.specs.Grid.{IsGrid, cell_on_screen, empty_grid};
+ghost use Rattle.mad_screen.specs.Pictures.{row_cells};
 ghost use Rattle.mad_screen.specs.Terminal.{after_bytes, put, put_wide, go_to, erased, erase_row, erase_screen, perform};
 
 use crate::cell::{Cell, copy_all, erase, find_head, lay};
@@ -92,6 +93,32 @@ impl Screen {
         ensures { look_of result ≡ self.now.pen }
     {
         self.pen
+    }
+
+    pub(crate) fn height(&self) -> u16
+        ensures { result ≡ self.now.height }
+    {
+        self.height
+    }
+
+    pub(crate) fn cells(&self) -> &[Cell]
+        ensures { result.now ≡ self.now.cells }
+    {
+        &self.cells
+    }
+
+    /// The cells of row `y`.
+    pub(crate) fn row(&self, y: u16) -> &[Cell]
+        requires { y < self.now.height }
+        ensures { result.now ≡ row_cells self.now y }
+    {
+        let width = usize::from(self.width);
+        let start = usize::from(y) * width;
+        &self.cells[start..start + width]
+    }
+
+    pub(crate) fn allocator(&self) -> Global {
+        *self.cells.allocator()
     }
 
     /// Reads a text: characters in UTF-8, and the sequences that this crate writes. A text that comes in parts can be

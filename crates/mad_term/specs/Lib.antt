@@ -1,5 +1,6 @@
 pub mod Attribute
 pub mod AttributeNames
+pub mod AttributeSets
 pub mod Attributes
 pub mod Color
 pub mod Commands
