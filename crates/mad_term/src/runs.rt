@@ -36,8 +36,8 @@ impl fmt::Display for StyledRun<'_> {
     }
 }
 
-// Sixteen spaces: runs of spaces are long, and go out by as many at a time.
-const SPACES: &str = "                ";
+// 64 spaces. Most repeated texts are spaces, and these go out 64 at a time.
+const SPACES: &str = "                                                                ";
 
 // A text so many times.
 #[derive(Clone, Copy)]
@@ -56,12 +56,9 @@ impl fmt::Display for Copies<'_> {
         if self.content == " " {
             let many = EachCopy {
                 content: SPACES,
-                count: self.count / 16,
+                count: self.count / 64,
             };
-            let few = EachCopy {
-                content: " ",
-                count: self.count % 16,
-            };
+            let few = &SPACES[..self.count % 64];
             return write!(f, "{many}{few}");
         }
         let all = EachCopy {
