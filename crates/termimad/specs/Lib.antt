@@ -24,7 +24,7 @@ pub use Rattle.mad_term.specs.Styles
 pub use Rattle.mad_screen.specs.Terminal
 pub use Rattle.mad_screen.specs.TerminalLaws
 pub use Rattle.mad_term.specs.Trace
-pub use Rattle.mad_style.specs.AttributeSets
+pub use Rattle.mad_term.specs.AttributeSets
 pub use Rattle.mad_style.specs.Borders
 pub use Rattle.mad_style.specs.CompoundStyles
 pub use Rattle.mad_style.specs.Kinds
