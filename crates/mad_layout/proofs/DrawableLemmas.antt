@@ -97,7 +97,7 @@ has_room : (skin : MadSkin) (width : ℕ) (line : StyledRuns) (source : FmtCompo
 has_room skin width line source plain read wide =
     let left = λ (k : CompositeKind). width - (margins_at (line_style skin k) (Some width)).0 - (margins_at (line_style skin k) (Some width)).1 in
     let premise = λ (k : CompositeKind) (text : List FlaggedChar). left k < indent skin.list_items_indentation_mode k + width_of text → HasRoom (room_of skin k (left k)) text in
-    let text : runs_text line.runs ≡ text_of source = ap runs_text (sym read.runs) ∙ runs_are source.compounds.items in
+    let text : runs_text line.runs ≡ text_of source = ap runs_text (sym read.text) ∙ runs_are source.compounds.items in
     let room : premise source.kind (text_of source) = subst (λ k. premise k (text_of source)) (sym read.kind) (subst (premise (kind_of line.style)) text plain.room) in
     room (omega (arith, wide, read.measured, margins-le (line_style skin source.kind) width))
 
@@ -106,7 +106,7 @@ read_drawable : (skin : MadSkin) (width drawn : ℕ) (line : StyledRuns) (source
 read_drawable skin width drawn line source lines narrower bound plain read (inl (fits, same)) =
     let kind : source.kind ≡ Paragraph = read.kind ∙ ap kind_of plain.paragraph in
     let margins : ℕ × ℕ = style_margins skin width source in
-    let runs : AllByRecursion IsPlainRun (map run_of source.compounds.items) = subst (AllByRecursion IsPlainRun) (sym read.runs) plain.runs in
+    let runs : AllByRecursion IsPlainRun (map run_of source.compounds.items) = subst (AllByRecursion IsPlainRun) (sym read.text) plain.runs in
     let one = drawable skin drawn margins source bound kind read.spacing read.measured (omega (arith, fits, read.measured, narrower, bound))
     (all_each IsPlainRun IsShownRun plain_is_shown (map run_of source.compounds.items) runs) in
     subst (AreDrawable skin drawn) (sym same) (one, tt)
@@ -115,7 +115,7 @@ read_drawable skin width drawn line source lines narrower bound plain read (inr 
     let ps = source.compounds.items in
     let margins : ℕ × ℕ = style_margins skin width source in
     let r : Room = room_of skin source.kind (width - margins.0 - margins.1) in
-    let runs : AllByRecursion IsPlainRun (map run_of ps) = subst (AllByRecursion IsPlainRun) (sym read.runs) plain.runs in
+    let runs : AllByRecursion IsPlainRun (map run_of ps) = subst (AllByRecursion IsPlainRun) (sym read.text) plain.runs in
     let room : HasRoom r (text_of source) = has_room skin width line source plain read wide in
     let narrow : AllByRecursion (λ x. char_columns x.char ≤ r.width - r.first) (flagged_text ps) =
     all_each (λ x. r.first + char_columns x.char ≤ r.width) (λ x. char_columns x.char ≤ r.width - r.first) (λ x h. omega (arith, h)) (flagged_text ps) room.each in
