@@ -23,6 +23,7 @@ pub mod Shown
 pub mod ShownLayouts
 pub mod SkinParts
 pub mod Skins
+pub mod Sources
 pub mod Styles
 pub mod Texts
 pub mod WrappedLines
