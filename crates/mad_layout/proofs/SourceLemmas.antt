@@ -18,7 +18,9 @@ use Rattle.mad_md.specs.ReadByMarks.{IsReadByMarks, IsInlineLine, AreInlineLines
 use Rattle.mad_md.specs.declared.composite.CompositeStyle.TheVariants.{Paragraph}
 use Rattle.mad_md.specs.declared.text.Text.{Text}
 use Rattle.mad_screen.specs.Painting.{IsPrinted}
-use Rattle.mad_term.specs.Trace.{Trace}
+use Rattle.mad_term.specs.Trace.{Trace, flushed}
+use Rattle.mad_term.proofs.Traces.{took_flushed}
+use Rattle.mad_layout.specs.Shown.{AreShownIn}
 use Rattle.mad_style.specs.LineStyles.{margins_at}
 use Rattle.mad_style.specs.declared.line_styles.LineStyle.{LineStyle}
 use Rattle.mad_fit.specs.declared.area.Area.{Area}
@@ -121,3 +123,11 @@ source_shown {T} {E} (Ok x) skin markdown area old new h = λ wide columns.
       shown = text.shown (source_keeps skin (area.width - 1) area.height markdown text.laid_out.text (omega (arith, wide)) columns text.laid_out.read);
     }
 source_shown {T} {E} (Err e) skin markdown area old new h = tt
+
+-- a flush takes nothing from it
+pub source_flushed : (skin : MadSkin) (markdown : List ℕ) (area : Area) (old mid new : Trace) → ShowsSource skin markdown area old mid → new ≡ flushed mid → ShowsSource skin markdown area old new
+source_flushed skin markdown area old mid new h e = record {
+  lines = h.lines;
+  laid_out = h.laid_out;
+  shown = took_flushed old mid new (AreShownIn skin h.lines area 0) h.shown e;
+}

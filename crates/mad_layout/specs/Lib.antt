@@ -1,6 +1,6 @@
 pub use Rattle.mad_draw.specs.DrawnRows
 pub use Rattle.mad_draw.specs.Pieces
-pub use Rattle.mad_draw.specs.RowCells
+pub use Rattle.mad_draw.specs.PennedCells
 pub mod Bounds
 pub mod Breaks
 pub mod CleanCut

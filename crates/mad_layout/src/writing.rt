@@ -49,7 +49,7 @@ impl MadSkin {
     /// # Errors
     ///
     /// A fault of the device, at its flush too, or want of memory. What went out by then is a beginning of the whole.
-    #[tactic(auto, using(crate::proofs::HeadlineLemmas::shown_flushed))]
+    #[tactic(auto, using(crate::proofs::HeadlineLemmas::shown_flushed, crate::proofs::SourceLemmas::source_flushed))]
     pub fn write_in_area<O: Out>(
         &self,
         alloc: Global,
@@ -60,6 +60,7 @@ impl MadSkin {
         requires { IsWithinLimits area.now }
         ensures writes { AndFlushes (WritesInArea self.now markdown.now area.now) (O.seen out.old) result (O.seen out.new) }
         ensures shown { OnOk result (4 ≤ area.now.width → ShowsText self.now markdown.now area.now (O.seen out.old) (O.seen out.new)) }
+        ensures shown_source { OnOk result (4 ≤ area.now.width → LinesTakeColumns markdown.now → ShowsSource self.now markdown.now area.now (O.seen out.old) (O.seen out.new)) }
     {
         self.write_in_area_on(alloc, out, markdown, area)?;
         out.flush()?;

@@ -37,7 +37,7 @@ pub use Rattle.mad_fit.specs.Completions
 pub use Rattle.mad_fit.specs.Tokens
 pub use Rattle.mad_draw.specs.DrawnRows
 pub use Rattle.mad_draw.specs.Pieces
-pub use Rattle.mad_draw.specs.RowCells
+pub use Rattle.mad_draw.specs.PennedCells
 pub use Rattle.mad_layout.specs.Bounds
 pub use Rattle.mad_layout.specs.Breaks
 pub use Rattle.mad_layout.specs.CleanCut
