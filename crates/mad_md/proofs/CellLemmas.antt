@@ -2,7 +2,7 @@
 use Rattle.std.proofs.Common.{◌≡◌, ℕ, ◌≤◌, ◌<◌, ◌+◌, Bool, true, false, not, ◌&&◌, ◌==◌, List, [], ◌∷◌, ◌++◌, map, length, take, drop, get_or, suc, refl, sym, ap, ◌∙◌, arith, subst, ◌-◌, append_assoc, zero-add, Option, Some, None, Bor, if◌then◌else◌}
 use Rattle.std.specs.List.{AllByRecursion, join_with_byte, onto_first}
 use Rattle.std.proofs.lemmas.Bool.Decides.{nat_tests}
-use Rattle.mad_md.specs.Cells.{odd_with, odd_after, HasBarsInCode, AreClosed, AreCells, IsCell, AreReadCells, cell_style, cell_rest, cell_runs, start_trimmed, end_trimmed, without_last_empty_cell, alignment_of, with_alignment, alignments, rule_or_row, part_says, IsTablePart}
+use Rattle.mad_md.specs.Cells.{odd_with, odd_after, HasBarsInCode, AreClosed, AreCells, IsCell, AreReadCells, cell_style, cell_rest, alignment_of, with_alignment, alignments, IsTablePart}
 use Rattle.std.specs.Option.{is_some}
 use Rattle.mad_md.specs.Flagged.{Flags, plain, flags_of, Run, run_of}
 use Rattle.mad_md.specs.ReadInline.{IsReadInlineWith}
@@ -11,7 +11,7 @@ use Rattle.mad_md.specs.declared.compound.Compound.{Compound}
 use Rattle.mad_md.specs.declared.composite.CompositeStyle.{CompositeStyle}
 use Rattle.mad_md.specs.Inline.{Item}
 use Rattle.mad_md.specs.Lines.{StyledRuns, LineContent, table_row, table_rule}
-use Rattle.mad_md.specs.Scan.{items_of, cut_cells, cell_len, IsFirstCell, cells_left, kept_cell, cell_of, part_of, rule_texts, with_columns, columns_of}
+use Rattle.mad_md.specs.Scan.{items_of, cut_cells, cell_len, IsFirstCell, cells_left, kept_cell, cell_of, part_of, rule_texts, with_columns, columns_of, cell_runs, start_trimmed, end_trimmed, kept_cells, rule_or_row_of, part_content}
 use Rattle.std.proofs.lemmas.List.{append-nil, at_drop_more, at_drop_all, length-append, length-map, length-take-le}
 use Rattle.std.specs.Str.{trim_start}
 use Rattle.mad_md.proofs.InlineLemmas.{inline_reading_unique, items_read}
@@ -116,33 +116,6 @@ cut_is_cells part (cell ∷ next ∷ cells) k = record { some = omega arith; joi
 pub cells_cut : (part : List ℕ) → AreCells part (cut_cells false part)
 cells_cut part = cut_is_cells part (cut_cells false part) (cut_from false part)
 
--- ---- what they say
-
-cell_is : (text : List ℕ) (cell : StyledRuns) → IsCell text cell → cell ≡ cell_of text
-cell_is text cell h =
-    h.says ∙ ap (λ (items : List Item). record { style = cell_style (trim_start text); runs = cell_runs (cell_rest (trim_start text)) items })
-    (inline_reading_unique plain (cell_rest (trim_start text)) h.reading (items_of plain (cell_rest (trim_start text))) h.reads (items_read plain (cell_rest (trim_start text))))
-
-pub is_cell : (text : List ℕ) → IsCell text (cell_of text)
-is_cell text = record { reading = items_of plain (cell_rest (trim_start text)); reads = items_read plain (cell_rest (trim_start text)); says = refl }
-
-cells_are : (texts : List (List ℕ)) (cells : List StyledRuns) → AreReadCells texts cells → cells ≡ map cell_of texts
-cells_are [] [] h = refl
-cells_are [] (cell ∷ cells) h = absurd h
-cells_are (text ∷ texts) [] h = absurd h
-cells_are (text ∷ texts) (cell ∷ cells) h = ap (λ c. c ∷ cells) (cell_is text cell h.0) ∙ ap (λ cs. cell_of text ∷ cs) (cells_are texts cells h.1)
-
-are_cells : (texts : List (List ℕ)) → AreReadCells texts (map cell_of texts)
-are_cells [] = tt
-are_cells (text ∷ texts) = (is_cell text, are_cells texts)
-
-pub part_is : (part : List ℕ) (line : LineContent) → IsTablePart part line → line ≡ part_of part
-part_is part line h =
-    h.says ∙ ap (part_says h.texts) (cells_are h.texts h.cells h.read) ∙ ap (λ ts. part_says ts (map cell_of ts)) (cells_unique part h.texts h.cut)
-
-pub is_part : (part : List ℕ) → IsTablePart part (part_of part)
-is_part part = record { texts = cut_cells false part; cut = cells_cut part; cells = map cell_of (cut_cells false part); read = are_cells (cut_cells false part); says = refl }
-
 -- ---- the first cell
 
 -- What is cut from a place on: the first cell ends at n.
@@ -237,27 +210,27 @@ pub first_left : (part cell : List ℕ) (after : Option (Bor (List ℕ))) → Is
 first_left part cell None h = h
 first_left part cell (Some rest) h = h.0
 
-bare_more : (cell : StyledRuns) (texts : List (List ℕ)) → 0 < length texts → without_last_empty_cell (cell ∷ map cell_of texts) ≡ cell ∷ without_last_empty_cell (map cell_of texts)
+bare_more : (cell : StyledRuns) (texts : List (List ℕ)) → 0 < length texts → kept_cells (cell ∷ map cell_of texts) ≡ cell ∷ kept_cells (map cell_of texts)
 bare_more cell [] some = absurd (omega arith)
 bare_more cell (text ∷ texts) some = refl
 
 -- the first cell, and those that are left
 pub cells_first : (cell : List ℕ) (after : Option (Bor (List ℕ))) (more : Bool) → more ≡ is_some after
-    → without_last_empty_cell (map cell_of (cell ∷ cells_left after)) ≡ kept_cell more (cell_of cell) ++ without_last_empty_cell (map cell_of (cells_left after))
+    → kept_cells (map cell_of (cell ∷ cells_left after)) ≡ kept_cell more (cell_of cell) ++ kept_cells (map cell_of (cells_left after))
 cells_first cell None more e =
     sym (append-nil (kept_cell false (cell_of cell))) ∙ ap (λ m. kept_cell m (cell_of cell) ++ []) (sym e)
 cells_first cell (Some rest) more e =
-    bare_more (cell_of cell) (cut_cells false rest.now) ((cells_cut rest.now).some) ∙ ap (λ m. kept_cell m (cell_of cell) ++ without_last_empty_cell (map cell_of (cut_cells false rest.now))) (sym e)
+    bare_more (cell_of cell) (cut_cells false rest.now) ((cells_cut rest.now).some) ∙ ap (λ m. kept_cell m (cell_of cell) ++ kept_cells (map cell_of (cut_cells false rest.now))) (sym e)
 
 -- one cell more
 pub cells_more : (part text cell : List ℕ) (rest after : Option (Bor (List ℕ))) (more : Bool) (so_far new : List StyledRuns) (read : StyledRuns)
-    → so_far ++ without_last_empty_cell (map cell_of (cells_left rest)) ≡ without_last_empty_cell (map cell_of (cut_cells false part)) → cells_left rest ≡ cut_cells false text
+    → so_far ++ kept_cells (map cell_of (cells_left rest)) ≡ kept_cells (map cell_of (cut_cells false part)) → cells_left rest ≡ cut_cells false text
     → IsFirstCell text cell after → more ≡ is_some after → read ≡ cell_of cell → new ≡ so_far ++ kept_cell more read
-    → new ++ without_last_empty_cell (map cell_of (cells_left after)) ≡ without_last_empty_cell (map cell_of (cut_cells false part))
+    → new ++ kept_cells (map cell_of (cells_left after)) ≡ kept_cells (map cell_of (cut_cells false part))
 cells_more part text cell rest after more so_far new read h is first e said pushed =
-    let later = without_last_empty_cell (map cell_of (cells_left after)) in
+    let later = kept_cells (map cell_of (cells_left after)) in
     ap (λ n. n ++ later) (pushed ∙ ap (λ r. so_far ++ kept_cell more r) said) ∙ append_assoc so_far (kept_cell more (cell_of cell)) later
-    ∙ ap (λ l. so_far ++ l) (sym (cells_first cell after more e) ∙ ap (λ cs. without_last_empty_cell (map cell_of cs)) (sym (is ∙ first_left text cell after first))) ∙ h
+    ∙ ap (λ l. so_far ++ l) (sym (cells_first cell after more e) ∙ ap (λ cs. kept_cells (map cell_of cs)) (sym (is ∙ first_left text cell after first))) ∙ h
 
 -- what a cell is that has been read and trimmed
 pub cell_read : (style : CompositeStyle) (given : Compound) (read ended kept : List Compound) (after : Flags) (cell : List ℕ)
@@ -319,7 +292,7 @@ alignments_done count all rest found h e =
 
 rule_first : (cell : List ℕ) (texts : List (List ℕ)) → 0 < length texts → rule_texts (cell ∷ texts) ≡ cell ∷ rule_texts texts
 rule_first cell texts some =
-    let kept = without_last_empty_cell (map cell_of texts) in
+    let kept = kept_cells (map cell_of texts) in
     let one : length (cell_of cell ∷ kept) ≡ suc (length kept) = omega arith in
     ap (λ cs. take (length cs) (cell ∷ texts)) (bare_more (cell_of cell) texts some) ∙ ap (λ k. take k (cell ∷ texts)) one
 
@@ -350,17 +323,17 @@ bare_last : (cell : StyledRuns) (t : Bool) → length (if t then [] else cell �
 bare_last cell true = omega arith
 bare_last cell false = omega arith
 
-row_says : (o : Option (List Alignment)) (cells : List StyledRuns) → with_columns 0 o ≡ 0 → table_row cells ≡ rule_or_row o cells
+row_says : (o : Option (List Alignment)) (cells : List StyledRuns) → with_columns 0 o ≡ 0 → table_row cells ≡ rule_or_row_of o cells
 row_says None cells e = refl
 row_says (Some []) cells e = refl
 row_says (Some (alignment ∷ others)) cells e = absurd (omega arith)
 
-bare_len : (cells : List StyledRuns) → length (without_last_empty_cell cells) ≤ length cells
+bare_len : (cells : List StyledRuns) → length (kept_cells cells) ≤ length cells
 bare_len [] = omega arith
 bare_len (cell ∷ []) = bare_last cell (length cell.runs == 0)
 bare_len (cell ∷ next ∷ cells) = omega (arith, bare_len (next ∷ cells))
 
-rule_says : (found : List Alignment) (cells : List StyledRuns) → 0 < length found → table_rule found ≡ rule_or_row (Some found) cells
+rule_says : (found : List Alignment) (cells : List StyledRuns) → 0 < length found → table_rule found ≡ rule_or_row_of (Some found) cells
 rule_says [] cells some = absurd (omega arith)
 rule_says (alignment ∷ others) cells some = refl
 
@@ -369,24 +342,24 @@ counted : (texts : List (List ℕ)) (o : Option (List Alignment)) (columns : ℕ
 counted texts None columns e c some = absurd (omega arith)
 counted texts (Some found) columns e c some = omega (arith, alignments_len texts found e)
 
-rule_count : (part : List ℕ) (columns : ℕ) → columns ≡ columns_of part → 0 < columns → columns ≡ length (without_last_empty_cell (map cell_of (cut_cells false part)))
+rule_count : (part : List ℕ) (columns : ℕ) → columns ≡ columns_of part → 0 < columns → columns ≡ length (kept_cells (map cell_of (cut_cells false part)))
 rule_count part columns e some =
     let texts = cut_cells false part in
-    let kept = without_last_empty_cell (map cell_of texts) in
+    let kept = kept_cells (map cell_of texts) in
     let short : length kept ≤ length texts = omega (arith, bare_len (map cell_of texts), length-map texts cell_of) in
     counted (rule_texts texts) (alignments (rule_texts texts)) columns refl e some ∙ length-take-le (length kept) texts short
 
 pub part_rule : (part : List ℕ) (columns : ℕ) (found : List Alignment) → columns ≡ columns_of part → 0 < columns → Some found ≡ alignments (take columns (cut_cells false part)) → table_rule found ≡ part_of part
 part_rule part columns found e some h =
     let texts = cut_cells false part in
-    let kept = without_last_empty_cell (map cell_of texts) in
+    let kept = kept_cells (map cell_of texts) in
     let count = rule_count part columns e some in
     let all : Some found ≡ alignments (rule_texts texts) = h ∙ ap (λ k. alignments (take k texts)) count in
     let same : columns ≡ length found = e ∙ ap (with_columns 0) (sym all) ∙ zero-add (length found) in
-    rule_says found kept (omega (arith, same, some)) ∙ ap (λ o. rule_or_row o kept) all
+    rule_says found kept (omega (arith, same, some)) ∙ ap (λ o. rule_or_row_of o kept) all
 
-pub part_row : (part : List ℕ) (columns : ℕ) → columns ≡ columns_of part → columns ≡ 0 → table_row (without_last_empty_cell (map cell_of (cut_cells false part))) ≡ part_of part
-part_row part columns e none = row_says (alignments (rule_texts (cut_cells false part))) (without_last_empty_cell (map cell_of (cut_cells false part))) (sym e ∙ none)
+pub part_row : (part : List ℕ) (columns : ℕ) → columns ≡ columns_of part → columns ≡ 0 → table_row (kept_cells (map cell_of (cut_cells false part))) ≡ part_of part
+part_row part columns e none = row_says (alignments (rule_texts (cut_cells false part))) (kept_cells (map cell_of (cut_cells false part))) (sym e ∙ none)
 
 pub part_never : (part : List ℕ) (columns : ℕ) → columns ≡ columns_of part → 0 < columns → None ≡ alignments (take columns (cut_cells false part)) → ⊥
 part_never part columns e some h =

@@ -1,364 +1,371 @@
--- Each compound stands at a place in the source, behind the one before it.
-use Rattle.std.proofs.Common.{◌≡◌, ℕ, ◌≤◌, ◌<◌, ◌+◌, ◌-◌, Bool, true, false, not, ◌&&◌, ◌==◌, List, [], ◌∷◌, ◌++◌, map, length, take, drop, get_or, slice_range, chars, refl, sym, ap, ◌∙◌, arith, subst, append_assoc, cond, if◌then◌else◌}
-use Rattle.std.specs.List.{flat_map, join_with_byte}
-use Rattle.std.specs.Str.{IsUtf8, IsCharBoundary, trim_start, trim_end, skip_leading_whitespace, drop_trailing_whitespace}
-use Rattle.std.specs.Char.{is_whitespace}
-use Rattle.std.proofs.Math.Utf8.{encodes, scalars}
-use Rattle.std.proofs.Math.Seq.{take-append_seam, drop-append_seam, get_or-append_seam}
-use Rattle.std.proofs.lemmas.Bool.{and_parts}
-use Rattle.std.proofs.lemmas.List.{append-nil, drop-drop, length-drop, length-take-le, length-append, take-append-drop, map-append}
-use Rattle.std.proofs.lemmas.Str.{chars-encodes, encodes-append, IsUtf8-take, IsUtf8-drop, IsCharBoundary-after_ascii, IsCharBoundary-before_ascii}
-use Rattle.mad_md.specs.Cells.{run_start_trimmed, run_end_trimmed, before_kept, end_trimmed, start_trimmed}
-use Rattle.std.proofs.Common.{Option, Some, None, ◌||◌, add_assoc}
-use Rattle.std.specs.Bool.{MatchBool}
+-- What the lines say that are read by places: each compound is the slice of the source.
+use Rattle.std.proofs.Common.{◌≡◌, ℕ, ◌≤◌, ◌<◌, ◌+◌, ◌-◌, Bool, true, false, not, ◌==◌, List, [], ◌∷◌, ◌++◌, map, length, take, drop, get_or, slice_range, refl, sym, ap, ◌∙◌, arith, subst, append_assoc, add_assoc, Option, Some, None, if◌then◌else◌}
+use Rattle.std.specs.Prelude.{nat_lt}
+use Rattle.std.specs.List.{join_with_byte, slice_split}
+use Rattle.std.specs.Str.{IsUtf8, trim_start, trim_end}
 use Rattle.std.specs.Str.Lines.{strip_carriage_return}
+use Rattle.std.proofs.Math.Seq.{take-append_seam, drop-append_seam}
+use Rattle.std.proofs.lemmas.Bool.Decides.{nat_tests}
+use Rattle.std.proofs.lemmas.List.{append-nil, drop-drop, length-append, length-drop, length-map, length-take-le, map-append, take-append-drop, take-append-le, take_rest}
 use Rattle.std.proofs.lemmas.List.Folds.{drop_split}
-use Rattle.mad_md.specs.Cells.{cell_rest, cell_runs, without_last_empty_cell, rule_or_row}
-use Rattle.mad_md.specs.Flagged.{Run, RunPlace, run_at, Flags, plain}
+use Rattle.std.proofs.lemmas.Str.{IsUtf8-drop}
+use Rattle.mad_md.specs.Cells.{cell_rest, alignments, start_trimmed_place, end_trimmed_place, first_kept, without_blanks_in_front, last_kept, without_blanks_at_end, cell_places, without_last_empty_cell, rule_or_row}
+use Rattle.mad_md.specs.Flagged.{Flags, Run, RunPlace, run_at, plain}
 use Rattle.mad_md.specs.Inline.{Item, mark, byte, spell, spell_mark, unless_empty, flags_after, marks_of, runs_after, runs_with}
-use Rattle.mad_md.specs.Lines.{StyledRuns, LineContent}
-use Rattle.mad_md.specs.Parts.{LinePlace, AreParts, without_last_empty, places_from, line_places}
-use Rattle.mad_md.specs.Places.{runs_of_line, beginning, AreInOrder, IsPlaced, ArePlaced}
+use Rattle.mad_md.specs.Lines.{StyledRuns, LineContent, normal}
+use Rattle.mad_md.specs.Parts.{LinePlace, without_last_empty, places_from, line_text}
+use Rattle.mad_md.specs.Places.{StyledPlaces, content_at, styled_at}
 use Rattle.mad_md.specs.ReadRaw.{raw_runs}
-use Rattle.mad_md.specs.Reading.{Unread, carried_on, IsRead}
-use Rattle.mad_md.specs.Scan.{items_of, cell_of, part_of, cut_cells, line_of_form, line_of, flags_of_line, lines_of_texts, lines_of}
+use Rattle.mad_md.specs.Reading.{code_at, rest_place, carried_on, Unread, IsRead}
+use Rattle.mad_md.specs.Scan.{items_of, cut_cells, run_start_trimmed, run_end_trimmed, before_kept, end_trimmed, kept_before, start_trimmed, cell_of, kept_cells, rule_or_row_of, part_of, code_line, line_of_form, flags_of_form, line_of, flags_of_line, lines_of_texts, lines_of}
 use Rattle.mad_md.specs.Starts.{begins, is_fence, line_start}
 use Rattle.mad_md.specs.declared.alignment.Alignment.{Alignment}
+use Rattle.mad_md.specs.declared.composite.CompositeStyle.TheVariants.{Code as CodeStyle}
 use Rattle.mad_md.specs.declared.inline.Mark.{Mark}
-use Rattle.mad_md.specs.declared.inline.Mark.TheVariants.{Bold, Strikeout, Italic, Code as CodeMark}
 use Rattle.mad_md.specs.declared.starts.Form.{Form}
 use Rattle.mad_md.specs.declared.starts.Form.TheVariants.{TablePart, Code, Rule, Continuing, Separate}
-use Rattle.mad_md.proofs.CellLemmas.{cells_cut, test_is}
+use Rattle.mad_md.proofs.CellLemmas.{cells_cut}
 use Rattle.mad_md.proofs.InlineLemmas.{items_read}
-use Rattle.mad_md.proofs.PartsLemmas.{parts_unique}
-use Rattle.mad_md.proofs.ReadingLemmas.{text_at, reading_is, is_reading}
+use Rattle.mad_md.proofs.PartsLemmas.{is_newline, split_is_parts}
+use Rattle.mad_md.proofs.PlacedReading.{placed_cell, placed_cells, placed_part, placed_form, placed_line, flags_at, placed_lines, placed_of, is_reading, reading_is}
+use Rattle.mad_md.proofs.ReadingLemmas.{text_at}
 use Rattle.mad_md.proofs.StartLemmas.{border_two, start_ends}
+use Rattle.mad_md.proofs.Utf8Lemmas.{utf8_front, utf8_past, utf8_rest, start_cuts, end_cuts, mark_cut, rest_by, strip_by}
 
--- ---- a text that is cut at an ASCII byte
+-- ---- a text in a source
 
-utf8_front : (xs : List ℕ) (b : ℕ) (ys : List ℕ) → b < 128 → IsUtf8 (xs ++ b ∷ ys) → IsUtf8 xs
-utf8_front xs b ys ascii h =
-    let at : get_or (xs ++ b ∷ ys) (length xs) 0 ≡ b = get_or-append_seam xs b ys 0 in
-    let border = IsCharBoundary-before_ascii (xs ++ b ∷ ys) (length xs) (omega (arith, length-append xs (b ∷ ys))) (omega (arith, at, ascii)) in
-    subst IsUtf8 (take-append_seam xs (b ∷ ys)) (IsUtf8-take (xs ++ b ∷ ys) (length xs) h border)
+-- The text is in the source from this place on.
+abbrev pub IsAt : List ℕ → ℕ → List ℕ → Type 0
+IsAt source at text = (tail : List ℕ) × (drop at source ≡ text ++ tail)
 
-utf8_past : (b : ℕ) (ys : List ℕ) → b < 128 → IsUtf8 (b ∷ ys) → IsUtf8 ys
-utf8_past b ys ascii h = IsUtf8-drop (b ∷ ys) 1 h (IsCharBoundary-after_ascii (b ∷ ys) 0 h (omega arith) ascii)
+at_front : (source : List ℕ) (at : ℕ) (xs ys : List ℕ) → IsAt source at (xs ++ ys) → IsAt source at xs
+at_front source at xs ys h = (ys ++ h.0, h.1 ∙ append_assoc xs ys h.0)
 
-utf8_rest : (xs : List ℕ) (b : ℕ) (ys : List ℕ) → b < 128 → IsUtf8 (xs ++ b ∷ ys) → IsUtf8 (b ∷ ys)
-utf8_rest xs b ys ascii h =
-    let at : get_or (xs ++ b ∷ ys) (length xs) 0 ≡ b = get_or-append_seam xs b ys 0 in
-    let border = IsCharBoundary-before_ascii (xs ++ b ∷ ys) (length xs) (omega (arith, length-append xs (b ∷ ys))) (omega (arith, at, ascii)) in
-    subst IsUtf8 (drop-append_seam xs (b ∷ ys)) (IsUtf8-drop (xs ++ b ∷ ys) (length xs) h border)
+at_rest : (source : List ℕ) (at : ℕ) (xs ys : List ℕ) → IsAt source at (xs ++ ys) → IsAt source (at + length xs) ys
+at_rest source at xs ys h = (h.0, sym (drop-drop (length xs) at source) ∙ ap (drop (length xs)) (h.1 ∙ append_assoc xs ys h.0) ∙ drop-append_seam xs (ys ++ h.0))
 
--- ---- a text without blanks is its end, or its front
+at_slice : (source : List ℕ) (start end : ℕ) → IsAt source start (slice_range source start end)
+at_slice source start end = (drop (end - start) (drop start source), sym (take-append-drop (end - start) (drop start source)))
 
-skip_with : (c : ℕ) (cs : List ℕ) (t : Bool) → scalars (c ∷ cs) ≡ true → ((ps : List ℕ) × (cs ≡ ps ++ skip_leading_whitespace cs) × (scalars (skip_leading_whitespace cs) ≡ true))
-    → (ps : List ℕ) × (c ∷ cs ≡ ps ++ cond t (skip_leading_whitespace cs) (c ∷ cs)) × (scalars (cond t (skip_leading_whitespace cs) (c ∷ cs)) ≡ true)
-skip_with c cs true s h = (c ∷ h.0, ap (λ l. c ∷ l) h.1, h.2)
-skip_with c cs false s h = ([], refl, s)
+at_all : (source : List ℕ) (at end : ℕ) (text : List ℕ) → IsAt source at text → end ≡ at + length text → slice_range source at end ≡ text
+at_all source at end text h e =
+    let len : end - at ≡ length text = omega arith in
+    ap (λ k. take k (drop at source)) len ∙ ap (take (length text)) h.1 ∙ take-append_seam text h.0
 
-skip_cuts : (cs : List ℕ) → scalars cs ≡ true → (ps : List ℕ) × (cs ≡ ps ++ skip_leading_whitespace cs) × (scalars (skip_leading_whitespace cs) ≡ true)
-skip_cuts [] s = ([], refl, s)
-skip_cuts (c ∷ cs) s = skip_with c cs (is_whitespace c) s (skip_cuts cs (and_parts _ (scalars cs) s).1)
+-- a slice of the text is one of the source
+slice_in : (source text : List ℕ) (at s e a b : ℕ) → IsAt source at text → a ≡ at + s → b ≡ at + e → s ≤ e → e ≤ length text → slice_range source a b ≡ slice_range text s e
+slice_in source text at s e a b h ea eb order within =
+    let front : length (take s text) ≡ s = length-take-le s text (omega arith) in
+    let rest = at_rest source at (take s text) (drop s text) (subst (IsAt source at) (sym (take-append-drop s text)) h) in
+    let place : at + length (take s text) ≡ a = omega (arith, front) in
+    let here : drop a source ≡ drop s text ++ rest.0 = ap (λ k. drop k source) (sym place) ∙ rest.1 in
+    let len : b - a ≡ e - s = omega arith in
+    let fits : e - s ≤ length (drop s text) = omega (arith, length-drop s text) in
+    ap (λ k. take k (drop a source)) len ∙ ap (take (e - s)) here ∙ take-append-le (e - s) (drop s text) rest.0 fits
 
-back_with : (c : ℕ) (cs kept : List ℕ) (t : Bool) → scalars (c ∷ cs) ≡ true → ((ps : List ℕ) × (cs ≡ kept ++ ps) × (scalars kept ≡ true))
-    → (ps : List ℕ) × (c ∷ cs ≡ cond t [] (c ∷ kept) ++ ps) × (scalars (cond t [] (c ∷ kept)) ≡ true)
-back_with c cs kept true s h = (c ∷ cs, refl, refl)
-back_with c cs kept false s h = (h.0, ap (λ l. c ∷ l) h.1, ap (λ y. y && scalars kept) (and_parts _ (scalars cs) s).0 ∙ h.2)
+-- ---- places that are slices
 
-back_cuts : (cs : List ℕ) → scalars cs ≡ true → (ps : List ℕ) × (cs ≡ drop_trailing_whitespace cs ++ ps) × (scalars (drop_trailing_whitespace cs) ≡ true)
-back_cuts [] s = ([], refl, s)
-back_cuts (c ∷ cs) s = back_with c cs (drop_trailing_whitespace cs) (is_whitespace c && length (drop_trailing_whitespace cs) == 0) s (back_cuts cs (and_parts _ (scalars cs) s).1)
+-- The place is in order and in the source, and its text is UTF-8.
+abbrev pub IsWhole : List ℕ → RunPlace → Type 0
+IsWhole source place = (place.start ≤ place.end) × (length (slice_range source place.start place.end) ≡ place.end - place.start) × IsUtf8 (slice_range source place.start place.end)
 
-pub start_cuts : (text : List ℕ) → IsUtf8 text → (front : List ℕ) × (text ≡ front ++ trim_start text) × IsUtf8 (trim_start text)
-unfolding trim_start
-start_cuts text h =
-    let own : chars text ≡ h.0 = ap chars (sym h.1.1) ∙ chars-encodes h.0 h.1.0 in
-    let cut = skip_cuts h.0 h.1.0 in
-    let kept : encodes (skip_leading_whitespace h.0) ≡ encodes (skip_leading_whitespace (chars text)) = ap (λ cs. encodes (skip_leading_whitespace cs)) (sym own) in
-    (encodes cut.0,
-     sym h.1.1 ∙ ap encodes cut.1 ∙ encodes-append cut.0 (skip_leading_whitespace h.0) ∙ ap (λ l. encodes cut.0 ++ l) kept,
-     (skip_leading_whitespace h.0, (cut.2, kept)))
+abbrev pub AreWhole : List ℕ → List RunPlace → Type 0
+AreWhole source [] = Unit {0}
+AreWhole source (place ∷ places) = IsWhole source place × AreWhole source places
 
-pub end_cuts : (text : List ℕ) → IsUtf8 text → (behind : List ℕ) × (text ≡ trim_end text ++ behind) × IsUtf8 (trim_end text)
-unfolding trim_end
-end_cuts text h =
-    let own : chars text ≡ h.0 = ap chars (sym h.1.1) ∙ chars-encodes h.0 h.1.0 in
-    let cut = back_cuts h.0 h.1.0 in
-    let kept : encodes (drop_trailing_whitespace h.0) ≡ encodes (drop_trailing_whitespace (chars text)) = ap (λ cs. encodes (drop_trailing_whitespace cs)) (sym own) in
-    (encodes cut.0,
-     sym h.1.1 ∙ ap encodes cut.1 ∙ encodes-append (drop_trailing_whitespace h.0) cut.0 ∙ ap (λ l. l ++ encodes cut.0) kept,
-     (drop_trailing_whitespace h.0, (cut.2, kept)))
+whole_append : (source : List ℕ) (xs ys : List RunPlace) → AreWhole source xs → AreWhole source ys → AreWhole source (xs ++ ys)
+whole_append source [] ys h g = g
+whole_append source (x ∷ xs) ys h g = (h.0, whole_append source xs ys h.1 g)
 
--- ---- runs that stand in a text
+-- what places say, if they are whole
+abbrev pub Say : List ℕ → List RunPlace → List Run → Type 0
+Say source places said = (map (run_at source) places ≡ said) × AreWhole source places
 
--- The runs stand in the text, each behind the one before.
-abbrev pub Stand : List ℕ → List Run → Type 0
-Stand text [] = Unit {0}
-Stand text (run ∷ runs) = (before : List ℕ) × (after : List ℕ) × (text ≡ before ++ (run.text ++ after)) × IsUtf8 run.text × Stand after runs
+-- ---- the runs of a text
 
-pub stand_before : (front text : List ℕ) (runs : List Run) → Stand text runs → Stand (front ++ text) runs
-stand_before front text [] h = tt
-stand_before front text (run ∷ runs) h = (front ++ h.0, h.1, ap (λ t. front ++ t) h.2 ∙ sym (append_assoc front h.0 (run.text ++ h.1)), h.3, h.4)
+if_said : (source : List ℕ) (place : RunPlace) (said : Run) (t : Bool) → run_at source place ≡ said → IsWhole source place → Say source (if t then place ∷ [] else []) (if t then said ∷ [] else [])
+if_said source place said true e h = (ap (λ r. r ∷ []) e, (h, tt))
+if_said source place said false e h = (refl, tt)
 
-pub stand_append : (xs ys : List ℕ) (runs more : List Run) → Stand xs runs → Stand ys more → Stand (xs ++ ys) (runs ++ more)
-stand_append xs ys [] more h g = stand_before xs ys more g
-stand_append xs ys (run ∷ runs) more h g =
-    (h.0, h.1 ++ ys, ap (λ t. t ++ ys) h.2 ∙ append_assoc h.0 (run.text ++ h.1) ys ∙ ap (λ t. h.0 ++ t) (append_assoc run.text h.1 ys), h.3, stand_append h.1 ys runs more h.4 g)
+map_if : {A B : Type 0} (f : A → B) (x : A) (t : Bool) → (if t then f x ∷ [] else []) ≡ map f (if t then x ∷ [] else [])
+map_if f x true = refl
+map_if f x false = refl
 
-pub stand_behind : (xs ys : List ℕ) (runs : List Run) → Stand xs runs → Stand (xs ++ ys) runs
-stand_behind xs ys runs h = subst (Stand (xs ++ ys)) (append-nil runs) (stand_append xs ys runs [] h tt)
+lt_moved : (at s e a b : ℕ) → a ≡ at + s → b ≡ at + e → nat_lt a b ≡ nat_lt s e
+lt_moved at s e a b ea eb = grind (arith, nat_tests)
 
--- a run that is left out
-stand_without : (text : List ℕ) (run : Run) (runs : List Run) (h : Stand text (run ∷ runs)) → (kept : List Run) → Stand h.1 kept → Stand text kept
-stand_without text run runs h kept g =
-    subst (λ t. Stand t kept) (append_assoc h.0 run.text h.1 ∙ sym h.2) (stand_before (h.0 ++ run.text) h.1 kept g)
+unless_said : (source text : List ℕ) (at s e a b : ℕ) (flags : Flags) → IsAt source at text → a ≡ at + s → b ≡ at + e → s ≤ e → e ≤ length text → IsUtf8 (slice_range text s e)
+    → Say source (unless_empty flags a b) (map (run_at text) (unless_empty flags s e))
+unless_said source text at s e a b flags h ea eb order within u =
+    let slice = slice_in source text at s e a b h ea eb order within in
+    let len : length (slice_range text s e) ≡ e - s = length-take-le (e - s) (drop s text) (omega (arith, length-drop s text)) in
+    let place : RunPlace = record { flags = flags; start = a; end = b } in
+    let own : RunPlace = record { flags = flags; start = s; end = e } in
+    let same : run_at source place ≡ run_at text own = ap (λ (t : List ℕ). let run : Run = record { flags = flags; text = t } in run) slice in
+    let whole : IsWhole source place = (omega arith, ap length slice ∙ len ∙ omega arith, subst IsUtf8 (sym slice) u) in
+    let said = if_said source place (run_at text own) (nat_lt s e) same whole in
+    let test : nat_lt s e ≡ nat_lt a b = sym (lt_moved at s e a b ea eb) in
+    let moved = subst (λ (t : Bool). Say source (if t then place ∷ [] else []) (if nat_lt s e then run_at text own ∷ [] else [])) test said in
+    subst (Say source (unless_empty flags a b)) (map_if (run_at text) own (nat_lt s e)) moved
+
+say_append : (source : List ℕ) (xs ys : List RunPlace) (said more : List Run) → Say source xs said → Say source ys more → Say source (xs ++ ys) (said ++ more)
+say_append source xs ys said more h g = (map-append (run_at source) xs ys ∙ ap (λ l. l ++ map (run_at source) ys) h.0 ∙ ap (λ l. said ++ l) g.0, whole_append source xs ys h.1 g.1)
+
+runs_said : (source text : List ℕ) (at : ℕ) → IsAt source at text → (before : List Mark) (s i a b : ℕ) (items : List Item) → a ≡ at + s → b ≡ at + i → drop i text ≡ spell items → s ≤ i → i + length (spell items) ≡ length text → IsUtf8 (drop s text)
+    → Say source (runs_after before a b items) (map (run_at text) (runs_after before s i items))
+runs_said source text at h before s i a b [] ea eb follows order len u =
+    let whole : drop s text ≡ slice_range text s i = drop_split text s i order ∙ ap (λ t. slice_range text s i ++ t) follows ∙ append-nil (slice_range text s i) in
+    unless_said source text at s i a b (flags_after before) h ea eb order (omega arith) (subst IsUtf8 whole u)
+runs_said source text at h before s i a b (mark m ∷ items) ea eb follows order len u =
+    let k = length (spell_mark m) in
+    let sum : length (spell (mark m ∷ items)) ≡ k + length (spell items) = length-append (spell_mark m) (spell items) in
+    let more : drop (i + k) text ≡ spell items = sym (drop-drop k i text) ∙ ap (drop k) follows ∙ drop-append_seam (spell_mark m) (spell items) in
+    let whole : drop s text ≡ slice_range text s i ++ (spell_mark m ++ spell items) = drop_split text s i order ∙ ap (λ t. slice_range text s i ++ t) follows in
+    let cut = mark_cut m (slice_range text s i) (spell items) (subst IsUtf8 whole u) in
+    let here = unless_said source text at s i a b (flags_after before) h ea eb order (omega (arith, len, sum)) cut.0 in
+    let next : b + k ≡ at + (i + k) = omega (arith, eb) in
+    let rest = runs_said source text at h (m ∷ before) (i + k) (i + k) (b + k) (b + k) items next next more (omega arith) (omega (arith, len, sum)) (subst IsUtf8 (sym more) cut.1) in
+    subst (Say source (unless_empty (flags_after before) a b ++ runs_after (m ∷ before) (b + k) (b + k) items))
+      (sym (map-append (run_at text) (unless_empty (flags_after before) s i) (runs_after (m ∷ before) (i + k) (i + k) items)))
+      (say_append source (unless_empty (flags_after before) a b) (runs_after (m ∷ before) (b + k) (b + k) items) (map (run_at text) (unless_empty (flags_after before) s i)) (map (run_at text) (runs_after (m ∷ before) (i + k) (i + k) items)) here rest)
+runs_said source text at h before s i a b (byte c ∷ items) ea eb follows order len u =
+    let next : b + 1 ≡ at + (i + 1) = omega (arith, eb) in
+    runs_said source text at h before s (i + 1) a (b + 1) items ea next (sym (drop-drop 1 i text) ∙ ap (drop 1) follows) (omega (arith, order)) (omega (arith, len)) u
+
+marked_said : (source text : List ℕ) (at : ℕ) (carried : Flags) → IsAt source at text → IsUtf8 text
+    → Say source (runs_with carried at (items_of carried text)) (map (run_at text) (runs_with carried 0 (items_of carried text)))
+marked_said source text at carried h u =
+    let read = items_read carried text in
+    let start : at ≡ at + 0 = omega arith in
+    let all : 0 + length (spell (items_of carried text)) ≡ length text = omega (arith, ap length read.spells) in
+    runs_said source text at h (marks_of carried) 0 0 at at (items_of carried text) start start (sym read.spells) (omega arith) all u
 
 -- ---- without blanks at the ends
 
-start_by : (flags_code : Bool) (run : Run) → IsUtf8 run.text
-    → let trimmed = if flags_code then run else record run { text = trim_start run.text } in (front : List ℕ) × (run.text ≡ front ++ trimmed.text) × IsUtf8 trimmed.text
-start_by true run h = ([], refl, h)
-start_by false run h = start_cuts run.text h
+start_by : (source : List ℕ) (flags : Flags) (start end : ℕ) (code : Bool) → let place : RunPlace = record { flags = flags; start = start; end = end } in IsWhole source place
+    → let trimmed : RunPlace = if code then place else record place { start = end - length (trim_start (slice_range source start end)) } in
+    let run = run_at source place in
+    (run_at source trimmed ≡ (if code then run else record run { text = trim_start run.text })) × IsWhole source trimmed
+start_by source flags start end true h = (refl, h)
+start_by source flags start end false h =
+    let text = slice_range source start end in
+    let kept = trim_start text in
+    let cut = start_cuts text h.2 in
+    let sum : length cut.0 + length kept ≡ end - start = sym (length-append cut.0 kept) ∙ sym (ap length cut.1) ∙ h.1 in
+    let there : IsAt source (start + length cut.0) kept = at_rest source start cut.0 kept (subst (IsAt source start) cut.1 (at_slice source start end)) in
+    let from : start + length cut.0 ≡ end - length kept = omega (arith, sum, h.0) in
+    let last : end ≡ (end - length kept) + length kept = omega (arith, sum, h.0) in
+    let slice : slice_range source (end - length kept) end ≡ kept = at_all source (end - length kept) end kept (subst (λ n. IsAt source n kept) from there) last in
+    (ap (λ (t : List ℕ). let run : Run = record { flags = flags; text = t } in run) slice, (omega arith, ap length slice ∙ omega arith, subst IsUtf8 (sym slice) cut.2))
 
-end_by : (flags_code : Bool) (run : Run) → IsUtf8 run.text
-    → let trimmed = if flags_code then run else record run { text = trim_end run.text } in (behind : List ℕ) × (run.text ≡ trimmed.text ++ behind) × IsUtf8 trimmed.text
-end_by true run h = ([], sym (append-nil run.text), h)
-end_by false run h = end_cuts run.text h
+start_said : (source : List ℕ) (place : RunPlace) → IsWhole source place → (run_at source (start_trimmed_place source place) ≡ run_start_trimmed (run_at source place)) × IsWhole source (start_trimmed_place source place)
+start_said source place h = start_by source place.flags place.start place.end place.flags.code h
 
-start_with : (text : List ℕ) (run trimmed : Run) (others kept : List Run) (t : Bool) (h : Stand text (run ∷ others)) → ((front : List ℕ) × (run.text ≡ front ++ trimmed.text) × IsUtf8 trimmed.text) → Stand h.1 kept
-    → Stand text (if t then kept else trimmed ∷ others)
-start_with text run trimmed others kept true h cut g = stand_without text run others h kept g
-start_with text run trimmed others kept false h cut g =
-    (h.0 ++ cut.0, h.1, h.2 ∙ ap (λ t. h.0 ++ (t ++ h.1)) cut.1 ∙ ap (λ t. h.0 ++ t) (append_assoc cut.0 trimmed.text h.1) ∙ sym (append_assoc h.0 cut.0 (trimmed.text ++ h.1)), cut.2, h.4)
+end_by : (source : List ℕ) (flags : Flags) (start end : ℕ) (code : Bool) → let place : RunPlace = record { flags = flags; start = start; end = end } in IsWhole source place
+    → let trimmed : RunPlace = if code then place else record place { end = start + length (trim_end (slice_range source start end)) } in
+    let run = run_at source place in
+    (run_at source trimmed ≡ (if code then run else record run { text = trim_end run.text })) × IsWhole source trimmed
+end_by source flags start end true h = (refl, h)
+end_by source flags start end false h =
+    let text = slice_range source start end in
+    let kept = trim_end text in
+    let cut = end_cuts text h.2 in
+    let there : IsAt source start kept = at_front source start kept cut.0 (subst (IsAt source start) cut.1 (at_slice source start end)) in
+    let slice : slice_range source start (start + length kept) ≡ kept = at_all source start (start + length kept) kept there refl in
+    (ap (λ (t : List ℕ). let run : Run = record { flags = flags; text = t } in run) slice, (omega arith, ap length slice ∙ omega arith, subst IsUtf8 (sym slice) cut.2))
 
-pub stand_start : (text : List ℕ) (runs : List Run) → Stand text runs → Stand text (start_trimmed runs)
-stand_start text [] h = tt
-stand_start text (run ∷ others) h =
-    let trimmed = run_start_trimmed run in
-    start_with text run trimmed others (start_trimmed others) (length trimmed.text == 0) h (start_by run.flags.code run h.3) (stand_start h.1 others h.4)
+end_said : (source : List ℕ) (place : RunPlace) → IsWhole source place → (run_at source (end_trimmed_place source place) ≡ run_end_trimmed (run_at source place)) × IsWhole source (end_trimmed_place source place)
+end_said source place h = end_by source place.flags place.start place.end place.flags.code h
 
-last_with : (text : List ℕ) (run trimmed : Run) (others : List Run) (t : Bool) (h : Stand text (run ∷ others)) → ((behind : List ℕ) × (run.text ≡ trimmed.text ++ behind) × IsUtf8 trimmed.text)
-    → Stand text (if t then [] else trimmed ∷ [])
-last_with text run trimmed others true h cut = tt
-last_with text run trimmed others false h cut =
-    (h.0, cut.0 ++ h.1, h.2 ∙ ap (λ t. h.0 ++ (t ++ h.1)) cut.1 ∙ ap (λ t. h.0 ++ t) (append_assoc trimmed.text cut.0 h.1), cut.2, tt)
+empty_test : (n start end : ℕ) → start ≤ end → n ≡ end - start → (start == end) ≡ (n == 0)
+empty_test n start end order e = grind (arith, nat_tests)
 
-end_with : (text : List ℕ) (run : Run) (others kept : List Run) (h : Stand text (run ∷ others)) → Stand h.1 kept → Stand text (before_kept run kept)
-end_with text run others [] h g = let trimmed = run_end_trimmed run in last_with text run trimmed others (length trimmed.text == 0) h (end_by run.flags.code run h.3)
-end_with text run others (next ∷ kept) h g = (h.0, h.1, h.2, h.3, g)
+kept_by : (source : List ℕ) (place : RunPlace) (places left : List RunPlace) (said left_said : List Run) (t : Bool) → IsWhole source place → Say source places said → Say source left left_said
+    → Say source (if t then left else place ∷ places) (if t then left_said else run_at source place ∷ said)
+kept_by source place places left said left_said true h g k = k
+kept_by source place places left said left_said false h g k = (ap (λ rs. run_at source place ∷ rs) g.0, (h, g.1))
 
-pub stand_end : (text : List ℕ) (runs : List Run) → Stand text runs → Stand text (end_trimmed runs)
-stand_end text [] h = tt
-stand_end text (run ∷ others) h = end_with text run others (end_trimmed others) h (stand_end h.1 others h.4)
+kept_said : (source : List ℕ) (place : RunPlace) (places left : List RunPlace) (run : Run) (said left_said : List Run) → run_at source place ≡ run → IsWhole source place → Say source places said → Say source left left_said
+    → Say source (first_kept place places left) (kept_before run said left_said)
+kept_said source place places left run said left_said e h g k =
+    let test : (place.start == place.end) ≡ (length (run_at source place).text == 0) = empty_test (length (run_at source place).text) place.start place.end h.0 h.1 in
+    let kept = kept_by source place places left said left_said (place.start == place.end) h g k in
+    let by_text = subst (λ (t : Bool). Say source (first_kept place places left) (if t then left_said else run_at source place ∷ said)) test kept in
+    subst (λ (r : Run). Say source (first_kept place places left) (kept_before r said left_said)) e by_text
 
--- ---- the runs of items
+front_said : (source : List ℕ) (places : List RunPlace) → AreWhole source places → Say source (without_blanks_in_front source places) (start_trimmed (map (run_at source) places))
+front_said source [] h = (refl, tt)
+front_said source (place ∷ places) h =
+    let trimmed = start_said source place h.0 in
+    kept_said source (start_trimmed_place source place) places (without_blanks_in_front source places) (run_start_trimmed (run_at source place)) (map (run_at source) places) (start_trimmed (map (run_at source) places))
+      trimmed.0 trimmed.1 (refl, h.1) (front_said source places h.1)
 
-mark_cut : (m : Mark) (xs ys : List ℕ) → IsUtf8 (xs ++ (spell_mark m ++ ys)) → IsUtf8 xs × IsUtf8 ys
-mark_cut Bold xs ys h = (utf8_front xs 42 (42 ∷ ys) (omega arith) h, utf8_past 42 ys (omega arith) (utf8_past 42 (42 ∷ ys) (omega arith) (utf8_rest xs 42 (42 ∷ ys) (omega arith) h)))
-mark_cut Strikeout xs ys h = (utf8_front xs 126 (126 ∷ ys) (omega arith) h, utf8_past 126 ys (omega arith) (utf8_past 126 (126 ∷ ys) (omega arith) (utf8_rest xs 126 (126 ∷ ys) (omega arith) h)))
-mark_cut Italic xs ys h = (utf8_front xs 42 ys (omega arith) h, utf8_past 42 ys (omega arith) (utf8_rest xs 42 ys (omega arith) h))
-mark_cut CodeMark xs ys h = (utf8_front xs 96 ys (omega arith) h, utf8_past 96 ys (omega arith) (utf8_rest xs 96 ys (omega arith) h))
+last_said : (source : List ℕ) (place : RunPlace) (left : List RunPlace) → IsWhole source place → AreWhole source left → Say source (last_kept source place left) (before_kept (run_at source place) (map (run_at source) left))
+last_said source place [] h g =
+    let trimmed = end_said source place h in
+    kept_said source (end_trimmed_place source place) [] [] (run_end_trimmed (run_at source place)) [] [] trimmed.0 trimmed.1 (refl, tt) (refl, tt)
+last_said source place (next ∷ left) h g = (refl, (h, g))
 
-unless_by : (text : List ℕ) (flags : Flags) (start at : ℕ) (t : Bool) → IsUtf8 (slice_range text start at)
-    → Stand (slice_range text start at) (map (run_at text) (if t then record { flags = flags; start = start; end = at } ∷ [] else []))
-unless_by text flags start at true h = ([], [], sym (append-nil (slice_range text start at)), h, tt)
-unless_by text flags start at false h = tt
+back_said : (source : List ℕ) (places : List RunPlace) → AreWhole source places → Say source (without_blanks_at_end source places) (end_trimmed (map (run_at source) places))
+back_said source [] h = (refl, tt)
+back_said source (place ∷ places) h =
+    let rest = back_said source places h.1 in
+    subst (λ rs. Say source (last_kept source place (without_blanks_at_end source places)) (before_kept (run_at source place) rs)) rest.0 (last_said source place (without_blanks_at_end source places) h.0 rest.1)
 
-pub stand_items : (text : List ℕ) (before : List Mark) (start at : ℕ) (items : List Item) → drop at text ≡ spell items → start ≤ at → IsUtf8 (drop start text)
-    → Stand (drop start text) (map (run_at text) (runs_after before start at items))
-stand_items text before start at [] follows l h =
-    let whole : drop start text ≡ slice_range text start at = drop_split text start at l ∙ ap (λ t. slice_range text start at ++ t) follows ∙ append-nil (slice_range text start at) in
-    subst (λ t. Stand t (map (run_at text) (unless_empty (flags_after before) start at))) (sym whole) (unless_by text (flags_after before) start at _ (subst IsUtf8 whole h))
-stand_items text before start at (mark m ∷ items) follows l h =
-    let k = length (spell_mark m) in
-    let more : drop (at + k) text ≡ spell items = sym (drop-drop k at text) ∙ ap (drop k) follows ∙ drop-append_seam (spell_mark m) (spell items) in
-    let whole : drop start text ≡ slice_range text start at ++ (spell_mark m ++ spell items) = drop_split text start at l ∙ ap (λ t. slice_range text start at ++ t) follows in
-    let cut = mark_cut m (slice_range text start at) (spell items) (subst IsUtf8 whole h) in
-    let rest = stand_items text (m ∷ before) (at + k) (at + k) items more (omega arith) (subst IsUtf8 (sym more) cut.1) in
-    let later = map (run_at text) (runs_after (m ∷ before) (at + k) (at + k) items) in
-    let behind : Stand (spell_mark m ++ spell items) later = stand_before (spell_mark m) (spell items) later (subst (λ t. Stand t later) more rest) in
-    let both = stand_append (slice_range text start at) (spell_mark m ++ spell items) (map (run_at text) (unless_empty (flags_after before) start at)) later (unless_by text (flags_after before) start at _ cut.0) behind in
-    subst (λ t. Stand t (map (run_at text) (unless_empty (flags_after before) start at ++ runs_after (m ∷ before) (at + k) (at + k) items))) (sym whole)
-      (subst (Stand (slice_range text start at ++ (spell_mark m ++ spell items))) (sym (map-append (run_at text) (unless_empty (flags_after before) start at) (runs_after (m ∷ before) (at + k) (at + k) items))) both)
-stand_items text before start at (byte b ∷ items) follows l h =
-    stand_items text before start (at + 1) items (sym (drop-drop 1 at text) ∙ ap (drop 1) follows) (omega (arith, l)) h
+-- ---- cells
 
-pub stand_marked : (flags : Flags) (text : List ℕ) → IsUtf8 text → Stand text (map (run_at text) (runs_with flags 0 (items_of flags text)))
-stand_marked flags text h = stand_items text (marks_of flags) 0 0 (items_of flags text) (sym (items_read flags text).spells) (omega arith) h
-
--- ---- the runs of cells
-
-rest_by : (text : List ℕ) (a b : Bool) → (a ≡ true → IsCharBoundary text 2) → (b ≡ true → IsCharBoundary text 2) → IsUtf8 text
-    → (front : List ℕ) × (text ≡ front ++ (if a || b then drop 2 text else text)) × IsUtf8 (if a || b then drop 2 text else text)
-rest_by text true b f g h = (take 2 text, sym (take-append-drop 2 text), IsUtf8-drop text 2 h (f refl))
-rest_by text false true f g h = (take 2 text, sym (take-append-drop 2 text), IsUtf8-drop text 2 h (g refl))
-rest_by text false false f g h = ([], refl, h)
-
-stand_cell : (text : List ℕ) → IsUtf8 text → Stand text (cell_of text).runs
-stand_cell text h =
+cell_said : (source : List ℕ) (at : ℕ) (text : List ℕ) → IsAt source at text → IsUtf8 text → styled_at source (placed_cell source at text) ≡ cell_of text
+cell_said source at text h u =
     let bare = trim_start text in
-    let cut = start_cuts text h in
-    let rest = rest_by bare (begins bare (42 ∷ 32 ∷ [])) (begins bare (62 ∷ 32 ∷ [])) (λ e. border_two bare 0 42 32 cut.2 e (omega arith)) (λ e. border_two bare 0 62 32 cut.2 e (omega arith)) cut.2 in
-    let said = cell_runs (cell_rest bare) (items_of plain (cell_rest bare)) in
-    let inner : Stand (cell_rest bare) said = stand_start (cell_rest bare) _ (stand_end (cell_rest bare) _ (stand_marked plain (cell_rest bare) rest.2)) in
-    let middle : Stand bare said = subst (λ t. Stand t said) (sym rest.1) (stand_before rest.0 (cell_rest bare) said inner) in
-    subst (λ t. Stand t said) (sym cut.1) (stand_before cut.0 bare said middle)
+    let cut = start_cuts text u in
+    let after = rest_by bare (begins bare (42 ∷ 32 ∷ [])) (begins bare (62 ∷ 32 ∷ [])) (λ e. border_two bare 0 42 32 cut.2 e (omega arith)) (λ e. border_two bare 0 62 32 cut.2 e (omega arith)) cut.2 in
+    let rest = cell_rest bare in
+    let front = cut.0 ++ after.0 in
+    let whole : text ≡ front ++ rest = cut.1 ∙ ap (λ t. cut.0 ++ t) after.1 ∙ sym (append_assoc cut.0 after.0 rest) in
+    let there : IsAt source (at + length front) rest = at_rest source at front rest (subst (IsAt source at) whole h) in
+    let start : at + length front ≡ at + (length text - length rest) = omega (arith, ap length whole, length-append front rest) in
+    let places = runs_with plain (at + (length text - length rest)) (items_of plain rest) in
+    let said = marked_said source rest (at + (length text - length rest)) plain (subst (λ n. IsAt source n rest) start there) after.2 in
+    let back = back_said source places said.1 in
+    let both = front_said source (without_blanks_at_end source places) back.1 in
+    ap (λ (rs : List Run). let styled : StyledRuns = record { style = (cell_of text).style; runs = rs } in styled)
+      (both.0 ∙ ap start_trimmed back.0 ∙ ap (λ rs. start_trimmed (end_trimmed rs)) said.0)
 
--- the runs of cells in a row
-abbrev runs_of_cells : List StyledRuns → List Run
-runs_of_cells cells = flat_map (λ (c : StyledRuns). c.runs) cells
-
-bare_with : (text : List ℕ) (cell : StyledRuns) (t : Bool) → Stand text cell.runs → Stand text (runs_of_cells (if t then [] else cell ∷ []))
-bare_with text cell true h = tt
-bare_with text cell false h = subst (Stand text) (sym (append-nil cell.runs)) h
-
-stand_cells : (texts : List (List ℕ)) → IsUtf8 (join_with_byte 124 texts) → Stand (join_with_byte 124 texts) (runs_of_cells (without_last_empty_cell (map cell_of texts)))
-stand_cells [] h = tt
-stand_cells (text ∷ []) h = bare_with text (cell_of text) (length (cell_of text).runs == 0) (stand_cell text h)
-stand_cells (text ∷ next ∷ texts) h =
+cells_said : (source : List ℕ) (at : ℕ) (texts : List (List ℕ)) → IsAt source at (join_with_byte 124 texts) → IsUtf8 (join_with_byte 124 texts) → map (styled_at source) (placed_cells source at texts) ≡ map cell_of texts
+cells_said source at [] h u = refl
+cells_said source at (text ∷ []) h u = ap (λ c. c ∷ []) (cell_said source at text h u)
+cells_said source at (text ∷ next ∷ texts) h u =
     let more = join_with_byte 124 (next ∷ texts) in
-    let later = runs_of_cells (without_last_empty_cell (map cell_of (next ∷ texts))) in
-    stand_append text (124 ∷ more) (cell_of text).runs later (stand_cell text (utf8_front text 124 more (omega arith) h))
-      (stand_before (124 ∷ []) more later (stand_cells (next ∷ texts) (utf8_past 124 more (omega arith) (utf8_rest text 124 more (omega arith) h))))
+    let here = cell_said source at text (at_front source at text (124 ∷ more) h) (utf8_front text 124 more (omega arith) u) in
+    let there : IsAt source (at + length text + 1) more = at_rest source (at + length text) (124 ∷ []) more (at_rest source at text (124 ∷ more) h) in
+    let rest = cells_said source (at + length text + 1) (next ∷ texts) there (utf8_past 124 more (omega arith) (utf8_rest text 124 more (omega arith) u)) in
+    ap (λ c. c ∷ map (styled_at source) (placed_cells source (at + length text + 1) (next ∷ texts))) here ∙ ap (λ cs. cell_of text ∷ cs) rest
 
-says_with : (part : List ℕ) (found : Option (List Alignment)) (cells : List StyledRuns) → Stand part (runs_of_cells cells) → Stand part (runs_of_line (rule_or_row found cells))
-says_with part (Some (alignment ∷ others)) cells h = tt
-says_with part (Some []) cells h = h
-says_with part None cells h = h
+last_cell_by : (source : List ℕ) (cell : StyledPlaces) (t : Bool) → map (styled_at source) (if t then [] else cell ∷ []) ≡ (if t then [] else styled_at source cell ∷ [])
+last_cell_by source cell true = refl
+last_cell_by source cell false = refl
 
-stand_part : (part : List ℕ) → IsUtf8 part → Stand part (runs_of_line (part_of part))
-stand_part part h =
+kept_cells_said : (source : List ℕ) (cells : List StyledPlaces) → map (styled_at source) (without_last_empty_cell cells) ≡ kept_cells (map (styled_at source) cells)
+kept_cells_said source [] = refl
+kept_cells_said source (cell ∷ []) =
+    last_cell_by source cell (length cell.places == 0) ∙ ap (λ n. if n == 0 then [] else styled_at source cell ∷ []) (sym (length-map cell.places (run_at source)))
+kept_cells_said source (cell ∷ next ∷ cells) = ap (λ cs. styled_at source cell ∷ cs) (kept_cells_said source (next ∷ cells))
+
+says_said : (source : List ℕ) (found : Option (List Alignment)) (cells : List StyledPlaces) → content_at source (rule_or_row found cells) ≡ rule_or_row_of found (map (styled_at source) cells)
+says_said source (Some (alignment ∷ others)) cells = refl
+says_said source (Some []) cells = refl
+says_said source None cells = refl
+
+part_said : (source : List ℕ) (place : LinePlace) → IsUtf8 (line_text source place) → content_at source (placed_part source place) ≡ part_of (line_text source place)
+part_said source place u =
+    let part = line_text source place in
     let texts = cut_cells false part in
     let joined : join_with_byte 124 texts ≡ part = (cells_cut part).joined in
-    says_with part _ (without_last_empty_cell (map cell_of texts))
-      (subst (λ t. Stand t (runs_of_cells (without_last_empty_cell (map cell_of texts)))) joined (stand_cells texts (subst IsUtf8 (sym joined) h)))
+    let cells = placed_cells source place.start texts in
+    let same : map (styled_at source) cells ≡ map cell_of texts = cells_said source place.start texts (subst (IsAt source place.start) (sym joined) (at_slice source place.start place.end)) (subst IsUtf8 (sym joined) u) in
+    let kept : map (styled_at source) (without_last_empty_cell cells) ≡ kept_cells (map cell_of texts) = kept_cells_said source cells ∙ ap kept_cells same in
+    let len : length (without_last_empty_cell cells) ≡ length (kept_cells (map cell_of texts)) = sym (length-map (without_last_empty_cell cells) (styled_at source)) ∙ ap length kept in
+    says_said source (alignments (take (length (without_last_empty_cell cells)) texts)) (without_last_empty_cell cells)
+    ∙ ap (rule_or_row_of (alignments (take (length (without_last_empty_cell cells)) texts))) kept
+    ∙ ap (λ n. rule_or_row_of (alignments (take n texts)) (kept_cells (map cell_of texts))) len
 
--- ---- the runs of a line
+-- ---- a line
 
-stand_raw : (text : List ℕ) → IsUtf8 text → Stand text (raw_runs text)
-stand_raw [] h = tt
-stand_raw (b ∷ bs) h = ([], [], sym (append-nil (b ∷ bs)), h, tt)
+-- The line's place is in the source, and its text is UTF-8.
+abbrev pub IsWholeLine : List ℕ → LinePlace → Type 0
+IsWholeLine source place = (place.end ≡ place.start + length (line_text source place)) × IsUtf8 (line_text source place)
 
-stand_form : (form : Form) (carried : Flags) (text : List ℕ) → IsUtf8 text → Stand text (runs_of_line (line_of_form form carried text))
-stand_form TablePart carried text h = stand_part text h
-stand_form Code carried text h = stand_raw text h
-stand_form Rule carried text h = tt
-stand_form (Continuing style) carried text h = stand_marked carried text h
-stand_form (Separate style) carried text h = stand_marked plain text h
+raw_said : (source : List ℕ) (start end : ℕ) (text : List ℕ) → slice_range source start end ≡ text → end ≡ start + length text → map (run_at source) (unless_empty plain start end) ≡ raw_runs text
+raw_said source start end [] slice e =
+    let none : nat_lt start end ≡ false = grind (arith, nat_tests) in
+    ap (λ t. map (run_at source) (if t then record { flags = plain; start = start; end = end } ∷ [] else [])) none
+raw_said source start end (b ∷ bs) slice e =
+    let some : nat_lt start end ≡ true = grind (arith, nat_tests) in
+    ap (λ t. map (run_at source) (if t then record { flags = plain; start = start; end = end } ∷ [] else [])) some
+    ∙ ap (λ (t : List ℕ). let run : Run = record { flags = plain; text = t } in run ∷ []) slice
 
--- behind the line's beginning
-pub stand_line : (fenced : Bool) (carried : Flags) (text : List ℕ) → IsUtf8 text
-    → Stand (drop (beginning fenced text) text) (runs_of_line (line_of fenced carried text)) × (beginning fenced text ≤ length text)
-unfolding line_of
-stand_line true carried text h = (stand_raw text h, omega arith)
-stand_line false carried text h =
+code_said : (source : List ℕ) (place : LinePlace) → place.end ≡ place.start + length (line_text source place) → content_at source (code_at place) ≡ code_line (line_text source place)
+code_said source place e = ap (λ (rs : List Run). normal (record { style = CodeStyle; runs = rs })) (raw_said source place.start place.end (line_text source place) refl e)
+
+form_said : (source : List ℕ) (form : Form) (carried : Flags) (rest : LinePlace) → IsWholeLine source rest → content_at source (placed_form source form carried rest) ≡ line_of_form form carried (line_text source rest)
+form_said source TablePart carried rest h = part_said source rest h.1
+form_said source Code carried rest h = code_said source rest h.0
+form_said source Rule carried rest h = refl
+form_said source (Continuing style) carried rest h =
+    ap (λ (rs : List Run). normal (record { style = style; runs = rs })) (marked_said source (line_text source rest) rest.start carried (at_slice source rest.start rest.end) h.1).0
+form_said source (Separate style) carried rest h =
+    ap (λ (rs : List Run). normal (record { style = style; runs = rs })) (marked_said source (line_text source rest) rest.start plain (at_slice source rest.start rest.end) h.1).0
+
+-- after the bytes that only say the form
+rest_text : (source : List ℕ) (place : LinePlace) → IsWholeLine source place → (line_text source (rest_place source place) ≡ drop (line_start (line_text source place)).len (line_text source place)) × IsWholeLine source (rest_place source place)
+rest_text source place h =
+    let text = line_text source place in
     let n = (line_start text).len in
-    let border = start_ends text h in
-    (stand_form (line_start text).form carried (drop n text) (IsUtf8-drop text n h border), border.0)
+    let border = start_ends text h.1 in
+    let slice : line_text source (rest_place source place) ≡ drop n text =
+      slice_in source text place.start n (length text) (place.start + n) place.end (at_slice source place.start place.end) refl h.0 border.0 (omega arith) ∙ take_rest text n in
+    (slice, (omega (arith, ap length slice, length-drop n text, border.0, h.0), subst IsUtf8 (sym slice) (IsUtf8-drop text n h.1 border)))
 
--- ---- places
+line_said : (source : List ℕ) (fenced : Bool) (carried : Flags) (place : LinePlace) → IsWholeLine source place → content_at source (placed_line source fenced carried place) ≡ line_of fenced carried (line_text source place)
+unfolding line_of
+line_said source true carried place h = code_said source place h.0
+line_said source false carried place h =
+    let rest = rest_text source place h in
+    form_said source (line_start (line_text source place)).form carried (rest_place source place) rest.1 ∙ ap (line_of_form (line_start (line_text source place)).form carried) rest.0
 
-pub places_of : (source : List ℕ) (at : ℕ) (text tail : List ℕ) (all : List Run) → drop at source ≡ text ++ tail → Stand text all
-    → (places : List RunPlace) × (all ≡ map (run_at source) places) × AreInOrder at (at + length text) places
-places_of source at text tail [] follows h = ([], refl, omega arith)
-places_of source at text tail (run ∷ others) follows h =
-    let before = h.0 in
-    let after = h.1 in
-    let start = at + length before in
-    let end = start + length run.text in
-    let here : drop start source ≡ run.text ++ (after ++ tail) =
-      sym (drop-drop (length before) at source)
-      ∙ ap (drop (length before)) (follows ∙ ap (λ t. t ++ tail) h.2 ∙ append_assoc before (run.text ++ after) tail ∙ ap (λ t. before ++ t) (append_assoc run.text after tail))
-      ∙ drop-append_seam before (run.text ++ (after ++ tail)) in
-    let behind : drop end source ≡ after ++ tail = sym (drop-drop (length run.text) start source) ∙ ap (drop (length run.text)) here ∙ drop-append_seam run.text (after ++ tail) in
-    let len : end - start ≡ length run.text = omega arith in
-    let slice : slice_range source start end ≡ run.text = ap (λ k. take k (drop start source)) len ∙ ap (take (length run.text)) here ∙ take-append_seam run.text (after ++ tail) in
-    let rest = places_of source end after tail others behind h.4 in
-    let sum : end + length after ≡ at + length text = omega (arith, ap length h.2, length-append before (run.text ++ after), length-append run.text after) in
-    let place : RunPlace = record { flags = run.flags; start = start; end = end } in
-    (place ∷ rest.0,
-     ap (λ (t : List ℕ). let first : Run = record { flags = run.flags; text = t } in first ∷ others) (sym slice) ∙ ap (λ rs. run_at source place ∷ rs) rest.1,
-     (omega arith, omega arith, subst (λ n. AreInOrder end n rest.0) sum rest.2))
+flags_said : (source : List ℕ) (fenced : Bool) (carried : Flags) (place : LinePlace) → IsWholeLine source place → flags_at source fenced carried place ≡ flags_of_line fenced carried (line_text source place)
+unfolding flags_of_line
+flags_said source true carried place h = refl
+flags_said source false carried place h = ap (flags_of_form (line_start (line_text source place)).form carried) (rest_text source place h).0
 
 -- ---- the lines of a text
 
-strip_by : (part : List ℕ) (t : Bool) → (get_or part (length part - 1) 0 == 13) ≡ t → IsUtf8 part
-    → let line = if t then take (length part - 1) part else part in (end : List ℕ) × (part ≡ line ++ end) × IsUtf8 line
-strip_by part false e h = ([], sym (append-nil part), h)
-strip_by [] true e h = ([], refl, h)
-strip_by (b ∷ part) true e h =
-    let n = length (b ∷ part) - 1 in
-    let last : get_or (b ∷ part) n 0 ≡ 13 = test_is (get_or (b ∷ part) n 0) 13 e in
-    (drop n (b ∷ part), sym (take-append-drop n (b ∷ part)), IsUtf8-take (b ∷ part) n h (IsCharBoundary-before_ascii (b ∷ part) n (omega arith) (omega (arith, last))))
+lines_by : (source : List ℕ) (on fenced : Bool) (carried : Flags) (place : LinePlace) (places : List LinePlace) (texts : List (List ℕ)) (t : Bool) → IsWholeLine source place
+    → ((f : Bool) (k : Flags) → map (content_at source) (placed_lines source on f k places) ≡ lines_of_texts on f k texts)
+    → map (content_at source) (if t then placed_lines source on (not fenced) plain places else placed_line source fenced carried place ∷ placed_lines source on fenced (carried_on on (flags_at source fenced carried place)) places)
+    ≡ (if t then lines_of_texts on (not fenced) plain texts else line_of fenced carried (line_text source place) ∷ lines_of_texts on fenced (carried_on on (flags_of_line fenced carried (line_text source place))) texts)
+lines_by source on fenced carried place places texts true h rest = rest (not fenced) plain
+lines_by source on fenced carried place places texts false h rest =
+    let after = carried_on on (flags_at source fenced carried place) in
+    ap (λ l. l ∷ map (content_at source) (placed_lines source on fenced after places)) (line_said source fenced carried place h)
+    ∙ ap (λ ls. line_of fenced carried (line_text source place) ∷ ls)
+      (rest fenced after ∙ ap (λ k. lines_of_texts on fenced (carried_on on k) texts) (flags_said source fenced carried place h))
 
-line_placed : (source part tail : List ℕ) (at : ℕ) (fenced : Bool) (carried : Flags) → drop at source ≡ part ++ tail → IsUtf8 part
-    → IsPlaced source fenced (record { start = at; end = at + length (strip_carriage_return part) }) (line_of fenced carried (strip_carriage_return part))
-line_placed source part tail at fenced carried follows h =
-    let line = strip_carriage_return part in
-    let cut = strip_by part (get_or part (length part - 1) 0 == 13) refl h in
-    let n = beginning fenced line in
-    let whole : drop at source ≡ line ++ (cut.0 ++ tail) = follows ∙ ap (λ t. t ++ tail) cut.1 ∙ append_assoc line cut.0 tail in
-    let stands = stand_line fenced carried line cut.2 in
-    let len : length (take n line) ≡ n = length-take-le n line stands.1 in
-    let behind : drop (at + n) source ≡ drop n line ++ (cut.0 ++ tail) =
-      sym (drop-drop n at source) ∙ ap (drop n) (whole ∙ ap (λ t. t ++ (cut.0 ++ tail)) (sym (take-append-drop n line)) ∙ append_assoc (take n line) (drop n line) (cut.0 ++ tail))
-      ∙ ap (λ k. drop k (take n line ++ (drop n line ++ (cut.0 ++ tail)))) (sym len) ∙ drop-append_seam (take n line) (drop n line ++ (cut.0 ++ tail)) in
-    let found = places_of source (at + n) (drop n line) (cut.0 ++ tail) (runs_of_line (line_of fenced carried line)) behind stands.0 in
-    let end : at + n + length (drop n line) ≡ at + length line = omega (arith, stands.1, length-drop n line) in
-    let place : LinePlace = record { start = at; end = at + length line } in
-    record {
-      places = found.0;
-      slices = found.1;
-      order = subst (λ (t : List ℕ). AreInOrder (at + beginning fenced t) (at + length line) found.0) (sym (text_at source part tail at follows)) (subst (λ e. AreInOrder (at + n) e found.0) end found.2);
-    }
+first_said : (source part tail : List ℕ) (at : ℕ) (places : List LinePlace) (on fenced : Bool) (carried : Flags) (texts : List (List ℕ)) → drop at source ≡ part ++ tail → IsUtf8 part
+    → ((f : Bool) (k : Flags) → map (content_at source) (placed_lines source on f k places) ≡ lines_of_texts on f k texts)
+    → map (content_at source) (placed_lines source on fenced carried (record { start = at; end = at + length (strip_carriage_return part) } ∷ places)) ≡ lines_of_texts on fenced carried (strip_carriage_return part ∷ texts)
+first_said source part tail at places on fenced carried texts follows u rest =
+    let place : LinePlace = record { start = at; end = at + length (strip_carriage_return part) } in
+    let text : line_text source place ≡ strip_carriage_return part = text_at source part tail at follows in
+    let whole : IsWholeLine source place = (ap (λ t. at + length t) (sym text), subst IsUtf8 (sym text) (strip_by part (get_or part (length part - 1) 0 == 13) refl u).2) in
+    lines_by source on fenced carried place places texts (is_fence (line_text source place)) whole rest ∙ ap (λ t. lines_of_texts on fenced carried (t ∷ texts)) text
 
-placed_with : (source : List ℕ) (place : LinePlace) (places : List LinePlace) (on fenced : Bool) (carried : Flags) (text : List ℕ) (texts : List (List ℕ)) (t : Bool)
-    → IsPlaced source fenced place (line_of fenced carried text) → ((f : Bool) (k : Flags) → ArePlaced source f places (lines_of_texts on f k texts))
-    → let lines = if t then lines_of_texts on (not fenced) plain texts else line_of fenced carried text ∷ lines_of_texts on fenced (carried_on on (flags_of_line fenced carried text)) texts in
-    MatchBool t (ArePlaced source (not fenced) places lines) ((line : LineContent) × (more : List LineContent) × (lines ≡ line ∷ more) × IsPlaced source fenced place line × ArePlaced source fenced places more)
-placed_with source place places on fenced carried text texts true h rest = rest (not fenced) plain
-placed_with source place places on fenced carried text texts false h rest =
-    let more = lines_of_texts on fenced (carried_on on (flags_of_line fenced carried text)) texts in
-    (line_of fenced carried text, more, refl, h, rest fenced (carried_on on (flags_of_line fenced carried text)))
+last_line_said : (source part : List ℕ) (at : ℕ) (on fenced : Bool) (carried : Flags) (t : Bool) → drop at source ≡ part → IsUtf8 part
+    → map (content_at source) (placed_lines source on fenced carried (places_from at (if t then [] else part ∷ []))) ≡ lines_of_texts on fenced carried (map strip_carriage_return (if t then [] else part ∷ []))
+last_line_said source part at on fenced carried true follows u = refl
+last_line_said source part at on fenced carried false follows u = first_said source part [] at [] on fenced carried [] (follows ∙ sym (append-nil part)) u (λ f k. refl)
 
-placed_first : (source part tail : List ℕ) (at : ℕ) (places : List LinePlace) (on fenced : Bool) (carried : Flags) (texts : List (List ℕ)) → drop at source ≡ part ++ tail → IsUtf8 part
-    → ((f : Bool) (k : Flags) → ArePlaced source f places (lines_of_texts on f k texts))
-    → ArePlaced source fenced (record { start = at; end = at + length (strip_carriage_return part) } ∷ places) (lines_of_texts on fenced carried (strip_carriage_return part ∷ texts))
-placed_first source part tail at places on fenced carried texts follows h rest =
-    let text = strip_carriage_return part in
-    let place : LinePlace = record { start = at; end = at + length text } in
-    let lines = lines_of_texts on fenced carried (text ∷ texts) in
-    subst (λ (x : List ℕ). MatchBool (is_fence x) (ArePlaced source (not fenced) places lines) ((line : LineContent) × (more : List LineContent) × (lines ≡ line ∷ more) × IsPlaced source fenced place line × ArePlaced source fenced places more))
-      (sym (text_at source part tail at follows))
-      (placed_with source place places on fenced carried text texts (is_fence text) (line_placed source part tail at fenced carried follows h) rest)
-
-placed_last : (source part : List ℕ) (at : ℕ) (on fenced : Bool) (carried : Flags) (t : Bool) → drop at source ≡ part → IsUtf8 part
-    → ArePlaced source fenced (places_from at (if t then [] else part ∷ [])) (lines_of_texts on fenced carried (map strip_carriage_return (if t then [] else part ∷ [])))
-placed_last source part at on fenced carried true follows h = refl
-placed_last source part at on fenced carried false follows h = placed_first source part [] at [] on fenced carried [] (follows ∙ sym (append-nil part)) h (λ f k. refl)
-
-placed_from : (source : List ℕ) (at : ℕ) (on fenced : Bool) (carried : Flags) (parts : List (List ℕ)) → drop at source ≡ join_with_byte 10 parts → IsUtf8 (join_with_byte 10 parts)
-    → ArePlaced source fenced (places_from at (without_last_empty parts)) (lines_of_texts on fenced carried (map strip_carriage_return (without_last_empty parts)))
-placed_from source at on fenced carried [] follows h = refl
-placed_from source at on fenced carried (part ∷ []) follows h = placed_last source part at on fenced carried (length part == 0) follows h
-placed_from source at on fenced carried (part ∷ next ∷ parts) follows h =
+lines_said : (source : List ℕ) (at : ℕ) (on fenced : Bool) (carried : Flags) (parts : List (List ℕ)) → drop at source ≡ join_with_byte 10 parts → IsUtf8 (join_with_byte 10 parts)
+    → map (content_at source) (placed_lines source on fenced carried (places_from at (without_last_empty parts))) ≡ lines_of_texts on fenced carried (map strip_carriage_return (without_last_empty parts))
+lines_said source at on fenced carried [] follows u = refl
+lines_said source at on fenced carried (part ∷ []) follows u = last_line_said source part at on fenced carried (length part == 0) follows u
+lines_said source at on fenced carried (part ∷ next ∷ parts) follows u =
     let more = join_with_byte 10 (next ∷ parts) in
-    let behind : drop (at + length part + 1) source ≡ more =
+    let after : drop (at + length part + 1) source ≡ more =
       ap (λ n. drop n source) (add_assoc at (length part) 1) ∙ sym (drop-drop (length part + 1) at source) ∙ ap (drop (length part + 1)) follows
       ∙ sym (drop-drop 1 (length part) (part ++ 10 ∷ more)) ∙ ap (drop 1) (drop-append_seam part (10 ∷ more)) in
-    placed_first source part (10 ∷ more) at (places_from (at + length part + 1) (without_last_empty (next ∷ parts))) on fenced carried (map strip_carriage_return (without_last_empty (next ∷ parts))) follows (utf8_front part 10 more (omega arith) h)
-      (λ f k. placed_from source (at + length part + 1) on f k (next ∷ parts) behind (utf8_past 10 more (omega arith) (utf8_rest part 10 more (omega arith) h)))
+    first_said source part (10 ∷ more) at (places_from (at + length part + 1) (without_last_empty (next ∷ parts))) on fenced carried (map strip_carriage_return (without_last_empty (next ∷ parts))) follows (utf8_front part 10 more (omega arith) u)
+      (λ f k. lines_said source (at + length part + 1) on f k (next ∷ parts) after (utf8_past 10 more (omega arith) (utf8_rest part 10 more (omega arith) u)))
 
--- the lines from any place on stand in what is left
-pub lines_placed : (unread : Unread) → IsUtf8 unread.text → (parts : List (List ℕ)) → AreParts unread.text parts → ArePlaced unread.text unread.fenced (line_places parts) (lines_of unread)
-unfolding lines_of
-lines_placed unread h parts cut =
-    subst (λ (ps : List (List ℕ)). ArePlaced unread.text unread.fenced (line_places parts) (lines_of_texts unread.continue_spans unread.fenced unread.carried (map strip_carriage_return (without_last_empty ps))))
-      (parts_unique unread.text parts cut)
-      (placed_from unread.text 0 unread.continue_spans unread.fenced unread.carried parts (sym cut.joined) (subst IsUtf8 (sym cut.joined) h))
-
--- a text has exactly one reading from any place on
+-- a text has exactly one reading from any place on, and the function says its lines
 pub one_reading : (unread : Unread) → IsUtf8 unread.text → IsRead unread (lines_of unread)
-one_reading unread h = record { reads = is_reading unread; placed = lines_placed unread h; only = λ others g. reading_is unread others g }
+unfolding lines_of
+one_reading unread u =
+    let parts = slice_split is_newline unread.text in
+    let joined : join_with_byte 10 parts ≡ unread.text = (split_is_parts unread.text).joined in
+    record {
+      reading = placed_of unread;
+      reads = is_reading unread;
+      only = λ others h. reading_is unread others h;
+      says = sym (lines_said unread.text 0 unread.continue_spans unread.fenced unread.carried parts (sym joined) (subst IsUtf8 (sym joined) u));
+    }

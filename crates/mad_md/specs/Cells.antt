@@ -1,10 +1,11 @@
 -- Cutting a table part into cells, and reading them.
-use Rattle.std.specs.Prelude.{◌≡◌, ℕ, ◌-◌, ◌<◌, Bool, true, false, not, ◌&&◌, ◌||◌, ◌==◌, List, [], ◌∷◌, map, length, take, drop, slice_index, Option, Some, None, if◌then◌else◌}
+use Rattle.std.specs.Prelude.{◌≡◌, ℕ, ◌+◌, ◌-◌, ◌<◌, Bool, true, false, not, ◌&&◌, ◌||◌, ◌==◌, List, [], ◌∷◌, length, take, drop, slice_range, slice_index, Option, Some, None, if◌then◌else◌}
 use Rattle.std.specs.List.{AllByRecursion, join_with_byte}
 use Rattle.std.specs.Str.{trim, trim_start, trim_end}
-use Rattle.mad_md.specs.Flagged.{Run, run_at, plain}
-use Rattle.mad_md.specs.Inline.{Item, IsInlineReadingWith, runs_with}
-use Rattle.mad_md.specs.Lines.{StyledRuns, LineContent, table_row, table_rule}
+use Rattle.mad_md.specs.Flagged.{RunPlace, plain}
+use Rattle.mad_md.specs.Inline.{Item, IsInlineReading, runs_with}
+use Rattle.mad_md.specs.Parts.{LinePlace, line_text}
+use Rattle.mad_md.specs.Places.{StyledPlaces, PlacedLine, table_row_at, table_rule_at}
 use Rattle.mad_md.specs.Starts.{begins, run_len}
 use Rattle.mad_md.specs.declared.alignment.Alignment.{Alignment}
 use Rattle.mad_md.specs.declared.alignment.Alignment.TheVariants.{Unspecified, Left, Center, Right}
@@ -42,64 +43,61 @@ pub record AreCells (part : List ℕ) (cells : List (List ℕ)) : Type 0 where
 
 -- ---- what a cell says
 
--- what a cell is, without whitespace in front
+-- what a cell is, by its text without whitespace in front
 abbrev pub cell_style : List ℕ → CompositeStyle
 cell_style text = if begins text (42 ∷ 32 ∷ []) then ListItem 0 else if begins text (62 ∷ 32 ∷ []) then Quote else Paragraph
 
--- its text without the bytes that say so
+-- that text without the bytes that say so
 abbrev pub cell_rest : List ℕ → List ℕ
 cell_rest text = if begins text (42 ∷ 32 ∷ []) || begins text (62 ∷ 32 ∷ []) then drop 2 text else text
 
--- a run without the blanks in front, and at its end
-abbrev pub run_start_trimmed : Run → Run
-run_start_trimmed run = if run.flags.code then run else record run { text = trim_start run.text }
+-- a place without the whitespace at its start, and at its end; in code nothing is blank
+abbrev pub start_trimmed_place : List ℕ → RunPlace → RunPlace
+start_trimmed_place source place = if place.flags.code then place else record place { start = place.end - length (trim_start (slice_range source place.start place.end)) }
 
-abbrev pub run_end_trimmed : Run → Run
-run_end_trimmed run = if run.flags.code then run else record run { text = trim_end run.text }
+abbrev pub end_trimmed_place : List ℕ → RunPlace → RunPlace
+end_trimmed_place source place = if place.flags.code then place else record place { end = place.start + length (trim_end (slice_range source place.start place.end)) }
 
--- a run, unless it is empty
-abbrev pub some_run : Run → List Run
-some_run run = if length run.text == 0 then [] else run ∷ []
+-- a place at the start of others, or what is left of these if it is empty
+abbrev pub first_kept : RunPlace → List RunPlace → List RunPlace → List RunPlace
+first_kept place places left = if place.start == place.end then left else place ∷ places
 
--- a run in front of others, or what is left of it where there are none
-abbrev pub before_kept : Run → List Run → List Run
-before_kept run [] = some_run (run_end_trimmed run)
-before_kept run (next ∷ others) = run ∷ next ∷ others
+-- places without the blanks at the start of the first one: one that gets empty is dropped, and the next is the first
+abbrev pub without_blanks_in_front : List ℕ → List RunPlace → List RunPlace
+without_blanks_in_front source [] = []
+without_blanks_in_front source (place ∷ places) = first_kept (start_trimmed_place source place) places (without_blanks_in_front source places)
 
--- runs without the blanks at their end
-abbrev pub end_trimmed : List Run → List Run
-end_trimmed [] = []
-end_trimmed (run ∷ others) = before_kept run (end_trimmed others)
+-- a place before what is left of others: whole if some are left, else without the blanks at its end
+abbrev pub last_kept : List ℕ → RunPlace → List RunPlace → List RunPlace
+last_kept source place [] = first_kept (end_trimmed_place source place) [] []
+last_kept source place (next ∷ left) = place ∷ next ∷ left
 
--- what is left of a run in front of others, or what is left of these
-abbrev pub kept_before : Run → List Run → List Run → List Run
-kept_before run others trimmed = if length run.text == 0 then trimmed else run ∷ others
+-- places without the blanks at the end of the last one: one that gets empty is dropped, and the one before it is the last
+abbrev pub without_blanks_at_end : List ℕ → List RunPlace → List RunPlace
+without_blanks_at_end source [] = []
+without_blanks_at_end source (place ∷ places) = last_kept source place (without_blanks_at_end source places)
 
--- runs without the blanks in front
-abbrev pub start_trimmed : List Run → List Run
-start_trimmed [] = []
-start_trimmed (run ∷ others) = kept_before (run_start_trimmed run) others (start_trimmed others)
+-- the places of a cell's compounds, by those of the runs of its rest
+abbrev pub cell_places : List ℕ → List RunPlace → List RunPlace
+cell_places source places = without_blanks_in_front source (without_blanks_at_end source places)
 
--- the runs of a cell's text without the blanks at both ends
-abbrev pub cell_runs : List ℕ → List Item → List Run
-cell_runs text items = start_trimmed (end_trimmed (map (run_at text) (runs_with plain 0 items)))
-
--- The cell is the reading of its text: whitespace in front and its mark are left out, its rest is read by its marks behind no flag, and blanks are dropped at both ends.
-pub record IsCell (text : List ℕ) (cell : StyledRuns) : Type 0 where
+-- The cell is the reading of its text, from its place in the source on: whitespace in front and its prefix are left out, the rest is read by its marks without flags before it, and blanks are dropped at both ends.
+pub record IsCell (source : List ℕ) (at : ℕ) (text : List ℕ) (cell : StyledPlaces) : Type 0 where
   pub reading : List Item
-  pub reads : IsInlineReadingWith plain (cell_rest (trim_start text)) reading
-  pub says : cell ≡ record { style = cell_style (trim_start text); runs = cell_runs (cell_rest (trim_start text)) reading }
+  pub reads : IsInlineReading (cell_rest (trim_start text)) reading
+  pub says : cell ≡ record { style = cell_style (trim_start text); places = cell_places source (runs_with plain (at + (length text - length (cell_rest (trim_start text)))) reading) }
 
-abbrev pub AreReadCells : List (List ℕ) → List StyledRuns → Type 0
-AreReadCells [] [] = Unit {0}
-AreReadCells [] (cell ∷ cells) = ⊥
-AreReadCells (text ∷ texts) [] = ⊥
-AreReadCells (text ∷ texts) (cell ∷ cells) = IsCell text cell × AreReadCells texts cells
+-- There are as many cells as texts, and each reads its text in order, the first from this place on and a bar between two.
+abbrev pub AreReadCells : List ℕ → ℕ → List (List ℕ) → List StyledPlaces → Type 0
+AreReadCells source at [] [] = Unit {0}
+AreReadCells source at [] (cell ∷ cells) = ⊥
+AreReadCells source at (text ∷ texts) [] = ⊥
+AreReadCells source at (text ∷ texts) (cell ∷ cells) = IsCell source at text cell × AreReadCells source (at + length text + 1) texts cells
 
--- the cells without the last one, if that has no run
-abbrev pub without_last_empty_cell : List StyledRuns → List StyledRuns
+-- the cells without the last one, if that has no compound
+abbrev pub without_last_empty_cell : List StyledPlaces → List StyledPlaces
 without_last_empty_cell [] = []
-without_last_empty_cell (cell ∷ []) = if length cell.runs == 0 then [] else cell ∷ []
+without_last_empty_cell (cell ∷ []) = if length cell.places == 0 then [] else cell ∷ []
 without_last_empty_cell (cell ∷ next ∷ cells) = cell ∷ without_last_empty_cell (next ∷ cells)
 
 -- ---- rules
@@ -147,20 +145,20 @@ abbrev pub alignments : List (List ℕ) → Option (List Alignment)
 alignments [] = Some []
 alignments (text ∷ texts) = with_alignment (alignment_of text) (alignments texts)
 
--- a rule where there is an alignment, and else a row
-abbrev pub rule_or_row : Option (List Alignment) → List StyledRuns → LineContent
-rule_or_row (Some (alignment ∷ others)) cells = table_rule (alignment ∷ others)
-rule_or_row (Some []) cells = table_row cells
-rule_or_row None cells = table_row cells
+-- a rule where there are alignments, and else a row
+abbrev pub rule_or_row : Option (List Alignment) → List StyledPlaces → PlacedLine
+rule_or_row (Some (alignment ∷ others)) cells = table_rule_at (alignment ∷ others)
+rule_or_row (Some []) cells = table_row_at cells
+rule_or_row None cells = table_row_at cells
 
--- what the texts of cells and the cells say: a last cell without runs is dropped, and of those that are left each has an alignment in a rule
-abbrev pub part_says : List (List ℕ) → List StyledRuns → LineContent
+-- what the texts of cells and the cells say: a last cell without compounds is dropped, and of those that are left each has an alignment in a rule
+abbrev pub part_says : List (List ℕ) → List StyledPlaces → PlacedLine
 part_says texts cells = rule_or_row (alignments (take (length (without_last_empty_cell cells)) texts)) (without_last_empty_cell cells)
 
--- The line is the table part, by the text behind its first bar.
-pub record IsTablePart (part : List ℕ) (line : LineContent) : Type 0 where
+-- The line is the table part at this place, after its first bar.
+pub record IsTablePart (source : List ℕ) (place : LinePlace) (line : PlacedLine) : Type 0 where
   pub texts : List (List ℕ)
-  pub cut : AreCells part texts
-  pub cells : List StyledRuns
-  pub read : AreReadCells texts cells
+  pub cut : AreCells (line_text source place) texts
+  pub cells : List StyledPlaces
+  pub read : AreReadCells source place.start texts cells
   pub says : line ≡ part_says texts cells

@@ -1,42 +1,29 @@
--- Where the compounds of lines stand in the source.
-use Rattle.std.specs.Prelude.{◌≡◌, ℕ, ◌≤◌, ◌+◌, Bool, true, false, not, List, [], ◌∷◌, map}
-use Rattle.std.specs.Bool.{MatchBool}
-use Rattle.std.specs.List.{flat_map}
-use Rattle.mad_md.specs.Flagged.{Run, RunPlace, run_at}
+-- Lines by the places of their compounds in a source.
+use Rattle.std.specs.Prelude.{ℕ, List, map}
+use Rattle.mad_md.specs.Flagged.{RunPlace, run_at}
 use Rattle.mad_md.specs.Lines.{StyledRuns, LineContent, normal, table_row, table_rule, horizontal_rule}
-use Rattle.mad_md.specs.Parts.{LinePlace, AreParts, line_places}
-use Rattle.mad_md.specs.Parts.{line_text}
-use Rattle.mad_md.specs.Starts.{is_fence, line_start}
+use Rattle.mad_md.specs.declared.alignment.Alignment.{Alignment}
+use Rattle.mad_md.specs.declared.composite.CompositeStyle.{CompositeStyle}
 
--- the runs of a line, those of its cells in order
-abbrev pub runs_of_line : LineContent → List Run
-runs_of_line (normal content) = content.runs
-runs_of_line (table_row cells) = flat_map (λ (c : StyledRuns). c.runs) cells
-runs_of_line (table_rule alignments) = []
-runs_of_line horizontal_rule = []
-
--- The places stand between these two, in order, and none overlaps the next.
-abbrev pub AreInOrder : ℕ → ℕ → List RunPlace → Type 0
-AreInOrder from to [] = from ≤ to
-AreInOrder from to (place ∷ places) = (from ≤ place.start) × (place.start ≤ place.end) × AreInOrder place.end to places
-
--- how many bytes at the front of a line's text only say its form: none between fences
-abbrev pub beginning : Bool → List ℕ → ℕ
-beginning true text = 0
-beginning false text = (line_start text).len
-
--- Each run of the line is the slice of the source at its place, and these places stand in order behind the line's beginning and inside its place.
-pub record IsPlaced (source : List ℕ) (fenced : Bool) (place : LinePlace) (line : LineContent) : Type 0 where
+-- a composite's style, with the places of its compounds in order
+pub record StyledPlaces : Type 0 where
+  pub style : CompositeStyle
   pub places : List RunPlace
-  pub slices : runs_of_line line ≡ map (run_at source) places
-  pub order : AreInOrder (place.start + beginning fenced (line_text source place)) place.end places
 
--- Each line stands at its place, between fences or outside them; at the place of a fence line stands none.
-abbrev pub ArePlaced : List ℕ → Bool → List LinePlace → List LineContent → Type 0
-ArePlaced source fenced [] lines = lines ≡ []
-ArePlaced source fenced (place ∷ places) lines =
-    MatchBool (is_fence (line_text source place)) (ArePlaced source (not fenced) places lines) ((line : LineContent) × (more : List LineContent) × (lines ≡ line ∷ more) × IsPlaced source fenced place line × ArePlaced source fenced places more)
+-- a line, each of its compounds by its place
+pub data PlacedLine : Type 0 where
+  normal_at : StyledPlaces → PlacedLine
+  table_row_at : List StyledPlaces → PlacedLine
+  table_rule_at : List Alignment → PlacedLine
+  horizontal_rule_at : PlacedLine
 
--- Each line stands at the place of its part, however the source is cut into parts; here a fence is open before the first of them or not.
-abbrev pub StandInSource : List ℕ → Bool → List LineContent → Type 0
-StandInSource source fenced lines = (parts : List (List ℕ)) → AreParts source parts → ArePlaced source fenced (line_places parts) lines
+-- what a composite says: each compound is the slice of the source at its place
+abbrev pub styled_at : List ℕ → StyledPlaces → StyledRuns
+styled_at source composite = record { style = composite.style; runs = map (run_at source) composite.places }
+
+-- what a line says
+abbrev pub content_at : List ℕ → PlacedLine → LineContent
+content_at source (normal_at composite) = normal (styled_at source composite)
+content_at source (table_row_at cells) = table_row (map (styled_at source) cells)
+content_at source (table_rule_at alignments) = table_rule alignments
+content_at source horizontal_rule_at = horizontal_rule

@@ -3,17 +3,19 @@ use Rattle.std.specs.Prelude.{◌≡◌, ℕ, ◌+◌, ◌<◌, zero, suc, Bool,
 use Rattle.std.specs.Borrow.{Bor}
 use Rattle.std.specs.Global.{Vec}
 use Rattle.std.specs.List.{slice_split, onto_first}
-use Rattle.std.specs.Str.{trim_start}
+use Rattle.std.specs.Str.{trim_start, trim_end}
 use Rattle.std.specs.Str.Lines.{strip_carriage_return}
-use Rattle.mad_md.specs.Cells.{odd_with, cell_style, cell_rest, cell_runs, without_last_empty_cell, alignments, part_says}
-use Rattle.mad_md.specs.Flagged.{Flags, run_at, plain}
+use Rattle.mad_md.specs.Cells.{odd_with, cell_style, cell_rest, alignments}
+use Rattle.mad_md.specs.Flagged.{Flags, Run, run_at, plain}
 use Rattle.mad_md.specs.Inline.{Item, mark, byte, spell_mark, mark_at, is_on, marks_of, runs_with, flags_at_end}
-use Rattle.mad_md.specs.Lines.{StyledRuns, LineContent, normal, horizontal_rule}
+use Rattle.mad_md.specs.Lines.{StyledRuns, LineContent, normal, table_row, table_rule, horizontal_rule}
 use Rattle.mad_md.specs.Parts.{without_last_empty}
-use Rattle.mad_md.specs.Reading.{Unread, code_line, carried_on}
+use Rattle.mad_md.specs.ReadRaw.{raw_runs}
+use Rattle.mad_md.specs.Reading.{Unread, carried_on}
 use Rattle.mad_md.specs.Starts.{is_fence, line_start}
 use Rattle.mad_md.specs.declared.alignment.Alignment.{Alignment}
 use Rattle.mad_md.specs.declared.composite.CompositeStyle.{CompositeStyle}
+use Rattle.mad_md.specs.declared.composite.CompositeStyle.TheVariants.{Code as CodeStyle}
 use Rattle.mad_md.specs.declared.inline.Mark.{Mark}
 use Rattle.mad_md.specs.declared.inline.Mark.TheVariants.{Italic, Code as CodeMark}
 use Rattle.mad_md.specs.declared.starts.Form.{Form}
@@ -55,6 +57,40 @@ abbrev pub cells_left : Option (Bor (List ℕ)) → List (List ℕ)
 cells_left None = []
 cells_left (Some rest) = cut_cells false rest.now
 
+-- a run without the blanks in front, and at its end
+abbrev pub run_start_trimmed : Run → Run
+run_start_trimmed run = if run.flags.code then run else record run { text = trim_start run.text }
+
+abbrev pub run_end_trimmed : Run → Run
+run_end_trimmed run = if run.flags.code then run else record run { text = trim_end run.text }
+
+-- a run, unless it is empty
+abbrev pub some_run : Run → List Run
+some_run run = if length run.text == 0 then [] else run ∷ []
+
+-- a run before what is left of others
+abbrev pub before_kept : Run → List Run → List Run
+before_kept run [] = some_run (run_end_trimmed run)
+before_kept run (next ∷ others) = run ∷ next ∷ others
+
+-- runs without the blanks at their end
+abbrev pub end_trimmed : List Run → List Run
+end_trimmed [] = []
+end_trimmed (run ∷ others) = before_kept run (end_trimmed others)
+
+-- a run and others, or what is left of these if it is empty
+abbrev pub kept_before : Run → List Run → List Run → List Run
+kept_before run others trimmed = if length run.text == 0 then trimmed else run ∷ others
+
+-- runs without the blanks in front
+abbrev pub start_trimmed : List Run → List Run
+start_trimmed [] = []
+start_trimmed (run ∷ others) = kept_before (run_start_trimmed run) others (start_trimmed others)
+
+-- the runs of a cell's rest without the blanks at both ends
+abbrev pub cell_runs : List ℕ → List Item → List Run
+cell_runs text items = start_trimmed (end_trimmed (map (run_at text) (runs_with plain 0 items)))
+
 -- what a cell says
 abbrev pub cell_of : List ℕ → StyledRuns
 cell_of text = record { style = cell_style (trim_start text); runs = cell_runs (cell_rest (trim_start text)) (items_of plain (cell_rest (trim_start text))) }
@@ -63,9 +99,15 @@ cell_of text = record { style = cell_style (trim_start text); runs = cell_runs (
 abbrev pub kept_cell : Bool → StyledRuns → List StyledRuns
 kept_cell more cell = if not more && (length cell.runs == 0) then [] else cell ∷ []
 
+-- the cells without the last one, if that has no run
+abbrev pub kept_cells : List StyledRuns → List StyledRuns
+kept_cells [] = []
+kept_cells (cell ∷ []) = if length cell.runs == 0 then [] else cell ∷ []
+kept_cells (cell ∷ next ∷ cells) = cell ∷ kept_cells (next ∷ cells)
+
 -- the texts of the cells that are kept
 abbrev pub rule_texts : List (List ℕ) → List (List ℕ)
-rule_texts texts = take (length (without_last_empty_cell (map cell_of texts))) texts
+rule_texts texts = take (length (kept_cells (map cell_of texts))) texts
 
 -- so many columns, and those of the alignments; none where there are none
 abbrev pub with_columns : ℕ → Option (List Alignment) → ℕ
@@ -81,9 +123,25 @@ abbrev pub found_alignments : Option (Vec Alignment) → Option (List Alignment)
 found_alignments None = None
 found_alignments (Some found) = Some found.items
 
-abbrev pub part_of : List ℕ → LineContent
-part_of part = part_says (cut_cells false part) (map cell_of (cut_cells false part))
+-- a rule where there are alignments, and else a row
+abbrev pub rule_or_row_of : Option (List Alignment) → List StyledRuns → LineContent
+rule_or_row_of (Some (alignment ∷ others)) cells = table_rule (alignment ∷ others)
+rule_or_row_of (Some []) cells = table_row cells
+rule_or_row_of None cells = table_row cells
 
+-- what the texts of cells and the cells say
+abbrev pub part_content : List (List ℕ) → List StyledRuns → LineContent
+part_content texts cells = rule_or_row_of (alignments (take (length (kept_cells cells)) texts)) (kept_cells cells)
+
+-- the line that a table part is
+abbrev pub part_of : List ℕ → LineContent
+part_of part = part_content (cut_cells false part) (map cell_of (cut_cells false part))
+
+-- a line of code
+abbrev pub code_line : List ℕ → LineContent
+code_line text = normal (record { style = CodeStyle; runs = raw_runs text })
+
+-- a line in this style, read by its marks
 abbrev pub marked_line : Flags → CompositeStyle → List ℕ → LineContent
 marked_line flags style text = normal (record { style = style; runs = map (run_at text) (runs_with flags 0 (items_of flags text)) })
 

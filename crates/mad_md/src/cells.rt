@@ -1,8 +1,8 @@
 ghost use Rattle.std.specs.Prelude.{◌≡◌, ◌≢◌, ◌≤◌, ◌<◌, ◌-◌, ◌==◌, ◌&&◌, ◌^◌, [], ◌∷◌, ◌++◌, not, false, length, map, take, get_or, IfOk, OnOk};
-ghost use Rattle.mad_md.specs.Cells.{odd_with, cell_style, cell_rest, run_start_trimmed, run_end_trimmed, end_trimmed, start_trimmed, without_last_empty_cell, begins_with_colon, without_first_colon, ends_with_colon, without_last_colon, are_hyphens, alignment_by, alignment_of, alignments};
+ghost use Rattle.mad_md.specs.Cells.{odd_with, cell_style, cell_rest, begins_with_colon, without_first_colon, ends_with_colon, without_last_colon, are_hyphens, alignment_by, alignment_of, alignments};
 ghost use Rattle.mad_md.specs.Flagged.{run_of};
 ghost use Rattle.mad_md.specs.Lines.{table_row, content_of, styled_runs};
-ghost use Rattle.mad_md.specs.Scan.{rule_texts, with_columns, columns_of, cut_cells, cell_len, IsFirstCell, kept_cell, found_alignments, cell_of, part_of};
+ghost use Rattle.mad_md.specs.Scan.{rule_texts, with_columns, columns_of, cut_cells, cell_len, IsFirstCell, kept_cell, found_alignments, cell_of, part_of, run_start_trimmed, run_end_trimmed, end_trimmed, start_trimmed, kept_cells};
 
 use crate::alignment::Alignment;
 use crate::composite::{Composite, CompositeStyle};
@@ -28,7 +28,7 @@ pub(crate) fn read_table_part<'s>(alloc: Global, part: &'s str) -> Result<Line<'
 
 // The part as a row.
 fn read_row<'s>(alloc: Global, part: &'s str) -> Result<Line<'s>, AllocError>
-    ensures { IfOk result (λ line. content_of line ≡ table_row (without_last_empty_cell (map cell_of (cut_cells false part.entry.now)))) }
+    ensures { IfOk result (λ line. content_of line ≡ table_row (kept_cells (map cell_of (cut_cells false part.entry.now)))) }
 {
     let cells = read_cells(alloc, part)?;
     Ok(Line::TableRow(TableRow { cells }))
@@ -95,7 +95,7 @@ fn read_alignments(
 
 // The cells of a row, without a last one that has no compounds.
 fn read_cells<'s>(alloc: Global, part: &'s str) -> Result<Vec<Composite<'s>>, AllocError>
-    ensures { IfOk result (λ cells. map styled_runs cells.items ≡ without_last_empty_cell (map cell_of (cut_cells false part.entry.now))) }
+    ensures { IfOk result (λ cells. map styled_runs cells.items ≡ kept_cells (map cell_of (cut_cells false part.entry.now))) }
 {
     let mut cells = Vec::new(alloc);
     let mut rest = Some(part);

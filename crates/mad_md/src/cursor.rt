@@ -3,8 +3,8 @@ ghost use Rattle.mad_md.specs.Cursor.{unread, IsStep};
 ghost use Rattle.mad_md.specs.Flagged.{flags_of, plain};
 ghost use Rattle.mad_md.specs.Inline.{flags_at_end};
 ghost use Rattle.mad_md.specs.Lines.{content_of};
-ghost use Rattle.mad_md.specs.Reading.{code_line, unread_text, IsRead, carried_on};
-ghost use Rattle.mad_md.specs.Scan.{items_of, marked_line, line_of_form, flags_of_form, lines_of, line_of, flags_of_line};
+ghost use Rattle.mad_md.specs.Reading.{unread_text, IsRead, carried_on};
+ghost use Rattle.mad_md.specs.Scan.{items_of, marked_line, line_of_form, flags_of_form, lines_of, line_of, flags_of_line, code_line};
 
 use crate::cells::read_table_part;
 use crate::composite::{Composite, CompositeStyle};
