@@ -58,7 +58,7 @@ cells_unique part cells h = cut_joined cells h.some h.kept h.closed ∙ ap (cut_
 
 -- ---- and there is one
 
--- cells of which the first goes on behind backquotes
+-- cells of which the first goes on after backquotes
 abbrev KeptFrom : Bool → List (List ℕ) → Type 0
 KeptFrom odd [] = ⊥
 KeptFrom odd (cell ∷ cells) = HasBarsInCode odd cell × AllByRecursion (HasBarsInCode false) cells

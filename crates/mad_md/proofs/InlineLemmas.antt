@@ -10,21 +10,21 @@ use Rattle.std.proofs.lemmas.Str.{IsCharBoundary-after_ascii}
 use Rattle.std.specs.Str.{IsUtf8, IsCharBoundary}
 use Rattle.std.proofs.lemmas.Bool.Decides.{nat_tests}
 use Rattle.mad_md.specs.Flagged.{Flags, run_of, run_at}
-use Rattle.mad_md.specs.Inline.{Item, mark, byte, counts, stands, mark_at, spell, spell_mark, count, is_on, flags_after, marks_of, marks_after, flags_at_end, IsReadingAfter, IsInlineReadingWith, unless_empty, runs_after, runs_with, toggle, may_begin, NoneBegins}
+use Rattle.mad_md.specs.Inline.{Item, mark, byte, counts, begins_with_mark, mark_at, spell, spell_mark, count, is_on, flags_after, marks_of, marks_after, flags_at_end, IsReadingAfter, IsInlineReadingWith, unless_empty, runs_after, runs_with, toggle, may_begin, NoneBegins}
 use Rattle.mad_md.specs.ReadInline.{IsReadInlineWith}
 use Rattle.mad_md.specs.Scan.{with_item, items_within, items_of}
 use Rattle.mad_md.specs.declared.compound.Compound.{Compound}
 use Rattle.mad_md.specs.declared.inline.Mark.{Mark}
 use Rattle.mad_md.specs.declared.inline.Mark.TheVariants.{Bold, Strikeout, Italic, Code}
 
--- Whatever the reading of the rest is, with the marks so far it makes a reading of the whole behind the first marks, with these compounds and the same marks in all.
+-- Whatever the reading of the rest is, with the marks so far it makes a reading of the whole after the first marks, with these compounds and the same marks in all.
 pub record IsReadSoFar (first : List Mark) (bs : List ℕ) (flags : Flags) (compounds : List Compound) (start i : ℕ) : Type 0 where
   pub before : List Mark
   pub counted : flags ≡ flags_after before
   pub whole : (items : List Item) → spell items ≡ drop i bs → IsReadingAfter before items
       → (all : List Item) × (spell all ≡ bs) × IsReadingAfter first all × (map run_of compounds ++ map (run_at bs) (runs_after before start i items) ≡ map (run_at bs) (runs_after first 0 0 all)) × (marks_after before items ≡ marks_after first all)
 
--- ---- the mark that stands somewhere is spelled there
+-- ---- a mark is spelled where it is
 
 found : {A : Type 0} (b : Bool) (x y : A) (o : Option A) → cond b (Some x) o ≡ Some y → ((b ≡ true) × (x ≡ y)) ⊎ (o ≡ Some y)
 found true x y o e = inl (refl, cc)
@@ -40,7 +40,7 @@ front_is bs needle e = ap (λ t. t ++ drop (length needle) bs) (same_text needle
 
 mark_spelled : (code italic : Bool) (bs : List ℕ) (m : Mark) → mark_at code italic bs ≡ Some m → spell_mark m ++ drop (length (spell_mark m)) bs ≡ bs
 mark_spelled code italic bs m e =
-    let passes = found_passes (stands code italic bs) (Bold ∷ Strikeout ∷ Italic ∷ Code ∷ []) m e in
+    let passes = found_passes (begins_with_mark code italic bs) (Bold ∷ Strikeout ∷ Italic ∷ Code ∷ []) m e in
     front_is bs (spell_mark m) (and_parts (starts_with nat_eq bs (spell_mark m)) (counts code italic bs m) passes).0
 
 -- ---- a mark toggles its flag
@@ -156,7 +156,7 @@ read_start bs flags compounds none = record {
   whole = λ items e h. (items, e, h, ap (λ c. map run_of c ++ map (run_at bs) (runs_with flags 0 items)) none, refl);
 }
 
--- a byte at which no mark stands
+-- a byte at which there is no mark
 pub read_byte : (first : List Mark) (bs : List ℕ) (flags : Flags) (compounds : List Compound) (start i : ℕ) → i < length bs → IsReadSoFar first bs flags compounds start i
     → mark_at flags.code flags.italic (drop i bs) ≡ None → IsReadSoFar first bs flags compounds start (i + 1)
 read_byte first bs flags compounds start i l h none = record {
@@ -164,9 +164,9 @@ read_byte first bs flags compounds start i l h none = record {
   counted = h.counted;
   whole = λ items e r.
       let spelled : get_or bs i 0 ∷ spell items ≡ drop i bs = ap (λ t. get_or bs i 0 ∷ t) e ∙ sym (at_drop_more (λ t. t) bs i 0 l) in
-      let stands : mark_at (is_on Code h.before) (is_on Italic h.before) (get_or bs i 0 ∷ spell items) ≡ None =
+      let begins_with_mark : mark_at (is_on Code h.before) (is_on Italic h.before) (get_or bs i 0 ∷ spell items) ≡ None =
       ap (λ (g : Flags). mark_at g.code g.italic (get_or bs i 0 ∷ spell items)) (sym h.counted) ∙ ap (mark_at flags.code flags.italic) spelled ∙ none in
-      h.whole (byte (get_or bs i 0) ∷ items) spelled (stands, r);
+      h.whole (byte (get_or bs i 0) ∷ items) spelled (begins_with_mark, r);
 }
 
 -- a mark
@@ -179,9 +179,9 @@ read_mark first bs flags after compounds new start i m h at pushed toggled = rec
   whole = λ items e r.
       let spelled : spell_mark m ++ spell items ≡ drop i bs =
       ap (λ t. spell_mark m ++ t) (e ∙ sym (drop-drop (length (spell_mark m)) i bs)) ∙ mark_spelled flags.code flags.italic (drop i bs) m at in
-      let stands : mark_at (is_on Code h.before) (is_on Italic h.before) (spell_mark m ++ spell items) ≡ Some m =
+      let begins_with_mark : mark_at (is_on Code h.before) (is_on Italic h.before) (spell_mark m ++ spell items) ≡ Some m =
       ap (λ (k : Flags). mark_at k.code k.italic (spell_mark m ++ spell items)) (sym h.counted) ∙ ap (mark_at flags.code flags.italic) spelled ∙ at in
-      let all = h.whole (mark m ∷ items) spelled (stands, r) in
+      let all = h.whole (mark m ∷ items) spelled (begins_with_mark, r) in
       let later = runs_after (m ∷ h.before) (i + length (spell_mark m)) (i + length (spell_mark m)) items in (
         all.0,
         all.1,
@@ -254,12 +254,12 @@ or_apart false b c h = h
 pub out_of_code : (b : ℕ) → is_byte3 96 42 126 b ≡ false → may_begin false b ≡ false
 out_of_code b h = or_apart (b == 96) (b == 42) (b == 126) h
 
--- where the first byte begins no mark, none stands
+-- where the first byte begins no mark, there is none
 no_mark : (code italic : Bool) (b : ℕ) (rest : List ℕ) → may_begin code b ≡ false → mark_at code italic (b ∷ rest) ≡ None
 no_mark true italic b rest h = grind (arith, nat_tests)
 no_mark false italic b rest h = grind (arith, nat_tests)
 
--- bytes in a row at which no mark stands
+-- bytes in a row at which there is no mark
 pub read_bytes : (first : List Mark) (bs : List ℕ) (flags : Flags) (compounds : List Compound) (start i k : ℕ) → i + k ≤ length bs → IsReadSoFar first bs flags compounds start i
     → NoneBegins flags.code (drop i bs) k → IsReadSoFar first bs flags compounds start (i + k)
 read_bytes first bs flags compounds start i zero l h none = subst (IsReadSoFar first bs flags compounds start) (omega arith) h

@@ -132,7 +132,7 @@ runs_said source text at h before s i a b (byte c ∷ items) ea eb follows order
     let next : b + 1 ≡ at + (i + 1) = omega (arith, eb) in
     runs_said source text at h before s (i + 1) a (b + 1) items ea next (sym (drop-drop 1 i text) ∙ ap (drop 1) follows) (omega (arith, order)) (omega (arith, len)) u
 
-marked_said : (source text : List ℕ) (at : ℕ) (carried : Flags) → IsAt source at text → IsUtf8 text
+pub marked_said : (source text : List ℕ) (at : ℕ) (carried : Flags) → IsAt source at text → IsUtf8 text
     → Say source (runs_with carried at (items_of carried text)) (map (run_at text) (runs_with carried 0 (items_of carried text)))
 marked_said source text at carried h u =
     let read = items_read carried text in

@@ -20,7 +20,7 @@ use Rattle.mad_md.specs.declared.starts.Form.TheVariants.{TablePart, Code, Rule,
 use Rattle.mad_md.proofs.InlineLemmas.{inline_reading_unique, items_read}
 use Rattle.mad_md.proofs.PartsLemmas.{is_newline, slice_of_part, parts_unique, split_is_parts, first_line}
 
--- ---- where lines stand
+-- ---- where lines are
 
 pub text_at : (src part tail : List ℕ) (at : ℕ) → drop at src ≡ part ++ tail → line_text src (record { start = at; end = at + length (strip_carriage_return part) }) ≡ strip_carriage_return part
 text_at src part tail at follows =
@@ -42,11 +42,11 @@ lines_none unread none =
 abbrev pub first_text : Unread → List ℕ
 first_text unread = strip_carriage_return (before_first is_newline unread.text)
 
--- the place behind it, with these fences and flags
-abbrev pub behind : Unread → Bool → Flags → Unread
-behind unread fenced carried = record { text = after_first is_newline unread.text; fenced = fenced; carried = carried; continue_spans = unread.continue_spans }
+-- what is left after it, with this fence and these flags
+abbrev pub left_after : Unread → Bool → Flags → Unread
+left_after unread fenced carried = record { text = after_first is_newline unread.text; fenced = fenced; carried = carried; continue_spans = unread.continue_spans }
 
-pub lines_fence : (unread : Unread) → 0 < length unread.text → is_fence (first_text unread) ≡ true → lines_of unread ≡ lines_of (behind unread (not unread.fenced) plain)
+pub lines_fence : (unread : Unread) → 0 < length unread.text → is_fence (first_text unread) ≡ true → lines_of unread ≡ lines_of (left_after unread (not unread.fenced) plain)
 unfolding lines_of
 lines_fence unread some fence =
     let on = unread.continue_spans in
@@ -55,7 +55,7 @@ lines_fence unread some fence =
     ∙ ap (λ t. if t then lines_of_texts on (not unread.fenced) plain texts else line_of unread.fenced unread.carried (first_text unread) ∷ lines_of_texts on unread.fenced (carried_on on (flags_of_line unread.fenced unread.carried (first_text unread))) texts) fence
 
 pub lines_line : (unread : Unread) → 0 < length unread.text → is_fence (first_text unread) ≡ false
-    → lines_of unread ≡ line_of unread.fenced unread.carried (first_text unread) ∷ lines_of (behind unread unread.fenced (carried_on unread.continue_spans (flags_of_line unread.fenced unread.carried (first_text unread))))
+    → lines_of unread ≡ line_of unread.fenced unread.carried (first_text unread) ∷ lines_of (left_after unread unread.fenced (carried_on unread.continue_spans (flags_of_line unread.fenced unread.carried (first_text unread))))
 unfolding lines_of
 lines_line unread some other =
     let on = unread.continue_spans in

@@ -20,7 +20,7 @@ unwrap_cases : {A : Type 0} (P : A → Type 0) (o : Option A) (d : A) → IfSome
 unwrap_cases P None d f g = g
 unwrap_cases P (Some x) d f g = f
 
--- behind a mark of one byte, and of two
+-- after a mark of one byte, and of two
 pub border_one : (line : List ℕ) (i x : ℕ) → IsUtf8 line → begins (drop i line) (x ∷ []) ≡ true → x < 128 → IsCharBoundary line (i + 1)
 border_one line i x u b l =
     let e = front_is (drop i line) (x ∷ []) b in

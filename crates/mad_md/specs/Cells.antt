@@ -119,7 +119,7 @@ without_last_colon text = if ends_with_colon text then take (length text - 1) te
 abbrev pub are_hyphens : List ℕ → Bool
 are_hyphens text = not (length text == 0) && (run_len 45 text == length text)
 
--- the alignment that colons before and behind the hyphens say
+-- the alignment that colons before and after the hyphens say
 abbrev pub alignment_by : Bool → Bool → Alignment
 alignment_by false false = Unspecified
 alignment_by true false = Left

@@ -21,19 +21,19 @@ use Rattle.mad_md.specs.declared.inline.Mark.TheVariants.{Italic, Code as CodeMa
 use Rattle.mad_md.specs.declared.starts.Form.{Form}
 use Rattle.mad_md.specs.declared.starts.Form.TheVariants.{TablePart, Code, Rule, Continuing, Separate}
 
--- the items with a byte, or with the mark that stands there
+-- the items with a byte, or with the mark that is there
 abbrev pub with_item : Option Mark → List Item → (Mark → List Item) → List Item
 with_item None by_byte by_mark = by_byte
 with_item (Some m) by_byte by_mark = by_mark m
 
--- the items of at most so many bytes
+-- the items of at most this number of bytes
 unfoldable pub items_within : ℕ → List Mark → List ℕ → List Item
 items_within zero before bs = []
 items_within (suc n) before [] = []
 items_within (suc n) before (b ∷ bs) =
     with_item (mark_at (is_on CodeMark before) (is_on Italic before) (b ∷ bs)) (byte b ∷ items_within n before bs) (λ m. mark m ∷ items_within n (m ∷ before) (drop (length (spell_mark m)) (b ∷ bs)))
 
--- the items of a line behind these flags
+-- the items of a line with these flags carried to it
 abbrev pub items_of : Flags → List ℕ → List Item
 items_of flags line = items_within (length line) (marks_of flags) line
 
@@ -42,7 +42,7 @@ unfoldable pub cut_cells : Bool → List ℕ → List (List ℕ)
 cut_cells odd [] = [] ∷ []
 cut_cells odd (b ∷ bs) = if (b == 124) && not odd then [] ∷ cut_cells false bs else onto_first b (cut_cells (odd_with odd b) bs)
 
--- how many bytes stand before the bar that ends the first cell, or in all
+-- how many bytes come before the bar that ends the first cell, or in all
 unfoldable pub cell_len : Bool → List ℕ → ℕ
 cell_len odd [] = 0
 cell_len odd (b ∷ bs) = if (b == 124) && not odd then 0 else 1 + cell_len (odd_with odd b) bs
@@ -109,7 +109,7 @@ kept_cells (cell ∷ next ∷ cells) = cell ∷ kept_cells (next ∷ cells)
 abbrev pub rule_texts : List (List ℕ) → List (List ℕ)
 rule_texts texts = take (length (kept_cells (map cell_of texts))) texts
 
--- so many columns, and those of the alignments; none where there are none
+-- this number of columns, and those of the alignments; none where there are none
 abbrev pub with_columns : ℕ → Option (List Alignment) → ℕ
 with_columns columns None = 0
 with_columns columns (Some found) = columns + length found

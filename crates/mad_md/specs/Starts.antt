@@ -12,7 +12,7 @@ use Rattle.mad_md.specs.declared.starts.Form.{Form}
 abbrev pub begins : List ℕ → List ℕ → Bool
 begins line front = starts_with nat_eq line front
 
--- how often a byte stands in front
+-- how often a byte is repeated in front
 abbrev pub run_len : ℕ → List ℕ → ℕ
 run_len byte line = prefix_len (λ b. b == byte) line
 
@@ -24,23 +24,23 @@ starts form len = record { form = form; len = len }
 abbrev pub is_fence : List ℕ → Bool
 is_fence line = begins line (96 ∷ 96 ∷ 96 ∷ [])
 
--- how many spaces stand in front, three at most
+-- how many spaces are in front, three at most
 abbrev pub indent : List ℕ → ℕ
 indent line = if begins line (32 ∷ 32 ∷ 32 ∷ []) then 3 else if begins line (32 ∷ 32 ∷ []) then 2 else if begins line (32 ∷ []) then 1 else 0
 
--- one to nine digits, a full stop and a space, behind so many spaces
+-- one to nine digits, a full stop and a space, after this number of spaces
 abbrev pub ordered_after : ℕ → ℕ → List ℕ → Option LineStart
 ordered_after spaces digits rest =
     if (digits == 0) || nat_lt 9 digits || not (begins (drop digits rest) (46 ∷ 32 ∷ [])) then None
     else Some (starts (Continuing (OrderedListItem spaces (digits_value 10 (take digits rest)))) (spaces + digits + 2))
 
--- a star and a space, or a number, behind so many spaces
+-- a star and a space, or a number, after this number of spaces
 abbrev pub item_after : ℕ → List ℕ → Option LineStart
 item_after spaces rest =
     if begins rest (42 ∷ 32 ∷ []) then Some (starts (Continuing (ListItem spaces)) (spaces + 2))
     else ordered_after spaces (prefix_len is_ascii_digit rest) rest
 
--- an item of a list behind at most three spaces
+-- an item of a list, after at most three spaces
 abbrev pub item_start : List ℕ → Option LineStart
 item_start line = item_after (indent line) (drop (indent line) line)
 

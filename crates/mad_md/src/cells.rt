@@ -12,7 +12,7 @@ use crate::line::{Line, TableRow, TableRule};
 use crate::starts::{begins, run_len};
 use std::alloc::{AllocError, Global};
 
-// The line that a table part is, by the text behind its first bar.
+// The line that a table part is, by its text after the first bar.
 pub(crate) fn read_table_part<'s>(alloc: Global, part: &'s str) -> Result<Line<'s>, AllocError>
     ensures { IfOk result (λ line. content_of line ≡ part_of part.entry.now) }
 {
@@ -36,7 +36,7 @@ fn read_row<'s>(alloc: Global, part: &'s str) -> Result<Line<'s>, AllocError>
 
 // How many columns the part rules, or none where it is a row.
 //
-// Of its cells only the last one is read, and that only where all before it have alignments.
+// Of its cells at most the last one is read, and that only where it alone has no alignment.
 fn rule_columns(alloc: Global, part: &str) -> Result<usize, AllocError>
     ensures { IfOk result (λ columns. columns ≡ columns_of part.now) }
 {
@@ -59,17 +59,16 @@ fn last_columns(alloc: Global, cell: &str, columns: usize) -> Result<usize, Allo
     requires { columns < 2 ^ 63 }
     ensures { IfOk result (λ all. all ≡ with_columns columns (alignments (rule_texts (cell.now ∷ [])))) }
 {
-    let read = read_cell(alloc, cell)?;
-    if read.compounds.is_empty() {
+    if alignment_of(cell).is_some() {
+        return Ok(columns + 1);
+    }
+    if columns > 0 && read_cell(alloc, cell)?.compounds.is_empty() {
         return Ok(columns);
     }
-    if alignment_of(cell).is_none() {
-        return Ok(0);
-    }
-    Ok(columns + 1)
+    Ok(0)
 }
 
-// The alignments of so many cells, where each has one.
+// The alignments of the first `count` cells, if each has one.
 fn read_alignments(
     alloc: Global,
     part: &str,
@@ -221,11 +220,11 @@ fn alignment_of(cell: &str) -> Option<Alignment>
     ensures { result ≡ alignment_of cell.now }
 {
     let (text, before) = strip_first_colon(cell.trim());
-    let (text, behind) = strip_last_colon(text);
+    let (text, after) = strip_last_colon(text);
     if !are_hyphens(text.as_bytes()) {
         return None;
     }
-    Some(alignment_by(before, behind))
+    Some(alignment_by(before, after))
 }
 
 // The text without a colon in front, and whether there was one.
@@ -260,11 +259,11 @@ fn are_hyphens(text: &[u8]) -> bool
     !text.is_empty() && run_len(text, b'-') == text.len()
 }
 
-// The alignment that colons before and behind the hyphens say.
-fn alignment_by(before: bool, behind: bool) -> Alignment
-    ensures { result ≡ alignment_by before behind }
+// The alignment that colons before and after the hyphens say.
+fn alignment_by(before: bool, after: bool) -> Alignment
+    ensures { result ≡ alignment_by before after }
 {
-    match (before, behind) {
+    match (before, after) {
         (false, false) => Alignment::Unspecified,
         (true, false) => Alignment::Left,
         (false, true) => Alignment::Right,
@@ -272,7 +271,7 @@ fn alignment_by(before: bool, behind: bool) -> Alignment
     }
 }
 
-// The first cell, and what stands behind the bar that ends it, if one does.
+// The first cell, and what comes after the bar that ends it, if one does.
 fn cut_cell(text: &str) -> (&str, Option<&str>)
     ensures { IsFirstCell text.entry.now result.0.now result.1 }
 {
@@ -283,7 +282,7 @@ fn cut_cell(text: &str) -> (&str, Option<&str>)
     (&text[..len], Some(&text[len + 1..]))
 }
 
-// How many bytes stand before the first bar that follows an even number of backquotes.
+// How many bytes come before the first bar that follows an even number of backquotes.
 fn cell_len(text: &[u8]) -> usize
     ensures value { result ≡ cell_len false text.now }
     ensures within { result ≤ length text.now }
@@ -300,7 +299,7 @@ fn cell_len(text: &[u8]) -> usize
     i
 }
 
-// Whether the byte is a bar behind an even number of backquotes.
+// Whether the byte is a bar after an even number of backquotes.
 fn ends_cell(odd: bool, byte: u8) -> bool
     ensures { result ≡ ((byte == 124) && not odd) }
 {

@@ -26,7 +26,7 @@ pub struct ParseOptions {
 /// A place in a text, from which it is read line by line.
 ///
 /// It is a small value, and can be copied to read the same lines again. Reading a line takes memory for that
-/// line alone, so a caller can stop behind the lines that it needs.
+/// line alone, so a caller can stop after the lines that it needs.
 #[derive(Debug, Clone, Copy)]
 pub struct LineCursor<'s> {
     // what is left, with the flags that are carried on
@@ -48,19 +48,19 @@ impl<'s> LineCursor<'s> {
         }
     }
 
-    /// Reads the next line, and moves behind it; none where there is no more.
+    /// Reads the next line, and moves on after it; none if there is no more.
     ///
-    /// Only want of memory is an error, and leaves the cursor where it was.
+    /// Out of memory is the only error, and leaves the cursor where it was.
     pub fn next_line(&mut self, alloc: Global) -> Result<Option<Line<'s>>, AllocError>
         ensures step { IfOk result (λ next. IsStep (unread self.old) next (unread self.new)) }
         ensures refused { OnErr result (self.new ≡ self.old) }
     {
-        let (line, behind) = self.step(alloc)?;
-        *self = behind;
+        let (line, next) = self.step(alloc)?;
+        *self = next;
         Ok(line)
     }
 
-    // The next line, and the place behind it.
+    // The next line, and the place after it.
     fn step(self, alloc: Global) -> Result<(Option<Line<'s>>, LineCursor<'s>), AllocError>
         ensures { IfOk result (λ step. IsStep (unread self.entry) step.0 (unread step.1)) }
     {
@@ -82,14 +82,14 @@ impl<'s> LineCursor<'s> {
             };
             let (read, end) = read_line(alloc, line, here.fenced)?;
             let carried = carried_on(here.continue_spans, end);
-            let behind = LineCursor {
+            let next = LineCursor {
                 rest: Compound {
                     src: after,
                     ..carried
                 },
                 ..here
             };
-            return Ok((Some(read), behind));
+            return Ok((Some(read), next));
         }
         Ok((None, here))
     }
@@ -123,7 +123,7 @@ fn read_line<'s>(
     read_form(alloc, start.form, Compound { src: text, ..line })
 }
 
-// The line of this form with this text behind its beginning, and the flags with which it ends.
+// The line of this form with this text after its beginning, and the flags that it carries on.
 fn read_form<'s>(
     alloc: Global,
     form: Form,
@@ -156,7 +156,7 @@ fn code_line<'s>(alloc: Global, text: &'s str) -> Result<(Line<'s>, Compound<'s>
     Ok((Line::Normal(code), Compound::raw_str(text)))
 }
 
-// A line in this style whose marks are read behind the text's flags, and the flags with which it ends.
+// A line in this style, its marks read with the text's flags carried to it, and the flags at its end.
 fn marked_line<'s>(
     alloc: Global,
     style: CompositeStyle,

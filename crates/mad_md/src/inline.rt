@@ -114,7 +114,7 @@ fn unmarked_len(rest: &[u8], code: bool) -> usize
     memchr3(b'`', b'*', b'~', rest).unwrap_or(rest.len())
 }
 
-// The longest mark that stands at the front of the rest of a line.
+// The longest mark that the rest of a line begins with.
 fn mark_at(rest: &[u8], code: bool, italic: bool) -> Option<Mark>
     ensures { result ≡ mark_at code italic rest.now }
 {

@@ -25,70 +25,53 @@ pub(crate) struct LineStart {
     pub(crate) len: usize,
 }
 
+// A form, and how many bytes at the front only say so.
+fn starts(form: Form, len: usize) -> LineStart
+    ensures { result ≡ record { form = form; len = len } }
+{
+    LineStart { form, len }
+}
+
 // What the line is: the first form that it begins as.
 pub(crate) fn line_start(line: &[u8]) -> LineStart
     ensures { result ≡ line_start line.now }
 {
     if line.is_empty() {
-        return LineStart {
-            form: Form::Separate(CompositeStyle::Paragraph),
-            len: 0,
-        };
+        return starts(Form::Separate(CompositeStyle::Paragraph), 0);
     }
     if begins(line, b"|") {
-        return LineStart {
-            form: Form::TablePart,
-            len: 1,
-        };
+        return starts(Form::TablePart, 1);
     }
     if begins(line, b"    ") {
-        return LineStart {
-            form: Form::Code,
-            len: 4,
-        };
+        return starts(Form::Code, 4);
     }
     if begins(line, b"\t") {
-        return LineStart {
-            form: Form::Code,
-            len: 1,
-        };
+        return starts(Form::Code, 1);
     }
-    if let Some(start) = item_start(line) {
+    if let Some(start) = scan_item(line) {
         return start;
     }
     if begins(line, b"> ") {
-        return LineStart {
-            form: Form::Continuing(CompositeStyle::Quote),
-            len: 2,
-        };
+        return starts(Form::Continuing(CompositeStyle::Quote), 2);
     }
-    if let Some(start) = header_start(line) {
+    if let Some(start) = scan_header(line) {
         return start;
     }
     if begins(line, b"---") && run_len(line, b'-') == line.len() {
-        return LineStart {
-            form: Form::Rule,
-            len: 0,
-        };
+        return starts(Form::Rule, 0);
     }
-    LineStart {
-        form: Form::Continuing(CompositeStyle::Paragraph),
-        len: 0,
-    }
+    starts(Form::Continuing(CompositeStyle::Paragraph), 0)
 }
 
-// An item of a list behind at most three spaces.
-fn item_start(line: &[u8]) -> Option<LineStart>
+// An item of a list, after at most three spaces.
+fn scan_item(line: &[u8]) -> Option<LineStart>
     ensures { result ≡ item_start line.now }
 {
     let level = indent(line);
     let spaces = usize::from(level);
     let rest = tail(line, spaces);
     if begins(rest, b"* ") {
-        return Some(LineStart {
-            form: Form::Continuing(CompositeStyle::ListItem(level)),
-            len: spaces + 2,
-        });
+        return Some(starts(Form::Continuing(CompositeStyle::ListItem(level)), spaces + 2));
     }
     let digits = digits_len(rest);
     if digits == 0 || digits > 9 || !begins(tail(rest, digits), b". ") {
@@ -96,27 +79,21 @@ fn item_start(line: &[u8]) -> Option<LineStart>
     }
     let index = number(front(rest, digits));
     let form = Form::Continuing(CompositeStyle::OrderedListItem { level, index });
-    Some(LineStart {
-        form,
-        len: spaces + digits + 2,
-    })
+    Some(starts(form, spaces + digits + 2))
 }
 
 // A header of at most eight levels.
-fn header_start(line: &[u8]) -> Option<LineStart>
+fn scan_header(line: &[u8]) -> Option<LineStart>
     ensures { result ≡ header_start line.now }
 {
     let level = run_len(line, b'#');
     if level == 0 || level > 8 || !begins(tail(line, level), b" ") {
         return None;
     }
-    Some(LineStart {
-        form: Form::Separate(CompositeStyle::Header(level as u8)),
-        len: level + 1,
-    })
+    Some(starts(Form::Separate(CompositeStyle::Header(level as u8)), level + 1))
 }
 
-// How many spaces stand in front, three at most.
+// How many spaces are in front, three at most.
 fn indent(line: &[u8]) -> u8
     ensures value { result ≡ indent line.now }
     ensures few { result ≤ 3 }
@@ -141,7 +118,7 @@ pub(crate) fn begins(line: &[u8], mark: &[u8]) -> bool
     line.starts_with(mark)
 }
 
-// The line without so many bytes in front.
+// The line from this byte on.
 fn tail(line: &[u8], from: usize) -> &[u8]
     requires { from ≤ length line.now }
     ensures { result.now ≡ drop from line.now }
@@ -149,7 +126,7 @@ fn tail(line: &[u8], from: usize) -> &[u8]
     &line[from..]
 }
 
-// So many bytes in front.
+// The first bytes of the line.
 fn front(line: &[u8], len: usize) -> &[u8]
     requires { len ≤ length line.now }
     ensures { result.now ≡ take len line.now }
@@ -157,7 +134,7 @@ fn front(line: &[u8], len: usize) -> &[u8]
     &line[..len]
 }
 
-// How often the byte stands in front.
+// How often the byte is repeated in front.
 pub(crate) fn run_len(line: &[u8], byte: u8) -> usize
     ensures value { result ≡ prefix_len (λ b. b == byte) line.now }
     ensures within { result ≤ length line.now }
@@ -169,7 +146,7 @@ pub(crate) fn run_len(line: &[u8], byte: u8) -> usize
     i
 }
 
-// How many digits stand in front.
+// How many digits are in front.
 fn digits_len(line: &[u8]) -> usize
     ensures value { result ≡ prefix_len is_ascii_digit line.now }
     ensures within { result ≤ length line.now }
