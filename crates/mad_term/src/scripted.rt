@@ -7,7 +7,7 @@ use crate::devices::{Out, Source};
 use std::alloc::{AllocError, Global};
 use std::io;
 
-/// A device that takes a few bytes at a time, has room for so many in all, and may fail at its flush.
+/// A device that takes a few bytes at a time, has room for a given number in all, and may fail at its flush.
 #[derive(Debug, Drop)]
 pub struct CutOut {
     taken: Vec<u8>,
@@ -138,7 +138,7 @@ pub struct ScriptSource<'s> {
 impl<'s> ScriptSource<'s> {
     ghost use Rattle.mad_term.specs.Scripted.{script_trace, IsScript};
 
-    /// A source of `bytes`; behind them it fails if `fails`, else it is at its end.
+    /// A source of `bytes`; after them it fails if `fails`, else it is at its end.
     pub fn new(bytes: &'s [u8], fails: bool) -> Self
         ensures { IsScript result bytes.entry.now fails }
     {
