@@ -17,6 +17,8 @@ pub use Rattle.mad_term.specs.Errors
 pub use Rattle.mad_screen.specs.Glyph
 pub use Rattle.mad_screen.specs.Grid
 pub use Rattle.mad_screen.specs.Painting
+pub use Rattle.mad_screen.specs.Pictures
+pub use Rattle.mad_screen.specs.Refusals
 pub use Rattle.mad_term.specs.Scripted
 pub use Rattle.mad_screen.specs.Stages
 pub use Rattle.mad_term.specs.Stream
