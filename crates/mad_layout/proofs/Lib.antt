@@ -5,7 +5,6 @@ pub mod ClosedBreaks
 pub mod CutLemmas
 pub mod DrawableLemmas
 pub mod DrawnLayouts
-pub mod Examples
 pub mod Greedy
 pub mod HeadlineLemmas
 pub mod InlineLemmas
@@ -23,3 +22,5 @@ pub mod SourceLemmas
 pub mod StartLemmas
 pub mod WholeTokens
 pub mod WrapLemmas
+pub mod WordLemmas
+pub mod WordScreens

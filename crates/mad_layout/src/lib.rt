@@ -22,6 +22,7 @@ pub mod drawing;
 pub mod fmt_inline;
 pub mod fmt_text;
 pub mod indents;
+pub mod laws;
 pub mod line;
 mod placing;
 pub mod room;
