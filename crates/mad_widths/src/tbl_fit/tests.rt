@@ -4,86 +4,71 @@ use std::test::Fail;
 
 const MAX: usize = usize::MAX;
 
-// A table of `columns` columns and this width, the column and the width of each cell that it sees, and what it is fitted to:
+// The columns of a table and its width, the column and the width of each cell that it sees, and what it is fitted to:
 // whether it is reduced, and its column widths; or nothing, where its width is refused.
-struct Row {
-    columns: usize,
-    width: usize,
-    cells: &'static [(usize, usize)],
-    fitted: Option<(bool, &'static [usize])>,
-}
-
-const fn row(
-    columns: usize,
-    width: usize,
-    cells: &'static [(usize, usize)],
-    fitted: Option<(bool, &'static [usize])>,
-) -> Row {
-    Row {
-        columns,
-        width,
-        cells,
-        fitted,
-    }
-}
+type Row = (
+    usize,
+    usize,
+    &'static [(usize, usize)],
+    Option<(bool, &'static [usize])>,
+);
 
 static ROWS: [Row; 19] = [
-    row(2, 13, &[(0, 3), (1, 20)], Some((true, &[3, 7]))),
-    row(2, 8, &[], None),
-    row(2, 9, &[], Some((false, &[3, 3]))),
-    row(
+    (2, 13, &[(0, 3), (1, 20)], Some((true, &[3, 7]))),
+    (2, 8, &[], None),
+    (2, 9, &[], Some((false, &[3, 3]))),
+    (
         2,
         21,
         &[(0, 20), (0, 2), (1, 5), (1, 5)],
         Some((true, &[13, 5])),
     ),
-    row(0, 0, &[], None),
-    row(0, 1, &[], Some((false, &[]))),
+    (0, 0, &[], None),
+    (0, 1, &[], Some((false, &[]))),
     // Of equal columns the left one gives up the odd column.
-    row(2, 14, &[(0, 9), (1, 9)], Some((true, &[5, 6]))),
+    (2, 14, &[(0, 9), (1, 9)], Some((true, &[5, 6]))),
     // A single column takes all that is available, and is not called reduced.
-    row(1, 10, &[(0, 50)], Some((false, &[8]))),
-    row(1, 4, &[], None),
+    (1, 10, &[(0, 50)], Some((false, &[8]))),
+    (1, 4, &[], None),
     // A column that the table doesn't have.
-    row(1, 10, &[(0, 4), (1, 50)], Some((false, &[4]))),
+    (1, 10, &[(0, 4), (1, 50)], Some((false, &[4]))),
     // The greatest widths, and sums and products past 64 bits.
-    row(1, MAX, &[(0, 5)], Some((false, &[5]))),
-    row(1, MAX, &[(0, MAX)], Some((false, &[MAX - 2]))),
-    row(
+    (1, MAX, &[(0, 5)], Some((false, &[5]))),
+    (1, MAX, &[(0, MAX)], Some((false, &[MAX - 2]))),
+    (
         2,
         9,
         &[(0, MAX), (1, MAX), (1, MAX)],
         Some((true, &[3, 3])),
     ),
-    row(
+    (
         2,
         MAX,
         &[(0, MAX), (1, MAX)],
         Some((true, &[MAX / 2 - 1, MAX / 2 - 1])),
     ),
-    row(2, MAX, &[(0, 3), (1, MAX)], Some((true, &[3, MAX - 6]))),
-    row(MAX, MAX, &[], None),
-    row(MAX, 0, &[], None),
-    row(MAX / 4, MAX - 3, &[], None),
-    row(MAX / 4 + 1, MAX, &[], None),
+    (2, MAX, &[(0, 3), (1, MAX)], Some((true, &[3, MAX - 6]))),
+    (MAX, MAX, &[], None),
+    (MAX, 0, &[], None),
+    (MAX / 4, MAX - 3, &[], None),
+    (MAX / 4 + 1, MAX, &[], None),
 ];
 
 fn assert_row(rt: &impl Abort, alloc: Global, row: &Row) -> Result<(), Fail> {
-    let (columns, width) = (row.columns, row.width);
-    let mut fit = match (TblFit::new(alloc, columns, width), row.fitted) {
-        (Ok(fit), Some(_)) => fit,
-        (Err(Error::InsufficientWidth(e)), None) => {
+    let (columns, width, cells, wanted) = *row;
+    let mut fit = match TblFit::new(alloc, columns, width) {
+        Err(Error::InsufficientWidth(e)) if wanted.is_none() => {
             assert_eq!(rt; e.available_width, width);
             return Ok(());
         }
-        _ => panic!(rt; "{columns} columns in {width}"),
+        made => made?,
     };
-    for (column, cell) in row.cells {
+    for (column, cell) in cells {
         fit.see_cell(*column, *cell);
     }
     let result = fit.fit(alloc)?;
     let fitted = (result.reduced, result.col_widths.as_slice());
-    assert!(rt; Some(fitted) == row.fitted, "{columns} columns in {width}");
+    assert!(rt; Some(fitted) == wanted, "{columns} columns in {width}");
     Ok(())
 }
 
