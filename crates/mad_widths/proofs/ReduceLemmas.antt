@@ -1,7 +1,7 @@
 -- The two steps, as the program takes them.
-use Rattle.std.proofs.Common.{◌≡◌, ℕ, ◌-◌, ◌*◌, ◌≤◌, ◌<◌, List, length, map, get_or, sum, sym, ap, ◌∙◌, arith, subst, All}
+use Rattle.std.proofs.Common.{◌≡◌, ℕ, ◌-◌, ◌*◌, ◌≤◌, ◌<◌, List, length, map, sum, sym, ap, ◌∙◌, arith, subst, All}
 use Rattle.std.specs.declared.cmp.Reverse.{Reverse}
-use Rattle.mad_widths.specs.Turns.{turn_of, grants, AreTurns}
+use Rattle.mad_widths.specs.Turns.{turn_of, grants, AreTurns, CanGiveUp}
 use Rattle.mad_widths.specs.ColumnWidths.{Needs, natural_widths, narrowed, first_requests, above_three, second_requests, AreReduced}
 use Rattle.mad_widths.proofs.TurnLemmas.{turns_within}
 use Rattle.mad_widths.proofs.ShareLemmas.{LeaveThree, first_leave, second_leave, length-naturals, length-first_requests, length-second_requests}
@@ -17,11 +17,12 @@ pub record IsReady (ns : List Needs) (ws requests : List ℕ) (us : List (Revers
 pub ready_len : (ns : List Needs) (ws requests : List ℕ) (us : List (Reverse ℕ × ℕ)) → IsReady ns ws requests us → length requests ≡ length (natural_widths ns)
 ready_len ns ws requests us h = h.count ∙ h.columns ∙ sym (length-naturals ns)
 
-pub ready_within : (ns : List Needs) (ws requests : List ℕ) (us : List (Reverse ℕ × ℕ)) → IsReady ns ws requests us → (k : ℕ) → k < length requests → get_or requests k 0 ≤ get_or ws k 0
-ready_within ns ws requests us h k l = omega (arith, h.leave k (subst (λ n. k < n) h.count l))
-
-pub ready_columns : (ns : List Needs) (ws requests : List ℕ) (us : List (Reverse ℕ × ℕ)) → IsReady ns ws requests us → All (λ t. t.1 < length requests) us
-ready_columns ns ws requests us h = turns_within (natural_widths ns) us (length requests) h.turns (sym (ready_len ns ws requests us h))
+pub ready_gives : (ns : List Needs) (ws requests : List ℕ) (us : List (Reverse ℕ × ℕ)) → IsReady ns ws requests us → CanGiveUp ws requests us
+ready_gives ns ws requests us h = record {
+  count = h.count;
+  within = λ k l. omega (arith, h.leave k (subst (λ n. k < n) h.count l));
+  columns = turns_within (natural_widths ns) us (length requests) h.turns (sym (ready_len ns ws requests us h));
+}
 
 pub first_ready : (ns : List Needs) (ws requests requested : List ℕ) (us turns : List (Reverse ℕ × ℕ)) (excess : ℕ) → All (λ n. 3 ≤ n.natural) ns → ws ≡ natural_widths ns → AreTurns ws (map turn_of turns) → us ≡ turns
     → requests ≡ requested → requested ≡ first_requests excess ns → IsReady ns ws requests us

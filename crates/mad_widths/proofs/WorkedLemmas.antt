@@ -1,8 +1,8 @@
 -- The worked tables, by computing; the widths that are none, each by the part of the definition that it breaks.
-use Rattle.std.proofs.Common.{◌≡◌, ◌≢◌, ℕ, ◌<◌, Bool, true, false, List, [], ◌∷◌, length, sum, refl, arith}
+use Rattle.std.proofs.Common.{refl, arith}
 use Rattle.std.proofs.lemmas.Bool.{false≢true}
 use Rattle.mad_widths.specs.Turns.{grants}
-use Rattle.mad_widths.specs.ColumnWidths.{first_requests, second_requests, after_first, after_second, column_widths, AreShared}
+use Rattle.mad_widths.specs.ColumnWidths.{first_requests, second_requests, after_first, after_second, column_widths}
 use Rattle.mad_widths.specs.WorkedWidths.{AreWorkedWidths, AreNoWidths}
 
 pub worked : AreWorkedWidths

@@ -1,5 +1,5 @@
 -- Columns give up what they request in turn, the widest first, until an excess is gone.
-use Rattle.std.specs.Prelude.{◌≡◌, ℕ, ◌+◌, ◌-◌, ◌<◌, min, Bool, false, ◌&&◌, ◌||◌, ◌==◌, nat_lt, if◌then◌else◌, List, [], ◌∷◌, length, map, sum_by, slice_index, slice_index_or, IsPermutation}
+use Rattle.std.specs.Prelude.{◌≡◌, ℕ, ◌+◌, ◌-◌, ◌<◌, ◌≤◌, min, All, Bool, false, ◌&&◌, ◌||◌, ◌==◌, nat_lt, if◌then◌else◌, List, [], ◌∷◌, length, map, sum_by, slice_index, slice_index_or, IsPermutation}
 use Rattle.std.specs.declared.cmp.Reverse.{Reverse}
 
 -- a column's turn: its natural width, and its number from the left
@@ -36,3 +36,9 @@ grants widths requests excess = map (granted_at requests excess (turns_from 0 wi
 pub record AreTurns (widths : List ℕ) (turns : List Turn) : Type 0 where
   pub all : IsPermutation (turns_from 0 widths) turns
   pub ordered : (k : ℕ) (d : Turn) → k + 1 < length turns → goes_before (slice_index_or turns (k + 1) d) (slice_index_or turns k d) ≡ false
+
+-- columns of these widths can give up these requests in these turns, as the program sorts them
+pub record CanGiveUp (widths requests : List ℕ) (turns : List (Reverse ℕ × ℕ)) : Type 0 where
+  pub count : length requests ≡ length widths
+  pub within : (k : ℕ) → k < length requests → slice_index requests k ≤ slice_index widths k
+  pub columns : All (λ t. t.1 < length requests) turns

@@ -1,6 +1,6 @@
 -- Worked tables of column widths, and widths that are none.
-use Rattle.std.specs.Prelude.{◌≡◌, ◌≢◌, ℕ, ◌+◌, ◌<◌, Bool, true, false, List, [], ◌∷◌, length, map, sum}
-use Rattle.mad_widths.specs.ColumnWidths.{needs_of, column_widths, is_reduced, AreShared}
+use Rattle.std.specs.Prelude.{◌≡◌, ◌≢◌, ℕ, ◌<◌, Bool, false, List, [], ◌∷◌, length, map, sum}
+use Rattle.mad_widths.specs.ColumnWidths.{needs_of, column_widths, AreShared}
 
 -- the column widths where these cells were seen
 abbrev pub widths_for : ℕ → List (List ℕ) → List ℕ

@@ -1,7 +1,7 @@
 // How the columns of a table that is too wide give up their excess.
 
 ghost use Rattle.std.specs.Prelude.{sum_by, ◌≡◌, ℕ, ◌+◌, ◌-◌, ◌*◌, ◌^◌, ◌<◌, ◌≤◌, ◌++◌, ◌∷◌, [], List, length, map, max, min, sum, IfOk, All, slice_index};
-ghost use Rattle.mad_widths.specs.Turns.{AreTurns, grants, turn_of};
+ghost use Rattle.mad_widths.specs.Turns.{AreTurns, CanGiveUp, grants, turn_of};
 ghost use Rattle.mad_widths.specs.ColumnWidths.{over_average, spare, first_request, first_requests, above_three, second_request, second_requests, narrowed};
 ghost use Rattle.mad_widths.specs.SeenCells.{ColumnHasSeen, needs_in};
 
@@ -193,7 +193,11 @@ fn second_request(width: usize, kept: usize, above: u128) -> usize
 }
 
 // What each column requests to give up in the second step, for all to stay wider than three by `kept` together.
-pub fn second_requests(alloc: Global, widths: &[usize], kept: usize) -> Result<Vec<usize>, AllocError>
+pub fn second_requests(
+    alloc: Global,
+    widths: &[usize],
+    kept: usize,
+) -> Result<Vec<usize>, AllocError>
     requires { kept < above_three widths.now }
     ensures { IfOk result (λ requests. requests.items ≡ second_requests (above_three widths.now - kept) widths.now) }
 {
@@ -239,9 +243,7 @@ pub fn give_up_in_turn(
     turns: &[Turn],
     excess: u128,
 ) -> u128
-    requires len { length requests.old ≡ length widths.old }
-    requires within { (k : ℕ) → k < length requests.old → slice_index requests.old k ≤ slice_index widths.old k }
-    requires columns { All (λ t. t.1 < length requests.old) turns.now }
+    requires { CanGiveUp widths.old requests.old turns.now }
     ensures widths { (order : List ℕ) → AreTurns order (map turn_of turns.now) → length requests.old ≡ length order → widths.new ≡ narrowed widths.old (grants order requests.old excess) }
     ensures left { (order : List ℕ) → AreTurns order (map turn_of turns.now) → length requests.old ≡ length order → result ≡ excess - sum requests.old }
 {

@@ -35,12 +35,7 @@ static ROWS: [Row; 19] = [
     // The greatest widths, and sums and products past 64 bits.
     (1, MAX, &[(0, 5)], Some((false, &[5]))),
     (1, MAX, &[(0, MAX)], Some((false, &[MAX - 2]))),
-    (
-        2,
-        9,
-        &[(0, MAX), (1, MAX), (1, MAX)],
-        Some((true, &[3, 3])),
-    ),
+    (2, 9, &[(0, MAX), (1, MAX), (1, MAX)], Some((true, &[3, 3]))),
     (
         2,
         MAX,

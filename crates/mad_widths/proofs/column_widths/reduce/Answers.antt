@@ -5,33 +5,17 @@ use Rattle.mad_widths.specs.ColumnWidths.{natural_widths, AreReduced}
 use Rattle.mad_widths.specs.SeenCells.{needs_in}
 use Rattle.mad_widths.proofs.CellLemmas.{naturals_wide}
 use Rattle.mad_widths.proofs.WidthLemmas.{IsHalfway, whole_at_once}
-use Rattle.mad_widths.proofs.ReduceLemmas.{IsReady, ready_len, ready_within, ready_columns, first_ready, first_done, second_room, second_ready, second_done}
+use Rattle.mad_widths.proofs.ReduceLemmas.{IsReady, ready_len, ready_gives, first_ready, first_done, second_room, second_ready, second_done}
 use Rattle.mad_widths.proofs.column_widths.reduce.Goals as goal
 use Rattle.mad_widths.proofs.column_widths.reduce.Goals.{then-left-gt0+in_ok-requests-2, else-left-gt0}
 
-pub give_up_in_turn-left-requires-clause-len : goal.give_up_in_turn-left-requires-clause-len
-give_up_in_turn-left-requires-clause-len c =
+pub give_up_in_turn-left-requires : goal.give_up_in_turn-left-requires
+give_up_in_turn-left-requires c =
     let ns = map needs_in c.args.columns.now in
     let ready : IsReady ns c.args.widths.now c.deref_mut.result.now c.deref.result.now =
     first_ready ns c.args.widths.now c.deref_mut.result.now c.in_ok-requests.requests.items c.deref.result.now c.in_ok-turns.turns.items (c.args.total - c.args.available) (naturals_wide c.args.columns.now) c.requires.naturals c.in_ok-turns.ensures c.deref.ensures.value
     c.deref_mut.ensures.value c.in_ok-requests.ensures in
-    ready.count
-
-pub give_up_in_turn-left-requires-clause-within : goal.give_up_in_turn-left-requires-clause-within
-give_up_in_turn-left-requires-clause-within c =
-    let ns = map needs_in c.args.columns.now in
-    let ready : IsReady ns c.args.widths.now c.deref_mut.result.now c.deref.result.now =
-    first_ready ns c.args.widths.now c.deref_mut.result.now c.in_ok-requests.requests.items c.deref.result.now c.in_ok-turns.turns.items (c.args.total - c.args.available) (naturals_wide c.args.columns.now) c.requires.naturals c.in_ok-turns.ensures c.deref.ensures.value
-    c.deref_mut.ensures.value c.in_ok-requests.ensures in
-    ready_within ns c.args.widths.now c.deref_mut.result.now c.deref.result.now ready
-
-pub give_up_in_turn-left-requires-clause-columns : goal.give_up_in_turn-left-requires-clause-columns
-give_up_in_turn-left-requires-clause-columns c =
-    let ns = map needs_in c.args.columns.now in
-    let ready : IsReady ns c.args.widths.now c.deref_mut.result.now c.deref.result.now =
-    first_ready ns c.args.widths.now c.deref_mut.result.now c.in_ok-requests.requests.items c.deref.result.now c.in_ok-turns.turns.items (c.args.total - c.args.available) (naturals_wide c.args.columns.now) c.requires.naturals c.in_ok-turns.ensures c.deref.ensures.value
-    c.deref_mut.ensures.value c.in_ok-requests.ensures in
-    ready_columns ns c.args.widths.now c.deref_mut.result.now c.deref.result.now ready
+    ready_gives ns c.args.widths.now c.deref_mut.result.now c.deref.result.now ready
 
 pub second_requests-requires : goal.second_requests-requires
 second_requests-requires c =
@@ -46,8 +30,8 @@ second_requests-requires c =
     c.requires.total c.requires.excess (omega (arith, c.requires.wide_enough, len)) c.deref_mut.ensures.value c.in_ok-requests.ensures (c.give_up_in_turn-left.ensures.left (natural_widths ns) ready.turns long) (c.give_up_in_turn-left.ensures.widths (natural_widths ns) ready.turns long) in
     second_room c.args.available c.give_up_in_turn-left.result ns c.give_up_in_turn-left.new.widths (length c.args.columns.now) half c.if-left-gt0.true len
 
-pub give_up_in_turn-requires-clause-len : goal.give_up_in_turn-requires-clause-len
-give_up_in_turn-requires-clause-len c =
+pub give_up_in_turn-requires : goal.give_up_in_turn-requires
+give_up_in_turn-requires c =
     let ns = map needs_in c.args.columns.now in
     let ready : IsReady ns c.args.widths.now c.deref_mut.result.now c.deref.result.now =
     first_ready ns c.args.widths.now c.deref_mut.result.now c.in_ok-requests.requests.items c.deref.result.now c.in_ok-turns.turns.items (c.args.total - c.args.available) (naturals_wide c.args.columns.now) c.requires.naturals c.in_ok-turns.ensures c.deref.ensures.value
@@ -60,39 +44,7 @@ give_up_in_turn-requires-clause-len c =
     let ready2 : IsReady ns c.give_up_in_turn-left.new.widths c.deref_mut-then-left-gt0.result.now c.deref-then-left-gt0.result.now =
     second_ready c.args.available c.give_up_in_turn-left.result ns c.args.widths.now c.give_up_in_turn-left.new.widths c.deref_mut-then-left-gt0.result.now c.in_ok-requests-2.requests.items c.deref-then-left-gt0.result.now c.in_ok-turns.turns.items (length c.args.columns.now) half
     len c.requires.naturals c.in_ok-turns.ensures c.deref-then-left-gt0.ensures.value c.deref_mut-then-left-gt0.ensures.value c.in_ok-requests-2.ensures in
-    ready2.count
-
-pub give_up_in_turn-requires-clause-within : goal.give_up_in_turn-requires-clause-within
-give_up_in_turn-requires-clause-within c =
-    let ns = map needs_in c.args.columns.now in
-    let ready : IsReady ns c.args.widths.now c.deref_mut.result.now c.deref.result.now =
-    first_ready ns c.args.widths.now c.deref_mut.result.now c.in_ok-requests.requests.items c.deref.result.now c.in_ok-turns.turns.items (c.args.total - c.args.available) (naturals_wide c.args.columns.now) c.requires.naturals c.in_ok-turns.ensures c.deref.ensures.value
-    c.deref_mut.ensures.value c.in_ok-requests.ensures in
-    let long : length c.deref_mut.result.now ≡ length (natural_widths ns) = ready_len ns c.args.widths.now c.deref_mut.result.now c.deref.result.now ready in
-    let len : length ns ≡ length c.args.columns.now = length-map c.args.columns.now needs_in in
-    let half : IsHalfway c.args.available c.give_up_in_turn-left.result ns c.give_up_in_turn-left.new.widths =
-    first_done c.args.available c.args.total c.give_up_in_turn-left.result ns c.args.widths.now c.deref_mut.result.now c.in_ok-requests.requests.items c.give_up_in_turn-left.new.widths c.deref.result.now (naturals_wide c.args.columns.now) ready c.requires.naturals
-    c.requires.total c.requires.excess (omega (arith, c.requires.wide_enough, len)) c.deref_mut.ensures.value c.in_ok-requests.ensures (c.give_up_in_turn-left.ensures.left (natural_widths ns) ready.turns long) (c.give_up_in_turn-left.ensures.widths (natural_widths ns) ready.turns long) in
-    let ready2 : IsReady ns c.give_up_in_turn-left.new.widths c.deref_mut-then-left-gt0.result.now c.deref-then-left-gt0.result.now =
-    second_ready c.args.available c.give_up_in_turn-left.result ns c.args.widths.now c.give_up_in_turn-left.new.widths c.deref_mut-then-left-gt0.result.now c.in_ok-requests-2.requests.items c.deref-then-left-gt0.result.now c.in_ok-turns.turns.items (length c.args.columns.now) half
-    len c.requires.naturals c.in_ok-turns.ensures c.deref-then-left-gt0.ensures.value c.deref_mut-then-left-gt0.ensures.value c.in_ok-requests-2.ensures in
-    ready_within ns c.give_up_in_turn-left.new.widths c.deref_mut-then-left-gt0.result.now c.deref-then-left-gt0.result.now ready2
-
-pub give_up_in_turn-requires-clause-columns : goal.give_up_in_turn-requires-clause-columns
-give_up_in_turn-requires-clause-columns c =
-    let ns = map needs_in c.args.columns.now in
-    let ready : IsReady ns c.args.widths.now c.deref_mut.result.now c.deref.result.now =
-    first_ready ns c.args.widths.now c.deref_mut.result.now c.in_ok-requests.requests.items c.deref.result.now c.in_ok-turns.turns.items (c.args.total - c.args.available) (naturals_wide c.args.columns.now) c.requires.naturals c.in_ok-turns.ensures c.deref.ensures.value
-    c.deref_mut.ensures.value c.in_ok-requests.ensures in
-    let long : length c.deref_mut.result.now ≡ length (natural_widths ns) = ready_len ns c.args.widths.now c.deref_mut.result.now c.deref.result.now ready in
-    let len : length ns ≡ length c.args.columns.now = length-map c.args.columns.now needs_in in
-    let half : IsHalfway c.args.available c.give_up_in_turn-left.result ns c.give_up_in_turn-left.new.widths =
-    first_done c.args.available c.args.total c.give_up_in_turn-left.result ns c.args.widths.now c.deref_mut.result.now c.in_ok-requests.requests.items c.give_up_in_turn-left.new.widths c.deref.result.now (naturals_wide c.args.columns.now) ready c.requires.naturals
-    c.requires.total c.requires.excess (omega (arith, c.requires.wide_enough, len)) c.deref_mut.ensures.value c.in_ok-requests.ensures (c.give_up_in_turn-left.ensures.left (natural_widths ns) ready.turns long) (c.give_up_in_turn-left.ensures.widths (natural_widths ns) ready.turns long) in
-    let ready2 : IsReady ns c.give_up_in_turn-left.new.widths c.deref_mut-then-left-gt0.result.now c.deref-then-left-gt0.result.now =
-    second_ready c.args.available c.give_up_in_turn-left.result ns c.args.widths.now c.give_up_in_turn-left.new.widths c.deref_mut-then-left-gt0.result.now c.in_ok-requests-2.requests.items c.deref-then-left-gt0.result.now c.in_ok-turns.turns.items (length c.args.columns.now) half
-    len c.requires.naturals c.in_ok-turns.ensures c.deref-then-left-gt0.ensures.value c.deref_mut-then-left-gt0.ensures.value c.in_ok-requests-2.ensures in
-    ready_columns ns c.give_up_in_turn-left.new.widths c.deref_mut-then-left-gt0.result.now c.deref-then-left-gt0.result.now ready2
+    ready_gives ns c.give_up_in_turn-left.new.widths c.deref_mut-then-left-gt0.result.now c.deref-then-left-gt0.result.now ready2
 
 pub returns : goal.returns
 returns c =
