@@ -1,8 +1,12 @@
 -- The two steps, as the program takes them.
 use Rattle.std.proofs.Common.{◌≡◌, ℕ, ◌-◌, ◌*◌, ◌≤◌, ◌<◌, List, length, map, sum, sym, ap, ◌∙◌, arith, subst, All}
+use Rattle.std.proofs.lemmas.List.{length-map}
 use Rattle.std.specs.declared.cmp.Reverse.{Reverse}
 use Rattle.mad_widths.specs.Turns.{turn_of, grants, AreTurns, CanGiveUp}
 use Rattle.mad_widths.specs.ColumnWidths.{Needs, natural_widths, narrowed, first_requests, above_three, second_requests, AreReduced}
+use Rattle.mad_widths.specs.SeenCells.{needs_in}
+use Rattle.mad_widths.specs.declared.sharing.SeenColumn.{SeenColumn}
+use Rattle.mad_widths.proofs.CellLemmas.{naturals_wide}
 use Rattle.mad_widths.proofs.TurnLemmas.{turns_within}
 use Rattle.mad_widths.proofs.ShareLemmas.{LeaveThree, first_leave, second_leave, length-naturals, length-first_requests, length-second_requests}
 use Rattle.mad_widths.proofs.WidthLemmas.{IsHalfway, halfway, whole}
@@ -37,7 +41,7 @@ first_ready ns ws requests requested us turns excess wide same order e f g =
       leave = subst (λ w. LeaveThree requests w) (sym same) (subst (λ x. LeaveThree x (natural_widths ns)) (sym a) (first_leave excess ns wide));
     }
 
-pub first_done : (available total left : ℕ) (ns : List Needs) (ws requests requested after : List ℕ) (us : List (Reverse ℕ × ℕ)) → All (λ n. 3 ≤ n.natural) ns → IsReady ns ws requests us → ws ≡ natural_widths ns → total ≡ sum ws → available < total
+first_done : (available total left : ℕ) (ns : List Needs) (ws requests requested after : List ℕ) (us : List (Reverse ℕ × ℕ)) → All (λ n. 3 ≤ n.natural) ns → IsReady ns ws requests us → ws ≡ natural_widths ns → total ≡ sum ws → available < total
     → 3 * length ns ≤ available → requests ≡ requested → requested ≡ first_requests (total - available) ns → left ≡ total - available - sum requests → after ≡ narrowed ws (grants (natural_widths ns) requests (total - available)) → IsHalfway available left ns after
 first_done available total left ns ws requests requested after us wide h same t more wide_enough f g l e =
     let a : requests ≡ first_requests (total - available) ns = f ∙ g in
@@ -46,6 +50,21 @@ first_done available total left ns ws requests requested after us wide h same t 
     let e' : after ≡ narrowed (natural_widths ns) (grants (natural_widths ns) (first_requests (total - available) ns) (total - available)) =
     e ∙ ap (λ w. narrowed w (grants (natural_widths ns) requests (total - available))) same ∙ ap (λ x. narrowed (natural_widths ns) (grants (natural_widths ns) x (total - available))) a in
     halfway available (total - available) left ns (map turn_of us) after h.turns wide wide_enough (omega (arith, more, t')) (ap (λ n. n - available) t') l' e'
+
+-- what the first step is called with and what it leaves, from what its calls ensure
+pub first_taken : (columns : List SeenColumn) (available total left : ℕ) (ws requests requested after : List ℕ) (us turns : List (Reverse ℕ × ℕ)) → ws ≡ natural_widths (map needs_in columns) → total ≡ sum ws → available < total → 3 * length columns ≤ available
+    → AreTurns ws (map turn_of turns) → us ≡ turns → requests ≡ requested → requested ≡ first_requests (total - available) (map needs_in columns)
+    → ((order : List ℕ) → AreTurns order (map turn_of us) → length requests ≡ length order → left ≡ total - available - sum requests)
+    → ((order : List ℕ) → AreTurns order (map turn_of us) → length requests ≡ length order → after ≡ narrowed ws (grants order requests (total - available)))
+    → IsReady (map needs_in columns) ws requests us × IsHalfway available left (map needs_in columns) after
+first_taken columns available total left ws requests requested after us turns same t more wide_enough o e f g l w =
+    let ns = map needs_in columns in
+    let ready : IsReady ns ws requests us = first_ready ns ws requests requested us turns (total - available) (naturals_wide columns) same o e f g in
+    let long : length requests ≡ length (natural_widths ns) = ready_len ns ws requests us ready in
+    let len : length ns ≡ length columns = length-map columns needs_in in (
+      ready,
+      first_done available total left ns ws requests requested after us (naturals_wide columns) ready same t more (omega (arith, wide_enough, len)) f g (l (natural_widths ns) ready.turns long) (w (natural_widths ns) ready.turns long),
+    )
 
 pub second_room : (available left : ℕ) (ns : List Needs) (ws : List ℕ) (n : ℕ) → IsHalfway available left ns ws → 0 < left → length ns ≡ n → available - 3 * n < above_three ws
 second_room available left ns ws n h some e = omega (arith, h.above, some, e)

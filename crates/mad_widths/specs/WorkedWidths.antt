@@ -21,7 +21,8 @@ pub record AreWorkedWidths : Type 0 where
   pub reduced : widths_for 10 narrow_and_wide ≡ 3 ∷ 7 ∷ []
   pub uneven : widths_for 18 uneven_cells ≡ 13 ∷ 5 ∷ []
 
--- what no widths are where there are several columns and their natural widths are more than is available
+-- What widths of several columns that need more than is available are not: of another sum, under three, wider than natural,
+-- or not called reduced. The examples are two columns that need 3 and 20 and have 10.
 pub record AreNoWidths : Type 0 where
   pub other_sum : (available : ℕ) (naturals widths : List ℕ) (reduced : Bool) → available < sum naturals → length naturals ≢ 1 → sum widths ≢ available → ¬ (AreShared available naturals reduced widths)
   pub one_too_few : (reduced : Bool) → ¬ (AreShared 10 (3 ∷ 20 ∷ []) reduced (3 ∷ 6 ∷ []))

@@ -1,4 +1,4 @@
-// The widths of a table's columns, from what was seen of their cells: the three cases.
+//! The widths of a table's columns, from what was seen of their cells: the three cases.
 
 ghost use Rattle.std.specs.Prelude.{◌≡◌, ℕ, ◌*◌, ◌^◌, ◌<◌, ◌≤◌, length, map, sum, IfOk, OnOk};
 ghost use Rattle.mad_widths.specs.SeenCells.{needs_in};
@@ -12,7 +12,7 @@ use crate::sharing::{
 use crate::tbl_fit::TblFitResult;
 use std::alloc::{AllocError, Global};
 
-// The widths of the columns, which take at most `available` together.
+/// The widths of the columns, which take at most `available` together.
 pub fn fit_columns(
     alloc: Global,
     columns: &[SeenColumn],
@@ -43,7 +43,7 @@ pub fn fit_columns(
     })
 }
 
-// Takes off the natural widths, whose sum is `total`, what is more than available.
+// Takes what is more than `available` off the natural widths, whose sum is `total`.
 fn reduce(
     alloc: Global,
     columns: &[SeenColumn],

@@ -1,4 +1,4 @@
-// How the columns of a table that is too wide give up their excess.
+//! How the columns of a table that is too wide give up their excess.
 
 ghost use Rattle.std.specs.Prelude.{sum_by, ◌≡◌, ℕ, ◌+◌, ◌-◌, ◌*◌, ◌^◌, ◌<◌, ◌≤◌, ◌++◌, ◌∷◌, [], List, length, map, max, min, sum, IfOk, All, slice_index};
 ghost use Rattle.mad_widths.specs.Turns.{AreTurns, CanGiveUp, grants, turn_of};
@@ -8,19 +8,19 @@ ghost use Rattle.mad_widths.specs.SeenCells.{ColumnHasSeen, needs_in};
 use std::alloc::{AllocError, Global};
 use std::cmp::Reverse;
 
-// What is kept of the cells that were seen in a column.
+/// What is kept of the cells that were seen in a column.
 #[derive(Clone, Copy, Debug)]
 pub struct SeenColumn {
-    // The widest of them; 0 where there is none.
+    /// The widest of them; 0 where there is none.
     pub widest: usize,
-    // Their count.
+    /// Their count.
     pub count: usize,
-    // The sum of their widths.
+    /// The sum of their widths.
     pub total: u128,
 }
 
 impl SeenColumn {
-    // A column without cells.
+    /// A column without cells.
     pub fn empty() -> Self
         ensures { ColumnHasSeen result [] }
     {
@@ -31,7 +31,7 @@ impl SeenColumn {
         }
     }
 
-    // The column after one cell more. Count and sum stay at their greatest values.
+    /// The column after one cell more. Count and sum stay at their greatest values.
     pub fn with_cell(self, width: usize) -> Self
         ensures { (cells : List ℕ) → ColumnHasSeen self cells → ColumnHasSeen result (cells ++ width ∷ []) }
     {
@@ -42,7 +42,7 @@ impl SeenColumn {
         }
     }
 
-    // The width in which each cell fits, at least three.
+    /// The width in which each cell fits, at least three.
     pub fn natural(self) -> usize
         ensures { result ≡ (needs_in self).natural }
     {
@@ -96,7 +96,7 @@ impl SeenColumn {
     }
 }
 
-// A column's turn to give up, the widest first and of equals the left one: its width and its number.
+/// A column's turn to give up, the widest first and of equals the left one: its width and its number.
 pub type Turn = (Reverse<usize>, usize);
 
 // The count, or the limit where that is less.
@@ -110,14 +110,14 @@ fn capped(count: usize, limit: u128) -> usize
     }
 }
 
-// The width that each column needs.
+/// The width that each column needs.
 pub fn natural_widths(alloc: Global, columns: &[SeenColumn]) -> Result<Vec<usize>, AllocError>
     ensures { IfOk result (λ widths. widths.items ≡ map (λ c. max c.widest 3) columns.now) }
 {
     columns.iter().map(|column| column.natural()).collect(alloc)
 }
 
-// The sum of widths.
+/// The sum of widths.
 pub fn total_width(widths: &[usize]) -> u128
     ensures { result ≡ sum widths.now }
 {
@@ -128,7 +128,7 @@ pub fn total_width(widths: &[usize]) -> u128
     total
 }
 
-// The columns' turns, in order. The time is that of sorting them.
+/// The columns' turns, in order. The time is that of sorting them.
 pub fn turns_of(alloc: Global, widths: &[usize]) -> Result<Vec<Turn>, AllocError>
     ensures { IfOk result (λ turns. AreTurns widths.now (map turn_of turns.items)) }
 {
@@ -152,7 +152,7 @@ fn spares_of(columns: &[SeenColumn]) -> usize
     spares
 }
 
-// What each column requests to give up in the first step.
+/// What each column requests to give up in the first step.
 pub fn first_requests(
     alloc: Global,
     columns: &[SeenColumn],
@@ -192,7 +192,7 @@ fn second_request(width: usize, kept: usize, above: u128) -> usize
     own - kept as usize
 }
 
-// What each column requests to give up in the second step, for all to stay wider than three by `kept` together.
+/// What each column requests to give up in the second step, for all to stay wider than three by `kept` together.
 pub fn second_requests(
     alloc: Global,
     widths: &[usize],
@@ -236,7 +236,7 @@ fn give_up(widths: &mut [usize], cuts: &[usize])
     }
 }
 
-// Takes off each width what its column gives up of its request, in turn until the excess is gone, and answers what is left of it.
+/// Takes off each width what its column gives up of its request, in turn until the excess is gone, and answers what is left of it.
 pub fn give_up_in_turn(
     widths: &mut [usize],
     requests: &mut [usize],

@@ -1,3 +1,5 @@
+//! A table that sees the widths of its cells, and what its columns are fitted to.
+
 ghost use Rattle.std.specs.Prelude.{◌≡◌, ℕ, ◌+◌, ◌*◌, ◌<◌, ◌≤◌, List, [], vec_len, replicate, IfOk, MatchResult};
 
 use crate::column_widths::fit_columns;
