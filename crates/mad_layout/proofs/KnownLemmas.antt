@@ -14,10 +14,10 @@ use Rattle.mad_style.specs.declared.line_styles.LineStyle.{LineStyle}
 use Rattle.mad_layout.specs.declared.composite.FmtComposite.{FmtComposite}
 use Rattle.mad_layout.specs.declared.line.FmtLine.TheVariants.{Normal}
 use Rattle.mad_layout.specs.declared.skin.MadSkin.{MadSkin}
-use Rattle.mad_layout.specs.Pieces.{RowPiece, AreKnown, single_spaces}
+use Rattle.mad_draw.specs.Pieces.{RowPiece, AreKnown, single_spaces}
 use Rattle.mad_layout.specs.Rows.{compound_piece, mark_pieces, inner_blanks, outer_blanks, line_pieces, margins_of}
 use Rattle.mad_layout.specs.Styles.{AreKnownAdditions, compound_style, ellipsis_bytes, line_style, overwritten_if}
-use Rattle.mad_layout.proofs.PieceLemmas.{known_both, spaces_known, single_known}
+use Rattle.mad_draw.proofs.PieceLemmas.{known_both, spaces_known, single_known}
 
 or_known : (a b : Option Color) → IsColorOrNone a → IsColorOrNone b → IsColorOrNone (option_or a b)
 or_known None b h k = k

@@ -1,4 +1,3 @@
-pub mod AreaLemmas
 pub mod BoundLemmas
 pub mod BoundOfLemmas
 pub mod CheckerSteps

@@ -1,7 +1,7 @@
 //! Texts and inline texts as displayed values: the same bytes as the writing calls, piece by piece, without memory.
 
 ghost use Rattle.std.specs.Prelude.{◌≡◌, Some};
-ghost use Rattle.mad_layout.specs.Pieces.{pieces_bytes, spaces, single_spaces};
+ghost use Rattle.mad_draw.specs.Pieces.{pieces_bytes};
 ghost use Rattle.mad_layout.specs.Rows.{mark_pieces};
 
 use crate::composite::FmtComposite;
@@ -11,53 +11,11 @@ use crate::indents::indent_of;
 use crate::line::FmtLine;
 use crate::rows::{RowPlace, inner_blanks, margins_of, outer_blanks};
 use crate::skin::MadSkin;
+use mad_draw::{SingleSpaces, Spaces};
 use mad_md::{Composite, Compound};
-use mad_style::{CompositeKind, CompoundStyle, LineStyle};
-use mad_term::{StyledContent, StyledNumber, StyledRun};
+use mad_style::{CompositeKind, LineStyle};
+use mad_term::StyledNumber;
 use std::fmt;
-
-// Spaces, as one piece; nothing at all of none.
-#[derive(Clone, Copy)]
-struct Spaces {
-    style: CompoundStyle,
-    count: usize,
-}
-
-impl fmt::Display for Spaces {
-    ghost output = { λ s. Some (pieces_bytes (spaces s.style s.count)) };
-
-    #[tactic(auto, using(crate::proofs::PieceLemmas::run_of_spaces))]
-    fn fmt<W: fmt::Write>(&self, f: &mut fmt::Formatter<W>) -> fmt::Result {
-        let run = StyledRun {
-            style: self.style.object_style,
-            content: " ",
-            count: self.count,
-        };
-        write!(f, "{run}")
-    }
-}
-
-// Spaces, each a piece of its own.
-#[derive(Clone, Copy)]
-struct SingleSpaces {
-    style: CompoundStyle,
-    count: usize,
-}
-
-impl fmt::Display for SingleSpaces {
-    ghost output = { λ s. Some (pieces_bytes (single_spaces s.style s.count)) };
-
-    fn fmt<W: fmt::Write>(&self, f: &mut fmt::Formatter<W>) -> fmt::Result {
-        let space = StyledContent {
-            style: self.style.object_style,
-            content: " ",
-        };
-        for _done in 0..self.count {
-            write!(f, "{space}")?;
-        }
-        Ok(())
-    }
-}
 
 // What stands in front of a line's text.
 #[derive(Clone, Copy)]

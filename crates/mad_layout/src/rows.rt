@@ -5,7 +5,7 @@ ghost use Rattle.std.specs.Option.{option_copied};
 ghost use Rattle.mad_term.specs.Styles.{IsStyle};
 ghost use Rattle.mad_style.specs.StyledChars.{char_style};
 ghost use Rattle.mad_layout.specs.declared.line.FmtLine.TheVariants.{Normal};
-ghost use Rattle.mad_layout.specs.Pieces.{AreKnown};
+ghost use Rattle.mad_draw.specs.Pieces.{AreKnown};
 ghost use Rattle.mad_layout.specs.Rows.{mark_pieces, line_pieces, row_pieces, inner_blanks, outer_blanks, margins_of};
 ghost use Rattle.mad_layout.specs.Styles.{AreKnownAdditions};
 
@@ -80,7 +80,7 @@ pub(crate) fn row_columns(skin: &MadSkin, line: Option<&FmtLine>, width: usize) 
 }
 
 /// What reading a row back needs to know: the numbers of its colors are bytes. Nothing is done.
-#[tactic(auto, using(crate::proofs::PieceLemmas::spaces_known))]
+#[tactic(auto, using(mad_draw::proofs::PieceLemmas::spaces_known))]
 pub(crate) fn read_row(skin: &MadSkin, line: Option<&FmtLine>, width: usize)
     ensures { AreKnown (row_pieces skin.now width (option_copied line.entry)) }
 {
@@ -94,8 +94,7 @@ pub(crate) fn read_row(skin: &MadSkin, line: Option<&FmtLine>, width: usize)
 // The numbers of a style's colors are bytes.
 fn read_style(style: CompoundStyle)
     ensures { IsStyle style.object_style }
-{
-}
+{}
 
 // The same of a line.
 fn read_composite(skin: &MadSkin, composite: &FmtComposite, width: usize)
@@ -109,7 +108,7 @@ fn read_composite(skin: &MadSkin, composite: &FmtComposite, width: usize)
 }
 
 // What the pieces in front of a line's text need.
-#[tactic(auto, using(crate::proofs::KnownLemmas::spaced_known, crate::proofs::PieceLemmas::single_known))]
+#[tactic(auto, using(crate::proofs::KnownLemmas::spaced_known, mad_draw::proofs::PieceLemmas::single_known))]
 fn read_mark(skin: &MadSkin, kind: CompositeKind)
     ensures { AreKnown (mark_pieces skin.now kind) }
 {
@@ -129,8 +128,7 @@ fn read_mark(skin: &MadSkin, kind: CompositeKind)
 
 fn read_char(c: StyledChar)
     ensures { IsStyle (char_style c).object_style }
-{
-}
+{}
 
 // What compounds add to their line's style.
 fn read_compounds(skin: &MadSkin)

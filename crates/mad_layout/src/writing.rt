@@ -79,7 +79,9 @@ impl MadSkin {
         ensures early { IsErrOf result Memory → O.seen out.new ≡ O.seen out.old }
     {
         let mut row = String::new(alloc);
-        let margin = self.line_style(CompositeKind::from(composite.style)).left_margin;
+        let margin = self
+            .line_style(CompositeKind::from(composite.style))
+            .left_margin;
         row.reserve(margin)?;
         let free = FreeComposite {
             skin: self,

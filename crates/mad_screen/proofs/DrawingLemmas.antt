@@ -9,7 +9,7 @@ use Rattle.mad_screen.specs.Glyph.{Glyph}
 use Rattle.mad_screen.specs.Grid.{Grid, IsGrid, put_list, painted, blank, plain_pen, cell_at}
 use Rattle.mad_screen.specs.Terminal.{Leads, resting}
 use Rattle.mad_screen.specs.Painting.{HasColumns}
-use Rattle.mad_screen.specs.Drawing.{drawing, PaintRows, AreWide, IsOutside, ShowsRows, DrawnAs}
+use Rattle.mad_screen.specs.Drawing.{drawing, PaintRows, AreWide, IsOutside, ShowsRows, DrawnAs, listed}
 use Rattle.mad_screen.proofs.PutList.{put_list-same, put_list-other}
 use Rattle.mad_screen.proofs.Reading.{then_leads, nothing_leads, move_leads}
 use Rattle.mad_screen.proofs.PaintingLemmas.{painted_is_grid, rest_fits}
@@ -94,7 +94,7 @@ drawing_leads (t ∷ ts) (r ∷ rs) g left top w paints wide h pen some fits_x f
     )
 
 -- the positions of the first row and of those below it
-inside_step : (r : List Glyph) (rs : List (List Glyph)) (g new : Grid) (left top w : ℕ) → length r ≡ w → IsGrid g → left + w ≤ g.width → top < g.height → ShowsRows left (suc top) w rs (painted (at g left top) r) new → (i j : ℕ) → i < w → j < suc (length rs) → cell_at new (left + i) (top + j) ≡ get_or (get_or (r ∷ rs) j []) i blank
+inside_step : (r : List Glyph) (rs : List (List Glyph)) (g new : Grid) (left top w : ℕ) → length r ≡ w → IsGrid g → left + w ≤ g.width → top < g.height → ShowsRows left (suc top) w (length rs) (listed rs) (painted (at g left top) r) new → (i j : ℕ) → i < w → j < suc (length rs) → cell_at new (left + i) (top + j) ≡ get_or (get_or (r ∷ rs) j []) i blank
 unfolding painted
 inside_step r rs g new left top w wide h fits_x fits_y below i zero in_w in_h =
     let row : top + 0 ≡ top = omega arith in
@@ -104,13 +104,13 @@ inside_step r rs g new left top w wide h fits_x fits_y below i (suc j) in_w in_h
     let row : top + suc j ≡ suc top + j = omega arith in
     ap (λ y. cell_at new (left + i) y) row ∙ below.inside i j in_w (omega arith)
 
-outside_step : (r : List Glyph) (rs : List (List Glyph)) (g new : Grid) (left top w : ℕ) → length r ≡ w → left + w ≤ g.width → ShowsRows left (suc top) w rs (painted (at g left top) r) new → (x y : ℕ) → x < g.width → IsOutside left top w (suc (length rs)) x y → cell_at new x y ≡ cell_at g x y
+outside_step : (r : List Glyph) (rs : List (List Glyph)) (g new : Grid) (left top w : ℕ) → length r ≡ w → left + w ≤ g.width → ShowsRows left (suc top) w (length rs) (listed rs) (painted (at g left top) r) new → (x y : ℕ) → x < g.width → IsOutside left top w (suc (length rs)) x y → cell_at new x y ≡ cell_at g x y
 unfolding painted
 outside_step r rs g new left top w wide fits below x y in_width out =
     below.outside x y in_width (⊎_elim (λ a. inl a) (⊎_elim (λ a. inr (inl a)) (⊎_elim (λ a. inr (inr (inl (omega arith)))) (λ a. inr (inr (inr (omega arith)))))) out)
     ∙ row_outside g left top r x y (omega arith) in_width (⊎_elim (λ a. inr (inl a)) (⊎_elim (λ a. inr (inr (omega arith))) (⊎_elim (λ a. inl (omega arith)) (λ a. inl (omega arith)))) out)
 
-pub painted_rows_show : (rs : List (List Glyph)) (g : Grid) (left top w : ℕ) → AreWide w rs → IsGrid g → left + w ≤ g.width → top + length rs ≤ g.height → ShowsRows left top w rs g (painted_rows g left top rs)
+pub painted_rows_show : (rs : List (List Glyph)) (g : Grid) (left top w : ℕ) → AreWide w rs → IsGrid g → left + w ≤ g.width → top + length rs ≤ g.height → ShowsRows left top w (length rs) (listed rs) g (painted_rows g left top rs)
 unfolding painted
 painted_rows_show [] g left top w wide h fits_x fits_y = record {
   width = refl;
@@ -121,7 +121,7 @@ painted_rows_show [] g left top w wide h fits_x fits_y = record {
 painted_rows_show (r ∷ rs) g left top w wide h fits_x fits_y =
     let there : HasColumns (at g left top) (length r) = at_columns g left top (length r) h (omega arith) (omega (arith, wide.0)) in
     let g' : Grid = painted (at g left top) r in
-    let below : ShowsRows left (suc top) w rs g' (painted_rows g' left (suc top) rs) = painted_rows_show rs g' left (suc top) w wide.1 (painted_is_grid (at g left top) r there.grid (omega (arith, wide.0))) fits_x (omega arith) in
+    let below : ShowsRows left (suc top) w (length rs) (listed rs) g' (painted_rows g' left (suc top) rs) = painted_rows_show rs g' left (suc top) w wide.1 (painted_is_grid (at g left top) r there.grid (omega (arith, wide.0))) fits_x (omega arith) in
     record {
       width = below.width;
       height = below.height;

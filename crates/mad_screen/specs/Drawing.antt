@@ -28,12 +28,16 @@ AreWide w (r ∷ rs) = (length r ≡ w) × AreWide w rs
 abbrev pub IsOutside : ℕ → ℕ → ℕ → ℕ → ℕ → ℕ → Type 0
 IsOutside left top w h x y = (x < left) ⊎ (left + w ≤ x) ⊎ (y < top) ⊎ (top + h ≤ y)
 
--- the area shows these rows, and no cell outside it has changed
-pub record ShowsRows (left top w : ℕ) (rows : List (List Glyph)) (old new : Grid) : Type 0 where
+-- the rows of a list, by their numbers; none past its end
+abbrev pub listed : List (List Glyph) → ℕ → List Glyph
+listed rows j = slice_index_or rows j []
+
+-- an area of w columns and h rows shows these rows, and no cell outside it has changed
+pub record ShowsRows (left top w h : ℕ) (row : ℕ → List Glyph) (old new : Grid) : Type 0 where
   pub width : new.width ≡ old.width
   pub height : new.height ≡ old.height
-  pub inside : (i j : ℕ) → i < w → j < length rows → cell_at new (left + i) (top + j) ≡ slice_index_or (slice_index_or rows j []) i blank
-  pub outside : (x y : ℕ) → x < old.width → IsOutside left top w (length rows) x y → cell_at new x y ≡ cell_at old x y
+  pub inside : (i j : ℕ) → i < w → j < h → cell_at new (left + i) (top + j) ≡ slice_index_or (row j) i blank
+  pub outside : (x y : ℕ) → x < old.width → IsOutside left top w h x y → cell_at new x y ≡ cell_at old x y
 
 -- the area lies on the screen, which has the plain pen, and each row has the area's width
 pub record FitsArea (left top w : ℕ) (rows : List (List Glyph)) (g : Grid) : Type 0 where
@@ -49,7 +53,7 @@ pub record FitsArea (left top w : ℕ) (rows : List (List Glyph)) (g : Grid) : T
 abbrev pub DrawnAs : ℕ → ℕ → List (List Glyph) → List ℕ → Type 0
 DrawnAs left top rows bytes =
     (g : Grid) (w : ℕ) → FitsArea left top w rows g
-    → (new : Grid) × (after_bytes g bytes ≡ Some new) × IsGrid new × (new.pen ≡ plain_pen) × ShowsRows left top w rows g new
+    → (new : Grid) × (after_bytes g bytes ≡ Some new) × IsGrid new × (new.pen ≡ plain_pen) × ShowsRows left top w (length rows) (listed rows) g new
 
 -- ---- cells side by side at any positions
 

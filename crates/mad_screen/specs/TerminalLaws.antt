@@ -13,7 +13,7 @@ use Rattle.mad_screen.specs.Glyph.{Glyph, Look}
 use Rattle.mad_screen.specs.Grid.{Grid, IsGrid, plain_pen, painted, cell_at}
 use Rattle.mad_screen.specs.Terminal.{after_bytes, erased, space_of, row_start, row_end, screen_end}
 use Rattle.mad_screen.specs.Painting.{cells_of, IsShown, HasColumns, Paints, shown_color, piece_cells}
-use Rattle.mad_screen.specs.Drawing.{drawing, PaintRows, ShowsRows, DrawnAs, Strip, strips_bytes, FitsScreen, ShowsStrips}
+use Rattle.mad_screen.specs.Drawing.{drawing, PaintRows, ShowsRows, DrawnAs, listed, Strip, strips_bytes, FitsScreen, ShowsStrips}
 
 -- a text after another is read where that one ended
 abbrev pub ReadsInTurn : Type 0
@@ -63,7 +63,7 @@ pub record Composes : Type 0 where
 
 -- cells from the cursor on are at their positions, and no other position, nor the row, nor the pen has changed
 pub record PaintsPositions (g : Grid) (cells : List Glyph) : Type 0 where
-  pub positions : ShowsRows g.x g.y (length cells) (cells ∷ []) g (painted g cells)
+  pub positions : ShowsRows g.x g.y (length cells) 1 (listed (cells ∷ [])) g (painted g cells)
   pub column : (painted g cells).x ≡ g.x + length cells
   pub row : (painted g cells).y ≡ g.y
   pub pen : (painted g cells).pen ≡ g.pen

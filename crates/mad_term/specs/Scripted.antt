@@ -35,11 +35,17 @@ pub record IsSameDevice (old new : CutOut) : Type 0 where
 abbrev pub script_trace : ScriptSource → Trace
 script_trace source = record { bytes = Some source.left.now; faults = source.faults; flushes = 0 }
 
+-- How many bytes it hands out into a buffer of this length: no more than its step, and no more than it has left.
+abbrev pub script_count : ScriptSource → ℕ → ℕ
+script_count source len = min len (min source.step (length source.left.now))
+
 -- what it was made with
-pub record IsScript (source : ScriptSource) (bytes : List ℕ) (fails : Bool) : Type 0 where
+pub record IsScript (source : ScriptSource) (bytes : List ℕ) (step : ℕ) (fails : Bool) : Type 0 where
   pub fails_is : source.fails ≡ fails
+  pub step_is : source.step ≡ step
   pub trace_is : script_trace source ≡ record { bytes = Some bytes; faults = 0; flushes = 0 }
 
 -- it is still the source that it was made as, whatever it has handed out since
 pub record IsSameSource (old new : ScriptSource) : Type 0 where
   pub fails : new.fails ≡ old.fails
+  pub step : new.step ≡ old.step

@@ -65,6 +65,25 @@ pub record Ended (old new : Trace) : Type 0 where
 abbrev pub Gets : {E : Type 0} → Trace → Result (Option ℕ) E → Trace → Type 0
 Gets old r new = MatchResult r (λ o. MatchOption o (Ended old new) (λ byte. old ≡ ahead byte new)) (λ _. new ≡ failed old)
 
+-- these bytes stand before what a source has left
+unfoldable pub ahead_all : List ℕ → Trace → Trace
+ahead_all bytes t = record { bytes = option_map (λ rest. bytes ++ rest) t.bytes; faults = t.faults; flushes = t.flushes }
+
+-- where the source tells its bytes, it has none left
+abbrev pub IsAtItsEnd : Trace → Type 0
+IsAtItsEnd t = IfSome t.bytes (λ rest. rest ≡ [])
+
+-- One fill put the first bytes of a source, as many as it answers, into the front of the buffer; none only at the source's
+-- end, or into an empty buffer.
+pub record Filled (old : Trace) (buffer : List ℕ) (count : ℕ) (new : Trace) : Type 0 where
+  pub within : count ≤ length buffer
+  pub handed_out : old ≡ ahead_all (take count buffer) new
+  pub ended : count ≡ 0 → 0 < length buffer → IsAtItsEnd new
+
+-- what one fill does: that, or it is a fault and no byte is lost
+abbrev pub Fills : {E : Type 0} → Trace → List ℕ → Result ℕ E → Trace → Type 0
+Fills old buffer r new = MatchResult r (λ count. Filled old buffer count new) (λ _. new ≡ failed old)
+
 -- where the device tells its bytes, what it took in between has P
 abbrev pub TookWith : Trace → Trace → (List ℕ → Type 0) → Type 0
 TookWith old new P = IfSome old.bytes (λ before. (text : List ℕ) × (new.bytes ≡ Some (before ++ text)) × P text)

@@ -1,7 +1,7 @@
 //! Devices for tests: all that they took or have left can be read, and they fail where one wants them to.
 
-ghost use Rattle.std.specs.Prelude.{◌≡◌, ◌<◌, ◌≤◌, ◌+◌, ◌-◌, ◌^◌, ◌↔◌, IfOk, IsErr, IsTrue, Some, [], length, min, vec_capacity};
-ghost use Rattle.mad_term.specs.Trace.{Puts, Flushes, Gets, failed};
+ghost use Rattle.std.specs.Prelude.{◌≡◌, ◌<◌, ◌≤◌, ◌+◌, ◌-◌, ◌^◌, ◌↔◌, IfOk, IsErr, IsTrue, Some, [], length, max, min, vec_capacity};
+ghost use Rattle.mad_term.specs.Trace.{Puts, Flushes, Gets, Fills, failed};
 
 use crate::devices::{Out, Source};
 use std::alloc::{AllocError, Global};
@@ -127,23 +127,33 @@ impl Out for CutOut {
     }
 }
 
-/// A source that hands out given bytes, and then its end, or a fault at each further get.
+/// A source that hands out given bytes, and then its end, or a fault at each further call.
 #[derive(Debug, Drop)]
 pub struct ScriptSource<'s> {
     left: &'s [u8],
+    step: usize,
     fails: bool,
     faults: u64,
+    ghost some: { 0 < step },
 }
 
 impl<'s> ScriptSource<'s> {
     ghost use Rattle.mad_term.specs.Scripted.{script_trace, IsScript};
 
-    /// A source of `bytes`; after them it fails if `fails`, else it is at its end.
+    /// A source of `bytes`; after them it fails if `fails`, else it is at its end. A fill hands out all that it has room for.
     pub fn new(bytes: &'s [u8], fails: bool) -> Self
-        ensures { IsScript result bytes.entry.now fails }
+        ensures { IsScript result bytes.entry.now (2 ^ 64 - 1) fails }
+    {
+        Self::in_steps(bytes, usize::MAX, fails)
+    }
+
+    /// The same, whose fills hand out at most `step` bytes each, and at least one. A step of 0 is one of 1.
+    pub fn in_steps(bytes: &'s [u8], step: usize, fails: bool) -> Self
+        ensures { IsScript result bytes.entry.now (max step 1) fails }
     {
         ScriptSource {
             left: bytes,
+            step: step.max(1),
             fails,
             faults: 0,
         }
@@ -164,12 +174,26 @@ impl<'s> ScriptSource<'s> {
     }
 }
 
-impl Source for ScriptSource<'_> {
+impl ScriptSource<'_> {
     ghost use Rattle.mad_term.specs.Scripted.{script_trace, IsSameSource};
+
+    /// Counts a fault and answers it.
+    #[tactic(auto, unfolding(crate::specs::Trace::failed))]
+    fn fail(&mut self) -> io::Error
+        ensures counted { script_trace self.new ≡ failed (script_trace self.old) }
+        ensures keeps { IsSameSource self.old self.new }
+    {
+        self.faults = self.faults.saturating_add(1);
+        io::Error::new(io::ErrorKind::Other, "the script ends in a fault")
+    }
+}
+
+impl Source for ScriptSource<'_> {
+    ghost use Rattle.mad_term.specs.Scripted.{script_trace, script_count, IsSameSource};
 
     ghost seen = { script_trace };
 
-    #[tactic(auto, unfolding(crate::specs::Trace::ahead, crate::specs::Trace::failed))]
+    #[tactic(auto, unfolding(crate::specs::Trace::ahead))]
     fn get(&mut self) -> io::Result<Option<u8>>
         ensures gets { Gets (script_trace self.old) result (script_trace self.new) }
         ensures fault { IsErr result ↔ ((script_trace self.old).bytes ≡ Some []) × IsTrue self.old.fails }
@@ -180,9 +204,25 @@ impl Source for ScriptSource<'_> {
             return Ok(Some(*first));
         }
         if self.fails {
-            self.faults = self.faults.saturating_add(1);
-            return Err(io::Error::new(io::ErrorKind::Other, "the script ends in a fault"));
+            return Err(self.fail());
         }
         Ok(None)
+    }
+
+    #[tactic(auto, unfolding(crate::specs::Trace::ahead_all))]
+    fn fill(&mut self, buffer: &mut [u8]) -> io::Result<usize>
+        ensures fills { Fills (script_trace self.old) buffer.new result (script_trace self.new) }
+        ensures count { IfOk result (λ count. count ≡ script_count self.old (length buffer.old)) }
+        ensures fault { IsErr result ↔ (0 < length buffer.old) × ((script_trace self.old).bytes ≡ Some []) × IsTrue self.old.fails }
+        ensures keeps { IsSameSource self.old self.new }
+    {
+        if self.fails && self.left.is_empty() && !buffer.is_empty() {
+            return Err(self.fail());
+        }
+        let count = buffer.len().min(self.step).min(self.left.len());
+        let (front, rest) = self.left.split_at(count);
+        buffer[..count].copy_from_slice(front);
+        self.left = rest;
+        Ok(count)
     }
 }

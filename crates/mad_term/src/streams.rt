@@ -1,8 +1,8 @@
 //! The readers and writers of the standard library as devices.
 
 ghost use Rattle.std.specs.Prelude.{◌≡◌};
-ghost use Rattle.std.specs.Io.KnownBytes.{Keeps, WriteAppends};
-ghost use Rattle.mad_term.specs.Trace.{failed, Puts, Flushes, Gets};
+ghost use Rattle.std.specs.Io.KnownBytes.{Keeps, ReadConsumes, WriteAppends};
+ghost use Rattle.mad_term.specs.Trace.{failed, Puts, Flushes, Gets, Fills};
 ghost use Rattle.mad_term.specs.Stream.{stream_trace, stream_inner, untold, GetConsumes};
 
 use crate::devices::{Out, Source};
@@ -102,5 +102,20 @@ impl<R: io::Read> Source for Stream<R> {
                 Err(e)
             }
         }
+    }
+
+    #[tactic(auto, unfolding(crate::specs::Trace::ahead_all))]
+    fn fill(&mut self, buffer: &mut [u8]) -> io::Result<usize>
+        ensures fills { Fills (stream_trace self.old) buffer.new result (stream_trace self.new) }
+
+        // What the reader knows of itself: these bytes were its first.
+        ensures hands_out { ReadConsumes (R.remaining (stream_inner self.old))
+            (R.remaining (stream_inner self.new)) result buffer.new }
+    {
+        let filled = self.inner.read(buffer);
+        if filled.is_err() {
+            self.count_fault();
+        }
+        filled
     }
 }

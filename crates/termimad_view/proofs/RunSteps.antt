@@ -12,7 +12,7 @@ use Rattle.mad_term.proofs.Traces.{took_flushed}
 use Rattle.termimad.specs.Shown.{AreShownIn}
 use Rattle.termimad_view.specs.declared.failure.Failure.{Failure}
 use Rattle.termimad_view.specs.declared.failure.Failure.TheVariants.{Io, Usage, NotUtf8, Skin, Memory}
-use Rattle.termimad_view.specs.Calls.{IsCall}
+use Rattle.termimad_view.specs.Calls.{IsCall, RefusesWords}
 use Rattle.termimad_view.specs.Failures.{failure_of}
 use Rattle.termimad_view.specs.Reading.{ReadsWhole, ReadingFails}
 use Rattle.termimad_view.specs.Runs.{Devices, KnownCall, HasRead, WritesCall, ShowsCall, RunsTo}
@@ -20,6 +20,19 @@ use Rattle.termimad_view.specs.Runs.{Devices, KnownCall, HasRead, WritesCall, Sh
 -- the call that was parsed
 abbrev pub known_call : (words : List (List ℕ)) (command : Command) (skin : MadSkin) → IsCall words command skin → KnownCall words
 known_call words command skin asked = record { command = command; skin = skin; asked = asked }
+
+refused_words : (T : Type 0) (words : List (List ℕ)) (failure : Failure) (old : Devices) → RefusesWords words failure → RunsTo {T = T} words old (Err failure) old
+refused_words T words Usage old h = (h, refl)
+refused_words T words Skin old h = (h, refl)
+refused_words T words Io old h = absurd h
+refused_words T words NotUtf8 old h = absurd h
+refused_words T words Memory old h = absurd h
+
+-- the exit at the words
+pub call_exit : {T : Type 0} (words : List (List ℕ)) (r : Result T Failure) (failure : Failure) (old : Devices) → IsErrAnd r (λ e. e ≡ failure) → RefusesWords words failure → RunsTo words old r old
+call_exit {T} words r failure old is h =
+    let p = err_from_is_err_and r is in
+    subst (λ (s : Result T Failure). RunsTo words old s old) (sym (p.1 ∙ ap Err p.2)) (refused_words T words failure old h)
 
 failed_to_read : (T : Type 0) (words : List (List ℕ)) (failure : Failure) (old new : Devices) → KnownCall words → ReadingFails old.input failure new.input → new.out ≡ old.out → RunsTo {T = T} words old (Err failure) new
 failed_to_read T words Io old new call h out = inl (record { call = call; stopped = h; unwritten = out })

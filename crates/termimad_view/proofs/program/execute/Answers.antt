@@ -1,17 +1,20 @@
 use Rattle.std.proofs.Common.{refl, subst, List, ℕ, IsUtf8}
-use Rattle.termimad_view.proofs.RunSteps.{known_call, has_read, read_exit, write_exit, flush_exit, still_shown}
+use Rattle.termimad_view.proofs.RunSteps.{call_exit, known_call, has_read, read_exit, write_exit, flush_exit, still_shown}
 use Rattle.termimad_view.proofs.program.execute.Goals as goal
+
+pub returns-in_err-call : goal.returns-in_err-call
+returns-in_err-call g c = call_exit _ _ _ _ c.from_residual.ensures.1 c.in_err-call.ensures
 
 pub returns-in_err-bytes : goal.returns-in_err-bytes
 returns-in_err-bytes g c =
-    read_exit _ _ _ _ _ c.from_residual.ensures.1 (known_call _ _ _ c.in_ok-call.ensures) c.in_err-bytes.ensures refl
+    read_exit _ _ _ _ _ c.from_residual-in_err-bytes.ensures.1 (known_call _ _ _ c.in_ok-call.ensures) c.in_err-bytes.ensures refl
 
-pub returns-in_default-from_utf8 : goal.returns-in_default-from_utf8
-returns-in_default-from_utf8 g c = record {
+pub returns-in_default : goal.returns-in_default
+returns-in_default g c = record {
   call = known_call _ _ _ c.in_ok-call.ensures;
   bytes = c.in_ok-bytes.bytes.items;
   read = c.in_ok-bytes.ensures;
-  undecoded = subst (λ (bytes : List ℕ). ¬ (IsUtf8 bytes)) c.as_slice.ensures.value c.in_default-from_utf8.ensures.cases.0;
+  undecoded = subst (λ (bytes : List ℕ). ¬ (IsUtf8 bytes)) c.as_slice.ensures.value c.in_default.ensures.cases.0;
   unwritten = refl;
 }
 
