@@ -19,6 +19,7 @@ pub mod PlaceLemmas
 pub mod PlacingLemmas
 pub mod RowLemmas
 pub mod ShownLemmas
+pub mod SourceLemmas
 pub mod StartLemmas
 pub mod WholeTokens
 pub mod WrapLemmas

@@ -17,6 +17,8 @@ pub use Rattle.mad_term.specs.Errors
 pub use Rattle.mad_screen.specs.Glyph
 pub use Rattle.mad_screen.specs.Grid
 pub use Rattle.mad_screen.specs.Painting
+pub use Rattle.mad_screen.specs.Pictures
+pub use Rattle.mad_screen.specs.Refusals
 pub use Rattle.mad_term.specs.Scripted
 pub use Rattle.mad_screen.specs.Stages
 pub use Rattle.mad_term.specs.Stream
@@ -37,7 +39,7 @@ pub use Rattle.mad_fit.specs.Completions
 pub use Rattle.mad_fit.specs.Tokens
 pub use Rattle.mad_draw.specs.DrawnRows
 pub use Rattle.mad_draw.specs.Pieces
-pub use Rattle.mad_draw.specs.RowCells
+pub use Rattle.mad_draw.specs.PennedCells
 pub use Rattle.mad_layout.specs.Bounds
 pub use Rattle.mad_layout.specs.Breaks
 pub use Rattle.mad_layout.specs.CleanCut
