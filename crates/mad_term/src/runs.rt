@@ -17,19 +17,27 @@ impl fmt::Display for StyledRun<'_> {
 
     ghost output = { λ r. Some (styled_run_bytes r.style r.content.now r.count) };
 
+    #[tactic(auto, using(crate::proofs::Pieces::plain_piece))]
     fn fmt<W: fmt::Write>(&self, f: &mut fmt::Formatter<W>) -> fmt::Result {
         if self.count == 0 {
             return Ok(());
         }
-        let opening = StyleOpening(self.style);
         let copies = Copies {
             content: self.content,
             count: self.count,
         };
+        // Most runs are of plain spaces, and need no commands.
+        if self.style.is_plain() {
+            return write!(f, "{copies}");
+        }
+        let opening = StyleOpening(self.style);
         let closing = closing_text(self.style);
         write!(f, "{opening}{copies}{closing}")
     }
 }
+
+// 64 spaces. Most repeated texts are spaces, and these go out 64 at a time.
+const SPACES: &str = "                                                                ";
 
 // A text so many times.
 #[derive(Clone, Copy)]
@@ -39,6 +47,36 @@ struct Copies<'a> {
 }
 
 impl fmt::Display for Copies<'_> {
+    ghost use Rattle.std.specs.Prelude.{Some};
+    ghost use Rattle.std.specs.List.{repeat};
+
+    ghost output = { λ c. Some (repeat c.count c.content.now) };
+
+    fn fmt<W: fmt::Write>(&self, f: &mut fmt::Formatter<W>) -> fmt::Result {
+        if self.content == " " {
+            let many = EachCopy {
+                content: SPACES,
+                count: self.count / 64,
+            };
+            let few = &SPACES[..self.count % 64];
+            return write!(f, "{many}{few}");
+        }
+        let all = EachCopy {
+            content: self.content,
+            count: self.count,
+        };
+        write!(f, "{all}")
+    }
+}
+
+// A text so many times, one by one.
+#[derive(Clone, Copy)]
+struct EachCopy<'a> {
+    content: &'a str,
+    count: usize,
+}
+
+impl fmt::Display for EachCopy<'_> {
     ghost use Rattle.std.specs.Prelude.{Some};
     ghost use Rattle.std.specs.List.{repeat};
 
