@@ -116,7 +116,7 @@ impl MadSkin {
     ghost use Rattle.mad_layout.specs.Indents.{indent};
     ghost use Rattle.mad_layout.specs.Skins.{no_style_skin};
     ghost use Rattle.mad_layout.specs.Styles.{line_style, compound_style, ordered_item_style};
-    ghost use Rattle.mad_layout.specs.Wraps.{capped};
+    ghost use Rattle.mad_wrap.specs.WrapLines.{capped};
 
     /// The marks of the default skin, and no style.
     pub fn no_style() -> Self
