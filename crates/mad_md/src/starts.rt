@@ -71,7 +71,10 @@ fn scan_item(line: &[u8]) -> Option<LineStart>
     let spaces = usize::from(level);
     let rest = tail(line, spaces);
     if begins(rest, b"* ") {
-        return Some(starts(Form::Continuing(CompositeStyle::ListItem(level)), spaces + 2));
+        return Some(starts(
+            Form::Continuing(CompositeStyle::ListItem(level)),
+            spaces + 2,
+        ));
     }
     let digits = digits_len(rest);
     if digits == 0 || digits > 9 || !begins(tail(rest, digits), b". ") {
@@ -90,7 +93,10 @@ fn scan_header(line: &[u8]) -> Option<LineStart>
     if level == 0 || level > 8 || !begins(tail(line, level), b" ") {
         return None;
     }
-    Some(starts(Form::Separate(CompositeStyle::Header(level as u8)), level + 1))
+    Some(starts(
+        Form::Separate(CompositeStyle::Header(level as u8)),
+        level + 1,
+    ))
 }
 
 // How many spaces are in front, three at most.
