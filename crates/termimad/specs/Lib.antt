@@ -5,6 +5,13 @@ pub use Rattle.mad_md.specs.Parts
 pub use Rattle.mad_md.specs.ReadByMarks
 pub use Rattle.mad_md.specs.ReadInline
 pub use Rattle.mad_md.specs.ReadRaw
+pub use Rattle.mad_md.specs.Cells
+pub use Rattle.mad_md.specs.Cursor
+pub use Rattle.mad_md.specs.Places
+pub use Rattle.mad_md.specs.Reading
+pub use Rattle.mad_md.specs.ReadingLaws
+pub use Rattle.mad_md.specs.Scan
+pub use Rattle.mad_md.specs.Starts
 pub use Rattle.mad_term.specs.Attribute
 pub use Rattle.mad_term.specs.AttributeNames
 pub use Rattle.mad_term.specs.Attributes
@@ -33,6 +40,11 @@ pub use Rattle.mad_style.specs.Kinds
 pub use Rattle.mad_style.specs.LineStyles
 pub use Rattle.mad_style.specs.Runs
 pub use Rattle.mad_style.specs.StyledChars
+pub use Rattle.mad_widths.specs.ColumnWidths
+pub use Rattle.mad_widths.specs.SeenCells
+pub use Rattle.mad_widths.specs.TableFits
+pub use Rattle.mad_widths.specs.Turns
+pub use Rattle.mad_widths.specs.WorkedWidths
 pub use Rattle.mad_fit.specs.Areas
 pub use Rattle.mad_fit.specs.Columns as TextColumns
 pub use Rattle.mad_fit.specs.Completions

@@ -24,8 +24,8 @@ pub use mad_layout::{
 };
 pub use mad_md as md;
 pub use mad_md::{
-    Alignment, Composite, CompositeStyle, Compound, Line, MAX_HEADER_DEPTH, TableRow, TableRule,
-    Text,
+    Alignment, Composite, CompositeStyle, Compound, Line, LineCursor, MAX_HEADER_DEPTH, ParseOptions,
+    TableRow, TableRule, Text, parse_text, parse_text_with,
 };
 pub use mad_style::{
     ASCII_TABLE_BORDER_CHARS, ATTRIBUTES, CompositeKind, CompoundStyle, LineStyle,
@@ -40,3 +40,4 @@ pub use mad_term::{
     StyledRun, char_columns, put_all, queue_bg, queue_clear, queue_fg, queue_move, queue_styled,
 };
 pub use mad_view::TextView;
+pub use mad_widths::{TblFit, TblFitResult};
