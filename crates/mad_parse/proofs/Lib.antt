@@ -1,0 +1,10 @@
+pub mod BracketLemmas
+pub mod CharLemmas
+pub mod ColorLemmas
+pub mod CutLemmas
+pub mod JoinLemmas
+pub mod LawLemmas
+pub mod NameLemmas
+pub mod StyleLemmas
+pub mod TokenLemmas
+pub mod WriteLemmas
