@@ -66,7 +66,7 @@ without_none c [] h = refl
 without_none c (b ∷ []) h = cond-false (b == c) _ _ (ne_eqb b c (λ e. h [] (ap (λ x. x ∷ []) e)))
 without_none c (b ∷ d ∷ bs) h = ap (λ o. text_with b o) (without_none c (d ∷ bs) (λ front e. h (b ∷ front) (ap (λ l. b ∷ l) e)))
 
-without_put : (c : ℕ) (xs : List ℕ) → without_last c (xs ++ c ∷ []) ≡ Some xs
+pub without_put : (c : ℕ) (xs : List ℕ) → without_last c (xs ++ c ∷ []) ≡ Some xs
 without_put c [] = cond-true (c == c) _ _ (eq-eqb c c refl)
 without_put c (x ∷ []) = ap (λ o. text_with x o) (cond-true (c == c) (Some []) None (eq-eqb c c refl))
 without_put c (x ∷ y ∷ xs) = ap (λ o. text_with x o) (without_put c (y ∷ xs))

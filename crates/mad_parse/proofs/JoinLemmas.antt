@@ -23,3 +23,7 @@ tokens_joined a rest t u v some black len says =
 pub tokens_last : (a : List ℕ) (t : StyleToken) → IsUtf8 a → 0 < length (chars a) → begins_white (chars a) ≡ false → length (chars a) ≡ token_len (chars a) → token_of a ≡ Ok t → tokens_of a ≡ Ok (t ∷ [])
 tokens_last a t u some black len says =
     tokens_cut a a [] u IsUtf8-nil (append-nil a) some black len ∙ ap (λ r. in_order r (tokens_of [])) says ∙ ap (λ cs. and_after t (read_all (map encode_utf8_all (cut_after 0 cs)))) chars-nil
+
+-- a text without tokens
+pub nothing_read : tokens_of [] ≡ Ok []
+nothing_read = ap (λ cs. read_all (map encode_utf8_all (cut_after 0 cs))) chars-nil

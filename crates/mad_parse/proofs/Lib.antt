@@ -1,10 +1,13 @@
 pub mod BracketLemmas
 pub mod CharLemmas
+pub mod CharTokens
 pub mod ColorLemmas
 pub mod CutLemmas
+pub mod Digits
 pub mod JoinLemmas
 pub mod LawLemmas
 pub mod NameLemmas
+pub mod ReadTokens
 pub mod StyleLemmas
 pub mod TokenLemmas
 pub mod WriteLemmas
