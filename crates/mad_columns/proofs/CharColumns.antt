@@ -1,4 +1,4 @@
--- A character takes no more columns than it has bytes in UTF-8, and at most three.
+-- A character takes no more columns than it has bytes in UTF-8, and at most three; printed ASCII takes one.
 use Rattle.std.proofs.Common.{◌≡◌, ℕ, ◌≤◌, ◌<◌, Bool, true, false, nat_lt, nat_le, arith, Some, None, unwrap_or, refl, if◌then◌else◌}
 use Rattle.std.proofs.lemmas.Bool.Decides.{nat_tests}
 use Rattle.std.specs.Char.{len_utf8}
@@ -71,3 +71,8 @@ unfolding char_columns char_width alone
 char_columns-three c =
     elim (nat_lt c 0x7F) as (λ b. unwrap_or (if b then (if nat_le 0x20 c then Some 1 else None) else if nat_le 0xA0 c then Some (of_kind false c (kind c)).0 else None) 0 ≤ 3)
     [ true ↦ test-le (nat_le 0x20 c) 3 1 (omega arith) | false ↦ test-le (nat_le 0xA0 c) 3 (of_kind false c (kind c)).0 (of_kind-three c (kind c)) ]
+
+-- a printed ASCII character takes one column
+pub char_columns-ascii : (c : ℕ) → 32 ≤ c → c < 127 → char_columns c ≡ 1
+unfolding char_columns char_width
+char_columns-ascii c low high = grind (arith, nat_tests)

@@ -1,4 +1,4 @@
--- What the words behind the program's name ask for. A word is its bytes.
+-- What the words after the program's name ask for. A word is its bytes.
 use Rattle.std.specs.Prelude.{◌≡◌, ◌≢◌, ℕ, ◌≤◌, List, [], ◌∷◌, codes, Option, Some, None, ⊤}
 use Rattle.termimad.specs.Areas.{IsWithinLimits}
 use Rattle.termimad.specs.declared.Area.{Area}
@@ -50,9 +50,14 @@ abbrev pub IsSkinOf : Option (List ℕ) → MadSkin → Type 0
 IsSkinOf None skin = skin ≡ no_style_skin
 IsSkinOf (Some word) skin = (word ≡ codes "default") × (skin ≡ default_skin)
 
+-- the program knows no skin of that name
+abbrev pub IsUnknown : Option (List ℕ) → Type 0
+IsUnknown None = ⊥
+IsUnknown (Some word) = word ≢ codes "default"
+
 -- the words ask for something that the program does, in a skin that it doesn't know
 abbrev pub AsksUnknownSkin : List (List ℕ) → Type 0
-AsksUnknownSkin words = (command : Command) × (word : List ℕ) × Asks words command (Some word) × (word ≢ codes "default")
+AsksUnknownSkin words = (command : Command) × (word : Option (List ℕ)) × Asks words command word × IsUnknown word
 
 -- The words are a call: what is to be written, and in which skin.
 pub record IsCall (words : List (List ℕ)) (command : Command) (skin : MadSkin) : Type 0 where

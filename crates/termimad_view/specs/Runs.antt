@@ -2,7 +2,7 @@
 use Rattle.std.specs.Prelude.{◌≡◌, ◌⊎◌, ℕ, List, [], ◌∷◌, ◌++◌, Some, Result, Ok, Err, IsErrOf, IsUtf8, ⊤}
 use Rattle.termimad.specs.Inline.{Item, IsInlineReading}
 use Rattle.termimad.specs.Draws.{Draws}
-use Rattle.termimad.specs.Trace.{Trace, failed}
+use Rattle.termimad.specs.Trace.{Trace, failed, flushed}
 use Rattle.termimad.specs.declared.Error.{Error}
 use Rattle.termimad.specs.declared.Error.TheVariants.{Memory as NoMemory}
 use Rattle.termimad.specs.InArea.{WritesInArea, ShowsText}
@@ -49,12 +49,14 @@ pub record HasRead (old : Trace) (text : List ℕ) (new : Trace) : Type 0 where
   pub whole : ReadsWhole old text new
   pub decoded : IsUtf8 text
 
--- status 0: the whole input is a text, and the output took what the call writes of it
+-- status 0: the whole input is a text, and the output took what the call writes of it and was then flushed, once
 pub record IsDone (words : List (List ℕ)) (old new : Devices) : Type 0 where
   pub call : KnownCall words
   pub text : List ℕ
   pub read : HasRead old.input text new.input
-  pub wrote : WritesCall call.skin call.command text old.out (Ok (tt {0})) new.out
+  pub written : Trace
+  pub wrote : WritesCall call.skin call.command text old.out (Ok (tt {0})) written
+  pub flushed : new.out ≡ flushed written
   pub shown : ShowsCall call.skin call.command text old.out new.out
 
 -- the input failed, or there was no memory for it; nothing was written

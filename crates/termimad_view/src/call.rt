@@ -2,7 +2,7 @@
 
 ghost use Rattle.std.specs.Prelude.{◌≡◌, ℕ, List, Option, MatchOption, MatchResult, map, option_map, string_bytes};
 ghost use Rattle.termimad.specs.declared.Area.{Area as SomeArea};
-ghost use Rattle.termimad_view.specs.Calls.{Asks, IsNoCall, IsAreaOf, IsSkinWord, AsksArea, IsSkinOf, IsCall, RefusesWords};
+ghost use Rattle.termimad_view.specs.Calls.{Asks, IsNoCall, IsAreaOf, IsSkinWord, AsksArea, IsSkinOf, IsUnknown, IsCall, RefusesWords};
 
 use crate::failure::Failure;
 use crate::number::parse_number;
@@ -101,7 +101,7 @@ fn skin_word(words: &[String]) -> Option<Option<&str>>
 
 // The skin of a word, where the program knows it: no style without a word.
 fn skin_of(word: Option<&str>) -> Option<MadSkin>
-    ensures { MatchOption result ((skin : MadSkin) → ¬ (IsSkinOf (option_map (λ word. word.now) word.entry) skin))
+    ensures { MatchOption result (IsUnknown (option_map (λ word. word.now) word.entry))
         (λ skin. IsSkinOf (option_map (λ word. word.now) word.entry) skin) }
 {
     match word {
