@@ -10,7 +10,7 @@ use Rattle.mad_style.specs.declared.compound_styles.CompoundStyle.{CompoundStyle
 use Rattle.mad_style.specs.declared.line_styles.LineStyle.{LineStyle}
 use Rattle.mad_style.specs.declared.ordered_items.OrderedItemStyle.{OrderedItemStyle}
 use Rattle.mad_style.specs.declared.styled_chars.StyledChar.{StyledChar}
-use Rattle.mad_style.specs.AttributeSets.{no_attributes}
+use Rattle.mad_term.specs.AttributeSets.{no_attributes}
 use Rattle.mad_style.specs.CompoundStyles.{text_style, attribute_added}
 use Rattle.mad_style.specs.StyledChars.{styled_char}
 use Rattle.mad_parse.specs.declared.tokens.StyleToken.{StyleToken}
