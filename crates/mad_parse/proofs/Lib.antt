@@ -1,3 +1,4 @@
+pub mod AttributeLaw
 pub mod BracketLemmas
 pub mod CharLemmas
 pub mod CharTokens
@@ -8,6 +9,8 @@ pub mod JoinLemmas
 pub mod LawLemmas
 pub mod NameLemmas
 pub mod ReadTokens
+pub mod ReadingBack
+pub mod StyleLaw
 pub mod StyleLemmas
 pub mod TokenLemmas
 pub mod WriteLemmas

@@ -220,11 +220,11 @@ read_color color.Grey bytes written = read_word (token.Color color.Grey) refl (l
 pub read_none : IsRead token.None
 read_none = read_word token.None refl (lit< tt) refl refl refl
 
-pub read_align : (a : Alignment) → (a ≡ align.Unspecified → ⊥) → IsRead (token.Align a)
-read_align align.Unspecified other = absurd (other refl)
-read_align align.Left other = read_word (token.Align align.Left) refl (lit< tt) refl refl refl
-read_align align.Center other = read_word (token.Align align.Center) refl (lit< tt) refl refl refl
-read_align align.Right other = read_word (token.Align align.Right) refl (lit< tt) refl refl refl
+pub read_align : (a : Alignment) → has_text (token.Align a) ≡ true → IsRead (token.Align a)
+read_align align.Unspecified text = absurd (true≢false (sym text))
+read_align align.Left text = read_word (token.Align align.Left) refl (lit< tt) refl refl refl
+read_align align.Center text = read_word (token.Align align.Center) refl (lit< tt) refl refl refl
+read_align align.Right text = read_word (token.Align align.Right) refl (lit< tt) refl refl refl
 
 pub read_attribute : (a : Attribute) → is_written a ≡ true → IsRead (token.Attribute a)
 read_attribute attribute.Bold written = read_word (token.Attribute attribute.Bold) refl (lit< tt) refl refl refl
