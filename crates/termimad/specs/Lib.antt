@@ -40,6 +40,16 @@ pub use Rattle.mad_style.specs.Kinds
 pub use Rattle.mad_style.specs.LineStyles
 pub use Rattle.mad_style.specs.Runs
 pub use Rattle.mad_style.specs.StyledChars
+pub use Rattle.mad_parse.specs.Colors
+pub use Rattle.mad_parse.specs.Cuts
+pub use Rattle.mad_parse.specs.Errors as ParseErrors
+pub use Rattle.mad_parse.specs.Names
+pub use Rattle.mad_parse.specs.Numbers
+pub use Rattle.mad_parse.specs.Reading as ParseReading
+pub use Rattle.mad_parse.specs.ReadsBack
+pub use Rattle.mad_parse.specs.Styles as ParseStyles
+pub use Rattle.mad_parse.specs.Values
+pub use Rattle.mad_parse.specs.Written
 pub use Rattle.mad_widths.specs.ColumnWidths
 pub use Rattle.mad_widths.specs.SeenCells
 pub use Rattle.mad_widths.specs.TableFits
