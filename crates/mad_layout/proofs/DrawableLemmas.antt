@@ -1,9 +1,10 @@
 -- A layout of a plain text is drawn exactly.
-use Rattle.std.proofs.Common.{◌≡◌, ℕ, zero, suc, ◌+◌, ◌-◌, ◌^◌, ◌<◌, ◌≤◌, inl, inr, List, [], ◌∷◌, ◌++◌, map, Some, None, Contains, refl, sym, ap, ◌∙◌, subst, arith}
+use Rattle.std.proofs.Common.{◌≡◌, ℕ, zero, suc, ◌+◌, ◌-◌, ◌^◌, ◌<◌, ◌≤◌, inl, inr, List, [], ◌∷◌, ◌++◌, map, Option, Some, None, Contains, drop, take, refl, sym, ap, ◌∙◌, subst, arith}
+use Rattle.std.specs.Prelude.{IfSome, unwrap_or}
 use Rattle.std.specs.List.{AllByRecursion}
 use Rattle.std.specs.Str.{IsUtf8}
 use Rattle.std.proofs.lemmas.Bool.Decides.{nat_tests}
-use Rattle.mad_term.specs.Columns.{char_columns}
+use Rattle.mad_columns.specs.Columns.{char_columns}
 use Rattle.mad_md.specs.Flagged.{FlaggedChar, run_of, flagged_of, flagged_text}
 use Rattle.mad_md.specs.Lines.{StyledRuns}
 use Rattle.mad_md.specs.declared.compound.Compound.{Compound}
@@ -16,12 +17,16 @@ use Rattle.mad_fit.specs.Columns.{width_of}
 use Rattle.mad_fit.specs.Tokens.{token_run}
 use Rattle.mad_fit.specs.declared.tokens.Token.{Token}
 use Rattle.mad_fit.proofs.AllLemmas.{all_joined, all_each}
-use Rattle.mad_layout.specs.Drawable.{AreShownPieces, pieces_columns, IsDrawableLine, AreDrawable}
+use Rattle.mad_layout.specs.Drawable.{IsDrawableLine, AreDrawable}
+use Rattle.mad_draw.specs.Pieces.{AreShownPieces, pieces_columns}
+use Rattle.mad_fit.specs.declared.area.Area.{Area}
+use Rattle.mad_fit.specs.declared.spacing.Spacing.{Spacing}
 use Rattle.mad_layout.specs.FittingLayouts.{IsFittingWrap, IsFittingLayout}
 use Rattle.mad_layout.specs.Indents.{indent, follow_up, room_of}
 use Rattle.mad_layout.specs.Layouts.{IsRead, AreRead, IsLayout}
 use Rattle.mad_layout.specs.Premises.{IsPlainRun, runs_text, IsPlainLine, KeepsPremises}
-use Rattle.mad_layout.specs.Rows.{mark_pieces, compound_piece}
+use Rattle.mad_layout.specs.Rows.{mark_pieces, compound_piece, inner_columns, place_of}
+use Rattle.mad_layout.specs.Shown.{lines_shown}
 use Rattle.mad_layout.specs.Styles.{line_style}
 use Rattle.mad_layout.specs.LeastWrap.{IsWrap}
 use Rattle.mad_layout.specs.WrappedLines.{style_margins, line_with, AreLinesWrapped, IsLaidOutBy, AreLaidOutBy}
@@ -49,11 +54,11 @@ pieces_shown skin style (p ∷ ps) h = (record { utf8 = h.0.utf8; shown = h.0.sh
 drawable : (skin : MadSkin) (drawn : ℕ) (margins : ℕ × ℕ) (l : FmtComposite) → drawn < 2 ^ 64 - 1 → l.kind ≡ Paragraph → l.spacing ≡ None → IsMeasured skin l
     → margins.0 + columns_of skin l + margins.1 ≤ drawn → AllByRecursion IsShownRun (map run_of l.compounds.items) → IsDrawableLine skin drawn (line_with margins l)
 drawable skin drawn margins l bound kind spacing measured fits shown = record {
-  spacing = spacing;
   margins = margins;
   margins_are = refl;
   measured = omega (arith, measured, fits, bound);
-  fits = fits;
+  place = subst (λ (s : Option Spacing). IfSome s (λ p. l.visible_length ≤ p.width)) (sym spacing) tt;
+  fits = let inner : inner_columns l ≡ l.visible_length = ap (λ s. unwrap_or (place_of s) l.visible_length) spacing in omega (arith, inner, measured, fits, bound);
   mark = subst (λ k. AreShownPieces (mark_pieces skin k)) (sym kind) tt;
   indent_is = subst (λ k. pieces_columns (mark_pieces skin k) ≡ indent skin.list_items_indentation_mode k) (sym kind) refl;
   text = pieces_shown skin (line_style skin l.kind) l.compounds.items shown;
@@ -92,7 +97,7 @@ has_room : (skin : MadSkin) (width : ℕ) (line : StyledRuns) (source : FmtCompo
 has_room skin width line source plain read wide =
     let left = λ (k : CompositeKind). width - (margins_at (line_style skin k) (Some width)).0 - (margins_at (line_style skin k) (Some width)).1 in
     let premise = λ (k : CompositeKind) (text : List FlaggedChar). left k < indent skin.list_items_indentation_mode k + width_of text → HasRoom (room_of skin k (left k)) text in
-    let text : runs_text line.runs ≡ text_of source = ap runs_text (sym read.runs) ∙ runs_are source.compounds.items in
+    let text : runs_text line.runs ≡ text_of source = ap runs_text (sym read.text) ∙ runs_are source.compounds.items in
     let room : premise source.kind (text_of source) = subst (λ k. premise k (text_of source)) (sym read.kind) (subst (premise (kind_of line.style)) text plain.room) in
     room (omega (arith, wide, read.measured, margins-le (line_style skin source.kind) width))
 
@@ -101,7 +106,7 @@ read_drawable : (skin : MadSkin) (width drawn : ℕ) (line : StyledRuns) (source
 read_drawable skin width drawn line source lines narrower bound plain read (inl (fits, same)) =
     let kind : source.kind ≡ Paragraph = read.kind ∙ ap kind_of plain.paragraph in
     let margins : ℕ × ℕ = style_margins skin width source in
-    let runs : AllByRecursion IsPlainRun (map run_of source.compounds.items) = subst (AllByRecursion IsPlainRun) (sym read.runs) plain.runs in
+    let runs : AllByRecursion IsPlainRun (map run_of source.compounds.items) = subst (AllByRecursion IsPlainRun) (sym read.text) plain.runs in
     let one = drawable skin drawn margins source bound kind read.spacing read.measured (omega (arith, fits, read.measured, narrower, bound))
     (all_each IsPlainRun IsShownRun plain_is_shown (map run_of source.compounds.items) runs) in
     subst (AreDrawable skin drawn) (sym same) (one, tt)
@@ -110,7 +115,7 @@ read_drawable skin width drawn line source lines narrower bound plain read (inr 
     let ps = source.compounds.items in
     let margins : ℕ × ℕ = style_margins skin width source in
     let r : Room = room_of skin source.kind (width - margins.0 - margins.1) in
-    let runs : AllByRecursion IsPlainRun (map run_of ps) = subst (AllByRecursion IsPlainRun) (sym read.runs) plain.runs in
+    let runs : AllByRecursion IsPlainRun (map run_of ps) = subst (AllByRecursion IsPlainRun) (sym read.text) plain.runs in
     let room : HasRoom r (text_of source) = has_room skin width line source plain read wide in
     let narrow : AllByRecursion (λ x. char_columns x.char ≤ r.width - r.first) (flagged_text ps) =
     all_each (λ x. r.first + char_columns x.char ≤ r.width) (λ x. char_columns x.char ≤ r.width - r.first) (λ x h. omega (arith, h)) (flagged_text ps) room.each in
@@ -166,3 +171,18 @@ layout_fits skin width text lines layout = record { read = layout.read; reads = 
 pub layout_is_drawable : (skin : MadSkin) (width drawn : ℕ) (text : List StyledRuns) (lines : List FmtLine) → width ≤ drawn → drawn < 2 ^ 64 - 1
     → KeepsPremises skin width text → IsLayout skin width text lines → AreDrawable skin drawn lines
 layout_is_drawable skin width drawn text lines narrower bound keeps layout = fitting_is_drawable skin width drawn text lines narrower bound keeps (layout_fits skin width text lines layout)
+
+-- ---- the lines that have a row
+
+first_drawable : (skin : MadSkin) (width : ℕ) (lines : List FmtLine) (n : ℕ) → AreDrawable skin width lines → AreDrawable skin width (take n lines)
+first_drawable skin width lines zero h = tt
+first_drawable skin width [] (suc n) h = tt
+first_drawable skin width (l ∷ lines) (suc n) h = (h.0, first_drawable skin width lines n h.1)
+
+drawable_from : (skin : MadSkin) (width : ℕ) (lines : List FmtLine) (scroll : ℕ) → AreDrawable skin width lines → AreDrawable skin width (drop scroll lines)
+drawable_from skin width lines zero h = h
+drawable_from skin width [] (suc scroll) h = tt
+drawable_from skin width (l ∷ lines) (suc scroll) h = drawable_from skin width lines scroll h.1
+
+pub shown_drawable : (skin : MadSkin) (width : ℕ) (lines : List FmtLine) (area : Area) (scroll : ℕ) → AreDrawable skin width lines → AreDrawable skin width (lines_shown lines area scroll)
+shown_drawable skin width lines area scroll h = first_drawable skin width (drop scroll lines) area.height (drawable_from skin width lines scroll h)

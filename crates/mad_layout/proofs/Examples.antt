@@ -8,12 +8,12 @@ use Rattle.std.proofs.lemmas.Str.Ascii.{IsAscii-cons, IsAscii-nil}
 use Rattle.unicode_width.specs.Width.{char_width}
 use Rattle.mad_md.specs.Flagged.{Run, plain, flagged}
 use Rattle.mad_md.specs.declared.composite.CompositeStyle.TheVariants.{Paragraph}
-use Rattle.mad_term.specs.Columns.{char_columns}
-use Rattle.mad_term.specs.Painting.{IsPrinted}
-use Rattle.mad_term.specs.Grid.{empty_grid, blank}
+use Rattle.mad_columns.specs.Columns.{char_columns}
+use Rattle.mad_screen.specs.Painting.{IsPrinted}
+use Rattle.mad_screen.specs.Grid.{empty_grid, blank}
 use Rattle.mad_layout.specs.Premises.{IsPlainRun, AreJoined, KeepsPremises, runs_text}
 use Rattle.mad_fit.specs.Columns.{width_of}
-use Rattle.mad_layout.specs.Shown.{IsOnScreen}
+use Rattle.mad_draw.specs.DrawnRows.{IsOnScreen}
 use Rattle.mad_layout.specs.Skins.{no_style_skin}
 
 -- the text `hello`

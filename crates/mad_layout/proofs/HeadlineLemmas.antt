@@ -5,24 +5,25 @@ use Rattle.std.proofs.lemmas.Bool.Decides.{nat_tests}
 use Rattle.mad_md.specs.Lines.{StyledRuns, contents}
 use Rattle.mad_md.specs.ReadByMarks.{IsReadByMarks}
 use Rattle.mad_md.specs.declared.text.Text.{Text}
-use Rattle.std.proofs.lemmas.List.{append-nil}
 use Rattle.std.specs.Result.{IsErrAnd}
 use Rattle.std.specs.declared.io.Error as io
 use Rattle.mad_term.specs.declared.errors.Error.{Error}
 use Rattle.mad_term.specs.declared.errors.Error.TheVariants.{IO}
-use Rattle.mad_term.specs.Trace.{Trace, TookWith, after, failed, CutShort}
-use Rattle.mad_term.proofs.Exits.{refused_exit}
+use Rattle.mad_term.specs.Trace.{Trace, TookWith, failed, flushed}
+use Rattle.mad_term.specs.Draws.{AndFlushes}
+use Rattle.mad_term.proofs.Exits.{flushing_refused}
+use Rattle.mad_term.proofs.Traces.{flush_failed, took_flushed}
 use Rattle.mad_fit.specs.Areas.{IsWithinLimits}
 use Rattle.mad_fit.specs.declared.area.Area.{Area}
 use Rattle.mad_layout.specs.Drawable.{AreDrawable}
 use Rattle.mad_layout.specs.FittingLayouts.{IsFittingLayoutAt}
 use Rattle.mad_layout.specs.InArea.{IsAreaLayout, ShowsText, WritesInArea}
 use Rattle.mad_layout.specs.Layouts.{composites, AreRead, IsLayout, IsLayoutAt}
-use Rattle.mad_layout.specs.Shown.{AreShownIn}
+use Rattle.mad_layout.specs.Shown.{lines_shown, AreShownIn}
 use Rattle.mad_layout.specs.declared.skin.MadSkin.{MadSkin}
 use Rattle.mad_layout.specs.declared.line.FmtLine.{FmtLine}
 use Rattle.mad_layout.specs.declared.fmt_text.FmtText.{FmtText}
-use Rattle.mad_layout.proofs.DrawableLemmas.{layout_fits, layout_is_drawable}
+use Rattle.mad_layout.proofs.DrawableLemmas.{layout_fits, layout_is_drawable, shown_drawable}
 
 -- a text that was laid out for an area
 pub area_layout : {E : Type 0} (r : Result FmtText E) (skin : MadSkin) (markdown : List ℕ) (area : Area) (width : ℕ) → width ≡ area.width - 1
@@ -47,24 +48,31 @@ layout_fitting skin None text lines h = tt
 layout_fitting skin (Some width) text lines h = λ wide. layout_fits skin width text lines (wrapped_at skin width text lines wide h)
 
 -- what an area shows of such a text
-pub text_shown : {T E : Type 0} (r : Result T E) (skin : MadSkin) (markdown : List ℕ) (area : Area) (lines : List FmtLine) (old new : Trace) → IsWithinLimits area → IsAreaLayout skin markdown area lines
-    → OnOk r (AreDrawable skin area.width lines → TookWith old new (AreShownIn skin lines area 0))
+pub text_shown : {T E : Type 0} (r : Result T E) (skin own : MadSkin) (markdown : List ℕ) (area : Area) (lines : List FmtLine) (old new : Trace) → IsWithinLimits area → own ≡ skin → IsAreaLayout skin markdown area lines
+    → OnOk r (AreDrawable own area.width (lines_shown lines area 0) → TookWith old new (AreShownIn own lines area 0))
     → OnOk r (4 ≤ area.width → ShowsText skin markdown area old new)
-text_shown {T} {E} (Ok x) skin markdown area lines old new limits laid_out h =
+text_shown {T} {E} (Ok x) skin own markdown area lines old new limits same laid_out h =
     λ wide. record {
       lines = lines;
       laid_out = laid_out;
       shown = λ premises.
           let layout : IsLayout skin (area.width - 1) (composites (contents laid_out.text)) lines = wrapped_at skin (area.width - 1) (composites (contents laid_out.text)) lines (omega arith) laid_out.layout in
-          h (layout_is_drawable skin (area.width - 1) area.width (composites (contents laid_out.text)) lines (omega arith) (omega (arith, limits.columns)) premises layout);
+          subst (λ (s : MadSkin). AreDrawable s area.width (lines_shown lines area 0) → TookWith old new (AreShownIn s lines area 0)) same h
+          (shown_drawable skin area.width lines area 0 (layout_is_drawable skin (area.width - 1) area.width (composites (contents laid_out.text)) lines (omega arith) (omega (arith, limits.columns)) premises layout));
     }
-text_shown {T} {E} (Err x) skin markdown area lines old new limits laid_out h = tt
+text_shown {T} {E} (Err x) skin own markdown area lines old new limits same laid_out h = tt
 
--- a flush that failed behind a text
-flush_failed : (old mid new : Trace) (text : List ℕ) → mid ≡ after old text → new ≡ failed mid → CutShort old text new
-flush_failed old mid new text went fault = record { front = text; rest = []; whole = append-nil text; went = fault ∙ ap failed went }
-
+-- the flush failed behind a text
 pub area_not_flushed : {T U : Type 0} (r : Result T Error) (done : U) (e : io.Error) (skin : MadSkin) (markdown : List ℕ) (area : Area) (old mid new : Trace) → WritesInArea {T = U} skin markdown area old (Ok done) mid → new ≡ failed mid
-    → IsErrAnd r (λ x. x ≡ IO e) → WritesInArea skin markdown area old r new
-area_not_flushed {T} {U} r done e skin markdown area old mid new (inl h) fault is = inl (h.0, h.1, refused_exit r (IO e) old new _ is (flush_failed old mid new _ h.2 fault))
+    → IsErrAnd r (λ x. x ≡ IO e) → AndFlushes {T = T} (WritesInArea {T = T} skin markdown area) old r new
+area_not_flushed {T} {U} r done e skin markdown area old mid new (inl h) fault is =
+    flushing_refused {T = T} (WritesInArea {T = T} skin markdown area) r (IO e) old new is (inl (h.0, h.1, flush_failed old mid new _ h.2 fault))
 area_not_flushed {T} {U} r done e skin markdown area old mid new (inr h) fault is = absurd (cc)
+
+-- a flush takes nothing from what a text shows
+pub shown_flushed : (skin : MadSkin) (markdown : List ℕ) (area : Area) (old mid new : Trace) → ShowsText skin markdown area old mid → new ≡ flushed mid → ShowsText skin markdown area old new
+shown_flushed skin markdown area old mid new h e = record {
+  lines = h.lines;
+  laid_out = h.laid_out;
+  shown = λ premises. took_flushed old mid new (AreShownIn skin h.lines area 0) (h.shown premises) e;
+}

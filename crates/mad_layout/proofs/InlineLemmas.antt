@@ -15,7 +15,7 @@ use Rattle.mad_style.specs.declared.kinds.CompositeKind.TheVariants.{Paragraph}
 use Rattle.mad_style.specs.Kinds.{kind_of}
 use Rattle.mad_style.specs.LineStyles.{margins_at}
 use Rattle.mad_layout.specs.Inlines.{IsInlineOf, IsDisplayedAsWritten, WritesInline, composite_bytes}
-use Rattle.mad_layout.specs.Pieces.{RowPiece, pieces_bytes, spaces}
+use Rattle.mad_draw.specs.Pieces.{RowPiece, pieces_bytes, spaces}
 use Rattle.mad_layout.specs.Rows.{align_in, place_of, left_of_place, right_of_place, inner_blanks, margins_of, mark_pieces, compound_piece, composite_pieces, free_pieces}
 use Rattle.mad_layout.specs.Styles.{line_style}
 use Rattle.mad_layout.specs.declared.skin.MadSkin.{MadSkin}
@@ -39,7 +39,7 @@ free_is skin l spacing margins =
 pub displayed : (skin : MadSkin) (src : List ℕ) (l : FmtComposite) → IsInlineOf skin src l → IsDisplayedAsWritten skin src l
 displayed skin src l h items reading =
     ap pieces_bytes (free_is skin l h.spacing h.margins ∙ ap (λ kind. free_pieces skin kind (map run_of l.compounds.items)) h.kind
-    ∙ ap (free_pieces skin Paragraph) (h.read.each items reading))
+    ∙ ap (free_pieces skin Paragraph) (h.text.each items reading))
 
 -- a paragraph that is a line's reading is drawn as the line
 pub written : {T : Type 0} (skin : MadSkin) (src : List ℕ) (read : Composite) (old : Trace) (r : Result T Error) (new : Trace) → read.style ≡ Plain → IsReadInline src read.compounds.items

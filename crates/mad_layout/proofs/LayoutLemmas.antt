@@ -22,7 +22,7 @@ line_read : (skin : MadSkin) (composite : Composite) (line : FmtLine) (cs : List
 line_read skin composite (Normal l) cs more h held = (
   record {
     kind = h.kind;
-    runs = ap (map run_of) h.text;
+    text = ap (map run_of) h.text;
     measured = h.measured;
     spacing = h.spacing;
     margins = h.margins;

@@ -1,4 +1,3 @@
-pub mod AreaLemmas
 pub mod BoundLemmas
 pub mod BoundOfLemmas
 pub mod CheckerSteps
@@ -11,6 +10,7 @@ pub mod Greedy
 pub mod HeadlineLemmas
 pub mod InlineLemmas
 pub mod KeepLemmas
+pub mod KnownLemmas
 pub mod LayoutLemmas
 pub mod Least
 pub mod MeasureLemmas

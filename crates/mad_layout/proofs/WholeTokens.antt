@@ -6,9 +6,9 @@ use Rattle.std.specs.Str.{IsUtf8, IsCharBoundary}
 use Rattle.std.proofs.lemmas.Bool.{false≢true, cases_lt}
 use Rattle.std.proofs.lemmas.Str.{encodes-chars, len_utf8_bounds, chars_past_char, drop_past_char, IsCharBoundary-from_drop}
 use Rattle.std.proofs.lemmas.List.{drop-drop, length-drop, map-append}
-use Rattle.mad_term.specs.Columns.{char_columns}
-use Rattle.mad_term.specs.Painting.{IsPrinted, IsWhole, IsShown}
-use Rattle.mad_term.proofs.CharColumns.{char_columns-le}
+use Rattle.mad_columns.specs.Columns.{char_columns}
+use Rattle.mad_screen.specs.Painting.{IsPrinted, IsWhole, IsShown}
+use Rattle.mad_columns.proofs.CharColumns.{char_columns-le}
 use Rattle.mad_md.specs.Flagged.{Flags, FlaggedChar, Run, flagged, flags_of, run_of, flagged_of, flagged_text, is_blank}
 use Rattle.mad_md.specs.declared.compound.Compound.{Compound}
 use Rattle.mad_fit.specs.Tokens.{StopsBefore, IsAlike, IsTokenAt, AreTokensFrom, AreTokensOf, flagged_token, token_text, token_run}

@@ -1,39 +1,24 @@
 -- Lines that fill a row exactly when they are drawn.
-use Rattle.std.specs.Prelude.{◌≡◌, ℕ, ◌+◌, ◌≤◌, List, [], ◌∷◌, Some, None, map}
+use Rattle.std.specs.Prelude.{◌≡◌, ℕ, ◌+◌, ◌≤◌, List, Some, IfSome, map}
 use Rattle.std.specs.List.{AllByRecursion}
-use Rattle.std.specs.Str.{chars, IsUtf8}
-use Rattle.mad_term.specs.Painting.{IsShown}
-use Rattle.mad_fit.specs.Columns.{columns}
 use Rattle.mad_layout.specs.declared.skin.MadSkin.{MadSkin}
 use Rattle.mad_layout.specs.declared.composite.FmtComposite.{FmtComposite}
 use Rattle.mad_layout.specs.declared.line.FmtLine.{FmtLine}
 use Rattle.mad_layout.specs.declared.line.FmtLine.TheVariants.{Normal}
 use Rattle.mad_layout.specs.Indents.{indent}
-use Rattle.mad_layout.specs.Pieces.{RowPiece}
-use Rattle.mad_layout.specs.Rows.{mark_pieces, compound_piece}
+use Rattle.mad_draw.specs.Pieces.{AreShownPieces, pieces_columns}
+use Rattle.mad_layout.specs.Rows.{mark_pieces, compound_piece, inner_columns}
 use Rattle.mad_layout.specs.Styles.{line_style}
 use Rattle.mad_layout.specs.Wraps.{columns_of}
 
--- the text of a piece shows cells of its own: no control character, and no widthless one in front
-pub record IsShownPiece (p : RowPiece) : Type 0 where
-  pub utf8 : IsUtf8 p.text
-  pub shown : IsShown (chars p.text)
-
-abbrev pub AreShownPieces : List RowPiece → Type 0
-AreShownPieces ps = AllByRecursion IsShownPiece ps
-
--- the columns that pieces take
-abbrev pub pieces_columns : List RowPiece → ℕ
-pieces_columns [] = 0
-pieces_columns (p ∷ ps) = columns (chars p.text) + pieces_columns ps
-
--- A line that fits a row of so many columns with its margins, its cached length right, its mark and its compounds shown.
+-- A line that fits a row of so many columns with its margins, its cached length right and within its own place, if it has one, its
+-- mark and its compounds shown.
 pub record IsDrawable (skin : MadSkin) (width : ℕ) (l : FmtComposite) : Type 0 where
-  pub spacing : l.spacing ≡ None
   pub margins : ℕ × ℕ
   pub margins_are : l.margins ≡ Some margins
   pub measured : l.visible_length ≡ columns_of skin l
-  pub fits : margins.0 + columns_of skin l + margins.1 ≤ width
+  pub place : IfSome l.spacing (λ s. l.visible_length ≤ s.width)
+  pub fits : margins.0 + inner_columns l + margins.1 ≤ width
   pub mark : AreShownPieces (mark_pieces skin l.kind)
   pub indent_is : pieces_columns (mark_pieces skin l.kind) ≡ indent skin.list_items_indentation_mode l.kind
   pub text : AreShownPieces (map (compound_piece skin (line_style skin l.kind)) l.compounds.items)

@@ -8,21 +8,17 @@ use Rattle.mad_term.specs.Trace.{Trace}
 use Rattle.mad_term.specs.declared.errors.Error.{Error}
 use Rattle.mad_term.specs.declared.errors.Error.TheVariants.{Memory}
 use Rattle.mad_style.specs.Kinds.{kind_of}
-use Rattle.mad_layout.specs.Pieces.{pieces_bytes}
+use Rattle.mad_draw.specs.Pieces.{pieces_bytes}
 use Rattle.mad_layout.specs.Rows.{composite_pieces, free_pieces, margins_of}
 use Rattle.mad_md.specs.ReadInline.{IsReadInline}
 use Rattle.mad_style.specs.declared.kinds.CompositeKind.TheVariants.{Paragraph}
-use Rattle.mad_layout.specs.Wraps.{IsMeasured}
+use Rattle.mad_layout.specs.Lines.{IsReadAs}
 use Rattle.mad_layout.specs.declared.skin.MadSkin.{MadSkin}
 use Rattle.mad_layout.specs.declared.composite.FmtComposite.{FmtComposite}
 
--- the line of text as a paragraph, its marks read, measured in this skin
-pub record IsInlineOf (skin : MadSkin) (src : List ℕ) (l : FmtComposite) : Type 0 where
-  pub kind : l.kind ≡ Paragraph
-  pub read : IsReadInline src l.compounds.items
-  pub measured : IsMeasured skin l
-  pub spacing : l.spacing ≡ None
-  pub margins : l.margins ≡ None
+-- the line of text as a paragraph, its marks read
+abbrev pub IsInlineOf : MadSkin → List ℕ → FmtComposite → Type 0
+IsInlineOf skin src l = IsReadAs skin Paragraph (IsReadInline src) l
 
 -- the bytes of a composite that stands by itself
 abbrev pub composite_bytes : MadSkin → Composite → List ℕ

@@ -3,8 +3,8 @@ use Rattle.std.specs.Prelude.{◌≡◌, ℕ, List, [], ◌∷◌, map, Option, 
 use Rattle.mad_md.specs.Flagged.{run_of}
 use Rattle.mad_md.specs.Lines.{StyledRuns, LineContent, normal, table_row, table_rule, horizontal_rule}
 use Rattle.mad_style.specs.Kinds.{kind_of}
+use Rattle.mad_layout.specs.Lines.{IsReadAs}
 use Rattle.mad_layout.specs.WrappedLines.{AreLinesWrapped}
-use Rattle.mad_layout.specs.Wraps.{IsMeasured}
 use Rattle.mad_layout.specs.declared.skin.MadSkin.{MadSkin}
 use Rattle.mad_layout.specs.declared.composite.FmtComposite.{FmtComposite}
 use Rattle.mad_layout.specs.declared.line.FmtLine.{FmtLine}
@@ -18,13 +18,9 @@ composites (table_row cells ∷ lines) = composites lines
 composites (table_rule cells ∷ lines) = composites lines
 composites (horizontal_rule ∷ lines) = composites lines
 
--- The composite is what was read, measured in this skin.
-pub record IsRead (skin : MadSkin) (line : StyledRuns) (l : FmtComposite) : Type 0 where
-  pub kind : l.kind ≡ kind_of line.style
-  pub runs : map run_of l.compounds.items ≡ line.runs
-  pub measured : IsMeasured skin l
-  pub spacing : l.spacing ≡ None
-  pub margins : l.margins ≡ None
+-- the composite is what was read
+abbrev pub IsRead : MadSkin → StyledRuns → FmtComposite → Type 0
+IsRead skin line l = IsReadAs skin (kind_of line.style) (λ ps. map run_of ps ≡ line.runs) l
 
 -- the lines are the composites of a text, not yet wrapped
 abbrev pub AreRead : MadSkin → List StyledRuns → List FmtLine → Type 0

@@ -1,3 +1,6 @@
+pub use Rattle.mad_draw.specs.DrawnRows
+pub use Rattle.mad_draw.specs.Pieces
+pub use Rattle.mad_draw.specs.RowCells
 pub mod Bounds
 pub mod Breaks
 pub mod CleanCut
@@ -13,7 +16,6 @@ pub mod LeastWrap
 pub mod LineRoom
 pub mod LineStarts
 pub mod Lines
-pub mod Pieces
 pub mod PlacedLines
 pub mod Premises
 pub mod Rows

@@ -6,8 +6,8 @@ use Rattle.std.specs.Str.{chars, IsUtf8}
 use Rattle.mad_md.specs.Flagged.{FlaggedChar, Run, flagged, is_blank}
 use Rattle.mad_md.specs.Lines.{StyledRuns}
 use Rattle.mad_md.specs.declared.composite.CompositeStyle.TheVariants.{Paragraph}
-use Rattle.mad_term.specs.Columns.{char_columns}
-use Rattle.mad_term.specs.Painting.{IsPrinted}
+use Rattle.mad_columns.specs.Columns.{char_columns}
+use Rattle.mad_screen.specs.Painting.{IsPrinted}
 use Rattle.mad_style.specs.Kinds.{kind_of}
 use Rattle.mad_style.specs.LineStyles.{margins_at}
 use Rattle.mad_fit.specs.Columns.{width_of}

@@ -18,7 +18,7 @@ use Rattle.mad_layout.specs.declared.composite.FmtComposite.{FmtComposite}
 use Rattle.mad_layout.specs.declared.line.FmtLine.{FmtLine}
 use Rattle.mad_layout.specs.declared.line.FmtLine.TheVariants.{Normal}
 use Rattle.mad_layout.specs.Indents.{kept, ordered_indent}
-use Rattle.mad_layout.specs.Pieces.{RowPiece, PennedChar, penned_chars, spaces, single_spaces}
+use Rattle.mad_draw.specs.Pieces.{RowPiece, spaces, single_spaces}
 use Rattle.mad_layout.specs.Styles.{line_style, compound_style, ordered_item_style}
 
 -- ---- in front of a line's text
@@ -131,7 +131,3 @@ line_pieces skin outer right (Normal l) = composite_pieces skin outer (margins_o
 abbrev pub row_pieces : MadSkin → ℕ → Option FmtLine → List RowPiece
 row_pieces skin width (Some line) = line_pieces skin (Some width) true line
 row_pieces skin width None = spaces skin.paragraph.compound_style width
-
--- The row of a line at a drawn width: its characters in order, each with its pen.
-abbrev pub row_of : MadSkin → ℕ → Option FmtLine → List PennedChar
-row_of skin width line = penned_chars (row_pieces skin width line)

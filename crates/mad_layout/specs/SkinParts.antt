@@ -6,7 +6,7 @@ use Rattle.mad_term.specs.declared.color.Color.TheVariants.{AnsiValue}
 use Rattle.mad_style.specs.declared.compound_styles.CompoundStyle.{CompoundStyle}
 use Rattle.mad_style.specs.declared.line_styles.LineStyle.{LineStyle}
 use Rattle.mad_style.specs.declared.styled_chars.StyledChar.{StyledChar}
-use Rattle.mad_style.specs.AttributeSets.{no_attributes, only}
+use Rattle.mad_term.specs.AttributeSets.{no_attributes, only}
 use Rattle.mad_style.specs.CompoundStyles.{text_style, plain_style, attribute_added}
 use Rattle.mad_style.specs.LineStyles.{unmargined}
 use Rattle.mad_style.specs.StyledChars.{styled_char}

@@ -4,7 +4,7 @@ use Rattle.mad_term.specs.declared.attribute.Attribute.TheVariants as attribute
 use Rattle.mad_term.specs.declared.color.Color.TheVariants.{AnsiValue}
 use Rattle.mad_md.specs.declared.alignment.Alignment.TheVariants.{Unspecified}
 use Rattle.mad_style.specs.declared.kinds.ListItemsIndentationMode.TheVariants.{Block}
-use Rattle.mad_style.specs.AttributeSets.{only}
+use Rattle.mad_term.specs.AttributeSets.{only}
 use Rattle.mad_style.specs.CompoundStyles.{text_style, plain_style}
 use Rattle.mad_style.specs.LineStyles.{unmargined}
 use Rattle.mad_style.specs.StyledChars.{styled_char, colored_char}

@@ -7,6 +7,7 @@ use Rattle.mad_style.specs.declared.kinds.CompositeKind.{CompositeKind}
 use Rattle.mad_style.specs.declared.kinds.CompositeKind.TheVariants.{Header, Code}
 use Rattle.mad_style.specs.declared.line_styles.LineStyle.{LineStyle}
 use Rattle.mad_style.specs.declared.ordered_items.OrderedItemStyle.{OrderedItemStyle}
+use Rattle.mad_term.specs.Styles.{IsStyle}
 use Rattle.mad_style.specs.CompoundStyles.{overwritten, plain_style}
 use Rattle.mad_style.specs.StyledChars.{styled_char}
 use Rattle.mad_layout.specs.declared.skin.MadSkin.{MadSkin}
@@ -36,6 +37,14 @@ abbrev pub compound_style : MadSkin → LineStyle → Run → CompoundStyle
 compound_style skin style p =
     if bytes_eq p.text ellipsis_bytes then skin.ellipsis
     else overwritten_if p.flags.code skin.inline_code (overwritten_if p.flags.bold skin.bold (overwritten_if p.flags.strikeout skin.strikeout (overwritten_if p.flags.italic skin.italic style.compound_style)))
+
+-- The numbers of the colors of what compounds add to their line's style are bytes, as those of every style are that a program has.
+pub record AreKnownAdditions (skin : MadSkin) : Type 0 where
+  pub bold : IsStyle skin.bold.object_style
+  pub italic : IsStyle skin.italic.object_style
+  pub strikeout : IsStyle skin.strikeout.object_style
+  pub code : IsStyle skin.inline_code.object_style
+  pub ellipsis : IsStyle skin.ellipsis.object_style
 
 -- an ordered item without style: a number and a dot
 abbrev pub plain_item_style : OrderedItemStyle

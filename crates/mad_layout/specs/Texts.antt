@@ -1,7 +1,7 @@
 -- Texts, as they are displayed.
 use Rattle.std.specs.Prelude.{ℕ, false, List, [], ◌∷◌, ◌++◌, Option}
 use Rattle.std.specs.List.{flat_map}
-use Rattle.mad_layout.specs.Pieces.{pieces_bytes}
+use Rattle.mad_draw.specs.Pieces.{pieces_bytes}
 use Rattle.mad_layout.specs.Rows.{line_pieces}
 use Rattle.mad_layout.specs.declared.skin.MadSkin.{MadSkin}
 use Rattle.mad_layout.specs.declared.line.FmtLine.{FmtLine}

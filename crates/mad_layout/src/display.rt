@@ -1,7 +1,7 @@
 //! Texts and inline texts as displayed values: the same bytes as the writing calls, piece by piece, without memory.
 
 ghost use Rattle.std.specs.Prelude.{◌≡◌, Some};
-ghost use Rattle.mad_layout.specs.Pieces.{pieces_bytes, spaces, single_spaces};
+ghost use Rattle.mad_draw.specs.Pieces.{pieces_bytes};
 ghost use Rattle.mad_layout.specs.Rows.{mark_pieces};
 
 use crate::composite::FmtComposite;
@@ -11,53 +11,11 @@ use crate::indents::indent_of;
 use crate::line::FmtLine;
 use crate::rows::{RowPlace, inner_blanks, margins_of, outer_blanks};
 use crate::skin::MadSkin;
-use mad_md::Compound;
-use mad_style::{CompositeKind, CompoundStyle, LineStyle};
-use mad_term::{StyledContent, StyledNumber, StyledRun};
+use mad_draw::{SingleSpaces, Spaces};
+use mad_md::{Composite, Compound};
+use mad_style::{CompositeKind, LineStyle};
+use mad_term::StyledNumber;
 use std::fmt;
-
-// Spaces, as one piece; nothing at all of none.
-#[derive(Clone, Copy)]
-struct Spaces {
-    style: CompoundStyle,
-    count: usize,
-}
-
-impl fmt::Display for Spaces {
-    ghost output = { λ s. Some (pieces_bytes (spaces s.style s.count)) };
-
-    #[tactic(auto, using(crate::proofs::PieceLemmas::run_of_spaces))]
-    fn fmt<W: fmt::Write>(&self, f: &mut fmt::Formatter<W>) -> fmt::Result {
-        let run = StyledRun {
-            style: self.style.object_style,
-            content: " ",
-            count: self.count,
-        };
-        write!(f, "{run}")
-    }
-}
-
-// Spaces, each a piece of its own.
-#[derive(Clone, Copy)]
-struct SingleSpaces {
-    style: CompoundStyle,
-    count: usize,
-}
-
-impl fmt::Display for SingleSpaces {
-    ghost output = { λ s. Some (pieces_bytes (single_spaces s.style s.count)) };
-
-    fn fmt<W: fmt::Write>(&self, f: &mut fmt::Formatter<W>) -> fmt::Result {
-        let space = StyledContent {
-            style: self.style.object_style,
-            content: " ",
-        };
-        for _done in 0..self.count {
-            write!(f, "{space}")?;
-        }
-        Ok(())
-    }
-}
 
 // What stands in front of a line's text.
 #[derive(Clone, Copy)]
@@ -213,13 +171,13 @@ struct PlacedLine<'a, 's> {
     skin: &'a MadSkin,
     line: &'a FmtLine<'s>,
     outer: Option<usize>,
+    right: bool,
 }
 
 impl fmt::Display for PlacedLine<'_, '_> {
-    ghost use Rattle.std.specs.Prelude.{false};
     ghost use Rattle.mad_layout.specs.Rows.{line_pieces};
 
-    ghost output = { λ l. Some (pieces_bytes (line_pieces l.skin.now l.outer false l.line.now)) };
+    ghost output = { λ l. Some (pieces_bytes (line_pieces l.skin.now l.outer l.right l.line.now)) };
 
     fn fmt<W: fmt::Write>(&self, f: &mut fmt::Formatter<W>) -> fmt::Result {
         match self.line {
@@ -231,12 +189,80 @@ impl fmt::Display for PlacedLine<'_, '_> {
                     place: RowPlace {
                         outer: self.outer,
                         margins,
-                        right: false,
+                        right: self.right,
                     },
                 };
                 write!(f, "{placed}")
             }
         }
+    }
+}
+
+/// What a row of so many columns shows: a line, or past the last line spaces in the paragraph's style.
+#[derive(Clone, Copy)]
+pub(crate) struct PlacedRow<'a, 's> {
+    pub skin: &'a MadSkin,
+    pub line: Option<&'a FmtLine<'s>>,
+    pub width: usize,
+}
+
+impl fmt::Display for PlacedRow<'_, '_> {
+    ghost use Rattle.std.specs.Option.{option_copied};
+    ghost use Rattle.mad_layout.specs.Rows.{row_pieces};
+
+    ghost output = { λ r. Some (pieces_bytes (row_pieces r.skin.now r.width (option_copied r.line))) };
+
+    fn fmt<W: fmt::Write>(&self, f: &mut fmt::Formatter<W>) -> fmt::Result {
+        match self.line {
+            Some(line) => {
+                let placed = PlacedLine {
+                    skin: self.skin,
+                    line,
+                    outer: Some(self.width),
+                    right: true,
+                };
+                write!(f, "{placed}")
+            }
+            None => {
+                let spaces = Spaces {
+                    style: self.skin.paragraph.compound_style,
+                    count: self.width,
+                };
+                write!(f, "{spaces}")
+            }
+        }
+    }
+}
+
+/// A composite that stands by itself: its style's left margin, its mark and its compounds.
+#[derive(Clone, Copy)]
+pub(crate) struct FreeComposite<'a, 's> {
+    pub skin: &'a MadSkin,
+    pub composite: &'a Composite<'s>,
+}
+
+impl fmt::Display for FreeComposite<'_, '_> {
+    ghost use Rattle.mad_layout.specs.Inlines.{composite_bytes};
+
+    ghost output = { λ c. Some (composite_bytes c.skin.now c.composite.now) };
+
+    fn fmt<W: fmt::Write>(&self, f: &mut fmt::Formatter<W>) -> fmt::Result {
+        let kind = CompositeKind::from(self.composite.style);
+        let style = self.skin.line_style(kind);
+        let margin = Spaces {
+            style: self.skin.paragraph.compound_style,
+            count: style.left_margin,
+        };
+        let mark = Mark {
+            skin: self.skin,
+            kind,
+        };
+        let compounds = Compounds {
+            skin: self.skin,
+            style,
+            compounds: &self.composite.compounds,
+        };
+        write!(f, "{margin}{mark}{compounds}")
     }
 }
 
@@ -279,6 +305,7 @@ impl fmt::Display for PlacedLines<'_, '_> {
                 skin: self.skin,
                 line,
                 outer: self.outer,
+                right: false,
             };
             write!(f, "{placed}\n")?;
         }

@@ -1,117 +1,20 @@
-//! Rows: what is written of a line, piece by piece, at the end of a row that is being built.
+//! Rows: where a line stands in its row.
 
-ghost use Rattle.std.specs.Prelude.{◌≡◌, ◌∷◌, [], OnOk, map, string_bytes};
-ghost use Rattle.mad_md.specs.Flagged.{run_of};
-ghost use Rattle.mad_style.specs.Kinds.{kind_of};
-ghost use Rattle.mad_layout.specs.Pieces.{Appends, spaces, single_spaces};
-ghost use Rattle.mad_layout.specs.Rows.{char_piece, compound_piece, number_piece, mark_pieces, composite_pieces, free_pieces, line_pieces, row_pieces, inner_blanks, outer_blanks, margins_of};
+ghost use Rattle.std.specs.Prelude.{◌≡◌, Some, true};
 ghost use Rattle.std.specs.Option.{option_copied};
+ghost use Rattle.mad_term.specs.Styles.{IsStyle};
+ghost use Rattle.mad_style.specs.StyledChars.{char_style};
+ghost use Rattle.mad_layout.specs.declared.line.FmtLine.TheVariants.{Normal};
+ghost use Rattle.mad_draw.specs.Pieces.{AreKnown};
+ghost use Rattle.mad_layout.specs.Rows.{mark_pieces, line_pieces, row_pieces, inner_blanks, outer_blanks, margins_of};
+ghost use Rattle.mad_layout.specs.Styles.{AreKnownAdditions};
 
 use crate::composite::FmtComposite;
-use crate::indents::indent_of;
 use crate::line::FmtLine;
 use crate::skin::MadSkin;
 use mad_fit::Spacing;
-use mad_md::{Alignment, Composite, Compound};
-use mad_style::{CompositeKind, CompoundStyle, LineStyle, StyledChar};
-use mad_term::push_styled;
-use std::alloc::AllocError;
-
-// Spaces, as one piece; nothing at all of none.
-fn push_spaces(row: &mut String, style: CompoundStyle, count: usize) -> Result<(), AllocError>
-    ensures { OnOk result (Appends (string_bytes row.old) (spaces style count) (string_bytes row.new)) }
-{
-    style.push_repeated(row, " ", count)
-}
-
-// Spaces, each a piece of its own.
-fn push_single_spaces(
-    row: &mut String,
-    style: CompoundStyle,
-    count: usize,
-) -> Result<(), AllocError>
-    ensures { OnOk result (Appends (string_bytes row.old) (single_spaces style count) (string_bytes row.new)) }
-{
-    for _done in 0..count {
-        push_styled(row, style.object_style, " ")?;
-    }
-    Ok(())
-}
-
-// A character in its style.
-fn push_char(row: &mut String, c: StyledChar) -> Result<(), AllocError>
-    ensures { OnOk result (Appends (string_bytes row.old) (char_piece c ∷ []) (string_bytes row.new)) }
-{
-    c.push(row)
-}
-
-// What stands in front of a line's text.
-fn push_mark(row: &mut String, skin: &MadSkin, kind: CompositeKind) -> Result<(), AllocError>
-    ensures { OnOk result (Appends (string_bytes row.old) (mark_pieces skin.now kind) (string_bytes row.new)) }
-{
-    let blank = skin.paragraph.compound_style;
-    match kind {
-        CompositeKind::ListItem(depth) => {
-            push_single_spaces(row, blank, depth as usize)?;
-            push_char(row, skin.bullet)?;
-            push_single_spaces(row, blank, 1)
-        }
-        CompositeKind::OrderedListItem { level, index } => {
-            push_single_spaces(row, blank, level as usize)?;
-            let style = skin.ordered_item_style(level);
-            push_number(row, style.index_style, index)?;
-            push_char(row, style.index_suffix)?;
-            push_single_spaces(row, blank, 1)
-        }
-        CompositeKind::ListItemFollowUp(_) | CompositeKind::OrderedListItemFollowUp { .. } => {
-            push_single_spaces(
-                row,
-                blank,
-                indent_of(kind, skin.list_items_indentation_mode),
-            )
-        }
-        CompositeKind::Quote => {
-            push_char(row, skin.quote_mark)?;
-            push_single_spaces(row, blank, 1)
-        }
-        CompositeKind::Paragraph | CompositeKind::Header(_) | CompositeKind::Code => Ok(()),
-    }
-}
-
-// The number of an item of an ordered list.
-fn push_number(row: &mut String, style: CompoundStyle, number: u32) -> Result<(), AllocError>
-    ensures { OnOk result (Appends (string_bytes row.old) (number_piece style number ∷ []) (string_bytes row.new)) }
-{
-    let text = number.to_string(*row.allocator())?;
-    push_styled(row, style.object_style, text.as_str())
-}
-
-// The compounds of a line of that style.
-fn push_compounds(
-    row: &mut String,
-    skin: &MadSkin,
-    style: &LineStyle,
-    compounds: &[Compound],
-) -> Result<(), AllocError>
-    ensures { OnOk result (Appends (string_bytes row.old) (map (compound_piece skin.now style.now) compounds.now) (string_bytes row.new)) }
-{
-    for compound in compounds {
-        push_compound(row, skin, style, compound)?;
-    }
-    Ok(())
-}
-
-fn push_compound(
-    row: &mut String,
-    skin: &MadSkin,
-    style: &LineStyle,
-    compound: &Compound,
-) -> Result<(), AllocError>
-    ensures { OnOk result (Appends (string_bytes row.old) (compound_piece skin.now style.now compound.now ∷ []) (string_bytes row.new)) }
-{
-    let style = skin.compound_style(style, compound);
-    push_styled(row, style.object_style, compound.src)
-}
+use mad_md::Alignment;
+use mad_style::{CompositeKind, CompoundStyle, StyledChar};
 
 /// Where a composite stands in a row, in columns.
 #[derive(Clone, Copy)]
@@ -122,28 +25,6 @@ pub(crate) struct RowPlace {
     pub margins: (usize, usize),
     /// Whether the columns on the right are filled up.
     pub right: bool,
-}
-
-/// Appends a composite at its place in a row: the blanks left of it, its mark, its compounds, and the blanks right of
-/// it.
-pub(crate) fn push_composite(
-    row: &mut String,
-    skin: &MadSkin,
-    composite: &FmtComposite,
-    place: RowPlace,
-) -> Result<(), AllocError>
-    ensures { OnOk result (Appends (string_bytes row.old) (composite_pieces skin.now place.outer place.margins place.right composite.now) (string_bytes row.new)) }
-{
-    let style = skin.line_style(composite.kind);
-    let blank = skin.paragraph.compound_style;
-    let (left, right) = outer_blanks(composite, style.align, place);
-    let (inner_left, inner_right) = inner_blanks(composite);
-    push_spaces(row, blank, left)?;
-    push_spaces(row, style.compound_style, inner_left)?;
-    push_mark(row, skin, composite.kind)?;
-    push_compounds(row, skin, style, &composite.compounds)?;
-    push_spaces(row, style.compound_style, inner_right)?;
-    push_spaces(row, blank, if place.right { right } else { 0 })
 }
 
 /// The blank columns left and right of a composite in its own place.
@@ -187,54 +68,75 @@ pub(crate) fn margins_of(
     }
 }
 
-/// Appends a line at an outer width, in columns, with the margins of its layout, or where it has none of its style's.
-pub(crate) fn push_line(
-    row: &mut String,
-    skin: &MadSkin,
-    line: &FmtLine,
-    outer: Option<usize>,
-    right: bool,
-) -> Result<(), AllocError>
-    ensures { OnOk result (Appends (string_bytes row.old) (line_pieces skin.now outer right line.now) (string_bytes row.new)) }
-{
+/// The columns of blanks beside a line, at most; in a row without a line its width.
+pub(crate) fn row_columns(skin: &MadSkin, line: Option<&FmtLine>, width: usize) -> usize {
     match line {
-        FmtLine::Normal(composite) => {
-            let place = RowPlace {
-                outer,
-                margins: margins_of(skin, composite, outer),
-                right,
-            };
-            push_composite(row, skin, composite, place)
+        Some(FmtLine::Normal(composite)) => {
+            let (left, right) = margins_of(skin, composite, Some(width));
+            width.saturating_add(left).saturating_add(right)
         }
+        None => width,
     }
 }
 
-/// Appends what a row of so many columns shows: a line, or past the last line spaces in the paragraph's style.
-pub(crate) fn push_row(
-    row: &mut String,
-    skin: &MadSkin,
-    line: Option<&FmtLine>,
-    width: usize,
-) -> Result<(), AllocError>
-    ensures { OnOk result (Appends (string_bytes row.old) (row_pieces skin.now width (option_copied line.entry)) (string_bytes row.new)) }
+/// What reading a row back needs to know: the numbers of its colors are bytes. Nothing is done.
+#[tactic(auto, using(mad_draw::proofs::PieceLemmas::spaces_known))]
+pub(crate) fn read_row(skin: &MadSkin, line: Option<&FmtLine>, width: usize)
+    ensures { AreKnown (row_pieces skin.now width (option_copied line.entry)) }
 {
+    read_style(skin.paragraph.compound_style);
     match line {
-        Some(line) => push_line(row, skin, line, Some(width), true),
-        None => push_spaces(row, skin.paragraph.compound_style, width),
+        Some(FmtLine::Normal(composite)) => read_composite(skin, composite, width),
+        None => (),
     }
 }
 
-/// Appends a composite that stands by itself: its style's left margin, its mark and its compounds.
-pub(crate) fn push_free(
-    row: &mut String,
-    skin: &MadSkin,
-    composite: &Composite,
-) -> Result<(), AllocError>
-    ensures { OnOk result (Appends (string_bytes row.old) (free_pieces skin.now (kind_of composite.now.style) (map run_of composite.now.compounds.items)) (string_bytes row.new)) }
+// The numbers of a style's colors are bytes.
+fn read_style(style: CompoundStyle)
+    ensures { IsStyle style.object_style }
+{}
+
+// The same of a line.
+fn read_composite(skin: &MadSkin, composite: &FmtComposite, width: usize)
+    ensures { AreKnown (line_pieces skin.now (Some width) true (Normal composite.now)) }
 {
-    let kind = CompositeKind::from(composite.style);
-    let style = skin.line_style(kind);
-    push_spaces(row, skin.paragraph.compound_style, style.left_margin)?;
-    push_mark(row, skin, kind)?;
-    push_compounds(row, skin, style, &composite.compounds)
+    let style = skin.line_style(composite.kind);
+    read_style(skin.paragraph.compound_style);
+    read_style(style.compound_style);
+    read_mark(skin, composite.kind);
+    read_compounds(skin);
+}
+
+// What the pieces in front of a line's text need.
+#[tactic(auto, using(crate::proofs::KnownLemmas::spaced_known, mad_draw::proofs::PieceLemmas::single_known))]
+fn read_mark(skin: &MadSkin, kind: CompositeKind)
+    ensures { AreKnown (mark_pieces skin.now kind) }
+{
+    read_style(skin.paragraph.compound_style);
+    match kind {
+        CompositeKind::ListItem(_) => read_char(skin.bullet),
+        CompositeKind::OrderedListItem { level, .. } => {
+            let style = skin.ordered_item_style(level);
+            read_style(style.index_style);
+            read_char(style.index_suffix);
+        }
+        CompositeKind::Quote => read_char(skin.quote_mark),
+        CompositeKind::ListItemFollowUp(_) | CompositeKind::OrderedListItemFollowUp { .. } => (),
+        CompositeKind::Paragraph | CompositeKind::Header(_) | CompositeKind::Code => (),
+    }
+}
+
+fn read_char(c: StyledChar)
+    ensures { IsStyle (char_style c).object_style }
+{}
+
+// What compounds add to their line's style.
+fn read_compounds(skin: &MadSkin)
+    ensures { AreKnownAdditions skin.now }
+{
+    read_style(skin.bold);
+    read_style(skin.italic);
+    read_style(skin.strikeout);
+    read_style(skin.inline_code);
+    read_style(skin.ellipsis);
 }

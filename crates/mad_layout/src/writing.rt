@@ -1,17 +1,18 @@
 //! The writing calls of a skin.
 
 ghost use Rattle.std.specs.Prelude.{◌≡◌, ◌≤◌, IsErrOf, OnOk};
-ghost use Rattle.mad_term.specs.Draws.{Draws};
+ghost use Rattle.mad_term.specs.Draws.{Draws, AndFlushes};
 ghost use Rattle.mad_term.specs.declared.errors.Error.TheVariants.{Memory};
 ghost use Rattle.mad_fit.specs.Areas.{IsWithinLimits};
 ghost use Rattle.mad_layout.specs.InArea.{WritesInArea, ShowsText};
 ghost use Rattle.mad_layout.specs.Inlines.{WritesInline, composite_bytes};
 
+use crate::display::FreeComposite;
 use crate::drawing::draw_text;
-use crate::rows::push_free;
 use crate::skin::MadSkin;
 use mad_fit::Area;
 use mad_md::Composite;
+use mad_style::CompositeKind;
 use mad_term::{Error, Out, put_all};
 use std::alloc::Global;
 
@@ -44,6 +45,7 @@ impl MadSkin {
     /// # Errors
     ///
     /// A fault of the device, at its flush too, or want of memory. What went out by then is a beginning of the whole.
+    #[tactic(auto, using(crate::proofs::HeadlineLemmas::shown_flushed))]
     pub fn write_in_area<O: Out>(
         &self,
         alloc: Global,
@@ -52,7 +54,7 @@ impl MadSkin {
         area: &Area,
     ) -> Result<(), Error>
         requires { IsWithinLimits area.now }
-        ensures writes { WritesInArea self.now markdown.now area.now (O.seen out.old) result (O.seen out.new) }
+        ensures writes { AndFlushes (WritesInArea self.now markdown.now area.now) (O.seen out.old) result (O.seen out.new) }
         ensures shown { OnOk result (4 ≤ area.now.width → ShowsText self.now markdown.now area.now (O.seen out.old) (O.seen out.new)) }
     {
         self.write_in_area_on(alloc, out, markdown, area)?;
@@ -77,7 +79,15 @@ impl MadSkin {
         ensures early { IsErrOf result Memory → O.seen out.new ≡ O.seen out.old }
     {
         let mut row = String::new(alloc);
-        push_free(&mut row, self, composite)?;
+        let margin = self
+            .line_style(CompositeKind::from(composite.style))
+            .left_margin;
+        row.reserve(margin)?;
+        let free = FreeComposite {
+            skin: self,
+            composite,
+        };
+        write!(row, "{free}")?;
         put_all(out, row.as_bytes())?;
         Ok(())
     }
@@ -137,7 +147,7 @@ impl MadSkin {
     /// A fault of the device, at its flush too; what went out by then is a beginning of the whole. Or want of memory, before
     /// the first byte.
     pub fn write_inline<O: Out>(&self, alloc: Global, out: &mut O, src: &str) -> Result<(), Error>
-        ensures writes { WritesInline self.now src.now (O.seen out.old) result (O.seen out.new) }
+        ensures writes { AndFlushes (WritesInline self.now src.now) (O.seen out.old) result (O.seen out.new) }
         ensures early { IsErrOf result Memory → O.seen out.new ≡ O.seen out.old }
     {
         self.write_inline_on(alloc, out, src)?;

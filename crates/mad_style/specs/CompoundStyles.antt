@@ -5,7 +5,7 @@ use Rattle.mad_term.specs.declared.attribute.Attribute.{Attribute}
 use Rattle.mad_term.specs.declared.attributes.Attributes.{Attributes}
 use Rattle.mad_term.specs.declared.color.Color.{Color}
 use Rattle.mad_style.specs.declared.compound_styles.CompoundStyle.{CompoundStyle}
-use Rattle.mad_style.specs.AttributeSets.{no_attributes, only, united}
+use Rattle.mad_term.specs.AttributeSets.{no_attributes, only, united}
 
 -- a style of this foreground, this background and these attributes, without a color of its own for the underline
 abbrev pub text_style : Option Color → Option Color → Attributes → CompoundStyle

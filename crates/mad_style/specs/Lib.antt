@@ -1,4 +1,3 @@
-pub mod AttributeSets
 pub mod Borders
 pub mod CompoundStyles
 pub mod Kinds

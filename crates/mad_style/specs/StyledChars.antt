@@ -3,7 +3,7 @@ use Rattle.std.specs.Prelude.{ℕ, Some, None}
 use Rattle.mad_term.specs.declared.color.Color.{Color}
 use Rattle.mad_style.specs.declared.compound_styles.CompoundStyle.{CompoundStyle}
 use Rattle.mad_style.specs.declared.styled_chars.StyledChar.{StyledChar}
-use Rattle.mad_style.specs.AttributeSets.{no_attributes}
+use Rattle.mad_term.specs.AttributeSets.{no_attributes}
 use Rattle.mad_style.specs.CompoundStyles.{text_style}
 
 -- its style

@@ -2,9 +2,9 @@
 
 ghost use Rattle.std.specs.Prelude.{◌≡◌, ◌≢◌, ◌||◌, Some, None, false, true};
 ghost use Rattle.mad_term.specs.declared.attribute.Attribute.{Attribute};
-ghost use Rattle.mad_term.specs.Attribute.{place};
+ghost use Rattle.mad_term.specs.Attribute.{attribute_index};
 ghost use Rattle.mad_term.specs.Attributes.{has_attribute};
-ghost use Rattle.mad_style.specs.AttributeSets.{no_attributes, only};
+ghost use Rattle.mad_term.specs.AttributeSets.{no_attributes, only};
 
 use mad_term::{Attribute, Attributes, Color, ContentStyle};
 
@@ -120,7 +120,7 @@ impl CompoundStyle {
     pub fn add_attr(&mut self, attr: Attribute)
         ensures value { self.new ≡ attribute_added self.old attr }
         ensures has { has_attribute self.new.object_style.attributes attr ≡ true }
-        ensures others { (b : Attribute) → place b ≢ place attr → has_attribute self.new.object_style.attributes b ≡ has_attribute self.old.object_style.attributes b }
+        ensures others { (b : Attribute) → attribute_index b ≢ attribute_index attr → has_attribute self.new.object_style.attributes b ≡ has_attribute self.old.object_style.attributes b }
     {
         self.object_style.attributes.set(attr);
     }
@@ -136,7 +136,7 @@ impl CompoundStyle {
     pub fn remove_attr(&mut self, attr: Attribute)
         ensures same { self.new ≡ record self.old { object_style = record self.old.object_style { attributes = self.new.object_style.attributes } } }
         ensures has { has_attribute self.new.object_style.attributes attr ≡ false }
-        ensures others { (b : Attribute) → place b ≢ place attr → has_attribute self.new.object_style.attributes b ≡ has_attribute self.old.object_style.attributes b }
+        ensures others { (b : Attribute) → attribute_index b ≢ attribute_index attr → has_attribute self.new.object_style.attributes b ≡ has_attribute self.old.object_style.attributes b }
     {
         self.object_style.attributes.unset(attr);
     }

@@ -47,7 +47,7 @@ impl From<CompositeStyle> for CompositeKind {
 pub enum ListItemsIndentationMode {
     /// Not at all.
     FirstLineOnly,
-    /// As far as the text of the first line, so that the item stands as a block.
+    /// As far as the text of the first line, so that the item is a block.
     Block,
 }
 

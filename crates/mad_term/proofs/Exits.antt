@@ -5,7 +5,7 @@ use Rattle.std.proofs.lemmas.Result.{err_from_is_err_and}
 use Rattle.mad_term.specs.declared.errors.Error.{Error}
 use Rattle.mad_term.specs.declared.errors.Error.TheVariants.{IO, InsufficientWidth, Memory}
 use Rattle.mad_term.specs.Trace.{Trace, after}
-use Rattle.mad_term.specs.Draws.{Draws, Refused}
+use Rattle.mad_term.specs.Draws.{Draws, Refused, AndFlushes}
 use Rattle.mad_term.proofs.Traces.{cut_in_first, cut_in_second, stopped_in_first, stopped_in_second}
 
 -- at a `?` that made this error
@@ -19,3 +19,9 @@ pub refused_between : (e : Error) (old mid new : Trace) (a b c : List ℕ) → m
 refused_between (IO x) old mid new a b c p h = cut_in_second old mid new a (b ++ c) p (cut_in_first mid new b c h)
 refused_between (InsufficientWidth x) old mid new a b c p h = absurd h
 refused_between Memory old mid new a b c p h = stopped_in_second old mid new a (b ++ c) p (stopped_in_first mid new b c h)
+
+-- a call that was to flush was refused before, or at the flush
+pub flushing_refused : {T : Type 0} (writes : Trace → Result T Error → Trace → Type 0) (r : Result T Error) (e : Error) (old new : Trace) → IsErrAnd r (λ d. d ≡ e) → writes old (Err e) new → AndFlushes writes old r new
+flushing_refused {T} writes r e old new is h =
+    let p = err_from_is_err_and r is in
+    subst (λ (s : Result T Error). AndFlushes writes old s new) (sym (p.1 ∙ ap Err p.2)) h

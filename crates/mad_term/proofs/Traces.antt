@@ -1,7 +1,7 @@
 -- How calls join.
 use Rattle.std.proofs.Common.{◌≡◌, ℕ, ◌+◌, List, [], ◌++◌, take, take-add, drop, Option, Some, None, option_map, IfSome, refl, ap, sym, ◌∙◌, subst, append_assoc}
 use Rattle.std.proofs.lemmas.List.{append-nil, take-append-drop}
-use Rattle.mad_term.specs.Trace.{Trace, after, failed, CutShort, Stopped, TookWith}
+use Rattle.mad_term.specs.Trace.{Trace, after, failed, flushed, CutShort, Stopped, TookWith}
 
 grown : (o : Option (List ℕ)) (a b : List ℕ) → option_map (λ s. s ++ b) (option_map (λ s. s ++ a) o) ≡ option_map (λ s. s ++ (a ++ b)) o
 grown None a b = refl
@@ -13,11 +13,11 @@ grown_none (Some s) = ap Some (append-nil s)
 
 pub after-append : (t : Trace) (a b : List ℕ) → after (after t a) b ≡ after t (a ++ b)
 unfolding after
-after-append t a b = ap (λ (o : Option (List ℕ)). let r : Trace = record { bytes = o; faults = t.faults } in r) (grown t.bytes a b)
+after-append t a b = ap (λ (o : Option (List ℕ)). let r : Trace = record { bytes = o; faults = t.faults; flushes = t.flushes } in r) (grown t.bytes a b)
 
 pub after-nil : (t : Trace) → after t [] ≡ t
 unfolding after
-after-nil t = ap (λ (o : Option (List ℕ)). let r : Trace = record { bytes = o; faults = t.faults } in r) (grown_none t.bytes)
+after-nil t = ap (λ (o : Option (List ℕ)). let r : Trace = record { bytes = o; faults = t.faults; flushes = t.flushes } in r) (grown_none t.bytes)
 
 -- one text, then another
 pub took_both : (old mid new : Trace) (a b : List ℕ) → mid ≡ after old a → new ≡ after mid b → new ≡ after old (a ++ b)
@@ -93,3 +93,12 @@ pub took_with : (old new : Trace) (text : List ℕ) (P : List ℕ → Type 0) �
 unfolding after
 took_with old new text P e h =
     subst (λ (t : Trace). TookWith old t P) (sym e) (took_with_at old.bytes text P h)
+
+-- a flush takes away nothing of what was shown
+pub took_flushed : (old written new : Trace) (P : List ℕ → Type 0) → TookWith old written P → new ≡ flushed written → TookWith old new P
+unfolding flushed
+took_flushed old written new P h e = subst (λ (t : Trace). TookWith old t P) (sym e) h
+
+-- the fault of a flush comes after the whole text
+pub flush_failed : (old written new : Trace) (text : List ℕ) → written ≡ after old text → new ≡ failed written → CutShort old text new
+flush_failed old written new text went fault = record { front = text; rest = []; whole = append-nil text; went = fault ∙ ap failed went }

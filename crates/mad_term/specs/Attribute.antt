@@ -59,29 +59,29 @@ all_attributes =
     ∷ NotOverLined
     ∷ []
 
--- the place of an attribute in that order, which is also that of its bit in a set
-abbrev pub place : Attribute → ℕ
-place Reset = 0
-place Bold = 1
-place Dim = 2
-place Italic = 3
-place Underlined = 4
-place SlowBlink = 5
-place RapidBlink = 6
-place Reverse = 7
-place Hidden = 8
-place CrossedOut = 9
-place Fraktur = 10
-place NoBold = 11
-place NormalIntensity = 12
-place NoItalic = 13
-place NoUnderline = 14
-place NoBlink = 15
-place NoReverse = 16
-place NoHidden = 17
-place NotCrossedOut = 18
-place Framed = 19
-place Encircled = 20
-place OverLined = 21
-place NotFramedOrEncircled = 22
-place NotOverLined = 23
+-- the index of an attribute in that order, which is also that of its bit in a set
+abbrev pub attribute_index : Attribute → ℕ
+attribute_index Reset = 0
+attribute_index Bold = 1
+attribute_index Dim = 2
+attribute_index Italic = 3
+attribute_index Underlined = 4
+attribute_index SlowBlink = 5
+attribute_index RapidBlink = 6
+attribute_index Reverse = 7
+attribute_index Hidden = 8
+attribute_index CrossedOut = 9
+attribute_index Fraktur = 10
+attribute_index NoBold = 11
+attribute_index NormalIntensity = 12
+attribute_index NoItalic = 13
+attribute_index NoUnderline = 14
+attribute_index NoBlink = 15
+attribute_index NoReverse = 16
+attribute_index NoHidden = 17
+attribute_index NotCrossedOut = 18
+attribute_index Framed = 19
+attribute_index Encircled = 20
+attribute_index OverLined = 21
+attribute_index NotFramedOrEncircled = 22
+attribute_index NotOverLined = 23

@@ -8,13 +8,13 @@ use Rattle.mad_term.specs.Trace.{Trace}
 abbrev pub stream_inner : {S : Type 0} → Stream S → S
 stream_inner s = s.inner
 
--- it tells no bytes, only how often it failed
+-- it tells no bytes, only how often it failed and how often it was flushed
 abbrev pub stream_trace : {S : Type 0} → Stream S → Trace
-stream_trace s = record { bytes = None; faults = s.faults }
+stream_trace s = record { bytes = None; faults = s.faults; flushes = s.flushes }
 
--- a device that tells no bytes and has not failed
+-- a device that tells no bytes, has not failed and was not flushed
 abbrev pub untold : Trace
-untold = record { bytes = None; faults = 0 }
+untold = record { bytes = None; faults = 0; flushes = 0 }
 
 -- A get took from the bytes that a reader is known to have left the one that it handed out; at the end it found none
 -- and took none, and at a fault it took none.

@@ -1,7 +1,7 @@
 //! The attributes of a text on a terminal, and the code that sets each.
 
 ghost use Rattle.std.specs.Prelude.{◌≡◌};
-ghost use Rattle.mad_term.specs.Attribute.{place, attribute_code};
+ghost use Rattle.mad_term.specs.Attribute.{attribute_index, attribute_code};
 
 /// How a text looks, apart from its colors.
 #[derive(Clone, Copy, Debug, PartialEq, Eq)]
@@ -61,9 +61,9 @@ impl Attribute {
         Attribute::NotOverLined,
     ];
 
-    /// Its place in `ALL`.
-    pub(crate) fn place(self) -> u32
-        ensures { result ≡ place self }
+    /// Its index in `ALL`.
+    pub(crate) fn index(self) -> u32
+        ensures { result ≡ attribute_index self }
     {
         self as u32
     }

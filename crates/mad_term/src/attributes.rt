@@ -7,7 +7,7 @@ ghost use Rattle.mad_term.specs.declared.attribute.Attribute.{Attribute};
 use crate::attribute::Attribute;
 use bitflags::{Flag, Flags};
 
-// A word with one bit for each attribute, at its place. A word alone may have other bits too.
+// A word with one bit for each attribute, at its index. A word alone may have other bits too.
 #[derive(Clone, Copy, Debug, PartialEq, Eq)]
 struct AttributeBits(u32);
 
@@ -146,23 +146,24 @@ pub struct Attributes {
 }
 
 impl From<Attribute> for Attributes {
-    ghost use Rattle.mad_term.specs.Attribute.{place};
-    ghost use Rattle.mad_term.specs.Attributes.{attribute_bits};
+    ghost use Rattle.mad_term.specs.AttributeSets.{only};
 
-    ghost from_gives = { λ a s. attribute_bits s ≡ 2 ^ place a };
+    ghost from_gives = { λ a s. s ≡ only a };
 
+    #[tactic(auto, using(crate::proofs::SameAttributes::same_bits))]
     fn from(attribute: Attribute) -> Attributes {
         Attributes {
-            bits: AttributeBits(1 << attribute.place()),
+            bits: AttributeBits(1 << attribute.index()),
         }
     }
 }
 
 impl Default for Attributes {
-    ghost use Rattle.mad_term.specs.Attributes.{attribute_bits};
+    ghost use Rattle.mad_term.specs.AttributeSets.{no_attributes};
 
-    ghost is_default = { λ s. attribute_bits s ≡ 0 };
+    ghost is_default = { λ s. s ≡ no_attributes };
 
+    #[tactic(auto, using(crate::proofs::SameAttributes::same_bits))]
     fn default() -> Attributes {
         Attributes {
             bits: AttributeBits(0),
@@ -171,21 +172,22 @@ impl Default for Attributes {
 }
 
 impl Attributes {
-    ghost use Rattle.mad_term.specs.Attribute.{place};
+    ghost use Rattle.mad_term.specs.Attribute.{attribute_index};
     ghost use Rattle.mad_term.specs.Attributes.{attribute_bits, has_attribute};
+    ghost use Rattle.mad_term.specs.AttributeSets.{only, united};
 
     /// Whether the set has the attribute.
     pub fn has(self, attribute: Attribute) -> bool
         ensures { result ≡ has_attribute self attribute }
     {
-        (self.bits.0 >> attribute.place()) & 1 == 1
+        (self.bits.0 >> attribute.index()) & 1 == 1
     }
 
     /// Puts an attribute into the set.
     pub fn set(&mut self, attribute: Attribute)
-        ensures value { attribute_bits self.new ≡ bit_or (attribute_bits self.old) (2 ^ place attribute) }
+        ensures value { self.new ≡ united self.old (only attribute) }
         ensures has { has_attribute self.new attribute ≡ true }
-        ensures others { (b : Attribute) → place b ≢ place attribute → has_attribute self.new b ≡ has_attribute self.old b }
+        ensures others { (b : Attribute) → attribute_index b ≢ attribute_index attribute → has_attribute self.new b ≡ has_attribute self.old b }
     {
         self.bits.insert(Attributes::from(attribute).bits);
     }
@@ -193,14 +195,14 @@ impl Attributes {
     /// Takes an attribute out of the set.
     pub fn unset(&mut self, attribute: Attribute)
         ensures has { has_attribute self.new attribute ≡ false }
-        ensures others { (b : Attribute) → place b ≢ place attribute → has_attribute self.new b ≡ has_attribute self.old b }
+        ensures others { (b : Attribute) → attribute_index b ≢ attribute_index attribute → has_attribute self.new b ≡ has_attribute self.old b }
     {
         self.bits.remove(Attributes::from(attribute).bits);
     }
 
     /// Puts all attributes of another set into this one.
     pub fn extend(&mut self, other: Attributes)
-        ensures value { attribute_bits self.new ≡ bit_or (attribute_bits self.old) (attribute_bits other) }
+        ensures value { self.new ≡ united self.old other }
         ensures has { (b : Attribute) → has_attribute self.new b ≡ (has_attribute self.old b || has_attribute other b) }
     {
         self.bits.insert(other.bits);

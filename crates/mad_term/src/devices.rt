@@ -1,13 +1,13 @@
 //! What takes bytes, and what gives them. A contract sees of a device one value, its *trace*.
 
 ghost use Rattle.std.specs.Prelude.{◌≡◌};
-ghost use Rattle.mad_term.specs.Trace.{Trace, Writes, Puts, Flushes, Gets};
+ghost use Rattle.mad_term.specs.Trace.{Trace, Writes, Puts, Flushes, Gets, Fills};
 
 use std::io;
 
 /// Something that takes bytes.
 pub trait Out {
-    /// The bytes that it has taken, where it tells them, and how often it has failed.
+    /// The bytes that it has taken, where it tells them, how often it has failed, and how often it was flushed.
     ghost seen: { Self → Trace };
 
     /// Takes a front of `bytes`, at least one byte where there is one, and answers how many.
@@ -19,7 +19,7 @@ pub trait Out {
     fn put(&mut self, bytes: &[u8]) -> io::Result<usize>
         ensures { Puts (seen self.old) bytes.now result (seen self.new) };
 
-    /// Hands on what it has kept back.
+    /// Hands on what it has kept back; its count of flushes is one higher, unless it is at its greatest.
     ///
     /// # Errors
     ///
@@ -28,7 +28,7 @@ pub trait Out {
         ensures { Flushes (seen self.old) result (seen self.new) };
 }
 
-/// Something that gives bytes, one at a time.
+/// Something that gives bytes, one at a time or a block at a time.
 pub trait Source {
     /// The bytes that it has left, where it tells them, and how often it has failed.
     ghost seen: { Self → Trace };
@@ -40,6 +40,14 @@ pub trait Source {
     /// A fault of the device: no byte is lost, and its count of faults is one higher, unless it is at its greatest.
     fn get(&mut self) -> io::Result<Option<u8>>
         ensures { Gets (seen self.old) result (seen self.new) };
+
+    /// Puts the next bytes into the front of `buffer` and answers how many: none only at the end, or into an empty buffer.
+    ///
+    /// # Errors
+    ///
+    /// A fault of the device: no byte is lost, and its count of faults is one higher, unless it is at its greatest.
+    fn fill(&mut self, buffer: &mut [u8]) -> io::Result<usize>
+        ensures { Fills (seen self.old) buffer.new result (seen self.new) };
 }
 
 /// Puts all of `bytes`, by as many puts as the device asks for.

@@ -1,7 +1,7 @@
 //! What the library's calls refuse by.
 
 ghost use Rattle.std.specs.Prelude.{◌≡◌, Some};
-ghost use Rattle.mad_term.specs.Errors.{width_error_text};
+ghost use Rattle.mad_term.specs.Errors.{width_error_text, error_text};
 
 use std::alloc::{AllocError, AllocFailed};
 use std::{fmt, io};
@@ -25,18 +25,29 @@ impl fmt::Display for InsufficientWidthError {
 impl std::error::Error for InsufficientWidthError {}
 
 /// Why a call was refused.
-#[derive(Debug, Drop, thiserror::Error)]
+#[derive(Debug, Drop)]
 pub enum Error {
     /// A device failed in this very call.
-    #[error("IO error: {0}")]
     IO(io::Error),
     /// The width is too small to lay anything out in.
-    #[error("InsufficientWidth: {0}")]
     InsufficientWidth(InsufficientWidthError),
     /// A growth of a list or a text was refused.
-    #[error("want of memory")]
     Memory,
 }
+
+impl fmt::Display for Error {
+    ghost output = { error_text };
+
+    fn fmt<W: fmt::Write>(&self, f: &mut fmt::Formatter<W>) -> fmt::Result {
+        match self {
+            Error::IO(e) => write!(f, "IO error: {e}"),
+            Error::InsufficientWidth(e) => write!(f, "InsufficientWidth: {e}"),
+            Error::Memory => write!(f, "want of memory"),
+        }
+    }
+}
+
+impl std::error::Error for Error {}
 
 impl From<io::Error> for Error {
     ghost use Rattle.mad_term.specs.declared.errors.Error.TheVariants.{IO};

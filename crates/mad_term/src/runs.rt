@@ -1,9 +1,9 @@
-//! Runs: a text so many times, as one piece.
+//! A text `count` times, as one piece.
 
 use crate::styles::{ContentStyle, StyleOpening, closing_text};
 use std::fmt;
 
-/// A text so many times in a style, as one piece; nothing at all if `count` is 0.
+/// A text `count` times in a style, as one piece; nothing at all if `count` is 0.
 #[derive(Clone, Copy, Debug, PartialEq, Eq)]
 pub struct StyledRun<'a> {
     pub style: ContentStyle,
@@ -17,21 +17,29 @@ impl fmt::Display for StyledRun<'_> {
 
     ghost output = { λ r. Some (styled_run_bytes r.style r.content.now r.count) };
 
+    #[tactic(auto, using(crate::proofs::Pieces::plain_piece))]
     fn fmt<W: fmt::Write>(&self, f: &mut fmt::Formatter<W>) -> fmt::Result {
         if self.count == 0 {
             return Ok(());
         }
-        let opening = StyleOpening(self.style);
         let copies = Copies {
             content: self.content,
             count: self.count,
         };
+        // Most runs are of plain spaces, and need no commands.
+        if self.style.is_plain() {
+            return write!(f, "{copies}");
+        }
+        let opening = StyleOpening(self.style);
         let closing = closing_text(self.style);
         write!(f, "{opening}{copies}{closing}")
     }
 }
 
-// A text so many times.
+// 64 spaces. Most repeated texts are spaces, and these go out 64 at a time.
+const SPACES: &str = "                                                                ";
+
+// A text `count` times.
 #[derive(Clone, Copy)]
 struct Copies<'a> {
     content: &'a str,
@@ -39,6 +47,36 @@ struct Copies<'a> {
 }
 
 impl fmt::Display for Copies<'_> {
+    ghost use Rattle.std.specs.Prelude.{Some};
+    ghost use Rattle.std.specs.List.{repeat};
+
+    ghost output = { λ c. Some (repeat c.count c.content.now) };
+
+    fn fmt<W: fmt::Write>(&self, f: &mut fmt::Formatter<W>) -> fmt::Result {
+        if self.content == " " {
+            let many = EachCopy {
+                content: SPACES,
+                count: self.count / 64,
+            };
+            let few = &SPACES[..self.count % 64];
+            return write!(f, "{many}{few}");
+        }
+        let all = EachCopy {
+            content: self.content,
+            count: self.count,
+        };
+        write!(f, "{all}")
+    }
+}
+
+// The same, one by one.
+#[derive(Clone, Copy)]
+struct EachCopy<'a> {
+    content: &'a str,
+    count: usize,
+}
+
+impl fmt::Display for EachCopy<'_> {
     ghost use Rattle.std.specs.Prelude.{Some};
     ghost use Rattle.std.specs.List.{repeat};
 

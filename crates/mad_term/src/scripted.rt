@@ -1,13 +1,13 @@
 //! Devices for tests: all that they took or have left can be read, and they fail where one wants them to.
 
-ghost use Rattle.std.specs.Prelude.{◌≡◌, ◌<◌, ◌≤◌, ◌↔◌, IfOk, IsErr, IsTrue, Some, [], length, vec_capacity};
-ghost use Rattle.mad_term.specs.Trace.{Puts, Flushes, Gets, failed};
+ghost use Rattle.std.specs.Prelude.{◌≡◌, ◌<◌, ◌≤◌, ◌+◌, ◌-◌, ◌^◌, ◌↔◌, IfOk, IsErr, IsTrue, Some, [], length, max, min, vec_capacity};
+ghost use Rattle.mad_term.specs.Trace.{Puts, Flushes, Gets, Fills, failed};
 
 use crate::devices::{Out, Source};
 use std::alloc::{AllocError, Global};
 use std::io;
 
-/// A device that takes a few bytes at a time, has room for so many in all, and may fail at its flush.
+/// A device that takes a few bytes at a time, has room for a given number in all, and may fail at its flush.
 #[derive(Debug, Drop)]
 pub struct CutOut {
     taken: Vec<u8>,
@@ -15,11 +15,13 @@ pub struct CutOut {
     room: usize,
     flush_fails: bool,
     faults: u64,
+    flushes: u64,
+    puts: u64,
     ghost reserved: { room ≤ vec_capacity taken },
 }
 
 impl CutOut {
-    ghost use Rattle.mad_term.specs.Scripted.{cut_trace, IsCutOut, IsSameDevice};
+    ghost use Rattle.mad_term.specs.Scripted.{cut_trace, cut_puts, IsCutOut, IsSameDevice};
 
     /// A device that takes at most `step` bytes at a put and `room` bytes in all; a put that could take
     /// nothing is a fault, and so is each flush if `flush_fails`.
@@ -39,6 +41,8 @@ impl CutOut {
             room,
             flush_fails,
             faults: 0,
+            flushes: 0,
+            puts: 0,
         })
     }
 
@@ -56,10 +60,25 @@ impl CutOut {
         self.faults
     }
 
+    /// How often it was flushed.
+    pub fn flushes(&self) -> u64
+        ensures { result ≡ (cut_trace self.now).flushes }
+    {
+        self.flushes
+    }
+
+    /// How often it was put to, puts of nothing and refused ones too.
+    pub fn puts(&self) -> u64
+        ensures { result ≡ cut_puts self.now }
+    {
+        self.puts
+    }
+
     /// Counts a fault and answers it.
     #[tactic(auto, unfolding(crate::specs::Trace::failed))]
     fn fail(&mut self) -> io::Error
         ensures counted { cut_trace self.new ≡ failed (cut_trace self.old) }
+        ensures puts { cut_puts self.new ≡ cut_puts self.old }
         ensures keeps { IsSameDevice self.old self.new }
     {
         self.faults = self.faults.saturating_add(1);
@@ -68,7 +87,7 @@ impl CutOut {
 }
 
 impl Out for CutOut {
-    ghost use Rattle.mad_term.specs.Scripted.{cut_trace, cut_count, IsSameDevice};
+    ghost use Rattle.mad_term.specs.Scripted.{cut_trace, cut_puts, cut_count, IsSameDevice};
 
     ghost seen = { cut_trace };
 
@@ -77,8 +96,10 @@ impl Out for CutOut {
         ensures puts { Puts (cut_trace self.old) bytes.now result (cut_trace self.new) }
         ensures count { IfOk result (λ count. count ≡ cut_count self.old (length bytes.now)) }
         ensures fault { IsErr result ↔ (0 < length bytes.now) × (cut_count self.old (length bytes.now) ≡ 0) }
+        ensures counted { cut_puts self.new ≡ min (cut_puts self.old + 1) (2 ^ 64 - 1) }
         ensures keeps { IsSameDevice self.old self.new }
     {
+        self.puts = self.puts.saturating_add(1);
         if bytes.is_empty() {
             return Ok(0);
         }
@@ -91,35 +112,48 @@ impl Out for CutOut {
         Ok(count)
     }
 
+    #[tactic(auto, unfolding(crate::specs::Trace::flushed))]
     fn flush(&mut self) -> io::Result<()>
         ensures flushes { Flushes (cut_trace self.old) result (cut_trace self.new) }
         ensures fault { IsErr result ↔ IsTrue self.old.flush_fails }
+        ensures no_put { cut_puts self.new ≡ cut_puts self.old }
         ensures keeps { IsSameDevice self.old self.new }
     {
         if self.flush_fails {
             return Err(self.fail());
         }
+        self.flushes = self.flushes.saturating_add(1);
         Ok(())
     }
 }
 
-/// A source that hands out given bytes, and then its end, or a fault at each further get.
+/// A source that hands out given bytes, and then its end, or a fault at each further call.
 #[derive(Debug, Drop)]
 pub struct ScriptSource<'s> {
     left: &'s [u8],
+    step: usize,
     fails: bool,
     faults: u64,
+    ghost some: { 0 < step },
 }
 
 impl<'s> ScriptSource<'s> {
     ghost use Rattle.mad_term.specs.Scripted.{script_trace, IsScript};
 
-    /// A source of `bytes`; behind them it fails if `fails`, else it is at its end.
+    /// A source of `bytes`; after them it fails if `fails`, else it is at its end. A fill hands out all that it has room for.
     pub fn new(bytes: &'s [u8], fails: bool) -> Self
-        ensures { IsScript result bytes.entry.now fails }
+        ensures { IsScript result bytes.entry.now (2 ^ 64 - 1) fails }
+    {
+        Self::in_steps(bytes, usize::MAX, fails)
+    }
+
+    /// The same, whose fills hand out at most `step` bytes each, and at least one. A step of 0 is one of 1.
+    pub fn in_steps(bytes: &'s [u8], step: usize, fails: bool) -> Self
+        ensures { IsScript result bytes.entry.now (max step 1) fails }
     {
         ScriptSource {
             left: bytes,
+            step: step.max(1),
             fails,
             faults: 0,
         }
@@ -140,12 +174,26 @@ impl<'s> ScriptSource<'s> {
     }
 }
 
-impl Source for ScriptSource<'_> {
+impl ScriptSource<'_> {
     ghost use Rattle.mad_term.specs.Scripted.{script_trace, IsSameSource};
+
+    /// Counts a fault and answers it.
+    #[tactic(auto, unfolding(crate::specs::Trace::failed))]
+    fn fail(&mut self) -> io::Error
+        ensures counted { script_trace self.new ≡ failed (script_trace self.old) }
+        ensures keeps { IsSameSource self.old self.new }
+    {
+        self.faults = self.faults.saturating_add(1);
+        io::Error::new(io::ErrorKind::Other, "the script ends in a fault")
+    }
+}
+
+impl Source for ScriptSource<'_> {
+    ghost use Rattle.mad_term.specs.Scripted.{script_trace, script_count, IsSameSource};
 
     ghost seen = { script_trace };
 
-    #[tactic(auto, unfolding(crate::specs::Trace::ahead, crate::specs::Trace::failed))]
+    #[tactic(auto, unfolding(crate::specs::Trace::ahead))]
     fn get(&mut self) -> io::Result<Option<u8>>
         ensures gets { Gets (script_trace self.old) result (script_trace self.new) }
         ensures fault { IsErr result ↔ ((script_trace self.old).bytes ≡ Some []) × IsTrue self.old.fails }
@@ -156,9 +204,25 @@ impl Source for ScriptSource<'_> {
             return Ok(Some(*first));
         }
         if self.fails {
-            self.faults = self.faults.saturating_add(1);
-            return Err(io::Error::new(io::ErrorKind::Other, "the script ends in a fault"));
+            return Err(self.fail());
         }
         Ok(None)
+    }
+
+    #[tactic(auto, unfolding(crate::specs::Trace::ahead_all))]
+    fn fill(&mut self, buffer: &mut [u8]) -> io::Result<usize>
+        ensures fills { Fills (script_trace self.old) buffer.new result (script_trace self.new) }
+        ensures count { IfOk result (λ count. count ≡ script_count self.old (length buffer.old)) }
+        ensures fault { IsErr result ↔ (0 < length buffer.old) × ((script_trace self.old).bytes ≡ Some []) × IsTrue self.old.fails }
+        ensures keeps { IsSameSource self.old self.new }
+    {
+        if self.fails && self.left.is_empty() && !buffer.is_empty() {
+            return Err(self.fail());
+        }
+        let count = buffer.len().min(self.step).min(self.left.len());
+        let (front, rest) = self.left.split_at(count);
+        buffer[..count].copy_from_slice(front);
+        self.left = rest;
+        Ok(count)
     }
 }

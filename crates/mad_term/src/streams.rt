@@ -1,8 +1,8 @@
 //! The readers and writers of the standard library as devices.
 
 ghost use Rattle.std.specs.Prelude.{◌≡◌};
-ghost use Rattle.std.specs.Io.KnownBytes.{Keeps, WriteAppends};
-ghost use Rattle.mad_term.specs.Trace.{failed, Puts, Flushes, Gets};
+ghost use Rattle.std.specs.Io.KnownBytes.{Keeps, ReadConsumes, WriteAppends};
+ghost use Rattle.mad_term.specs.Trace.{failed, Puts, Flushes, Gets, Fills};
 ghost use Rattle.mad_term.specs.Stream.{stream_trace, stream_inner, untold, GetConsumes};
 
 use crate::devices::{Out, Source};
@@ -15,6 +15,7 @@ use std::io;
 pub struct Stream<S> {
     inner: S,
     faults: u64,
+    flushes: u64,
 }
 
 impl<S> Stream<S> {
@@ -23,7 +24,11 @@ impl<S> Stream<S> {
         ensures inner { stream_inner result ≡ inner }
         ensures trace { stream_trace result ≡ untold }
     {
-        Stream { inner, faults: 0 }
+        Stream {
+            inner,
+            faults: 0,
+            flushes: 0,
+        }
     }
 
     /// Counts a fault. The count stays at its greatest value.
@@ -63,13 +68,15 @@ impl<W: io::Write> Out for Stream<W> {
         }
     }
 
+    #[tactic(auto, unfolding(crate::specs::Trace::flushed))]
     fn flush(&mut self) -> io::Result<()>
         ensures flushes { Flushes (stream_trace self.old) result (stream_trace self.new) }
         ensures keeps { Keeps (W.contents (stream_inner self.old)) (W.contents (stream_inner self.new)) }
     {
         let flushed = self.inner.flush();
-        if flushed.is_err() {
-            self.count_fault();
+        match flushed {
+            Ok(()) => self.flushes = self.flushes.saturating_add(1),
+            Err(_) => self.count_fault(),
         }
         flushed
     }
@@ -95,5 +102,20 @@ impl<R: io::Read> Source for Stream<R> {
                 Err(e)
             }
         }
+    }
+
+    #[tactic(auto, unfolding(crate::specs::Trace::ahead_all))]
+    fn fill(&mut self, buffer: &mut [u8]) -> io::Result<usize>
+        ensures fills { Fills (stream_trace self.old) buffer.new result (stream_trace self.new) }
+
+        // What the reader knows of itself: these bytes were its first.
+        ensures hands_out { ReadConsumes (R.remaining (stream_inner self.old))
+            (R.remaining (stream_inner self.new)) result buffer.new }
+    {
+        let filled = self.inner.read(buffer);
+        if filled.is_err() {
+            self.count_fault();
+        }
+        filled
     }
 }

@@ -176,7 +176,12 @@ impl fmt::Display for StyledContent<'_> {
 
     ghost output = { λ p. Some (piece_bytes p.style p.content.now) };
 
+    #[tactic(auto, using(crate::proofs::Pieces::plain_piece))]
     fn fmt<W: fmt::Write>(&self, f: &mut fmt::Formatter<W>) -> fmt::Result {
+        // Most texts are plain, and need no commands.
+        if self.style.is_plain() {
+            return f.write_str(self.content);
+        }
         let opening = StyleOpening(self.style);
         let content = self.content;
         let closing = closing_text(self.style);
@@ -209,7 +214,7 @@ impl fmt::Display for StyledNumber {
 ///
 /// # Errors
 ///
-/// Want of memory. What the row then ends with is open.
+/// Out of memory. What the row then ends with is open.
 pub fn push_foreground(row: &mut String, color: Color) -> Result<(), AllocError>
     ensures { OnOk result (string_bytes row.new ≡ string_bytes row.old ++ foreground_bytes color) }
 {
@@ -224,7 +229,7 @@ pub fn push_foreground(row: &mut String, color: Color) -> Result<(), AllocError>
 ///
 /// # Errors
 ///
-/// Want of memory. What the row then ends with is open.
+/// Out of memory. What the row then ends with is open.
 pub fn push_background(row: &mut String, color: Color) -> Result<(), AllocError>
     ensures { OnOk result (string_bytes row.new ≡ string_bytes row.old ++ background_bytes color) }
 {
@@ -240,18 +245,13 @@ pub fn push_background(row: &mut String, color: Color) -> Result<(), AllocError>
 ///
 /// # Errors
 ///
-/// Want of memory. What the row then ends with is open.
-#[tactic(auto, using(crate::proofs::Pieces::plain_piece))]
+/// Out of memory. What the row then ends with is open.
 pub fn push_styled(row: &mut String, style: ContentStyle, text: &str) -> Result<(), AllocError>
     ensures writes { OnOk result (string_bytes row.new ≡ string_bytes row.old ++ piece_bytes style text.now) }
 
     // The numbers of its colors are bytes: what reading the piece back needs to know.
     ensures bytes { IsStyle style }
 {
-    // Most texts are plain, and need no formatting.
-    if style.is_plain() {
-        return row.push_str(text);
-    }
     let piece = StyledContent {
         style,
         content: text,

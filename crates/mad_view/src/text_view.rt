@@ -1,11 +1,11 @@
 //! A laid out text in an area.
 
 ghost use Rattle.std.specs.Prelude.{◌≡◌, OnOk, vec_len};
-ghost use Rattle.mad_term.specs.Draws.{Draws};
+ghost use Rattle.mad_term.specs.Draws.{Draws, DrawsAndFlushes};
 ghost use Rattle.mad_term.specs.Trace.{TookWith};
 ghost use Rattle.mad_fit.specs.Areas.{IsWithinLimits};
 ghost use Rattle.mad_layout.specs.Drawable.{AreDrawable};
-ghost use Rattle.mad_layout.specs.Shown.{area_bytes, AreShownIn};
+ghost use Rattle.mad_layout.specs.Shown.{area_bytes, lines_shown, AreShownIn};
 ghost use Rattle.mad_layout.specs.ShownLayouts.{ShowsLayout};
 ghost use Rattle.mad_view.specs.Scrolls.{scroll_within};
 
@@ -69,7 +69,7 @@ impl<'a, 't> TextView<'a, 't> {
 
         // What a plain terminal shows that reads it, where each line, as a layout left it, fits the area with its margins, and
         // no piece of it holds a control character or begins with a widthless one.
-        ensures shown { let text = self.now.text.now in OnOk result (AreDrawable text.skin.now self.now.area.now.width text.lines.items
+        ensures shown { let text = self.now.text.now in OnOk result (AreDrawable text.skin.now self.now.area.now.width (lines_shown text.lines.items self.now.area.now self.now.scroll)
             → TookWith (O.seen out.old) (O.seen out.new) (AreShownIn text.skin.now text.lines.items self.now.area.now self.now.scroll)) }
 
         // The same where the lines are a layout of a text that keeps the premises, at most as wide as the area.
@@ -85,10 +85,11 @@ impl<'a, 't> TextView<'a, 't> {
     /// # Errors
     ///
     /// A fault of the device, at its flush too, or want of memory. What went out by then is a beginning of the whole.
+    #[tactic(auto, using(mad_term::proofs::Traces::took_flushed))]
     pub fn write<O: Out>(&self, alloc: Global, out: &mut O) -> Result<(), Error>
         requires { IsWithinLimits self.now.area.now }
-        ensures writes { let text = self.now.text.now in Draws (O.seen out.old) (area_bytes text.skin.now text.lines.items self.now.area.now self.now.scroll) result (O.seen out.new) }
-        ensures shown { let text = self.now.text.now in OnOk result (AreDrawable text.skin.now self.now.area.now.width text.lines.items
+        ensures writes { let text = self.now.text.now in DrawsAndFlushes (O.seen out.old) (area_bytes text.skin.now text.lines.items self.now.area.now self.now.scroll) result (O.seen out.new) }
+        ensures shown { let text = self.now.text.now in OnOk result (AreDrawable text.skin.now self.now.area.now.width (lines_shown text.lines.items self.now.area.now self.now.scroll)
             → TookWith (O.seen out.old) (O.seen out.new) (AreShownIn text.skin.now text.lines.items self.now.area.now self.now.scroll)) }
         ensures shown_layout { let text = self.now.text.now in OnOk result (ShowsLayout text.skin.now text.lines.items self.now.area.now self.now.scroll (O.seen out.old) (O.seen out.new)) }
     {

@@ -9,22 +9,22 @@ pub use Rattle.mad_term.specs.Attribute
 pub use Rattle.mad_term.specs.AttributeNames
 pub use Rattle.mad_term.specs.Attributes
 pub use Rattle.mad_term.specs.Color
-pub use Rattle.mad_term.specs.Columns
+pub use Rattle.mad_columns.specs.Columns
 pub use Rattle.mad_term.specs.Commands
-pub use Rattle.mad_term.specs.Drawing
+pub use Rattle.mad_screen.specs.Drawing
 pub use Rattle.mad_term.specs.Draws
 pub use Rattle.mad_term.specs.Errors
-pub use Rattle.mad_term.specs.Glyph
-pub use Rattle.mad_term.specs.Grid
-pub use Rattle.mad_term.specs.Painting
+pub use Rattle.mad_screen.specs.Glyph
+pub use Rattle.mad_screen.specs.Grid
+pub use Rattle.mad_screen.specs.Painting
 pub use Rattle.mad_term.specs.Scripted
-pub use Rattle.mad_term.specs.Stages
+pub use Rattle.mad_screen.specs.Stages
 pub use Rattle.mad_term.specs.Stream
 pub use Rattle.mad_term.specs.Styles
-pub use Rattle.mad_term.specs.Terminal
-pub use Rattle.mad_term.specs.TerminalLaws
+pub use Rattle.mad_screen.specs.Terminal
+pub use Rattle.mad_screen.specs.TerminalLaws
 pub use Rattle.mad_term.specs.Trace
-pub use Rattle.mad_style.specs.AttributeSets
+pub use Rattle.mad_term.specs.AttributeSets
 pub use Rattle.mad_style.specs.Borders
 pub use Rattle.mad_style.specs.CompoundStyles
 pub use Rattle.mad_style.specs.Kinds
@@ -35,6 +35,9 @@ pub use Rattle.mad_fit.specs.Areas
 pub use Rattle.mad_fit.specs.Columns as TextColumns
 pub use Rattle.mad_fit.specs.Completions
 pub use Rattle.mad_fit.specs.Tokens
+pub use Rattle.mad_draw.specs.DrawnRows
+pub use Rattle.mad_draw.specs.Pieces
+pub use Rattle.mad_draw.specs.RowCells
 pub use Rattle.mad_layout.specs.Bounds
 pub use Rattle.mad_layout.specs.Breaks
 pub use Rattle.mad_layout.specs.CleanCut
@@ -50,7 +53,6 @@ pub use Rattle.mad_layout.specs.LeastWrap
 pub use Rattle.mad_layout.specs.LineRoom
 pub use Rattle.mad_layout.specs.LineStarts
 pub use Rattle.mad_layout.specs.Lines as LayoutLines
-pub use Rattle.mad_layout.specs.Pieces
 pub use Rattle.mad_layout.specs.PlacedLines
 pub use Rattle.mad_layout.specs.Premises
 pub use Rattle.mad_layout.specs.Rows

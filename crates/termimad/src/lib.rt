@@ -6,7 +6,7 @@
 
 /// What a plain terminal shows of the bytes that it reads.
 pub mod screen {
-    pub use mad_term::{Cell, NotPlain, Pen, Screen};
+    pub use mad_screen::{Cell, NotPlain, Pen, Screen};
 }
 
 /// Breaking lines that are too wide, with the fewest lines.

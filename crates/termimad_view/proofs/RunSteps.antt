@@ -2,22 +2,37 @@
 use Rattle.std.proofs.Common.{◌≡◌, ℕ, List, Option, Some, Result, Ok, Err, IsUtf8, refl, ap, sym, ◌∙◌, subst, inl, inr}
 use Rattle.std.specs.Result.{IsErrAnd}
 use Rattle.std.proofs.lemmas.Result.{err_from_is_err_and}
-use Rattle.mad_term.specs.Trace.{Trace, failed}
+use Rattle.mad_term.specs.Trace.{Trace, failed, flushed}
 use Rattle.mad_term.specs.declared.errors.Error.{Error}
 use Rattle.mad_term.specs.declared.errors.Error.TheVariants.{IO, InsufficientWidth, Memory as NoMemory}
 use Rattle.termimad.specs.declared.MadSkin.{MadSkin}
 use Rattle.termimad_view.specs.declared.call.Command.{Command}
-use Rattle.termimad_view.specs.declared.call.SkinWord.{SkinWord}
+use Rattle.termimad_view.specs.declared.call.Command.TheVariants.{InArea, Inline}
+use Rattle.mad_term.proofs.Traces.{took_flushed}
+use Rattle.termimad.specs.Shown.{AreShownIn}
 use Rattle.termimad_view.specs.declared.failure.Failure.{Failure}
 use Rattle.termimad_view.specs.declared.failure.Failure.TheVariants.{Io, Usage, NotUtf8, Skin, Memory}
-use Rattle.termimad_view.specs.Calls.{Asks, skin_of}
+use Rattle.termimad_view.specs.Calls.{IsCall, RefusesWords}
 use Rattle.termimad_view.specs.Failures.{failure_of}
 use Rattle.termimad_view.specs.Reading.{ReadsWhole, ReadingFails}
 use Rattle.termimad_view.specs.Runs.{Devices, KnownCall, HasRead, WritesCall, ShowsCall, RunsTo}
 
--- the call that was parsed, in a skin that was found
-abbrev pub known_call : (words : List (List ℕ)) (command : Command) (word : SkinWord) (found : Option MadSkin) (skin : MadSkin) → Asks words command word → found ≡ skin_of word → found ≡ Some skin → KnownCall words
-known_call words command word found skin asks is some = record { command = command; skin_word = word; asks = asks; skin = skin; known = sym is ∙ some }
+-- the call that was parsed
+abbrev pub known_call : (words : List (List ℕ)) (command : Command) (skin : MadSkin) → IsCall words command skin → KnownCall words
+known_call words command skin asked = record { command = command; skin = skin; asked = asked }
+
+refused_words : (T : Type 0) (words : List (List ℕ)) (failure : Failure) (old : Devices) → RefusesWords words failure → RunsTo {T = T} words old (Err failure) old
+refused_words T words Usage old h = (h, refl)
+refused_words T words Skin old h = (h, refl)
+refused_words T words Io old h = absurd h
+refused_words T words NotUtf8 old h = absurd h
+refused_words T words Memory old h = absurd h
+
+-- the exit at the words
+pub call_exit : {T : Type 0} (words : List (List ℕ)) (r : Result T Failure) (failure : Failure) (old : Devices) → IsErrAnd r (λ e. e ≡ failure) → RefusesWords words failure → RunsTo words old r old
+call_exit {T} words r failure old is h =
+    let p = err_from_is_err_and r is in
+    subst (λ (s : Result T Failure). RunsTo words old s old) (sym (p.1 ∙ ap Err p.2)) (refused_words T words failure old h)
 
 failed_to_read : (T : Type 0) (words : List (List ℕ)) (failure : Failure) (old new : Devices) → KnownCall words → ReadingFails old.input failure new.input → new.out ≡ old.out → RunsTo {T = T} words old (Err failure) new
 failed_to_read T words Io old new call h out = inl (record { call = call; stopped = h; unwritten = out })
@@ -57,11 +72,11 @@ flush_exit {T} words r text old new written call is read h out =
     subst (λ (s : Result T Failure). RunsTo words old s new) (sym (p.1 ∙ ap Err p.2))
     (inr (inr (record { call = call; text = text; read = read; written = written; wrote = h; unflushed = out })))
 
--- a flush changes nothing of what was written
-pub flushed : (skin : MadSkin) (command : Command) (text : List ℕ) (old written new : Trace) → WritesCall {T = Unit {0}} skin command text old (Ok (tt {0})) written → new ≡ written → WritesCall {T = Unit {0}} skin command text old (Ok (tt {0})) new
-flushed skin command text old written new h is =
-    subst (λ (t : Trace). WritesCall {T = Unit {0}} skin command text old (Ok (tt {0})) t) (sym is) h
-
--- nor of what it shows
-pub still_shown : (skin : MadSkin) (command : Command) (text : List ℕ) (old written new : Trace) → ShowsCall skin command text old written → new ≡ written → ShowsCall skin command text old new
-still_shown skin command text old written new h is = subst (λ (t : Trace). ShowsCall skin command text old t) (sym is) h
+-- a flush takes nothing from what is shown
+pub still_shown : (skin : MadSkin) (command : Command) (text : List ℕ) (old written new : Trace) → ShowsCall skin command text old written → new ≡ flushed written → ShowsCall skin command text old new
+still_shown skin (InArea area) text old written new h is = record {
+  lines = h.lines;
+  laid_out = h.laid_out;
+  shown = λ premises. took_flushed old written new (AreShownIn skin h.lines area 0) (h.shown premises) is;
+}
+still_shown skin Inline text old written new h is = tt

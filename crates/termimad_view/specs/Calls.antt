@@ -1,4 +1,4 @@
--- What the words behind the program's name ask for. A word is its bytes.
+-- What the words after the program's name ask for. A word is its bytes.
 use Rattle.std.specs.Prelude.{◌≡◌, ◌≢◌, ℕ, ◌≤◌, List, [], ◌∷◌, codes, Option, Some, None, ⊤}
 use Rattle.termimad.specs.Areas.{IsWithinLimits}
 use Rattle.termimad.specs.declared.Area.{Area}
@@ -6,8 +6,8 @@ use Rattle.termimad.specs.Skins.{no_style_skin, default_skin}
 use Rattle.termimad.specs.declared.MadSkin.{MadSkin}
 use Rattle.termimad_view.specs.declared.call.Command.{Command}
 use Rattle.termimad_view.specs.declared.call.Command.TheVariants.{InArea, Inline}
-use Rattle.termimad_view.specs.declared.call.SkinWord.{SkinWord}
-use Rattle.termimad_view.specs.declared.call.SkinWord.TheVariants.{Absent, Default, Unknown}
+use Rattle.termimad_view.specs.declared.failure.Failure.{Failure}
+use Rattle.termimad_view.specs.declared.failure.Failure.TheVariants.{Io, Usage, NotUtf8, Skin, Memory}
 use Rattle.termimad_view.specs.Numbers.{IsNumber}
 
 -- The words L, T, W and H are the numbers of this area: at least four columns, and its right and bottom at most 65535.
@@ -19,24 +19,22 @@ pub record IsAreaOf (left top width height : List ℕ) (area : Area) : Type 0 wh
   pub wide : 4 ≤ area.width
   pub within : IsWithinLimits area
 
--- the words in the place of [SKIN]: none, `default`, or another one
-abbrev pub IsSkinWord : List (List ℕ) → SkinWord → Type 0
-IsSkinWord [] skin = skin ≡ Absent
-IsSkinWord (word ∷ []) Absent = ⊥
-IsSkinWord (word ∷ []) Default = word ≡ codes "default"
-IsSkinWord (word ∷ []) Unknown = word ≢ codes "default"
-IsSkinWord (word ∷ next ∷ more) skin = ⊥
+-- the words in the place of [SKIN]: none, or one
+abbrev pub IsSkinWord : List (List ℕ) → Option (List ℕ) → Type 0
+IsSkinWord [] word = word ≡ None
+IsSkinWord (given ∷ []) word = word ≡ Some given
+IsSkinWord (given ∷ next ∷ more) word = ⊥
 
--- the words behind `area`: L T W H [SKIN]
-abbrev pub AsksArea : List (List ℕ) → Area → SkinWord → Type 0
-AsksArea (left ∷ top ∷ width ∷ height ∷ rest) area skin = IsAreaOf left top width height area × IsSkinWord rest skin
-AsksArea _ area skin = ⊥
+-- the words after `area`: L T W H [SKIN]
+abbrev pub AsksArea : List (List ℕ) → Area → Option (List ℕ) → Type 0
+AsksArea (left ∷ top ∷ width ∷ height ∷ rest) area word = IsAreaOf left top width height area × IsSkinWord rest word
+AsksArea _ area word = ⊥
 
 -- The words ask for this: area L T W H [SKIN], or inline [SKIN].
-abbrev pub Asks : List (List ℕ) → Command → SkinWord → Type 0
-Asks [] command skin = ⊥
-Asks (name ∷ words) (InArea area) skin = (name ≡ codes "area") × AsksArea words area skin
-Asks (name ∷ words) Inline skin = (name ≡ codes "inline") × IsSkinWord words skin
+abbrev pub Asks : List (List ℕ) → Command → Option (List ℕ) → Type 0
+Asks [] command word = ⊥
+Asks (name ∷ words) (InArea area) word = (name ≡ codes "area") × AsksArea words area word
+Asks (name ∷ words) Inline word = (name ≡ codes "inline") × IsSkinWord words word
 
 -- the command's area has four columns at least, and lies within the limits of a screen
 abbrev pub IsAllowed : Command → Type 0
@@ -45,14 +43,32 @@ IsAllowed Inline = ⊤
 
 -- the words ask for nothing that the program does
 abbrev pub IsNoCall : List (List ℕ) → Type 0
-IsNoCall words = (command : Command) (skin : SkinWord) → ¬ (Asks words command skin)
+IsNoCall words = (command : Command) (word : Option (List ℕ)) → ¬ (Asks words command word)
+
+-- the skin of that word: no style without a word, and `default`
+abbrev pub IsSkinOf : Option (List ℕ) → MadSkin → Type 0
+IsSkinOf None skin = skin ≡ no_style_skin
+IsSkinOf (Some word) skin = (word ≡ codes "default") × (skin ≡ default_skin)
+
+-- the program knows no skin of that name
+abbrev pub IsUnknown : Option (List ℕ) → Type 0
+IsUnknown None = ⊥
+IsUnknown (Some word) = word ≢ codes "default"
 
 -- the words ask for something that the program does, in a skin that it doesn't know
 abbrev pub AsksUnknownSkin : List (List ℕ) → Type 0
-AsksUnknownSkin words = (command : Command) × Asks words command Unknown
+AsksUnknownSkin words = (command : Command) × (word : Option (List ℕ)) × Asks words command word × IsUnknown word
 
--- the skin of that word, where the program knows it
-abbrev pub skin_of : SkinWord → Option MadSkin
-skin_of Absent = Some no_style_skin
-skin_of Default = Some default_skin
-skin_of Unknown = None
+-- The words are a call: what is to be written, and in which skin.
+pub record IsCall (words : List (List ℕ)) (command : Command) (skin : MadSkin) : Type 0 where
+  pub word : Option (List ℕ)
+  pub asks : Asks words command word
+  pub named : IsSkinOf word skin
+
+-- why the words are no call
+abbrev pub RefusesWords : List (List ℕ) → Failure → Type 0
+RefusesWords words Usage = IsNoCall words
+RefusesWords words Skin = AsksUnknownSkin words
+RefusesWords words Io = ⊥
+RefusesWords words NotUtf8 = ⊥
+RefusesWords words Memory = ⊥

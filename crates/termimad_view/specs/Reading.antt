@@ -1,17 +1,13 @@
 -- Reading a source to its end.
-use Rattle.std.specs.Prelude.{◌≡◌, ℕ, List, [], ◌++◌, option_map, IfSome}
-use Rattle.termimad.specs.Trace.{Trace, failed}
+use Rattle.std.specs.Prelude.{◌≡◌, ℕ, List}
+use Rattle.termimad.specs.Trace.{Trace, failed, ahead_all, IsAtItsEnd}
 use Rattle.termimad_view.specs.declared.failure.Failure.{Failure}
 use Rattle.termimad_view.specs.declared.failure.Failure.TheVariants.{Io, Usage, NotUtf8, Skin, Memory}
-
--- a source that had these bytes before what it has left
-unfoldable pub ahead_all : List ℕ → Trace → Trace
-ahead_all bytes t = record { bytes = option_map (λ rest. bytes ++ rest) t.bytes; faults = t.faults }
 
 -- These bytes were read, and the source is at its end: where it tells its bytes, they are all that it had.
 pub record ReadsWhole (old : Trace) (bytes : List ℕ) (new : Trace) : Type 0 where
   pub handed_out : old ≡ ahead_all bytes new
-  pub ended : IfSome new.bytes (λ rest. rest ≡ [])
+  pub ended : IsAtItsEnd new
 
 -- some bytes were read, then one fault came
 pub record ReadsToFault (old new : Trace) : Type 0 where

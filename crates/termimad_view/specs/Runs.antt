@@ -2,7 +2,7 @@
 use Rattle.std.specs.Prelude.{◌≡◌, ◌⊎◌, ℕ, List, [], ◌∷◌, ◌++◌, Some, Result, Ok, Err, IsErrOf, IsUtf8, ⊤}
 use Rattle.termimad.specs.Inline.{Item, IsInlineReading}
 use Rattle.termimad.specs.Draws.{Draws}
-use Rattle.termimad.specs.Trace.{Trace, failed}
+use Rattle.termimad.specs.Trace.{Trace, failed, flushed}
 use Rattle.termimad.specs.declared.Error.{Error}
 use Rattle.termimad.specs.declared.Error.TheVariants.{Memory as NoMemory}
 use Rattle.termimad.specs.InArea.{WritesInArea, ShowsText}
@@ -10,10 +10,9 @@ use Rattle.termimad.specs.Inlines.{inline_bytes}
 use Rattle.termimad.specs.declared.MadSkin.{MadSkin}
 use Rattle.termimad_view.specs.declared.call.Command.{Command}
 use Rattle.termimad_view.specs.declared.call.Command.TheVariants.{InArea, Inline}
-use Rattle.termimad_view.specs.declared.call.SkinWord.{SkinWord}
 use Rattle.termimad_view.specs.declared.failure.Failure.{Failure}
 use Rattle.termimad_view.specs.declared.failure.Failure.TheVariants.{Io, Usage, NotUtf8, Skin, Memory}
-use Rattle.termimad_view.specs.Calls.{Asks, IsNoCall, AsksUnknownSkin, skin_of}
+use Rattle.termimad_view.specs.Calls.{IsCall, IsNoCall, AsksUnknownSkin}
 use Rattle.termimad_view.specs.Failures.{failure_of, status_of, line_of, SaysOnce}
 use Rattle.termimad_view.specs.Reading.{ReadsWhole, ReadingFails}
 use Rattle.termimad_view.specs.Lines.{IsWithoutLineEnd}
@@ -26,10 +25,8 @@ pub record Devices : Type 0 where
 -- the words are a call, in a skin that the program knows
 pub record KnownCall (words : List (List ℕ)) : Type 0 where
   pub command : Command
-  pub skin_word : SkinWord
-  pub asks : Asks words command skin_word
   pub skin : MadSkin
-  pub known : skin_of skin_word ≡ Some skin
+  pub asked : IsCall words command skin
 
 -- what `inline` writes of a line: the bytes of its reading, of which there is exactly one, and a newline; or memory for it was
 -- refused, and nothing went out
@@ -52,12 +49,14 @@ pub record HasRead (old : Trace) (text : List ℕ) (new : Trace) : Type 0 where
   pub whole : ReadsWhole old text new
   pub decoded : IsUtf8 text
 
--- status 0: the whole input is a text, and the output took what the call writes of it
+-- status 0: the whole input is a text, and the output took what the call writes of it and was then flushed, once
 pub record IsDone (words : List (List ℕ)) (old new : Devices) : Type 0 where
   pub call : KnownCall words
   pub text : List ℕ
   pub read : HasRead old.input text new.input
-  pub wrote : WritesCall call.skin call.command text old.out (Ok (tt {0})) new.out
+  pub written : Trace
+  pub wrote : WritesCall call.skin call.command text old.out (Ok (tt {0})) written
+  pub flushed : new.out ≡ flushed written
   pub shown : ShowsCall call.skin call.command text old.out new.out
 
 -- the input failed, or there was no memory for it; nothing was written

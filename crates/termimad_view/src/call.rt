@@ -1,9 +1,10 @@
 //! What the arguments ask for.
 
-ghost use Rattle.std.specs.Prelude.{◌≡◌, [], ◌∷◌, MatchOption, map, string_bytes};
+ghost use Rattle.std.specs.Prelude.{◌≡◌, ℕ, List, Option, MatchOption, MatchResult, map, option_map, string_bytes};
 ghost use Rattle.termimad.specs.declared.Area.{Area as SomeArea};
-ghost use Rattle.termimad_view.specs.Calls.{Asks, IsNoCall, IsAreaOf, IsSkinWord, AsksArea, skin_of};
+ghost use Rattle.termimad_view.specs.Calls.{Asks, IsNoCall, IsAreaOf, IsSkinWord, AsksArea, IsSkinOf, IsUnknown, IsCall, RefusesWords};
 
+use crate::failure::Failure;
 use crate::number::parse_number;
 use termimad::{Area, MadSkin};
 
@@ -16,84 +17,59 @@ pub enum Command {
     Inline,
 }
 
-/// The word in the place of SKIN.
-#[derive(Clone, Copy, PartialEq, Eq, Debug)]
-pub enum SkinWord {
-    /// None.
-    Absent,
-    /// `default`.
-    Default,
-    /// Another one.
-    Unknown,
-}
-
 /// A call of the program.
-#[derive(Clone, PartialEq, Eq, Debug, Drop)]
+#[derive(Drop)]
 pub struct Call {
     /// What is to be written.
     pub command: Command,
     /// In which skin.
-    pub skin: SkinWord,
+    pub skin: MadSkin,
 }
 
-impl SkinWord {
-    // The skin's name that a word is.
-    fn named(word: &str) -> Self
-        ensures { IsSkinWord (word.now ∷ []) result }
-    {
-        if word == "default" {
-            SkinWord::Default
-        } else {
-            SkinWord::Unknown
-        }
-    }
-
-    /// The skin, where the program knows it: no style without a word.
-    pub fn skin(self) -> Option<MadSkin>
-        ensures { result ≡ skin_of self }
-    {
-        match self {
-            SkinWord::Absent => Some(MadSkin::no_style()),
-            SkinWord::Default => Some(MadSkin::default()),
-            SkinWord::Unknown => None,
-        }
-    }
+/// The call that the words after the program's name are: `area L T W H [SKIN]` or `inline [SKIN]`.
+///
+/// # Errors
+///
+/// `Usage`, where they are none of these; `Skin`, where the program doesn't know the skin.
+pub fn parse_call(words: &[String]) -> Result<Call, Failure>
+    ensures { MatchResult result (λ call. IsCall (map string_bytes words.now) call.command call.skin)
+        (λ failure. RefusesWords (map string_bytes words.now) failure) }
+{
+    let Some((command, word)) = parse_words(words) else {
+        return Err(Failure::Usage);
+    };
+    let Some(skin) = skin_of(word) else {
+        return Err(Failure::Skin);
+    };
+    Ok(Call { command, skin })
 }
 
-/// The call that the words behind the program's name are, if they are one: `area L T W H [SKIN]` or `inline [SKIN]`.
-pub fn parse_call(words: &[String]) -> Option<Call>
+// What the words ask for: the command, and the word in the place of SKIN.
+fn parse_words(words: &[String]) -> Option<(Command, Option<&str>)>
     ensures { MatchOption result (IsNoCall (map string_bytes words.now))
-        (λ call. Asks (map string_bytes words.now) call.command call.skin) }
+        (λ asked. Asks (map string_bytes words.now) asked.0 (option_map (λ word. word.now) asked.1)) }
 {
     let (name, words) = words.split_first()?;
     if name.as_str() == "area" {
-        let (area, skin) = parse_area_call(words)?;
-        return Some(Call {
-            command: Command::InArea(area),
-            skin,
-        });
+        let (area, word) = parse_area_call(words)?;
+        return Some((Command::InArea(area), word));
     }
     if name.as_str() == "inline" {
-        let skin = parse_skin_word(words)?;
-        return Some(Call {
-            command: Command::Inline,
-            skin,
-        });
+        return Some((Command::Inline, skin_word(words)?));
     }
     None
 }
 
-// What the words behind `area` ask for.
-fn parse_area_call(words: &[String]) -> Option<(Area, SkinWord)>
-    ensures { MatchOption result ((area : SomeArea) (skin : SkinWord) → ¬ (AsksArea (map string_bytes words.now) area skin))
-        (λ asked. AsksArea (map string_bytes words.now) asked.0 asked.1) }
+// What the words after `area` ask for.
+fn parse_area_call(words: &[String]) -> Option<(Area, Option<&str>)>
+    ensures { MatchOption result ((area : SomeArea) (word : Option (List ℕ)) → ¬ (AsksArea (map string_bytes words.now) area word))
+        (λ asked. AsksArea (map string_bytes words.now) asked.0 (option_map (λ word. word.now) asked.1)) }
 {
     let [left, top, width, height, rest @ ..] = words else {
         return None;
     };
     let area = parse_area(left.as_str(), top.as_str(), width.as_str(), height.as_str())?;
-    let skin = parse_skin_word(rest)?;
-    Some((area, skin))
+    Some((area, skin_word(rest)?))
 }
 
 // The area that these words are: at least four columns wide, and within the limits of a screen.
@@ -112,13 +88,25 @@ fn parse_area(left: &str, top: &str, width: &str, height: &str) -> Option<Area>
 }
 
 // The word in the place of SKIN, if there is at most one.
-fn parse_skin_word(words: &[String]) -> Option<SkinWord>
-    ensures { MatchOption result ((skin : SkinWord) → ¬ (IsSkinWord (map string_bytes words.now) skin))
-        (λ skin. IsSkinWord (map string_bytes words.now) skin) }
+fn skin_word(words: &[String]) -> Option<Option<&str>>
+    ensures { MatchOption result ((word : Option (List ℕ)) → ¬ (IsSkinWord (map string_bytes words.now) word))
+        (λ word. IsSkinWord (map string_bytes words.now) (option_map (λ word. word.now) word)) }
 {
     match words {
-        [] => Some(SkinWord::Absent),
-        [word] => Some(SkinWord::named(word.as_str())),
+        [] => Some(None),
+        [word] => Some(Some(word.as_str())),
         _ => None,
+    }
+}
+
+// The skin of a word, where the program knows it: no style without a word.
+fn skin_of(word: Option<&str>) -> Option<MadSkin>
+    ensures { MatchOption result (IsUnknown (option_map (λ word. word.now) word.entry))
+        (λ skin. IsSkinOf (option_map (λ word. word.now) word.entry) skin) }
+{
+    match word {
+        None => Some(MadSkin::no_style()),
+        Some("default") => Some(MadSkin::default()),
+        Some(_) => None,
     }
 }

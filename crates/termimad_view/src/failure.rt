@@ -3,7 +3,7 @@
 ghost use Rattle.std.specs.Prelude.{◌≡◌};
 ghost use Rattle.termimad_view.specs.Failures.{status_of, line_of, failure_of, SaysOnce};
 
-use std::alloc::AllocFailed;
+use std::alloc::{AllocError, AllocFailed};
 use std::io;
 use termimad::{Error, Out, put_all};
 
@@ -18,7 +18,7 @@ pub enum Failure {
     NotUtf8,
     /// The program doesn't know the skin.
     Skin,
-    /// Want of memory.
+    /// Out of memory.
     Memory,
 }
 
@@ -68,6 +68,16 @@ impl<T: Drop> From<AllocFailed<T>> for Failure {
     ghost from_gives = { λ _ failure. failure ≡ Memory };
 
     fn from(_: AllocFailed<T>) -> Self {
+        Failure::Memory
+    }
+}
+
+impl From<AllocError> for Failure {
+    ghost use Rattle.termimad_view.specs.declared.failure.Failure.TheVariants.{Memory};
+
+    ghost from_gives = { λ _ failure. failure ≡ Memory };
+
+    fn from(_: AllocError) -> Self {
         Failure::Memory
     }
 }

@@ -18,13 +18,10 @@ mod writing;
 
 use failure::{Failure, refuse};
 use program::run;
-use std::io::{BufReader, BufWriter, ErrorKind};
+use std::io::{BufWriter, ErrorKind};
 use std::process::ExitCode;
 use std::{env, io};
 use termimad::{Out, Stream};
-
-/// How many bytes of the input one call of the system asks for.
-const INPUT_BLOCK: usize = 1 << 16;
 
 fn main(rt: HostRuntime) -> ExitCode {
     let mut err = Stream::new(rt.stderr());
@@ -34,13 +31,11 @@ fn main(rt: HostRuntime) -> ExitCode {
     })
 }
 
-// Reads and writes through buffers, so that neither a byte nor a row is a call of the system.
+// Writes through a buffer, so that no row is a call of the system; the input is read by blocks.
 fn run_on_standard_streams<E: Out>(rt: &HostRuntime, err: &mut E) -> Result<u8, Failure> {
     let args = arguments(rt)?;
-    let reader = BufReader::with_capacity(rt.alloc(), INPUT_BLOCK, rt.reader());
-    let reader = reader.map_err(|_| Failure::Memory)?;
     let writer = BufWriter::new(rt.alloc(), io::writer(rt)).map_err(|_| Failure::Memory)?;
-    let mut input = Stream::new(reader);
+    let mut input = Stream::new(rt.reader());
     let mut out = Stream::new(writer);
     Ok(run(rt.alloc(), args.as_slice(), &mut input, &mut out, err))
 }

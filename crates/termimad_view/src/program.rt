@@ -45,17 +45,12 @@ fn execute<I: Source, O: Out>(
         (record { input = I.seen input.old; out = O.seen out.old }) result
         (record { input = I.seen input.new; out = O.seen out.new }) }
 {
-    let Some(call) = parse_call(args) else {
-        return Err(Failure::Usage);
-    };
-    let Some(skin) = call.skin.skin() else {
-        return Err(Failure::Skin);
-    };
+    let call = parse_call(args)?;
     let bytes = read_all(alloc, input)?;
     let Ok(text) = str::from_utf8(bytes.as_slice()) else {
         return Err(Failure::NotUtf8);
     };
-    write_call(alloc, out, &skin, &call.command, text)?;
+    write_call(alloc, out, &call.skin, &call.command, text)?;
     out.flush()?;
     Ok(())
 }

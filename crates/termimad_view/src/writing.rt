@@ -15,7 +15,7 @@ use termimad::{Error, MadSkin, Out, put_all};
 ///
 /// # Errors
 ///
-/// A fault of the device, or want of memory. What went out by then is a beginning of the whole.
+/// A fault of the device, or out of memory. What went out by then is a beginning of the whole.
 pub fn write_call<O: Out>(
     alloc: Global,
     out: &mut O,

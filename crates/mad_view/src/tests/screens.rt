@@ -3,7 +3,8 @@
 use super::{area_of, dots, or_memory, read};
 use crate::text_view::TextView;
 use mad_layout::{FmtText, MadSkin};
-use mad_term::{Attribute, Attributes, Color, CutOut, Error, Pen, Screen};
+use mad_screen::{Pen, Screen};
+use mad_term::{Attribute, Attributes, Color, CutOut, Error};
 use std::alloc::Global;
 use std::process::Abort;
 use std::test::Fail;

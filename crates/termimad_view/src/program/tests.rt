@@ -33,7 +33,8 @@ fn words_of(alloc: Global, call: &str) -> Result<Vec<String>, AllocError> {
     Ok(words)
 }
 
-// Runs a call with room for all, and looks at everything that it leaves.
+// Runs a call with room for all, its input handed out in blocks of one byte, of some and of all, and looks at everything
+// that it leaves.
 fn expect(
     rt: &(impl Abort + AllocGlobal),
     call: &str,
@@ -44,19 +45,22 @@ fn expect(
 ) -> Result<(), AllocError> {
     let alloc = rt.alloc();
     let words = words_of(alloc, call)?;
-    let mut source = ScriptSource::new(input, false);
-    let mut out = CutOut::new(alloc, ROOM, ROOM, false)?;
-    let mut err = CutOut::new(alloc, ROOM, ROOM, false)?;
-    let answer = run(alloc, words.as_slice(), &mut source, &mut out, &mut err);
-    assert_eq!(rt; answer, status, "{call}");
-    assert!(rt; out.taken() == written, "{call}: the output");
-    assert!(rt; err.taken() == said, "{call}: what was said");
-    let unread: &[u8] = if status == 2 || status == 4 {
-        input
-    } else {
-        b""
-    };
-    assert!(rt; source.left() == unread, "{call}: the input");
+    for step in [1, 4, usize::MAX] {
+        let mut source = ScriptSource::in_steps(input, step, false);
+        let mut out = CutOut::new(alloc, ROOM, ROOM, false)?;
+        let mut err = CutOut::new(alloc, ROOM, ROOM, false)?;
+        let answer = run(alloc, words.as_slice(), &mut source, &mut out, &mut err);
+        assert_eq!(rt; answer, status, "{call}");
+        assert!(rt; out.taken() == written, "{call}: the output");
+        assert_eq!(rt; out.flushes(), u64::from(status == 0), "{call}: the flushes");
+        assert!(rt; err.taken() == said, "{call}: what was said");
+        let unread: &[u8] = if status == 2 || status == 4 {
+            input
+        } else {
+            b""
+        };
+        assert!(rt; source.left() == unread, "{call}: the input");
+    }
     Ok(())
 }
 
@@ -284,8 +288,45 @@ fn a_failing_standard_error_changes_no_status(rt: HostRuntime) -> Result<(), Fai
     Ok(())
 }
 
-// Runs a call whose memory may be refused: its row, or a front of it with status 5.
-fn expect_or_memory(
+// Runs a call on an input of any size, with room for its row and for no byte more.
+fn expect_large(
+    rt: &(impl Abort + AllocGlobal),
+    call: &str,
+    input: &str,
+    written: &str,
+) -> Result<(), AllocError> {
+    let alloc = rt.alloc();
+    let words = words_of(alloc, call)?;
+    let mut source = ScriptSource::new(input.as_bytes(), false);
+    let mut out = CutOut::new(alloc, usize::MAX, written.len(), false)?;
+    let mut err = CutOut::new(alloc, ROOM, ROOM, false)?;
+    let status = run(alloc, words.as_slice(), &mut source, &mut out, &mut err);
+    assert_eq!(rt; status, 0, "{call}");
+    assert!(rt; out.taken() == written.as_bytes(), "{call}: the output");
+    assert_eq!(rt; out.flushes(), 1, "{call}");
+    Ok(())
+}
+
+#[test]
+fn a_megabyte_and_a_line_of_many_marks(rt: HostRuntime) -> Result<(), Fail> {
+    let alloc = rt.alloc();
+    let word = "a".repeat(alloc, 1_000_000)?;
+    // A text is laid out in one column less than its area has.
+    let row = "a".repeat(alloc, 79)?;
+    expect_large(&rt, "inline", word.as_str(), format!(in alloc; "{word}\n")?.as_str())?;
+    let rows = format!(in alloc; "\x1b[1;1H{row} \x1b[2;1H{row} ")?;
+    expect_large(&rt, "area|0|0|80|2", word.as_str(), rows.as_str())?;
+    let marks = "*a*b".repeat(alloc, 50_000)?;
+    let unmarked = format!(in alloc; "{}\n", "ab".repeat(alloc, 50_000)?)?;
+    expect_large(&rt, "inline", marks.as_str(), unmarked.as_str())?;
+    let wide = "a".repeat(alloc, 65_534)?;
+    let row = format!(in alloc; "\x1b[1;1H{wide} ")?;
+    expect_large(&rt, "area|0|0|65535|1", wide.as_str(), row.as_str())?;
+    Ok(())
+}
+
+// Runs a call: its row, or a beginning of it with status 5, where memory is refused.
+fn expect_row(
     rt: &(impl Abort + AllocGlobal),
     call: &str,
     input: &[u8],
@@ -309,15 +350,8 @@ fn expect_or_memory(
 }
 
 #[test]
-fn a_run_is_its_row(rt: HostRuntime) -> Result<(), Fail> {
-    expect_or_memory(&rt, "area|0|0|12|3", b"hello", HELLO)?;
-    expect_or_memory(&rt, "inline|default", b"**some** x", SOME)?;
+fn a_run_is_its_row_or_ends_out_of_memory(rt: HostRuntime) -> Result<(), Fail> {
+    expect_row(&rt, "area|0|0|12|3", b"hello", HELLO)?;
+    expect_row(&rt, "inline|default", b"**some** x", SOME)?;
     Ok(())
-}
-
-#[test]
-fn a_run_is_its_row_or_memory(rt: HostRuntime) {
-    // Want of memory is an answer here.
-    let _ = expect_or_memory(&rt, "area|0|0|12|3", b"hello", HELLO);
-    let _ = expect_or_memory(&rt, "inline|default", b"**some** x", SOME);
 }

@@ -1,12 +1,12 @@
 use Rattle.std.proofs.Common.{ap, ◌∙◌, drop}
-use Rattle.mad_layout.proofs.AreaLemmas.{shown_text}
 use Rattle.mad_layout.proofs.DrawnLayouts.{layout_shown}
+use Rattle.mad_layout.proofs.ShownLemmas.{text_shown_in}
 use Rattle.mad_layout.proofs.drawing.draw_text.Goals as goal
 
 pub returns-clause-shown : goal.returns-clause-shown
 returns-clause-shown g c =
-    let from = c.lines_from-lines.ensures ∙ ap (drop c.args.scroll) c.as_slice.ensures.value in
-    shown_text c.draw_rows.result c.args.text.now.skin.now c.args.text.now.lines.items _ c.args.area.now c.args.scroll _ _ c.requires from c.draw_rows.ensures.writes c.draw_rows.ensures.known
+    let from = c.lines_from.ensures ∙ ap (drop c.args.scroll) c.as_slice.ensures.value in
+    text_shown_in c.draw_rows.result c.args.text.now.skin.now c.args.text.now.lines.items _ c.args.area.now _ c.args.scroll (g.O.Out.seen c.args.out.now) (g.O.Out.seen c.draw_rows.new.out) from c.from.ensures c.draw_rows.ensures.shown
 
 pub returns-clause-shown_layout : goal.returns-clause-shown_layout
 returns-clause-shown_layout g c = layout_shown c.draw_rows.result c.args.text.now.skin.now c.args.text.now.lines.items c.args.area.now c.args.scroll (g.O.Out.seen c.args.out.now) (g.O.Out.seen c.draw_rows.new.out) c.requires (returns-clause-shown g c)

@@ -1,5 +1,5 @@
 use Rattle.std.proofs.Common.{◌≡◌, ◌-◌, ◌^◌, vec_len}
-use Rattle.termimad_view.specs.Reading.{ahead_all}
+use Rattle.mad_term.specs.Trace.{ahead_all}
 use Rattle.termimad_view.proofs.input.read_all.Given as goal
 
 abbrev pub invariant-loop-bytes : goal.invariant-loop-bytes

@@ -1,7 +1,7 @@
 use Rattle.std.proofs.Common.{refl}
 use Rattle.std.proofs.Output.{has_written_of_eq, has_written_append}
 use Rattle.mad_layout.specs.Rows.{compound_piece}
-use Rattle.mad_layout.proofs.PieceLemmas.{pieces_taken}
+use Rattle.mad_draw.proofs.PieceLemmas.{pieces_taken}
 use Rattle.mad_layout.proofs.display.CompoundsDisplay.fmt.Goals as goal
 
 pub loop-compound-preserved : goal.loop-compound-preserved

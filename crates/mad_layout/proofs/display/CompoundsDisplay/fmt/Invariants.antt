@@ -1,6 +1,6 @@
 use Rattle.std.proofs.Common.{map, take}
 use Rattle.std.specs.Fmt.{HasWritten, IsPlainFormatter}
-use Rattle.mad_layout.specs.Pieces.{pieces_bytes}
+use Rattle.mad_draw.specs.Pieces.{pieces_bytes}
 use Rattle.mad_layout.specs.Rows.{compound_piece}
 use Rattle.mad_layout.proofs.display.CompoundsDisplay.fmt.Given as goal
 

@@ -1,7 +1,7 @@
 use Rattle.std.proofs.Common.{refl}
 use Rattle.std.proofs.Output.{has_written_of_eq, has_written_append}
 use Rattle.mad_layout.specs.Texts.{line_bytes}
-use Rattle.mad_layout.proofs.PieceLemmas.{bytes_taken_of}
+use Rattle.mad_draw.proofs.PieceLemmas.{bytes_taken_of}
 use Rattle.mad_layout.proofs.display.PlacedLinesDisplay.fmt.Goals as goal
 
 pub loop-line-preserved : goal.loop-line-preserved

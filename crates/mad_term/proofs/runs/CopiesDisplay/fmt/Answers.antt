@@ -1,11 +1,13 @@
-use Rattle.std.proofs.Common.{rules, ◌≡◌, ℕ, suc, ◌+◌, ap, ◌∙◌, sym, arith}
+use Rattle.std.proofs.Common.{rules, arith, ◌%◌, ◌≡◌, [], ◌∷◌, ap, ◌∙◌, sym}
 use Rattle.std.specs.List.{repeat}
-use Rattle.std.proofs.Output.{has_written_of_eq, has_written_append}
-use Rattle.mad_term.proofs.Repeating.{repeat-more}
+use Rattle.std.proofs.Output.{has_written_of_eq}
+use Rattle.mad_term.proofs.Repeating.{spaces_by_64, spaces_boundary}
 use Rattle.mad_term.proofs.runs.CopiesDisplay.fmt.Goals as goal
 
-pub loop-preserved : goal.loop-preserved
-loop-preserved g c = λ p.
-    let text = c.args.self.now.content.now in
-    has_written_of_eq _ _ _ _ _ (repeat-more c.loop.counter text)
-    (has_written_append _ _ _ _ text _ (c.loop.invariant p) (search rules))
+pub returns-then-eq-clause-writes : goal.returns-then-eq-clause-writes
+returns-then-eq-clause-writes g c = λ plain. λ ok.
+    let is : c.args.self.now.content.now ≡ 32 ∷ [] = search rules in
+    has_written_of_eq _ _ _ _ _ (spaces_by_64 c.args.self.now.count ∙ ap (repeat c.args.self.now.count) (sym is)) (search rules)
+
+pub range-few-requires-clause-end_boundary : goal.range-few-requires-clause-end_boundary
+range-few-requires-clause-end_boundary g c = spaces_boundary 64 (c.args.self.now.count % 64) (omega arith)

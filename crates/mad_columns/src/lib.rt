@@ -1,0 +1,6 @@
+//! The columns that a character takes on a terminal: what text is measured by, and what a terminal shows.
+#![tactic(auto)]
+
+mod columns;
+
+pub use columns::char_columns;

@@ -1,0 +1,4 @@
+pub mod AreaLemmas
+pub mod CellLemmas
+pub mod PieceLemmas
+pub mod ShownLemmas

@@ -1,0 +1,3 @@
+pub mod DrawnRows
+pub mod Pieces
+pub mod RowCells

@@ -1,0 +1,58 @@
+//! Spaces in a style, as displayed values.
+
+use mad_style::CompoundStyle;
+use mad_term::{StyledContent, StyledRun};
+use std::fmt;
+
+/// `count` spaces as one piece. Of none nothing is written.
+#[derive(Clone, Copy)]
+pub struct Spaces {
+    /// How they are written.
+    pub style: CompoundStyle,
+    /// How many there are.
+    pub count: usize,
+}
+
+impl fmt::Display for Spaces {
+    ghost use Rattle.std.specs.Prelude.{Some};
+    ghost use Rattle.mad_draw.specs.Pieces.{pieces_bytes, spaces};
+
+    ghost output = { λ s. Some (pieces_bytes (spaces s.style s.count)) };
+
+    #[tactic(auto, using(crate::proofs::PieceLemmas::run_of_spaces))]
+    fn fmt<W: fmt::Write>(&self, f: &mut fmt::Formatter<W>) -> fmt::Result {
+        let run = StyledRun {
+            style: self.style.object_style,
+            content: " ",
+            count: self.count,
+        };
+        write!(f, "{run}")
+    }
+}
+
+/// `count` spaces, each a piece of its own.
+#[derive(Clone, Copy)]
+pub struct SingleSpaces {
+    /// How they are written.
+    pub style: CompoundStyle,
+    /// How many there are.
+    pub count: usize,
+}
+
+impl fmt::Display for SingleSpaces {
+    ghost use Rattle.std.specs.Prelude.{Some};
+    ghost use Rattle.mad_draw.specs.Pieces.{pieces_bytes, single_spaces};
+
+    ghost output = { λ s. Some (pieces_bytes (single_spaces s.style s.count)) };
+
+    fn fmt<W: fmt::Write>(&self, f: &mut fmt::Formatter<W>) -> fmt::Result {
+        let space = StyledContent {
+            style: self.style.object_style,
+            content: " ",
+        };
+        for _done in 0..self.count {
+            write!(f, "{space}")?;
+        }
+        Ok(())
+    }
+}

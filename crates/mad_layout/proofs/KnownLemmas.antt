@@ -1,0 +1,72 @@
+-- The colors of rows: their numbers are bytes.
+use Rattle.std.proofs.Common.{◌≡◌, ℕ, List, [], ◌∷◌, ◌++◌, map, Option, Some, None, if◌then◌else◌, subst}
+use Rattle.std.specs.Prelude.{Bool, true, false}
+use Rattle.std.specs.Option.{option_or}
+use Rattle.std.specs.Str.{bytes_eq}
+use Rattle.mad_md.specs.Flagged.{Run, run_of}
+use Rattle.mad_md.specs.declared.compound.Compound.{Compound}
+use Rattle.mad_term.specs.declared.color.Color.{Color}
+use Rattle.mad_term.specs.Color.{IsColorOrNone}
+use Rattle.mad_term.specs.Styles.{IsStyle}
+use Rattle.mad_style.specs.CompoundStyles.{overwritten}
+use Rattle.mad_style.specs.declared.compound_styles.CompoundStyle.{CompoundStyle}
+use Rattle.mad_style.specs.declared.line_styles.LineStyle.{LineStyle}
+use Rattle.mad_layout.specs.declared.composite.FmtComposite.{FmtComposite}
+use Rattle.mad_layout.specs.declared.line.FmtLine.TheVariants.{Normal}
+use Rattle.mad_layout.specs.declared.skin.MadSkin.{MadSkin}
+use Rattle.mad_draw.specs.Pieces.{RowPiece, AreKnown, single_spaces}
+use Rattle.mad_layout.specs.Rows.{compound_piece, mark_pieces, inner_blanks, outer_blanks, line_pieces, margins_of}
+use Rattle.mad_layout.specs.Styles.{AreKnownAdditions, compound_style, ellipsis_bytes, line_style, overwritten_if}
+use Rattle.mad_draw.proofs.PieceLemmas.{known_both, spaces_known, single_known}
+
+or_known : (a b : Option Color) → IsColorOrNone a → IsColorOrNone b → IsColorOrNone (option_or a b)
+or_known None b h k = k
+or_known (Some a) b h k = h
+
+overwritten_known : (style other : CompoundStyle) → IsStyle style.object_style → IsStyle other.object_style → IsStyle (overwritten style other).object_style
+overwritten_known style other h k = record {
+  foreground = or_known other.object_style.foreground_color style.object_style.foreground_color k.foreground h.foreground;
+  background = or_known other.object_style.background_color style.object_style.background_color k.background h.background;
+  underline = h.underline;
+}
+
+if_known : (flag : Bool) (other style : CompoundStyle) → IsStyle other.object_style → IsStyle style.object_style → IsStyle (overwritten_if flag other style).object_style
+if_known true other style k h = overwritten_known style other h k
+if_known false other style k h = h
+
+either_known : (b : Bool) (x y : CompoundStyle) → IsStyle x.object_style → IsStyle y.object_style → IsStyle (if b then x else y).object_style
+either_known true x y h k = h
+either_known false x y h k = k
+
+compound_known : (skin : MadSkin) (style : LineStyle) (p : Run) → AreKnownAdditions skin → IsStyle style.compound_style.object_style → IsStyle (compound_style skin style p).object_style
+compound_known skin style p h k =
+    let italic = if_known p.flags.italic skin.italic style.compound_style h.italic k in
+    let strikeout = if_known p.flags.strikeout skin.strikeout _ h.strikeout italic in
+    let bold = if_known p.flags.bold skin.bold _ h.bold strikeout in
+    either_known (bytes_eq p.text ellipsis_bytes) skin.ellipsis _ h.ellipsis (if_known p.flags.code skin.inline_code _ h.code bold)
+
+compounds_known : (skin : MadSkin) (style : LineStyle) (ps : List Compound) → AreKnownAdditions skin → IsStyle style.compound_style.object_style → AreKnown (map (compound_piece skin style) ps)
+compounds_known skin style [] h k = tt
+compounds_known skin style (p ∷ ps) h k = (compound_known skin style (run_of p) h k, compounds_known skin style ps h k)
+
+asked_known : (b : Bool) (ps : List RowPiece) → AreKnown ps → AreKnown (if b then ps else [])
+asked_known true ps h = h
+asked_known false ps h = tt
+
+-- single spaces, and pieces behind them
+pub spaced_known : (style : CompoundStyle) (n : ℕ) (ps : List RowPiece) → IsStyle style.object_style → AreKnown ps → AreKnown (single_spaces style n ++ ps)
+spaced_known style n ps h k = known_both (single_spaces style n) ps (single_known style n h) k
+
+-- a line, by the styles of its parts
+pub line_known : (skin : MadSkin) (outer : Option ℕ) (right : Bool) (l : FmtComposite) (style : LineStyle) → style ≡ line_style skin l.kind → IsStyle skin.paragraph.compound_style.object_style → IsStyle style.compound_style.object_style
+    → AreKnown (mark_pieces skin l.kind) → AreKnownAdditions skin → AreKnown (line_pieces skin outer right (Normal l))
+line_known skin outer right l style is paragraph own mark additions =
+    let s : LineStyle = line_style skin l.kind in
+    let known : IsStyle s.compound_style.object_style = subst (λ (x : LineStyle). IsStyle x.compound_style.object_style) is own in
+    let blanks : ℕ × ℕ = outer_blanks s.align outer (margins_of skin outer l) l in
+    known_both _ _ (spaces_known skin.paragraph.compound_style blanks.0 paragraph)
+    (known_both _ _ (spaces_known s.compound_style (inner_blanks l).0 known)
+    (known_both _ _ mark
+    (known_both _ _ (compounds_known skin s l.compounds.items additions known)
+    (known_both _ _ (spaces_known s.compound_style (inner_blanks l).1 known)
+    (asked_known right _ (spaces_known skin.paragraph.compound_style blanks.1 paragraph))))))

@@ -1,0 +1,14 @@
+pub mod AsciiCommands
+pub mod CodeLemmas
+pub mod CommandsRead
+pub mod DrawingLemmas
+pub mod Feeding
+pub mod Finding
+pub mod PaintingLemmas
+pub mod Paints
+pub mod PutList
+pub mod Reading
+pub mod ReadingBack
+pub mod RowLoops
+pub mod Strips
+pub mod StyleLemmas

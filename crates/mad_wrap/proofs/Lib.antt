@@ -1,0 +1,17 @@
+pub mod BoundLemmas
+pub mod BoundOfLemmas
+pub mod CheckLemmas
+pub mod CheckerSteps
+pub mod ClosedBreaks
+pub mod CutLemmas
+pub mod FitLemmas
+pub mod KeepLemmas
+pub mod LawLemmas
+pub mod LeastLemmas
+pub mod MeasureLemmas
+pub mod PassLemmas
+pub mod PastLemmas
+pub mod PlaceLemmas
+pub mod PlacingLemmas
+pub mod StartLemmas
+pub mod WrapLemmas

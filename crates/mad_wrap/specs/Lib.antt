@@ -1,0 +1,15 @@
+pub mod Bounds
+pub mod Breaks
+pub mod CleanCut
+pub mod FirstFit
+pub mod Keeps
+pub mod Laws
+pub mod LeastBound
+pub mod LeastWrap
+pub mod LineRoom
+pub mod LineStarts
+pub mod Lines
+pub mod PlacedLines
+pub mod Placings
+pub mod Rooms
+pub mod Wraps

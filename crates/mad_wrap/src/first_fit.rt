@@ -1,0 +1,91 @@
+ghost use Rattle.std.specs.Prelude.{◌≡◌, ◌+◌, ◌⊎◌, false, true, Some, IfSome, IfNone};
+ghost use Rattle.mad_wrap.specs.LineRoom.{left_of, left_after, fits_in, taken};
+
+use crate::room::Room;
+use mad_fit::Token;
+
+/// Where first fit puts a token.
+#[derive(Clone, Copy, Debug)]
+pub(crate) enum Put {
+    /// On the line, after its tokens.
+    OnLine,
+    /// On the next line, as its first token.
+    OnNext,
+    /// In the gap after the line, which is dropped.
+    InGap,
+}
+
+/// First fit: a token goes on the line while it fits. A blank one that doesn't ends the line, and is dropped with the
+/// blanks after it; any other begins the next line, whether it fits there or not.
+#[derive(Clone, Copy, Debug)]
+pub(crate) struct FirstFit {
+    room: Room,
+    // What is left of the line, if its tokens fit, and whether a gap has begun after it.
+    left: Option<usize>,
+    ended: bool,
+}
+
+impl FirstFit {
+    ghost use Rattle.mad_wrap.specs.FirstFit.{Puts, at_first};
+
+    /// At the beginning of the first line.
+    pub(crate) fn new(room: Room) -> Self
+        ensures { result ≡ at_first room }
+    {
+        FirstFit {
+            room,
+            left: left_of(room.width, room.first),
+            ended: false,
+        }
+    }
+
+    /// Puts the next token.
+    pub(crate) fn put(&mut self, token: Token) -> Put
+        ensures { Puts self.old token.entry result self.new }
+    {
+        if let Some(after) = left_with(self.left, self.ended, token.width) {
+            self.left = Some(after);
+            return Put::OnLine;
+        }
+        if token.blank {
+            self.ended = true;
+            return Put::InGap;
+        }
+        self.left = left_of_next(self.room, token.width);
+        self.ended = false;
+        Put::OnNext
+    }
+}
+
+// What is left of a line's columns with a token on it, if the line hasn't ended and the token fits.
+fn left_with(left: Option<usize>, ended: bool, width: usize) -> Option<usize>
+    ensures some { IfSome result (λ after. (ended ≡ false) × (fits_in left width ≡ true) × (taken left width ≡ Some after)) }
+    ensures none { IfNone result ((ended ≡ true) ⊎ (fits_in left width ≡ false)) }
+{
+    if ended {
+        None
+    } else {
+        left?.checked_sub(width)
+    }
+}
+
+/// What is left of a later line that begins with a token, if the token fits on it.
+pub(crate) fn left_of_next(room: Room, width: usize) -> Option<usize>
+    ensures { result ≡ left_of room.width (room.other + width) }
+{
+    room.width.checked_sub(room.other)?.checked_sub(width)
+}
+
+/// What is left of a width after `used` columns, if they fit.
+pub(crate) fn left_of(width: usize, used: usize) -> Option<usize>
+    ensures { result ≡ left_of width used }
+{
+    width.checked_sub(used)
+}
+
+/// What is left after `width` more columns, if they fit in what was left.
+pub(crate) fn left_after(left: Option<usize>, width: usize) -> Option<usize>
+    ensures { result ≡ left_after left width }
+{
+    left_of(left?, width)
+}

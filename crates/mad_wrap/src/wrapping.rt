@@ -1,0 +1,54 @@
+ghost use Rattle.std.specs.Prelude.{◌≡◌, ◌<◌, ◌+◌, IfOk};
+ghost use Rattle.mad_md.specs.Flagged.{flagged_text};
+ghost use Rattle.mad_fit.specs.Columns.{width_of};
+ghost use Rattle.mad_wrap.specs.LeastWrap.{IsWrap};
+ghost use Rattle.mad_wrap.specs.Lines.{compounds_of, AreCounted};
+ghost use Rattle.mad_wrap.specs.PlacedLines.{AreTwoLines};
+
+use crate::clean_cut::clean_cut;
+use crate::placing::place;
+use crate::room::Room;
+use crate::wrapped_line::WrappedLine;
+use mad_fit::{columns, token_iter};
+use mad_md::Compound;
+use std::alloc::{AllocError, Global};
+
+/// Breaks compounds that are wider than the first line into the fewest lines.
+///
+/// The lines keep the text but for whitespace between them and after the last, and no fitting break has fewer. Where each
+/// character has room after the greater indent, each line fits. Two compounds that fit on a line each, also round one of
+/// whitespace, are cut there. Any other text is cut into tokens, which are placed one after the other.
+///
+/// The time is linear in the text. No character is copied, and no list of tokens is made. The only error is out of memory.
+pub fn wrap_compounds<'s>(
+    alloc: Global,
+    compounds: &[Compound<'s>],
+    room: Room,
+) -> Result<Vec<WrappedLine<'s>>, AllocError>
+    requires wider { room.width < room.first + width_of (flagged_text compounds.now) }
+    ensures wrapped { IfOk result (λ lines. IsWrap room compounds.now (compounds_of lines.items)) }
+    ensures counted { IfOk result (λ lines. AreCounted lines.items) }
+{
+    match clean_cut(compounds, room) {
+        Some((front, back)) => cut_lines(alloc, front, back),
+        None => place(alloc, token_iter(compounds, room.token_limit()), room),
+    }
+}
+
+// The two lines of a clean cut.
+fn cut_lines<'s>(
+    alloc: Global,
+    front: Compound<'s>,
+    back: Compound<'s>,
+) -> Result<Vec<WrappedLine<'s>>, AllocError>
+    ensures { IfOk result (λ lines. AreTwoLines front.entry back.entry lines.items) }
+{
+    let mut lines = Vec::new(alloc);
+    let mut first = WrappedLine::new(alloc);
+    first.add(front, columns(front.src))?;
+    lines.push(first)?;
+    let mut second = WrappedLine::new(alloc);
+    second.add(back, columns(back.src))?;
+    lines.push(second)?;
+    Ok(lines)
+}
