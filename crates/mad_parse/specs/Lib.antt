@@ -1,0 +1,10 @@
+pub mod Colors
+pub mod Cuts
+pub mod Errors
+pub mod Names
+pub mod Numbers
+pub mod Reading
+pub mod ReadsBack
+pub mod Styles
+pub mod Values
+pub mod Written
