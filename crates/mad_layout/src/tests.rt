@@ -116,7 +116,7 @@ fn assert_bound(
 ) -> Result<(), Error> {
     let bound = wrap_bound(alloc, composite, width, skin)?;
     assert_eq!(rt; bound.starts.as_slice(), wanted);
-    assert!(rt; check_wrap_bound(alloc, composite, width, skin, &bound)?);
+    assert!(rt; check_wrap_bound(composite, width, skin, &bound)?);
     Ok(())
 }
 
@@ -241,7 +241,7 @@ fn starts_that_show_nothing_rows(rt: &impl Abort, alloc: Global) -> Result<(), E
             starts: starts.to_vec(alloc)?,
         };
         assert_eq!(rt;
-            check_wrap_bound(alloc, &composite, 5, &skin, &bound)?,
+            check_wrap_bound(&composite, 5, &skin, &bound)?,
             wanted
         );
     }
@@ -266,7 +266,7 @@ fn a_width_under_three_rows(rt: &impl Abort, alloc: Global) -> Result<(), Error>
     assert!(rt; is_refused(hard_wrap_composite(alloc, &composite, 2, &skin), 2));
     assert!(rt; is_refused(wrap_bound(alloc, &composite, 2, &skin), 2));
     let bound = wrap_bound(alloc, &composite, 3, &skin)?;
-    assert!(rt; is_refused(check_wrap_bound(alloc, &composite, 2, &skin, &bound), 2));
+    assert!(rt; is_refused(check_wrap_bound(&composite, 2, &skin, &bound), 2));
     Ok(())
 }
 
@@ -315,29 +315,31 @@ fn margins_of_the_style_rows(rt: &impl Abort, alloc: Global) -> Result<(), Error
 }
 
 #[test]
-fn indents_in_both_modes(rt: HostRuntime) {
-    let block = plain_skin();
-    let first_only = skin_with(0, 0, ListItemsIndentationMode::FirstLineOnly);
+fn indents_in_each_mode(rt: HostRuntime) {
     let ordered = CompositeKind::OrderedListItem {
         level: 0,
         index: 100,
     };
+    // In a block, on the first line only, and hanging by 2.
     let rows = [
-        (CompositeKind::Paragraph, (0, 0), (0, 0)),
-        (CompositeKind::Header(1), (0, 0), (0, 0)),
-        (CompositeKind::ListItem(3), (5, 5), (5, 0)),
-        (CompositeKind::ListItemFollowUp(3), (5, 5), (0, 0)),
-        (ordered, (5, 5), (5, 0)),
-        (CompositeKind::Quote, (2, 2), (2, 2)),
-        (CompositeKind::Code, (0, 0), (0, 0)),
+        (CompositeKind::Paragraph, [(0, 0), (0, 0), (0, 0)]),
+        (CompositeKind::Header(1), [(0, 0), (0, 0), (0, 0)]),
+        (CompositeKind::ListItem(3), [(5, 5), (5, 0), (5, 7)]),
+        (CompositeKind::ListItemFollowUp(3), [(5, 5), (0, 0), (7, 7)]),
+        (ordered, [(5, 5), (5, 0), (5, 7)]),
+        (CompositeKind::Quote, [(2, 2), (2, 2), (2, 2)]),
+        (CompositeKind::Code, [(0, 0), (0, 0), (0, 0)]),
     ];
-    for (kind, in_block, in_first_only) in rows {
-        assert_eq!(rt; composite_kind_widths(kind, &block), in_block, "{kind:?}");
-        assert_eq!(rt;
-            composite_kind_widths(kind, &first_only),
-            in_first_only,
-            "{kind:?}"
-        );
+    let modes = [
+        ListItemsIndentationMode::Block,
+        ListItemsIndentationMode::FirstLineOnly,
+        ListItemsIndentationMode::Hanging(2),
+    ];
+    for (kind, wanted) in rows {
+        for (mode, wanted) in modes.iter().zip(wanted.iter()) {
+            let skin = skin_with(0, 0, *mode);
+            assert_eq!(rt; composite_kind_widths(kind, &skin), *wanted, "{kind:?}");
+        }
     }
 }
 

@@ -5,6 +5,13 @@ pub use Rattle.mad_md.specs.Parts
 pub use Rattle.mad_md.specs.ReadByMarks
 pub use Rattle.mad_md.specs.ReadInline
 pub use Rattle.mad_md.specs.ReadRaw
+pub use Rattle.mad_md.specs.Cells
+pub use Rattle.mad_md.specs.Cursor
+pub use Rattle.mad_md.specs.Places
+pub use Rattle.mad_md.specs.Reading
+pub use Rattle.mad_md.specs.ReadingLaws
+pub use Rattle.mad_md.specs.Scan
+pub use Rattle.mad_md.specs.Starts
 pub use Rattle.mad_term.specs.Attribute
 pub use Rattle.mad_term.specs.AttributeNames
 pub use Rattle.mad_term.specs.Attributes
@@ -33,29 +40,38 @@ pub use Rattle.mad_style.specs.Kinds
 pub use Rattle.mad_style.specs.LineStyles
 pub use Rattle.mad_style.specs.Runs
 pub use Rattle.mad_style.specs.StyledChars
+pub use Rattle.mad_parse.specs.Colors
+pub use Rattle.mad_parse.specs.Cuts
+pub use Rattle.mad_parse.specs.Errors as ParseErrors
+pub use Rattle.mad_parse.specs.Names
+pub use Rattle.mad_parse.specs.Numbers
+pub use Rattle.mad_parse.specs.Reading as ParseReading
+pub use Rattle.mad_parse.specs.ReadsBack
+pub use Rattle.mad_parse.specs.Styles as ParseStyles
+pub use Rattle.mad_parse.specs.Values
+pub use Rattle.mad_parse.specs.Written
+pub use Rattle.mad_widths.specs.ColumnWidths
+pub use Rattle.mad_widths.specs.SeenCells
+pub use Rattle.mad_widths.specs.TableFits
+pub use Rattle.mad_widths.specs.Turns
+pub use Rattle.mad_widths.specs.WorkedWidths
 pub use Rattle.mad_fit.specs.Areas
 pub use Rattle.mad_fit.specs.Columns as TextColumns
 pub use Rattle.mad_fit.specs.Completions
+pub use Rattle.mad_fit.specs.TokenPlaces
 pub use Rattle.mad_fit.specs.Tokens
+pub use Rattle.mad_fit.specs.TokensLeft
 pub use Rattle.mad_draw.specs.DrawnRows
 pub use Rattle.mad_draw.specs.Pieces
 pub use Rattle.mad_draw.specs.PennedCells
-pub use Rattle.mad_layout.specs.Bounds
-pub use Rattle.mad_layout.specs.Breaks
-pub use Rattle.mad_layout.specs.CleanCut
+pub use Rattle.mad_layout.specs.CompositeWraps
 pub use Rattle.mad_layout.specs.Drawable
 pub use Rattle.mad_layout.specs.FittingLayouts
 pub use Rattle.mad_layout.specs.InArea
 pub use Rattle.mad_layout.specs.Indents
 pub use Rattle.mad_layout.specs.Inlines
-pub use Rattle.mad_layout.specs.Keeps
 pub use Rattle.mad_layout.specs.Layouts
-pub use Rattle.mad_layout.specs.LeastBound
-pub use Rattle.mad_layout.specs.LeastWrap
-pub use Rattle.mad_layout.specs.LineRoom
-pub use Rattle.mad_layout.specs.LineStarts
 pub use Rattle.mad_layout.specs.Lines as LayoutLines
-pub use Rattle.mad_layout.specs.PlacedLines
 pub use Rattle.mad_layout.specs.Premises
 pub use Rattle.mad_layout.specs.Rows
 pub use Rattle.mad_layout.specs.Shown
@@ -67,3 +83,14 @@ pub use Rattle.mad_layout.specs.Texts
 pub use Rattle.mad_layout.specs.WrappedLines
 pub use Rattle.mad_layout.specs.Wraps
 pub use Rattle.mad_view.specs.Scrolls
+pub use Rattle.mad_wrap.specs.Bounds
+pub use Rattle.mad_wrap.specs.Breaks
+pub use Rattle.mad_wrap.specs.CleanCut
+pub use Rattle.mad_wrap.specs.Keeps
+pub use Rattle.mad_wrap.specs.Laws as WrapLaws
+pub use Rattle.mad_wrap.specs.LeastBound
+pub use Rattle.mad_wrap.specs.LeastWrap
+pub use Rattle.mad_wrap.specs.LineStarts
+pub use Rattle.mad_wrap.specs.Placings
+pub use Rattle.mad_wrap.specs.Rooms
+pub use Rattle.mad_wrap.specs.WrapLines
