@@ -1,5 +1,5 @@
 -- The example's text in an area: what a screen shows that reads it.
-use Rattle.std.proofs.Common.{◌≡◌, ℕ, ◌+◌, ◌<◌, ◌≤◌, List, [], ◌∷◌, ◌++◌, map, inl, inr, chars, get_or, drop, Option, Some, None, refl, ap, sym, ◌∙◌, subst, arith}
+use Rattle.std.proofs.Common.{◌≡◌, ℕ, zero, suc, replicate, ◌+◌, ◌<◌, ◌≤◌, List, [], ◌∷◌, ◌++◌, map, inl, inr, chars, get_or, drop, Option, Some, None, refl, ap, sym, ◌∙◌, subst, arith}
 use Rattle.std.specs.Prelude.{IfSome, slice_get, true}
 use Rattle.std.proofs.lemmas.List.{length-replicate}
 use Rattle.mad_columns.specs.Columns.{char_columns}
@@ -13,14 +13,22 @@ use Rattle.mad_md.proofs.RunBorders.{unmarked_runs}
 use Rattle.mad_term.specs.Trace.{Trace}
 use Rattle.mad_screen.specs.Glyph.{Glyph, Look}
 use Rattle.mad_screen.specs.Grid.{Grid, IsGrid, blank, cell_at, empty_grid, plain_pen}
-use Rattle.mad_screen.specs.Painting.{attach, look_of_style}
+use Rattle.mad_screen.specs.Painting.{attach, cells_of, look_of_style}
 use Rattle.mad_screen.specs.Terminal.{after_bytes}
 use Rattle.mad_style.specs.declared.kinds.CompositeKind.TheVariants.{Paragraph}
 use Rattle.mad_style.specs.LineStyles.{margins_at}
 use Rattle.mad_fit.specs.Columns.{width_of}
 use Rattle.mad_fit.specs.declared.area.Area.{Area}
-use Rattle.mad_draw.specs.DrawnRows.{IsOnScreen}
-use Rattle.mad_draw.specs.Pieces.{RowPiece, PennedChar, penned_chars}
+use Rattle.mad_draw.specs.DrawnRows.{IsOnScreen, rows_bytes, rows_from}
+use Rattle.mad_draw.specs.Pieces.{RowPiece, PennedChar, AreKnown, penned_chars, spaces}
+use Rattle.mad_draw.proofs.CellLemmas.{cells_of_pieces}
+use Rattle.mad_draw.proofs.PieceLemmas.{ascii_spaces, shown_spaces, spaces_columns, spaces_known}
+use Rattle.mad_draw.proofs.ShownLemmas.{area_shown}
+use Rattle.mad_screen.proofs.Paints.{spaces_cells}
+use Rattle.mad_style.specs.CompoundStyles.{plain_style}
+use Rattle.mad_layout.proofs.SourceLemmas.{source_keeps}
+use Rattle.std.specs.List.{AllByRecursion}
+use Rattle.std.proofs.lemmas.Str.{chars-IsAscii}
 use Rattle.mad_draw.specs.PennedCells.{penned_cells, penned_joined}
 use Rattle.mad_layout.specs.Indents.{indent}
 use Rattle.mad_layout.specs.Layouts.{AreRead, IsLayout, composites}
@@ -31,7 +39,7 @@ use Rattle.mad_layout.specs.Skins.{no_style_skin}
 use Rattle.mad_layout.specs.Sources.{LinesTakeColumns, ShowsSource}
 use Rattle.mad_layout.specs.declared.skin.MadSkin.{MadSkin}
 use Rattle.mad_layout.specs.Styles.{line_style}
-use Rattle.mad_layout.specs.Words.{words}
+use Rattle.mad_layout.specs.Words.{words, word_area, SpacesAreNoText}
 use Rattle.mad_layout.specs.WrappedLines.{AreLinesWrapped, line_with}
 use Rattle.mad_layout.specs.Wraps.{text_of}
 use Rattle.mad_layout.specs.declared.composite.FmtComposite.{FmtComposite}
@@ -129,9 +137,6 @@ words_first lines one =
 
 -- ---- the screen
 
-abbrev word_area : Area
-word_area = record { left = 2; top = 1; width = 12; height = 2 }
-
 on_screen : IsOnScreen word_area (empty_grid 16 4)
 on_screen = record {
   grid = record { full = length-replicate 64 blank; column = omega arith; row = omega arith };
@@ -172,3 +177,34 @@ words_shown_by old new taken start g skin area skin_is area_is none all h begun 
     let here : 4 ≤ 12 → LinesTakeColumns words → ShowsSource no_style_skin words word_area old new =
     subst (λ (a : Area). 4 ≤ a.width → LinesTakeColumns words → ShowsSource no_style_skin words a old new) area_is by_skin in
     words_shown old new taken start g none all (here (omega arith) words_take_columns) begun read
+
+-- ---- spaces
+
+blank_cell : get_or (penned_cells (penned_chars (spaces plain_style 12))) 0 blank ≡ blank
+blank_cell =
+    let ascii : chars (replicate 12 32) ≡ replicate 12 32 = chars-IsAscii (replicate 12 32) (ascii_spaces 12) in
+    ap (λ (gs : List Glyph). get_or gs 0 blank)
+    (cells_of_pieces (spaces plain_style 12) (shown_spaces plain_style 12) ∙ ap (λ (cs : List ℕ). cells_of (look_of_style plain_style.object_style) cs ++ []) ascii
+    ∙ ap (λ (gs : List Glyph). gs ++ []) (spaces_cells (look_of_style plain_style.object_style) 12))
+
+known_rows : (row : ℕ → List RowPiece) (y count : ℕ) → ((k : ℕ) → AreKnown (row k)) → AllByRecursion AreKnown (rows_from row y count)
+known_rows row y zero h = tt
+known_rows row y (suc count) h = (h y, known_rows row (suc y) count h)
+
+no_letter : blank ≡ record { chars = 97 ∷ []; pen = plain_pen } → ⊥
+no_letter e = let first : 32 ≡ 97 = ap (λ (g : Glyph). get_or g.chars 0 0) e in absurd (omega (arith, first))
+
+pub spaces_are_no_text : SpacesAreNoText
+spaces_are_no_text old new none all h =
+    let row : ℕ → List RowPiece = λ y. spaces plain_style 12 in
+    let known : AreKnown (spaces plain_style 12) = spaces_known plain_style 12 (record { foreground = tt; background = tt; underline = tt }) in
+    let drawn = area_shown row word_area (omega arith) (omega arith) (known_rows row 0 2 (λ k. known)) (λ y inside. record { shown = shown_spaces plain_style 12; columns = spaces_columns plain_style 12 })
+    (empty_grid 16 4) on_screen in
+    let source : ShowsSource no_style_skin words word_area old new = record {
+      lines = h.lines;
+      laid_out = h.laid_out;
+      shown = h.shown (source_keeps no_style_skin 11 2 words h.laid_out.text (omega arith) words_take_columns h.laid_out.read);
+    } in
+    let shows : ShowsWords drawn.0 = words_shown old new (rows_bytes row word_area) (empty_grid 16 4) drawn.0 none all source refl drawn.1 in
+    let letter : blank ≡ record { chars = 97 ∷ []; pen = plain_pen } = sym (drawn.4.inside 0 0 (omega arith) (omega arith) ∙ blank_cell) ∙ shows.inside in
+    no_letter letter

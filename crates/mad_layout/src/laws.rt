@@ -3,7 +3,7 @@
 ghost use Rattle.std.specs.Prelude.{◌≡◌, ◌∷◌, [], IfOk};
 ghost use Rattle.mad_screen.specs.Grid.{blank, cell_at, plain_pen};
 ghost use Rattle.mad_layout.specs.Sources.{LinesTakeColumns};
-ghost use Rattle.mad_layout.specs.Words.{words};
+ghost use Rattle.mad_layout.specs.Words.{words, SpacesAreNoText};
 
 use crate::skin::MadSkin;
 use mad_fit::Area;
@@ -15,6 +15,12 @@ use std::alloc::Global;
 #[tactic(auto, using(crate::proofs::WordLemmas::words_take_columns))]
 pub fn words_take_columns()
     ensures { LinesTakeColumns words }
+{
+}
+
+/// Who fills an area with spaces has not shown `aaa bb cc` in it.
+pub fn spaces_are_no_text()
+    ensures { SpacesAreNoText }
 {
 }
 
