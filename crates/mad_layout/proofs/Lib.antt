@@ -9,5 +9,6 @@ pub mod MeasureLemmas
 pub mod PieceLemmas
 pub mod RowLemmas
 pub mod ShownLemmas
+pub mod SourceLemmas
 pub mod WholeTokens
 pub mod WrapLemmas

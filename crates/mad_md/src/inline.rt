@@ -1,13 +1,16 @@
+//! Reading the marks of one line.
+
 ghost use Rattle.std.specs.Prelude.{◌≡◌, ◌≤◌, ◌++◌, length, map, IfOk, OnOk};
 ghost use Rattle.std.specs.Str.{IsCharBoundary};
 ghost use Rattle.mad_md.specs.Flagged.{flags_of, run_of, run_at};
-ghost use Rattle.mad_md.specs.Inline.{mark_at, spell_mark, toggle, unless_empty};
-ghost use Rattle.mad_md.specs.ReadInline.{IsReadInline};
+ghost use Rattle.mad_md.specs.Inline.{NoneBegins, mark_at, spell_mark, toggle, unless_empty};
+ghost use Rattle.mad_md.specs.ReadInline.{IsReadInlineWith};
 
 use crate::compound::Compound;
+use memchr::{memchr, memchr3};
 use std::alloc::{AllocError, Global};
 
-// A mark inside a line. Each turns the flag of its name.
+/// A mark inside a line. Each turns the flag of its name.
 #[derive(Clone, Copy)]
 pub(crate) enum Mark {
     Bold,
@@ -30,27 +33,32 @@ impl Mark {
 
 /// The compounds of a line's inline reading, in one pass over its bytes.
 ///
+/// The line has the flags that are carried to it, and is handed back with those that are on at its end.
 /// Each mark is ASCII, so a place beside one is a border of characters.
-pub(crate) fn read_inline<'s>(alloc: Global, line: &'s str) -> Result<Vec<Compound<'s>>, AllocError>
-    ensures { IfOk result (λ compounds. IsReadInline line.now compounds.items) }
+pub(crate) fn read_inline<'s>(
+    alloc: Global,
+    line: Compound<'s>,
+) -> Result<(Vec<Compound<'s>>, Compound<'s>), AllocError>
+    ensures { IfOk result (λ read. IsReadInlineWith (flags_of line.entry) line.entry.src.now read.0.items (flags_of read.1)) }
 {
-    let bytes = line.as_bytes();
+    let bytes = line.src.as_bytes();
     let mut compounds = Vec::new(alloc);
-    let mut style = Compound::raw_str(line);
+    let mut style = line;
     let mut start = 0;
-    let mut i = 0;
+    let mut i = unmarked_len(bytes, style.code);
     while i < bytes.len() {
         let Some(mark) = mark_at(&bytes[i..], style.code, style.italic) else {
             i += 1;
+            i += unmarked_len(&bytes[i..], style.code);
             continue;
         };
         push_run(&mut compounds, style, start, i)?;
         style = toggled(style, mark);
-        i += mark.len();
-        start = i;
+        start = i + mark.len();
+        i = start + unmarked_len(&bytes[start..], style.code);
     }
     push_run(&mut compounds, style, start, i)?;
-    Ok(compounds)
+    Ok((compounds, style))
 }
 
 // Pushes the part of the line from `start` up to `end`, unless it is empty.
@@ -97,7 +105,18 @@ fn toggled<'s>(style: Compound<'s>, mark: Mark) -> Compound<'s>
     }
 }
 
-// The longest mark that stands at the front of the rest of a line.
+// How many bytes can begin no mark, up to the first that may.
+fn unmarked_len(rest: &[u8], code: bool) -> usize
+    ensures within { result ≤ length rest.now }
+    ensures none { NoneBegins code rest.now result }
+{
+    if code {
+        return memchr(b'`', rest).unwrap_or(rest.len());
+    }
+    memchr3(b'`', b'*', b'~', rest).unwrap_or(rest.len())
+}
+
+// The longest mark that the rest of a line begins with.
 fn mark_at(rest: &[u8], code: bool, italic: bool) -> Option<Mark>
     ensures { result ≡ mark_at code italic rest.now }
 {

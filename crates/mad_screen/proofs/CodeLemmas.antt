@@ -5,7 +5,7 @@ use Rattle.std.specs.Int.RustNames.{bit_and, bit_or}
 use Rattle.std.proofs.lemmas.Bool.{cases_eq, cases_lt}
 use Rattle.std.proofs.lemmas.Nat.Bits.{bit_at_and, bit_at_or, bit_at-lt, bit_at-zero, bit_at-pow_same, bit_at-pow_other, bit_at_mask_inside, bit_at_mask_below, bit_at_mask_above, same_from_bits}
 
--- the bits of a number from place 1 up to place k
+-- the bits of a number from index 1 up to index k
 abbrev pub bits_to : ℕ → ℕ → ℕ
 bits_to n k = bit_and n (2 ^ k - 2 ^ 1)
 
@@ -60,7 +60,7 @@ without_bit n k i some has =
     (λ (ne : i ≢ k). other_bit n k i ne)
     (cases_eq i k)
 
--- one more place, where there is a bit
+-- one more index, where there is a bit
 pub bits_more : (n k : ℕ) → 1 ≤ k → bit_at n k ≡ 1 → bit_or (bits_to n k) (2 ^ k) ≡ bits_to n (suc k)
 bits_more n k some has = same_from_bits (bit_or (bits_to n k) (2 ^ k)) (bits_to n (suc k)) (λ i. with_bit n k i some has)
 

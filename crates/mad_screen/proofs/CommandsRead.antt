@@ -13,7 +13,7 @@ use Rattle.mad_screen.specs.Glyph.{Glyph, Look}
 use Rattle.mad_screen.specs.Grid.{Grid, IsGrid, painted, put_list, blank, cell_at}
 use Rattle.mad_screen.specs.Terminal.{Leads, resting, perform, restyled, erased, space_of, after_bytes}
 use Rattle.mad_screen.specs.Painting.{HasColumns}
-use Rattle.mad_screen.specs.TerminalLaws.{PaintsPlaces}
+use Rattle.mad_screen.specs.TerminalLaws.{PaintsPositions}
 use Rattle.mad_screen.proofs.AsciiCommands.{AreSmall, ascii_command, ascii_move_to}
 use Rattle.mad_screen.proofs.Reading.{AreReadable, IsLetter, command_leads, move_leads, letter_sgr}
 use Rattle.mad_screen.proofs.Paints.{read_leads}
@@ -40,26 +40,26 @@ move_read g x y in_width in_height small_x small_y =
 pub sgr_read : (g : Grid) (ns : List ℕ) (p : Look) → AreReadable ns → restyled ns g.pen ≡ Some p → after_bytes g (command_bytes ns 109) ≡ Some (record g { pen = p })
 sgr_read g ns p small e = command_read g (record g { pen = p }) ns 109 small letter_sgr (lit< tt) (ap (option_map (λ q. record g { pen = q })) e)
 
--- painted cells in their places
-pub paints_places : (g : Grid) (cells : List Glyph) → HasColumns g (length cells) → PaintsPlaces g cells
+-- painted cells at their positions
+pub paints_positions : (g : Grid) (cells : List Glyph) → HasColumns g (length cells) → PaintsPositions g cells
 unfolding painted
-paints_places g cells h = record {
-  places = painted_rows_show (cells ∷ []) g g.x g.y (length cells) (refl, tt) h.grid h.columns (omega (arith, h.row));
+paints_positions g cells h = record {
+  positions = painted_rows_show (cells ∷ []) g g.x g.y (length cells) (refl, tt) h.grid h.columns (omega (arith, h.row));
   column = refl;
   row = refl;
   pen = refl;
 }
 
--- a place after erasing
-pub erased_place : (g : Grid) (from to x y : ℕ) → IsGrid g → x < g.width → y < g.height → cell_at (erased from to g) x y ≡ cond (leb from (y * g.width + x) && ltb (y * g.width + x) to) (space_of g.pen) (cell_at g x y)
+-- a position after erasing
+pub erased_position : (g : Grid) (from to x y : ℕ) → IsGrid g → x < g.width → y < g.height → cell_at (erased from to g) x y ≡ cond (leb from (y * g.width + x) && ltb (y * g.width + x) to) (space_of g.pen) (cell_at g x y)
 unfolding erased
-erased_place g from to x y h in_width in_height =
+erased_position g from to x y h in_width in_height =
     let i = y * g.width + x in
     let below : i < length g.cells = omega (arith, h.full, row_fits y g.width g.height g.width in_height (omega arith)) in
     ⊎_elim
     (λ (before : i < from). missed i (grind (arith, nat_tests)) (inl before))
-    (λ (behind : from ≤ i). ⊎_elim
-    (λ (inside : i < to). covered i below behind inside (grind (arith, nat_tests)))
+    (λ (reached : from ≤ i). ⊎_elim
+    (λ (inside : i < to). covered i below reached inside (grind (arith, nat_tests)))
     (λ (past : to ≤ i). missed i (grind (arith, nat_tests)) (inr (omega arith)))
     (cases_lt i to))
     (cases_lt i from)
@@ -71,7 +71,7 @@ erased_place g from to x y h in_width in_height =
         ∙ sym (ap (λ b. cond b (space_of g.pen) (get_or g.cells i blank)) test)
 
     covered : (i : ℕ) → i < length g.cells → from ≤ i → i < to → (leb from i && ltb i to) ≡ true → get_or (put_list g.cells from (replicate (to - from) (space_of g.pen))) i blank ≡ cond (leb from i && ltb i to) (space_of g.pen) (get_or g.cells i blank)
-    covered i below behind inside test =
+    covered i below reached inside test =
         let space : Glyph = space_of g.pen in
         let n = min to (length g.cells) - from in
         let count : length (replicate n space) ≡ n = length-replicate n space in

@@ -18,7 +18,7 @@ use Rattle.mad_screen.proofs.Paints.{read_leads}
 
 -- ---- one row
 
--- the grid with the cursor at a place
+-- the grid with the cursor at a position
 abbrev pub at : Grid → ℕ → ℕ → Grid
 at g x y = record g { x = x; y = y }
 
@@ -29,7 +29,7 @@ at_columns g x y n h in_rows fits = record {
   columns = fits;
 }
 
--- a place among the cells of a row
+-- a position among the cells of a row
 pub row_inside : (g : Grid) (left top : ℕ) (gs : List Glyph) (i : ℕ) → IsGrid g → top < g.height → left + length gs ≤ g.width → i < length gs → cell_at (painted (at g left top) gs) (left + i) top ≡ get_or gs i blank
 unfolding painted
 row_inside g left top gs i h in_height fits below =
@@ -37,7 +37,7 @@ row_inside g left top gs i h in_height fits below =
     ap (λ n. get_or (put_list g.cells (top * g.width + left) gs) n blank) place
     ∙ put_list-same g.cells (top * g.width + left) gs i blank below (rest_fits (at g left top) (length gs) (at_columns g left top (length gs) h in_height fits))
 
--- a place that is not in the row's part
+-- a position that is not in the row's part
 pub row_outside : (g : Grid) (left top : ℕ) (gs : List Glyph) (x y : ℕ) → left + length gs ≤ g.width → x < g.width → (y ≢ top) ⊎ (x < left) ⊎ (left + length gs ≤ x) → cell_at (painted (at g left top) gs) x y ≡ cell_at g x y
 unfolding painted
 row_outside g left top gs x y fits in_width out =
@@ -54,7 +54,7 @@ row_outside g left top gs x y fits in_width out =
     (λ not_below.
     let row : y ≡ top = omega arith in
     let start : y * g.width ≡ top * g.width = ap (λ n. n * g.width) row in
-    ⊎_elim (λ before. inl (omega arith)) (λ behind. inr (omega arith)) same)
+    ⊎_elim (λ before. inl (omega arith)) (λ after. inr (omega arith)) same)
     (cases_lt top y))
     (cases_lt y top))
     out)
@@ -93,7 +93,7 @@ drawing_leads (t ∷ ts) (r ∷ rs) g left top w paints wide h pen some fits_x f
           (then_leads _ _ _ (chars t) (chars (drawing left (suc top) ts)) (paints.0.paints (at g left top) there pen) below.1)),
     )
 
--- the places of the first row and of those below it
+-- the positions of the first row and of those below it
 inside_step : (r : List Glyph) (rs : List (List Glyph)) (g new : Grid) (left top w : ℕ) → length r ≡ w → IsGrid g → left + w ≤ g.width → top < g.height → ShowsRows left (suc top) w (length rs) (listed rs) (painted (at g left top) r) new → (i j : ℕ) → i < w → j < suc (length rs) → cell_at new (left + i) (top + j) ≡ get_or (get_or (r ∷ rs) j []) i blank
 unfolding painted
 inside_step r rs g new left top w wide h fits_x fits_y below i zero in_w in_h =
@@ -129,7 +129,7 @@ painted_rows_show (r ∷ rs) g left top w wide h fits_x fits_y =
       outside = outside_step r rs g (painted_rows g' left (suc top) rs) left top w wide.0 fits_x below;
     }
 
--- the cursor and the pen behind the rows
+-- the cursor and the pen after the rows
 painted_rows-pen : (rs : List (List Glyph)) (g : Grid) (left top : ℕ) → (painted_rows g left top rs).pen ≡ g.pen
 unfolding painted
 painted_rows-pen [] g left top = refl

@@ -163,7 +163,7 @@ rest_step (Some (suc n)) d cs e some ih g c done k h =
     (painted-append g a b ∙ ap (λ (l : List ℕ). painted g (glyphs (c ∷ l) k g.pen ++ b)) (sym (append-nil done)))
     (ih r d [] n left))
 
--- what is left of a text, behind a character that was printed with some marks
+-- what is left of a text, after a character that was printed with some combining ones
 rest_leads : (cs : List ℕ) → IsPrinted cs → RestLeads cs
 rest_leads [] printed g c done k h =
     subst (λ (s : Grid). Leads (resting (painted g (glyphs (c ∷ done) k g.pen))) [] (resting s))
@@ -181,7 +181,7 @@ text_step (Some (suc n)) d cs e some ih g whole h =
     let length_b : length b ≡ suc n + length j.1 = length-append (glyphs (d ∷ j.0) n g.pen) j.1 ∙ ap (λ m. m + length j.1) (length-glyphs (d ∷ j.0) n g.pen) in
     next_leads _ _ _ _ _ (wide_feeds g d n e (fewer_columns g (length b) (suc n) h (omega arith))) (ih g d [] n (fewer_columns g (length b) (suc n + length j.1) h (omega arith)))
 
--- characters with cells of their own show these in the pen, and the cursor stands behind them
+-- characters with cells of their own show these in the pen, and the cursor is after them
 pub text_leads : (cs : List ℕ) (g : Grid) → IsShown cs → HasColumns g (length (cells_of g.pen cs)) → Leads (resting g) cs (resting (painted g (cells_of g.pen cs)))
 unfolding char_columns
 text_leads [] g shown h = subst (λ (s : Grid). Leads (resting g) [] (resting s)) (sym (painted-nil g)) (nothing_leads _)

@@ -14,7 +14,7 @@ put_list-append cells i [] hs = ap (λ j. put_list cells j hs) (omega arith)
 put_list-append cells i (g ∷ gs) hs =
     put_list-append (set cells i g) (suc i) gs hs ∙ ap (λ j. put_list (put_list (set cells i g) (suc i) gs) j hs) (omega arith)
 
--- a place before or behind is unchanged
+-- an index before or after is unchanged
 pub put_list-other : (cells : List Glyph) (i : ℕ) (gs : List Glyph) (j : ℕ) (d : Glyph) → (j < i) ⊎ (i + length gs ≤ j) → get_or (put_list cells i gs) j d ≡ get_or cells j d
 put_list-other cells i [] j d h = refl
 put_list-other cells i (g ∷ gs) j d h =
@@ -22,7 +22,7 @@ put_list-other cells i (g ∷ gs) j d h =
     let ne : j ≢ i = ⊎_elim (λ b. omega arith) (λ b. omega arith) h in
     put_list-other (set cells i g) (suc i) gs j d out ∙ get_or-set_other cells i j g d ne
 
--- a place among them has its cell
+-- an index among them has its cell
 pub put_list-same : (cells : List Glyph) (i : ℕ) (gs : List Glyph) (k : ℕ) (d : Glyph) → k < length gs → i + length gs ≤ length cells → get_or (put_list cells i gs) (i + k) d ≡ get_or gs k d
 put_list-same cells i [] k d h fits = absurd (omega arith)
 put_list-same cells i (g ∷ gs) zero d h fits =
@@ -32,7 +32,7 @@ put_list-same cells i (g ∷ gs) (suc k) d h fits =
     ap (λ j. get_or (put_list (set cells i g) (suc i) gs) j d) (omega arith)
     ∙ put_list-same (set cells i g) (suc i) gs k d (omega arith) (omega (arith, length-set cells i g))
 
--- a write to the place just before
+-- a write to the index just before
 pub set-put_list : (cells : List Glyph) (i j : ℕ) (gs : List Glyph) (a : Glyph) → j < i → set (put_list cells i gs) j a ≡ put_list (set cells j a) i gs
 set-put_list cells i j [] a h = refl
 set-put_list cells i j (g ∷ gs) a h =

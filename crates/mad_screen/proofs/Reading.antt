@@ -82,10 +82,10 @@ rest_leads g new letter is [] ps n small done = one_leads _ _ _ (last_feeds g ne
 rest_leads g new letter is (m ∷ ns) ps n small done =
     let others : List ℕ = flat_map (λ k. 59 ∷ decimal k) ns in
     let regrouped : (ps ++ n ∷ []) ++ m ∷ ns ≡ ps ++ n ∷ m ∷ ns = append_assoc ps (n ∷ []) (m ∷ ns) in
-    let behind : Leads (numbers g (ps ++ n ∷ []) (Some m)) (others ++ letter ∷ []) (resting new) = rest_leads g new letter is ns (ps ++ n ∷ []) m small.1 (ap (λ l. perform letter l g) regrouped ∙ done) in
+    let rest : Leads (numbers g (ps ++ n ∷ []) (Some m)) (others ++ letter ∷ []) (resting new) = rest_leads g new letter is ns (ps ++ n ∷ []) m small.1 (ap (λ l. perform letter l g) regrouped ∙ done) in
     next_leads _ _ _ 59 (decimal m ++ others ++ letter ∷ []) refl
     (subst (λ (l : List ℕ). Leads (numbers g (ps ++ n ∷ []) None) l (resting new)) (sym (append_assoc (decimal m) others (letter ∷ [])))
-    (then_leads _ _ _ (decimal m) (others ++ letter ∷ []) (decimal_leads g (ps ++ n ∷ []) m small.0) behind))
+    (then_leads _ _ _ (decimal m) (others ++ letter ∷ []) (decimal_leads g (ps ++ n ∷ []) m small.0) rest))
 
 -- a command does what its letter and its numbers say
 pub command_leads : (g new : Grid) (ns : List ℕ) (letter : ℕ) → AreReadable ns → IsLetter letter → perform letter ns g ≡ Some new → Leads (resting g) (command_bytes ns letter) (resting new)
@@ -118,7 +118,7 @@ go_to_there g x y in_width in_height =
     ap (λ b. cond b (Some (record g { x = x + 1 - 1; y = y + 1 - 1 })) None) test
     ∙ ap (λ n. Some (record g { x = n; y = y + 1 - 1 })) column ∙ ap (λ n. Some (record g { x = x; y = n })) row
 
--- the cursor is at the place, and nothing else has changed
+-- the cursor is at the position, and nothing else has changed
 pub move_leads : (g : Grid) (x y : ℕ) → x < g.width → y < g.height → x + 1 < 2 ^ 32 → y + 1 < 2 ^ 32 → Leads (resting g) (move_to_bytes x y) (resting (record g { x = x; y = y }))
 move_leads g x y in_width in_height small_x small_y =
     command_leads g (record g { x = x; y = y }) ((y + 1) ∷ (x + 1) ∷ []) 72 (small_y, (small_x, tt)) letter_move (go_to_there g x y in_width in_height)

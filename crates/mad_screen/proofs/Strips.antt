@@ -1,4 +1,4 @@
--- Runs of cells at any places of a screen.
+-- Cells side by side at any positions of a screen.
 use Rattle.std.proofs.Common.{◌≡◌, ◌≢◌, ◌⊎◌, inl, inr, ⊎_elim, ℕ, ◌+◌, ◌-◌, ◌<◌, ◌≤◌, true, false, cond, List, [], ◌∷◌, ◌++◌, length, get_or, Some, refl, ap, sym, ◌∙◌, subst, arith, IsUtf8}
 use Rattle.std.specs.List.{AllByRecursion}
 use Rattle.std.specs.Str.{chars}
@@ -69,7 +69,7 @@ strips_lead (s ∷ strips) g h pen fits =
           (then_leads (resting g) (resting (with_strip g s)) (resting (with_strips (with_strip g s) strips)) (chars first) (chars (strips_bytes strips)) one.1 rest.1),
     )
 
--- a place after one strip
+-- a position after one strip
 covered : (g : Grid) (s : Strip) (x y : ℕ) → IsGrid g → FitsScreen g s → y ≡ s.y → s.x ≤ x → x < s.x + length s.cells → cell_at (with_strip g s) x y ≡ get_or s.cells (x - s.x) blank
 covered g s x y h fits row low high =
     let column : s.x + (x - s.x) ≡ x = omega arith in
@@ -85,7 +85,7 @@ after_strip g s x y h fits in_width =
     (λ (high : x < s.x + length s.cells).
     let test : covers s x y ≡ true = grind (arith, nat_tests) in
     covered g s x y h fits row low high ∙ sym (ap (λ b. cond b (get_or s.cells (x - s.x) blank) (cell_at g x y)) test))
-    (λ (behind : s.x + length s.cells ≤ x). missed (grind (arith, nat_tests)) (inr (inr behind)))
+    (λ (past : s.x + length s.cells ≤ x). missed (grind (arith, nat_tests)) (inr (inr past)))
     (cases_lt x (s.x + length s.cells)))
     (cases_lt x s.x))
     (λ (other : y ≢ s.y). missed (grind (arith, nat_tests)) (inl other))

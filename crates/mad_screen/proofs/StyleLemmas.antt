@@ -16,7 +16,7 @@ use Rattle.mad_term.specs.Attribute.{attribute_index, attribute_code}
 use Rattle.mad_term.specs.Attributes.{attribute_bits, has_attribute}
 use Rattle.mad_term.specs.Color.{IsColor, IsColorOrNone}
 use Rattle.mad_term.specs.Commands.{sgr_bytes}
-use Rattle.mad_term.specs.Styles.{palette_numbers, color_numbers, foreground_bytes, background_bytes, underline_bytes, attribute_bytes, attributes_bytes, present_bytes, opening_bytes, closing_bytes, piece_bytes, IsStyle}
+use Rattle.mad_term.specs.Styles.{color_numbers, foreground_bytes, background_bytes, underline_bytes, attribute_bytes, attributes_bytes, present_bytes, opening_bytes, closing_bytes, piece_bytes, IsStyle}
 use Rattle.mad_screen.specs.Glyph.{Glyph, Look}
 use Rattle.mad_screen.specs.Grid.{Grid, plain_pen, painted}
 use Rattle.mad_screen.specs.Terminal.{Leads, resting, restyled, with_code, switched_on}
@@ -101,10 +101,10 @@ is_kept : (a : Attribute) (p : Look) → 0 < attribute_index a → switched_on a
 is_kept Reset p h = absurd (omega arith)
 is_kept _ p h = refl
 
--- these attributes stand at the places from k on
-abbrev AtPlaces : ℕ → List Attribute → Type 0
-AtPlaces k [] = Unit {0}
-AtPlaces k (a ∷ rest) = (attribute_index a ≡ k) × AtPlaces (suc k) rest
+-- these attributes have the indexes from k on
+abbrev AtIndexes : ℕ → List Attribute → Type 0
+AtIndexes k [] = Unit {0}
+AtIndexes k (a ∷ rest) = (attribute_index a ≡ k) × AtIndexes (suc k) rest
 
 -- the command of an attribute, if a set has it
 abbrev part_bytes : Attributes → Attribute → List ℕ
@@ -130,7 +130,7 @@ part_leads g p s a k false e some at =
     let none : bit_at bits k ≡ 0 = ap (bit_at bits) (sym at) ∙ bit_none bits (attribute_index a) e in
     subst (λ (n : ℕ). Leads (resting (with_pen g before)) [] (resting (with_pen g (record p { codes = n })))) (bits_same bits k some none) (nothing_leads _)
 
-parts_leads : (g : Grid) (p : Look) (s : Attributes) (rest : List Attribute) (k : ℕ) → 1 ≤ k → AtPlaces k rest → Leads (resting (with_pen g (record p { codes = bits_to (attribute_bits s) k }))) (flat_map (part_bytes s) rest) (resting (with_pen g (record p { codes = bits_to (attribute_bits s) (k + length rest) })))
+parts_leads : (g : Grid) (p : Look) (s : Attributes) (rest : List Attribute) (k : ℕ) → 1 ≤ k → AtIndexes k rest → Leads (resting (with_pen g (record p { codes = bits_to (attribute_bits s) k }))) (flat_map (part_bytes s) rest) (resting (with_pen g (record p { codes = bits_to (attribute_bits s) (k + length rest) })))
 parts_leads g p s [] k some at =
     subst (λ (n : ℕ). Leads (resting (with_pen g (record p { codes = bits_to (attribute_bits s) k }))) [] (resting (with_pen g (record p { codes = bits_to (attribute_bits s) n })))) (sym (add-zero k)) (nothing_leads _)
 parts_leads g p s (a ∷ rest) k some at =
@@ -158,8 +158,8 @@ no_codes false p n none = ap (λ (k : ℕ). let q : Look = record p { codes = k 
 abbrev after_reset : List Attribute
 after_reset = Bold ∷ Dim ∷ Italic ∷ Underlined ∷ SlowBlink ∷ RapidBlink ∷ Reverse ∷ Hidden ∷ CrossedOut ∷ Fraktur ∷ NoBold ∷ NormalIntensity ∷ NoItalic ∷ NoUnderline ∷ NoBlink ∷ NoReverse ∷ NoHidden ∷ NotCrossedOut ∷ Framed ∷ Encircled ∷ OverLined ∷ NotFramedOrEncircled ∷ NotOverLined ∷ []
 
-after_reset_places : AtPlaces 1 after_reset
-after_reset_places = (refl, (refl, (refl, (refl, (refl, (refl, (refl, (refl, (refl, (refl, (refl, (refl, (refl, (refl, (refl, (refl, (refl, (refl, (refl, (refl, (refl, (refl, (refl, tt)))))))))))))))))))))))
+after_reset_indexes : AtIndexes 1 after_reset
+after_reset_indexes = (refl, (refl, (refl, (refl, (refl, (refl, (refl, (refl, (refl, (refl, (refl, (refl, (refl, (refl, (refl, (refl, (refl, (refl, (refl, (refl, (refl, (refl, (refl, tt)))))))))))))))))))))))
 
 pub attributes_leads : (g : Grid) (p : Look) (s : Attributes) → p.codes ≡ 0 → Leads (resting (with_pen g p)) (attributes_bytes s) (resting (with_pen g (record (colors_of (has_attribute s Reset) p) { codes = bits_to (attribute_bits s) 24 })))
 attributes_leads g p s none =
@@ -167,7 +167,7 @@ attributes_leads g p s none =
     let bits = attribute_bits s in
     then_leads _ _ _ (part_bytes s Reset) (flat_map (part_bytes s) after_reset) (first_leads g p b none)
     (subst (λ (q : Look). Leads (resting (with_pen g q)) (flat_map (part_bytes s) after_reset) (resting (with_pen g (record (colors_of b p) { codes = bits_to bits 24 })))) (sym (no_codes b p bits none))
-    (parts_leads g (colors_of b p) s after_reset 1 (omega arith) after_reset_places))
+    (parts_leads g (colors_of b p) s after_reset 1 (omega arith) after_reset_indexes))
 
 -- ---- a whole piece
 

@@ -7,7 +7,7 @@ use Rattle.mad_screen.specs.Grid.{Grid, IsGrid, plain_pen, cell_at, blank}
 use Rattle.mad_screen.specs.Terminal.{after_bytes}
 use Rattle.mad_screen.specs.Painting.{Paints}
 
--- rows of bytes one below the other, each behind a move to the same column
+-- rows of bytes one below the other, each after a move to the same column
 abbrev pub drawing : ℕ → ℕ → List (List ℕ) → List ℕ
 drawing left top [] = []
 drawing left top (row ∷ rows) = move_to_bytes left top ++ (row ++ drawing left (suc top) rows)
@@ -55,7 +55,7 @@ DrawnAs left top rows bytes =
     (g : Grid) (w : ℕ) → FitsArea left top w rows g
     → (new : Grid) × (after_bytes g bytes ≡ Some new) × IsGrid new × (new.pen ≡ plain_pen) × ShowsRows left top w (length rows) (listed rows) g new
 
--- ---- runs of cells at any places
+-- ---- cells side by side at any positions
 
 -- the cursor goes to column x of row y, and these bytes write these cells
 pub record Strip : Type 0 where
@@ -67,7 +67,7 @@ pub record Strip : Type 0 where
 abbrev pub strips_bytes : List Strip → List ℕ
 strips_bytes = flat_map (λ s. move_to_bytes s.x s.y ++ s.bytes)
 
--- the bytes paint the cells, and these have places on the screen
+-- the bytes paint the cells, and these have positions on the screen
 pub record FitsScreen (g : Grid) (s : Strip) : Type 0 where
   pub paints : Paints s.bytes s.cells
   pub some : 0 < length s.cells
@@ -76,11 +76,11 @@ pub record FitsScreen (g : Grid) (s : Strip) : Type 0 where
   pub small_column : s.x < 2 ^ 16
   pub small_row : s.y < 2 ^ 16
 
--- whether column x of row y is among its places
+-- whether column x of row y is among its positions
 abbrev pub covers : Strip → ℕ → ℕ → Bool
 covers s x y = (y == s.y) && nat_le s.x x && nat_lt x (s.x + length s.cells)
 
--- what a place shows after them: the cell of the last one that covers it, or what it showed before
+-- what a position shows after them: the cell of the last one that covers it, or what it showed before
 abbrev pub cell_under : List Strip → ℕ → ℕ → Glyph → Glyph
 cell_under [] x y before = before
 cell_under (s ∷ strips) x y before =

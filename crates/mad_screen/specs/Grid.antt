@@ -10,7 +10,7 @@ plain_pen = record { fg = None; bg = None; underline = None; codes = 0 }
 abbrev pub blank : Glyph
 blank = record { chars = 32 ∷ []; pen = plain_pen }
 
--- the cells are the rows from the top, each from the left; the cursor stands at column x of row y, and x is the width
+-- the cells are the rows from the top, each from the left; the cursor is at column x of row y, and x is the width
 -- once the row's last column was written
 pub record Grid : Type 0 where
   pub width : ℕ
@@ -20,7 +20,7 @@ pub record Grid : Type 0 where
   pub y : ℕ
   pub pen : Look
 
--- a cell for each place, and the cursor in a row of the screen (in row 0 where there is none)
+-- a cell for each position, and the cursor in a row of the screen (in row 0 where there is none)
 pub record IsGrid (g : Grid) : Type 0 where
   pub full : length g.cells ≡ g.height * g.width
   pub column : g.x ≤ g.width
@@ -43,7 +43,7 @@ abbrev pub put_list : List Glyph → ℕ → List Glyph → List Glyph
 put_list cells i [] = cells
 put_list cells i (g ∷ gs) = put_list (slice_set cells i g) (suc i) gs
 
--- these cells from the cursor on, and the cursor behind them
+-- these cells from the cursor on, and the cursor after them
 unfoldable pub painted : Grid → List Glyph → Grid
 painted g gs = record g { cells = put_list g.cells (g.y * g.width + g.x) gs; x = g.x + length gs }
 

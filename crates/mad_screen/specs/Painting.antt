@@ -27,7 +27,7 @@ abbrev pub joined : Look → List ℕ → List ℕ × List Glyph
 joined pen [] = ([], [])
 joined pen (c ∷ cs) = attach (char_width false c) pen c (joined pen cs)
 
--- the cells that characters show in a pen: each with the widthless ones behind it, and its tails
+-- the cells that characters show in a pen: each with the widthless ones after it, and its tails
 abbrev pub cells_of : Look → List ℕ → List Glyph
 cells_of pen cs = (joined pen cs).1
 
@@ -48,7 +48,7 @@ pub record IsShown (cs : List ℕ) : Type 0 where
 
 -- ---- what a text paints
 
--- so many columns are free from the cursor on
+-- n columns are free from the cursor on
 pub record HasColumns (g : Grid) (n : ℕ) : Type 0 where
   pub grid : IsGrid g
   pub row : g.y < g.height
@@ -71,7 +71,7 @@ abbrev pub shown_color : Color → Option Color
 shown_color (Rgb r g b) = Some (Rgb r g b)
 shown_color c = option_map AnsiValue (color_number c)
 
--- the pen that a style writes with, where the pen was plain: Reset comes behind the colors, before the other attributes,
+-- the pen that a style writes with, where the pen was plain: Reset comes after the colors, before the other attributes,
 -- and isn't kept itself (2 ^ 24 - 2 ^ 1 has the bits of all attributes but Reset)
 abbrev pub look_of_style : ContentStyle → Look
 look_of_style s =

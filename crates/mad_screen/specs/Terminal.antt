@@ -14,7 +14,7 @@ use Rattle.mad_screen.specs.Grid.{Grid, plain_pen, put_list, painted, glyphs, is
 
 -- ---- characters
 
--- The place of the first cell left of column x, tails passed over, that is no tail. The row begins at `start`.
+-- The index of the first cell left of column x, tails passed over, that is no tail. The row begins at `start`.
 abbrev pub head_before : List Glyph → ℕ → ℕ → Option ℕ
 head_before cells start zero = None
 head_before cells start (suc x) =
@@ -24,7 +24,7 @@ head_before cells start (suc x) =
 abbrev pub joined_glyph : Glyph → ℕ → Glyph
 joined_glyph g c = record g { chars = g.chars ++ c ∷ [] }
 
--- the character c is joined to the cell at this place
+-- the character c is joined to the cell at this index
 abbrev pub join_at : Grid → ℕ → Option ℕ → Option Grid
 join_at g c None = None
 join_at g c (Some i) = Some (record g { cells = slice_set g.cells i (joined_glyph (slice_index_or g.cells i blank) c) })
@@ -53,11 +53,11 @@ go_to _ g = None
 abbrev pub space_of : Look → Glyph
 space_of p = record { chars = 32 ∷ []; pen = record plain_pen { bg = p.bg } }
 
--- such spaces in the cells from one place up to another; the cursor stays
+-- such spaces in the cells from one index up to another; the cursor stays
 unfoldable pub erased : ℕ → ℕ → Grid → Grid
 erased from to g = record g { cells = put_list g.cells from (replicate (to - from) (space_of g.pen)) }
 
--- the places where the cursor's row begins and ends, and where the screen ends; places are counted along the rows
+-- the indexes where the cursor's row begins and ends, and where the screen ends; cells are counted along the rows
 abbrev pub row_start : Grid → ℕ
 row_start g = g.y * g.width
 
@@ -90,7 +90,7 @@ switched_on a p = record p { codes = bit_or p.codes (2 ^ attribute_index a) }
 abbrev pub attribute_of : ℕ → Option Attribute
 attribute_of n = find (λ a. attribute_code a == n) all_attributes
 
--- the default color for characters, behind them or for the lines below, or an attribute
+-- the default color for characters, for their background or for the lines below, or an attribute
 abbrev pub with_code : ℕ → Look → Option Look
 with_code n p =
     if n == 39 then Some (record p { fg = None })
@@ -98,7 +98,7 @@ with_code n p =
     else if n == 59 then Some (record p { underline = None })
     else option_map (λ a. switched_on a p) (attribute_of n)
 
--- a color for characters, behind them or for the lines below
+-- a color for characters, for their background or for the lines below
 abbrev pub with_color : ℕ → Color → Look → Option Look
 with_color n c p =
     if n == 38 then Some (record p { fg = Some c })
@@ -124,7 +124,7 @@ perform c ps g =
 
 -- ---- sequences
 
--- how far a sequence has come: outside one, behind ESC, or among the numbers, behind these and with so much of the next
+-- how far a sequence has come: outside one, after ESC, or among the numbers, with those read so far and what there is of the next
 pub data Mode : Type 0 where
   Outside : Mode
   Escape : Mode
@@ -152,7 +152,7 @@ abbrev pub with_digit : Option ℕ → ℕ → Option ℕ
 with_digit None d = Some d
 with_digit (Some n) d = if n == 0 then None else if nat_lt (n * 10 + d) (2 ^ 32) then Some (n * 10 + d) else None
 
--- what ends a number, or stands where none is: a semicolon (59) asks for one more, a letter ends the sequence
+-- what ends a number, or comes where none is: a semicolon (59) asks for one more, a letter ends the sequence
 abbrev pub end_number : Grid → List ℕ → Option ℕ → ℕ → Option Reading
 end_number g [] None c = option_map resting (perform c [] g)
 end_number g (p ∷ ps) None c = None

@@ -15,7 +15,7 @@ use Rattle.mad_screen.specs.Terminal.{after_bytes, erased, space_of, row_start, 
 use Rattle.mad_screen.specs.Painting.{cells_of, IsShown, HasColumns, Paints, shown_color, piece_cells}
 use Rattle.mad_screen.specs.Drawing.{drawing, PaintRows, ShowsRows, DrawnAs, listed, Strip, strips_bytes, FitsScreen, ShowsStrips}
 
--- a text behind another is read where that one ended
+-- a text after another is read where that one ended
 abbrev pub ReadsInTurn : Type 0
 ReadsInTurn = (g mid new : Grid) (a b : List ℕ) → after_bytes g a ≡ Some mid → after_bytes mid b ≡ Some new → after_bytes g (a ++ b) ≡ Some new
 
@@ -25,7 +25,7 @@ MovesTheCursor =
     (g : Grid) (x y : ℕ) → x < g.width → y < g.height → x < 2 ^ 16 → y < 2 ^ 16
     → after_bytes g (move_to_bytes x y) ≡ Some (record g { x = x; y = y })
 
--- each erasure leaves spaces of the pen's background in its places, and the cursor where it was
+-- each erasure leaves spaces of the pen's background in its positions, and the cursor where it was
 pub record Erases : Type 0 where
   pub all : (g : Grid) → after_bytes g (clear_bytes All) ≡ Some (erased 0 (screen_end g) g)
   pub from_cursor_down : (g : Grid) → after_bytes g (clear_bytes FromCursorDown) ≡ Some (erased (row_start g + g.x) (screen_end g) g)
@@ -48,28 +48,28 @@ ShowsCharacters =
 abbrev pub CountsColumns : Type 0
 CountsColumns = (pen : Look) (cs : List ℕ) → length (cells_of pen cs) ≡ sum_by char_columns cs
 
--- what bytes that paint cells do: these cells stand from the cursor on, the cursor behind them, and the pen is plain again
+-- what bytes that paint cells do: these cells are from the cursor on, the cursor after them, and the pen is plain again
 abbrev pub PaintedIsRead : Type 0
 PaintedIsRead =
     (g : Grid) (bytes : List ℕ) (cells : List Glyph) → Paints bytes cells → g.pen ≡ plain_pen → HasColumns g (length cells)
     → after_bytes g bytes ≡ Some (painted g cells)
 
--- what paints: nothing, a text in the plain pen, a piece in a style, one such text behind another
+-- what paints: nothing, a text in the plain pen, a piece in a style, one such text after another
 pub record Composes : Type 0 where
   pub nothing : Paints [] []
   pub plain : (text : List ℕ) → IsUtf8 text → IsShown (chars text) → Paints text (cells_of plain_pen (chars text))
   pub piece : (s : ContentStyle) (text : List ℕ) → IsStyle s → IsUtf8 text → IsShown (chars text) → Paints (piece_bytes s text) (piece_cells s text)
   pub both : (s t : List ℕ) (a b : List Glyph) → Paints s a → Paints t b → Paints (s ++ t) (a ++ b)
 
--- cells from the cursor on stand in their places, and no other place, nor the row, nor the pen has changed
-pub record PaintsPlaces (g : Grid) (cells : List Glyph) : Type 0 where
-  pub places : ShowsRows g.x g.y (length cells) 1 (listed (cells ∷ [])) g (painted g cells)
+-- cells from the cursor on are at their positions, and no other position, nor the row, nor the pen has changed
+pub record PaintsPositions (g : Grid) (cells : List Glyph) : Type 0 where
+  pub positions : ShowsRows g.x g.y (length cells) 1 (listed (cells ∷ [])) g (painted g cells)
   pub column : (painted g cells).x ≡ g.x + length cells
   pub row : (painted g cells).y ≡ g.y
   pub pen : (painted g cells).pen ≡ g.pen
 
-abbrev pub ChangesNoOtherPlace : Type 0
-ChangesNoOtherPlace = (g : Grid) (cells : List Glyph) → HasColumns g (length cells) → PaintsPlaces g cells
+abbrev pub ChangesNoOtherPosition : Type 0
+ChangesNoOtherPosition = (g : Grid) (cells : List Glyph) → HasColumns g (length cells) → PaintsPositions g cells
 
 -- rows of bytes that paint rows of cells show these in every area that they fit
 abbrev pub DrawsRows : Type 0
@@ -77,15 +77,15 @@ DrawsRows =
     (left top : ℕ) (texts : List (List ℕ)) (rows : List (List Glyph)) → left < 2 ^ 16 → top + length rows < 2 ^ 32 → PaintRows texts rows
     → DrawnAs left top rows (drawing left top texts)
 
--- runs of cells at any places of a screen are shown there, the later ones over those before, and nothing else changes
+-- cells side by side at any positions of a screen are shown there, the later ones over those before, and nothing else changes
 abbrev pub DrawsStrips : Type 0
 DrawsStrips =
     (strips : List Strip) (g : Grid) → IsGrid g → g.pen ≡ plain_pen → AllByRecursion (FitsScreen g) strips
     → (new : Grid) × (after_bytes g (strips_bytes strips) ≡ Some new) × IsGrid new × (new.pen ≡ plain_pen) × ShowsStrips strips g new
 
--- erased places are spaces with the pen's background alone, and the others stay; a place is counted along the rows
-abbrev pub ErasesPlaces : Type 0
-ErasesPlaces =
+-- erased positions are spaces with the pen's background alone, and the others stay; a position is counted along the rows
+abbrev pub ErasesPositions : Type 0
+ErasesPositions =
     (g : Grid) (from to x y : ℕ) → IsGrid g → x < g.width → y < g.height
     → cell_at (erased from to g) x y
     ≡ (if nat_le from (y * g.width + x) && nat_lt (y * g.width + x) to then space_of g.pen else cell_at g x y)

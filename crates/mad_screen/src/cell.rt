@@ -96,7 +96,7 @@ pub(crate) fn lay(
     Ok(())
 }
 
-/// Makes spaces with the pen's background of the cells from one place up to another, as far as there are cells.
+/// Makes spaces with the pen's background of the cells from one index up to another, as far as there are cells.
 pub(crate) fn erase(
     cells: &mut Vec<Cell>,
     from: usize,
@@ -117,7 +117,7 @@ pub(crate) fn erase(
     Ok(())
 }
 
-/// The place of the first cell left of column `x` that is no tail, in the row that begins at `start`.
+/// The index of the first cell left of column `x` that is no tail, in the row that begins at `start`.
 pub(crate) fn find_head(cells: &[Cell], start: usize, x: usize) -> Option<usize>
     requires { start + x ≤ length cells.now }
     ensures found { result ≡ head_before cells.now start x }

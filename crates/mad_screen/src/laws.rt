@@ -1,8 +1,8 @@
 //! What drawing relies on: laws of the plain terminal, each a function that does nothing and states its law.
 
-ghost use Rattle.mad_screen.specs.TerminalLaws.{ReadsInTurn, MovesTheCursor, Erases, ErasesPlaces, Colors, ShowsCharacters, CountsColumns, PaintedIsRead, Composes, ChangesNoOtherPlace, DrawsRows, DrawsStrips};
+ghost use Rattle.mad_screen.specs.TerminalLaws.{ReadsInTurn, MovesTheCursor, Erases, ErasesPositions, Colors, ShowsCharacters, CountsColumns, PaintedIsRead, Composes, ChangesNoOtherPosition, DrawsRows, DrawsStrips};
 
-/// A text behind another is read from the screen that the first one leaves.
+/// A text after another is read from the screen that the first one leaves.
 pub fn texts_are_read_in_turn()
     ensures { ReadsInTurn }
 {}
@@ -12,14 +12,14 @@ pub fn moves_set_the_cursor()
     ensures { MovesTheCursor }
 {}
 
-/// Each erasure leaves spaces of the pen's background in its places, and the cursor where it was.
+/// Each erasure leaves spaces of the pen's background in its positions, and the cursor where it was.
 pub fn erasures_leave_spaces()
     ensures { Erases }
 {}
 
-/// Erased places are spaces with the pen's background alone, and the others stay.
-pub fn erased_places_are_spaces()
-    ensures { ErasesPlaces }
+/// Erased positions are spaces with the pen's background alone, and the others stay.
+pub fn erased_positions_are_spaces()
+    ensures { ErasesPositions }
 {}
 
 /// The command of a foreground or a background gives the pen that color.
@@ -47,9 +47,9 @@ pub fn pieces_paint()
     ensures { Composes }
 {}
 
-/// Painted cells stand in their places, and no other place has changed.
-pub fn other_places_stay()
-    ensures { ChangesNoOtherPlace }
+/// Painted cells are at their positions, and no other position has changed.
+pub fn other_positions_stay()
+    ensures { ChangesNoOtherPosition }
 {}
 
 /// Rows of bytes that paint rows of cells show these in an area, and change no cell outside it.
@@ -57,7 +57,7 @@ pub fn rows_are_drawn()
     ensures { DrawsRows }
 {}
 
-/// Runs of cells at any places are shown there, the later ones over those before, and nothing else changes.
+/// Cells side by side at any positions are shown there, the later ones over those before, and nothing else changes.
 pub fn strips_are_drawn()
     ensures { DrawsStrips }
 {}

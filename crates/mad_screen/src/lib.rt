@@ -3,7 +3,7 @@
 //! In the order of the work:
 //!
 //! 1. [`pen`]: what a character is written with.
-//! 2. [`cell`]: what one place of a screen shows.
+//! 2. [`cell`]: what one position of a screen shows.
 //! 3. [`screen`]: cells, a cursor and a pen, and what each character and command does to them.
 //! 4. [`reader`]: a text, character by character.
 //! 5. [`pictures`]: screens as text.

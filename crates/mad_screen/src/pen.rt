@@ -14,7 +14,7 @@ use mad_term::{Attribute, Attributes, Color};
 pub struct Pen {
     /// The color of characters.
     pub fg: Option<Color>,
-    /// The color behind them.
+    /// The color of their background.
     pub bg: Option<Color>,
     /// The color of lines below them.
     pub underline: Option<Color>,

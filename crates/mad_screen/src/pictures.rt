@@ -48,7 +48,7 @@ impl fmt::Display for Screen {
 
     ghost output = { λ screen. Some (screen_text screen) };
 
-    /// The rows from the top, each as a line of text. A wide character stands in it once, and each blank as a space.
+    /// The rows from the top, each as a line of text. A wide character is written once, and each blank as a space.
     fn fmt<W: fmt::Write>(&self, f: &mut fmt::Formatter<W>) -> fmt::Result {
         for y in 0..self.height() {
             let row = Row(self.row(y));
@@ -60,7 +60,7 @@ impl fmt::Display for Screen {
 
 /// The looks of a screen's cells as a picture: a letter for each pen, a point for the default one.
 ///
-/// The letters stand for the pens in the order in which they first appear, row by row: `a` for the first pen that isn't
+/// The letters go to the pens in the order in which they first appear, row by row: `a` for the first pen that isn't
 /// the default one, `b` for the second, up to `z`. A pen that comes when all letters are taken is a question mark.
 #[derive(Debug, Drop)]
 pub struct Looks<'a> {

@@ -85,7 +85,7 @@ impl Reader {
         }
     }
 
-    /// A character among numbers. It answers whether it may stand there.
+    /// A character among numbers. It answers whether it may come there.
     fn number(&mut self, c: char) -> Result<bool, AllocError>
         requires { self.old.stage ≡ Stage.InNumbers }
         ensures { IfOk result (λ done. MatchBool done (feed (reading_of self.old) c ≡ Some (reading_of self.new)) (feed (reading_of self.old) c ≡ None)) }

@@ -47,7 +47,7 @@ impl Model for Screen {
 }
 
 impl Screen {
-    /// An empty screen of `width` columns and `height` rows: spaces in the default pen, the cursor in the first place.
+    /// An empty screen of `width` columns and `height` rows: spaces in the default pen, the cursor at the first position.
     /// It keeps the allocator, and fails where there is not the memory.
     pub fn new(alloc: Global, width: u16, height: u16) -> Result<Self, AllocError>
         ensures { IfOk result (λ screen. screen ≡ empty_grid width height) }
@@ -82,7 +82,7 @@ impl Screen {
 
     /// The cursor's column and row, counted from zero. The column is the width once a row's last column was written.
     pub fn cursor(&self) -> (u16, u16)
-        ensures place { result ≡ (self.now.x, self.now.y) }
+        ensures position { result ≡ (self.now.x, self.now.y) }
         ensures on_screen { IsGrid self.now }
     {
         (self.x, self.y)
@@ -241,11 +241,11 @@ impl Screen {
         ensures { IfOk result (λ done. MatchBool done (erase_screen numbers.now self.old ≡ Some self.new) (erase_screen numbers.now self.old ≡ None)) }
     {
         let start = self.row_start();
-        let behind = (usize::from(self.x) + 1).min(usize::from(self.width));
+        let after = (usize::from(self.x) + 1).min(usize::from(self.width));
         let end = usize::from(self.height) * usize::from(self.width);
         let (from, to) = match numbers {
             [] => (start + usize::from(self.x), end),
-            [1] => (0, start + behind),
+            [1] => (0, start + after),
             [2] => (0, end),
             _ => return Ok(false),
         };

@@ -7,7 +7,7 @@ use Rattle.mad_style.specs.declared.styled_chars.StyledChar.{StyledChar}
 use Rattle.mad_style.specs.CompoundStyles.{plain_style}
 use Rattle.mad_style.specs.StyledChars.{char_style, char_alone}
 
--- a run: a text so many times, as one piece; a run of none writes nothing, no command either
+-- a text repeated, as one piece; none at all writes nothing, no command either
 abbrev pub run_bytes : CompoundStyle → List ℕ → ℕ → List ℕ
 run_bytes style text count = styled_run_bytes style.object_style text count
 

@@ -1,4 +1,4 @@
-//! How a line looks, and where it stands.
+//! How a line looks, and on which side it is.
 
 ghost use Rattle.std.specs.Prelude.{◌≡◌, ◌∷◌, [], IsErrOf, encode_utf8};
 ghost use Rattle.mad_term.specs.Draws.{Draws};
@@ -10,7 +10,7 @@ use mad_md::Alignment;
 use mad_term::{Attribute, Color, Error, Out};
 use std::alloc::Global;
 
-/// How the text of a line looks, on which side it stands, and how many columns stay free on its left
+/// How the text of a line looks, on which side it is, and how many columns stay free on its left
 /// and on its right.
 #[derive(Clone, Copy, Debug, PartialEq)]
 pub struct LineStyle {
@@ -61,7 +61,7 @@ impl LineStyle {
         }
     }
 
-    /// The left and the right margin of a line at so many columns: none where they would leave less than
+    /// The left and the right margin of a line of `width` columns: none where they would leave less than
     /// three columns, which is too few to lay a line out in, and else both. Without a width there is room
     /// for both.
     pub fn margins_in(&self, available_width: Option<usize>) -> (usize, usize)
@@ -109,7 +109,7 @@ impl LineStyle {
     ///
     /// # Errors
     ///
-    /// A fault of the device, or want of memory before anything went out.
+    /// A fault of the device, or out of memory before anything went out.
     pub fn repeat_string<O: Out>(
         &self,
         alloc: Global,
@@ -128,7 +128,7 @@ impl LineStyle {
     ///
     /// # Errors
     ///
-    /// A fault of the device, or want of memory before anything went out.
+    /// A fault of the device, or out of memory before anything went out.
     pub fn repeat_char<O: Out>(
         &self,
         alloc: Global,
@@ -147,7 +147,7 @@ impl LineStyle {
     ///
     /// # Errors
     ///
-    /// A fault of the device, or want of memory before anything went out.
+    /// A fault of the device, or out of memory before anything went out.
     pub fn repeat_space<O: Out>(
         &self,
         alloc: Global,

@@ -10,7 +10,7 @@ use crate::styled_chars::StyledChar;
 /// How many levels of an ordered list have a style of their own; deeper ones take the last.
 pub const MAX_ORDERED_LIST_DEPTH: usize = 4;
 
-/// How the number of an item of an ordered list looks, and the mark behind it.
+/// How the number of an item of an ordered list looks, and the character after it.
 #[derive(Clone, Copy, Debug, PartialEq)]
 pub struct OrderedItemStyle {
     pub index_style: CompoundStyle,
@@ -48,7 +48,7 @@ impl OrderedItemStyle {
 }
 
 /// The columns in front of the text of an item of an ordered list: a column for each level and each
-/// digit of its number, and one each for the mark and the space behind it.
+/// digit of its number, and one each for the character and the space after it.
 pub fn ordered_item_indent(level: u8, index: u32) -> usize
     ensures { result ≡ length (decimal index) + 2 + level }
 {

@@ -42,7 +42,7 @@ impl CompoundStyle {
     ///
     /// # Errors
     ///
-    /// A fault of the device, or want of memory before anything went out.
+    /// A fault of the device, or out of memory before anything went out.
     pub fn queue<O: Out>(&self, alloc: Global, out: &mut O, text: &str) -> Result<(), Error>
         ensures writes { Draws (O.seen out.old) (piece_bytes self.now.object_style text.now) result (O.seen out.new) }
         ensures early { IsErrOf result Memory → O.seen out.new ≡ O.seen out.old }
@@ -55,7 +55,7 @@ impl CompoundStyle {
     ///
     /// # Errors
     ///
-    /// A fault of the device, or want of memory before anything went out.
+    /// A fault of the device, or out of memory before anything went out.
     pub fn queue_str<O: Out>(&self, alloc: Global, out: &mut O, text: &str) -> Result<(), Error>
         ensures writes { Draws (O.seen out.old) (piece_bytes self.now.object_style text.now) result (O.seen out.new) }
         ensures early { IsErrOf result Memory → O.seen out.new ≡ O.seen out.old }
@@ -68,7 +68,7 @@ impl CompoundStyle {
     ///
     /// # Errors
     ///
-    /// A fault of the device, or want of memory before anything went out.
+    /// A fault of the device, or out of memory before anything went out.
     #[tactic(auto, using(mad_term::proofs::Traces::took_none))]
     pub fn queue_fg<O: Out>(&self, alloc: Global, out: &mut O) -> Result<(), Error>
         ensures writes { Draws (O.seen out.old) (present_bytes foreground_bytes self.now.object_style.foreground_color) result (O.seen out.new) }
@@ -84,7 +84,7 @@ impl CompoundStyle {
     ///
     /// # Errors
     ///
-    /// A fault of the device, or want of memory before anything went out.
+    /// A fault of the device, or out of memory before anything went out.
     #[tactic(auto, using(mad_term::proofs::Traces::took_none))]
     pub fn queue_bg<O: Out>(&self, alloc: Global, out: &mut O) -> Result<(), Error>
         ensures writes { Draws (O.seen out.old) (present_bytes background_bytes self.now.object_style.background_color) result (O.seen out.new) }
@@ -100,7 +100,7 @@ impl CompoundStyle {
     ///
     /// # Errors
     ///
-    /// A fault of the device, or want of memory before anything went out.
+    /// A fault of the device, or out of memory before anything went out.
     #[tactic(auto, using(mad_term::proofs::QueueExits::memory_first))]
     pub fn clear<O: Out>(
         &self,
@@ -124,7 +124,7 @@ impl CompoundStyle {
     ///
     /// # Errors
     ///
-    /// A fault of the device, or want of memory before anything went out.
+    /// A fault of the device, or out of memory before anything went out.
     #[tactic(auto, using(mad_term::proofs::QueueExits::memory_first))]
     pub fn repeat_string<O: Out>(
         &self,
@@ -147,7 +147,7 @@ impl CompoundStyle {
     ///
     /// # Errors
     ///
-    /// A fault of the device, or want of memory before anything went out.
+    /// A fault of the device, or out of memory before anything went out.
     pub fn repeat_char<O: Out>(
         &self,
         alloc: Global,
@@ -167,7 +167,7 @@ impl CompoundStyle {
     ///
     /// # Errors
     ///
-    /// A fault of the device, or want of memory before anything went out.
+    /// A fault of the device, or out of memory before anything went out.
     pub fn repeat_space<O: Out>(
         &self,
         alloc: Global,
@@ -186,7 +186,7 @@ impl CompoundStyle {
     ///
     /// # Errors
     ///
-    /// Want of memory.
+    /// Out of memory.
     #[tactic(auto, using(mad_term::proofs::Pieces::plain_piece))]
     pub fn push_repeated(
         &self,

@@ -7,10 +7,10 @@ use crate::colors::gray;
 use crate::styled_chars::StyledChar;
 use mad_term::Color;
 
-// The right half of a cell, so that a bar stands clear of the text on its left.
+// The right half of a cell, so that a bar keeps clear of the text on its left.
 const RIGHT_HALF: char = '▐';
 
-/// How a scroll bar looks: the thumb, which stands for what is shown, and the track elsewhere.
+/// How a scroll bar looks: the thumb, which is where the shown part is, and the track elsewhere.
 #[derive(Clone, Debug, Drop, PartialEq)]
 pub struct ScrollBarStyle {
     pub track: StyledChar,

@@ -12,7 +12,7 @@ use mad_term::{Color, Error, Out, push_styled};
 use std::alloc::{AllocError, Global};
 use std::fmt;
 
-/// A character in a style: a bullet, a mark of quotes, a rule, a side of a scroll bar.
+/// A character in a style: a bullet, a prefix of quotes, a rule, a side of a scroll bar.
 #[derive(Clone, Copy, Debug, PartialEq)]
 pub struct StyledChar {
     compound_style: CompoundStyle,
@@ -115,7 +115,7 @@ impl StyledChar {
     ///
     /// # Errors
     ///
-    /// Want of memory.
+    /// Out of memory.
     pub fn repeated(&self, alloc: Global, count: usize) -> Result<StyledText, AllocError>
         ensures style { IfOk result (λ text. text.style ≡ run_style (char_style self.now) count) }
         ensures content { IfOk result (λ text. string_bytes text.content ≡ repeat count (encode_utf8 (char_alone self.now))) }
@@ -137,7 +137,7 @@ impl StyledChar {
     ///
     /// # Errors
     ///
-    /// A fault of the device, or want of memory before anything went out.
+    /// A fault of the device, or out of memory before anything went out.
     pub fn queue_repeat<O: Out>(
         &self,
         alloc: Global,
@@ -156,7 +156,7 @@ impl StyledChar {
     ///
     /// # Errors
     ///
-    /// A fault of the device, or want of memory before anything went out.
+    /// A fault of the device, or out of memory before anything went out.
     pub fn queue<O: Out>(&self, alloc: Global, out: &mut O) -> Result<(), Error>
         ensures writes { Draws (O.seen out.old) (styled_char_bytes self.now) result (O.seen out.new) }
         ensures early { IsErrOf result Memory → O.seen out.new ≡ O.seen out.old }
@@ -171,7 +171,7 @@ impl StyledChar {
     ///
     /// # Errors
     ///
-    /// Want of memory.
+    /// Out of memory.
     pub fn push(&self, row: &mut String) -> Result<(), AllocError>
         ensures writes { OnOk result (string_bytes row.new ≡ string_bytes row.old ++ styled_char_bytes self.now) }
         ensures bytes { IsStyle (char_style self.now).object_style }
@@ -185,7 +185,7 @@ impl StyledChar {
     ///
     /// # Errors
     ///
-    /// Want of memory.
+    /// Out of memory.
     pub fn push_repeated(&self, row: &mut String, count: usize) -> Result<(), AllocError>
         ensures writes { OnOk result (string_bytes row.new ≡ string_bytes row.old ++ char_run_bytes self.now count) }
         ensures bytes { IsStyle (char_style self.now).object_style }

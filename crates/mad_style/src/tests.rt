@@ -38,46 +38,6 @@ fn the_attributes_of_written_styles(rt: HostRuntime) {
 }
 
 #[test]
-fn a_setter_leaves_the_neighbours(rt: HostRuntime) {
-    let bold = Attributes::from(Attribute::Bold);
-    let mut style = CompoundStyle::default();
-    assert_eq!(rt;
-        style,
-        CompoundStyle::new(None, None, Attributes::default())
-    );
-    style.set_fg(Color::Red);
-    assert_eq!(rt; style, CompoundStyle::with_fg(Color::Red));
-    style.set_bg(Color::Blue);
-    assert_eq!(rt; style, CompoundStyle::with_fgbg(Color::Red, Color::Blue));
-    style.set_fgbg(Color::Green, Color::Black);
-    style.add_attr(Attribute::Bold);
-    style.add_attr(Attribute::Dim);
-    style.remove_attr(Attribute::Dim);
-    assert_eq!(rt;
-        style,
-        CompoundStyle::new(Some(Color::Green), Some(Color::Black), bold)
-    );
-    assert_eq!(rt;
-        (style.get_fg(), style.get_bg()),
-        (Some(Color::Green), Some(Color::Black))
-    );
-    assert!(rt; style.has_attr(Attribute::Bold) && !style.has_attr(Attribute::Dim));
-    assert_eq!(rt; style.attrs(), bold);
-
-    let mut line = LineStyle::new(CompoundStyle::default(), Alignment::Center);
-    line.left_margin = 1;
-    line.set_fgbg(Color::Green, Color::Black);
-    line.add_attr(Attribute::Bold);
-    assert_eq!(rt; line.compound_style, style);
-    line.set_fg(Color::Red);
-    line.set_bg(Color::Blue);
-    assert_eq!(rt;
-        (line.align, line.left_margin, line.right_margin),
-        (Alignment::Center, 1, 0)
-    );
-}
-
-#[test]
 fn an_absent_color_lets_the_one_below_through(rt: HostRuntime) {
     let mut below = CompoundStyle::with_fgbg(Color::Red, Color::Blue);
     below.add_attr(Attribute::Bold);
@@ -204,23 +164,6 @@ fn made_styles_of_items_and_bars(rt: HostRuntime) -> Result<(), Fail> {
 }
 
 #[test]
-fn a_styled_character_hands_out_what_was_set(rt: HostRuntime) {
-    let mut mark = StyledChar::new(CompoundStyle::with_bg(Color::Blue), '>');
-    mark.set_fg(Color::Red);
-    mark.set_bg(Color::Black);
-    assert_eq!(rt;
-        (mark.get_fg(), mark.get_bg()),
-        (Some(Color::Red), Some(Color::Black))
-    );
-    assert_eq!(rt;
-        *mark.compound_style(),
-        CompoundStyle::with_fgbg(Color::Red, Color::Black)
-    );
-    mark.set_char('<');
-    assert_eq!(rt; (mark.get_char(), mark.nude_char()), ('<', '<'));
-}
-
-#[test]
 fn border_sets_are_spelled_and_named(rt: HostRuntime) {
     let cases = [
         (
@@ -301,7 +244,7 @@ fn kinds_of_what_was_read(rt: HostRuntime) {
     );
 }
 
-// Each call once, a bar behind each; runs of none show as two bars.
+// Each call once, a bar after each; runs of none show as two bars.
 #[test]
 fn what_the_writing_calls_write(rt: HostRuntime) -> Result<(), Fail> {
     let alloc = rt.alloc();
@@ -381,7 +324,10 @@ fn a_fault_in_mid_stream_leaves_a_front(rt: HostRuntime) -> Result<(), Fail> {
     for room in 0..17 {
         let mut out = CutOut::new(alloc, 4, room, false)?;
         let written = red.repeat_char(alloc, &mut out, 'a', 3);
-        assert!(rt; matches!(written, Err(Error::IO(_))), "at room {room}");
+        if !matches!(written, Err(Error::IO(_))) {
+            written?;
+            return Err(Fail::from("all went out"));
+        }
         assert!(rt; out.taken() == &whole.as_bytes()[..room], "at room {room}");
         assert_eq!(rt; out.faults(), 1, "at room {room}");
     }

@@ -1,4 +1,4 @@
--- A text so many times.
+-- A text repeated.
 use Rattle.std.proofs.Common.{◌≡◌, ℕ, zero, suc, ◌+◌, ◌*◌, ◌/◌, ◌%◌, List, [], ◌∷◌, ◌++◌, refl, ap, sym, ◌∙◌, ◌≤◌, take, length, subst, arith, append_assoc}
 use Rattle.std.specs.List.{repeat}
 use Rattle.std.specs.Str.{IsAscii, IsCharBoundary}

@@ -99,6 +99,6 @@ pub took_flushed : (old written new : Trace) (P : List ℕ → Type 0) → TookW
 unfolding flushed
 took_flushed old written new P h e = subst (λ (t : Trace). TookWith old t P) (sym e) h
 
--- the fault of a flush comes behind the whole text
+-- the fault of a flush comes after the whole text
 pub flush_failed : (old written new : Trace) (text : List ℕ) → written ≡ after old text → new ≡ failed written → CutShort old text new
 flush_failed old written new text went fault = record { front = text; rest = []; whole = append-nil text; went = fault ∙ ap failed went }

@@ -5,7 +5,7 @@ use Rattle.mad_term.specs.declared.errors.Error.TheVariants.{IO, InsufficientWid
 use Rattle.mad_term.specs.Trace.{Trace, after, flushed, CutShort, Stopped}
 
 -- What a writing call that was refused has done. A fault: a front of its text went out, then the one fault came.
--- Want of memory: a front of its text went out, and there was no fault. It refuses by nothing else.
+-- Out of memory: a front of its text went out, and there was no fault. It refuses by nothing else.
 abbrev pub Refused : Trace → List ℕ → Error → Trace → Type 0
 Refused old text (IO e) new = CutShort old text new
 Refused old text (InsufficientWidth e) new = ⊥
@@ -16,7 +16,7 @@ abbrev pub Draws : {T : Type 0} → Trace → List ℕ → Result T Error → Tr
 Draws old text r new = MatchResult r (λ _. new ≡ after old text) (λ e. Refused old text e new)
 
 -- what a call does that writes and then flushes: its text goes out whole, and then there is one flush; or it was refused as
--- the writing alone is, also by a fault of the flush, which comes behind the whole text
+-- the writing alone is, also by a fault of the flush, which comes after the whole text
 abbrev pub AndFlushes : {T : Type 0} → (Trace → Result T Error → Trace → Type 0) → Trace → Result T Error → Trace → Type 0
 AndFlushes writes old r new =
     MatchResult r (λ x. (written : Trace) × writes old (Ok x) written × (new ≡ flushed written)) (λ e. writes old (Err e) new)

@@ -12,7 +12,7 @@ cut_trace out = record { bytes = Some out.taken.items; faults = out.faults; flus
 abbrev pub cut_puts : CutOut → ℕ
 cut_puts out = out.puts
 
--- How many of so many bytes it takes at a put: no more than its step, and in all no more than its room. None of
+-- How many of `count` bytes it takes at a put: no more than its step, and in all no more than its room. None of
 -- some is a fault.
 abbrev pub cut_count : CutOut → ℕ → ℕ
 cut_count out count = min count (min out.step (out.room - length out.taken.items))

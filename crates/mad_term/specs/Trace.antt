@@ -52,7 +52,7 @@ Puts old text r new = MatchResult r (λ count. Took old text count new) (λ _. n
 abbrev pub Flushes : {T E : Type 0} → Trace → Result T E → Trace → Type 0
 Flushes old r new = MatchResult r (λ _. new ≡ flushed old) (λ _. new ≡ failed old)
 
--- this byte stands before what a source has left
+-- this byte comes before what a source has left
 unfoldable pub ahead : ℕ → Trace → Trace
 ahead byte t = record { bytes = option_map (λ rest. byte ∷ rest) t.bytes; faults = t.faults; flushes = t.flushes }
 

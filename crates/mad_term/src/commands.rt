@@ -57,7 +57,7 @@ ghost use Rattle.mad_term.specs.Commands.{move_to_bytes, clear_bytes};
 ///
 /// # Errors
 ///
-/// Want of memory. What the row then ends with is open.
+/// Out of memory. What the row then ends with is open.
 pub fn push_move(row: &mut String, x: u16, y: u16) -> Result<(), AllocError>
     ensures { OnOk result (string_bytes row.new ≡ string_bytes row.old ++ move_to_bytes x y) }
 {
@@ -69,7 +69,7 @@ pub fn push_move(row: &mut String, x: u16, y: u16) -> Result<(), AllocError>
 ///
 /// # Errors
 ///
-/// Want of memory. What the row then ends with is open.
+/// Out of memory. What the row then ends with is open.
 pub fn push_clear(row: &mut String, what: ClearType) -> Result<(), AllocError>
     ensures { OnOk result (string_bytes row.new ≡ string_bytes row.old ++ clear_bytes what) }
 {

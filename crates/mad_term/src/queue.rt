@@ -17,7 +17,7 @@ use std::alloc::Global;
 ///
 /// # Errors
 ///
-/// A fault of the device, or want of memory before anything went out.
+/// A fault of the device, or out of memory before anything went out.
 #[tactic(auto, using(crate::proofs::QueueExits::memory_first))]
 pub fn queue_move<O: Out>(alloc: Global, out: &mut O, x: u16, y: u16) -> Result<(), Error>
     ensures writes { Draws (O.seen out.old) (move_to_bytes x y) result (O.seen out.new) }
@@ -46,7 +46,7 @@ pub fn queue_clear<O: Out>(out: &mut O, what: ClearType) -> Result<(), Error>
 ///
 /// # Errors
 ///
-/// A fault of the device, or want of memory before anything went out.
+/// A fault of the device, or out of memory before anything went out.
 #[tactic(auto, using(crate::proofs::QueueExits::memory_first))]
 pub fn queue_fg<O: Out>(alloc: Global, out: &mut O, color: Color) -> Result<(), Error>
     ensures writes { Draws (O.seen out.old) (foreground_bytes color) result (O.seen out.new) }
@@ -62,7 +62,7 @@ pub fn queue_fg<O: Out>(alloc: Global, out: &mut O, color: Color) -> Result<(), 
 ///
 /// # Errors
 ///
-/// A fault of the device, or want of memory before anything went out.
+/// A fault of the device, or out of memory before anything went out.
 #[tactic(auto, using(crate::proofs::QueueExits::memory_first))]
 pub fn queue_bg<O: Out>(alloc: Global, out: &mut O, color: Color) -> Result<(), Error>
     ensures writes { Draws (O.seen out.old) (background_bytes color) result (O.seen out.new) }
@@ -78,7 +78,7 @@ pub fn queue_bg<O: Out>(alloc: Global, out: &mut O, color: Color) -> Result<(), 
 ///
 /// # Errors
 ///
-/// A fault of the device, or want of memory before anything went out.
+/// A fault of the device, or out of memory before anything went out.
 #[tactic(auto, using(crate::proofs::Pieces::plain_piece, crate::proofs::QueueExits::memory_first))]
 pub fn queue_styled<O: Out>(
     alloc: Global,

@@ -1,9 +1,9 @@
-//! Runs: a text so many times, as one piece.
+//! A text `count` times, as one piece.
 
 use crate::styles::{ContentStyle, StyleOpening, closing_text};
 use std::fmt;
 
-/// A text so many times in a style, as one piece; nothing at all if `count` is 0.
+/// A text `count` times in a style, as one piece; nothing at all if `count` is 0.
 #[derive(Clone, Copy, Debug, PartialEq, Eq)]
 pub struct StyledRun<'a> {
     pub style: ContentStyle,
@@ -39,7 +39,7 @@ impl fmt::Display for StyledRun<'_> {
 // 64 spaces. Most repeated texts are spaces, and these go out 64 at a time.
 const SPACES: &str = "                                                                ";
 
-// A text so many times.
+// A text `count` times.
 #[derive(Clone, Copy)]
 struct Copies<'a> {
     content: &'a str,
@@ -69,7 +69,7 @@ impl fmt::Display for Copies<'_> {
     }
 }
 
-// A text so many times, one by one.
+// The same, one by one.
 #[derive(Clone, Copy)]
 struct EachCopy<'a> {
     content: &'a str,

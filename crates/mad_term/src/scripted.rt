@@ -7,7 +7,7 @@ use crate::devices::{Out, Source};
 use std::alloc::{AllocError, Global};
 use std::io;
 
-/// A device that takes a few bytes at a time, has room for so many in all, and may fail at its flush.
+/// A device that takes a few bytes at a time, has room for a given number in all, and may fail at its flush.
 #[derive(Debug, Drop)]
 pub struct CutOut {
     taken: Vec<u8>,

@@ -24,7 +24,11 @@ impl<S> Stream<S> {
         ensures inner { stream_inner result ≡ inner }
         ensures trace { stream_trace result ≡ untold }
     {
-        Stream { inner, faults: 0, flushes: 0 }
+        Stream {
+            inner,
+            faults: 0,
+            flushes: 0,
+        }
     }
 
     /// Counts a fault. The count stays at its greatest value.

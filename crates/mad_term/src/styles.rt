@@ -214,7 +214,7 @@ impl fmt::Display for StyledNumber {
 ///
 /// # Errors
 ///
-/// Want of memory. What the row then ends with is open.
+/// Out of memory. What the row then ends with is open.
 pub fn push_foreground(row: &mut String, color: Color) -> Result<(), AllocError>
     ensures { OnOk result (string_bytes row.new ≡ string_bytes row.old ++ foreground_bytes color) }
 {
@@ -229,7 +229,7 @@ pub fn push_foreground(row: &mut String, color: Color) -> Result<(), AllocError>
 ///
 /// # Errors
 ///
-/// Want of memory. What the row then ends with is open.
+/// Out of memory. What the row then ends with is open.
 pub fn push_background(row: &mut String, color: Color) -> Result<(), AllocError>
     ensures { OnOk result (string_bytes row.new ≡ string_bytes row.old ++ background_bytes color) }
 {
@@ -245,7 +245,7 @@ pub fn push_background(row: &mut String, color: Color) -> Result<(), AllocError>
 ///
 /// # Errors
 ///
-/// Want of memory. What the row then ends with is open.
+/// Out of memory. What the row then ends with is open.
 pub fn push_styled(row: &mut String, style: ContentStyle, text: &str) -> Result<(), AllocError>
     ensures writes { OnOk result (string_bytes row.new ≡ string_bytes row.old ++ piece_bytes style text.now) }
 

@@ -4,9 +4,21 @@
 //! [`term`], [`screen`] and [`wrap`].
 #![tactic(auto)]
 
+/// What a terminal takes, and what it shows.
+pub mod term {
+    pub use mad_columns::char_columns;
+    pub use mad_screen::{Cell, Looks, NotPlain, Pen, Screen, laws};
+    pub use mad_term::{
+        Attribute, Attributes, Clear, ClearType, Color, ContentStyle, CutOut, Error,
+        InsufficientWidthError, MoveTo, Out, ScriptSource, Source, Stream, StyledContent,
+        StyledNumber, StyledRun, push_background, push_clear, push_foreground, push_move,
+        push_styled, put_all, queue_bg, queue_clear, queue_fg, queue_move, queue_styled,
+    };
+}
+
 /// What a plain terminal shows of the bytes that it reads.
 pub mod screen {
-    pub use mad_screen::{Cell, NotPlain, Pen, Screen};
+    pub use mad_screen::{Cell, Looks, NotPlain, Pen, Screen};
 }
 
 /// Breaking lines that are too wide, with the fewest lines.
@@ -24,8 +36,15 @@ pub use mad_layout::{
 };
 pub use mad_md as md;
 pub use mad_md::{
-    Alignment, Composite, CompositeStyle, Compound, Line, MAX_HEADER_DEPTH, TableRow, TableRule,
-    Text,
+    Alignment, Composite, CompositeStyle, Compound, Line, LineCursor, MAX_HEADER_DEPTH, ParseOptions,
+    TableRow, TableRule, Text, parse_text, parse_text_with,
+};
+pub use mad_parse::{
+    ParseAlignError, ParseAttributeError, ParseColorError, ParseStyleTokenError, PushStyleTokens,
+    StyleToken, compound_style_from, line_style_from, parse_align, parse_attribute, parse_color,
+    parse_compound_style, parse_line_style, parse_ordered_item_style, parse_style_token,
+    parse_style_tokens, parse_styled_char, style_tokens_to_string, write_align, write_attribute,
+    write_color, write_style_tokens,
 };
 pub use mad_style::{
     ASCII_TABLE_BORDER_CHARS, ATTRIBUTES, CompositeKind, CompoundStyle, LineStyle,
@@ -33,10 +52,10 @@ pub use mad_style::{
     STANDARD_TABLE_BORDER_CHARS, ScrollBarStyle, StyledChar, StyledText, TableBorderChars, ansi,
     gray, ordered_item_indent, rgb,
 };
-pub use mad_term as term;
 pub use mad_term::{
     Attribute, Attributes, Clear, ClearType, Color, ContentStyle, CutOut, Error,
     InsufficientWidthError, MoveTo, Out, ScriptSource, Source, Stream, StyledContent, StyledNumber,
     StyledRun, char_columns, put_all, queue_bg, queue_clear, queue_fg, queue_move, queue_styled,
 };
 pub use mad_view::TextView;
+pub use mad_widths::{TblFit, TblFitResult};

@@ -1,4 +1,4 @@
-//! Screens as pictures: a line of text for each row, ended by a bar, with a dot for a tail.
+//! What screens show of texts, as pictures.
 
 use super::*;
 use mad_term::{Attribute, Attributes, Color, ContentStyle, push_move, push_styled};
@@ -10,41 +10,15 @@ fn screen_after(alloc: Global, width: u16, height: u16, bytes: &[u8]) -> Result<
     Ok(screen)
 }
 
-fn picture(alloc: Global, screen: &Screen) -> Result<String, Fail> {
-    let mut picture = String::new(alloc);
-    for y in 0..screen.height {
-        for x in 0..screen.width {
-            let cell = screen.cell(x, y).ok_or("no cell")?;
-            if cell.is_tail() {
-                picture.push('·')?;
-            }
-            for c in &cell.chars {
-                picture.push(*c)?;
-            }
+// Whether the screen can't read the text.
+fn refuses(screen: &mut Screen, text: &[u8]) -> Result<bool, Fail> {
+    match screen.read_bytes(text) {
+        Err(NotPlain::Undefined) => Ok(true),
+        read => {
+            read?;
+            Ok(false)
         }
-        picture.push('|')?;
     }
-    Ok(picture)
-}
-
-// A dot for a cell with the default pen, a `b` for one with a background alone, a `p` for any other pen.
-fn pens(alloc: Global, screen: &Screen) -> Result<String, Fail> {
-    let mut picture = String::new(alloc);
-    for y in 0..screen.height {
-        for x in 0..screen.width {
-            let pen = screen.cell(x, y).ok_or("no cell")?.pen;
-            let bare = Pen { bg: None, ..pen };
-            picture.push(if pen == Pen::default() {
-                '.'
-            } else if bare == Pen::default() {
-                'b'
-            } else {
-                'p'
-            })?;
-        }
-        picture.push('|')?;
-    }
-    Ok(picture)
 }
 
 #[test]
@@ -52,29 +26,29 @@ fn wide_and_joined_characters(rt: HostRuntime) -> Result<(), Fail> {
     let alloc = rt.alloc();
     let cases = [
         // In the last two columns, and one of three columns.
-        ("ab\u{4e00}", "ab\u{4e00}·|    |", (4, 0)),
-        ("\u{17d8}x", "\u{17d8}··x|    |", (4, 0)),
-        // Marks behind a wide character, two on one letter, one past the last column.
-        ("\u{4e00}\u{301}b", "\u{4e00}\u{301}·b |    |", (3, 0)),
-        ("e\u{301}\u{302}", "e\u{301}\u{302}   |    |", (1, 0)),
-        ("abcd\u{301}", "abcd\u{301}|    |", (4, 0)),
-        // A mark behind a space that no text wrote.
-        ("\x1b[2;3H\u{301}", "    |  \u{301}  |", (2, 1)),
+        ("ab\u{4e00}", "ab\u{4e00}\n    \n", (4, 0)),
+        ("\u{17d8}x", "\u{17d8}x\n    \n", (4, 0)),
+        // Marks after a wide character, two on one letter, one past the last column.
+        ("\u{4e00}\u{301}b", "\u{4e00}\u{301}b \n    \n", (3, 0)),
+        ("e\u{301}\u{302}", "e\u{301}\u{302}   \n    \n", (1, 0)),
+        ("abcd\u{301}", "abcd\u{301}\n    \n", (4, 0)),
+        // A mark after a space that no text wrote.
+        ("\x1b[2;3H\u{301}", "    \n  \u{301}  \n", (2, 1)),
         // Half of a wide character is overwritten: the other half stays.
-        ("\u{4e00}\x1b[1;1Hx", "x·  |    |", (1, 0)),
-        ("\u{4e00}\x1b[1;2Hx", "\u{4e00}x  |    |", (2, 0)),
+        ("\u{4e00}\x1b[1;1Hx", "x  \n    \n", (1, 0)),
+        ("\u{4e00}\x1b[1;2Hx", "\u{4e00}x  \n    \n", (2, 0)),
         // Through the tail that is left, a mark joins the first cell that is none.
         (
             "\u{4e00}\x1b[1;1Hx\x1b[1;3H\u{301}",
-            "x\u{301}·  |    |",
+            "x\u{301}  \n    \n",
             (2, 0),
         ),
-        // The last place, and a move away from past the last column.
-        ("\x1b[2;4Hz\x1b[1;2Hy", " y  |   z|", (2, 0)),
+        // The last position, and a move away from past the last column.
+        ("\x1b[2;4Hz\x1b[1;2Hy", " y  \n   z\n", (2, 0)),
     ];
     for (text, rows, cursor) in cases {
         let screen = screen_after(alloc, 4, 2, text.as_bytes())?;
-        assert_eq!(rt; picture(alloc, &screen)?.as_str(), rows);
+        assert_eq!(rt; screen.to_string(alloc)?.as_str(), rows);
         assert_eq!(rt; screen.cursor(), cursor);
     }
     Ok(())
@@ -83,27 +57,85 @@ fn wide_and_joined_characters(rt: HostRuntime) -> Result<(), Fail> {
 #[test]
 fn each_erasing_with_a_colored_pen(rt: HostRuntime) -> Result<(), Fail> {
     let alloc = rt.alloc();
-    let cases = [
-        ("\x1b[2;2H\x1b[K", "abc|d  |ghi|", "...|.bb|...|"),
-        ("\x1b[2;2H\x1b[2K", "abc|   |ghi|", "...|bbb|...|"),
-        ("\x1b[2;2H\x1b[J", "abc|d  |   |", "...|.bb|bbb|"),
-        ("\x1b[2;2H\x1b[1J", "   |  f|ghi|", "bbb|bb.|...|"),
-        ("\x1b[2;2H\x1b[2J", "   |   |   |", "bbb|bbb|bbb|"),
+    let bare = bg(Color::AnsiValue(4));
+    let full = Pen {
+        fg: Some(Color::AnsiValue(1)),
+        underline: Some(Color::AnsiValue(2)),
+        codes: with(&[Attribute::Bold]),
+        ..bare
+    };
+    let cases: [(&str, &str, &str, &[Pen]); 10] = [
+        (
+            "\x1b[2;2H\x1b[K",
+            "abc\nd  \nghi\n",
+            "...\n.aa\n...\n",
+            &[bare],
+        ),
+        (
+            "\x1b[2;2H\x1b[2K",
+            "abc\n   \nghi\n",
+            "...\naaa\n...\n",
+            &[bare],
+        ),
+        (
+            "\x1b[2;2H\x1b[J",
+            "abc\nd  \n   \n",
+            "...\n.aa\naaa\n",
+            &[bare],
+        ),
+        (
+            "\x1b[2;2H\x1b[1J",
+            "   \n  f\nghi\n",
+            "aaa\naa.\n...\n",
+            &[bare],
+        ),
+        (
+            "\x1b[2;2H\x1b[2J",
+            "   \n   \n   \n",
+            "aaa\naaa\naaa\n",
+            &[bare],
+        ),
         // The cursor past the last column.
-        ("\x1b[2;3HX\x1b[K", "abc|deX|ghi|", "...|..p|...|"),
-        ("\x1b[2;3HX\x1b[2K", "abc|   |ghi|", "...|bbb|...|"),
-        ("\x1b[2;3HX\x1b[J", "abc|deX|   |", "...|..p|bbb|"),
-        ("\x1b[2;3HX\x1b[1J", "   |   |ghi|", "bbb|bbb|...|"),
-        ("\x1b[3;3HX\x1b[J", "abc|def|ghX|", "...|...|..p|"),
+        (
+            "\x1b[2;3HX\x1b[K",
+            "abc\ndeX\nghi\n",
+            "...\n..a\n...\n",
+            &[full],
+        ),
+        (
+            "\x1b[2;3HX\x1b[2K",
+            "abc\n   \nghi\n",
+            "...\naaa\n...\n",
+            &[bare],
+        ),
+        (
+            "\x1b[2;3HX\x1b[J",
+            "abc\ndeX\n   \n",
+            "...\n..a\nbbb\n",
+            &[full, bare],
+        ),
+        (
+            "\x1b[2;3HX\x1b[1J",
+            "   \n   \nghi\n",
+            "aaa\naaa\n...\n",
+            &[bare],
+        ),
+        (
+            "\x1b[3;3HX\x1b[J",
+            "abc\ndef\nghX\n",
+            "...\n...\n..a\n",
+            &[full],
+        ),
     ];
-    for (text, rows, shown) in cases {
+    for (text, rows, letters, pens) in cases {
         let mut screen = screen_after(alloc, 3, 3, b"abc\x1b[2;1Hdef\x1b[3;1Hghi")?;
         screen.read_bytes(b"\x1b[38;5;1m\x1b[48;5;4m\x1b[58;5;2m\x1b[1m")?;
-        let pen = screen.pen();
         screen.read_bytes(text.as_bytes())?;
-        assert_eq!(rt; picture(alloc, &screen)?.as_str(), rows);
-        assert_eq!(rt; pens(alloc, &screen)?.as_str(), shown);
-        assert!(rt; screen.pen() == pen);
+        assert_eq!(rt; screen.to_string(alloc)?.as_str(), rows);
+        let looks = screen.looks()?;
+        assert_eq!(rt; looks.to_string(alloc)?.as_str(), letters);
+        assert!(rt; looks.pens() == pens);
+        assert!(rt; screen.pen() == full);
     }
     Ok(())
 }
@@ -251,18 +283,12 @@ fn texts_that_no_plain_terminal_reads(rt: HostRuntime) -> Result<(), Fail> {
         .chain(&MISPLACED);
     for text in cases {
         let mut screen = screen_after(alloc, 3, 3, b"abc\x1b[2;1H\x1b[1m")?;
-        assert!(rt;
-            screen.read_bytes(text) == Err(NotPlain::Undefined),
-            "{text:?}"
-        );
-        // Also behind a text that it would read.
+        assert!(rt; refuses(&mut screen, text)?, "{text:?}");
+        // Also after a text that it would read.
         let mut longer = b"x\x1b[3m\x1b[2J\x1b[2;1H".to_vec(alloc)?;
         longer.extend_from_slice(text)?;
-        assert!(rt;
-            screen.read_bytes(&longer) == Err(NotPlain::Undefined),
-            "{text:?}"
-        );
-        assert_eq!(rt; picture(alloc, &screen)?.as_str(), "abc|   |   |");
+        assert!(rt; refuses(&mut screen, &longer)?, "{text:?}");
+        assert_eq!(rt; screen.to_string(alloc)?.as_str(), "abc\n   \n   \n");
         assert_eq!(rt; screen.cursor(), (0, 1));
         assert!(rt; screen.pen() == codes(&[Attribute::Bold]));
     }
@@ -275,10 +301,7 @@ fn screens_without_rows_or_columns(rt: HostRuntime) -> Result<(), Fail> {
     for (width, height) in [(0, 0), (0, 3), (3, 0)] {
         let mut screen = Screen::new(alloc, width, height)?;
         for text in ["a", "\u{301}", "\x1b[1;1H"] {
-            assert!(rt;
-                screen.read_bytes(text.as_bytes()) == Err(NotPlain::Undefined),
-                "{text:?}"
-            );
+            assert!(rt; refuses(&mut screen, text.as_bytes())?, "{text:?}");
         }
         screen.read_bytes(b"\x1b[1m\x1b[J\x1b[1J\x1b[2J\x1b[K\x1b[2K")?;
         assert_eq!(rt; screen.cursor(), (0, 0));
@@ -326,7 +349,7 @@ fn pieces_are_read_back(rt: HostRuntime) -> Result<(), Fail> {
         let mut row = String::new(alloc);
         push_styled(&mut row, style, "a\u{301}\u{4e00}")?;
         let screen = screen_after(alloc, 4, 1, row.as_bytes())?;
-        assert_eq!(rt; picture(alloc, &screen)?.as_str(), "a\u{301}\u{4e00}· |");
+        assert_eq!(rt; screen.to_string(alloc)?.as_str(), "a\u{301}\u{4e00} \n");
         assert!(rt; screen.cell(0, 0).ok_or("no cell")?.pen == pen);
         assert!(rt; screen.cell(2, 0).ok_or("no cell")?.pen == pen);
         assert!(rt; screen.cell(3, 0).ok_or("no cell")?.pen == Pen::default());
@@ -348,26 +371,23 @@ fn each_refusal_has_its_text(rt: HostRuntime) -> Result<(), Fail> {
 fn a_screen_of_one_cell(rt: HostRuntime) -> Result<(), Fail> {
     let alloc = rt.alloc();
     let cases = [
-        ("", " |", (0, 0)),
-        ("a", "a|", (1, 0)),
-        ("a\u{301}", "a\u{301}|", (1, 0)),
-        ("a\x1b[1;1Hb", "b|", (1, 0)),
-        ("a\x1b[K\x1b[J", "a|", (1, 0)),
-        ("a\x1b[1J", " |", (1, 0)),
-        ("a\x1b[2J", " |", (1, 0)),
-        ("a\x1b[2K", " |", (1, 0)),
+        ("", " \n", (0, 0)),
+        ("a", "a\n", (1, 0)),
+        ("a\u{301}", "a\u{301}\n", (1, 0)),
+        ("a\x1b[1;1Hb", "b\n", (1, 0)),
+        ("a\x1b[K\x1b[J", "a\n", (1, 0)),
+        ("a\x1b[1J", " \n", (1, 0)),
+        ("a\x1b[2J", " \n", (1, 0)),
+        ("a\x1b[2K", " \n", (1, 0)),
     ];
     for (text, row, cursor) in cases {
         let screen = screen_after(alloc, 1, 1, text.as_bytes())?;
-        assert_eq!(rt; picture(alloc, &screen)?.as_str(), row, "{text:?}");
+        assert_eq!(rt; screen.to_string(alloc)?.as_str(), row, "{text:?}");
         assert_eq!(rt; screen.cursor(), cursor, "{text:?}");
     }
     for text in ["ab", "\u{4e00}", "\u{301}", "\x1b[1;2H", "\x1b[2;1H"] {
         let mut screen = Screen::new(alloc, 1, 1)?;
-        assert!(rt;
-            screen.read_bytes(text.as_bytes()) == Err(NotPlain::Undefined),
-            "{text:?}"
-        );
+        assert!(rt; refuses(&mut screen, text.as_bytes())?, "{text:?}");
     }
     Ok(())
 }
@@ -386,10 +406,7 @@ fn moves_to_the_greatest_places(rt: HostRuntime) -> Result<(), Fail> {
         for (past_x, past_y) in [(u16::MAX, y), (x, u16::MAX), (u16::MAX, u16::MAX)] {
             row.clear();
             push_move(&mut row, past_x, past_y)?;
-            assert!(rt;
-                screen.read_bytes(row.as_bytes()) == Err(NotPlain::Undefined),
-                "{past_x}, {past_y}"
-            );
+            assert!(rt; refuses(&mut screen, row.as_bytes())?, "{past_x}, {past_y}");
         }
         assert_eq!(rt; screen.cursor(), (x + 1, y));
     }

@@ -23,32 +23,27 @@ fn a_device_with_room_for_a_front_takes_just_that_front(rt: HostRuntime) -> Resu
 }
 
 #[test]
-fn a_device_that_can_take_nothing_fails_at_each_byte(rt: HostRuntime) -> Result<(), Fail> {
-    for (step, room) in [(0, 0), (0, 54), (54, 0), (usize::MAX, 0)] {
-        let mut out = CutOut::new(rt.alloc(), step, room, false)?;
-        assert!(rt; matches!(out.put(b""), Ok(0)));
+fn puts_flushes_and_faults_are_counted(rt: HostRuntime) -> Result<(), Fail> {
+    for flush_fails in [false, true] {
+        let mut out = CutOut::new(rt.alloc(), 20, 54, flush_fails)?;
+        assert!(rt; put_all(&mut out, TEXT).is_ok());
         assert!(rt; put_all(&mut out, b"").is_ok());
-        for turn in 1..4 {
-            assert!(rt; out.put(TEXT).is_err(), "{step}, {room}");
-            assert_eq!(rt; out.faults(), turn, "{step}, {room}");
-        }
-        assert!(rt; out.taken().is_empty());
+        assert_eq!(rt; (out.puts(), out.flushes(), out.faults()), (3, 0, 0));
+        assert_eq!(rt; out.flush().is_err(), flush_fails);
+        let faults = u64::from(flush_fails);
+        assert_eq!(rt;
+            (out.puts(), out.flushes(), out.faults()),
+            (3, 1 - faults, faults)
+        );
+        assert!(rt; out.put(b"x").is_err());
+        assert_eq!(rt; (out.puts(), out.faults()), (4, faults + 1));
+        assert!(rt; out.taken() == TEXT.as_slice());
     }
     Ok(())
 }
 
 #[test]
-fn a_failing_flush_is_a_fault_behind_all_bytes(rt: HostRuntime) -> Result<(), Fail> {
-    let mut out = CutOut::new(rt.alloc(), 54, 54, true)?;
-    assert!(rt; put_all(&mut out, TEXT).is_ok());
-    assert!(rt; out.flush().is_err());
-    assert!(rt; out.taken() == TEXT.as_slice());
-    assert_eq!(rt; out.faults(), 1);
-    Ok(())
-}
-
-#[test]
-fn a_script_ends_or_fails_behind_its_bytes(rt: HostRuntime) -> Result<(), Fail> {
+fn a_script_ends_or_fails_after_its_bytes(rt: HostRuntime) -> Result<(), Fail> {
     for fails in [false, true] {
         let mut source = ScriptSource::new(b"ab", fails);
         assert!(rt; matches!(source.get(), Ok(Some(b'a'))));
@@ -82,20 +77,6 @@ fn a_stuck_writer_is_a_fault_and_not_an_endless_loop(rt: HostRuntime) {
     assert!(rt; put_all(&mut out, b"").is_ok());
     assert!(rt; put_all(&mut out, TEXT).is_err());
     assert!(rt; out.flush().is_err());
-}
-
-#[test]
-fn writers_and_readers_of_std_are_devices(rt: HostRuntime) -> Result<(), Fail> {
-    let mut taken = Vec::new(rt.alloc());
-    let mut out = Stream::new(&mut taken);
-    assert!(rt; put_all(&mut out, TEXT).is_ok());
-    assert!(rt; out.flush().is_ok());
-    assert!(rt; taken.as_slice() == TEXT.as_slice());
-
-    let mut source = Stream::new(b"x".as_slice());
-    assert!(rt; matches!(source.get(), Ok(Some(b'x'))));
-    assert!(rt; matches!(source.get(), Ok(None)));
-    Ok(())
 }
 
 #[test]

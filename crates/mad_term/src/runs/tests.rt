@@ -25,6 +25,7 @@ fn a_run_is_one_piece_and_a_run_of_none_nothing(rt: HostRuntime) -> Result<(), F
         (red, "ab", 1, "\x1b[38;5;9mab\x1b[39m"),
         (red, "ab", 2, "\x1b[38;5;9mabab\x1b[39m"),
         (bold, "\u{4e00}", 2, "\x1b[1m\u{4e00}\u{4e00}\x1b[0m"),
+        (red, " ", 3, "\x1b[38;5;9m   \x1b[39m"),
         // No text, but some times.
         (red, "", 2, "\x1b[38;5;9m\x1b[39m"),
         (red, "", 0, ""),

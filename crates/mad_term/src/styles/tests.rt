@@ -168,15 +168,6 @@ fn pieces_have_the_parts_that_are_present(rt: HostRuntime) -> Result<(), Fail> {
 }
 
 #[test]
-fn a_piece_is_appended(rt: HostRuntime) -> Result<(), Fail> {
-    let alloc = rt.alloc();
-    let mut row = String::from_str(alloc, "before")?;
-    push_styled(&mut row, ContentStyle::default(), " and after")?;
-    assert!(rt; row.as_str() == "before and after");
-    Ok(())
-}
-
-#[test]
 fn a_number_in_a_style_is_a_piece_of_its_digits(rt: HostRuntime) -> Result<(), Fail> {
     let alloc = rt.alloc();
     let plain = ContentStyle::default();

@@ -1,4 +1,4 @@
-use Rattle.std.proofs.Common.{rules, arith, ◌%◌, ◌≡◌, ℕ, List, [], ◌∷◌, ap, ◌∙◌, sym}
+use Rattle.std.proofs.Common.{rules, arith, ◌%◌, ◌≡◌, [], ◌∷◌, ap, ◌∙◌, sym}
 use Rattle.std.specs.List.{repeat}
 use Rattle.std.proofs.Output.{has_written_of_eq}
 use Rattle.mad_term.proofs.Repeating.{spaces_by_64, spaces_boundary}

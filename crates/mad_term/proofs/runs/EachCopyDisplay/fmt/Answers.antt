@@ -1,5 +1,4 @@
-use Rattle.std.proofs.Common.{rules, ◌≡◌, ℕ, suc, ◌+◌, ap, ◌∙◌, sym, arith}
-use Rattle.std.specs.List.{repeat}
+use Rattle.std.proofs.Common.{rules}
 use Rattle.std.proofs.Output.{has_written_of_eq, has_written_append}
 use Rattle.mad_term.proofs.Repeating.{repeat-more}
 use Rattle.mad_term.proofs.runs.EachCopyDisplay.fmt.Goals as goal

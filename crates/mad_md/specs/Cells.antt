@@ -1,0 +1,164 @@
+-- Cutting a table part into cells, and reading them.
+use Rattle.std.specs.Prelude.{◌≡◌, ℕ, ◌+◌, ◌-◌, ◌<◌, Bool, true, false, not, ◌&&◌, ◌||◌, ◌==◌, List, [], ◌∷◌, length, take, drop, slice_range, slice_index, Option, Some, None, if◌then◌else◌}
+use Rattle.std.specs.List.{AllByRecursion, join_with_byte}
+use Rattle.std.specs.Str.{trim, trim_start, trim_end}
+use Rattle.mad_md.specs.Flagged.{RunPlace, plain}
+use Rattle.mad_md.specs.Inline.{Item, IsInlineReading, runs_with}
+use Rattle.mad_md.specs.Parts.{LinePlace, line_text}
+use Rattle.mad_md.specs.Places.{StyledPlaces, PlacedLine, table_row_at, table_rule_at}
+use Rattle.mad_md.specs.Starts.{begins, run_len}
+use Rattle.mad_md.specs.declared.alignment.Alignment.{Alignment}
+use Rattle.mad_md.specs.declared.alignment.Alignment.TheVariants.{Unspecified, Left, Center, Right}
+use Rattle.mad_md.specs.declared.composite.CompositeStyle.{CompositeStyle}
+use Rattle.mad_md.specs.declared.composite.CompositeStyle.TheVariants.{Paragraph, ListItem, Quote}
+
+-- ---- where a part is cut
+
+-- whether an odd number of backquotes has come, with one byte more
+abbrev pub odd_with : Bool → ℕ → Bool
+odd_with odd b = if b == 96 then not odd else odd
+
+-- the same, with all of a text
+abbrev pub odd_after : Bool → List ℕ → Bool
+odd_after odd [] = odd
+odd_after odd (b ∷ bs) = odd_after (odd_with odd b) bs
+
+-- Each bar of the text follows an odd number of backquotes.
+abbrev pub HasBarsInCode : Bool → List ℕ → Type 0
+HasBarsInCode odd [] = Unit {0}
+HasBarsInCode odd (b ∷ bs) = (b ≡ 124 → odd ≡ true) × HasBarsInCode (odd_with odd b) bs
+
+-- Each cell but the last has an even number of backquotes.
+abbrev pub AreClosed : List (List ℕ) → Type 0
+AreClosed [] = Unit {0}
+AreClosed (cell ∷ []) = Unit {0}
+AreClosed (cell ∷ next ∷ cells) = (odd_after false cell ≡ false) × AreClosed (next ∷ cells)
+
+-- The part is cut at each bar that follows an even number of backquotes since its cell's start: joined by bars the cells are the part, no cell holds such a bar, and each bar between two is one.
+pub record AreCells (part : List ℕ) (cells : List (List ℕ)) : Type 0 where
+  pub some : 0 < length cells
+  pub joined : join_with_byte 124 cells ≡ part
+  pub kept : AllByRecursion (HasBarsInCode false) cells
+  pub closed : AreClosed cells
+
+-- ---- what a cell says
+
+-- what a cell is, by its text without whitespace in front
+abbrev pub cell_style : List ℕ → CompositeStyle
+cell_style text = if begins text (42 ∷ 32 ∷ []) then ListItem 0 else if begins text (62 ∷ 32 ∷ []) then Quote else Paragraph
+
+-- that text without the bytes that say so
+abbrev pub cell_rest : List ℕ → List ℕ
+cell_rest text = if begins text (42 ∷ 32 ∷ []) || begins text (62 ∷ 32 ∷ []) then drop 2 text else text
+
+-- a place without the whitespace at its start, and at its end; in code nothing is blank
+abbrev pub start_trimmed_place : List ℕ → RunPlace → RunPlace
+start_trimmed_place source place = if place.flags.code then place else record place { start = place.end - length (trim_start (slice_range source place.start place.end)) }
+
+abbrev pub end_trimmed_place : List ℕ → RunPlace → RunPlace
+end_trimmed_place source place = if place.flags.code then place else record place { end = place.start + length (trim_end (slice_range source place.start place.end)) }
+
+-- a place at the start of others, or what is left of these if it is empty
+abbrev pub first_kept : RunPlace → List RunPlace → List RunPlace → List RunPlace
+first_kept place places left = if place.start == place.end then left else place ∷ places
+
+-- places without the blanks at the start of the first one: one that gets empty is dropped, and the next is the first
+abbrev pub without_blanks_in_front : List ℕ → List RunPlace → List RunPlace
+without_blanks_in_front source [] = []
+without_blanks_in_front source (place ∷ places) = first_kept (start_trimmed_place source place) places (without_blanks_in_front source places)
+
+-- a place before what is left of others: whole if some are left, else without the blanks at its end
+abbrev pub last_kept : List ℕ → RunPlace → List RunPlace → List RunPlace
+last_kept source place [] = first_kept (end_trimmed_place source place) [] []
+last_kept source place (next ∷ left) = place ∷ next ∷ left
+
+-- places without the blanks at the end of the last one: one that gets empty is dropped, and the one before it is the last
+abbrev pub without_blanks_at_end : List ℕ → List RunPlace → List RunPlace
+without_blanks_at_end source [] = []
+without_blanks_at_end source (place ∷ places) = last_kept source place (without_blanks_at_end source places)
+
+-- the places of a cell's compounds, by those of the runs of its rest
+abbrev pub cell_places : List ℕ → List RunPlace → List RunPlace
+cell_places source places = without_blanks_in_front source (without_blanks_at_end source places)
+
+-- The cell is the reading of its text, from its place in the source on: whitespace in front and its prefix are left out, the rest is read by its marks without flags before it, and blanks are dropped at both ends.
+pub record IsCell (source : List ℕ) (at : ℕ) (text : List ℕ) (cell : StyledPlaces) : Type 0 where
+  pub reading : List Item
+  pub reads : IsInlineReading (cell_rest (trim_start text)) reading
+  pub says : cell ≡ record { style = cell_style (trim_start text); places = cell_places source (runs_with plain (at + (length text - length (cell_rest (trim_start text)))) reading) }
+
+-- There are as many cells as texts, and each reads its text in order, the first from this place on and a bar between two.
+abbrev pub AreReadCells : List ℕ → ℕ → List (List ℕ) → List StyledPlaces → Type 0
+AreReadCells source at [] [] = Unit {0}
+AreReadCells source at [] (cell ∷ cells) = ⊥
+AreReadCells source at (text ∷ texts) [] = ⊥
+AreReadCells source at (text ∷ texts) (cell ∷ cells) = IsCell source at text cell × AreReadCells source (at + length text + 1) texts cells
+
+-- the cells without the last one, if that has no compound
+abbrev pub without_last_empty_cell : List StyledPlaces → List StyledPlaces
+without_last_empty_cell [] = []
+without_last_empty_cell (cell ∷ []) = if length cell.places == 0 then [] else cell ∷ []
+without_last_empty_cell (cell ∷ next ∷ cells) = cell ∷ without_last_empty_cell (next ∷ cells)
+
+-- ---- rules
+
+-- whether a text begins, and ends, with a colon
+abbrev pub begins_with_colon : List ℕ → Bool
+begins_with_colon text = begins text (58 ∷ [])
+
+abbrev pub without_first_colon : List ℕ → List ℕ
+without_first_colon text = if begins_with_colon text then drop 1 text else text
+
+abbrev pub ends_with_colon : List ℕ → Bool
+ends_with_colon text = slice_index text (length text - 1) == 58
+
+abbrev pub without_last_colon : List ℕ → List ℕ
+without_last_colon text = if ends_with_colon text then take (length text - 1) text else text
+
+-- hyphens, one at least
+abbrev pub are_hyphens : List ℕ → Bool
+are_hyphens text = not (length text == 0) && (run_len 45 text == length text)
+
+-- the alignment that colons before and after the hyphens say
+abbrev pub alignment_by : Bool → Bool → Alignment
+alignment_by false false = Unspecified
+alignment_by true false = Left
+alignment_by false true = Right
+alignment_by true true = Center
+
+-- what the text of a cell says in a rule, without whitespace at its ends: perhaps a colon, hyphens, perhaps a colon
+abbrev pub trimmed_alignment : List ℕ → Option Alignment
+trimmed_alignment text =
+    if are_hyphens (without_last_colon (without_first_colon text)) then Some (alignment_by (begins_with_colon text) (ends_with_colon (without_first_colon text))) else None
+
+abbrev pub alignment_of : List ℕ → Option Alignment
+alignment_of text = trimmed_alignment (trim text)
+
+-- an alignment in front of others, where there are both
+abbrev pub with_alignment : Option Alignment → Option (List Alignment) → Option (List Alignment)
+with_alignment None others = None
+with_alignment (Some alignment) None = None
+with_alignment (Some alignment) (Some others) = Some (alignment ∷ others)
+
+-- the alignments of texts, where each has one
+abbrev pub alignments : List (List ℕ) → Option (List Alignment)
+alignments [] = Some []
+alignments (text ∷ texts) = with_alignment (alignment_of text) (alignments texts)
+
+-- a rule where there are alignments, and else a row
+abbrev pub rule_or_row : Option (List Alignment) → List StyledPlaces → PlacedLine
+rule_or_row (Some (alignment ∷ others)) cells = table_rule_at (alignment ∷ others)
+rule_or_row (Some []) cells = table_row_at cells
+rule_or_row None cells = table_row_at cells
+
+-- what the texts of cells and the cells say: a last cell without compounds is dropped, and of those that are left each has an alignment in a rule
+abbrev pub part_says : List (List ℕ) → List StyledPlaces → PlacedLine
+part_says texts cells = rule_or_row (alignments (take (length (without_last_empty_cell cells)) texts)) (without_last_empty_cell cells)
+
+-- The line is the table part at this place, after its first bar.
+pub record IsTablePart (source : List ℕ) (place : LinePlace) (line : PlacedLine) : Type 0 where
+  pub texts : List (List ℕ)
+  pub cut : AreCells (line_text source place) texts
+  pub cells : List StyledPlaces
+  pub read : AreReadCells source place.start texts cells
+  pub says : line ≡ part_says texts cells
