@@ -1,6 +1,5 @@
 pub mod DrawableLemmas
 pub mod DrawnLayouts
-pub mod Examples
 pub mod HeadlineLemmas
 pub mod InlineLemmas
 pub mod KnownLemmas
@@ -11,4 +10,6 @@ pub mod RowLemmas
 pub mod ShownLemmas
 pub mod SourceLemmas
 pub mod WholeTokens
+pub mod WordLemmas
+pub mod WordScreens
 pub mod WrapLemmas

@@ -18,5 +18,6 @@ pub mod Skins
 pub mod Sources
 pub mod Styles
 pub mod Texts
+pub mod Words
 pub mod WrappedLines
 pub mod Wraps

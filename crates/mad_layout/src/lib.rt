@@ -20,6 +20,7 @@ pub mod drawing;
 pub mod fmt_inline;
 pub mod fmt_text;
 pub mod indents;
+pub mod laws;
 pub mod line;
 pub mod room;
 mod rows;

@@ -1,0 +1,174 @@
+-- The example's text in an area: what a screen shows that reads it.
+use Rattle.std.proofs.Common.{◌≡◌, ℕ, ◌+◌, ◌<◌, ◌≤◌, List, [], ◌∷◌, ◌++◌, map, inl, inr, chars, get_or, drop, Option, Some, None, refl, ap, sym, ◌∙◌, subst, arith}
+use Rattle.std.specs.Prelude.{IfSome, slice_get, true}
+use Rattle.std.proofs.lemmas.List.{length-replicate}
+use Rattle.mad_columns.specs.Columns.{char_columns}
+use Rattle.mad_md.specs.Flagged.{Run, plain, flagged, run_at, run_of, flagged_text}
+use Rattle.mad_md.specs.Lines.{LineContent, StyledRuns, normal, contents}
+use Rattle.mad_md.specs.Parts.{line_places}
+use Rattle.mad_md.specs.ReadByMarks.{IsReadByMarks, AreInlineLines}
+use Rattle.mad_md.specs.declared.composite.CompositeStyle.TheVariants.{Paragraph as Plain}
+use Rattle.mad_md.specs.declared.text.Text.{Text}
+use Rattle.mad_md.proofs.RunBorders.{unmarked_runs}
+use Rattle.mad_term.specs.Trace.{Trace}
+use Rattle.mad_screen.specs.Glyph.{Glyph, Look}
+use Rattle.mad_screen.specs.Grid.{Grid, IsGrid, blank, cell_at, empty_grid, plain_pen}
+use Rattle.mad_screen.specs.Painting.{attach, look_of_style}
+use Rattle.mad_screen.specs.Terminal.{after_bytes}
+use Rattle.mad_style.specs.declared.kinds.CompositeKind.TheVariants.{Paragraph}
+use Rattle.mad_style.specs.LineStyles.{margins_at}
+use Rattle.mad_fit.specs.Columns.{width_of}
+use Rattle.mad_fit.specs.declared.area.Area.{Area}
+use Rattle.mad_draw.specs.DrawnRows.{IsOnScreen}
+use Rattle.mad_draw.specs.Pieces.{RowPiece, PennedChar, penned_chars}
+use Rattle.mad_draw.specs.PennedCells.{penned_cells, penned_joined}
+use Rattle.mad_layout.specs.Indents.{indent}
+use Rattle.mad_layout.specs.Layouts.{AreRead, IsLayout, composites}
+use Rattle.mad_layout.specs.Premises.{runs_text}
+use Rattle.mad_layout.specs.Rows.{compound_piece, run_piece, row_pieces, line_pieces}
+use Rattle.mad_layout.specs.Shown.{text_row, AreShownIn}
+use Rattle.mad_layout.specs.Skins.{no_style_skin}
+use Rattle.mad_layout.specs.Sources.{LinesTakeColumns, ShowsSource}
+use Rattle.mad_layout.specs.declared.skin.MadSkin.{MadSkin}
+use Rattle.mad_layout.specs.Styles.{line_style}
+use Rattle.mad_layout.specs.Words.{words}
+use Rattle.mad_layout.specs.WrappedLines.{AreLinesWrapped, line_with}
+use Rattle.mad_layout.specs.Wraps.{text_of}
+use Rattle.mad_layout.specs.declared.composite.FmtComposite.{FmtComposite}
+use Rattle.mad_layout.specs.declared.line.FmtLine.{FmtLine}
+use Rattle.mad_layout.specs.declared.line.FmtLine.TheVariants.{Normal}
+use Rattle.mad_layout.proofs.DrawableLemmas.{runs_are}
+use Rattle.mad_layout.proofs.HeadlineLemmas.{wrapped_at}
+use Rattle.mad_layout.proofs.PieceLemmas.{pieces_of_runs}
+use Rattle.mad_layout.proofs.WordLemmas.{one_a, one_b, one_c, one_space, spelled, cut_words, words_take_columns}
+
+-- ---- how it is read
+
+abbrev word_run : Run
+word_run = record { flags = plain; text = words }
+
+abbrev word_line : StyledRuns
+word_line = record { style = Plain; runs = word_run ∷ [] }
+
+one_line : (xs : List LineContent) → AreInlineLines words (line_places (words ∷ [])) xs → xs ≡ normal word_line ∷ []
+one_line [] h = absurd h
+one_line (l ∷ []) h =
+    ap (λ (x : LineContent). x ∷ []) (h.0.says ∙ ap (λ rs. normal (record { style = Plain; runs = map (run_at words) rs })) (unmarked_runs words h.0.reading refl h.0.reads))
+one_line (l ∷ m ∷ ms) h = absurd h.1
+
+words_read : (text : Text) → IsReadByMarks words text → contents text ≡ normal word_line ∷ []
+words_read text read = one_line (contents text) (read.each (words ∷ []) cut_words)
+
+-- ---- how it is laid out in eleven columns
+
+word_columns : width_of (runs_text (word_run ∷ [])) ≡ 9
+word_columns = ap (λ (cs : List ℕ). width_of (flagged plain cs ++ [])) spelled ∙ omega (arith, one_a, one_b, one_c, one_space)
+
+-- it is one line as it was read, without margins
+record OneLine (lines : List FmtLine) : Type 0 where
+  l : FmtComposite
+  is : lines ≡ line_with (0, 0) l ∷ []
+  kind : l.kind ≡ Paragraph
+  runs : map run_of l.compounds.items ≡ word_run ∷ []
+  columns : l.visible_length ≡ 9
+  spacing : l.spacing ≡ None
+
+laid : (read lines : List FmtLine) → AreRead no_style_skin (word_line ∷ []) read → AreLinesWrapped no_style_skin 11 read lines → OneLine lines
+laid [] lines reads wraps = absurd reads
+laid (Normal l ∷ m ∷ ms) lines reads wraps = absurd reads.1
+laid (Normal l ∷ []) lines reads (own, others, joins, here, none) =
+    let kind : l.kind ≡ Paragraph = reads.0.kind in
+    let no_indent : indent no_style_skin.list_items_indentation_mode l.kind ≡ 0 = ap (indent no_style_skin.list_items_indentation_mode) kind in
+    let wide : width_of (text_of l) ≡ 9 = ap width_of (sym (runs_are l.compounds.items) ∙ ap runs_text reads.0.text) ∙ word_columns in
+    let columns : l.visible_length ≡ 9 = omega (arith, reads.0.measured, no_indent, wide) in
+    let margins : margins_at (line_style no_style_skin l.kind) (Some 11) ≡ (0, 0) = ap (λ k. margins_at (line_style no_style_skin k) (Some 11)) kind in
+    let left : (margins_at (line_style no_style_skin l.kind) (Some 11)).0 ≡ 0 = ap (λ (m : ℕ × ℕ). m.0) margins in
+    let right : (margins_at (line_style no_style_skin l.kind) (Some 11)).1 ≡ 0 = ap (λ (m : ℕ × ℕ). m.1) margins in
+    let own_is : own ≡ line_with (0, 0) l ∷ [] = elim here [
+      inl kept ↦ kept.1 ∙ ap (λ (m : ℕ × ℕ). line_with m l ∷ []) margins
+      | inr broken ↦ absurd (omega (arith, broken.0, columns, left, right))
+    ] in
+    record {
+      l = l;
+      is = joins ∙ ap (λ (o : List FmtLine). own ++ o) none ∙ ap (λ (o : List FmtLine). o ++ []) own_is;
+      kind = kind;
+      runs = reads.0.text;
+      columns = columns;
+      spacing = reads.0.spacing;
+    }
+
+-- ---- the first cell of its row
+
+first_cell : (tail : List RowPiece) → get_or (penned_cells (penned_chars (run_piece no_style_skin (line_style no_style_skin Paragraph) word_run ∷ tail))) 0 blank ≡ record { chars = 97 ∷ []; pen = plain_pen }
+first_cell tail =
+    let pen : Look = look_of_style (run_piece no_style_skin (line_style no_style_skin Paragraph) word_run).style in
+    let rest : List PennedChar = map (λ c. record { char = c; pen = pen }) (97 ∷ 32 ∷ 98 ∷ 98 ∷ 32 ∷ 99 ∷ 99 ∷ []) ++ penned_chars tail in
+    ap (λ (cs : List ℕ). get_or (penned_cells (map (λ c. record { char = c; pen = pen }) cs ++ penned_chars tail)) 0 blank) spelled
+    ∙ ap (λ (n : ℕ). get_or (attach (Some n) pen 97 (attach (Some n) pen 97 (penned_joined rest))).1 0 blank) one_a
+
+abbrev laid_line : FmtComposite → FmtComposite
+laid_line l = record { kind = Paragraph; compounds = l.compounds; visible_length = 9; spacing = None; margins = Some (0, 0) }
+
+same_line : (l : FmtComposite) → l.kind ≡ Paragraph → l.visible_length ≡ 9 → l.spacing ≡ None → line_with (0, 0) l ≡ Normal (laid_line l)
+same_line l kind columns spacing =
+    ap (λ k. Normal (record { kind = k; compounds = l.compounds; visible_length = l.visible_length; spacing = l.spacing; margins = Some (0, 0) })) kind
+    ∙ ap (λ n. Normal (record { kind = Paragraph; compounds = l.compounds; visible_length = n; spacing = l.spacing; margins = Some (0, 0) })) columns
+    ∙ ap (λ s. Normal (record { kind = Paragraph; compounds = l.compounds; visible_length = 9; spacing = s; margins = Some (0, 0) })) spacing
+
+first_of_line : (l : FmtComposite) → map run_of l.compounds.items ≡ word_run ∷ [] → get_or (penned_cells (penned_chars (line_pieces no_style_skin (Some 12) true (Normal (laid_line l))))) 0 blank ≡ record { chars = 97 ∷ []; pen = plain_pen }
+first_of_line l runs =
+    let style = line_style no_style_skin Paragraph in
+    let tail : List RowPiece = record { style = no_style_skin.paragraph.compound_style.object_style; text = 32 ∷ 32 ∷ 32 ∷ [] } ∷ [] in
+    ap (λ (ps : List RowPiece). get_or (penned_cells (penned_chars (ps ++ tail))) 0 blank) (pieces_of_runs no_style_skin style l.compounds.items ∙ ap (map (run_piece no_style_skin style)) runs)
+    ∙ first_cell tail
+
+words_first : (lines : List FmtLine) → OneLine lines → get_or (penned_cells (penned_chars (text_row no_style_skin 12 lines 0 0))) 0 blank ≡ record { chars = 97 ∷ []; pen = plain_pen }
+words_first lines one =
+    ap (λ (ls : List FmtLine). get_or (penned_cells (penned_chars (text_row no_style_skin 12 ls 0 0))) 0 blank) (one.is ∙ ap (λ (line : FmtLine). line ∷ []) (same_line one.l one.kind one.columns one.spacing))
+    ∙ first_of_line one.l one.runs
+
+-- ---- the screen
+
+abbrev word_area : Area
+word_area = record { left = 2; top = 1; width = 12; height = 2 }
+
+on_screen : IsOnScreen word_area (empty_grid 16 4)
+on_screen = record {
+  grid = record { full = length-replicate 64 blank; column = omega arith; row = omega arith };
+  pen = refl;
+  some = omega arith;
+  columns = omega arith;
+  rows = omega arith;
+}
+
+-- what it shows in a cell of the area, and in one outside it
+pub record ShowsWords (g : Grid) : Type 0 where
+  pub inside : cell_at g 2 1 ≡ record { chars = 97 ∷ []; pen = plain_pen }
+  pub outside : cell_at g 0 0 ≡ blank
+
+pub words_shown : (old new : Trace) (taken : List ℕ) (start g : Grid) → old.bytes ≡ Some [] → new.bytes ≡ Some taken → ShowsSource no_style_skin words word_area old new
+    → start ≡ empty_grid 16 4 → after_bytes start taken ≡ Some g → ShowsWords g
+words_shown old new taken start g none all h begun read =
+    let text : List LineContent = contents h.laid_out.text in
+    let layout : IsLayout no_style_skin 11 (composites (contents h.laid_out.text)) h.lines = wrapped_at no_style_skin 11 (composites (contents h.laid_out.text)) h.lines (omega arith) h.laid_out.layout in
+    let of_words : IsLayout no_style_skin 11 (word_line ∷ []) h.lines = subst (λ (xs : List LineContent). IsLayout no_style_skin 11 (composites xs) h.lines) (words_read h.laid_out.text h.laid_out.read) layout in
+    let one : OneLine h.lines = laid of_words.read h.lines of_words.reads of_words.wraps in
+    let took : (text : List ℕ) × (new.bytes ≡ Some ([] ++ text)) × AreShownIn no_style_skin h.lines word_area 0 text =
+    subst (λ (o : Option (List ℕ)). IfSome o (λ before. (text : List ℕ) × (new.bytes ≡ Some (before ++ text)) × AreShownIn no_style_skin h.lines word_area 0 text)) none h.shown in
+    let same : took.0 ≡ taken = cc in
+    let shown = took.2 (empty_grid 16 4) on_screen in
+    let is : shown.0 ≡ g = cc in
+    subst ShowsWords is (record {
+      inside = shown.4.inside 0 0 (omega arith) (omega arith) ∙ words_first h.lines one;
+      outside = shown.4.outside 0 0 (omega arith) (inl (omega arith));
+    })
+
+-- the same in a skin and an area that are these
+pub words_shown_by : (old new : Trace) (taken : List ℕ) (start g : Grid) (skin : MadSkin) (area : Area) → skin ≡ no_style_skin → area ≡ word_area → old.bytes ≡ Some [] → new.bytes ≡ Some taken
+    → (4 ≤ area.width → LinesTakeColumns words → ShowsSource skin words area old new) → start ≡ empty_grid 16 4 → after_bytes start taken ≡ Some g → ShowsWords g
+words_shown_by old new taken start g skin area skin_is area_is none all h begun read =
+    let by_skin : 4 ≤ area.width → LinesTakeColumns words → ShowsSource no_style_skin words area old new =
+    subst (λ (s : MadSkin). 4 ≤ area.width → LinesTakeColumns words → ShowsSource s words area old new) skin_is h in
+    let here : 4 ≤ 12 → LinesTakeColumns words → ShowsSource no_style_skin words word_area old new =
+    subst (λ (a : Area). 4 ≤ a.width → LinesTakeColumns words → ShowsSource no_style_skin words a old new) area_is by_skin in
+    words_shown old new taken start g none all (here (omega arith) words_take_columns) begun read
