@@ -1,0 +1,5 @@
+pub mod PlaceLemmas
+pub mod RowLemmas
+pub mod TextLemmas
+pub mod ColumnLemmas
+pub mod SplitLemmas

@@ -1,0 +1,4 @@
+pub mod Lines
+pub mod Columns
+pub mod Classes
+pub mod Ranges
