@@ -27,7 +27,7 @@ pub struct Range {
 }
 
 impl Range {
-    /// Whether the place in column of characters `x` of line `y` is in the range.
+    /// Whether the place before character `x` of line `y` is in the range.
     pub fn contains(&self, x: usize, y: usize) -> bool
         ensures { IsTrue result ↔ (IsNotAfter self.now.min (record { y = y; x = x }) × IsNotAfter (record { y = y; x = x }) self.now.max) }
     {

@@ -1,7 +1,7 @@
 //! Places among lines, and the text between two of them.
 
 ghost use Rattle.std.specs.Prelude.{◌≡◌, ◌<◌, ◌≤◌, ◌+◌, ◌↔◌, IfSome, IsSome, IsTrue, Some, IfOk, length, min, max, slice_get, slice_range, string_bytes, encode_utf8_all};
-ghost use Rattle.mad_lines.specs.Lines.{IsPlace, lines_of, line_at, text_of, offset_of, clamp};
+ghost use Rattle.mad_lines.specs.Lines.{IsPlace, lines_of, line_at, text_of, offset_of, end_of, clamp};
 
 use crate::line::Line;
 use crate::place::{Pos, Range};
@@ -20,6 +20,20 @@ fn line_count(lines: &Vec<Line>) -> usize
     lines.len()
 }
 
+/// The end of the text.
+pub fn end_place(lines: &Vec<Line>) -> Pos
+    requires { 0 < length lines.now.items }
+    ensures is { result ≡ end_of (lines_of lines.now.items) }
+    ensures place { IsPlace (lines_of lines.now.items) result }
+    ensures last { offset_of (lines_of lines.now.items) result ≡ length (text_of (lines_of lines.now.items)) }
+{
+    let y = line_count(lines) - 1;
+    Pos {
+        y,
+        x: line_len(lines, y),
+    }
+}
+
 /// The place itself, or the nearest one on its line, or the end.
 pub fn valid_pos(lines: &Vec<Line>, p: Pos) -> Pos
     requires { 0 < length lines.now.items }
@@ -31,11 +45,7 @@ pub fn valid_pos(lines: &Vec<Line>, p: Pos) -> Pos
             x: p.x.min(lines[p.y].chars.len()),
         }
     } else {
-        let y = lines.len() - 1;
-        Pos {
-            y,
-            x: lines[y].chars.len(),
-        }
+        end_place(lines)
     }
 }
 
@@ -44,6 +54,7 @@ pub fn place_after(lines: &Vec<Line>, p: Pos) -> Option<Pos>
     requires { IsPlace (lines_of lines.now.items) p }
     ensures place { IfSome result (λ q. IsPlace (lines_of lines.now.items) q) }
     ensures next { IfSome result (λ q. offset_of (lines_of lines.now.items) q ≡ offset_of (lines_of lines.now.items) p + 1) }
+    ensures order { IfSome result (λ q. p.y ≤ q.y) }
     ensures at_end { IsSome result ↔ (offset_of (lines_of lines.now.items) p < length (text_of (lines_of lines.now.items))) }
 {
     if p.x < line_len(lines, p.y) {
@@ -60,6 +71,7 @@ pub fn place_before(lines: &Vec<Line>, p: Pos) -> Option<Pos>
     requires { IsPlace (lines_of lines.now.items) p }
     ensures place { IfSome result (λ q. IsPlace (lines_of lines.now.items) q) }
     ensures next { IfSome result (λ q. offset_of (lines_of lines.now.items) q + 1 ≡ offset_of (lines_of lines.now.items) p) }
+    ensures order { IfSome result (λ q. q.y ≤ p.y) }
     ensures at_start { IsSome result ↔ (0 < offset_of (lines_of lines.now.items) p) }
 {
     if p.x > 0 {

@@ -1,4 +1,3 @@
-use Rattle.mad_lines.proofs.SplitLemmas.{lines-text_of}
 use Rattle.std.proofs.Common.{◌≡◌, ◌<◌, arith, length, ap, sym, ◌∙◌, Some, get_or, suc, ℕ}
 use Rattle.std.proofs.lemmas.List.{length-map}
 use Rattle.mad_lines.specs.Lines.{lines_of, line_at}

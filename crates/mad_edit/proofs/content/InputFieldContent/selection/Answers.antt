@@ -1,0 +1,17 @@
+use Rattle.std.proofs.Common.{◌≡◌, ◌∙◌, ap, refl, subst, rules, sym}
+use Rattle.mad_lines.specs.Lines.{lines_of}
+use Rattle.mad_edit.specs.Editor.{Editor, IsAt}
+use Rattle.mad_edit.proofs.EditorLemmas.{own_lines, lines_seen}
+use Rattle.mad_edit.proofs.content.InputFieldContent.selection.Goals as goal
+
+pub returns-in-Some-clause-min : goal.returns-in-Some-clause-min
+returns-in-Some-clause-min c = rw (← c.self.view_is, c.in-Some.is, own_lines _ _ _ c.self.invariant) (search rules)
+
+pub returns-in-Some-clause-max : goal.returns-in-Some-clause-max
+returns-in-Some-clause-max c = rw (← c.self.view_is, c.in-Some.is, own_lines _ _ _ c.self.invariant) (search rules)
+
+pub returns-in-None-clause-min : goal.returns-in-None-clause-min
+returns-in-None-clause-min c = rw (lines_seen _ _ _ _ c.self.view_is c.self.invariant, ← c.self.view_is) (search rules)
+
+pub returns-in-None-clause-max : goal.returns-in-None-clause-max
+returns-in-None-clause-max c = rw (lines_seen _ _ _ _ c.self.view_is c.self.invariant, ← c.self.view_is) (search rules)

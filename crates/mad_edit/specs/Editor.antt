@@ -1,0 +1,74 @@
+-- What an editor is: one text, an offset into it, and an optional tail.
+use Rattle.std.specs.Prelude.{ℕ, ◌+◌, ◌<◌, ◌≡◌, List, ◌++◌, All, Option, None, Some, Bool, true, not, ◌==◌, length, take, drop, min, max, option_map, slice_range}
+use Rattle.std.specs.Option.{ForSome}
+use Rattle.std.specs.List.{prefix_len, suffix_len}
+use Rattle.mad_lines.specs.declared.place.Pos.{Pos}
+use Rattle.mad_lines.specs.Lines.{lines, text_of, IsPlace, IsPlainLine, offset_of, accepted, clamp}
+
+pub record Editor : Type 0 where
+  pub text : List ℕ
+  pub offset : ℕ
+  pub tail : Option Pos
+
+-- a place of the text, and the offset that says the same
+abbrev pub IsPlaceIn : List ℕ → Pos → Type 0
+IsPlaceIn t p = IsPlace (lines t) p
+
+abbrev pub offset_at : List ℕ → Pos → ℕ
+offset_at t p = offset_of (lines t) p
+
+abbrev pub IsAt : List ℕ → ℕ → Pos → Type 0
+IsAt t n p = IsPlaceIn t p × (offset_at t p ≡ n)
+
+-- the place itself, or the nearest one on its line, or the end of the text
+abbrev pub clamp_in : List ℕ → Pos → Pos
+clamp_in t p = clamp (lines t) p
+
+-- a tail keeps its line and its place in it as far as the text goes
+abbrev pub clamp_tail : List ℕ → Option Pos → Option Pos
+clamp_tail t tail = option_map (clamp_in t) tail
+
+-- the offset of the tail, or of the cursor where there is none
+abbrev pub tail_offset : List ℕ → ℕ → Option Pos → ℕ
+tail_offset t n None = n
+tail_offset t n (Some p) = offset_at t p
+
+-- the selection: from the lesser of cursor and tail up to and with the character at the greater
+abbrev pub selection_start : Editor → ℕ
+selection_start e = min e.offset (tail_offset e.text e.offset e.tail)
+
+abbrev pub selection_last : Editor → ℕ
+selection_last e = max e.offset (tail_offset e.text e.offset e.tail)
+
+abbrev pub selection_end : Editor → ℕ
+selection_end e = min (selection_last e + 1) (length e.text)
+
+abbrev pub selected : Editor → List ℕ
+selected e = slice_range e.text (selection_start e) (selection_end e)
+
+abbrev pub IsWide : Editor → Type 0
+IsWide e = selection_start e < selection_last e
+
+-- a text in which what is between two offsets is replaced by characters, less those that are never put in
+abbrev pub replaced : List ℕ → ℕ → ℕ → List ℕ → List ℕ
+replaced t from to cs = take from t ++ (accepted cs ++ drop to t)
+
+-- a text without what is between two offsets
+abbrev pub without : List ℕ → ℕ → ℕ → List ℕ
+without t from to = take from t ++ drop to t
+
+-- how much of the cursor's line is before the cursor, and after it
+abbrev pub is_in_line : ℕ → Bool
+is_in_line c = not (c == 10)
+
+abbrev pub line_before : Editor → ℕ
+line_before e = suffix_len is_in_line (take e.offset e.text)
+
+abbrev pub line_after : Editor → ℕ
+line_after e = prefix_len is_in_line (drop e.offset e.text)
+
+-- lines with a cursor and a tail: there is a line, the places are places of it, the lines are plain
+pub record IsValid (ls : List (List ℕ)) (at : Pos) (tail : Option Pos) : Type 0 where
+  pub cursor : IsPlace ls at
+  pub selected : ForSome tail (IsPlace ls)
+  pub plain : All IsPlainLine ls

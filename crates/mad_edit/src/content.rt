@@ -1,0 +1,190 @@
+//! The editor's text and its places. No other module sees how the text is kept.
+
+ghost use Rattle.std.specs.Prelude.{◌≡◌, ◌<◌, ◌≤◌, ◌+◌, ◌↔◌, [], None, Some, length, chars, min, max, option_map, IfOk, IfSome, IsSome, OnOk, OnErr, IsTrue, string_bytes, encode_utf8_all, slice_range};
+ghost use Rattle.std.specs.Option.{option_or, ForSome};
+ghost use Rattle.mad_lines.specs.Lines.{lines, lines_of, accepted};
+ghost use Rattle.mad_edit.specs.Editor.{IsPlaceIn, offset_at, IsAt, clamp_in, clamp_tail, replaced, selection_start, selection_last};
+
+use mad_lines::{
+    Line, Pos, Range, edit_lines, end_place, in_order, place_after, place_before, place_past, text_between,
+    valid_pos,
+};
+use std::alloc::{AllocError, Global};
+use std::marker::Model;
+
+/// One text without carriage returns and backspaces, a cursor in it, and an optional tail:
+/// the other end of a selection.
+#[derive(Debug, Drop)]
+pub struct InputFieldContent {
+    lines: Vec<Line>,
+    pos: Pos,
+    selection_tail: Option<Pos>,
+}
+
+impl Model for InputFieldContent {
+    ghost use Rattle.mad_edit.specs.Editor.{Editor, IsValid};
+    ghost use Rattle.mad_lines.specs.Lines.{lines_of, text_of, offset_of};
+
+    ghost Value = { Editor };
+
+    ghost view = { λ a. record { text = text_of (lines_of a.lines.items); offset = offset_of (lines_of a.lines.items) a.pos; tail = a.selection_tail } };
+
+    ghost invariant = { λ a. IsValid (lines_of a.lines.items) a.pos a.selection_tail };
+}
+
+impl InputFieldContent {
+    /// An empty text.
+    pub fn new(alloc: Global) -> Result<InputFieldContent, AllocError>
+        ensures { IfOk result (λ e. e ≡ record { text = []; offset = 0; tail = None }) }
+    {
+        let mut lines = Vec::new(alloc);
+        lines.push(Line::new(alloc))?;
+        Ok(InputFieldContent {
+            lines,
+            pos: Pos { y: 0, x: 0 },
+            selection_tail: None,
+        })
+    }
+
+    /// The place of the cursor.
+    pub fn cursor_pos(&self) -> Pos
+        ensures { IsAt self.now.text self.now.offset result }
+    {
+        let _ = &self.lines;
+        self.pos
+    }
+
+    /// Puts a text in place of what is between two places, and the cursor after it.
+    pub(crate) fn edit(&mut self, from: Pos, to: Pos, s: &str) -> Result<(), AllocError>
+        requires from { IsPlaceIn self.old.text from }
+        requires to { IsPlaceIn self.old.text to }
+        requires order { from.y ≤ to.y }
+        ensures text { OnOk result (self.new.text
+            ≡ replaced self.old.text (offset_at self.old.text from) (offset_at self.old.text to) (chars s.now)) }
+        ensures cursor { OnOk result (self.new.offset ≡ offset_at self.old.text from + length (accepted (chars s.now))) }
+        ensures tail { OnOk result (self.new.tail ≡ clamp_tail self.new.text self.old.tail) }
+        ensures err { OnErr result (self.new ≡ self.old) }
+    {
+        let pos = edit_lines(&mut self.lines, from, to, s)?;
+        self.pos = pos;
+        if let Some(tail) = self.selection_tail {
+            self.selection_tail = Some(valid_pos(&self.lines, tail));
+        }
+        Ok(())
+    }
+
+    /// Puts the cursor at a place of the text.
+    pub(crate) fn put_cursor(&mut self, p: Pos)
+        requires { IsPlaceIn self.old.text p }
+        ensures { self.new ≡ record self.old { offset = offset_at self.old.text p } }
+    {
+        let _ = &self.lines;
+        self.pos = p;
+    }
+
+    /// The next place, if a place is not the end.
+    pub(crate) fn next_place(&self, p: Pos) -> Option<Pos>
+        requires { IsPlaceIn self.now.text p }
+        ensures place { IfSome result (λ q. IsPlaceIn self.now.text q) }
+        ensures next { IfSome result (λ q. offset_at self.now.text q ≡ offset_at self.now.text p + 1) }
+        ensures order { IfSome result (λ q. p.y ≤ q.y) }
+        ensures at_end { IsSome result ↔ (offset_at self.now.text p < length self.now.text) }
+    {
+        place_after(&self.lines, p)
+    }
+
+    /// The previous place, if a place is not the start.
+    pub(crate) fn previous_place(&self, p: Pos) -> Option<Pos>
+        requires { IsPlaceIn self.now.text p }
+        ensures place { IfSome result (λ q. IsPlaceIn self.now.text q) }
+        ensures next { IfSome result (λ q. offset_at self.now.text q + 1 ≡ offset_at self.now.text p) }
+        ensures order { IfSome result (λ q. q.y ≤ p.y) }
+        ensures at_start { IsSome result ↔ (0 < offset_at self.now.text p) }
+    {
+        place_before(&self.lines, p)
+    }
+
+    /// The place after the character at a place, or the end.
+    pub(crate) fn place_past_char(&self, p: Pos) -> Pos
+        requires { IsPlaceIn self.now.text p }
+        ensures next { IsAt self.now.text (min (offset_at self.now.text p + 1) (length self.now.text)) result }
+        ensures order { p.y ≤ result.y }
+    {
+        place_past(&self.lines, p)
+    }
+
+    /// The selection: its lesser place and its greater one, whose character is selected too.
+    pub fn selection(&self) -> Range
+        ensures min { IsAt self.now.text (selection_start self.now) result.min }
+        ensures max { IsAt self.now.text (selection_last self.now) result.max }
+        ensures order { result.min.y ≤ result.max.y }
+    {
+        match self.selection_tail {
+            Some(tail) => in_order(&self.lines, self.pos, tail),
+            None => Range {
+                min: self.pos,
+                max: self.pos,
+            },
+        }
+    }
+
+    /// The text between two places.
+    pub(crate) fn copy_between(&self, from: Pos, to: Pos) -> Result<String, AllocError>
+        requires from { IsPlaceIn self.now.text from }
+        requires to { IsPlaceIn self.now.text to }
+        requires order { offset_at self.now.text from ≤ offset_at self.now.text to }
+        ensures { IfOk result (λ s. string_bytes s
+            ≡ encode_utf8_all (slice_range self.now.text (offset_at self.now.text from) (offset_at self.now.text to))) }
+    {
+        text_between(*self.lines.allocator(), &self.lines, from, to)
+    }
+
+    /// The nearest place of the text: the place itself, or its line's end, or the text's end.
+    pub fn make_valid_pos(&self, pos: Pos) -> Pos
+        ensures place { IsPlaceIn self.now.text result }
+        ensures nearest { result ≡ clamp_in self.now.text pos }
+    {
+        valid_pos(&self.lines, pos)
+    }
+
+    /// The end of the text.
+    pub fn end(&self) -> Pos
+        ensures { IsAt self.now.text (length self.now.text) result }
+    {
+        end_place(&self.lines)
+    }
+
+    /// Begins a selection at the cursor where there is none.
+    pub fn make_selection(&mut self)
+        ensures text { self.new.text ≡ self.old.text }
+        ensures cursor { self.new.offset ≡ self.old.offset }
+        ensures made { self.old.tail ≡ None → IfSome self.new.tail (λ p. IsAt self.old.text self.old.offset p) }
+        ensures some { IsSome self.new.tail }
+        ensures kept { IsSome self.old.tail → self.new.tail ≡ self.old.tail }
+    {
+        if self.selection_tail.is_none() {
+            self.selection_tail = Some(self.pos);
+        }
+    }
+
+    /// Drops the selection.
+    pub fn unselect(&mut self)
+        ensures { self.new ≡ record self.old { tail = None } }
+    {
+        self.selection_tail = None;
+    }
+
+    /// Puts the tail at the nearest place of the text.
+    pub fn set_selection_tail(&mut self, sel_tail: Pos)
+        ensures { self.new ≡ record self.old { tail = Some (clamp_in self.old.text sel_tail) } }
+    {
+        self.selection_tail = Some(valid_pos(&self.lines, sel_tail));
+    }
+
+    /// Whether there is a tail.
+    pub fn has_selection(&self) -> bool
+        ensures { IsTrue result ↔ IsSome self.now.tail }
+    {
+        self.selection_tail.is_some()
+    }
+}

@@ -1,0 +1,10 @@
+//! A text editor without a screen: one text, a cursor, and the other end of a selection.
+#![tactic(auto)]
+
+mod content;
+mod edits;
+mod moves;
+mod selections;
+
+pub use content::InputFieldContent;
+pub use mad_lines::{Line, Pos, Range};
