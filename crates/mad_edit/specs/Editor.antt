@@ -1,9 +1,9 @@
 -- What an editor is: one text, an offset into it, and an optional tail.
-use Rattle.std.specs.Prelude.{ℕ, ◌+◌, ◌<◌, ◌≡◌, List, ◌++◌, All, Option, None, Some, Bool, true, not, ◌==◌, length, take, drop, min, max, option_map, slice_range}
+use Rattle.std.specs.Prelude.{ℕ, ◌+◌, ◌-◌, ◌<◌, ◌≤◌, ◌≡◌, List, ◌++◌, All, Option, None, Some, Bool, true, not, ◌==◌, length, take, drop, min, max, option_map, slice_range, count_by}
 use Rattle.std.specs.Option.{ForSome}
 use Rattle.std.specs.List.{prefix_len, suffix_len}
 use Rattle.mad_lines.specs.declared.place.Pos.{Pos}
-use Rattle.mad_lines.specs.Lines.{lines, text_of, IsPlace, IsPlainLine, offset_of, accepted, clamp}
+use Rattle.mad_lines.specs.Lines.{lines, text_of, IsPlace, IsPlainLine, IsAcceptedChar, is_newline, offset_of, accepted, clamp}
 
 pub record Editor : Type 0 where
   pub text : List ℕ
@@ -57,15 +57,27 @@ replaced t from to cs = take from t ++ (accepted cs ++ drop to t)
 abbrev pub without : List ℕ → ℕ → ℕ → List ℕ
 without t from to = take from t ++ drop to t
 
--- how much of the cursor's line is before the cursor, and after it
 abbrev pub is_in_line : ℕ → Bool
 is_in_line c = not (c == 10)
 
-abbrev pub line_before : Editor → ℕ
-line_before e = suffix_len is_in_line (take e.offset e.text)
+-- the cursor's line: its number, how much of it is before the cursor, its characters before the cursor and after it
+abbrev pub cursor_line : Editor → ℕ
+cursor_line e = count_by is_newline (take e.offset e.text)
 
-abbrev pub line_after : Editor → ℕ
-line_after e = prefix_len is_in_line (drop e.offset e.text)
+abbrev pub cursor_column : Editor → ℕ
+cursor_column e = suffix_len is_in_line (take e.offset e.text)
+
+abbrev pub front_of_line : Editor → List ℕ
+front_of_line e = drop (e.offset - cursor_column e) (take e.offset e.text)
+
+abbrev pub rest_of_line : Editor → List ℕ
+rest_of_line e = take (prefix_len is_in_line (drop e.offset e.text)) (drop e.offset e.text)
+
+-- what is true of every editor
+pub record IsEditor (e : Editor) : Type 0 where
+  pub cursor : e.offset ≤ length e.text
+  pub tail : ForSome e.tail (IsPlaceIn e.text)
+  pub accepted : All IsAcceptedChar e.text
 
 -- lines with a cursor and a tail: there is a line, the places are places of it, the lines are plain
 pub record IsValid (ls : List (List ℕ)) (at : Pos) (tail : Option Pos) : Type 0 where

@@ -1,2 +1,3 @@
 pub mod Editor
 pub mod Undo
+pub mod Words

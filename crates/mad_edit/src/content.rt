@@ -1,13 +1,13 @@
 //! The editor's text and its places. No other module sees how the text is kept.
 
-ghost use Rattle.std.specs.Prelude.{◌≡◌, ◌<◌, ◌≤◌, ◌+◌, ◌↔◌, [], None, Some, length, chars, min, max, option_map, IfOk, IfSome, IsSome, OnOk, OnErr, IsTrue, string_bytes, encode_utf8_all, slice_range};
+ghost use Rattle.std.specs.Prelude.{◌≡◌, ◌<◌, ◌≤◌, ◌+◌, ◌-◌, ◌↔◌, [], None, Some, length, chars, min, max, option_map, IfOk, IfSome, IsSome, OnOk, OnErr, IsTrue, string_bytes, encode_utf8_all, slice_range};
 ghost use Rattle.std.specs.Option.{option_or, ForSome};
 ghost use Rattle.mad_lines.specs.Lines.{lines, lines_of, accepted};
-ghost use Rattle.mad_edit.specs.Editor.{IsPlaceIn, offset_at, IsAt, clamp_in, clamp_tail, replaced, selection_start, selection_last};
+ghost use Rattle.mad_edit.specs.Editor.{IsPlaceIn, offset_at, IsAt, clamp_in, clamp_tail, replaced, cursor_line, cursor_column, front_of_line, rest_of_line, IsEditor, selection_start, selection_last};
 
 use mad_lines::{
-    Line, Pos, Range, edit_lines, end_place, in_order, place_after, place_before, place_past, text_between,
-    valid_pos,
+    Line, Pos, Range, edit_lines, end_place, front_at, in_order, line_len, place_after, place_before, place_past,
+    rest_at, text_between, valid_pos,
 };
 use std::alloc::{AllocError, Global};
 use std::marker::Model;
@@ -48,7 +48,10 @@ impl InputFieldContent {
 
     /// The place of the cursor.
     pub fn cursor_pos(&self) -> Pos
-        ensures { IsAt self.now.text self.now.offset result }
+        ensures at { IsAt self.now.text self.now.offset result }
+        ensures line { result.y ≡ cursor_line self.now }
+        ensures column { result.x ≡ cursor_column self.now }
+        ensures valid { IsEditor self.now }
     {
         let _ = &self.lines;
         self.pos
@@ -58,7 +61,7 @@ impl InputFieldContent {
     pub(crate) fn edit(&mut self, from: Pos, to: Pos, s: &str) -> Result<(), AllocError>
         requires from { IsPlaceIn self.old.text from }
         requires to { IsPlaceIn self.old.text to }
-        requires order { from.y ≤ to.y }
+        requires order { offset_at self.old.text from ≤ offset_at self.old.text to }
         ensures text { OnOk result (self.new.text
             ≡ replaced self.old.text (offset_at self.old.text from) (offset_at self.old.text to) (chars s.now)) }
         ensures cursor { OnOk result (self.new.offset ≡ offset_at self.old.text from + length (accepted (chars s.now))) }
@@ -87,7 +90,6 @@ impl InputFieldContent {
         requires { IsPlaceIn self.now.text p }
         ensures place { IfSome result (λ q. IsPlaceIn self.now.text q) }
         ensures next { IfSome result (λ q. offset_at self.now.text q ≡ offset_at self.now.text p + 1) }
-        ensures order { IfSome result (λ q. p.y ≤ q.y) }
         ensures at_end { IsSome result ↔ (offset_at self.now.text p < length self.now.text) }
     {
         place_after(&self.lines, p)
@@ -98,7 +100,6 @@ impl InputFieldContent {
         requires { IsPlaceIn self.now.text p }
         ensures place { IfSome result (λ q. IsPlaceIn self.now.text q) }
         ensures next { IfSome result (λ q. offset_at self.now.text q + 1 ≡ offset_at self.now.text p) }
-        ensures order { IfSome result (λ q. q.y ≤ p.y) }
         ensures at_start { IsSome result ↔ (0 < offset_at self.now.text p) }
     {
         place_before(&self.lines, p)
@@ -108,16 +109,53 @@ impl InputFieldContent {
     pub(crate) fn place_past_char(&self, p: Pos) -> Pos
         requires { IsPlaceIn self.now.text p }
         ensures next { IsAt self.now.text (min (offset_at self.now.text p + 1) (length self.now.text)) result }
-        ensures order { p.y ≤ result.y }
     {
         place_past(&self.lines, p)
+    }
+
+    /// The characters of the cursor's line before the cursor.
+    pub(crate) fn front_of_line(&self) -> &[char]
+        ensures { result.now ≡ front_of_line self.now }
+    {
+        front_at(&self.lines, self.pos)
+    }
+
+    /// The characters of the cursor's line after the cursor.
+    pub(crate) fn rest_of_line(&self) -> &[char]
+        ensures { result.now ≡ rest_of_line self.now }
+    {
+        rest_at(&self.lines, self.pos)
+    }
+
+    /// The place some characters before the cursor in its line.
+    pub(crate) fn place_back(&self, count: usize) -> Pos
+        requires { count ≤ length (front_of_line self.now) }
+        ensures { IsAt self.now.text (self.now.offset - count) result }
+    {
+        Pos {
+            y: self.pos.y,
+            x: self.pos.x - count,
+        }
+    }
+
+    /// The place some characters after the cursor in its line.
+    pub(crate) fn place_ahead(&self, count: usize) -> Pos
+        requires { count ≤ length (rest_of_line self.now) }
+        ensures { IsAt self.now.text (self.now.offset + count) result }
+    {
+        let room = line_len(&self.lines, self.pos.y) - self.pos.x;
+        prove!(count <= room);
+        Pos {
+            y: self.pos.y,
+            x: self.pos.x + count,
+        }
     }
 
     /// The selection: its lesser place and its greater one, whose character is selected too.
     pub fn selection(&self) -> Range
         ensures min { IsAt self.now.text (selection_start self.now) result.min }
         ensures max { IsAt self.now.text (selection_last self.now) result.max }
-        ensures order { result.min.y ≤ result.max.y }
+        ensures valid { IsEditor self.now }
     {
         match self.selection_tail {
             Some(tail) => in_order(&self.lines, self.pos, tail),
@@ -152,6 +190,14 @@ impl InputFieldContent {
         ensures { IsAt self.now.text (length self.now.text) result }
     {
         end_place(&self.lines)
+    }
+
+    /// The start of the text.
+    pub(crate) fn start(&self) -> Pos
+        ensures { IsAt self.now.text 0 result }
+    {
+        let _ = &self.lines;
+        Pos { y: 0, x: 0 }
     }
 
     /// Begins a selection at the cursor where there is none.

@@ -5,6 +5,7 @@ mod content;
 mod edits;
 mod moves;
 mod selections;
+mod words;
 
 pub use content::InputFieldContent;
 pub use mad_lines::{Line, Pos, Range};

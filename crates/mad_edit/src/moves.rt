@@ -1,9 +1,14 @@
 //! Moves of the cursor. They take no memory and keep the tail.
 
 ghost use Rattle.std.specs.Prelude.{◌≡◌, ◌<◌, ◌+◌, ◌-◌, ◌↔◌, length, IsTrue};
-ghost use Rattle.mad_edit.specs.Editor.{offset_at, clamp_in};
+ghost use Rattle.std.specs.Bool.{OnTrue, OnFalse};
+ghost use Rattle.std.specs.List.{prefix_len, suffix_len};
+ghost use Rattle.mad_lines.specs.Classes.{is_alphanumeric};
+ghost use Rattle.mad_edit.specs.Editor.{offset_at, clamp_in, front_of_line, rest_of_line};
+ghost use Rattle.mad_edit.specs.Words.{word_before, word_after};
 
 use crate::content::InputFieldContent;
+use crate::words::{word_after, word_before};
 use mad_lines::Pos;
 
 impl InputFieldContent {
@@ -29,5 +34,104 @@ impl InputFieldContent {
     {
         let at = self.cursor_pos();
         self.previous_place(at).is_some()
+    }
+
+    /// One character to the right. Returns whether there is one.
+    pub fn move_right(&mut self) -> bool
+        ensures can { IsTrue result ↔ (self.old.offset < length self.old.text) }
+        ensures moved { OnTrue result (self.new ≡ record self.old { offset = self.old.offset + 1 }) }
+        ensures stays { OnFalse result (self.new ≡ self.old) }
+    {
+        let at = self.cursor_pos();
+        match self.next_place(at) {
+            Some(p) => {
+                self.put_cursor(p);
+                true
+            }
+            None => false,
+        }
+    }
+
+    /// One character to the left. Returns whether there is one.
+    pub fn move_left(&mut self) -> bool
+        ensures can { IsTrue result ↔ (0 < self.old.offset) }
+        ensures moved { self.new ≡ record self.old { offset = self.old.offset - 1 } }
+    {
+        let at = self.cursor_pos();
+        match self.previous_place(at) {
+            Some(p) => {
+                self.put_cursor(p);
+                true
+            }
+            None => false,
+        }
+    }
+
+    /// To the end of the text. Returns whether the cursor was elsewhere.
+    pub fn move_to_end(&mut self) -> bool
+        ensures can { IsTrue result ↔ (self.old.offset < length self.old.text) }
+        ensures moved { self.new ≡ record self.old { offset = length self.old.text } }
+    {
+        let moves = self.can_move_right();
+        let end = self.end();
+        self.put_cursor(end);
+        moves
+    }
+
+    /// To the start of the text. Returns whether the cursor was elsewhere.
+    pub fn move_to_start(&mut self) -> bool
+        ensures can { IsTrue result ↔ (0 < self.old.offset) }
+        ensures moved { self.new ≡ record self.old { offset = 0 } }
+    {
+        let moves = self.can_move_left();
+        let start = self.start();
+        self.put_cursor(start);
+        moves
+    }
+
+    /// To the end of the line. Returns whether the cursor was elsewhere.
+    pub fn move_to_line_end(&mut self) -> bool
+        ensures can { IsTrue result ↔ (0 < length (rest_of_line self.old)) }
+        ensures moved { self.new ≡ record self.old { offset = self.old.offset + length (rest_of_line self.old) } }
+    {
+        let count = self.rest_of_line().len();
+        let p = self.place_ahead(count);
+        self.put_cursor(p);
+        count > 0
+    }
+
+    /// To the start of the line. Returns whether the cursor was elsewhere.
+    pub fn move_to_line_start(&mut self) -> bool
+        ensures can { IsTrue result ↔ (0 < length (front_of_line self.old)) }
+        ensures moved { self.new ≡ record self.old { offset = self.old.offset - length (front_of_line self.old) } }
+    {
+        let count = self.front_of_line().len();
+        let p = self.place_back(count);
+        self.put_cursor(p);
+        count > 0
+    }
+
+    /// A word to the left in the line: one step, and on to the line's start or past the last letter or digit.
+    /// Returns whether there is a step.
+    pub fn move_word_left(&mut self) -> bool
+        ensures can { IsTrue result ↔ (0 < length (front_of_line self.old)) }
+        ensures moved { self.new ≡ record self.old { offset = self.old.offset - word_before (front_of_line self.old) } }
+    {
+        let count = word_before(self.front_of_line());
+        let p = self.place_back(count);
+        self.put_cursor(p);
+        count > 0
+    }
+
+    /// A word to the right in the line: one step, and on as far as the character after the next one is a letter or digit.
+    /// Returns whether there is a step.
+    pub fn move_word_right(&mut self) -> bool
+        ensures can { IsTrue result ↔ (0 < length (rest_of_line self.old)) }
+        ensures moved { self.new ≡ record self.old { offset = self.old.offset + word_after (rest_of_line self.old) } }
+    {
+        let count = word_after(self.rest_of_line());
+        let p = self.place_ahead(count);
+        self.put_cursor(p);
+        count > 0
     }
 }

@@ -2,4 +2,3 @@ pub mod PlaceLemmas
 pub mod RowLemmas
 pub mod TextLemmas
 pub mod ColumnLemmas
-pub mod SplitLemmas

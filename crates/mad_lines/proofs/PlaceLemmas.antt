@@ -16,11 +16,11 @@ led_split [] y h = absurd (omega arith)
 led_split (l ∷ ls) zero h = refl
 led_split (l ∷ ls) (suc y) h = ap (λ t. (10 ∷ l) ++ t) (led_split ls y (omega arith)) ∙ sym (append_assoc (10 ∷ l) (led_lines (take y ls)) _)
 
--- what stands before a place, behind the first newline
-pub before : List (List ℕ) → Pos → List ℕ
+-- what is before a place, after the first newline
+unfoldable pub before : List (List ℕ) → Pos → List ℕ
 before ls p = led_lines (take p.y ls) ++ (10 ∷ take p.x (line_at ls p.y))
 
-pub after : List (List ℕ) → Pos → List ℕ
+unfoldable pub after : List (List ℕ) → Pos → List ℕ
 after ls p = drop p.x (line_at ls p.y) ++ led_lines (drop (suc p.y) ls)
 
 pub led_at : (ls : List (List ℕ)) (p : Pos) → IsPlace ls p → led_lines ls ≡ before ls p ++ after ls p
@@ -42,7 +42,7 @@ pub drop_after : (ls : List (List ℕ)) (p : Pos) → IsPlace ls p → drop (suc
 drop_after ls p h = ap (drop (suc (offset_of ls p))) (led_at ls p h) ∙ drop_at (before ls p) (after ls p) _ (length-before ls p h)
 
 -- there is a line
-led_cons : (ls : List (List ℕ)) → 0 < length ls → led_lines ls ≡ 10 ∷ text_of ls
+pub led_cons : (ls : List (List ℕ)) → 0 < length ls → led_lines ls ≡ 10 ∷ text_of ls
 led_cons [] h = absurd (omega arith)
 led_cons (l ∷ ls) h = refl
 

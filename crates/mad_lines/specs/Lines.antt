@@ -1,5 +1,6 @@
 -- A text as its lines, and places in it.
 use Rattle.std.specs.Prelude.{ℕ, ◌+◌, ◌<◌, ◌≤◌, ◌≡◌, ◌==◌, ◌&&◌, List, [], ◌∷◌, ◌++◌, length, take, drop, map, not, true, Bool, All, slice_index_or, filter, min, nat_lt, if◌then◌else◌, ◌-◌}
+use Rattle.std.specs.List.{slice_split}
 use Rattle.std.specs.Char.{IsScalar}
 use Rattle.mad_lines.specs.declared.place.Pos.{Pos}
 use Rattle.mad_lines.specs.declared.line.Line.{Line}
@@ -13,15 +14,12 @@ led_lines (l ∷ ls) = (10 ∷ l) ++ led_lines ls
 abbrev pub text_of : List (List ℕ) → List ℕ
 text_of ls = drop 1 (led_lines ls)
 
--- one character more at the start of the first line
-abbrev pub onto_first : ℕ → List (List ℕ) → List (List ℕ)
-onto_first c [] = (c ∷ []) ∷ []
-onto_first c (l ∷ ls) = (c ∷ l) ∷ ls
+abbrev pub is_newline : ℕ → Bool
+is_newline c = c == 10
 
 -- the lines of a text, which is cut at each newline
 abbrev pub lines : List ℕ → List (List ℕ)
-lines [] = [] ∷ []
-lines (c ∷ cs) = if c == 10 then [] ∷ lines cs else onto_first c (lines cs)
+lines t = slice_split is_newline t
 
 abbrev pub line_at : List (List ℕ) → ℕ → List ℕ
 line_at ls y = slice_index_or ls y []
@@ -40,6 +38,10 @@ is_accepted c = not (c == 13) && not (c == 8)
 
 abbrev pub accepted : List ℕ → List ℕ
 accepted cs = filter is_accepted cs
+
+-- a character of a text in an editor: one that is put in
+abbrev pub IsAcceptedChar : ℕ → Type 0
+IsAcceptedChar c = (is_accepted c ≡ true) × IsScalar c
 
 -- a character of a line: no newline, carriage return or backspace
 abbrev pub is_plain : ℕ → Bool

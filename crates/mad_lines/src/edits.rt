@@ -5,6 +5,7 @@ ghost use Rattle.mad_lines.specs.Lines.{IsPlace, IsPlainLine, ArePlain, lines_of
 
 use crate::line::Line;
 use crate::place::Pos;
+use crate::places::{front_at, rest_at};
 use std::alloc::{AllocError, Global};
 use std::mem;
 
@@ -115,22 +116,7 @@ fn lines_between(lines: &Vec<Line>, from: Pos, to: Pos, text: &str) -> Result<Ne
     ensures ends_at { IfOk result (λ t. offset_of (lines_of t.lines.items) t.end ≡ from.x + length (accepted (chars text.now))) }
     ensures plain { IfOk result (λ t. All IsPlainLine (lines_of t.lines.items)) }
 {
-    let front = front_of(&lines[from.y], from.x);
-    let back = back_of(&lines[to.y], to.x);
+    let front = front_at(lines, from);
+    let back = rest_at(lines, to);
     lines_with_text(*lines.allocator(), front, text, back)
 }
-
-fn front_of(line: &Line, x: usize) -> &[char]
-    requires { x ≤ length line.now.chars.items }
-    ensures { result.now ≡ take x line.now.chars.items }
-{
-    &line.chars.as_slice()[..x]
-}
-
-fn back_of(line: &Line, x: usize) -> &[char]
-    requires { x ≤ length line.now.chars.items }
-    ensures { result.now ≡ drop x line.now.chars.items }
-{
-    &line.chars.as_slice()[x..]
-}
-

@@ -1,20 +1,22 @@
 //! Places among lines, and the text between two of them.
 
-ghost use Rattle.std.specs.Prelude.{◌≡◌, ◌<◌, ◌≤◌, ◌+◌, ◌↔◌, IfSome, IsSome, IsTrue, Some, IfOk, length, min, max, slice_get, slice_range, string_bytes, encode_utf8_all};
+ghost use Rattle.std.specs.Prelude.{◌≡◌, ◌<◌, ◌≤◌, ◌+◌, ◌↔◌, IfSome, IsSome, IsTrue, Some, IfOk, length, take, drop, min, max, slice_get, slice_range, string_bytes, encode_utf8_all};
 ghost use Rattle.mad_lines.specs.Lines.{IsPlace, lines_of, line_at, text_of, offset_of, end_of, clamp};
 
 use crate::line::Line;
 use crate::place::{Pos, Range};
 use std::alloc::{AllocError, Global};
 
-fn line_len(lines: &Vec<Line>, y: usize) -> usize
+/// How many characters a line has.
+pub fn line_len(lines: &Vec<Line>, y: usize) -> usize
     requires { y < length (lines_of lines.now.items) }
     ensures { result ≡ length (line_at (lines_of lines.now.items) y) }
 {
     lines[y].chars.len()
 }
 
-fn line_count(lines: &Vec<Line>) -> usize
+/// How many lines there are.
+pub fn line_count(lines: &Vec<Line>) -> usize
     ensures { result ≡ length (lines_of lines.now.items) }
 {
     lines.len()
@@ -200,3 +202,32 @@ pub fn text_between(
     Ok(out)
 }
 
+fn front_of(line: &Line, x: usize) -> &[char]
+    requires { x ≤ length line.now.chars.items }
+    ensures { result.now ≡ take x line.now.chars.items }
+{
+    &line.chars.as_slice()[..x]
+}
+
+fn rest_of(line: &Line, x: usize) -> &[char]
+    requires { x ≤ length line.now.chars.items }
+    ensures { result.now ≡ drop x line.now.chars.items }
+{
+    &line.chars.as_slice()[x..]
+}
+
+/// The characters of a place's line before the place.
+pub fn front_at(lines: &Vec<Line>, p: Pos) -> &[char]
+    requires { IsPlace (lines_of lines.now.items) p }
+    ensures { result.now ≡ take p.x (line_at (lines_of lines.now.items) p.y) }
+{
+    front_of(&lines[p.y], p.x)
+}
+
+/// The characters of a place's line after the place.
+pub fn rest_at(lines: &Vec<Line>, p: Pos) -> &[char]
+    requires { IsPlace (lines_of lines.now.items) p }
+    ensures { result.now ≡ drop p.x (line_at (lines_of lines.now.items) p.y) }
+{
+    rest_of(&lines[p.y], p.x)
+}

@@ -1,6 +1,6 @@
 //! What words are made of, and how far they go.
 
-ghost use Rattle.std.specs.Prelude.{◌≡◌};
+ghost use Rattle.std.specs.Prelude.{◌≡◌, ◌≤◌, length};
 ghost use Rattle.std.specs.List.{prefix_len, suffix_len};
 ghost use Rattle.mad_lines.specs.Classes.{is_alphanumeric, is_of};
 
@@ -44,7 +44,8 @@ impl CharClass {
 
     /// How many characters at the front are of the class.
     pub fn count_front(self, chars: &[char]) -> usize
-        ensures { result ≡ prefix_len (is_of self) chars.now }
+        ensures is { result ≡ prefix_len (is_of self) chars.now }
+        ensures within { result ≤ length chars.now }
     {
         for (index, c) in chars.iter().enumerate() {
             if !self.has(*c) {
@@ -56,7 +57,8 @@ impl CharClass {
 
     /// How many characters at the end are of the class.
     pub fn count_end(self, chars: &[char]) -> usize
-        ensures { result ≡ suffix_len (is_of self) chars.now }
+        ensures is { result ≡ suffix_len (is_of self) chars.now }
+        ensures within { result ≤ length chars.now }
     {
         let mut rest = chars.len();
         while rest > 0 && self.has(chars[rest - 1]) {

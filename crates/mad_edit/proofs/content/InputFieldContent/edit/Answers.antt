@@ -1,8 +1,9 @@
-use Rattle.mad_lines.proofs.SplitLemmas.{lines-text_of}
+use Rattle.mad_edit.proofs.SplitLemmas.{lines-text_of}
 use Rattle.std.proofs.Common.{arith, ◌≡◌, ◌∙◌, ap, refl, subst, rules, sym}
 use Rattle.mad_lines.specs.Lines.{lines_of}
 use Rattle.mad_edit.specs.Editor.{Editor, IsAt}
 use Rattle.mad_edit.proofs.EditorLemmas.{own_lines, lines_seen}
+use Rattle.mad_edit.proofs.LineLemmas.{lines_in_order}
 use Rattle.mad_edit.proofs.content.InputFieldContent.edit.Goals as goal
 
 pub edit_lines-requires-clause-from : goal.edit_lines-requires-clause-from
@@ -26,3 +27,8 @@ returns-in_default-clause-text c = rw (lines_seen _ _ _ _ c.self.view_is c.self.
 
 pub returns-in_default-clause-cursor : goal.returns-in_default-clause-cursor
 returns-in_default-clause-cursor c = rw (lines_seen _ _ _ _ c.self.view_is c.self.invariant) (search rules)
+
+pub edit_lines-requires-clause-order : goal.edit_lines-requires-clause-order
+edit_lines-requires-clause-order c =
+    lines_in_order (lines_of c.self.inside.lines.items) c.args.from c.args.to
+    (rw (lines_seen _ _ _ _ c.self.view_is c.self.invariant) at c.requires.from) (rw (lines_seen _ _ _ _ c.self.view_is c.self.invariant) at c.requires.to) (rw (lines_seen _ _ _ _ c.self.view_is c.self.invariant) at c.requires.order)

@@ -7,5 +7,5 @@ use Rattle.mad_edit.proofs.content.InputFieldContent.place_past_char.Goals as go
 pub place_past-requires : goal.place_past-requires
 place_past-requires c = rw (lines_seen _ _ _ _ c.self.view_is c.self.invariant) at c.requires
 
-pub returns-clause-next : goal.returns-clause-next
-returns-clause-next c = rw (lines_seen _ _ _ _ c.self.view_is c.self.invariant, ← c.self.view_is) (search rules)
+pub returns : goal.returns
+returns c = rw (lines_seen _ _ _ _ c.self.view_is c.self.invariant, ← c.self.view_is) (search rules)

@@ -1,7 +1,7 @@
 use Rattle.std.proofs.Common.{◌≡◌, ◌∙◌, ap, refl, subst, rules, sym}
 use Rattle.mad_lines.specs.Lines.{lines_of}
 use Rattle.mad_edit.specs.Editor.{Editor, IsAt}
-use Rattle.mad_edit.proofs.EditorLemmas.{own_lines, lines_seen}
+use Rattle.mad_edit.proofs.EditorLemmas.{own_lines, lines_seen, editor_seen}
 use Rattle.mad_edit.proofs.content.InputFieldContent.selection.Goals as goal
 
 pub returns-in-Some-clause-min : goal.returns-in-Some-clause-min
@@ -15,3 +15,9 @@ returns-in-None-clause-min c = rw (lines_seen _ _ _ _ c.self.view_is c.self.inva
 
 pub returns-in-None-clause-max : goal.returns-in-None-clause-max
 returns-in-None-clause-max c = rw (lines_seen _ _ _ _ c.self.view_is c.self.invariant, ← c.self.view_is) (search rules)
+
+pub returns-in-Some-clause-valid : goal.returns-in-Some-clause-valid
+returns-in-Some-clause-valid c = editor_seen _ _ _ _ c.self.view_is c.self.invariant
+
+pub returns-in-None-clause-valid : goal.returns-in-None-clause-valid
+returns-in-None-clause-valid c = editor_seen _ _ _ _ c.self.view_is c.self.invariant

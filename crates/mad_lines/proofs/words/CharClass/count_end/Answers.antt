@@ -5,8 +5,8 @@ use Rattle.mad_lines.specs.Classes.{is_of}
 use Rattle.mad_lines.proofs.words.CharClass.count_end.Goals as goal
 use Rattle.mad_lines.proofs.words.CharClass.count_end.Goals.{then-loop-rest-test+else-has, else-loop-rest-test}
 
-pub returns : goal.returns
-returns c =
+pub returns-clause-is : goal.returns-clause-is
+returns-clause-is c =
     let xs = c.args.chars.now in
     let stops : 0 < c.loop-rest.rest → is_of c.args.self (get_or xs (c.loop-rest.rest - 1) 0) ≡ false = λ some.
     elim c.loop-rest-test.branch [

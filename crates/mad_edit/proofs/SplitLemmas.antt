@@ -3,7 +3,8 @@ use Rattle.std.proofs.Common.{ℕ, zero, suc, ◌+◌, ◌<◌, ◌≤◌, ◌�
 use Rattle.std.specs.Prelude.{All, if◌then◌else◌}
 use Rattle.std.specs.Char.{IsScalar}
 use Rattle.std.proofs.lemmas.List.Elements.{All-head, All-tail, All-cons, All-nil, All-append}
-use Rattle.mad_lines.specs.Lines.{led_lines, text_of, lines, onto_first, is_plain, is_accepted, IsPlainLine}
+use Rattle.std.specs.List.{onto_first}
+use Rattle.mad_lines.specs.Lines.{led_lines, text_of, lines, is_plain, is_accepted, IsPlainLine, IsAcceptedChar}
 
 abbrev IsPlainChar : ℕ → Type 0
 IsPlainChar c = (is_plain c ≡ true) × IsScalar c
@@ -40,9 +41,6 @@ lines_next l (m ∷ ls) h =
 pub lines-text_of : (ls : List (List ℕ)) → 0 < length ls → All IsPlainLine ls → lines (text_of ls) ≡ ls
 lines-text_of [] some h = absurd (omega arith)
 lines-text_of (l ∷ ls) some h = lines_next l ls h
-
-abbrev pub IsAcceptedChar : ℕ → Type 0
-IsAcceptedChar c = (is_accepted c ≡ true) × IsScalar c
 
 accepted_line : (l : List ℕ) → IsPlainLine l → All IsAcceptedChar l
 accepted_line [] h = All-nil IsAcceptedChar
