@@ -1,3 +1,4 @@
 pub mod SplitLemmas
 pub mod LineLemmas
 pub mod EditorLemmas
+pub mod TextLemmas

@@ -1,8 +1,9 @@
 -- What an editor is: one text, an offset into it, and an optional tail.
-use Rattle.std.specs.Prelude.{ℕ, ◌+◌, ◌-◌, ◌<◌, ◌≤◌, ◌≡◌, List, ◌++◌, All, Option, None, Some, Bool, true, not, ◌==◌, length, take, drop, min, max, option_map, slice_range, count_by}
+use Rattle.std.specs.Prelude.{ℕ, ◌+◌, ◌-◌, ◌<◌, ◌≤◌, ◌≡◌, List, ◌++◌, All, Option, None, Some, Bool, true, not, ◌==◌, length, take, drop, min, max, option_map, slice_range, count_by, nat_lt, if◌then◌else◌}
 use Rattle.std.specs.Option.{ForSome}
 use Rattle.std.specs.List.{prefix_len, suffix_len}
 use Rattle.mad_lines.specs.declared.place.Pos.{Pos}
+use Rattle.mad_lines.specs.Classes.{is_alphanumeric}
 use Rattle.mad_lines.specs.Lines.{lines, text_of, IsPlace, IsPlainLine, IsAcceptedChar, is_newline, offset_of, accepted, clamp}
 
 pub record Editor : Type 0 where
@@ -84,3 +85,34 @@ pub record IsValid (ls : List (List ℕ)) (at : Pos) (tail : Option Pos) : Type 
   pub cursor : IsPlace ls at
   pub selected : ForSome tail (IsPlace ls)
   pub plain : All IsPlainLine ls
+
+-- the editor after characters were put in place of what was between two offsets
+pub record IsReplaced (old new : Editor) (from to : ℕ) (cs : List ℕ) : Type 0 where
+  pub text : new.text ≡ replaced old.text from to cs
+  pub cursor : new.offset ≡ from + length (accepted cs)
+  pub tail : new.tail ≡ clamp_tail new.text old.tail
+
+-- the editor after what was between two offsets was removed
+pub record IsRemoved (old new : Editor) (from to : ℕ) : Type 0 where
+  pub text : new.text ≡ without old.text from to
+  pub cursor : new.offset ≡ from
+  pub tail : new.tail ≡ clamp_tail new.text old.tail
+
+-- the editor after its selection was removed
+pub record IsCut (old new : Editor) : Type 0 where
+  pub text : new.text ≡ without old.text (selection_start old) (selection_end old)
+  pub cursor : new.offset ≡ selection_start old
+  pub tail : new.tail ≡ None
+
+-- what a removal at the cursor takes: the character there or the newline; at the end of the text the newline before,
+-- if the last line is empty
+abbrev pub below_start : Editor → ℕ
+below_start e = if nat_lt e.offset (length e.text) then e.offset else (if length (front_of_line e) == 0 then e.offset - 1 else e.offset)
+
+abbrev pub below_end : Editor → ℕ
+below_end e = min (e.offset + 1) (length e.text)
+
+-- where the cursor is after a removal to the right: one step back in its line where letters and digits reached the line's end
+abbrev pub after_word_removed : Editor → ℕ
+after_word_removed e =
+    if prefix_len is_alphanumeric (rest_of_line e) == length (rest_of_line e) then e.offset - min 1 (length (front_of_line e)) else e.offset

@@ -3,10 +3,10 @@
 ghost use Rattle.std.specs.Prelude.{◌≡◌, ◌<◌, ◌≤◌, ◌+◌, ◌-◌, ◌↔◌, [], None, Some, length, chars, min, max, option_map, IfOk, IfSome, IsSome, OnOk, OnErr, IsTrue, string_bytes, encode_utf8_all, slice_range};
 ghost use Rattle.std.specs.Option.{option_or, ForSome};
 ghost use Rattle.mad_lines.specs.Lines.{lines, lines_of, accepted};
-ghost use Rattle.mad_edit.specs.Editor.{IsPlaceIn, offset_at, IsAt, clamp_in, clamp_tail, replaced, cursor_line, cursor_column, front_of_line, rest_of_line, IsEditor, selection_start, selection_last};
+ghost use Rattle.mad_edit.specs.Editor.{IsPlaceIn, offset_at, IsAt, clamp_in, clamp_tail, replaced, cursor_line, cursor_column, front_of_line, rest_of_line, IsEditor, IsWide, selection_start, selection_last};
 
 use mad_lines::{
-    Line, Pos, Range, edit_lines, end_place, front_at, in_order, line_len, place_after, place_before, place_past,
+    Line, Pos, Range, edit_lines, end_place, front_at, in_order, is_before, line_len, place_after, place_before, place_past,
     rest_at, text_between, valid_pos,
 };
 use std::alloc::{AllocError, Global};
@@ -155,6 +155,7 @@ impl InputFieldContent {
     pub fn selection(&self) -> Range
         ensures min { IsAt self.now.text (selection_start self.now) result.min }
         ensures max { IsAt self.now.text (selection_last self.now) result.max }
+        ensures within { selection_last self.now ≤ length self.now.text }
         ensures valid { IsEditor self.now }
     {
         match self.selection_tail {
@@ -164,6 +165,14 @@ impl InputFieldContent {
                 max: self.pos,
             },
         }
+    }
+
+    /// Whether the tail is elsewhere than the cursor.
+    pub fn has_wide_selection(&self) -> bool
+        ensures { IsTrue result ↔ IsWide self.now }
+    {
+        let Range { min, max } = self.selection();
+        is_before(&self.lines, min, max)
     }
 
     /// The text between two places.
@@ -225,6 +234,15 @@ impl InputFieldContent {
         ensures { self.new ≡ record self.old { tail = Some (clamp_in self.old.text sel_tail) } }
     {
         self.selection_tail = Some(valid_pos(&self.lines, sel_tail));
+    }
+
+    /// Puts the tail at a place of the text.
+    pub(crate) fn put_tail(&mut self, p: Pos)
+        requires { IsPlaceIn self.old.text p }
+        ensures { self.new ≡ record self.old { tail = Some p } }
+    {
+        let _ = &self.lines;
+        self.selection_tail = Some(p);
     }
 
     /// Whether there is a tail.
