@@ -1,5 +1,5 @@
 -- An editor and the lines that it keeps.
-use Rattle.std.proofs.Common.{ℕ, ◌+◌, ◌-◌, ◌<◌, ◌≤◌, ◌≡◌, List, length, take, drop, arith, ap, ◌∙◌, sym, subst, Option, None, Some}
+use Rattle.std.proofs.Common.{ℕ, ◌+◌, ◌-◌, ◌<◌, ◌≤◌, ◌≡◌, List, length, take, drop, arith, ap, ◌∙◌, sym, subst, Option, None, Some, max, refl}
 use Rattle.std.specs.Option.{ForSome}
 use Rattle.std.proofs.lemmas.List.{length-take-le, length-drop}
 use Rattle.mad_lines.proofs.PlaceLemmas.{length-text}
@@ -7,7 +7,7 @@ use Rattle.mad_lines.specs.declared.place.Pos.{Pos}
 use Rattle.mad_lines.specs.Lines.{lines, text_of, offset_of, line_at, IsPlace}
 use Rattle.mad_edit.proofs.SplitLemmas.{lines-text_of, accepted_text}
 use Rattle.mad_edit.proofs.LineLemmas.{newlines_before, length_front, front_before, rest_after}
-use Rattle.mad_edit.specs.Editor.{Editor, IsValid, IsEditor, IsPlaceIn, cursor_line, cursor_column, front_of_line, rest_of_line}
+use Rattle.mad_edit.specs.Editor.{Editor, IsValid, IsEditor, IsPlaceIn, tail_offset, cursor_line, cursor_column, front_of_line, rest_of_line}
 
 -- the lines of its text are those that it keeps
 pub own_lines : (ls : List (List ℕ)) (at : Pos) (tail : Option Pos) → IsValid ls at tail → lines (text_of ls) ≡ ls
@@ -20,12 +20,17 @@ lines_seen e ls at tail seen h = ap (λ (x : Editor). lines x.text) (sym seen) �
 abbrev Seen : Editor → List (List ℕ) → Pos → Option Pos → Type 0
 Seen e ls at tail = record { text = text_of ls; offset = offset_of ls at; tail = tail } ≡ e
 
+last_seen : (ls : List (List ℕ)) (at : Pos) (tail : Option Pos) → IsValid ls at tail → max (offset_of ls at) (tail_offset (text_of ls) (offset_of ls at) tail) ≤ length (text_of ls)
+last_seen ls at None h = omega (arith, length-text ls at h.cursor)
+last_seen ls at (Some p) h = rw (own_lines ls at (Some p) h) (omega (arith, length-text ls at h.cursor, length-text ls p (h.selected p refl)))
+
 -- every editor is valid
 pub editor_seen : (e : Editor) (ls : List (List ℕ)) (at : Pos) (tail : Option Pos) → Seen e ls at tail → IsValid ls at tail → IsEditor e
 editor_seen e ls at tail seen h =
     subst (λ (x : Editor). IsEditor x) seen (record {
       cursor = omega (arith, length-text ls at h.cursor);
       tail = rw (own_lines ls at tail h) h.selected;
+      last = last_seen ls at tail h;
       accepted = accepted_text ls h.plain;
     })
 

@@ -44,3 +44,15 @@ cut_undone t bs a b low high plain e =
     ∙ ap (λ s. take a t ++ (accepted (chars bs) ++ s)) (drop_at (take a t) (drop b t) a n)
     ∙ ap (λ s. take a t ++ (s ++ drop b t)) (handed_back (slice_range t a b) bs (All-take IsAcceptedChar _ _ (All-drop IsAcceptedChar a t plain)) e)
     ∙ sym (split_between t a b low)
+
+-- the text is what is left, with what was cut out at its offset
+pub cut_removed : (t left bs : List ℕ) (a b n : ℕ) → a ≤ b → b ≤ length t → All IsAcceptedChar t → bs ≡ encode_utf8_all (slice_range t a b) → left ≡ take a t ++ drop b t → n ≡ a → t ≡ take n left ++ (chars bs ++ drop n left)
+cut_removed t left bs a b n low high plain e cut at =
+    let size = length-take-le a t (omega arith) in
+    let part : chars bs ≡ slice_range t a b = ap chars e ∙ chars-encodes (slice_range t a b) (all_scalars (slice_range t a b) (All-take IsAcceptedChar _ _ (All-drop IsAcceptedChar a t plain))) in
+    split_between t a b low
+    ∙ ap (λ s. s ++ (slice_range t a b ++ drop b t)) (sym (take_at (take a t) (drop b t) a size))
+    ∙ ap (λ s. take a (take a t ++ drop b t) ++ (slice_range t a b ++ s)) (sym (drop_at (take a t) (drop b t) a size))
+    ∙ ap (λ s. take a (take a t ++ drop b t) ++ (s ++ drop a (take a t ++ drop b t))) (sym part)
+    ∙ ap (λ s. take a s ++ (chars bs ++ drop a s)) (sym cut)
+    ∙ ap (λ m. take m left ++ (chars bs ++ drop m left)) (sym at)

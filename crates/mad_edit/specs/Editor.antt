@@ -4,7 +4,8 @@ use Rattle.std.specs.Option.{ForSome}
 use Rattle.std.specs.List.{prefix_len, suffix_len}
 use Rattle.mad_lines.specs.declared.place.Pos.{Pos}
 use Rattle.mad_lines.specs.Classes.{is_alphanumeric}
-use Rattle.mad_lines.specs.Lines.{lines, text_of, IsPlace, IsPlainLine, IsAcceptedChar, is_newline, offset_of, accepted, clamp}
+use Rattle.mad_lines.specs.Columns.{columns, IsIndexAtColumn}
+use Rattle.mad_lines.specs.Lines.{lines, line_at, text_of, IsPlace, IsPlainLine, IsAcceptedChar, is_newline, offset_of, accepted, clamp}
 
 pub record Editor : Type 0 where
   pub text : List ℕ
@@ -78,6 +79,7 @@ rest_of_line e = take (prefix_len is_in_line (drop e.offset e.text)) (drop e.off
 pub record IsEditor (e : Editor) : Type 0 where
   pub cursor : e.offset ≤ length e.text
   pub tail : ForSome e.tail (IsPlaceIn e.text)
+  pub last : selection_last e ≤ length e.text
   pub accepted : All IsAcceptedChar e.text
 
 -- lines with a cursor and a tail: there is a line, the places are places of it, the lines are plain
@@ -91,6 +93,16 @@ pub record IsReplaced (old new : Editor) (from to : ℕ) (cs : List ℕ) : Type 
   pub text : new.text ≡ replaced old.text from to cs
   pub cursor : new.offset ≡ from + length (accepted cs)
   pub tail : new.tail ≡ clamp_tail new.text old.tail
+
+-- the text after characters are put in at the cursor
+abbrev pub inserted : Editor → List ℕ → List ℕ
+inserted e cs = replaced e.text e.offset e.offset cs
+
+-- the cursor went to a line, to the first character that starts at its column or after it, or to the line's end
+abbrev pub IsMovedToLine : Editor → ℕ → Editor → Type 0
+IsMovedToLine old y new =
+    (x : ℕ) × IsIndexAtColumn (line_at (lines old.text) y) (columns (front_of_line old)) x
+    × (new ≡ record old { offset = offset_at old.text (record { y = y; x = x }) })
 
 -- the editor after what was between two offsets was removed
 pub record IsRemoved (old new : Editor) (from to : ℕ) : Type 0 where

@@ -3,10 +3,10 @@
 ghost use Rattle.std.specs.Prelude.{◌≡◌, ◌<◌, ◌≤◌, ◌+◌, ◌-◌, ◌↔◌, [], None, Some, length, chars, min, max, option_map, IfOk, IfSome, IsSome, OnOk, OnErr, IsTrue, string_bytes, encode_utf8_all, slice_range};
 ghost use Rattle.std.specs.Option.{option_or, ForSome};
 ghost use Rattle.mad_lines.specs.Lines.{lines, lines_of, accepted};
-ghost use Rattle.mad_edit.specs.Editor.{IsPlaceIn, offset_at, IsAt, clamp_in, clamp_tail, replaced, cursor_line, cursor_column, front_of_line, rest_of_line, IsEditor, IsWide, selection_start, selection_last};
+ghost use Rattle.mad_edit.specs.Editor.{IsPlaceIn, offset_at, IsAt, clamp_in, clamp_tail, replaced, cursor_line, cursor_column, front_of_line, rest_of_line, IsEditor, IsWide, IsMovedToLine, selection_start, selection_last};
 
 use mad_lines::{
-    Line, Pos, Range, edit_lines, end_place, front_at, in_order, is_before, line_len, place_after, place_before, place_past,
+    Line, Pos, Range, clone_lines, columns, edit_lines, end_place, front_at, in_order, index_at_column, is_before, line_count, line_len, place_after, place_before, place_past,
     rest_at, text_between, valid_pos,
 };
 use std::alloc::{AllocError, Global};
@@ -155,7 +155,6 @@ impl InputFieldContent {
     pub fn selection(&self) -> Range
         ensures min { IsAt self.now.text (selection_start self.now) result.min }
         ensures max { IsAt self.now.text (selection_last self.now) result.max }
-        ensures within { selection_last self.now ≤ length self.now.text }
         ensures valid { IsEditor self.now }
     {
         match self.selection_tail {
@@ -199,6 +198,40 @@ impl InputFieldContent {
         ensures { IsAt self.now.text (length self.now.text) result }
     {
         end_place(&self.lines)
+    }
+
+    /// A copy of the text, the cursor and the tail.
+    pub fn try_clone(&self, alloc: Global) -> Result<InputFieldContent, AllocError>
+        ensures { IfOk result (λ copy. copy ≡ self.now) }
+    {
+        let lines = clone_lines(alloc, &self.lines)?;
+        Ok(InputFieldContent {
+            lines,
+            pos: self.pos,
+            selection_tail: self.selection_tail,
+        })
+    }
+
+    /// The allocator that the text takes memory from.
+    pub(crate) fn allocator(&self) -> Global {
+        *self.lines.allocator()
+    }
+
+    /// How many lines there are.
+    pub fn line_count(&self) -> usize
+        ensures { result ≡ length (lines self.now.text) }
+    {
+        line_count(&self.lines)
+    }
+
+    /// Puts the cursor in a line, at its column.
+    pub(crate) fn put_in_line(&mut self, y: usize)
+        requires { y < length (lines self.old.text) }
+        ensures { IsMovedToLine self.old y self.new }
+    {
+        let column = columns(front_at(&self.lines, self.pos));
+        let x = index_at_column(rest_at(&self.lines, Pos { y, x: 0 }), column);
+        self.pos = Pos { y, x };
     }
 
     /// The start of the text.

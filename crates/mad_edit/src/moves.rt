@@ -1,10 +1,9 @@
 //! Moves of the cursor. They take no memory and keep the tail.
 
-ghost use Rattle.std.specs.Prelude.{◌≡◌, ◌<◌, ◌+◌, ◌-◌, ◌↔◌, length, IsTrue};
+ghost use Rattle.std.specs.Prelude.{◌≡◌, ◌<◌, ◌+◌, ◌-◌, ◌↔◌, length, min, IsTrue};
 ghost use Rattle.std.specs.Bool.{OnTrue, OnFalse};
-ghost use Rattle.std.specs.List.{prefix_len, suffix_len};
-ghost use Rattle.mad_lines.specs.Classes.{is_alphanumeric};
-ghost use Rattle.mad_edit.specs.Editor.{offset_at, clamp_in, front_of_line, rest_of_line};
+ghost use Rattle.mad_lines.specs.Lines.{lines};
+ghost use Rattle.mad_edit.specs.Editor.{offset_at, clamp_in, front_of_line, rest_of_line, cursor_line, IsMovedToLine};
 ghost use Rattle.mad_edit.specs.Words.{word_before, word_after};
 
 use crate::content::InputFieldContent;
@@ -133,5 +132,59 @@ impl InputFieldContent {
         let p = self.place_ahead(count);
         self.put_cursor(p);
         count > 0
+    }
+
+    /// Some lines up in the same column, or to the first line. Returns whether there is a line above.
+    pub fn move_lines_up(&mut self, count: usize) -> bool
+        ensures can { IsTrue result ↔ (0 < cursor_line self.old) }
+        ensures moved { OnTrue result (0 < count → IsMovedToLine self.old (cursor_line self.old - count) self.new) }
+        ensures stays { count ≡ 0 → self.new ≡ self.old }
+        ensures none { OnFalse result (self.new ≡ self.old) }
+    {
+        let Pos { y, .. } = self.cursor_pos();
+        if y == 0 {
+            return false;
+        }
+        if count > 0 {
+            self.put_in_line(y.saturating_sub(count));
+        }
+        true
+    }
+
+    /// Some lines down in the same column, or to the last line. Returns whether there is a line below.
+    pub fn move_lines_down(&mut self, count: usize) -> bool
+        ensures can { IsTrue result ↔ (cursor_line self.old + 1 < length (lines self.old.text)) }
+        ensures moved { OnTrue result (0 < count
+            → IsMovedToLine self.old (min (cursor_line self.old + count) (length (lines self.old.text) - 1)) self.new) }
+        ensures stays { count ≡ 0 → self.new ≡ self.old }
+        ensures none { OnFalse result (self.new ≡ self.old) }
+    {
+        let Pos { y, .. } = self.cursor_pos();
+        let last = self.line_count() - 1;
+        if y >= last {
+            return false;
+        }
+        if count > 0 {
+            self.put_in_line(y + count.min(last - y));
+        }
+        true
+    }
+
+    /// One line up in the same column. Returns whether there is a line above.
+    pub fn move_up(&mut self) -> bool
+        ensures can { IsTrue result ↔ (0 < cursor_line self.old) }
+        ensures moved { OnTrue result (IsMovedToLine self.old (cursor_line self.old - 1) self.new) }
+        ensures none { OnFalse result (self.new ≡ self.old) }
+    {
+        self.move_lines_up(1)
+    }
+
+    /// One line down in the same column. Returns whether there is a line below.
+    pub fn move_down(&mut self) -> bool
+        ensures can { IsTrue result ↔ (cursor_line self.old + 1 < length (lines self.old.text)) }
+        ensures moved { OnTrue result (IsMovedToLine self.old (cursor_line self.old + 1) self.new) }
+        ensures none { OnFalse result (self.new ≡ self.old) }
+    {
+        self.move_lines_down(1)
     }
 }

@@ -5,7 +5,9 @@ ghost use Rattle.std.specs.Bool.{OnTrue, OnFalse};
 ghost use Rattle.std.specs.List.{prefix_len, suffix_len};
 ghost use Rattle.mad_lines.specs.Classes.{is_of};
 ghost use Rattle.mad_lines.specs.Lines.{accepted};
-ghost use Rattle.mad_edit.specs.Editor.{IsAt, IsCut, IsRemoved, IsReplaced, IsWide, replaced, selected, selection_start, selection_last, selection_end, below_start, below_end, front_of_line, rest_of_line};
+ghost use Rattle.mad_edit.specs.Undo.{Removes};
+ghost use Rattle.mad_lines.specs.declared.place.Pos.{Pos};
+ghost use Rattle.mad_edit.specs.Editor.{IsEditor, inserted, IsAt, IsCut, IsRemoved, IsReplaced, IsWide, replaced, selected, selection_start, selection_last, selection_end, below_start, below_end, front_of_line, rest_of_line};
 
 use crate::content::InputFieldContent;
 use mad_lines::{CharClass, Range};
@@ -14,7 +16,8 @@ use std::alloc::AllocError;
 impl InputFieldContent {
     /// The selected characters.
     pub fn selection_string(&self) -> Result<String, AllocError>
-        ensures { IfOk result (λ s. string_bytes s ≡ encode_utf8_all (selected self.now)) }
+        ensures is { IfOk result (λ s. string_bytes s ≡ encode_utf8_all (selected self.now)) }
+        ensures valid { IsEditor self.now }
     {
         let Range { min, max } = self.selection();
         let end = self.place_past_char(max);
@@ -55,6 +58,25 @@ impl InputFieldContent {
             return Ok(true);
         }
         self.del_char_below()
+    }
+
+    /// Hands out the selected characters and removes what `del_selection` removes. Inserting what a wide selection
+    /// handed out gives back the text.
+    pub fn cut_selection(&mut self) -> Result<String, AllocError>
+        ensures handed { IfOk result (λ s. string_bytes s ≡ encode_utf8_all (selected self.old)) }
+        ensures wide { OnOk result (IsWide self.old → IsCut self.old self.new) }
+        ensures undone { IfOk result (λ s. IsWide self.old → inserted self.new (chars (string_bytes s)) ≡ self.old.text) }
+        ensures removes { IfOk result (λ s. (p : Pos) → IsWide self.old → IsAt self.new.text self.new.offset p
+            → Removes self.old.text (record { place = p; text = chars (string_bytes s) }) self.new.text) }
+        ensures below { OnOk result (selection_last self.old ≤ selection_start self.old → below_start self.old < below_end self.old
+            → IsRemoved self.old self.new (below_start self.old) (below_end self.old)) }
+        ensures nothing { OnOk result (selection_last self.old ≤ selection_start self.old → below_end self.old ≤ below_start self.old
+            → self.new ≡ self.old) }
+        ensures err { OnErr result (self.new ≡ self.old) }
+    {
+        let handed = self.selection_string()?;
+        self.del_selection()?;
+        Ok(handed)
     }
 
     /// Puts a text in place of a wide selection, or in at the cursor. Carriage returns and backspaces are left out.

@@ -231,3 +231,14 @@ pub fn rest_at(lines: &Vec<Line>, p: Pos) -> &[char]
 {
     rest_of(&lines[p.y], p.x)
 }
+
+/// A copy of lines.
+pub fn clone_lines(alloc: Global, lines: &Vec<Line>) -> Result<Vec<Line>, AllocError>
+    ensures { IfOk result (λ copy. lines_of copy.items ≡ lines_of lines.now.items) }
+{
+    let mut copy = Vec::with_capacity(alloc, lines.len())?;
+    for line in lines {
+        copy.push(line.try_clone(alloc)?)?;
+    }
+    Ok(copy)
+}

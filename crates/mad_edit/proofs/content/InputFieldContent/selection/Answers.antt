@@ -2,7 +2,6 @@ use Rattle.std.proofs.Common.{◌≡◌, ◌∙◌, ap, refl, subst, rules, sym,
 use Rattle.mad_lines.specs.Lines.{lines_of}
 use Rattle.mad_edit.specs.Editor.{Editor, IsAt}
 use Rattle.mad_edit.proofs.EditorLemmas.{own_lines, lines_seen, editor_seen}
-use Rattle.mad_lines.proofs.PlaceLemmas.{length-text}
 use Rattle.mad_edit.proofs.content.InputFieldContent.selection.Goals as goal
 
 pub returns-in-Some-clause-min : goal.returns-in-Some-clause-min
@@ -22,13 +21,3 @@ returns-in-Some-clause-valid c = editor_seen _ _ _ _ c.self.view_is c.self.invar
 
 pub returns-in-None-clause-valid : goal.returns-in-None-clause-valid
 returns-in-None-clause-valid c = editor_seen _ _ _ _ c.self.view_is c.self.invariant
-
-pub returns-in-Some-clause-within : goal.returns-in-Some-clause-within
-returns-in-Some-clause-within c =
-    rw (← c.self.view_is, c.in-Some.is, own_lines _ _ _ c.self.invariant)
-    (let e = length-text (lines_of c.self.inside.lines.items) c.in_order.result.max c.in_order.ensures.max_place in omega (arith, c.in_order.ensures.max, e))
-
-pub returns-in-None-clause-within : goal.returns-in-None-clause-within
-returns-in-None-clause-within c =
-    rw (← c.self.view_is, c.in-None.is)
-    (let e = length-text (lines_of c.self.inside.lines.items) c.self.inside.pos c.self.invariant.cursor in omega (arith, e))
