@@ -2,3 +2,4 @@ pub mod SplitLemmas
 pub mod LineLemmas
 pub mod EditorLemmas
 pub mod TextLemmas
+pub mod UndoLemmas

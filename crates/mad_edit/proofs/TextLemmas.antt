@@ -27,7 +27,7 @@ all_scalars : (cs : List ℕ) → All IsAcceptedChar cs → scalars cs ≡ true
 all_scalars [] h = refl
 all_scalars (c ∷ cs) h = both (scalar c) (scalars cs) (All-head IsAcceptedChar c cs h).1 (all_scalars cs (All-tail IsAcceptedChar c cs h))
 
-all_accepted : (cs : List ℕ) → All IsAcceptedChar cs → accepted cs ≡ cs
+pub all_accepted : (cs : List ℕ) → All IsAcceptedChar cs → accepted cs ≡ cs
 all_accepted [] h = refl
 all_accepted (c ∷ cs) h =
     ap (λ b. cond b (c ∷ accepted cs) (accepted cs)) (All-head IsAcceptedChar c cs h).0 ∙ ap (λ t. c ∷ t) (all_accepted cs (All-tail IsAcceptedChar c cs h))

@@ -5,6 +5,7 @@ mod content;
 mod edits;
 mod moves;
 mod selections;
+mod undo;
 mod words;
 
 pub use content::InputFieldContent;
