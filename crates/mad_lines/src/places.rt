@@ -1,6 +1,7 @@
 //! Places among lines, and the text between two of them.
 
-ghost use Rattle.std.specs.Prelude.{◌≡◌, ◌<◌, ◌≤◌, ◌+◌, ◌↔◌, IfSome, IsSome, IsTrue, Some, IfOk, length, take, drop, min, max, slice_get, slice_range, string_bytes, encode_utf8_all};
+ghost use Rattle.std.specs.List.{swap};
+ghost use Rattle.std.specs.Prelude.{◌≡◌, ◌<◌, ◌≤◌, ◌+◌, ◌↔◌, [], ◌∷◌, IfSome, IsSome, IsTrue, Some, IfOk, length, take, drop, min, max, slice_get, slice_range, string_bytes, encode_utf8_all};
 ghost use Rattle.mad_lines.specs.Lines.{IsPlace, lines_of, line_at, text_of, offset_of, end_of, clamp};
 
 use crate::line::Line;
@@ -241,4 +242,22 @@ pub fn clone_lines(alloc: Global, lines: &Vec<Line>) -> Result<Vec<Line>, AllocE
         copy.push(line.try_clone(alloc)?)?;
     }
     Ok(copy)
+}
+
+/// Leaves one empty line.
+pub fn clear_lines(lines: &mut Vec<Line>)
+    requires { 0 < length lines.old.items }
+    ensures { lines_of lines.new.items ≡ [] ∷ [] }
+{
+    lines.truncate(1);
+    lines[0].chars.clear();
+}
+
+/// Two lines change places.
+pub fn swap_lines(lines: &mut Vec<Line>, a: usize, b: usize)
+    requires a { a < length lines.old.items }
+    requires b { b < length lines.old.items }
+    ensures { lines_of lines.new.items ≡ swap (lines_of lines.old.items) a b }
+{
+    lines.swap(a, b);
 }
