@@ -3,3 +3,4 @@ pub mod LineLemmas
 pub mod EditorLemmas
 pub mod TextLemmas
 pub mod UndoLemmas
+pub mod SwapLemmas

@@ -5,6 +5,9 @@ ghost use Rattle.std.specs.Option.{option_or, ForSome};
 ghost use Rattle.mad_lines.specs.Lines.{lines, lines_of, accepted};
 ghost use Rattle.mad_edit.specs.Editor.{IsPlaceIn, offset_at, IsAt, clamp_in, clamp_tail, replaced, cursor_line, cursor_column, front_of_line, rest_of_line, IsEditor, IsWide, IsMovedToLine, selection_start, selection_last};
 
+mod reading;
+mod rewriting;
+
 use mad_lines::{
     Line, Pos, Range, clone_lines, columns, edit_lines, end_place, front_at, in_order, index_at_column, is_before, line_count, line_len, place_after, place_before, place_past,
     rest_at, text_between, valid_pos,

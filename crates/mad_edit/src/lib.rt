@@ -9,4 +9,4 @@ mod undo;
 mod words;
 
 pub use content::InputFieldContent;
-pub use mad_lines::{Line, Pos, Range};
+pub use mad_lines::{Chars, Line, Pos, Range};

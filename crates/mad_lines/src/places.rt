@@ -40,7 +40,8 @@ pub fn end_place(lines: &Vec<Line>) -> Pos
 /// The place itself, or the nearest one on its line, or the end.
 pub fn valid_pos(lines: &Vec<Line>, p: Pos) -> Pos
     requires { 0 < length lines.now.items }
-    ensures { result ≡ clamp (lines_of lines.now.items) p }
+    ensures is { result ≡ clamp (lines_of lines.now.items) p }
+    ensures place { IsPlace (lines_of lines.now.items) result }
 {
     if p.y < lines.len() {
         Pos {
@@ -260,4 +261,12 @@ pub fn swap_lines(lines: &mut Vec<Line>, a: usize, b: usize)
     ensures { lines_of lines.new.items ≡ swap (lines_of lines.old.items) a b }
 {
     lines.swap(a, b);
+}
+
+/// A line.
+pub fn line_at(lines: &Vec<Line>, y: usize) -> &Line
+    requires { y < length (lines_of lines.now.items) }
+    ensures { result.now.chars.items ≡ line_at (lines_of lines.now.items) y }
+{
+    &lines[y]
 }
