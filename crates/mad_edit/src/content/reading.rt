@@ -73,7 +73,10 @@ impl InputFieldContent {
     {
         let mut own = self.chars();
         for c in s.chars() {
-            if own.next() != Some(c) {
+            let Some(d) = own.next() else {
+                return false;
+            };
+            if d != c {
                 return false;
             }
         }
