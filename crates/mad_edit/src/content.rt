@@ -7,6 +7,7 @@ ghost use Rattle.mad_edit.specs.Editor.{IsPlaceIn, offset_at, IsAt, clamp_in, cl
 
 mod reading;
 mod rewriting;
+mod showing;
 
 use mad_lines::{
     Line, Pos, Range, clone_lines, columns, edit_lines, end_place, front_at, in_order, index_at_column, is_before, line_count, line_len, place_after, place_before, place_past,

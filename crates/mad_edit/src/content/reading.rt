@@ -1,11 +1,12 @@
 //! Reading the text: its lines and its characters.
 
 ghost use Rattle.std.specs.Prelude.{◌≡◌, ◌<◌, ◌≤◌, ◌-◌, ◌↔◌, [], length, chars, min, IsTrue, MatchOption};
+ghost use Rattle.mad_lines.specs.Columns.{char_width};
 ghost use Rattle.mad_lines.specs.Lines.{lines, lines_of, line_at};
 ghost use Rattle.mad_edit.specs.Editor.{cursor_line, selected};
 
 use crate::content::InputFieldContent;
-use mad_lines::{Chars, Line, Pos, Range, end_place, line_at, line_count, place_past};
+use mad_lines::{Chars, Line, Pos, Range, char_width, end_place, line_at, line_count, place_past};
 
 impl InputFieldContent {
     /// A line, if there is one with this number.
@@ -81,5 +82,12 @@ impl InputFieldContent {
             }
         }
         own.next().is_none()
+    }
+
+    /// The columns of a character in an editor, where a tab has two.
+    pub fn char_width(c: char) -> usize
+        ensures { result ≡ char_width c }
+    {
+        char_width(c)
     }
 }
