@@ -4,7 +4,7 @@ use Rattle.std.specs.Option.{ForSome}
 use Rattle.std.proofs.lemmas.List.{length-take-le, length-drop}
 use Rattle.mad_lines.proofs.PlaceLemmas.{length-text}
 use Rattle.mad_lines.specs.declared.place.Pos.{Pos}
-use Rattle.mad_lines.specs.Lines.{lines, text_of, offset_of, line_at, IsPlace}
+use Rattle.mad_lines.specs.TextLines.{lines, text_of, offset_of, line_at, IsPlace}
 use Rattle.mad_edit.proofs.SplitLemmas.{lines-text_of, accepted_text}
 use Rattle.mad_edit.proofs.LineLemmas.{newlines_before, length_front, front_before, rest_after}
 use Rattle.mad_edit.specs.Editor.{Editor, IsValid, IsEditor, IsPlaceIn, tail_offset, cursor_line, cursor_column, front_of_line, rest_of_line}

@@ -9,7 +9,7 @@ use Rattle.std.proofs.lemmas.List.{take_at, drop_at, length-take-le, length-drop
 use Rattle.std.proofs.lemmas.List.Elements.{All-head, All-tail, All-take, All-drop, All-get_or}
 use Rattle.mad_lines.specs.declared.place.Pos.{Pos}
 use Rattle.mad_edit.specs.Editor.{is_in_line}
-use Rattle.mad_lines.specs.Lines.{is_newline, led_lines, text_of, line_at, IsPlace, IsPlainLine, is_plain, is_accepted, offset_of}
+use Rattle.mad_lines.specs.TextLines.{is_newline, led_lines, text_of, line_at, IsPlace, IsPlainLine, is_plain, is_accepted, offset_of}
 use Rattle.mad_lines.proofs.PlaceLemmas.{before, after, take_before, drop_after, led_cons, earlier_line}
 
 abbrev IsPlainChar : ℕ → Type 0

@@ -4,7 +4,7 @@ use Rattle.std.specs.Prelude.{All, if◌then◌else◌}
 use Rattle.std.specs.Char.{IsScalar}
 use Rattle.std.proofs.lemmas.List.Elements.{All-head, All-tail, All-cons, All-nil, All-append}
 use Rattle.std.specs.List.{onto_first}
-use Rattle.mad_lines.specs.Lines.{led_lines, text_of, lines, is_plain, is_accepted, IsPlainLine, IsAcceptedChar}
+use Rattle.mad_lines.specs.TextLines.{led_lines, text_of, lines, is_plain, is_accepted, IsPlainLine, IsAcceptedChar}
 
 abbrev IsPlainChar : ℕ → Type 0
 IsPlainChar c = (is_plain c ≡ true) × IsScalar c

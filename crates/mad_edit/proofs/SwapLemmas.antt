@@ -4,7 +4,7 @@ use Rattle.std.specs.Prelude.{All}
 use Rattle.std.specs.List.{swap}
 use Rattle.std.proofs.lemmas.List.Edits.{swap_is, length-swap}
 use Rattle.std.proofs.lemmas.List.Elements.{All-set, All-get_or, All-same}
-use Rattle.mad_lines.specs.Lines.{lines, text_of, IsPlainLine}
+use Rattle.mad_lines.specs.TextLines.{lines, text_of, IsPlainLine}
 use Rattle.mad_edit.proofs.SplitLemmas.{lines-text_of}
 
 pub swapped_plain : (ls new : List (List ℕ)) (a b : ℕ) → a < length ls → b < length ls → All IsPlainLine ls → new ≡ swap ls a b → All IsPlainLine new

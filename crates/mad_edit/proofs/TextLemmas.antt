@@ -8,7 +8,7 @@ use Rattle.std.proofs.lemmas.Str.{chars-encodes, chars-nil, encode_ascii}
 use Rattle.std.proofs.lemmas.List.{take_at, drop_at, length-take-le}
 use Rattle.std.proofs.lemmas.List.Edits.{split_between}
 use Rattle.std.proofs.lemmas.List.Elements.{All-head, All-tail, All-take, All-drop}
-use Rattle.mad_lines.specs.Lines.{accepted, is_accepted, IsAcceptedChar}
+use Rattle.mad_lines.specs.TextLines.{accepted, is_accepted, IsAcceptedChar}
 
 pub nothing_accepted : accepted (chars []) ≡ []
 nothing_accepted = ap accepted chars-nil

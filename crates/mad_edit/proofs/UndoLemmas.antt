@@ -4,7 +4,7 @@ use Rattle.std.specs.Prelude.{All, if◌then◌else◌}
 use Rattle.std.proofs.lemmas.List.{take_at, drop_at, take-append-drop}
 use Rattle.std.proofs.lemmas.List.Elements.{All-append, All-take, All-drop, All-same}
 use Rattle.mad_lines.specs.declared.place.Pos.{Pos}
-use Rattle.mad_lines.specs.Lines.{accepted, IsAcceptedChar, IsPlace, clamp, line_at, end_of}
+use Rattle.mad_lines.specs.TextLines.{accepted, IsAcceptedChar, IsPlace, clamp, line_at, end_of}
 use Rattle.mad_edit.specs.Editor.{replaced, offset_at, clamp_in, IsPlaceIn}
 use Rattle.mad_edit.specs.Undo.{Cut, Removes, LeadsTo}
 use Rattle.mad_edit.proofs.TextLemmas.{all_accepted}

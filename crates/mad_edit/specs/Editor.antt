@@ -3,9 +3,9 @@ use Rattle.std.specs.Prelude.{ℕ, ◌+◌, ◌-◌, ◌<◌, ◌≤◌, ◌≡�
 use Rattle.std.specs.Option.{ForSome}
 use Rattle.std.specs.List.{prefix_len, suffix_len}
 use Rattle.mad_lines.specs.declared.place.Pos.{Pos}
-use Rattle.mad_lines.specs.Classes.{is_alphanumeric}
-use Rattle.mad_lines.specs.Columns.{columns, IsIndexAtColumn}
-use Rattle.mad_lines.specs.Lines.{lines, line_at, text_of, IsPlace, IsPlainLine, IsAcceptedChar, is_newline, offset_of, accepted, clamp}
+use Rattle.mad_lines.specs.CharClasses.{is_alphanumeric}
+use Rattle.mad_lines.specs.LineColumns.{columns, IsIndexAtColumn}
+use Rattle.mad_lines.specs.TextLines.{lines, line_at, text_of, IsPlace, IsPlainLine, IsAcceptedChar, is_newline, offset_of, accepted, clamp}
 
 pub record Editor : Type 0 where
   pub text : List ℕ

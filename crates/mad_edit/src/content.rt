@@ -2,7 +2,7 @@
 
 ghost use Rattle.std.specs.Prelude.{◌≡◌, ◌<◌, ◌≤◌, ◌+◌, ◌-◌, ◌↔◌, [], None, Some, length, chars, min, max, option_map, IfOk, IfSome, IsSome, OnOk, OnErr, IsTrue, string_bytes, encode_utf8_all, slice_range};
 ghost use Rattle.std.specs.Option.{option_or, ForSome};
-ghost use Rattle.mad_lines.specs.Lines.{lines, lines_of, accepted};
+ghost use Rattle.mad_lines.specs.TextLines.{lines, lines_of, accepted};
 ghost use Rattle.mad_edit.specs.Editor.{IsPlaceIn, offset_at, IsAt, clamp_in, clamp_tail, replaced, cursor_line, cursor_column, front_of_line, rest_of_line, IsEditor, IsWide, IsMovedToLine, selection_start, selection_last};
 
 mod reading;
@@ -27,7 +27,7 @@ pub struct InputFieldContent {
 
 impl Model for InputFieldContent {
     ghost use Rattle.mad_edit.specs.Editor.{Editor, IsValid};
-    ghost use Rattle.mad_lines.specs.Lines.{lines_of, text_of, offset_of};
+    ghost use Rattle.mad_lines.specs.TextLines.{lines_of, text_of, offset_of};
 
     ghost Value = { Editor };
 

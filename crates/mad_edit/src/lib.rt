@@ -3,8 +3,11 @@
 
 mod content;
 mod edits;
+pub mod laws;
 mod moves;
 mod selections;
+#[cfg(test)]
+mod tests;
 mod undo;
 mod words;
 

@@ -3,8 +3,8 @@
 ghost use Rattle.std.specs.Prelude.{◌≡◌, ◌<◌, ◌≤◌, ◌+◌, ◌-◌, ◌↔◌, false, length, chars, IfOk, OnOk, OnErr, IsTrue, IfSome, string_bytes, encode_utf8_all, IsSome, None};
 ghost use Rattle.std.specs.Bool.{OnTrue, OnFalse};
 ghost use Rattle.std.specs.List.{prefix_len, suffix_len};
-ghost use Rattle.mad_lines.specs.Classes.{is_of};
-ghost use Rattle.mad_lines.specs.Lines.{accepted};
+ghost use Rattle.mad_lines.specs.CharClasses.{is_of};
+ghost use Rattle.mad_lines.specs.TextLines.{accepted};
 ghost use Rattle.mad_edit.specs.Undo.{Removes};
 ghost use Rattle.mad_lines.specs.declared.place.Pos.{Pos};
 ghost use Rattle.mad_edit.specs.Editor.{IsEditor, inserted, IsAt, IsCut, IsRemoved, IsReplaced, IsWide, replaced, selected, selection_start, selection_last, selection_end, below_start, below_end, front_of_line, rest_of_line};

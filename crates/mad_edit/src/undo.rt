@@ -1,7 +1,7 @@
 //! Undoing cuts.
 
 ghost use Rattle.std.specs.Prelude.{◌≡◌, ℕ, List, All, map, OnOk, OnErr};
-ghost use Rattle.mad_lines.specs.Lines.{IsAcceptedChar};
+ghost use Rattle.mad_lines.specs.TextLines.{IsAcceptedChar};
 ghost use Rattle.mad_edit.specs.Undo.{LeadsTo, cut_of};
 
 use crate::content::InputFieldContent;

@@ -3,7 +3,7 @@ use Rattle.std.proofs.Common.{ℕ, ◌+◌, ◌<◌, ◌≤◌, ◌≡◌, ◌�
 use Rattle.std.specs.Prelude.{sum_by, encode_utf8_all, encode_utf8}
 use Rattle.std.proofs.lemmas.List.{take_more}
 use Rattle.std.proofs.lemmas.List.Sums.{sum_by_more}
-use Rattle.mad_lines.specs.Columns.{char_width, columns}
+use Rattle.mad_lines.specs.LineColumns.{char_width, columns}
 
 -- one character more, as far as a `usize` counts
 pub columns_more : (cs : List ℕ) (i d total : ℕ) → i < length cs → total ≡ columns (take i cs) → min (total + char_width (get_or cs i d)) 18446744073709551615 ≡ columns (take (i + 1) cs)

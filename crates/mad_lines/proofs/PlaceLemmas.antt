@@ -4,7 +4,7 @@ use Rattle.std.proofs.lemmas.List.{take_at, drop_at, length-take-le, take-append
 use Rattle.std.proofs.lemmas.List.Elements.{All-append, All-take, All-drop}
 use Rattle.std.specs.Prelude.{All}
 use Rattle.mad_lines.specs.declared.place.Pos.{Pos}
-use Rattle.mad_lines.specs.Lines.{led_lines, text_of, line_at, IsPlace, offset_of}
+use Rattle.mad_lines.specs.TextLines.{led_lines, text_of, line_at, IsPlace, offset_of}
 
 pub led_lines-append : (xs ys : List (List ℕ)) → led_lines (xs ++ ys) ≡ led_lines xs ++ led_lines ys
 led_lines-append [] ys = refl
@@ -64,7 +64,7 @@ edited ls made p q mid hp hq some e =
     ∙ ap (λ s. s ++ (mid ++ drop (offset_of ls q) t)) (sym front) in
     ap (drop 1) all
 
--- the lines up to y, and k more of those behind
+-- the lines up to y, and k more of those after
 take_over : (xs made : List (List ℕ)) (k : ℕ) → take (length xs + k) (xs ++ made) ≡ xs ++ take k made
 take_over [] made k = ap (λ n. take n made) (omega arith)
 take_over (x ∷ xs) made k =
@@ -93,7 +93,7 @@ moved_in ls made rest y p q h at ey ex =
 pub all_lines : (P : List ℕ → Type 0) (ls made : List (List ℕ)) (y z : ℕ) → All P ls → All P made → All P (take y ls ++ (made ++ drop z ls))
 all_lines P ls made y z h m = All-append P (take y ls) _ (All-take P y ls h) (All-append P made _ m (All-drop P z ls h))
 
--- the start of the next line stands one behind the end of a line
+-- the start of the next line is one after the end of a line
 pub next_line : (ls : List (List ℕ)) (y : ℕ) → y < length ls → length (led_lines (take (y + 1) ls)) ≡ length (led_lines (take y ls)) + (length (line_at ls y) + 1)
 next_line ls y h =
     let e = ap (λ t. length (led_lines t)) (take_more ls y [] h) in
@@ -120,7 +120,7 @@ length-text ls p h =
     let d = length-drop p.x (line_at ls p.y) in
     omega (arith, w, e, f, b, a, d)
 
--- there are characters in the lines behind
+-- there are characters in the lines after
 pub more_lines : (ls : List (List ℕ)) (y : ℕ) → y < length ls → 0 < length (led_lines (drop y ls))
 more_lines ls y h =
     let e = ap (λ t. length (led_lines t)) (drop_more ls y [] h) in
@@ -130,7 +130,7 @@ more_lines ls y h =
 pub no_lines : (ls : List (List ℕ)) (y : ℕ) → length ls ≤ y → length (led_lines (drop y ls)) ≡ 0
 no_lines ls y h = ap (λ t. length (led_lines t)) (drop_all y ls h)
 
--- a place on an earlier line stands before one on a later line
+-- a place on an earlier line is before one on a later line
 pub earlier_line : (ls : List (List ℕ)) (p q : Pos) → IsPlace ls p → IsPlace ls q → p.y < q.y → offset_of ls p < offset_of ls q
 earlier_line ls p q hp hq h =
     let n = next_line ls p.y hp.0 in
@@ -143,21 +143,21 @@ slice_get_at [] q (suc n) h = absurd (omega arith)
 slice_get_at (x ∷ p) q zero h = absurd (omega arith)
 slice_get_at (x ∷ p) q (suc n) h = slice_get_at p q n (omega arith)
 
--- the character at a place is the first of those behind it
-pub char_behind : (ls : List (List ℕ)) (p : Pos) → IsPlace ls p → slice_get (text_of ls) (offset_of ls p) ≡ slice_get (after ls p) 0
-char_behind ls p h =
+-- the character at a place is the first of those after it
+pub char_after : (ls : List (List ℕ)) (p : Pos) → IsPlace ls p → slice_get (text_of ls) (offset_of ls p) ≡ slice_get (after ls p) 0
+char_after ls p h =
     ap (λ t. slice_get t (suc (offset_of ls p))) (sym (led_cons ls (omega arith)) ∙ led_at ls p h) ∙ slice_get_at (before ls p) (after ls p) _ (length-before ls p h)
 
 pub char_in_line : (ls : List (List ℕ)) (p : Pos) (d : ℕ) → IsPlace ls p → p.x < length (line_at ls p.y) → slice_get (text_of ls) (offset_of ls p) ≡ Some (get_or (line_at ls p.y) p.x d)
 unfolding after
-char_in_line ls p d h low = char_behind ls p h ∙ ap (λ t. slice_get (t ++ led_lines (drop (suc p.y) ls)) 0) (drop_more (line_at ls p.y) p.x d low)
+char_in_line ls p d h low = char_after ls p h ∙ ap (λ t. slice_get (t ++ led_lines (drop (suc p.y) ls)) 0) (drop_more (line_at ls p.y) p.x d low)
 
 pub char_at_line_end : (ls : List (List ℕ)) (p : Pos) → IsPlace ls p → length (line_at ls p.y) ≤ p.x → suc p.y < length ls → slice_get (text_of ls) (offset_of ls p) ≡ Some 10
 unfolding after
 char_at_line_end ls p h high more =
-    char_behind ls p h ∙ ap (λ t. slice_get (t ++ led_lines (drop (suc p.y) ls)) 0) (drop_all p.x (line_at ls p.y) high) ∙ ap (λ t. slice_get (led_lines t) 0) (drop_more ls (suc p.y) [] more)
+    char_after ls p h ∙ ap (λ t. slice_get (t ++ led_lines (drop (suc p.y) ls)) 0) (drop_all p.x (line_at ls p.y) high) ∙ ap (λ t. slice_get (led_lines t) 0) (drop_more ls (suc p.y) [] more)
 
 pub char_at_end : (ls : List (List ℕ)) (p : Pos) → IsPlace ls p → length (line_at ls p.y) ≤ p.x → length ls ≤ suc p.y → slice_get (text_of ls) (offset_of ls p) ≡ None
 unfolding after
 char_at_end ls p h high last =
-    char_behind ls p h ∙ ap (λ t. slice_get (t ++ led_lines (drop (suc p.y) ls)) 0) (drop_all p.x (line_at ls p.y) high) ∙ ap (λ t. slice_get (led_lines t) 0) (drop_all (suc p.y) ls last)
+    char_after ls p h ∙ ap (λ t. slice_get (t ++ led_lines (drop (suc p.y) ls)) 0) (drop_all p.x (line_at ls p.y) high) ∙ ap (λ t. slice_get (led_lines t) 0) (drop_all (suc p.y) ls last)

@@ -1,8 +1,8 @@
--- The lines behind a `Vec` of them.
+-- The lines of a `Vec` of them.
 use Rattle.std.proofs.Common.{ℕ, suc, ◌+◌, add-one, ◌<◌, ◌≡◌, List, [], length, take, drop, ◌++◌, set, get_or, sym, ◌∙◌, ap, map, Result, Ok, Err, OnErr}
 use Rattle.std.proofs.lemmas.List.{get_or-map, map-set, set-get_or, length-map, map-append, take-map, drop-map}
 use Rattle.mad_lines.specs.declared.line.Line.{Line}
-use Rattle.mad_lines.specs.Lines.{lines_of, chars_of, line_at}
+use Rattle.mad_lines.specs.TextLines.{lines_of, chars_of, line_at}
 
 -- a line that was read
 pub line_read : (ls : List Line) (y : ℕ) (l : Line) → y < length ls → l ≡ get_or ls y l → chars_of l ≡ line_at (lines_of ls) y

@@ -1,8 +1,8 @@
--- Lines that are being typed.
+-- Lines that are made of a text.
 use Rattle.std.proofs.Common.{ℕ, ◌+◌, ◌≡◌, List, [], ◌∷◌, ◌++◌, length, take, drop, refl, ap, sym, ◌∙◌, arith, append_assoc, length-append, append-nil}
 use Rattle.std.proofs.lemmas.List.{map-append, take_at, length-map}
 use Rattle.mad_lines.specs.declared.line.Line.{Line}
-use Rattle.mad_lines.specs.Lines.{led_lines, led_lines_with, lines_of, chars_of, text_of, accepted}
+use Rattle.mad_lines.specs.TextLines.{led_lines, led_lines_with, lines_of, chars_of, text_of, accepted}
 use Rattle.mad_lines.proofs.PlaceLemmas.{led_lines-append}
 
 -- the line that was made is ended
@@ -13,7 +13,7 @@ led_ended done l = ap led_lines (map-append chars_of done (l ∷ [])) ∙ led_li
 pub led_next : (done : List Line) (l : Line) → led_lines_with (lines_of (done ++ l ∷ [])) [] ≡ led_lines_with (lines_of done) (chars_of l) ++ (10 ∷ [])
 led_next done l = ap (λ t. t ++ (10 ∷ [])) (led_ended done l)
 
--- what was typed, and the back of the line behind it
+-- the text so far, and the back of the line after it
 pub typed_text : (done : List Line) (l : Line) (cur front mid back : List ℕ) → led_lines_with (lines_of done) cur ≡ (10 ∷ front) ++ mid → chars_of l ≡ cur ++ back → text_of (lines_of (done ++ l ∷ [])) ≡ front ++ (mid ++ back)
 typed_text done l cur front mid back e h =
     ap (drop 1) (led_ended done l ∙ ap (led_lines_with (lines_of done)) h ∙ sym (append_assoc (led_lines (lines_of done)) (10 ∷ cur) back) ∙ ap (λ t. t ++ back) e)

@@ -1,4 +1,4 @@
-pub mod Lines
-pub mod Columns
-pub mod Classes
-pub mod Ranges
+pub mod TextLines
+pub mod LineColumns
+pub mod CharClasses
+pub mod PlaceOrder

@@ -2,7 +2,7 @@
 
 ghost use Rattle.std.specs.Prelude.{◌≡◌, ◌≤◌, slice_range};
 ghost use Rattle.std.specs.Iterator.{YieldsFirst, item_count};
-ghost use Rattle.mad_lines.specs.Lines.{IsPlace, lines_of, text_of, offset_of};
+ghost use Rattle.mad_lines.specs.TextLines.{IsPlace, lines_of, text_of, offset_of};
 
 use crate::line::Line;
 use crate::place::Pos;
@@ -19,7 +19,7 @@ pub struct Chars<'c> {
 
 impl<'c> Model for Chars<'c> {
     ghost use Rattle.std.specs.Prelude.{ℕ, List, slice_range};
-    ghost use Rattle.mad_lines.specs.Lines.{IsPlace, lines_of, text_of, offset_of};
+    ghost use Rattle.mad_lines.specs.TextLines.{IsPlace, lines_of, text_of, offset_of};
 
     ghost Value = { List ℕ };
 

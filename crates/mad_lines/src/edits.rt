@@ -1,7 +1,7 @@
 //! Edits of a list of lines.
 
 ghost use Rattle.std.specs.Prelude.{◌≡◌, ◌≤◌, ◌+◌, ◌∷◌, [], ◌++◌, All, length, take, drop, chars, IfOk, OnOk, OnErr};
-ghost use Rattle.mad_lines.specs.Lines.{IsPlace, IsPlainLine, ArePlain, lines_of, line_at, led_lines_with, text_of, accepted, offset_of};
+ghost use Rattle.mad_lines.specs.TextLines.{IsPlace, IsPlainLine, ArePlain, lines_of, line_at, led_lines_with, text_of, accepted, offset_of};
 
 use crate::line::Line;
 use crate::place::Pos;

@@ -1,7 +1,7 @@
 //! A line of a text, and its columns.
 
 ghost use Rattle.std.specs.Prelude.{◌≡◌, ◌<◌, ◌≤◌, [], Some, IfOk, MatchOption, length, take, encode_utf8_all};
-ghost use Rattle.mad_lines.specs.Columns.{char_width, columns, IsIndexAtColumn};
+ghost use Rattle.mad_lines.specs.LineColumns.{char_width, columns, IsIndexAtColumn};
 
 use mad_columns::char_columns;
 use std::alloc::{AllocError, Global};

@@ -1,7 +1,7 @@
 //! Places in a text, and ranges of them.
 
 ghost use Rattle.std.specs.Prelude.{◌≡◌, ◌↔◌, IsTrue};
-ghost use Rattle.mad_lines.specs.Ranges.{IsNotAfter};
+ghost use Rattle.mad_lines.specs.PlaceOrder.{IsNotAfter};
 
 /// A place in a text: a line, and how many characters of the line are before it.
 /// Places are ordered by line, then by character.

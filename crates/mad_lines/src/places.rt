@@ -2,7 +2,7 @@
 
 ghost use Rattle.std.specs.List.{swap};
 ghost use Rattle.std.specs.Prelude.{◌≡◌, ◌<◌, ◌≤◌, ◌+◌, ◌↔◌, [], ◌∷◌, IfSome, IsSome, IsTrue, Some, IfOk, length, take, drop, min, max, slice_get, slice_range, string_bytes, encode_utf8_all};
-ghost use Rattle.mad_lines.specs.Lines.{IsPlace, lines_of, line_at, text_of, offset_of, end_of, clamp};
+ghost use Rattle.mad_lines.specs.TextLines.{IsPlace, lines_of, line_at, text_of, offset_of, end_of, clamp};
 
 use crate::line::Line;
 use crate::place::{Pos, Range};

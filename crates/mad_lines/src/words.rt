@@ -2,7 +2,7 @@
 
 ghost use Rattle.std.specs.Prelude.{◌≡◌, ◌≤◌, length};
 ghost use Rattle.std.specs.List.{prefix_len, suffix_len};
-ghost use Rattle.mad_lines.specs.Classes.{is_alphanumeric, is_of};
+ghost use Rattle.mad_lines.specs.CharClasses.{is_alphanumeric, is_of};
 
 use unicode::properties::{GeneralCategory, is_alphabetic};
 

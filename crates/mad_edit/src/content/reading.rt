@@ -1,8 +1,8 @@
 //! Reading the text: its lines and its characters.
 
 ghost use Rattle.std.specs.Prelude.{◌≡◌, ◌<◌, ◌≤◌, ◌-◌, ◌↔◌, [], length, chars, min, IsTrue, MatchOption};
-ghost use Rattle.mad_lines.specs.Columns.{char_width};
-ghost use Rattle.mad_lines.specs.Lines.{lines, lines_of, line_at};
+ghost use Rattle.mad_lines.specs.LineColumns.{char_width};
+ghost use Rattle.mad_lines.specs.TextLines.{lines, lines_of, line_at};
 ghost use Rattle.mad_edit.specs.Editor.{cursor_line, selected};
 
 use crate::content::InputFieldContent;

@@ -3,7 +3,7 @@
 ghost use Rattle.std.specs.Prelude.{◌≡◌, ◌<◌, ◌-◌, ◌+◌, ◌↔◌, ◌≢◌, [], None, length, chars, IfOk, OnOk, OnErr, IsTrue};
 ghost use Rattle.std.specs.Bool.{OnTrue, OnFalse};
 ghost use Rattle.std.specs.List.{swap};
-ghost use Rattle.mad_lines.specs.Lines.{lines, text_of, accepted};
+ghost use Rattle.mad_lines.specs.TextLines.{lines, text_of, accepted};
 ghost use Rattle.mad_edit.specs.Editor.{clamp_in, clamp_tail, offset_at, cursor_line, cursor_column};
 
 use crate::content::InputFieldContent;

@@ -1,5 +1,5 @@
 use Rattle.std.proofs.Common.{◌≡◌, ◌++◌, ◌∷◌}
-use Rattle.mad_lines.specs.Lines.{lines_of, led_lines_with, accepted, ArePlain}
+use Rattle.mad_lines.specs.TextLines.{lines_of, led_lines_with, accepted, ArePlain}
 use Rattle.mad_lines.proofs.edits.lines_with_text.Given as goal
 
 abbrev pub invariant-loop-c : goal.invariant-loop-c

@@ -1,5 +1,5 @@
 use Rattle.std.proofs.Common.{◌≡◌, take}
-use Rattle.mad_lines.specs.Columns.{columns}
+use Rattle.mad_lines.specs.LineColumns.{columns}
 use Rattle.mad_lines.proofs.line.columns.Given as goal
 
 abbrev pub invariant-loop-c : goal.invariant-loop-c

@@ -1,5 +1,5 @@
 use Rattle.std.proofs.Common.{◌≡◌, ◌<◌, ℕ, take}
-use Rattle.mad_lines.specs.Columns.{columns}
+use Rattle.mad_lines.specs.LineColumns.{columns}
 use Rattle.mad_lines.proofs.line.index_at_column.Given as goal
 
 abbrev pub invariant-loop-index : goal.invariant-loop-index

@@ -1,7 +1,7 @@
 use Rattle.std.proofs.Common.{◌≡◌, ◌<◌, ◌++◌, ◌∷◌, [], ap, sym, ◌∙◌, arith, length, take, get_or, List, ℕ}
 use Rattle.std.proofs.lemmas.List.{map-append, take_more, length-map}
 use Rattle.mad_lines.specs.declared.line.Line.{Line}
-use Rattle.mad_lines.specs.Lines.{lines_of, chars_of, line_at}
+use Rattle.mad_lines.specs.TextLines.{lines_of, chars_of, line_at}
 use Rattle.mad_lines.proofs.RowLemmas.{line_read}
 use Rattle.mad_lines.proofs.places.clone_lines.Goals as goal
 

@@ -1,5 +1,5 @@
 use Rattle.std.proofs.Common.{◌≡◌, take}
-use Rattle.mad_lines.specs.Lines.{lines_of}
+use Rattle.mad_lines.specs.TextLines.{lines_of}
 use Rattle.mad_lines.proofs.places.clone_lines.Given as goal
 
 abbrev pub invariant-loop-line : goal.invariant-loop-line

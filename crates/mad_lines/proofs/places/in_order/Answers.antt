@@ -1,5 +1,5 @@
 use Rattle.std.proofs.Common.{arith}
-use Rattle.mad_lines.specs.Lines.{lines_of}
+use Rattle.mad_lines.specs.TextLines.{lines_of}
 use Rattle.mad_lines.proofs.PlaceLemmas.{earlier_line}
 use Rattle.mad_lines.proofs.places.in_order.Goals as goal
 

@@ -3,7 +3,7 @@ use Rattle.std.specs.List.{swap}
 use Rattle.std.proofs.lemmas.List.{map-set, get_or-map, length-map}
 use Rattle.std.proofs.lemmas.List.Edits.{swap_is}
 use Rattle.mad_lines.specs.declared.line.Line.{Line}
-use Rattle.mad_lines.specs.Lines.{lines_of, chars_of}
+use Rattle.mad_lines.specs.TextLines.{lines_of, chars_of}
 use Rattle.mad_lines.proofs.places.swap_lines.Goals as goal
 
 lines_swapped : (ls : List Line) (a b : ℕ) → a < length ls → b < length ls → lines_of (swap ls a b) ≡ swap (lines_of ls) a b

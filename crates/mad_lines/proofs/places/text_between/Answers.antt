@@ -2,7 +2,7 @@ use Rattle.std.proofs.Common.{ℕ, List, [], ◌∷◌, ◌++◌, ◌≡◌, ◌
 use Rattle.std.specs.Prelude.{encode_utf8_all, encode_utf8, slice_range, string_bytes}
 use Rattle.std.proofs.lemmas.Option.{get_or_from_slice_get}
 use Rattle.std.proofs.lemmas.List.Edits.{between_more}
-use Rattle.mad_lines.specs.Lines.{lines_of, offset_of, text_of}
+use Rattle.mad_lines.specs.TextLines.{lines_of, offset_of, text_of}
 use Rattle.mad_lines.proofs.PlaceLemmas.{length-text}
 use Rattle.mad_lines.proofs.places.text_between.Goals as goal
 

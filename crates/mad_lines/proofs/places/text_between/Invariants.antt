@@ -1,6 +1,6 @@
 use Rattle.std.proofs.Common.{◌≡◌, ◌≤◌, ◌-◌, length}
 use Rattle.std.specs.Prelude.{string_bytes, encode_utf8_all, slice_range}
-use Rattle.mad_lines.specs.Lines.{lines_of, IsPlace, offset_of, text_of}
+use Rattle.mad_lines.specs.TextLines.{lines_of, IsPlace, offset_of, text_of}
 use Rattle.mad_lines.proofs.places.text_between.Given as goal
 
 abbrev pub invariant-chars : goal.invariant-chars

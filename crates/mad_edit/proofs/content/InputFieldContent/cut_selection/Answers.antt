@@ -1,6 +1,6 @@
 use Rattle.std.proofs.Common.{◌≡◌, ◌≤◌, ◌++◌, ◌∙◌, ap, arith, take, drop, length, List, ℕ}
 use Rattle.std.specs.Prelude.{chars, string_bytes}
-use Rattle.mad_lines.specs.Lines.{accepted}
+use Rattle.mad_lines.specs.TextLines.{accepted}
 use Rattle.mad_edit.specs.Editor.{IsCut, selection_start, selection_end}
 use Rattle.mad_edit.proofs.TextLemmas.{cut_undone, cut_removed}
 use Rattle.mad_edit.proofs.content.InputFieldContent.cut_selection.Goals as goal

@@ -1,5 +1,5 @@
 use Rattle.std.proofs.Common.{◌≡◌, ◌∙◌, ap, refl, subst, rules, sym, arith}
-use Rattle.mad_lines.specs.Lines.{lines_of}
+use Rattle.mad_lines.specs.TextLines.{lines_of}
 use Rattle.mad_edit.specs.Editor.{Editor, IsAt}
 use Rattle.mad_edit.proofs.EditorLemmas.{own_lines, lines_seen, editor_seen, line_seen, column_seen, front_seen, rest_seen, front_length, rest_length}
 use Rattle.mad_edit.proofs.content.InputFieldContent.place_ahead.Goals as goal

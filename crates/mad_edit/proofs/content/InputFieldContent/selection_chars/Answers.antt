@@ -1,7 +1,7 @@
 use Rattle.std.proofs.Common.{◌≡◌, ◌+◌, ap, ◌∙◌, min, length, List, ℕ}
 use Rattle.mad_edit.proofs.EditorLemmas.{own_lines, lines_seen, line_seen, column_seen, editor_seen}
 use Rattle.std.specs.Prelude.{slice_range}
-use Rattle.mad_lines.specs.Lines.{lines_of, text_of, offset_of}
+use Rattle.mad_lines.specs.TextLines.{lines_of, text_of, offset_of}
 use Rattle.mad_edit.specs.Editor.{Editor, selection_start, selection_last, selection_end}
 use Rattle.mad_edit.proofs.content.InputFieldContent.selection_chars.Goals as goal
 

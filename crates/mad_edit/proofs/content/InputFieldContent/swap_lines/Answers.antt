@@ -1,7 +1,7 @@
 use Rattle.std.proofs.Common.{rules, ◌≡◌, ◌<◌, arith, ap, ◌∙◌, sym, refl, subst}
 use Rattle.mad_edit.proofs.EditorLemmas.{own_lines, lines_seen, line_seen, column_seen, editor_seen}
 use Rattle.mad_lines.specs.declared.place.Pos.{Pos}
-use Rattle.mad_lines.specs.Lines.{lines_of, text_of, offset_of, IsPlace}
+use Rattle.mad_lines.specs.TextLines.{lines_of, text_of, offset_of, IsPlace}
 use Rattle.mad_edit.proofs.SwapLemmas.{swapped_lines, swapped_plain}
 use Rattle.mad_edit.proofs.content.InputFieldContent.swap_lines.Goals as goal
 

@@ -2,7 +2,7 @@ use Rattle.std.proofs.Common.{ℕ, suc, ◌+◌, ◌-◌, ◌<◌, ◌≡◌, Li
 use Rattle.std.specs.Prelude.{slice_range}
 use Rattle.std.proofs.lemmas.List.{drop_more}
 use Rattle.std.proofs.lemmas.Option.{get_or_from_slice_get}
-use Rattle.mad_lines.specs.Lines.{lines_of, text_of, offset_of}
+use Rattle.mad_lines.specs.TextLines.{lines_of, text_of, offset_of}
 use Rattle.mad_lines.proofs.PlaceLemmas.{length-text}
 use Rattle.mad_lines.proofs.chars.CharsIterator.next.Goals as goal
 

@@ -1,5 +1,5 @@
 use Rattle.std.proofs.Common.{◌≡◌, ◌<◌, ◌≤◌, ℕ, length, get_or, true}
-use Rattle.mad_lines.specs.Classes.{is_of}
+use Rattle.mad_lines.specs.CharClasses.{is_of}
 use Rattle.mad_lines.proofs.words.CharClass.count_end.Given as goal
 
 abbrev pub invariant-loop-rest : goal.invariant-loop-rest

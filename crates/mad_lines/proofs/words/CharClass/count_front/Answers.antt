@@ -1,7 +1,7 @@
 use Rattle.std.proofs.Common.{◌≡◌, ◌<◌, length, get_or, sym, ap, ◌∙◌, arith, rules, false}
 use Rattle.std.proofs.lemmas.List.{get_or_default}
 use Rattle.std.proofs.lemmas.List.Sums.{prefix_len_is}
-use Rattle.mad_lines.specs.Classes.{is_of}
+use Rattle.mad_lines.specs.CharClasses.{is_of}
 use Rattle.mad_lines.proofs.words.CharClass.count_front.Goals as goal
 
 pub returns-then-not-has-clause-is : goal.returns-then-not-has-clause-is

@@ -1,5 +1,5 @@
 use Rattle.std.proofs.Common.{◌≡◌, ◌<◌, ℕ, get_or, true}
-use Rattle.mad_lines.specs.Classes.{is_of}
+use Rattle.mad_lines.specs.CharClasses.{is_of}
 use Rattle.mad_lines.proofs.words.CharClass.count_front.Given as goal
 
 abbrev pub invariant-loop-index : goal.invariant-loop-index
