@@ -94,3 +94,11 @@ pub use Rattle.mad_wrap.specs.LineStarts
 pub use Rattle.mad_wrap.specs.Placings
 pub use Rattle.mad_wrap.specs.Rooms
 pub use Rattle.mad_wrap.specs.WrapLines
+pub use Rattle.mad_lines.specs.TextLines
+pub use Rattle.mad_lines.specs.LineColumns
+pub use Rattle.mad_lines.specs.CharClasses
+pub use Rattle.mad_lines.specs.PlaceOrder
+pub use Rattle.mad_edit.specs.Editor
+pub use Rattle.mad_edit.specs.Undo
+pub use Rattle.mad_edit.specs.Words as EditedWords
+pub use Rattle.mad_edit.specs.Examples as EditingExamples

@@ -1,7 +1,7 @@
 //! Markdown for terminals: all names of the library, from the crates that have them.
 //!
-//! What a text is, what a terminal takes and shows, and how lines are wrapped stand in modules of their own: [`md`],
-//! [`term`], [`screen`] and [`wrap`].
+//! What a text is, what a terminal takes and shows, how lines are wrapped, and the editor's text have modules of their own:
+//! [`md`], [`term`], [`screen`], [`wrap`] and [`edit`].
 #![tactic(auto)]
 
 /// What a terminal takes, and what it shows.
@@ -29,6 +29,12 @@ pub mod wrap {
     pub use mad_wrap::Room;
 }
 
+/// The editor's text.
+pub mod edit {
+    pub use mad_edit::{Chars, InputFieldContent, Line, Pos, Range};
+}
+
+pub use mad_edit::{Chars, InputFieldContent, Pos, Range};
 pub use mad_fit::{Area, Spacing, Token, Tokens, token_iter, tokenize};
 pub use mad_layout::{
     FmtComposite, FmtInline, FmtLine, FmtText, MadSkin, composite_kind_widths, draw_text, inline,
