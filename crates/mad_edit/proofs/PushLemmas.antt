@@ -1,11 +1,11 @@
 -- A text that goes on at its end keeps its places.
-use Rattle.std.proofs.Common.{ℕ, zero, suc, ◌+◌, ◌-◌, ◌<◌, ◌≤◌, ◌≡◌, ◌==◌, List, [], ◌∷◌, ◌++◌, length, take, drop, refl, ap, sym, ◌∙◌, arith, subst, cond, true, false, Bool, length-append, Option, None, Some, add-zero, append-nil}
+use Rattle.std.proofs.Common.{ℕ, zero, suc, ◌<◌, ◌≡◌, List, [], ◌∷◌, ◌++◌, length, take, drop, refl, ap, sym, ◌∙◌, arith, subst, cond, true, false, Bool, length-append, Option, None, Some, append-nil}
 use Rattle.std.specs.Option.{ForSome}
 use Rattle.std.specs.List.{onto_first}
 use Rattle.std.proofs.lemmas.List.Splits.{length-slice_split}
 use Rattle.std.proofs.lemmas.List.{take_all, drop_all}
 use Rattle.mad_lines.specs.declared.place.Pos.{Pos}
-use Rattle.mad_lines.specs.TextLines.{lines, is_newline, led_lines, line_at, IsPlace, offset_of, accepted, clamp}
+use Rattle.mad_lines.specs.TextLines.{lines, is_newline, led_lines, IsPlace, offset_of, accepted}
 use Rattle.mad_edit.specs.Editor.{IsPlaceIn, offset_at, clamp_tail, replaced}
 use Rattle.mad_edit.proofs.UndoLemmas.{clamp_place}
 
