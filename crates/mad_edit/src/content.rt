@@ -8,6 +8,7 @@ ghost use Rattle.mad_edit.specs.Editor.{IsPlaceIn, offset_at, IsAt, clamp_in, cl
 mod reading;
 mod rewriting;
 mod showing;
+mod undo;
 
 use mad_lines::{
     Line, Pos, Range, clone_lines, columns, edit_lines, end_place, front_at, in_order,
@@ -215,11 +216,6 @@ impl InputFieldContent {
             pos: self.pos,
             selection_tail: self.selection_tail,
         })
-    }
-
-    /// The allocator that the text takes memory from.
-    pub(crate) fn allocator(&self) -> Global {
-        *self.lines.allocator()
     }
 
     /// How many lines there are.

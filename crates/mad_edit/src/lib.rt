@@ -8,7 +8,6 @@ mod moves;
 mod selections;
 #[cfg(test)]
 mod tests;
-mod undo;
 mod words;
 
 pub use content::InputFieldContent;

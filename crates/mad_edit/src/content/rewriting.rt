@@ -34,7 +34,8 @@ impl InputFieldContent {
         if self.is_str(s) {
             return Ok(());
         }
-        let content = InputFieldContent::from(self.allocator(), s)?;
+        let alloc = *self.lines.allocator();
+        let content = InputFieldContent::from(alloc, s)?;
         *self = content;
         Ok(())
     }

@@ -16,7 +16,8 @@ impl InputFieldContent {
             → LeadsTo first (map cut_of cuts.now) self.old.text → self.new.text ≡ first) }
         ensures err { OnErr result (self.new ≡ self.old) }
     {
-        let mut undone = self.try_clone(self.allocator())?;
+        let alloc = *self.lines.allocator();
+        let mut undone = self.try_clone(alloc)?;
         let mut left = cuts.len();
         'cuts: while left > 0 {
             left -= 1;
