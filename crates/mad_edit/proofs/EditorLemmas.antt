@@ -1,13 +1,12 @@
 -- An editor and the lines that it keeps.
-use Rattle.std.proofs.Common.{ℕ, ◌+◌, ◌-◌, ◌<◌, ◌≤◌, ◌≡◌, List, length, take, drop, arith, ap, ◌∙◌, sym, subst, Option, None, Some, max, refl}
-use Rattle.std.specs.Option.{ForSome}
+use Rattle.std.proofs.Common.{ℕ, ◌-◌, ◌≤◌, ◌≡◌, List, length, take, drop, arith, ap, ◌∙◌, sym, subst, Option, None, Some, max, refl}
 use Rattle.std.proofs.lemmas.List.{length-take-le, length-drop}
 use Rattle.mad_lines.proofs.PlaceLemmas.{length-text}
 use Rattle.mad_lines.specs.declared.place.Pos.{Pos}
-use Rattle.mad_lines.specs.TextLines.{lines, text_of, offset_of, line_at, IsPlace}
+use Rattle.mad_lines.specs.TextLines.{lines, text_of, offset_of, line_at}
 use Rattle.mad_edit.proofs.SplitLemmas.{lines-text_of, accepted_text}
 use Rattle.mad_edit.proofs.LineLemmas.{newlines_before, length_front, front_before, rest_after}
-use Rattle.mad_edit.specs.Editor.{Editor, IsValid, IsEditor, IsPlaceIn, tail_offset, cursor_line, cursor_column, front_of_line, rest_of_line}
+use Rattle.mad_edit.specs.Editor.{Editor, IsValid, IsEditor, tail_offset, cursor_line, cursor_column, front_of_line, rest_of_line}
 
 -- the lines of its text are those that it keeps
 pub own_lines : (ls : List (List ℕ)) (at : Pos) (tail : Option Pos) → IsValid ls at tail → lines (text_of ls) ≡ ls

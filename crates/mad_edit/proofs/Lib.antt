@@ -4,3 +4,4 @@ pub mod EditorLemmas
 pub mod TextLemmas
 pub mod UndoLemmas
 pub mod SwapLemmas
+pub mod PushLemmas

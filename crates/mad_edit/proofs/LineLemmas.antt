@@ -1,7 +1,7 @@
 -- The line of a place, said of the text before the place and after it.
 use Rattle.std.proofs.lemmas.Bool.{cases_lt}
 use Rattle.std.proofs.lemmas.List.Sums.{suffix_len_is, sum_by-cons}
-use Rattle.std.proofs.Common.{inl, inr, get_or, ℕ, zero, suc, ◌+◌, ◌-◌, ◌<◌, ◌≤◌, ◌≡◌, ◌==◌, List, [], ◌∷◌, ◌++◌, length, take, drop, reverse, refl, ap, sym, ◌∙◌, arith, append-nil, append_assoc, cond, true, false, Bool, not, ◌&&◌, length-append, add-zero, zero-add}
+use Rattle.std.proofs.Common.{inl, inr, get_or, ℕ, suc, ◌+◌, ◌-◌, ◌<◌, ◌≤◌, ◌≡◌, ◌==◌, List, [], ◌∷◌, ◌++◌, length, take, drop, reverse, refl, ap, sym, ◌∙◌, arith, append-nil, append_assoc, cond, true, false, Bool, not, ◌&&◌, length-append, zero-add}
 use Rattle.std.specs.Prelude.{All, count_by}
 use Rattle.std.specs.List.{prefix_len, suffix_len}
 use Rattle.std.specs.Char.{IsScalar}

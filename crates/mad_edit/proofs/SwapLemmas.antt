@@ -11,7 +11,7 @@ pub swapped_plain : (ls new : List (List ℕ)) (a b : ℕ) → a < length ls →
 swapped_plain ls new a b ha hb plain e =
     All-same IsPlainLine new (set (set ls a (get_or ls b [])) b (get_or ls a [])) (e ∙ sym (swap_is ls a b [] ha hb))
     (All-set IsPlainLine (set ls a (get_or ls b [])) b (get_or ls a []) (All-get_or IsPlainLine ls a [] ha plain)
-      (All-set IsPlainLine ls a (get_or ls b []) (All-get_or IsPlainLine ls b [] hb plain) plain))
+    (All-set IsPlainLine ls a (get_or ls b []) (All-get_or IsPlainLine ls b [] hb plain) plain))
 
 pub swapped_lines : (ls new : List (List ℕ)) (a b : ℕ) → a < length ls → b < length ls → All IsPlainLine ls → new ≡ swap ls a b → lines (text_of new) ≡ new
 swapped_lines ls new a b ha hb plain e =

@@ -1,5 +1,5 @@
 -- Characters, and the bytes that spell them.
-use Rattle.std.proofs.Common.{ℕ, ◌<◌, ◌≤◌, ◌≡◌, ◌&&◌, List, [], ◌∷◌, ◌++◌, length, take, drop, refl, ap, sym, ◌∙◌, arith, lit<, append-nil, cond, true, false, Bool}
+use Rattle.std.proofs.Common.{ℕ, ◌≤◌, ◌≡◌, ◌&&◌, List, [], ◌∷◌, ◌++◌, length, take, drop, refl, ap, sym, ◌∙◌, arith, lit<, append-nil, cond, true, false, Bool}
 use Rattle.std.specs.Prelude.{All, encode_utf8, encode_utf8_all, slice_range}
 use Rattle.std.specs.Char.{IsScalar}
 use Rattle.std.specs.Str.{chars}
@@ -8,7 +8,7 @@ use Rattle.std.proofs.lemmas.Str.{chars-encodes, chars-nil, encode_ascii}
 use Rattle.std.proofs.lemmas.List.{take_at, drop_at, length-take-le}
 use Rattle.std.proofs.lemmas.List.Edits.{split_between}
 use Rattle.std.proofs.lemmas.List.Elements.{All-head, All-tail, All-take, All-drop}
-use Rattle.mad_lines.specs.TextLines.{accepted, is_accepted, IsAcceptedChar}
+use Rattle.mad_lines.specs.TextLines.{accepted, IsAcceptedChar}
 
 pub nothing_accepted : accepted (chars []) ≡ []
 nothing_accepted = ap accepted chars-nil

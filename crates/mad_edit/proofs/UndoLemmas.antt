@@ -1,11 +1,11 @@
 -- Undoing the last of a list of cuts.
-use Rattle.std.proofs.Common.{ℕ, ◌+◌, ◌<◌, ◌≤◌, ◌≡◌, List, [], ◌∷◌, ◌++◌, length, take, drop, min, refl, ap, sym, ◌∙◌, arith, subst, cond, true, false, Bool, nat_lt, rules}
-use Rattle.std.specs.Prelude.{All, if◌then◌else◌}
+use Rattle.std.proofs.Common.{ℕ, ◌≡◌, List, [], ◌∷◌, ◌++◌, length, take, drop, min, refl, ap, sym, ◌∙◌, arith, subst, cond, true, false, Bool, nat_lt, rules}
+use Rattle.std.specs.Prelude.{All}
 use Rattle.std.proofs.lemmas.List.{take_at, drop_at, take-append-drop}
 use Rattle.std.proofs.lemmas.List.Elements.{All-append, All-take, All-drop, All-same}
 use Rattle.mad_lines.specs.declared.place.Pos.{Pos}
 use Rattle.mad_lines.specs.TextLines.{accepted, IsAcceptedChar, IsPlace, clamp, line_at, end_of}
-use Rattle.mad_edit.specs.Editor.{replaced, offset_at, clamp_in, IsPlaceIn}
+use Rattle.mad_edit.specs.Editor.{replaced, offset_at, clamp_in}
 use Rattle.mad_edit.specs.Undo.{Cut, Removes, LeadsTo}
 use Rattle.mad_edit.proofs.TextLemmas.{all_accepted}
 
@@ -28,8 +28,8 @@ accepted_left before c after h r =
     let whole = All-same IsAcceptedChar (take r.offset after ++ (c.text ++ drop r.offset after)) before (sym r.text) h in
     All-same IsAcceptedChar after (take r.offset after ++ drop r.offset after) (sym (take-append-drop r.offset after))
     (All-append IsAcceptedChar (take r.offset after) (drop r.offset after)
-      (all_front (take r.offset after) (c.text ++ drop r.offset after) whole)
-      (all_back c.text (drop r.offset after) (all_back (take r.offset after) (c.text ++ drop r.offset after) whole)))
+    (all_front (take r.offset after) (c.text ++ drop r.offset after) whole)
+    (all_back c.text (drop r.offset after) (all_back (take r.offset after) (c.text ++ drop r.offset after) whole)))
 
 pub accepted_along : (first : List ℕ) (cuts : List Cut) (last : List ℕ) → All IsAcceptedChar first → LeadsTo first cuts last → All IsAcceptedChar last
 accepted_along first [] last h leads = All-same IsAcceptedChar last first (sym leads) h

@@ -1,11 +1,11 @@
 -- What an editor is: one text, an offset into it, and an optional tail.
-use Rattle.std.specs.Prelude.{ℕ, ◌+◌, ◌-◌, ◌<◌, ◌≤◌, ◌≡◌, List, ◌++◌, All, Option, None, Some, Bool, true, not, ◌==◌, length, take, drop, min, max, option_map, slice_range, count_by, nat_lt, if◌then◌else◌}
+use Rattle.std.specs.Prelude.{ℕ, ◌+◌, ◌-◌, ◌<◌, ◌≤◌, ◌≡◌, List, ◌++◌, All, Option, None, Some, Bool, not, ◌==◌, length, take, drop, min, max, option_map, slice_range, count_by, nat_lt, if◌then◌else◌}
 use Rattle.std.specs.Option.{ForSome}
 use Rattle.std.specs.List.{prefix_len, suffix_len}
 use Rattle.mad_lines.specs.declared.place.Pos.{Pos}
 use Rattle.mad_lines.specs.CharClasses.{is_alphanumeric}
 use Rattle.mad_lines.specs.LineColumns.{columns, IsIndexAtColumn}
-use Rattle.mad_lines.specs.TextLines.{lines, line_at, text_of, IsPlace, IsPlainLine, IsAcceptedChar, is_newline, offset_of, accepted, clamp}
+use Rattle.mad_lines.specs.TextLines.{lines, line_at, IsPlace, IsPlainLine, IsAcceptedChar, is_newline, offset_of, accepted, clamp}
 
 pub record Editor : Type 0 where
   pub text : List ℕ

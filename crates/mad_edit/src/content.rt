@@ -10,7 +10,8 @@ mod rewriting;
 mod showing;
 
 use mad_lines::{
-    Line, Pos, Range, clone_lines, columns, edit_lines, end_place, front_at, in_order, index_at_column, is_before, line_count, line_len, place_after, place_before, place_past,
+    Line, Pos, Range, clone_lines, columns, edit_lines, end_place, front_at, in_order,
+    index_at_column, is_before, line_count, line_len, place_after, place_before, place_past,
     rest_at, text_between, valid_pos,
 };
 use std::alloc::{AllocError, Global};

@@ -1,6 +1,7 @@
 //! Edits at the cursor. After out of memory the editor is unchanged.
 
-ghost use Rattle.std.specs.Prelude.{◌≡◌, ◌<◌, ◌≤◌, ◌+◌, ◌-◌, ◌↔◌, ◌⊎◌, [], ◌∷◌, false, length, chars, IfOk, OnOk, OnErr, IsTrue};
+ghost use Rattle.std.specs.Prelude.{◌≡◌, ◌<◌, ◌≤◌, ◌+◌, ◌-◌, ◌↔◌, ◌⊎◌, [], ◌∷◌, ◌++◌, false, length, chars, IfOk, OnOk, OnErr, IsTrue};
+ghost use Rattle.mad_lines.specs.TextLines.{accepted};
 ghost use Rattle.mad_edit.specs.Editor.{IsPlaceIn, offset_at, IsReplaced, IsRemoved, below_start, below_end, front_of_line, rest_of_line, after_word_removed, without, clamp_tail};
 ghost use Rattle.mad_edit.specs.Words.{word_before, removed_after};
 
@@ -35,6 +36,23 @@ impl InputFieldContent {
         ensures err { OnErr result (self.new ≡ self.old) }
     {
         self.insert_str("\n")
+    }
+
+    /// Puts a character in at the end of the text. The cursor and the tail stay.
+    /// A carriage return or a backspace is left out.
+    pub fn push_char(&mut self, c: char) -> Result<(), AllocError>
+        ensures text { OnOk result (self.new.text ≡ self.old.text ++ accepted (c ∷ [])) }
+        ensures cursor { OnOk result (self.new.offset ≡ self.old.offset) }
+        ensures tail { OnOk result (self.new.tail ≡ self.old.tail) }
+        ensures err { OnErr result (self.new ≡ self.old) }
+    {
+        let at = self.cursor_pos();
+        let last = self.end();
+        let mut buffer = [0; 4];
+        let s = c.encode_utf8(&mut buffer);
+        self.edit(last, last, s)?;
+        self.put_cursor(at);
+        Ok(())
     }
 
     /// Removes what is between two places, and puts the cursor there.

@@ -10,12 +10,10 @@ pub fn three_lines_cut()
     ensures selected { selected three_lines ≡ codes "b\ncd\ne" }
     ensures left { without three_lines.text (selection_start three_lines) (selection_end three_lines) ≡ codes "af" }
     ensures middle { without three_lines.text (selection_start three_lines) (selection_end three_lines) ≡ codes "a\ncd\nf" → ⊥ }
-{
-}
+{}
 
 /// Two cuts lead from a text to the empty one; in the other order they don't.
 pub fn two_cuts_in_order()
     ensures leads { LeadsTo (codes "abcd") two_cuts [] }
     ensures turned { LeadsTo (codes "abcd") two_cuts_turned [] → ⊥ }
-{
-}
+{}

@@ -1,6 +1,6 @@
 -- Columns, one character after another.
-use Rattle.std.proofs.Common.{ℕ, ◌+◌, ◌<◌, ◌≤◌, ◌≡◌, ◌∙◌, sym, ap, ◌++◌, List, [], ◌∷◌, length, take, get_or, min, arith, append_assoc, append-nil}
-use Rattle.std.specs.Prelude.{sum_by, encode_utf8_all, encode_utf8}
+use Rattle.std.proofs.Common.{ℕ, ◌+◌, ◌<◌, ◌≡◌, ◌∙◌, sym, ap, ◌++◌, List, [], ◌∷◌, length, take, get_or, min, arith, append_assoc, append-nil}
+use Rattle.std.specs.Prelude.{encode_utf8_all, encode_utf8}
 use Rattle.std.proofs.lemmas.List.{take_more}
 use Rattle.std.proofs.lemmas.List.Sums.{sum_by_more}
 use Rattle.mad_lines.specs.LineColumns.{char_width, columns}

@@ -1,6 +1,6 @@
 -- Places in a text, and edits between two places.
-use Rattle.std.proofs.Common.{ℕ, zero, suc, ◌+◌, ◌<◌, ◌≤◌, ◌≡◌, List, [], ◌∷◌, ◌++◌, ◌-◌, length, take, drop, set, get_or, slice_get, Some, None, Option, refl, ap, sym, ◌∙◌, arith, append_assoc, length-append, min}
-use Rattle.std.proofs.lemmas.List.{take_at, drop_at, length-take-le, take-append-drop, get_or_append_left, get_or-append_right, take-append-le, length-take, take_more, drop_more, length-drop, drop_all}
+use Rattle.std.proofs.Common.{ℕ, zero, suc, ◌+◌, ◌<◌, ◌≤◌, ◌≡◌, List, [], ◌∷◌, ◌++◌, ◌-◌, length, take, drop, get_or, slice_get, Some, None, refl, ap, sym, ◌∙◌, arith, append_assoc, length-append}
+use Rattle.std.proofs.lemmas.List.{take_at, drop_at, length-take-le, take-append-drop, get_or_append_left, get_or-append_right, take-append-le, take_more, drop_more, length-drop, drop_all}
 use Rattle.std.proofs.lemmas.List.Elements.{All-append, All-take, All-drop}
 use Rattle.std.specs.Prelude.{All}
 use Rattle.mad_lines.specs.declared.place.Pos.{Pos}

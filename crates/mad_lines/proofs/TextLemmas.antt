@@ -1,8 +1,8 @@
 -- Lines that are made of a text.
-use Rattle.std.proofs.Common.{ℕ, ◌+◌, ◌≡◌, List, [], ◌∷◌, ◌++◌, length, take, drop, refl, ap, sym, ◌∙◌, arith, append_assoc, length-append, append-nil}
+use Rattle.std.proofs.Common.{ℕ, ◌+◌, ◌≡◌, List, [], ◌∷◌, ◌++◌, length, take, drop, ap, sym, ◌∙◌, arith, append_assoc, length-append, append-nil}
 use Rattle.std.proofs.lemmas.List.{map-append, take_at, length-map}
 use Rattle.mad_lines.specs.declared.line.Line.{Line}
-use Rattle.mad_lines.specs.TextLines.{led_lines, led_lines_with, lines_of, chars_of, text_of, accepted}
+use Rattle.mad_lines.specs.TextLines.{led_lines, led_lines_with, lines_of, chars_of, text_of}
 use Rattle.mad_lines.proofs.PlaceLemmas.{led_lines-append}
 
 -- the line that was made is ended

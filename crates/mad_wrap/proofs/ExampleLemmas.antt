@@ -1,13 +1,12 @@
 -- The definitions refuse some wrong answers.
-use Rattle.std.proofs.Common.{◌≡◌, ℕ, ◌+◌, ◌<◌, ◌≤◌, Bool, true, false, List, [], ◌∷◌, ◌++◌, map, length, get_or, refl, sym, ap, ◌∙◌, arith, subst}
+use Rattle.std.proofs.Common.{◌≡◌, ℕ, ◌+◌, ◌<◌, true, false, List, [], ◌∷◌, ◌++◌, map, length, get_or, refl, sym, ap, ◌∙◌, arith, subst}
 use Rattle.std.proofs.lemmas.Bool.Decides.{nat_tests}
-use Rattle.std.proofs.lemmas.List.{length-append}
 use Rattle.std.specs.Char.{is_whitespace}
 use Rattle.std.specs.Prelude.{codes, ◌==◌}
-use Rattle.mad_md.specs.Flagged.{Flags, FlaggedChar, Run, plain, flagged, flagged_text, run_of}
+use Rattle.mad_md.specs.Flagged.{FlaggedChar, Run, plain, flagged, flagged_text, run_of}
 use Rattle.mad_md.specs.declared.compound.Compound.{Compound}
 use Rattle.mad_fit.specs.Columns.{width_of}
-use Rattle.mad_fit.specs.Tokens.{token_run, tokens_text}
+use Rattle.mad_fit.specs.Tokens.{token_run}
 use Rattle.mad_fit.specs.declared.tokens.Token.{Token}
 use Rattle.mad_fit.proofs.TokenTexts.{all_honest}
 use Rattle.mad_wrap.specs.Bounds.{are_starts}

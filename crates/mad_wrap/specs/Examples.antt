@@ -1,6 +1,6 @@
 -- Wrong answers that the definitions refuse, each of a text at a width. Tokens are given by their columns: `aaa` is a word of three.
 use Rattle.std.specs.Prelude.{◌≡◌, ℕ, true, false, List, [], ◌∷◌, ◌++◌, map, length, codes}
-use Rattle.mad_md.specs.Flagged.{Flags, FlaggedChar, plain, flagged, flagged_text}
+use Rattle.mad_md.specs.Flagged.{plain, flagged, flagged_text}
 use Rattle.mad_md.specs.declared.compound.Compound.{Compound}
 use Rattle.mad_fit.specs.Columns.{width_of}
 use Rattle.mad_fit.specs.declared.tokens.Token.{Token}

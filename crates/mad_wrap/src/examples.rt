@@ -11,5 +11,4 @@ pub fn wrong_answers()
     ensures trailing_blanks { TrailingBlanksAreRefused }
     ensures one_start { OneStartIsRefused }
     ensures early_start { EarlyStartIsRefused }
-{
-}
+{}

@@ -102,3 +102,8 @@ pub use Rattle.mad_edit.specs.Editor
 pub use Rattle.mad_edit.specs.Undo
 pub use Rattle.mad_edit.specs.Words as EditedWords
 pub use Rattle.mad_edit.specs.Examples as EditingExamples
+pub use Rattle.mad_layout.specs.Sources
+pub use Rattle.mad_layout.specs.Words as ShownWords
+pub use Rattle.mad_parse.specs.Laws as ParseLaws
+pub use Rattle.mad_wrap.specs.Examples as WrapExamples
+pub use Rattle.mad_wrap.specs.FirstFit

@@ -14,7 +14,13 @@ struct Plain {
 
 impl Plain {
     // Puts a text in place of what is between two offsets, and the offset after it.
-    fn replace(&mut self, alloc: Global, from: usize, to: usize, s: &str) -> Result<(), AllocError> {
+    fn replace(
+        &mut self,
+        alloc: Global,
+        from: usize,
+        to: usize,
+        s: &str,
+    ) -> Result<(), AllocError> {
         let front = self.text.iter().copied().take(from);
         let back = self.text.iter().copied().skip(to);
         self.text = front.chain(s.chars()).chain(back).collect(alloc)?;
@@ -35,19 +41,30 @@ impl Plain {
 
     // How much of the line is after the offset.
     fn rest_of_line(&self) -> usize {
-        self.text.iter().skip(self.at).take_while(|c| **c != '\n').count()
+        self.text
+            .iter()
+            .skip(self.at)
+            .take_while(|c| **c != '\n')
+            .count()
     }
 }
 
 // A fixed generator: the next number, below a bound.
 fn draw(state: &mut u64, bound: usize) -> usize {
-    *state = state.wrapping_mul(6_364_136_223_846_793_005).wrapping_add(1_442_695_040_888_963_407);
+    *state = state
+        .wrapping_mul(6_364_136_223_846_793_005)
+        .wrapping_add(1_442_695_040_888_963_407);
     let high = (*state >> 33) as usize;
     if bound == 0 { 0 } else { high % bound }
 }
 
 // One call on both.
-fn step(alloc: Global, state: &mut u64, con: &mut InputFieldContent, plain: &mut Plain) -> Result<(), AllocError> {
+fn step(
+    alloc: Global,
+    state: &mut u64,
+    con: &mut InputFieldContent,
+    plain: &mut Plain,
+) -> Result<(), AllocError> {
     let len = plain.text.len();
     let at = plain.at;
     match draw(state, 14) {

@@ -9,7 +9,13 @@ use std::alloc::AllocError;
 fn what_is_cut_and_inserted_again(rt: HostRuntime) -> Result<(), AllocError> {
     let alloc = rt.alloc();
     let rows = [
-        ("ab\ncd\nef", Pos::new(1, 0), Pos::new(0, 2), "b\ncd\ne", "af"),
+        (
+            "ab\ncd\nef",
+            Pos::new(1, 0),
+            Pos::new(0, 2),
+            "b\ncd\ne",
+            "af",
+        ),
         ("ab\ncd", Pos::new(0, 0), Pos::new(2, 0), "ab\n", "cd"),
         ("ab\ncd", Pos::new(2, 1), Pos::new(1, 1), "d", "ab\nc"),
     ];
@@ -35,7 +41,10 @@ fn cuts_are_undone_last_first(rt: HostRuntime) -> Result<(), AllocError> {
     con.set_selection_tail(Pos::new(1, 0));
     let second = con.cut_selection()?;
     assert!(rt; con.is_empty());
-    con.undo_cuts(&[(Pos::new(1, 0), first.as_str()), (Pos::new(0, 0), second.as_str())])?;
+    con.undo_cuts(&[
+        (Pos::new(1, 0), first.as_str()),
+        (Pos::new(0, 0), second.as_str()),
+    ])?;
     assert!(rt; con.is_str("abcd"));
     Ok(())
 }
@@ -57,6 +66,10 @@ fn what_is_put_in(rt: HostRuntime) -> Result<(), AllocError> {
         con.insert_char(c)?;
     }
     assert_eq!(rt; con.to_string(alloc)?.as_str(), "12\n34");
+    con.push_char('\n')?;
+    con.push_char('5')?;
+    assert!(rt; con.is_str("12\n34\n5"));
+    assert_eq!(rt; con.cursor_pos(), Pos::new(2, 1));
     con.set_str("12\n34")?;
     con.set_str("")?;
     assert!(rt; con.is_empty());

@@ -1,6 +1,5 @@
-use Rattle.std.proofs.Common.{ℕ, ◌+◌, ◌≡◌, List, [], ◌∷◌, ◌++◌, take, drop, slice_get, get_or, ap, sym, ◌∙◌, arith, refl}
+use Rattle.std.proofs.Common.{ℕ, ◌≡◌, List, [], ◌++◌, take, drop, get_or, ap, sym, ◌∙◌, arith, refl}
 use Rattle.std.specs.Prelude.{codes}
-use Rattle.mad_edit.specs.Undo.{Cut, Removes, LeadsTo}
 use Rattle.mad_edit.proofs.laws.two_cuts_in_order.Goals as goal
 
 pub returns-clause-leads : goal.returns-clause-leads

@@ -1,5 +1,4 @@
-use Rattle.std.proofs.Common.{◌≡◌, ◌++◌, ◌∷◌, [], ap, ◌∙◌, cond, ◌&&◌, true}
-use Rattle.mad_lines.specs.TextLines.{led_lines_with, lines_of, is_accepted}
+use Rattle.std.proofs.Common.{◌∙◌}
 use Rattle.mad_lines.proofs.TextLemmas.{led_next}
 use Rattle.mad_lines.proofs.edits.add_char.Goals as goal
 

@@ -1,7 +1,6 @@
-use Rattle.std.proofs.Common.{◌≡◌, ◌<◌, ◌≤◌, ◌++◌, ◌+◌, ap, sym, ◌∙◌, subst, arith, rules, length, take, drop, chars, List, ℕ, suc, refl}
-use Rattle.std.proofs.lemmas.List.{length-map}
+use Rattle.std.proofs.Common.{◌+◌, ap, sym, ◌∙◌, subst, arith, drop, chars, suc, refl}
 use Rattle.std.specs.Prelude.{All}
-use Rattle.mad_lines.specs.TextLines.{led_lines, lines_of, text_of, accepted, offset_of, IsPlace, IsPlainLine}
+use Rattle.mad_lines.specs.TextLines.{lines_of, text_of, accepted, IsPlainLine}
 use Rattle.mad_lines.proofs.PlaceLemmas.{edited, moved_in, all_lines}
 use Rattle.mad_lines.proofs.RowLemmas.{rows_replaced}
 use Rattle.mad_lines.proofs.edits.edit_lines.Goals as goal

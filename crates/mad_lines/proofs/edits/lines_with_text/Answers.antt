@@ -1,11 +1,11 @@
-use Rattle.std.proofs.Common.{◌≡◌, ◌++◌, ap, sym, ◌∙◌, arith, rules, length, List, [], ℕ, ◌+◌, true}
+use Rattle.std.proofs.Common.{◌≡◌, ◌++◌, ap, sym, ◌∙◌, length, [], ◌+◌, true}
 use Rattle.std.proofs.lemmas.List.{map-append, map-id}
 use Rattle.std.proofs.lemmas.List.Elements.{All-append, All-cons, All-nil}
 use Rattle.std.proofs.lemmas.Iterator.{YieldsList-from_chars}
 use Rattle.std.proofs.lemmas.Iterator.Consumers.{YieldsList-end}
 use Rattle.std.specs.Str.{chars}
 use Rattle.std.specs.Char.{IsScalar}
-use Rattle.mad_lines.specs.TextLines.{led_lines, led_lines_with, lines_of, chars_of, text_of, accepted, is_plain, IsPlainLine}
+use Rattle.mad_lines.specs.TextLines.{lines_of, accepted, is_plain, IsPlainLine}
 use Rattle.mad_lines.proofs.TextLemmas.{typed_text, typed_end}
 use Rattle.mad_lines.proofs.edits.lines_with_text.Goals as goal
 

@@ -1,6 +1,6 @@
-use Rattle.std.proofs.Common.{◌≡◌, ◌<◌, arith, length, ap, sym, ◌∙◌, Some, get_or, suc, ℕ}
+use Rattle.std.proofs.Common.{arith, ap, sym, ◌∙◌, Some, get_or, ℕ}
 use Rattle.std.proofs.lemmas.List.{length-map}
-use Rattle.mad_lines.specs.TextLines.{lines_of, line_at}
+use Rattle.mad_lines.specs.TextLines.{lines_of}
 use Rattle.mad_lines.proofs.PlaceLemmas.{char_in_line, char_at_line_end, char_at_end}
 use Rattle.mad_lines.proofs.RowLemmas.{line_read}
 use Rattle.mad_lines.proofs.places.char_at.Goals as goal

@@ -1,4 +1,4 @@
-use Rattle.std.proofs.Common.{◌≡◌, ◌<◌, ◌++◌, ◌∷◌, [], ap, sym, ◌∙◌, arith, length, take, get_or, List, ℕ}
+use Rattle.std.proofs.Common.{◌≡◌, ◌<◌, ◌++◌, ◌∷◌, [], ap, sym, ◌∙◌, arith, length, take, get_or, List}
 use Rattle.std.proofs.lemmas.List.{map-append, take_more, length-map}
 use Rattle.mad_lines.specs.declared.line.Line.{Line}
 use Rattle.mad_lines.specs.TextLines.{lines_of, chars_of, line_at}

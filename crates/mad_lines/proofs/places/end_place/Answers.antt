@@ -1,4 +1,4 @@
-use Rattle.std.proofs.Common.{◌≡◌, ◌<◌, ◌+◌, ◌-◌, arith, length, ℕ, suc}
+use Rattle.std.proofs.Common.{◌<◌, ◌-◌, arith, length, suc}
 use Rattle.std.proofs.lemmas.List.{length-map}
 use Rattle.mad_lines.specs.TextLines.{lines_of, chars_of}
 use Rattle.mad_lines.proofs.PlaceLemmas.{length-text, no_lines}

@@ -1,5 +1,5 @@
-use Rattle.std.proofs.Common.{◌≡◌, ◌<◌, arith, true, false, refl}
-use Rattle.mad_lines.specs.TextLines.{lines_of, offset_of}
+use Rattle.std.proofs.Common.{arith, refl}
+use Rattle.mad_lines.specs.TextLines.{lines_of}
 use Rattle.mad_lines.proofs.PlaceLemmas.{earlier_line}
 use Rattle.mad_lines.proofs.places.is_before.Goals as goal
 

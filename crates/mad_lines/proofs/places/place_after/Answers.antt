@@ -1,5 +1,5 @@
-use Rattle.std.proofs.Common.{◌≡◌, ◌<◌, ◌+◌, arith, length, true, false, suc, refl}
-use Rattle.mad_lines.specs.TextLines.{lines_of, offset_of, text_of}
+use Rattle.std.proofs.Common.{arith, suc, refl}
+use Rattle.mad_lines.specs.TextLines.{lines_of}
 use Rattle.mad_lines.proofs.PlaceLemmas.{next_line, length-text, more_lines, no_lines}
 use Rattle.mad_lines.proofs.places.place_after.Goals as goal
 

@@ -1,4 +1,4 @@
-use Rattle.std.proofs.Common.{◌≡◌, ◌<◌, ◌+◌, ◌-◌, arith, length, take, ap}
+use Rattle.std.proofs.Common.{◌≡◌, ◌+◌, ◌-◌, arith, length, take, ap}
 use Rattle.mad_lines.specs.TextLines.{lines_of, led_lines}
 use Rattle.mad_lines.proofs.PlaceLemmas.{next_line}
 use Rattle.mad_lines.proofs.places.place_before.Goals as goal

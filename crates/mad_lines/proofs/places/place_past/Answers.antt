@@ -1,4 +1,4 @@
-use Rattle.std.proofs.Common.{◌≡◌, ◌<◌, ◌+◌, arith, length, suc}
+use Rattle.std.proofs.Common.{arith, suc}
 use Rattle.mad_lines.specs.TextLines.{lines_of}
 use Rattle.mad_lines.proofs.PlaceLemmas.{next_line, length-text, more_lines, no_lines}
 use Rattle.mad_lines.proofs.places.place_past.Goals as goal

@@ -1,5 +1,5 @@
-use Rattle.std.proofs.Common.{ℕ, List, [], ◌∷◌, ◌++◌, ◌≡◌, ◌<◌, ◌≤◌, ◌+◌, ap, sym, ◌∙◌, arith, append_assoc, append-nil, refl, length, get_or, slice_get, Some}
-use Rattle.std.specs.Prelude.{encode_utf8_all, encode_utf8, slice_range, string_bytes}
+use Rattle.std.proofs.Common.{ℕ, List, [], ◌∷◌, ◌++◌, ◌≡◌, ◌<◌, ◌≤◌, ◌+◌, ap, sym, ◌∙◌, arith, append_assoc, append-nil, length, slice_get, Some}
+use Rattle.std.specs.Prelude.{encode_utf8_all, encode_utf8, slice_range}
 use Rattle.std.proofs.lemmas.Option.{get_or_from_slice_get}
 use Rattle.std.proofs.lemmas.List.Edits.{between_more}
 use Rattle.mad_lines.specs.TextLines.{lines_of, offset_of, text_of}

@@ -1,4 +1,4 @@
-use Rattle.std.proofs.Common.{◌≡◌, ◌≤◌, ◌-◌, length}
+use Rattle.std.proofs.Common.{◌≡◌, ◌≤◌, ◌-◌}
 use Rattle.std.specs.Prelude.{string_bytes, encode_utf8_all, slice_range}
 use Rattle.mad_lines.specs.TextLines.{lines_of, IsPlace, offset_of, text_of}
 use Rattle.mad_lines.proofs.places.text_between.Given as goal

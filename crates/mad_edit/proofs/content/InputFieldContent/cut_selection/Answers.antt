@@ -1,4 +1,4 @@
-use Rattle.std.proofs.Common.{◌≡◌, ◌≤◌, ◌++◌, ◌∙◌, ap, arith, take, drop, length, List, ℕ}
+use Rattle.std.proofs.Common.{◌++◌, ◌∙◌, ap, arith, take, drop}
 use Rattle.std.specs.Prelude.{chars, string_bytes}
 use Rattle.mad_lines.specs.TextLines.{accepted}
 use Rattle.mad_edit.specs.Editor.{IsCut, selection_start, selection_end}

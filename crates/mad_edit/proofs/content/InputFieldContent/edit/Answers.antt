@@ -1,8 +1,7 @@
 use Rattle.mad_edit.proofs.SplitLemmas.{lines-text_of}
-use Rattle.std.proofs.Common.{arith, ◌≡◌, ◌∙◌, ap, refl, subst, rules, sym}
+use Rattle.std.proofs.Common.{arith, rules}
 use Rattle.mad_lines.specs.TextLines.{lines_of}
-use Rattle.mad_edit.specs.Editor.{Editor, IsAt}
-use Rattle.mad_edit.proofs.EditorLemmas.{own_lines, lines_seen}
+use Rattle.mad_edit.proofs.EditorLemmas.{lines_seen}
 use Rattle.mad_edit.proofs.LineLemmas.{lines_in_order}
 use Rattle.mad_edit.proofs.content.InputFieldContent.edit.Goals as goal
 

@@ -1,4 +1,4 @@
-use Rattle.std.proofs.Common.{◌≡◌, ◌<◌, arith}
+use Rattle.std.proofs.Common.{◌≡◌, arith}
 use Rattle.mad_lines.specs.TextLines.{lines_of, offset_of}
 use Rattle.mad_edit.specs.Editor.{selection_start, selection_last}
 use Rattle.mad_edit.proofs.EditorLemmas.{lines_seen}

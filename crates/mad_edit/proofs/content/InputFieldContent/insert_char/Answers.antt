@@ -1,4 +1,4 @@
-use Rattle.std.proofs.Common.{◌≡◌, ap, ◌∙◌, subst, ℕ, List}
+use Rattle.std.proofs.Common.{ap, ◌∙◌, subst, ℕ, List}
 use Rattle.std.specs.Prelude.{chars, OnOk}
 use Rattle.mad_edit.specs.Editor.{IsReplaced}
 use Rattle.mad_edit.proofs.TextLemmas.{one_char}

@@ -1,5 +1,5 @@
-use Rattle.std.proofs.Common.{◌≡◌, ap, ◌∙◌, subst, ℕ, List}
-use Rattle.std.specs.Prelude.{chars, OnOk}
+use Rattle.std.proofs.Common.{subst, ℕ, List}
+use Rattle.std.specs.Prelude.{OnOk}
 use Rattle.mad_edit.specs.Editor.{IsReplaced}
 use Rattle.mad_edit.proofs.TextLemmas.{newline_char}
 use Rattle.mad_edit.proofs.content.InputFieldContent.insert_new_line.Goals as goal

@@ -1,4 +1,4 @@
-use Rattle.std.proofs.Common.{ℕ, ◌<◌, ◌≡◌, ◌++◌, ◌∷◌, [], List, length, get_or, ap, sym, ◌∙◌, arith, rules, length-append, refl, IsTrue, Bool, true, false, not, Option, None, Some}
+use Rattle.std.proofs.Common.{ℕ, ◌≡◌, ◌++◌, ◌∷◌, [], List, length, get_or, ap, sym, ◌∙◌, arith, rules, length-append, refl, IsTrue, Bool, true, false, not, Option, None, Some}
 use Rattle.std.specs.Option.{is_some}
 use Rattle.std.specs.Iterator.{YieldsFirst}
 use Rattle.std.specs.Str.{chars}
@@ -17,12 +17,14 @@ pub returns-then-d-c : goal.returns-then-d-c
 returns-then-d-c c =
     let turn = YieldsList-turn (YieldsList-from_chars c.args.s.now c.utf8.s cc) c.loop-c.yielded _ c.loop-c.yielded_by _ _ c.in-Some.c c.in-Some.is c.next.ensures.steps in
     let n = length c.loop-c.yielded in
-    let own : c.loop-c.own ≡ c.in-Some-next.d ∷ c.next-in-loop-c.new.self = c.in-Some-next.ensures.steps in
-    (λ h. search rules, λ same. absurd (c.if-d-c.true
-      (sym (get_or_at c.loop-c.yielded c.in-Some-next.d c.next-in-loop-c.new.self c.in-Some.c n refl)
-      ∙ ap (λ (t : List ℕ). get_or (c.loop-c.yielded ++ t) n c.in-Some.c) (sym own)
-      ∙ ap (λ (t : List ℕ). get_or t n c.in-Some.c) (sym c.loop-c.invariant ∙ same)
-      ∙ sym turn.1)))
+    let own : c.loop-c.own ≡ c.in-Some-next.d ∷ c.next-in-loop-c.new.self = c.in-Some-next.ensures.steps in (
+      λ h. search rules,
+      λ same. absurd (c.if-d-c.true
+          (sym (get_or_at c.loop-c.yielded c.in-Some-next.d c.next-in-loop-c.new.self c.in-Some.c n refl)
+          ∙ ap (λ (t : List ℕ). get_or (c.loop-c.yielded ++ t) n c.in-Some.c) (sym own)
+          ∙ ap (λ (t : List ℕ). get_or t n c.in-Some.c) (sym c.loop-c.invariant ∙ same)
+          ∙ sym turn.1)),
+    )
 
 -- nothing is left exactly where the texts are the same
 ended : (r : Option ℕ) (b : Bool) (t ys own rest cs : List ℕ) → is_some r ≡ not b → YieldsFirst {A = ℕ} (λ (s : List ℕ). s) own r rest → t ≡ ys ++ own → ys ≡ cs → (IsTrue b → t ≡ cs) × (t ≡ cs → IsTrue b)

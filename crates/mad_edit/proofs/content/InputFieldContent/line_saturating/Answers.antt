@@ -1,5 +1,5 @@
-use Rattle.std.proofs.Common.{rules, ◌≡◌, ◌<◌, arith, ap, ◌∙◌, sym, refl}
-use Rattle.mad_edit.proofs.EditorLemmas.{own_lines, lines_seen, line_seen, editor_seen}
+use Rattle.std.proofs.Common.{rules}
+use Rattle.mad_edit.proofs.EditorLemmas.{lines_seen}
 use Rattle.mad_edit.proofs.content.InputFieldContent.line_saturating.Goals as goal
 
 pub returns : goal.returns

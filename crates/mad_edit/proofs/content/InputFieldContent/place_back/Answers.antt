@@ -1,7 +1,5 @@
-use Rattle.std.proofs.Common.{◌≡◌, ◌∙◌, ap, refl, subst, rules, sym, arith}
-use Rattle.mad_lines.specs.TextLines.{lines_of}
-use Rattle.mad_edit.specs.Editor.{Editor, IsAt}
-use Rattle.mad_edit.proofs.EditorLemmas.{own_lines, lines_seen, editor_seen, line_seen, column_seen, front_seen, rest_seen, front_length, rest_length}
+use Rattle.std.proofs.Common.{arith}
+use Rattle.mad_edit.proofs.EditorLemmas.{lines_seen, front_length}
 use Rattle.mad_edit.proofs.content.InputFieldContent.place_back.Goals as goal
 
 pub overflow_sub-result : goal.overflow_sub-result

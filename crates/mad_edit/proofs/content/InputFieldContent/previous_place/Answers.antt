@@ -1,7 +1,5 @@
-use Rattle.std.proofs.Common.{◌≡◌, ◌∙◌, ap, refl, subst, rules, sym}
-use Rattle.mad_lines.specs.TextLines.{lines_of}
-use Rattle.mad_edit.specs.Editor.{Editor, IsAt}
-use Rattle.mad_edit.proofs.EditorLemmas.{own_lines, lines_seen}
+use Rattle.std.proofs.Common.{rules}
+use Rattle.mad_edit.proofs.EditorLemmas.{lines_seen}
 use Rattle.mad_edit.proofs.content.InputFieldContent.previous_place.Goals as goal
 
 pub place_before-requires : goal.place_before-requires

@@ -1,4 +1,4 @@
-use Rattle.std.proofs.Common.{◌≡◌, ◌≤◌, ◌∙◌, ap, sym, subst, arith, rules, length, List, ℕ, refl}
+use Rattle.std.proofs.Common.{◌≡◌, ◌∙◌, ap, sym, subst, arith, rules, List, ℕ}
 use Rattle.mad_lines.specs.TextLines.{lines, lines_of, line_at}
 use Rattle.mad_lines.specs.LineColumns.{columns, IsIndexAtColumn}
 use Rattle.mad_edit.specs.Editor.{front_of_line}
@@ -24,6 +24,6 @@ returns c =
     let column : c.columns-column.result ≡ columns (front_of_line c.args.self.now) = c.columns-column.ensures ∙ ap columns (c.front_at.ensures ∙ front_seen _ _ _ _ c.self.view_is c.self.invariant) in (
       x,
       subst (λ (l : List ℕ). IsIndexAtColumn l (columns (front_of_line c.args.self.now)) x) line
-        (subst (λ (k : ℕ). IsIndexAtColumn c.rest_at.result.now k x) column c.index_at_column-x.ensures),
+          (subst (λ (k : ℕ). IsIndexAtColumn c.rest_at.result.now k x) column c.index_at_column-x.ensures),
       rw (lines_seen _ _ _ _ c.self.view_is c.self.invariant, ← c.self.view_is) (search rules),
     )

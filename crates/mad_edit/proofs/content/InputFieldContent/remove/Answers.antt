@@ -1,4 +1,4 @@
-use Rattle.std.proofs.Common.{◌≡◌, ◌+◌, ◌++◌, ap, ◌∙◌, take, drop, length, add-zero}
+use Rattle.std.proofs.Common.{◌+◌, ◌++◌, ap, ◌∙◌, take, drop, length, add-zero}
 use Rattle.mad_edit.specs.Editor.{offset_at}
 use Rattle.mad_edit.proofs.TextLemmas.{nothing_accepted}
 use Rattle.mad_edit.proofs.content.InputFieldContent.remove.Goals as goal

@@ -1,6 +1,4 @@
-use Rattle.std.proofs.Common.{◌≡◌, ◌∙◌, ap, refl, subst, rules, sym, arith}
-use Rattle.mad_lines.specs.TextLines.{lines_of}
-use Rattle.mad_edit.specs.Editor.{Editor, IsAt}
+use Rattle.std.proofs.Common.{rules}
 use Rattle.mad_edit.proofs.EditorLemmas.{own_lines, lines_seen, editor_seen}
 use Rattle.mad_edit.proofs.content.InputFieldContent.selection.Goals as goal
 

@@ -1,5 +1,5 @@
-use Rattle.std.proofs.Common.{rules, ◌≡◌, ◌<◌, arith, ap, ◌∙◌, sym, refl, subst}
-use Rattle.mad_edit.proofs.EditorLemmas.{own_lines, lines_seen, line_seen, column_seen, editor_seen}
+use Rattle.std.proofs.Common.{rules, ◌≡◌, arith, ap, subst}
+use Rattle.mad_edit.proofs.EditorLemmas.{lines_seen, line_seen, column_seen}
 use Rattle.mad_lines.specs.declared.place.Pos.{Pos}
 use Rattle.mad_lines.specs.TextLines.{lines_of, text_of, offset_of, IsPlace}
 use Rattle.mad_edit.proofs.SwapLemmas.{swapped_lines, swapped_plain}

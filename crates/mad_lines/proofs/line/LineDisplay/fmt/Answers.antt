@@ -1,4 +1,4 @@
-use Rattle.std.proofs.Common.{refl, ◌≡◌, ◌<◌, length, ap, sym, ◌∙◌, rules, arith, ◌++◌, take, get_or, ◌+◌}
+use Rattle.std.proofs.Common.{◌≡◌, ◌<◌, length, ap, ◌∙◌, rules, arith, ◌++◌, take, get_or, ◌+◌}
 use Rattle.std.specs.Prelude.{encode_utf8_all, encode_utf8}
 use Rattle.std.proofs.Output.{has_written_of_eq, has_written_append}
 use Rattle.std.proofs.lemmas.List.{get_or_default}
