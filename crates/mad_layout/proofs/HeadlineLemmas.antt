@@ -1,5 +1,5 @@
 -- From a layout to what its area shows.
-use Rattle.std.proofs.Common.{◌≡◌, ℕ, ◌-◌, ◌≤◌, List, [], inl, inr, Option, Some, None, Result, Ok, Err, OnOk, IfOk, ap, ◌∙◌, subst, arith}
+use Rattle.std.proofs.Common.{◌≡◌, ℕ, ◌-◌, ◌≤◌, List, inl, inr, Option, Some, None, Result, Ok, Err, OnOk, IfOk, subst, arith}
 use Rattle.std.specs.Prelude.{Bool, false, nat_lt, MatchBool}
 use Rattle.std.proofs.lemmas.Bool.Decides.{nat_tests}
 use Rattle.mad_md.specs.Lines.{StyledRuns, contents}

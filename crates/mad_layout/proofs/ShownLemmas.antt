@@ -1,5 +1,5 @@
 -- What an area shows of the lines that were drawn in it.
-use Rattle.std.proofs.Common.{◌≡◌, ℕ, zero, suc, ◌<◌, ◌≤◌, List, [], ◌∷◌, drop, take, Result, Ok, Err, OnOk, arith, subst, sym}
+use Rattle.std.proofs.Common.{◌≡◌, ℕ, zero, suc, ◌<◌, List, [], ◌∷◌, drop, take, Result, Ok, Err, OnOk, arith, subst, sym}
 use Rattle.std.specs.Prelude.{slice_get}
 use Rattle.mad_term.specs.Trace.{Trace, TookWith}
 use Rattle.mad_fit.specs.declared.area.Area.{Area}

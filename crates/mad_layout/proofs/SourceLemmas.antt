@@ -9,12 +9,12 @@ use Rattle.std.proofs.lemmas.Str.{chars-append, IsUtf8-take, IsUtf8-between}
 use Rattle.unicode_width.specs.Width.{char_width}
 use Rattle.mad_columns.specs.Columns.{char_columns}
 use Rattle.mad_columns.proofs.CharColumns.{char_columns-three}
-use Rattle.mad_md.specs.Flagged.{Flags, FlaggedChar, Run, RunPlace, flagged, is_blank, run_at}
+use Rattle.mad_md.specs.Flagged.{Flags, FlaggedChar, RunPlace, flagged, is_blank, run_at}
 use Rattle.mad_md.specs.Inline.{Item, runs, IsInlineReading}
 use Rattle.mad_md.specs.Lines.{LineContent, StyledRuns, contents}
 use Rattle.mad_md.specs.Parts.{LinePlace, line_places}
 use Rattle.mad_md.proofs.RunBorders.{IsBordered, runs_bordered}
-use Rattle.mad_md.specs.ReadByMarks.{IsReadByMarks, IsInlineLine, AreInlineLines}
+use Rattle.mad_md.specs.ReadByMarks.{IsReadByMarks, AreInlineLines}
 use Rattle.mad_md.specs.declared.composite.CompositeStyle.TheVariants.{Paragraph}
 use Rattle.mad_md.specs.declared.text.Text.{Text}
 use Rattle.mad_screen.specs.Painting.{IsPrinted}
@@ -29,7 +29,6 @@ use Rattle.mad_layout.specs.InArea.{ShowsText}
 use Rattle.mad_layout.specs.Layouts.{composites}
 use Rattle.mad_layout.specs.Premises.{AreJoined, IsPlainRun, IsPlainLine, KeepsPremises, inner_width, runs_text}
 use Rattle.mad_layout.specs.Sources.{TakesColumns, LinesTakeColumns, ShowsSource}
-use Rattle.mad_layout.specs.Styles.{line_style}
 use Rattle.mad_layout.specs.declared.skin.MadSkin.{MadSkin}
 
 -- ---- a run

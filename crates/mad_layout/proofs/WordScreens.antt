@@ -1,9 +1,8 @@
 -- The example's text in an area: what a screen shows that reads it.
-use Rattle.std.proofs.Common.{◌≡◌, ℕ, zero, suc, replicate, ◌+◌, ◌<◌, ◌≤◌, List, [], ◌∷◌, ◌++◌, map, inl, inr, chars, get_or, drop, Option, Some, None, refl, ap, sym, ◌∙◌, subst, arith}
-use Rattle.std.specs.Prelude.{IfSome, slice_get, true}
+use Rattle.std.proofs.Common.{◌≡◌, ℕ, zero, suc, replicate, ◌≤◌, List, [], ◌∷◌, ◌++◌, map, inl, inr, chars, get_or, Option, Some, None, refl, ap, sym, ◌∙◌, subst, arith}
+use Rattle.std.specs.Prelude.{IfSome, true}
 use Rattle.std.proofs.lemmas.List.{length-replicate}
-use Rattle.mad_columns.specs.Columns.{char_columns}
-use Rattle.mad_md.specs.Flagged.{Run, plain, flagged, run_at, run_of, flagged_text}
+use Rattle.mad_md.specs.Flagged.{Run, plain, flagged, run_at, run_of}
 use Rattle.mad_md.specs.Lines.{LineContent, StyledRuns, normal, contents}
 use Rattle.mad_md.specs.Parts.{line_places}
 use Rattle.mad_md.specs.ReadByMarks.{IsReadByMarks, AreInlineLines}
@@ -12,7 +11,7 @@ use Rattle.mad_md.specs.declared.text.Text.{Text}
 use Rattle.mad_md.proofs.RunBorders.{unmarked_runs}
 use Rattle.mad_term.specs.Trace.{Trace}
 use Rattle.mad_screen.specs.Glyph.{Glyph, Look}
-use Rattle.mad_screen.specs.Grid.{Grid, IsGrid, blank, cell_at, empty_grid, plain_pen}
+use Rattle.mad_screen.specs.Grid.{Grid, blank, cell_at, empty_grid, plain_pen}
 use Rattle.mad_screen.specs.Painting.{attach, cells_of, look_of_style}
 use Rattle.mad_screen.specs.Terminal.{after_bytes}
 use Rattle.mad_style.specs.declared.kinds.CompositeKind.TheVariants.{Paragraph}
@@ -33,7 +32,7 @@ use Rattle.mad_draw.specs.PennedCells.{penned_cells, penned_joined}
 use Rattle.mad_layout.specs.Indents.{indent}
 use Rattle.mad_layout.specs.Layouts.{AreRead, IsLayout, composites}
 use Rattle.mad_layout.specs.Premises.{runs_text}
-use Rattle.mad_layout.specs.Rows.{compound_piece, run_piece, row_pieces, line_pieces}
+use Rattle.mad_layout.specs.Rows.{run_piece, line_pieces}
 use Rattle.mad_layout.specs.Shown.{text_row, AreShownIn}
 use Rattle.mad_layout.specs.Skins.{no_style_skin}
 use Rattle.mad_layout.specs.Sources.{LinesTakeColumns, ShowsSource}
@@ -93,7 +92,7 @@ laid (Normal l ∷ []) lines reads (own, others, joins, here, none) =
     let left : (margins_at (line_style no_style_skin l.kind) (Some 11)).0 ≡ 0 = ap (λ (m : ℕ × ℕ). m.0) margins in
     let right : (margins_at (line_style no_style_skin l.kind) (Some 11)).1 ≡ 0 = ap (λ (m : ℕ × ℕ). m.1) margins in
     let own_is : own ≡ line_with (0, 0) l ∷ [] = elim here [
-      inl kept ↦ kept.1 ∙ ap (λ (m : ℕ × ℕ). line_with m l ∷ []) margins
+      | inl kept ↦ kept.1 ∙ ap (λ (m : ℕ × ℕ). line_with m l ∷ []) margins
       | inr broken ↦ absurd (omega (arith, broken.0, columns, left, right))
     ] in
     record {
