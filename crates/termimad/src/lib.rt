@@ -36,8 +36,8 @@ pub use mad_layout::{
 };
 pub use mad_md as md;
 pub use mad_md::{
-    Alignment, Composite, CompositeStyle, Compound, Line, LineCursor, MAX_HEADER_DEPTH, ParseOptions,
-    TableRow, TableRule, Text, parse_text, parse_text_with,
+    Alignment, Composite, CompositeStyle, Compound, Line, LineCursor, MAX_HEADER_DEPTH,
+    ParseOptions, TableRow, TableRule, Text, parse_text, parse_text_with,
 };
 pub use mad_parse::{
     ParseAlignError, ParseAttributeError, ParseColorError, ParseStyleTokenError, PushStyleTokens,
