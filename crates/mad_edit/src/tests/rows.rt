@@ -3,10 +3,10 @@
 use super::content;
 use crate::InputFieldContent;
 use mad_lines::Pos;
-use std::alloc::AllocError;
+use std::test::Fail;
 
 #[test]
-fn what_is_cut_and_inserted_again(rt: HostRuntime) -> Result<(), AllocError> {
+fn what_is_cut_and_inserted_again(rt: HostRuntime) -> Result<(), Fail> {
     let alloc = rt.alloc();
     let rows = [
         (
@@ -34,7 +34,7 @@ fn what_is_cut_and_inserted_again(rt: HostRuntime) -> Result<(), AllocError> {
 }
 
 #[test]
-fn cuts_are_undone_last_first(rt: HostRuntime) -> Result<(), AllocError> {
+fn cuts_are_undone_last_first(rt: HostRuntime) -> Result<(), Fail> {
     let mut con = content(rt.alloc(), "abcd", Pos::new(1, 0), Some(Pos::new(2, 0)))?;
     let first = con.cut_selection()?;
     con.move_to_start();
@@ -50,7 +50,7 @@ fn cuts_are_undone_last_first(rt: HostRuntime) -> Result<(), AllocError> {
 }
 
 #[test]
-fn what_is_put_in(rt: HostRuntime) -> Result<(), AllocError> {
+fn what_is_put_in(rt: HostRuntime) -> Result<(), Fail> {
     let alloc = rt.alloc();
     let mut con = content(alloc, "abc", Pos::new(0, 0), Some(Pos::new(1, 0)))?;
     con.replace_selection("X\r")?;
@@ -77,7 +77,7 @@ fn what_is_put_in(rt: HostRuntime) -> Result<(), AllocError> {
 }
 
 #[test]
-fn words_are_removed_to_the_right(rt: HostRuntime) -> Result<(), AllocError> {
+fn words_are_removed_to_the_right(rt: HostRuntime) -> Result<(), Fail> {
     let mut con = content(rt.alloc(), "aaa bbb ccc", Pos::new(5, 0), None)?;
     let rows = [
         ("aaa bccc", 5, true),
@@ -99,7 +99,7 @@ fn words_are_removed_to_the_right(rt: HostRuntime) -> Result<(), AllocError> {
 }
 
 #[test]
-fn a_tail_at_the_end_is_kept_in_the_text(rt: HostRuntime) -> Result<(), AllocError> {
+fn a_tail_at_the_end_is_kept_in_the_text(rt: HostRuntime) -> Result<(), Fail> {
     let alloc = rt.alloc();
     let mut con = content(alloc, "aaa bbb ccc", Pos::new(5, 0), Some(Pos::new(11, 0)))?;
     let mut copy = con.try_clone(alloc)?;
@@ -112,7 +112,7 @@ fn a_tail_at_the_end_is_kept_in_the_text(rt: HostRuntime) -> Result<(), AllocErr
 }
 
 #[test]
-fn a_text_is_what_was_put_in(rt: HostRuntime) -> Result<(), AllocError> {
+fn a_text_is_what_was_put_in(rt: HostRuntime) -> Result<(), Fail> {
     for text in ["this has\nthree lines\n", "", "123", "\n\n"] {
         let con = InputFieldContent::from(rt.alloc(), text)?;
         assert!(rt; con.is_str(text));
@@ -122,7 +122,7 @@ fn a_text_is_what_was_put_in(rt: HostRuntime) -> Result<(), AllocError> {
 }
 
 #[test]
-fn columns_are_kept_up_and_down(rt: HostRuntime) -> Result<(), AllocError> {
+fn columns_are_kept_up_and_down(rt: HostRuntime) -> Result<(), Fail> {
     let mut con = content(rt.alloc(), "ab\tc\n概要x\n", Pos::new(3, 0), None)?;
     assert!(rt; con.move_down());
     assert_eq!(rt; con.cursor_pos(), Pos::new(2, 1));
@@ -137,7 +137,7 @@ fn columns_are_kept_up_and_down(rt: HostRuntime) -> Result<(), AllocError> {
 }
 
 #[test]
-fn words_are_selected_and_lines_moved(rt: HostRuntime) -> Result<(), AllocError> {
+fn words_are_selected_and_lines_moved(rt: HostRuntime) -> Result<(), Fail> {
     let mut con = content(rt.alloc(), "a b_1-c\nd", Pos::new(3, 0), None)?;
     assert!(rt; con.select_word_around());
     assert_eq!(rt; con.selection_string()?.as_str(), "b_1");
