@@ -5,14 +5,15 @@ use Rattle.mad_term.specs.declared.color.Color.TheVariants.{AnsiValue}
 use Rattle.mad_md.specs.declared.alignment.Alignment.TheVariants.{Unspecified}
 use Rattle.mad_style.specs.declared.kinds.ListItemsIndentationMode.TheVariants.{Block}
 use Rattle.mad_term.specs.AttributeSets.{only}
+use Rattle.mad_style.specs.Borders.{standard_borders}
 use Rattle.mad_style.specs.CompoundStyles.{text_style, plain_style}
 use Rattle.mad_style.specs.LineStyles.{unmargined}
 use Rattle.mad_style.specs.StyledChars.{styled_char, colored_char}
-use Rattle.mad_layout.specs.SkinParts.{plain_line, code_style, default_header_lines, default_quote}
+use Rattle.mad_layout.specs.SkinParts.{plain_line, code_style, default_header_lines, default_quote, default_table, default_scrollbar}
 use Rattle.mad_layout.specs.declared.skin.MadSkin.{MadSkin}
 
 -- The default skin: bold, italic and struck out text as such, code light on dark, headers underlined and the first one bold
--- and centered; bullets in gray 8, the dots of numbers and the bold mark of quotes in gray 12.
+-- and centered; rules in gray 6, tables in gray 7, bullets in gray 8, the dots of numbers and the bold mark of quotes in gray 12.
 abbrev pub default_skin : MadSkin
 default_skin =
     record {
@@ -23,14 +24,18 @@ default_skin =
       inline_code = code_style;
       code_block = unmargined code_style Unspecified;
       headers = default_header_lines;
+      scrollbar = default_scrollbar;
+      table = default_table;
       bullet = colored_char (AnsiValue 240) 0x2022;
       ordered_item_styles = replicate 4 (record { index_style = plain_style; index_suffix = colored_char (AnsiValue 244) 46 });
       quote_mark = default_quote;
+      horizontal_rule = colored_char (AnsiValue 238) 0x2015;
       ellipsis = plain_style;
+      table_border_chars = standard_borders;
       list_items_indentation_mode = Block;
     }
 
--- the same marks, without style
+-- the same characters without style; the scroll bar alone stays as it is
 abbrev pub no_style_skin : MadSkin
 no_style_skin =
     record {
@@ -41,9 +46,13 @@ no_style_skin =
       inline_code = plain_style;
       code_block = plain_line;
       headers = replicate 8 plain_line;
+      scrollbar = default_scrollbar;
+      table = plain_line;
       bullet = styled_char plain_style 0x2022;
       ordered_item_styles = replicate 4 (record { index_style = plain_style; index_suffix = styled_char plain_style 46 });
       quote_mark = styled_char plain_style 0x2590;
+      horizontal_rule = styled_char plain_style 0x2015;
       ellipsis = plain_style;
+      table_border_chars = standard_borders;
       list_items_indentation_mode = Block;
     }

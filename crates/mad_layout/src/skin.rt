@@ -1,19 +1,23 @@
 //! The styles of a text's parts.
 
 ghost use Rattle.std.specs.Prelude.{◌≡◌, ◌+◌};
-ghost use Rattle.mad_layout.specs.SkinParts.{header_line, first_header_line, default_header_lines, default_quote};
+ghost use Rattle.mad_layout.specs.SkinParts.{header_line, first_header_line, default_header_lines, default_quote, default_table};
 
 use crate::indents::indent_of;
 use mad_fit::columns;
 use mad_md::{Alignment, Compound, MAX_HEADER_DEPTH};
 use mad_style::{
     CompositeKind, CompoundStyle, LineStyle, ListItemsIndentationMode, MAX_ORDERED_LIST_DEPTH,
-    OrderedItemStyle, StyledChar, gray,
+    OrderedItemStyle, STANDARD_TABLE_BORDER_CHARS, ScrollBarStyle, StyledChar, TableBorderChars,
+    gray,
 };
 use mad_term::Attribute;
 
 /// The text that stands for what was left out.
 pub(crate) const ELLIPSIS: &str = "…";
+
+// What a horizontal rule is made of.
+const RULE: char = '―';
 
 /// How the numbers of items look, by the level of their list.
 pub type OrderedItemStyles = [OrderedItemStyle; MAX_ORDERED_LIST_DEPTH];
@@ -35,14 +39,22 @@ pub struct MadSkin {
     pub code_block: LineStyle,
     /// The styles of headers, those of the first level first.
     pub headers: [LineStyle; MAX_HEADER_DEPTH],
+    /// How scroll bars look.
+    pub scrollbar: ScrollBarStyle,
+    /// The style of a table's borders, and on which side a table is.
+    pub table: LineStyle,
     /// The mark of an item of a list.
     pub bullet: StyledChar,
     /// How the numbers of items look, by level.
     pub ordered_item_styles: OrderedItemStyles,
     /// The mark of a quote.
     pub quote_mark: StyledChar,
+    /// What a rule is drawn with, over the whole width.
+    pub horizontal_rule: StyledChar,
     /// The style of an ellipsis.
     pub ellipsis: CompoundStyle,
+    /// The characters of a table's borders.
+    pub table_border_chars: TableBorderChars,
     /// Whether the lines of an item after its first are indented.
     pub list_items_indentation_mode: ListItemsIndentationMode,
 }
@@ -64,10 +76,14 @@ impl Default for MadSkin {
             inline_code: code,
             code_block: LineStyle::from(code),
             headers: default_headers(),
+            scrollbar: ScrollBarStyle::new(),
+            table: default_table(),
             bullet: StyledChar::from_fg_char(gray(8), '•'),
             ordered_item_styles: [OrderedItemStyle::default(); MAX_ORDERED_LIST_DEPTH],
             quote_mark: default_quote_mark(),
+            horizontal_rule: StyledChar::from_fg_char(gray(6), RULE),
             ellipsis: CompoundStyle::default(),
+            table_border_chars: STANDARD_TABLE_BORDER_CHARS,
             list_items_indentation_mode: ListItemsIndentationMode::default(),
         }
     }
@@ -101,6 +117,13 @@ fn first_header() -> LineStyle
     header
 }
 
+// Gray borders.
+fn default_table() -> LineStyle
+    ensures { result ≡ default_table }
+{
+    LineStyle::from(CompoundStyle::with_fg(gray(7)))
+}
+
 // A bold half block in light gray.
 fn default_quote_mark() -> StyledChar
     ensures { result ≡ default_quote }
@@ -118,7 +141,7 @@ impl MadSkin {
     ghost use Rattle.mad_layout.specs.Styles.{line_style, compound_style, ordered_item_style};
     ghost use Rattle.mad_layout.specs.Wraps.{capped};
 
-    /// The marks of the default skin, and no style.
+    /// The characters of the default skin, without style; only the scroll bar looks as the default one.
     pub fn no_style() -> Self
         ensures { result ≡ no_style_skin }
     {
@@ -131,10 +154,14 @@ impl MadSkin {
             inline_code: CompoundStyle::default(),
             code_block: LineStyle::default(),
             headers: [LineStyle::default(); MAX_HEADER_DEPTH],
+            scrollbar: ScrollBarStyle::new(),
+            table: LineStyle::default(),
             bullet: StyledChar::nude('•'),
             ordered_item_styles: [item; MAX_ORDERED_LIST_DEPTH],
             quote_mark: StyledChar::nude('▐'),
+            horizontal_rule: StyledChar::nude(RULE),
             ellipsis: CompoundStyle::default(),
+            table_border_chars: STANDARD_TABLE_BORDER_CHARS,
             list_items_indentation_mode: ListItemsIndentationMode::default(),
         }
     }
