@@ -1,5 +1,5 @@
 -- A layout of a plain text is drawn exactly.
-use Rattle.std.proofs.Common.{◌≡◌, ℕ, zero, suc, ◌+◌, ◌-◌, ◌^◌, ◌<◌, ◌≤◌, inl, inr, List, [], ◌∷◌, ◌++◌, map, Option, Some, None, Contains, drop, take, refl, sym, ap, ◌∙◌, subst, arith}
+use Rattle.std.proofs.Common.{◌≡◌, ℕ, zero, suc, ◌+◌, ◌-◌, ◌^◌, ◌<◌, ◌≤◌, inl, inr, List, [], ◌∷◌, ◌++◌, map, Option, Some, None, Contains, drop, length, take, refl, sym, ap, ◌∙◌, subst, arith}
 use Rattle.std.specs.Prelude.{IfSome, unwrap_or}
 use Rattle.std.specs.List.{AllByRecursion}
 use Rattle.std.specs.Str.{IsUtf8}
@@ -19,14 +19,12 @@ use Rattle.mad_fit.specs.declared.tokens.Token.{Token}
 use Rattle.mad_fit.proofs.AllLemmas.{all_joined, all_each}
 use Rattle.mad_layout.specs.Drawable.{IsDrawableLine, AreDrawable}
 use Rattle.mad_draw.specs.Pieces.{AreShownPieces, pieces_columns}
-use Rattle.mad_fit.specs.declared.area.Area.{Area}
 use Rattle.mad_fit.specs.declared.spacing.Spacing.{Spacing}
 use Rattle.mad_layout.specs.FittingLayouts.{IsFittingWrap, IsFittingLayout}
 use Rattle.mad_layout.specs.Indents.{indent, follow_up, room_of}
 use Rattle.mad_layout.specs.Layouts.{IsRead, AreRead, IsLayout}
 use Rattle.mad_layout.specs.Premises.{IsPlainRun, runs_text, IsPlainLine, KeepsPremises}
 use Rattle.mad_layout.specs.Rows.{mark_pieces, compound_piece, inner_columns, place_of}
-use Rattle.mad_layout.specs.Shown.{lines_shown}
 use Rattle.mad_layout.specs.Styles.{line_style}
 use Rattle.mad_layout.specs.LeastWrap.{IsWrap}
 use Rattle.mad_layout.specs.WrappedLines.{style_margins, line_with, AreLinesWrapped, IsLaidOutBy, AreLaidOutBy}
@@ -130,20 +128,47 @@ read_drawable skin width drawn line source lines narrower bound plain read (inr 
 
 -- ---- a text
 
-lines_drawable : (skin : MadSkin) (width drawn : ℕ) (text : List StyledRuns) (read lines : List FmtLine) → width ≤ drawn → drawn < 2 ^ 64 - 1
-    → KeepsPremises skin width text → AreRead skin text read → AreLaidOutBy IsFittingWrap skin width read lines → AreDrawable skin drawn lines
-lines_drawable skin width drawn [] [] lines narrower bound keeps reads wraps = subst (AreDrawable skin drawn) (sym wraps) tt
-lines_drawable skin width drawn [] (l ∷ ls) lines narrower bound keeps reads wraps = absurd reads
-lines_drawable skin width drawn (c ∷ cs) [] lines narrower bound keeps reads wraps = absurd reads
-lines_drawable skin width drawn (c ∷ cs) (Normal l ∷ ls) lines narrower bound keeps reads (own, others, joins, here, more) =
-    subst (AreDrawable skin drawn) (sym joins)
-    (all_joined (IsDrawableLine skin drawn) own others (read_drawable skin width drawn c l own narrower bound keeps.0 reads.0 here)
-    (lines_drawable skin width drawn cs ls others narrower bound keeps.1 reads.1 more))
+-- so it has a line at least
+read_some : (skin : MadSkin) (width : ℕ) (line : StyledRuns) (source : FmtComposite) (lines : List FmtLine) → IsPlainLine skin width line → IsRead skin line source
+    → IsLaidOutBy IsFittingWrap skin width source lines → 0 < length lines
+read_some skin width line source lines plain read (inl (fits, same)) = let one : length lines ≡ 1 = ap length same in omega (arith, one)
+read_some skin width line source lines plain read (inr (wide, ([], wraps, same))) =
+    let none : indent skin.list_items_indentation_mode source.kind ≡ 0 = ap (indent skin.list_items_indentation_mode) (read.kind ∙ ap kind_of plain.paragraph) in
+    let empty : width_of (text_of source) ≡ 0 = ap width_of wraps.keeps in
+    absurd (omega (arith, wide, read.measured, none, empty, margins-le (line_style skin source.kind) width))
+read_some skin width line source lines plain read (inr (wide, (w ∷ ws, wraps, same))) =
+    let more : length lines ≡ suc (length (map (line_with (style_margins skin width source)) ws)) = ap length same in omega (arith, more)
 
--- A layout of a text that keeps the premises is drawn exactly in a row at least as wide, however many lines it has.
-pub fitting_is_drawable : (skin : MadSkin) (width drawn : ℕ) (text : List StyledRuns) (lines : List FmtLine) → width ≤ drawn → drawn < 2 ^ 64 - 1
-    → KeepsPremises skin width text → IsFittingLayout skin width text lines → AreDrawable skin drawn lines
-fitting_is_drawable skin width drawn text lines narrower bound keeps layout = lines_drawable skin width drawn text layout.read lines narrower bound keeps layout.reads layout.fitted
+one_less : (skin : MadSkin) (drawn : ℕ) (lines : List FmtLine) (n : ℕ) → AreDrawable skin drawn (take (suc n) lines) → AreDrawable skin drawn (take n lines)
+one_less skin drawn lines zero h = tt
+one_less skin drawn [] (suc n) h = tt
+one_less skin drawn (l ∷ ls) (suc n) h = (h.0, one_less skin drawn ls n h.1)
+
+first_joined : (skin : MadSkin) (drawn : ℕ) (own others : List FmtLine) (n : ℕ) → AreDrawable skin drawn own → AreDrawable skin drawn (take n others) → AreDrawable skin drawn (take n (own ++ others))
+first_joined skin drawn own others zero h k = tt
+first_joined skin drawn [] others (suc n) h k = k
+first_joined skin drawn (l ∷ own) others (suc n) h k = (h.0, first_joined skin drawn own others n h.1 (one_less skin drawn others n k))
+
+some_joined : (skin : MadSkin) (drawn : ℕ) (own others : List FmtLine) (n : ℕ) → 0 < length own → AreDrawable skin drawn own → AreDrawable skin drawn (take n others) → AreDrawable skin drawn (take (suc n) (own ++ others))
+some_joined skin drawn [] others n some h k = absurd (omega (arith, some))
+some_joined skin drawn (l ∷ own) others n some h k = (h.0, first_joined skin drawn own others n h.1 k)
+
+lines_drawable : (skin : MadSkin) (width drawn n : ℕ) (text : List StyledRuns) (read lines : List FmtLine) → width ≤ drawn → drawn < 2 ^ 64 - 1
+    → KeepsPremises skin width (take n text) → AreRead skin text read → AreLaidOutBy IsFittingWrap skin width read lines → AreDrawable skin drawn (take n lines)
+lines_drawable skin width drawn zero text read lines narrower bound keeps reads wraps = tt
+lines_drawable skin width drawn (suc n) [] [] lines narrower bound keeps reads wraps = subst (λ (ls : List FmtLine). AreDrawable skin drawn (take (suc n) ls)) (sym wraps) tt
+lines_drawable skin width drawn (suc n) [] (l ∷ ls) lines narrower bound keeps reads wraps = absurd reads
+lines_drawable skin width drawn (suc n) (c ∷ cs) [] lines narrower bound keeps reads wraps = absurd reads
+lines_drawable skin width drawn (suc n) (c ∷ cs) (Normal l ∷ ls) lines narrower bound keeps reads (own, others, joins, here, more) =
+    subst (λ (ls : List FmtLine). AreDrawable skin drawn (take (suc n) ls)) (sym joins)
+    (some_joined skin drawn own others n (read_some skin width c l own keeps.0 reads.0 here) (read_drawable skin width drawn c l own narrower bound keeps.0 reads.0 here)
+    (lines_drawable skin width drawn n cs ls others narrower bound keeps.1 reads.1 more))
+
+-- Where the first lines of a text keep the premises, the first lines of its layout are drawn exactly in a row at least as wide, however
+-- many lines it has.
+pub fitting_is_drawable : (skin : MadSkin) (width drawn n : ℕ) (text : List StyledRuns) (lines : List FmtLine) → width ≤ drawn → drawn < 2 ^ 64 - 1
+    → KeepsPremises skin width (take n text) → IsFittingLayout skin width text lines → AreDrawable skin drawn (take n lines)
+fitting_is_drawable skin width drawn n text lines narrower bound keeps layout = lines_drawable skin width drawn n text layout.read lines narrower bound keeps layout.reads layout.fitted
 
 -- ---- a layout with the fewest lines
 
@@ -168,21 +193,19 @@ lines_fit skin width (Normal l ∷ ls) lines (own, others, joins, inr (wide, (wr
 pub layout_fits : (skin : MadSkin) (width : ℕ) (text : List StyledRuns) (lines : List FmtLine) → IsLayout skin width text lines → IsFittingLayout skin width text lines
 layout_fits skin width text lines layout = record { read = layout.read; reads = layout.reads; fitted = lines_fit skin width layout.read lines layout.wraps }
 
-pub layout_is_drawable : (skin : MadSkin) (width drawn : ℕ) (text : List StyledRuns) (lines : List FmtLine) → width ≤ drawn → drawn < 2 ^ 64 - 1
-    → KeepsPremises skin width text → IsLayout skin width text lines → AreDrawable skin drawn lines
-layout_is_drawable skin width drawn text lines narrower bound keeps layout = fitting_is_drawable skin width drawn text lines narrower bound keeps (layout_fits skin width text lines layout)
+pub layout_is_drawable : (skin : MadSkin) (width drawn n : ℕ) (text : List StyledRuns) (lines : List FmtLine) → width ≤ drawn → drawn < 2 ^ 64 - 1
+    → KeepsPremises skin width (take n text) → IsLayout skin width text lines → AreDrawable skin drawn (take n lines)
+layout_is_drawable skin width drawn n text lines narrower bound keeps layout = fitting_is_drawable skin width drawn n text lines narrower bound keeps (layout_fits skin width text lines layout)
 
 -- ---- the lines that have a row
 
-first_drawable : (skin : MadSkin) (width : ℕ) (lines : List FmtLine) (n : ℕ) → AreDrawable skin width lines → AreDrawable skin width (take n lines)
-first_drawable skin width lines zero h = tt
-first_drawable skin width [] (suc n) h = tt
-first_drawable skin width (l ∷ lines) (suc n) h = (h.0, first_drawable skin width lines n h.1)
+none_drawable : (skin : MadSkin) (width n : ℕ) → AreDrawable skin width (take n [])
+none_drawable skin width zero = tt
+none_drawable skin width (suc n) = tt
 
-drawable_from : (skin : MadSkin) (width : ℕ) (lines : List FmtLine) (scroll : ℕ) → AreDrawable skin width lines → AreDrawable skin width (drop scroll lines)
-drawable_from skin width lines zero h = h
-drawable_from skin width [] (suc scroll) h = tt
-drawable_from skin width (l ∷ lines) (suc scroll) h = drawable_from skin width lines scroll h.1
-
-pub shown_drawable : (skin : MadSkin) (width : ℕ) (lines : List FmtLine) (area : Area) (scroll : ℕ) → AreDrawable skin width lines → AreDrawable skin width (lines_shown lines area scroll)
-shown_drawable skin width lines area scroll h = first_drawable skin width (drop scroll lines) area.height (drawable_from skin width lines scroll h)
+-- of the first lines, those from one on
+pub drawable_from : (skin : MadSkin) (width : ℕ) (lines : List FmtLine) (scroll count n : ℕ) → n ≡ scroll + count → AreDrawable skin width (take n lines) → AreDrawable skin width (take count (drop scroll lines))
+drawable_from skin width lines zero count n e h = let same : n ≡ count = omega (arith, e) in subst (λ (m : ℕ). AreDrawable skin width (take m lines)) same h
+drawable_from skin width [] (suc scroll) count n e h = none_drawable skin width count
+drawable_from skin width (l ∷ lines) (suc scroll) count zero e h = absurd (omega (arith, e))
+drawable_from skin width (l ∷ lines) (suc scroll) count (suc n) e h = drawable_from skin width lines scroll count n (omega (arith, e)) h.1

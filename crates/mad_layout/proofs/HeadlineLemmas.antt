@@ -23,7 +23,7 @@ use Rattle.mad_layout.specs.Shown.{lines_shown, AreShownIn}
 use Rattle.mad_layout.specs.declared.skin.MadSkin.{MadSkin}
 use Rattle.mad_layout.specs.declared.line.FmtLine.{FmtLine}
 use Rattle.mad_layout.specs.declared.fmt_text.FmtText.{FmtText}
-use Rattle.mad_layout.proofs.DrawableLemmas.{layout_fits, layout_is_drawable, shown_drawable}
+use Rattle.mad_layout.proofs.DrawableLemmas.{layout_fits, layout_is_drawable}
 
 -- a text that was laid out for an area
 pub area_layout : {E : Type 0} (r : Result FmtText E) (skin : MadSkin) (markdown : List ℕ) (area : Area) (width : ℕ) → width ≡ area.width - 1
@@ -58,7 +58,7 @@ text_shown {T} {E} (Ok x) skin own markdown area lines old new limits same laid_
       shown = λ premises.
           let layout : IsLayout skin (area.width - 1) (composites (contents laid_out.text)) lines = wrapped_at skin (area.width - 1) (composites (contents laid_out.text)) lines (omega arith) laid_out.layout in
           subst (λ (s : MadSkin). AreDrawable s area.width (lines_shown lines area 0) → TookWith old new (AreShownIn s lines area 0)) same h
-          (shown_drawable skin area.width lines area 0 (layout_is_drawable skin (area.width - 1) area.width (composites (contents laid_out.text)) lines (omega arith) (omega (arith, limits.columns)) premises layout));
+          (layout_is_drawable skin (area.width - 1) area.width area.height (composites (contents laid_out.text)) lines (omega arith) (omega (arith, limits.columns)) premises layout);
     }
 text_shown {T} {E} (Err x) skin own markdown area lines old new limits same laid_out h = tt
 

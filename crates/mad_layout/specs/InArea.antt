@@ -1,5 +1,5 @@
 -- The headline: what a text shows that was written in an area.
-use Rattle.std.specs.Prelude.{◌≡◌, ◌⊎◌, ℕ, ◌-◌, List, Some, Result, IsErrOf}
+use Rattle.std.specs.Prelude.{◌≡◌, ◌⊎◌, ℕ, ◌-◌, List, Some, Result, IsErrOf, take}
 use Rattle.mad_md.specs.Lines.{contents}
 use Rattle.mad_md.specs.ReadByMarks.{IsReadByMarks}
 use Rattle.mad_md.specs.declared.text.Text.{Text}
@@ -26,9 +26,9 @@ abbrev pub WritesInArea : {T : Type 0} → MadSkin → List ℕ → Area → Tra
 WritesInArea skin markdown area old r new =
     ((lines : List FmtLine) × IsAreaLayout skin markdown area lines × Draws old (area_bytes skin lines area 0) r new) ⊎ (IsErrOf r Memory × (new ≡ old))
 
--- What a plain terminal shows that reads what was written, where the text keeps the premises: the first rows of the layout in the
--- area, every other cell as before, and the plain pen again.
+-- What a plain terminal shows that reads what was written, where as many lines of the text as the area has rows keep the premises: the
+-- first rows of the layout in the area, every other cell as before, and the plain pen again.
 pub record ShowsText (skin : MadSkin) (markdown : List ℕ) (area : Area) (old new : Trace) : Type 0 where
   pub lines : List FmtLine
   pub laid_out : IsAreaLayout skin markdown area lines
-  pub shown : KeepsPremises skin (area.width - 1) (composites (contents laid_out.text)) → TookWith old new (AreShownIn skin lines area 0)
+  pub shown : KeepsPremises skin (area.width - 1) (take area.height (composites (contents laid_out.text))) → TookWith old new (AreShownIn skin lines area 0)

@@ -1,5 +1,5 @@
 -- What an area shows of a layout that was drawn in it.
-use Rattle.std.specs.Prelude.{ℕ, ◌≤◌, List}
+use Rattle.std.specs.Prelude.{ℕ, ◌+◌, ◌≤◌, List, take}
 use Rattle.mad_md.specs.Lines.{StyledRuns}
 use Rattle.mad_term.specs.Trace.{Trace, TookWith}
 use Rattle.mad_fit.specs.declared.area.Area.{Area}
@@ -9,9 +9,10 @@ use Rattle.mad_layout.specs.Shown.{AreShownIn}
 use Rattle.mad_layout.specs.declared.skin.MadSkin.{MadSkin}
 use Rattle.mad_layout.specs.declared.line.FmtLine.{FmtLine}
 
--- What a plain terminal shows that reads what was written, where the lines are a layout of a text that keeps the premises, at a width
--- that isn't more than the area's: the lines in the area from `scroll` on, every other cell as before, and the plain pen again.
+-- What a plain terminal shows that reads what was written, where the lines are a layout of a text, at a width that isn't more than the
+-- area's, and as many lines of the text as the area reaches keep the premises (a line has one row at least): the lines in the area from
+-- `scroll` on, every other cell as before, and the plain pen again.
 abbrev pub ShowsLayout : MadSkin → List FmtLine → Area → ℕ → Trace → Trace → Type 0
 ShowsLayout skin lines area scroll old new =
-    (source : List StyledRuns) (width : ℕ) → width ≤ area.width → KeepsPremises skin width source → IsFittingLayout skin width source lines
+    (source : List StyledRuns) (width : ℕ) → width ≤ area.width → KeepsPremises skin width (take (scroll + area.height) source) → IsFittingLayout skin width source lines
     → TookWith old new (AreShownIn skin lines area scroll)

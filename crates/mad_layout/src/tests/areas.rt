@@ -1,20 +1,15 @@
-//! Areas without columns or rows, areas of as many as there can be, and margins and scrolls without end.
+//! Areas without columns or rows, areas of as many as there can be, and margins without end.
 
-ghost use Rattle.std.specs.Prelude.{IfOk};
 ghost use Rattle.mad_fit.specs.Areas.{IsWithinLimits};
 
-use super::{is_done_or_want_of_memory, skin_with};
-use crate::composite::FmtComposite;
+use super::skin_with;
 use crate::drawing::draw_text;
 use crate::fmt_text::FmtText;
-use crate::line::FmtLine;
 use crate::skin::MadSkin;
 use mad_fit::Area;
-use mad_md::{Alignment, Compound};
+use mad_md::Alignment;
 use mad_style::ListItemsIndentationMode;
 use mad_term::{CutOut, Error};
-use std::alloc::Global;
-use std::process::Abort;
 
 const MAX: usize = usize::MAX;
 
@@ -97,38 +92,6 @@ fn areas_of_as_many_columns_or_rows_as_can_be(rt: HostRuntime) -> Result<(), Err
 }
 
 #[test]
-fn scrolls_at_and_past_the_end(rt: HostRuntime) -> Result<(), Error> {
-    scrolls_at_and_past_the_end_rows(&rt, rt.alloc())
-}
-
-#[test]
-fn scrolls_at_and_past_the_end_or_want_of_memory(rt: HostRuntime) {
-    let outcome = scrolls_at_and_past_the_end_rows(&rt, rt.alloc());
-    assert!(rt; is_done_or_want_of_memory(outcome));
-}
-
-fn scrolls_at_and_past_the_end_rows(rt: &impl Abort, alloc: Global) -> Result<(), Error> {
-    let skin = MadSkin::no_style();
-    let text = FmtText::from(alloc, &skin, "a\nb\nc", Some(3))?;
-    let none = FmtText::from(alloc, &skin, "", Some(3))?;
-    let blank = "\u{1b}[1;1H   \u{1b}[2;1H   ";
-    let rows = [
-        (&text, 1, "\u{1b}[1;1Hb  \u{1b}[2;1Hc  "),
-        (&text, 2, "\u{1b}[1;1Hc  \u{1b}[2;1H   "),
-        (&text, 3, blank),
-        (&text, MAX, blank),
-        (&none, 0, blank),
-        (&none, MAX, blank),
-    ];
-    for (text, scroll, wanted) in rows {
-        let mut out = CutOut::new(alloc, 50, 50, false)?;
-        draw_text(alloc, &mut out, text, &origin_area(3, 2), scroll)?;
-        assert!(rt; out.taken() == wanted.as_bytes(), "at {scroll}");
-    }
-    Ok(())
-}
-
-#[test]
 fn margins_without_end(rt: HostRuntime) -> Result<(), Error> {
     let alloc = rt.alloc();
     let area = origin_area(6, 1);
@@ -153,31 +116,6 @@ fn margins_without_end(rt: HostRuntime) -> Result<(), Error> {
         let done = skin.write_inline(alloc, &mut out, "ab");
         assert!(rt; matches!(done, Err(Error::Memory)));
         assert!(rt; out.taken().is_empty());
-    }
-    Ok(())
-}
-
-#[test]
-fn margins_of_a_line_without_end(rt: HostRuntime) -> Result<(), Error> {
-    let alloc = rt.alloc();
-    for align in [Alignment::Left, Alignment::Center, Alignment::Right] {
-        let mut skin = MadSkin::no_style();
-        skin.paragraph.align = align;
-        for margins in [(MAX, MAX), (MAX, 0), (0, MAX), (MAX - 1, 2)] {
-            let mut line = FmtComposite::from_compound(alloc, Compound::raw_str("ab"))?;
-            line.margins = Some(margins);
-            let mut lines = Vec::new(alloc);
-            lines.push(FmtLine::Normal(line))?;
-            let text = FmtText {
-                skin: &skin,
-                lines,
-                width: Some(6),
-            };
-            let mut out = CutOut::new(alloc, 50, 50, false)?;
-            let done = draw_text(alloc, &mut out, &text, &origin_area(6, 1), 0);
-            assert!(rt; matches!(done, Err(Error::Memory)));
-            assert!(rt; out.taken().is_empty());
-        }
     }
     Ok(())
 }

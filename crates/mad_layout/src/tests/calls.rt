@@ -1,6 +1,5 @@
 //! The calls that display or write one line: the same bytes by each, and which of the writing calls flush.
 
-use super::is_done_or_want_of_memory;
 use crate::drawing::draw_text;
 use crate::fmt_inline::inline;
 use crate::fmt_text::FmtText;
@@ -75,19 +74,10 @@ fn assert_line(
         write_by(call, alloc, skin, &mut out, line)?;
         assert!(rt; out.taken() == wanted.as_bytes(), "{line} by {call:?}");
         assert_eq!(rt; out.faults(), 0);
+        let flushes = matches!(call, Call::WriteInline);
+        assert_eq!(rt; out.flushes(), u64::from(flushes), "{line} by {call:?}");
     }
     Ok(())
-}
-
-#[test]
-fn bold_text_by_each_call(rt: HostRuntime) -> Result<(), Error> {
-    assert_line(&rt, rt.alloc(), &MadSkin::default(), "**some** x", SOME)
-}
-
-#[test]
-fn bold_text_by_each_call_or_want_of_memory(rt: HostRuntime) {
-    let outcome = assert_line(&rt, rt.alloc(), &MadSkin::default(), "**some** x", SOME);
-    assert!(rt; is_done_or_want_of_memory(outcome));
 }
 
 #[test]
@@ -98,6 +88,7 @@ fn one_line_by_each_call(rt: HostRuntime) -> Result<(), Error> {
     spaced.paragraph.left_margin = 4;
     spaced.paragraph.right_margin = 4;
     let rows = [
+        (&styled, "**some** x", SOME),
         (&styled, "*a*", "\u{1b}[3ma\u{1b}[0m"),
         (
             &styled,
@@ -119,69 +110,52 @@ fn one_line_by_each_call(rt: HostRuntime) -> Result<(), Error> {
     Ok(())
 }
 
-#[test]
-fn lines_on_a_device_whose_flush_fails(rt: HostRuntime) -> Result<(), Error> {
-    lines_on_a_device_whose_flush_fails_rows(&rt, rt.alloc())
-}
-
-#[test]
-fn lines_on_a_device_whose_flush_fails_or_want_of_memory(rt: HostRuntime) {
-    let outcome = lines_on_a_device_whose_flush_fails_rows(&rt, rt.alloc());
-    assert!(rt; is_done_or_want_of_memory(outcome));
-}
-
-fn lines_on_a_device_whose_flush_fails_rows(rt: &impl Abort, alloc: Global) -> Result<(), Error> {
-    let skin = MadSkin::default();
-    for call in CALLS {
-        let mut out = CutOut::new(alloc, ROOM, ROOM, true)?;
-        let done = write_by(call, alloc, &skin, &mut out, "**some** x");
-        let flushes = matches!(call, Call::WriteInline);
-        assert_flushed(rt, done, &out, flushes, SOME)?;
-    }
-    Ok(())
-}
-
-// What a call did on a device whose flush fails: all bytes went out, and a fault is answered where the call flushes.
-fn assert_flushed(
+// A device whose flush fails: all bytes went out, and a fault is answered where the call flushes, and only there.
+fn assert_flush_fails(
     rt: &impl Abort,
     done: Result<(), Error>,
     out: &CutOut,
     flushes: bool,
     wanted: &str,
-) -> Result<(), Error> {
-    if let Err(Error::Memory) = done {
-        return done;
-    }
+) {
     assert!(rt; out.taken() == wanted.as_bytes());
     assert_eq!(rt; matches!(done, Err(Error::IO(_))), flushes);
     assert_eq!(rt; done.is_ok(), !flushes);
-    assert_eq!(rt; out.faults(), if flushes { 1 } else { 0 });
+    assert_eq!(rt; out.faults(), u64::from(flushes));
+    assert_eq!(rt; out.flushes(), 0);
+}
+
+#[test]
+fn lines_on_a_device_whose_flush_fails(rt: HostRuntime) -> Result<(), Error> {
+    let alloc = rt.alloc();
+    let skin = MadSkin::default();
+    for call in CALLS {
+        let mut out = CutOut::new(alloc, ROOM, ROOM, true)?;
+        let done = write_by(call, alloc, &skin, &mut out, "**some** x");
+        let flushes = matches!(call, Call::WriteInline);
+        assert_flush_fails(&rt, done, &out, flushes, SOME);
+    }
     Ok(())
 }
 
 #[test]
 fn areas_on_a_device_whose_flush_fails(rt: HostRuntime) -> Result<(), Error> {
-    areas_on_a_device_whose_flush_fails_rows(&rt, rt.alloc())
-}
-
-#[test]
-fn areas_on_a_device_whose_flush_fails_or_want_of_memory(rt: HostRuntime) {
-    let outcome = areas_on_a_device_whose_flush_fails_rows(&rt, rt.alloc());
-    assert!(rt; is_done_or_want_of_memory(outcome));
-}
-
-fn areas_on_a_device_whose_flush_fails_rows(rt: &impl Abort, alloc: Global) -> Result<(), Error> {
+    let alloc = rt.alloc();
     let skin = MadSkin::no_style();
     let area = Area::new(0, 0, 7, 2);
     let wanted = "\u{1b}[1;1Hhello  \u{1b}[2;1H       ";
     let text = FmtText::from(alloc, &skin, "hello", Some(6))?;
     let mut out = CutOut::new(alloc, ROOM, ROOM, true)?;
     let done = draw_text(alloc, &mut out, &text, &area, 0);
-    assert_flushed(rt, done, &out, false, wanted)?;
+    assert_flush_fails(&rt, done, &out, false, wanted);
     let mut out = CutOut::new(alloc, ROOM, ROOM, true)?;
     let done = skin.write_in_area_on(alloc, &mut out, "hello", &area);
-    assert_flushed(rt, done, &out, false, wanted)?;
+    assert_flush_fails(&rt, done, &out, false, wanted);
     let mut out = CutOut::new(alloc, ROOM, ROOM, true)?;
     let done = skin.write_in_area(alloc, &mut out, "hello", &area);
-    assert_flushed(rt, done, &out, true, wanted)
+    assert_flush_fails(&rt, done, &out, true, wanted);
+    let mut out = CutOut::new(alloc, ROOM, ROOM, false)?;
+    skin.write_in_area(alloc, &mut out, "hello", &area)?;
+    assert_eq!(rt; (out.puts(), out.flushes()), (2, 1));
+    Ok(())
 }

@@ -1,8 +1,6 @@
 //! Texts displayed and drawn: rows of several lines, and where a line stands in a wider place.
 
-ghost use Rattle.std.specs.Prelude.{IfOk};
-
-use super::{is_done_or_want_of_memory, skin_with};
+use super::skin_with;
 use crate::composite::FmtComposite;
 use crate::drawing::draw_text;
 use crate::fmt_text::FmtText;
@@ -17,16 +15,7 @@ use std::process::Abort;
 
 #[test]
 fn texts_of_several_lines(rt: HostRuntime) -> Result<(), Error> {
-    texts_of_several_lines_rows(&rt, rt.alloc())
-}
-
-#[test]
-fn texts_of_several_lines_or_want_of_memory(rt: HostRuntime) {
-    let outcome = texts_of_several_lines_rows(&rt, rt.alloc());
-    assert!(rt; is_done_or_want_of_memory(outcome));
-}
-
-fn texts_of_several_lines_rows(rt: &impl Abort, alloc: Global) -> Result<(), Error> {
+    let alloc = rt.alloc();
     let plain = MadSkin::no_style();
     let styled = MadSkin::default();
     let rows = [
@@ -51,30 +40,6 @@ fn texts_of_several_lines_rows(rt: &impl Abort, alloc: Global) -> Result<(), Err
     }
     let raw = FmtText::raw_str(alloc, &styled, "**a** `b`\nc", Some(7))?;
     assert_eq!(rt; raw.to_string(alloc)?.as_str(), "**a** \n`b`\nc\n");
-    Ok(())
-}
-
-#[test]
-fn two_long_paragraphs(rt: HostRuntime) -> Result<(), Error> {
-    let alloc = rt.alloc();
-    let skin = MadSkin::default();
-    let source = concat!(
-        "This is a *long* line which needs to be **broken**.\n",
-        "And the text goes on with a list:\n"
-    );
-    let text = FmtText::from(alloc, &skin, source, Some(25))?;
-    let lengths = [25, 19, 25, 7];
-    assert_eq!(rt; text.lines.len(), lengths.len());
-    for (line, length) in text.lines.iter().zip(lengths) {
-        assert_eq!(rt; line.visible_length(), length);
-    }
-    let wanted = concat!(
-        "This is a \u{1b}[3mlong\u{1b}[0m line which\n",
-        "needs to be \u{1b}[1mbroken\u{1b}[0m.\n",
-        "And the text goes on with\n",
-        "a list:\n"
-    );
-    assert_eq!(rt; text.to_string(alloc)?.as_str(), wanted);
     Ok(())
 }
 
@@ -209,16 +174,7 @@ const PLACED: [(Alignment, Alignment, (usize, usize), &str, &str); 7] = [
 
 #[test]
 fn lines_in_a_place_of_their_own(rt: HostRuntime) -> Result<(), Error> {
-    lines_in_a_place_of_their_own_rows(&rt, rt.alloc())
-}
-
-#[test]
-fn lines_in_a_place_of_their_own_or_want_of_memory(rt: HostRuntime) {
-    let outcome = lines_in_a_place_of_their_own_rows(&rt, rt.alloc());
-    assert!(rt; is_done_or_want_of_memory(outcome));
-}
-
-fn lines_in_a_place_of_their_own_rows(rt: &impl Abort, alloc: Global) -> Result<(), Error> {
+    let alloc = rt.alloc();
     for (inner, outer, margins, shown, right) in PLACED {
         let mut skin = skin_with(margins.0, margins.1, ListItemsIndentationMode::Block);
         skin.paragraph.align = outer;
@@ -227,7 +183,7 @@ fn lines_in_a_place_of_their_own_rows(rt: &impl Abort, alloc: Global) -> Result<
             align: inner,
         };
         let text = placed(alloc, &skin, CompositeKind::Paragraph, Some(spacing), 13)?;
-        assert_placed(rt, alloc, &text, shown, right)?;
+        assert_placed(&rt, alloc, &text, shown, right)?;
     }
     Ok(())
 }
@@ -256,16 +212,7 @@ fn styles_of_the_blanks_beside_a_line(rt: HostRuntime) -> Result<(), Error> {
 
 #[test]
 fn margins_of_a_layout_are_kept(rt: HostRuntime) -> Result<(), Error> {
-    margins_of_a_layout_are_kept_rows(&rt, rt.alloc())
-}
-
-#[test]
-fn margins_of_a_layout_are_kept_or_want_of_memory(rt: HostRuntime) {
-    let outcome = margins_of_a_layout_are_kept_rows(&rt, rt.alloc());
-    assert!(rt; is_done_or_want_of_memory(outcome));
-}
-
-fn margins_of_a_layout_are_kept_rows(rt: &impl Abort, alloc: Global) -> Result<(), Error> {
+    let alloc = rt.alloc();
     let skin = skin_with(4, 4, ListItemsIndentationMode::Block);
     let rows = [
         // The layout's ten columns have no room for margins, the area's eleven would have.

@@ -3,7 +3,7 @@
 ghost use Rattle.std.specs.Prelude.{IfOk};
 ghost use Rattle.mad_layout.specs.Wraps.{IsMeasured};
 
-use super::{composite, is_done_or_want_of_memory, skin_with};
+use super::{composite, skin_with};
 use crate::composite::FmtComposite;
 use crate::drawing::draw_text;
 use crate::fmt_text::FmtText;
@@ -185,24 +185,8 @@ fn assert_displayed(
 
 #[test]
 fn marked_lines_displayed(rt: HostRuntime) -> Result<(), Error> {
-    assert_displayed(&rt, rt.alloc(), &DISPLAYED)
-}
-
-#[test]
-fn marked_lines_displayed_or_want_of_memory(rt: HostRuntime) {
-    let outcome = assert_displayed(&rt, rt.alloc(), &DISPLAYED);
-    assert!(rt; is_done_or_want_of_memory(outcome));
-}
-
-#[test]
-fn marks_of_the_default_skin(rt: HostRuntime) -> Result<(), Error> {
+    assert_displayed(&rt, rt.alloc(), &DISPLAYED)?;
     assert_displayed(&rt, rt.alloc(), &DISPLAYED_BY_DEFAULT)
-}
-
-#[test]
-fn marks_of_the_default_skin_or_want_of_memory(rt: HostRuntime) {
-    let outcome = assert_displayed(&rt, rt.alloc(), &DISPLAYED_BY_DEFAULT);
-    assert!(rt; is_done_or_want_of_memory(outcome));
 }
 
 // A text that is wrapped at eight columns, and what is drawn of it in two rows of nine.
@@ -241,16 +225,7 @@ const DRAWN: [(Look, CompositeStyle, &str, &str); 5] = [
 
 #[test]
 fn marked_lines_drawn(rt: HostRuntime) -> Result<(), Error> {
-    marked_lines_drawn_rows(&rt, rt.alloc())
-}
-
-#[test]
-fn marked_lines_drawn_or_want_of_memory(rt: HostRuntime) {
-    let outcome = marked_lines_drawn_rows(&rt, rt.alloc());
-    assert!(rt; is_done_or_want_of_memory(outcome));
-}
-
-fn marked_lines_drawn_rows(rt: &impl Abort, alloc: Global) -> Result<(), Error> {
+    let alloc = rt.alloc();
     let area = Area::new(2, 1, 9, 2);
     for (look, style, text, wanted) in DRAWN {
         let skin = skin_of(look);
@@ -314,16 +289,7 @@ const BY_THEMSELVES: [(Look, CompositeStyle, &str); 9] = [
 
 #[test]
 fn composites_by_themselves(rt: HostRuntime) -> Result<(), Error> {
-    composites_by_themselves_rows(&rt, rt.alloc())
-}
-
-#[test]
-fn composites_by_themselves_or_want_of_memory(rt: HostRuntime) {
-    let outcome = composites_by_themselves_rows(&rt, rt.alloc());
-    assert!(rt; is_done_or_want_of_memory(outcome));
-}
-
-fn composites_by_themselves_rows(rt: &impl Abort, alloc: Global) -> Result<(), Error> {
+    let alloc = rt.alloc();
     for (look, style, wanted) in BY_THEMSELVES {
         let skin = skin_of(look);
         let composite = written(alloc, style, Compound::raw_str("abcd"))?;
@@ -336,31 +302,6 @@ fn composites_by_themselves_rows(rt: &impl Abort, alloc: Global) -> Result<(), E
             }
             assert!(rt; out.taken() == wanted.as_bytes(), "{style:?}");
         }
-    }
-    Ok(())
-}
-
-#[test]
-fn numbers_past_the_last_level(rt: HostRuntime) -> Result<(), Error> {
-    let alloc = rt.alloc();
-    let skin = MadSkin {
-        paragraph: LineStyle::default(),
-        ..colored_skin()
-    };
-    let rows = [
-        (2, "  7. x"),
-        (3, "   \u{1b}[38;5;10m7\u{1b}[39m. x"),
-        (5, "     \u{1b}[38;5;10m7\u{1b}[39m. x"),
-    ];
-    for (level, wanted) in rows {
-        let composite = written(
-            alloc,
-            CompositeStyle::OrderedListItem { level, index: 7 },
-            Compound::raw_str("x"),
-        )?;
-        let mut out = CutOut::new(alloc, 11, 100, false)?;
-        skin.write_composite(alloc, &mut out, &composite)?;
-        assert!(rt; out.taken() == wanted.as_bytes(), "{level}");
     }
     Ok(())
 }

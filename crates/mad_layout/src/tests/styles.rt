@@ -1,14 +1,12 @@
 //! The skins that are made, and the styles of a text's parts.
 
-use super::is_done_or_want_of_memory;
 use crate::fmt_text::FmtText;
 use crate::skin::MadSkin;
 use mad_md::{Alignment, Compound};
 use mad_style::{
-    CompositeKind, CompoundStyle, LineStyle, ListItemsIndentationMode, OrderedItemStyle, StyledChar,
+    CompositeKind, CompoundStyle, LineStyle, ListItemsIndentationMode, StyledChar,
 };
 use mad_term::{Attribute, Attributes, Color, ContentStyle, Error};
-use std::alloc::Global;
 use std::process::Abort;
 
 // A style of a foreground and a background by their numbers, and of attributes.
@@ -28,7 +26,7 @@ fn style_of(fg: Option<u8>, bg: Option<u8>, attributes: &[Attribute]) -> Compoun
 }
 
 // A line style without margins.
-fn line_of(compound_style: CompoundStyle, align: Alignment) -> LineStyle {
+fn unmargined(compound_style: CompoundStyle, align: Alignment) -> LineStyle {
     LineStyle {
         compound_style,
         align,
@@ -48,7 +46,7 @@ fn the_default_skin(rt: HostRuntime) {
     let plain = style_of(None, None, &[]);
     let code = style_of(Some(249), Some(235), &[]);
     let unaligned = Alignment::Unspecified;
-    assert_eq!(rt; skin.paragraph, line_of(plain, unaligned));
+    assert_eq!(rt; skin.paragraph, unmargined(plain, unaligned));
     assert_eq!(rt; skin.bold, style_of(None, None, &[Attribute::Bold]));
     assert_eq!(rt; skin.italic, style_of(None, None, &[Attribute::Italic]));
     assert_eq!(rt;
@@ -56,12 +54,12 @@ fn the_default_skin(rt: HostRuntime) {
         style_of(None, None, &[Attribute::CrossedOut])
     );
     assert_eq!(rt; skin.inline_code, code);
-    assert_eq!(rt; skin.code_block, line_of(code, unaligned));
+    assert_eq!(rt; skin.code_block, unmargined(code, unaligned));
     let first = style_of(None, None, &[Attribute::Underlined, Attribute::Bold]);
     let other = style_of(None, None, &[Attribute::Underlined]);
-    assert_eq!(rt; skin.headers[0], line_of(first, Alignment::Center));
+    assert_eq!(rt; skin.headers[0], unmargined(first, Alignment::Center));
     for header in &skin.headers[1..] {
-        assert_eq!(rt; *header, line_of(other, unaligned));
+        assert_eq!(rt; *header, unmargined(other, unaligned));
     }
     assert_mark(&rt, &skin.bullet, '•', style_of(Some(240), None, &[]));
     for item in &skin.ordered_item_styles {
@@ -71,36 +69,6 @@ fn the_default_skin(rt: HostRuntime) {
     let quote = style_of(Some(244), None, &[Attribute::Bold]);
     assert_mark(&rt, &skin.quote_mark, '▐', quote);
     assert_eq!(rt; skin.ellipsis, plain);
-    assert_eq!(rt;
-        skin.list_items_indentation_mode,
-        ListItemsIndentationMode::Block
-    );
-}
-
-#[test]
-fn the_skin_without_style(rt: HostRuntime) {
-    let skin = MadSkin::no_style();
-    let plain = style_of(None, None, &[]);
-    let line = line_of(plain, Alignment::Unspecified);
-    for style in [
-        skin.bold,
-        skin.italic,
-        skin.strikeout,
-        skin.inline_code,
-        skin.ellipsis,
-    ] {
-        assert_eq!(rt; style, plain);
-    }
-    assert_eq!(rt; (skin.paragraph, skin.code_block), (line, line));
-    for header in &skin.headers {
-        assert_eq!(rt; *header, line);
-    }
-    assert_mark(&rt, &skin.bullet, '•', plain);
-    assert_mark(&rt, &skin.quote_mark, '▐', plain);
-    for item in &skin.ordered_item_styles {
-        assert_eq!(rt; item.index_style, plain);
-        assert_mark(&rt, &item.index_suffix, '.', plain);
-    }
     assert_eq!(rt;
         skin.list_items_indentation_mode,
         ListItemsIndentationMode::Block
@@ -139,27 +107,6 @@ fn each_kind_has_its_style(rt: HostRuntime) {
     }
 }
 
-#[test]
-fn numbers_by_their_level(rt: HostRuntime) {
-    let mut skin = MadSkin::no_style();
-    for (item, suffix) in skin
-        .ordered_item_styles
-        .iter_mut()
-        .zip(['a', 'b', 'c', 'd'])
-    {
-        *item = OrderedItemStyle {
-            index_style: CompoundStyle::default(),
-            index_suffix: StyledChar::nude(suffix),
-        };
-    }
-    for (level, wanted) in [(0, 'a'), (1, 'b'), (2, 'c'), (3, 'd'), (4, 'd'), (255, 'd')] {
-        assert_eq!(rt;
-            skin.ordered_item_style(level).index_suffix.nude_char(),
-            wanted
-        );
-    }
-}
-
 // The style of each flag has a foreground and an attribute, that of bold text a background too.
 fn flags_skin() -> MadSkin {
     MadSkin {
@@ -177,7 +124,7 @@ fn flags_overwrite_one_another(rt: HostRuntime) {
     use Attribute::{Bold, CrossedOut, Italic, Reverse};
 
     let skin = flags_skin();
-    let line = line_of(style_of(Some(0), Some(20), &[]), Alignment::Unspecified);
+    let line = unmargined(style_of(Some(0), Some(20), &[]), Alignment::Unspecified);
     let raw = Compound::raw_str("a");
     let rows: [(Compound, u8, u8, &[Attribute]); 12] = [
         (raw, 0, 20, &[]),
@@ -211,7 +158,7 @@ fn flags_overwrite_one_another(rt: HostRuntime) {
 #[test]
 fn an_ellipsis_has_its_own_style(rt: HostRuntime) {
     let skin = flags_skin();
-    let line = line_of(style_of(Some(0), Some(20), &[]), Alignment::Unspecified);
+    let line = unmargined(style_of(Some(0), Some(20), &[]), Alignment::Unspecified);
     let ellipsis = Compound::raw_str("…");
     let own = style_of(Some(5), None, &[]);
     assert_eq!(rt; skin.compound_style(&line, &ellipsis), own);
@@ -225,16 +172,7 @@ fn an_ellipsis_has_its_own_style(rt: HostRuntime) {
 
 #[test]
 fn ellipses_in_lines_that_are_wrapped(rt: HostRuntime) -> Result<(), Error> {
-    ellipses_in_lines_that_are_wrapped_rows(&rt, rt.alloc())
-}
-
-#[test]
-fn ellipses_in_lines_that_are_wrapped_or_want_of_memory(rt: HostRuntime) {
-    let outcome = ellipses_in_lines_that_are_wrapped_rows(&rt, rt.alloc());
-    assert!(rt; is_done_or_want_of_memory(outcome));
-}
-
-fn ellipses_in_lines_that_are_wrapped_rows(rt: &impl Abort, alloc: Global) -> Result<(), Error> {
+    let alloc = rt.alloc();
     let skin = MadSkin {
         ellipsis: CompoundStyle::with_fg(Color::Red),
         ..MadSkin::no_style()
