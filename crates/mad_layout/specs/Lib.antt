@@ -10,6 +10,7 @@ pub mod InArea
 pub mod Indents
 pub mod Inlines
 pub mod Keeps
+pub mod Laying
 pub mod Layouts
 pub mod LeastBound
 pub mod LeastWrap
@@ -17,6 +18,7 @@ pub mod LineRoom
 pub mod LineStarts
 pub mod Lines
 pub mod PlacedLines
+pub mod Parts
 pub mod Premises
 pub mod Rows
 pub mod Shown

@@ -8,7 +8,8 @@
 //! 4. `clean_cut`, `placing`: the two ways of breaking a text that is too wide.
 //! 5. [`wrap`]: wrapping composites and lists of lines, with the fewest lines.
 //! 6. [`bound`]: starts of lines that show that no fitting break that ends with its last line has fewer.
-//! 7. [`fmt_text`], [`fmt_inline`]: reading a text and laying it out; reading one line.
+//! 7. [`table`]: lines of a table. `laying`: laying lines out one after another, blocks of code in their place.
+//!    [`fmt_text`], [`fmt_inline`]: reading a text and laying it out; reading one line.
 //! 8. `rows`: what is written of a line, piece by piece.
 //! 9. [`drawing`]: the rows of a text in an area of the screen.
 //! 10. `writing`: the writing calls of a skin; `display`: texts as displayed values.
@@ -22,11 +23,13 @@ pub mod drawing;
 pub mod fmt_inline;
 pub mod fmt_text;
 pub mod indents;
+mod laying;
 pub mod line;
 mod placing;
 pub mod room;
 mod rows;
 pub mod skin;
+pub mod table;
 #[cfg(test)]
 mod tests;
 pub mod wrap;
@@ -40,5 +43,6 @@ pub use fmt_text::FmtText;
 pub use indents::composite_kind_widths;
 pub use line::FmtLine;
 pub use skin::MadSkin;
+pub use table::{FmtTableRow, FmtTableRule, RelativePosition};
 pub use wrap::{hard_wrap_composite, hard_wrap_lines};
 pub use writing::print_inline;

@@ -93,7 +93,7 @@ fn cut_lines<'s>(
 
 /// Wraps the composites among the lines that are wider than `width` columns with their style's margins.
 ///
-/// A line that fits stays as it is. Any other composite is wrapped, as `hard_wrap_composite` does, in the columns that
+/// A line that fits stays as it is, as do rules and lines of tables. Any other composite is wrapped, as `hard_wrap_composite` does, in the columns that
 /// the margins leave, which is refused at a width under 3. Each line keeps in its field `margins` the margins that it was
 /// laid out with.
 pub fn hard_wrap_lines<'s>(
@@ -130,6 +130,10 @@ pub(crate) fn push_line<'s>(
 {
     match line {
         FmtLine::Normal(composite) => push_wrapped(alloc, lines, composite, width, skin),
+        other => {
+            lines.push(other)?;
+            Ok(())
+        }
     }
 }
 

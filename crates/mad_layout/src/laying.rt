@@ -1,0 +1,175 @@
+//! Lines of a text, laid out one after another; lines of code wait for the end of their block.
+
+ghost use Rattle.std.specs.Prelude.{◌≡◌, ◌≤◌, ◌++◌, ◌∷◌, [], true, List, Option, Some, None, map, IfSome, OnOk};
+ghost use Rattle.std.specs.List.{AllByRecursion};
+ghost use Rattle.mad_md.specs.Lines.{LineContent, content_of};
+ghost use Rattle.mad_layout.specs.LeastWrap.{IsWrap};
+ghost use Rattle.mad_layout.specs.Laying.{IsOpenBlock, IsLaidFor};
+ghost use Rattle.mad_layout.specs.Parts.{is_code_kind, widest, block_width, placed_code, justified, code_room, wrap_width, IsLineAt, AreLinesAt};
+ghost use Rattle.mad_layout.specs.WrappedLines.{IsLineMeasured};
+ghost use Rattle.mad_layout.specs.declared.line.FmtLine.{FmtLine};
+ghost use Rattle.mad_layout.specs.declared.line.FmtLine.TheVariants.{Normal};
+
+use crate::composite::FmtComposite;
+use crate::line::FmtLine;
+use crate::skin::MadSkin;
+use crate::wrap::push_line;
+use mad_fit::Spacing;
+use mad_md::{Alignment, Line};
+use mad_style::CompositeKind;
+use std::alloc::{AllocError, Global};
+use std::mem;
+
+/// A layout that is being made: the lines that are laid out, and the lines of code after them, whose block may go on.
+#[derive(Drop)]
+pub(crate) struct Laying<'s> {
+    pub lines: Vec<FmtLine<'s>>,
+    block: Vec<FmtComposite<'s>>,
+}
+
+impl<'s> Laying<'s> {
+    /// No line yet.
+    pub fn new(alloc: Global) -> Self
+        ensures lines { result.lines.items ≡ [] }
+        ensures block { result.block.items ≡ [] }
+    {
+        Laying {
+            lines: Vec::new(alloc),
+            block: Vec::new(alloc),
+        }
+    }
+
+    /// The next line of a text, which is wrapped at a width of three at least, if there is one.
+    pub fn push(
+        &mut self,
+        alloc: Global,
+        line: Line<'s>,
+        width: Option<usize>,
+        skin: &MadSkin,
+    ) -> Result<(), AllocError>
+        requires wide { IfSome width (λ w. 3 ≤ w) }
+        requires open { IsOpenBlock skin.now self.old.block.items }
+        ensures open { OnOk result (IsOpenBlock skin.now self.new.block.items) }
+        ensures laid { OnOk result ((all rest : List LineContent) → IsLaidFor skin.now width all (content_of line.entry ∷ rest) self.old.lines.items self.old.block.items
+            → IsLaidFor skin.now width all rest self.new.lines.items self.new.block.items) }
+    {
+        match FmtLine::from(alloc, line, skin)? {
+            FmtLine::Normal(composite) if is_code(composite.kind) => {
+                self.block.push(composite)?;
+                Ok(())
+            }
+            other => {
+                self.close(alloc, width, skin)?;
+                push_at(alloc, &mut self.lines, other, width, skin)
+            }
+        }
+    }
+
+    /// Lays out the block of code that is open, if there is one.
+    pub fn close(
+        &mut self,
+        alloc: Global,
+        width: Option<usize>,
+        skin: &MadSkin,
+    ) -> Result<(), AllocError>
+        requires wide { IfSome width (λ w. 3 ≤ w) }
+        requires open { IsOpenBlock skin.now self.old.block.items }
+        ensures closed { OnOk result (self.new.block.items ≡ []) }
+        ensures laid { OnOk result ((own : List FmtLine) × (self.new.lines.items ≡ self.old.lines.items ++ own)
+            × AreLinesAt IsWrap skin.now width (map Normal (justified (code_room skin.now width) self.old.block.items)) own) }
+    {
+        let block = mem::replace(&mut self.block, Vec::new(alloc));
+        let columns = block_width(&block, room_of_code(width, skin));
+        for composite in block {
+            let placed = placed_code(columns, composite);
+            push_at(
+                alloc,
+                &mut self.lines,
+                FmtLine::Normal(placed),
+                width,
+                skin,
+            )?;
+        }
+        Ok(())
+    }
+}
+
+/// The width that lines are wrapped at: none where it is under three.
+pub(crate) fn wrap_width(width: Option<usize>) -> Option<usize>
+    ensures exact { result ≡ wrap_width width }
+    ensures wide { IfSome result (λ w. 3 ≤ w) }
+{
+    match width {
+        Some(width) if width >= 3 => Some(width),
+        _ => None,
+    }
+}
+
+fn is_code(kind: CompositeKind) -> bool
+    ensures { result ≡ is_code_kind kind }
+{
+    match kind {
+        CompositeKind::Code => true,
+        _ => false,
+    }
+}
+
+// What the margins of code leave of a width.
+fn room_of_code(width: Option<usize>, skin: &MadSkin) -> Option<usize>
+    ensures { result ≡ code_room skin.now width }
+{
+    let width = width?;
+    let (left, right) = skin.code_block.margins_in(Some(width));
+    Some(width - left - right)
+}
+
+// The columns of a block of code.
+fn block_width(block: &[FmtComposite], room: Option<usize>) -> usize
+    ensures { result ≡ block_width room block.now }
+{
+    let widest = widest(block);
+    match room {
+        Some(room) => widest.min(room),
+        None => widest,
+    }
+}
+
+fn widest(block: &[FmtComposite]) -> usize
+    ensures { result ≡ widest block.now }
+{
+    let mut widest = 0;
+    for composite in block {
+        widest = composite.visible_length.max(widest);
+    }
+    widest
+}
+
+// A line of code in its block's place.
+fn placed_code<'s>(width: usize, composite: FmtComposite<'s>) -> FmtComposite<'s>
+    ensures { result ≡ placed_code width composite.entry }
+{
+    let mut placed = composite;
+    placed.spacing = Some(Spacing {
+        width,
+        align: Alignment::Left,
+    });
+    placed
+}
+
+// Puts what becomes of a line at a width after the lines that are there.
+fn push_at<'s>(
+    alloc: Global,
+    lines: &mut Vec<FmtLine<'s>>,
+    line: FmtLine<'s>,
+    width: Option<usize>,
+    skin: &MadSkin,
+) -> Result<(), AllocError>
+    requires wide { IfSome width (λ w. 3 ≤ w) }
+    requires measured { IsLineMeasured skin.now line }
+    ensures { OnOk result ((own : List FmtLine) × (lines.new.items ≡ lines.old.items ++ own) × IsLineAt IsWrap skin.now width line.entry own) }
+{
+    match width {
+        Some(width) => push_line(alloc, lines, line, width, skin).map_err(|_| AllocError),
+        None => lines.push(line),
+    }
+}
