@@ -17,6 +17,10 @@ use Rattle.mad_fit.specs.Columns.{width_of}
 use Rattle.mad_fit.specs.Tokens.{token_run}
 use Rattle.mad_fit.specs.declared.tokens.Token.{Token}
 use Rattle.mad_fit.proofs.AllLemmas.{all_joined, all_each}
+use Rattle.mad_fit.proofs.ExistLemmas.{tokens_of_all}
+use Rattle.mad_wrap.specs.Rooms.{most_indent, token_limit}
+use Rattle.mad_wrap.specs.WrapLines.{HasRoom, LinesFit, IsMadeOf}
+use Rattle.mad_wrap.specs.declared.room.Room.{Room}
 use Rattle.mad_layout.specs.Drawable.{IsDrawableLine, AreDrawable}
 use Rattle.mad_draw.specs.Pieces.{AreShownPieces, pieces_columns}
 use Rattle.mad_fit.specs.declared.spacing.Spacing.{Spacing}
@@ -26,15 +30,14 @@ use Rattle.mad_layout.specs.Layouts.{IsRead, AreRead, IsLayout}
 use Rattle.mad_layout.specs.Premises.{IsPlainRun, runs_text, IsPlainLine, KeepsPremises}
 use Rattle.mad_layout.specs.Rows.{mark_pieces, compound_piece, inner_columns, place_of}
 use Rattle.mad_layout.specs.Styles.{line_style}
-use Rattle.mad_layout.specs.LeastWrap.{IsWrap}
+use Rattle.mad_layout.specs.CompositeWraps.{line_compounds, HaveKinds, IsCompositeWrap}
 use Rattle.mad_layout.specs.WrappedLines.{style_margins, line_with, AreLinesWrapped, IsLaidOutBy, AreLaidOutBy}
-use Rattle.mad_layout.specs.Wraps.{text_of, columns_of, IsMeasured, HasRoom, LinesFit, HaveKinds, IsMadeOf}
-use Rattle.mad_layout.specs.declared.room.Room.{Room}
+use Rattle.mad_layout.specs.Wraps.{text_of, columns_of, IsMeasured}
 use Rattle.mad_layout.specs.declared.skin.MadSkin.{MadSkin}
 use Rattle.mad_layout.specs.declared.composite.FmtComposite.{FmtComposite}
 use Rattle.mad_layout.specs.declared.line.FmtLine.{FmtLine}
 use Rattle.mad_layout.specs.declared.line.FmtLine.TheVariants.{Normal}
-use Rattle.mad_layout.proofs.WholeTokens.{IsShownRun, plain_is_shown, tokens_shown, tokens_are_there}
+use Rattle.mad_layout.proofs.WholeTokens.{IsShownRun, plain_is_shown, tokens_shown}
 
 -- ---- one line
 
@@ -65,7 +68,7 @@ drawable skin drawn margins l bound kind spacing measured fits shown = record {
 -- the lines of a paragraph that is wrapped in what its margins leave
 wrapped_drawable : (skin : MadSkin) (drawn first : ℕ) (margins : ℕ × ℕ) (r : Room) (ps : List Compound) (ts : List Token) (wrap : List FmtComposite) → drawn < 2 ^ 64 - 1
     → margins.0 + r.width + margins.1 ≤ drawn → AllByRecursion IsShownRun (map run_of ps ++ map token_run ts) → HaveKinds Paragraph Paragraph wrap → AllByRecursion (λ l. l.spacing ≡ None) wrap
-    → AllByRecursion (IsMeasured skin) wrap → LinesFit first r (map text_of wrap) → AllByRecursion (IsMadeOf ps ts) wrap → AreDrawable skin drawn (map (line_with margins) wrap)
+    → AllByRecursion (IsMeasured skin) wrap → LinesFit first r (map flagged_text (line_compounds wrap)) → AllByRecursion (IsMadeOf ps ts) (line_compounds wrap) → AreDrawable skin drawn (map (line_with margins) wrap)
 wrapped_drawable skin drawn first margins r ps ts [] bound inside shown kinds spacing measured fits parts = tt
 wrapped_drawable skin drawn first margins r ps ts (l ∷ ls) bound inside shown kinds spacing measured fits parts =
     let runs = map run_of ps ++ map token_run ts in
@@ -115,11 +118,11 @@ read_drawable skin width drawn line source lines narrower bound plain read (inr 
     let r : Room = room_of skin source.kind (width - margins.0 - margins.1) in
     let runs : AllByRecursion IsPlainRun (map run_of ps) = subst (AllByRecursion IsPlainRun) (sym read.text) plain.runs in
     let room : HasRoom r (text_of source) = has_room skin width line source plain read wide in
-    let narrow : AllByRecursion (λ x. char_columns x.char ≤ r.width - r.first) (flagged_text ps) =
-    all_each (λ x. r.first + char_columns x.char ≤ r.width) (λ x. char_columns x.char ≤ r.width - r.first) (λ x h. omega (arith, h)) (flagged_text ps) room.each in
-    let tokens = tokens_are_there (r.width - r.first) ps (utf8_of ps runs) in
+    let narrow : AllByRecursion (λ x. char_columns x.char ≤ token_limit r) (flagged_text ps) =
+    all_each (λ x. most_indent r + char_columns x.char ≤ r.width) (λ x. char_columns x.char ≤ token_limit r) (λ x h. omega (arith, h)) (flagged_text ps) room.each in
+    let tokens = tokens_of_all (token_limit r) ps (utf8_of ps runs) in
     let shown = all_joined IsShownRun (map run_of ps) (map token_run tokens.0) (all_each IsPlainRun IsShownRun plain_is_shown (map run_of ps) runs)
-    (tokens_shown (r.width - r.first) ps tokens.0 runs narrow tokens.1) in
+    (tokens_shown (token_limit r) ps tokens.0 runs narrow tokens.1) in
     subst (AreDrawable skin drawn) (sym same)
     (wrapped_drawable skin drawn r.first margins r ps tokens.0 wrap bound (omega (arith, narrower, margins-le (line_style skin source.kind) width)) shown
     (subst (λ k. HaveKinds k (follow_up k) wrap) kind wraps.kinds)
@@ -172,11 +175,11 @@ fitting_is_drawable skin width drawn n text lines narrower bound keeps layout = 
 
 -- ---- a layout with the fewest lines
 
-wrap_fits : (skin : MadSkin) (width : ℕ) (source : FmtComposite) (lines : List FmtComposite) → IsWrap skin width source lines → IsFittingWrap skin width source lines
+wrap_fits : (skin : MadSkin) (width : ℕ) (source : FmtComposite) (lines : List FmtComposite) → IsCompositeWrap skin width source lines → IsFittingWrap skin width source lines
 wrap_fits skin width source lines wrap = record {
-  keeps = wrap.keeps;
-  fits = wrap.fits;
-  parts = λ ts tokens. (wrap.least ts tokens).parts;
+  keeps = wrap.wrap.keeps;
+  fits = wrap.wrap.fits;
+  parts = λ ts tokens. (wrap.wrap.least ts tokens).parts;
   kinds = wrap.kinds;
   measured = wrap.measured;
   spacing = wrap.spacing;

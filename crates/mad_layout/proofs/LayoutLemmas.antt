@@ -11,7 +11,7 @@ use Rattle.mad_md.specs.declared.line.Line.TheVariants as read
 use Rattle.std.specs.Prelude.{Some, Bool, true, false, nat_lt, MatchBool}
 use Rattle.std.proofs.lemmas.Bool.Decides.{nat_tests}
 use Rattle.mad_layout.specs.Layouts.{composites, AreRead, IsLayout, IsLayoutAt}
-use Rattle.mad_layout.specs.WrappedLines.{IsLineMeasured, IsLineWrapped, AreLinesWrapped}
+use Rattle.mad_layout.specs.WrappedLines.{IsLineWrapped, AreLinesWrapped}
 use Rattle.mad_layout.specs.Lines.{IsLineOf}
 use Rattle.mad_layout.specs.declared.skin.MadSkin.{MadSkin}
 use Rattle.mad_layout.specs.declared.line.FmtLine.{FmtLine}
@@ -53,10 +53,6 @@ pub measured_all : (skin : MadSkin) (all rest : List Line) (lines : List FmtLine
 measured_all skin all rest lines none held =
     subst (λ (ls : List FmtLine). AreRead skin (composites (map content_of all)) ls) (append-nil lines)
     (held [] (subst (λ (ls : List Line). AreRead skin (composites (map content_of ls)) []) (sym none) tt))
-
--- a line of a composite is measured
-pub line_measured : (skin : MadSkin) (composite : Composite) (line : FmtLine) → IsLineOf skin composite line → IsLineMeasured skin line
-line_measured skin composite (Normal l) h = h.measured
 
 -- What has been wrapped of a text, with whatever the rest of its lines is read and wrapped as, is a layout of all of it.
 abbrev pub WrappedSoFar : MadSkin → ℕ → List Line → List Line → List FmtLine → Type 0

@@ -5,7 +5,7 @@ use Rattle.mad_md.specs.Flagged.{flags_of, flagged_of, flagged_text}
 use Rattle.mad_md.specs.declared.compound.Compound.{Compound}
 use Rattle.mad_fit.specs.Columns.{columns, width_of}
 use Rattle.mad_fit.proofs.FlaggedLemmas.{width_of-append, width_of-flagged}
-use Rattle.mad_layout.specs.Wraps.{capped}
+use Rattle.mad_wrap.specs.WrapLines.{capped}
 
 pub capped-add : (a b : ℕ) → capped (capped a + b) ≡ capped (a + b)
 capped-add a b = omega arith

@@ -1,108 +1,103 @@
--- Placed tokens are a wrap of their composite.
-use Rattle.std.proofs.Common.{◌≡◌, ℕ, ◌≤◌, ◌<◌, ◌+◌, ◌-◌, List, [], ◌∷◌, map, length, None, Result, Ok, Err, IfOk, refl, sym, ap, ◌∙◌, arith, subst}
+-- Lines of wrapped compounds are a wrap of their composite.
+use Rattle.std.proofs.Common.{◌≡◌, ℕ, ◌+◌, ◌<◌, List, [], ◌∷◌, ◌++◌, map, Option, None, Result, Ok, Err, IfOk, refl, sym, ap, ◌∙◌, arith, subst, append_assoc}
+use Rattle.std.proofs.lemmas.List.{append-nil}
 use Rattle.std.specs.List.{AllByRecursion}
-use Rattle.mad_columns.specs.Columns.{char_columns}
 use Rattle.mad_md.specs.Flagged.{flagged_text}
-use Rattle.mad_md.specs.declared.compound.Compound.{Compound}
 use Rattle.mad_style.specs.declared.kinds.CompositeKind.{CompositeKind}
 use Rattle.mad_style.specs.declared.kinds.CompositeKind.TheVariants.{Paragraph, Header, ListItem, ListItemFollowUp, OrderedListItem, OrderedListItemFollowUp, Code, Quote}
-use Rattle.mad_style.specs.declared.kinds.ListItemsIndentationMode.{ListItemsIndentationMode}
-use Rattle.mad_style.specs.declared.kinds.ListItemsIndentationMode.TheVariants.{FirstLineOnly, Block}
 use Rattle.mad_fit.specs.Columns.{width_of}
-use Rattle.mad_fit.specs.Tokens.{tokens_text}
-use Rattle.mad_fit.specs.declared.tokens.Token.{Token}
-use Rattle.mad_fit.proofs.TokenTexts.{IsHonest, text_of_all, all_honest}
-use Rattle.mad_fit.proofs.UniqueLemmas.{all_unique}
-use Rattle.mad_layout.specs.Breaks.{joined, total_width}
-use Rattle.mad_layout.specs.CleanCut.{clean_cut}
+use Rattle.mad_fit.specs.declared.spacing.Spacing.{Spacing}
+use Rattle.mad_wrap.specs.LeastWrap.{IsWrap}
+use Rattle.mad_wrap.specs.WrapLines.{capped, compounds_of, AreCounted}
+use Rattle.mad_wrap.specs.declared.wrapped_line.WrappedLine.{WrappedLine}
+use Rattle.mad_layout.specs.CompositeWraps.{line_compounds, HaveKinds, IsCompositeWrap, AreComposites}
 use Rattle.mad_layout.specs.Indents.{indent, follow_up, room_of}
-use Rattle.mad_layout.specs.Keeps.{Keeps}
-use Rattle.mad_layout.specs.LeastWrap.{AreTokensIn, IsLeastBreak, IsWrapIn}
-use Rattle.mad_layout.specs.PlacedLines.{TokensHaveRoom, ArePlacedLines}
-use Rattle.mad_layout.specs.Wraps.{text_of, IsMeasured, HasRoom, LinesFit}
-use Rattle.mad_layout.specs.declared.room.Room.{Room}
+use Rattle.mad_layout.specs.Wraps.{text_of, IsMeasured}
 use Rattle.mad_layout.specs.declared.skin.MadSkin.{MadSkin}
 use Rattle.mad_layout.specs.declared.composite.FmtComposite.{FmtComposite}
-use Rattle.mad_layout.proofs.KeepLemmas.{texts_are, runs_are, keeps_pieces, tokens_room, width_is, fit_pieces, some_pieces, kinds_are, spacing_is, margins_are, measured_are, parts_are, filled_pieces}
 
--- the lines after the first are indented no further
-pub other-le : (mode : ListItemsIndentationMode) (kind : CompositeKind) → indent mode (follow_up kind) ≤ indent mode kind
-other-le mode Paragraph = omega arith
-other-le mode (Header level) = omega arith
-other-le FirstLineOnly (ListItem depth) = omega arith
-other-le Block (ListItem depth) = omega arith
-other-le mode (ListItemFollowUp depth) = omega arith
-other-le FirstLineOnly (OrderedListItem level index) = omega arith
-other-le Block (OrderedListItem level index) = omega arith
-other-le mode (OrderedListItemFollowUp level index) = omega arith
-other-le mode Code = omega arith
-other-le mode Quote = omega arith
-
--- the composite doesn't fit, and these are the indents of its lines
-pub record IsTooWide (r : Room) (skin : MadSkin) (source : FmtComposite) : Type 0 where
-  pub first : indent skin.list_items_indentation_mode source.kind ≡ r.first
-  pub other : indent skin.list_items_indentation_mode (follow_up source.kind) ≡ r.other
-  pub wider : r.width < r.first + width_of (text_of source)
+-- a follow-up is followed by its own kind
+pub follow_up_stays : (kind : CompositeKind) → follow_up (follow_up kind) ≡ follow_up kind
+follow_up_stays Paragraph = refl
+follow_up_stays (Header level) = refl
+follow_up_stays (ListItem depth) = refl
+follow_up_stays (ListItemFollowUp depth) = refl
+follow_up_stays (OrderedListItem level index) = refl
+follow_up_stays (OrderedListItemFollowUp level index) = refl
+follow_up_stays Code = refl
+follow_up_stays Quote = refl
 
 -- a composite that is wider than the width, by a right length
-pub too_wide : (skin : MadSkin) (width : ℕ) (source : FmtComposite) → width < source.visible_length → IsMeasured skin source → IsTooWide (room_of skin source.kind width) skin source
-too_wide skin width source wide measured = record { first = refl; other = refl; wider = omega (arith, wide, measured) }
+pub too_wide : (skin : MadSkin) (width : ℕ) (source : FmtComposite) → width < source.visible_length → IsMeasured skin source → width < (room_of skin source.kind width).first + width_of (text_of source)
+too_wide skin width source wide measured = omega (arith, wide, measured)
 
--- room for each character is room for each token
-pub room_for_tokens : (r : Room) (ps : List Compound) (ts : List Token) → r.other ≤ r.first → AreTokensIn r ps ts → HasRoom r (flagged_text ps) → TokensHaveRoom r ts
-room_for_tokens r ps ts o tokens room = record {
-  first = room.first;
-  other = o;
-  each = tokens_room r ts room.first (all_honest (r.width - r.first) ps ts tokens)
-      (subst (AllByRecursion (λ x. r.first + char_columns x.char ≤ r.width)) (sym (text_of_all (r.width - r.first) ps ts tokens)) room.each);
-}
+-- ---- lines as composites
 
-some_tokens : (r : Room) (ts : List Token) → r.width < r.first + total_width ts → r.first ≤ r.width → 0 < length ts
-some_tokens r [] wide l = absurd (omega arith)
-some_tokens r (t ∷ ts) wide l = omega arith
+-- What the composites so far are of the lines before the rest, with whatever the rest becomes, all are of all lines.
+abbrev pub ComposedSoFar : CompositeKind → ℕ → ℕ → Option Spacing → List WrappedLine → CompositeKind → ℕ → List WrappedLine → List FmtComposite → Type 0
+ComposedSoFar first_kind first other spacing all kind indent rest cs =
+    (more : List FmtComposite) → AreComposites kind (follow_up first_kind) indent other spacing rest more → AreComposites first_kind (follow_up first_kind) first other spacing all (cs ++ more)
 
-pub total_is : (r : Room) (ps : List Compound) (ts : List Token) → AreTokensIn r ps ts → total_width ts ≡ width_of (flagged_text ps)
-total_is r ps ts tokens = width_is (r.width - r.first) ts (all_honest (r.width - r.first) ps ts tokens) ∙ ap width_of (text_of_all (r.width - r.first) ps ts tokens)
+pub composed_more : (first_kind : CompositeKind) (first other : ℕ) (spacing : Option Spacing) (all : List WrappedLine) (kind : CompositeKind) (indent : ℕ) (rest after : List WrappedLine) (cs new : List FmtComposite) (l : WrappedLine) (c : FmtComposite)
+    → ComposedSoFar first_kind first other spacing all kind indent rest cs → follow_up kind ≡ follow_up first_kind → rest ≡ l ∷ after
+    → c ≡ record { kind = kind; compounds = l.compounds; visible_length = capped (l.columns + indent); spacing = spacing; margins = None } → new ≡ cs ++ c ∷ []
+    → ComposedSoFar first_kind first other spacing all (follow_up kind) other after new
+composed_more first_kind first other spacing all kind indent rest after cs new l c held same next is pushed more h =
+    let now : AreComposites (follow_up first_kind) (follow_up first_kind) other other spacing after more = subst (λ k. AreComposites k (follow_up first_kind) other other spacing after more) same h in
+    let here : AreComposites kind (follow_up first_kind) indent other spacing rest (c ∷ more) = subst (λ ls. AreComposites kind (follow_up first_kind) indent other spacing ls (c ∷ more)) (sym next) (is, now) in
+    subst (AreComposites first_kind (follow_up first_kind) first other spacing all) (sym (ap (λ ls. ls ++ more) pushed ∙ append_assoc cs (c ∷ []) more)) (held (c ∷ more) here)
 
--- placed tokens are a wrap
-pub placed_wrap : (r : Room) (skin : MadSkin) (source : FmtComposite) (ts : List Token) (lines : List FmtComposite) → IsTooWide r skin source → clean_cut r source.compounds.items ≡ None → AreTokensIn r source.compounds.items ts
-    → ArePlacedLines r source.kind (follow_up source.kind) source.spacing ts lines → IsWrapIn r skin source lines
-placed_wrap r skin source ts lines wide uncut tokens h =
-    let ps = source.compounds.items in
-    let k = source.kind in
-    let o = follow_up source.kind in
-    let sp = source.spacing in
-    let max = r.width - r.first in
-    let honest = subst (AllByRecursion (IsHonest max)) (sym h.covers) (all_honest max ps ts tokens) in
-    let text = ap tokens_text h.covers ∙ text_of_all max ps ts tokens in
-    let texts = texts_are k o r.first r.other sp h.pieces lines h.holds in
-    let lower : r.other ≤ r.first = omega (arith, wide.first, wide.other, other-le skin.list_items_indentation_mode source.kind) in
+pub composed_all : (first_kind : CompositeKind) (first other : ℕ) (spacing : Option Spacing) (all : List WrappedLine) (kind : CompositeKind) (indent : ℕ) (rest : List WrappedLine) (cs : List FmtComposite)
+    → ComposedSoFar first_kind first other spacing all kind indent rest cs → rest ≡ [] → AreComposites first_kind (follow_up first_kind) first other spacing all cs
+composed_all first_kind first other spacing all kind indent rest cs held none =
+    subst (AreComposites first_kind (follow_up first_kind) first other spacing all) (append-nil cs) (held [] (subst (λ ls. AreComposites kind (follow_up first_kind) indent other spacing ls []) (sym none) refl))
+
+-- ---- what they say
+
+same_compounds : (kind other : CompositeKind) (i n : ℕ) (spacing : Option Spacing) (ls : List WrappedLine) (cs : List FmtComposite) → AreComposites kind other i n spacing ls cs → line_compounds cs ≡ compounds_of ls
+same_compounds kind other i n spacing [] cs h = ap line_compounds h
+same_compounds kind other i n spacing (l ∷ ls) [] h = absurd h
+same_compounds kind other i n spacing (l ∷ ls) (c ∷ cs) h =
+    ap (λ (x : FmtComposite). x.compounds.items ∷ line_compounds cs) h.0 ∙ ap (λ xs. l.compounds.items ∷ xs) (same_compounds other other n n spacing ls cs h.1)
+
+kinds_are : (kind other : CompositeKind) (i n : ℕ) (spacing : Option Spacing) (ls : List WrappedLine) (cs : List FmtComposite) → AreComposites kind other i n spacing ls cs → HaveKinds kind other cs
+kinds_are kind other i n spacing [] cs h = subst (HaveKinds kind other) (sym h) tt
+kinds_are kind other i n spacing (l ∷ ls) [] h = absurd h
+kinds_are kind other i n spacing (l ∷ ls) (c ∷ cs) h = (ap (λ (x : FmtComposite). x.kind) h.0, kinds_are other other n n spacing ls cs h.1)
+
+spacing_is : (kind other : CompositeKind) (i n : ℕ) (spacing : Option Spacing) (ls : List WrappedLine) (cs : List FmtComposite) → AreComposites kind other i n spacing ls cs → AllByRecursion (λ (c : FmtComposite). c.spacing ≡ spacing) cs
+spacing_is kind other i n spacing [] cs h = subst (AllByRecursion (λ (c : FmtComposite). c.spacing ≡ spacing)) (sym h) tt
+spacing_is kind other i n spacing (l ∷ ls) [] h = absurd h
+spacing_is kind other i n spacing (l ∷ ls) (c ∷ cs) h = (ap (λ (x : FmtComposite). x.spacing) h.0, spacing_is other other n n spacing ls cs h.1)
+
+margins_are : (kind other : CompositeKind) (i n : ℕ) (spacing : Option Spacing) (ls : List WrappedLine) (cs : List FmtComposite) → AreComposites kind other i n spacing ls cs → AllByRecursion (λ (c : FmtComposite). c.margins ≡ None) cs
+margins_are kind other i n spacing [] cs h = subst (AllByRecursion (λ (c : FmtComposite). c.margins ≡ None)) (sym h) tt
+margins_are kind other i n spacing (l ∷ ls) [] h = absurd h
+margins_are kind other i n spacing (l ∷ ls) (c ∷ cs) h = (ap (λ (x : FmtComposite). x.margins) h.0, margins_are other other n n spacing ls cs h.1)
+
+measured_one : (skin : MadSkin) (kind : CompositeKind) (l : WrappedLine) (c : FmtComposite) (i : ℕ) (spacing : Option Spacing) → i ≡ indent skin.list_items_indentation_mode kind → l.columns ≡ capped (width_of (flagged_text l.compounds.items))
+    → c ≡ record { kind = kind; compounds = l.compounds; visible_length = capped (l.columns + i); spacing = spacing; margins = None } → IsMeasured skin c
+measured_one skin kind l c i spacing room counted is = subst (IsMeasured skin) (sym is) (omega (arith, room, counted))
+
+measured_are : (skin : MadSkin) (kind other : CompositeKind) (i n : ℕ) (spacing : Option Spacing) (ls : List WrappedLine) (cs : List FmtComposite) → i ≡ indent skin.list_items_indentation_mode kind → n ≡ indent skin.list_items_indentation_mode other
+    → AreCounted ls → AreComposites kind other i n spacing ls cs → AllByRecursion (IsMeasured skin) cs
+measured_are skin kind other i n spacing [] cs first next counted h = subst (AllByRecursion (IsMeasured skin)) (sym h) tt
+measured_are skin kind other i n spacing (l ∷ ls) [] first next counted h = absurd h
+measured_are skin kind other i n spacing (l ∷ ls) (c ∷ cs) first next counted h = (measured_one skin kind l c i spacing first counted.0 h.0, measured_are skin other other n n spacing ls cs next next counted.1 h.1)
+
+pub composite_wrap : (skin : MadSkin) (width : ℕ) (source : FmtComposite) (lines : List WrappedLine) (cs : List FmtComposite) → IsWrap (room_of skin source.kind width) source.compounds.items (compounds_of lines) → AreCounted lines
+    → AreComposites source.kind (follow_up source.kind) (room_of skin source.kind width).first (room_of skin source.kind width).other source.spacing lines cs → IsCompositeWrap skin width source cs
+composite_wrap skin width source lines cs wrap counted h =
+    let r = room_of skin source.kind width in
     record {
-      keeps = subst (λ x. Keeps x (map text_of lines)) text (subst (Keeps (tokens_text (joined h.pieces))) texts (keeps_pieces max r.first r h.pieces h.gaps honest));
-      fits = λ room. subst (LinesFit r.first r) texts (fit_pieces max r.first r h.pieces honest (h.fits (room_for_tokens r ps ts lower tokens room)));
-      some = λ room _.
-          let there = some_tokens r ts (omega (arith, wide.wider, total_is r ps ts tokens)) room.first in
-          some_pieces max k o r.first r.other sp h.pieces lines h.holds honest (h.some (room_for_tokens r ps ts lower tokens room) there);
-      cut = λ front back is. absurd (cc);
-      tokenized = λ _. record { tokens = ts; cut = tokens; only = λ us others. all_unique _ ps us ts others tokens };
-      none_empty = λ _. filled_pieces max k o r.first r.other sp h.pieces lines h.holds honest;
-      least = λ us others.
-          let same = all_unique max ps ts us tokens others in
-          subst (λ x. IsLeastBreak r ps x lines) same (record {
-            parts = parts_are ps ts [] k o r.first r.other sp h.pieces lines h.holds h.covers;
-            placed = λ _. record { pieces = h.pieces; some_line = h.some_line; covers = h.covers; texts = texts; gaps = h.gaps };
-            full = λ _. record { placed = record { pieces = h.pieces; some_line = h.some_line; covers = h.covers; texts = texts; gaps = h.gaps }; forced = h.forced; within = h.within };
-            one_by_one = λ _. runs_are k o r.first r.other sp h.pieces lines h.holds;
-            least = λ breaks fitting _. h.least breaks fitting;
-            least_dropping = λ _ breaks fitting. h.least breaks fitting;
-          });
-      kinds = kinds_are k o r.first r.other sp h.pieces lines h.holds;
-      measured = measured_are skin max k o r.first r.other sp h.pieces lines h.holds honest wide.first wide.other;
-      spacing = spacing_is k o r.first r.other sp h.pieces lines h.holds;
-      margins = margins_are k o r.first r.other sp h.pieces lines h.holds;
+      wrap = subst (IsWrap r source.compounds.items) (sym (same_compounds source.kind (follow_up source.kind) r.first r.other source.spacing lines cs h)) wrap;
+      kinds = kinds_are source.kind (follow_up source.kind) r.first r.other source.spacing lines cs h;
+      measured = measured_are skin source.kind (follow_up source.kind) r.first r.other source.spacing lines cs refl refl counted h;
+      spacing = spacing_is source.kind (follow_up source.kind) r.first r.other source.spacing lines cs h;
+      margins = margins_are source.kind (follow_up source.kind) r.first r.other source.spacing lines cs h;
     }
 
--- what follows of each Ok
-pub ok_each : {T E : Type 0} (P Q : T → Type 0) → ((x : T) → P x → Q x) → (r : Result T E) → IfOk r P → IfOk r Q
-ok_each P Q f (Ok x) h = f x h
-ok_each P Q f (Err e) h = tt
+-- what follows of an Ok
+pub ok_then : {T E : Type 0} (P Q : T → Type 0) → ((x : T) → P x → Q x) → (r : Result T E) → IfOk r P → IfOk r Q
+ok_then P Q f (Ok x) h = f x h
+ok_then P Q f (Err e) h = tt

@@ -1,13 +1,16 @@
 -- Layouts, the count of their lines apart.
 use Rattle.std.specs.Prelude.{◌≡◌, ℕ, ◌≤◌, List, map, Option, Some, None, ⊤}
 use Rattle.std.specs.List.{AllByRecursion}
+use Rattle.mad_md.specs.Flagged.{flagged_text}
 use Rattle.mad_md.specs.Lines.{LineContent}
 use Rattle.mad_fit.specs.declared.tokens.Token.{Token}
+use Rattle.mad_wrap.specs.Keeps.{Keeps}
+use Rattle.mad_wrap.specs.LeastWrap.{AreTokensIn}
+use Rattle.mad_wrap.specs.WrapLines.{HasRoom, LinesFit, IsMadeOf}
+use Rattle.mad_layout.specs.CompositeWraps.{line_compounds, HaveKinds}
 use Rattle.mad_layout.specs.Indents.{follow_up, room_of}
-use Rattle.mad_layout.specs.Keeps.{Keeps}
 use Rattle.mad_layout.specs.Layouts.{IsLayoutBy}
-use Rattle.mad_layout.specs.LeastWrap.{AreTokensIn}
-use Rattle.mad_layout.specs.Wraps.{text_of, IsMeasured, HasRoom, LinesFit, HaveKinds, IsMadeOf}
+use Rattle.mad_layout.specs.Wraps.{text_of, IsMeasured}
 use Rattle.mad_layout.specs.declared.skin.MadSkin.{MadSkin}
 use Rattle.mad_layout.specs.declared.composite.FmtComposite.{FmtComposite}
 use Rattle.mad_layout.specs.declared.line.FmtLine.{FmtLine}
@@ -15,9 +18,9 @@ use Rattle.mad_layout.specs.declared.line.FmtLine.{FmtLine}
 -- The lines are the composite wrapped at a width, be they the fewest or not: they keep its text, they fit where there is room, and
 -- each compound is one of the source or a token of one.
 pub record IsFittingWrap (skin : MadSkin) (width : ℕ) (source : FmtComposite) (lines : List FmtComposite) : Type 0 where
-  pub keeps : Keeps (text_of source) (map text_of lines)
-  pub fits : HasRoom (room_of skin source.kind width) (text_of source) → LinesFit (room_of skin source.kind width).first (room_of skin source.kind width) (map text_of lines)
-  pub parts : (ts : List Token) → AreTokensIn (room_of skin source.kind width) source.compounds.items ts → AllByRecursion (IsMadeOf source.compounds.items ts) lines
+  pub keeps : Keeps (text_of source) (map flagged_text (line_compounds lines))
+  pub fits : HasRoom (room_of skin source.kind width) (text_of source) → LinesFit (room_of skin source.kind width).first (room_of skin source.kind width) (map flagged_text (line_compounds lines))
+  pub parts : (ts : List Token) → AreTokensIn (room_of skin source.kind width) source.compounds.items ts → AllByRecursion (IsMadeOf source.compounds.items ts) (line_compounds lines)
   pub kinds : HaveKinds source.kind (follow_up source.kind) lines
   pub measured : AllByRecursion (IsMeasured skin) lines
   pub spacing : AllByRecursion (λ l. l.spacing ≡ source.spacing) lines

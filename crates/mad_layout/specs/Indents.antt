@@ -4,7 +4,7 @@ use Rattle.mad_style.specs.declared.kinds.CompositeKind.{CompositeKind}
 use Rattle.mad_style.specs.declared.kinds.CompositeKind.TheVariants.{Paragraph, Header, ListItem, ListItemFollowUp, OrderedListItem, OrderedListItemFollowUp, Code, Quote}
 use Rattle.mad_style.specs.declared.kinds.ListItemsIndentationMode.{ListItemsIndentationMode}
 use Rattle.mad_style.specs.declared.kinds.ListItemsIndentationMode.TheVariants.{FirstLineOnly, Block}
-use Rattle.mad_layout.specs.declared.room.Room.{Room}
+use Rattle.mad_wrap.specs.declared.room.Room.{Room}
 use Rattle.mad_layout.specs.declared.skin.MadSkin.{MadSkin}
 
 -- the kind of the lines after the first: an item's own follow-up, any other kind stays

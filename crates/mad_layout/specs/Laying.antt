@@ -3,7 +3,7 @@ use Rattle.std.specs.Prelude.{◌≡◌, true, List, Option, ◌++◌, map}
 use Rattle.std.specs.List.{AllByRecursion}
 use Rattle.mad_md.specs.Lines.{LineContent}
 use Rattle.mad_layout.specs.Layouts.{AreRead, IsLayoutBy}
-use Rattle.mad_layout.specs.LeastWrap.{IsWrap}
+use Rattle.mad_layout.specs.CompositeWraps.{IsCompositeWrap}
 use Rattle.mad_layout.specs.Parts.{is_code_kind, parts_of, ArePartsAt}
 use Rattle.mad_layout.specs.Wraps.{IsMeasured}
 use Rattle.std.specs.Prelude.{ℕ}
@@ -20,4 +20,4 @@ pub record IsOpenBlock (skin : MadSkin) (block : List FmtComposite) : Type 0 whe
 -- The lines, with whatever becomes of a block of code and the rest of a text, are a layout of all of it.
 abbrev pub IsLaidFor : MadSkin → Option ℕ → List LineContent → List LineContent → List FmtLine → List FmtComposite → Type 0
 IsLaidFor skin width all rest lines block =
-    (reads more : List FmtLine) → AreRead skin rest reads → ArePartsAt IsWrap skin width (parts_of (map Normal block ++ reads)) more → IsLayoutBy IsWrap skin width all (lines ++ more)
+    (reads more : List FmtLine) → AreRead skin rest reads → ArePartsAt IsCompositeWrap skin width (parts_of (map Normal block ++ reads)) more → IsLayoutBy IsCompositeWrap skin width all (lines ++ more)

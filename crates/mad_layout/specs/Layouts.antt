@@ -1,7 +1,7 @@
 -- The layout of a text.
 use Rattle.std.specs.Prelude.{ℕ, List, [], ◌∷◌, Option, Some}
 use Rattle.mad_md.specs.Lines.{LineContent}
-use Rattle.mad_layout.specs.LeastWrap.{IsWrap}
+use Rattle.mad_layout.specs.CompositeWraps.{IsCompositeWrap}
 use Rattle.mad_layout.specs.Lines.{IsLineRead}
 use Rattle.mad_layout.specs.Parts.{parts_of, wrap_width, ArePartsAt}
 use Rattle.mad_layout.specs.WrappedLines.{Wrap}
@@ -23,8 +23,8 @@ pub record IsLayoutBy (wraps : Wrap) (skin : MadSkin) (width : Option ℕ) (text
 
 -- the lines are a layout of the text at a width, each line's wrap one with the fewest lines
 abbrev pub IsLayout : MadSkin → ℕ → List LineContent → List FmtLine → Type 0
-IsLayout skin width text lines = IsLayoutBy IsWrap skin (Some width) text lines
+IsLayout skin width text lines = IsLayoutBy IsCompositeWrap skin (Some width) text lines
 
 -- a layout at a width, if there is one; nothing is wrapped at a width under three, nor without a width
 abbrev pub IsLayoutAt : MadSkin → Option ℕ → List LineContent → List FmtLine → Type 0
-IsLayoutAt skin width text lines = IsLayoutBy IsWrap skin (wrap_width width) text lines
+IsLayoutAt skin width text lines = IsLayoutBy IsCompositeWrap skin (wrap_width width) text lines

@@ -16,7 +16,7 @@ use Rattle.mad_layout.specs.Indents.{indent, room_of}
 use Rattle.mad_layout.specs.Drawable.{IsColumnPiece}
 use Rattle.mad_layout.specs.Rows.{char_piece}
 use Rattle.mad_layout.specs.Styles.{line_style, ordered_item_style}
-use Rattle.mad_layout.specs.Wraps.{HasRoom}
+use Rattle.mad_wrap.specs.WrapLines.{HasRoom}
 use Rattle.mad_layout.specs.declared.skin.MadSkin.{MadSkin}
 
 -- Each widthless character is no whitespace and stands right behind one that isn't blank; `behind` says whether what stands in

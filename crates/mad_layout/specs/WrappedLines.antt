@@ -2,7 +2,7 @@
 use Rattle.std.specs.Prelude.{◌≡◌, ℕ, ◌+◌, ◌-◌, ◌<◌, ◌≤◌, ◌⊎◌, List, [], ◌∷◌, ◌++◌, map, Some}
 use Rattle.std.specs.List.{AllByRecursion}
 use Rattle.mad_style.specs.LineStyles.{margins_at}
-use Rattle.mad_layout.specs.LeastWrap.{IsWrap}
+use Rattle.mad_layout.specs.CompositeWraps.{IsCompositeWrap}
 use Rattle.mad_layout.specs.Styles.{line_style}
 use Rattle.mad_layout.specs.Wraps.{IsMeasured}
 use Rattle.mad_layout.specs.declared.skin.MadSkin.{MadSkin}
@@ -48,13 +48,13 @@ AreLaidOutBy wraps skin width (l ∷ ls) lines = (own : List FmtLine) × (others
 
 -- the same three with the fewest lines
 abbrev pub IsWrapped : MadSkin → ℕ → FmtComposite → List FmtLine → Type 0
-IsWrapped = IsLaidOutBy IsWrap
+IsWrapped = IsLaidOutBy IsCompositeWrap
 
 abbrev pub IsLineWrapped : MadSkin → ℕ → FmtLine → List FmtLine → Type 0
-IsLineWrapped = IsLineLaidOutBy IsWrap
+IsLineWrapped = IsLineLaidOutBy IsCompositeWrap
 
 abbrev pub AreLinesWrapped : MadSkin → ℕ → List FmtLine → List FmtLine → Type 0
-AreLinesWrapped = AreLaidOutBy IsWrap
+AreLinesWrapped = AreLaidOutBy IsCompositeWrap
 
 -- the line's cached lengths are right
 abbrev pub IsLineMeasured : MadSkin → FmtLine → Type 0

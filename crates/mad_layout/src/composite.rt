@@ -27,7 +27,8 @@ pub struct FmtComposite<'s> {
 
 impl<'s> FmtComposite<'s> {
     ghost use Rattle.mad_style.specs.Kinds.{kind_of};
-    ghost use Rattle.mad_layout.specs.Wraps.{capped, IsMeasured};
+    ghost use Rattle.mad_layout.specs.Wraps.{IsMeasured};
+    ghost use Rattle.mad_wrap.specs.WrapLines.{capped};
 
     /// An empty paragraph.
     pub fn new(alloc: Global) -> Self

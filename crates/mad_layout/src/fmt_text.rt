@@ -9,12 +9,13 @@ ghost use Rattle.mad_layout.specs.FittingLayouts.{IsFittingLayoutAt};
 ghost use Rattle.mad_layout.specs.InArea.{IsAreaLayout};
 ghost use Rattle.mad_layout.specs.Layouts.{composites, AreRead, IsLayout, IsLayoutAt};
 
+use crate::composite::FmtComposite;
 use crate::line::FmtLine;
+use crate::room::LEAST_WIDTH;
 use crate::skin::MadSkin;
-use crate::wrap::push_line;
+use crate::wrap::push_composite;
 use mad_fit::Area;
 use mad_md::{Line, Text};
-use mad_term::Error;
 use std::alloc::{AllocError, Global};
 
 /// A text that is laid out: its lines, none wider than the width where that can be had.
@@ -101,22 +102,18 @@ fn layout<'s>(
     ensures { IfOk result (λ lines. IsLayoutAt skin.now width (composites (contents text.entry)) lines.items) }
 {
     match width {
-        Some(width) if width >= 3 => {
-            let lines = wrapped_lines(alloc, skin, text, width);
-            lines.map_err(|_| AllocError)
-        }
+        Some(width) if width >= LEAST_WIDTH => wrapped_lines(alloc, skin, text, width),
         _ => measured_lines(alloc, skin, text),
     }
 }
 
 // The lines of a text, each wrapped at a width as soon as it is measured.
-#[tactic(auto, using(crate::proofs::LayoutLemmas::line_measured))]
 fn wrapped_lines<'s>(
     alloc: Global,
     skin: &MadSkin,
     text: Text<'s>,
     width: usize,
-) -> Result<Vec<FmtLine<'s>>, Error>
+) -> Result<Vec<FmtLine<'s>>, AllocError>
     ensures { IfOk result (λ lines. IsLayout skin.now width (composites (contents text.entry)) lines.items) }
 {
     // Most lines stay one.
@@ -124,13 +121,8 @@ fn wrapped_lines<'s>(
     for line in text.lines {
         match line {
             Line::Normal(composite) => {
-                push_line(
-                    alloc,
-                    &mut lines,
-                    FmtLine::from(composite, skin),
-                    width,
-                    skin,
-                )?;
+                let composite = FmtComposite::from(composite, skin);
+                push_composite(alloc, &mut lines, composite, width, skin)?;
             }
             Line::TableRow(_) | Line::TableRule(_) | Line::HorizontalRule => {}
         }

@@ -3,7 +3,7 @@
 ghost use Rattle.std.specs.Prelude.{◌≡◌, ◌≤◌, ◌++◌, ◌∷◌, [], true, List, Option, Some, None, map, IfSome, OnOk};
 ghost use Rattle.std.specs.List.{AllByRecursion};
 ghost use Rattle.mad_md.specs.Lines.{LineContent, content_of};
-ghost use Rattle.mad_layout.specs.LeastWrap.{IsWrap};
+ghost use Rattle.mad_layout.specs.CompositeWraps.{IsCompositeWrap};
 ghost use Rattle.mad_layout.specs.Laying.{IsOpenBlock, IsLaidFor};
 ghost use Rattle.mad_layout.specs.Parts.{is_code_kind, widest, block_width, placed_code, justified, code_room, wrap_width, IsLineAt, AreLinesAt};
 ghost use Rattle.mad_layout.specs.WrappedLines.{IsLineMeasured};
@@ -12,6 +12,7 @@ ghost use Rattle.mad_layout.specs.declared.line.FmtLine.TheVariants.{Normal};
 
 use crate::composite::FmtComposite;
 use crate::line::FmtLine;
+use crate::room::LEAST_WIDTH;
 use crate::skin::MadSkin;
 use crate::wrap::push_line;
 use mad_fit::Spacing;
@@ -39,7 +40,7 @@ impl<'s> Laying<'s> {
         }
     }
 
-    /// The next line of a text, which is wrapped at a width of three at least, if there is one.
+    /// The next line of a text, which is wrapped at a width, if there is one.
     pub fn push(
         &mut self,
         alloc: Global,
@@ -47,7 +48,6 @@ impl<'s> Laying<'s> {
         width: Option<usize>,
         skin: &MadSkin,
     ) -> Result<(), AllocError>
-        requires wide { IfSome width (λ w. 3 ≤ w) }
         requires open { IsOpenBlock skin.now self.old.block.items }
         ensures open { OnOk result (IsOpenBlock skin.now self.new.block.items) }
         ensures laid { OnOk result ((all rest : List LineContent) → IsLaidFor skin.now width all (content_of line.entry ∷ rest) self.old.lines.items self.old.block.items
@@ -72,11 +72,10 @@ impl<'s> Laying<'s> {
         width: Option<usize>,
         skin: &MadSkin,
     ) -> Result<(), AllocError>
-        requires wide { IfSome width (λ w. 3 ≤ w) }
         requires open { IsOpenBlock skin.now self.old.block.items }
         ensures closed { OnOk result (self.new.block.items ≡ []) }
         ensures laid { OnOk result ((own : List FmtLine) × (self.new.lines.items ≡ self.old.lines.items ++ own)
-            × AreLinesAt IsWrap skin.now width (map Normal (justified (code_room skin.now width) self.old.block.items)) own) }
+            × AreLinesAt IsCompositeWrap skin.now width (map Normal (justified (code_room skin.now width) self.old.block.items)) own) }
     {
         let block = mem::replace(&mut self.block, Vec::new(alloc));
         let columns = block_width(&block, room_of_code(width, skin));
@@ -96,11 +95,10 @@ impl<'s> Laying<'s> {
 
 /// The width that lines are wrapped at: none where it is under three.
 pub(crate) fn wrap_width(width: Option<usize>) -> Option<usize>
-    ensures exact { result ≡ wrap_width width }
-    ensures wide { IfSome result (λ w. 3 ≤ w) }
+    ensures { result ≡ wrap_width width }
 {
     match width {
-        Some(width) if width >= 3 => Some(width),
+        Some(width) if width >= LEAST_WIDTH => Some(width),
         _ => None,
     }
 }
@@ -164,12 +162,11 @@ fn push_at<'s>(
     width: Option<usize>,
     skin: &MadSkin,
 ) -> Result<(), AllocError>
-    requires wide { IfSome width (λ w. 3 ≤ w) }
-    requires measured { IsLineMeasured skin.now line }
-    ensures { OnOk result ((own : List FmtLine) × (lines.new.items ≡ lines.old.items ++ own) × IsLineAt IsWrap skin.now width line.entry own) }
+    requires { IsLineMeasured skin.now line }
+    ensures { OnOk result ((own : List FmtLine) × (lines.new.items ≡ lines.old.items ++ own) × IsLineAt IsCompositeWrap skin.now width line.entry own) }
 {
     match width {
-        Some(width) => push_line(alloc, lines, line, width, skin).map_err(|_| AllocError),
+        Some(width) => push_line(alloc, lines, line, width, skin),
         None => lines.push(line),
     }
 }

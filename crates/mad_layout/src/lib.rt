@@ -5,18 +5,16 @@
 //! 1. [`skin`]: the styles of a text's parts.
 //! 2. [`indents`], [`room`]: the columns that a line of a kind has for its text.
 //! 3. [`composite`], [`line`]: a line with its cached width.
-//! 4. `clean_cut`, `placing`: the two ways of breaking a text that is too wide.
-//! 5. [`wrap`]: wrapping composites and lists of lines, with the fewest lines.
-//! 6. [`bound`]: starts of lines that show that no fitting break that ends with its last line has fewer.
-//! 7. [`table`]: lines of a table. `laying`: laying lines out one after another, blocks of code in their place.
+//! 4. [`wrap`]: wrapping composites and lists of lines, with the fewest lines.
+//! 5. [`bound`]: starts of lines that show that no fitting break has fewer.
+//! 6. [`table`]: lines of a table. `laying`: lines laid out one after another, blocks of code in their place.
 //!    [`fmt_text`], [`fmt_inline`]: reading a text and laying it out; reading one line.
-//! 8. `rows`: what is written of a line, piece by piece.
-//! 9. [`drawing`]: the rows of a text in an area of the screen.
-//! 10. `writing`: the writing calls of a skin; `display`: texts as displayed values.
+//! 7. `rows`: what is written of a line, piece by piece.
+//! 8. [`drawing`]: the rows of a text in an area of the screen.
+//! 9. `writing`: the writing calls of a skin; `display`: texts as displayed values.
 #![tactic(auto)]
 
 pub mod bound;
-mod clean_cut;
 pub mod composite;
 mod display;
 pub mod drawing;
@@ -25,7 +23,6 @@ pub mod fmt_text;
 pub mod indents;
 mod laying;
 pub mod line;
-mod placing;
 pub mod room;
 mod rows;
 pub mod skin;
@@ -42,6 +39,7 @@ pub use fmt_inline::{FmtInline, inline};
 pub use fmt_text::FmtText;
 pub use indents::composite_kind_widths;
 pub use line::FmtLine;
+pub use room::room_of;
 pub use skin::MadSkin;
 pub use table::{FmtTableRow, FmtTableRule, RelativePosition};
 pub use wrap::{hard_wrap_composite, hard_wrap_lines};

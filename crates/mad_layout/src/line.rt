@@ -1,7 +1,7 @@
 ghost use Rattle.std.specs.Prelude.{◌≡◌, IfOk};
 ghost use Rattle.mad_md.specs.Lines.{content_of};
 ghost use Rattle.mad_layout.specs.Lines.{IsLineRead, cells_columns, rule_columns, bordered};
-ghost use Rattle.mad_layout.specs.Wraps.{capped};
+ghost use Rattle.mad_wrap.specs.WrapLines.{capped};
 
 use crate::composite::FmtComposite;
 use crate::skin::MadSkin;

@@ -139,7 +139,7 @@ impl MadSkin {
     ghost use Rattle.mad_layout.specs.Indents.{indent};
     ghost use Rattle.mad_layout.specs.Skins.{no_style_skin};
     ghost use Rattle.mad_layout.specs.Styles.{line_style, compound_style, ordered_item_style};
-    ghost use Rattle.mad_layout.specs.Wraps.{capped};
+    ghost use Rattle.mad_wrap.specs.WrapLines.{capped};
 
     /// The characters of the default skin, without style; only the scroll bar looks as the default one.
     pub fn no_style() -> Self

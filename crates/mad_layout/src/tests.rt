@@ -116,7 +116,7 @@ fn assert_bound(
 ) -> Result<(), Error> {
     let bound = wrap_bound(alloc, composite, width, skin)?;
     assert_eq!(rt; bound.starts.as_slice(), wanted);
-    assert!(rt; check_wrap_bound(alloc, composite, width, skin, &bound)?);
+    assert!(rt; check_wrap_bound(composite, width, skin, &bound)?);
     Ok(())
 }
 
@@ -241,7 +241,7 @@ fn starts_that_show_nothing_rows(rt: &impl Abort, alloc: Global) -> Result<(), E
             starts: starts.to_vec(alloc)?,
         };
         assert_eq!(rt;
-            check_wrap_bound(alloc, &composite, 5, &skin, &bound)?,
+            check_wrap_bound(&composite, 5, &skin, &bound)?,
             wanted
         );
     }
@@ -266,7 +266,7 @@ fn a_width_under_three_rows(rt: &impl Abort, alloc: Global) -> Result<(), Error>
     assert!(rt; is_refused(hard_wrap_composite(alloc, &composite, 2, &skin), 2));
     assert!(rt; is_refused(wrap_bound(alloc, &composite, 2, &skin), 2));
     let bound = wrap_bound(alloc, &composite, 3, &skin)?;
-    assert!(rt; is_refused(check_wrap_bound(alloc, &composite, 2, &skin, &bound), 2));
+    assert!(rt; is_refused(check_wrap_bound(&composite, 2, &skin, &bound), 2));
     Ok(())
 }
 

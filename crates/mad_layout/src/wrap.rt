@@ -1,31 +1,28 @@
-ghost use Rattle.std.specs.Prelude.{◌≡◌, ◌≤◌, ◌<◌, ◌⊎◌, ◌++◌, List, map, IfOk, IfErr, OnOk};
-ghost use Rattle.mad_layout.specs.Wraps.{IsMeasured};
-ghost use Rattle.mad_layout.specs.WrappedLines.{AllMeasured, AllFit, AreLinesWrapped, IsLineMeasured, LineFits, IsLineWrapped, IsWrapped, FitsWithMargins, line_with};
-ghost use Rattle.mad_layout.specs.declared.line.FmtLine.{FmtLine};
+ghost use Rattle.std.specs.Prelude.{◌≡◌, ◌≤◌, ◌<◌, ◌⊎◌, ◌++◌, ◌↔◌, List, map, IfOk, IfErr, OnOk, IsTrue};
+ghost use Rattle.mad_layout.specs.CompositeWraps.{AreComposites, IsCompositeWrap};
 ghost use Rattle.mad_layout.specs.Indents.{follow_up};
-ghost use Rattle.mad_layout.specs.LeastWrap.{IsWrap};
-ghost use Rattle.mad_layout.specs.PlacedLines.{AreTwoLines};
+ghost use Rattle.mad_layout.specs.WrappedLines.{AllMeasured, AllFit, AreLinesWrapped, IsLineMeasured, IsLineWrapped, IsWrapped, LineFits, line_with};
+ghost use Rattle.mad_layout.specs.Wraps.{IsMeasured};
+ghost use Rattle.mad_layout.specs.declared.line.FmtLine.{FmtLine};
 ghost use Rattle.mad_term.specs.declared.errors.Error.TheVariants.{InsufficientWidth, Memory};
 
-use crate::clean_cut::clean_cut;
 use crate::composite::FmtComposite;
 use crate::indents::follow_up;
 use crate::line::FmtLine;
-use crate::placing::place;
-use crate::room::{Room, check_width};
+use crate::room::{LEAST_WIDTH, Room, check_width, room_of};
 use crate::skin::MadSkin;
-use mad_fit::tokenize;
-use mad_md::Compound;
+use mad_fit::Spacing;
+use mad_style::CompositeKind;
 use mad_term::Error;
+use mad_wrap::{WrappedLine, wrap_compounds};
 use std::alloc::{AllocError, Global};
 
 /// Wraps a composite that is wider than `width` columns, in the fewest lines.
 ///
-/// The lines keep the composite's text but for whitespace between them and after the last. Where each character has room
-/// behind the first line's indent, each line fits, and no break at the borders of tokens that fits and drops only blanks
-/// between lines has fewer. Two compounds that fit on a line each, also round one of whitespace, are cut there; any other
-/// text is cut into tokens, which are placed one after the other. The first line has the composite's kind, and the others
-/// the kind that follows it; all have its spacing, and no margins.
+/// The lines keep the composite's text but for whitespace between them and after the last, and no fitting break has fewer.
+/// Where each character has room after the greater indent, each line fits. Two compounds that fit on a line each, also round
+/// one of whitespace, are cut there. Any other text is cut into tokens, which are placed one after the other. The first line
+/// has the composite's kind, and the others the kind that follows it; all have its spacing, and no margins.
 ///
 /// The composite has to be wider than the width, and its cached length right. A width under 3 is refused. The time is
 /// linear in the text; no character is copied.
@@ -37,16 +34,16 @@ pub fn hard_wrap_composite<'s>(
 ) -> Result<Vec<FmtComposite<'s>>, Error>
     requires wider { width < composite.now.visible_length }
     requires measured { IsMeasured skin.now composite.now }
-    ensures wrapped { IfOk result (λ lines. IsWrap skin.now width composite.now lines.items) }
+    ensures wrapped { IfOk result (λ lines. IsCompositeWrap skin.now width composite.now lines.items) }
     ensures refused { width < 3 → result ≡ Err (InsufficientWidth (record { available_width = width })) }
     ensures memory { 3 ≤ width → IfErr result (λ e. e ≡ Memory) }
 {
     check_width(width)?;
-    Ok(wrapped(alloc, composite, width, skin)?)
+    Ok(wrap_composite(alloc, composite, width, skin)?)
 }
 
 // What a composite that is too wide is wrapped into, at any width.
-fn wrapped<'s>(
+fn wrap_composite<'s>(
     alloc: Global,
     composite: &FmtComposite<'s>,
     width: usize,
@@ -54,47 +51,45 @@ fn wrapped<'s>(
 ) -> Result<Vec<FmtComposite<'s>>, AllocError>
     requires wider { width < composite.now.visible_length }
     requires measured { IsMeasured skin.now composite.now }
-    ensures { IfOk result (λ lines. IsWrap skin.now width composite.now lines.items) }
+    ensures { IfOk result (λ lines. IsCompositeWrap skin.now width composite.now lines.items) }
 {
-    let room = Room::of(skin, composite.kind, width);
-    match clean_cut(&composite.compounds, room) {
-        Some((front, back)) => cut_lines(alloc, composite, room, front, back),
-        None => {
-            let tokens = tokenize(alloc, &composite.compounds, room.token_limit())?;
-            place(alloc, &tokens, room, composite.kind, composite.spacing)
-        }
-    }
+    let room = room_of(skin, composite.kind, width);
+    let lines = wrap_compounds(alloc, &composite.compounds, room)?;
+    composites(alloc, lines, composite.kind, room, composite.spacing)
 }
 
-// The two lines of a clean cut.
-fn cut_lines<'s>(
+// The lines as composites: the first of this kind, the others of the kind that follows it.
+fn composites<'s>(
     alloc: Global,
-    composite: &FmtComposite<'s>,
+    lines: Vec<WrappedLine<'s>>,
+    kind: CompositeKind,
     room: Room,
-    front: Compound<'s>,
-    back: Compound<'s>,
+    spacing: Option<Spacing>,
 ) -> Result<Vec<FmtComposite<'s>>, AllocError>
-    ensures { IfOk result (λ lines. AreTwoLines room composite.now.kind (follow_up composite.now.kind) composite.now.spacing front.entry back.entry lines.items) }
+    ensures { IfOk result (λ composites. AreComposites kind (follow_up kind) room.first room.other spacing lines.entry.items composites.items) }
 {
-    let mut lines = Vec::new(alloc);
-    let mut first = FmtComposite::begun(alloc, composite.kind, room.first, composite.spacing);
-    first.add_compound(front)?;
-    lines.push(first)?;
-    let mut second = FmtComposite::begun(
-        alloc,
-        follow_up(composite.kind),
-        room.other,
-        composite.spacing,
-    );
-    second.add_compound(back)?;
-    lines.push(second)?;
-    Ok(lines)
+    let mut composites = Vec::with_capacity(alloc, lines.len())?;
+    let mut kind = kind;
+    let mut indent = room.first;
+    for line in lines {
+        let WrappedLine { compounds, columns } = line;
+        composites.push(FmtComposite {
+            kind,
+            compounds,
+            visible_length: columns.saturating_add(indent),
+            spacing,
+            margins: None,
+        })?;
+        kind = follow_up(kind);
+        indent = room.other;
+    }
+    Ok(composites)
 }
 
 /// Wraps the composites among the lines that are wider than `width` columns with their style's margins.
 ///
-/// A line that fits stays as it is, as do rules and lines of tables. Any other composite is wrapped, as `hard_wrap_composite` does, in the columns that
-/// the margins leave, which is refused at a width under 3. Each line keeps in its field `margins` the margins that it was
+/// A line that fits stays as it is, as do rules and lines of tables. Any other composite is wrapped, as
+/// `hard_wrap_composite` does, in the columns that the margins leave, which is refused at a width under 3. Each line keeps in its field `margins` the margins that it was
 /// laid out with.
 pub fn hard_wrap_lines<'s>(
     alloc: Global,
@@ -107,6 +102,46 @@ pub fn hard_wrap_lines<'s>(
     ensures narrow { width < 3 → IfOk result (λ _. AllFit skin.now width lines.entry.items) }
     ensures refused { IfErr result (λ e. (e ≡ Memory) ⊎ ((e ≡ InsufficientWidth (record { available_width = width })) × (width < 3) × ¬ (AllFit skin.now width lines.entry.items))) }
 {
+    if !all_fit(&lines, width, skin) {
+        check_width(width)?;
+    }
+    Ok(wrap_lines(alloc, lines, width, skin)?)
+}
+
+// Whether each line fits with its margins.
+fn all_fit(lines: &[FmtLine], width: usize, skin: &MadSkin) -> bool
+    ensures { IsTrue result ↔ AllFit skin.now width lines.now }
+{
+    for line in lines {
+        if !line_fits(line, width, skin) {
+            return false;
+        }
+    }
+    true
+}
+
+fn line_fits(line: &FmtLine, width: usize, skin: &MadSkin) -> bool
+    ensures { IsTrue result ↔ LineFits skin.now width line.now }
+{
+    match line {
+        FmtLine::Normal(composite) => {
+            let margins = skin.line_style(composite.kind).margins_in(Some(width));
+            composite.visible_length <= width - margins.0 - margins.1
+        }
+        _ => true,
+    }
+}
+
+// What the lines become, at any width.
+fn wrap_lines<'s>(
+    alloc: Global,
+    lines: Vec<FmtLine<'s>>,
+    width: usize,
+    skin: &MadSkin,
+) -> Result<Vec<FmtLine<'s>>, AllocError>
+    requires { AllMeasured skin.now lines.items }
+    ensures { IfOk result (λ wrapped. AreLinesWrapped skin.now width lines.entry.items wrapped.items) }
+{
     // Most lines stay one.
     let mut wrapped = Vec::with_capacity(alloc, lines.len())?;
     for line in lines {
@@ -115,40 +150,33 @@ pub fn hard_wrap_lines<'s>(
     Ok(wrapped)
 }
 
-/// Puts what a line becomes behind the lines that are there.
+/// Puts what a line becomes, at any width, after the lines that are there.
 pub(crate) fn push_line<'s>(
     alloc: Global,
     lines: &mut Vec<FmtLine<'s>>,
     line: FmtLine<'s>,
     width: usize,
     skin: &MadSkin,
-) -> Result<(), Error>
+) -> Result<(), AllocError>
     requires { IsLineMeasured skin.now line }
-    ensures wrapped { OnOk result ((own : List FmtLine) × (lines.new.items ≡ lines.old.items ++ own) × IsLineWrapped skin.now width line.entry own) }
-    ensures narrow { width < 3 → OnOk result (LineFits skin.now width line.entry) }
-    ensures refused { IfErr result (λ e. (e ≡ Memory) ⊎ ((e ≡ InsufficientWidth (record { available_width = width })) × (width < 3) × ¬ (LineFits skin.now width line.entry))) }
+    ensures { OnOk result ((own : List FmtLine) × (lines.new.items ≡ lines.old.items ++ own) × IsLineWrapped skin.now width line.entry own) }
 {
     match line {
-        FmtLine::Normal(composite) => push_wrapped(alloc, lines, composite, width, skin),
-        other => {
-            lines.push(other)?;
-            Ok(())
-        }
+        FmtLine::Normal(composite) => push_composite(alloc, lines, composite, width, skin),
+        other => lines.push(other),
     }
 }
 
-// Puts what a composite becomes behind the lines that are there.
-fn push_wrapped<'s>(
+// Puts what a composite becomes, at any width, after the lines that are there.
+fn push_composite<'s>(
     alloc: Global,
     lines: &mut Vec<FmtLine<'s>>,
     composite: FmtComposite<'s>,
     width: usize,
     skin: &MadSkin,
-) -> Result<(), Error>
+) -> Result<(), AllocError>
     requires { IsMeasured skin.now composite }
-    ensures wrapped { OnOk result ((own : List FmtLine) × (lines.new.items ≡ lines.old.items ++ own) × IsWrapped skin.now width composite.entry own) }
-    ensures narrow { width < 3 → OnOk result (FitsWithMargins skin.now width composite.entry) }
-    ensures refused { IfErr result (λ e. (e ≡ Memory) ⊎ ((e ≡ InsufficientWidth (record { available_width = width })) × (width < 3) × ¬ (FitsWithMargins skin.now width composite.entry))) }
+    ensures { OnOk result ((own : List FmtLine) × (lines.new.items ≡ lines.old.items ++ own) × IsWrapped skin.now width composite.entry own) }
 {
     let margins = skin.line_style(composite.kind).margins_in(Some(width));
     let inner = width - margins.0 - margins.1;
@@ -156,12 +184,11 @@ fn push_wrapped<'s>(
         lines.push(line_with(margins, composite))?;
         return Ok(());
     }
-    let wrap = hard_wrap_composite(alloc, &composite, inner, skin)?;
-    push_lines(lines, wrap, margins)?;
-    Ok(())
+    let wrap = wrap_composite(alloc, &composite, inner, skin)?;
+    push_lines(lines, wrap, margins)
 }
 
-// Puts composites behind the lines that are there, each with these margins.
+// Puts composites after the lines that are there, each with these margins.
 fn push_lines<'s>(
     lines: &mut Vec<FmtLine<'s>>,
     wrap: Vec<FmtComposite<'s>>,

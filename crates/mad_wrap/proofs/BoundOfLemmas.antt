@@ -21,7 +21,7 @@ use Rattle.mad_wrap.specs.LineStarts.{starts_of}
 use Rattle.mad_wrap.specs.PlacedLines.{TokensHaveRoom, ArePlacedStarts}
 use Rattle.mad_wrap.specs.Placings.{IsFirstFit}
 use Rattle.mad_wrap.specs.Rooms.{most_indent, token_limit}
-use Rattle.mad_wrap.specs.Wraps.{HasRoom}
+use Rattle.mad_wrap.specs.WrapLines.{HasRoom}
 use Rattle.mad_wrap.specs.declared.room.Room.{Room}
 use Rattle.mad_wrap.proofs.BoundLemmas.{bound, total_width-append, eq_from_test}
 use Rattle.mad_wrap.proofs.CutLemmas.{le_from_test}

@@ -17,10 +17,10 @@ use Rattle.mad_wrap.specs.Keeps.{AllWhite, Keeps}
 use Rattle.mad_wrap.specs.LeastWrap.{AreTokensIn, AreTokenized, IsWrap}
 use Rattle.mad_wrap.specs.PlacedLines.{AreTwoLines}
 use Rattle.mad_wrap.specs.Placings.{ArePlaced}
-use Rattle.mad_wrap.specs.Wraps.{runs_of, LinesFit, NoneEmpty, IsMadeOf}
+use Rattle.mad_wrap.specs.WrapLines.{runs_of, LinesFit, NoneEmpty, IsMadeOf}
 use Rattle.mad_wrap.specs.declared.room.Room.{Room}
 use Rattle.mad_wrap.specs.declared.wrapped_line.WrappedLine.{WrappedLine}
-use Rattle.mad_wrap.specs.Lines.{compounds_of, AreCounted}
+use Rattle.mad_wrap.specs.WrapLines.{compounds_of, AreCounted}
 use Rattle.mad_wrap.specs.Rooms.{token_limit}
 use Rattle.mad_wrap.proofs.BoundLemmas.{two_lines}
 use Rattle.mad_wrap.proofs.WrapLemmas.{total_is, one_list}

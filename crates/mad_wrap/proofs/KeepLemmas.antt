@@ -18,10 +18,10 @@ use Rattle.mad_wrap.specs.Breaks.{LineAndGap, joined, total_width, AllBlank, Fit
 use Rattle.mad_wrap.specs.Keeps.{AllWhite, Keeps}
 use Rattle.mad_wrap.specs.PlacedLines.{HoldBreak}
 use Rattle.mad_wrap.specs.Placings.{GapsForced}
-use Rattle.mad_wrap.specs.Wraps.{runs_of, LinesFit, NoneEmpty, IsMadeOf}
+use Rattle.mad_wrap.specs.WrapLines.{runs_of, LinesFit, NoneEmpty, IsMadeOf}
 use Rattle.mad_wrap.specs.declared.room.Room.{Room}
 use Rattle.mad_wrap.specs.declared.wrapped_line.WrappedLine.{WrappedLine}
-use Rattle.mad_wrap.specs.Lines.{compounds_of, AreCounted}
+use Rattle.mad_wrap.specs.WrapLines.{compounds_of, AreCounted}
 
 -- ---- the texts of the lines
 

@@ -13,7 +13,7 @@ use Rattle.mad_wrap.specs.Laws.{CountLines}
 use Rattle.mad_wrap.specs.LeastBound.{AreStartsOf, AreCutStarts}
 use Rattle.mad_wrap.specs.LeastWrap.{AreTokensIn, IsWrap}
 use Rattle.mad_wrap.specs.Placings.{IsFirstFit, AreFirstFit}
-use Rattle.mad_wrap.specs.Wraps.{runs_of, HasRoom}
+use Rattle.mad_wrap.specs.WrapLines.{runs_of, HasRoom}
 use Rattle.mad_wrap.specs.declared.room.Room.{Room}
 use Rattle.mad_wrap.proofs.BoundOfLemmas.{some_past}
 use Rattle.mad_wrap.proofs.ClosedBreaks.{dropped_at_end, length-starts}

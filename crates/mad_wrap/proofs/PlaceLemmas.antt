@@ -11,7 +11,7 @@ use Rattle.mad_wrap.specs.Breaks.{LineAndGap, joined, total_width, AllBlank}
 use Rattle.mad_wrap.specs.LineRoom.{left_of, fits_in, taken}
 use Rattle.mad_wrap.specs.PlacedLines.{HoldsTokens, HoldBreak, ArePlacedLines}
 use Rattle.mad_wrap.specs.Placings.{GapsForced, BeginsAfter, LinesForced, LinesWithin, IsFirstFit}
-use Rattle.mad_wrap.specs.Wraps.{capped}
+use Rattle.mad_wrap.specs.WrapLines.{capped}
 use Rattle.mad_wrap.specs.declared.room.Room.{Room}
 use Rattle.mad_wrap.specs.declared.wrapped_line.WrappedLine.{WrappedLine}
 

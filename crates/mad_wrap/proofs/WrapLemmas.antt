@@ -13,10 +13,10 @@ use Rattle.mad_wrap.specs.Breaks.{joined, total_width}
 use Rattle.mad_wrap.specs.CleanCut.{clean_cut}
 use Rattle.mad_wrap.specs.Keeps.{Keeps}
 use Rattle.mad_wrap.specs.LeastWrap.{AreTokensIn, AreTokenized, IsLeastBreak, IsWrap}
-use Rattle.mad_wrap.specs.Lines.{compounds_of, AreCounted}
+use Rattle.mad_wrap.specs.WrapLines.{compounds_of, AreCounted}
 use Rattle.mad_wrap.specs.PlacedLines.{TokensHaveRoom, ArePlacedLines}
 use Rattle.mad_wrap.specs.Rooms.{most_indent, token_limit}
-use Rattle.mad_wrap.specs.Wraps.{HasRoom, LinesFit}
+use Rattle.mad_wrap.specs.WrapLines.{HasRoom, LinesFit}
 use Rattle.mad_wrap.specs.declared.room.Room.{Room}
 use Rattle.mad_wrap.specs.declared.wrapped_line.WrappedLine.{WrappedLine}
 use Rattle.mad_wrap.proofs.KeepLemmas.{texts_are, lengths_are, runs_are, keeps_break, tokens_room, width_is, fit_break, some_lines, counted_are, parts_are, filled_lines}

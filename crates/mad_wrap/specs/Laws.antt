@@ -9,7 +9,7 @@ use Rattle.mad_wrap.specs.CleanCut.{is_cut_clean}
 use Rattle.mad_wrap.specs.LeastBound.{AreStartsOf}
 use Rattle.mad_wrap.specs.LeastWrap.{AreTokensIn, IsWrap}
 use Rattle.mad_wrap.specs.Placings.{IsFirstFit}
-use Rattle.mad_wrap.specs.Wraps.{runs_of, HasRoom}
+use Rattle.mad_wrap.specs.WrapLines.{runs_of, HasRoom}
 use Rattle.mad_wrap.specs.declared.room.Room.{Room}
 
 -- tokens have one first fit

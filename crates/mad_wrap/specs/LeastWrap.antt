@@ -10,7 +10,7 @@ use Rattle.mad_wrap.specs.CleanCut.{clean_cut, is_cut_clean, drops_middle}
 use Rattle.mad_wrap.specs.Keeps.{Keeps}
 use Rattle.mad_wrap.specs.Placings.{ArePlaced, AreFirstFit}
 use Rattle.mad_wrap.specs.Rooms.{token_limit}
-use Rattle.mad_wrap.specs.Wraps.{runs_of, HasRoom, LinesFit, NoneEmpty, IsMadeOf}
+use Rattle.mad_wrap.specs.WrapLines.{runs_of, HasRoom, LinesFit, NoneEmpty, IsMadeOf}
 use Rattle.mad_wrap.specs.declared.room.Room.{Room}
 
 -- the tokens of compounds, as they are cut for lines with this room

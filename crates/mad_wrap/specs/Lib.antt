@@ -8,8 +8,7 @@ pub mod LeastBound
 pub mod LeastWrap
 pub mod LineRoom
 pub mod LineStarts
-pub mod Lines
 pub mod PlacedLines
 pub mod Placings
 pub mod Rooms
-pub mod Wraps
+pub mod WrapLines

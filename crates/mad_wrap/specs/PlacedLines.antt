@@ -13,7 +13,7 @@ use Rattle.mad_wrap.specs.Breaks.{LineAndGap, total_width}
 use Rattle.mad_wrap.specs.LineStarts.{starts_of}
 use Rattle.mad_wrap.specs.Placings.{IsFirstFit}
 use Rattle.mad_wrap.specs.Rooms.{most_indent}
-use Rattle.mad_wrap.specs.Wraps.{runs_of, capped}
+use Rattle.mad_wrap.specs.WrapLines.{runs_of, capped}
 
 -- the line says this, in `columns` columns
 pub record Holds (runs : List Run) (columns : ℕ) (l : WrappedLine) : Type 0 where

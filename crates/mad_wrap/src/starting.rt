@@ -7,7 +7,7 @@ ghost use Rattle.mad_wrap.specs.LeastWrap.{AreTokenized};
 ghost use Rattle.mad_wrap.specs.LeastBound.{IsBound, AreChecked, AreStartsOf, AreFewest, AreCutStarts, IsFirstPast};
 ghost use Rattle.mad_wrap.specs.LineRoom.{past_here};
 ghost use Rattle.mad_wrap.specs.PlacedLines.{ArePlacedStarts};
-ghost use Rattle.mad_wrap.specs.Wraps.{HasRoom};
+ghost use Rattle.mad_wrap.specs.WrapLines.{HasRoom};
 
 use crate::clean_cut::clean_cut;
 use crate::first_fit::{FirstFit, Put, left_after, left_of};

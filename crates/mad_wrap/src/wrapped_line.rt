@@ -1,5 +1,5 @@
 ghost use Rattle.std.specs.Prelude.{◌≡◌, ◌+◌, ◌++◌, ◌∷◌, [], OnOk};
-ghost use Rattle.mad_wrap.specs.Wraps.{capped};
+ghost use Rattle.mad_wrap.specs.WrapLines.{capped};
 
 use mad_md::Compound;
 use std::alloc::{AllocError, Global};

@@ -34,26 +34,20 @@ pub use Rattle.mad_style.specs.StyledChars
 pub use Rattle.mad_fit.specs.Areas
 pub use Rattle.mad_fit.specs.Columns as TextColumns
 pub use Rattle.mad_fit.specs.Completions
+pub use Rattle.mad_fit.specs.TokenPlaces
 pub use Rattle.mad_fit.specs.Tokens
+pub use Rattle.mad_fit.specs.TokensLeft
 pub use Rattle.mad_draw.specs.DrawnRows
 pub use Rattle.mad_draw.specs.Pieces
 pub use Rattle.mad_draw.specs.RowCells
-pub use Rattle.mad_layout.specs.Bounds
-pub use Rattle.mad_layout.specs.Breaks
-pub use Rattle.mad_layout.specs.CleanCut
+pub use Rattle.mad_layout.specs.CompositeWraps
 pub use Rattle.mad_layout.specs.Drawable
 pub use Rattle.mad_layout.specs.FittingLayouts
 pub use Rattle.mad_layout.specs.InArea
 pub use Rattle.mad_layout.specs.Indents
 pub use Rattle.mad_layout.specs.Inlines
-pub use Rattle.mad_layout.specs.Keeps
 pub use Rattle.mad_layout.specs.Layouts
-pub use Rattle.mad_layout.specs.LeastBound
-pub use Rattle.mad_layout.specs.LeastWrap
-pub use Rattle.mad_layout.specs.LineRoom
-pub use Rattle.mad_layout.specs.LineStarts
 pub use Rattle.mad_layout.specs.Lines as LayoutLines
-pub use Rattle.mad_layout.specs.PlacedLines
 pub use Rattle.mad_layout.specs.Premises
 pub use Rattle.mad_layout.specs.Rows
 pub use Rattle.mad_layout.specs.Shown
@@ -65,3 +59,14 @@ pub use Rattle.mad_layout.specs.Texts
 pub use Rattle.mad_layout.specs.WrappedLines
 pub use Rattle.mad_layout.specs.Wraps
 pub use Rattle.mad_view.specs.Scrolls
+pub use Rattle.mad_wrap.specs.Bounds
+pub use Rattle.mad_wrap.specs.Breaks
+pub use Rattle.mad_wrap.specs.CleanCut
+pub use Rattle.mad_wrap.specs.Keeps
+pub use Rattle.mad_wrap.specs.Laws as WrapLaws
+pub use Rattle.mad_wrap.specs.LeastBound
+pub use Rattle.mad_wrap.specs.LeastWrap
+pub use Rattle.mad_wrap.specs.LineStarts
+pub use Rattle.mad_wrap.specs.Placings
+pub use Rattle.mad_wrap.specs.Rooms
+pub use Rattle.mad_wrap.specs.WrapLines

@@ -12,11 +12,12 @@ pub mod screen {
 /// Breaking lines that are too wide, with the fewest lines.
 pub mod wrap {
     pub use mad_layout::{
-        WrapBound, check_wrap_bound, hard_wrap_composite, hard_wrap_lines, wrap_bound,
+        WrapBound, check_wrap_bound, hard_wrap_composite, hard_wrap_lines, room_of, wrap_bound,
     };
+    pub use mad_wrap::Room;
 }
 
-pub use mad_fit::{Area, Spacing, Token, tokenize};
+pub use mad_fit::{Area, Spacing, Token, Tokens, token_iter, tokenize};
 pub use mad_layout::{
     FmtComposite, FmtInline, FmtLine, FmtText, MadSkin, composite_kind_widths, draw_text, inline,
     print_inline,

@@ -127,7 +127,7 @@ fn starts_of_three_lines_checked_rows(rt: &impl Abort, alloc: Global) -> Result<
         let bound = WrapBound {
             starts: starts.to_vec(alloc)?,
         };
-        let checked = check_wrap_bound(alloc, &words, 5, &skin, &bound)?;
+        let checked = check_wrap_bound(&words, 5, &skin, &bound)?;
         assert_eq!(rt; checked, wanted, "{starts:?}");
     }
     Ok(())

@@ -140,7 +140,7 @@ fn assert_wrapped(
         return Ok(());
     }
     let bound = wrap_bound(alloc, composite, width, skin)?;
-    assert!(rt; check_wrap_bound(alloc, composite, width, skin, &bound)?);
+    assert!(rt; check_wrap_bound(composite, width, skin, &bound)?);
     if composite.visible_length <= width {
         assert_eq!(rt; bound.starts.as_slice(), [0].as_slice());
         return Ok(());
@@ -305,7 +305,7 @@ fn a_megabyte_of_one_word(rt: HostRuntime) -> Result<(), Error> {
     assert_eq!(rt; whole.visible_length, 1_048_576);
     let bound = wrap_bound(alloc, &whole, 80, &skin)?;
     assert_eq!(rt; bound.starts.len(), 13108);
-    assert!(rt; check_wrap_bound(alloc, &whole, 80, &skin, &bound)?);
+    assert!(rt; check_wrap_bound(&whole, 80, &skin, &bound)?);
     Ok(())
 }
 

@@ -2,7 +2,7 @@ use Rattle.std.proofs.Common.{◌≡◌, ◌<◌, ◌^◌, ◌+◌, drop}
 use Rattle.mad_md.specs.Flagged.{flagged_text}
 use Rattle.mad_fit.specs.Columns.{width_of}
 use Rattle.mad_layout.specs.Indents.{indent}
-use Rattle.mad_layout.specs.Wraps.{capped}
+use Rattle.mad_wrap.specs.WrapLines.{capped}
 use Rattle.mad_layout.proofs.skin.MadSkin.visible_composite_length.Given as goal
 
 abbrev pub invariant-loop-compound : goal.invariant-loop-compound
