@@ -1,5 +1,5 @@
 -- The headline: what a text shows that was written in an area.
-use Rattle.std.specs.Prelude.{◌≡◌, ◌⊎◌, ℕ, ◌-◌, List, Some, Result, IsErrOf, take}
+use Rattle.std.specs.Prelude.{◌≡◌, ◌⊎◌, ℕ, false, ◌-◌, List, Some, Result, IsErrOf, take}
 use Rattle.mad_md.specs.Lines.{LineContent}
 use Rattle.mad_md.specs.Reading.{IsRead, unread_text}
 use Rattle.mad_term.specs.Draws.{Draws}

@@ -1,6 +1,7 @@
 -- The layout of a text.
-use Rattle.std.specs.Prelude.{ℕ, List, [], ◌∷◌, Option, Some}
+use Rattle.std.specs.Prelude.{ℕ, false, List, [], ◌∷◌, Option, Some}
 use Rattle.mad_md.specs.Lines.{LineContent}
+use Rattle.mad_md.specs.Reading.{IsRead, unread_text}
 use Rattle.mad_layout.specs.CompositeWraps.{IsCompositeWrap}
 use Rattle.mad_layout.specs.Lines.{IsLineRead}
 use Rattle.mad_layout.specs.Parts.{parts_of, wrap_width, ArePartsAt}
@@ -28,3 +29,7 @@ IsLayout skin width text lines = IsLayoutBy IsCompositeWrap skin (Some width) te
 -- a layout at a width, if there is one; nothing is wrapped at a width under three, nor without a width
 abbrev pub IsLayoutAt : MadSkin → Option ℕ → List LineContent → List FmtLine → Type 0
 IsLayoutAt skin width text lines = IsLayoutBy IsCompositeWrap skin (wrap_width width) text lines
+
+-- the lines are a layout of a Markdown text at a width, if there is one
+abbrev pub IsMarkdownLayout : MadSkin → Option ℕ → List ℕ → List FmtLine → Type 0
+IsMarkdownLayout skin width markdown lines = (text : List LineContent) × IsRead (unread_text false markdown) text × IsLayoutAt skin width text lines

@@ -1,5 +1,5 @@
 -- Lines of a layout.
-use Rattle.std.specs.Prelude.{◌≡◌, ℕ, ◌+◌, List, [], ◌∷◌, map, None}
+use Rattle.std.specs.Prelude.{◌≡◌, ℕ, ◌+◌, max, List, [], ◌∷◌, map, None}
 use Rattle.mad_md.specs.Flagged.{run_of}
 use Rattle.mad_md.specs.Lines.{StyledRuns, LineContent, normal, table_row, table_rule, horizontal_rule}
 use Rattle.mad_md.specs.declared.alignment.Alignment.{Alignment}
@@ -37,6 +37,11 @@ columns_of_line (Normal l) = l.visible_length
 columns_of_line (TableRow row) = capped (cells_columns row.cells.items)
 columns_of_line (TableRule rule) = capped (rule_columns rule.widths.items)
 columns_of_line HorizontalRule = 0
+
+-- the columns of the widest line
+abbrev pub widest_line : List FmtLine → ℕ
+widest_line [] = 0
+widest_line (l ∷ ls) = max (columns_of_line l) (widest_line ls)
 
 -- The composite is of this kind and says this, measured in this skin; it is not yet laid out, so it has no place of its own and no
 -- margins.

@@ -29,6 +29,13 @@ is_code_kind (OrderedListItemFollowUp level index) = false
 is_code_kind Code = true
 is_code_kind Quote = false
 
+-- the line is one of code
+abbrev pub is_code_line : FmtLine → Bool
+is_code_line (Normal l) = is_code_kind l.kind
+is_code_line (TableRow row) = false
+is_code_line (TableRule rule) = false
+is_code_line HorizontalRule = false
+
 -- a line of code in front of parts: it joins a block that begins them
 abbrev pub with_code : FmtComposite → List Part → List Part
 with_code l [] = block (l ∷ []) ∷ []

@@ -1,12 +1,14 @@
 //! Lines of a text, laid out one after another; lines of code wait for the end of their block.
 
-ghost use Rattle.std.specs.Prelude.{◌≡◌, ◌≤◌, ◌++◌, ◌∷◌, [], true, List, Option, Some, None, map, IfSome, OnOk};
+ghost use Rattle.std.specs.Prelude.{◌≡◌, ◌≤◌, ◌++◌, ◌∷◌, [], false, List, Option, Some, None, map, IfSome, OnOk};
 ghost use Rattle.std.specs.List.{AllByRecursion};
 ghost use Rattle.mad_md.specs.Lines.{LineContent, content_of};
 ghost use Rattle.mad_layout.specs.CompositeWraps.{IsCompositeWrap};
 ghost use Rattle.mad_layout.specs.Laying.{IsOpenBlock, IsLaidFor};
-ghost use Rattle.mad_layout.specs.Parts.{is_code_kind, widest, block_width, placed_code, justified, code_room, wrap_width, IsLineAt, AreLinesAt};
+ghost use Rattle.mad_layout.specs.Lines.{IsLineRead};
+ghost use Rattle.mad_layout.specs.Parts.{is_code_kind, is_code_line, widest, block_width, placed_code, justified, code_room, wrap_width, IsLineAt, AreLinesAt};
 ghost use Rattle.mad_layout.specs.WrappedLines.{IsLineMeasured};
+ghost use Rattle.mad_layout.specs.Wraps.{IsMeasured};
 ghost use Rattle.mad_layout.specs.declared.line.FmtLine.{FmtLine};
 ghost use Rattle.mad_layout.specs.declared.line.FmtLine.TheVariants.{Normal};
 
@@ -48,21 +50,55 @@ impl<'s> Laying<'s> {
         width: Option<usize>,
         skin: &MadSkin,
     ) -> Result<(), AllocError>
-        requires open { IsOpenBlock skin.now self.old.block.items }
-        ensures open { OnOk result (IsOpenBlock skin.now self.new.block.items) }
+        requires block { IsOpenBlock skin.now self.old.block.items }
+        ensures block { OnOk result (IsOpenBlock skin.now self.new.block.items) }
         ensures laid { OnOk result ((all rest : List LineContent) → IsLaidFor skin.now width all (content_of line.entry ∷ rest) self.old.lines.items self.old.block.items
             → IsLaidFor skin.now width all rest self.new.lines.items self.new.block.items) }
     {
         match FmtLine::from(alloc, line, skin)? {
-            FmtLine::Normal(composite) if is_code(composite.kind) => {
-                self.block.push(composite)?;
-                Ok(())
-            }
-            other => {
-                self.close(alloc, width, skin)?;
-                push_at(alloc, &mut self.lines, other, width, skin)
-            }
+            FmtLine::Normal(composite) => self.push_composite(alloc, composite, width, skin),
+            other => self.push_alone(alloc, other, width, skin),
         }
+    }
+
+    // A line of code goes into the block that is open.
+    fn push_composite(
+        &mut self,
+        alloc: Global,
+        composite: FmtComposite<'s>,
+        width: Option<usize>,
+        skin: &MadSkin,
+    ) -> Result<(), AllocError>
+        requires measured { IsMeasured skin.now composite }
+        requires block { IsOpenBlock skin.now self.old.block.items }
+        ensures block { OnOk result (IsOpenBlock skin.now self.new.block.items) }
+        ensures laid { OnOk result ((content : LineContent) (all rest : List LineContent) → IsLineRead skin.now content (Normal composite.entry)
+            → IsLaidFor skin.now width all (content ∷ rest) self.old.lines.items self.old.block.items → IsLaidFor skin.now width all rest self.new.lines.items self.new.block.items) }
+    {
+        if is_code(composite.kind) {
+            self.block.push(composite)?;
+            return Ok(());
+        }
+        self.push_alone(alloc, FmtLine::Normal(composite), width, skin)
+    }
+
+    // Any other line ends the block.
+    fn push_alone(
+        &mut self,
+        alloc: Global,
+        line: FmtLine<'s>,
+        width: Option<usize>,
+        skin: &MadSkin,
+    ) -> Result<(), AllocError>
+        requires alone { is_code_line line ≡ false }
+        requires measured { IsLineMeasured skin.now line }
+        requires block { IsOpenBlock skin.now self.old.block.items }
+        ensures block { OnOk result (IsOpenBlock skin.now self.new.block.items) }
+        ensures laid { OnOk result ((content : LineContent) (all rest : List LineContent) → IsLineRead skin.now content line.entry
+            → IsLaidFor skin.now width all (content ∷ rest) self.old.lines.items self.old.block.items → IsLaidFor skin.now width all rest self.new.lines.items self.new.block.items) }
+    {
+        self.close(alloc, width, skin)?;
+        push_at(alloc, &mut self.lines, line, width, skin)
     }
 
     /// Lays out the block of code that is open, if there is one.
@@ -72,7 +108,7 @@ impl<'s> Laying<'s> {
         width: Option<usize>,
         skin: &MadSkin,
     ) -> Result<(), AllocError>
-        requires open { IsOpenBlock skin.now self.old.block.items }
+        requires block { IsOpenBlock skin.now self.old.block.items }
         ensures closed { OnOk result (self.new.block.items ≡ []) }
         ensures laid { OnOk result ((own : List FmtLine) × (self.new.lines.items ≡ self.old.lines.items ++ own)
             × AreLinesAt IsCompositeWrap skin.now width (map Normal (justified (code_room skin.now width) self.old.block.items)) own) }
@@ -167,6 +203,6 @@ fn push_at<'s>(
 {
     match width {
         Some(width) => push_line(alloc, lines, line, width, skin),
-        None => lines.push(line),
+        None => Ok(lines.push(line)?),
     }
 }

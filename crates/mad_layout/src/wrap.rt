@@ -163,7 +163,7 @@ pub(crate) fn push_line<'s>(
 {
     match line {
         FmtLine::Normal(composite) => push_composite(alloc, lines, composite, width, skin),
-        other => lines.push(other),
+        other => Ok(lines.push(other)?),
     }
 }
 
