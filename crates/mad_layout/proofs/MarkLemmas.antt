@@ -92,14 +92,14 @@ singles_columns style (suc n) =
 pub mark_shown : (skin : MadSkin) (kind : CompositeKind) → IsPlainPrefix skin kind → AreShownPieces (mark_pieces skin kind)
 mark_shown skin Paragraph h = tt
 mark_shown skin (Header level) h = tt
-mark_shown skin (ListItem depth) h = all_joined IsShownPiece (single_spaces skin.paragraph.compound_style depth) _ (singles_shown skin.paragraph.compound_style depth) (h.shown, (shown_spaces skin.paragraph.compound_style 1).0, tt)
+mark_shown skin (ListItem depth) h = all_joined IsShownPiece (single_spaces skin.paragraph.compound_style depth) _ (singles_shown skin.paragraph.compound_style depth) (h.shown, ((shown_spaces skin.paragraph.compound_style 1).0, tt))
 mark_shown skin (ListItemFollowUp depth) h = singles_shown skin.paragraph.compound_style _
 mark_shown skin (OrderedListItem level index) h =
     all_joined IsShownPiece (single_spaces skin.paragraph.compound_style level) _ (singles_shown skin.paragraph.compound_style level)
-    (number_shown (ordered_item_style skin level).index_style index h.0, h.1.shown, (shown_spaces skin.paragraph.compound_style 1).0, tt)
+    (number_shown (ordered_item_style skin level).index_style index h.0, (h.1.shown, ((shown_spaces skin.paragraph.compound_style 1).0, tt)))
 mark_shown skin (OrderedListItemFollowUp level index) h = singles_shown skin.paragraph.compound_style _
 mark_shown skin Code h = tt
-mark_shown skin Quote h = (h.shown, (shown_spaces skin.paragraph.compound_style 1).0, tt)
+mark_shown skin Quote h = (h.shown, ((shown_spaces skin.paragraph.compound_style 1).0, tt))
 
 pub mark_columns : (skin : MadSkin) (kind : CompositeKind) → IsPlainPrefix skin kind → pieces_columns (mark_pieces skin kind) ≡ indent skin.list_items_indentation_mode kind
 mark_columns skin Paragraph h = refl

@@ -47,7 +47,8 @@ impl<'k, 's> FmtText<'k, 's> {
         ensures fitting { IfOk result (λ laid_out. (text : Text) × IsReadRaw src.now text × IsFittingLayoutAt skin.now width (contents text) laid_out.lines.items) }
     {
         let text = Text::raw_str(alloc, src)?;
-        Self::from_text(alloc, skin, text, width)
+        let lines = lay_text(alloc, skin, text, wrap_width(width))?;
+        Ok(FmtText { skin, lines, width })
     }
 
     /// A Markdown text, laid out at a width, in columns.
