@@ -7,7 +7,7 @@ use Rattle.mad_screen.specs.Glyph.{Glyph, Look}
 use Rattle.mad_screen.specs.Grid.{glyphs}
 use Rattle.mad_screen.specs.Painting.{attach, joined, IsPrinted, IsShown, look_of_style}
 use Rattle.mad_draw.specs.Pieces.{RowPiece, PennedChar, AreShownPieces, penned_chars}
-use Rattle.mad_draw.specs.RowCells.{row_joined, row_cells}
+use Rattle.mad_draw.specs.PennedCells.{penned_joined, penned_cells}
 use Rattle.mad_draw.proofs.PieceLemmas.{pieces_cells}
 
 some_columns : (o : Option ℕ) (pen : Look) (c : ℕ) (r : List ℕ × List Glyph) → IsSome o → attach o pen c r ≡ attach (Some (unwrap_or o 0)) pen c r
@@ -22,13 +22,13 @@ attach-append : (n : ℕ) (pen : Look) (c : ℕ) (r : List ℕ × List Glyph) (r
 attach-append zero pen c r rest = refl
 attach-append (suc k) pen c r rest = ap (λ gs. ([], gs)) (sym (append_assoc (glyphs (c ∷ r.0) k pen) r.1 rest))
 
-joined_piece : (pen : Look) (cs : List ℕ) (rest : List PennedChar) → IsPrinted cs → (row_joined rest).0 ≡ []
-    → row_joined (map (λ c. record { char = c; pen = pen }) cs ++ rest) ≡ ((joined pen cs).0, (joined pen cs).1 ++ (row_joined rest).1)
-joined_piece pen [] rest printed none = ap (λ marks. (marks, (row_joined rest).1)) none
+joined_piece : (pen : Look) (cs : List ℕ) (rest : List PennedChar) → IsPrinted cs → (penned_joined rest).0 ≡ []
+    → penned_joined (map (λ c. record { char = c; pen = pen }) cs ++ rest) ≡ ((joined pen cs).0, (joined pen cs).1 ++ (penned_joined rest).1)
+joined_piece pen [] rest printed none = ap (λ marks. (marks, (penned_joined rest).1)) none
 joined_piece pen (c ∷ cs) rest printed none =
     ap (attach (Some (char_columns c)) pen c) (joined_piece pen cs rest printed.1 none)
-    ∙ attach-append (char_columns c) pen c (joined pen cs) (row_joined rest).1
-    ∙ sym (ap (λ (r : List ℕ × List Glyph). (r.0, r.1 ++ (row_joined rest).1)) (joined_by_columns pen c cs printed))
+    ∙ attach-append (char_columns c) pen c (joined pen cs) (penned_joined rest).1
+    ∙ sym (ap (λ (r : List ℕ × List Glyph). (r.0, r.1 ++ (penned_joined rest).1)) (joined_by_columns pen c cs printed))
 
 whole_attach : (n : ℕ) (pen : Look) (c : ℕ) (r : List ℕ × List Glyph) → 0 < n → (attach (Some n) pen c r).0 ≡ []
 whole_attach zero pen c r some = absurd (omega arith)
@@ -38,15 +38,15 @@ whole_joined : (pen : Look) (cs : List ℕ) → IsShown cs → (joined pen cs).0
 whole_joined pen [] h = refl
 whole_joined pen (c ∷ cs) h = ap (λ (r : List ℕ × List Glyph). r.0) (joined_by_columns pen c cs h.printed) ∙ whole_attach (char_columns c) pen c (joined pen cs) h.whole
 
-pieces_joined : (ps : List RowPiece) → AreShownPieces ps → row_joined (penned_chars ps) ≡ ([], pieces_cells ps)
+pieces_joined : (ps : List RowPiece) → AreShownPieces ps → penned_joined (penned_chars ps) ≡ ([], pieces_cells ps)
 pieces_joined [] h = refl
 pieces_joined (p ∷ ps) h =
-    let rest : row_joined (penned_chars ps) ≡ ([], pieces_cells ps) = pieces_joined ps h.1 in
+    let rest : penned_joined (penned_chars ps) ≡ ([], pieces_cells ps) = pieces_joined ps h.1 in
     let pen : Look = look_of_style p.style in
     joined_piece pen (chars p.text) (penned_chars ps) h.0.shown.printed (ap (λ (r : List ℕ × List Glyph). r.0) rest)
-    ∙ ap (λ marks. (marks, (joined pen (chars p.text)).1 ++ (row_joined (penned_chars ps)).1)) (whole_joined pen (chars p.text) h.0.shown)
+    ∙ ap (λ marks. (marks, (joined pen (chars p.text)).1 ++ (penned_joined (penned_chars ps)).1)) (whole_joined pen (chars p.text) h.0.shown)
     ∙ ap (λ (r : List ℕ × List Glyph). ([], (joined pen (chars p.text)).1 ++ r.1)) rest
 
 -- the cells that pieces show are those of their characters
-pub cells_of_pieces : (ps : List RowPiece) → AreShownPieces ps → row_cells (penned_chars ps) ≡ pieces_cells ps
+pub cells_of_pieces : (ps : List RowPiece) → AreShownPieces ps → penned_cells (penned_chars ps) ≡ pieces_cells ps
 cells_of_pieces ps h = ap (λ (r : List ℕ × List Glyph). r.1) (pieces_joined ps h)

@@ -1,5 +1,5 @@
 -- What an area shows of the rows that were drawn in it.
-use Rattle.std.proofs.Common.{◌≡◌, ℕ, zero, suc, ◌+◌, ◌^◌, ◌<◌, ◌≤◌, List, [], ◌∷◌, map, length, get_or, refl, ap, sym, ◌∙◌, subst, arith}
+use Rattle.std.proofs.Common.{◌≡◌, ℕ, zero, suc, ◌+◌, ◌^◌, ◌<◌, ◌≤◌, List, [], map, length, get_or, refl, ap, sym, ◌∙◌, subst, arith}
 use Rattle.std.specs.List.{AllByRecursion}
 use Rattle.std.proofs.lemmas.List.{length-map}
 use Rattle.std.proofs.Math.ListN.{get_or-map}
@@ -10,7 +10,7 @@ use Rattle.mad_screen.proofs.DrawingLemmas.{drawn}
 use Rattle.mad_fit.specs.declared.area.Area.{Area}
 use Rattle.mad_draw.specs.DrawnRows.{rows_from, rows_bytes, FillArea, AreRowsShown}
 use Rattle.mad_draw.specs.Pieces.{RowPiece, AreKnown, FillsRow, pieces_bytes, penned_chars}
-use Rattle.mad_draw.specs.RowCells.{row_cells}
+use Rattle.mad_draw.specs.PennedCells.{penned_cells}
 use Rattle.mad_draw.proofs.CellLemmas.{cells_of_pieces}
 use Rattle.mad_draw.proofs.PieceLemmas.{pieces_cells, pieces_paint, length-pieces_cells}
 
@@ -66,7 +66,7 @@ area_shown row area small_x small_y known fill g on_screen =
         height = shows.height;
         inside = λ i j in_width in_height.
             let e : 0 + j ≡ j = omega arith in
-            let cells : get_or (map pieces_cells rows) j [] ≡ row_cells (penned_chars (row j)) =
+            let cells : get_or (map pieces_cells rows) j [] ≡ penned_cells (penned_chars (row j)) =
             get_or-map pieces_cells rows j []
             ∙ ap pieces_cells (row_at row 0 area.height j in_height ∙ ap row e)
             ∙ sym (cells_of_pieces (row j) (fill j in_height).shown) in

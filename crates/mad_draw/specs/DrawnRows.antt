@@ -5,7 +5,7 @@ use Rattle.mad_screen.specs.Grid.{Grid, IsGrid, plain_pen}
 use Rattle.mad_screen.specs.Terminal.{after_bytes}
 use Rattle.mad_fit.specs.declared.area.Area.{Area}
 use Rattle.mad_draw.specs.Pieces.{RowPiece, FillsRow, pieces_bytes, penned_chars}
-use Rattle.mad_draw.specs.RowCells.{row_cells}
+use Rattle.mad_draw.specs.PennedCells.{penned_cells}
 
 -- ---- what is written
 
@@ -38,4 +38,4 @@ abbrev pub AreRowsShown : (ℕ → List RowPiece) → Area → List ℕ → Type
 AreRowsShown row area bytes =
     (g : Grid) → IsOnScreen area g
     → (new : Grid) × (after_bytes g bytes ≡ Some new) × IsGrid new × (new.pen ≡ plain_pen)
-    × ShowsRows area.left area.top area.width area.height (λ y. row_cells (penned_chars (row y))) g new
+    × ShowsRows area.left area.top area.width area.height (λ y. penned_cells (penned_chars (row y))) g new

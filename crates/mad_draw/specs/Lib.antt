@@ -1,3 +1,3 @@
 pub mod DrawnRows
+pub mod PennedCells
 pub mod Pieces
-pub mod RowCells

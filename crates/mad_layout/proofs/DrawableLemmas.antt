@@ -106,7 +106,7 @@ wrapped_drawable skin drawn first margins kind other place r ps ts (l ∷ ls) bo
 
 -- ---- a composite as it was read
 
-runs_are : (ps : List Compound) → runs_text (map run_of ps) ≡ flagged_text ps
+pub runs_are : (ps : List Compound) → runs_text (map run_of ps) ≡ flagged_text ps
 runs_are [] = refl
 runs_are (p ∷ ps) = ap (λ l. flagged_of p ++ l) (runs_are ps)
 

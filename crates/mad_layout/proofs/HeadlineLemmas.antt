@@ -37,7 +37,7 @@ area_layout {E} (Ok laid_out) skin markdown area width e h = record {
 area_layout {E} (Err x) skin markdown area width e h = tt
 
 -- at a width of three and more the text is wrapped
-wrapped_at : (skin : MadSkin) (width : ℕ) (text : List LineContent) (lines : List FmtLine) → 3 ≤ width → IsLayoutAt skin (Some width) text lines → IsLayout skin width text lines
+pub wrapped_at : (skin : MadSkin) (width : ℕ) (text : List LineContent) (lines : List FmtLine) → 3 ≤ width → IsLayoutAt skin (Some width) text lines → IsLayout skin width text lines
 wrapped_at skin width text lines wide h =
     let test : nat_lt width 3 ≡ false = grind (arith, nat_tests) in
     subst (λ (b : Bool). IsLayoutBy IsCompositeWrap skin (if b then None else Some width) text lines) test h

@@ -1,6 +1,5 @@
 pub mod DrawableLemmas
 pub mod DrawnLayouts
-pub mod Examples
 pub mod HeadlineLemmas
 pub mod InlineLemmas
 pub mod KnownLemmas
@@ -12,5 +11,8 @@ pub mod PieceLemmas
 pub mod RowLemmas
 pub mod RunLemmas
 pub mod ShownLemmas
+pub mod SourceLemmas
 pub mod WholeTokens
+pub mod WordLemmas
+pub mod WordScreens
 pub mod WrapLemmas

@@ -1,6 +1,6 @@
 pub use Rattle.mad_draw.specs.DrawnRows
 pub use Rattle.mad_draw.specs.Pieces
-pub use Rattle.mad_draw.specs.RowCells
+pub use Rattle.mad_draw.specs.PennedCells
 pub mod CompositeWraps
 pub mod Drawable
 pub mod FittingLayouts
@@ -17,7 +17,9 @@ pub mod Shown
 pub mod ShownLayouts
 pub mod SkinParts
 pub mod Skins
+pub mod Sources
 pub mod Styles
 pub mod Texts
+pub mod Words
 pub mod WrappedLines
 pub mod Wraps

@@ -21,6 +21,7 @@ pub mod drawing;
 pub mod fmt_inline;
 pub mod fmt_text;
 pub mod indents;
+pub mod laws;
 mod laying;
 pub mod line;
 pub mod room;

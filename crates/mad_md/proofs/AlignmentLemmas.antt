@@ -1,23 +1,21 @@
 -- A cell that has an alignment has a compound.
-use Rattle.std.proofs.Common.{◌≡◌, ℕ, ◌≤◌, ◌<◌, ◌+◌, ◌-◌, Bool, true, false, not, ◌&&◌, ◌||◌, ◌==◌, List, [], ◌∷◌, ◌++◌, map, length, take, slice_range, refl, sym, ap, ◌∙◌, arith, subst, Option, Some, None, ◌⊎◌, inl, inr, cond, zero, suc, if◌then◌else◌}
-use Rattle.std.specs.Prelude.{slice_index, nat_lt}
+use Rattle.std.proofs.Common.{◌≡◌, ℕ, ◌<◌, ◌+◌, ◌-◌, Bool, true, false, not, ◌&&◌, ◌==◌, List, [], ◌∷◌, ◌++◌, map, length, take, slice_range, refl, sym, ap, ◌∙◌, arith, subst, Option, Some, None, ◌⊎◌, inl, inr, cond, zero, suc, if◌then◌else◌}
+use Rattle.std.specs.Prelude.{nat_lt}
 use Rattle.std.specs.Char.{is_whitespace}
 use Rattle.std.specs.List.{prefix_len}
 use Rattle.std.specs.Option.{is_some}
 use Rattle.std.specs.Str.{IsUtf8, chars, trim_start, trim_end, skip_leading_whitespace, drop_trailing_whitespace}
-use Rattle.std.proofs.Math.Utf8.{encode, encodes}
+use Rattle.std.proofs.Math.Utf8.{encodes}
 use Rattle.std.proofs.lemmas.Bool.{and_parts}
 use Rattle.std.proofs.lemmas.Bool.Decides.{nat_tests}
 use Rattle.std.proofs.lemmas.List.{append-nil}
 use Rattle.std.proofs.lemmas.Str.{chars_past_char, encode_ascii}
 use Rattle.mad_md.specs.Cells.{cell_rest, begins_with_colon, without_first_colon, ends_with_colon, without_last_colon, are_hyphens, trimmed_alignment, alignment_of, with_alignment, alignments}
-use Rattle.mad_md.specs.Flagged.{Flags, Run, RunPlace, run_at, plain}
-use Rattle.mad_md.specs.Inline.{Item, mark, byte, spell, spell_mark, mark_at, is_on, flags_after, IsReadingAfter, unless_empty, runs_after, runs_with}
-use Rattle.mad_md.specs.Scan.{items_of, run_start_trimmed, run_end_trimmed, before_kept, end_trimmed, kept_before, start_trimmed, cell_of, rule_texts, with_columns}
-use Rattle.mad_md.specs.Starts.{begins}
+use Rattle.mad_md.specs.Flagged.{Run, RunPlace, run_at, plain}
+use Rattle.mad_md.specs.Inline.{Item, mark, byte, spell, spell_mark, mark_at, flags_after, IsReadingAfter, runs_after, runs_with}
+use Rattle.mad_md.specs.Scan.{items_of, run_start_trimmed, run_end_trimmed, before_kept, end_trimmed, start_trimmed, cell_of, rule_texts, with_columns}
 use Rattle.mad_md.specs.declared.alignment.Alignment.{Alignment}
 use Rattle.mad_md.specs.declared.inline.Mark.{Mark}
-use Rattle.mad_md.specs.declared.inline.Mark.TheVariants.{Italic, Code}
 use Rattle.mad_md.proofs.InlineLemmas.{front_is, items_read}
 use Rattle.mad_md.proofs.PlacesLemmas.{AreWhole, marked_said}
 use Rattle.mad_md.proofs.CellLemmas.{test_is}
@@ -63,7 +61,7 @@ end_trimmed_by b run [] black h =
     let stays : trim_end run.text ≡ b ∷ encodes (drop_trailing_whitespace (chars h.0)) = ap trim_end h.1 ∙ end_stays b h.0 black.0 black.1 u in
     let some : (length (trim_end run.text) == 0) ≡ false = ap (λ (t : List ℕ). length t == 0) stays ∙ grind (arith, nat_tests) in
     let whole : before_kept run [] ≡ record run { text = trim_end run.text } ∷ [] =
-      ap (λ (r : Run). if length r.text == 0 then [] else r ∷ []) by_code ∙ ap (λ t. if t then [] else record run { text = trim_end run.text } ∷ []) some in
+    ap (λ (r : Run). if length r.text == 0 then [] else r ∷ []) by_code ∙ ap (λ t. if t then [] else record run { text = trim_end run.text } ∷ []) some in
     subst (BeginsWith b) (sym whole) (encodes (drop_trailing_whitespace (chars h.0)), stays, h.2, (end_cuts run.text h.3).2)
 
 end_begins : (b : ℕ) (runs : List Run) → IsBlack b → BeginsWith b runs → BeginsWith b (end_trimmed runs)

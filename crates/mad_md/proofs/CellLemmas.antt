@@ -2,19 +2,18 @@
 use Rattle.std.proofs.Common.{◌≡◌, ℕ, ◌≤◌, ◌<◌, ◌+◌, Bool, true, false, not, ◌&&◌, ◌==◌, List, [], ◌∷◌, ◌++◌, map, length, take, drop, get_or, suc, refl, sym, ap, ◌∙◌, arith, subst, ◌-◌, append_assoc, zero-add, Option, Some, None, Bor, if◌then◌else◌}
 use Rattle.std.specs.List.{AllByRecursion, join_with_byte, onto_first}
 use Rattle.std.proofs.lemmas.Bool.Decides.{nat_tests}
-use Rattle.mad_md.specs.Cells.{odd_with, odd_after, HasBarsInCode, AreClosed, AreCells, IsCell, AreReadCells, cell_style, cell_rest, alignment_of, with_alignment, alignments, IsTablePart}
+use Rattle.mad_md.specs.Cells.{odd_with, odd_after, HasBarsInCode, AreClosed, AreCells, cell_style, cell_rest, alignment_of, with_alignment, alignments}
 use Rattle.std.specs.Option.{is_some}
 use Rattle.mad_md.specs.Flagged.{Flags, plain, flags_of, Run, run_of}
 use Rattle.mad_md.specs.ReadInline.{IsReadInlineWith}
 use Rattle.mad_md.specs.declared.alignment.Alignment.{Alignment}
 use Rattle.mad_md.specs.declared.compound.Compound.{Compound}
 use Rattle.mad_md.specs.declared.composite.CompositeStyle.{CompositeStyle}
-use Rattle.mad_md.specs.Inline.{Item}
-use Rattle.mad_md.specs.Lines.{StyledRuns, LineContent, table_row, table_rule}
-use Rattle.mad_md.specs.Scan.{items_of, cut_cells, cell_len, IsFirstCell, cells_left, kept_cell, cell_of, part_of, rule_texts, with_columns, columns_of, cell_runs, start_trimmed, end_trimmed, kept_cells, rule_or_row_of, part_content}
+use Rattle.mad_md.specs.Lines.{StyledRuns, table_row, table_rule}
+use Rattle.mad_md.specs.Scan.{items_of, cut_cells, cell_len, IsFirstCell, cells_left, kept_cell, cell_of, part_of, rule_texts, with_columns, columns_of, cell_runs, start_trimmed, end_trimmed, kept_cells, rule_or_row_of}
 use Rattle.std.proofs.lemmas.List.{append-nil, at_drop_more, at_drop_all, length-append, length-map, length-take-le}
 use Rattle.std.specs.Str.{trim_start}
-use Rattle.mad_md.proofs.InlineLemmas.{inline_reading_unique, items_read}
+use Rattle.mad_md.proofs.InlineLemmas.{items_read}
 
 pub test_is : (a b : ℕ) → (a == b) ≡ true → a ≡ b
 test_is a b e = grind (arith, nat_tests)

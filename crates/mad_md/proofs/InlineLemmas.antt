@@ -1,6 +1,6 @@
 -- Reading inline marks, step by step.
 use Rattle.std.proofs.Common.{◌≡◌, ℕ, ◌≤◌, ◌<◌, ◌+◌, ◌-◌, ◌%◌, Bool, true, false, not, ◌==◌, List, [], ◌∷◌, ◌++◌, map, length, take, drop, get_or, refl, sym, ap, ◌∙◌, arith, subst, Option, Some, None, cond, append_assoc, zero-add, ◌⊎◌, inl, inr, zero, suc}
-use Rattle.std.specs.Prelude.{find, nat_eq, unwrap_or, slice_index, ◌||◌, ◌&&◌}
+use Rattle.std.specs.Prelude.{find, nat_eq, unwrap_or, slice_index, ◌||◌}
 use Rattle.memchr.specs.Find.{IsFirstByte, is_byte3}
 use Rattle.std.specs.List.{starts_with}
 use Rattle.std.specs.Cmp.Lexicographic.{same_text}

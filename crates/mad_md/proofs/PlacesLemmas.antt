@@ -1,5 +1,5 @@
 -- What the lines say that are read by places: each compound is the slice of the source.
-use Rattle.std.proofs.Common.{◌≡◌, ℕ, ◌≤◌, ◌<◌, ◌+◌, ◌-◌, Bool, true, false, not, ◌==◌, List, [], ◌∷◌, ◌++◌, map, length, take, drop, get_or, slice_range, refl, sym, ap, ◌∙◌, arith, subst, append_assoc, add_assoc, Option, Some, None, if◌then◌else◌}
+use Rattle.std.proofs.Common.{◌≡◌, ℕ, ◌≤◌, ◌+◌, ◌-◌, Bool, true, false, not, ◌==◌, List, [], ◌∷◌, ◌++◌, map, length, take, drop, get_or, slice_range, refl, sym, ap, ◌∙◌, arith, subst, append_assoc, add_assoc, Option, Some, None, if◌then◌else◌}
 use Rattle.std.specs.Prelude.{nat_lt}
 use Rattle.std.specs.List.{join_with_byte, slice_split}
 use Rattle.std.specs.Str.{IsUtf8, trim_start, trim_end}
@@ -9,10 +9,10 @@ use Rattle.std.proofs.lemmas.Bool.Decides.{nat_tests}
 use Rattle.std.proofs.lemmas.List.{append-nil, drop-drop, length-append, length-drop, length-map, length-take-le, map-append, take-append-drop, take-append-le, take_rest}
 use Rattle.std.proofs.lemmas.List.Folds.{drop_split}
 use Rattle.std.proofs.lemmas.Str.{IsUtf8-drop}
-use Rattle.mad_md.specs.Cells.{cell_rest, alignments, start_trimmed_place, end_trimmed_place, first_kept, without_blanks_in_front, last_kept, without_blanks_at_end, cell_places, without_last_empty_cell, rule_or_row}
+use Rattle.mad_md.specs.Cells.{cell_rest, alignments, start_trimmed_place, end_trimmed_place, first_kept, without_blanks_in_front, last_kept, without_blanks_at_end, without_last_empty_cell, rule_or_row}
 use Rattle.mad_md.specs.Flagged.{Flags, Run, RunPlace, run_at, plain}
 use Rattle.mad_md.specs.Inline.{Item, mark, byte, spell, spell_mark, unless_empty, flags_after, marks_of, runs_after, runs_with}
-use Rattle.mad_md.specs.Lines.{StyledRuns, LineContent, normal}
+use Rattle.mad_md.specs.Lines.{StyledRuns, normal}
 use Rattle.mad_md.specs.Parts.{LinePlace, without_last_empty, places_from, line_text}
 use Rattle.mad_md.specs.Places.{StyledPlaces, content_at, styled_at}
 use Rattle.mad_md.specs.ReadRaw.{raw_runs}
@@ -126,8 +126,8 @@ runs_said source text at h before s i a b (mark m ∷ items) ea eb follows order
     let next : b + k ≡ at + (i + k) = omega (arith, eb) in
     let rest = runs_said source text at h (m ∷ before) (i + k) (i + k) (b + k) (b + k) items next next more (omega arith) (omega (arith, len, sum)) (subst IsUtf8 (sym more) cut.1) in
     subst (Say source (unless_empty (flags_after before) a b ++ runs_after (m ∷ before) (b + k) (b + k) items))
-      (sym (map-append (run_at text) (unless_empty (flags_after before) s i) (runs_after (m ∷ before) (i + k) (i + k) items)))
-      (say_append source (unless_empty (flags_after before) a b) (runs_after (m ∷ before) (b + k) (b + k) items) (map (run_at text) (unless_empty (flags_after before) s i)) (map (run_at text) (runs_after (m ∷ before) (i + k) (i + k) items)) here rest)
+    (sym (map-append (run_at text) (unless_empty (flags_after before) s i) (runs_after (m ∷ before) (i + k) (i + k) items)))
+    (say_append source (unless_empty (flags_after before) a b) (runs_after (m ∷ before) (b + k) (b + k) items) (map (run_at text) (unless_empty (flags_after before) s i)) (map (run_at text) (runs_after (m ∷ before) (i + k) (i + k) items)) here rest)
 runs_said source text at h before s i a b (byte c ∷ items) ea eb follows order len u =
     let next : b + 1 ≡ at + (i + 1) = omega (arith, eb) in
     runs_said source text at h before s (i + 1) a (b + 1) items ea next (sym (drop-drop 1 i text) ∙ ap (drop 1) follows) (omega (arith, order)) (omega (arith, len)) u
@@ -198,7 +198,7 @@ front_said source [] h = (refl, tt)
 front_said source (place ∷ places) h =
     let trimmed = start_said source place h.0 in
     kept_said source (start_trimmed_place source place) places (without_blanks_in_front source places) (run_start_trimmed (run_at source place)) (map (run_at source) places) (start_trimmed (map (run_at source) places))
-      trimmed.0 trimmed.1 (refl, h.1) (front_said source places h.1)
+    trimmed.0 trimmed.1 (refl, h.1) (front_said source places h.1)
 
 last_said : (source : List ℕ) (place : RunPlace) (left : List RunPlace) → IsWhole source place → AreWhole source left → Say source (last_kept source place left) (before_kept (run_at source place) (map (run_at source) left))
 last_said source place [] h g =
@@ -229,7 +229,7 @@ cell_said source at text h u =
     let back = back_said source places said.1 in
     let both = front_said source (without_blanks_at_end source places) back.1 in
     ap (λ (rs : List Run). let styled : StyledRuns = record { style = (cell_of text).style; runs = rs } in styled)
-      (both.0 ∙ ap start_trimmed back.0 ∙ ap (λ rs. start_trimmed (end_trimmed rs)) said.0)
+    (both.0 ∙ ap start_trimmed back.0 ∙ ap (λ rs. start_trimmed (end_trimmed rs)) said.0)
 
 cells_said : (source : List ℕ) (at : ℕ) (texts : List (List ℕ)) → IsAt source at (join_with_byte 124 texts) → IsUtf8 (join_with_byte 124 texts) → map (styled_at source) (placed_cells source at texts) ≡ map cell_of texts
 cells_said source at [] h u = refl
@@ -303,10 +303,10 @@ rest_text source place h =
     let n = (line_start text).len in
     let border = start_ends text h.1 in
     let slice : line_text source (rest_place source place) ≡ drop n text =
-      slice_in source text place.start n (length text) (place.start + n) place.end (at_slice source place.start place.end) refl h.0 border.0 (omega arith) ∙ take_rest text n in
+    slice_in source text place.start n (length text) (place.start + n) place.end (at_slice source place.start place.end) refl h.0 border.0 (omega arith) ∙ take_rest text n in
     (slice, (omega (arith, ap length slice, length-drop n text, border.0, h.0), subst IsUtf8 (sym slice) (IsUtf8-drop text n h.1 border)))
 
-line_said : (source : List ℕ) (fenced : Bool) (carried : Flags) (place : LinePlace) → IsWholeLine source place → content_at source (placed_line source fenced carried place) ≡ line_of fenced carried (line_text source place)
+pub line_said : (source : List ℕ) (fenced : Bool) (carried : Flags) (place : LinePlace) → IsWholeLine source place → content_at source (placed_line source fenced carried place) ≡ line_of fenced carried (line_text source place)
 unfolding line_of
 line_said source true carried place h = code_said source place h.0
 line_said source false carried place h =
@@ -329,7 +329,7 @@ lines_by source on fenced carried place places texts false h rest =
     let after = carried_on on (flags_at source fenced carried place) in
     ap (λ l. l ∷ map (content_at source) (placed_lines source on fenced after places)) (line_said source fenced carried place h)
     ∙ ap (λ ls. line_of fenced carried (line_text source place) ∷ ls)
-      (rest fenced after ∙ ap (λ k. lines_of_texts on fenced (carried_on on k) texts) (flags_said source fenced carried place h))
+    (rest fenced after ∙ ap (λ k. lines_of_texts on fenced (carried_on on k) texts) (flags_said source fenced carried place h))
 
 first_said : (source part tail : List ℕ) (at : ℕ) (places : List LinePlace) (on fenced : Bool) (carried : Flags) (texts : List (List ℕ)) → drop at source ≡ part ++ tail → IsUtf8 part
     → ((f : Bool) (k : Flags) → map (content_at source) (placed_lines source on f k places) ≡ lines_of_texts on f k texts)
@@ -352,10 +352,10 @@ lines_said source at on fenced carried (part ∷ []) follows u = last_line_said 
 lines_said source at on fenced carried (part ∷ next ∷ parts) follows u =
     let more = join_with_byte 10 (next ∷ parts) in
     let after : drop (at + length part + 1) source ≡ more =
-      ap (λ n. drop n source) (add_assoc at (length part) 1) ∙ sym (drop-drop (length part + 1) at source) ∙ ap (drop (length part + 1)) follows
-      ∙ sym (drop-drop 1 (length part) (part ++ 10 ∷ more)) ∙ ap (drop 1) (drop-append_seam part (10 ∷ more)) in
+    ap (λ n. drop n source) (add_assoc at (length part) 1) ∙ sym (drop-drop (length part + 1) at source) ∙ ap (drop (length part + 1)) follows
+    ∙ sym (drop-drop 1 (length part) (part ++ 10 ∷ more)) ∙ ap (drop 1) (drop-append_seam part (10 ∷ more)) in
     first_said source part (10 ∷ more) at (places_from (at + length part + 1) (without_last_empty (next ∷ parts))) on fenced carried (map strip_carriage_return (without_last_empty (next ∷ parts))) follows (utf8_front part 10 more (omega arith) u)
-      (λ f k. lines_said source (at + length part + 1) on f k (next ∷ parts) after (utf8_past 10 more (omega arith) (utf8_rest part 10 more (omega arith) u)))
+    (λ f k. lines_said source (at + length part + 1) on f k (next ∷ parts) after (utf8_past 10 more (omega arith) (utf8_rest part 10 more (omega arith) u)))
 
 -- a text has exactly one reading from any place on, and the function says its lines
 pub one_reading : (unread : Unread) → IsUtf8 unread.text → IsRead unread (lines_of unread)

@@ -1,24 +1,17 @@
 -- A text has one reading, and it is the one that is found line by line.
-use Rattle.std.proofs.Common.{◌≡◌, ℕ, ◌<◌, ◌+◌, Bool, true, false, not, ◌==◌, List, [], ◌∷◌, ◌++◌, map, length, take, drop, slice_range, refl, sym, ap, ◌∙◌, arith, subst, add_assoc, if◌then◌else◌}
-use Rattle.std.specs.Bool.{MatchBool}
-use Rattle.std.specs.List.{join_with_byte, slice_split, position_or_len, before_first, after_first}
+use Rattle.std.proofs.Common.{◌≡◌, ℕ, ◌<◌, ◌+◌, Bool, true, false, not, List, [], ◌∷◌, ◌++◌, map, length, take, drop, slice_range, sym, ap, ◌∙◌, arith, if◌then◌else◌}
+use Rattle.std.specs.List.{position_or_len, before_first, after_first}
 use Rattle.std.specs.Str.Lines.{strip_carriage_return}
-use Rattle.std.proofs.Math.Seq.{take-append_seam, drop-append_seam}
-use Rattle.std.proofs.lemmas.List.{append-nil, drop-drop, length-drop, take_all}
-use Rattle.mad_md.specs.Flagged.{Flags, run_at, plain}
-use Rattle.mad_md.specs.Inline.{Item, runs_with, flags_at_end}
-use Rattle.mad_md.specs.Lines.{LineContent, normal}
-use Rattle.mad_md.specs.Parts.{AreParts, without_last_empty, places_from}
+use Rattle.std.proofs.Math.Seq.{take-append_seam}
+use Rattle.std.proofs.lemmas.List.{length-drop, take_all}
+use Rattle.mad_md.specs.Flagged.{Flags, plain}
+use Rattle.mad_md.specs.Lines.{LineContent}
 use Rattle.mad_md.specs.Parts.{line_text}
-use Rattle.mad_md.specs.Reading.{IsMarked, IsOfForm, IsLine, carried_on, AreLines, Unread, IsReading}
-use Rattle.mad_md.specs.Scan.{items_of, marked_line, line_of_form, flags_of_form, line_of, flags_of_line, lines_of_texts, texts_of, lines_of, code_line}
+use Rattle.mad_md.specs.Reading.{carried_on, Unread}
+use Rattle.mad_md.specs.Scan.{line_of_form, flags_of_form, line_of, flags_of_line, lines_of_texts, texts_of, lines_of, code_line}
 use Rattle.mad_md.specs.Starts.{is_fence, line_start}
-use Rattle.mad_md.specs.declared.composite.CompositeStyle.{CompositeStyle}
 use Rattle.mad_md.specs.declared.starts.LineStart.{LineStart}
-use Rattle.mad_md.specs.declared.starts.Form.{Form}
-use Rattle.mad_md.specs.declared.starts.Form.TheVariants.{TablePart, Code, Rule, Continuing, Separate}
-use Rattle.mad_md.proofs.InlineLemmas.{inline_reading_unique, items_read}
-use Rattle.mad_md.proofs.PartsLemmas.{is_newline, slice_of_part, parts_unique, split_is_parts, first_line}
+use Rattle.mad_md.proofs.PartsLemmas.{is_newline, slice_of_part, first_line}
 
 -- ---- where lines are
 

@@ -54,20 +54,22 @@ unfolding trim_start
 start_cuts text h =
     let own : chars text ≡ h.0 = ap chars (sym h.1.1) ∙ chars-encodes h.0 h.1.0 in
     let cut = skip_cuts h.0 h.1.0 in
-    let kept : encodes (skip_leading_whitespace h.0) ≡ encodes (skip_leading_whitespace (chars text)) = ap (λ cs. encodes (skip_leading_whitespace cs)) (sym own) in
-    (encodes cut.0,
-     sym h.1.1 ∙ ap encodes cut.1 ∙ encodes-append cut.0 (skip_leading_whitespace h.0) ∙ ap (λ l. encodes cut.0 ++ l) kept,
-     (skip_leading_whitespace h.0, (cut.2, kept)))
+    let kept : encodes (skip_leading_whitespace h.0) ≡ encodes (skip_leading_whitespace (chars text)) = ap (λ cs. encodes (skip_leading_whitespace cs)) (sym own) in (
+      encodes cut.0,
+      sym h.1.1 ∙ ap encodes cut.1 ∙ encodes-append cut.0 (skip_leading_whitespace h.0) ∙ ap (λ l. encodes cut.0 ++ l) kept,
+      (skip_leading_whitespace h.0, (cut.2, kept)),
+    )
 
 pub end_cuts : (text : List ℕ) → IsUtf8 text → (behind : List ℕ) × (text ≡ trim_end text ++ behind) × IsUtf8 (trim_end text)
 unfolding trim_end
 end_cuts text h =
     let own : chars text ≡ h.0 = ap chars (sym h.1.1) ∙ chars-encodes h.0 h.1.0 in
     let cut = back_cuts h.0 h.1.0 in
-    let kept : encodes (drop_trailing_whitespace h.0) ≡ encodes (drop_trailing_whitespace (chars text)) = ap (λ cs. encodes (drop_trailing_whitespace cs)) (sym own) in
-    (encodes cut.0,
-     sym h.1.1 ∙ ap encodes cut.1 ∙ encodes-append (drop_trailing_whitespace h.0) cut.0 ∙ ap (λ l. l ++ encodes cut.0) kept,
-     (drop_trailing_whitespace h.0, (cut.2, kept)))
+    let kept : encodes (drop_trailing_whitespace h.0) ≡ encodes (drop_trailing_whitespace (chars text)) = ap (λ cs. encodes (drop_trailing_whitespace cs)) (sym own) in (
+      encodes cut.0,
+      sym h.1.1 ∙ ap encodes cut.1 ∙ encodes-append (drop_trailing_whitespace h.0) cut.0 ∙ ap (λ l. l ++ encodes cut.0) kept,
+      (drop_trailing_whitespace h.0, (cut.2, kept)),
+    )
 
 -- ---- beside a mark, after a prefix of two bytes, before a carriage return
 

@@ -5,6 +5,13 @@ pub use Rattle.mad_md.specs.Parts
 pub use Rattle.mad_md.specs.ReadByMarks
 pub use Rattle.mad_md.specs.ReadInline
 pub use Rattle.mad_md.specs.ReadRaw
+pub use Rattle.mad_md.specs.Cells
+pub use Rattle.mad_md.specs.Cursor
+pub use Rattle.mad_md.specs.Places
+pub use Rattle.mad_md.specs.Reading
+pub use Rattle.mad_md.specs.ReadingLaws
+pub use Rattle.mad_md.specs.Scan
+pub use Rattle.mad_md.specs.Starts
 pub use Rattle.mad_term.specs.Attribute
 pub use Rattle.mad_term.specs.AttributeNames
 pub use Rattle.mad_term.specs.Attributes
@@ -17,6 +24,8 @@ pub use Rattle.mad_term.specs.Errors
 pub use Rattle.mad_screen.specs.Glyph
 pub use Rattle.mad_screen.specs.Grid
 pub use Rattle.mad_screen.specs.Painting
+pub use Rattle.mad_screen.specs.Pictures
+pub use Rattle.mad_screen.specs.Refusals
 pub use Rattle.mad_term.specs.Scripted
 pub use Rattle.mad_screen.specs.Stages
 pub use Rattle.mad_term.specs.Stream
@@ -31,6 +40,21 @@ pub use Rattle.mad_style.specs.Kinds
 pub use Rattle.mad_style.specs.LineStyles
 pub use Rattle.mad_style.specs.Runs
 pub use Rattle.mad_style.specs.StyledChars
+pub use Rattle.mad_parse.specs.Colors
+pub use Rattle.mad_parse.specs.Cuts
+pub use Rattle.mad_parse.specs.Errors as ParseErrors
+pub use Rattle.mad_parse.specs.Names
+pub use Rattle.mad_parse.specs.Numbers
+pub use Rattle.mad_parse.specs.Reading as ParseReading
+pub use Rattle.mad_parse.specs.ReadsBack
+pub use Rattle.mad_parse.specs.Styles as ParseStyles
+pub use Rattle.mad_parse.specs.Values
+pub use Rattle.mad_parse.specs.Written
+pub use Rattle.mad_widths.specs.ColumnWidths
+pub use Rattle.mad_widths.specs.SeenCells
+pub use Rattle.mad_widths.specs.TableFits
+pub use Rattle.mad_widths.specs.Turns
+pub use Rattle.mad_widths.specs.WorkedWidths
 pub use Rattle.mad_fit.specs.Areas
 pub use Rattle.mad_fit.specs.Columns as TextColumns
 pub use Rattle.mad_fit.specs.Completions
@@ -39,7 +63,7 @@ pub use Rattle.mad_fit.specs.Tokens
 pub use Rattle.mad_fit.specs.TokensLeft
 pub use Rattle.mad_draw.specs.DrawnRows
 pub use Rattle.mad_draw.specs.Pieces
-pub use Rattle.mad_draw.specs.RowCells
+pub use Rattle.mad_draw.specs.PennedCells
 pub use Rattle.mad_layout.specs.CompositeWraps
 pub use Rattle.mad_layout.specs.Drawable
 pub use Rattle.mad_layout.specs.FittingLayouts
@@ -70,3 +94,11 @@ pub use Rattle.mad_wrap.specs.LineStarts
 pub use Rattle.mad_wrap.specs.Placings
 pub use Rattle.mad_wrap.specs.Rooms
 pub use Rattle.mad_wrap.specs.WrapLines
+pub use Rattle.mad_lines.specs.TextLines
+pub use Rattle.mad_lines.specs.LineColumns
+pub use Rattle.mad_lines.specs.CharClasses
+pub use Rattle.mad_lines.specs.PlaceOrder
+pub use Rattle.mad_edit.specs.Editor
+pub use Rattle.mad_edit.specs.Undo
+pub use Rattle.mad_edit.specs.Words as EditedWords
+pub use Rattle.mad_edit.specs.Examples as EditingExamples

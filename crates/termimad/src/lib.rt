@@ -1,12 +1,24 @@
 //! Markdown for terminals: all names of the library, from the crates that have them.
 //!
-//! What a text is, what a terminal takes and shows, and how lines are wrapped stand in modules of their own: [`md`],
-//! [`term`], [`screen`] and [`wrap`].
+//! What a text is, what a terminal takes and shows, how lines are wrapped, and the editor's text have modules of their own:
+//! [`md`], [`term`], [`screen`], [`wrap`] and [`edit`].
 #![tactic(auto)]
+
+/// What a terminal takes, and what it shows.
+pub mod term {
+    pub use mad_columns::char_columns;
+    pub use mad_screen::{Cell, Looks, NotPlain, Pen, Screen, laws};
+    pub use mad_term::{
+        Attribute, Attributes, Clear, ClearType, Color, ContentStyle, CutOut, Error,
+        InsufficientWidthError, MoveTo, Out, ScriptSource, Source, Stream, StyledContent,
+        StyledNumber, StyledRun, push_background, push_clear, push_foreground, push_move,
+        push_styled, put_all, queue_bg, queue_clear, queue_fg, queue_move, queue_styled,
+    };
+}
 
 /// What a plain terminal shows of the bytes that it reads.
 pub mod screen {
-    pub use mad_screen::{Cell, NotPlain, Pen, Screen};
+    pub use mad_screen::{Cell, Looks, NotPlain, Pen, Screen};
 }
 
 /// Breaking lines that are too wide, with the fewest lines.
@@ -17,6 +29,12 @@ pub mod wrap {
     pub use mad_wrap::Room;
 }
 
+/// The editor's text.
+pub mod edit {
+    pub use mad_edit::{Chars, InputFieldContent, Line, Pos, Range};
+}
+
+pub use mad_edit::{Chars, InputFieldContent, Pos, Range};
 pub use mad_fit::{Area, Spacing, Token, Tokens, token_iter, tokenize};
 pub use mad_layout::{
     FmtComposite, FmtInline, FmtLine, FmtText, MadSkin, composite_kind_widths, draw_text, inline,
@@ -24,8 +42,15 @@ pub use mad_layout::{
 };
 pub use mad_md as md;
 pub use mad_md::{
-    Alignment, Composite, CompositeStyle, Compound, Line, MAX_HEADER_DEPTH, TableRow, TableRule,
-    Text,
+    Alignment, Composite, CompositeStyle, Compound, Line, LineCursor, MAX_HEADER_DEPTH,
+    ParseOptions, TableRow, TableRule, Text, parse_text, parse_text_with,
+};
+pub use mad_parse::{
+    ParseAlignError, ParseAttributeError, ParseColorError, ParseStyleTokenError, PushStyleTokens,
+    StyleToken, compound_style_from, line_style_from, parse_align, parse_attribute, parse_color,
+    parse_compound_style, parse_line_style, parse_ordered_item_style, parse_style_token,
+    parse_style_tokens, parse_styled_char, style_tokens_to_string, write_align, write_attribute,
+    write_color, write_style_tokens,
 };
 pub use mad_style::{
     ASCII_TABLE_BORDER_CHARS, ATTRIBUTES, CompositeKind, CompoundStyle, LineStyle,
@@ -33,10 +58,10 @@ pub use mad_style::{
     STANDARD_TABLE_BORDER_CHARS, ScrollBarStyle, StyledChar, StyledText, TableBorderChars, ansi,
     gray, ordered_item_indent, rgb,
 };
-pub use mad_term as term;
 pub use mad_term::{
     Attribute, Attributes, Clear, ClearType, Color, ContentStyle, CutOut, Error,
     InsufficientWidthError, MoveTo, Out, ScriptSource, Source, Stream, StyledContent, StyledNumber,
     StyledRun, char_columns, put_all, queue_bg, queue_clear, queue_fg, queue_move, queue_styled,
 };
 pub use mad_view::TextView;
+pub use mad_widths::{TblFit, TblFitResult};

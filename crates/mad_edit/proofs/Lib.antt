@@ -1,0 +1,6 @@
+pub mod SplitLemmas
+pub mod LineLemmas
+pub mod EditorLemmas
+pub mod TextLemmas
+pub mod UndoLemmas
+pub mod SwapLemmas

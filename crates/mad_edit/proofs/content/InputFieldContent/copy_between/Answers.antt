@@ -1,0 +1,17 @@
+use Rattle.std.proofs.Common.{◌≡◌, ◌∙◌, ap, refl, subst, rules, sym}
+use Rattle.mad_lines.specs.TextLines.{lines_of}
+use Rattle.mad_edit.specs.Editor.{Editor, IsAt}
+use Rattle.mad_edit.proofs.EditorLemmas.{own_lines, lines_seen}
+use Rattle.mad_edit.proofs.content.InputFieldContent.copy_between.Goals as goal
+
+pub text_between-requires-clause-from : goal.text_between-requires-clause-from
+text_between-requires-clause-from c = rw (lines_seen _ _ _ _ c.self.view_is c.self.invariant) at c.requires.from
+
+pub text_between-requires-clause-to : goal.text_between-requires-clause-to
+text_between-requires-clause-to c = rw (lines_seen _ _ _ _ c.self.view_is c.self.invariant) at c.requires.to
+
+pub text_between-requires-clause-order : goal.text_between-requires-clause-order
+text_between-requires-clause-order c = rw (lines_seen _ _ _ _ c.self.view_is c.self.invariant) at c.requires.order
+
+pub returns : goal.returns
+returns c = rw (lines_seen _ _ _ _ c.self.view_is c.self.invariant, ← c.self.view_is) (search rules)

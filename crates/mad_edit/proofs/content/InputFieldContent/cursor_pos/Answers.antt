@@ -1,0 +1,17 @@
+use Rattle.std.proofs.Common.{◌≡◌, ◌∙◌, ap, refl, subst, rules, sym, arith}
+use Rattle.mad_lines.specs.TextLines.{lines_of}
+use Rattle.mad_edit.specs.Editor.{Editor, IsAt}
+use Rattle.mad_edit.proofs.EditorLemmas.{own_lines, lines_seen, editor_seen, line_seen, column_seen, front_seen, rest_seen, front_length, rest_length}
+use Rattle.mad_edit.proofs.content.InputFieldContent.cursor_pos.Goals as goal
+
+pub returns-clause-at : goal.returns-clause-at
+returns-clause-at c = rw (lines_seen _ _ _ _ c.self.view_is c.self.invariant, ← c.self.view_is) (c.self.invariant.cursor, refl)
+
+pub returns-clause-line : goal.returns-clause-line
+returns-clause-line c = line_seen _ _ _ _ c.self.view_is c.self.invariant
+
+pub returns-clause-column : goal.returns-clause-column
+returns-clause-column c = column_seen _ _ _ _ c.self.view_is c.self.invariant
+
+pub returns-clause-valid : goal.returns-clause-valid
+returns-clause-valid c = editor_seen _ _ _ _ c.self.view_is c.self.invariant

@@ -1,0 +1,145 @@
+-- A text in which each character takes columns is read as lines that keep the premises.
+use Rattle.std.proofs.Common.{◌≡◌, ℕ, zero, suc, ◌-◌, ◌<◌, ◌≤◌, Bool, false, List, [], ◌∷◌, ◌++◌, map, drop, take, Option, Some, None, Result, Ok, Err, OnOk, refl, ap, sym, ◌∙◌, subst, arith}
+use Rattle.std.specs.Prelude.{IsSome, not, unwrap_or, slice_range}
+use Rattle.std.specs.List.{AllByRecursion}
+use Rattle.std.specs.Str.{chars, IsUtf8}
+use Rattle.std.proofs.lemmas.Bool.Decides.{nat_tests}
+use Rattle.std.proofs.lemmas.List.{take-append-drop}
+use Rattle.std.proofs.lemmas.Str.{chars-append, IsUtf8-take, IsUtf8-between}
+use Rattle.unicode_width.specs.Width.{char_width}
+use Rattle.mad_columns.specs.Columns.{char_columns}
+use Rattle.mad_columns.proofs.CharColumns.{char_columns-three}
+use Rattle.mad_md.specs.Flagged.{Flags, FlaggedChar, Run, RunPlace, flagged, is_blank, run_at}
+use Rattle.mad_md.specs.Inline.{Item, runs, IsInlineReading}
+use Rattle.mad_md.specs.Lines.{LineContent}
+use Rattle.mad_md.specs.Parts.{LinePlace, line_places, line_text}
+use Rattle.mad_md.specs.Reading.{IsRead, unread_text}
+use Rattle.mad_md.proofs.ParagraphLemmas.{paragraphs_read}
+use Rattle.mad_md.proofs.RunBorders.{IsBordered, runs_bordered}
+use Rattle.mad_md.specs.ReadByMarks.{IsParagraphText, AreInlineLines}
+use Rattle.mad_md.specs.declared.composite.CompositeStyle.TheVariants.{Paragraph}
+use Rattle.mad_screen.specs.Painting.{IsPrinted}
+use Rattle.mad_term.specs.Trace.{Trace, flushed}
+use Rattle.mad_term.proofs.Traces.{took_flushed}
+use Rattle.mad_layout.specs.Shown.{AreShownIn}
+use Rattle.mad_style.specs.LineStyles.{margins_at}
+use Rattle.mad_style.specs.declared.line_styles.LineStyle.{LineStyle}
+use Rattle.mad_fit.specs.declared.area.Area.{Area}
+use Rattle.mad_fit.proofs.AllLemmas.{all_front, all_back, all_each}
+use Rattle.mad_layout.specs.InArea.{ShowsText}
+use Rattle.mad_layout.specs.Premises.{AreJoined, IsPlainRun, IsPlainLine, KeepsPremises, inner_width, runs_text}
+use Rattle.mad_layout.specs.Sources.{TakesColumns, LinesTakeColumns, ShowsSource}
+use Rattle.mad_layout.specs.Styles.{line_style}
+use Rattle.mad_layout.specs.declared.skin.MadSkin.{MadSkin}
+
+-- ---- a run
+
+some_of : (o : Option ℕ) → 0 < unwrap_or o 0 → IsSome o
+some_of None h = absurd (omega (arith, h))
+some_of (Some n) h = refl
+
+printed_char : (c : ℕ) → 0 < char_columns c → IsSome (char_width false c)
+unfolding char_columns
+printed_char c h = some_of (char_width false c) h
+
+printed : (cs : List ℕ) → AllByRecursion (λ c. 0 < char_columns c) cs → IsPrinted cs
+printed [] h = tt
+printed (c ∷ cs) h = (printed_char c h.0, printed cs h.1)
+
+unjoined : (flags : Flags) (cs : List ℕ) → AllByRecursion (λ c. 0 < char_columns c) cs → (behind : Bool) → AreJoined behind (flagged flags cs)
+unjoined flags [] h behind = tt
+unjoined flags (c ∷ cs) h behind = (λ none. absurd (omega (arith, none, h.0)), unjoined flags cs h.1 (not (is_blank (record { char = c; flags = flags }))))
+
+plain_run : (flags : Flags) (text : List ℕ) → TakesColumns text → IsPlainRun (record { flags = flags; text = text })
+plain_run flags text h = record { utf8 = h.utf8; printed = printed (chars text) h.columns; joined = unjoined flags (chars text) h.columns false }
+
+-- ---- a line
+
+piece_columns : (text : List ℕ) (place : RunPlace) → TakesColumns text → IsBordered text place → TakesColumns (slice_range text place.start place.end)
+piece_columns text place h borders =
+    let behind : List ℕ = drop place.start text in
+    let utf8 : IsUtf8 (slice_range text place.start place.end) = IsUtf8-between text place.start place.end h.utf8 borders.order borders.first borders.last in
+    let cut : chars text ≡ chars (take place.start text) ++ chars behind =
+    sym (ap chars (take-append-drop place.start text)) ∙ chars-append (take place.start text) behind (IsUtf8-take text place.start h.utf8 borders.first) in
+    let rest : chars behind ≡ chars (slice_range text place.start place.end) ++ chars (drop (place.end - place.start) behind) =
+    sym (ap chars (take-append-drop (place.end - place.start) behind)) ∙ chars-append (slice_range text place.start place.end) (drop (place.end - place.start) behind) utf8 in
+    let from : AllByRecursion (λ c. 0 < char_columns c) (chars behind) =
+    all_back (λ c. 0 < char_columns c) (chars (take place.start text)) (chars behind) (subst (AllByRecursion (λ c. 0 < char_columns c)) cut h.columns) in
+    record { utf8 = utf8; columns = all_front (λ c. 0 < char_columns c) (chars (slice_range text place.start place.end)) _ (subst (AllByRecursion (λ c. 0 < char_columns c)) rest from) }
+
+plain_runs : (text : List ℕ) (places : List RunPlace) → TakesColumns text → AllByRecursion (IsBordered text) places → AllByRecursion IsPlainRun (map (run_at text) places)
+plain_runs text [] h borders = tt
+plain_runs text (p ∷ ps) h borders = (plain_run p.flags _ (piece_columns text p h borders.0), plain_runs text ps h borders.1)
+
+every : {A : Type 0} (P : A → Type 0) → ((x : A) → P x) → (xs : List A) → AllByRecursion P xs
+every P f [] = tt
+every P f (x ∷ xs) = (f x, every P f xs)
+
+three-le : (style : LineStyle) (width : ℕ) → 3 ≤ width → 3 ≤ width - (margins_at style (Some width)).0 - (margins_at style (Some width)).1
+three-le style width wide = grind (arith, nat_tests)
+
+plain_line : (skin : MadSkin) (width : ℕ) (text : List ℕ) (reading : List Item) → 3 ≤ width → TakesColumns text → IsInlineReading text reading
+    → IsPlainLine skin width (record { style = Paragraph; runs = map (run_at text) (runs reading) })
+plain_line skin width text reading wide h reads =
+    let inner : 3 ≤ inner_width skin width (record { style = Paragraph; runs = map (run_at text) (runs reading) }) = three-le skin.paragraph width wide in
+    record {
+      prefix = tt;
+      runs = plain_runs text (runs reading) h (runs_bordered text reading h.utf8 reads);
+      room = λ _. record {
+        indent = omega arith;
+        each = every _ (λ (x : FlaggedChar). omega (arith, inner, char_columns-three x.char)) (runs_text (map (run_at text) (runs reading)));
+      };
+    }
+
+-- ---- a text
+
+lines_keep : (skin : MadSkin) (width : ℕ) (source : List ℕ) (places : List LinePlace) (lines : List LineContent) → 3 ≤ width
+    → AllByRecursion (λ place. TakesColumns (line_text source place)) places → AreInlineLines source places lines → KeepsPremises skin width lines
+lines_keep skin width source [] [] wide h reads = tt
+lines_keep skin width source [] (l ∷ ls) wide h reads = absurd reads
+lines_keep skin width source (p ∷ ps) [] wide h reads = absurd reads
+lines_keep skin width source (p ∷ ps) (l ∷ ls) wide h reads =
+    subst (λ (line : LineContent). KeepsPremises skin width (line ∷ ls)) (sym reads.0.says)
+    (plain_line skin width _ reads.0.reading wide h.0 reads.0.reads, lines_keep skin width source ps ls wide h.1 reads.1)
+
+first_keep : (skin : MadSkin) (width n : ℕ) (text : List LineContent) → KeepsPremises skin width text → KeepsPremises skin width (take n text)
+first_keep skin width zero text h = tt
+first_keep skin width (suc n) [] h = tt
+first_keep skin width (suc n) (l ∷ ls) h = (h.0, first_keep skin width n ls h.1)
+
+-- such a source is read line by line
+pub source_read : (source : List ℕ) (text : List LineContent) → LinesTakeColumns source → (read : IsRead (unread_text false source) text) → AreInlineLines source (line_places read.reads.parts) text
+source_read source text h read =
+    let places : List LinePlace = line_places read.reads.parts in
+    let given = h read.reads.parts read.reads.cut in
+    paragraphs_read source text read
+    (all_each (λ (p : LinePlace). TakesColumns (line_text source p) × IsParagraphText (line_text source p)) (λ (p : LinePlace). IsUtf8 (line_text source p)) (λ p x. x.0.utf8) places given)
+    (all_each (λ (p : LinePlace). TakesColumns (line_text source p) × IsParagraphText (line_text source p)) (λ (p : LinePlace). IsParagraphText (line_text source p)) (λ p x. x.1) places given)
+
+pub source_keeps : (skin : MadSkin) (width n : ℕ) (source : List ℕ) (text : List LineContent) → 3 ≤ width → LinesTakeColumns source → IsRead (unread_text false source) text → KeepsPremises skin width (take n text)
+source_keeps skin width n source text wide h read =
+    let places : List LinePlace = line_places read.reads.parts in
+    first_keep skin width n text
+    (lines_keep skin width source places text wide
+    (all_each (λ (p : LinePlace). TakesColumns (line_text source p) × IsParagraphText (line_text source p)) (λ (p : LinePlace). TakesColumns (line_text source p)) (λ p x. x.0) places (h read.reads.parts read.reads.cut))
+    (source_read source text h read))
+
+-- what an area shows of such a source
+pub source_shown : {T E : Type 0} (r : Result T E) (skin : MadSkin) (markdown : List ℕ) (area : Area) (old new : Trace) → OnOk r (4 ≤ area.width → ShowsText skin markdown area old new)
+    → OnOk r (4 ≤ area.width → LinesTakeColumns markdown → ShowsSource skin markdown area old new)
+source_shown {T} {E} (Ok x) skin markdown area old new h = λ wide columns.
+    let text : ShowsText skin markdown area old new = h wide in
+    record {
+      lines = text.lines;
+      laid_out = text.laid_out;
+      shown = text.shown (source_keeps skin (area.width - 1) area.height markdown text.laid_out.text (omega (arith, wide)) columns text.laid_out.read);
+    }
+source_shown {T} {E} (Err e) skin markdown area old new h = tt
+
+-- a flush takes nothing from it
+pub source_flushed : (skin : MadSkin) (markdown : List ℕ) (area : Area) (old mid new : Trace) → ShowsSource skin markdown area old mid → new ≡ flushed mid → ShowsSource skin markdown area old new
+source_flushed skin markdown area old mid new h e = record {
+  lines = h.lines;
+  laid_out = h.laid_out;
+  shown = took_flushed old mid new (AreShownIn skin h.lines area 0) h.shown e;
+}

@@ -1,0 +1,17 @@
+pub mod AttributeLaw
+pub mod BracketLemmas
+pub mod CharLemmas
+pub mod CharTokens
+pub mod ColorLemmas
+pub mod CutLemmas
+pub mod Digits
+pub mod Examples
+pub mod JoinLemmas
+pub mod LawLemmas
+pub mod NameLemmas
+pub mod ReadTokens
+pub mod ReadingBack
+pub mod StyleLaw
+pub mod StyleLemmas
+pub mod TokenLemmas
+pub mod WriteLemmas

@@ -1,0 +1,11 @@
+pub mod Colors
+pub mod Cuts
+pub mod Errors
+pub mod Laws
+pub mod Names
+pub mod Numbers
+pub mod Reading
+pub mod ReadsBack
+pub mod Styles
+pub mod Values
+pub mod Written

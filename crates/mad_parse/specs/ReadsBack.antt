@@ -1,0 +1,76 @@
+-- The styles that read back equal from what they write.
+use Rattle.std.specs.Prelude.{◌≡◌, ◌<◌, ⊤, ℕ, List, Bool, true, false, Option, Some, None, Ok}
+use Rattle.std.specs.Char.{is_whitespace, is_ascii_digit}
+use Rattle.mad_term.specs.Attributes.{has_attribute}
+use Rattle.mad_term.specs.declared.attribute.Attribute.{Attribute}
+use Rattle.mad_term.specs.declared.attribute.Attribute.TheVariants.{Bold, Dim, Italic, Underlined, Reverse, CrossedOut, Encircled, OverLined}
+use Rattle.mad_term.specs.declared.color.Color.{Color}
+use Rattle.mad_term.specs.declared.color.Color.TheVariants as color
+use Rattle.mad_style.specs.declared.compound_styles.CompoundStyle.{CompoundStyle}
+use Rattle.mad_style.specs.declared.line_styles.LineStyle.{LineStyle}
+use Rattle.mad_style.specs.declared.ordered_items.OrderedItemStyle.{OrderedItemStyle}
+use Rattle.mad_style.specs.declared.styled_chars.StyledChar.{StyledChar}
+use Rattle.mad_style.specs.StyledChars.{char_alone, char_style}
+use Rattle.mad_parse.specs.Reading.{tokens_of, said}
+use Rattle.mad_parse.specs.Styles.{style_of, line_style_of, styled_char_of, item_style_of}
+
+-- an attribute that is written
+abbrev pub is_written : Attribute → Bool
+is_written Bold = true
+is_written Dim = true
+is_written Italic = true
+is_written Underlined = true
+is_written Reverse = true
+is_written CrossedOut = true
+is_written Encircled = true
+is_written OverLined = true
+is_written _ = false
+
+-- a color that reads back: none of the three that are read as another or not at all
+abbrev pub IsWrittenColor : Color → Type 0
+IsWrittenColor color.Reset = ⊥
+IsWrittenColor color.Black = ⊥
+IsWrittenColor color.White = ⊥
+IsWrittenColor _ = ⊤
+
+abbrev pub IsWrittenOrNone : Option Color → Type 0
+IsWrittenOrNone None = ⊤
+IsWrittenOrNone (Some c) = IsWrittenColor c
+
+-- a style whose colors read back, without a color of its own for the underline, and with no other attributes than those that are written
+pub record IsWrittenStyle (s : CompoundStyle) : Type 0 where
+  pub foreground : IsWrittenOrNone s.object_style.foreground_color
+  pub background : IsWrittenOrNone s.object_style.background_color
+  pub underline : s.object_style.underline_color ≡ None
+  pub attributes : (a : Attribute) → is_written a ≡ false → has_attribute s.object_style.attributes a ≡ false
+
+-- such a style of a line, with margins below 65536
+pub record IsWrittenLine (s : LineStyle) : Type 0 where
+  pub style : IsWrittenStyle s.compound_style
+  pub left : s.left_margin < 65536
+  pub right : s.right_margin < 65536
+
+-- such a style of a mark that is neither whitespace nor an ASCII digit
+pub record IsWrittenChar (c : StyledChar) : Type 0 where
+  pub style : IsWrittenStyle (char_style c)
+  pub mark : is_whitespace (char_alone c) ≡ false
+  pub no_digit : is_ascii_digit (char_alone c) ≡ false
+
+-- such styles of an ordered item's number and suffix
+pub record IsWrittenItem (s : OrderedItemStyle) : Type 0 where
+  pub index : IsWrittenStyle s.index_style
+  pub suffix : IsWrittenChar s.index_suffix
+
+-- what is read of a text is the value that wrote it
+abbrev pub StyleReadsBack : CompoundStyle → List ℕ → Type 0
+StyleReadsBack s text = IsWrittenStyle s → said style_of (tokens_of text) ≡ Ok s
+
+abbrev pub LineReadsBack : LineStyle → List ℕ → Type 0
+LineReadsBack s text = IsWrittenLine s → said line_style_of (tokens_of text) ≡ Ok s
+
+-- whatever the reader takes for a mark where there is none
+abbrev pub CharReadsBack : StyledChar → List ℕ → Type 0
+CharReadsBack c text = IsWrittenChar c → (default : ℕ) → said (styled_char_of default) (tokens_of text) ≡ Ok c
+
+abbrev pub ItemReadsBack : OrderedItemStyle → List ℕ → Type 0
+ItemReadsBack s text = IsWrittenItem s → (default : ℕ) → said (item_style_of default) (tokens_of text) ≡ Ok s

@@ -1,0 +1,11 @@
+pub mod Granted
+pub mod TurnLemmas
+pub mod GrantLemmas
+pub mod ShareLemmas
+pub mod WidthLemmas
+pub mod CellLemmas
+pub mod LoopLemmas
+pub mod TableLemmas
+pub mod ReduceLemmas
+pub mod EvenLemmas
+pub mod WorkedLemmas

@@ -1,0 +1,5 @@
+pub mod ColumnWidths
+pub mod SeenCells
+pub mod TableFits
+pub mod Turns
+pub mod WorkedWidths
