@@ -118,12 +118,12 @@ impl fmt::Display for Compounds<'_, '_> {
     }
 }
 
-// A composite at its place in a row.
+/// A composite at its place in a row.
 #[derive(Clone, Copy)]
-struct PlacedComposite<'a, 's> {
-    skin: &'a MadSkin,
-    composite: &'a FmtComposite<'s>,
-    place: RowPlace,
+pub(crate) struct PlacedComposite<'a, 's> {
+    pub skin: &'a MadSkin,
+    pub composite: &'a FmtComposite<'s>,
+    pub place: RowPlace,
 }
 
 impl fmt::Display for PlacedComposite<'_, '_> {
@@ -219,13 +219,13 @@ impl fmt::Display for Cells<'_, '_> {
     }
 }
 
-// A line at an outer width, with its margins.
+/// A line at an outer width, with its margins.
 #[derive(Clone, Copy)]
-struct PlacedLine<'a, 's> {
-    skin: &'a MadSkin,
-    line: &'a FmtLine<'s>,
-    outer: Option<usize>,
-    right: bool,
+pub(crate) struct PlacedLine<'a, 's> {
+    pub skin: &'a MadSkin,
+    pub line: &'a FmtLine<'s>,
+    pub outer: Option<usize>,
+    pub right: bool,
 }
 
 impl fmt::Display for PlacedLine<'_, '_> {

@@ -17,6 +17,7 @@
 pub mod bound;
 pub mod composite;
 mod display;
+pub mod displayable_line;
 pub mod drawing;
 pub mod fmt_inline;
 pub mod fmt_text;
@@ -30,6 +31,7 @@ pub mod skin;
 pub mod table;
 #[cfg(test)]
 mod tests;
+mod text_writing;
 pub mod wrap;
 mod writing;
 
@@ -37,11 +39,13 @@ pub use bound::{WrapBound, check_wrap_bound, wrap_bound};
 pub use composite::FmtComposite;
 pub use drawing::draw_text;
 pub use fmt_inline::{FmtInline, inline};
-pub use fmt_text::FmtText;
+pub use displayable_line::DisplayableLine;
+pub use fmt_text::{FmtText, term_text, text};
 pub use indents::composite_kind_widths;
 pub use line::FmtLine;
 pub use room::room_of;
 pub use skin::MadSkin;
 pub use table::{FmtTableRow, FmtTableRule, RelativePosition};
 pub use wrap::{hard_wrap_composite, hard_wrap_lines};
+pub use text_writing::print_text;
 pub use writing::print_inline;
