@@ -4,9 +4,12 @@ pub mod HeadlineLemmas
 pub mod InlineLemmas
 pub mod KnownLemmas
 pub mod LayoutLemmas
+pub mod MarkLemmas
 pub mod MeasureLemmas
+pub mod PartLemmas
 pub mod PieceLemmas
 pub mod RowLemmas
+pub mod RunLemmas
 pub mod ShownLemmas
 pub mod SourceLemmas
 pub mod WholeTokens

@@ -1,13 +1,14 @@
 -- The example's text: how it is read, and laid out in a wider place.
-use Rattle.std.proofs.Common.{◌≡◌, ◌≢◌, ℕ, ◌<◌, false, List, [], ◌∷◌, ◌++◌, chars, Option, Some, refl, ap, sym, subst, arith, lit<}
-use Rattle.std.specs.Prelude.{unwrap_or, slice_range}
+use Rattle.std.proofs.Common.{◌≡◌, ◌≢◌, ℕ, zero, suc, ◌+◌, ◌<◌, ◌≤◌, inl, false, true, List, [], ◌∷◌, ◌++◌, map, length, chars, Option, Some, refl, ap, sym, ◌∙◌, subst, arith, lit<}
+use Rattle.std.specs.Prelude.{IsSome, unwrap_or, slice_range}
 use Rattle.std.specs.List.{AllByRecursion, join_with_byte}
 use Rattle.std.specs.Str.{IsAscii}
 use Rattle.std.proofs.lemmas.Str.{IsUtf8-from_ascii, chars-IsAscii}
 use Rattle.std.proofs.lemmas.Str.Ascii.{IsAscii-cons, IsAscii-nil}
 use Rattle.unicode_width.specs.Width.{char_width}
 use Rattle.mad_columns.specs.Columns.{char_columns}
-use Rattle.mad_md.specs.Parts.{AreParts, HasNoNewline, line_places}
+use Rattle.mad_md.specs.Parts.{AreParts, HasNoNewline, line_places, line_text}
+use Rattle.mad_md.specs.ReadByMarks.{IsParagraphText}
 use Rattle.mad_fit.proofs.AllLemmas.{all_back}
 use Rattle.mad_layout.specs.Sources.{TakesColumns, LinesTakeColumns}
 use Rattle.mad_layout.specs.Words.{words}
@@ -82,6 +83,9 @@ one_part (p ∷ q ∷ ps) cut =
     let held : HasNoNewline (p ++ (10 ∷ join_with_byte 10 (q ∷ ps))) = subst HasNoNewline (sym cut.joined) unbroken in
     absurd ((all_back (λ b. b ≢ 10) p (10 ∷ join_with_byte 10 (q ∷ ps)) held).0 refl)
 
+words_begin : IsParagraphText words
+words_begin = (refl, inl refl)
+
 pub words_take_columns : LinesTakeColumns words
 words_take_columns parts cut =
-    subst (λ (ps : List (List ℕ)). AllByRecursion (λ place. TakesColumns (slice_range words place.start place.end)) (line_places ps)) (sym (one_part parts cut)) (words_columns, tt)
+    subst (λ (ps : List (List ℕ)). AllByRecursion (λ place. TakesColumns (line_text words place) × IsParagraphText (line_text words place)) (line_places ps)) (sym (one_part parts cut)) ((words_columns, words_begin), tt)

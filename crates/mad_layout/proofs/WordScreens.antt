@@ -1,19 +1,21 @@
 -- The example's text in an area: what a screen shows that reads it.
-use Rattle.std.proofs.Common.{◌≡◌, ℕ, zero, suc, replicate, ◌≤◌, List, [], ◌∷◌, ◌++◌, map, inl, inr, chars, get_or, Option, Some, None, refl, ap, sym, ◌∙◌, subst, arith}
-use Rattle.std.specs.Prelude.{IfSome, true}
-use Rattle.std.proofs.lemmas.List.{length-replicate}
-use Rattle.mad_md.specs.Flagged.{Run, plain, flagged, run_at, run_of}
+use Rattle.std.proofs.Common.{◌≡◌, ℕ, zero, suc, replicate, ◌+◌, ◌<◌, ◌≤◌, List, [], ◌∷◌, ◌++◌, map, inl, inr, chars, get_or, drop, Option, Some, None, refl, ap, sym, ◌∙◌, subst, arith}
+use Rattle.std.specs.Prelude.{IfSome, slice_get, true, false}
+use Rattle.std.proofs.lemmas.List.{append-nil, length-replicate}
+use Rattle.mad_columns.specs.Columns.{char_columns}
+use Rattle.mad_md.specs.Flagged.{Run, plain, flagged, run_at, run_of, flagged_text}
 use Rattle.mad_md.specs.Lines.{LineContent, StyledRuns, normal, contents}
 use Rattle.mad_md.specs.Parts.{line_places}
-use Rattle.mad_md.specs.ReadByMarks.{IsReadByMarks, AreInlineLines}
+use Rattle.mad_md.specs.ReadByMarks.{AreInlineLines}
+use Rattle.mad_md.specs.Reading.{IsRead, unread_text}
 use Rattle.mad_md.specs.declared.composite.CompositeStyle.TheVariants.{Paragraph as Plain}
-use Rattle.mad_md.specs.declared.text.Text.{Text}
 use Rattle.mad_md.proofs.RunBorders.{unmarked_runs}
 use Rattle.mad_term.specs.Trace.{Trace}
 use Rattle.mad_screen.specs.Glyph.{Glyph, Look}
 use Rattle.mad_screen.specs.Grid.{Grid, blank, cell_at, empty_grid, plain_pen}
 use Rattle.mad_screen.specs.Painting.{attach, cells_of, look_of_style}
 use Rattle.mad_screen.specs.Terminal.{after_bytes}
+use Rattle.mad_style.specs.declared.kinds.CompositeKind.{CompositeKind}
 use Rattle.mad_style.specs.declared.kinds.CompositeKind.TheVariants.{Paragraph}
 use Rattle.mad_style.specs.LineStyles.{margins_at}
 use Rattle.mad_fit.specs.Columns.{width_of}
@@ -25,12 +27,14 @@ use Rattle.mad_draw.proofs.PieceLemmas.{ascii_spaces, shown_spaces, spaces_colum
 use Rattle.mad_draw.proofs.ShownLemmas.{area_shown}
 use Rattle.mad_screen.proofs.Paints.{spaces_cells}
 use Rattle.mad_style.specs.CompoundStyles.{plain_style}
-use Rattle.mad_layout.proofs.SourceLemmas.{source_keeps}
+use Rattle.mad_layout.proofs.SourceLemmas.{source_keeps, source_read}
 use Rattle.std.specs.List.{AllByRecursion}
 use Rattle.std.proofs.lemmas.Str.{chars-IsAscii}
 use Rattle.mad_draw.specs.PennedCells.{penned_cells, penned_joined}
 use Rattle.mad_layout.specs.Indents.{indent}
-use Rattle.mad_layout.specs.Layouts.{AreRead, IsLayout, composites}
+use Rattle.mad_layout.specs.CompositeWraps.{IsCompositeWrap}
+use Rattle.mad_layout.specs.Layouts.{AreRead, IsLayout}
+use Rattle.mad_layout.specs.Parts.{Part, single, is_code_kind, with_composite, parts_of, ArePartsAt}
 use Rattle.mad_layout.specs.Premises.{runs_text}
 use Rattle.mad_layout.specs.Rows.{run_piece, line_pieces}
 use Rattle.mad_layout.specs.Shown.{text_row, AreShownIn}
@@ -39,15 +43,15 @@ use Rattle.mad_layout.specs.Sources.{LinesTakeColumns, ShowsSource}
 use Rattle.mad_layout.specs.declared.skin.MadSkin.{MadSkin}
 use Rattle.mad_layout.specs.Styles.{line_style}
 use Rattle.mad_layout.specs.Words.{words, word_area, SpacesAreNoText}
-use Rattle.mad_layout.specs.WrappedLines.{AreLinesWrapped, line_with}
+use Rattle.mad_layout.specs.WrappedLines.{IsLaidOutBy, line_with}
 use Rattle.mad_layout.specs.Wraps.{text_of}
 use Rattle.mad_layout.specs.declared.composite.FmtComposite.{FmtComposite}
 use Rattle.mad_layout.specs.declared.line.FmtLine.{FmtLine}
-use Rattle.mad_layout.specs.declared.line.FmtLine.TheVariants.{Normal}
+use Rattle.mad_layout.specs.declared.line.FmtLine.TheVariants.{Normal, TableRow, TableRule, HorizontalRule}
 use Rattle.mad_layout.proofs.DrawableLemmas.{runs_are}
 use Rattle.mad_layout.proofs.HeadlineLemmas.{wrapped_at}
 use Rattle.mad_layout.proofs.PieceLemmas.{pieces_of_runs}
-use Rattle.mad_layout.proofs.WordLemmas.{one_a, one_b, one_c, one_space, spelled, cut_words, words_take_columns}
+use Rattle.mad_layout.proofs.WordLemmas.{one_a, one_b, one_c, one_space, spelled, one_part, words_take_columns}
 
 -- ---- how it is read
 
@@ -63,8 +67,10 @@ one_line (l ∷ []) h =
     ap (λ (x : LineContent). x ∷ []) (h.0.says ∙ ap (λ rs. normal (record { style = Plain; runs = map (run_at words) rs })) (unmarked_runs words h.0.reading refl h.0.reads))
 one_line (l ∷ m ∷ ms) h = absurd h.1
 
-words_read : (text : Text) → IsReadByMarks words text → contents text ≡ normal word_line ∷ []
-words_read text read = one_line (contents text) (read.each (words ∷ []) cut_words)
+words_read : (text : List LineContent) → IsRead (unread_text false words) text → text ≡ normal word_line ∷ []
+words_read text read =
+    let are : AreInlineLines words (line_places read.reads.parts) text = source_read words text words_take_columns read in
+    one_line text (subst (λ (ps : List (List ℕ)). AreInlineLines words (line_places ps) text) (one_part read.reads.parts read.reads.cut) are)
 
 -- ---- how it is laid out in eleven columns
 
@@ -80,11 +86,19 @@ record OneLine (lines : List FmtLine) : Type 0 where
   columns : l.visible_length ≡ 9
   spacing : l.spacing ≡ None
 
-laid : (read lines : List FmtLine) → AreRead no_style_skin (word_line ∷ []) read → AreLinesWrapped no_style_skin 11 read lines → OneLine lines
-laid [] lines reads wraps = absurd reads
-laid (Normal l ∷ m ∷ ms) lines reads wraps = absurd reads.1
-laid (Normal l ∷ []) lines reads (own, others, joins, here, none) =
+laid : (read lines : List FmtLine) → AreRead no_style_skin (normal word_line ∷ []) read → ArePartsAt IsCompositeWrap no_style_skin (Some 11) (parts_of read) lines → OneLine lines
+laid [] lines reads parts = absurd reads
+laid (l ∷ m ∷ ms) lines reads parts = absurd reads.1
+laid (TableRow row ∷ []) lines reads parts = absurd reads.0
+laid (TableRule rule ∷ []) lines reads parts = absurd reads.0
+laid (HorizontalRule ∷ []) lines reads parts = absurd reads.0
+laid (Normal l ∷ []) lines reads parts =
     let kind : l.kind ≡ Paragraph = reads.0.kind in
+    let part : ArePartsAt IsCompositeWrap no_style_skin (Some 11) (single (Normal l) ∷ []) lines =
+    subst (λ (ps : List Part). ArePartsAt IsCompositeWrap no_style_skin (Some 11) ps lines) (ap (λ (k : CompositeKind). with_composite (is_code_kind k) l []) kind) parts in
+    let line = part.3 in
+    let own : List FmtLine = line.0 in
+    let here : IsLaidOutBy IsCompositeWrap no_style_skin 11 l own = line.3 in
     let no_indent : indent no_style_skin.list_items_indentation_mode l.kind ≡ 0 = ap (indent no_style_skin.list_items_indentation_mode) kind in
     let wide : width_of (text_of l) ≡ 9 = ap width_of (sym (runs_are l.compounds.items) ∙ ap runs_text reads.0.text) ∙ word_columns in
     let columns : l.visible_length ≡ 9 = omega (arith, reads.0.measured, no_indent, wide) in
@@ -97,7 +111,7 @@ laid (Normal l ∷ []) lines reads (own, others, joins, here, none) =
     ] in
     record {
       l = l;
-      is = joins ∙ ap (λ (o : List FmtLine). own ++ o) none ∙ ap (λ (o : List FmtLine). o ++ []) own_is;
+      is = part.2 ∙ ap (λ (o : List FmtLine). part.0 ++ o) part.4 ∙ append-nil part.0 ∙ line.2 ∙ ap (λ (o : List FmtLine). own ++ o) line.4 ∙ ap (λ (o : List FmtLine). o ++ []) own_is;
       kind = kind;
       runs = reads.0.text;
       columns = columns;
@@ -153,10 +167,9 @@ pub record ShowsWords (g : Grid) : Type 0 where
 pub words_shown : (old new : Trace) (taken : List ℕ) (start g : Grid) → old.bytes ≡ Some [] → new.bytes ≡ Some taken → ShowsSource no_style_skin words word_area old new
     → start ≡ empty_grid 16 4 → after_bytes start taken ≡ Some g → ShowsWords g
 words_shown old new taken start g none all h begun read =
-    let text : List LineContent = contents h.laid_out.text in
-    let layout : IsLayout no_style_skin 11 (composites (contents h.laid_out.text)) h.lines = wrapped_at no_style_skin 11 (composites (contents h.laid_out.text)) h.lines (omega arith) h.laid_out.layout in
-    let of_words : IsLayout no_style_skin 11 (word_line ∷ []) h.lines = subst (λ (xs : List LineContent). IsLayout no_style_skin 11 (composites xs) h.lines) (words_read h.laid_out.text h.laid_out.read) layout in
-    let one : OneLine h.lines = laid of_words.read h.lines of_words.reads of_words.wraps in
+    let layout : IsLayout no_style_skin 11 h.laid_out.text h.lines = wrapped_at no_style_skin 11 h.laid_out.text h.lines (omega arith) h.laid_out.layout in
+    let of_words : IsLayout no_style_skin 11 (normal word_line ∷ []) h.lines = subst (λ (xs : List LineContent). IsLayout no_style_skin 11 xs h.lines) (words_read h.laid_out.text h.laid_out.read) layout in
+    let one : OneLine h.lines = laid of_words.read h.lines of_words.reads of_words.laid in
     let took : (text : List ℕ) × (new.bytes ≡ Some ([] ++ text)) × AreShownIn no_style_skin h.lines word_area 0 text =
     subst (λ (o : Option (List ℕ)). IfSome o (λ before. (text : List ℕ) × (new.bytes ≡ Some (before ++ text)) × AreShownIn no_style_skin h.lines word_area 0 text)) none h.shown in
     let same : took.0 ≡ taken = cc in

@@ -7,8 +7,10 @@ pub mod FittingLayouts
 pub mod InArea
 pub mod Indents
 pub mod Inlines
+pub mod Laying
 pub mod Layouts
 pub mod Lines
+pub mod Parts
 pub mod Premises
 pub mod Rows
 pub mod Shown

@@ -10,7 +10,7 @@ use crate::line::FmtLine;
 use crate::skin::MadSkin;
 use crate::wrap::{hard_wrap_composite, hard_wrap_lines};
 use mad_fit::Spacing;
-use mad_md::{Alignment, Composite, CompositeStyle, Compound};
+use mad_md::{Alignment, Composite, CompositeStyle, Compound, Line};
 use mad_style::{CompositeKind, CompoundStyle, LineStyle, ListItemsIndentationMode};
 use mad_term::Error;
 use std::alloc::{AllocError, Global};
@@ -302,9 +302,10 @@ fn margins_of_the_style_rows(rt: &impl Abort, alloc: Global) -> Result<(), Error
         lines.push(FmtLine::Normal(composite))?;
         let mut picture = String::new(alloc);
         for line in &hard_wrap_lines(alloc, lines, 12, &skin)? {
-            let FmtLine::Normal(line) = line;
-            assert_eq!(rt; line.margins, Some(margins));
-            push_picture(&mut picture, line)?;
+            if let FmtLine::Normal(line) = line {
+                assert_eq!(rt; line.margins, Some(margins));
+                push_picture(&mut picture, line)?;
+            }
         }
         assert_eq!(rt; picture.as_str(), wanted);
     }
@@ -382,6 +383,7 @@ fn composites_measured_and_copied(rt: HostRuntime) -> Result<(), Error> {
     push_picture(&mut picture, &copy)?;
     assert_eq!(rt; picture.as_str(), "|概要|b|ab|\n");
     let read = Composite::from_inline(alloc, "*a* b")?;
-    assert_eq!(rt; FmtLine::from(read, &skin).visible_length(), 3);
+    let line = FmtLine::from(alloc, Line::Normal(read), &skin)?;
+    assert_eq!(rt; line.visible_length(), 3);
     Ok(())
 }

@@ -72,6 +72,7 @@ pub use Rattle.mad_layout.specs.Indents
 pub use Rattle.mad_layout.specs.Inlines
 pub use Rattle.mad_layout.specs.Layouts
 pub use Rattle.mad_layout.specs.Lines as LayoutLines
+pub use Rattle.mad_layout.specs.Parts as LayoutParts
 pub use Rattle.mad_layout.specs.Premises
 pub use Rattle.mad_layout.specs.Rows
 pub use Rattle.mad_layout.specs.Shown

@@ -37,8 +37,9 @@ pub mod edit {
 pub use mad_edit::{Chars, InputFieldContent, Pos, Range};
 pub use mad_fit::{Area, Spacing, Token, Tokens, token_iter, tokenize};
 pub use mad_layout::{
-    FmtComposite, FmtInline, FmtLine, FmtText, MadSkin, composite_kind_widths, draw_text, inline,
-    print_inline,
+    DisplayableLine, FmtComposite, FmtInline, FmtLine, FmtTableRow, FmtTableRule, FmtText, MadSkin,
+    RelativePosition, composite_kind_widths, draw_text, inline, print_inline, print_text,
+    term_text, text,
 };
 pub use mad_md as md;
 pub use mad_md::{
