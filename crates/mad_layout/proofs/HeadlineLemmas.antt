@@ -1,6 +1,6 @@
 -- From a layout to what its area shows.
-use Rattle.std.proofs.Common.{◌≡◌, ℕ, ◌-◌, ◌≤◌, List, [], inl, inr, Option, Some, None, Result, Ok, Err, OnOk, IfOk, ap, ◌∙◌, subst, arith}
-use Rattle.std.specs.Prelude.{Bool, false, nat_lt, if◌then◌else◌, MatchBool}
+use Rattle.std.proofs.Common.{◌≡◌, ℕ, ◌-◌, ◌≤◌, List, inl, inr, Option, Some, None, Result, Ok, Err, OnOk, IfOk, subst, arith}
+use Rattle.std.specs.Prelude.{Bool, false, nat_lt, if◌then◌else◌}
 use Rattle.std.proofs.lemmas.Bool.Decides.{nat_tests}
 use Rattle.mad_md.specs.Lines.{LineContent}
 use Rattle.std.specs.Result.{IsErrAnd}
@@ -18,7 +18,6 @@ use Rattle.mad_layout.specs.FittingLayouts.{IsFittingLayoutAt}
 use Rattle.mad_layout.specs.InArea.{IsAreaLayout, ShowsText, WritesInArea}
 use Rattle.mad_layout.specs.CompositeWraps.{IsCompositeWrap}
 use Rattle.mad_layout.specs.Layouts.{IsLayoutBy, IsLayout, IsLayoutAt, IsMarkdownLayout}
-use Rattle.mad_layout.specs.Parts.{wrap_width}
 use Rattle.mad_layout.specs.Shown.{lines_shown, AreShownIn}
 use Rattle.mad_layout.specs.declared.skin.MadSkin.{MadSkin}
 use Rattle.mad_layout.specs.declared.line.FmtLine.{FmtLine}

@@ -1,12 +1,12 @@
 -- The parts of a text, line by line.
-use Rattle.std.proofs.Common.{◌≡◌, ℕ, ◌-◌, ◌≤◌, ◌⊎◌, inl, inr, Bool, true, false, List, [], ◌∷◌, ◌++◌, map, min, max, Option, Some, None, refl, ap, sym, ◌∙◌, subst, arith, append_assoc}
+use Rattle.std.proofs.Common.{◌≡◌, ℕ, ◌-◌, ◌≤◌, ◌⊎◌, inl, inr, Bool, true, false, List, [], ◌∷◌, ◌++◌, map, min, Option, Some, refl, ap, sym, ◌∙◌, subst, arith, append_assoc}
 use Rattle.std.specs.List.{AllByRecursion, flat_map}
 use Rattle.mad_md.specs.declared.alignment.Alignment.TheVariants.{Left}
 use Rattle.mad_style.specs.declared.kinds.CompositeKind.{CompositeKind}
 use Rattle.mad_style.specs.declared.kinds.CompositeKind.TheVariants.{Paragraph, Header, ListItem, ListItemFollowUp, OrderedListItem, OrderedListItemFollowUp, Code, Quote}
 use Rattle.mad_style.specs.LineStyles.{margins_at}
 use Rattle.mad_fit.specs.declared.spacing.Spacing.{Spacing}
-use Rattle.mad_layout.specs.Parts.{Part, block, single, is_code_kind, with_code, with_composite, with_line, parts_of, widest, block_width, placed_code, justified, part_lines, blocks_justified, code_room, IsLineAt, AreLinesAt, ArePartsAt}
+use Rattle.mad_layout.specs.Parts.{Part, block, single, is_code_kind, with_code, with_composite, parts_of, widest, placed_code, part_lines, blocks_justified, code_room, AreLinesAt, ArePartsAt}
 use Rattle.mad_layout.specs.Styles.{line_style}
 use Rattle.mad_layout.specs.WrappedLines.{Wrap, style_margins}
 use Rattle.mad_layout.specs.declared.skin.MadSkin.{MadSkin}

@@ -1,5 +1,5 @@
 -- The pieces of composites that stand by themselves.
-use Rattle.std.proofs.Common.{◌≡◌, ℕ, zero, suc, ◌+◌, ◌<◌, ◌==◌, Bool, false, List, [], ◌∷◌, ◌++◌, map, length, take, get_or, refl, ap, sym, ◌∙◌, arith}
+use Rattle.std.proofs.Common.{◌≡◌, ℕ, zero, suc, ◌+◌, ◌<◌, ◌==◌, false, List, [], ◌∷◌, ◌++◌, map, length, take, get_or, refl, ap, sym, ◌∙◌, arith}
 use Rattle.std.specs.Prelude.{encode_utf8}
 use Rattle.std.specs.List.{flat_map, repeat}
 use Rattle.std.proofs.lemmas.Bool.Decides.{nat_tests}

@@ -4,7 +4,6 @@ use Rattle.std.specs.List.{repeat}
 use Rattle.std.specs.Str.{chars, IsUtf8}
 use Rattle.std.specs.Prelude.{encode_utf8}
 use Rattle.std.proofs.lemmas.Str.{chars-append, chars-nil, IsUtf8-nil, IsUtf8-append}
-use Rattle.mad_columns.specs.Columns.{char_columns}
 use Rattle.mad_screen.specs.Painting.{IsPrinted, IsWhole}
 use Rattle.mad_style.specs.declared.styled_chars.StyledChar.{StyledChar}
 use Rattle.mad_style.specs.StyledChars.{char_alone}

@@ -1,6 +1,6 @@
 -- The example's text: how it is read, and laid out in a wider place.
-use Rattle.std.proofs.Common.{◌≡◌, ◌≢◌, ℕ, zero, suc, ◌+◌, ◌<◌, ◌≤◌, inl, false, true, List, [], ◌∷◌, ◌++◌, map, length, chars, Option, Some, refl, ap, sym, ◌∙◌, subst, arith, lit<}
-use Rattle.std.specs.Prelude.{IsSome, unwrap_or, slice_range}
+use Rattle.std.proofs.Common.{◌≡◌, ◌≢◌, ℕ, ◌<◌, inl, false, List, [], ◌∷◌, ◌++◌, chars, Option, Some, refl, ap, sym, subst, arith, lit<}
+use Rattle.std.specs.Prelude.{unwrap_or}
 use Rattle.std.specs.List.{AllByRecursion, join_with_byte}
 use Rattle.std.specs.Str.{IsAscii}
 use Rattle.std.proofs.lemmas.Str.{IsUtf8-from_ascii, chars-IsAscii}

@@ -1,10 +1,9 @@
 -- The example's text in an area: what a screen shows that reads it.
-use Rattle.std.proofs.Common.{◌≡◌, ℕ, zero, suc, replicate, ◌+◌, ◌<◌, ◌≤◌, List, [], ◌∷◌, ◌++◌, map, inl, inr, chars, get_or, drop, Option, Some, None, refl, ap, sym, ◌∙◌, subst, arith}
-use Rattle.std.specs.Prelude.{IfSome, slice_get, true, false}
+use Rattle.std.proofs.Common.{◌≡◌, ℕ, zero, suc, replicate, ◌≤◌, List, [], ◌∷◌, ◌++◌, map, inl, inr, chars, get_or, Option, Some, None, refl, ap, sym, ◌∙◌, subst, arith}
+use Rattle.std.specs.Prelude.{IfSome, true, false}
 use Rattle.std.proofs.lemmas.List.{append-nil, length-replicate}
-use Rattle.mad_columns.specs.Columns.{char_columns}
-use Rattle.mad_md.specs.Flagged.{Run, plain, flagged, run_at, run_of, flagged_text}
-use Rattle.mad_md.specs.Lines.{LineContent, StyledRuns, normal, contents}
+use Rattle.mad_md.specs.Flagged.{Run, plain, flagged, run_at, run_of}
+use Rattle.mad_md.specs.Lines.{LineContent, StyledRuns, normal}
 use Rattle.mad_md.specs.Parts.{line_places}
 use Rattle.mad_md.specs.ReadByMarks.{AreInlineLines}
 use Rattle.mad_md.specs.Reading.{IsRead, unread_text}

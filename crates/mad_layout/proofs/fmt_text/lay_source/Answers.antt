@@ -1,4 +1,4 @@
-use Rattle.std.proofs.Common.{◌≡◌, false, [], rules, ap, ◌∙◌, subst}
+use Rattle.std.proofs.Common.{◌≡◌, false, [], rules, subst}
 use Rattle.mad_md.specs.Cursor.{unread}
 use Rattle.mad_md.specs.Reading.{IsRead, unread_text}
 use Rattle.mad_md.specs.Scan.{lines_of}

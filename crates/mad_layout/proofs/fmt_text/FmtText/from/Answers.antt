@@ -1,4 +1,4 @@
-use Rattle.std.proofs.Common.{ap, subst}
+use Rattle.std.proofs.Common.{subst}
 use Rattle.mad_layout.specs.CompositeWraps.{IsCompositeWrap}
 use Rattle.mad_layout.specs.Layouts.{IsLayoutBy}
 use Rattle.mad_layout.proofs.HeadlineLemmas.{layout_fitting}

@@ -1,4 +1,4 @@
-use Rattle.std.proofs.Common.{rules, ◌≡◌, ◌++◌, [], List, map, ap, ◌∙◌, sym, arith, subst}
+use Rattle.std.proofs.Common.{rules, ◌≡◌, [], arith, subst}
 use Rattle.std.specs.Vec.Iter.{into_iter_items}
 use Rattle.std.proofs.lemmas.Grind.{common_steps}
 
