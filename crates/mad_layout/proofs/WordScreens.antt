@@ -106,7 +106,7 @@ laid (Normal l ∷ []) lines reads parts =
     let left : (margins_at (line_style no_style_skin l.kind) (Some 11)).0 ≡ 0 = ap (λ (m : ℕ × ℕ). m.0) margins in
     let right : (margins_at (line_style no_style_skin l.kind) (Some 11)).1 ≡ 0 = ap (λ (m : ℕ × ℕ). m.1) margins in
     let own_is : own ≡ line_with (0, 0) l ∷ [] = elim here [
-      inl kept ↦ kept.1 ∙ ap (λ (m : ℕ × ℕ). line_with m l ∷ []) margins
+      | inl kept ↦ kept.1 ∙ ap (λ (m : ℕ × ℕ). line_with m l ∷ []) margins
       | inr broken ↦ absurd (omega (arith, broken.0, columns, left, right))
     ] in
     record {

@@ -15,14 +15,12 @@ use std::alloc::Global;
 #[tactic(auto, using(crate::proofs::WordLemmas::words_take_columns))]
 pub fn words_take_columns()
     ensures { LinesTakeColumns words }
-{
-}
+{}
 
 /// Who fills an area with spaces has not shown `aaa bb cc` in it.
 pub fn spaces_are_no_text()
     ensures { SpacesAreNoText }
-{
-}
+{}
 
 /// A screen of sixteen columns and four rows, after `aaa bb cc` was written in an area of twelve columns and two rows, whose first
 /// cell is in column 2 of row 1.

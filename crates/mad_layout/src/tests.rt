@@ -240,10 +240,7 @@ fn starts_that_show_nothing_rows(rt: &impl Abort, alloc: Global) -> Result<(), E
         let bound = WrapBound {
             starts: starts.to_vec(alloc)?,
         };
-        assert_eq!(rt;
-            check_wrap_bound(&composite, 5, &skin, &bound)?,
-            wanted
-        );
+        assert_eq!(rt; check_wrap_bound(&composite, 5, &skin, &bound)?, wanted);
     }
     assert_bound(rt, alloc, &composite, 9, &skin, &[0])
 }
