@@ -8,4 +8,6 @@ mod areas;
 #[cfg(test)]
 mod picture;
 #[cfg(test)]
+mod texts;
+#[cfg(test)]
 mod views;
