@@ -3,7 +3,7 @@ use Rattle.std.specs.Prelude.{ℕ, ◌+◌, length, decimal}
 use Rattle.mad_style.specs.declared.kinds.CompositeKind.{CompositeKind}
 use Rattle.mad_style.specs.declared.kinds.CompositeKind.TheVariants.{Paragraph, Header, ListItem, ListItemFollowUp, OrderedListItem, OrderedListItemFollowUp, Code, Quote}
 use Rattle.mad_style.specs.declared.kinds.ListItemsIndentationMode.{ListItemsIndentationMode}
-use Rattle.mad_style.specs.declared.kinds.ListItemsIndentationMode.TheVariants.{FirstLineOnly, Block}
+use Rattle.mad_style.specs.declared.kinds.ListItemsIndentationMode.TheVariants.{FirstLineOnly, Block, Hanging}
 use Rattle.mad_wrap.specs.declared.room.Room.{Room}
 use Rattle.mad_layout.specs.declared.skin.MadSkin.{MadSkin}
 
@@ -18,16 +18,17 @@ follow_up (OrderedListItemFollowUp level index) = OrderedListItemFollowUp level 
 follow_up Code = Code
 follow_up Quote = Quote
 
--- what a mode leaves of an indent on the lines that follow
+-- what a mode makes of an item's indent on the lines that follow
 abbrev pub kept : ListItemsIndentationMode → ℕ → ℕ
 kept FirstLineOnly n = 0
 kept Block n = n
+kept (Hanging extra) n = n + extra
 
--- the columns in front of an ordered item: those of its level, of its number, and of the mark and the space behind that
+-- the columns in front of an ordered item: those of its level, of its number, and of the mark and the space after that
 abbrev pub ordered_indent : ℕ → ℕ → ℕ
 ordered_indent level index = length (decimal index) + 2 + level
 
--- the columns in front of a line of this kind: a bullet and a space behind an item's depth, a quote mark and a space
+-- the columns in front of a line of this kind: a bullet and a space after an item's depth, a quote mark and a space
 abbrev pub indent : ListItemsIndentationMode → CompositeKind → ℕ
 indent mode Paragraph = 0
 indent mode (Header level) = 0

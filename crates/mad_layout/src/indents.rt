@@ -1,4 +1,4 @@
-ghost use Rattle.std.specs.Prelude.{◌≡◌, ◌≤◌};
+ghost use Rattle.std.specs.Prelude.{◌≡◌, ◌<◌, ◌^◌};
 ghost use Rattle.mad_layout.specs.Indents.{follow_up, indent, kept};
 
 use crate::skin::MadSkin;
@@ -6,8 +6,8 @@ use mad_style::{CompositeKind, ListItemsIndentationMode, ordered_item_indent};
 
 /// The columns in front of the first line of a composite of this kind, and in front of its other lines.
 ///
-/// These are the columns of bullets, numbers and quote marks with their spaces, and of the blanks that stand for
-/// them in lines that follow: as many in block mode, none where only the first line is indented.
+/// These are the columns of bullets, numbers and quote marks with their spaces. In the lines that follow, an item has as many
+/// blanks in block mode, none where only the first line is indented, and more than in block mode where items hang.
 pub fn composite_kind_widths(kind: CompositeKind, skin: &MadSkin) -> (usize, usize)
     ensures first { result.0 ≡ indent skin.now.list_items_indentation_mode kind }
     ensures other { result.1 ≡ indent skin.now.list_items_indentation_mode (follow_up kind) }
@@ -45,12 +45,14 @@ pub(crate) fn indent_of(kind: CompositeKind, mode: ListItemsIndentationMode) -> 
     }
 }
 
-// What a mode leaves of an indent on the lines that follow.
+// What a mode makes of an item's indent on the lines that follow.
 fn kept(mode: ListItemsIndentationMode, indent: usize) -> usize
+    requires { indent < 2 ^ 16 }
     ensures { result ≡ kept mode indent }
 {
     match mode {
         ListItemsIndentationMode::FirstLineOnly => 0,
         ListItemsIndentationMode::Block => indent,
+        ListItemsIndentationMode::Hanging(extra) => indent + extra as usize,
     }
 }

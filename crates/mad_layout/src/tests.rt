@@ -315,29 +315,31 @@ fn margins_of_the_style_rows(rt: &impl Abort, alloc: Global) -> Result<(), Error
 }
 
 #[test]
-fn indents_in_both_modes(rt: HostRuntime) {
-    let block = plain_skin();
-    let first_only = skin_with(0, 0, ListItemsIndentationMode::FirstLineOnly);
+fn indents_in_each_mode(rt: HostRuntime) {
     let ordered = CompositeKind::OrderedListItem {
         level: 0,
         index: 100,
     };
+    // In a block, on the first line only, and hanging by 2.
     let rows = [
-        (CompositeKind::Paragraph, (0, 0), (0, 0)),
-        (CompositeKind::Header(1), (0, 0), (0, 0)),
-        (CompositeKind::ListItem(3), (5, 5), (5, 0)),
-        (CompositeKind::ListItemFollowUp(3), (5, 5), (0, 0)),
-        (ordered, (5, 5), (5, 0)),
-        (CompositeKind::Quote, (2, 2), (2, 2)),
-        (CompositeKind::Code, (0, 0), (0, 0)),
+        (CompositeKind::Paragraph, [(0, 0), (0, 0), (0, 0)]),
+        (CompositeKind::Header(1), [(0, 0), (0, 0), (0, 0)]),
+        (CompositeKind::ListItem(3), [(5, 5), (5, 0), (5, 7)]),
+        (CompositeKind::ListItemFollowUp(3), [(5, 5), (0, 0), (7, 7)]),
+        (ordered, [(5, 5), (5, 0), (5, 7)]),
+        (CompositeKind::Quote, [(2, 2), (2, 2), (2, 2)]),
+        (CompositeKind::Code, [(0, 0), (0, 0), (0, 0)]),
     ];
-    for (kind, in_block, in_first_only) in rows {
-        assert_eq!(rt; composite_kind_widths(kind, &block), in_block, "{kind:?}");
-        assert_eq!(rt;
-            composite_kind_widths(kind, &first_only),
-            in_first_only,
-            "{kind:?}"
-        );
+    let modes = [
+        ListItemsIndentationMode::Block,
+        ListItemsIndentationMode::FirstLineOnly,
+        ListItemsIndentationMode::Hanging(2),
+    ];
+    for (kind, wanted) in rows {
+        for (mode, wanted) in modes.iter().zip(wanted.iter()) {
+            let skin = skin_with(0, 0, *mode);
+            assert_eq!(rt; composite_kind_widths(kind, &skin), *wanted, "{kind:?}");
+        }
     }
 }
 

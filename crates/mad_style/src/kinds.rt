@@ -49,6 +49,8 @@ pub enum ListItemsIndentationMode {
     FirstLineOnly,
     /// As far as the text of the first line, so that the item is a block.
     Block,
+    /// As in a block, and by this many columns more.
+    Hanging(u8),
 }
 
 impl Default for ListItemsIndentationMode {

@@ -56,6 +56,7 @@ fn items_of_several_lines(rt: HostRuntime) -> Result<(), Error> {
     let alloc = rt.alloc();
     let block = ListItemsIndentationMode::Block;
     let first_only = ListItemsIndentationMode::FirstLineOnly;
+    let hanging = ListItemsIndentationMode::Hanging;
     let ordered = CompositeStyle::OrderedListItem {
         level: 1,
         index: 10,
@@ -68,7 +69,7 @@ fn items_of_several_lines(rt: HostRuntime) -> Result<(), Error> {
         usize,
         &str,
         &[usize],
-    ); 6] = [
+    ); 8] = [
         (CompositeStyle::ListItem(0), block, 6, four, &[0, 2, 4, 6]),
         (CompositeStyle::ListItem(0), block, 7, three, &[0, 2, 6]),
         // The lines after the first have two columns more.
@@ -82,10 +83,42 @@ fn items_of_several_lines(rt: HostRuntime) -> Result<(), Error> {
         (ordered, block, 9, four, &[0, 2, 4, 6]),
         (ordered, block, 10, three, &[0, 2, 6]),
         (CompositeStyle::Quote, first_only, 6, four, &[0, 2, 4, 6]),
+        // A quote doesn't hang, and an item that hangs by nothing is a block.
+        (CompositeStyle::Quote, hanging(2), 6, four, &[0, 2, 4, 6]),
+        (CompositeStyle::ListItem(0), hanging(0), 7, three, &[0, 2, 6]),
     ];
     for (style, mode, width, wanted, starts) in rows {
         let skin = skin_with(0, 0, mode);
         let item = composite(alloc, WORDS, style, &skin)?;
+        assert_wrap(&rt, alloc, &item, width, &skin, wanted)?;
+        assert_bound(&rt, alloc, &item, width, &skin, starts)?;
+    }
+    Ok(())
+}
+
+#[test]
+fn items_that_hang(rt: HostRuntime) -> Result<(), Error> {
+    let alloc = rt.alloc();
+    let one = CompositeStyle::ListItem(0);
+    let deep = CompositeStyle::ListItem(255);
+    let rows: [(&str, CompositeStyle, u8, usize, &str, &[usize]); 5] = [
+        ("abcdefghij", one, 2, 8, "|abcd|\n|efgh|\n|ij|\n", &[0, 1, 2]),
+        ("abcdefghij", one, 0, 8, "|abcdef|\n|ghij|\n", &[0, 1]),
+        // Without room on later lines each character is a token.
+        (
+            "abcdefghij",
+            one,
+            255,
+            8,
+            "|a||b||c||d||e||f|\n|g|\n|h|\n|i|\n|j|\n",
+            &[0, 6, 7, 8, 9],
+        ),
+        ("abcdef gh", one, 2, 8, "|abcd||ef|\n|gh|\n", &[0, 3]),
+        ("ab", deep, 255, 3, "\n|a|\n|b|\n", &[0, 1]),
+    ];
+    for (text, style, extra, width, wanted, starts) in rows {
+        let skin = skin_with(0, 0, ListItemsIndentationMode::Hanging(extra));
+        let item = composite(alloc, text, style, &skin)?;
         assert_wrap(&rt, alloc, &item, width, &skin, wanted)?;
         assert_bound(&rt, alloc, &item, width, &skin, starts)?;
     }
