@@ -86,7 +86,7 @@ plain_line skin width text reading wide h reads =
       paragraph = refl;
       runs = plain_runs text (runs reading) h (runs_bordered text reading h.utf8 reads);
       room = λ _. record {
-        first = omega arith;
+        indent = omega arith;
         each = every _ (λ (x : FlaggedChar). omega (arith, inner, char_columns-three x.char)) (runs_text (map (run_at text) (runs reading)));
       };
     }

@@ -1,3 +1,5 @@
+//! Cutting a part of a table into cells, and reading them.
+
 ghost use Rattle.std.specs.Prelude.{◌≡◌, ◌≢◌, ◌≤◌, ◌<◌, ◌-◌, ◌==◌, ◌&&◌, ◌^◌, [], ◌∷◌, ◌++◌, not, false, length, map, take, get_or, IfOk, OnOk};
 ghost use Rattle.mad_md.specs.Cells.{odd_with, cell_style, cell_rest, begins_with_colon, without_first_colon, ends_with_colon, without_last_colon, are_hyphens, alignment_by, alignment_of, alignments};
 ghost use Rattle.mad_md.specs.Flagged.{run_of};
@@ -12,7 +14,7 @@ use crate::line::{Line, TableRow, TableRule};
 use crate::starts::{begins, run_len};
 use std::alloc::{AllocError, Global};
 
-// The line that a table part is, by its text after the first bar.
+/// The line that a table part is, by its text after the first bar.
 pub(crate) fn read_table_part<'s>(alloc: Global, part: &'s str) -> Result<Line<'s>, AllocError>
     ensures { IfOk result (λ line. content_of line ≡ part_of part.entry.now) }
 {

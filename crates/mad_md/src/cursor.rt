@@ -1,3 +1,5 @@
+//! Reading a text line by line.
+
 ghost use Rattle.std.specs.Prelude.{◌≡◌, IfOk, OnErr};
 ghost use Rattle.mad_md.specs.Cursor.{unread, IsStep};
 ghost use Rattle.mad_md.specs.Flagged.{flags_of, plain};

@@ -1,3 +1,5 @@
+//! Reading the marks of one line.
+
 ghost use Rattle.std.specs.Prelude.{◌≡◌, ◌≤◌, ◌++◌, length, map, IfOk, OnOk};
 ghost use Rattle.std.specs.Str.{IsCharBoundary};
 ghost use Rattle.mad_md.specs.Flagged.{flags_of, run_of, run_at};
@@ -8,7 +10,7 @@ use crate::compound::Compound;
 use memchr::{memchr, memchr3};
 use std::alloc::{AllocError, Global};
 
-// A mark inside a line. Each turns the flag of its name.
+/// A mark inside a line. Each turns the flag of its name.
 #[derive(Clone, Copy)]
 pub(crate) enum Mark {
     Bold,

@@ -1,3 +1,5 @@
+//! What a line is, by how it begins: the forms in the order in which they are tried.
+
 ghost use Rattle.std.specs.Prelude.{◌≡◌, ◌≤◌, ◌==◌, nat_eq, length, drop, take, IsTrue};
 ghost use Rattle.std.specs.List.{starts_with, prefix_len};
 ghost use Rattle.std.specs.Char.{is_ascii_digit};
@@ -6,7 +8,7 @@ ghost use Rattle.mad_md.specs.Starts.{indent, header_start, item_start, line_sta
 
 use crate::composite::CompositeStyle;
 
-// What a line outside fences is.
+/// What a line outside fences is.
 #[derive(Clone, Copy)]
 pub(crate) enum Form {
     TablePart,
@@ -18,7 +20,7 @@ pub(crate) enum Form {
     Separate(CompositeStyle),
 }
 
-// What a line is, and how many bytes at its front only say so.
+/// What a line is, and how many bytes at its front only say so.
 #[derive(Clone, Copy)]
 pub(crate) struct LineStart {
     pub(crate) form: Form,
@@ -32,7 +34,7 @@ fn starts(form: Form, len: usize) -> LineStart
     LineStart { form, len }
 }
 
-// What the line is: the first form that it begins as.
+/// What the line is: the first form that it begins as.
 pub(crate) fn line_start(line: &[u8]) -> LineStart
     ensures { result ≡ line_start line.now }
 {
@@ -116,7 +118,7 @@ fn indent(line: &[u8]) -> u8
     }
 }
 
-// Whether the line begins with the mark.
+/// Whether the line begins with these bytes.
 pub(crate) fn begins(line: &[u8], mark: &[u8]) -> bool
     ensures value { result ≡ starts_with nat_eq line.now mark.now }
     ensures within { IsTrue result → length mark.now ≤ length line.now }
@@ -140,7 +142,7 @@ fn front(line: &[u8], len: usize) -> &[u8]
     &line[..len]
 }
 
-// How often the byte is repeated in front.
+/// How often the byte is repeated in front.
 pub(crate) fn run_len(line: &[u8], byte: u8) -> usize
     ensures value { result ≡ prefix_len (λ b. b == byte) line.now }
     ensures within { result ≤ length line.now }

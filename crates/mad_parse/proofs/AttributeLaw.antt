@@ -1,5 +1,5 @@
 -- Attributes that are added one by one.
-use Rattle.std.proofs.Common.{◌≡◌, ◌≢◌, ℕ, zero, suc, ◌<◌, ◌^◌, ◌==◌, ◌||◌, ◌&&◌, Bool, true, false, List, [], ◌∷◌, filter, refl, sym, ap, ◌∙◌, arith, subst, max, slice_index_or, eqb, eqb-true, ne_eqb, ◌⊎◌, inl, inr}
+use Rattle.std.proofs.Common.{◌≡◌, ℕ, zero, suc, ◌<◌, ◌^◌, ◌==◌, ◌||◌, ◌&&◌, Bool, true, false, List, [], ◌∷◌, filter, refl, sym, ap, ◌∙◌, arith, subst, max, slice_index_or, eqb, eqb-true, inl, inr}
 use Rattle.std.specs.Int.{bit_at}
 use Rattle.std.proofs.lemmas.Bool.{cases_Bool, cond-false, cond-true, eqb-false, agree_below_at}
 use Rattle.std.proofs.Math.Bool.{and-false, and-true, or-false, or_assoc}
@@ -117,9 +117,9 @@ has_back s list h a =
     has_added no_attributes (filter (has_attribute s) list) a ∙ ap (λ x. x || is_in a (filter (has_attribute s) list)) (has_none a)
     ∙ is_in_kept s list a
     ∙ elim (cases_Bool (is_in a list)) as (λ _. (has_attribute s a && is_in a list) ≡ has_attribute s a) [
-        | inl within ↦ ap (λ x. has_attribute s a && x) within ∙ and-true (has_attribute s a)
-        | inr other ↦ ap (λ x. has_attribute s a && x) other ∙ and-false (has_attribute s a) ∙ sym (h a other)
-      ]
+      | inl within ↦ ap (λ x. has_attribute s a && x) within ∙ and-true (has_attribute s a)
+      | inr other ↦ ap (λ x. has_attribute s a && x) other ∙ and-false (has_attribute s a) ∙ sym (h a other)
+    ]
 
 -- ---- sets with the same attributes
 
@@ -141,8 +141,8 @@ bit_from (suc (suc x)) y p q e = absurd (omega arith)
 same_sets : (s t : Attributes) → ((a : Attribute) → has_attribute s a ≡ has_attribute t a) → s ≡ t
 same_sets s t h =
     same_bits s t (bits_same 24 (attribute_bits s) (attribute_bits t) s.within t.within (λ i low.
-        bit_from (bit_at (attribute_bits s) i) (bit_at (attribute_bits t) i) (bit_at-lt (attribute_bits s) i) (bit_at-lt (attribute_bits t) i)
-        (subst (λ k. eqb (bit_at (attribute_bits s) k) 1 ≡ eqb (bit_at (attribute_bits t) k) 1) (attribute_at i low) (h (at i)))))
+    bit_from (bit_at (attribute_bits s) i) (bit_at (attribute_bits t) i) (bit_at-lt (attribute_bits s) i) (bit_at-lt (attribute_bits t) i)
+    (subst (λ k. eqb (bit_at (attribute_bits s) k) 1 ≡ eqb (bit_at (attribute_bits t) k) 1) (attribute_at i low) (h (at i)))))
 
 -- the attributes of a set that are written give it back, where it has no others
 pub added_back : (s : Attributes) → ((a : Attribute) → is_written a ≡ false → has_attribute s a ≡ false) → added no_attributes (filter (has_attribute s) written_attributes) ≡ s

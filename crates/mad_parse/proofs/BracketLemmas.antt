@@ -1,13 +1,12 @@
 -- The bracket that opens a text.
-use Rattle.std.proofs.Common.{◌≡◌, ◌≢◌, ℕ, zero, suc, ◌≤◌, ◌<◌, ◌+◌, ◌-◌, ◌==◌, Bool, true, false, List, [], ◌∷◌, ◌++◌, chars, length, take, drop, refl, sym, ap, ◌∙◌, arith, subst, cond, lit<, ◌⊎◌, inl, inr, eq-eqb, ne_eqb, lt-ltb}
+use Rattle.std.proofs.Common.{◌≡◌, ◌≢◌, ℕ, suc, ◌≤◌, ◌<◌, ◌+◌, Bool, true, false, List, [], ◌∷◌, ◌++◌, chars, length, take, drop, refl, sym, ap, ◌∙◌, arith, subst, lit<, ne_eqb, lt-ltb}
 use Rattle.std.specs.List.{prefix_len}
 use Rattle.std.specs.Char.{encode_utf8, len_utf8}
 use Rattle.std.specs.Str.{IsUtf8, IsCharBoundary, encode_utf8_all}
-use Rattle.std.proofs.StrCases.{chars_of_empty}
-use Rattle.std.proofs.Math.Seq.{take-append_seam, drop-append_seam}
-use Rattle.std.proofs.lemmas.Bool.{cases_Bool, and_right, and_left, and_from, cond-false, cond-true}
+use Rattle.std.proofs.Math.Seq.{drop-append_seam}
+use Rattle.std.proofs.lemmas.Bool.{and_right, and_from, cond-false, cond-true}
 use Rattle.std.proofs.lemmas.List.{length-append, length-take, length-drop}
-use Rattle.std.proofs.lemmas.Str.{chars-nil, chars-append, chars_past_char, encode_ascii, encodes-chars, len_utf8_ascii, drop_past_char, IsUtf8-past_char, IsUtf8-drop, IsUtf8-take, IsCharBoundary-from_drop, length-encode}
+use Rattle.std.proofs.lemmas.Str.{chars-nil, chars_past_char, encode_ascii, encodes-chars, len_utf8_ascii, drop_past_char, IsUtf8-past_char, IsUtf8-drop, IsUtf8-take, IsCharBoundary-from_drop, length-encode}
 use Rattle.mad_parse.specs.Cuts.{bracket_len, closed_len, begins_with, is_inside_char}
 use Rattle.mad_parse.proofs.CharLemmas.{chars_cut, chars_take_more}
 

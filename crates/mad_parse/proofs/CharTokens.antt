@@ -1,19 +1,16 @@
 -- A character is read back as a character: it is none of the other tokens.
-use Rattle.std.proofs.Common.{◌≡◌, ◌≢◌, ℕ, zero, suc, ◌≤◌, ◌<◌, ◌+◌, ◌==◌, ◌&&◌, ◌||◌, not, Bool, true, false, List, [], ◌∷◌, ◌++◌, length, drop, map, get_or, chars, refl, sym, ap, ◌∙◌, arith, subst, cond, lit<, eq-eqb, ne_eqb, eqb-true, true≢false, lt-ltb, ltb-true, append-nil, Option, Some, None, ◌⊎◌, inl, inr}
-use Rattle.std.specs.Prelude.{codes, nat_lt, Result, Ok, Err}
-use Rattle.std.specs.Char.{IsScalar, encode_utf8, is_ascii_digit, is_whitespace, to_ascii_lowercase}
+use Rattle.std.proofs.Common.{◌≡◌, ℕ, suc, ◌≤◌, ◌<◌, ◌==◌, Bool, true, false, List, [], ◌∷◌, ◌++◌, length, drop, get_or, refl, sym, ap, ◌∙◌, arith, subst, lit<, ne_eqb, eqb-true, true≢false, lt-ltb, ltb-true, append-nil, Some, None, inl, inr}
+use Rattle.std.specs.Prelude.{codes, nat_lt, Ok, Err}
+use Rattle.std.specs.Char.{IsScalar, encode_utf8, is_ascii_digit, to_ascii_lowercase}
 use Rattle.std.specs.List.{list_all}
-use Rattle.std.specs.Option.{ok_or}
 use Rattle.std.specs.Str.{IsUtf8}
 use Rattle.std.proofs.lemmas.Bool.{cases_Bool, cases_lt, lt-leb, cond-false, cond-true, and_from, and_parts, and_right, and_left}
 use Rattle.std.proofs.lemmas.Bool.Decides.{nat_tests}
 use Rattle.std.proofs.lemmas.Str.{encode_ascii, inside_one, chars-nil, chars_past_char, IsUtf8-encode, length-encode, len_utf8_bounds}
-use Rattle.mad_term.specs.declared.color.Color.{Color}
-use Rattle.mad_parse.specs.Colors.{color_of, color_names, without_last, text_with, call_front, named_or_called, hex_color}
+use Rattle.mad_parse.specs.Colors.{color_of, color_names, without_last, text_with, call_front, named_or_called}
 use Rattle.mad_parse.specs.Names.{is_named, named, align_names, attribute_names}
 use Rattle.mad_parse.specs.Numbers.{number_below, signed_number_below}
 use Rattle.mad_parse.specs.Values.{token_of, only}
-use Rattle.mad_parse.specs.declared.errors.ParseColorError.{ParseColorError}
 use Rattle.mad_parse.specs.declared.errors.ParseColorError.TheVariants as color_error
 use Rattle.mad_parse.specs.declared.tokens.StyleToken.TheVariants as token
 use Rattle.mad_parse.proofs.ColorLemmas.{token_char}
@@ -82,9 +79,9 @@ no_color_short c =
           cond-false (c == 35) _ _ other
           ∙ ap (λ o. named_or_called o (c ∷ [])) (unnamed_in (c ∷ []) color_names (unnamed_short c) refl)
           ∙ elim (cases_Bool (c == 41)) as (λ _. call_front (without_last 41 (c ∷ [])) ≡ Err color_error.Unrecognized) [
-              | inl bracket ↦ ap call_front (cond-true (c == 41) (Some []) None bracket)
-              | inr plain ↦ ap call_front (cond-false (c == 41) (Some []) None plain)
-            ]
+            | inl bracket ↦ ap call_front (cond-true (c == 41) (Some []) None bracket)
+            | inr plain ↦ ap call_front (cond-false (c == 41) (Some []) None plain)
+          ]
     ]
 
 no_color_high : (b : ℕ) (rest : List ℕ) → list_all (λ b. nat_lt 127 b) (b ∷ rest) ≡ true → color_of (b ∷ rest) ≡ Err color_error.Unrecognized
@@ -102,9 +99,9 @@ all_from (b ∷ bs) h = and_from _ _ (lt-ltb 127 b (h 0 (omega arith))) (all_fro
 
 high_bytes : (c : ℕ) → 128 ≤ c → list_all (λ b. nat_lt 127 b) (encode_utf8 c) ≡ true
 high_bytes c h = all_from (encode_utf8 c) (λ k within. elim (cases_lt (get_or (encode_utf8 c) k 0) 128) [
-      | inl low ↦ absurd (omega (arith, h, inside_one c [] (encode_utf8 c) k (sym (append-nil (encode_utf8 c))) within low, low))
-      | inr high ↦ high
-    ])
+  | inl low ↦ absurd (omega (arith, h, inside_one c [] (encode_utf8 c) k (sym (append-nil (encode_utf8 c))) within low, low))
+  | inr high ↦ high
+])
 
 -- what a text needs so that it is no token but a character
 char_from : (c b : ℕ) (rest : List ℕ) → IsUtf8 (b ∷ rest) → b ∷ rest ≡ encode_utf8 c ++ [] → Unnamed (b ∷ rest) → is_ascii_digit b ≡ false → (b ≡ 43 → rest ≡ []) → color_of (b ∷ rest) ≡ Err color_error.Unrecognized

@@ -1,5 +1,5 @@
 -- What std's `parse`, `split_once` and `strip_suffix` say, in the words of the definitions.
-use Rattle.std.proofs.Common.{◌≡◌, ◌≢◌, ℕ, zero, suc, ◌<◌, ◌^◌, ◌==◌, ◌&&◌, Bool, true, false, List, [], ◌∷◌, ◌++◌, length, get_or, refl, sym, ap, ◌∙◌, arith, subst, cond, lit<, eq-eqb, ne_eqb, eqb-true, lt-ltb, ltb-true, Option, Some, None, ◌⊎◌, inl, inr}
+use Rattle.std.proofs.Common.{◌≡◌, ◌≢◌, ℕ, suc, ◌<◌, ◌^◌, ◌==◌, ◌&&◌, true, false, List, [], ◌∷◌, ◌++◌, length, get_or, refl, sym, ap, ◌∙◌, arith, eq-eqb, ne_eqb, eqb-true, lt-ltb, ltb-true, Option, Some, None, inl, inr}
 use Rattle.std.specs.Prelude.{Result, Ok, Err, nat_lt}
 use denote.Bor.{Bor}
 use Rattle.std.specs.Result.{OkIff, result_ok}
@@ -20,7 +20,7 @@ use Rattle.mad_term.specs.declared.attribute.Attribute.{Attribute}
 use Rattle.mad_term.specs.declared.color.Color.{Color}
 use Rattle.mad_parse.specs.Colors.{cut_at, front_with, without_last, text_with, rgb_parts, rgb_first, rgb_last, rgb_color, color_of, color_names, named_or_called, call_front, call_parts, called_color}
 use Rattle.mad_parse.specs.Names.{is_named, named, align_names, attribute_names}
-use Rattle.mad_parse.specs.Values.{token_of, Fault, unrecognized, as_number, as_color, as_attribute, as_align, as_char, only}
+use Rattle.mad_parse.specs.Values.{token_of, unrecognized, as_number, as_color, as_attribute, as_align, as_char, only}
 use Rattle.mad_parse.specs.declared.errors.ParseColorError.TheVariants as color_error
 use Rattle.mad_parse.specs.declared.tokens.StyleToken.TheVariants as token
 use Rattle.mad_parse.specs.Numbers.{number_below, signed_number_below}

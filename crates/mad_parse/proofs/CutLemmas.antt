@@ -1,5 +1,5 @@
 -- Cutting a text into tokens, one after another.
-use Rattle.std.proofs.Common.{◌≡◌, ℕ, zero, suc, ◌≤◌, ◌<◌, ◌+◌, ◌-◌, Bool, true, false, List, [], ◌∷◌, ◌++◌, map, chars, length, take, drop, refl, sym, ap, ◌∙◌, arith, subst, cond, ◌==◌, lit<, ◌⊎◌, inl, inr}
+use Rattle.std.proofs.Common.{◌≡◌, ℕ, zero, suc, ◌<◌, ◌+◌, ◌-◌, Bool, true, false, List, [], ◌∷◌, ◌++◌, map, chars, length, take, drop, refl, sym, ap, ◌∙◌, arith, cond, ◌==◌, lit<, inl, inr}
 use Rattle.std.specs.Prelude.{Result, Ok, Err}
 use Rattle.std.specs.List.{prefix_len}
 use Rattle.std.specs.Char.{is_whitespace}
@@ -7,9 +7,9 @@ use Rattle.std.specs.Str.{IsUtf8, trim_start, skip_leading_whitespace, encode_ut
 use Rattle.std.proofs.lemmas.Bool.{cases_Bool, and_parts, cond_both}
 use Rattle.std.proofs.lemmas.Bool.Decides.{nat_tests}
 use Rattle.std.proofs.lemmas.List.{length-append, length-drop}
-use Rattle.std.proofs.lemmas.Str.{chars-nil, chars-append, chars-encodes, encodes-chars, scalars-chars}
+use Rattle.std.proofs.lemmas.Str.{chars-append, chars-encodes, encodes-chars, scalars-chars}
 use Rattle.std.proofs.Math.Seq.{take-append_seam, drop-append_seam}
-use Rattle.mad_parse.specs.Cuts.{cut_after, token_len, token_texts, run_len, is_run_char, bracket_len}
+use Rattle.mad_parse.specs.Cuts.{cut_after, token_len, run_len, is_run_char, bracket_len}
 use Rattle.std.proofs.StrCases.{chars_of_empty}
 use Rattle.std.specs.Prelude.{string_bytes}
 use Rattle.mad_parse.specs.declared.errors.ParseStyleTokenError.{ParseStyleTokenError}

@@ -1,8 +1,8 @@
 -- Decimal digits as characters.
-use Rattle.std.proofs.Common.{◌≡◌, ℕ, zero, suc, ◌≤◌, ◌<◌, ◌==◌, ◌^◌, ◌||◌, ◌&&◌, Bool, true, false, List, [], ◌∷◌, ◌++◌, refl, sym, ap, ◌∙◌, arith, lit<, lt-ltb, ltb-true, true≢false, not, ◌⊎◌, inl, inr}
+use Rattle.std.proofs.Common.{◌≡◌, ℕ, zero, suc, ◌<◌, ◌==◌, ◌^◌, ◌||◌, Bool, true, false, List, [], ◌∷◌, refl, sym, ap, ◌∙◌, arith, lit<, lt-ltb, ltb-true, true≢false, not, inl, inr}
 use Rattle.std.specs.Prelude.{nat_lt, decimal}
 use Rattle.std.specs.Int.{IsInRange}
-use Rattle.std.specs.Char.{is_whitespace, is_ascii_digit, is_ascii_alphanumeric, digit_value, to_ascii_lowercase}
+use Rattle.std.specs.Char.{is_whitespace, to_ascii_lowercase}
 use Rattle.std.specs.List.{list_all}
 use Rattle.std.specs.Str.{IsAscii}
 use Rattle.std.specs.Str.Parse.{AllDigits}

@@ -1,29 +1,23 @@
 -- What is written of a color or a number is read as it was.
-use Rattle.std.proofs.Common.{◌≡◌, ℕ, zero, suc, ◌≤◌, ◌<◌, ◌+◌, ◌*◌, ◌^◌, ◌==◌, ◌&&◌, Bool, true, false, List, [], ◌∷◌, ◌++◌, chars, length, take, drop, refl, sym, ap, ◌∙◌, arith, subst, cond, lit<, eq-eqb, ne_eqb, lt-ltb, le-leb, append_assoc, append-nil, Option, Some, None}
-use Rattle.std.specs.Prelude.{codes, decimal, nat_lt, Result, Ok, Err}
+use Rattle.std.proofs.Common.{◌≡◌, ℕ, ◌<◌, ◌+◌, ◌^◌, ◌==◌, Bool, true, false, List, [], ◌∷◌, ◌++◌, length, drop, refl, sym, ap, ◌∙◌, arith, subst, ne_eqb, lt-ltb, le-leb, append_assoc, append-nil, Some}
+use Rattle.std.specs.Prelude.{codes, decimal, Ok}
 use Rattle.std.specs.List.{prefix_len, list_all}
-use Rattle.std.specs.Str.{all_ascii_digits, trim_start, skip_leading_whitespace, encode_utf8_all, IsAscii}
+use Rattle.std.specs.Str.{all_ascii_digits, trim_start, skip_leading_whitespace, encode_utf8_all}
 use Rattle.std.specs.Str.Parse.{digits_value, AllDigits, IsNumeral, without_leading_plus}
 use Rattle.std.specs.Char.{is_ascii_digit, is_whitespace, digit_value}
 use Rattle.std.proofs.lemmas.Bool.{cond-false, cond-true, and_from, and_parts}
 use Rattle.std.proofs.lemmas.Str.Parse.{digit_from_value}
 use Rattle.std.proofs.Math.Seq.{drop-append_seam}
-use Rattle.std.proofs.lemmas.List.{length-append}
 use Rattle.std.proofs.lemmas.Fmt.{decimal_is_IsNumeral}
 use Rattle.mad_term.specs.declared.color.Color.TheVariants as color
-use Rattle.mad_term.specs.declared.attribute.Attribute.TheVariants as attribute
-use Rattle.mad_md.specs.declared.alignment.Alignment.TheVariants as align
-use Rattle.mad_parse.specs.Names.{attribute_text, align_text}
-use Rattle.mad_parse.specs.Colors.{color_of, color_text, without_last, text_with, cut_at, front_with, call_front, ansi_color, rgb_color, rgb_first, rgb_last, rgb_parts}
+use Rattle.mad_parse.specs.Colors.{color_of, color_text, without_last, cut_at, front_with, call_front, ansi_color, rgb_color, rgb_first, rgb_last, rgb_parts}
 use Rattle.mad_parse.specs.Numbers.{number_below, signed_number_below}
-use Rattle.mad_parse.specs.Values.{token_of}
-use Rattle.mad_parse.specs.Cuts.{is_run_char, is_inside_char, token_len, run_len, bracket_len, closed_len, begins_with}
+use Rattle.mad_parse.specs.Cuts.{is_run_char, is_inside_char, token_len, run_len, bracket_len, closed_len}
 use Rattle.std.proofs.lemmas.List.Folds.{list_all-append}
 use Rattle.std.proofs.lemmas.Str.{chars-IsAscii, encodes-IsAscii}
 use Rattle.mad_parse.proofs.ColorLemmas.{without_put}
 use Rattle.mad_parse.proofs.CutLemmas.{begins_white}
-use Rattle.mad_parse.proofs.Digits.{is_low, low_ascii, run_black, decimal_low, decimal_run, decimal_inside}
-use Rattle.mad_parse.specs.declared.tokens.StyleToken.TheVariants as token
+use Rattle.mad_parse.proofs.Digits.{is_low, low_ascii, run_black, decimal_low, decimal_run}
 
 -- decimal digits are ASCII digits
 one_digit : (d : ℕ) → digit_value d < 10 → is_ascii_digit d ≡ true
@@ -109,7 +103,7 @@ rgb_all p digits comma space r g b small_r small_g small_b =
     let tail = decimal g ++ 44 ∷ (32 ∷ decimal b) in
     list_all-append p (decimal r) (44 ∷ (32 ∷ tail))
     ∙ and_from _ _ (digits r small_r)
-      (and_from _ _ comma (and_from _ _ space (list_all-append p (decimal g) (44 ∷ (32 ∷ decimal b)) ∙ and_from _ _ (digits g small_g) (and_from _ _ comma (and_from _ _ space (digits b small_b))))))
+    (and_from _ _ comma (and_from _ _ space (list_all-append p (decimal g) (44 ∷ (32 ∷ decimal b)) ∙ and_from _ _ (digits g small_g) (and_from _ _ comma (and_from _ _ space (digits b small_b))))))
 
 -- a run ends at the first character that is none of it
 pub run_front : (p : ℕ → Bool) (xs ys : List ℕ) → list_all p xs ≡ true → prefix_len p ys ≡ 0 → prefix_len p (xs ++ ys) ≡ length xs

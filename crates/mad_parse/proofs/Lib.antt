@@ -5,6 +5,7 @@ pub mod CharTokens
 pub mod ColorLemmas
 pub mod CutLemmas
 pub mod Digits
+pub mod Examples
 pub mod JoinLemmas
 pub mod LawLemmas
 pub mod NameLemmas

@@ -1,6 +1,6 @@
 -- Tokens that are read back from the text that they are written as.
-use Rattle.std.proofs.Common.{◌≡◌, ◌≢◌, ℕ, zero, suc, ◌≤◌, ◌<◌, ◌+◌, ◌^◌, ◌==◌, Bool, true, false, List, [], ◌∷◌, ◌++◌, map, filter, chars, length, take, drop, refl, sym, ap, ◌∙◌, arith, subst, cond, lit<, append-nil, append_assoc, ne_eqb, true≢false, Option, Some, None, ◌⊎◌, inl, inr}
-use Rattle.std.specs.Prelude.{⊤, codes, decimal, nat_lt, Result, Ok, Err}
+use Rattle.std.proofs.Common.{◌≡◌, ℕ, ◌<◌, ◌+◌, ◌^◌, true, false, List, [], ◌∷◌, ◌++◌, map, filter, chars, length, drop, refl, sym, ap, ◌∙◌, arith, subst, lit<, append-nil, append_assoc, ne_eqb, true≢false, None, inl, inr}
+use Rattle.std.specs.Prelude.{⊤, codes, decimal, Ok}
 use Rattle.std.specs.Char.{IsScalar, encode_utf8, is_ascii_digit, is_whitespace, to_ascii_lowercase}
 use Rattle.std.specs.List.{prefix_len, list_all, join_with_byte}
 use Rattle.std.specs.Str.{IsUtf8}

@@ -1,10 +1,10 @@
 -- What a style is written as is read as that style.
-use Rattle.std.proofs.Common.{◌≡◌, ℕ, zero, suc, ◌≤◌, ◌<◌, ◌+◌, ◌==◌, Bool, true, false, List, [], ◌∷◌, ◌++◌, map, filter, length, take, drop, refl, sym, ap, ◌∙◌, arith, subst, cond, true≢false, eqb-true, min, append-nil, Option, Some, None, ◌⊎◌, inl, inr}
-use Rattle.std.specs.Prelude.{⊤, Ok}
+use Rattle.std.proofs.Common.{◌≡◌, ℕ, ◌<◌, ◌+◌, ◌==◌, Bool, true, false, List, [], ◌∷◌, ◌++◌, map, filter, length, take, drop, refl, sym, ap, ◌∙◌, arith, subst, true≢false, eqb-true, min, append-nil, Option, Some, None, inl, inr}
+use Rattle.std.specs.Prelude.{Ok}
 use Rattle.std.specs.Char.{IsScalar}
-use Rattle.std.specs.List.{list_all, prefix_len}
+use Rattle.std.specs.List.{list_all}
 use Rattle.std.proofs.Math.Seq.{take-append_seam, drop-append_seam}
-use Rattle.std.proofs.lemmas.Bool.{cases_Bool, cond-false, cond-true, and_from, and_parts}
+use Rattle.std.proofs.lemmas.Bool.{cases_Bool, cond-false, cond-true, and_from}
 use Rattle.std.proofs.lemmas.List.Folds.{list_all-append}
 use Rattle.mad_md.specs.declared.alignment.Alignment.{Alignment}
 use Rattle.mad_md.specs.declared.alignment.Alignment.TheVariants as align
@@ -19,7 +19,7 @@ use Rattle.mad_style.specs.declared.styled_chars.StyledChar.{StyledChar}
 use Rattle.mad_style.specs.StyledChars.{char_alone, char_style, styled_char}
 use Rattle.mad_parse.specs.Reading.{tokens_of, said}
 use Rattle.mad_parse.specs.ReadsBack.{IsWrittenStyle, IsWrittenLine, IsWrittenChar, IsWrittenItem, StyleReadsBack, LineReadsBack, CharReadsBack, ItemReadsBack}
-use Rattle.mad_parse.specs.Styles.{first_or, last_or, colors_of, attributes_of, aligns_of, numbers_of, chars_of, style_of, line_style_of, styled_char_of, item_style_of, is_no_char, char_index}
+use Rattle.mad_parse.specs.Styles.{first_or, last_or, colors_of, attributes_of, aligns_of, numbers_of, style_of, line_style_of, styled_char_of, item_style_of, char_index}
 use Rattle.mad_parse.specs.Written.{written_attributes, style_tokens, align_tokens, margin_tokens, line_style_tokens, styled_char_tokens, item_tokens, tokens_text}
 use Rattle.mad_parse.specs.declared.tokens.StyleToken.{StyleToken}
 use Rattle.mad_parse.specs.declared.tokens.StyleToken.TheVariants as token
@@ -98,9 +98,9 @@ data Margins (l r : ℕ) : Type 0 where
 
 margins : (l r : ℕ) → Margins l r
 margins l r = elim (cases_Bool (l + r == 0)) as (λ _. Margins l r) [
-      | inl none ↦ let sum = eqb-true (l + r) 0 none in no_margins (omega (arith, sum)) (omega (arith, sum)) (cond-true (l + r == 0) _ _ none)
-      | inr some ↦ two_margins (cond-false (l + r == 0) _ _ some)
-    ]
+  | inl none ↦ let sum = eqb-true (l + r) 0 none in no_margins (omega (arith, sum)) (omega (arith, sum)) (cond-true (l + r == 0) _ _ none)
+  | inr some ↦ two_margins (cond-false (l + r == 0) _ _ some)
+]
 
 margins_colors : (l r : ℕ) → Margins l r → colors_of (margin_tokens l r) ≡ []
 margins_colors l r (no_margins p q e) = ap colors_of e
@@ -184,7 +184,7 @@ line_reads_back s text bytes is = λ h.
     let m = margin_tokens s.left_margin s.right_margin in
     back line_style_of s (line_style_tokens s) text is
     (all_append (style_tokens s.compound_style) (align_tokens s.align ++ m) (style_read s.compound_style h.style bytes.foreground bytes.background)
-      (all_append (align_tokens s.align) m (aligns_read s.align) (margins_read s.left_margin s.right_margin (margins s.left_margin s.right_margin))))
+    (all_append (align_tokens s.align) m (aligns_read s.align) (margins_read s.left_margin s.right_margin (margins s.left_margin s.right_margin))))
     (line_alone s h)
 
 -- ---- a mark

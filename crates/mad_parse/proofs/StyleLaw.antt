@@ -1,13 +1,10 @@
 -- The tokens of a style say that style.
-use Rattle.std.proofs.Common.{◌≡◌, ◌≢◌, ℕ, zero, suc, ◌≤◌, ◌<◌, ◌+◌, ◌^◌, ◌==◌, ◌||◌, ◌&&◌, Bool, true, false, List, [], ◌∷◌, ◌++◌, map, filter, length, take, drop, refl, sym, ap, ◌∙◌, arith, subst, cond, lit<, append-nil, append_assoc, Option, Some, None, ◌⊎◌, inl, inr}
-use Rattle.std.specs.Prelude.{⊤, min}
+use Rattle.std.proofs.Common.{◌≡◌, Bool, true, List, [], ◌∷◌, ◌++◌, map, filter, drop, refl, sym, ap, ◌∙◌, subst, append-nil, append_assoc, Option, Some, None, inl, inr}
 use Rattle.std.specs.List.{list_all}
 use Rattle.std.proofs.lemmas.Bool.{cases_Bool, cond-false, cond-true, and_parts}
-use Rattle.mad_md.specs.declared.alignment.Alignment.{Alignment}
-use Rattle.mad_md.specs.declared.alignment.Alignment.TheVariants as align
 use Rattle.mad_term.specs.Attributes.{has_attribute}
 use Rattle.mad_term.specs.AttributeSets.{no_attributes, only, united}
-use Rattle.mad_term.specs.Color.{IsColor, IsColorOrNone}
+use Rattle.mad_term.specs.Color.{IsColorOrNone}
 use Rattle.mad_term.specs.declared.attribute.Attribute.{Attribute}
 use Rattle.mad_term.specs.declared.attributes.Attributes.{Attributes}
 use Rattle.mad_term.specs.declared.color.Color.{Color}
@@ -15,8 +12,8 @@ use Rattle.mad_term.specs.declared.color.Color.TheVariants as color
 use Rattle.mad_style.specs.declared.compound_styles.CompoundStyle.{CompoundStyle}
 use Rattle.mad_style.specs.CompoundStyles.{text_style}
 use Rattle.mad_parse.specs.ReadsBack.{is_written, IsWrittenColor, IsWrittenOrNone, IsWrittenStyle}
-use Rattle.mad_parse.specs.Styles.{first_or, last_or, colors_of, attributes_of, aligns_of, numbers_of, chars_of, last_color, all_added, style_of, is_no_char}
-use Rattle.mad_parse.specs.Written.{written_attributes, foreground_tokens, background_tokens, none_unless, attribute_tokens, style_tokens}
+use Rattle.mad_parse.specs.Styles.{first_or, colors_of, attributes_of, last_color, all_added, style_of}
+use Rattle.mad_parse.specs.Written.{written_attributes, foreground_tokens, background_tokens, attribute_tokens, style_tokens}
 use Rattle.mad_parse.specs.declared.tokens.StyleToken.{StyleToken}
 use Rattle.mad_parse.specs.declared.tokens.StyleToken.TheVariants as token
 use Rattle.mad_parse.proofs.AttributeLaw.{added, added_back}
@@ -184,7 +181,7 @@ style_back s before after h c1 a1 c2 a2 =
     style_from s (before ++ (style_tokens s ++ after)) h
     (colors_of_append before (style_tokens s ++ after) ∙ ap (λ l. l ++ colors_of (style_tokens s ++ after)) c1 ∙ colors_of_append (style_tokens s) after ∙ ap (λ l. colors_of (style_tokens s) ++ l) c2 ∙ append-nil _)
     (attributes_of_append before (style_tokens s ++ after) ∙ ap (λ l. l ++ attributes_of (style_tokens s ++ after)) a1 ∙ attributes_of_append (style_tokens s) after ∙ ap (λ l. attributes_of (style_tokens s) ++ l) a2
-      ∙ append-nil _)
+    ∙ append-nil _)
 
 -- ---- each token of a style is read back
 
@@ -201,4 +198,4 @@ style_read s h p q =
     let o = s.object_style in
     subst AllRead (sym (tokens_are s h))
     (all_append (two_colors o.foreground_color o.background_color) (attribute_tokens o.attributes) (colors_read o.foreground_color o.background_color p q h.foreground h.background)
-      (attributes_read (has_attribute o.attributes) written_attributes refl))
+    (attributes_read (has_attribute o.attributes) written_attributes refl))

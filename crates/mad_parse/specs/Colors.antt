@@ -5,7 +5,7 @@ use Rattle.std.specs.Char.{is_ascii_hexdigit, digit_value}
 use Rattle.std.specs.Str.{trim_start}
 use Rattle.std.specs.Option.{ok_or}
 use Rattle.mad_term.specs.declared.color.Color.{Color}
-use Rattle.mad_term.specs.declared.color.Color.TheVariants.{Reset, Black, DarkGrey, Red, DarkRed, Green, DarkGreen, Yellow, DarkYellow, Blue, DarkBlue, Magenta, DarkMagenta, Cyan, DarkCyan, White, Grey, Rgb, AnsiValue}
+use Rattle.mad_term.specs.declared.color.Color.TheVariants.{Black, DarkGrey, Red, DarkRed, Green, DarkGreen, Yellow, DarkYellow, Blue, DarkBlue, Magenta, DarkMagenta, Cyan, DarkCyan, White, Grey, Rgb, AnsiValue}
 use Rattle.mad_parse.specs.Names.{is_named, named}
 use Rattle.mad_parse.specs.Numbers.{number_below}
 use Rattle.mad_parse.specs.declared.errors.ParseColorError.{ParseColorError}

@@ -1,6 +1,7 @@
 pub mod Colors
 pub mod Cuts
 pub mod Errors
+pub mod Laws
 pub mod Names
 pub mod Numbers
 pub mod Reading

@@ -43,10 +43,10 @@ attribute_names =
     ∷ (codes "reverse", Reverse)
     ∷ (codes "encircled", Encircled)
     ∷ (hyphenated (codes "crossed") (codes "out") CrossedOut
-        ++ (hyphenated (codes "under") (codes "lined") Underlined
-            ++ (hyphenated (codes "over") (codes "lined") OverLined
-                ++ (hyphenated (codes "slow") (codes "blink") SlowBlink
-                    ++ hyphenated (codes "rapid") (codes "blink") RapidBlink))))
+    ++ (hyphenated (codes "under") (codes "lined") Underlined
+    ++ (hyphenated (codes "over") (codes "lined") OverLined
+    ++ (hyphenated (codes "slow") (codes "blink") SlowBlink
+    ++ hyphenated (codes "rapid") (codes "blink") RapidBlink))))
 
 -- the name of an attribute as it is written; `Reset` has none
 abbrev pub attribute_text : Attribute → List ℕ

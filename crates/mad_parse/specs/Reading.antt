@@ -1,6 +1,5 @@
 -- What a text of style tokens says.
-use Rattle.std.specs.Prelude.{◌≡◌, ℕ, List, [], ◌∷◌, Option, Some, None, Result, Ok, Err, drop, string_bytes}
-use Rattle.std.specs.Option.{option_or}
+use Rattle.std.specs.Prelude.{◌≡◌, ℕ, List, [], ◌∷◌, Result, Ok, Err, string_bytes}
 use Rattle.mad_parse.specs.Cuts.{token_texts}
 use Rattle.mad_parse.specs.Values.{Fault, unrecognized, bad_color, token_of}
 use Rattle.mad_parse.specs.declared.errors.ParseStyleTokenError.{ParseStyleTokenError}

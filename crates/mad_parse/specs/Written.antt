@@ -1,7 +1,6 @@
 -- The texts that styles are written as.
-use Rattle.std.specs.Prelude.{◌≡◌, ◌<◌, ⊤, ℕ, ◌+◌, ◌==◌, min, List, [], ◌∷◌, ◌++◌, Bool, true, false, Option, Some, None, codes, decimal, map, filter, length, nat_lt, encode_utf8, if◌then◌else◌}
+use Rattle.std.specs.Prelude.{ℕ, ◌+◌, ◌==◌, min, List, [], ◌∷◌, ◌++◌, Bool, true, false, Option, Some, None, codes, decimal, map, filter, encode_utf8, if◌then◌else◌}
 use Rattle.std.specs.List.{join_with_byte}
-use Rattle.std.specs.Char.{is_whitespace, is_ascii_digit}
 use Rattle.mad_md.specs.declared.alignment.Alignment.{Alignment}
 use Rattle.mad_md.specs.declared.alignment.Alignment.TheVariants.{Unspecified, Left, Center, Right}
 use Rattle.mad_term.specs.Attributes.{has_attribute}

@@ -53,13 +53,15 @@ fn attribute_of_4(text: &str) -> Option<Attribute>
 fn attribute_of_6(text: &str) -> Option<Attribute>
     ensures { result ≡ named (of_length 6 attribute_names) text.now }
 {
-    text.eq_ignore_ascii_case("italic").then_some(Attribute::Italic)
+    text.eq_ignore_ascii_case("italic")
+        .then_some(Attribute::Italic)
 }
 
 fn attribute_of_7(text: &str) -> Option<Attribute>
     ensures { result ≡ named (of_length 7 attribute_names) text.now }
 {
-    text.eq_ignore_ascii_case("reverse").then_some(Attribute::Reverse)
+    text.eq_ignore_ascii_case("reverse")
+        .then_some(Attribute::Reverse)
 }
 
 fn attribute_of_9(text: &str) -> Option<Attribute>

@@ -125,19 +125,22 @@ fn color_of_8(text: &str) -> Option<Color>
 fn color_of_9(text: &str) -> Option<Color>
     ensures { result ≡ named (of_length 9 color_names) text.now }
 {
-    text.eq_ignore_ascii_case("darkgreen").then_some(Color::DarkGreen)
+    text.eq_ignore_ascii_case("darkgreen")
+        .then_some(Color::DarkGreen)
 }
 
 fn color_of_10(text: &str) -> Option<Color>
     ensures { result ≡ named (of_length 10 color_names) text.now }
 {
-    text.eq_ignore_ascii_case("darkyellow").then_some(Color::DarkYellow)
+    text.eq_ignore_ascii_case("darkyellow")
+        .then_some(Color::DarkYellow)
 }
 
 fn color_of_11(text: &str) -> Option<Color>
     ensures { result ≡ named (of_length 11 color_names) text.now }
 {
-    text.eq_ignore_ascii_case("darkmagenta").then_some(Color::DarkMagenta)
+    text.eq_ignore_ascii_case("darkmagenta")
+        .then_some(Color::DarkMagenta)
 }
 
 // The color of 3 to 6 hex digits.

@@ -13,6 +13,7 @@ mod attributes;
 mod colors;
 mod cuts;
 mod errors;
+pub mod laws;
 mod parse;
 mod reading;
 mod tokens;

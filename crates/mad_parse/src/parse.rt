@@ -13,9 +13,7 @@ use crate::attributes::parse_attribute;
 use crate::colors::parse_color;
 use crate::cuts::cut_token;
 use crate::errors::{ParseColorError, ParseStyleTokenError};
-use crate::reading::{
-    compound_style_from, item_style_from, line_style_from, styled_char_from,
-};
+use crate::reading::{compound_style_from, item_style_from, line_style_from, styled_char_from};
 use crate::tokens::StyleToken;
 use mad_style::{CompoundStyle, LineStyle, OrderedItemStyle, StyledChar};
 use std::alloc::Global;

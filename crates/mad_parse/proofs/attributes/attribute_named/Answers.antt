@@ -1,4 +1,4 @@
-use Rattle.std.proofs.Common.{◌∙◌, sym, ap}
+use Rattle.std.proofs.Common.{◌∙◌}
 use Rattle.mad_parse.specs.Names.{attribute_names}
 use Rattle.mad_parse.proofs.NameLemmas.{at_length}
 use Rattle.mad_parse.proofs.attributes.attribute_named.Goals as goal

@@ -1,4 +1,3 @@
-use Rattle.std.proofs.Common.{◌∙◌}
 use Rattle.mad_parse.proofs.StyleLemmas.{style_done}
 use Rattle.mad_parse.proofs.reading.compound_style_from.Goals as goal
 
