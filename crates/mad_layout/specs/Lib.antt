@@ -9,7 +9,9 @@ pub mod Indents
 pub mod Inlines
 pub mod Layouts
 pub mod Lines
+pub mod MadeSkins
 pub mod Premises
+pub mod RecoloredSkins
 pub mod Rows
 pub mod Shown
 pub mod ShownLayouts

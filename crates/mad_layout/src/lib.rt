@@ -21,9 +21,11 @@ pub mod fmt_inline;
 pub mod fmt_text;
 pub mod indents;
 pub mod line;
+mod made_skins;
 pub mod room;
 mod rows;
 pub mod skin;
+mod skin_setters;
 #[cfg(test)]
 mod tests;
 pub mod wrap;
