@@ -1,6 +1,6 @@
 //! Changing several parts of a skin at once.
 
-ghost use Rattle.std.specs.Prelude.{◌≡◌};
+ghost use Rattle.std.specs.Prelude.{◌≡◌, option_map, slice_get};
 
 use crate::skin::MadSkin;
 use mad_style::OrderedItemStyle;
@@ -10,7 +10,9 @@ impl MadSkin {
     ghost use Rattle.mad_layout.specs.RecoloredSkins.{headers_in, headers_on, text_in, text_on, lines_on};
 
     /// How the items of an ordered list look at a level, counted from 0; none past the last.
-    pub fn ordered_item_style_mut(&mut self, level: u8) -> Option<&mut OrderedItemStyle> {
+    pub fn ordered_item_style_mut(&mut self, level: u8) -> Option<&mut OrderedItemStyle>
+        ensures { option_map (λ style. style.now) result ≡ slice_get self.old.ordered_item_styles level }
+    {
         self.ordered_item_styles.get_mut(usize::from(level))
     }
 
