@@ -1,0 +1,1 @@
+//! Rows of skins as JSON texts.
