@@ -1,6 +1,9 @@
 //! Why a value is no skin.
 
-ghost use Rattle.std.specs.Prelude.{◌≡◌, Some};
+ghost use Rattle.std.specs.Prelude.{◌≡◌, ℕ, Bool, List, Some, Result, string_bytes};
+ghost use Rattle.mad_layout.specs.declared.skin.MadSkin.{MadSkin};
+ghost use Rattle.mad_json.specs.Faults.{ValueFault, TellsValue, TellsSkin};
+ghost use Rattle.mad_json.specs.Reading.{found_part};
 ghost use Rattle.mad_json.specs.Errors.{skin_error_text};
 
 use mad_parse::ParseStyleTokenError;
@@ -81,7 +84,9 @@ impl From<AllocError> for ValueError {
 }
 
 // The error of a skin whose key has a value that is refused so.
-pub(crate) fn at_key(key: &String, error: ValueError) -> SkinError {
+pub(crate) fn at_key(key: &String, error: ValueError) -> SkinError
+    ensures { (read : Result MadSkin ValueFault) (seen : List Bool) (unknown : List (List ℕ)) → TellsValue error read → TellsSkin result (found_part (string_bytes key.now) seen unknown read) }
+{
     let Ok(key) = key.clone() else {
         return SkinError::Memory;
     };

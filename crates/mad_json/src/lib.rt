@@ -11,15 +11,15 @@
 mod errors;
 mod fields;
 mod floats;
-// mod lists;
-// mod modes;
-// mod reading;
-// mod scroll_bars;
+mod lists;
+mod modes;
+mod reading;
+mod scroll_bars;
 mod texts;
 
 pub use errors::SkinError;
-//pub use reading::skin_from_value;
-//pub use scroll_bars::ScrollBarStyleDef;
+pub use reading::skin_from_value;
+pub use scroll_bars::ScrollBarStyleDef;
 
 #[cfg(test)]
 mod tests;
