@@ -7,3 +7,4 @@ pub mod Readers
 pub mod Reading
 pub mod ScrollBars
 pub mod Texts
+pub mod Written
