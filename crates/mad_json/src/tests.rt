@@ -1,6 +1,6 @@
 //! Rows of skins as JSON texts.
 
-use crate::{ScrollBarStyleDef, SkinError, skin_from_value};
+use crate::{ScrollBarStyleDef, SkinError, skin_from_value, skin_to_value};
 use mad_layout::MadSkin;
 use mad_md::Alignment;
 use mad_style::{
@@ -154,5 +154,76 @@ fn lists_replace_by_level(rt: HostRuntime) -> Result<(), Fail> {
     assert!(rt; skin == expected);
     let simple = ScrollBarStyleDef::from(&skin.scrollbar).into_scrollbar_style();
     assert!(rt; simple == skin.scrollbar);
+    Ok(())
+}
+
+#[test]
+fn the_default_skin_as_a_value(rt: HostRuntime) -> Result<(), Fail> {
+    let alloc = rt.alloc();
+    let value = skin_to_value(alloc, &MadSkin::default())?;
+    let expected = concat!(
+        r#"{"bold":"Bold","bullet":"• ansi(240)","code_block":"ansi(249) ansi(235)","ellipsis":"","#,
+        r#""headers":["Bold Underlined center","Underlined","Underlined","Underlined","Underlined","#,
+        r#""Underlined","Underlined","Underlined"],"horizontal_rule":"― ansi(238)","#,
+        r#""inline_code":"ansi(249) ansi(235)","italic":"Italic","list_items_indentation_mode":"block","#,
+        r#""ordered_items":[". ansi(244)",". ansi(244)",". ansi(244)",". ansi(244)"],"paragraph":"","#,
+        r#""quote":"▐ ansi(244) Bold","scrollbar":"▐ ansi(253) ansi(237)","strikeout":"CrossedOut","#,
+        r#""table":"ansi(239)","table_border_chars":"standard"}"#,
+    );
+    assert!(rt; value.to_string(alloc)?.as_str() == expected);
+    Ok(())
+}
+
+// The default skin with a part of each kind that is another.
+fn colored() -> MadSkin {
+    let mut skin = MadSkin::default();
+    skin.set_headers_fg(Color::AnsiValue(178));
+    skin.headers[2].set_fg(Color::AnsiValue(254));
+    skin.bold.set_fg(Color::Yellow);
+    skin.italic = CompoundStyle::with_fgbg(Color::Magenta, rgb(30, 30, 40));
+    skin.italic.add_attr(Attribute::Underlined);
+    skin.italic.add_attr(Attribute::OverLined);
+    skin.bullet = StyledChar::from_fg_char(Color::Yellow, '⟡');
+    skin.quote_mark.set_fg(Color::Yellow);
+    skin.scrollbar.thumb.set_fg(Color::AnsiValue(178));
+    skin.table_border_chars = ROUNDED_TABLE_BORDER_CHARS;
+    skin.paragraph.set_fgbg(Color::Magenta, rgb(30, 30, 40));
+    skin.paragraph.align = Alignment::Center;
+    skin.table.align = Alignment::Center;
+    skin.inline_code = CompoundStyle::with_attr(Attribute::Reverse);
+    skin
+}
+
+#[test]
+fn skins_read_back(rt: HostRuntime) -> Result<(), Fail> {
+    let alloc = rt.alloc();
+    let mut ascii = MadSkin::no_style();
+    ascii.limit_to_ascii();
+    let mut barred = MadSkin::default();
+    barred.scrollbar.set_bg(Color::Blue);
+    let skins = [
+        MadSkin::default(),
+        MadSkin::default_dark(),
+        MadSkin::default_light(),
+        ascii,
+        colored(),
+        barred,
+    ];
+    for skin in &skins {
+        let mut skin = skin.clone()?;
+        for mode in [
+            skin.list_items_indentation_mode,
+            ListItemsIndentationMode::FirstLineOnly,
+            ListItemsIndentationMode::Hanging(3),
+        ] {
+            skin.list_items_indentation_mode = mode;
+            let value = skin_to_value(alloc, &skin)?;
+            let Ok((read, unknown)) = skin_from_value(alloc, &value) else {
+                return Err(Fail::from("refused"));
+            };
+            assert!(rt; read == skin);
+            assert!(rt; unknown.is_empty());
+        }
+    }
     Ok(())
 }
