@@ -30,6 +30,7 @@ pub mod wrap {
 }
 
 pub use mad_fit::{Area, Spacing, Token, Tokens, token_iter, tokenize};
+pub use mad_json::{ScrollBarStyleDef, SkinError, skin_from_value, skin_to_value};
 pub use mad_layout::{
     FmtComposite, FmtInline, FmtLine, FmtText, MadSkin, composite_kind_widths, draw_text, inline,
     print_inline,
