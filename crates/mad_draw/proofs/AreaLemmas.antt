@@ -1,9 +1,9 @@
 -- Drawing the rows of an area, one by one.
-use Rattle.std.proofs.Common.{◌≡◌, ℕ, zero, suc, ◌+◌, ◌-◌, ◌<◌, ◌≤◌, List, [], ◌∷◌, ◌++◌, map, length, length-append, refl, ap, sym, ◌∙◌, subst, arith, append_assoc, Result, Ok, Err, OnOk}
+use Rattle.std.proofs.Common.{◌≡◌, ℕ, suc, ◌+◌, ◌-◌, ◌<◌, ◌≤◌, List, [], ◌∷◌, ◌++◌, map, length, length-append, refl, ap, sym, ◌∙◌, subst, arith, append_assoc}
 use Rattle.std.specs.List.{AllByRecursion}
 use Rattle.std.proofs.lemmas.List.{append-nil, map-append, length-map}
 use Rattle.mad_term.specs.Commands.{move_to_bytes}
-use Rattle.mad_term.specs.Draws.{Draws, Refused}
+use Rattle.mad_term.specs.Draws.{Refused}
 use Rattle.mad_term.specs.Trace.{Trace, after, TookWith}
 use Rattle.mad_term.specs.declared.errors.Error.{Error}
 use Rattle.mad_term.proofs.Exits.{refused_between}

@@ -113,7 +113,7 @@ pub columns-both : (ps qs : List RowPiece) → pieces_columns (ps ++ qs) ≡ pie
 columns-both [] qs = omega arith
 columns-both (p ∷ ps) qs = let rest : pieces_columns (ps ++ qs) ≡ pieces_columns ps + pieces_columns qs = columns-both ps qs in omega (arith, rest)
 
-ascii_spaces : (n : ℕ) → IsAscii (replicate n 32)
+pub ascii_spaces : (n : ℕ) → IsAscii (replicate n 32)
 ascii_spaces zero = IsAscii-nil
 ascii_spaces (suc n) = IsAscii-cons 32 (replicate n 32) (lit< tt) (ascii_spaces n)
 

@@ -1,5 +1,5 @@
 -- Graphic characters are a front of a token.
-use Rattle.std.proofs.Common.{◌≡◌, ◌≢◌, ◌⊎◌, ◌==◌, ◌||◌, nat_le, inl, chars, ℕ, zero, suc, ◌≤◌, ◌<◌, ◌+◌, ◌-◌, ◌&&◌, not, Bool, true, false, nat_lt, List, [], ◌∷◌, ◌++◌, length, drop, get_or, Some, unwrap_or, refl, sym, ap, ◌∙◌, arith, subst, inr}
+use Rattle.std.proofs.Common.{◌≡◌, ◌≢◌, ◌==◌, ◌||◌, nat_le, inl, chars, ℕ, zero, suc, ◌≤◌, ◌<◌, ◌+◌, ◌-◌, ◌&&◌, not, Bool, true, false, List, [], ◌∷◌, ◌++◌, length, drop, get_or, refl, sym, ap, ◌∙◌, arith, subst, inr}
 use Rattle.std.proofs.lemmas.Bool.{and_parts, or_cases, cases_lt, false≢true}
 use Rattle.std.proofs.lemmas.Bool.Decides.{nat_tests}
 use Rattle.std.proofs.lemmas.List.{at_drop_more, get_or-drop}
@@ -10,11 +10,11 @@ use Rattle.std.specs.Char.{encode_utf8, len_utf8, is_ascii_graphic, is_whitespac
 use Rattle.std.specs.Str.{IsUtf8, IsCharBoundary}
 use Rattle.mad_columns.specs.Columns.{char_columns}
 use Rattle.mad_columns.proofs.CharColumns.{char_columns-ascii}
-use Rattle.mad_md.specs.Flagged.{Flags, FlaggedChar, flagged, flags_of, is_blank}
+use Rattle.mad_md.specs.Flagged.{Flags, flagged, flags_of, is_blank}
 use Rattle.mad_md.specs.declared.compound.Compound.{Compound}
 use Rattle.mad_fit.specs.Tokens.{StopsBefore, IsTokenAt}
 use Rattle.mad_fit.specs.declared.tokens.Token.{Token}
-use Rattle.mad_fit.specs.Ascii.{AreGraphic, is_end_of_word, is_lone_space}
+use Rattle.mad_fit.specs.Ascii.{is_end_of_word, is_lone_space}
 use Rattle.mad_fit.proofs.TokenLemmas.{IsFront, front_start, front_more, stops_at, token_is}
 
 -- a graphic character takes a column and isn't blank

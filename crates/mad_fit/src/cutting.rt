@@ -115,8 +115,16 @@ mod tests {
                 80,
                 &[(4, 2, false), (5, 1, true), (6, 1, false)],
             ),
-            (raw("a \u{3000}b"), 80, &[(1, 1, false), (5, 3, true), (6, 1, false)]),
-            (raw("a \u{301}"), 80, &[(1, 1, false), (2, 1, true), (4, 0, false)]),
+            (
+                raw("a \u{3000}b"),
+                80,
+                &[(1, 1, false), (5, 3, true), (6, 1, false)],
+            ),
+            (
+                raw("a \u{301}"),
+                80,
+                &[(1, 1, false), (2, 1, true), (4, 0, false)],
+            ),
         ];
         for (compound, max, wanted) in cases {
             assert_tokens(&rt, rt.alloc(), compound, max, wanted)?;

@@ -1,17 +1,16 @@
 -- A layout of a plain text is drawn exactly.
-use Rattle.std.proofs.Common.{◌≡◌, ℕ, zero, suc, ◌+◌, ◌-◌, ◌^◌, ◌<◌, ◌≤◌, inl, inr, List, [], ◌∷◌, ◌++◌, map, Option, Some, None, Contains, drop, length, take, refl, sym, ap, ◌∙◌, subst, arith}
+use Rattle.std.proofs.Common.{◌≡◌, ℕ, zero, suc, ◌+◌, ◌-◌, ◌^◌, ◌<◌, ◌≤◌, inl, inr, List, [], ◌∷◌, ◌++◌, map, Option, Some, None, Contains, drop, length, min, take, refl, sym, ap, ◌∙◌, subst, arith}
 use Rattle.std.specs.Prelude.{IfSome, unwrap_or}
 use Rattle.std.specs.List.{AllByRecursion}
 use Rattle.std.specs.Str.{IsUtf8}
 use Rattle.std.proofs.lemmas.Bool.Decides.{nat_tests}
 use Rattle.mad_columns.specs.Columns.{char_columns}
 use Rattle.mad_md.specs.Flagged.{FlaggedChar, run_of, flagged_of, flagged_text}
-use Rattle.mad_md.specs.Lines.{StyledRuns}
+use Rattle.mad_md.specs.Lines.{StyledRuns, LineContent, normal, table_row, table_rule, horizontal_rule}
 use Rattle.mad_md.specs.declared.compound.Compound.{Compound}
 use Rattle.mad_style.specs.Kinds.{kind_of}
 use Rattle.mad_style.specs.LineStyles.{margins_at}
 use Rattle.mad_style.specs.declared.kinds.CompositeKind.{CompositeKind}
-use Rattle.mad_style.specs.declared.kinds.CompositeKind.TheVariants.{Paragraph}
 use Rattle.mad_style.specs.declared.line_styles.LineStyle.{LineStyle}
 use Rattle.mad_fit.specs.Columns.{width_of}
 use Rattle.mad_fit.specs.Tokens.{token_run}
@@ -22,21 +21,25 @@ use Rattle.mad_wrap.specs.Rooms.{most_indent, token_limit}
 use Rattle.mad_wrap.specs.WrapLines.{HasRoom, LinesFit, IsMadeOf}
 use Rattle.mad_wrap.specs.declared.room.Room.{Room}
 use Rattle.mad_layout.specs.Drawable.{IsDrawableLine, AreDrawable}
-use Rattle.mad_draw.specs.Pieces.{AreShownPieces, pieces_columns}
+use Rattle.mad_draw.specs.Pieces.{AreShownPieces}
 use Rattle.mad_fit.specs.declared.spacing.Spacing.{Spacing}
 use Rattle.mad_layout.specs.FittingLayouts.{IsFittingWrap, IsFittingLayout}
 use Rattle.mad_layout.specs.Indents.{indent, follow_up, room_of}
-use Rattle.mad_layout.specs.Layouts.{IsRead, AreRead, IsLayout}
-use Rattle.mad_layout.specs.Premises.{IsPlainRun, runs_text, IsPlainLine, KeepsPremises}
-use Rattle.mad_layout.specs.Rows.{mark_pieces, compound_piece, inner_columns, place_of}
+use Rattle.mad_layout.specs.Layouts.{AreRead, IsLayout}
+use Rattle.mad_layout.specs.Lines.{IsLineRead}
+use Rattle.mad_layout.specs.Parts.{Part, parts_of, part_lines, blocks_justified, code_room, IsLineAt, AreLinesAt, ArePartsAt}
+use Rattle.mad_layout.specs.Premises.{IsPlainRun, runs_text, IsPlainPrefix, IsPlainLine, IsPlainContent, KeepsPremises}
+use Rattle.mad_layout.specs.Rows.{compound_piece, place_of}
 use Rattle.mad_layout.specs.Styles.{line_style}
 use Rattle.mad_layout.specs.CompositeWraps.{line_compounds, HaveKinds, IsCompositeWrap}
-use Rattle.mad_layout.specs.WrappedLines.{style_margins, line_with, AreLinesWrapped, IsLaidOutBy, AreLaidOutBy}
+use Rattle.mad_layout.specs.WrappedLines.{style_margins, line_with, IsLaidOutBy}
 use Rattle.mad_layout.specs.Wraps.{text_of, columns_of, IsMeasured}
 use Rattle.mad_layout.specs.declared.skin.MadSkin.{MadSkin}
 use Rattle.mad_layout.specs.declared.composite.FmtComposite.{FmtComposite}
 use Rattle.mad_layout.specs.declared.line.FmtLine.{FmtLine}
-use Rattle.mad_layout.specs.declared.line.FmtLine.TheVariants.{Normal}
+use Rattle.mad_layout.specs.declared.line.FmtLine.TheVariants.{Normal, TableRow, TableRule, HorizontalRule}
+use Rattle.mad_layout.proofs.MarkLemmas.{mark_shown, mark_columns, follow_up_plain}
+use Rattle.mad_layout.proofs.PartLemmas.{IsPlacedLine, ArePlacedLines, lines_placed, parts_are_lines}
 use Rattle.mad_layout.proofs.WholeTokens.{IsShownRun, plain_is_shown, tokens_shown}
 
 -- ---- one line
@@ -51,36 +54,59 @@ pieces_shown : (skin : MadSkin) (style : LineStyle) (ps : List Compound) → All
 pieces_shown skin style [] h = tt
 pieces_shown skin style (p ∷ ps) h = (record { utf8 = h.0.utf8; shown = h.0.shown }, pieces_shown skin style ps h.1)
 
--- a paragraph that fits with these margins
-drawable : (skin : MadSkin) (drawn : ℕ) (margins : ℕ × ℕ) (l : FmtComposite) → drawn < 2 ^ 64 - 1 → l.kind ≡ Paragraph → l.spacing ≡ None → IsMeasured skin l
-    → margins.0 + columns_of skin l + margins.1 ≤ drawn → AllByRecursion IsShownRun (map run_of l.compounds.items) → IsDrawableLine skin drawn (line_with margins l)
-drawable skin drawn margins l bound kind spacing measured fits shown = record {
-  margins = margins;
-  margins_are = refl;
-  measured = omega (arith, measured, fits, bound);
-  place = subst (λ (s : Option Spacing). IfSome s (λ p. l.visible_length ≤ p.width)) (sym spacing) tt;
-  fits = let inner : inner_columns l ≡ l.visible_length = ap (λ s. unwrap_or (place_of s) l.visible_length) spacing in omega (arith, inner, measured, fits, bound);
-  mark = subst (λ k. AreShownPieces (mark_pieces skin k)) (sym kind) tt;
-  indent_is = subst (λ k. pieces_columns (mark_pieces skin k) ≡ indent skin.list_items_indentation_mode k) (sym kind) refl;
-  text = pieces_shown skin (line_style skin l.kind) l.compounds.items shown;
-}
+-- a line of so many columns within its own place, if it has one, which fits with these margins
+abbrev FitsPlace : Option Spacing → ℕ → ℕ × ℕ → ℕ → Type 0
+FitsPlace place columns margins drawn = IfSome place (λ s. (columns ≤ s.width) × (margins.0 + s.width + margins.1 ≤ drawn))
 
--- the lines of a paragraph that is wrapped in what its margins leave
-wrapped_drawable : (skin : MadSkin) (drawn first : ℕ) (margins : ℕ × ℕ) (r : Room) (ps : List Compound) (ts : List Token) (wrap : List FmtComposite) → drawn < 2 ^ 64 - 1
-    → margins.0 + r.width + margins.1 ≤ drawn → AllByRecursion IsShownRun (map run_of ps ++ map token_run ts) → HaveKinds Paragraph Paragraph wrap → AllByRecursion (λ l. l.spacing ≡ None) wrap
+within_place : (place : Option Spacing) (length columns : ℕ) (margins : ℕ × ℕ) (drawn : ℕ) → length ≡ columns → FitsPlace place columns margins drawn → IfSome place (λ s. length ≤ s.width)
+within_place None length columns margins drawn same h = tt
+within_place (Some s) length columns margins drawn same h = omega (arith, same, h.0)
+
+place_inside : (place : Option Spacing) (length columns : ℕ) (margins : ℕ × ℕ) (drawn : ℕ) → length ≡ columns → margins.0 + columns + margins.1 ≤ drawn → FitsPlace place columns margins drawn
+    → margins.0 + unwrap_or (place_of place) length + margins.1 ≤ drawn
+place_inside None length columns margins drawn same fits h = omega (arith, same, fits)
+place_inside (Some s) length columns margins drawn same fits h = h.1
+
+-- a line that fits with these margins
+drawable : (skin : MadSkin) (drawn : ℕ) (margins : ℕ × ℕ) (l : FmtComposite) → drawn < 2 ^ 64 - 1 → IsPlainPrefix skin l.kind → IsMeasured skin l
+    → margins.0 + columns_of skin l + margins.1 ≤ drawn → FitsPlace l.spacing (columns_of skin l) margins drawn → AllByRecursion IsShownRun (map run_of l.compounds.items) → IsDrawableLine skin drawn (line_with margins l)
+drawable skin drawn margins l bound prefix measured fits place shown =
+    let same : l.visible_length ≡ columns_of skin l = omega (arith, measured, fits, bound) in
+    record {
+      margins = margins;
+      margins_are = refl;
+      measured = same;
+      place = within_place l.spacing l.visible_length (columns_of skin l) margins drawn same place;
+      fits = place_inside l.spacing l.visible_length (columns_of skin l) margins drawn same fits place;
+      mark = mark_shown skin l.kind prefix;
+      indent_is = mark_columns skin l.kind prefix;
+      text = pieces_shown skin (line_style skin l.kind) l.compounds.items shown;
+    }
+
+narrower_fits : (place : Option Spacing) (columns wider : ℕ) (margins : ℕ × ℕ) (drawn : ℕ) → columns ≤ wider → FitsPlace place wider margins drawn → FitsPlace place columns margins drawn
+narrower_fits None columns wider margins drawn less h = tt
+narrower_fits (Some s) columns wider margins drawn less h = (omega (arith, less, h.0), h.1)
+
+-- the lines of a composite that is wrapped in what its margins leave
+wrapped_drawable : (skin : MadSkin) (drawn first : ℕ) (margins : ℕ × ℕ) (kind other : CompositeKind) (place : Option Spacing) (r : Room) (ps : List Compound) (ts : List Token) (wrap : List FmtComposite) → drawn < 2 ^ 64 - 1
+    → margins.0 + r.width + margins.1 ≤ drawn → FitsPlace place r.width margins drawn → first ≡ indent skin.list_items_indentation_mode kind → r.other ≡ indent skin.list_items_indentation_mode other
+    → IsPlainPrefix skin kind → IsPlainPrefix skin other → AllByRecursion IsShownRun (map run_of ps ++ map token_run ts) → HaveKinds kind other wrap → AllByRecursion (λ l. l.spacing ≡ place) wrap
     → AllByRecursion (IsMeasured skin) wrap → LinesFit first r (map flagged_text (line_compounds wrap)) → AllByRecursion (IsMadeOf ps ts) (line_compounds wrap) → AreDrawable skin drawn (map (line_with margins) wrap)
-wrapped_drawable skin drawn first margins r ps ts [] bound inside shown kinds spacing measured fits parts = tt
-wrapped_drawable skin drawn first margins r ps ts (l ∷ ls) bound inside shown kinds spacing measured fits parts =
+wrapped_drawable skin drawn first margins kind other place r ps ts [] bound inside fits_place first_is other_is prefix follow shown kinds spacing measured fits parts = tt
+wrapped_drawable skin drawn first margins kind other place r ps ts (l ∷ ls) bound inside fits_place first_is other_is prefix follow shown kinds spacing measured fits parts =
     let runs = map run_of ps ++ map token_run ts in
-    let none : indent skin.list_items_indentation_mode l.kind ≡ 0 = ap (indent skin.list_items_indentation_mode) kinds.0 in (
-      drawable skin drawn margins l bound kinds.0 spacing.0 measured.0 (omega (arith, none, fits.0, inside))
+    let own : indent skin.list_items_indentation_mode l.kind ≡ first = ap (indent skin.list_items_indentation_mode) kinds.0 ∙ sym first_is in
+    let columns : columns_of skin l ≤ r.width = omega (arith, own, fits.0) in
+    let in_place : FitsPlace l.spacing (columns_of skin l) margins drawn =
+    subst (λ (s : Option Spacing). FitsPlace s (columns_of skin l) margins drawn) (sym spacing.0) (narrower_fits place (columns_of skin l) r.width margins drawn columns fits_place) in (
+      drawable skin drawn margins l bound (subst (IsPlainPrefix skin) (sym kinds.0) prefix) measured.0 (omega (arith, columns, inside)) in_place
           (all_each (Contains runs) IsShownRun (λ x has. each_of IsShownRun runs x shown has) (map run_of l.compounds.items) parts.0),
-      wrapped_drawable skin drawn r.other margins r ps ts ls bound inside shown kinds.1 spacing.1 measured.1 fits.1 parts.1,
+      wrapped_drawable skin drawn r.other margins other other place r ps ts ls bound inside fits_place other_is other_is follow follow shown kinds.1 spacing.1 measured.1 fits.1 parts.1,
     )
 
 -- ---- a composite as it was read
 
-runs_are : (ps : List Compound) → runs_text (map run_of ps) ≡ flagged_text ps
+pub runs_are : (ps : List Compound) → runs_text (map run_of ps) ≡ flagged_text ps
 runs_are [] = refl
 runs_are (p ∷ ps) = ap (λ l. flagged_of p ++ l) (runs_are ps)
 
@@ -91,10 +117,21 @@ utf8_of (p ∷ ps) h = (h.0.utf8, utf8_of ps h.1)
 margins-le : (style : LineStyle) (width : ℕ) → (margins_at style (Some width)).0 + (margins_at style (Some width)).1 ≤ width
 margins-le style width = grind (arith, nat_tests)
 
+-- what the margins of a composite's kind leave of a width
+abbrev inner_of : MadSkin → ℕ → FmtComposite → ℕ
+inner_of skin width l = width - (style_margins skin width l).0 - (style_margins skin width l).1
+
+-- The composite says what was read, and has no place of its own, or one that is no wider than what its margins leave, and as wide as the
+-- composite or as that.
+pub record IsPlacedFor (skin : MadSkin) (width : ℕ) (line : StyledRuns) (l : FmtComposite) : Type 0 where
+  pub kind : l.kind ≡ kind_of line.style
+  pub text : map run_of l.compounds.items ≡ line.runs
+  pub measured : IsMeasured skin l
+  pub place : IfSome l.spacing (λ s. (s.width ≤ inner_of skin width l) × (min l.visible_length (inner_of skin width l) ≤ s.width))
+
 -- where the composite doesn't fit, its characters have room
-has_room : (skin : MadSkin) (width : ℕ) (line : StyledRuns) (source : FmtComposite) → IsPlainLine skin width line → IsRead skin line source
-    → width < source.visible_length + (style_margins skin width source).0 + (style_margins skin width source).1
-    → HasRoom (room_of skin source.kind (width - (style_margins skin width source).0 - (style_margins skin width source).1)) (text_of source)
+has_room : (skin : MadSkin) (width : ℕ) (line : StyledRuns) (source : FmtComposite) → IsPlainLine skin width line → IsPlacedFor skin width line source
+    → width < source.visible_length + (style_margins skin width source).0 + (style_margins skin width source).1 → HasRoom (room_of skin source.kind (inner_of skin width source)) (text_of source)
 has_room skin width line source plain read wide =
     let left = λ (k : CompositeKind). width - (margins_at (line_style skin k) (Some width)).0 - (margins_at (line_style skin k) (Some width)).1 in
     let premise = λ (k : CompositeKind) (text : List FlaggedChar). left k < indent skin.list_items_indentation_mode k + width_of text → HasRoom (room_of skin k (left k)) text in
@@ -102,20 +139,34 @@ has_room skin width line source plain read wide =
     let room : premise source.kind (text_of source) = subst (λ k. premise k (text_of source)) (sym read.kind) (subst (premise (kind_of line.style)) text plain.room) in
     room (omega (arith, wide, read.measured, margins-le (line_style skin source.kind) width))
 
+kept_place : (place : Option Spacing) (length columns inner : ℕ) (margins : ℕ × ℕ) (drawn : ℕ) → columns ≡ length → length ≤ inner → margins.0 + inner + margins.1 ≤ drawn
+    → IfSome place (λ s. (s.width ≤ inner) × (min length inner ≤ s.width)) → FitsPlace place columns margins drawn
+kept_place None length columns inner margins drawn same fits inside h = tt
+kept_place (Some s) length columns inner margins drawn same fits inside h = (omega (arith, same, fits, h.1), omega (arith, inside, h.0))
+
+wrapped_place : (place : Option Spacing) (length inner : ℕ) (margins : ℕ × ℕ) (drawn : ℕ) → inner < length → margins.0 + inner + margins.1 ≤ drawn
+    → IfSome place (λ s. (s.width ≤ inner) × (min length inner ≤ s.width)) → FitsPlace place inner margins drawn
+wrapped_place None length inner margins drawn wide inside h = tt
+wrapped_place (Some s) length inner margins drawn wide inside h = (omega (arith, wide, h.1), omega (arith, inside, h.0))
+
 read_drawable : (skin : MadSkin) (width drawn : ℕ) (line : StyledRuns) (source : FmtComposite) (lines : List FmtLine) → width ≤ drawn → drawn < 2 ^ 64 - 1
-    → IsPlainLine skin width line → IsRead skin line source → IsLaidOutBy IsFittingWrap skin width source lines → AreDrawable skin drawn lines
+    → IsPlainLine skin width line → IsPlacedFor skin width line source → IsLaidOutBy IsFittingWrap skin width source lines → AreDrawable skin drawn lines
 read_drawable skin width drawn line source lines narrower bound plain read (inl (fits, same)) =
-    let kind : source.kind ≡ Paragraph = read.kind ∙ ap kind_of plain.paragraph in
     let margins : ℕ × ℕ = style_margins skin width source in
+    let prefix : IsPlainPrefix skin source.kind = subst (IsPlainPrefix skin) (sym read.kind) plain.prefix in
     let runs : AllByRecursion IsPlainRun (map run_of source.compounds.items) = subst (AllByRecursion IsPlainRun) (sym read.text) plain.runs in
-    let one = drawable skin drawn margins source bound kind read.spacing read.measured (omega (arith, fits, read.measured, narrower, bound))
+    let columns : columns_of skin source ≡ source.visible_length = omega (arith, fits, read.measured, narrower, bound) in
+    let inside : margins.0 + inner_of skin width source + margins.1 ≤ drawn = omega (arith, narrower, margins-le (line_style skin source.kind) width) in
+    let inner : source.visible_length ≤ inner_of skin width source = omega (arith, fits) in
+    let one = drawable skin drawn margins source bound prefix read.measured (omega (arith, fits, columns, narrower))
+    (kept_place source.spacing source.visible_length (columns_of skin source) (inner_of skin width source) margins drawn columns inner inside read.place)
     (all_each IsPlainRun IsShownRun plain_is_shown (map run_of source.compounds.items) runs) in
     subst (AreDrawable skin drawn) (sym same) (one, tt)
 read_drawable skin width drawn line source lines narrower bound plain read (inr (wide, (wrap, wraps, same))) =
-    let kind : source.kind ≡ Paragraph = read.kind ∙ ap kind_of plain.paragraph in
     let ps = source.compounds.items in
     let margins : ℕ × ℕ = style_margins skin width source in
-    let r : Room = room_of skin source.kind (width - margins.0 - margins.1) in
+    let prefix : IsPlainPrefix skin source.kind = subst (IsPlainPrefix skin) (sym read.kind) plain.prefix in
+    let r : Room = room_of skin source.kind (inner_of skin width source) in
     let runs : AllByRecursion IsPlainRun (map run_of ps) = subst (AllByRecursion IsPlainRun) (sym read.text) plain.runs in
     let room : HasRoom r (text_of source) = has_room skin width line source plain read wide in
     let narrow : AllByRecursion (λ x. char_columns x.char ≤ token_limit r) (flagged_text ps) =
@@ -123,22 +174,23 @@ read_drawable skin width drawn line source lines narrower bound plain read (inr 
     let tokens = tokens_of_all (token_limit r) ps (utf8_of ps runs) in
     let shown = all_joined IsShownRun (map run_of ps) (map token_run tokens.0) (all_each IsPlainRun IsShownRun plain_is_shown (map run_of ps) runs)
     (tokens_shown (token_limit r) ps tokens.0 runs narrow tokens.1) in
+    let inside : margins.0 + r.width + margins.1 ≤ drawn = omega (arith, narrower, margins-le (line_style skin source.kind) width) in
+    let place : FitsPlace source.spacing r.width margins drawn =
+    wrapped_place source.spacing source.visible_length (inner_of skin width source) margins drawn (omega (arith, wide, margins-le (line_style skin source.kind) width)) inside read.place in
     subst (AreDrawable skin drawn) (sym same)
-    (wrapped_drawable skin drawn r.first margins r ps tokens.0 wrap bound (omega (arith, narrower, margins-le (line_style skin source.kind) width)) shown
-    (subst (λ k. HaveKinds k (follow_up k) wrap) kind wraps.kinds)
-    (subst (λ s. AllByRecursion (λ (l : FmtComposite). l.spacing ≡ s) wrap) read.spacing wraps.spacing)
-    wraps.measured (wraps.fits room) (wraps.parts tokens.0 tokens.1))
+    (wrapped_drawable skin drawn r.first margins source.kind (follow_up source.kind) source.spacing r ps tokens.0 wrap bound inside place refl refl prefix (follow_up_plain skin source.kind prefix) shown
+    wraps.kinds wraps.spacing wraps.measured (wraps.fits room) (wraps.parts tokens.0 tokens.1))
 
 -- ---- a text
 
 -- so it has a line at least
-read_some : (skin : MadSkin) (width : ℕ) (line : StyledRuns) (source : FmtComposite) (lines : List FmtLine) → IsPlainLine skin width line → IsRead skin line source
+read_some : (skin : MadSkin) (width : ℕ) (line : StyledRuns) (source : FmtComposite) (lines : List FmtLine) → IsPlainLine skin width line → IsPlacedFor skin width line source
     → IsLaidOutBy IsFittingWrap skin width source lines → 0 < length lines
 read_some skin width line source lines plain read (inl (fits, same)) = let one : length lines ≡ 1 = ap length same in omega (arith, one)
 read_some skin width line source lines plain read (inr (wide, ([], wraps, same))) =
-    let none : indent skin.list_items_indentation_mode source.kind ≡ 0 = ap (indent skin.list_items_indentation_mode) (read.kind ∙ ap kind_of plain.paragraph) in
+    let room : HasRoom (room_of skin source.kind (inner_of skin width source)) (text_of source) = has_room skin width line source plain read wide in
     let empty : width_of (text_of source) ≡ 0 = ap width_of wraps.keeps in
-    absurd (omega (arith, wide, read.measured, none, empty, margins-le (line_style skin source.kind) width))
+    absurd (omega (arith, wide, read.measured, room.indent, empty, margins-le (line_style skin source.kind) width))
 read_some skin width line source lines plain read (inr (wide, (w ∷ ws, wraps, same))) =
     let more : length lines ≡ suc (length (map (line_with (style_margins skin width source)) ws)) = ap length same in omega (arith, more)
 
@@ -156,22 +208,57 @@ some_joined : (skin : MadSkin) (drawn : ℕ) (own others : List FmtLine) (n : �
 some_joined skin drawn [] others n some h k = absurd (omega (arith, some))
 some_joined skin drawn (l ∷ own) others n some h k = (h.0, first_joined skin drawn own others n h.1 k)
 
-lines_drawable : (skin : MadSkin) (width drawn n : ℕ) (text : List StyledRuns) (read lines : List FmtLine) → width ≤ drawn → drawn < 2 ^ 64 - 1
-    → KeepsPremises skin width (take n text) → AreRead skin text read → AreLaidOutBy IsFittingWrap skin width read lines → AreDrawable skin drawn (take n lines)
-lines_drawable skin width drawn zero text read lines narrower bound keeps reads wraps = tt
-lines_drawable skin width drawn (suc n) [] [] lines narrower bound keeps reads wraps = subst (λ (ls : List FmtLine). AreDrawable skin drawn (take (suc n) ls)) (sym wraps) tt
-lines_drawable skin width drawn (suc n) [] (l ∷ ls) lines narrower bound keeps reads wraps = absurd reads
-lines_drawable skin width drawn (suc n) (c ∷ cs) [] lines narrower bound keeps reads wraps = absurd reads
-lines_drawable skin width drawn (suc n) (c ∷ cs) (Normal l ∷ ls) lines narrower bound keeps reads (own, others, joins, here, more) =
-    subst (λ (ls : List FmtLine). AreDrawable skin drawn (take (suc n) ls)) (sym joins)
-    (some_joined skin drawn own others n (read_some skin width c l own keeps.0 reads.0 here) (read_drawable skin width drawn c l own narrower bound keeps.0 reads.0 here)
-    (lines_drawable skin width drawn n cs ls others narrower bound keeps.1 reads.1 more))
+-- what becomes of one line of a text
+content_drawable : (skin : MadSkin) (width drawn : ℕ) (content : LineContent) (l m : FmtLine) (own : List FmtLine) → width ≤ drawn → drawn < 2 ^ 64 - 1 → IsPlainContent skin width content → IsLineRead skin content l
+    → IsPlacedLine skin width l m → IsLineAt IsFittingWrap skin (Some width) m own → (0 < length own) × AreDrawable skin drawn own
+content_drawable skin width drawn (table_row cells) l m own narrower bound plain read placed here = absurd plain
+content_drawable skin width drawn (table_rule aligns) l m own narrower bound plain read placed here = absurd plain
+content_drawable skin width drawn (normal said) (TableRow row) m own narrower bound plain read placed here = absurd read
+content_drawable skin width drawn (normal said) (TableRule rule) m own narrower bound plain read placed here = absurd read
+content_drawable skin width drawn (normal said) HorizontalRule m own narrower bound plain read placed here = absurd read
+content_drawable skin width drawn horizontal_rule (Normal l) m own narrower bound plain read placed here = absurd read
+content_drawable skin width drawn horizontal_rule (TableRow row) m own narrower bound plain read placed here = absurd read
+content_drawable skin width drawn horizontal_rule (TableRule rule) m own narrower bound plain read placed here = absurd read
+content_drawable skin width drawn (normal said) (Normal l) m own narrower bound plain read (inl same) here =
+    let becomes : IsLaidOutBy IsFittingWrap skin width l own = subst (λ (x : FmtLine). IsLineAt IsFittingWrap skin (Some width) x own) same here in
+    let is : IsPlacedFor skin width said l = record {
+      kind = read.kind;
+      text = read.text;
+      measured = read.measured;
+      place = subst (λ (s : Option Spacing). IfSome s (λ p. (p.width ≤ inner_of skin width l) × (min l.visible_length (inner_of skin width l) ≤ p.width))) (sym read.spacing) tt;
+    } in
+    (read_some skin width said l own plain is becomes, read_drawable skin width drawn said l own narrower bound plain is becomes)
+content_drawable skin width drawn (normal said) (Normal l) m own narrower bound plain read (inr placed) here =
+    let p : FmtComposite = record l { spacing = Some placed.place } in
+    let becomes : IsLaidOutBy IsFittingWrap skin width p own = subst (λ (x : FmtLine). IsLineAt IsFittingWrap skin (Some width) x own) placed.is here in
+    let is : IsPlacedFor skin width said p = record { kind = read.kind; text = read.text; measured = read.measured; place = (placed.inside, placed.holds) } in
+    (read_some skin width said p own plain is becomes, read_drawable skin width drawn said p own narrower bound plain is becomes)
+content_drawable skin width drawn horizontal_rule HorizontalRule m own narrower bound plain read (inl same) here =
+    let becomes : own ≡ HorizontalRule ∷ [] = subst (λ (x : FmtLine). IsLineAt IsFittingWrap skin (Some width) x own) same here in
+    let one : length own ≡ 1 = ap length becomes in
+    (omega (arith, one), subst (AreDrawable skin drawn) (sym becomes) (plain, tt))
+content_drawable skin width drawn horizontal_rule HorizontalRule m own narrower bound plain read (inr placed) here = absurd placed
+
+lines_drawable : (skin : MadSkin) (width drawn n : ℕ) (text : List LineContent) (read placed lines : List FmtLine) → width ≤ drawn → drawn < 2 ^ 64 - 1
+    → KeepsPremises skin width (take n text) → AreRead skin text read → ArePlacedLines skin width read placed → AreLinesAt IsFittingWrap skin (Some width) placed lines → AreDrawable skin drawn (take n lines)
+lines_drawable skin width drawn zero text read placed lines narrower bound keeps reads places becomes = tt
+lines_drawable skin width drawn (suc n) [] (l ∷ ls) placed lines narrower bound keeps reads places becomes = absurd reads
+lines_drawable skin width drawn (suc n) (c ∷ cs) [] placed lines narrower bound keeps reads places becomes = absurd reads
+lines_drawable skin width drawn (suc n) [] [] (m ∷ ms) lines narrower bound keeps reads places becomes = absurd places
+lines_drawable skin width drawn (suc n) [] [] [] lines narrower bound keeps reads places becomes = subst (λ (ls : List FmtLine). AreDrawable skin drawn (take (suc n) ls)) (sym becomes) tt
+lines_drawable skin width drawn (suc n) (c ∷ cs) (l ∷ ls) [] lines narrower bound keeps reads places becomes = absurd places
+lines_drawable skin width drawn (suc n) (c ∷ cs) (l ∷ ls) (m ∷ ms) lines narrower bound keeps reads places (own, others, joins, here, more) =
+    let first = content_drawable skin width drawn c l m own narrower bound keeps.0 reads.0 places.0 here in
+    subst (λ (xs : List FmtLine). AreDrawable skin drawn (take (suc n) xs)) (sym joins)
+    (some_joined skin drawn own others n first.0 first.1 (lines_drawable skin width drawn n cs ls ms others narrower bound keeps.1 reads.1 places.1 more))
 
 -- Where the first lines of a text keep the premises, the first lines of its layout are drawn exactly in a row at least as wide, however
 -- many lines it has.
-pub fitting_is_drawable : (skin : MadSkin) (width drawn n : ℕ) (text : List StyledRuns) (lines : List FmtLine) → width ≤ drawn → drawn < 2 ^ 64 - 1
+pub fitting_is_drawable : (skin : MadSkin) (width drawn n : ℕ) (text : List LineContent) (lines : List FmtLine) → width ≤ drawn → drawn < 2 ^ 64 - 1
     → KeepsPremises skin width (take n text) → IsFittingLayout skin width text lines → AreDrawable skin drawn (take n lines)
-fitting_is_drawable skin width drawn n text lines narrower bound keeps layout = lines_drawable skin width drawn n text layout.read lines narrower bound keeps layout.reads layout.fitted
+fitting_is_drawable skin width drawn n text lines narrower bound keeps layout =
+    lines_drawable skin width drawn n text layout.read (blocks_justified (code_room skin (Some width)) layout.read) lines narrower bound keeps layout.reads (lines_placed skin width layout.read)
+    (parts_are_lines IsFittingWrap skin (Some width) (parts_of layout.read) lines layout.laid)
 
 -- ---- a layout with the fewest lines
 
@@ -186,17 +273,27 @@ wrap_fits skin width source lines wrap = record {
   margins = wrap.margins;
 }
 
-lines_fit : (skin : MadSkin) (width : ℕ) (read lines : List FmtLine) → AreLinesWrapped skin width read lines → AreLaidOutBy IsFittingWrap skin width read lines
-lines_fit skin width [] lines wraps = wraps
-lines_fit skin width (Normal l ∷ ls) lines (own, others, joins, inl here, more) = (own, others, joins, inl here, lines_fit skin width ls others more)
-lines_fit skin width (Normal l ∷ ls) lines (own, others, joins, inr (wide, (wrap, wraps, same)), more) =
-    let margins = style_margins skin width l in
-    (own, others, joins, inr (wide, (wrap, wrap_fits skin (width - margins.0 - margins.1) l wrap wraps, same)), lines_fit skin width ls others more)
+line_fits : (skin : MadSkin) (width : ℕ) (l : FmtLine) (own : List FmtLine) → IsLineAt IsCompositeWrap skin (Some width) l own → IsLineAt IsFittingWrap skin (Some width) l own
+line_fits skin width (Normal l) own (inl here) = inl here
+line_fits skin width (Normal l) own (inr (wide, (wrap, wraps, same))) =
+    let margins = style_margins skin width l in inr (wide, (wrap, wrap_fits skin (width - margins.0 - margins.1) l wrap wraps, same))
+line_fits skin width (TableRow row) own here = here
+line_fits skin width (TableRule rule) own here = here
+line_fits skin width HorizontalRule own here = here
 
-pub layout_fits : (skin : MadSkin) (width : ℕ) (text : List StyledRuns) (lines : List FmtLine) → IsLayout skin width text lines → IsFittingLayout skin width text lines
-layout_fits skin width text lines layout = record { read = layout.read; reads = layout.reads; fitted = lines_fit skin width layout.read lines layout.wraps }
+lines_fit : (skin : MadSkin) (width : ℕ) (read lines : List FmtLine) → AreLinesAt IsCompositeWrap skin (Some width) read lines → AreLinesAt IsFittingWrap skin (Some width) read lines
+lines_fit skin width [] lines h = h
+lines_fit skin width (l ∷ ls) lines (own, others, joins, here, more) = (own, others, joins, line_fits skin width l own here, lines_fit skin width ls others more)
 
-pub layout_is_drawable : (skin : MadSkin) (width drawn n : ℕ) (text : List StyledRuns) (lines : List FmtLine) → width ≤ drawn → drawn < 2 ^ 64 - 1
+parts_fit : (skin : MadSkin) (width : ℕ) (ps : List Part) (lines : List FmtLine) → ArePartsAt IsCompositeWrap skin (Some width) ps lines → ArePartsAt IsFittingWrap skin (Some width) ps lines
+parts_fit skin width [] lines h = h
+parts_fit skin width (p ∷ ps) lines (own, others, joins, here, more) =
+    (own, others, joins, lines_fit skin width (part_lines (code_room skin (Some width)) p) own here, parts_fit skin width ps others more)
+
+pub layout_fits : (skin : MadSkin) (width : ℕ) (text : List LineContent) (lines : List FmtLine) → IsLayout skin width text lines → IsFittingLayout skin width text lines
+layout_fits skin width text lines layout = record { read = layout.read; reads = layout.reads; laid = parts_fit skin width (parts_of layout.read) lines layout.laid }
+
+pub layout_is_drawable : (skin : MadSkin) (width drawn n : ℕ) (text : List LineContent) (lines : List FmtLine) → width ≤ drawn → drawn < 2 ^ 64 - 1
     → KeepsPremises skin width (take n text) → IsLayout skin width text lines → AreDrawable skin drawn (take n lines)
 layout_is_drawable skin width drawn n text lines narrower bound keeps layout = fitting_is_drawable skin width drawn n text lines narrower bound keeps (layout_fits skin width text lines layout)
 

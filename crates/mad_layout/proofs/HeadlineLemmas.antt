@@ -1,10 +1,8 @@
 -- From a layout to what its area shows.
 use Rattle.std.proofs.Common.{◌≡◌, ℕ, ◌-◌, ◌≤◌, List, [], inl, inr, Option, Some, None, Result, Ok, Err, OnOk, IfOk, ap, ◌∙◌, subst, arith}
-use Rattle.std.specs.Prelude.{Bool, false, nat_lt, MatchBool}
+use Rattle.std.specs.Prelude.{Bool, false, nat_lt, if◌then◌else◌, MatchBool}
 use Rattle.std.proofs.lemmas.Bool.Decides.{nat_tests}
-use Rattle.mad_md.specs.Lines.{StyledRuns, contents}
-use Rattle.mad_md.specs.ReadByMarks.{IsReadByMarks}
-use Rattle.mad_md.specs.declared.text.Text.{Text}
+use Rattle.mad_md.specs.Lines.{LineContent}
 use Rattle.std.specs.Result.{IsErrAnd}
 use Rattle.std.specs.declared.io.Error as io
 use Rattle.mad_term.specs.declared.errors.Error.{Error}
@@ -18,7 +16,9 @@ use Rattle.mad_fit.specs.declared.area.Area.{Area}
 use Rattle.mad_layout.specs.Drawable.{AreDrawable}
 use Rattle.mad_layout.specs.FittingLayouts.{IsFittingLayoutAt}
 use Rattle.mad_layout.specs.InArea.{IsAreaLayout, ShowsText, WritesInArea}
-use Rattle.mad_layout.specs.Layouts.{composites, AreRead, IsLayout, IsLayoutAt}
+use Rattle.mad_layout.specs.CompositeWraps.{IsCompositeWrap}
+use Rattle.mad_layout.specs.Layouts.{IsLayoutBy, IsLayout, IsLayoutAt, IsMarkdownLayout}
+use Rattle.mad_layout.specs.Parts.{wrap_width}
 use Rattle.mad_layout.specs.Shown.{lines_shown, AreShownIn}
 use Rattle.mad_layout.specs.declared.skin.MadSkin.{MadSkin}
 use Rattle.mad_layout.specs.declared.line.FmtLine.{FmtLine}
@@ -27,23 +27,23 @@ use Rattle.mad_layout.proofs.DrawableLemmas.{layout_fits, layout_is_drawable}
 
 -- a text that was laid out for an area
 pub area_layout : {E : Type 0} (r : Result FmtText E) (skin : MadSkin) (markdown : List ℕ) (area : Area) (width : ℕ) → width ≡ area.width - 1
-    → IfOk r (λ laid_out. (text : Text) × IsReadByMarks markdown text × IsLayoutAt skin (Some width) (composites (contents text)) laid_out.lines.items)
+    → IfOk r (λ laid_out. IsMarkdownLayout skin (Some width) markdown laid_out.lines.items)
     → IfOk r (λ laid_out. IsAreaLayout skin markdown area laid_out.lines.items)
 area_layout {E} (Ok laid_out) skin markdown area width e h = record {
   text = h.0;
   read = h.1;
-  layout = subst (λ (w : ℕ). IsLayoutAt skin (Some w) (composites (contents h.0)) laid_out.lines.items) e h.2;
+  layout = subst (λ (w : ℕ). IsLayoutAt skin (Some w) h.0 laid_out.lines.items) e h.2;
 }
 area_layout {E} (Err x) skin markdown area width e h = tt
 
 -- at a width of three and more the text is wrapped
-wrapped_at : (skin : MadSkin) (width : ℕ) (text : List StyledRuns) (lines : List FmtLine) → 3 ≤ width → IsLayoutAt skin (Some width) text lines → IsLayout skin width text lines
+pub wrapped_at : (skin : MadSkin) (width : ℕ) (text : List LineContent) (lines : List FmtLine) → 3 ≤ width → IsLayoutAt skin (Some width) text lines → IsLayout skin width text lines
 wrapped_at skin width text lines wide h =
     let test : nat_lt width 3 ≡ false = grind (arith, nat_tests) in
-    subst (λ (b : Bool). MatchBool b (AreRead skin text lines) (IsLayout skin width text lines)) test h
+    subst (λ (b : Bool). IsLayoutBy IsCompositeWrap skin (if b then None else Some width) text lines) test h
 
 -- so it is a fitting layout
-pub layout_fitting : (skin : MadSkin) (width : Option ℕ) (text : List StyledRuns) (lines : List FmtLine) → IsLayoutAt skin width text lines → IsFittingLayoutAt skin width text lines
+pub layout_fitting : (skin : MadSkin) (width : Option ℕ) (text : List LineContent) (lines : List FmtLine) → IsLayoutAt skin width text lines → IsFittingLayoutAt skin width text lines
 layout_fitting skin None text lines h = tt
 layout_fitting skin (Some width) text lines h = λ wide. layout_fits skin width text lines (wrapped_at skin width text lines wide h)
 
@@ -56,9 +56,9 @@ text_shown {T} {E} (Ok x) skin own markdown area lines old new limits same laid_
       lines = lines;
       laid_out = laid_out;
       shown = λ premises.
-          let layout : IsLayout skin (area.width - 1) (composites (contents laid_out.text)) lines = wrapped_at skin (area.width - 1) (composites (contents laid_out.text)) lines (omega arith) laid_out.layout in
+          let layout : IsLayout skin (area.width - 1) laid_out.text lines = wrapped_at skin (area.width - 1) laid_out.text lines (omega arith) laid_out.layout in
           subst (λ (s : MadSkin). AreDrawable s area.width (lines_shown lines area 0) → TookWith old new (AreShownIn s lines area 0)) same h
-          (layout_is_drawable skin (area.width - 1) area.width area.height (composites (contents laid_out.text)) lines (omega arith) (omega (arith, limits.columns)) premises layout);
+          (layout_is_drawable skin (area.width - 1) area.width area.height laid_out.text lines (omega arith) (omega (arith, limits.columns)) premises layout);
     }
 text_shown {T} {E} (Err x) skin own markdown area lines old new limits same laid_out h = tt
 

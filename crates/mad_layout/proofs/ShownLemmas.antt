@@ -1,5 +1,5 @@
 -- What an area shows of the lines that were drawn in it.
-use Rattle.std.proofs.Common.{◌≡◌, ℕ, zero, suc, ◌<◌, ◌≤◌, List, [], ◌∷◌, drop, take, Result, Ok, Err, OnOk, arith, subst, sym}
+use Rattle.std.proofs.Common.{◌≡◌, ℕ, zero, suc, ◌<◌, List, [], ◌∷◌, drop, take, Result, Ok, Err, OnOk, arith, subst, sym}
 use Rattle.std.specs.Prelude.{slice_get}
 use Rattle.mad_term.specs.Trace.{Trace, TookWith}
 use Rattle.mad_fit.specs.declared.area.Area.{Area}
@@ -8,18 +8,17 @@ use Rattle.mad_draw.specs.Pieces.{FillsRow}
 use Rattle.mad_draw.proofs.PieceLemmas.{spaces_columns, shown_spaces}
 use Rattle.mad_layout.specs.declared.skin.MadSkin.{MadSkin}
 use Rattle.mad_layout.specs.declared.line.FmtLine.{FmtLine}
-use Rattle.mad_layout.specs.declared.line.FmtLine.TheVariants.{Normal}
 use Rattle.mad_layout.specs.Drawable.{AreDrawable}
 use Rattle.mad_layout.specs.Rows.{row_pieces}
 use Rattle.mad_layout.specs.Shown.{lines_shown, AreShownIn}
-use Rattle.mad_layout.proofs.RowLemmas.{line_columns, line_shown}
+use Rattle.mad_layout.proofs.RunLemmas.{any_columns, any_shown}
 
 -- a row fills its place: that of one of the first lines, or one past the last line
 fills : (skin : MadSkin) (width : ℕ) (lines : List FmtLine) (n y : ℕ) → y < n → AreDrawable skin width (take n lines) → FillsRow width (row_pieces skin width (slice_get lines y))
 fills skin width lines zero y inside h = absurd (omega (arith, inside))
 fills skin width [] (suc n) y inside h = record { shown = shown_spaces skin.paragraph.compound_style width; columns = spaces_columns skin.paragraph.compound_style width }
-fills skin width (Normal l ∷ lines) (suc n) zero inside h = record { shown = line_shown skin width l h.0; columns = line_columns skin width l h.0 }
-fills skin width (Normal l ∷ lines) (suc n) (suc y) inside h = fills skin width lines n y (omega (arith, inside)) h.1
+fills skin width (l ∷ lines) (suc n) zero inside h = record { shown = any_shown skin width l h.0; columns = any_columns skin width l h.0 }
+fills skin width (l ∷ lines) (suc n) (suc y) inside h = fills skin width lines n y (omega (arith, inside)) h.1
 
 -- what an area shows of its rows, it shows of the lines from one on
 pub text_shown_in : {T E : Type 0} (r : Result T E) (skin : MadSkin) (lines shown : List FmtLine) (area : Area) (width scroll : ℕ) (old new : Trace) → shown ≡ drop scroll lines → width ≡ area.width

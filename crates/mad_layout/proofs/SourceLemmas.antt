@@ -9,14 +9,15 @@ use Rattle.std.proofs.lemmas.Str.{chars-append, IsUtf8-take, IsUtf8-between}
 use Rattle.unicode_width.specs.Width.{char_width}
 use Rattle.mad_columns.specs.Columns.{char_columns}
 use Rattle.mad_columns.proofs.CharColumns.{char_columns-three}
-use Rattle.mad_md.specs.Flagged.{Flags, FlaggedChar, Run, RunPlace, flagged, is_blank, run_at}
+use Rattle.mad_md.specs.Flagged.{Flags, FlaggedChar, RunPlace, flagged, is_blank, run_at}
 use Rattle.mad_md.specs.Inline.{Item, runs, IsInlineReading}
-use Rattle.mad_md.specs.Lines.{LineContent, StyledRuns, contents}
-use Rattle.mad_md.specs.Parts.{LinePlace, line_places}
+use Rattle.mad_md.specs.Lines.{LineContent}
+use Rattle.mad_md.specs.Parts.{LinePlace, line_places, line_text}
+use Rattle.mad_md.specs.Reading.{IsRead, unread_text}
+use Rattle.mad_md.proofs.ParagraphLemmas.{paragraphs_read}
 use Rattle.mad_md.proofs.RunBorders.{IsBordered, runs_bordered}
-use Rattle.mad_md.specs.ReadByMarks.{IsReadByMarks, IsInlineLine, AreInlineLines}
+use Rattle.mad_md.specs.ReadByMarks.{IsParagraphText, AreInlineLines, IsReadByMarks}
 use Rattle.mad_md.specs.declared.composite.CompositeStyle.TheVariants.{Paragraph}
-use Rattle.mad_md.specs.declared.text.Text.{Text}
 use Rattle.mad_screen.specs.Painting.{IsPrinted}
 use Rattle.mad_term.specs.Trace.{Trace, flushed}
 use Rattle.mad_term.proofs.Traces.{took_flushed}
@@ -24,12 +25,10 @@ use Rattle.mad_layout.specs.Shown.{AreShownIn}
 use Rattle.mad_style.specs.LineStyles.{margins_at}
 use Rattle.mad_style.specs.declared.line_styles.LineStyle.{LineStyle}
 use Rattle.mad_fit.specs.declared.area.Area.{Area}
-use Rattle.mad_fit.proofs.AllLemmas.{all_front, all_back}
+use Rattle.mad_fit.proofs.AllLemmas.{all_front, all_back, all_each}
 use Rattle.mad_layout.specs.InArea.{ShowsText}
-use Rattle.mad_layout.specs.Layouts.{composites}
 use Rattle.mad_layout.specs.Premises.{AreJoined, IsPlainRun, IsPlainLine, KeepsPremises, inner_width, runs_text}
 use Rattle.mad_layout.specs.Sources.{TakesColumns, LinesTakeColumns, ShowsSource}
-use Rattle.mad_layout.specs.Styles.{line_style}
 use Rattle.mad_layout.specs.declared.skin.MadSkin.{MadSkin}
 
 -- ---- a run
@@ -83,7 +82,7 @@ plain_line : (skin : MadSkin) (width : ℕ) (text : List ℕ) (reading : List It
 plain_line skin width text reading wide h reads =
     let inner : 3 ≤ inner_width skin width (record { style = Paragraph; runs = map (run_at text) (runs reading) }) = three-le skin.paragraph width wide in
     record {
-      paragraph = refl;
+      prefix = tt;
       runs = plain_runs text (runs reading) h (runs_bordered text reading h.utf8 reads);
       room = λ _. record {
         indent = omega arith;
@@ -94,23 +93,35 @@ plain_line skin width text reading wide h reads =
 -- ---- a text
 
 lines_keep : (skin : MadSkin) (width : ℕ) (source : List ℕ) (places : List LinePlace) (lines : List LineContent) → 3 ≤ width
-    → AllByRecursion (λ place. TakesColumns (slice_range source place.start place.end)) places → AreInlineLines source places lines → KeepsPremises skin width (composites lines)
+    → AllByRecursion (λ place. TakesColumns (line_text source place)) places → AreInlineLines source places lines → KeepsPremises skin width lines
 lines_keep skin width source [] [] wide h reads = tt
 lines_keep skin width source [] (l ∷ ls) wide h reads = absurd reads
 lines_keep skin width source (p ∷ ps) [] wide h reads = absurd reads
 lines_keep skin width source (p ∷ ps) (l ∷ ls) wide h reads =
-    subst (λ (line : LineContent). KeepsPremises skin width (composites (line ∷ ls))) (sym reads.0.says)
+    subst (λ (line : LineContent). KeepsPremises skin width (line ∷ ls)) (sym reads.0.says)
     (plain_line skin width _ reads.0.reading wide h.0 reads.0.reads, lines_keep skin width source ps ls wide h.1 reads.1)
 
-first_keep : (skin : MadSkin) (width n : ℕ) (text : List StyledRuns) → KeepsPremises skin width text → KeepsPremises skin width (take n text)
+first_keep : (skin : MadSkin) (width n : ℕ) (text : List LineContent) → KeepsPremises skin width text → KeepsPremises skin width (take n text)
 first_keep skin width zero text h = tt
 first_keep skin width (suc n) [] h = tt
 first_keep skin width (suc n) (l ∷ ls) h = (h.0, first_keep skin width n ls h.1)
 
-pub source_keeps : (skin : MadSkin) (width n : ℕ) (source : List ℕ) (text : Text) → 3 ≤ width → LinesTakeColumns source → IsReadByMarks source text
-    → KeepsPremises skin width (take n (composites (contents text)))
+-- such a source is read line by line
+pub source_read : (source : List ℕ) (text : List LineContent) → LinesTakeColumns source → (read : IsRead (unread_text false source) text) → AreInlineLines source (line_places read.reads.parts) text
+source_read source text h read =
+    let places : List LinePlace = line_places read.reads.parts in
+    let given = h read.reads.parts read.reads.cut in
+    paragraphs_read source text read
+    (all_each (λ (p : LinePlace). TakesColumns (line_text source p) × IsParagraphText (line_text source p)) (λ (p : LinePlace). IsUtf8 (line_text source p)) (λ p x. x.0.utf8) places given)
+    (all_each (λ (p : LinePlace). TakesColumns (line_text source p) × IsParagraphText (line_text source p)) (λ (p : LinePlace). IsParagraphText (line_text source p)) (λ p x. x.1) places given)
+
+pub source_keeps : (skin : MadSkin) (width n : ℕ) (source : List ℕ) (text : List LineContent) → 3 ≤ width → LinesTakeColumns source → IsRead (unread_text false source) text → KeepsPremises skin width (take n text)
 source_keeps skin width n source text wide h read =
-    first_keep skin width n (composites (contents text)) (lines_keep skin width source (line_places read.parts) (contents text) wide (h read.parts read.cut) (read.each read.parts read.cut))
+    let places : List LinePlace = line_places read.reads.parts in
+    first_keep skin width n text
+    (lines_keep skin width source places text wide
+    (all_each (λ (p : LinePlace). TakesColumns (line_text source p) × IsParagraphText (line_text source p)) (λ (p : LinePlace). TakesColumns (line_text source p)) (λ p x. x.0) places (h read.reads.parts read.reads.cut))
+    (source_read source text h read))
 
 -- what an area shows of such a source
 pub source_shown : {T E : Type 0} (r : Result T E) (skin : MadSkin) (markdown : List ℕ) (area : Area) (old new : Trace) → OnOk r (4 ≤ area.width → ShowsText skin markdown area old new)

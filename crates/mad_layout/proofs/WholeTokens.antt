@@ -1,20 +1,17 @@
 -- The tokens of a plain text begin with a character that takes columns.
-use Rattle.std.proofs.Common.{◌≡◌, ℕ, zero, suc, ◌+◌, ◌-◌, ◌<◌, ◌≤◌, ◌≢◌, ◌⊎◌, inl, inr, Bool, true, false, not, ◌&&◌, List, [], ◌∷◌, ◌++◌, map, chars, length, drop, refl, sym, ap, ◌∙◌, subst, arith, encode_utf8_all}
+use Rattle.std.proofs.Common.{◌≡◌, ℕ, zero, suc, ◌<◌, ◌≤◌, inl, inr, Bool, true, false, not, ◌&&◌, List, [], ◌∷◌, ◌++◌, map, chars, length, drop, refl, sym, ap, ◌∙◌, subst, arith}
 use Rattle.std.specs.List.{AllByRecursion}
-use Rattle.std.specs.Char.{encode_utf8, len_utf8, is_whitespace}
-use Rattle.std.specs.Str.{IsUtf8, IsCharBoundary}
-use Rattle.std.proofs.lemmas.Bool.{false≢true, cases_lt}
-use Rattle.std.proofs.lemmas.Str.{encodes-chars, len_utf8_bounds, chars_past_char, drop_past_char, IsCharBoundary-from_drop}
-use Rattle.std.proofs.lemmas.List.{drop-drop, length-drop, map-append}
+use Rattle.std.specs.Char.{is_whitespace}
+use Rattle.std.specs.Str.{IsUtf8}
+use Rattle.std.proofs.lemmas.Bool.{false≢true}
+use Rattle.std.proofs.lemmas.List.{map-append}
 use Rattle.mad_columns.specs.Columns.{char_columns}
 use Rattle.mad_screen.specs.Painting.{IsPrinted, IsWhole, IsShown}
-use Rattle.mad_columns.proofs.CharColumns.{char_columns-le}
 use Rattle.mad_md.specs.Flagged.{Flags, FlaggedChar, Run, flagged, flags_of, run_of, flagged_of, flagged_text, is_blank}
 use Rattle.mad_md.specs.declared.compound.Compound.{Compound}
-use Rattle.mad_fit.specs.Tokens.{StopsBefore, IsAlike, IsTokenAt, AreTokensFrom, AreTokensOf, flagged_token, token_text, token_run}
+use Rattle.mad_fit.specs.Tokens.{StopsBefore, IsAlike, AreTokensFrom, AreTokensOf, flagged_token, token_text, token_run}
 use Rattle.mad_fit.specs.declared.tokens.Token.{Token}
 use Rattle.mad_fit.proofs.AllLemmas.{all_joined, all_front, all_back}
-use Rattle.mad_fit.proofs.TokenLemmas.{IsFront, front_start, front_more, token_is}
 use Rattle.mad_fit.proofs.TokenTexts.{text_at, some_flagged}
 use Rattle.mad_layout.specs.Premises.{AreJoined, IsPlainRun}
 

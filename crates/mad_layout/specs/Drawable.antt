@@ -1,13 +1,15 @@
 -- Lines that fill a row exactly when they are drawn.
 use Rattle.std.specs.Prelude.{◌≡◌, ℕ, ◌+◌, ◌≤◌, List, Some, IfSome, map}
 use Rattle.std.specs.List.{AllByRecursion}
+use Rattle.std.specs.Str.{chars}
+use Rattle.mad_fit.specs.Columns.{columns}
 use Rattle.mad_layout.specs.declared.skin.MadSkin.{MadSkin}
 use Rattle.mad_layout.specs.declared.composite.FmtComposite.{FmtComposite}
 use Rattle.mad_layout.specs.declared.line.FmtLine.{FmtLine}
-use Rattle.mad_layout.specs.declared.line.FmtLine.TheVariants.{Normal}
+use Rattle.mad_layout.specs.declared.line.FmtLine.TheVariants.{Normal, TableRow, TableRule, HorizontalRule}
 use Rattle.mad_layout.specs.Indents.{indent}
-use Rattle.mad_draw.specs.Pieces.{AreShownPieces, pieces_columns}
-use Rattle.mad_layout.specs.Rows.{mark_pieces, compound_piece, inner_columns}
+use Rattle.mad_draw.specs.Pieces.{RowPiece, IsShownPiece, AreShownPieces, pieces_columns}
+use Rattle.mad_layout.specs.Rows.{mark_pieces, compound_piece, inner_columns, char_piece}
 use Rattle.mad_layout.specs.Styles.{line_style}
 use Rattle.mad_layout.specs.Wraps.{columns_of}
 
@@ -23,9 +25,17 @@ pub record IsDrawable (skin : MadSkin) (width : ℕ) (l : FmtComposite) : Type 0
   pub indent_is : pieces_columns (mark_pieces skin l.kind) ≡ indent skin.list_items_indentation_mode l.kind
   pub text : AreShownPieces (map (compound_piece skin (line_style skin l.kind)) l.compounds.items)
 
--- a line does so
+-- a piece that is shown in one column
+pub record IsColumnPiece (p : RowPiece) : Type 0 where
+  pub shown : IsShownPiece p
+  pub one : columns (chars p.text) ≡ 1
+
+-- a line does so; lines of tables have no layout yet
 abbrev pub IsDrawableLine : MadSkin → ℕ → FmtLine → Type 0
 IsDrawableLine skin width (Normal l) = IsDrawable skin width l
+IsDrawableLine skin width (TableRow row) = ⊥
+IsDrawableLine skin width (TableRule rule) = ⊥
+IsDrawableLine skin width HorizontalRule = IsColumnPiece (char_piece skin.horizontal_rule)
 
 -- all lines do so
 abbrev pub AreDrawable : MadSkin → ℕ → List FmtLine → Type 0

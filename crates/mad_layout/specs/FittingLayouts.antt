@@ -2,15 +2,14 @@
 use Rattle.std.specs.Prelude.{◌≡◌, ℕ, ◌≤◌, List, map, Option, Some, None, ⊤}
 use Rattle.std.specs.List.{AllByRecursion}
 use Rattle.mad_md.specs.Flagged.{flagged_text}
-use Rattle.mad_md.specs.Lines.{StyledRuns}
+use Rattle.mad_md.specs.Lines.{LineContent}
 use Rattle.mad_fit.specs.declared.tokens.Token.{Token}
 use Rattle.mad_wrap.specs.Keeps.{Keeps}
 use Rattle.mad_wrap.specs.LeastWrap.{AreTokensIn}
 use Rattle.mad_wrap.specs.WrapLines.{HasRoom, LinesFit, IsMadeOf}
 use Rattle.mad_layout.specs.CompositeWraps.{line_compounds, HaveKinds}
 use Rattle.mad_layout.specs.Indents.{follow_up, room_of}
-use Rattle.mad_layout.specs.Layouts.{AreRead}
-use Rattle.mad_layout.specs.WrappedLines.{AreLaidOutBy}
+use Rattle.mad_layout.specs.Layouts.{IsLayoutBy}
 use Rattle.mad_layout.specs.Wraps.{text_of, IsMeasured}
 use Rattle.mad_layout.specs.declared.skin.MadSkin.{MadSkin}
 use Rattle.mad_layout.specs.declared.composite.FmtComposite.{FmtComposite}
@@ -27,13 +26,11 @@ pub record IsFittingWrap (skin : MadSkin) (width : ℕ) (source : FmtComposite) 
   pub spacing : AllByRecursion (λ l. l.spacing ≡ source.spacing) lines
   pub margins : AllByRecursion (λ l. l.margins ≡ None) lines
 
--- The lines are a layout of the text at a width, the count of lines apart: its composites in order, each kept or wrapped so.
-pub record IsFittingLayout (skin : MadSkin) (width : ℕ) (text : List StyledRuns) (lines : List FmtLine) : Type 0 where
-  pub read : List FmtLine
-  pub reads : AreRead skin text read
-  pub fitted : AreLaidOutBy IsFittingWrap skin width read lines
+-- the lines are a layout of the text at a width, the count of lines apart: each composite is kept or wrapped so
+abbrev pub IsFittingLayout : MadSkin → ℕ → List LineContent → List FmtLine → Type 0
+IsFittingLayout skin width text lines = IsLayoutBy IsFittingWrap skin (Some width) text lines
 
 -- the same at a width of three columns or more; of a lesser one, or of none, nothing is said
-abbrev pub IsFittingLayoutAt : MadSkin → Option ℕ → List StyledRuns → List FmtLine → Type 0
+abbrev pub IsFittingLayoutAt : MadSkin → Option ℕ → List LineContent → List FmtLine → Type 0
 IsFittingLayoutAt skin None text lines = ⊤
 IsFittingLayoutAt skin (Some width) text lines = 3 ≤ width → IsFittingLayout skin width text lines

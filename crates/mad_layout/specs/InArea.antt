@@ -1,14 +1,13 @@
 -- The headline: what a text shows that was written in an area.
-use Rattle.std.specs.Prelude.{◌≡◌, ◌⊎◌, ℕ, ◌-◌, List, Some, Result, IsErrOf, take}
-use Rattle.mad_md.specs.Lines.{contents}
-use Rattle.mad_md.specs.ReadByMarks.{IsReadByMarks}
-use Rattle.mad_md.specs.declared.text.Text.{Text}
+use Rattle.std.specs.Prelude.{◌≡◌, ◌⊎◌, ℕ, false, ◌-◌, List, Some, Result, IsErrOf, take}
+use Rattle.mad_md.specs.Lines.{LineContent}
+use Rattle.mad_md.specs.Reading.{IsRead, unread_text}
 use Rattle.mad_term.specs.Draws.{Draws}
 use Rattle.mad_term.specs.Trace.{Trace, TookWith}
 use Rattle.mad_term.specs.declared.errors.Error.{Error}
 use Rattle.mad_term.specs.declared.errors.Error.TheVariants.{Memory}
 use Rattle.mad_fit.specs.declared.area.Area.{Area}
-use Rattle.mad_layout.specs.Layouts.{composites, IsLayoutAt}
+use Rattle.mad_layout.specs.Layouts.{IsLayoutAt}
 use Rattle.mad_layout.specs.Premises.{KeepsPremises}
 use Rattle.mad_layout.specs.Shown.{area_bytes, AreShownIn}
 use Rattle.mad_layout.specs.declared.skin.MadSkin.{MadSkin}
@@ -16,9 +15,9 @@ use Rattle.mad_layout.specs.declared.line.FmtLine.{FmtLine}
 
 -- The lines are a layout of the text for an area, one column narrower than the area. Each line's wrap is a least one.
 pub record IsAreaLayout (skin : MadSkin) (markdown : List ℕ) (area : Area) (lines : List FmtLine) : Type 0 where
-  pub text : Text
-  pub read : IsReadByMarks markdown text
-  pub layout : IsLayoutAt skin (Some (area.width - 1)) (composites (contents text)) lines
+  pub text : List LineContent
+  pub read : IsRead (unread_text false markdown) text
+  pub layout : IsLayoutAt skin (Some (area.width - 1)) text lines
 
 -- What the call does to its device: it draws such a layout, from its first line on; or memory for the layout was refused, and
 -- nothing went out.
@@ -31,4 +30,4 @@ WritesInArea skin markdown area old r new =
 pub record ShowsText (skin : MadSkin) (markdown : List ℕ) (area : Area) (old new : Trace) : Type 0 where
   pub lines : List FmtLine
   pub laid_out : IsAreaLayout skin markdown area lines
-  pub shown : KeepsPremises skin (area.width - 1) (take area.height (composites (contents laid_out.text))) → TookWith old new (AreShownIn skin lines area 0)
+  pub shown : KeepsPremises skin (area.width - 1) (take area.height laid_out.text) → TookWith old new (AreShownIn skin lines area 0)

@@ -7,9 +7,11 @@ pub mod FittingLayouts
 pub mod InArea
 pub mod Indents
 pub mod Inlines
+pub mod Laying
 pub mod Layouts
 pub mod Lines
 pub mod MadeSkins
+pub mod Parts
 pub mod Premises
 pub mod RecoloredSkins
 pub mod Rows
@@ -20,5 +22,6 @@ pub mod Skins
 pub mod Sources
 pub mod Styles
 pub mod Texts
+pub mod Words
 pub mod WrappedLines
 pub mod Wraps

@@ -1,18 +1,21 @@
 -- What a text has to keep for its rows to be shown exactly.
-use Rattle.std.specs.Prelude.{◌≡◌, ℕ, ◌+◌, ◌-◌, ◌<◌, Bool, true, false, not, List, [], ◌∷◌, Some}
+use Rattle.std.specs.Prelude.{◌≡◌, ℕ, ◌+◌, ◌-◌, ◌<◌, ◌^◌, Bool, true, false, not, List, [], ◌∷◌, Some}
 use Rattle.std.specs.List.{AllByRecursion, flat_map}
 use Rattle.std.specs.Char.{is_whitespace}
 use Rattle.std.specs.Str.{chars, IsUtf8}
 use Rattle.mad_md.specs.Flagged.{FlaggedChar, Run, flagged, is_blank}
-use Rattle.mad_md.specs.Lines.{StyledRuns}
-use Rattle.mad_md.specs.declared.composite.CompositeStyle.TheVariants.{Paragraph}
+use Rattle.mad_md.specs.Lines.{StyledRuns, LineContent, normal, table_row, table_rule, horizontal_rule}
+use Rattle.mad_style.specs.declared.kinds.CompositeKind.{CompositeKind}
+use Rattle.mad_style.specs.declared.kinds.CompositeKind.TheVariants.{Paragraph, Header, ListItem, ListItemFollowUp, OrderedListItem, OrderedListItemFollowUp, Code, Quote}
 use Rattle.mad_columns.specs.Columns.{char_columns}
 use Rattle.mad_screen.specs.Painting.{IsPrinted}
 use Rattle.mad_style.specs.Kinds.{kind_of}
 use Rattle.mad_style.specs.LineStyles.{margins_at}
 use Rattle.mad_fit.specs.Columns.{width_of}
 use Rattle.mad_layout.specs.Indents.{indent, room_of}
-use Rattle.mad_layout.specs.Styles.{line_style}
+use Rattle.mad_layout.specs.Drawable.{IsColumnPiece}
+use Rattle.mad_layout.specs.Rows.{char_piece}
+use Rattle.mad_layout.specs.Styles.{line_style, ordered_item_style}
 use Rattle.mad_wrap.specs.WrapLines.{HasRoom}
 use Rattle.mad_layout.specs.declared.skin.MadSkin.{MadSkin}
 
@@ -37,14 +40,32 @@ abbrev pub inner_width : MadSkin → ℕ → StyledRuns → ℕ
 inner_width skin width line =
     let margins = margins_at (line_style skin (kind_of line.style)) (Some width) in width - margins.0 - margins.1
 
--- A line whose text is plain and joined, and that has room where it doesn't fit. (Only paragraphs are read so far, so no mark
--- stands in front of a line.)
+-- The character in front of a line of this kind, if there is one, is shown in one column: an item's bullet, the mark after its number, a
+-- quote's. (A number that is read has nine digits at most.)
+abbrev pub IsPlainPrefix : MadSkin → CompositeKind → Type 0
+IsPlainPrefix skin Paragraph = Unit {0}
+IsPlainPrefix skin (Header level) = Unit {0}
+IsPlainPrefix skin (ListItem depth) = IsColumnPiece (char_piece skin.bullet)
+IsPlainPrefix skin (ListItemFollowUp depth) = Unit {0}
+IsPlainPrefix skin (OrderedListItem level index) = (index < 2 ^ 32) × IsColumnPiece (char_piece (ordered_item_style skin level).index_suffix)
+IsPlainPrefix skin (OrderedListItemFollowUp level index) = Unit {0}
+IsPlainPrefix skin Code = Unit {0}
+IsPlainPrefix skin Quote = IsColumnPiece (char_piece skin.quote_mark)
+
+-- A line whose text is plain and joined, with a plain prefix, and that has room where it doesn't fit.
 pub record IsPlainLine (skin : MadSkin) (width : ℕ) (line : StyledRuns) : Type 0 where
-  pub paragraph : line.style ≡ Paragraph
+  pub prefix : IsPlainPrefix skin (kind_of line.style)
   pub runs : AllByRecursion IsPlainRun line.runs
   pub room : inner_width skin width line < indent skin.list_items_indentation_mode (kind_of line.style) + width_of (runs_text line.runs)
       → HasRoom (room_of skin (kind_of line.style) (inner_width skin width line)) (runs_text line.runs)
 
+-- a line of any kind; lines of tables have no layout yet
+abbrev pub IsPlainContent : MadSkin → ℕ → LineContent → Type 0
+IsPlainContent skin width (normal line) = IsPlainLine skin width line
+IsPlainContent skin width (table_row cells) = ⊥
+IsPlainContent skin width (table_rule aligns) = ⊥
+IsPlainContent skin width horizontal_rule = IsColumnPiece (char_piece skin.horizontal_rule)
+
 -- so is each line of the text, at a layout's width
-abbrev pub KeepsPremises : MadSkin → ℕ → List StyledRuns → Type 0
-KeepsPremises skin width text = AllByRecursion (IsPlainLine skin width) text
+abbrev pub KeepsPremises : MadSkin → ℕ → List LineContent → Type 0
+KeepsPremises skin width text = AllByRecursion (IsPlainContent skin width) text

@@ -1,5 +1,6 @@
 -- Rows: what is written of a line, piece by piece.
-use Rattle.std.specs.Prelude.{ℕ, ◌+◌, ◌-◌, Bool, true, List, [], ◌∷◌, ◌++◌, map, Option, Some, None, unwrap_or, if◌then◌else◌, decimal, encode_utf8}
+use Rattle.std.specs.Prelude.{ℕ, zero, suc, ◌+◌, ◌-◌, Bool, true, false, List, [], ◌∷◌, ◌++◌, map, Option, Some, None, unwrap_or, if◌then◌else◌, decimal, encode_utf8}
+use Rattle.std.specs.List.{flat_map, repeat}
 use Rattle.mad_md.specs.declared.alignment.Alignment.{Alignment}
 use Rattle.mad_md.specs.declared.alignment.Alignment.TheVariants.{Unspecified}
 use Rattle.mad_md.specs.Flagged.{Run, run_of}
@@ -16,7 +17,7 @@ use Rattle.mad_fit.specs.Completions.{left_completion}
 use Rattle.mad_layout.specs.declared.skin.MadSkin.{MadSkin}
 use Rattle.mad_layout.specs.declared.composite.FmtComposite.{FmtComposite}
 use Rattle.mad_layout.specs.declared.line.FmtLine.{FmtLine}
-use Rattle.mad_layout.specs.declared.line.FmtLine.TheVariants.{Normal}
+use Rattle.mad_layout.specs.declared.line.FmtLine.TheVariants.{Normal, TableRow, TableRule, HorizontalRule}
 use Rattle.mad_layout.specs.Indents.{kept, ordered_indent}
 use Rattle.mad_draw.specs.Pieces.{RowPiece, spaces, single_spaces}
 use Rattle.mad_layout.specs.Styles.{line_style, compound_style, ordered_item_style}
@@ -122,9 +123,22 @@ abbrev pub free_pieces : MadSkin → CompositeKind → List Run → List RowPiec
 free_pieces skin kind runs =
     spaces skin.paragraph.compound_style (line_style skin kind).left_margin ++ (mark_pieces skin kind ++ map (run_piece skin (line_style skin kind)) runs)
 
--- the pieces of a line at an outer width, with its margins
+-- a character `count` times as one piece; none of none
+abbrev pub char_run : StyledChar → ℕ → List RowPiece
+char_run c zero = []
+char_run c (suc n) = record { style = (char_style c).object_style; text = repeat (suc n) (encode_utf8 (char_alone c)) } ∷ []
+
+-- a cell of a table, which has no place in a column yet
+abbrev pub cell_pieces : MadSkin → FmtComposite → List RowPiece
+cell_pieces skin cell = composite_pieces skin None (0, 0) false cell
+
+-- The pieces of a line at an outer width, with its margins. A rule across the place fills it. Lines of tables have no layout yet: a row is
+-- its cells one after another, a rule across a table nothing.
 abbrev pub line_pieces : MadSkin → Option ℕ → Bool → FmtLine → List RowPiece
 line_pieces skin outer right (Normal l) = composite_pieces skin outer (margins_of skin outer l) right l
+line_pieces skin outer right (TableRow row) = flat_map (cell_pieces skin) row.cells.items
+line_pieces skin outer right (TableRule rule) = []
+line_pieces skin outer right HorizontalRule = char_run skin.horizontal_rule (unwrap_or outer 0)
 
 -- what a place of so many columns shows: a line, filled up on its right; or, past the last line, spaces in the
 -- paragraph's style

@@ -1,6 +1,6 @@
 -- What an area shows of a layout that was drawn in it.
 use Rattle.std.specs.Prelude.{ℕ, ◌+◌, ◌≤◌, List, take}
-use Rattle.mad_md.specs.Lines.{StyledRuns}
+use Rattle.mad_md.specs.Lines.{LineContent}
 use Rattle.mad_term.specs.Trace.{Trace, TookWith}
 use Rattle.mad_fit.specs.declared.area.Area.{Area}
 use Rattle.mad_layout.specs.FittingLayouts.{IsFittingLayout}
@@ -14,5 +14,5 @@ use Rattle.mad_layout.specs.declared.line.FmtLine.{FmtLine}
 -- `scroll` on, every other cell as before, and the plain pen again.
 abbrev pub ShowsLayout : MadSkin → List FmtLine → Area → ℕ → Trace → Trace → Type 0
 ShowsLayout skin lines area scroll old new =
-    (source : List StyledRuns) (width : ℕ) → width ≤ area.width → KeepsPremises skin width (take (scroll + area.height) source) → IsFittingLayout skin width source lines
+    (source : List LineContent) (width : ℕ) → width ≤ area.width → KeepsPremises skin width (take (scroll + area.height) source) → IsFittingLayout skin width source lines
     → TookWith old new (AreShownIn skin lines area scroll)

@@ -8,7 +8,7 @@ use Rattle.mad_layout.specs.Wraps.{IsMeasured}
 use Rattle.mad_layout.specs.declared.skin.MadSkin.{MadSkin}
 use Rattle.mad_layout.specs.declared.composite.FmtComposite.{FmtComposite}
 use Rattle.mad_layout.specs.declared.line.FmtLine.{FmtLine}
-use Rattle.mad_layout.specs.declared.line.FmtLine.TheVariants.{Normal}
+use Rattle.mad_layout.specs.declared.line.FmtLine.TheVariants.{Normal, TableRow, TableRule, HorizontalRule}
 
 -- the margins (left, right) of a composite at a width, those of its kind's style
 abbrev pub style_margins : MadSkin → ℕ → FmtComposite → ℕ × ℕ
@@ -34,9 +34,12 @@ IsLaidOutBy wraps skin width source lines =
     ⊎ ((width < source.visible_length + margins.0 + margins.1)
     × ((wrap : List FmtComposite) × wraps skin (width - margins.0 - margins.1) source wrap × (lines ≡ map (line_with margins) wrap)))
 
--- what becomes of a line
+-- what becomes of a line; rules and lines of tables stay
 abbrev pub IsLineLaidOutBy : Wrap → MadSkin → ℕ → FmtLine → List FmtLine → Type 0
 IsLineLaidOutBy wraps skin width (Normal source) lines = IsLaidOutBy wraps skin width source lines
+IsLineLaidOutBy wraps skin width (TableRow row) lines = lines ≡ TableRow row ∷ []
+IsLineLaidOutBy wraps skin width (TableRule rule) lines = lines ≡ TableRule rule ∷ []
+IsLineLaidOutBy wraps skin width HorizontalRule lines = lines ≡ HorizontalRule ∷ []
 
 -- what becomes of each of the lines, in order
 abbrev pub AreLaidOutBy : Wrap → MadSkin → ℕ → List FmtLine → List FmtLine → Type 0
@@ -53,13 +56,19 @@ IsLineWrapped = IsLineLaidOutBy IsCompositeWrap
 abbrev pub AreLinesWrapped : MadSkin → ℕ → List FmtLine → List FmtLine → Type 0
 AreLinesWrapped = AreLaidOutBy IsCompositeWrap
 
--- the line's cached length is right
+-- the line's cached lengths are right
 abbrev pub IsLineMeasured : MadSkin → FmtLine → Type 0
 IsLineMeasured skin (Normal l) = IsMeasured skin l
+IsLineMeasured skin (TableRow row) = AllByRecursion (IsMeasured skin) row.cells.items
+IsLineMeasured skin (TableRule rule) = Unit {0}
+IsLineMeasured skin HorizontalRule = Unit {0}
 
--- the line fits with its margins, by that length
+-- the line fits with its margins, by that length; rules and lines of tables always do
 abbrev pub LineFits : MadSkin → ℕ → FmtLine → Type 0
 LineFits skin width (Normal l) = FitsWithMargins skin width l
+LineFits skin width (TableRow row) = Unit {0}
+LineFits skin width (TableRule rule) = Unit {0}
+LineFits skin width HorizontalRule = Unit {0}
 
 -- all of them
 abbrev pub AllMeasured : MadSkin → List FmtLine → Type 0

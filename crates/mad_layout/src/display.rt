@@ -13,8 +13,8 @@ use crate::rows::{RowPlace, inner_blanks, margins_of, outer_blanks};
 use crate::skin::MadSkin;
 use mad_draw::{SingleSpaces, Spaces};
 use mad_md::{Composite, Compound};
-use mad_style::{CompositeKind, LineStyle};
-use mad_term::StyledNumber;
+use mad_style::{CompositeKind, LineStyle, StyledChar};
+use mad_term::{StyledNumber, StyledRun};
 use std::fmt;
 
 // What stands in front of a line's text.
@@ -118,12 +118,12 @@ impl fmt::Display for Compounds<'_, '_> {
     }
 }
 
-// A composite at its place in a row.
+/// A composite at its place in a row.
 #[derive(Clone, Copy)]
-struct PlacedComposite<'a, 's> {
-    skin: &'a MadSkin,
-    composite: &'a FmtComposite<'s>,
-    place: RowPlace,
+pub(crate) struct PlacedComposite<'a, 's> {
+    pub skin: &'a MadSkin,
+    pub composite: &'a FmtComposite<'s>,
+    pub place: RowPlace,
 }
 
 impl fmt::Display for PlacedComposite<'_, '_> {
@@ -165,13 +165,67 @@ impl fmt::Display for PlacedComposite<'_, '_> {
     }
 }
 
-// A line at an outer width, with its margins.
+// A character `count` times, as one piece; of none nothing is written.
 #[derive(Clone, Copy)]
-struct PlacedLine<'a, 's> {
+struct CharRun {
+    c: StyledChar,
+    count: usize,
+}
+
+impl fmt::Display for CharRun {
+    ghost use Rattle.mad_layout.specs.Rows.{char_run};
+
+    ghost output = { λ r. Some (pieces_bytes (char_run r.c r.count)) };
+
+    #[tactic(auto, using(crate::proofs::PieceLemmas::run_of_chars))]
+    fn fmt<W: fmt::Write>(&self, f: &mut fmt::Formatter<W>) -> fmt::Result {
+        let mut buffer = [0; 4];
+        let run = StyledRun {
+            style: self.c.compound_style().object_style,
+            content: self.c.get_char().encode_utf8(&mut buffer),
+            count: self.count,
+        };
+        write!(f, "{run}")
+    }
+}
+
+// The cells of a table's row, one after another.
+#[derive(Clone, Copy)]
+struct Cells<'a, 's> {
     skin: &'a MadSkin,
-    line: &'a FmtLine<'s>,
-    outer: Option<usize>,
-    right: bool,
+    cells: &'a [FmtComposite<'s>],
+}
+
+impl fmt::Display for Cells<'_, '_> {
+    ghost use Rattle.std.specs.List.{flat_map};
+    ghost use Rattle.mad_layout.specs.Rows.{cell_pieces};
+
+    ghost output = { λ c. Some (pieces_bytes (flat_map (cell_pieces c.skin.now) c.cells.now)) };
+
+    fn fmt<W: fmt::Write>(&self, f: &mut fmt::Formatter<W>) -> fmt::Result {
+        for composite in self.cells {
+            let placed = PlacedComposite {
+                skin: self.skin,
+                composite,
+                place: RowPlace {
+                    outer: None,
+                    margins: (0, 0),
+                    right: false,
+                },
+            };
+            write!(f, "{placed}")?;
+        }
+        Ok(())
+    }
+}
+
+/// A line at an outer width, with its margins.
+#[derive(Clone, Copy)]
+pub(crate) struct PlacedLine<'a, 's> {
+    pub skin: &'a MadSkin,
+    pub line: &'a FmtLine<'s>,
+    pub outer: Option<usize>,
+    pub right: bool,
 }
 
 impl fmt::Display for PlacedLine<'_, '_> {
@@ -193,6 +247,21 @@ impl fmt::Display for PlacedLine<'_, '_> {
                     },
                 };
                 write!(f, "{placed}")
+            }
+            FmtLine::TableRow(row) => {
+                let cells = Cells {
+                    skin: self.skin,
+                    cells: &row.cells,
+                };
+                write!(f, "{cells}")
+            }
+            FmtLine::TableRule(_) => Ok(()),
+            FmtLine::HorizontalRule => {
+                let rule = CharRun {
+                    c: self.skin.horizontal_rule,
+                    count: self.outer.unwrap_or(0),
+                };
+                write!(f, "{rule}")
             }
         }
     }

@@ -1,21 +1,21 @@
 //! Texts, laid out.
 
-ghost use Rattle.std.specs.Prelude.{◌≡◌, ◌-◌, ◌≤◌, IfOk, OnOk, Some};
-ghost use Rattle.mad_md.specs.Lines.{contents};
-ghost use Rattle.mad_md.specs.ReadByMarks.{IsReadByMarks};
+ghost use Rattle.std.specs.Prelude.{◌≡◌, ◌-◌, false, None, IfOk, List, Some};
+ghost use Rattle.mad_md.specs.Lines.{LineContent, contents};
 ghost use Rattle.mad_md.specs.ReadRaw.{IsReadRaw};
+ghost use Rattle.mad_md.specs.Reading.{IsRead, unread_text};
 ghost use Rattle.mad_md.specs.declared.text.Text.{Text};
+ghost use Rattle.mad_layout.specs.CompositeWraps.{IsCompositeWrap};
 ghost use Rattle.mad_layout.specs.FittingLayouts.{IsFittingLayoutAt};
 ghost use Rattle.mad_layout.specs.InArea.{IsAreaLayout};
-ghost use Rattle.mad_layout.specs.Layouts.{composites, AreRead, IsLayout, IsLayoutAt};
+ghost use Rattle.mad_layout.specs.Layouts.{IsLayoutBy, IsLayoutAt, IsMarkdownLayout};
+ghost use Rattle.mad_layout.specs.Lines.{widest_line};
 
-use crate::composite::FmtComposite;
+use crate::laying::{Laying, wrap_width};
 use crate::line::FmtLine;
-use crate::room::LEAST_WIDTH;
 use crate::skin::MadSkin;
-use crate::wrap::push_composite;
 use mad_fit::Area;
-use mad_md::{Line, Text};
+use mad_md::{LineCursor, ParseOptions, Text};
 use std::alloc::{AllocError, Global};
 
 /// A text that is laid out: its lines, none wider than the width where that can be had.
@@ -25,14 +25,14 @@ pub struct FmtText<'k, 's> {
     pub skin: &'k MadSkin,
     /// Its lines.
     pub lines: Vec<FmtLine<'s>>,
-    /// The columns that it was laid out for, if there was a width.
+    /// The columns that it was laid out for, or that it is displayed in, if there is a width.
     pub width: Option<usize>,
 }
 
 impl<'k, 's> FmtText<'k, 's> {
     /// A text without a look at its marks, laid out at a width, in columns.
     ///
-    /// Nothing is wrapped at a width under three, nor without a width. Only want of memory is an error.
+    /// Nothing is wrapped at a width under three, nor without a width. Only out of memory is an error.
     pub fn raw_str(
         alloc: Global,
         skin: &'k MadSkin,
@@ -41,19 +41,19 @@ impl<'k, 's> FmtText<'k, 's> {
     ) -> Result<Self, AllocError>
         ensures skin { IfOk result (λ laid_out. laid_out.skin.now ≡ skin.now) }
         ensures width { IfOk result (λ laid_out. laid_out.width ≡ width) }
-        ensures lines { IfOk result (λ laid_out. (text : Text) × IsReadRaw src.now text × IsLayoutAt skin.now width (composites (contents text)) laid_out.lines.items) }
+        ensures lines { IfOk result (λ laid_out. (text : Text) × IsReadRaw src.now text × IsLayoutAt skin.now width (contents text) laid_out.lines.items) }
 
         // So from three columns on the lines are a fitting layout, the premise of what `draw_text` shows (`shown_layout`).
-        ensures fitting { IfOk result (λ laid_out. (text : Text) × IsReadRaw src.now text × IsFittingLayoutAt skin.now width (composites (contents text)) laid_out.lines.items) }
+        ensures fitting { IfOk result (λ laid_out. (text : Text) × IsReadRaw src.now text × IsFittingLayoutAt skin.now width (contents text) laid_out.lines.items) }
     {
         let text = Text::raw_str(alloc, src)?;
-        let lines = layout(alloc, skin, text, width)?;
+        let lines = lay_text(alloc, skin, text, wrap_width(width))?;
         Ok(FmtText { skin, lines, width })
     }
 
-    /// A text with inline marks, laid out at a width, in columns. Each line is a paragraph.
+    /// A Markdown text, laid out at a width, in columns.
     ///
-    /// Nothing is wrapped at a width under three, nor without a width. Only want of memory is an error.
+    /// Nothing is wrapped at a width under three, nor without a width. Only out of memory is an error.
     pub fn from(
         alloc: Global,
         skin: &'k MadSkin,
@@ -62,20 +62,56 @@ impl<'k, 's> FmtText<'k, 's> {
     ) -> Result<Self, AllocError>
         ensures skin { IfOk result (λ laid_out. laid_out.skin.now ≡ skin.now) }
         ensures width { IfOk result (λ laid_out. laid_out.width ≡ width) }
-        ensures lines { IfOk result (λ laid_out. (text : Text) × IsReadByMarks src.now text × IsLayoutAt skin.now width (composites (contents text)) laid_out.lines.items) }
+        ensures lines { IfOk result (λ laid_out. IsMarkdownLayout skin.now width src.now laid_out.lines.items) }
 
         // So from three columns on the lines are a fitting layout, the premise of what `draw_text` shows (`shown_layout`).
-        ensures fitting { IfOk result (λ laid_out. (text : Text) × IsReadByMarks src.now text × IsFittingLayoutAt skin.now width (composites (contents text)) laid_out.lines.items) }
+        ensures fitting { IfOk result (λ laid_out. (text : List LineContent) × IsRead (unread_text false src.now) text × IsFittingLayoutAt skin.now width text laid_out.lines.items) }
     {
-        let text = Text::from_inline(alloc, src)?;
-        let lines = layout(alloc, skin, text, width)?;
+        let lines = lay_source(alloc, skin, src, wrap_width(width))?;
         Ok(FmtText { skin, lines, width })
+    }
+
+    /// A text that was read, laid out at a width, in columns.
+    ///
+    /// Nothing is wrapped at a width under three, nor without a width. Only out of memory is an error.
+    pub fn from_text(
+        alloc: Global,
+        skin: &'k MadSkin,
+        text: Text<'s>,
+        width: Option<usize>,
+    ) -> Result<Self, AllocError>
+        ensures skin { IfOk result (λ laid_out. laid_out.skin.now ≡ skin.now) }
+        ensures width { IfOk result (λ laid_out. laid_out.width ≡ width) }
+        ensures lines { IfOk result (λ laid_out. IsLayoutAt skin.now width (contents text.entry) laid_out.lines.items) }
+
+        // So from three columns on the lines are a fitting layout, the premise of what `draw_text` shows (`shown_layout`).
+        ensures fitting { IfOk result (λ laid_out. IsFittingLayoutAt skin.now width (contents text.entry) laid_out.lines.items) }
+    {
+        let lines = lay_text(alloc, skin, text, wrap_width(width))?;
+        Ok(FmtText { skin, lines, width })
+    }
+
+    /// Sets the width, in columns, in which the text is displayed. Its lines stay as they are.
+    pub fn set_rendering_width(&mut self, width: usize)
+        ensures { self.new ≡ record self.old { width = Some width } }
+    {
+        self.width = Some(width);
+    }
+
+    /// The columns of the widest line, by the lines' cached lengths: without margins and without what fills a place.
+    pub fn content_width(&self) -> usize
+        ensures { result ≡ widest_line self.now.lines.items }
+    {
+        let mut widest = 0;
+        for line in &self.lines {
+            widest = line.visible_length().max(widest);
+        }
+        widest
     }
 }
 
 impl MadSkin {
-    /// A text with inline marks, laid out for an area: at a width one column less than the area's. Only want of memory
-    /// is an error.
+    /// A Markdown text, laid out for an area: at a width one column less than the area's. Only out of memory is an error.
     pub fn area_text<'k, 's>(
         &'k self,
         alloc: Global,
@@ -89,61 +125,94 @@ impl MadSkin {
         let width = (area.width as usize).saturating_sub(1);
         FmtText::from(alloc, self, markdown, Some(width))
     }
+
+    /// A Markdown text, laid out at a width, in columns, if there is one. Only out of memory is an error.
+    pub fn text<'k, 's>(
+        &'k self,
+        alloc: Global,
+        markdown: &'s str,
+        width: Option<usize>,
+    ) -> Result<FmtText<'k, 's>, AllocError>
+        ensures skin { IfOk result (λ text. text.skin.now ≡ self.now) }
+        ensures width { IfOk result (λ text. text.width ≡ width) }
+        ensures lines { IfOk result (λ text. IsMarkdownLayout self.now width markdown.now text.lines.items) }
+    {
+        FmtText::from(alloc, self, markdown, width)
+    }
+
+    /// A Markdown text, laid out for a terminal of this width, in columns. Only out of memory is an error.
+    pub fn term_text<'k, 's>(
+        &'k self,
+        alloc: Global,
+        markdown: &'s str,
+        width: usize,
+    ) -> Result<FmtText<'k, 's>, AllocError>
+        ensures skin { IfOk result (λ text. text.skin.now ≡ self.now) }
+        ensures width { IfOk result (λ text. text.width ≡ Some width) }
+        ensures lines { IfOk result (λ text. IsMarkdownLayout self.now (Some width) markdown.now text.lines.items) }
+    {
+        FmtText::from(alloc, self, markdown, Some(width))
+    }
 }
 
-// The lines of a text, laid out at a width.
-#[tactic(auto, using(crate::proofs::LayoutLemmas::wrapped_layout, crate::proofs::LayoutLemmas::unwrapped_layout))]
-fn layout<'s>(
+/// A Markdown text in a skin, without a width, as [`MadSkin::text`] makes it. Only out of memory is an error.
+pub fn text<'k, 's>(
+    alloc: Global,
+    skin: &'k MadSkin,
+    markdown: &'s str,
+) -> Result<FmtText<'k, 's>, AllocError>
+    ensures skin { IfOk result (λ text. text.skin.now ≡ skin.now) }
+    ensures width { IfOk result (λ text. text.width ≡ None) }
+    ensures lines { IfOk result (λ text. IsMarkdownLayout skin.now None markdown.now text.lines.items) }
+{
+    skin.text(alloc, markdown, None)
+}
+
+/// A Markdown text in a skin, as [`MadSkin::term_text`] makes it. Only out of memory is an error.
+pub fn term_text<'k, 's>(
+    alloc: Global,
+    skin: &'k MadSkin,
+    markdown: &'s str,
+    width: usize,
+) -> Result<FmtText<'k, 's>, AllocError>
+    ensures skin { IfOk result (λ text. text.skin.now ≡ skin.now) }
+    ensures width { IfOk result (λ text. text.width ≡ Some width) }
+    ensures lines { IfOk result (λ text. IsMarkdownLayout skin.now (Some width) markdown.now text.lines.items) }
+{
+    skin.term_text(alloc, markdown, width)
+}
+
+// The lines of a Markdown text, read and laid out one after another.
+fn lay_source<'s>(
+    alloc: Global,
+    skin: &MadSkin,
+    src: &'s str,
+    width: Option<usize>,
+) -> Result<Vec<FmtLine<'s>>, AllocError>
+    ensures { IfOk result (λ lines. (text : List LineContent) × IsRead (unread_text false src.entry.now) text × IsLayoutBy IsCompositeWrap skin.now width text lines.items) }
+{
+    let mut laying = Laying::new(alloc);
+    let mut cursor = LineCursor::new(src, ParseOptions::default());
+    while let Some(line) = cursor.next_line(alloc)? {
+        laying.push(alloc, line, width, skin)?;
+    }
+    laying.close(alloc, width, skin)?;
+    Ok(laying.lines)
+}
+
+// The lines of a text that was read, laid out.
+fn lay_text<'s>(
     alloc: Global,
     skin: &MadSkin,
     text: Text<'s>,
     width: Option<usize>,
 ) -> Result<Vec<FmtLine<'s>>, AllocError>
-    ensures { IfOk result (λ lines. IsLayoutAt skin.now width (composites (contents text.entry)) lines.items) }
+    ensures { IfOk result (λ lines. IsLayoutBy IsCompositeWrap skin.now width (contents text.entry) lines.items) }
 {
-    match width {
-        Some(width) if width >= LEAST_WIDTH => wrapped_lines(alloc, skin, text, width),
-        _ => measured_lines(alloc, skin, text),
-    }
-}
-
-// The lines of a text, each wrapped at a width as soon as it is measured.
-fn wrapped_lines<'s>(
-    alloc: Global,
-    skin: &MadSkin,
-    text: Text<'s>,
-    width: usize,
-) -> Result<Vec<FmtLine<'s>>, AllocError>
-    ensures { IfOk result (λ lines. IsLayout skin.now width (composites (contents text.entry)) lines.items) }
-{
-    // Most lines stay one.
-    let mut lines = Vec::with_capacity(alloc, text.lines.len())?;
+    let mut laying = Laying::new(alloc);
     for line in text.lines {
-        match line {
-            Line::Normal(composite) => {
-                let composite = FmtComposite::from(composite, skin);
-                push_composite(alloc, &mut lines, composite, width, skin)?;
-            }
-            Line::TableRow(_) | Line::TableRule(_) | Line::HorizontalRule => {}
-        }
+        laying.push(alloc, line, width, skin)?;
     }
-    Ok(lines)
-}
-
-// The lines of a text as they were read, measured.
-fn measured_lines<'s>(
-    alloc: Global,
-    skin: &MadSkin,
-    text: Text<'s>,
-) -> Result<Vec<FmtLine<'s>>, AllocError>
-    ensures { IfOk result (λ lines. AreRead skin.now (composites (contents text.entry)) lines.items) }
-{
-    let mut lines = Vec::with_capacity(alloc, text.lines.len())?;
-    for line in text.lines {
-        match line {
-            Line::Normal(composite) => lines.push(FmtLine::from(composite, skin))?,
-            Line::TableRow(_) | Line::TableRule(_) | Line::HorizontalRule => {}
-        }
-    }
-    Ok(lines)
+    laying.close(alloc, width, skin)?;
+    Ok(laying.lines)
 }

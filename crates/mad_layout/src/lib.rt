@@ -7,7 +7,8 @@
 //! 3. [`composite`], [`line`]: a line with its cached width.
 //! 4. [`wrap`]: wrapping composites and lists of lines, with the fewest lines.
 //! 5. [`bound`]: starts of lines that show that no fitting break has fewer.
-//! 6. [`fmt_text`], [`fmt_inline`]: reading a text and laying it out; reading one line.
+//! 6. [`table`]: lines of a table. `laying`: lines laid out one after another, blocks of code in their place.
+//!    [`fmt_text`], [`fmt_inline`]: reading a text and laying it out; reading one line.
 //! 7. `rows`: what is written of a line, piece by piece.
 //! 8. [`drawing`]: the rows of a text in an area of the screen.
 //! 9. `writing`: the writing calls of a skin; `display`: texts as displayed values.
@@ -16,18 +17,23 @@
 pub mod bound;
 pub mod composite;
 mod display;
+pub mod displayable_line;
 pub mod drawing;
 pub mod fmt_inline;
 pub mod fmt_text;
 pub mod indents;
+pub mod laws;
+mod laying;
 pub mod line;
 mod made_skins;
 pub mod room;
 mod rows;
 pub mod skin;
 mod skin_setters;
+pub mod table;
 #[cfg(test)]
 mod tests;
+mod text_writing;
 pub mod wrap;
 mod writing;
 
@@ -35,10 +41,13 @@ pub use bound::{WrapBound, check_wrap_bound, wrap_bound};
 pub use composite::FmtComposite;
 pub use drawing::draw_text;
 pub use fmt_inline::{FmtInline, inline};
-pub use fmt_text::FmtText;
+pub use displayable_line::DisplayableLine;
+pub use fmt_text::{FmtText, term_text, text};
 pub use indents::composite_kind_widths;
 pub use line::FmtLine;
 pub use room::room_of;
 pub use skin::MadSkin;
+pub use table::{FmtTableRow, FmtTableRule, RelativePosition};
 pub use wrap::{hard_wrap_composite, hard_wrap_lines};
+pub use text_writing::print_text;
 pub use writing::print_inline;

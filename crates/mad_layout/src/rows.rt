@@ -6,7 +6,8 @@ ghost use Rattle.mad_term.specs.Styles.{IsStyle};
 ghost use Rattle.mad_style.specs.StyledChars.{char_style};
 ghost use Rattle.mad_layout.specs.declared.line.FmtLine.TheVariants.{Normal};
 ghost use Rattle.mad_draw.specs.Pieces.{AreKnown};
-ghost use Rattle.mad_layout.specs.Rows.{mark_pieces, line_pieces, row_pieces, inner_blanks, outer_blanks, margins_of};
+ghost use Rattle.std.specs.List.{flat_map};
+ghost use Rattle.mad_layout.specs.Rows.{mark_pieces, cell_pieces, line_pieces, row_pieces, inner_blanks, outer_blanks, margins_of};
 ghost use Rattle.mad_layout.specs.Styles.{AreKnownAdditions};
 
 use crate::composite::FmtComposite;
@@ -75,19 +76,21 @@ pub(crate) fn row_columns(skin: &MadSkin, line: Option<&FmtLine>, width: usize) 
             let (left, right) = margins_of(skin, composite, Some(width));
             width.saturating_add(left).saturating_add(right)
         }
-        None => width,
+        _ => width,
     }
 }
 
 /// What reading a row back needs to know: the numbers of its colors are bytes. Nothing is done.
-#[tactic(auto, using(mad_draw::proofs::PieceLemmas::spaces_known))]
+#[tactic(auto, using(mad_draw::proofs::PieceLemmas::spaces_known, crate::proofs::KnownLemmas::char_run_known))]
 pub(crate) fn read_row(skin: &MadSkin, line: Option<&FmtLine>, width: usize)
     ensures { AreKnown (row_pieces skin.now width (option_copied line.entry)) }
 {
     read_style(skin.paragraph.compound_style);
     match line {
         Some(FmtLine::Normal(composite)) => read_composite(skin, composite, width),
-        None => (),
+        Some(FmtLine::TableRow(row)) => read_cells(skin, &row.cells),
+        Some(FmtLine::HorizontalRule) => read_char(skin.horizontal_rule),
+        Some(FmtLine::TableRule(_)) | None => (),
     }
 }
 
@@ -104,6 +107,26 @@ fn read_composite(skin: &MadSkin, composite: &FmtComposite, width: usize)
     read_style(skin.paragraph.compound_style);
     read_style(style.compound_style);
     read_mark(skin, composite.kind);
+    read_compounds(skin);
+}
+
+// The same of the cells of a row.
+fn read_cells(skin: &MadSkin, cells: &[FmtComposite])
+    ensures { AreKnown (flat_map (cell_pieces skin.now) cells.now) }
+{
+    for cell in cells {
+        read_cell(skin, cell);
+    }
+}
+
+// The same of a cell.
+fn read_cell(skin: &MadSkin, cell: &FmtComposite)
+    ensures { AreKnown (cell_pieces skin.now cell.now) }
+{
+    let style = skin.line_style(cell.kind);
+    read_style(skin.paragraph.compound_style);
+    read_style(style.compound_style);
+    read_mark(skin, cell.kind);
     read_compounds(skin);
 }
 

@@ -10,7 +10,7 @@ use crate::line::FmtLine;
 use crate::skin::MadSkin;
 use crate::wrap::{hard_wrap_composite, hard_wrap_lines};
 use mad_fit::Spacing;
-use mad_md::{Alignment, Composite, CompositeStyle, Compound};
+use mad_md::{Alignment, Composite, CompositeStyle, Compound, Line};
 use mad_style::{CompositeKind, CompoundStyle, LineStyle, ListItemsIndentationMode};
 use mad_term::Error;
 use std::alloc::{AllocError, Global};
@@ -241,10 +241,7 @@ fn starts_that_show_nothing_rows(rt: &impl Abort, alloc: Global) -> Result<(), E
         let bound = WrapBound {
             starts: starts.to_vec(alloc)?,
         };
-        assert_eq!(rt;
-            check_wrap_bound(&composite, 5, &skin, &bound)?,
-            wanted
-        );
+        assert_eq!(rt; check_wrap_bound(&composite, 5, &skin, &bound)?, wanted);
     }
     assert_bound(rt, alloc, &composite, 9, &skin, &[0])
 }
@@ -306,9 +303,10 @@ fn margins_of_the_style_rows(rt: &impl Abort, alloc: Global) -> Result<(), Error
         lines.push(FmtLine::Normal(composite))?;
         let mut picture = String::new(alloc);
         for line in &hard_wrap_lines(alloc, lines, 12, &skin)? {
-            let FmtLine::Normal(line) = line;
-            assert_eq!(rt; line.margins, Some(margins));
-            push_picture(&mut picture, line)?;
+            if let FmtLine::Normal(line) = line {
+                assert_eq!(rt; line.margins, Some(margins));
+                push_picture(&mut picture, line)?;
+            }
         }
         assert_eq!(rt; picture.as_str(), wanted);
     }
@@ -386,6 +384,7 @@ fn composites_measured_and_copied(rt: HostRuntime) -> Result<(), Error> {
     push_picture(&mut picture, &copy)?;
     assert_eq!(rt; picture.as_str(), "|概要|b|ab|\n");
     let read = Composite::from_inline(alloc, "*a* b")?;
-    assert_eq!(rt; FmtLine::from(read, &skin).visible_length(), 3);
+    let line = FmtLine::from(alloc, Line::Normal(read), &skin)?;
+    assert_eq!(rt; line.visible_length(), 3);
     Ok(())
 }

@@ -88,8 +88,8 @@ fn composites<'s>(
 
 /// Wraps the composites among the lines that are wider than `width` columns with their style's margins.
 ///
-/// A line that fits stays as it is. Any other composite is wrapped, as `hard_wrap_composite` does, in the columns that
-/// the margins leave, which is refused at a width under 3. Each line keeps in its field `margins` the margins that it was
+/// A line that fits stays as it is, as do rules and lines of tables. Any other composite is wrapped, as
+/// `hard_wrap_composite` does, in the columns that the margins leave, which is refused at a width under 3. Each line keeps in its field `margins` the margins that it was
 /// laid out with.
 pub fn hard_wrap_lines<'s>(
     alloc: Global,
@@ -128,6 +128,7 @@ fn line_fits(line: &FmtLine, width: usize, skin: &MadSkin) -> bool
             let margins = skin.line_style(composite.kind).margins_in(Some(width));
             composite.visible_length <= width - margins.0 - margins.1
         }
+        _ => true,
     }
 }
 
@@ -149,8 +150,8 @@ fn wrap_lines<'s>(
     Ok(wrapped)
 }
 
-// Puts what a line becomes after the lines that are there.
-fn push_line<'s>(
+/// Puts what a line becomes, at any width, after the lines that are there.
+pub(crate) fn push_line<'s>(
     alloc: Global,
     lines: &mut Vec<FmtLine<'s>>,
     line: FmtLine<'s>,
@@ -162,11 +163,12 @@ fn push_line<'s>(
 {
     match line {
         FmtLine::Normal(composite) => push_composite(alloc, lines, composite, width, skin),
+        other => Ok(lines.push(other)?),
     }
 }
 
-/// Puts what a composite becomes, at any width, after the lines that are there.
-pub(crate) fn push_composite<'s>(
+// Puts what a composite becomes, at any width, after the lines that are there.
+fn push_composite<'s>(
     alloc: Global,
     lines: &mut Vec<FmtLine<'s>>,
     composite: FmtComposite<'s>,

@@ -110,7 +110,7 @@ is_form source Rule carried rest = (refl, refl)
 is_form source (Continuing style) carried rest = is_marked source carried style rest
 is_form source (Separate style) carried rest = (flags_at_end plain (items_of plain (line_text source rest)), is_marked source plain style rest, refl)
 
-line_is : (source : List ℕ) (fenced : Bool) (carried : Flags) (place : LinePlace) (line : PlacedLine) (after : Flags) → IsLine source fenced carried place line after
+pub line_is : (source : List ℕ) (fenced : Bool) (carried : Flags) (place : LinePlace) (line : PlacedLine) (after : Flags) → IsLine source fenced carried place line after
     → (line ≡ placed_line source fenced carried place) × (after ≡ flags_at source fenced carried place)
 line_is source true carried place line after h = h
 line_is source false carried place line after h = form_is source (line_start (line_text source place)).form carried (rest_place source place) line after h

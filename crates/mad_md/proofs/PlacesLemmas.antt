@@ -306,7 +306,7 @@ rest_text source place h =
     slice_in source text place.start n (length text) (place.start + n) place.end (at_slice source place.start place.end) refl h.0 border.0 (omega arith) ∙ take_rest text n in
     (slice, (omega (arith, ap length slice, length-drop n text, border.0, h.0), subst IsUtf8 (sym slice) (IsUtf8-drop text n h.1 border)))
 
-line_said : (source : List ℕ) (fenced : Bool) (carried : Flags) (place : LinePlace) → IsWholeLine source place → content_at source (placed_line source fenced carried place) ≡ line_of fenced carried (line_text source place)
+pub line_said : (source : List ℕ) (fenced : Bool) (carried : Flags) (place : LinePlace) → IsWholeLine source place → content_at source (placed_line source fenced carried place) ≡ line_of fenced carried (line_text source place)
 unfolding line_of
 line_said source true carried place h = code_said source place h.0
 line_said source false carried place h =

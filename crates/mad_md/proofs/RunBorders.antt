@@ -1,13 +1,13 @@
 -- Each run of a line begins and ends between two characters.
 use Rattle.std.proofs.Common.{◌≡◌, ℕ, ◌+◌, ◌<◌, ◌≤◌, Bool, true, false, List, [], ◌∷◌, ◌++◌, length, length-append, length-drop, drop, get_or, if◌then◌else◌, refl, ap, sym, ◌∙◌, subst, arith}
-use Rattle.std.specs.Prelude.{nat_lt}
+use Rattle.std.specs.Prelude.{nat_lt, ◌||◌, ◌==◌}
 use Rattle.std.specs.List.{AllByRecursion}
 use Rattle.std.specs.Str.{IsUtf8, IsCharBoundary}
 use Rattle.std.proofs.lemmas.List.{drop-drop, get_or-drop}
 use Rattle.std.proofs.Math.Seq.{drop-append_seam}
 use Rattle.std.proofs.lemmas.Str.{IsCharBoundary-start, IsCharBoundary-end, IsCharBoundary-before_ascii, IsCharBoundary-after_ascii}
-use Rattle.mad_md.specs.Flagged.{RunPlace}
-use Rattle.mad_md.specs.Inline.{Item, mark, byte, spell, spell_mark, flags_after, runs_after, unless_empty, runs, IsInlineReading}
+use Rattle.mad_md.specs.Flagged.{RunPlace, plain}
+use Rattle.mad_md.specs.Inline.{Item, mark, byte, spell, spell_mark, flags_after, runs_after, marks_of, unless_empty, runs, IsInlineReading}
 use Rattle.mad_md.specs.declared.inline.Mark.{Mark}
 use Rattle.mad_md.specs.declared.inline.Mark.TheVariants.{Bold, Strikeout, Italic, Code}
 
@@ -76,3 +76,35 @@ bordered text before start at (byte b ∷ items) utf8 order inside first spells 
 
 pub runs_bordered : (text : List ℕ) (items : List Item) → IsUtf8 text → IsInlineReading text items → AllByRecursion (IsBordered text) (runs items)
 runs_bordered text items utf8 reads = bordered text _ 0 0 items utf8 (omega arith) (omega arith) (IsCharBoundary-start text utf8) reads.spells
+
+-- ---- a line without marks
+
+-- no byte is one of a mark
+abbrev pub is_unmarked : List ℕ → Bool
+is_unmarked [] = true
+is_unmarked (b ∷ bs) = if (b == 42) || (b == 126) || (b == 96) then false else is_unmarked bs
+
+mark_first : (m : Mark) (rest : List ℕ) → is_unmarked (spell_mark m ++ rest) ≡ true → ⊥
+mark_first Bold rest h = absurd (cc)
+mark_first Strikeout rest h = absurd (cc)
+mark_first Italic rest h = absurd (cc)
+mark_first Code rest h = absurd (cc)
+
+tail_unmarked : (t x : Bool) → (if t then false else x) ≡ true → x ≡ true
+tail_unmarked true x h = absurd (cc)
+tail_unmarked false x h = h
+
+unmarked : (text : List ℕ) (before : List Mark) (start at : ℕ) (items : List Item) → is_unmarked text ≡ true → spell items ≡ text
+    → runs_after before start at items ≡ unless_empty (flags_after before) start (at + length text)
+unmarked text before start at [] plain spells =
+    let none : at ≡ at + 0 = omega arith in
+    ap (unless_empty (flags_after before) start) (none ∙ ap (λ (t : List ℕ). at + length t) spells)
+unmarked text before start at (mark m ∷ items) plain spells = absurd (mark_first m (spell items) (ap is_unmarked spells ∙ plain))
+unmarked text before start at (byte b ∷ items) plain spells =
+    let rest : is_unmarked (spell items) ≡ true = tail_unmarked _ (is_unmarked (spell items)) (ap is_unmarked spells ∙ plain) in
+    let end : at + 1 + length (spell items) ≡ at + length text = omega (arith, ap length spells) in
+    unmarked (spell items) before start (at + 1) items rest refl ∙ ap (unless_empty (flags_after before) start) end
+
+-- such a line has one run
+pub unmarked_runs : (text : List ℕ) (items : List Item) → is_unmarked text ≡ true → IsInlineReading text items → runs items ≡ unless_empty (flags_after (marks_of plain)) 0 (0 + length text)
+unmarked_runs text items plain_text reads = unmarked text _ 0 0 items plain_text reads.spells

@@ -36,8 +36,6 @@ pub trait PushStyleTokens {
         ensures { IfOk result (λ text. string_bytes text ≡ tokens_text (tokens_of_value self.now)) };
 }
 
-// ---- the tokens of each value
-
 fn push_style(style: CompoundStyle, tokens: &mut Vec<StyleToken>) -> Result<(), AllocError>
     ensures tokens { OnOk result (tokens.new.items ≡ tokens.old.items ++ style_tokens style) }
 
@@ -143,8 +141,6 @@ fn push_item(item: OrderedItemStyle, tokens: &mut Vec<StyleToken>) -> Result<(),
     push_style(item.index_style, tokens)?;
     push_mark(item.index_suffix, tokens)
 }
-
-// ---- the texts of each value, which read back
 
 impl PushStyleTokens for CompoundStyle {
     ghost tokens_of_value = { style_tokens };

@@ -25,7 +25,7 @@ use Rattle.mad_wrap.specs.WrapLines.{compounds_of, AreCounted}
 
 -- ---- the texts of the lines
 
-text_of_runs : (cs : List Compound) (ts : List Token) → map run_of cs ≡ map token_run ts → flagged_text cs ≡ tokens_text ts
+pub text_of_runs : (cs : List Compound) (ts : List Token) → map run_of cs ≡ map token_run ts → flagged_text cs ≡ tokens_text ts
 text_of_runs [] [] h = refl
 text_of_runs [] (t ∷ ts) h = absurd (cc)
 text_of_runs (c ∷ cs) [] h = absurd (cc)

@@ -3,7 +3,6 @@ use Rattle.std.proofs.Common.{◌≡◌, ℕ, ◌+◌, ◌<◌, ◌≤◌, true,
 use Rattle.std.proofs.lemmas.List.{length-append}
 use Rattle.std.specs.List.{AllByRecursion}
 use Rattle.mad_fit.specs.declared.tokens.Token.{Token}
-use Rattle.mad_fit.proofs.AllLemmas.{all_front}
 use Rattle.mad_wrap.specs.Breaks.{LineAndGap, joined, total_width, AllBlank, FitsFrom, TrimmingBreak}
 use Rattle.mad_wrap.specs.PlacedLines.{TokensHaveRoom}
 use Rattle.mad_wrap.specs.Placings.{GapsForced, LinesForced, LinesWithin, IsFirstFit}

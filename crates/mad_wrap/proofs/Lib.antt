@@ -4,6 +4,7 @@ pub mod CheckLemmas
 pub mod CheckerSteps
 pub mod ClosedBreaks
 pub mod CutLemmas
+pub mod ExampleLemmas
 pub mod FitLemmas
 pub mod KeepLemmas
 pub mod LawLemmas

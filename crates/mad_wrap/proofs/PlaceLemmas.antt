@@ -6,7 +6,7 @@ use Rattle.mad_md.specs.Flagged.{Flags, run_of, flags_of}
 use Rattle.mad_md.specs.declared.compound.Compound.{Compound}
 use Rattle.mad_fit.specs.declared.tokens.Token.{Token}
 use Rattle.mad_fit.specs.Tokens.{token_run, token_text}
-use Rattle.mad_fit.proofs.AllLemmas.{all_push, all_front, all_back}
+use Rattle.mad_fit.proofs.AllLemmas.{all_push}
 use Rattle.mad_wrap.specs.Breaks.{LineAndGap, joined, total_width, AllBlank}
 use Rattle.mad_wrap.specs.LineRoom.{left_of, fits_in, taken}
 use Rattle.mad_wrap.specs.PlacedLines.{HoldsTokens, HoldBreak, ArePlacedLines}

@@ -1,6 +1,7 @@
 pub mod Bounds
 pub mod Breaks
 pub mod CleanCut
+pub mod Examples
 pub mod FirstFit
 pub mod Keeps
 pub mod Laws

@@ -7,7 +7,7 @@ ghost use Rattle.mad_wrap.specs.LineRoom.{is_right};
 ghost use Rattle.mad_wrap.specs.declared.room.Room.{Room};
 ghost use Rattle.mad_wrap.specs.LeastWrap.{AreTokensIn, AreTokenized};
 
-use crate::first_fit::{left_of_next, left_after, left_of};
+use crate::first_fit::{left_after, left_of, left_of_next};
 use crate::room::Room;
 use mad_fit::{Tokens, token_iter};
 use mad_md::Compound;

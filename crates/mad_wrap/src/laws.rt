@@ -6,11 +6,9 @@ ghost use Rattle.mad_wrap.specs.Laws.{OneFirstFit, OneWrap, StartsCountLines};
 pub fn one_wrap()
     ensures wrap { OneWrap }
     ensures first_fit { OneFirstFit }
-{
-}
+{}
 
 /// There are as many starts as lines of the wrap, and one more where blanks are dropped after its last line.
 pub fn starts_count_lines()
     ensures { StartsCountLines }
-{
-}
+{}

@@ -9,11 +9,12 @@
 //! 5. [`wrapping`]: the lines, the fewest that fit.
 //! 6. [`starting`]: starts of lines that show that no fitting break has fewer.
 //! 7. [`checking`]: whether starts show that, without memory.
-//! 8. [`laws`]: what follows from the definitions alone.
+//! 8. [`laws`], [`examples`]: what follows from the definitions alone, and wrong answers that they refuse.
 #![tactic(auto)]
 
 pub mod checking;
 mod clean_cut;
+pub mod examples;
 mod first_fit;
 pub mod laws;
 pub mod measuring;

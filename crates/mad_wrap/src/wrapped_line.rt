@@ -1,4 +1,4 @@
-ghost use Rattle.std.specs.Prelude.{◌≡◌, ◌+◌, ◌++◌, ◌∷◌, [], OnOk};
+ghost use Rattle.std.specs.Prelude.{◌≡◌, ◌+◌, ◌++◌, ◌∷◌, [], IfOk, OnOk};
 ghost use Rattle.mad_wrap.specs.WrapLines.{capped};
 
 use mad_md::Compound;
@@ -23,6 +23,17 @@ impl<'s> WrappedLine<'s> {
             compounds: Vec::new(alloc),
             columns: 0,
         }
+    }
+
+    /// A line without text, which has memory for `count` compounds.
+    pub(crate) fn with_capacity(alloc: Global, count: usize) -> Result<Self, AllocError>
+        ensures empty { IfOk result (λ line. line.compounds.items ≡ []) }
+        ensures columns { IfOk result (λ line. line.columns ≡ 0) }
+    {
+        Ok(WrappedLine {
+            compounds: Vec::with_capacity(alloc, count)?,
+            columns: 0,
+        })
     }
 
     /// Puts a compound of `columns` columns after the others.

@@ -73,6 +73,7 @@ pub use Rattle.mad_layout.specs.Inlines
 pub use Rattle.mad_layout.specs.Layouts
 pub use Rattle.mad_layout.specs.Lines as LayoutLines
 pub use Rattle.mad_layout.specs.MadeSkins
+pub use Rattle.mad_layout.specs.Parts as LayoutParts
 pub use Rattle.mad_layout.specs.Premises
 pub use Rattle.mad_layout.specs.RecoloredSkins
 pub use Rattle.mad_layout.specs.Rows
@@ -105,3 +106,16 @@ pub use Rattle.mad_json.specs.Reading as SkinReading
 pub use Rattle.mad_json.specs.ScrollBars
 pub use Rattle.mad_json.specs.Texts as SkinTexts
 pub use Rattle.mad_json.specs.Written as SkinWritten
+pub use Rattle.mad_lines.specs.TextLines
+pub use Rattle.mad_lines.specs.LineColumns
+pub use Rattle.mad_lines.specs.CharClasses
+pub use Rattle.mad_lines.specs.PlaceOrder
+pub use Rattle.mad_edit.specs.Editor
+pub use Rattle.mad_edit.specs.Undo
+pub use Rattle.mad_edit.specs.Words as EditedWords
+pub use Rattle.mad_edit.specs.Examples as EditingExamples
+pub use Rattle.mad_layout.specs.Sources
+pub use Rattle.mad_layout.specs.Words as ShownWords
+pub use Rattle.mad_parse.specs.Laws as ParseLaws
+pub use Rattle.mad_wrap.specs.Examples as WrapExamples
+pub use Rattle.mad_wrap.specs.FirstFit

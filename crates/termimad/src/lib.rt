@@ -1,7 +1,7 @@
 //! Markdown for terminals: all names of the library, from the crates that have them.
 //!
-//! What a text is, what a terminal takes and shows, and how lines are wrapped stand in modules of their own: [`md`],
-//! [`term`], [`screen`] and [`wrap`].
+//! What a text is, what a terminal takes and shows, how lines are wrapped, and the editor's text have modules of their own:
+//! [`md`], [`term`], [`screen`], [`wrap`] and [`edit`].
 #![tactic(auto)]
 
 /// What a terminal takes, and what it shows.
@@ -29,16 +29,23 @@ pub mod wrap {
     pub use mad_wrap::Room;
 }
 
+/// The editor's text.
+pub mod edit {
+    pub use mad_edit::{Chars, InputFieldContent, Line, Pos, Range};
+}
+
+pub use mad_edit::{Chars, InputFieldContent, Pos, Range};
 pub use mad_fit::{Area, Spacing, Token, Tokens, token_iter, tokenize};
 pub use mad_json::{ScrollBarStyleDef, SkinError, skin_from_value, skin_to_value};
 pub use mad_layout::{
-    FmtComposite, FmtInline, FmtLine, FmtText, MadSkin, composite_kind_widths, draw_text, inline,
-    print_inline,
+    DisplayableLine, FmtComposite, FmtInline, FmtLine, FmtTableRow, FmtTableRule, FmtText, MadSkin,
+    RelativePosition, composite_kind_widths, draw_text, inline, print_inline, print_text,
+    term_text, text,
 };
 pub use mad_md as md;
 pub use mad_md::{
-    Alignment, Composite, CompositeStyle, Compound, Line, LineCursor, MAX_HEADER_DEPTH, ParseOptions,
-    TableRow, TableRule, Text, parse_text, parse_text_with,
+    Alignment, Composite, CompositeStyle, Compound, Line, LineCursor, MAX_HEADER_DEPTH,
+    ParseOptions, TableRow, TableRule, Text, parse_text, parse_text_with,
 };
 pub use mad_parse::{
     ParseAlignError, ParseAttributeError, ParseColorError, ParseStyleTokenError, PushStyleTokens,

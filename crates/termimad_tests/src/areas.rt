@@ -13,11 +13,19 @@ fn texts_without_style(rt: HostRuntime) -> Result<(), Fail> {
     let skin = MadSkin::no_style();
     let blank = "            ..";
     let rows = [
-        ("hello", [0, 0, 12, 3], ["hello       ..", blank, blank, DOTS]),
+        (
+            "hello",
+            [0, 0, 12, 3],
+            ["hello       ..", blank, blank, DOTS],
+        ),
         ("", [3, 2, 4, 1], [DOTS, DOTS, "...    .......", DOTS]),
         // The text is laid out in three columns, where the second character has no room.
         ("概要", [0, 0, 4, 1], ["概  ..........", DOTS, DOTS, DOTS]),
-        ("aaa bb cc", [2, 1, 6, 2], [DOTS, "..aaa   ......", "..bb cc ......", DOTS]),
+        (
+            "aaa bb cc",
+            [2, 1, 6, 2],
+            [DOTS, "..aaa   ......", "..bb cc ......", DOTS],
+        ),
     ];
     for (text, sides, picture) in rows {
         let mut out = CutOut::new(alloc, ROOM, ROOM, false)?;

@@ -5,6 +5,7 @@ ghost use Rattle.mad_fit.specs.Areas.{IsWithinLimits};
 use super::skin_with;
 use crate::drawing::draw_text;
 use crate::fmt_text::FmtText;
+use crate::laws::words_on_a_screen;
 use crate::skin::MadSkin;
 use mad_fit::Area;
 use mad_md::Alignment;
@@ -116,6 +117,20 @@ fn margins_without_end(rt: HostRuntime) -> Result<(), Error> {
         let done = skin.write_inline(alloc, &mut out, "ab");
         assert!(rt; matches!(done, Err(Error::Memory)));
         assert!(rt; out.taken().is_empty());
+    }
+    Ok(())
+}
+
+// The example is no refusal: a screen shows it.
+#[test]
+fn words_on_a_screen_are_shown(rt: HostRuntime) -> Result<(), Error> {
+    let screen = words_on_a_screen(rt.alloc())?;
+    for (x, y, wanted) in [(2, 1, 'a'), (9, 1, 'c'), (0, 0, ' ')] {
+        let cell = screen.cell(x, y);
+        assert!(rt;
+            cell.is_some_and(|cell| cell.chars.as_slice() == [wanted].as_slice()),
+            "{x}"
+        );
     }
     Ok(())
 }

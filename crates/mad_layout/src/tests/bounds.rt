@@ -85,7 +85,13 @@ fn items_of_several_lines(rt: HostRuntime) -> Result<(), Error> {
         (CompositeStyle::Quote, first_only, 6, four, &[0, 2, 4, 6]),
         // A quote doesn't hang, and an item that hangs by nothing is a block.
         (CompositeStyle::Quote, hanging(2), 6, four, &[0, 2, 4, 6]),
-        (CompositeStyle::ListItem(0), hanging(0), 7, three, &[0, 2, 6]),
+        (
+            CompositeStyle::ListItem(0),
+            hanging(0),
+            7,
+            three,
+            &[0, 2, 6],
+        ),
     ];
     for (style, mode, width, wanted, starts) in rows {
         let skin = skin_with(0, 0, mode);
@@ -102,7 +108,14 @@ fn items_that_hang(rt: HostRuntime) -> Result<(), Error> {
     let one = CompositeStyle::ListItem(0);
     let deep = CompositeStyle::ListItem(255);
     let rows: [(&str, CompositeStyle, u8, usize, &str, &[usize]); 5] = [
-        ("abcdefghij", one, 2, 8, "|abcd|\n|efgh|\n|ij|\n", &[0, 1, 2]),
+        (
+            "abcdefghij",
+            one,
+            2,
+            8,
+            "|abcd|\n|efgh|\n|ij|\n",
+            &[0, 1, 2],
+        ),
         ("abcdefghij", one, 0, 8, "|abcdef|\n|ghij|\n", &[0, 1]),
         // Without room on later lines each character is a token.
         (

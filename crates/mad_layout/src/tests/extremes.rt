@@ -62,7 +62,7 @@ fn texts_without_wrapping(rt: HostRuntime) -> Result<(), Error> {
         ("", ""),
         ("\n\n", "\n\n"),
         ("aaa bb cc\ndd", "aaa bb cc\ndd\n"),
-        ("          ", "          \n"),
+        ("   ", "   \n"),
         ("概要概要", "概要概要\n"),
         ("\u{301}\u{301}\u{301}", "\u{301}\u{301}\u{301}\n"),
         (" \u{301}", " \u{301}\n"),

@@ -3,9 +3,7 @@
 use crate::fmt_text::FmtText;
 use crate::skin::MadSkin;
 use mad_md::{Alignment, Compound};
-use mad_style::{
-    CompositeKind, CompoundStyle, LineStyle, ListItemsIndentationMode, StyledChar,
-};
+use mad_style::{CompositeKind, CompoundStyle, LineStyle, ListItemsIndentationMode, StyledChar};
 use mad_term::{Attribute, Attributes, Color, ContentStyle, Error};
 use std::process::Abort;
 

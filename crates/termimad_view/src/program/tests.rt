@@ -52,7 +52,11 @@ fn expect(
         let answer = run(alloc, words.as_slice(), &mut source, &mut out, &mut err);
         assert_eq!(rt; answer, status, "{call}");
         assert!(rt; out.taken() == written, "{call}: the output");
-        assert_eq!(rt; out.flushes(), u64::from(status == 0), "{call}: the flushes");
+        assert_eq!(rt;
+            out.flushes(),
+            u64::from(status == 0),
+            "{call}: the flushes"
+        );
         assert!(rt; err.taken() == said, "{call}: what was said");
         let unread: &[u8] = if status == 2 || status == 4 {
             input
@@ -320,7 +324,12 @@ fn a_megabyte_and_a_line_of_many_marks(rt: HostRuntime) -> Result<(), Fail> {
     let word = "a".repeat(alloc, 1_000_000)?;
     // A text is laid out in one column less than its area has.
     let row = "a".repeat(alloc, 79)?;
-    expect_large(&rt, "inline", word.as_str(), format!(in alloc; "{word}\n")?.as_str())?;
+    expect_large(
+        &rt,
+        "inline",
+        word.as_str(),
+        format!(in alloc; "{word}\n")?.as_str(),
+    )?;
     let rows = format!(in alloc; "\x1b[1;1H{row} \x1b[2;1H{row} ")?;
     expect_large(&rt, "area|0|0|80|2", word.as_str(), rows.as_str())?;
     let marks = "*a*b".repeat(alloc, 50_000)?;

@@ -1,5 +1,5 @@
 use Rattle.mad_term.proofs.Exits.{refused_exit}
-use Rattle.mad_draw.proofs.AreaLemmas.{drawn_none, drawn_more, refused_row, drawn_all, shown_all}
+use Rattle.mad_draw.proofs.AreaLemmas.{drawn_none, drawn_more, refused_row, shown_all}
 use Rattle.mad_draw.proofs.rows_in_area.draw_rows.Goals as goal
 
 pub loop-y-init : goal.loop-y-init

@@ -1,4 +1,4 @@
-use Rattle.std.proofs.Common.{ℕ, ◌+◌, ◌≤◌, ◌<◌, Option, Some, None, IfSome, List, [], ◌∷◌, length, get_or, arith}
+use Rattle.std.proofs.Common.{◌≤◌, ◌<◌, Option, Some, None, IfSome, List, [], ◌∷◌, length, get_or, arith}
 use Rattle.std.specs.Str.{IsUtf8}
 use Rattle.mad_md.specs.declared.compound.Compound.{Compound}
 use Rattle.mad_wrap.specs.CleanCut.{AreTexts}

@@ -6,7 +6,7 @@ use Rattle.mad_wrap.specs.declared.wrapped_line.WrappedLine.{WrappedLine}
 use Rattle.mad_wrap.proofs.FitLemmas.{LinesSoFar, line_takes, line_ends, line_begins}
 use Rattle.mad_wrap.proofs.PlaceLemmas.{progress_start, placed_all}
 use Rattle.mad_wrap.proofs.placing.place.Goals as goal
-use Rattle.mad_wrap.proofs.placing.place.Goals.{in-OnLine, in-OnNext+in_ok-push-in-OnNext}
+use Rattle.mad_wrap.proofs.placing.place.Goals.{in-OnLine, in-OnNext+in_ok-next-in-OnNext+in_ok-push-in-OnNext}
 
 pub loop-token-init : goal.loop-token-init
 loop-token-init c = record {
@@ -30,11 +30,11 @@ loop-token-preserved c =
             subst (λ ls. LinesSoFar c.args.room (c.loop-token.yielded ++ c.in-Some.token ∷ []) ls.items c.add.new.self c.put.new.self) (sym w.lines-is)
             (line_takes _ _ c.in-Some.token _ _ _ _ _ held w.in-OnLine.ensures
             (record { compound = c.to_compound.result; bytes = part.text; flags = part.flags; text = added.text ∙ ap (λ (l : WrappedLine). l.compounds.items ++ c.to_compound.result ∷ []) w.line-is; columns = added.columns ∙ ap (λ (l : WrappedLine). capped (l.columns + c.in-Some.token.width)) w.line-is }))
-        | in-OnNext+in_ok-push-in-OnNext w ↦
+        | in-OnNext+in_ok-next-in-OnNext+in_ok-push-in-OnNext w ↦
             let begun = w.line-is ∙ w.replace.ensures.after in
             line_begins _ _ c.in-Some.token _ _ _ c.match-put.line _ _ _ held w.in-OnNext.ensures
             (ap (λ ls. ls.items) w.lines-is ∙ w.in_ok-push-in-OnNext.ensures.items ∙ ap (λ l. c.loop-token.lines.items ++ l ∷ []) w.replace.ensures.value)
-            (record { empty = ap (λ (l : WrappedLine). l.compounds.items) begun ∙ w.new.ensures.empty; columns_are = ap (λ (l : WrappedLine). l.columns) begun ∙ w.new.ensures.columns })
+            (record { empty = ap (λ (l : WrappedLine). l.compounds.items) begun ∙ w.in_ok-next-in-OnNext.ensures.empty; columns_are = ap (λ (l : WrappedLine). l.columns) begun ∙ w.in_ok-next-in-OnNext.ensures.columns })
             (record { compound = c.to_compound.result; bytes = part.text; flags = part.flags; text = added.text; columns = added.columns })
       ];
     }

@@ -1,0 +1,12 @@
+use Rattle.std.proofs.Common.{rules}
+use Rattle.mad_edit.proofs.EditorLemmas.{lines_seen}
+use Rattle.mad_edit.proofs.content.InputFieldContent.previous_place.Goals as goal
+
+pub place_before-requires : goal.place_before-requires
+place_before-requires c = rw (lines_seen _ _ _ _ c.self.view_is c.self.invariant) at c.requires
+
+pub returns-clause-place : goal.returns-clause-place
+returns-clause-place c = rw (lines_seen _ _ _ _ c.self.view_is c.self.invariant) (search rules)
+
+pub returns-clause-next : goal.returns-clause-next
+returns-clause-next c = rw (lines_seen _ _ _ _ c.self.view_is c.self.invariant) (search rules)

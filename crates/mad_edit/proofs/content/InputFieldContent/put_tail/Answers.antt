@@ -1,0 +1,14 @@
+use Rattle.std.proofs.Common.{◌≡◌, subst}
+use Rattle.mad_lines.specs.declared.place.Pos.{Pos}
+use Rattle.mad_lines.specs.TextLines.{lines_of, IsPlace}
+use Rattle.mad_edit.proofs.EditorLemmas.{lines_seen}
+use Rattle.mad_edit.proofs.content.InputFieldContent.put_tail.Goals as goal
+
+pub invariant_of-self : goal.invariant_of-self
+invariant_of-self c = record {
+  cursor = c.self.invariant.cursor;
+  selected = λ x same.
+      let e : c.args.p ≡ x = cc in
+      subst (λ (v : Pos). IsPlace (lines_of c.self.inside.lines.items) v) e (rw (lines_seen _ _ _ _ c.self.view_is c.self.invariant) at c.requires);
+  plain = c.self.invariant.plain;
+}

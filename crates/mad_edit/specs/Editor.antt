@@ -1,0 +1,130 @@
+-- What an editor is: one text, an offset into it, and an optional tail.
+use Rattle.std.specs.Prelude.{ℕ, ◌+◌, ◌-◌, ◌<◌, ◌≤◌, ◌≡◌, List, ◌++◌, All, Option, None, Some, Bool, not, ◌==◌, length, take, drop, min, max, option_map, slice_range, count_by, nat_lt, if◌then◌else◌}
+use Rattle.std.specs.Option.{ForSome}
+use Rattle.std.specs.List.{prefix_len, suffix_len}
+use Rattle.mad_lines.specs.declared.place.Pos.{Pos}
+use Rattle.mad_lines.specs.CharClasses.{is_alphanumeric}
+use Rattle.mad_lines.specs.LineColumns.{columns, IsIndexAtColumn}
+use Rattle.mad_lines.specs.TextLines.{lines, line_at, IsPlace, IsPlainLine, IsAcceptedChar, is_newline, offset_of, accepted, clamp}
+
+pub record Editor : Type 0 where
+  pub text : List ℕ
+  pub offset : ℕ
+  pub tail : Option Pos
+
+-- a place of the text, and the offset that says the same
+abbrev pub IsPlaceIn : List ℕ → Pos → Type 0
+IsPlaceIn t p = IsPlace (lines t) p
+
+abbrev pub offset_at : List ℕ → Pos → ℕ
+offset_at t p = offset_of (lines t) p
+
+abbrev pub IsAt : List ℕ → ℕ → Pos → Type 0
+IsAt t n p = IsPlaceIn t p × (offset_at t p ≡ n)
+
+-- the place itself, or the nearest one on its line, or the end of the text
+abbrev pub clamp_in : List ℕ → Pos → Pos
+clamp_in t p = clamp (lines t) p
+
+-- a tail keeps its line and its place in it as far as the text goes
+abbrev pub clamp_tail : List ℕ → Option Pos → Option Pos
+clamp_tail t tail = option_map (clamp_in t) tail
+
+-- the offset of the tail, or of the cursor where there is none
+abbrev pub tail_offset : List ℕ → ℕ → Option Pos → ℕ
+tail_offset t n None = n
+tail_offset t n (Some p) = offset_at t p
+
+-- the selection: from the lesser of cursor and tail up to and with the character at the greater
+abbrev pub selection_start : Editor → ℕ
+selection_start e = min e.offset (tail_offset e.text e.offset e.tail)
+
+abbrev pub selection_last : Editor → ℕ
+selection_last e = max e.offset (tail_offset e.text e.offset e.tail)
+
+abbrev pub selection_end : Editor → ℕ
+selection_end e = min (selection_last e + 1) (length e.text)
+
+abbrev pub selected : Editor → List ℕ
+selected e = slice_range e.text (selection_start e) (selection_end e)
+
+abbrev pub IsWide : Editor → Type 0
+IsWide e = selection_start e < selection_last e
+
+-- a text in which what is between two offsets is replaced by characters, less those that are never put in
+abbrev pub replaced : List ℕ → ℕ → ℕ → List ℕ → List ℕ
+replaced t from to cs = take from t ++ (accepted cs ++ drop to t)
+
+-- a text without what is between two offsets
+abbrev pub without : List ℕ → ℕ → ℕ → List ℕ
+without t from to = take from t ++ drop to t
+
+abbrev pub is_in_line : ℕ → Bool
+is_in_line c = not (c == 10)
+
+-- the cursor's line: its number, how much of it is before the cursor, its characters before the cursor and after it
+abbrev pub cursor_line : Editor → ℕ
+cursor_line e = count_by is_newline (take e.offset e.text)
+
+abbrev pub cursor_column : Editor → ℕ
+cursor_column e = suffix_len is_in_line (take e.offset e.text)
+
+abbrev pub front_of_line : Editor → List ℕ
+front_of_line e = drop (e.offset - cursor_column e) (take e.offset e.text)
+
+abbrev pub rest_of_line : Editor → List ℕ
+rest_of_line e = take (prefix_len is_in_line (drop e.offset e.text)) (drop e.offset e.text)
+
+-- what is true of every editor
+pub record IsEditor (e : Editor) : Type 0 where
+  pub cursor : e.offset ≤ length e.text
+  pub tail : ForSome e.tail (IsPlaceIn e.text)
+  pub last : selection_last e ≤ length e.text
+  pub accepted : All IsAcceptedChar e.text
+
+-- lines with a cursor and a tail: there is a line, the places are places of it, the lines are plain
+pub record IsValid (ls : List (List ℕ)) (at : Pos) (tail : Option Pos) : Type 0 where
+  pub cursor : IsPlace ls at
+  pub selected : ForSome tail (IsPlace ls)
+  pub plain : All IsPlainLine ls
+
+-- the editor after characters were put in place of what was between two offsets
+pub record IsReplaced (old new : Editor) (from to : ℕ) (cs : List ℕ) : Type 0 where
+  pub text : new.text ≡ replaced old.text from to cs
+  pub cursor : new.offset ≡ from + length (accepted cs)
+  pub tail : new.tail ≡ clamp_tail new.text old.tail
+
+-- the text after characters are put in at the cursor
+abbrev pub inserted : Editor → List ℕ → List ℕ
+inserted e cs = replaced e.text e.offset e.offset cs
+
+-- the cursor went to a line, to the first character that starts at its column or after it, or to the line's end
+abbrev pub IsMovedToLine : Editor → ℕ → Editor → Type 0
+IsMovedToLine old y new =
+    (x : ℕ) × IsIndexAtColumn (line_at (lines old.text) y) (columns (front_of_line old)) x
+    × (new ≡ record old { offset = offset_at old.text (record { y = y; x = x }) })
+
+-- the editor after what was between two offsets was removed
+pub record IsRemoved (old new : Editor) (from to : ℕ) : Type 0 where
+  pub text : new.text ≡ without old.text from to
+  pub cursor : new.offset ≡ from
+  pub tail : new.tail ≡ clamp_tail new.text old.tail
+
+-- the editor after its selection was removed
+pub record IsCut (old new : Editor) : Type 0 where
+  pub text : new.text ≡ without old.text (selection_start old) (selection_end old)
+  pub cursor : new.offset ≡ selection_start old
+  pub tail : new.tail ≡ None
+
+-- what a removal at the cursor takes: the character there or the newline; at the end of the text the newline before,
+-- if the last line is empty
+abbrev pub below_start : Editor → ℕ
+below_start e = if nat_lt e.offset (length e.text) then e.offset else (if length (front_of_line e) == 0 then e.offset - 1 else e.offset)
+
+abbrev pub below_end : Editor → ℕ
+below_end e = min (e.offset + 1) (length e.text)
+
+-- where the cursor is after a removal to the right: one step back in its line where letters and digits reached the line's end
+abbrev pub after_word_removed : Editor → ℕ
+after_word_removed e =
+    if prefix_len is_alphanumeric (rest_of_line e) == length (rest_of_line e) then e.offset - min 1 (length (front_of_line e)) else e.offset

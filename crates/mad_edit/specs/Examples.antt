@@ -1,0 +1,13 @@
+-- A selection over three lines, and two cuts.
+use Rattle.std.specs.Prelude.{List, [], ◌∷◌, Some, codes}
+use Rattle.mad_edit.specs.Editor.{Editor}
+use Rattle.mad_edit.specs.Undo.{Cut}
+
+abbrev pub three_lines : Editor
+three_lines = record { text = codes "ab\ncd\nef"; offset = 1; tail = Some (record { y = 2; x = 0 }) }
+
+abbrev pub two_cuts : List Cut
+two_cuts = record { place = record { y = 0; x = 1 }; text = codes "bc" } ∷ record { place = record { y = 0; x = 0 }; text = codes "ad" } ∷ []
+
+abbrev pub two_cuts_turned : List Cut
+two_cuts_turned = record { place = record { y = 0; x = 0 }; text = codes "ad" } ∷ record { place = record { y = 0; x = 1 }; text = codes "bc" } ∷ []

@@ -1,0 +1,4 @@
+pub mod Editor
+pub mod Undo
+pub mod Words
+pub mod Examples

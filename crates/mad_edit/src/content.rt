@@ -1,0 +1,288 @@
+//! The editor's text and its places. No other module sees how the text is kept.
+
+ghost use Rattle.std.specs.Prelude.{◌≡◌, ◌<◌, ◌≤◌, ◌+◌, ◌-◌, ◌↔◌, [], None, Some, length, chars, min, max, option_map, IfOk, IfSome, IsSome, OnOk, OnErr, IsTrue, string_bytes, encode_utf8_all, slice_range};
+ghost use Rattle.std.specs.Option.{option_or, ForSome};
+ghost use Rattle.mad_lines.specs.TextLines.{lines, lines_of, accepted};
+ghost use Rattle.mad_edit.specs.Editor.{IsPlaceIn, offset_at, IsAt, clamp_in, clamp_tail, replaced, cursor_line, cursor_column, front_of_line, rest_of_line, IsEditor, IsWide, IsMovedToLine, selection_start, selection_last};
+
+mod reading;
+mod rewriting;
+mod showing;
+mod undo;
+
+use mad_lines::{
+    Line, Pos, Range, clone_lines, columns, edit_lines, end_place, front_at, in_order,
+    index_at_column, is_before, line_count, line_len, place_after, place_before, place_past,
+    rest_at, text_between, valid_pos,
+};
+use std::alloc::{AllocError, Global};
+use std::marker::Model;
+
+/// One text without carriage returns and backspaces, a cursor in it, and an optional tail:
+/// the other end of a selection.
+#[derive(Debug, Drop)]
+pub struct InputFieldContent {
+    lines: Vec<Line>,
+    pos: Pos,
+    selection_tail: Option<Pos>,
+}
+
+impl Model for InputFieldContent {
+    ghost use Rattle.mad_edit.specs.Editor.{Editor, IsValid};
+    ghost use Rattle.mad_lines.specs.TextLines.{lines_of, text_of, offset_of};
+
+    ghost Value = { Editor };
+
+    ghost view = { λ a. record { text = text_of (lines_of a.lines.items); offset = offset_of (lines_of a.lines.items) a.pos; tail = a.selection_tail } };
+
+    ghost invariant = { λ a. IsValid (lines_of a.lines.items) a.pos a.selection_tail };
+}
+
+impl InputFieldContent {
+    /// An empty text.
+    pub fn new(alloc: Global) -> Result<InputFieldContent, AllocError>
+        ensures { IfOk result (λ e. e ≡ record { text = []; offset = 0; tail = None }) }
+    {
+        let mut lines = Vec::new(alloc);
+        lines.push(Line::new(alloc))?;
+        Ok(InputFieldContent {
+            lines,
+            pos: Pos { y: 0, x: 0 },
+            selection_tail: None,
+        })
+    }
+
+    /// The place of the cursor.
+    pub fn cursor_pos(&self) -> Pos
+        ensures at { IsAt self.now.text self.now.offset result }
+        ensures line { result.y ≡ cursor_line self.now }
+        ensures column { result.x ≡ cursor_column self.now }
+        ensures valid { IsEditor self.now }
+    {
+        let _ = &self.lines;
+        self.pos
+    }
+
+    /// Puts a text in place of what is between two places, and the cursor after it.
+    pub(crate) fn edit(&mut self, from: Pos, to: Pos, s: &str) -> Result<(), AllocError>
+        requires from { IsPlaceIn self.old.text from }
+        requires to { IsPlaceIn self.old.text to }
+        requires order { offset_at self.old.text from ≤ offset_at self.old.text to }
+        ensures text { OnOk result (self.new.text
+            ≡ replaced self.old.text (offset_at self.old.text from) (offset_at self.old.text to) (chars s.now)) }
+        ensures cursor { OnOk result (self.new.offset ≡ offset_at self.old.text from + length (accepted (chars s.now))) }
+        ensures tail { OnOk result (self.new.tail ≡ clamp_tail self.new.text self.old.tail) }
+        ensures err { OnErr result (self.new ≡ self.old) }
+    {
+        let pos = edit_lines(&mut self.lines, from, to, s)?;
+        self.pos = pos;
+        if let Some(tail) = self.selection_tail {
+            self.selection_tail = Some(valid_pos(&self.lines, tail));
+        }
+        Ok(())
+    }
+
+    /// Puts the cursor at a place of the text.
+    pub(crate) fn put_cursor(&mut self, p: Pos)
+        requires { IsPlaceIn self.old.text p }
+        ensures { self.new ≡ record self.old { offset = offset_at self.old.text p } }
+    {
+        let _ = &self.lines;
+        self.pos = p;
+    }
+
+    /// The next place, if a place is not the end.
+    pub(crate) fn next_place(&self, p: Pos) -> Option<Pos>
+        requires { IsPlaceIn self.now.text p }
+        ensures place { IfSome result (λ q. IsPlaceIn self.now.text q) }
+        ensures next { IfSome result (λ q. offset_at self.now.text q ≡ offset_at self.now.text p + 1) }
+        ensures at_end { IsSome result ↔ (offset_at self.now.text p < length self.now.text) }
+    {
+        place_after(&self.lines, p)
+    }
+
+    /// The previous place, if a place is not the start.
+    pub(crate) fn previous_place(&self, p: Pos) -> Option<Pos>
+        requires { IsPlaceIn self.now.text p }
+        ensures place { IfSome result (λ q. IsPlaceIn self.now.text q) }
+        ensures next { IfSome result (λ q. offset_at self.now.text q + 1 ≡ offset_at self.now.text p) }
+        ensures at_start { IsSome result ↔ (0 < offset_at self.now.text p) }
+    {
+        place_before(&self.lines, p)
+    }
+
+    /// The place after the character at a place, or the end.
+    pub(crate) fn place_past_char(&self, p: Pos) -> Pos
+        requires { IsPlaceIn self.now.text p }
+        ensures next { IsAt self.now.text (min (offset_at self.now.text p + 1) (length self.now.text)) result }
+    {
+        place_past(&self.lines, p)
+    }
+
+    /// The characters of the cursor's line before the cursor.
+    pub(crate) fn front_of_line(&self) -> &[char]
+        ensures { result.now ≡ front_of_line self.now }
+    {
+        front_at(&self.lines, self.pos)
+    }
+
+    /// The characters of the cursor's line after the cursor.
+    pub(crate) fn rest_of_line(&self) -> &[char]
+        ensures { result.now ≡ rest_of_line self.now }
+    {
+        rest_at(&self.lines, self.pos)
+    }
+
+    /// The place some characters before the cursor in its line.
+    pub(crate) fn place_back(&self, count: usize) -> Pos
+        requires { count ≤ length (front_of_line self.now) }
+        ensures { IsAt self.now.text (self.now.offset - count) result }
+    {
+        Pos {
+            y: self.pos.y,
+            x: self.pos.x - count,
+        }
+    }
+
+    /// The place some characters after the cursor in its line.
+    pub(crate) fn place_ahead(&self, count: usize) -> Pos
+        requires { count ≤ length (rest_of_line self.now) }
+        ensures { IsAt self.now.text (self.now.offset + count) result }
+    {
+        let room = line_len(&self.lines, self.pos.y) - self.pos.x;
+        prove!(count <= room);
+        Pos {
+            y: self.pos.y,
+            x: self.pos.x + count,
+        }
+    }
+
+    /// The selection: its lesser place and its greater one, whose character is selected too.
+    pub fn selection(&self) -> Range
+        ensures min { IsAt self.now.text (selection_start self.now) result.min }
+        ensures max { IsAt self.now.text (selection_last self.now) result.max }
+        ensures valid { IsEditor self.now }
+    {
+        match self.selection_tail {
+            Some(tail) => in_order(&self.lines, self.pos, tail),
+            None => Range {
+                min: self.pos,
+                max: self.pos,
+            },
+        }
+    }
+
+    /// Whether the tail is elsewhere than the cursor.
+    pub fn has_wide_selection(&self) -> bool
+        ensures { IsTrue result ↔ IsWide self.now }
+    {
+        let Range { min, max } = self.selection();
+        is_before(&self.lines, min, max)
+    }
+
+    /// The text between two places.
+    pub(crate) fn copy_between(&self, from: Pos, to: Pos) -> Result<String, AllocError>
+        requires from { IsPlaceIn self.now.text from }
+        requires to { IsPlaceIn self.now.text to }
+        requires order { offset_at self.now.text from ≤ offset_at self.now.text to }
+        ensures { IfOk result (λ s. string_bytes s
+            ≡ encode_utf8_all (slice_range self.now.text (offset_at self.now.text from) (offset_at self.now.text to))) }
+    {
+        text_between(*self.lines.allocator(), &self.lines, from, to)
+    }
+
+    /// The nearest place of the text: the place itself, or its line's end, or the text's end.
+    pub fn make_valid_pos(&self, pos: Pos) -> Pos
+        ensures place { IsPlaceIn self.now.text result }
+        ensures nearest { result ≡ clamp_in self.now.text pos }
+    {
+        valid_pos(&self.lines, pos)
+    }
+
+    /// The end of the text.
+    pub fn end(&self) -> Pos
+        ensures { IsAt self.now.text (length self.now.text) result }
+    {
+        end_place(&self.lines)
+    }
+
+    /// A copy of the text, the cursor and the tail.
+    pub fn try_clone(&self, alloc: Global) -> Result<InputFieldContent, AllocError>
+        ensures { IfOk result (λ copy. copy ≡ self.now) }
+    {
+        let lines = clone_lines(alloc, &self.lines)?;
+        Ok(InputFieldContent {
+            lines,
+            pos: self.pos,
+            selection_tail: self.selection_tail,
+        })
+    }
+
+    /// How many lines there are.
+    pub fn line_count(&self) -> usize
+        ensures { result ≡ length (lines self.now.text) }
+    {
+        line_count(&self.lines)
+    }
+
+    /// Puts the cursor in a line, at its column.
+    pub(crate) fn put_in_line(&mut self, y: usize)
+        requires { y < length (lines self.old.text) }
+        ensures { IsMovedToLine self.old y self.new }
+    {
+        let column = columns(front_at(&self.lines, self.pos));
+        let x = index_at_column(rest_at(&self.lines, Pos { y, x: 0 }), column);
+        self.pos = Pos { y, x };
+    }
+
+    /// The start of the text.
+    pub(crate) fn start(&self) -> Pos
+        ensures { IsAt self.now.text 0 result }
+    {
+        let _ = &self.lines;
+        Pos { y: 0, x: 0 }
+    }
+
+    /// Begins a selection at the cursor where there is none.
+    pub fn make_selection(&mut self)
+        ensures text { self.new.text ≡ self.old.text }
+        ensures cursor { self.new.offset ≡ self.old.offset }
+        ensures made { self.old.tail ≡ None → IfSome self.new.tail (λ p. IsAt self.old.text self.old.offset p) }
+        ensures some { IsSome self.new.tail }
+        ensures kept { IsSome self.old.tail → self.new.tail ≡ self.old.tail }
+    {
+        if self.selection_tail.is_none() {
+            self.selection_tail = Some(self.pos);
+        }
+    }
+
+    /// Drops the selection.
+    pub fn unselect(&mut self)
+        ensures { self.new ≡ record self.old { tail = None } }
+    {
+        self.selection_tail = None;
+    }
+
+    /// Puts the tail at the nearest place of the text.
+    pub fn set_selection_tail(&mut self, sel_tail: Pos)
+        ensures { self.new ≡ record self.old { tail = Some (clamp_in self.old.text sel_tail) } }
+    {
+        self.selection_tail = Some(valid_pos(&self.lines, sel_tail));
+    }
+
+    /// Puts the tail at a place of the text.
+    pub(crate) fn put_tail(&mut self, p: Pos)
+        requires { IsPlaceIn self.old.text p }
+        ensures { self.new ≡ record self.old { tail = Some p } }
+    {
+        let _ = &self.lines;
+        self.selection_tail = Some(p);
+    }
+
+    /// Whether there is a tail.
+    pub fn has_selection(&self) -> bool
+        ensures { IsTrue result ↔ IsSome self.now.tail }
+    {
+        self.selection_tail.is_some()
+    }
+}

@@ -1,0 +1,93 @@
+//! Reading the text: its lines and its characters.
+
+ghost use Rattle.std.specs.Prelude.{◌≡◌, ◌<◌, ◌≤◌, ◌-◌, ◌↔◌, [], length, chars, min, IsTrue, MatchOption};
+ghost use Rattle.mad_lines.specs.LineColumns.{char_width};
+ghost use Rattle.mad_lines.specs.TextLines.{lines, lines_of, line_at};
+ghost use Rattle.mad_edit.specs.Editor.{cursor_line, selected};
+
+use crate::content::InputFieldContent;
+use mad_lines::{Chars, Line, Pos, Range, char_width, end_place, line_at, line_count, place_past};
+
+impl InputFieldContent {
+    /// A line, if there is one with this number.
+    pub fn line(&self, y: usize) -> Option<&Line>
+        ensures { let ls = lines self.now.text in
+            MatchOption result (length ls ≤ y) (λ line. (y < length ls) × (line.now.chars.items ≡ line_at ls y)) }
+    {
+        if y < line_count(&self.lines) {
+            Some(line_at(&self.lines, y))
+        } else {
+            None
+        }
+    }
+
+    /// A line, or the last one where there is none with this number.
+    pub fn line_saturating(&self, y: usize) -> &Line
+        ensures { let ls = lines self.now.text in result.now.chars.items ≡ line_at ls (min y (length ls - 1)) }
+    {
+        let last = line_count(&self.lines) - 1;
+        line_at(&self.lines, y.min(last))
+    }
+
+    /// The line of the cursor.
+    pub fn current_line(&self) -> &Line
+        ensures { result.now.chars.items ≡ line_at (lines self.now.text) (cursor_line self.now) }
+    {
+        line_at(&self.lines, self.pos.y)
+    }
+
+    /// The lines.
+    pub fn lines(&self) -> &[Line]
+        ensures { lines_of result.now ≡ lines self.now.text }
+    {
+        self.lines.as_slice()
+    }
+
+    /// Whether the text is empty.
+    pub fn is_empty(&self) -> bool
+        ensures { IsTrue result ↔ (length self.now.text ≡ 0) }
+    {
+        let start = self.start();
+        self.next_place(start).is_none()
+    }
+
+    /// The characters of the text, newlines included.
+    pub fn chars(&self) -> Chars<'_>
+        ensures { result ≡ self.now.text }
+    {
+        let end = end_place(&self.lines);
+        Chars::new(&self.lines, Pos { y: 0, x: 0 }, end)
+    }
+
+    /// The selected characters.
+    pub fn selection_chars(&self) -> Chars<'_>
+        ensures { result ≡ selected self.now }
+    {
+        let Range { min, max } = self.selection();
+        let end = place_past(&self.lines, max);
+        Chars::new(&self.lines, min, end)
+    }
+
+    /// Whether the text is this one.
+    pub fn is_str(&self, s: &str) -> bool
+        ensures { IsTrue result ↔ (self.now.text ≡ chars s.now) }
+    {
+        let mut own = self.chars();
+        for c in s.chars() {
+            let Some(d) = own.next() else {
+                return false;
+            };
+            if d != c {
+                return false;
+            }
+        }
+        own.next().is_none()
+    }
+
+    /// The columns of a character in an editor, where a tab has two.
+    pub fn char_width(c: char) -> usize
+        ensures { result ≡ char_width c }
+    {
+        char_width(c)
+    }
+}

@@ -1,0 +1,112 @@
+//! Texts as a whole: made, replaced, and with lines that change places.
+
+ghost use Rattle.std.specs.Prelude.{◌≡◌, ◌<◌, ◌-◌, ◌+◌, ◌↔◌, ◌≢◌, [], None, length, chars, IfOk, OnOk, OnErr, IsTrue};
+ghost use Rattle.std.specs.Bool.{OnTrue, OnFalse};
+ghost use Rattle.std.specs.List.{swap};
+ghost use Rattle.mad_lines.specs.TextLines.{lines, text_of, accepted};
+ghost use Rattle.mad_edit.specs.Editor.{clamp_in, clamp_tail, offset_at, cursor_line, cursor_column};
+
+use crate::content::InputFieldContent;
+use mad_lines::{Pos, clear_lines, line_count, swap_lines, valid_pos};
+use std::alloc::{AllocError, Global};
+
+impl InputFieldContent {
+    /// A text, with the cursor at its end. Carriage returns and backspaces are left out.
+    pub fn from(alloc: Global, s: &str) -> Result<InputFieldContent, AllocError>
+        ensures text { IfOk result (λ e. e.text ≡ accepted (chars s.now)) }
+        ensures cursor { IfOk result (λ e. e.offset ≡ length (accepted (chars s.now))) }
+        ensures tail { IfOk result (λ e. e.tail ≡ None) }
+    {
+        let mut content = InputFieldContent::new(alloc)?;
+        content.insert_str(s)?;
+        Ok(content)
+    }
+
+    /// Puts a text in place of the whole one, with the cursor at its end and no tail. An equal text changes nothing.
+    /// After out of memory the editor is unchanged.
+    pub fn set_str(&mut self, s: &str) -> Result<(), AllocError>
+        ensures same { OnOk result (self.old.text ≡ chars s.now → self.new ≡ self.old) }
+        ensures text { OnOk result (self.old.text ≢ chars s.now → self.new.text ≡ accepted (chars s.now)) }
+        ensures cursor { OnOk result (self.old.text ≢ chars s.now → self.new.offset ≡ length (accepted (chars s.now))) }
+        ensures tail { OnOk result (self.old.text ≢ chars s.now → self.new.tail ≡ None) }
+        ensures err { OnErr result (self.new ≡ self.old) }
+    {
+        if self.is_str(s) {
+            return Ok(());
+        }
+        let alloc = *self.lines.allocator();
+        let content = InputFieldContent::from(alloc, s)?;
+        *self = content;
+        Ok(())
+    }
+
+    /// Leaves an empty text without a tail.
+    pub fn clear(&mut self)
+        ensures { self.new ≡ record { text = []; offset = 0; tail = None } }
+    {
+        clear_lines(&mut self.lines);
+        self.pos = Pos { y: 0, x: 0 };
+        self.selection_tail = None;
+    }
+
+    /// Two lines change places. The cursor and the tail keep their line and place numbers as far as the text goes.
+    /// Returns whether these are two lines of the text.
+    pub fn swap_lines(&mut self, ya: usize, yb: usize) -> bool
+        ensures done { IsTrue result ↔ ((ya ≢ yb) × (ya < length (lines self.old.text)) × (yb < length (lines self.old.text))) }
+        ensures text { OnTrue result (self.new.text ≡ text_of (swap (lines self.old.text) ya yb)) }
+        ensures cursor { OnTrue result (self.new.offset
+            ≡ offset_at self.new.text (clamp_in self.new.text (record { y = cursor_line self.old; x = cursor_column self.old }))) }
+        ensures tail { OnTrue result (self.new.tail ≡ clamp_tail self.new.text self.old.tail) }
+        ensures none { OnFalse result (self.new ≡ self.old) }
+    {
+        let count = line_count(&self.lines);
+        if ya == yb || ya >= count || yb >= count {
+            return false;
+        }
+        swap_lines(&mut self.lines, ya, yb);
+        self.pos = valid_pos(&self.lines, self.pos);
+        if let Some(tail) = self.selection_tail {
+            self.selection_tail = Some(valid_pos(&self.lines, tail));
+        }
+        true
+    }
+
+    /// The cursor's line and the one above change places, and the cursor goes with its line.
+    /// Returns whether there is a line above.
+    pub fn move_current_line_up(&mut self) -> bool
+        ensures done { IsTrue result ↔ (0 < cursor_line self.old) }
+        ensures text { OnTrue result (self.new.text ≡ text_of (swap (lines self.old.text) (cursor_line self.old - 1) (cursor_line self.old))) }
+        ensures cursor { OnTrue result (self.new.offset
+            ≡ offset_at self.new.text (clamp_in self.new.text (record { y = cursor_line self.old - 1; x = cursor_column self.old }))) }
+        ensures tail { OnTrue result (self.new.tail ≡ clamp_tail self.new.text self.old.tail) }
+        ensures none { OnFalse result (self.new ≡ self.old) }
+    {
+        let Pos { y, x } = self.cursor_pos();
+        if y == 0 {
+            return false;
+        }
+        let swapped = self.swap_lines(y - 1, y);
+        self.set_cursor_pos(Pos { y: y - 1, x });
+        swapped
+    }
+
+    /// The cursor's line and the one below change places, and the cursor goes with its line.
+    /// Returns whether there is a line below.
+    pub fn move_current_line_down(&mut self) -> bool
+        ensures done { IsTrue result ↔ (cursor_line self.old + 1 < length (lines self.old.text)) }
+        ensures text { OnTrue result (self.new.text ≡ text_of (swap (lines self.old.text) (cursor_line self.old + 1) (cursor_line self.old))) }
+        ensures cursor { OnTrue result (self.new.offset
+            ≡ offset_at self.new.text (clamp_in self.new.text (record { y = cursor_line self.old + 1; x = cursor_column self.old }))) }
+        ensures tail { OnTrue result (self.new.tail ≡ clamp_tail self.new.text self.old.tail) }
+        ensures none { OnFalse result (self.new ≡ self.old) }
+    {
+        let Pos { y, x } = self.cursor_pos();
+        let last = self.line_count() - 1;
+        if y >= last {
+            return false;
+        }
+        let swapped = self.swap_lines(y + 1, y);
+        self.set_cursor_pos(Pos { y: y + 1, x });
+        swapped
+    }
+}

@@ -1,0 +1,150 @@
+//! Edits at the cursor. After out of memory the editor is unchanged.
+
+ghost use Rattle.std.specs.Prelude.{◌≡◌, ◌<◌, ◌≤◌, ◌+◌, ◌-◌, ◌↔◌, ◌⊎◌, [], ◌∷◌, ◌++◌, false, length, chars, IfOk, OnOk, OnErr, IsTrue};
+ghost use Rattle.mad_lines.specs.TextLines.{accepted};
+ghost use Rattle.mad_edit.specs.Editor.{IsPlaceIn, offset_at, IsReplaced, IsRemoved, below_start, below_end, front_of_line, rest_of_line, after_word_removed, without, clamp_tail};
+ghost use Rattle.mad_edit.specs.Words.{word_before, removed_after};
+
+use crate::content::InputFieldContent;
+use crate::words::{removed_after, word_before};
+use mad_lines::{CharClass, Pos};
+use std::alloc::AllocError;
+
+impl InputFieldContent {
+    /// Puts a text in at the cursor, and the cursor after it. Carriage returns and backspaces are left out.
+    pub fn insert_str(&mut self, s: &str) -> Result<(), AllocError>
+        ensures ok { OnOk result (IsReplaced self.old self.new self.old.offset self.old.offset (chars s.now)) }
+        ensures err { OnErr result (self.new ≡ self.old) }
+    {
+        let at = self.cursor_pos();
+        self.edit(at, at, s)
+    }
+
+    /// Puts a character in at the cursor, and the cursor after it. A carriage return or a backspace is left out.
+    pub fn insert_char(&mut self, c: char) -> Result<(), AllocError>
+        ensures ok { OnOk result (IsReplaced self.old self.new self.old.offset self.old.offset (c ∷ [])) }
+        ensures err { OnErr result (self.new ≡ self.old) }
+    {
+        let mut buffer = [0; 4];
+        let s = c.encode_utf8(&mut buffer);
+        self.insert_str(s)
+    }
+
+    /// Puts a newline in at the cursor, and the cursor after it.
+    pub fn insert_new_line(&mut self) -> Result<(), AllocError>
+        ensures ok { OnOk result (IsReplaced self.old self.new self.old.offset self.old.offset (10 ∷ [])) }
+        ensures err { OnErr result (self.new ≡ self.old) }
+    {
+        self.insert_str("\n")
+    }
+
+    /// Puts a character in at the end of the text. The cursor and the tail stay.
+    /// A carriage return or a backspace is left out.
+    pub fn push_char(&mut self, c: char) -> Result<(), AllocError>
+        ensures text { OnOk result (self.new.text ≡ self.old.text ++ accepted (c ∷ [])) }
+        ensures cursor { OnOk result (self.new.offset ≡ self.old.offset) }
+        ensures tail { OnOk result (self.new.tail ≡ self.old.tail) }
+        ensures err { OnErr result (self.new ≡ self.old) }
+    {
+        let at = self.cursor_pos();
+        let last = self.end();
+        let mut buffer = [0; 4];
+        let s = c.encode_utf8(&mut buffer);
+        self.edit(last, last, s)?;
+        self.put_cursor(at);
+        Ok(())
+    }
+
+    /// Removes what is between two places, and puts the cursor there.
+    pub(crate) fn remove(&mut self, from: Pos, to: Pos) -> Result<(), AllocError>
+        requires from { IsPlaceIn self.old.text from }
+        requires to { IsPlaceIn self.old.text to }
+        requires order { offset_at self.old.text from ≤ offset_at self.old.text to }
+        ensures ok { OnOk result (IsRemoved self.old self.new (offset_at self.old.text from) (offset_at self.old.text to)) }
+        ensures err { OnErr result (self.new ≡ self.old) }
+    {
+        self.edit(from, to, "")?;
+        Ok(())
+    }
+
+    /// Removes the character before the cursor. Returns whether there is one.
+    pub fn del_char_left(&mut self) -> Result<bool, AllocError>
+        ensures done { IfOk result (λ b. IsTrue b ↔ (0 < self.old.offset)) }
+        ensures removed { IfOk result (λ b. IsTrue b → IsRemoved self.old self.new (self.old.offset - 1) self.old.offset) }
+        ensures none { IfOk result (λ b. b ≡ false → self.new ≡ self.old) }
+        ensures err { OnErr result (self.new ≡ self.old) }
+    {
+        let at = self.cursor_pos();
+        match self.previous_place(at) {
+            Some(from) => {
+                self.remove(from, at)?;
+                Ok(true)
+            }
+            None => Ok(false),
+        }
+    }
+
+    /// Removes the character at the cursor, or the newline at a line's end. At the end of the text it removes
+    /// the last line if that is empty and not the only one. Returns whether anything was removed.
+    pub fn del_char_below(&mut self) -> Result<bool, AllocError>
+        ensures done { IfOk result (λ b. IsTrue b ↔ (below_start self.old < below_end self.old)) }
+        ensures removed { IfOk result (λ b. IsTrue b → IsRemoved self.old self.new (below_start self.old) (below_end self.old)) }
+        ensures none { IfOk result (λ b. b ≡ false → self.new ≡ self.old) }
+        ensures err { OnErr result (self.new ≡ self.old) }
+    {
+        let at = self.cursor_pos();
+        if let Some(to) = self.next_place(at) {
+            self.remove(at, to)?;
+            return Ok(true);
+        }
+        if self.front_of_line().len() > 0 {
+            return Ok(false);
+        }
+        self.del_char_left()
+    }
+
+    /// Removes the word before the cursor in its line: what a move by a word goes over. Returns whether there is a step.
+    pub fn del_word_left(&mut self) -> Result<bool, AllocError>
+        ensures done { IfOk result (λ b. IsTrue b ↔ (0 < length (front_of_line self.old))) }
+        ensures removed { IfOk result (λ b. IsTrue b →
+            IsRemoved self.old self.new (self.old.offset - word_before (front_of_line self.old)) self.old.offset) }
+        ensures none { IfOk result (λ b. b ≡ false → self.new ≡ self.old) }
+        ensures err { OnErr result (self.new ≡ self.old) }
+    {
+        let count = word_before(self.front_of_line());
+        if count == 0 {
+            return Ok(false);
+        }
+        let at = self.cursor_pos();
+        let from = self.place_back(count);
+        self.remove(from, at)?;
+        Ok(true)
+    }
+
+    /// Removes letters and digits after the cursor in its line, and the first other character. Where they reach the
+    /// line's end, or where the cursor is there, the cursor goes one step back in its line.
+    /// Returns whether anything was done.
+    pub fn del_word_right(&mut self) -> Result<bool, AllocError>
+        ensures done { IfOk result (λ b. IsTrue b ↔ ((0 < length (front_of_line self.old)) ⊎ (0 < length (rest_of_line self.old)))) }
+        ensures removed { OnOk result (0 < length (rest_of_line self.old) → (self.new.text
+            ≡ without self.old.text self.old.offset (self.old.offset + removed_after (rest_of_line self.old)))
+            × (self.new.tail ≡ clamp_tail self.new.text self.old.tail)) }
+        ensures stepped { OnOk result (length (rest_of_line self.old) ≡ 0 → (self.new.text ≡ self.old.text) × (self.new.tail ≡ self.old.tail)) }
+        ensures cursor { OnOk result (self.new.offset ≡ after_word_removed self.old) }
+        ensures err { OnErr result (self.new ≡ self.old) }
+    {
+        let front = self.front_of_line().len();
+        let rest = self.rest_of_line().len();
+        let word = CharClass::Alphanumeric.count_front(self.rest_of_line());
+        if rest > 0 {
+            let at = self.cursor_pos();
+            let count = removed_after(self.rest_of_line());
+            let to = self.place_ahead(count);
+            self.remove(at, to)?;
+        }
+        if word == rest && front > 0 {
+            self.move_left();
+        }
+        Ok(front > 0 || rest > 0)
+    }
+}

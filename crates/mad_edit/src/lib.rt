@@ -1,0 +1,14 @@
+//! A text editor without a screen: one text, a cursor, and the other end of a selection.
+#![tactic(auto)]
+
+mod content;
+mod edits;
+pub mod laws;
+mod moves;
+mod selections;
+#[cfg(test)]
+mod tests;
+mod words;
+
+pub use content::InputFieldContent;
+pub use mad_lines::{Chars, Line, Pos, Range};

@@ -1,0 +1,146 @@
+//! What is selected: copied, removed, replaced.
+
+ghost use Rattle.std.specs.Prelude.{◌≡◌, ◌<◌, ◌≤◌, ◌+◌, ◌-◌, ◌↔◌, false, length, chars, IfOk, OnOk, OnErr, IsTrue, IfSome, string_bytes, encode_utf8_all, IsSome, None};
+ghost use Rattle.std.specs.Bool.{OnTrue, OnFalse};
+ghost use Rattle.std.specs.List.{prefix_len, suffix_len};
+ghost use Rattle.mad_lines.specs.CharClasses.{is_of};
+ghost use Rattle.mad_lines.specs.TextLines.{accepted};
+ghost use Rattle.mad_edit.specs.Undo.{Removes};
+ghost use Rattle.mad_lines.specs.declared.place.Pos.{Pos};
+ghost use Rattle.mad_edit.specs.Editor.{IsEditor, inserted, IsAt, IsCut, IsRemoved, IsReplaced, IsWide, replaced, selected, selection_start, selection_last, selection_end, below_start, below_end, front_of_line, rest_of_line};
+
+use crate::content::InputFieldContent;
+use mad_lines::{CharClass, Range};
+use std::alloc::AllocError;
+
+impl InputFieldContent {
+    /// The selected characters.
+    pub fn selection_string(&self) -> Result<String, AllocError>
+        ensures is { IfOk result (λ s. string_bytes s ≡ encode_utf8_all (selected self.now)) }
+        ensures valid { IsEditor self.now }
+    {
+        let Range { min, max } = self.selection();
+        let end = self.place_past_char(max);
+        self.copy_between(min, end)
+    }
+
+    /// A copy of the selected characters.
+    pub fn copy_selection(&self) -> Result<String, AllocError>
+        ensures { IfOk result (λ s. string_bytes s ≡ encode_utf8_all (selected self.now)) }
+    {
+        self.selection_string()
+    }
+
+    /// Removes the selected characters, and puts the cursor there.
+    fn remove_selected(&mut self) -> Result<(), AllocError>
+        ensures ok { OnOk result (IsCut self.old self.new) }
+        ensures err { OnErr result (self.new ≡ self.old) }
+    {
+        let Range { min, max } = self.selection();
+        let end = self.place_past_char(max);
+        self.remove(min, end)?;
+        self.unselect();
+        Ok(())
+    }
+
+    /// Removes the selected characters where the selection is wide, else what `del_char_below` removes.
+    /// Returns whether anything was removed.
+    pub fn del_selection(&mut self) -> Result<bool, AllocError>
+        ensures wide { IfOk result (λ b. IsWide self.old → IsCut self.old self.new × IsTrue b) }
+        ensures done { IfOk result (λ b. selection_last self.old ≤ selection_start self.old → (IsTrue b ↔ (below_start self.old < below_end self.old))) }
+        ensures removed { IfOk result (λ b. selection_last self.old ≤ selection_start self.old → IsTrue b
+            → IsRemoved self.old self.new (below_start self.old) (below_end self.old)) }
+        ensures none { IfOk result (λ b. b ≡ false → self.new ≡ self.old) }
+        ensures err { OnErr result (self.new ≡ self.old) }
+    {
+        if self.has_wide_selection() {
+            self.remove_selected()?;
+            return Ok(true);
+        }
+        self.del_char_below()
+    }
+
+    /// Hands out the selected characters and removes what `del_selection` removes. Inserting what a wide selection
+    /// handed out gives back the text.
+    pub fn cut_selection(&mut self) -> Result<String, AllocError>
+        ensures handed { IfOk result (λ s. string_bytes s ≡ encode_utf8_all (selected self.old)) }
+        ensures wide { OnOk result (IsWide self.old → IsCut self.old self.new) }
+        ensures undone { IfOk result (λ s. IsWide self.old → inserted self.new (chars (string_bytes s)) ≡ self.old.text) }
+        ensures removes { IfOk result (λ s. (p : Pos) → IsWide self.old → IsAt self.new.text self.new.offset p
+            → Removes self.old.text (record { place = p; text = chars (string_bytes s) }) self.new.text) }
+        ensures below { OnOk result (selection_last self.old ≤ selection_start self.old → below_start self.old < below_end self.old
+            → IsRemoved self.old self.new (below_start self.old) (below_end self.old)) }
+        ensures nothing { OnOk result (selection_last self.old ≤ selection_start self.old → below_end self.old ≤ below_start self.old
+            → self.new ≡ self.old) }
+        ensures err { OnErr result (self.new ≡ self.old) }
+    {
+        let handed = self.selection_string()?;
+        self.del_selection()?;
+        Ok(handed)
+    }
+
+    /// Puts a text in place of a wide selection, or in at the cursor. Carriage returns and backspaces are left out.
+    pub fn replace_selection(&mut self, s: &str) -> Result<(), AllocError>
+        ensures wide { OnOk result (IsWide self.old → (self.new.text
+            ≡ replaced self.old.text (selection_start self.old) (selection_end self.old) (chars s.now))
+            × (self.new.offset ≡ selection_start self.old + length (accepted (chars s.now))) × (self.new.tail ≡ None)) }
+        ensures narrow { OnOk result (selection_last self.old ≤ selection_start self.old
+            → IsReplaced self.old self.new self.old.offset self.old.offset (chars s.now)) }
+        ensures err { OnErr result (self.new ≡ self.old) }
+    {
+        if !self.has_wide_selection() {
+            return self.insert_str(s);
+        }
+        let Range { min, max } = self.selection();
+        let end = self.place_past_char(max);
+        self.edit(min, end, s)?;
+        self.unselect();
+        Ok(())
+    }
+
+    /// Selects the characters of a class around the cursor: the tail at the first, the cursor at the last.
+    fn select_around(&mut self, class: CharClass) -> bool
+        ensures found { IsTrue result ↔ (0 < prefix_len (is_of class) (rest_of_line self.old)) }
+        ensures cursor { OnTrue result (self.new.offset + 1 ≡ self.old.offset + prefix_len (is_of class) (rest_of_line self.old)) }
+        ensures tail { OnTrue result (IfSome self.new.tail (λ p. IsAt self.old.text (self.old.offset - suffix_len (is_of class) (front_of_line self.old)) p)) }
+        ensures some { OnTrue result (IsSome self.new.tail) }
+        ensures text { self.new.text ≡ self.old.text }
+        ensures none { OnFalse result (self.new ≡ self.old) }
+    {
+        let after = class.count_front(self.rest_of_line());
+        if after == 0 {
+            return false;
+        }
+        let before = class.count_end(self.front_of_line());
+        let first = self.place_back(before);
+        let last = self.place_ahead(after - 1);
+        self.put_tail(first);
+        self.put_cursor(last);
+        true
+    }
+
+    /// Selects the word around the cursor: letters, digits and `_`. The tail is put at its first character, the
+    /// cursor at its last. Returns whether the cursor is at a character of a word.
+    pub fn select_word_around(&mut self) -> bool
+        ensures found { IsTrue result ↔ (0 < prefix_len (is_of CharClass.Word) (rest_of_line self.old)) }
+        ensures cursor { OnTrue result (self.new.offset + 1 ≡ self.old.offset + prefix_len (is_of CharClass.Word) (rest_of_line self.old)) }
+        ensures tail { OnTrue result (IfSome self.new.tail (λ p. IsAt self.old.text (self.old.offset - suffix_len (is_of CharClass.Word) (front_of_line self.old)) p)) }
+        ensures some { OnTrue result (IsSome self.new.tail) }
+        ensures text { self.new.text ≡ self.old.text }
+        ensures none { OnFalse result (self.new ≡ self.old) }
+    {
+        self.select_around(CharClass::Word)
+    }
+
+    /// Selects the characters around the cursor that are no whitespace, as `select_word_around` does a word.
+    pub fn select_non_space_around(&mut self) -> bool
+        ensures found { IsTrue result ↔ (0 < prefix_len (is_of CharClass.NonSpace) (rest_of_line self.old)) }
+        ensures cursor { OnTrue result (self.new.offset + 1 ≡ self.old.offset + prefix_len (is_of CharClass.NonSpace) (rest_of_line self.old)) }
+        ensures tail { OnTrue result (IfSome self.new.tail (λ p. IsAt self.old.text (self.old.offset - suffix_len (is_of CharClass.NonSpace) (front_of_line self.old)) p)) }
+        ensures some { OnTrue result (IsSome self.new.tail) }
+        ensures text { self.new.text ≡ self.old.text }
+        ensures none { OnFalse result (self.new ≡ self.old) }
+    {
+        self.select_around(CharClass::NonSpace)
+    }
+}

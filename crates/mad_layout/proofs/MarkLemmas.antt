@@ -1,0 +1,136 @@
+-- What stands in front of a line: it is shown, and takes the columns of its indent.
+use Rattle.std.proofs.Common.{◌≡◌, ℕ, zero, suc, ◌+◌, ◌-◌, ◌/◌, ◌%◌, ◌^◌, ◌<◌, ◌≤◌, ◌⊎◌, inl, inr, List, [], ◌∷◌, ◌++◌, length, Option, Some, None, refl, ap, sym, ◌∙◌, subst, arith}
+use Rattle.std.specs.Prelude.{IsSome, unwrap_or, decimal, false}
+use Rattle.std.specs.List.{AllByRecursion}
+use Rattle.std.specs.Str.{chars, IsAscii}
+use Rattle.std.proofs.lemmas.Bool.{cases_lt}
+use Rattle.std.proofs.lemmas.Fmt.{IsAscii-decimal, decimal_digit, decimal_step, decimal_nonempty}
+use Rattle.std.proofs.lemmas.Str.{IsUtf8-from_ascii, chars-IsAscii}
+use Rattle.unicode_width.specs.Width.{char_width}
+use Rattle.mad_columns.specs.Columns.{char_columns}
+use Rattle.mad_columns.proofs.CharColumns.{char_columns-ascii}
+use Rattle.mad_screen.specs.Painting.{IsPrinted, IsWhole, IsShown}
+use Rattle.mad_style.specs.declared.compound_styles.CompoundStyle.{CompoundStyle}
+use Rattle.mad_style.specs.declared.kinds.CompositeKind.{CompositeKind}
+use Rattle.mad_style.specs.declared.kinds.CompositeKind.TheVariants.{Paragraph, Header, ListItem, ListItemFollowUp, OrderedListItem, OrderedListItemFollowUp, Code, Quote}
+use Rattle.mad_fit.specs.Columns.{columns}
+use Rattle.mad_fit.proofs.AllLemmas.{all_push, all_joined}
+use Rattle.mad_draw.specs.Pieces.{RowPiece, IsShownPiece, AreShownPieces, pieces_columns, single_spaces}
+use Rattle.mad_draw.proofs.PieceLemmas.{columns-both, spaces_columns, shown_spaces}
+use Rattle.mad_layout.specs.Drawable.{IsColumnPiece}
+use Rattle.mad_layout.specs.Indents.{follow_up, indent, kept, ordered_indent}
+use Rattle.mad_layout.specs.Premises.{IsPlainPrefix}
+use Rattle.mad_layout.specs.Rows.{char_piece, number_piece, mark_space, mark_pieces}
+use Rattle.mad_layout.specs.Styles.{ordered_item_style}
+use Rattle.mad_layout.specs.declared.skin.MadSkin.{MadSkin}
+
+-- ---- digits
+
+abbrev IsDigit : ℕ → Type 0
+IsDigit c = (48 ≤ c) × (c < 58)
+
+digits_by : (k n : ℕ) → n < k → n < 2 ^ 64 → (n < 10) ⊎ (10 ≤ n) → AllByRecursion IsDigit (decimal n)
+digits_by zero n less fits cases = absurd (omega (arith, less))
+digits_by (suc k) n less fits (inl low) = subst (AllByRecursion IsDigit) (sym (decimal_digit n low)) ((omega arith, omega (arith, low)), tt)
+digits_by (suc k) n less fits (inr high) =
+    subst (AllByRecursion IsDigit) (sym (decimal_step n high fits))
+    (all_push IsDigit (decimal (n / 10)) (48 + n % 10) (digits_by k (n / 10) (omega (arith, less, high)) (omega (arith, fits)) (cases_lt (n / 10) 10)) (omega arith, omega arith))
+
+some_of : (o : Option ℕ) → unwrap_or o 0 ≡ 1 → IsSome o
+some_of None h = absurd (omega (arith, h))
+some_of (Some n) h = refl
+
+printed_char : (c : ℕ) → char_columns c ≡ 1 → IsSome (char_width false c)
+unfolding char_columns
+printed_char c h = some_of (char_width false c) h
+
+digits_printed : (cs : List ℕ) → AllByRecursion IsDigit cs → IsPrinted cs
+digits_printed [] h = tt
+digits_printed (c ∷ cs) h = (printed_char c (char_columns-ascii c (omega (arith, h.0.0)) (omega (arith, h.0.1))), digits_printed cs h.1)
+
+digits_whole : (cs : List ℕ) → AllByRecursion IsDigit cs → IsWhole cs
+digits_whole [] h = tt
+digits_whole (c ∷ cs) h = let one : char_columns c ≡ 1 = char_columns-ascii c (omega (arith, h.0.0)) (omega (arith, h.0.1)) in omega (arith, one)
+
+digits_columns : (cs : List ℕ) → AllByRecursion IsDigit cs → columns cs ≡ length cs
+digits_columns [] h = refl
+digits_columns (c ∷ cs) h =
+    let one : char_columns c ≡ 1 = char_columns-ascii c (omega (arith, h.0.0)) (omega (arith, h.0.1)) in
+    let rest : columns cs ≡ length cs = digits_columns cs h.1 in
+    omega (arith, one, rest)
+
+number_digits : (n : ℕ) → n < 2 ^ 32 → AllByRecursion IsDigit (decimal n)
+number_digits n fits = digits_by (suc n) n (omega arith) (omega (arith, fits)) (cases_lt n 10)
+
+number_shown : (style : CompoundStyle) (n : ℕ) → n < 2 ^ 32 → IsShownPiece (number_piece style n)
+number_shown style n fits =
+    let ascii : IsAscii (decimal n) = IsAscii-decimal n (omega (arith, fits)) in
+    let digits : AllByRecursion IsDigit (decimal n) = number_digits n fits in
+    record {
+      utf8 = IsUtf8-from_ascii (decimal n) ascii;
+      shown = subst IsShown (sym (chars-IsAscii (decimal n) ascii)) (record { printed = digits_printed (decimal n) digits; whole = digits_whole (decimal n) digits });
+    }
+
+number_columns : (n : ℕ) → n < 2 ^ 32 → columns (chars (decimal n)) ≡ length (decimal n)
+number_columns n fits = ap columns (chars-IsAscii (decimal n) (IsAscii-decimal n (omega (arith, fits)))) ∙ digits_columns (decimal n) (number_digits n fits)
+
+-- ---- spaces
+
+singles_shown : (style : CompoundStyle) (n : ℕ) → AreShownPieces (single_spaces style n)
+singles_shown style zero = tt
+singles_shown style (suc n) = ((shown_spaces style 1).0, singles_shown style n)
+
+singles_columns : (style : CompoundStyle) (n : ℕ) → pieces_columns (single_spaces style n) ≡ n
+singles_columns style zero = refl
+singles_columns style (suc n) =
+    let one : columns (chars (32 ∷ [])) + 0 ≡ 1 = spaces_columns style 1 in
+    let rest : pieces_columns (single_spaces style n) ≡ n = singles_columns style n in
+    omega (arith, one, rest)
+
+-- ---- in front of a line
+
+pub mark_shown : (skin : MadSkin) (kind : CompositeKind) → IsPlainPrefix skin kind → AreShownPieces (mark_pieces skin kind)
+mark_shown skin Paragraph h = tt
+mark_shown skin (Header level) h = tt
+mark_shown skin (ListItem depth) h = all_joined IsShownPiece (single_spaces skin.paragraph.compound_style depth) _ (singles_shown skin.paragraph.compound_style depth) (h.shown, ((shown_spaces skin.paragraph.compound_style 1).0, tt))
+mark_shown skin (ListItemFollowUp depth) h = singles_shown skin.paragraph.compound_style _
+mark_shown skin (OrderedListItem level index) h =
+    all_joined IsShownPiece (single_spaces skin.paragraph.compound_style level) _ (singles_shown skin.paragraph.compound_style level)
+    (number_shown (ordered_item_style skin level).index_style index h.0, (h.1.shown, ((shown_spaces skin.paragraph.compound_style 1).0, tt)))
+mark_shown skin (OrderedListItemFollowUp level index) h = singles_shown skin.paragraph.compound_style _
+mark_shown skin Code h = tt
+mark_shown skin Quote h = (h.shown, ((shown_spaces skin.paragraph.compound_style 1).0, tt))
+
+pub mark_columns : (skin : MadSkin) (kind : CompositeKind) → IsPlainPrefix skin kind → pieces_columns (mark_pieces skin kind) ≡ indent skin.list_items_indentation_mode kind
+mark_columns skin Paragraph h = refl
+mark_columns skin (Header level) h = refl
+mark_columns skin (ListItem depth) h =
+    let blank : CompoundStyle = skin.paragraph.compound_style in
+    let after : List RowPiece = char_piece skin.bullet ∷ mark_space skin ∷ [] in
+    let both : pieces_columns (single_spaces blank depth ++ after) ≡ pieces_columns (single_spaces blank depth) + pieces_columns after = columns-both (single_spaces blank depth) after in
+    let before : pieces_columns (single_spaces blank depth) ≡ depth = singles_columns blank depth in
+    let one : columns (chars (32 ∷ [])) + 0 ≡ 1 = spaces_columns blank 1 in
+    omega (arith, both, before, one, h.one)
+mark_columns skin (ListItemFollowUp depth) h = singles_columns skin.paragraph.compound_style (kept skin.list_items_indentation_mode (2 + depth))
+mark_columns skin (OrderedListItem level index) h =
+    let blank : CompoundStyle = skin.paragraph.compound_style in
+    let style = ordered_item_style skin level in
+    let after : List RowPiece = number_piece style.index_style index ∷ char_piece style.index_suffix ∷ mark_space skin ∷ [] in
+    let both : pieces_columns (single_spaces blank level ++ after) ≡ pieces_columns (single_spaces blank level) + pieces_columns after = columns-both (single_spaces blank level) after in
+    let before : pieces_columns (single_spaces blank level) ≡ level = singles_columns blank level in
+    let one : columns (chars (32 ∷ [])) + 0 ≡ 1 = spaces_columns blank 1 in
+    omega (arith, both, before, one, h.1.one, number_columns index h.0)
+mark_columns skin (OrderedListItemFollowUp level index) h = singles_columns skin.paragraph.compound_style (kept skin.list_items_indentation_mode (ordered_indent level index))
+mark_columns skin Code h = refl
+mark_columns skin Quote h = let one : columns (chars (32 ∷ [])) + 0 ≡ 1 = spaces_columns skin.paragraph.compound_style 1 in omega (arith, one, h.one)
+
+-- the lines that follow have a plain prefix too
+pub follow_up_plain : (skin : MadSkin) (kind : CompositeKind) → IsPlainPrefix skin kind → IsPlainPrefix skin (follow_up kind)
+follow_up_plain skin Paragraph h = tt
+follow_up_plain skin (Header level) h = tt
+follow_up_plain skin (ListItem depth) h = tt
+follow_up_plain skin (ListItemFollowUp depth) h = tt
+follow_up_plain skin (OrderedListItem level index) h = tt
+follow_up_plain skin (OrderedListItemFollowUp level index) h = tt
+follow_up_plain skin Code h = tt
+follow_up_plain skin Quote h = h

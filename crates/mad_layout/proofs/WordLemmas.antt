@@ -1,0 +1,91 @@
+-- The example's text: how it is read, and laid out in a wider place.
+use Rattle.std.proofs.Common.{◌≡◌, ◌≢◌, ℕ, zero, suc, ◌+◌, ◌<◌, ◌≤◌, inl, false, true, List, [], ◌∷◌, ◌++◌, map, length, chars, Option, Some, refl, ap, sym, ◌∙◌, subst, arith, lit<}
+use Rattle.std.specs.Prelude.{IsSome, unwrap_or, slice_range}
+use Rattle.std.specs.List.{AllByRecursion, join_with_byte}
+use Rattle.std.specs.Str.{IsAscii}
+use Rattle.std.proofs.lemmas.Str.{IsUtf8-from_ascii, chars-IsAscii}
+use Rattle.std.proofs.lemmas.Str.Ascii.{IsAscii-cons, IsAscii-nil}
+use Rattle.unicode_width.specs.Width.{char_width}
+use Rattle.mad_columns.specs.Columns.{char_columns}
+use Rattle.mad_md.specs.Parts.{AreParts, HasNoNewline, line_places, line_text}
+use Rattle.mad_md.specs.ReadByMarks.{IsParagraphText}
+use Rattle.mad_fit.proofs.AllLemmas.{all_back}
+use Rattle.mad_layout.specs.Sources.{TakesColumns, LinesTakeColumns}
+use Rattle.mad_layout.specs.Words.{words}
+
+-- ---- its characters
+
+width_a : char_width false 97 ≡ Some 1
+unfolding char_width
+width_a = refl
+
+width_b : char_width false 98 ≡ Some 1
+unfolding char_width
+width_b = refl
+
+width_c : char_width false 99 ≡ Some 1
+unfolding char_width
+width_c = refl
+
+width_space : char_width false 32 ≡ Some 1
+unfolding char_width
+width_space = refl
+
+one_column : (c : ℕ) → char_width false c ≡ Some 1 → char_columns c ≡ 1
+unfolding char_columns
+one_column c e = ap (λ (o : Option ℕ). unwrap_or o 0) e
+
+pub one_a : char_columns 97 ≡ 1
+one_a = one_column 97 width_a
+
+pub one_b : char_columns 98 ≡ 1
+one_b = one_column 98 width_b
+
+pub one_c : char_columns 99 ≡ 1
+one_c = one_column 99 width_c
+
+pub one_space : char_columns 32 ≡ 1
+one_space = one_column 32 width_space
+
+letters : IsAscii words
+letters =
+    let c = IsAscii-cons 99 [] (lit< tt) IsAscii-nil in
+    let cc = IsAscii-cons 99 (99 ∷ []) (lit< tt) c in
+    let scc = IsAscii-cons 32 (99 ∷ 99 ∷ []) (lit< tt) cc in
+    let bscc = IsAscii-cons 98 (32 ∷ 99 ∷ 99 ∷ []) (lit< tt) scc in
+    let bbscc = IsAscii-cons 98 (98 ∷ 32 ∷ 99 ∷ 99 ∷ []) (lit< tt) bscc in
+    let sbbscc = IsAscii-cons 32 (98 ∷ 98 ∷ 32 ∷ 99 ∷ 99 ∷ []) (lit< tt) bbscc in
+    let asbbscc = IsAscii-cons 97 (32 ∷ 98 ∷ 98 ∷ 32 ∷ 99 ∷ 99 ∷ []) (lit< tt) sbbscc in
+    IsAscii-cons 97 (97 ∷ 97 ∷ 32 ∷ 98 ∷ 98 ∷ 32 ∷ 99 ∷ 99 ∷ []) (lit< tt) (IsAscii-cons 97 (97 ∷ 32 ∷ 98 ∷ 98 ∷ 32 ∷ 99 ∷ 99 ∷ []) (lit< tt) asbbscc)
+
+pub spelled : chars words ≡ words
+spelled = chars-IsAscii words letters
+
+pub words_columns : TakesColumns words
+words_columns = record {
+  utf8 = IsUtf8-from_ascii words letters;
+  columns = subst (AllByRecursion (λ c. 0 < char_columns c)) (sym spelled)
+      (omega (arith, one_a), (omega (arith, one_a), (omega (arith, one_a), (omega (arith, one_space), (omega (arith, one_b), (omega (arith, one_b), (omega (arith, one_space), (omega (arith, one_c), (omega (arith, one_c), tt)))))))));
+}
+
+-- ---- its one part
+
+unbroken : HasNoNewline words
+unbroken = (λ e. absurd (omega (arith, e)), (λ e. absurd (omega (arith, e)), (λ e. absurd (omega (arith, e)), (λ e. absurd (omega (arith, e)), (λ e. absurd (omega (arith, e)), (λ e. absurd (omega (arith, e)), (λ e. absurd (omega (arith, e)), (λ e. absurd (omega (arith, e)), (λ e. absurd (omega (arith, e)), tt)))))))))
+
+pub cut_words : AreParts words (words ∷ [])
+cut_words = record { some = omega arith; joined = refl; cut = (unbroken, tt) }
+
+pub one_part : (parts : List (List ℕ)) → AreParts words parts → parts ≡ words ∷ []
+one_part [] cut = absurd (omega (arith, cut.some))
+one_part (p ∷ []) cut = ap (λ (q : List ℕ). q ∷ []) cut.joined
+one_part (p ∷ q ∷ ps) cut =
+    let held : HasNoNewline (p ++ (10 ∷ join_with_byte 10 (q ∷ ps))) = subst HasNoNewline (sym cut.joined) unbroken in
+    absurd ((all_back (λ b. b ≢ 10) p (10 ∷ join_with_byte 10 (q ∷ ps)) held).0 refl)
+
+words_begin : IsParagraphText words
+words_begin = (refl, inl refl)
+
+pub words_take_columns : LinesTakeColumns words
+words_take_columns parts cut =
+    subst (λ (ps : List (List ℕ)). AllByRecursion (λ place. TakesColumns (line_text words place) × IsParagraphText (line_text words place)) (line_places ps)) (sym (one_part parts cut)) ((words_columns, words_begin), tt)

@@ -1,0 +1,17 @@
+use Rattle.std.proofs.Common.{◌≡◌, false, [], rules, ap, ◌∙◌, subst}
+use Rattle.mad_md.specs.Cursor.{unread}
+use Rattle.mad_md.specs.Reading.{IsRead, unread_text}
+use Rattle.mad_md.specs.Scan.{lines_of}
+use Rattle.mad_layout.proofs.LayoutLemmas.{laid_end}
+use Rattle.mad_layout.proofs.fmt_text.lay_source.Goals as goal
+
+pub returns : goal.returns
+returns c =
+    let own = c.in_ok-close.ensures.laid in
+    let start : unread c.new-cursor.result ≡ unread_text false c.args.src.now = search rules in
+    let none : lines_of (unread c.loop-laying.cursor) ≡ [] = search rules in (
+      lines_of (unread_text false c.args.src.now),
+      subst (λ u. IsRead u (lines_of u)) start c.new-cursor.ensures.reading,
+      laid_end c.args.skin.now c.args.width (lines_of (unread_text false c.args.src.now)) (lines_of (unread c.loop-laying.cursor)) c.loop-laying.laying.lines.items c.close.new.self.lines.items own.0 c.loop-laying.laying.block.items
+          c.loop-laying.invariant.laid none c.loop-laying.invariant.block own.1 own.2,
+    )

@@ -1,0 +1,120 @@
+-- A text's lines as parts, and its layout, part by part: blocks of code, and any other line by itself.
+use Rattle.std.specs.Prelude.{◌≡◌, ℕ, ◌-◌, ◌<◌, ◌≤◌, max, min, nat_lt, if◌then◌else◌, Bool, true, false, List, [], ◌∷◌, ◌++◌, map, Option, Some, None}
+use Rattle.std.specs.List.{flat_map}
+use Rattle.mad_md.specs.declared.alignment.Alignment.TheVariants.{Left}
+use Rattle.mad_style.specs.LineStyles.{margins_at}
+use Rattle.mad_style.specs.declared.kinds.CompositeKind.{CompositeKind}
+use Rattle.mad_style.specs.declared.kinds.CompositeKind.TheVariants.{Paragraph, Header, ListItem, ListItemFollowUp, OrderedListItem, OrderedListItemFollowUp, Code, Quote}
+use Rattle.mad_layout.specs.WrappedLines.{Wrap, IsLineLaidOutBy}
+use Rattle.mad_layout.specs.declared.skin.MadSkin.{MadSkin}
+use Rattle.mad_layout.specs.declared.composite.FmtComposite.{FmtComposite}
+use Rattle.mad_layout.specs.declared.line.FmtLine.{FmtLine}
+use Rattle.mad_layout.specs.declared.line.FmtLine.TheVariants.{Normal, TableRow, TableRule, HorizontalRule}
+
+-- ---- parts
+
+-- the lines of a block of code, or a line by itself
+pub data Part : Type 0 where
+  block : List FmtComposite → Part
+  single : FmtLine → Part
+
+-- a line of code
+abbrev pub is_code_kind : CompositeKind → Bool
+is_code_kind Paragraph = false
+is_code_kind (Header level) = false
+is_code_kind (ListItem depth) = false
+is_code_kind (ListItemFollowUp depth) = false
+is_code_kind (OrderedListItem level index) = false
+is_code_kind (OrderedListItemFollowUp level index) = false
+is_code_kind Code = true
+is_code_kind Quote = false
+
+-- the line is one of code
+abbrev pub is_code_line : FmtLine → Bool
+is_code_line (Normal l) = is_code_kind l.kind
+is_code_line (TableRow row) = false
+is_code_line (TableRule rule) = false
+is_code_line HorizontalRule = false
+
+-- a line of code in front of parts: it joins a block that begins them
+abbrev pub with_code : FmtComposite → List Part → List Part
+with_code l [] = block (l ∷ []) ∷ []
+with_code l (block ls ∷ ps) = block (l ∷ ls) ∷ ps
+with_code l (single m ∷ ps) = block (l ∷ []) ∷ single m ∷ ps
+
+-- a composite in front of parts
+abbrev pub with_composite : Bool → FmtComposite → List Part → List Part
+with_composite true l ps = with_code l ps
+with_composite false l ps = single (Normal l) ∷ ps
+
+-- a line in front of parts
+abbrev pub with_line : FmtLine → List Part → List Part
+with_line (Normal l) ps = with_composite (is_code_kind l.kind) l ps
+with_line (TableRow row) ps = single (TableRow row) ∷ ps
+with_line (TableRule rule) ps = single (TableRule rule) ∷ ps
+with_line HorizontalRule ps = single HorizontalRule ∷ ps
+
+-- the parts of lines, in order: a block is as long as can be
+abbrev pub parts_of : List FmtLine → List Part
+parts_of [] = []
+parts_of (l ∷ ls) = with_line l (parts_of ls)
+
+-- ---- blocks of code
+
+-- the columns of the widest line
+abbrev pub widest : List FmtComposite → ℕ
+widest [] = 0
+widest (l ∷ ls) = max l.visible_length (widest ls)
+
+-- the columns of a block, at most the room, if there is a limit
+abbrev pub block_width : Option ℕ → List FmtComposite → ℕ
+block_width None ls = widest ls
+block_width (Some room) ls = min (widest ls) room
+
+-- a line of code in a place of so many columns
+abbrev pub placed_code : ℕ → FmtComposite → FmtComposite
+placed_code width l = record l { spacing = Some (record { width = width; align = Left }) }
+
+-- the lines of a block, each in the block's place
+abbrev pub justified : Option ℕ → List FmtComposite → List FmtComposite
+justified room ls = map (placed_code (block_width room ls)) ls
+
+-- the lines of a part, those of a block in its place
+abbrev pub part_lines : Option ℕ → Part → List FmtLine
+part_lines room (block ls) = map Normal (justified room ls)
+part_lines room (single l) = l ∷ []
+
+-- lines with each block of code in its place
+abbrev pub blocks_justified : Option ℕ → List FmtLine → List FmtLine
+blocks_justified room ls = flat_map (part_lines room) (parts_of ls)
+
+-- ---- a layout
+
+-- what the margins of code leave of a width, if there is one
+abbrev pub code_room : MadSkin → Option ℕ → Option ℕ
+code_room skin None = None
+code_room skin (Some width) = let margins = margins_at skin.code_block (Some width) in Some (width - margins.0 - margins.1)
+
+-- the width that lines are wrapped at: nothing is wrapped without a width, nor at one under three
+abbrev pub wrap_width : Option ℕ → Option ℕ
+wrap_width None = None
+wrap_width (Some width) = if nat_lt width 3 then None else Some width
+
+-- what becomes of a line at a width; without one it stays
+abbrev pub IsLineAt : Wrap → MadSkin → Option ℕ → FmtLine → List FmtLine → Type 0
+IsLineAt wraps skin None l lines = lines ≡ l ∷ []
+IsLineAt wraps skin (Some width) l lines = IsLineLaidOutBy wraps skin width l lines
+
+-- what becomes of each of the lines, in order
+abbrev pub AreLinesAt : Wrap → MadSkin → Option ℕ → List FmtLine → List FmtLine → Type 0
+AreLinesAt wraps skin width [] lines = lines ≡ []
+AreLinesAt wraps skin width (l ∷ ls) lines = (own : List FmtLine) × (others : List FmtLine) × (lines ≡ own ++ others) × IsLineAt wraps skin width l own × AreLinesAt wraps skin width ls others
+
+-- what becomes of a part: the lines of a block get its place first
+abbrev pub IsPartAt : Wrap → MadSkin → Option ℕ → Part → List FmtLine → Type 0
+IsPartAt wraps skin width part lines = AreLinesAt wraps skin width (part_lines (code_room skin width) part) lines
+
+-- what becomes of each of the parts, in order: the layouts of a text's parts joined are its layout
+abbrev pub ArePartsAt : Wrap → MadSkin → Option ℕ → List Part → List FmtLine → Type 0
+ArePartsAt wraps skin width [] lines = lines ≡ []
+ArePartsAt wraps skin width (p ∷ ps) lines = (own : List FmtLine) × (others : List FmtLine) × (lines ≡ own ++ others) × IsPartAt wraps skin width p own × ArePartsAt wraps skin width ps others

@@ -1,0 +1,21 @@
+-- An example: a text of three words, and what doesn't show it.
+use Rattle.std.specs.Prelude.{◌≡◌, ℕ, List, [], ◌∷◌, Some}
+use Rattle.mad_term.specs.Trace.{Trace}
+use Rattle.mad_style.specs.CompoundStyles.{plain_style}
+use Rattle.mad_fit.specs.declared.area.Area.{Area}
+use Rattle.mad_draw.specs.DrawnRows.{rows_bytes}
+use Rattle.mad_draw.specs.Pieces.{spaces}
+use Rattle.mad_layout.specs.InArea.{ShowsText}
+use Rattle.mad_layout.specs.Skins.{no_style_skin}
+
+-- `aaa bb cc`
+abbrev pub words : List ℕ
+words = 97 ∷ 97 ∷ 97 ∷ 32 ∷ 98 ∷ 98 ∷ 32 ∷ 99 ∷ 99 ∷ []
+
+-- an area of twelve columns and two rows, away from the screen's corner
+abbrev pub word_area : Area
+word_area = record { left = 2; top = 1; width = 12; height = 2 }
+
+-- Who fills the area with spaces has not shown the text.
+abbrev pub SpacesAreNoText : Type 0
+SpacesAreNoText = (old new : Trace) → old.bytes ≡ Some [] → new.bytes ≡ Some (rows_bytes (λ y. spaces plain_style 12) word_area) → ¬ (ShowsText no_style_skin words word_area old new)

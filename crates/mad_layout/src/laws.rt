@@ -1,0 +1,48 @@
+//! An example whose premises are proved: a text that is written in an area, and what a screen shows that reads it.
+
+ghost use Rattle.std.specs.Prelude.{◌≡◌, ◌∷◌, [], IfOk};
+ghost use Rattle.mad_screen.specs.Grid.{blank, cell_at, plain_pen};
+ghost use Rattle.mad_layout.specs.Sources.{LinesTakeColumns};
+ghost use Rattle.mad_layout.specs.Words.{words, SpacesAreNoText};
+
+use crate::skin::MadSkin;
+use mad_fit::Area;
+use mad_screen::{NotPlain, Screen};
+use mad_term::{CutOut, Error};
+use std::alloc::Global;
+
+/// Each character of `aaa bb cc` takes columns.
+#[tactic(auto, using(crate::proofs::WordLemmas::words_take_columns))]
+pub fn words_take_columns()
+    ensures { LinesTakeColumns words }
+{}
+
+/// Who fills an area with spaces has not shown `aaa bb cc` in it.
+pub fn spaces_are_no_text()
+    ensures { SpacesAreNoText }
+{}
+
+/// A screen of sixteen columns and four rows, after `aaa bb cc` was written in an area of twelve columns and two rows, whose first
+/// cell is in column 2 of row 1.
+///
+/// # Errors
+///
+/// Out of memory.
+pub fn words_on_a_screen(alloc: Global) -> Result<Screen, Error>
+    // The area's first cell shows the first letter.
+    ensures inside { IfOk result (λ screen. cell_at screen 2 1 ≡ record { chars = 97 ∷ []; pen = plain_pen }) }
+
+    // A cell outside it is as it was.
+    ensures outside { IfOk result (λ screen. cell_at screen 0 0 ≡ blank) }
+{
+    let mut screen = Screen::new(alloc, 16, 4)?;
+    let mut out = CutOut::new(alloc, 100, 100, false)?;
+    let skin = MadSkin::no_style();
+    let area = Area::new(2, 1, 12, 2);
+    skin.write_in_area_on(alloc, &mut out, "aaa bb cc", &area)?;
+    let taken = out.taken();
+    match screen.read_bytes(taken) {
+        Ok(()) => Ok(screen),
+        Err(_) => Err(Error::Memory),
+    }
+}

@@ -1,0 +1,170 @@
+//! The writing calls of whole texts and of their lines.
+
+ghost use Rattle.std.specs.Prelude.{◌≡◌, IsErrOf};
+ghost use Rattle.mad_draw.specs.Pieces.{pieces_bytes};
+ghost use Rattle.mad_term.specs.Draws.{Draws, AndFlushes};
+ghost use Rattle.mad_term.specs.declared.errors.Error.TheVariants.{Memory};
+ghost use Rattle.mad_layout.specs.Rows.{composite_pieces, line_pieces, margins_of};
+ghost use Rattle.mad_layout.specs.Texts.{text_bytes, WritesMarkdown};
+
+use crate::composite::FmtComposite;
+use crate::display::{PlacedComposite, PlacedLine};
+use crate::fmt_text::FmtText;
+use crate::line::FmtLine;
+use crate::rows::{RowPlace, margins_of};
+use crate::skin::MadSkin;
+use mad_term::{Error, Out, put_all};
+use std::alloc::Global;
+
+impl MadSkin {
+    /// Writes a composite at a width, if there is one, with its margins; the columns right of it are filled up where that is
+    /// asked for. Nothing is flushed.
+    ///
+    /// # Errors
+    ///
+    /// A fault of the device; what went out by then is a beginning of the whole. Or out of memory, before the first byte.
+    #[tactic(auto, using(mad_term::proofs::QueueExits::memory_first))]
+    pub fn write_fmt_composite<O: Out>(
+        &self,
+        alloc: Global,
+        out: &mut O,
+        composite: &FmtComposite,
+        width: Option<usize>,
+        with_right_completion: bool,
+    ) -> Result<(), Error>
+        ensures writes { Draws (O.seen out.old) (pieces_bytes (composite_pieces self.now width (margins_of self.now width composite.now) with_right_completion composite.now)) result (O.seen out.new) }
+        ensures early { IsErrOf result Memory → O.seen out.new ≡ O.seen out.old }
+    {
+        let mut row = String::new(alloc);
+        let placed = PlacedComposite {
+            skin: self,
+            composite,
+            place: RowPlace {
+                outer: width,
+                margins: margins_of(self, composite, width),
+                right: with_right_completion,
+            },
+        };
+        write!(row, "{placed}")?;
+        put_all(out, row.as_bytes())?;
+        Ok(())
+    }
+
+    /// Writes a line at a width, if there is one, with its margins; the columns right of it are filled up where that is asked
+    /// for. Nothing is flushed.
+    ///
+    /// # Errors
+    ///
+    /// A fault of the device; what went out by then is a beginning of the whole. Or out of memory, before the first byte.
+    #[tactic(auto, using(mad_term::proofs::QueueExits::memory_first))]
+    pub fn write_fmt_line<O: Out>(
+        &self,
+        alloc: Global,
+        out: &mut O,
+        line: &FmtLine,
+        width: Option<usize>,
+        with_right_completion: bool,
+    ) -> Result<(), Error>
+        ensures writes { Draws (O.seen out.old) (pieces_bytes (line_pieces self.now width with_right_completion line.now)) result (O.seen out.new) }
+        ensures early { IsErrOf result Memory → O.seen out.new ≡ O.seen out.old }
+    {
+        let mut row = String::new(alloc);
+        let placed = PlacedLine {
+            skin: self,
+            line,
+            outer: width,
+            right: with_right_completion,
+        };
+        write!(row, "{placed}")?;
+        put_all(out, row.as_bytes())?;
+        Ok(())
+    }
+
+    /// Writes a Markdown text, laid out at a width, if there is one: each line and a newline. Nothing is flushed.
+    ///
+    /// # Errors
+    ///
+    /// A fault of the device; what went out by then is a beginning of the whole. Or out of memory, before the first byte.
+    pub fn write_text_on<O: Out>(
+        &self,
+        alloc: Global,
+        out: &mut O,
+        markdown: &str,
+        width: Option<usize>,
+    ) -> Result<(), Error>
+        ensures writes { WritesMarkdown self.now width markdown.now (O.seen out.old) result (O.seen out.new) }
+        ensures early { IsErrOf result Memory → O.seen out.new ≡ O.seen out.old }
+    {
+        let text = self.text(alloc, markdown, width)?;
+        write_lines(alloc, out, &text)
+    }
+
+    /// Writes a Markdown text, as [`MadSkin::write_text_on`] does.
+    ///
+    /// # Errors
+    ///
+    /// A fault of the device; what went out by then is a beginning of the whole. Or out of memory, before the first byte.
+    pub fn print_text<O: Out>(
+        &self,
+        alloc: Global,
+        out: &mut O,
+        markdown: &str,
+        width: Option<usize>,
+    ) -> Result<(), Error>
+        ensures writes { WritesMarkdown self.now width markdown.now (O.seen out.old) result (O.seen out.new) }
+        ensures early { IsErrOf result Memory → O.seen out.new ≡ O.seen out.old }
+    {
+        self.write_text_on(alloc, out, markdown, width)
+    }
+
+    /// Writes a Markdown text, as [`MadSkin::write_text_on`] does, and flushes.
+    ///
+    /// # Errors
+    ///
+    /// A fault of the device, at its flush too; what went out by then is a beginning of the whole. Or out of memory, before
+    /// the first byte.
+    pub fn write_text<O: Out>(
+        &self,
+        alloc: Global,
+        out: &mut O,
+        markdown: &str,
+        width: Option<usize>,
+    ) -> Result<(), Error>
+        ensures writes { AndFlushes (WritesMarkdown self.now width markdown.now) (O.seen out.old) result (O.seen out.new) }
+        ensures early { IsErrOf result Memory → O.seen out.new ≡ O.seen out.old }
+    {
+        self.write_text_on(alloc, out, markdown, width)?;
+        out.flush()?;
+        Ok(())
+    }
+}
+
+/// Writes a Markdown text in a skin, as [`MadSkin::print_text`] does.
+///
+/// # Errors
+///
+/// A fault of the device; what went out by then is a beginning of the whole. Or out of memory, before the first byte.
+pub fn print_text<O: Out>(
+    alloc: Global,
+    skin: &MadSkin,
+    out: &mut O,
+    markdown: &str,
+    width: Option<usize>,
+) -> Result<(), Error>
+    ensures writes { WritesMarkdown skin.now width markdown.now (O.seen out.old) result (O.seen out.new) }
+    ensures early { IsErrOf result Memory → O.seen out.new ≡ O.seen out.old }
+{
+    skin.print_text(alloc, out, markdown, width)
+}
+
+// Writes the lines of a text, each with a newline.
+#[tactic(auto, using(mad_term::proofs::QueueExits::memory_first))]
+fn write_lines<O: Out>(alloc: Global, out: &mut O, text: &FmtText) -> Result<(), Error>
+    ensures writes { Draws (O.seen out.old) (text_bytes text.now.skin.now text.now.width text.now.lines.items) result (O.seen out.new) }
+    ensures early { IsErrOf result Memory → O.seen out.new ≡ O.seen out.old }
+{
+    let mut bytes = String::new(alloc);
+    write!(bytes, "{text}")?;
+    put_all(out, bytes.as_bytes())?;
+    Ok(())
+}

@@ -1,0 +1,4 @@
+pub mod PlaceLemmas
+pub mod RowLemmas
+pub mod TextLemmas
+pub mod ColumnLemmas

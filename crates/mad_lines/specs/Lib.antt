@@ -1,0 +1,4 @@
+pub mod TextLines
+pub mod LineColumns
+pub mod CharClasses
+pub mod PlaceOrder

@@ -1,0 +1,73 @@
+-- A text as its lines, and places in it.
+use Rattle.std.specs.Prelude.{ℕ, ◌+◌, ◌<◌, ◌≤◌, ◌≡◌, ◌==◌, ◌&&◌, List, [], ◌∷◌, ◌++◌, length, take, drop, map, not, true, Bool, All, slice_index_or, filter, min, nat_lt, if◌then◌else◌, ◌-◌}
+use Rattle.std.specs.List.{slice_split}
+use Rattle.std.specs.Char.{IsScalar}
+use Rattle.mad_lines.specs.declared.place.Pos.{Pos}
+use Rattle.mad_lines.specs.declared.line.Line.{Line}
+
+-- each line after a newline
+abbrev pub led_lines : List (List ℕ) → List ℕ
+led_lines [] = []
+led_lines (l ∷ ls) = (10 ∷ l) ++ led_lines ls
+
+-- the text of lines: a newline between neighbours
+abbrev pub text_of : List (List ℕ) → List ℕ
+text_of ls = drop 1 (led_lines ls)
+
+abbrev pub is_newline : ℕ → Bool
+is_newline c = c == 10
+
+-- the lines of a text, which is cut at each newline
+abbrev pub lines : List ℕ → List (List ℕ)
+lines t = slice_split is_newline t
+
+abbrev pub line_at : List (List ℕ) → ℕ → List ℕ
+line_at ls y = slice_index_or ls y []
+
+-- a place is before a character of its line, or at the line's end
+abbrev pub IsPlace : List (List ℕ) → Pos → Type 0
+IsPlace ls p = (p.y < length ls) × (p.x ≤ length (line_at ls p.y))
+
+-- how many characters of the text are before a place
+abbrev pub offset_of : List (List ℕ) → Pos → ℕ
+offset_of ls p = length (led_lines (take p.y ls)) + p.x
+
+-- what of a text is put in: no carriage return, no backspace
+abbrev pub is_accepted : ℕ → Bool
+is_accepted c = not (c == 13) && not (c == 8)
+
+abbrev pub accepted : List ℕ → List ℕ
+accepted cs = filter is_accepted cs
+
+-- a character of a text in an editor: one that is put in
+abbrev pub IsAcceptedChar : ℕ → Type 0
+IsAcceptedChar c = (is_accepted c ≡ true) × IsScalar c
+
+-- a character of a line: no newline, carriage return or backspace
+abbrev pub is_plain : ℕ → Bool
+is_plain c = not (c == 10) && is_accepted c
+
+abbrev pub IsPlainLine : List ℕ → Type 0
+IsPlainLine l = All (λ c. (is_plain c ≡ true) × IsScalar c) l
+
+abbrev pub chars_of : Line → List ℕ
+chars_of l = l.chars.items
+
+abbrev pub lines_of : List Line → List (List ℕ)
+lines_of ls = map chars_of ls
+
+-- lines, and one more after them
+abbrev pub led_lines_with : List (List ℕ) → List ℕ → List ℕ
+led_lines_with ls l = led_lines ls ++ (10 ∷ l)
+
+pub record ArePlain (ls : List (List ℕ)) (l : List ℕ) : Type 0 where
+  pub lines : All IsPlainLine ls
+  pub line : IsPlainLine l
+
+-- the end of the text
+abbrev pub end_of : List (List ℕ) → Pos
+end_of ls = record { y = length ls - 1; x = length (line_at ls (length ls - 1)) }
+
+-- the place itself, or the nearest one on its line, or the end
+abbrev pub clamp : List (List ℕ) → Pos → Pos
+clamp ls p = if nat_lt p.y (length ls) then record { y = p.y; x = min p.x (length (line_at ls p.y)) } else end_of ls

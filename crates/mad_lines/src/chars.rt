@@ -1,0 +1,57 @@
+//! The characters between two places, one after another.
+
+ghost use Rattle.std.specs.Prelude.{◌≡◌, ◌≤◌, slice_range};
+ghost use Rattle.std.specs.Iterator.{YieldsFirst, item_count};
+ghost use Rattle.mad_lines.specs.TextLines.{IsPlace, lines_of, text_of, offset_of};
+
+use crate::line::Line;
+use crate::place::Pos;
+use crate::places::{char_and_next, is_before};
+use std::marker::Model;
+
+/// The characters between two places, lines joined by newlines.
+#[derive(Drop)]
+pub struct Chars<'c> {
+    lines: &'c Vec<Line>,
+    at: Pos,
+    end: Pos,
+}
+
+impl<'c> Model for Chars<'c> {
+    ghost use Rattle.std.specs.Prelude.{ℕ, List, slice_range};
+    ghost use Rattle.mad_lines.specs.TextLines.{IsPlace, lines_of, text_of, offset_of};
+
+    ghost Value = { List ℕ };
+
+    ghost view = { λ a. let ls = lines_of a.lines.now.items in slice_range (text_of ls) (offset_of ls a.at) (offset_of ls a.end) };
+
+    ghost invariant = { λ a. IsPlace (lines_of a.lines.now.items) a.at × IsPlace (lines_of a.lines.now.items) a.end };
+}
+
+impl<'c> Chars<'c> {
+    /// The characters between two places.
+    pub fn new(lines: &'c Vec<Line>, at: Pos, end: Pos) -> Chars<'c>
+        requires at { IsPlace (lines_of lines.now.items) at }
+        requires end { IsPlace (lines_of lines.now.items) end }
+        ensures { let ls = lines_of lines.entry.now.items in result ≡ slice_range (text_of ls) (offset_of ls at) (offset_of ls end) }
+    {
+        Chars { lines, at, end }
+    }
+}
+
+impl<'c> Iterator for Chars<'c> {
+    type Item = char;
+
+    ghost next_gives = { YieldsFirst (λ rest. rest) };
+
+    ghost remaining = { item_count (λ rest. rest) };
+
+    fn next(&mut self) -> Option<char> {
+        if !is_before(self.lines, self.at, self.end) {
+            return None;
+        }
+        let (c, next) = char_and_next(self.lines, self.at)?;
+        self.at = next;
+        Some(c)
+    }
+}

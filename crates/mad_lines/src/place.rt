@@ -1,0 +1,44 @@
+//! Places in a text, and ranges of them.
+
+ghost use Rattle.std.specs.Prelude.{◌≡◌, ◌↔◌, IsTrue};
+ghost use Rattle.mad_lines.specs.PlaceOrder.{IsNotAfter};
+
+/// A place in a text: a line, and how many characters of the line are before it.
+/// Places are ordered by line, then by character.
+#[derive(Clone, Copy, Debug, PartialEq, Eq, PartialOrd, Ord, Default)]
+pub struct Pos {
+    pub y: usize,
+    pub x: usize,
+}
+
+impl Pos {
+    /// The place before character `x` of line `y`.
+    pub fn new(x: usize, y: usize) -> Pos
+        ensures { result ≡ record { y = y; x = x } }
+    {
+        Pos { y, x }
+    }
+}
+
+/// From one place to another, both in it.
+#[derive(Clone, Copy, Debug)]
+pub struct Range {
+    pub min: Pos,
+    pub max: Pos,
+}
+
+impl Range {
+    /// Whether the place before character `x` of line `y` is in the range.
+    pub fn contains(&self, x: usize, y: usize) -> bool
+        ensures { IsTrue result ↔ (IsNotAfter self.now.min (record { y = y; x = x }) × IsNotAfter (record { y = y; x = x }) self.now.max) }
+    {
+        self.contains_pos(Pos { y, x })
+    }
+
+    /// Whether a place is in the range.
+    pub fn contains_pos(&self, pos: Pos) -> bool
+        ensures { IsTrue result ↔ (IsNotAfter self.now.min pos × IsNotAfter pos self.now.max) }
+    {
+        self.min <= pos && pos <= self.max
+    }
+}

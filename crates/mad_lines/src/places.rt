@@ -1,0 +1,272 @@
+//! Places among lines, and the text between two of them.
+
+ghost use Rattle.std.specs.List.{swap};
+ghost use Rattle.std.specs.Prelude.{◌≡◌, ◌<◌, ◌≤◌, ◌+◌, ◌↔◌, [], ◌∷◌, IfSome, IsSome, IsTrue, Some, IfOk, length, take, drop, min, max, slice_get, slice_range, string_bytes, encode_utf8_all};
+ghost use Rattle.mad_lines.specs.TextLines.{IsPlace, lines_of, line_at, text_of, offset_of, end_of, clamp};
+
+use crate::line::Line;
+use crate::place::{Pos, Range};
+use std::alloc::{AllocError, Global};
+
+/// How many characters a line has.
+pub fn line_len(lines: &Vec<Line>, y: usize) -> usize
+    requires { y < length (lines_of lines.now.items) }
+    ensures { result ≡ length (line_at (lines_of lines.now.items) y) }
+{
+    lines[y].chars.len()
+}
+
+/// How many lines there are.
+pub fn line_count(lines: &Vec<Line>) -> usize
+    ensures { result ≡ length (lines_of lines.now.items) }
+{
+    lines.len()
+}
+
+/// The end of the text.
+pub fn end_place(lines: &Vec<Line>) -> Pos
+    requires { 0 < length lines.now.items }
+    ensures is { result ≡ end_of (lines_of lines.now.items) }
+    ensures place { IsPlace (lines_of lines.now.items) result }
+    ensures last { offset_of (lines_of lines.now.items) result ≡ length (text_of (lines_of lines.now.items)) }
+{
+    let y = line_count(lines) - 1;
+    Pos {
+        y,
+        x: line_len(lines, y),
+    }
+}
+
+/// The place itself, or the nearest one on its line, or the end.
+pub fn valid_pos(lines: &Vec<Line>, p: Pos) -> Pos
+    requires { 0 < length lines.now.items }
+    ensures is { result ≡ clamp (lines_of lines.now.items) p }
+    ensures place { IsPlace (lines_of lines.now.items) result }
+{
+    if p.y < lines.len() {
+        Pos {
+            y: p.y,
+            x: p.x.min(lines[p.y].chars.len()),
+        }
+    } else {
+        end_place(lines)
+    }
+}
+
+/// The next place, if this is not the end.
+pub fn place_after(lines: &Vec<Line>, p: Pos) -> Option<Pos>
+    requires { IsPlace (lines_of lines.now.items) p }
+    ensures place { IfSome result (λ q. IsPlace (lines_of lines.now.items) q) }
+    ensures next { IfSome result (λ q. offset_of (lines_of lines.now.items) q ≡ offset_of (lines_of lines.now.items) p + 1) }
+    ensures order { IfSome result (λ q. p.y ≤ q.y) }
+    ensures at_end { IsSome result ↔ (offset_of (lines_of lines.now.items) p < length (text_of (lines_of lines.now.items))) }
+{
+    if p.x < line_len(lines, p.y) {
+        Some(Pos { y: p.y, x: p.x + 1 })
+    } else if p.y < line_count(lines) - 1 {
+        Some(Pos { y: p.y + 1, x: 0 })
+    } else {
+        None
+    }
+}
+
+/// The previous place, if this is not the start.
+pub fn place_before(lines: &Vec<Line>, p: Pos) -> Option<Pos>
+    requires { IsPlace (lines_of lines.now.items) p }
+    ensures place { IfSome result (λ q. IsPlace (lines_of lines.now.items) q) }
+    ensures next { IfSome result (λ q. offset_of (lines_of lines.now.items) q + 1 ≡ offset_of (lines_of lines.now.items) p) }
+    ensures order { IfSome result (λ q. q.y ≤ p.y) }
+    ensures at_start { IsSome result ↔ (0 < offset_of (lines_of lines.now.items) p) }
+{
+    if p.x > 0 {
+        Some(Pos { y: p.y, x: p.x - 1 })
+    } else if p.y > 0 {
+        let y = p.y - 1;
+        Some(Pos {
+            y,
+            x: line_len(lines, y),
+        })
+    } else {
+        None
+    }
+}
+
+/// Two places in their order.
+pub fn in_order(lines: &Vec<Line>, a: Pos, b: Pos) -> Range
+    requires a { IsPlace (lines_of lines.now.items) a }
+    requires b { IsPlace (lines_of lines.now.items) b }
+    ensures min_place { IsPlace (lines_of lines.now.items) result.min }
+    ensures max_place { IsPlace (lines_of lines.now.items) result.max }
+    ensures min { offset_of (lines_of lines.now.items) result.min
+        ≡ min (offset_of (lines_of lines.now.items) a) (offset_of (lines_of lines.now.items) b) }
+    ensures max { offset_of (lines_of lines.now.items) result.max
+        ≡ max (offset_of (lines_of lines.now.items) a) (offset_of (lines_of lines.now.items) b) }
+    ensures order { result.min.y ≤ result.max.y }
+{
+    if b.y < a.y {
+        return Range { min: b, max: a };
+    }
+    if a.y < b.y {
+        return Range { min: a, max: b };
+    }
+    if b.x < a.x {
+        Range { min: b, max: a }
+    } else {
+        Range { min: a, max: b }
+    }
+}
+
+/// The place after a character: the next place, or the end.
+pub fn place_past(lines: &Vec<Line>, p: Pos) -> Pos
+    requires { IsPlace (lines_of lines.now.items) p }
+    ensures place { IsPlace (lines_of lines.now.items) result }
+    ensures next { offset_of (lines_of lines.now.items) result
+        ≡ min (offset_of (lines_of lines.now.items) p + 1) (length (text_of (lines_of lines.now.items))) }
+    ensures order { p.y ≤ result.y }
+{
+    if p.x < line_len(lines, p.y) {
+        Pos { y: p.y, x: p.x + 1 }
+    } else if p.y < line_count(lines) - 1 {
+        Pos { y: p.y + 1, x: 0 }
+    } else {
+        p
+    }
+}
+
+/// The character at a place.
+pub fn char_at(lines: &Vec<Line>, p: Pos) -> Option<char>
+    requires { IsPlace (lines_of lines.now.items) p }
+    ensures { result ≡ slice_get (text_of (lines_of lines.now.items)) (offset_of (lines_of lines.now.items) p) }
+{
+    if p.x < line_len(lines, p.y) {
+        Some(lines[p.y].chars[p.x])
+    } else if p.y < line_count(lines) - 1 {
+        Some('\n')
+    } else {
+        None
+    }
+}
+
+/// The character at a place, and the next place.
+pub fn char_and_next(lines: &Vec<Line>, p: Pos) -> Option<(char, Pos)>
+    requires { IsPlace (lines_of lines.now.items) p }
+    ensures char { IfSome result (λ r. slice_get (text_of (lines_of lines.now.items)) (offset_of (lines_of lines.now.items) p) ≡ Some r.0) }
+    ensures place { IfSome result (λ r. IsPlace (lines_of lines.now.items) r.1) }
+    ensures next { IfSome result (λ r. offset_of (lines_of lines.now.items) r.1 ≡ offset_of (lines_of lines.now.items) p + 1) }
+    ensures at_end { IsSome result ↔ (offset_of (lines_of lines.now.items) p < length (text_of (lines_of lines.now.items))) }
+{
+    match char_at(lines, p) {
+        None => None,
+        Some(c) => match place_after(lines, p) {
+            None => None,
+            Some(next) => Some((c, next)),
+        },
+    }
+}
+
+/// Whether a place is before another.
+pub fn is_before(lines: &Vec<Line>, p: Pos, q: Pos) -> bool
+    requires p { IsPlace (lines_of lines.now.items) p }
+    requires q { IsPlace (lines_of lines.now.items) q }
+    ensures { IsTrue result ↔ (offset_of (lines_of lines.now.items) p < offset_of (lines_of lines.now.items) q) }
+{
+    if p.y < q.y {
+        return true;
+    }
+    if q.y < p.y {
+        return false;
+    }
+    p.x < q.x
+}
+
+/// The text between two places.
+pub fn text_between(
+    alloc: Global,
+    lines: &Vec<Line>,
+    from: Pos,
+    to: Pos,
+) -> Result<String, AllocError>
+    requires from { IsPlace (lines_of lines.now.items) from }
+    requires to { IsPlace (lines_of lines.now.items) to }
+    requires order { offset_of (lines_of lines.now.items) from ≤ offset_of (lines_of lines.now.items) to }
+    ensures { IfOk result (λ s. let ls = lines_of lines.now.items in
+        string_bytes s ≡ encode_utf8_all (slice_range (text_of ls) (offset_of ls from) (offset_of ls to))) }
+{
+    let mut out = String::new(alloc);
+    let mut at = from;
+    'chars: while is_before(lines, at, to) {
+        let Some((c, next)) = char_and_next(lines, at) else {
+            break;
+        };
+        out.push(c)?;
+        at = next;
+    }
+    Ok(out)
+}
+
+fn front_of(line: &Line, x: usize) -> &[char]
+    requires { x ≤ length line.now.chars.items }
+    ensures { result.now ≡ take x line.now.chars.items }
+{
+    &line.chars.as_slice()[..x]
+}
+
+fn rest_of(line: &Line, x: usize) -> &[char]
+    requires { x ≤ length line.now.chars.items }
+    ensures { result.now ≡ drop x line.now.chars.items }
+{
+    &line.chars.as_slice()[x..]
+}
+
+/// The characters of a place's line before the place.
+pub fn front_at(lines: &Vec<Line>, p: Pos) -> &[char]
+    requires { IsPlace (lines_of lines.now.items) p }
+    ensures { result.now ≡ take p.x (line_at (lines_of lines.now.items) p.y) }
+{
+    front_of(&lines[p.y], p.x)
+}
+
+/// The characters of a place's line after the place.
+pub fn rest_at(lines: &Vec<Line>, p: Pos) -> &[char]
+    requires { IsPlace (lines_of lines.now.items) p }
+    ensures { result.now ≡ drop p.x (line_at (lines_of lines.now.items) p.y) }
+{
+    rest_of(&lines[p.y], p.x)
+}
+
+/// A copy of lines.
+pub fn clone_lines(alloc: Global, lines: &Vec<Line>) -> Result<Vec<Line>, AllocError>
+    ensures { IfOk result (λ copy. lines_of copy.items ≡ lines_of lines.now.items) }
+{
+    let mut copy = Vec::with_capacity(alloc, lines.len())?;
+    for line in lines {
+        copy.push(line.try_clone(alloc)?)?;
+    }
+    Ok(copy)
+}
+
+/// Leaves one empty line.
+pub fn clear_lines(lines: &mut Vec<Line>)
+    requires { 0 < length lines.old.items }
+    ensures { lines_of lines.new.items ≡ [] ∷ [] }
+{
+    lines.truncate(1);
+    lines[0].chars.clear();
+}
+
+/// Two lines change places.
+pub fn swap_lines(lines: &mut Vec<Line>, a: usize, b: usize)
+    requires a { a < length lines.old.items }
+    requires b { b < length lines.old.items }
+    ensures { lines_of lines.new.items ≡ swap (lines_of lines.old.items) a b }
+{
+    lines.swap(a, b);
+}
+
+/// A line.
+pub fn line_at(lines: &Vec<Line>, y: usize) -> &Line
+    requires { y < length (lines_of lines.now.items) }
+    ensures { result.now.chars.items ≡ line_at (lines_of lines.now.items) y }
+{
+    &lines[y]
+}
