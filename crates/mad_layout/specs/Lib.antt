@@ -10,8 +10,10 @@ pub mod Inlines
 pub mod Laying
 pub mod Layouts
 pub mod Lines
+pub mod MadeSkins
 pub mod Parts
 pub mod Premises
+pub mod RecoloredSkins
 pub mod Rows
 pub mod Shown
 pub mod ShownLayouts

@@ -2,7 +2,8 @@
 //!
 //! In the order of the work:
 //!
-//! 1. [`skin`]: the styles of a text's parts.
+//! 1. [`skin`]: the styles of a text's parts. `made_skins`, `skin_setters`: skins for a background, and changes of
+//!    several parts.
 //! 2. [`indents`], [`room`]: the columns that a line of a kind has for its text.
 //! 3. [`composite`], [`line`]: a line with its cached width.
 //! 4. [`wrap`]: wrapping composites and lists of lines, with the fewest lines.
@@ -25,9 +26,11 @@ pub mod indents;
 pub mod laws;
 mod laying;
 pub mod line;
+mod made_skins;
 pub mod room;
 mod rows;
 pub mod skin;
+mod skin_setters;
 pub mod table;
 #[cfg(test)]
 mod tests;

@@ -21,6 +21,7 @@ mod bounds;
 mod calls;
 mod displays;
 mod extremes;
+mod made;
 mod marks;
 mod styles;
 

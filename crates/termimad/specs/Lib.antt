@@ -72,8 +72,10 @@ pub use Rattle.mad_layout.specs.Indents
 pub use Rattle.mad_layout.specs.Inlines
 pub use Rattle.mad_layout.specs.Layouts
 pub use Rattle.mad_layout.specs.Lines as LayoutLines
+pub use Rattle.mad_layout.specs.MadeSkins
 pub use Rattle.mad_layout.specs.Parts as LayoutParts
 pub use Rattle.mad_layout.specs.Premises
+pub use Rattle.mad_layout.specs.RecoloredSkins
 pub use Rattle.mad_layout.specs.Rows
 pub use Rattle.mad_layout.specs.Shown
 pub use Rattle.mad_layout.specs.ShownLayouts
@@ -95,6 +97,15 @@ pub use Rattle.mad_wrap.specs.LineStarts
 pub use Rattle.mad_wrap.specs.Placings
 pub use Rattle.mad_wrap.specs.Rooms
 pub use Rattle.mad_wrap.specs.WrapLines
+pub use Rattle.mad_json.specs.Errors as SkinErrors
+pub use Rattle.mad_json.specs.Faults as SkinFaults
+pub use Rattle.mad_json.specs.Fields as SkinFields
+pub use Rattle.mad_json.specs.Lists as SkinLists
+pub use Rattle.mad_json.specs.Modes
+pub use Rattle.mad_json.specs.Reading as SkinReading
+pub use Rattle.mad_json.specs.ScrollBars
+pub use Rattle.mad_json.specs.Texts as SkinTexts
+pub use Rattle.mad_json.specs.Written as SkinWritten
 pub use Rattle.mad_lines.specs.TextLines
 pub use Rattle.mad_lines.specs.LineColumns
 pub use Rattle.mad_lines.specs.CharClasses

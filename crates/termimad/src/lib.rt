@@ -36,6 +36,7 @@ pub mod edit {
 
 pub use mad_edit::{Chars, InputFieldContent, Pos, Range};
 pub use mad_fit::{Area, Spacing, Token, Tokens, token_iter, tokenize};
+pub use mad_json::{ScrollBarStyleDef, SkinError, skin_from_value, skin_to_value};
 pub use mad_layout::{
     DisplayableLine, FmtComposite, FmtInline, FmtLine, FmtTableRow, FmtTableRule, FmtText, MadSkin,
     RelativePosition, composite_kind_widths, draw_text, inline, print_inline, print_text,

@@ -1,7 +1,9 @@
 -- What the words after the program's name ask for. A word is its bytes.
-use Rattle.std.specs.Prelude.{◌≡◌, ◌≢◌, ℕ, ◌≤◌, List, [], ◌∷◌, codes, Option, Some, None, ⊤}
+use Rattle.std.specs.Prelude.{◌≡◌, ℕ, ◌≤◌, List, [], ◌∷◌, codes, Option, Some, None, ⊤, if◌then◌else◌}
+use Rattle.std.specs.Str.{bytes_eq}
 use Rattle.termimad.specs.Areas.{IsWithinLimits}
 use Rattle.termimad.specs.declared.Area.{Area}
+use Rattle.termimad.specs.MadeSkins.{dark_skin, light_skin}
 use Rattle.termimad.specs.Skins.{no_style_skin, default_skin}
 use Rattle.termimad.specs.declared.MadSkin.{MadSkin}
 use Rattle.termimad_view.specs.declared.call.Command.{Command}
@@ -45,15 +47,23 @@ IsAllowed Inline = ⊤
 abbrev pub IsNoCall : List (List ℕ) → Type 0
 IsNoCall words = (command : Command) (word : Option (List ℕ)) → ¬ (Asks words command word)
 
--- the skin of that word: no style without a word, and `default`
+-- the skins that have a name
+abbrev pub skin_named : List ℕ → Option MadSkin
+skin_named word =
+    if bytes_eq word (codes "default") then Some default_skin
+    else if bytes_eq word (codes "dark") then Some dark_skin
+    else if bytes_eq word (codes "light") then Some light_skin
+    else None
+
+-- the skin of that word: no style without a word, else the skin of that name
 abbrev pub IsSkinOf : Option (List ℕ) → MadSkin → Type 0
 IsSkinOf None skin = skin ≡ no_style_skin
-IsSkinOf (Some word) skin = (word ≡ codes "default") × (skin ≡ default_skin)
+IsSkinOf (Some word) skin = skin_named word ≡ Some skin
 
 -- the program knows no skin of that name
 abbrev pub IsUnknown : Option (List ℕ) → Type 0
 IsUnknown None = ⊥
-IsUnknown (Some word) = word ≢ codes "default"
+IsUnknown (Some word) = skin_named word ≡ None
 
 -- the words ask for something that the program does, in a skin that it doesn't know
 abbrev pub AsksUnknownSkin : List (List ℕ) → Type 0

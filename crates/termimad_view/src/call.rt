@@ -107,6 +107,8 @@ fn skin_of(word: Option<&str>) -> Option<MadSkin>
     match word {
         None => Some(MadSkin::no_style()),
         Some("default") => Some(MadSkin::default()),
+        Some("dark") => Some(MadSkin::default_dark()),
+        Some("light") => Some(MadSkin::default_light()),
         Some(_) => None,
     }
 }

@@ -171,6 +171,13 @@ fn a_line_loses_one_end_and_gets_a_newline(rt: HostRuntime) -> Result<(), Fail> 
         expect(&rt, "inline", input, 0, written, b"")?;
     }
     expect(&rt, "inline|default", b"**some** x", 0, SOME, b"")?;
+    for (call, code) in [
+        ("inline|default", b"\x1b[48;5;235m\x1b[38;5;249mc\x1b[49m\x1b[39m\n"),
+        ("inline|dark", b"\x1b[48;5;237m\x1b[38;5;252mc\x1b[49m\x1b[39m\n"),
+        ("inline|light", b"\x1b[48;5;252m\x1b[38;5;236mc\x1b[49m\x1b[39m\n"),
+    ] {
+        expect(&rt, call, b"`c`", 0, code, b"")?;
+    }
     expect(
         &rt,
         "inline|default",
@@ -188,13 +195,13 @@ fn other_skins_and_inputs_that_are_no_text_are_refused(rt: HostRuntime) -> Resul
         "inline|no_style",
         "inline|",
         "inline|Default",
-        "area|0|0|12|3|dark",
+        "area|0|0|12|3|dark ",
         "area|0|0|4|0|",
     ] {
         expect(&rt, call, b"\xff", 4, b"", SKIN)?;
     }
     // The arguments come before the skin.
-    expect(&rt, "area|0|0|3|3|dark", b"hello", 2, b"", USAGE)?;
+    expect(&rt, "area|0|0|3|3|other", b"hello", 2, b"", USAGE)?;
     for input in [
         b"\xff".as_slice(),
         b"hello \xe2\x82",

@@ -1,0 +1,14 @@
+use Rattle.std.proofs.Common.{ap, codes, ◌∙◌}
+use Rattle.serde_json.specs.Data.{put}
+use Rattle.serde_json.specs.View.{members_view}
+use Rattle.mad_json.specs.Written.{mark_data}
+use Rattle.mad_json.proofs.writing.put_marks.Goals as goal
+
+pub returns : goal.returns
+returns c =
+    let skin = c.args.skin.now in
+    c.in_ok-put.ensures.ok
+    ∙ ap (λ bar. put (codes "scrollbar") bar (members_view c.put_mark-3.new.members.entries)) c.in_ok-bar_value.ensures
+    ∙ ap (put (codes "scrollbar") _) (c.in_ok-put_mark-3.ensures
+    ∙ ap (put (codes "horizontal_rule") (mark_data skin.horizontal_rule)) (c.in_ok-put_mark-2.ensures
+    ∙ ap (put (codes "quote") (mark_data skin.quote_mark)) c.in_ok-put_mark.ensures))

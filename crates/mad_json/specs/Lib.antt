@@ -1,0 +1,10 @@
+pub mod Errors
+pub mod Faults
+pub mod Fields
+pub mod Lists
+pub mod Modes
+pub mod Readers
+pub mod Reading
+pub mod ScrollBars
+pub mod Texts
+pub mod Written

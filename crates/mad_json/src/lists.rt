@@ -1,0 +1,128 @@
+//! Headers and the items of lists, which have a style for each level.
+
+ghost use Rattle.std.specs.Prelude.{◌≡◌, Ok, IfOk, IfErr, OnOk, [], map};
+ghost use Rattle.serde_json.specs.View.{view, items_view};
+ghost use Rattle.mad_parse.specs.Styles.{line_style_of, item_style_of};
+ghost use Rattle.mad_json.specs.Faults.{TellsValue};
+ghost use Rattle.mad_json.specs.Lists.{items_said, replaced, compound_with, header_with, headers_said, ordered_items_said};
+
+use crate::errors::ValueError;
+use crate::texts;
+use mad_md::Alignment;
+use mad_parse::parse_line_style;
+use mad_style::{ATTRIBUTES, CompoundStyle, LineStyle, OrderedItemStyle};
+use serde_json::Value;
+use std::alloc::{AllocError, Global};
+
+/// Sets the headers as a value says: a text sets in each the colors, the attributes and the align that it has, a list
+/// replaces them by level. After a refusal they are as they were.
+pub fn set_headers(
+    alloc: Global,
+    headers: &mut [LineStyle],
+    value: &Value,
+) -> Result<(), ValueError>
+    ensures ok { OnOk result (headers_said (view value.now) headers.old ≡ Ok headers.new) }
+    ensures err { IfErr result (λ e. TellsValue e (headers_said (view value.now) headers.old)) }
+{
+    if let Some(text) = value.as_str() {
+        let line = parse_line_style(alloc, text)?;
+        set_each(headers, &line);
+        return Ok(());
+    }
+    let Some(items) = value.as_array() else {
+        return Err(ValueError::WrongType);
+    };
+    let styles = line_styles(alloc, items)?;
+    replace_front(headers, styles.as_slice());
+    Ok(())
+}
+
+/// Replaces the styles of the items of lists, by level. After a refusal they are as they were.
+pub fn set_ordered_items(
+    alloc: Global,
+    item_styles: &mut [OrderedItemStyle],
+    value: &Value,
+) -> Result<(), ValueError>
+    ensures ok { OnOk result (ordered_items_said (view value.now) item_styles.old ≡ Ok item_styles.new) }
+    ensures err { IfErr result (λ e. TellsValue e (ordered_items_said (view value.now) item_styles.old)) }
+{
+    let Some(items) = value.as_array() else {
+        return Err(ValueError::WrongType);
+    };
+    let styles = item_styles_of(alloc, items)?;
+    replace_front(item_styles, styles.as_slice());
+    Ok(())
+}
+
+fn line_styles(alloc: Global, items: &Vec<Value>) -> Result<Vec<LineStyle>, ValueError>
+    ensures ok { IfOk result (λ styles. items_said line_style_of (items_view items.now.items) [] ≡ Ok styles.items) }
+    ensures err { IfErr result (λ e. TellsValue e (items_said line_style_of (items_view items.now.items) [])) }
+{
+    let mut styles = Vec::new(alloc);
+    for item in items {
+        let style = texts::line_style_of(alloc, item)?;
+        styles.push(style).map_err(AllocError::from)?;
+    }
+    Ok(styles)
+}
+
+fn item_styles_of(alloc: Global, items: &Vec<Value>) -> Result<Vec<OrderedItemStyle>, ValueError>
+    ensures ok { IfOk result (λ styles. items_said (item_style_of 46) (items_view items.now.items) [] ≡ Ok styles.items) }
+    ensures err { IfErr result (λ e. TellsValue e (items_said (item_style_of 46) (items_view items.now.items) [])) }
+{
+    let mut styles = Vec::new(alloc);
+    for item in items {
+        let style = texts::item_style_of(alloc, item)?;
+        styles.push(style).map_err(AllocError::from)?;
+    }
+    Ok(styles)
+}
+
+// Replaces the front of a list; what doesn't fit is left out.
+fn replace_front<T: Copy>(old: &mut [T], new: &[T])
+    ensures { old.new ≡ replaced old.old new.now }
+{
+    let count = old.len().min(new.len());
+    old[..count].copy_from_slice(&new[..count]);
+}
+
+fn set_each(headers: &mut [LineStyle], line: &LineStyle)
+    ensures { headers.new ≡ map (header_with line.now) headers.old }
+{
+    for header in headers.iter_mut() {
+        *header = header_with(line, *header);
+    }
+}
+
+// A header with the colors, the attributes and the align that a line has; its margins stay.
+fn header_with(line: &LineStyle, header: LineStyle) -> LineStyle
+    ensures { result ≡ header_with line.now header }
+{
+    let align = match line.align {
+        Alignment::Unspecified => header.align,
+        align => align,
+    };
+    LineStyle {
+        compound_style: compound_with(&line.compound_style, header.compound_style),
+        align,
+        ..header
+    }
+}
+
+fn compound_with(line: &CompoundStyle, style: CompoundStyle) -> CompoundStyle
+    ensures { result ≡ compound_with line.now style }
+{
+    let mut style = style;
+    if let Some(color) = line.get_fg() {
+        style.set_fg(color);
+    }
+    if let Some(color) = line.get_bg() {
+        style.set_bg(color);
+    }
+    for attribute in &ATTRIBUTES {
+        if line.has_attr(*attribute) {
+            style.add_attr(*attribute);
+        }
+    }
+    style
+}

@@ -1,0 +1,76 @@
+//! How far the lines of an item are pushed in, as a text.
+
+ghost use Rattle.std.specs.Prelude.{◌≡◌, Ok, IfOk, IfErr};
+ghost use Rattle.serde_json.specs.View.{view};
+ghost use Rattle.mad_json.specs.Faults.{TellsValue};
+ghost use Rattle.mad_json.specs.Modes.{mode_said, mode_named, hanging_front, called_mode};
+ghost use Rattle.mad_parse.specs.Colors.{without_last};
+ghost use Rattle.mad_parse.specs.Numbers.{number_below};
+
+use crate::errors::ValueError;
+use mad_parse::ParseStyleTokenError;
+use mad_style::ListItemsIndentationMode;
+use serde_json::Value;
+use std::alloc::Global;
+
+/// The mode that a value says: `first_line_only`, `block`, or `hanging` with a number of up to three digits in
+/// brackets, at most 255.
+pub fn mode_of(alloc: Global, value: &Value) -> Result<ListItemsIndentationMode, ValueError>
+    ensures ok { IfOk result (λ mode. mode_said (view value.now) ≡ Ok mode) }
+    ensures err { IfErr result (λ e. TellsValue e (mode_said (view value.now))) }
+{
+    let Some(text) = value.as_str() else {
+        return Err(ValueError::WrongType);
+    };
+    match mode_named(text) {
+        Some(mode) => Ok(mode),
+        None => {
+            let text = String::from_str(alloc, text)?;
+            Err(ValueError::Style(ParseStyleTokenError::Unrecognized(text)))
+        }
+    }
+}
+
+fn mode_named(text: &str) -> Option<ListItemsIndentationMode>
+    ensures { result ≡ mode_named text.now }
+{
+    if text.eq_ignore_ascii_case("first_line_only") {
+        return Some(ListItemsIndentationMode::FirstLineOnly);
+    }
+    if text.eq_ignore_ascii_case("block") {
+        return Some(ListItemsIndentationMode::Block);
+    }
+    hanging_of(text)
+}
+
+fn hanging_of(text: &str) -> Option<ListItemsIndentationMode>
+    ensures { result ≡ hanging_front (without_last 41 text.now) }
+{
+    let Some(front) = text.strip_suffix(')') else {
+        return None;
+    };
+    let Some((name, digits)) = front.split_once('(') else {
+        return None;
+    };
+    called_mode(name, digits)
+}
+
+// The mode of a word and of what it has in brackets.
+fn called_mode(name: &str, digits: &str) -> Option<ListItemsIndentationMode>
+    ensures { result ≡ called_mode name.now digits.now }
+{
+    if name.eq_ignore_ascii_case("hanging") && digits.len() < 4 {
+        return byte_of(digits).map(ListItemsIndentationMode::Hanging);
+    }
+    None
+}
+
+// The number that a text of digits alone says, if it is a byte.
+fn byte_of(text: &str) -> Option<u8>
+    ensures { result ≡ number_below 256 text.now }
+{
+    if text.starts_with('+') {
+        return None;
+    }
+    text.parse::<u8>().ok()
+}

@@ -1,0 +1,66 @@
+//! What a text among the values says.
+
+ghost use Rattle.std.specs.Prelude.{◌≡◌, Ok, IfOk, IfErr};
+ghost use Rattle.mad_parse.specs.Styles.{style_of, line_style_of, styled_char_of, item_style_of};
+ghost use Rattle.serde_json.specs.View.{view};
+ghost use Rattle.mad_json.specs.Faults.{TellsValue};
+ghost use Rattle.mad_json.specs.Texts.{value_said, text_said};
+
+use crate::errors::ValueError;
+use mad_parse::{
+    parse_compound_style, parse_line_style, parse_ordered_item_style, parse_styled_char,
+};
+use mad_style::{CompoundStyle, LineStyle, OrderedItemStyle, StyledChar};
+use serde_json::Value;
+use std::alloc::Global;
+
+// A mark that isn't told.
+const MARK: char = '*';
+
+// The character after an item's number that isn't told.
+const SUFFIX: char = '.';
+
+
+/// The style of text that a value says.
+pub(crate) fn compound_style_of(alloc: Global, value: &Value) -> Result<CompoundStyle, ValueError>
+    ensures ok { IfOk result (λ style. value_said style_of (view value.now) ≡ Ok style) }
+    ensures err { IfErr result (λ e. TellsValue e (value_said style_of (view value.now))) }
+{
+    let Some(text) = value.as_str() else {
+        return Err(ValueError::WrongType);
+    };
+    Ok(parse_compound_style(alloc, text)?)
+}
+
+/// The style of a line that a value says.
+pub(crate) fn line_style_of(alloc: Global, value: &Value) -> Result<LineStyle, ValueError>
+    ensures ok { IfOk result (λ style. value_said line_style_of (view value.now) ≡ Ok style) }
+    ensures err { IfErr result (λ e. TellsValue e (value_said line_style_of (view value.now))) }
+{
+    let Some(text) = value.as_str() else {
+        return Err(ValueError::WrongType);
+    };
+    Ok(parse_line_style(alloc, text)?)
+}
+
+/// The mark that a value says, `*` where it tells none.
+pub(crate) fn mark_of(alloc: Global, value: &Value) -> Result<StyledChar, ValueError>
+    ensures ok { IfOk result (λ mark. value_said (styled_char_of 42) (view value.now) ≡ Ok mark) }
+    ensures err { IfErr result (λ e. TellsValue e (value_said (styled_char_of 42) (view value.now))) }
+{
+    let Some(text) = value.as_str() else {
+        return Err(ValueError::WrongType);
+    };
+    Ok(parse_styled_char(alloc, text, MARK)?)
+}
+
+/// The style of an ordered item that a value says, with a dot where it tells no other character.
+pub(crate) fn item_style_of(alloc: Global, value: &Value) -> Result<OrderedItemStyle, ValueError>
+    ensures ok { IfOk result (λ style. value_said (item_style_of 46) (view value.now) ≡ Ok style) }
+    ensures err { IfErr result (λ e. TellsValue e (value_said (item_style_of 46) (view value.now))) }
+{
+    let Some(text) = value.as_str() else {
+        return Err(ValueError::WrongType);
+    };
+    Ok(parse_ordered_item_style(alloc, text, SUFFIX)?)
+}

@@ -1,0 +1,209 @@
+//! The value that a skin is written as.
+
+ghost use Rattle.std.specs.Prelude.{◌≡◌, ◌++◌, ℕ, List, Option, IfOk, OnOk, MatchOption, map, codes, decimal, string_bytes};
+ghost use Rattle.serde_json.specs.Data.{put, string, array, object};
+ghost use Rattle.serde_json.specs.View.{view, items_of, members_view};
+ghost use Rattle.mad_json.specs.ScrollBars.{def_of};
+ghost use Rattle.mad_json.specs.Written.{style_data, line_data, mark_data, item_data, bar_data, mode_text, IsNameOf, with_additions, with_marks, with_lines, with_items, with_borders, IsDataOf};
+
+use crate::scroll_bars::ScrollBarStyleDef;
+use mad_layout::MadSkin;
+use mad_parse::PushStyleTokens;
+use mad_style::{
+    CompoundStyle, LineStyle, ListItemsIndentationMode, OrderedItemStyle, ScrollBarStyle,
+    StyledChar, TableBorderChars,
+};
+use serde_json::{Map, Value, put};
+use std::alloc::{AllocError, Global};
+
+/// The object that says a skin, each part under its first name. Borders that have no name are left out.
+///
+/// # Errors
+///
+/// Out of memory.
+pub fn skin_to_value(alloc: Global, skin: &MadSkin) -> Result<Value, AllocError>
+    ensures { IfOk result (λ value. IsDataOf skin.now (view value)) }
+{
+    let mut members = Map::new(alloc);
+    put_additions(alloc, &mut members, skin)?;
+    put_marks(alloc, &mut members, skin)?;
+    put_lines(alloc, &mut members, skin)?;
+    put_items(alloc, &mut members, skin)?;
+    put_borders(alloc, &mut members, &skin.table_border_chars)?;
+    Ok(object_of(members))
+}
+
+// What text adds to its line.
+fn put_additions(
+    alloc: Global,
+    members: &mut Map<String, Value>,
+    skin: &MadSkin,
+) -> Result<(), AllocError>
+    ensures { OnOk result (members_view members.new.entries ≡ with_additions skin.now (members_view members.old.entries)) }
+{
+    put_style(alloc, members, "bold", &skin.bold)?;
+    put_style(alloc, members, "italic", &skin.italic)?;
+    put_style(alloc, members, "strikeout", &skin.strikeout)?;
+    put_style(alloc, members, "inline_code", &skin.inline_code)?;
+    put_style(alloc, members, "ellipsis", &skin.ellipsis)?;
+    Ok(())
+}
+
+fn put_marks(
+    alloc: Global,
+    members: &mut Map<String, Value>,
+    skin: &MadSkin,
+) -> Result<(), AllocError>
+    ensures { OnOk result (members_view members.new.entries ≡ with_marks skin.now (members_view members.old.entries)) }
+{
+    put_mark(alloc, members, "bullet", &skin.bullet)?;
+    put_mark(alloc, members, "quote", &skin.quote_mark)?;
+    put_mark(alloc, members, "horizontal_rule", &skin.horizontal_rule)?;
+    put(members, alloc, "scrollbar", bar_value(alloc, &skin.scrollbar)?)?;
+    Ok(())
+}
+
+fn put_lines(
+    alloc: Global,
+    members: &mut Map<String, Value>,
+    skin: &MadSkin,
+) -> Result<(), AllocError>
+    ensures { OnOk result (members_view members.new.entries ≡ with_lines skin.now (members_view members.old.entries)) }
+{
+    put(members, alloc, "paragraph", line_value(alloc, &skin.paragraph)?)?;
+    put(members, alloc, "code_block", line_value(alloc, &skin.code_block)?)?;
+    put(members, alloc, "table", line_value(alloc, &skin.table)?)?;
+    put(members, alloc, "headers", line_values(alloc, &skin.headers)?)?;
+    Ok(())
+}
+
+fn put_items(
+    alloc: Global,
+    members: &mut Map<String, Value>,
+    skin: &MadSkin,
+) -> Result<(), AllocError>
+    ensures { OnOk result (members_view members.new.entries ≡ with_items skin.now (members_view members.old.entries)) }
+{
+    put(members, alloc, "ordered_items", item_values(alloc, &skin.ordered_item_styles)?)?;
+    let mode = mode_to_string(alloc, skin.list_items_indentation_mode)?;
+    put(members, alloc, "list_items_indentation_mode", Value::String(mode))?;
+    Ok(())
+}
+
+fn put_borders(
+    alloc: Global,
+    members: &mut Map<String, Value>,
+    borders: &TableBorderChars,
+) -> Result<(), AllocError>
+    ensures { OnOk result ((name : Option (List ℕ)) × IsNameOf borders.now name × (members_view members.new.entries ≡ with_borders name (members_view members.old.entries))) }
+{
+    if let Some(name) = borders.key() {
+        let name = String::from_str(alloc, name)?;
+        put_text(alloc, members, "table_border_chars", name)?;
+    }
+    Ok(())
+}
+
+fn put_style(
+    alloc: Global,
+    members: &mut Map<String, Value>,
+    key: &str,
+    style: &CompoundStyle,
+) -> Result<(), AllocError>
+    ensures { OnOk result (members_view members.new.entries ≡ put key.now (style_data style.now) (members_view members.old.entries)) }
+{
+    let text = style.to_style_tokens_string(alloc)?;
+    put_text(alloc, members, key, text)
+}
+
+fn put_text(
+    alloc: Global,
+    members: &mut Map<String, Value>,
+    key: &str,
+    text: String,
+) -> Result<(), AllocError>
+    ensures { OnOk result (members_view members.new.entries ≡ put key.now (string (string_bytes text)) (members_view members.old.entries)) }
+{
+    put(members, alloc, key, Value::String(text))
+}
+
+fn object_of(members: Map<String, Value>) -> Value
+    ensures { view result ≡ object (members_view members.entries) }
+{
+    Value::Object(members)
+}
+
+fn put_mark(
+    alloc: Global,
+    members: &mut Map<String, Value>,
+    key: &str,
+    mark: &StyledChar,
+) -> Result<(), AllocError>
+    ensures { OnOk result (members_view members.new.entries ≡ put key.now (mark_data mark.now) (members_view members.old.entries)) }
+{
+    put(members, alloc, key, mark_value(alloc, mark)?)
+}
+
+fn line_value(alloc: Global, line: &LineStyle) -> Result<Value, AllocError>
+    ensures { IfOk result (λ value. view value ≡ line_data line.now) }
+{
+    Ok(Value::String(line.to_style_tokens_string(alloc)?))
+}
+
+fn mark_value(alloc: Global, mark: &StyledChar) -> Result<Value, AllocError>
+    ensures { IfOk result (λ value. view value ≡ mark_data mark.now) }
+{
+    Ok(Value::String(mark.to_style_tokens_string(alloc)?))
+}
+
+fn item_value(alloc: Global, style: &OrderedItemStyle) -> Result<Value, AllocError>
+    ensures { IfOk result (λ value. view value ≡ item_data style.now) }
+{
+    Ok(Value::String(style.to_style_tokens_string(alloc)?))
+}
+
+fn line_values(alloc: Global, lines: &[LineStyle]) -> Result<Value, AllocError>
+    ensures { IfOk result (λ value. view value ≡ array (items_of (map line_data lines.now))) }
+{
+    let mut values = Vec::new(alloc);
+    for line in lines {
+        let value = line_value(alloc, line)?;
+        values.push(value).map_err(AllocError::from)?;
+    }
+    Ok(Value::Array(values))
+}
+
+fn item_values(alloc: Global, styles: &[OrderedItemStyle]) -> Result<Value, AllocError>
+    ensures { IfOk result (λ value. view value ≡ array (items_of (map item_data styles.now))) }
+{
+    let mut values = Vec::new(alloc);
+    for style in styles {
+        let value = item_value(alloc, style)?;
+        values.push(value).map_err(AllocError::from)?;
+    }
+    Ok(Value::Array(values))
+}
+
+fn bar_value(alloc: Global, bar: &ScrollBarStyle) -> Result<Value, AllocError>
+    ensures { IfOk result (λ value. view value ≡ bar_data (def_of bar.now)) }
+{
+    match ScrollBarStyleDef::from(bar) {
+        ScrollBarStyleDef::Simple(mark) => mark_value(alloc, &mark),
+        ScrollBarStyleDef::Rich { track, thumb } => {
+            let mut members = Map::new(alloc);
+            put_mark(alloc, &mut members, "thumb", &thumb)?;
+            put_mark(alloc, &mut members, "track", &track)?;
+            Ok(object_of(members))
+        }
+    }
+}
+
+fn mode_to_string(alloc: Global, mode: ListItemsIndentationMode) -> Result<String, AllocError>
+    ensures { IfOk result (λ text. string_bytes text ≡ mode_text mode) }
+{
+    match mode {
+        ListItemsIndentationMode::FirstLineOnly => String::from_str(alloc, "first_line_only"),
+        ListItemsIndentationMode::Block => String::from_str(alloc, "block"),
+        ListItemsIndentationMode::Hanging(extra) => format!(in alloc; "hanging({extra})"),
+    }
+}
