@@ -40,13 +40,13 @@ align_or Right other = Right
 abbrev pub compound_with : CompoundStyle → CompoundStyle → CompoundStyle
 compound_with line style =
     all_added
-        (record style {
-          object_style = record style.object_style {
-            foreground_color = option_or line.object_style.foreground_color style.object_style.foreground_color;
-            background_color = option_or line.object_style.background_color style.object_style.background_color;
-          };
-        })
-        (filter (has_attribute line.object_style.attributes) written_attributes)
+    (record style {
+      object_style = record style.object_style {
+        foreground_color = option_or line.object_style.foreground_color style.object_style.foreground_color;
+        background_color = option_or line.object_style.background_color style.object_style.background_color;
+      };
+    })
+    (filter (has_attribute line.object_style.attributes) written_attributes)
 
 abbrev pub header_with : LineStyle → LineStyle → LineStyle
 header_with line header =

@@ -48,7 +48,7 @@ both_said None track = Err wrong_kind
 both_said (Some thumb) None = Err wrong_kind
 both_said (Some thumb) (Some track) =
     and_next (text_said (styled_char_of 42) (Some thumb))
-        (λ thumb. made (λ track. record { track = track; thumb = thumb }) (text_said (styled_char_of 42) (Some track)))
+    (λ thumb. made (λ track. record { track = track; thumb = thumb }) (text_said (styled_char_of 42) (Some track)))
 
 -- the member of an object that is a text
 abbrev pub text_member : List ℕ → Data → Option (List ℕ)

@@ -48,23 +48,23 @@ IsNameOf borders None = (name : List ℕ) → borders_named name ≢ Some border
 abbrev pub with_additions : MadSkin → Members → Members
 with_additions skin members =
     put (codes "ellipsis") (style_data skin.ellipsis)
-        (put (codes "inline_code") (style_data skin.inline_code)
-            (put (codes "strikeout") (style_data skin.strikeout) (put (codes "italic") (style_data skin.italic) (put (codes "bold") (style_data skin.bold) members))))
+    (put (codes "inline_code") (style_data skin.inline_code)
+    (put (codes "strikeout") (style_data skin.strikeout) (put (codes "italic") (style_data skin.italic) (put (codes "bold") (style_data skin.bold) members))))
 
 abbrev pub with_marks : MadSkin → Members → Members
 with_marks skin members =
     put (codes "scrollbar") (bar_data (def_of skin.scrollbar))
-        (put (codes "horizontal_rule") (mark_data skin.horizontal_rule) (put (codes "quote") (mark_data skin.quote_mark) (put (codes "bullet") (mark_data skin.bullet) members)))
+    (put (codes "horizontal_rule") (mark_data skin.horizontal_rule) (put (codes "quote") (mark_data skin.quote_mark) (put (codes "bullet") (mark_data skin.bullet) members)))
 
 abbrev pub with_lines : MadSkin → Members → Members
 with_lines skin members =
     put (codes "headers") (array (items_of (map line_data skin.headers)))
-        (put (codes "table") (line_data skin.table) (put (codes "code_block") (line_data skin.code_block) (put (codes "paragraph") (line_data skin.paragraph) members)))
+    (put (codes "table") (line_data skin.table) (put (codes "code_block") (line_data skin.code_block) (put (codes "paragraph") (line_data skin.paragraph) members)))
 
 abbrev pub with_items : MadSkin → Members → Members
 with_items skin members =
     put (codes "list_items_indentation_mode") (string (mode_text skin.list_items_indentation_mode))
-        (put (codes "ordered_items") (array (items_of (map item_data skin.ordered_item_styles))) members)
+    (put (codes "ordered_items") (array (items_of (map item_data skin.ordered_item_styles))) members)
 
 -- borders are written only where they have a name
 abbrev pub with_borders : Option (List ℕ) → Members → Members

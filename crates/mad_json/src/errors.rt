@@ -17,14 +17,18 @@ pub enum SkinError {
     /// The value is no object.
     NotObject,
     /// The value of this key is of another kind than its part of a skin, or it holds a float.
-    WrongType { key: String },
+    WrongType {
+        key: String,
+    },
     /// A text in the value of this key has a word that is no style token, or says no indentation mode.
     Style {
         key: String,
         error: ParseStyleTokenError,
     },
     /// This key names a part that another key before it named.
-    TwoNames { key: String },
+    TwoNames {
+        key: String,
+    },
     /// A growth of a list or a text was refused.
     Memory,
 }

@@ -36,10 +36,7 @@ struct Reader {
 /// The first fault: no object; a second name of one part, before its value is read; a value that holds a float at
 /// any depth or is of another kind than its part; a text that has a word which is no style token. Or out of memory,
 /// which may come before any of these.
-pub fn skin_from_value(
-    alloc: Global,
-    value: &Value,
-) -> Result<(MadSkin, Vec<String>), SkinError>
+pub fn skin_from_value(alloc: Global, value: &Value) -> Result<(MadSkin, Vec<String>), SkinError>
     ensures ok { IfOk result (λ read. skin_read (view value.now) ≡ Ok (read.0, map string_bytes read.1.items)) }
     ensures err { IfErr result (λ e. TellsSkin e (skin_read (view value.now))) }
 {
@@ -124,7 +121,10 @@ fn set_part(
         Field::Table => skin.table = line_style_of(alloc, value)?,
         Field::Headers => set_headers(alloc, &mut skin.headers, value)?,
         Field::OrderedItems => set_ordered_items(alloc, &mut skin.ordered_item_styles, value)?,
-        Field::TableBorders => skin.table_border_chars = borders_of(skin.table_border_chars, value)?,
+        Field::TableBorders => skin.table_border_chars = borders_of(
+            skin.table_border_chars,
+            value,
+        )?,
         Field::IndentationMode => skin.list_items_indentation_mode = mode_of(alloc, value)?,
     }
     Ok(())

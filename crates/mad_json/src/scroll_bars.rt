@@ -3,16 +3,15 @@
 ghost use Rattle.std.specs.Prelude.{◌≡◌, Ok, IfOk, IfErr, option_map};
 ghost use Rattle.serde_json.specs.View.{view};
 ghost use Rattle.mad_json.specs.Faults.{TellsValue};
+ghost use Rattle.mad_json.specs.ScrollBars.{scrollbar_said, text_member};
 
 use crate::errors::ValueError;
+use crate::texts::MARK;
 use mad_parse::parse_styled_char;
 use mad_style::{CompoundStyle, ScrollBarStyle, StyledChar};
 use mad_term::Attributes;
 use serde_json::Value;
 use std::alloc::Global;
-
-// A mark that isn't told.
-const MARK: char = '*';
 
 /// A scroll bar as it is written: as one character, where that says all, or as its two.
 #[derive(Clone, Copy, Debug)]
@@ -61,8 +60,6 @@ impl From<&ScrollBarStyle> for ScrollBarStyleDef {
         }
     }
 }
-
-ghost use Rattle.mad_json.specs.ScrollBars.{scrollbar_said, text_member};
 
 /// The scroll bar that a value says: a text as one character, an object by its `thumb` and its `track`.
 pub fn scrollbar_of(alloc: Global, value: &Value) -> Result<ScrollBarStyle, ValueError>

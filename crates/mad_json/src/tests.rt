@@ -4,8 +4,8 @@ use crate::{ScrollBarStyleDef, SkinError, skin_from_value, skin_to_value};
 use mad_layout::MadSkin;
 use mad_md::Alignment;
 use mad_style::{
-    CompoundStyle, LineStyle, ListItemsIndentationMode, OrderedItemStyle, ROUNDED_TABLE_BORDER_CHARS,
-    ScrollBarStyle, StyledChar, rgb,
+    CompoundStyle, LineStyle, ListItemsIndentationMode, OrderedItemStyle,
+    ROUNDED_TABLE_BORDER_CHARS, ScrollBarStyle, StyledChar, rgb,
 };
 use mad_term::{Attribute, Color};
 use serde_json::Value;
@@ -36,25 +36,64 @@ fn faults(rt: HostRuntime) -> Result<(), Fail> {
         ("null", "not an object"),
         (r#"{"bold":1}"#, "wrong type: bold"),
         (r#"{"bold":"red","bold":1}"#, "wrong type: bold"),
-        (r#"{"quote":"> red","quote_mark":"* blue"}"#, "two names: quote_mark"),
-        (r#"{"quote":"> red","quote_mark":1.5}"#, "two names: quote_mark"),
+        (
+            r#"{"quote":"> red","quote_mark":"* blue"}"#,
+            "two names: quote_mark",
+        ),
+        (
+            r#"{"quote":"> red","quote_mark":1.5}"#,
+            "two names: quote_mark",
+        ),
         (r#"{"rule":"-","horizontal-rule":"-"}"#, "two names: rule"),
         (r#"{"colour":1.5}"#, "wrong type: colour"),
         (r#"{"colour":[{"x":[1,1e3]}]}"#, "wrong type: colour"),
         (r#"{"x":18446744073709551616}"#, "wrong type: x"),
-        (r#"{"table":1,"bold":"pissenlit"}"#, "bold: pissenlit not recognized as a style token"),
-        (r#"{"table":"gray(40)"}"#, "table: Invalid color: grey level must be between 0 and 23 (got 40)"),
-        (r#"{"headers":["red",1,"pissenlit"]}"#, "wrong type: headers"),
-        (r#"{"headers":["red","pissenlit",1]}"#, "headers: pissenlit not recognized as a style token"),
+        (
+            r#"{"table":1,"bold":"pissenlit"}"#,
+            "bold: pissenlit not recognized as a style token",
+        ),
+        (
+            r#"{"table":"gray(40)"}"#,
+            "table: Invalid color: grey level must be between 0 and 23 (got 40)",
+        ),
+        (
+            r#"{"headers":["red",1,"pissenlit"]}"#,
+            "wrong type: headers",
+        ),
+        (
+            r#"{"headers":["red","pissenlit",1]}"#,
+            "headers: pissenlit not recognized as a style token",
+        ),
         (r#"{"ordered_items":"red"}"#, "wrong type: ordered_items"),
         (r#"{"scrollbar":{"thumb":"x"}}"#, "wrong type: scrollbar"),
-        (r#"{"scrollbar":{"track":"pissenlit","thumb":1}}"#, "wrong type: scrollbar"),
-        (r#"{"scrollbar":{"track":"two","thumb":"one"}}"#, "scrollbar: one not recognized as a style token"),
-        (r#"{"scrollbar":{"track":"x","thumb":"y","x":1.5}}"#, "wrong type: scrollbar"),
-        (r#"{"list_items_indentation_mode":"hanging(256)"}"#, "list_items_indentation_mode: hanging(256) not recognized as a style token"),
-        (r#"{"list_items_indentation_mode":" block"}"#, "list_items_indentation_mode:  block not recognized as a style token"),
-        (r#"{"list-items-indentation-mode":"hanging(0001)"}"#, "list-items-indentation-mode: hanging(0001) not recognized as a style token"),
-        (r#"{"list-items-indentation-mode":"block","list_items_indentation_mode":"block"}"#, "two names: list_items_indentation_mode"),
+        (
+            r#"{"scrollbar":{"track":"pissenlit","thumb":1}}"#,
+            "wrong type: scrollbar",
+        ),
+        (
+            r#"{"scrollbar":{"track":"two","thumb":"one"}}"#,
+            "scrollbar: one not recognized as a style token",
+        ),
+        (
+            r#"{"scrollbar":{"track":"x","thumb":"y","x":1.5}}"#,
+            "wrong type: scrollbar",
+        ),
+        (
+            r#"{"list_items_indentation_mode":"hanging(256)"}"#,
+            "list_items_indentation_mode: hanging(256) not recognized as a style token",
+        ),
+        (
+            r#"{"list_items_indentation_mode":" block"}"#,
+            "list_items_indentation_mode:  block not recognized as a style token",
+        ),
+        (
+            r#"{"list-items-indentation-mode":"hanging(0001)"}"#,
+            "list-items-indentation-mode: hanging(0001) not recognized as a style token",
+        ),
+        (
+            r#"{"list-items-indentation-mode":"block","list_items_indentation_mode":"block"}"#,
+            "two names: list_items_indentation_mode",
+        ),
     ];
     for (text, fault) in cases {
         let Ok(value) = Value::from_str(alloc, text) else {
@@ -75,7 +114,10 @@ fn unknown_keys_in_byte_order(rt: HostRuntime) -> Result<(), Fail> {
     let cases = [
         ("{}", ""),
         (r#"{"colour":1}"#, "colour|"),
-        (r#"{"é":[],"b":{"bold":null},"B":true,"x":18446744073709551615}"#, "B|b|x|é|"),
+        (
+            r#"{"é":[],"b":{"bold":null},"B":true,"x":18446744073709551615}"#,
+            "B|b|x|é|",
+        ),
         (r#"{"table_border_chars":"curly","Bold":"red"}"#, "Bold|"),
     ];
     for (text, keys) in cases {
@@ -99,12 +141,15 @@ fn header(fg: Option<Color>, attributes: &[Attribute], align: Alignment) -> Line
 #[test]
 fn parts(rt: HostRuntime) -> Result<(), Fail> {
     let alloc = rt.alloc();
-    let (skin, unknown) = read(alloc, r##"{
+    let (skin, unknown) = read(
+        alloc,
+        r##"{
         "bold": "red", "inline-code": "none #fb0", "quote-mark": "> blue bold", "rule": "5",
         "paragraph": "right 4 2", "code-block": "dim", "headers": "yellow center slow-blink italic 7",
         "ordered-items": ["red ) bold", "blue"], "table-border-chars": "rounded",
         "list-items-indentation-mode": "Hanging(007)", "scrollbar": {"track": "x red", "thumb": "y", "z": 1}
-    }"##)?;
+    }"##,
+    )?;
     assert!(rt; unknown.is_empty());
     let mut expected = MadSkin::default();
     expected.bold = CompoundStyle::with_fg(Color::Red);
@@ -143,7 +188,10 @@ fn parts(rt: HostRuntime) -> Result<(), Fail> {
 #[test]
 fn lists_replace_by_level(rt: HostRuntime) -> Result<(), Fail> {
     let alloc = rt.alloc();
-    let (skin, _) = read(alloc, r#"{"headers":["red","","","","","","","","blue","none"], "scrollbar":"x red"}"#)?;
+    let (skin, _) = read(
+        alloc,
+        r#"{"headers":["red","","","","","","","","blue","none"], "scrollbar":"x red"}"#,
+    )?;
     let mut expected = MadSkin::default();
     expected.headers = [LineStyle::from(CompoundStyle::default()); 8];
     expected.headers[0].set_fg(Color::Red);

@@ -4,7 +4,7 @@ ghost use Rattle.std.specs.Prelude.{◌≡◌, Ok, IfOk, IfErr};
 ghost use Rattle.mad_parse.specs.Styles.{style_of, line_style_of, styled_char_of, item_style_of};
 ghost use Rattle.serde_json.specs.View.{view};
 ghost use Rattle.mad_json.specs.Faults.{TellsValue};
-ghost use Rattle.mad_json.specs.Texts.{value_said, text_said};
+ghost use Rattle.mad_json.specs.Texts.{value_said};
 
 use crate::errors::ValueError;
 use mad_parse::{
@@ -14,12 +14,11 @@ use mad_style::{CompoundStyle, LineStyle, OrderedItemStyle, StyledChar};
 use serde_json::Value;
 use std::alloc::Global;
 
-// A mark that isn't told.
-const MARK: char = '*';
+/// A mark that isn't told.
+pub(crate) const MARK: char = '*';
 
 // The character after an item's number that isn't told.
 const SUFFIX: char = '.';
-
 
 /// The style of text that a value says.
 pub(crate) fn compound_style_of(alloc: Global, value: &Value) -> Result<CompoundStyle, ValueError>

@@ -59,7 +59,12 @@ fn put_marks(
     put_mark(alloc, members, "bullet", &skin.bullet)?;
     put_mark(alloc, members, "quote", &skin.quote_mark)?;
     put_mark(alloc, members, "horizontal_rule", &skin.horizontal_rule)?;
-    put(members, alloc, "scrollbar", bar_value(alloc, &skin.scrollbar)?)?;
+    put(
+        members,
+        alloc,
+        "scrollbar",
+        bar_value(alloc, &skin.scrollbar)?,
+    )?;
     Ok(())
 }
 
@@ -70,10 +75,25 @@ fn put_lines(
 ) -> Result<(), AllocError>
     ensures { OnOk result (members_view members.new.entries ≡ with_lines skin.now (members_view members.old.entries)) }
 {
-    put(members, alloc, "paragraph", line_value(alloc, &skin.paragraph)?)?;
-    put(members, alloc, "code_block", line_value(alloc, &skin.code_block)?)?;
+    put(
+        members,
+        alloc,
+        "paragraph",
+        line_value(alloc, &skin.paragraph)?,
+    )?;
+    put(
+        members,
+        alloc,
+        "code_block",
+        line_value(alloc, &skin.code_block)?,
+    )?;
     put(members, alloc, "table", line_value(alloc, &skin.table)?)?;
-    put(members, alloc, "headers", line_values(alloc, &skin.headers)?)?;
+    put(
+        members,
+        alloc,
+        "headers",
+        line_values(alloc, &skin.headers)?,
+    )?;
     Ok(())
 }
 
@@ -84,9 +104,19 @@ fn put_items(
 ) -> Result<(), AllocError>
     ensures { OnOk result (members_view members.new.entries ≡ with_items skin.now (members_view members.old.entries)) }
 {
-    put(members, alloc, "ordered_items", item_values(alloc, &skin.ordered_item_styles)?)?;
+    put(
+        members,
+        alloc,
+        "ordered_items",
+        item_values(alloc, &skin.ordered_item_styles)?,
+    )?;
     let mode = mode_to_string(alloc, skin.list_items_indentation_mode)?;
-    put(members, alloc, "list_items_indentation_mode", Value::String(mode))?;
+    put(
+        members,
+        alloc,
+        "list_items_indentation_mode",
+        Value::String(mode),
+    )?;
     Ok(())
 }
 

@@ -10,10 +10,10 @@ returns-in_default c = sym (ap hanging_front (without_none 41 _ (strip_suffix_ch
 pub returns-in_default-split_once : goal.returns-in_default-split_once
 returns-in_default-split_once c =
     sym (ap hanging_front (without_some 41 _ _ (strip_suffix_char 41 _ (Some c.in-Some.front) c.in-Some.ensures.cases (lit< tt)))
-        ∙ ap hanging_parts (split_none 40 _ c.in_default-split_once.ensures.cases (lit< tt)))
+    ∙ ap hanging_parts (split_none 40 _ c.in_default-split_once.ensures.cases (lit< tt)))
 
 pub returns : goal.returns
 returns c =
     c.called_mode.ensures
     ∙ sym (ap hanging_front (without_some 41 _ _ (strip_suffix_char 41 _ (Some c.in-Some.front) c.in-Some.ensures.cases (lit< tt)))
-        ∙ ap hanging_parts (split_some 40 _ (c.in-Some-split_once.name, c.in-Some-split_once.digits) c.in-Some-split_once.ensures.cases (lit< tt)))
+    ∙ ap hanging_parts (split_some 40 _ (c.in-Some-split_once.name, c.in-Some-split_once.digits) c.in-Some-split_once.ensures.cases (lit< tt)))
