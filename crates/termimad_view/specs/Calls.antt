@@ -48,7 +48,7 @@ abbrev pub IsNoCall : List (List ℕ) → Type 0
 IsNoCall words = (command : Command) (word : Option (List ℕ)) → ¬ (Asks words command word)
 
 -- the skins that have a name
-abbrev pub skin_named : List ℕ → Option MadSkin
+unfoldable pub skin_named : List ℕ → Option MadSkin
 skin_named word =
     if bytes_eq word (codes "default") then Some default_skin
     else if bytes_eq word (codes "dark") then Some dark_skin

@@ -100,6 +100,7 @@ fn skin_word(words: &[String]) -> Option<Option<&str>>
 }
 
 // The skin of a word, where the program knows it: no style without a word.
+#[tactic(auto, unfolding(crate::specs::Calls::skin_named))]
 fn skin_of(word: Option<&str>) -> Option<MadSkin>
     ensures { MatchOption result (IsUnknown (option_map (λ word. word.now) word.entry))
         (λ skin. IsSkinOf (option_map (λ word. word.now) word.entry) skin) }
