@@ -117,13 +117,7 @@ impl<'s> Laying<'s> {
         let columns = block_width(&block, room_of_code(width, skin));
         for composite in block {
             let placed = placed_code(columns, composite);
-            push_at(
-                alloc,
-                &mut self.lines,
-                FmtLine::Normal(placed),
-                width,
-                skin,
-            )?;
+            push_at(alloc, &mut self.lines, FmtLine::Normal(placed), width, skin)?;
         }
         Ok(())
     }

@@ -40,15 +40,15 @@ mod writing;
 
 pub use bound::{WrapBound, check_wrap_bound, wrap_bound};
 pub use composite::FmtComposite;
+pub use displayable_line::DisplayableLine;
 pub use drawing::draw_text;
 pub use fmt_inline::{FmtInline, inline};
-pub use displayable_line::DisplayableLine;
 pub use fmt_text::{FmtText, term_text, text};
 pub use indents::composite_kind_widths;
 pub use line::FmtLine;
 pub use room::room_of;
 pub use skin::MadSkin;
 pub use table::{FmtTableRow, FmtTableRule, RelativePosition};
-pub use wrap::{hard_wrap_composite, hard_wrap_lines};
 pub use text_writing::print_text;
+pub use wrap::{hard_wrap_composite, hard_wrap_lines};
 pub use writing::print_inline;
