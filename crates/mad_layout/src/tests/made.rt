@@ -2,9 +2,7 @@
 
 use crate::skin::MadSkin;
 use mad_md::Alignment;
-use mad_style::{
-    ASCII_TABLE_BORDER_CHARS, CompoundStyle, LineStyle, OrderedItemStyle, StyledChar,
-};
+use mad_style::{ASCII_TABLE_BORDER_CHARS, CompoundStyle, LineStyle, OrderedItemStyle, StyledChar};
 use mad_term::{Attribute, Color};
 use std::process::Abort;
 

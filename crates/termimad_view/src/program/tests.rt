@@ -172,9 +172,18 @@ fn a_line_loses_one_end_and_gets_a_newline(rt: HostRuntime) -> Result<(), Fail> 
     }
     expect(&rt, "inline|default", b"**some** x", 0, SOME, b"")?;
     for (call, code) in [
-        ("inline|default", b"\x1b[48;5;235m\x1b[38;5;249mc\x1b[49m\x1b[39m\n"),
-        ("inline|dark", b"\x1b[48;5;237m\x1b[38;5;252mc\x1b[49m\x1b[39m\n"),
-        ("inline|light", b"\x1b[48;5;252m\x1b[38;5;236mc\x1b[49m\x1b[39m\n"),
+        (
+            "inline|default",
+            b"\x1b[48;5;235m\x1b[38;5;249mc\x1b[49m\x1b[39m\n",
+        ),
+        (
+            "inline|dark",
+            b"\x1b[48;5;237m\x1b[38;5;252mc\x1b[49m\x1b[39m\n",
+        ),
+        (
+            "inline|light",
+            b"\x1b[48;5;252m\x1b[38;5;236mc\x1b[49m\x1b[39m\n",
+        ),
     ] {
         expect(&rt, call, b"`c`", 0, code, b"")?;
     }

@@ -11,5 +11,5 @@ loop-header-preserved c =
     let i = c.loop-header.header-index in
     let same : length headers ≡ length old = grind (arith, common_steps, c.loop-header.invariant) in
     rw c.set_fg.ensures
-        (map_over_more (line_in c.args.fg) old headers i (get_or headers i c.header-item.result)
-            (omega (arith, same, c.loop-header-test.true)) c.loop-header.invariant (ap (get_or headers i) c.header-item.is))
+    (map_over_more (line_in c.args.fg) old headers i (get_or headers i c.header-item.result)
+    (omega (arith, same, c.loop-header-test.true)) c.loop-header.invariant (ap (get_or headers i) c.header-item.is))
