@@ -7,7 +7,7 @@ use Rattle.mad_term.specs.declared.errors.Error.{Error}
 use Rattle.mad_term.specs.declared.errors.Error.TheVariants.{IO, InsufficientWidth, Memory as NoMemory}
 use Rattle.termimad.specs.declared.MadSkin.{MadSkin}
 use Rattle.termimad_view.specs.declared.call.Command.{Command}
-use Rattle.termimad_view.specs.declared.call.Command.TheVariants.{InArea, Inline}
+use Rattle.termimad_view.specs.declared.call.Command.TheVariants.{InArea, AtWidth, Inline}
 use Rattle.mad_term.proofs.Traces.{took_flushed}
 use Rattle.termimad.specs.Shown.{AreShownIn}
 use Rattle.termimad_view.specs.declared.failure.Failure.{Failure}
@@ -79,4 +79,5 @@ still_shown skin (InArea area) text old written new h is = record {
   laid_out = h.laid_out;
   shown = λ premises. took_flushed old written new (AreShownIn skin h.lines area 0) (h.shown premises) is;
 }
+still_shown skin (AtWidth width) text old written new h is = tt
 still_shown skin Inline text old written new h is = tt

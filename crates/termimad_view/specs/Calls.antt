@@ -7,7 +7,7 @@ use Rattle.termimad.specs.MadeSkins.{dark_skin, light_skin}
 use Rattle.termimad.specs.Skins.{no_style_skin, default_skin}
 use Rattle.termimad.specs.declared.MadSkin.{MadSkin}
 use Rattle.termimad_view.specs.declared.call.Command.{Command}
-use Rattle.termimad_view.specs.declared.call.Command.TheVariants.{InArea, Inline}
+use Rattle.termimad_view.specs.declared.call.Command.TheVariants.{InArea, AtWidth, Inline}
 use Rattle.termimad_view.specs.declared.failure.Failure.{Failure}
 use Rattle.termimad_view.specs.declared.failure.Failure.TheVariants.{Io, Usage, NotUtf8, Skin, Memory}
 use Rattle.termimad_view.specs.Numbers.{IsNumber}
@@ -32,15 +32,22 @@ abbrev pub AsksArea : List (List ℕ) → Area → Option (List ℕ) → Type 0
 AsksArea (left ∷ top ∷ width ∷ height ∷ rest) area word = IsAreaOf left top width height area × IsSkinWord rest word
 AsksArea _ area word = ⊥
 
--- The words ask for this: area L T W H [SKIN], or inline [SKIN].
+-- the words after `text`: W [SKIN]
+abbrev pub AsksWidth : List (List ℕ) → ℕ → Option (List ℕ) → Type 0
+AsksWidth [] width word = ⊥
+AsksWidth (given ∷ rest) width word = IsNumber given width × IsSkinWord rest word
+
+-- The words ask for this: area L T W H [SKIN], text W [SKIN], or inline [SKIN].
 abbrev pub Asks : List (List ℕ) → Command → Option (List ℕ) → Type 0
 Asks [] command word = ⊥
 Asks (name ∷ words) (InArea area) word = (name ≡ codes "area") × AsksArea words area word
+Asks (name ∷ words) (AtWidth width) word = (name ≡ codes "text") × AsksWidth words width word
 Asks (name ∷ words) Inline word = (name ≡ codes "inline") × IsSkinWord words word
 
 -- the command's area has four columns at least, and lies within the limits of a screen
 abbrev pub IsAllowed : Command → Type 0
 IsAllowed (InArea area) = (4 ≤ area.width) × IsWithinLimits area
+IsAllowed (AtWidth width) = ⊤
 IsAllowed Inline = ⊤
 
 -- the words ask for nothing that the program does

@@ -2,7 +2,7 @@
 
 ghost use Rattle.std.specs.Prelude.{◌≡◌, ℕ, List, Option, MatchOption, MatchResult, map, option_map, string_bytes};
 ghost use Rattle.termimad.specs.declared.Area.{Area as SomeArea};
-ghost use Rattle.termimad_view.specs.Calls.{Asks, IsNoCall, IsAreaOf, IsSkinWord, AsksArea, IsSkinOf, IsUnknown, IsCall, RefusesWords};
+ghost use Rattle.termimad_view.specs.Calls.{Asks, IsNoCall, IsAreaOf, IsSkinWord, AsksArea, AsksWidth, IsSkinOf, IsUnknown, IsCall, RefusesWords};
 
 use crate::failure::Failure;
 use crate::number::parse_number;
@@ -13,6 +13,8 @@ use termimad::{Area, MadSkin};
 pub enum Command {
     /// `area L T W H`: the text, in that area.
     InArea(Area),
+    /// `text W`: the text, laid out at that width, in columns.
+    AtWidth(u16),
     /// `inline`: the text, as one line.
     Inline,
 }
@@ -26,7 +28,7 @@ pub struct Call {
     pub skin: MadSkin,
 }
 
-/// The call that the words after the program's name are: `area L T W H [SKIN]` or `inline [SKIN]`.
+/// The call that the words after the program's name are: `area L T W H [SKIN]`, `text W [SKIN]` or `inline [SKIN]`.
 ///
 /// # Errors
 ///
@@ -54,6 +56,10 @@ fn parse_words(words: &[String]) -> Option<(Command, Option<&str>)>
         let (area, word) = parse_area_call(words)?;
         return Some((Command::InArea(area), word));
     }
+    if name.as_str() == "text" {
+        let (width, word) = parse_text_call(words)?;
+        return Some((Command::AtWidth(width), word));
+    }
     if name.as_str() == "inline" {
         return Some((Command::Inline, skin_word(words)?));
     }
@@ -70,6 +76,18 @@ fn parse_area_call(words: &[String]) -> Option<(Area, Option<&str>)>
     };
     let area = parse_area(left.as_str(), top.as_str(), width.as_str(), height.as_str())?;
     Some((area, skin_word(rest)?))
+}
+
+// What the words after `text` ask for.
+fn parse_text_call(words: &[String]) -> Option<(u16, Option<&str>)>
+    ensures { MatchOption result ((width : ℕ) (word : Option (List ℕ)) → ¬ (AsksWidth (map string_bytes words.now) width word))
+        (λ asked. AsksWidth (map string_bytes words.now) asked.0 (option_map (λ word. word.now) asked.1)) }
+{
+    let [width, rest @ ..] = words else {
+        return None;
+    };
+    let width = parse_number(width.as_str())?;
+    Some((width, skin_word(rest)?))
 }
 
 // The area that these words are: at least four columns wide, and within the limits of a screen.

@@ -9,7 +9,7 @@ use crate::call::Command;
 use std::alloc::Global;
 use termimad::{Error, MadSkin, Out, put_all};
 
-/// Writes a text in an area, or as one line with inline marks and a newline. Nothing is flushed.
+/// Writes a text in an area, or laid out at a width, or as one line with inline marks and a newline. Nothing is flushed.
 ///
 /// An area has to have four columns at least and lie within the limits of a screen: its right and bottom fit a `u16`.
 ///
@@ -29,6 +29,9 @@ pub fn write_call<O: Out>(
 {
     match command {
         Command::InArea(area) => skin.write_in_area_on(alloc, out, text, area),
+        Command::AtWidth(width) => {
+            skin.write_text_on(alloc, out, text, Some(usize::from(*width)))
+        }
         Command::Inline => write_line(alloc, out, skin, line_of(text)),
     }
 }

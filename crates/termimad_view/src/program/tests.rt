@@ -78,8 +78,9 @@ fn words_that_are_no_call_are_refused_unread(rt: HostRuntime) -> Result<(), Fail
         "area|0|0|12",
         "area|0|0|12|3|default|more",
         "inline|default|more",
-        "text|20",
-        "text|20|default",
+        "text",
+        "text|x",
+        "text|20|default|more",
         "inline |default",
     ];
     for call in calls {
@@ -152,6 +153,22 @@ fn a_text_is_written_in_its_area(rt: HostRuntime) -> Result<(), Fail> {
         "\x1b[1;1H概  ".as_bytes(),
         b"",
     )?;
+    Ok(())
+}
+
+#[test]
+fn a_text_is_laid_out_at_a_width(rt: HostRuntime) -> Result<(), Fail> {
+    let rows: [(&str, &[u8], &str); 6] = [
+        ("text|10", b"```\na\nbbb", "a  \nbbb\n"),
+        ("text|5", b"---", "―――――\n"),
+        ("text|5", b"> q", "▐ q\n"),
+        ("text|8", b"* abcdef gh", "• abcdef\n  gh\n"),
+        ("text|0", b"aaa bbb", "aaa bbb\n"),
+        ("text|5|default", b"# t", "  \u{1b}[1m\u{1b}[4mt\u{1b}[0m\n"),
+    ];
+    for (call, input, written) in rows {
+        expect(&rt, call, input, 0, written.as_bytes(), b"")?;
+    }
     Ok(())
 }
 
