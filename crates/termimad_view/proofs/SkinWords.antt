@@ -36,9 +36,9 @@ asked_once (name ∷ words) Inline Inline a b h k = one_word words a b h.1 k.1
 
 known_skin : (word : Option (List ℕ)) (skin : MadSkin) → IsSkinOf word skin → IsUnknown word → ⊥
 known_skin None skin h unknown = unknown
-known_skin (Some word) skin h unknown = unknown h.0
+known_skin (Some word) skin h unknown = let both : Some skin ≡ None = sym h ∙ unknown in cc
 
-never : (words : List (List ℕ)) → KnownCall words → AsksUnknownSkin words → ⊥
+pub never : (words : List (List ℕ)) → KnownCall words → AsksUnknownSkin words → ⊥
 never words call h =
     known_skin call.asked.word call.skin call.asked.named (subst IsUnknown (asked_once words h.0 call.command h.1 call.asked.word h.2 call.asked.asks) h.3)
 
