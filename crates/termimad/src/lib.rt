@@ -1,7 +1,7 @@
 //! Markdown for terminals: all names of the library, from the crates that have them.
 //!
-//! What a text is, what a terminal takes and shows, how lines are wrapped, and the editor's text have modules of their own:
-//! [`md`], [`term`], [`screen`], [`wrap`] and [`edit`].
+//! What a text is, what a terminal takes and shows, how lines are wrapped, styles as texts, and the editor's text have
+//! modules of their own: [`md`], [`term`], [`screen`], [`wrap`], [`parse`] and [`edit`].
 #![tactic(auto)]
 
 /// What a terminal takes, and what it shows.
@@ -29,6 +29,17 @@ pub mod wrap {
     pub use mad_wrap::Room;
 }
 
+/// Styles as texts, both ways.
+pub mod parse {
+    pub use mad_parse::{
+        ParseAlignError, ParseAttributeError, ParseColorError, ParseStyleTokenError,
+        PushStyleTokens, StyleToken, compound_style_from, line_style_from, parse_align,
+        parse_attribute, parse_color, parse_compound_style, parse_line_style,
+        parse_ordered_item_style, parse_style_token, parse_style_tokens, parse_styled_char,
+        style_tokens_to_string, write_align, write_attribute, write_color, write_style_tokens,
+    };
+}
+
 /// The editor's text.
 pub mod edit {
     pub use mad_edit::{Chars, InputFieldContent, Line, Pos, Range};
@@ -46,13 +57,6 @@ pub use mad_md as md;
 pub use mad_md::{
     Alignment, Composite, CompositeStyle, Compound, Line, LineCursor, MAX_HEADER_DEPTH,
     ParseOptions, TableRow, TableRule, Text, parse_text, parse_text_with,
-};
-pub use mad_parse::{
-    ParseAlignError, ParseAttributeError, ParseColorError, ParseStyleTokenError, PushStyleTokens,
-    StyleToken, compound_style_from, line_style_from, parse_align, parse_attribute, parse_color,
-    parse_compound_style, parse_line_style, parse_ordered_item_style, parse_style_token,
-    parse_style_tokens, parse_styled_char, style_tokens_to_string, write_align, write_attribute,
-    write_color, write_style_tokens,
 };
 pub use mad_style::{
     ASCII_TABLE_BORDER_CHARS, ATTRIBUTES, CompositeKind, CompoundStyle, LineStyle,
