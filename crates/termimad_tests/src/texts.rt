@@ -69,7 +69,8 @@ fn items_that_hang(rt: HostRuntime) -> Result<(), Fail> {
 fn lengths_at_25_columns(rt: HostRuntime) -> Result<(), Fail> {
     let alloc = rt.alloc();
     let skin = MadSkin::default();
-    let source = "This is a *long* line which needs to be **broken**.\nAnd the text goes on with a list:\n* short item\n* a *somewhat longer item* (with a part in **bold**)";
+    let source =
+        "This is a *long* line which needs to be **broken**.\nAnd the text goes on with a list:\n* short item\n* a *somewhat longer item* (with a part in **bold**)";
     let text = skin.text(alloc, source, Some(25))?;
     let wanted = [25, 19, 25, 7, 12, 25, 23];
     assert_eq!(rt; text.lines.len(), wanted.len());
