@@ -135,7 +135,7 @@ impl<'s> FmtComposite<'s> {
         self.visible_length = columns;
     }
 
-    /// Puts a compound behind the others, and its columns into the cached length. Only want of memory is an error, and
+    /// Puts a compound behind the others, and its columns into the cached length. Only out of memory is an error, and
     /// leaves both as they were.
     pub fn add_compound(&mut self, compound: Compound<'s>) -> Result<(), AllocError>
         ensures text { OnOk result (self.new.compounds.items ≡ self.old.compounds.items ++ compound.entry ∷ []) }

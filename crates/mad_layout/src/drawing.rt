@@ -27,7 +27,7 @@ use std::alloc::{AllocError, Global};
 ///
 /// # Errors
 ///
-/// A fault of the device, or want of memory. What went out by then is a beginning of the whole.
+/// A fault of the device, or out of memory. What went out by then is a beginning of the whole.
 pub fn draw_text<O: Out>(
     alloc: Global,
     out: &mut O,

@@ -18,7 +18,7 @@ pub struct FmtInline<'k, 's> {
 }
 
 impl MadSkin {
-    /// A line of text, its inline marks read. Only want of memory is an error.
+    /// A line of text, its inline marks read. Only out of memory is an error.
     #[tactic(auto, using(crate::proofs::InlineLemmas::displayed))]
     pub fn inline<'k, 's>(
         &'k self,
@@ -39,7 +39,7 @@ impl MadSkin {
     }
 }
 
-/// A line of text, its inline marks read, as [`MadSkin::inline`] makes it. Only want of memory is an error.
+/// A line of text, its inline marks read, as [`MadSkin::inline`] makes it. Only out of memory is an error.
 pub fn inline<'k, 's>(
     alloc: Global,
     skin: &'k MadSkin,

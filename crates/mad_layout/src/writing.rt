@@ -25,7 +25,7 @@ impl MadSkin {
     ///
     /// # Errors
     ///
-    /// A fault of the device, or want of memory. What went out by then is a beginning of the whole.
+    /// A fault of the device, or out of memory. What went out by then is a beginning of the whole.
     pub fn write_in_area_on<O: Out>(
         &self,
         alloc: Global,
@@ -48,7 +48,7 @@ impl MadSkin {
     ///
     /// # Errors
     ///
-    /// A fault of the device, at its flush too, or want of memory. What went out by then is a beginning of the whole.
+    /// A fault of the device, at its flush too, or out of memory. What went out by then is a beginning of the whole.
     #[tactic(auto, using(crate::proofs::HeadlineLemmas::shown_flushed, crate::proofs::SourceLemmas::source_flushed))]
     pub fn write_in_area<O: Out>(
         &self,
@@ -72,7 +72,7 @@ impl MadSkin {
     ///
     /// # Errors
     ///
-    /// A fault of the device; what went out by then is a beginning of the whole. Or want of memory, before the first byte.
+    /// A fault of the device; what went out by then is a beginning of the whole. Or out of memory, before the first byte.
     #[tactic(auto, using(mad_term::proofs::QueueExits::memory_first))]
     pub fn write_composite<O: Out>(
         &self,
@@ -101,7 +101,7 @@ impl MadSkin {
     ///
     /// # Errors
     ///
-    /// A fault of the device; what went out by then is a beginning of the whole. Or want of memory, before the first byte.
+    /// A fault of the device; what went out by then is a beginning of the whole. Or out of memory, before the first byte.
     pub fn print_composite<O: Out>(
         &self,
         alloc: Global,
@@ -118,7 +118,7 @@ impl MadSkin {
     ///
     /// # Errors
     ///
-    /// A fault of the device; what went out by then is a beginning of the whole. Or want of memory, before the first byte.
+    /// A fault of the device; what went out by then is a beginning of the whole. Or out of memory, before the first byte.
     #[tactic(auto, using(crate::proofs::InlineLemmas::written))]
     pub fn write_inline_on<O: Out>(
         &self,
@@ -137,7 +137,7 @@ impl MadSkin {
     ///
     /// # Errors
     ///
-    /// A fault of the device; what went out by then is a beginning of the whole. Or want of memory, before the first byte.
+    /// A fault of the device; what went out by then is a beginning of the whole. Or out of memory, before the first byte.
     pub fn print_inline<O: Out>(&self, alloc: Global, out: &mut O, src: &str) -> Result<(), Error>
         ensures writes { WritesInline self.now src.now (O.seen out.old) result (O.seen out.new) }
         ensures early { IsErrOf result Memory → O.seen out.new ≡ O.seen out.old }
@@ -149,7 +149,7 @@ impl MadSkin {
     ///
     /// # Errors
     ///
-    /// A fault of the device, at its flush too; what went out by then is a beginning of the whole. Or want of memory, before
+    /// A fault of the device, at its flush too; what went out by then is a beginning of the whole. Or out of memory, before
     /// the first byte.
     pub fn write_inline<O: Out>(&self, alloc: Global, out: &mut O, src: &str) -> Result<(), Error>
         ensures writes { AndFlushes (WritesInline self.now src.now) (O.seen out.old) result (O.seen out.new) }
@@ -165,7 +165,7 @@ impl MadSkin {
 ///
 /// # Errors
 ///
-/// A fault of the device; what went out by then is a beginning of the whole. Or want of memory, before the first byte.
+/// A fault of the device; what went out by then is a beginning of the whole. Or out of memory, before the first byte.
 pub fn print_inline<O: Out>(
     alloc: Global,
     skin: &MadSkin,

@@ -62,7 +62,7 @@ impl<'a, 't> TextView<'a, 't> {
     ///
     /// # Errors
     ///
-    /// A fault of the device, or want of memory. What went out by then is a beginning of the whole.
+    /// A fault of the device, or out of memory. What went out by then is a beginning of the whole.
     pub fn write_on<O: Out>(&self, alloc: Global, out: &mut O) -> Result<(), Error>
         requires { IsWithinLimits self.now.area.now }
         ensures writes { let text = self.now.text.now in Draws (O.seen out.old) (area_bytes text.skin.now text.lines.items self.now.area.now self.now.scroll) result (O.seen out.new) }
@@ -84,7 +84,7 @@ impl<'a, 't> TextView<'a, 't> {
     ///
     /// # Errors
     ///
-    /// A fault of the device, at its flush too, or want of memory. What went out by then is a beginning of the whole.
+    /// A fault of the device, at its flush too, or out of memory. What went out by then is a beginning of the whole.
     #[tactic(auto, using(mad_term::proofs::Traces::took_flushed))]
     pub fn write<O: Out>(&self, alloc: Global, out: &mut O) -> Result<(), Error>
         requires { IsWithinLimits self.now.area.now }
