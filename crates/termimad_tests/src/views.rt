@@ -7,38 +7,6 @@ use termimad::{Attribute, CutOut, FmtText, MadSkin, TextView};
 const DOTS: &str = "..............";
 
 #[test]
-fn the_last_line_stays_in_the_last_row(rt: HostRuntime) -> Result<(), Fail> {
-    let alloc = rt.alloc();
-    let skin = MadSkin::no_style();
-    let text = FmtText::raw_str(alloc, &skin, "a\nb\nc\nd\ne", Some(3))?;
-    let area = area_of([0, 0, 3, 3]);
-    let rows = [
-        (0, 0, "abc"),
-        (1, 1, "bcd"),
-        (2, 2, "cde"),
-        (3, 2, "cde"),
-        (100, 2, "cde"),
-    ];
-    for (asked, kept, shown) in rows {
-        let mut view = TextView::from(&area, &text);
-        assert_eq!(rt; view.set_scroll(asked), kept);
-        let mut out = CutOut::new(alloc, ROOM, ROOM, false)?;
-        view.write(alloc, &mut out)?;
-        let screen = screen_after(&rt, alloc, &out)?;
-        for (y, c) in shown.chars().enumerate() {
-            let cell = screen.cell(0, y as u16);
-            assert!(rt;
-                cell.is_some_and(|cell| cell.chars.as_slice() == [c].as_slice()),
-                "row {y} at {asked}"
-            );
-        }
-        assert_eq!(rt; out.puts(), 3);
-        assert_eq!(rt; out.flushes(), 1);
-    }
-    Ok(())
-}
-
-#[test]
 fn a_scroll_past_the_end_shows_a_blank_area(rt: HostRuntime) -> Result<(), Fail> {
     let alloc = rt.alloc();
     let skin = MadSkin::no_style();
