@@ -64,4 +64,16 @@ impl FmtTableRule {
             aligns: rule.cells,
         }
     }
+
+    /// Cuts the rule's columns to `nbcols`, or fills them up: with the width 0, and the alignment Unspecified.
+    ///
+    /// Only out of memory is an error.
+    pub fn set_nbcols(&mut self, nbcols: usize) -> Result<(), AllocError>
+        ensures widths { OnOk result (self.new.widths.items ≡ resized nbcols 0 self.old.widths.items) }
+        ensures aligns { OnOk result (self.new.aligns.items ≡ resized nbcols Unspecified self.old.aligns.items) }
+        ensures position { self.new.position ≡ self.old.position }
+    {
+        self.widths.resize(nbcols, 0)?;
+        self.aligns.resize(nbcols, Alignment::Unspecified)
+    }
 }
