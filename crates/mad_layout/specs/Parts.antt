@@ -1,6 +1,5 @@
 -- A text's lines as parts, and its layout, part by part: tables, blocks of code, and any other line by itself.
 use Rattle.std.specs.Prelude.{◌≡◌, ℕ, ◌-◌, ◌^◌, max, min, nat_lt, if◌then◌else◌, Bool, true, false, List, [], ◌∷◌, ◌++◌, map, Option, Some, None}
-use Rattle.std.specs.List.{flat_map}
 use Rattle.mad_md.specs.declared.alignment.Alignment.TheVariants.{Left}
 use Rattle.mad_style.specs.LineStyles.{margins_at}
 use Rattle.mad_style.specs.declared.kinds.CompositeKind.{CompositeKind}
@@ -105,16 +104,6 @@ placed_code width l = record l { spacing = Some (record { width = width; align =
 -- the lines of a block, each in the block's place
 abbrev pub justified : Option ℕ → List FmtComposite → List FmtComposite
 justified room ls = map (placed_code (block_width room ls)) ls
-
--- the lines of a part, those of a block in its place
-abbrev pub part_lines : Option ℕ → Part → List FmtLine
-part_lines room (table ls) = ls
-part_lines room (block ls) = map Normal (justified room ls)
-part_lines room (single l) = l ∷ []
-
--- lines with each block of code in its place
-abbrev pub blocks_justified : Option ℕ → List FmtLine → List FmtLine
-blocks_justified room ls = flat_map (part_lines room) (parts_of ls)
 
 -- ---- a layout
 

@@ -52,6 +52,10 @@ pub struct FmtTableRule {
 }
 
 impl FmtTableRule {
+    ghost use Rattle.std.specs.Prelude.{OnOk};
+    ghost use Rattle.mad_md.specs.declared.alignment.Alignment.TheVariants.{Unspecified};
+    ghost use Rattle.mad_layout.specs.Lines.{resized};
+
     /// A rule as it was read, without widths.
     pub fn from(alloc: Global, rule: TableRule) -> Self
         ensures position { result.position ≡ RelativePosition.Other }

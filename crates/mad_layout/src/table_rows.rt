@@ -167,4 +167,3 @@ fn in_column<'s>(line: FmtComposite<'s>, column: Spacing) -> FmtComposite<'s>
     cell.spacing = Some(column);
     cell
 }
-
