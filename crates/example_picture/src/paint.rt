@@ -14,7 +14,7 @@ pub struct Paint(u8, u8, u8);
 pub const INK: Paint = Paint(216, 216, 216);
 
 /// What is below them.
-pub const PAPER: Paint = Paint(28, 30, 33);
+pub const PAPER: Paint = Paint(16, 18, 20);
 
 // The named colors, by their numbers.
 const NAMED: [Paint; 16] = [
