@@ -90,7 +90,7 @@ record OneLine (lines : List FmtLine) : Type 0 where
   columns : l.visible_length ≡ 9
   spacing : l.spacing ≡ None
 
-laid : (read lines : List FmtLine) → AreRead no_style_skin (normal word_line ∷ []) read → ArePartsAt IsCompositeWrap no_style_skin (Some 11) (parts_of read) lines → OneLine lines
+laid : (read lines : List FmtLine) → AreRead no_style_skin (normal word_line ∷ []) read → ArePartsAt IsCompositeWrap no_style_skin 11 (Some 11) (parts_of read) lines → OneLine lines
 laid [] lines reads parts = absurd reads
 laid (l ∷ m ∷ ms) lines reads parts = absurd reads.1
 laid (TableRow row ∷ []) lines reads parts = absurd reads.0
@@ -98,8 +98,8 @@ laid (TableRule rule ∷ []) lines reads parts = absurd reads.0
 laid (HorizontalRule ∷ []) lines reads parts = absurd reads.0
 laid (Normal l ∷ []) lines reads parts =
     let kind : l.kind ≡ Paragraph = reads.0.kind in
-    let part : ArePartsAt IsCompositeWrap no_style_skin (Some 11) (single (Normal l) ∷ []) lines =
-    subst (λ (ps : List Part). ArePartsAt IsCompositeWrap no_style_skin (Some 11) ps lines) (ap (λ (k : CompositeKind). with_composite (is_code_kind k) l []) kind) parts in
+    let part : ArePartsAt IsCompositeWrap no_style_skin 11 (Some 11) (single (Normal l) ∷ []) lines =
+    subst (λ (ps : List Part). ArePartsAt IsCompositeWrap no_style_skin 11 (Some 11) ps lines) (ap (λ (k : CompositeKind). with_composite (is_code_kind k) l []) kind) parts in
     let line = part.3 in
     let own : List FmtLine = line.0 in
     let here : IsLaidOutBy IsCompositeWrap no_style_skin 11 l own = line.3 in

@@ -21,6 +21,8 @@ pub mod SkinParts
 pub mod Skins
 pub mod Sources
 pub mod Styles
+pub mod TableRows
+pub mod Tables
 pub mod Texts
 pub mod Words
 pub mod WrappedLines
