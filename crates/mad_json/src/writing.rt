@@ -84,19 +84,9 @@ fn put_lines(
     ensures value { OnOk result (members_view members.new.entries ≡ with_lines skin.now (members_view members.old.entries)) }
     ensures reads_back { OnOk result (ReadBackLines skin.now) }
 {
-    put(
-        members,
-        alloc,
-        "paragraph",
-        line_value(alloc, &skin.paragraph)?,
-    )?;
-    put(
-        members,
-        alloc,
-        "code_block",
-        line_value(alloc, &skin.code_block)?,
-    )?;
-    put(members, alloc, "table", line_value(alloc, &skin.table)?)?;
+    put_line(alloc, members, "paragraph", &skin.paragraph)?;
+    put_line(alloc, members, "code_block", &skin.code_block)?;
+    put_line(alloc, members, "table", &skin.table)?;
     put(
         members,
         alloc,
@@ -190,6 +180,18 @@ fn put_mark(
     ensures reads_back { OnOk result (ReadsBackChar mark.now) }
 {
     put(members, alloc, key, mark_value(alloc, mark)?)
+}
+
+fn put_line(
+    alloc: Global,
+    members: &mut Map<String, Value>,
+    key: &str,
+    line: &LineStyle,
+) -> Result<(), AllocError>
+    ensures value { OnOk result (members_view members.new.entries ≡ put key.now (line_data line.now) (members_view members.old.entries)) }
+    ensures reads_back { OnOk result (ReadsBackLine line.now) }
+{
+    put(members, alloc, key, line_value(alloc, line)?)
 }
 
 fn line_value(alloc: Global, line: &LineStyle) -> Result<Value, AllocError>
