@@ -210,6 +210,34 @@ CORPORA = {
 }
 
 
+# Texts that repeat one piece, for reading alone; the first part stands once in front.
+REPEATED = {
+    "words_in_a_line": ("", "a word and **two** more "),
+    "words_in_lines": ("", "some words and more of them\n"),
+    "bars": ("", "|"),
+    "backquotes": ("", "`"),
+    "bars_and_backquotes": ("", "|`"),
+    "newlines": ("", "\n"),
+    "fences": ("", "```\n"),
+    "blank_cells": ("", "|** "),
+    "blanks_in_a_cell": ("|", "** "),
+    "rows_and_rules": ("", "|a|b\n|-|-\n"),
+    "rule_cells": ("", "|:-:"),
+    "stars": ("", "* "),
+    "hyphens": ("", "-"),
+}
+
+
+def repeated(name, size):
+    front, piece = REPEATED[name]
+    return front + piece * ((size - len(front)) // len(piece))
+
+
+for _name in REPEATED:
+    CORPORA[f"{_name}_1m"] = lambda r, name=_name: repeated(name, 1_000_000)
+    CORPORA[f"{_name}_10m"] = lambda r, name=_name: repeated(name, 10_000_000)
+
+
 def main():
     if len(sys.argv) < 2:
         sys.exit(__doc__)
