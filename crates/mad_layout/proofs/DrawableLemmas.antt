@@ -75,12 +75,14 @@ drawable skin drawn margins l bound prefix measured fits place shown =
     record {
       margins = margins;
       margins_are = refl;
-      measured = same;
-      place = within_place l.spacing l.visible_length (columns_of skin l) margins drawn same place;
       fits = place_inside l.spacing l.visible_length (columns_of skin l) margins drawn same fits place;
-      mark = mark_shown skin l.kind prefix;
-      indent_is = mark_columns skin l.kind prefix;
-      text = pieces_shown skin (line_style skin l.kind) l.compounds.items shown;
+      fills = record {
+        measured = same;
+        place = within_place l.spacing l.visible_length (columns_of skin l) margins drawn same place;
+        mark = mark_shown skin l.kind prefix;
+        indent_is = mark_columns skin l.kind prefix;
+        text = pieces_shown skin (line_style skin l.kind) l.compounds.items shown;
+      };
     }
 
 narrower_fits : (place : Option Spacing) (columns wider : ℕ) (margins : ℕ × ℕ) (drawn : ℕ) → columns ≤ wider → FitsPlace place wider margins drawn → FitsPlace place columns margins drawn

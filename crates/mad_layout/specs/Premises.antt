@@ -13,8 +13,7 @@ use Rattle.mad_style.specs.Kinds.{kind_of}
 use Rattle.mad_style.specs.LineStyles.{margins_at}
 use Rattle.mad_fit.specs.Columns.{width_of}
 use Rattle.mad_layout.specs.Indents.{indent, room_of}
-use Rattle.mad_layout.specs.Drawable.{IsColumnPiece}
-use Rattle.mad_layout.specs.Rows.{char_piece}
+use Rattle.mad_draw.specs.Pieces.{IsColumnPiece, char_piece}
 use Rattle.mad_layout.specs.Styles.{line_style, ordered_item_style}
 use Rattle.mad_wrap.specs.WrapLines.{HasRoom}
 use Rattle.mad_layout.specs.declared.skin.MadSkin.{MadSkin}
