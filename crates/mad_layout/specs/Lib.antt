@@ -13,6 +13,7 @@ pub mod Layouts
 pub mod Lines
 pub mod MadeSkins
 pub mod Parts
+pub mod PlainTables
 pub mod Premises
 pub mod RecoloredSkins
 pub mod Rows
