@@ -70,6 +70,7 @@ pub use Rattle.mad_layout.specs.FittingLayouts
 pub use Rattle.mad_layout.specs.InArea
 pub use Rattle.mad_layout.specs.Indents
 pub use Rattle.mad_layout.specs.Inlines
+pub use Rattle.mad_layout.specs.LayoutLaws
 pub use Rattle.mad_layout.specs.Layouts
 pub use Rattle.mad_layout.specs.Lines as LayoutLines
 pub use Rattle.mad_layout.specs.MadeSkins
