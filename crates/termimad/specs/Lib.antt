@@ -64,6 +64,7 @@ pub use Rattle.mad_fit.specs.TokensLeft
 pub use Rattle.mad_draw.specs.DrawnRows
 pub use Rattle.mad_draw.specs.Pieces
 pub use Rattle.mad_draw.specs.PennedCells
+pub use Rattle.mad_draw.specs.TableRules
 pub use Rattle.mad_layout.specs.CompositeWraps
 pub use Rattle.mad_layout.specs.Drawable
 pub use Rattle.mad_layout.specs.FittingLayouts
@@ -74,6 +75,7 @@ pub use Rattle.mad_layout.specs.Layouts
 pub use Rattle.mad_layout.specs.Lines as LayoutLines
 pub use Rattle.mad_layout.specs.MadeSkins
 pub use Rattle.mad_layout.specs.Parts as LayoutParts
+pub use Rattle.mad_layout.specs.PlainTables
 pub use Rattle.mad_layout.specs.Premises
 pub use Rattle.mad_layout.specs.RecoloredSkins
 pub use Rattle.mad_layout.specs.Rows
