@@ -113,6 +113,9 @@ impl<'s> Laying<'s> {
         ensures laid { OnOk result ((own : List FmtLine) × (self.new.lines.items ≡ self.old.lines.items ++ own)
             × AreLinesAt IsCompositeWrap skin.now width (map Normal (justified (code_room skin.now width) self.old.block.items)) own) }
     {
+        if self.block.is_empty() {
+            return Ok(());
+        }
         let block = mem::replace(&mut self.block, Vec::new(alloc));
         let columns = block_width(&block, room_of_code(width, skin));
         for composite in block {
