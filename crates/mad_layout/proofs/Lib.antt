@@ -8,6 +8,7 @@ pub mod MarkLemmas
 pub mod MeasureLemmas
 pub mod PartLemmas
 pub mod PieceLemmas
+pub mod ReadWraps
 pub mod RowLemmas
 pub mod RunLemmas
 pub mod ShownLemmas

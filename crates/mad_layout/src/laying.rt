@@ -2,10 +2,10 @@
 
 ghost use Rattle.std.specs.Prelude.{◌≡◌, ◌≤◌, ◌++◌, ◌∷◌, [], false, List, Option, Some, None, map, IfSome, OnOk};
 ghost use Rattle.std.specs.List.{AllByRecursion};
-ghost use Rattle.mad_md.specs.Lines.{LineContent, content_of};
+ghost use Rattle.mad_md.specs.Lines.{LineContent, content_of, normal, styled_runs};
 ghost use Rattle.mad_layout.specs.CompositeWraps.{IsCompositeWrap};
 ghost use Rattle.mad_layout.specs.Laying.{IsOpenBlock, IsLaidFor};
-ghost use Rattle.mad_layout.specs.Lines.{IsLineRead};
+ghost use Rattle.mad_layout.specs.Lines.{IsLineRead, IsCompositeRead};
 ghost use Rattle.mad_layout.specs.Parts.{is_code_kind, is_code_line, widest, block_width, placed_code, justified, code_room, wrap_width, IsLineAt, AreLinesAt};
 ghost use Rattle.mad_layout.specs.WrappedLines.{IsLineMeasured};
 ghost use Rattle.mad_layout.specs.Wraps.{IsMeasured};
@@ -16,9 +16,9 @@ use crate::composite::FmtComposite;
 use crate::line::FmtLine;
 use crate::room::LEAST_WIDTH;
 use crate::skin::MadSkin;
-use crate::wrap::push_line;
+use crate::wrap::{push_line, push_read};
 use mad_fit::Spacing;
-use mad_md::{Alignment, Line};
+use mad_md::{Alignment, Composite, Line};
 use mad_style::CompositeKind;
 use std::alloc::{AllocError, Global};
 use std::mem;
@@ -55,34 +55,37 @@ impl<'s> Laying<'s> {
         ensures laid { OnOk result ((all rest : List LineContent) → IsLaidFor skin.now width all (content_of line.entry ∷ rest) self.old.lines.items self.old.block.items
             → IsLaidFor skin.now width all rest self.new.lines.items self.new.block.items) }
     {
-        match FmtLine::from(alloc, line, skin)? {
-            FmtLine::Normal(composite) => self.push_composite(alloc, composite, width, skin),
-            other => self.push_alone(alloc, other, width, skin),
+        match line {
+            Line::Normal(composite) => self.push_composite(alloc, composite, width, skin),
+            other => {
+                let other = FmtLine::from(alloc, other, skin)?;
+                self.push_alone(alloc, other, width, skin)
+            }
         }
     }
 
-    // A line of code goes into the block that is open.
+    // A line of code goes into the block that is open, any other composite ends it.
     fn push_composite(
         &mut self,
         alloc: Global,
-        composite: FmtComposite<'s>,
+        composite: Composite<'s>,
         width: Option<usize>,
         skin: &MadSkin,
     ) -> Result<(), AllocError>
-        requires measured { IsMeasured skin.now composite }
         requires block { IsOpenBlock skin.now self.old.block.items }
         ensures block { OnOk result (IsOpenBlock skin.now self.new.block.items) }
-        ensures laid { OnOk result ((content : LineContent) (all rest : List LineContent) → IsLineRead skin.now content (Normal composite.entry)
-            → IsLaidFor skin.now width all (content ∷ rest) self.old.lines.items self.old.block.items → IsLaidFor skin.now width all rest self.new.lines.items self.new.block.items) }
+        ensures laid { OnOk result ((all rest : List LineContent) → IsLaidFor skin.now width all (normal (styled_runs composite.entry) ∷ rest) self.old.lines.items self.old.block.items
+            → IsLaidFor skin.now width all rest self.new.lines.items self.new.block.items) }
     {
-        if is_code(composite.kind) {
-            self.block.push(composite)?;
+        if is_code(CompositeKind::from(composite.style)) {
+            self.block.push(FmtComposite::from(composite, skin))?;
             return Ok(());
         }
-        self.push_alone(alloc, FmtLine::Normal(composite), width, skin)
+        self.close(alloc, width, skin)?;
+        push_read_at(alloc, &mut self.lines, composite, width, skin)
     }
 
-    // Any other line ends the block.
+    // Any other line ends the block too.
     fn push_alone(
         &mut self,
         alloc: Global,
@@ -201,5 +204,22 @@ fn push_at<'s>(
     match width {
         Some(width) => push_line(alloc, lines, line, width, skin),
         None => Ok(lines.push(line)?),
+    }
+}
+
+// Puts what becomes of a composite that was read, at a width, after the lines that are there.
+fn push_read_at<'s>(
+    alloc: Global,
+    lines: &mut Vec<FmtLine<'s>>,
+    composite: Composite<'s>,
+    width: Option<usize>,
+    skin: &MadSkin,
+) -> Result<(), AllocError>
+    ensures { OnOk result ((source : FmtComposite) × IsCompositeRead skin.now (styled_runs composite.entry) source
+        × (own : List FmtLine) × (lines.new.items ≡ lines.old.items ++ own) × IsLineAt IsCompositeWrap skin.now width (Normal source) own) }
+{
+    match width {
+        Some(width) => push_read(alloc, lines, composite, width, skin),
+        None => Ok(lines.push(FmtLine::Normal(FmtComposite::from(composite, skin)))?),
     }
 }
