@@ -1,3 +1,4 @@
+pub mod CodeBlockLemmas
 pub mod DrawableLemmas
 pub mod DrawnLayouts
 pub mod HeadlineLemmas
