@@ -5,7 +5,7 @@ use Rattle.std.proofs.lemmas.List.{at_drop_more, at_drop_all, map-append, drop-d
 use Rattle.std.proofs.Math.Seq.{take-suc, take-append_seam, drop-append_seam}
 use Rattle.mad_fit.proofs.AllLemmas.{all_push}
 use Rattle.mad_layout.specs.CodeBlocks.{blocks_among, code_blocks, placed_line, with_block_placed, part_placed, blocks_placed, width_within, code_columns, NoCodeFirst, IsBlockAt}
-use Rattle.mad_layout.specs.Parts.{Part, block, single, is_code_kind, is_code_line, widest, block_width, placed_code, justified, with_code, with_composite, parts_of}
+use Rattle.mad_layout.specs.Parts.{Part, table, block, single, with_table, is_code_kind, is_code_line, widest, block_width, placed_code, justified, with_code, with_composite, parts_of}
 use Rattle.mad_layout.specs.declared.code_blocks.CodeBlock.{CodeBlock}
 use Rattle.mad_layout.specs.declared.composite.FmtComposite.{FmtComposite}
 use Rattle.mad_layout.specs.declared.line.FmtLine.{FmtLine}
@@ -16,19 +16,27 @@ use Rattle.mad_layout.specs.declared.line.FmtLine.TheVariants.{Normal, TableRow,
 -- no block comes first
 abbrev NoBlockFirst : List Part → Type 0
 NoBlockFirst [] = Unit {0}
+NoBlockFirst (table ls ∷ ps) = Unit {0}
 NoBlockFirst (block ls ∷ ps) = ⊥
 NoBlockFirst (single l ∷ ps) = Unit {0}
 
 code_before : (l : FmtComposite) (ps : List Part) → NoBlockFirst ps → with_code l ps ≡ block (l ∷ []) ∷ ps
 code_before l [] h = refl
+code_before l (table ls ∷ ps) h = refl
 code_before l (block ls ∷ ps) h = absurd h
 code_before l (single m ∷ ps) h = refl
+
+no_block_table : (l : FmtLine) (ps : List Part) → NoBlockFirst (with_table l ps)
+no_block_table l [] = tt
+no_block_table l (table ls ∷ ps) = tt
+no_block_table l (block ls ∷ ps) = tt
+no_block_table l (single m ∷ ps) = tt
 
 no_block : (ls : List FmtLine) → NoCodeFirst ls → NoBlockFirst (parts_of ls)
 no_block [] h = tt
 no_block (Normal l ∷ ls) h = subst (λ (b : Bool). NoBlockFirst (with_composite b l (parts_of ls))) (sym h) tt
-no_block (TableRow row ∷ ls) h = tt
-no_block (TableRule rule ∷ ls) h = tt
+no_block (TableRow row ∷ ls) h = no_block_table (TableRow row) (parts_of ls)
+no_block (TableRule rule ∷ ls) h = no_block_table (TableRule rule) (parts_of ls)
 no_block (HorizontalRule ∷ ls) h = tt
 
 abbrev IsCode : FmtComposite → Type 0
@@ -44,20 +52,32 @@ among_with : (at : ℕ) (b : Bool) (l : FmtComposite) (ps : List Part) → b ≡
 among_with at true l ps h = absurd (cc)
 among_with at false l ps h = refl
 
+among_table : (at : ℕ) (l : FmtLine) (ps : List Part) → blocks_among at (with_table l ps) ≡ blocks_among (at + 1) ps
+among_table at l [] = refl
+among_table at l (table ls ∷ ps) = let more : at + suc (length ls) ≡ at + 1 + length ls = omega arith in ap (λ (n : ℕ). blocks_among n ps) more
+among_table at l (block ls ∷ ps) = refl
+among_table at l (single m ∷ ps) = refl
+
 skip_among : (at : ℕ) (l : FmtLine) (ls : List FmtLine) → is_code_line l ≡ false → blocks_among at (parts_of (l ∷ ls)) ≡ blocks_among (at + 1) (parts_of ls)
 skip_among at (Normal l) ls h = among_with at (is_code_kind l.kind) l (parts_of ls) h
-skip_among at (TableRow row) ls h = refl
-skip_among at (TableRule rule) ls h = refl
+skip_among at (TableRow row) ls h = among_table at (TableRow row) (parts_of ls)
+skip_among at (TableRule rule) ls h = among_table at (TableRule rule) (parts_of ls)
 skip_among at HorizontalRule ls h = refl
 
 placed_with : (room : Option ℕ) (b : Bool) (l : FmtComposite) (ps : List Part) → b ≡ false → flat_map (part_placed room) (with_composite b l ps) ≡ Normal l ∷ flat_map (part_placed room) ps
 placed_with room true l ps h = absurd (cc)
 placed_with room false l ps h = refl
 
+placed_table : (room : Option ℕ) (l : FmtLine) (ps : List Part) → flat_map (part_placed room) (with_table l ps) ≡ l ∷ flat_map (part_placed room) ps
+placed_table room l [] = refl
+placed_table room l (table ls ∷ ps) = refl
+placed_table room l (block ls ∷ ps) = refl
+placed_table room l (single m ∷ ps) = refl
+
 skip_placed : (room : Option ℕ) (l : FmtLine) (ls : List FmtLine) → is_code_line l ≡ false → blocks_placed room (l ∷ ls) ≡ l ∷ blocks_placed room ls
 skip_placed room (Normal l) ls h = placed_with room (is_code_kind l.kind) l (parts_of ls) h
-skip_placed room (TableRow row) ls h = refl
-skip_placed room (TableRule rule) ls h = refl
+skip_placed room (TableRow row) ls h = placed_table room (TableRow row) (parts_of ls)
+skip_placed room (TableRule rule) ls h = placed_table room (TableRule rule) (parts_of ls)
 skip_placed room HorizontalRule ls h = refl
 
 -- ---- what was found at a line

@@ -39,7 +39,7 @@ area_layout {E} (Err x) skin markdown area width e h = tt
 pub wrapped_at : (skin : MadSkin) (width : ℕ) (text : List LineContent) (lines : List FmtLine) → 3 ≤ width → IsLayoutAt skin (Some width) text lines → IsLayout skin width text lines
 wrapped_at skin width text lines wide h =
     let test : nat_lt width 3 ≡ false = grind (arith, nat_tests) in
-    subst (λ (b : Bool). IsLayoutBy IsCompositeWrap skin (if b then None else Some width) text lines) test h
+    subst (λ (b : Bool). IsLayoutBy IsCompositeWrap skin width (if b then None else Some width) text lines) test h
 
 -- so it is a fitting layout
 pub layout_fitting : (skin : MadSkin) (width : Option ℕ) (text : List LineContent) (lines : List FmtLine) → IsLayoutAt skin width text lines → IsFittingLayoutAt skin width text lines

@@ -8,13 +8,17 @@ pub mod LayoutLemmas
 pub mod MarkLemmas
 pub mod MeasureLemmas
 pub mod PartLemmas
+pub mod PartRuns
 pub mod PieceLemmas
 pub mod ReadWraps
 pub mod RowLemmas
 pub mod RunLemmas
 pub mod ShownLemmas
 pub mod SourceLemmas
+pub mod TableLemmas
+pub mod TableWidths
 pub mod WholeTokens
 pub mod WordLemmas
 pub mod WordScreens
+pub mod WrapKinds
 pub mod WrapLemmas

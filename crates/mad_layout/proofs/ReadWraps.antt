@@ -1,5 +1,5 @@
 -- A composite that was read and laid out at once, measured no further than to where it passes the width.
-use Rattle.std.proofs.Common.{◌≡◌, false, ℕ, ◌+◌, ◌-◌, ◌<◌, ◌≤◌, ◌^◌, inl, inr, List, [], ◌∷◌, ◌++◌, map, Option, None, Some, Vec, Global, refl, ap, ◌∙◌, arith, subst}
+use Rattle.std.proofs.Common.{◌≡◌, true, ℕ, ◌+◌, ◌-◌, ◌<◌, ◌≤◌, ◌^◌, inl, inr, List, [], ◌∷◌, ◌++◌, map, Option, None, Some, Vec, Global, refl, ap, ◌∙◌, arith, subst}
 use Rattle.std.proofs.lemmas.Bool.Decides.{nat_tests}
 use Rattle.mad_md.specs.declared.compound.Compound.{Compound}
 use Rattle.mad_md.specs.declared.composite.CompositeStyle.{CompositeStyle}
@@ -18,10 +18,11 @@ use Rattle.mad_wrap.specs.LeastWrap.{IsWrap}
 use Rattle.mad_wrap.specs.WrapLines.{capped, compounds_of, AreCounted}
 use Rattle.mad_wrap.specs.declared.room.Room.{Room}
 use Rattle.mad_wrap.specs.declared.wrapped_line.WrappedLine.{WrappedLine}
-use Rattle.mad_layout.specs.CompositeWraps.{AreComposites}
+use Rattle.mad_layout.specs.CompositeWraps.{AreComposites, IsCompositeWrap}
 use Rattle.mad_layout.specs.Indents.{follow_up, room_of}
 use Rattle.mad_layout.specs.Lines.{IsCompositeRead, IsLineRead}
-use Rattle.mad_layout.specs.Parts.{is_code_line}
+use Rattle.mad_layout.specs.Parts.{IsLineAt}
+use Rattle.mad_layout.specs.Tables.{is_table_line}
 use Rattle.mad_layout.specs.Styles.{line_style}
 use Rattle.mad_layout.specs.WrappedLines.{IsWrapped, line_with, style_margins}
 use Rattle.mad_layout.specs.declared.skin.MadSkin.{MadSkin}
@@ -107,18 +108,20 @@ read_wraps skin width style kind compounds margins r wrapped old new kind_is mar
       pushed.2,
     )
 
--- what is read of no composite is no code
-pub alone_read : (skin : MadSkin) (line : Line) (l : FmtLine) → ((composite : Composite) → line ≡ read.Normal composite → ⊥) → IsLineRead skin (content_of line) l → is_code_line l ≡ false
-alone_read skin (read.Normal composite) l other h = absurd (other composite refl)
-alone_read skin (read.TableRow row) (Normal m) other h = absurd h
-alone_read skin (read.TableRow row) (TableRow made) other h = refl
-alone_read skin (read.TableRow row) (TableRule rule) other h = refl
-alone_read skin (read.TableRow row) HorizontalRule other h = refl
-alone_read skin (read.TableRule rule) (Normal m) other h = absurd h
-alone_read skin (read.TableRule rule) (TableRow made) other h = refl
-alone_read skin (read.TableRule rule) (TableRule made) other h = refl
-alone_read skin (read.TableRule rule) HorizontalRule other h = refl
-alone_read skin read.HorizontalRule (Normal m) other h = absurd h
-alone_read skin read.HorizontalRule (TableRow made) other h = refl
-alone_read skin read.HorizontalRule (TableRule rule) other h = refl
-alone_read skin read.HorizontalRule HorizontalRule other h = refl
+-- what is read of a line that is no composite and no rule is a line of a table
+pub table_read : (skin : MadSkin) (line : Line) (l : FmtLine) → ((composite : Composite) → line ≡ read.Normal composite → ⊥) → (line ≡ read.HorizontalRule → ⊥) → IsLineRead skin (content_of line) l → is_table_line l ≡ true
+table_read skin (read.Normal composite) l other rule h = absurd (other composite refl)
+table_read skin (read.TableRow row) (Normal m) other rule h = absurd h
+table_read skin (read.TableRow row) (TableRow made) other rule h = refl
+table_read skin (read.TableRow row) (TableRule made) other rule h = refl
+table_read skin (read.TableRow row) HorizontalRule other rule h = absurd h
+table_read skin (read.TableRule cells) (Normal m) other rule h = absurd h
+table_read skin (read.TableRule cells) (TableRow made) other rule h = refl
+table_read skin (read.TableRule cells) (TableRule made) other rule h = refl
+table_read skin (read.TableRule cells) HorizontalRule other rule h = absurd h
+table_read skin read.HorizontalRule l other rule h = absurd (rule refl)
+
+-- a rule stays at any width
+pub rule_at : (skin : MadSkin) (width : Option ℕ) → IsLineAt IsCompositeWrap skin width HorizontalRule (HorizontalRule ∷ [])
+rule_at skin None = refl
+rule_at skin (Some width) = refl

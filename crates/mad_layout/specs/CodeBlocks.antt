@@ -1,7 +1,7 @@
 -- Blocks of code among lines.
 use Rattle.std.specs.Prelude.{◌≡◌, ℕ, ◌+◌, true, false, List, [], ◌∷◌, ◌++◌, map, length, take, drop, min, Option, Some, None, if◌then◌else◌}
 use Rattle.std.specs.List.{AllByRecursion, flat_map}
-use Rattle.mad_layout.specs.Parts.{Part, block, single, is_code_kind, is_code_line, widest, placed_code, justified, parts_of}
+use Rattle.mad_layout.specs.Parts.{Part, table, block, single, is_code_kind, is_code_line, widest, placed_code, justified, parts_of}
 use Rattle.mad_layout.specs.declared.code_blocks.CodeBlock.{CodeBlock}
 use Rattle.mad_layout.specs.declared.composite.FmtComposite.{FmtComposite}
 use Rattle.mad_layout.specs.declared.line.FmtLine.{FmtLine}
@@ -10,6 +10,7 @@ use Rattle.mad_layout.specs.declared.line.FmtLine.TheVariants.{Normal, TableRow,
 -- the blocks among parts, the first of which begins at this line
 abbrev pub blocks_among : ℕ → List Part → List CodeBlock
 blocks_among at [] = []
+blocks_among at (table ls ∷ ps) = blocks_among (at + length ls) ps
 blocks_among at (block ls ∷ ps) = record { start = at; height = length ls; width = widest ls } ∷ blocks_among (at + length ls) ps
 blocks_among at (single l ∷ ps) = blocks_among (at + 1) ps
 
@@ -30,6 +31,7 @@ with_block_placed b ls = take b.start ls ++ (map (placed_line b.width) (take b.h
 
 -- the lines of a part, those of a block in its place
 abbrev pub part_placed : Option ℕ → Part → List FmtLine
+part_placed room (table ls) = ls
 part_placed room (block ls) = map Normal (justified room ls)
 part_placed room (single l) = l ∷ []
 
