@@ -1,3 +1,4 @@
+pub mod CodeBlockLemmas
 pub mod DrawableLemmas
 pub mod DrawableTables
 pub mod DrawnParts
@@ -11,6 +12,7 @@ pub mod MeasureLemmas
 pub mod PartLemmas
 pub mod PartRuns
 pub mod PieceLemmas
+pub mod ReadWraps
 pub mod RowLemmas
 pub mod RunLemmas
 pub mod ShownLemmas
