@@ -20,5 +20,6 @@ pub mod TableWidths
 pub mod WholeTokens
 pub mod WordLemmas
 pub mod WordScreens
+pub mod WorkedTables
 pub mod WrapKinds
 pub mod WrapLemmas

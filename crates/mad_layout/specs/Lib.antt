@@ -23,6 +23,7 @@ pub mod SkinParts
 pub mod Skins
 pub mod Sources
 pub mod Styles
+pub mod TableLaws
 pub mod TableRows
 pub mod Tables
 pub mod Texts

@@ -84,6 +84,8 @@ pub use Rattle.mad_layout.specs.ShownLayouts
 pub use Rattle.mad_layout.specs.SkinParts
 pub use Rattle.mad_layout.specs.Skins
 pub use Rattle.mad_layout.specs.Styles as SkinStyles
+pub use Rattle.mad_layout.specs.TableLaws
+pub use Rattle.mad_layout.specs.Tables
 pub use Rattle.mad_layout.specs.Texts
 pub use Rattle.mad_layout.specs.WrappedLines
 pub use Rattle.mad_layout.specs.Wraps
@@ -105,6 +107,7 @@ pub use Rattle.mad_json.specs.Fields as SkinFields
 pub use Rattle.mad_json.specs.Lists as SkinLists
 pub use Rattle.mad_json.specs.Modes
 pub use Rattle.mad_json.specs.Reading as SkinReading
+pub use Rattle.mad_json.specs.ReadsBack as SkinsReadBack
 pub use Rattle.mad_json.specs.ScrollBars
 pub use Rattle.mad_json.specs.Texts as SkinTexts
 pub use Rattle.mad_json.specs.Written as SkinWritten

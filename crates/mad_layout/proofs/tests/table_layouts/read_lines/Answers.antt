@@ -2,7 +2,7 @@ use Rattle.std.proofs.Common.{sym, subst}
 use Rattle.mad_fit.proofs.AllLemmas.{all_push}
 use Rattle.mad_layout.specs.WrappedLines.{AllMeasured, IsLineMeasured}
 use Rattle.mad_layout.proofs.LayoutLemmas.{line_measured}
-use Rattle.mad_layout.proofs.tests.tables.read_lines.Goals as goal
+use Rattle.mad_layout.proofs.tests.table_layouts.read_lines.Goals as goal
 
 pub loop-line-preserved : goal.loop-line-preserved
 loop-line-preserved c =
