@@ -145,12 +145,12 @@ fn rules_at_each_place_of_a_table(rt: HostRuntime) -> Result<(), Error> {
 fn tables_in_a_wider_place(rt: HostRuntime) -> Result<(), Error> {
     let alloc = rt.alloc();
     let cases = [
-        (Alignment::Unspecified, ["│a │    ", "├──┤    "]),
-        (Alignment::Left, ["│a │    ", "├──┤    "]),
-        (Alignment::Center, ["  │a │  ", "  ├──┤  "]),
-        (Alignment::Right, ["    │a │", "    ├──┤"]),
+        (Alignment::Unspecified, "│a │    ", "├──┤    "),
+        (Alignment::Left, "│a │    ", "├──┤    "),
+        (Alignment::Center, "  │a │  ", "  ├──┤  "),
+        (Alignment::Right, "    │a │", "    ├──┤"),
     ];
-    for (align, rows) in cases {
+    for (align, of_row, of_rule) in cases {
         let mut skin = MadSkin::no_style();
         skin.table.align = align;
         // Margins of the table's style say nothing.
@@ -158,7 +158,7 @@ fn tables_in_a_wider_place(rt: HostRuntime) -> Result<(), Error> {
         let mut lines = Vec::new(alloc);
         lines.push(row(alloc, &skin, &[("a", 2)], Alignment::Left)?)?;
         lines.push(rule(alloc, RelativePosition::Other, &[2])?)?;
-        assert_rows(&rt, alloc, &skin, lines, [8, 2], &rows)?;
+        assert_rows(&rt, alloc, &skin, lines, [8, 2], &[of_row, of_rule])?;
     }
     Ok(())
 }
