@@ -20,12 +20,12 @@ mod areas;
 mod bounds;
 mod calls;
 mod displays;
-mod drawn_tables;
 mod extremes;
 mod made;
 mod marks;
 mod styles;
 mod table_layouts;
+mod tables;
 
 fn skin_with(left_margin: usize, right_margin: usize, mode: ListItemsIndentationMode) -> MadSkin {
     let style = LineStyle {
