@@ -98,7 +98,7 @@ parts_code (TableRow row ∷ ls) = (tt, parts_code ls)
 parts_code (TableRule rule ∷ ls) = (tt, parts_code ls)
 parts_code (HorizontalRule ∷ ls) = (tt, parts_code ls)
 
-code_is : (k : CompositeKind) → is_code_kind k ≡ true → k ≡ Code
+pub code_is : (k : CompositeKind) → is_code_kind k ≡ true → k ≡ Code
 code_is Paragraph h = absurd (cc)
 code_is (Header level) h = absurd (cc)
 code_is (ListItem depth) h = absurd (cc)

@@ -4,6 +4,9 @@ pub use Rattle.mad_draw.specs.PennedCells
 pub mod CompositeWraps
 pub mod Drawable
 pub mod FittingLayouts
+pub mod FlaggedLines
+pub mod FlaggedRows
+pub mod Headline
 pub mod InArea
 pub mod Indents
 pub mod Inlines
