@@ -1,8 +1,10 @@
 -- The headline follows from what an area shows of a layout.
-use Rattle.std.proofs.Common.{◌≡◌, ℕ, zero, suc, ◌-◌, ◌^◌, ◌<◌, ◌≤◌, List, [], ◌∷◌, ◌++◌, map, take, replicate, get_or, Option, Some, None, IfSome, Result, Ok, Err, OnOk, refl, ap, sym, ◌∙◌, subst, arith}
+use Rattle.std.proofs.Common.{◌≡◌, ℕ, zero, suc, ◌-◌, ◌^◌, ◌<◌, ◌≤◌, ◌⊎◌, inl, inr, List, [], ◌∷◌, ◌++◌, map, take, length, replicate, get_or, Option, Some, None, IfSome, Result, Ok, Err, OnOk, refl, ap, sym, ◌∙◌, subst, arith, append_assoc}
 use Rattle.std.specs.Prelude.{slice_get, unwrap_or}
 use Rattle.std.proofs.Math.ListN.{get_or-map}
-use Rattle.std.proofs.lemmas.List.{map-append}
+use Rattle.std.specs.List.{flat_map}
+use Rattle.std.proofs.lemmas.List.{append-nil, length-map, map-append}
+use Rattle.std.proofs.lemmas.List.Concat.{flat_map-append}
 use Rattle.mad_columns.specs.Columns.{char_columns}
 use Rattle.mad_screen.specs.Glyph.{Glyph, Look}
 use Rattle.mad_screen.specs.Grid.{plain_pen, blank, glyphs}
@@ -15,7 +17,8 @@ use Rattle.mad_fit.specs.declared.area.Area.{Area}
 use Rattle.mad_draw.specs.Pieces.{PennedChar, penned_chars}
 use Rattle.mad_draw.specs.PennedCells.{penned_joined, penned_cells}
 use Rattle.mad_layout.specs.CompositeWraps.{IsCompositeWrap}
-use Rattle.mad_layout.specs.FlaggedLines.{lines_in_parts}
+use Rattle.mad_layout.specs.FlaggedLines.{LineInPart, text_parts, lines_in_parts, AreAcross}
+use Rattle.mad_layout.specs.Fronts.{IsFrontLayout}
 use Rattle.mad_layout.specs.Headline.{cell_chars, AreShownAcross, ShowsFirstRows}
 use Rattle.mad_layout.specs.InArea.{ShowsText}
 use Rattle.mad_layout.specs.Layouts.{IsLayout}
@@ -25,10 +28,10 @@ use Rattle.mad_layout.specs.Rows.{row_pieces}
 use Rattle.mad_layout.specs.Shown.{AreShownIn}
 use Rattle.mad_layout.specs.declared.skin.MadSkin.{MadSkin}
 use Rattle.mad_layout.specs.declared.line.FmtLine.{FmtLine}
-use Rattle.mad_layout.proofs.HeadlineLemmas.{wrapped_at}
+use Rattle.mad_layout.proofs.HeadlineLemmas.{front_wrapped, front_keeps}
 use Rattle.mad_layout.proofs.PartLemmas.{parts_are_lines}
 use Rattle.mad_layout.proofs.RowChars.{char_of, line_chars, spaces_chars}
-use Rattle.mad_layout.proofs.RowsAcross.{front_across}
+use Rattle.mad_layout.proofs.RowsAcross.{across_exist, front_across}
 use Rattle.mad_layout.proofs.TextParts.{text_placed, lines_are}
 
 -- ---- the characters of cells don't depend on pens
@@ -108,20 +111,63 @@ took_more_at (Some before) new P Q more h = (h.0, h.1, more h.0 h.2)
 
 -- ---- the headline
 
+-- what follows rows that are enough isn't seen
+enough_rows : (n : ℕ) (xs ys : List (List ℕ)) → n ≤ length xs → take n (xs ++ ys) ≡ take n xs
+enough_rows zero xs ys h = refl
+enough_rows (suc n) [] ys h = absurd (omega (arith, h))
+enough_rows (suc n) (x ∷ xs) ys h = ap (λ (l : List (List ℕ)). x ∷ l) (enough_rows n xs ys (omega (arith, h)))
+
+as_long : (n : ℕ) (xs ys : List (List ℕ)) → take n xs ≡ take n ys → n ≤ length ys → n ≤ length xs
+as_long zero xs ys e h = omega arith
+as_long (suc n) xs [] e h = absurd (omega (arith, h))
+as_long (suc n) [] (y ∷ ys) e h = absurd (cc)
+as_long (suc n) (x ∷ xs) (y ∷ ys) e h = let tail : take n xs ≡ take n ys = cc in let more : n ≤ length xs = as_long n xs ys tail (omega (arith, h)) in omega (arith, more)
+
+across_both : (skin : MadSkin) (area : Area) (xs ys : List LineInPart) (own others : List (List ℕ)) → AreAcross skin area xs own → AreAcross skin area ys others → AreAcross skin area (xs ++ ys) (own ++ others)
+across_both skin area [] ys own others h more = subst (λ (l : List (List ℕ)). AreAcross skin area ys (l ++ others)) (sym h) more
+across_both skin area (x ∷ xs) ys own others (first, rest, joins, here, h) more =
+    (first, rest ++ others, ap (λ (l : List (List ℕ)). l ++ others) joins ∙ append_assoc first rest others, here, across_both skin area xs ys rest others h more)
+
+-- The rows of a text's first lines are the first rows of the whole text, if they are enough: the rest has rows.
+pub front_is_enough : (skin : MadSkin) (area : Area) (xs ys : List LineInPart) (own lines : List (List ℕ)) → AreAcross skin area xs own → take area.height own ≡ take area.height lines → (ys ≡ []) ⊎ (area.height ≤ length lines)
+    → (across : List (List ℕ)) × AreAcross skin area (xs ++ ys) across × (take area.height across ≡ take area.height lines)
+front_is_enough skin area xs ys own lines h same (inl none) =
+    (own, subst (λ (l : List LineInPart). AreAcross skin area l own) (sym (ap (λ (l : List LineInPart). xs ++ l) none ∙ append-nil xs)) h, same)
+front_is_enough skin area xs ys own lines h same (inr some) =
+    let more = across_exist skin area ys in
+    (own ++ more.0, across_both skin area xs ys own more.0 h more.1, enough_rows area.height own more.0 (as_long area.height own lines same some) ∙ same)
+
+-- the lines of a text in their parts, where no part is cut
+in_parts_both : (text front rest : List LineContent) → text_parts text ≡ text_parts front ++ text_parts rest → lines_in_parts text ≡ lines_in_parts front ++ lines_in_parts rest
+in_parts_both text front rest parts =
+    let each : List LineContent → List LineInPart = λ part. map (λ line. record { part = part; line = line }) part in
+    ap (flat_map each) parts ∙ flat_map-append each (text_parts front) (text_parts rest)
+
+rest_or_enough : (skin : MadSkin) (width : ℕ) (height : ℕ) (rest : List LineContent) (lines : List FmtLine) → (rest ≡ []) ⊎ (height ≤ length lines) → (lines_in_parts rest ≡ []) ⊎ (height ≤ length (map (line_chars skin width) lines))
+rest_or_enough skin width height rest lines (inl none) = inl (ap lines_in_parts none)
+rest_or_enough skin width height rest lines (inr some) = inr (omega (arith, some, length-map lines (line_chars skin width)))
+
 headline : (skin : MadSkin) (markdown : List ℕ) (area : Area) (old new : Trace) → IsWithinLimits area → 4 ≤ area.width → ShowsText skin markdown area old new → ShowsFirstRows skin markdown area old new
 headline skin markdown area old new limits wide h =
     let text : List LineContent = h.laid_out.text in
     let width : ℕ = area.width - 1 in
-    let layout : IsLayout skin width text h.lines = wrapped_at skin width text h.lines (omega (arith, wide)) h.laid_out.layout in
+    let front : IsFrontLayout skin (Some width) area.height text h.lines = front_wrapped skin width area.height text h.lines (omega (arith, wide)) h.laid_out.layout in
+    let layout : IsLayout skin width front.front h.lines = front.layout in
     let bound : area.width < 2 ^ 64 - 1 = omega (arith, limits.columns) in
     record {
       lines = text;
       read = h.laid_out.read;
       shown = λ premises.
-          let keeps = subst (λ (ls : List LineContent). KeepsPremises skin width (take area.height ls)) (sym (lines_are text)) premises in
-          let rows = front_across skin area area.height (lines_in_parts text) (blocks_justified (code_room skin (Some width)) layout.read) h.lines bound keeps
-          (text_placed skin width text layout.read (omega (arith, bound)) layout.reads) (parts_are_lines IsCompositeWrap skin (Some width) (parts_of layout.read) h.lines layout.laid) in
-          (rows.0, rows.1, took_more_at old.bytes new (AreShownIn skin h.lines area 0) (AreShownAcross rows.0 area) (shown_across skin h.lines area rows.0 rows.2) (h.shown premises));
+          let first = front_keeps skin width area.height text front.front front.rest front.joins premises in
+          let keeps = subst (λ (ls : List LineContent). KeepsPremises skin width (take area.height ls)) (sym (lines_are front.front)) first in
+          let rows = front_across skin area area.height (lines_in_parts front.front) (blocks_justified (code_room skin (Some width)) layout.read) h.lines bound keeps
+          (text_placed skin width front.front layout.read (omega (arith, bound)) layout.reads) (parts_are_lines IsCompositeWrap skin (Some width) (parts_of layout.read) h.lines layout.laid) in
+          let all = front_is_enough skin area (lines_in_parts front.front) (lines_in_parts front.rest) rows.0 (map (line_chars skin area.width) h.lines) rows.1 rows.2
+          (rest_or_enough skin area.width area.height front.rest h.lines front.enough) in (
+            all.0,
+            subst (λ (ls : List LineInPart). AreAcross skin area ls all.0) (sym (in_parts_both text front.front front.rest front.parts)) all.1,
+            took_more_at old.bytes new (AreShownIn skin h.lines area 0) (AreShownAcross all.0 area) (shown_across skin h.lines area all.0 all.2) (h.shown premises),
+          );
     }
 
 pub headline_shown : {T E : Type 0} (r : Result T E) (skin : MadSkin) (markdown : List ℕ) (area : Area) (old new : Trace) → IsWithinLimits area

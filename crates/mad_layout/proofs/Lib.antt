@@ -2,6 +2,7 @@ pub mod DrawableLemmas
 pub mod DrawnLayouts
 pub mod FlaggedBreaks
 pub mod FlaggedTokens
+pub mod FrontLemmas
 pub mod HeadlineLemmas
 pub mod HeadlineRows
 pub mod InlineLemmas

@@ -30,7 +30,7 @@ is_code _ = false
 -- a line in front of parts: it joins the first of them if both are code
 abbrev pub in_front : LineContent → List (List LineContent) → List (List LineContent)
 in_front l [] = (l ∷ []) ∷ []
-in_front l ([] ∷ parts) = (l ∷ []) ∷ parts
+in_front l ([] ∷ parts) = (l ∷ []) ∷ [] ∷ parts
 in_front l ((m ∷ ms) ∷ parts) = if is_code l && is_code m then (l ∷ m ∷ ms) ∷ parts else (l ∷ []) ∷ (m ∷ ms) ∷ parts
 
 -- the parts of a text: its blocks of code, each as long as can be, and any other line by itself

@@ -6,6 +6,7 @@ pub mod Drawable
 pub mod FittingLayouts
 pub mod FlaggedLines
 pub mod FlaggedRows
+pub mod Fronts
 pub mod Headline
 pub mod InArea
 pub mod Indents

@@ -42,7 +42,7 @@ impl MadSkin {
         // The same with no premise but on the source: each of its characters takes columns, line ends apart.
         ensures shown_source { OnOk result (4 ≤ area.now.width → LinesTakeColumns markdown.now → ShowsSource self.now markdown.now area.now (O.seen out.old) (O.seen out.new)) }
     {
-        let text = self.area_text(alloc, markdown, area)?;
+        let text = self.area_front(alloc, markdown, area)?;
         draw_text(alloc, out, &text, area, 0)
     }
 
