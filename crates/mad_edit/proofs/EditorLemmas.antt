@@ -16,7 +16,7 @@ own_lines ls at tail h = lines-text_of ls (omega (arith, h.cursor.0)) h.plain
 pub lines_seen : (e : Editor) (ls : List (List ℕ)) (at : Pos) (tail : Option Pos) → record { text = text_of ls; offset = offset_of ls at; tail = tail } ≡ e → IsValid ls at tail → lines e.text ≡ ls
 lines_seen e ls at tail seen h = ap (λ (x : Editor). lines x.text) (sym seen) ∙ own_lines ls at tail h
 
-abbrev Seen : Editor → List (List ℕ) → Pos → Option Pos → Type 0
+abbrev pub Seen : Editor → List (List ℕ) → Pos → Option Pos → Type 0
 Seen e ls at tail = record { text = text_of ls; offset = offset_of ls at; tail = tail } ≡ e
 
 last_seen : (ls : List (List ℕ)) (at : Pos) (tail : Option Pos) → IsValid ls at tail → max (offset_of ls at) (tail_offset (text_of ls) (offset_of ls at) tail) ≤ length (text_of ls)

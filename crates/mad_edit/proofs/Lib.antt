@@ -5,3 +5,4 @@ pub mod TextLemmas
 pub mod UndoLemmas
 pub mod SwapLemmas
 pub mod PushLemmas
+pub mod CompareLemmas

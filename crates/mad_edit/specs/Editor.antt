@@ -1,6 +1,8 @@
 -- What an editor is: one text, an offset into it, and an optional tail.
-use Rattle.std.specs.Prelude.{ℕ, ◌+◌, ◌-◌, ◌<◌, ◌≤◌, ◌≡◌, List, ◌++◌, All, Option, None, Some, Bool, not, ◌==◌, length, take, drop, min, max, option_map, slice_range, count_by, nat_lt, if◌then◌else◌}
-use Rattle.std.specs.Option.{ForSome}
+use Rattle.std.specs.Prelude.{ℕ, ◌+◌, ◌-◌, ◌<◌, ◌≤◌, ◌≡◌, List, ◌++◌, All, Option, None, Some, Bool, not, ◌==◌, length, take, drop, min, max, option_map, slice_range, count_by, nat_lt, nat_eq, if◌then◌else◌}
+use Rattle.std.specs.Cmp.Lexicographic.{pointwise}
+use Rattle.std.specs.Option.{ForSome, option_eq}
+use Rattle.std.specs.Ordering.{on, eq_of_both}
 use Rattle.std.specs.List.{prefix_len, suffix_len}
 use Rattle.mad_lines.specs.declared.place.Pos.{Pos}
 use Rattle.mad_lines.specs.CharClasses.{is_alphanumeric}
@@ -11,6 +13,14 @@ pub record Editor : Type 0 where
   pub text : List ℕ
   pub offset : ℕ
   pub tail : Option Pos
+
+abbrev pub same_place : Pos → Pos → Bool
+same_place = eq_of_both (on (λ p. p.y) nat_eq) (on (λ p. p.x) nat_eq)
+
+-- whether two editors have the same text, offset and tail
+abbrev pub same_editor : Editor → Editor → Bool
+same_editor =
+    eq_of_both (on (λ e. e.text) (pointwise nat_eq)) (eq_of_both (on (λ e. e.offset) nat_eq) (on (λ e. e.tail) (option_eq same_place)))
 
 -- a place of the text, and the offset that says the same
 abbrev pub IsPlaceIn : List ℕ → Pos → Type 0

@@ -5,6 +5,7 @@ ghost use Rattle.std.specs.Option.{option_or, ForSome};
 ghost use Rattle.mad_lines.specs.TextLines.{lines, lines_of, accepted};
 ghost use Rattle.mad_edit.specs.Editor.{IsPlaceIn, offset_at, IsAt, clamp_in, clamp_tail, replaced, cursor_line, cursor_column, front_of_line, rest_of_line, IsEditor, IsWide, IsMovedToLine, selection_start, selection_last};
 
+mod comparing;
 mod reading;
 mod rewriting;
 mod showing;

@@ -1,7 +1,7 @@
 -- A layout of a plain text is drawn exactly.
-use Rattle.std.proofs.Common.{◌≡◌, ℕ, zero, suc, ◌+◌, ◌-◌, ◌^◌, ◌<◌, ◌≤◌, inl, inr, List, [], ◌∷◌, ◌++◌, map, Option, Some, None, Contains, drop, length, min, take, refl, sym, ap, ◌∙◌, subst, arith}
+use Rattle.std.proofs.Common.{◌≡◌, ℕ, true, zero, suc, ◌+◌, ◌-◌, ◌^◌, ◌<◌, ◌≤◌, inl, inr, List, [], ◌∷◌, ◌++◌, map, Option, Some, None, Contains, drop, length, min, take, refl, sym, ap, ◌∙◌, subst, arith, append_assoc}
 use Rattle.std.specs.Prelude.{IfSome, unwrap_or}
-use Rattle.std.specs.List.{AllByRecursion}
+use Rattle.std.specs.List.{AllByRecursion, flat_map}
 use Rattle.std.specs.Str.{IsUtf8}
 use Rattle.std.proofs.lemmas.Bool.Decides.{nat_tests}
 use Rattle.mad_columns.specs.Columns.{char_columns}
@@ -27,7 +27,8 @@ use Rattle.mad_layout.specs.FittingLayouts.{IsFittingWrap, IsFittingLayout}
 use Rattle.mad_layout.specs.Indents.{indent, follow_up, room_of}
 use Rattle.mad_layout.specs.Layouts.{AreRead, IsLayout}
 use Rattle.mad_layout.specs.Lines.{IsLineRead}
-use Rattle.mad_layout.specs.Parts.{Part, parts_of, part_lines, blocks_justified, code_room, IsLineAt, AreLinesAt, ArePartsAt}
+use Rattle.mad_layout.specs.Parts.{Part, table, block, single, parts_of, justified, code_room, IsPartAt, IsLineAt, AreLinesAt, ArePartsAt}
+use Rattle.mad_layout.specs.Tables.{is_table_line}
 use Rattle.mad_layout.specs.Premises.{IsPlainRun, runs_text, IsPlainPrefix, IsPlainLine, IsPlainContent, KeepsPremises}
 use Rattle.mad_layout.specs.Rows.{compound_piece, place_of}
 use Rattle.mad_layout.specs.Styles.{line_style}
@@ -39,7 +40,8 @@ use Rattle.mad_layout.specs.declared.composite.FmtComposite.{FmtComposite}
 use Rattle.mad_layout.specs.declared.line.FmtLine.{FmtLine}
 use Rattle.mad_layout.specs.declared.line.FmtLine.TheVariants.{Normal, TableRow, TableRule, HorizontalRule}
 use Rattle.mad_layout.proofs.MarkLemmas.{mark_shown, mark_columns, follow_up_plain}
-use Rattle.mad_layout.proofs.PartLemmas.{IsPlacedLine, ArePlacedLines, lines_placed, parts_are_lines}
+use Rattle.mad_layout.proofs.PartLemmas.{IsPlacedLine, ArePlacedLines, IsPartOfKind, raw_lines, parts_raw, parts_kinds, code_placed}
+use Rattle.mad_layout.proofs.WrapKinds.{table_by}
 use Rattle.mad_layout.proofs.WholeTokens.{IsShownRun, plain_is_shown, tokens_shown}
 
 -- ---- one line
@@ -239,26 +241,61 @@ content_drawable skin width drawn horizontal_rule HorizontalRule m own narrower 
     (omega (arith, one), subst (AreDrawable skin drawn) (sym becomes) (plain, tt))
 content_drawable skin width drawn horizontal_rule HorizontalRule m own narrower bound plain read (inr placed) here = absurd placed
 
-lines_drawable : (skin : MadSkin) (width drawn n : ℕ) (text : List LineContent) (read placed lines : List FmtLine) → width ≤ drawn → drawn < 2 ^ 64 - 1
-    → KeepsPremises skin width (take n text) → AreRead skin text read → ArePlacedLines skin width read placed → AreLinesAt IsFittingWrap skin (Some width) placed lines → AreDrawable skin drawn (take n lines)
-lines_drawable skin width drawn zero text read placed lines narrower bound keeps reads places becomes = tt
-lines_drawable skin width drawn (suc n) [] (l ∷ ls) placed lines narrower bound keeps reads places becomes = absurd reads
-lines_drawable skin width drawn (suc n) (c ∷ cs) [] placed lines narrower bound keeps reads places becomes = absurd reads
-lines_drawable skin width drawn (suc n) [] [] (m ∷ ms) lines narrower bound keeps reads places becomes = absurd places
-lines_drawable skin width drawn (suc n) [] [] [] lines narrower bound keeps reads places becomes = subst (λ (ls : List FmtLine). AreDrawable skin drawn (take (suc n) ls)) (sym becomes) tt
-lines_drawable skin width drawn (suc n) (c ∷ cs) (l ∷ ls) [] lines narrower bound keeps reads places becomes = absurd places
-lines_drawable skin width drawn (suc n) (c ∷ cs) (l ∷ ls) (m ∷ ms) lines narrower bound keeps reads places (own, others, joins, here, more) =
-    let first = content_drawable skin width drawn c l m own narrower bound keeps.0 reads.0 places.0 here in
+-- the lines of a part, where those of the parts after it are drawn exactly
+lines_drawable : (skin : MadSkin) (width drawn n : ℕ) (text : List LineContent) (read placed own rest others : List FmtLine) → width ≤ drawn → drawn < 2 ^ 64 - 1
+    → ((m : ℕ) (t : List LineContent) → KeepsPremises skin width (take m t) → AreRead skin t rest → AreDrawable skin drawn (take m others))
+    → KeepsPremises skin width (take n text) → AreRead skin text (read ++ rest) → ArePlacedLines skin width read placed → AreLinesAt IsFittingWrap skin (Some width) placed own → AreDrawable skin drawn (take n (own ++ others))
+lines_drawable skin width drawn zero text read placed own rest others narrower bound later keeps reads places becomes = tt
+lines_drawable skin width drawn (suc n) text [] (m ∷ ms) own rest others narrower bound later keeps reads places becomes = absurd places
+lines_drawable skin width drawn (suc n) text [] [] own rest others narrower bound later keeps reads places becomes =
+    subst (λ (ls : List FmtLine). AreDrawable skin drawn (take (suc n) (ls ++ others))) (sym becomes) (later (suc n) text keeps reads)
+lines_drawable skin width drawn (suc n) [] (l ∷ ls) placed own rest others narrower bound later keeps reads places becomes = absurd reads
+lines_drawable skin width drawn (suc n) (c ∷ cs) (l ∷ ls) [] own rest others narrower bound later keeps reads places becomes = absurd places
+lines_drawable skin width drawn (suc n) (c ∷ cs) (l ∷ ls) (m ∷ ms) own rest others narrower bound later keeps reads places (first, more, joins, here, below) =
+    let one = content_drawable skin width drawn c l m first narrower bound keeps.0 reads.0 places.0 here in
+    subst (λ (xs : List FmtLine). AreDrawable skin drawn (take (suc n) xs)) (sym (ap (λ xs. xs ++ others) joins ∙ append_assoc first more others))
+    (some_joined skin drawn first (more ++ others) n one.0 one.1 (lines_drawable skin width drawn n cs ls ms more rest others narrower bound later keeps.1 reads.1 places.1 below))
+
+-- no line of a table keeps the premises
+no_table_line : (skin : MadSkin) (width : ℕ) (c : LineContent) (l : FmtLine) → IsPlainContent skin width c → IsLineRead skin c l → is_table_line l ≡ true → ⊥
+no_table_line skin width (table_row cells) l plain read is = plain
+no_table_line skin width (table_rule aligns) l plain read is = plain
+no_table_line skin width (normal said) (Normal l) plain read is = absurd (cc)
+no_table_line skin width (normal said) (TableRow row) plain read is = read
+no_table_line skin width (normal said) (TableRule rule) plain read is = read
+no_table_line skin width (normal said) HorizontalRule plain read is = read
+no_table_line skin width horizontal_rule (Normal l) plain read is = read
+no_table_line skin width horizontal_rule (TableRow row) plain read is = read
+no_table_line skin width horizontal_rule (TableRule rule) plain read is = read
+no_table_line skin width horizontal_rule HorizontalRule plain read is = absurd (cc)
+
+-- the parts of a text, one after the other
+parts_drawable : (skin : MadSkin) (width drawn n : ℕ) (text : List LineContent) (ps : List Part) (lines : List FmtLine) → width ≤ drawn → drawn < 2 ^ 64 - 1 → AllByRecursion IsPartOfKind ps
+    → KeepsPremises skin width (take n text) → AreRead skin text (flat_map raw_lines ps) → ArePartsAt IsFittingWrap skin width (Some width) ps lines → AreDrawable skin drawn (take n lines)
+parts_drawable skin width drawn zero text ps lines narrower bound kinds keeps reads becomes = tt
+parts_drawable skin width drawn (suc n) text [] lines narrower bound kinds keeps reads becomes = subst (λ (ls : List FmtLine). AreDrawable skin drawn (take (suc n) ls)) (sym becomes) tt
+parts_drawable skin width drawn (suc n) text (table [] ∷ ps) lines narrower bound kinds keeps reads (own, others, joins, inl stays, more) =
+    subst (λ (ls : List FmtLine). AreDrawable skin drawn (take (suc n) ls)) (sym (joins ∙ ap (λ ls. ls ++ others) stays.1))
+    (parts_drawable skin width drawn (suc n) text ps others narrower bound kinds.1 keeps reads more)
+parts_drawable skin width drawn (suc n) text (table [] ∷ ps) lines narrower bound kinds keeps reads (own, others, joins, inr laid, more) = let some : 0 < 0 = laid.0 in absurd (omega (arith, some))
+parts_drawable skin width drawn (suc n) [] (table (l ∷ ls) ∷ ps) lines narrower bound kinds keeps reads becomes = absurd reads
+parts_drawable skin width drawn (suc n) (c ∷ cs) (table (l ∷ ls) ∷ ps) lines narrower bound kinds keeps reads becomes = absurd (no_table_line skin width c l keeps.0 reads.0 kinds.0.0)
+parts_drawable skin width drawn (suc n) text (block ls ∷ ps) lines narrower bound kinds keeps reads (own, others, joins, here, more) =
     subst (λ (xs : List FmtLine). AreDrawable skin drawn (take (suc n) xs)) (sym joins)
-    (some_joined skin drawn own others n first.0 first.1 (lines_drawable skin width drawn n cs ls ms others narrower bound keeps.1 reads.1 places.1 more))
+    (lines_drawable skin width drawn (suc n) text (map Normal ls) (map Normal (justified (code_room skin (Some width)) ls)) own (flat_map raw_lines ps) others narrower bound
+    (λ m t k r. parts_drawable skin width drawn m t ps others narrower bound kinds.1 k r more) keeps reads (code_placed skin width ls kinds.0) here)
+parts_drawable skin width drawn (suc n) text (single l ∷ ps) lines narrower bound kinds keeps reads (own, others, joins, here, more) =
+    subst (λ (xs : List FmtLine). AreDrawable skin drawn (take (suc n) xs)) (sym joins)
+    (lines_drawable skin width drawn (suc n) text (l ∷ []) (l ∷ []) own (flat_map raw_lines ps) others narrower bound
+    (λ m t k r. parts_drawable skin width drawn m t ps others narrower bound kinds.1 k r more) keeps reads (inl refl, tt) here)
 
 -- Where the first lines of a text keep the premises, the first lines of its layout are drawn exactly in a row at least as wide, however
 -- many lines it has.
 pub fitting_is_drawable : (skin : MadSkin) (width drawn n : ℕ) (text : List LineContent) (lines : List FmtLine) → width ≤ drawn → drawn < 2 ^ 64 - 1
     → KeepsPremises skin width (take n text) → IsFittingLayout skin width text lines → AreDrawable skin drawn (take n lines)
 fitting_is_drawable skin width drawn n text lines narrower bound keeps layout =
-    lines_drawable skin width drawn n text layout.read (blocks_justified (code_room skin (Some width)) layout.read) lines narrower bound keeps layout.reads (lines_placed skin width layout.read)
-    (parts_are_lines IsFittingWrap skin (Some width) (parts_of layout.read) lines layout.laid)
+    parts_drawable skin width drawn n text (parts_of layout.read) lines narrower bound (parts_kinds layout.read) keeps
+    (subst (AreRead skin text) (sym (parts_raw layout.read)) layout.reads) layout.laid
 
 -- ---- a layout with the fewest lines
 
@@ -285,10 +322,14 @@ lines_fit : (skin : MadSkin) (width : ℕ) (read lines : List FmtLine) → AreLi
 lines_fit skin width [] lines h = h
 lines_fit skin width (l ∷ ls) lines (own, others, joins, here, more) = (own, others, joins, line_fits skin width l own here, lines_fit skin width ls others more)
 
-parts_fit : (skin : MadSkin) (width : ℕ) (ps : List Part) (lines : List FmtLine) → ArePartsAt IsCompositeWrap skin (Some width) ps lines → ArePartsAt IsFittingWrap skin (Some width) ps lines
+part_fits : (skin : MadSkin) (width : ℕ) (p : Part) (own : List FmtLine) → IsPartAt IsCompositeWrap skin width (Some width) p own → IsPartAt IsFittingWrap skin width (Some width) p own
+part_fits skin width (table ls) own here = table_by IsCompositeWrap IsFittingWrap wrap_fits skin _ width ls own here
+part_fits skin width (block ls) own here = lines_fit skin width (map Normal (justified (code_room skin (Some width)) ls)) own here
+part_fits skin width (single l) own here = lines_fit skin width (l ∷ []) own here
+
+parts_fit : (skin : MadSkin) (width : ℕ) (ps : List Part) (lines : List FmtLine) → ArePartsAt IsCompositeWrap skin width (Some width) ps lines → ArePartsAt IsFittingWrap skin width (Some width) ps lines
 parts_fit skin width [] lines h = h
-parts_fit skin width (p ∷ ps) lines (own, others, joins, here, more) =
-    (own, others, joins, lines_fit skin width (part_lines (code_room skin (Some width)) p) own here, parts_fit skin width ps others more)
+parts_fit skin width (p ∷ ps) lines (own, others, joins, here, more) = (own, others, joins, part_fits skin width p own here, parts_fit skin width ps others more)
 
 pub layout_fits : (skin : MadSkin) (width : ℕ) (text : List LineContent) (lines : List FmtLine) → IsLayout skin width text lines → IsFittingLayout skin width text lines
 layout_fits skin width text lines layout = record { read = layout.read; reads = layout.reads; laid = parts_fit skin width (parts_of layout.read) lines layout.laid }

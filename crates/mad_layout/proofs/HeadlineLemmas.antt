@@ -16,7 +16,7 @@ use Rattle.mad_fit.specs.Areas.{IsWithinLimits}
 use Rattle.mad_fit.specs.declared.area.Area.{Area}
 use Rattle.mad_layout.specs.Drawable.{AreDrawable}
 use Rattle.mad_layout.specs.FittingLayouts.{IsFittingLayoutAt}
-use Rattle.mad_layout.specs.Fronts.{IsFrontLayout, IsFrontLayoutAt}
+use Rattle.mad_layout.specs.Fronts.{IsFrontLayout}
 use Rattle.mad_layout.specs.InArea.{IsAreaLayout, IsAreaFront, ShowsText, WritesInArea}
 use Rattle.mad_layout.specs.CompositeWraps.{IsCompositeWrap}
 use Rattle.mad_layout.specs.Layouts.{IsLayoutBy, IsLayout, IsLayoutAt, IsMarkdownLayout}
@@ -43,13 +43,7 @@ area_layout {E} (Err x) skin markdown area width e h = tt
 pub wrapped_at : (skin : MadSkin) (width : ℕ) (text : List LineContent) (lines : List FmtLine) → 3 ≤ width → IsLayoutAt skin (Some width) text lines → IsLayout skin width text lines
 wrapped_at skin width text lines wide h =
     let test : nat_lt width 3 ≡ false = grind (arith, nat_tests) in
-    subst (λ (b : Bool). IsLayoutBy IsCompositeWrap skin (if b then None else Some width) text lines) test h
-
--- so it is of a text's first lines
-pub front_wrapped : (skin : MadSkin) (width rows : ℕ) (text : List LineContent) (lines : List FmtLine) → 3 ≤ width → IsFrontLayoutAt skin (Some width) rows text lines → IsFrontLayout skin (Some width) rows text lines
-front_wrapped skin width rows text lines wide h =
-    let test : nat_lt width 3 ≡ false = grind (arith, nat_tests) in
-    subst (λ (b : Bool). IsFrontLayout skin (if b then None else Some width) rows text lines) test h
+    subst (λ (b : Bool). IsLayoutBy IsCompositeWrap skin width (if b then None else Some width) text lines) test h
 
 -- the first lines of some are first lines of all
 first_keep : (skin : MadSkin) (width n : ℕ) (front rest : List LineContent) → KeepsPremises skin width (take n (front ++ rest)) → KeepsPremises skin width (take n front)
@@ -74,9 +68,9 @@ text_shown {T} {E} (Ok x) skin own markdown area lines old new limits same laid_
       lines = lines;
       laid_out = laid_out;
       shown = λ premises.
-          let front : IsFrontLayout skin (Some (area.width - 1)) area.height laid_out.text lines = front_wrapped skin (area.width - 1) area.height laid_out.text lines (omega arith) laid_out.layout in
+          let front : IsFrontLayout skin (Some (area.width - 1)) area.height laid_out.text lines = laid_out.layout in
           subst (λ (s : MadSkin). AreDrawable s area.width (lines_shown lines area 0) → TookWith old new (AreShownIn s lines area 0)) same h
-          (layout_is_drawable skin (area.width - 1) area.width area.height front.front lines (omega arith) (omega (arith, limits.columns)) (front_keeps skin (area.width - 1) area.height laid_out.text front.front front.rest front.joins premises) front.layout);
+          (layout_is_drawable skin (area.width - 1) area.width area.height front.front lines (omega arith) (omega (arith, limits.columns)) (front_keeps skin (area.width - 1) area.height laid_out.text front.front front.rest front.joins premises) (wrapped_at skin (area.width - 1) front.front lines (omega arith) front.layout));
     }
 text_shown {T} {E} (Err x) skin own markdown area lines old new limits same laid_out h = tt
 

@@ -16,23 +16,19 @@ use Rattle.mad_fit.specs.Areas.{IsWithinLimits}
 use Rattle.mad_fit.specs.declared.area.Area.{Area}
 use Rattle.mad_draw.specs.Pieces.{PennedChar, penned_chars}
 use Rattle.mad_draw.specs.PennedCells.{penned_joined, penned_cells}
-use Rattle.mad_layout.specs.CompositeWraps.{IsCompositeWrap}
-use Rattle.mad_layout.specs.FlaggedLines.{LineInPart, text_parts, lines_in_parts, AreAcross}
+use Rattle.mad_layout.specs.FlaggedLines.{LineInPart, HoldNoTable, text_parts, lines_in_parts, AreAcross}
 use Rattle.mad_layout.specs.Fronts.{IsFrontLayout}
 use Rattle.mad_layout.specs.Headline.{cell_chars, AreShownAcross, ShowsFirstRows}
 use Rattle.mad_layout.specs.InArea.{ShowsText}
 use Rattle.mad_layout.specs.Layouts.{IsLayout}
-use Rattle.mad_layout.specs.Parts.{parts_of, blocks_justified, code_room}
-use Rattle.mad_layout.specs.Premises.{KeepsPremises}
 use Rattle.mad_layout.specs.Rows.{row_pieces}
 use Rattle.mad_layout.specs.Shown.{AreShownIn}
 use Rattle.mad_layout.specs.declared.skin.MadSkin.{MadSkin}
 use Rattle.mad_layout.specs.declared.line.FmtLine.{FmtLine}
-use Rattle.mad_layout.proofs.HeadlineLemmas.{front_wrapped, front_keeps}
-use Rattle.mad_layout.proofs.PartLemmas.{parts_are_lines}
+use Rattle.mad_layout.proofs.HeadlineLemmas.{wrapped_at, front_keeps}
 use Rattle.mad_layout.proofs.RowChars.{char_of, line_chars, spaces_chars}
-use Rattle.mad_layout.proofs.RowsAcross.{across_exist, front_across}
-use Rattle.mad_layout.proofs.TextParts.{text_placed, lines_are}
+use Rattle.mad_layout.proofs.RowsAcross.{across_exist}
+use Rattle.mad_layout.proofs.TextParts.{text_across}
 
 -- ---- the characters of cells don't depend on pens
 
@@ -147,21 +143,27 @@ rest_or_enough : (skin : MadSkin) (width : ℕ) (height : ℕ) (rest : List Line
 rest_or_enough skin width height rest lines (inl none) = inl (ap lines_in_parts none)
 rest_or_enough skin width height rest lines (inr some) = inr (omega (arith, some, length-map lines (line_chars skin width)))
 
+first_tables : (n : ℕ) (front rest : List LineContent) → HoldNoTable (take n (front ++ rest)) → HoldNoTable (take n front)
+first_tables zero front rest h = tt
+first_tables (suc n) [] rest h = tt
+first_tables (suc n) (c ∷ cs) rest h = (h.0, first_tables n cs rest h.1)
+
+front_tables : (n : ℕ) (text front rest : List LineContent) → text ≡ front ++ rest → HoldNoTable (take n text) → HoldNoTable (take n front)
+front_tables n text front rest joins h = first_tables n front rest (subst (λ (ls : List LineContent). HoldNoTable (take n ls)) joins h)
+
 headline : (skin : MadSkin) (markdown : List ℕ) (area : Area) (old new : Trace) → IsWithinLimits area → 4 ≤ area.width → ShowsText skin markdown area old new → ShowsFirstRows skin markdown area old new
 headline skin markdown area old new limits wide h =
     let text : List LineContent = h.laid_out.text in
     let width : ℕ = area.width - 1 in
-    let front : IsFrontLayout skin (Some width) area.height text h.lines = front_wrapped skin width area.height text h.lines (omega (arith, wide)) h.laid_out.layout in
-    let layout : IsLayout skin width front.front h.lines = front.layout in
+    let front : IsFrontLayout skin (Some width) area.height text h.lines = h.laid_out.layout in
+    let layout : IsLayout skin width front.front h.lines = wrapped_at skin width front.front h.lines (omega (arith, wide)) front.layout in
     let bound : area.width < 2 ^ 64 - 1 = omega (arith, limits.columns) in
     record {
       lines = text;
       read = h.laid_out.read;
-      shown = λ premises.
+      shown = λ premises tables.
           let first = front_keeps skin width area.height text front.front front.rest front.joins premises in
-          let keeps = subst (λ (ls : List LineContent). KeepsPremises skin width (take area.height ls)) (sym (lines_are front.front)) first in
-          let rows = front_across skin area area.height (lines_in_parts front.front) (blocks_justified (code_room skin (Some width)) layout.read) h.lines bound keeps
-          (text_placed skin width front.front layout.read (omega (arith, bound)) layout.reads) (parts_are_lines IsCompositeWrap skin (Some width) (parts_of layout.read) h.lines layout.laid) in
+          let rows = text_across skin area area.height front.front h.lines bound first (front_tables area.height text front.front front.rest front.joins tables) layout in
           let all = front_is_enough skin area (lines_in_parts front.front) (lines_in_parts front.rest) rows.0 (map (line_chars skin area.width) h.lines) rows.1 rows.2
           (rest_or_enough skin area.width area.height front.rest h.lines front.enough) in (
             all.0,
@@ -180,5 +182,5 @@ pub headline_flushed : (skin : MadSkin) (markdown : List ℕ) (area : Area) (old
 headline_flushed skin markdown area old mid new h e = record {
   lines = h.lines;
   read = h.read;
-  shown = λ premises. let rows = h.shown premises in (rows.0, rows.1, took_flushed old mid new (AreShownAcross rows.0 area) rows.2 e);
+  shown = λ premises tables. let rows = h.shown premises tables in (rows.0, rows.1, took_flushed old mid new (AreShownAcross rows.0 area) rows.2 e);
 }

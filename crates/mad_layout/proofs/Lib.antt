@@ -12,6 +12,7 @@ pub mod LeastSizes
 pub mod MarkLemmas
 pub mod MeasureLemmas
 pub mod PartLemmas
+pub mod PartRuns
 pub mod PieceLemmas
 pub mod RowChars
 pub mod RowLemmas
@@ -20,9 +21,12 @@ pub mod RowsExist
 pub mod RunLemmas
 pub mod ShownLemmas
 pub mod SourceLemmas
+pub mod TableLemmas
+pub mod TableWidths
 pub mod TextParts
 pub mod WholeTokens
 pub mod WordLemmas
 pub mod WordScreens
+pub mod WrapKinds
 pub mod WrapLemmas
 pub mod WrapRows

@@ -1,31 +1,20 @@
--- The parts of a text, line by line.
-use Rattle.std.proofs.Common.{◌≡◌, ℕ, ◌-◌, ◌≤◌, ◌⊎◌, inl, inr, Bool, true, false, List, [], ◌∷◌, ◌++◌, map, min, Option, Some, refl, ap, sym, ◌∙◌, subst, arith, append_assoc}
+-- The parts of a text, and the lines of blocks of code in their places.
+use Rattle.std.proofs.Common.{◌≡◌, ℕ, ◌-◌, ◌≤◌, ◌⊎◌, inl, inr, Bool, true, false, List, [], ◌∷◌, map, min, Option, Some, refl, ap, ◌∙◌, arith}
 use Rattle.std.specs.List.{AllByRecursion, flat_map}
 use Rattle.mad_md.specs.declared.alignment.Alignment.TheVariants.{Left}
 use Rattle.mad_style.specs.declared.kinds.CompositeKind.{CompositeKind}
 use Rattle.mad_style.specs.declared.kinds.CompositeKind.TheVariants.{Paragraph, Header, ListItem, ListItemFollowUp, OrderedListItem, OrderedListItemFollowUp, Code, Quote}
 use Rattle.mad_style.specs.LineStyles.{margins_at}
 use Rattle.mad_fit.specs.declared.spacing.Spacing.{Spacing}
-use Rattle.mad_layout.specs.Parts.{Part, block, single, is_code_kind, with_code, with_composite, parts_of, widest, placed_code, part_lines, blocks_justified, code_room, AreLinesAt, ArePartsAt}
+use Rattle.mad_layout.specs.Parts.{Part, table, block, single, is_code_kind, with_table, with_code, with_composite, parts_of, widest, placed_code, justified, code_room}
 use Rattle.mad_layout.specs.Styles.{line_style}
-use Rattle.mad_layout.specs.WrappedLines.{Wrap, style_margins}
+use Rattle.mad_layout.specs.Tables.{is_table_line}
+use Rattle.mad_layout.specs.WrappedLines.{style_margins}
 use Rattle.mad_layout.specs.declared.skin.MadSkin.{MadSkin}
 use Rattle.mad_layout.specs.declared.composite.FmtComposite.{FmtComposite}
 use Rattle.mad_layout.specs.declared.line.FmtLine.{FmtLine}
 use Rattle.mad_layout.specs.declared.line.FmtLine.TheVariants.{Normal, TableRow, TableRule, HorizontalRule}
-
--- ---- the layouts of parts joined are that of their lines
-
-lines_joined : (wraps : Wrap) (skin : MadSkin) (width : Option ℕ) (xs ys own more : List FmtLine) → AreLinesAt wraps skin width xs own → AreLinesAt wraps skin width ys more → AreLinesAt wraps skin width (xs ++ ys) (own ++ more)
-lines_joined wraps skin width [] ys own more h k = subst (λ (ls : List FmtLine). AreLinesAt wraps skin width ys (ls ++ more)) (sym h) k
-lines_joined wraps skin width (x ∷ xs) ys own more (first, others, joins, here, rest) k =
-    (first, others ++ more, ap (λ ls. ls ++ more) joins ∙ append_assoc first others more, here, lines_joined wraps skin width xs ys others more rest k)
-
-pub parts_are_lines : (wraps : Wrap) (skin : MadSkin) (width : Option ℕ) (ps : List Part) (lines : List FmtLine) → ArePartsAt wraps skin width ps lines → AreLinesAt wraps skin width (flat_map (part_lines (code_room skin width)) ps) lines
-parts_are_lines wraps skin width [] lines h = h
-parts_are_lines wraps skin width (p ∷ ps) lines (own, others, joins, here, more) =
-    subst (λ (ls : List FmtLine). AreLinesAt wraps skin width (flat_map (part_lines (code_room skin width)) (p ∷ ps)) ls) (sym joins)
-    (lines_joined wraps skin width (part_lines (code_room skin width) p) (flat_map (part_lines (code_room skin width)) ps) own others here (parts_are_lines wraps skin width ps others more))
+use Rattle.mad_layout.proofs.PartRuns.{AllTableLines, AllCode}
 
 -- ---- each line in its place
 
@@ -57,12 +46,14 @@ ArePlacedLines skin width (l ∷ ls) [] = ⊥
 ArePlacedLines skin width (l ∷ ls) (m ∷ ms) = IsPlacedLine skin width l m × ArePlacedLines skin width ls ms
 
 -- the lines of a part as they are
-abbrev raw_lines : Part → List FmtLine
+abbrev pub raw_lines : Part → List FmtLine
+raw_lines (table ls) = ls
 raw_lines (block ls) = map Normal ls
 raw_lines (single l) = l ∷ []
 
 with_code_raw : (l : FmtComposite) (ps : List Part) → flat_map raw_lines (with_code l ps) ≡ Normal l ∷ flat_map raw_lines ps
 with_code_raw l [] = refl
+with_code_raw l (table ls ∷ ps) = refl
 with_code_raw l (block ls ∷ ps) = refl
 with_code_raw l (single m ∷ ps) = refl
 
@@ -70,33 +61,47 @@ with_composite_raw : (b : Bool) (l : FmtComposite) (ps : List Part) → flat_map
 with_composite_raw true l ps = with_code_raw l ps
 with_composite_raw false l ps = refl
 
-parts_raw : (ls : List FmtLine) → flat_map raw_lines (parts_of ls) ≡ ls
+with_table_raw : (l : FmtLine) (ps : List Part) → flat_map raw_lines (with_table l ps) ≡ l ∷ flat_map raw_lines ps
+with_table_raw l [] = refl
+with_table_raw l (table ls ∷ ps) = refl
+with_table_raw l (block ls ∷ ps) = refl
+with_table_raw l (single m ∷ ps) = refl
+
+pub parts_raw : (ls : List FmtLine) → flat_map raw_lines (parts_of ls) ≡ ls
 parts_raw [] = refl
 parts_raw (Normal l ∷ ls) = with_composite_raw (is_code_kind l.kind) l (parts_of ls) ∙ ap (λ xs. Normal l ∷ xs) (parts_raw ls)
-parts_raw (TableRow row ∷ ls) = ap (λ xs. TableRow row ∷ xs) (parts_raw ls)
-parts_raw (TableRule rule ∷ ls) = ap (λ xs. TableRule rule ∷ xs) (parts_raw ls)
+parts_raw (TableRow row ∷ ls) = with_table_raw (TableRow row) (parts_of ls) ∙ ap (λ xs. TableRow row ∷ xs) (parts_raw ls)
+parts_raw (TableRule rule ∷ ls) = with_table_raw (TableRule rule) (parts_of ls) ∙ ap (λ xs. TableRule rule ∷ xs) (parts_raw ls)
 parts_raw (HorizontalRule ∷ ls) = ap (λ xs. HorizontalRule ∷ xs) (parts_raw ls)
 
--- a block's lines are code
-abbrev IsCodePart : Part → Type 0
-IsCodePart (block ls) = AllByRecursion (λ l. is_code_kind l.kind ≡ true) ls
-IsCodePart (single l) = Unit {0}
+-- a table's lines are of tables, and a block's are code
+abbrev pub IsPartOfKind : Part → Type 0
+IsPartOfKind (table ls) = AllTableLines ls
+IsPartOfKind (block ls) = AllCode ls
+IsPartOfKind (single l) = Unit {0}
 
-with_code_code : (l : FmtComposite) (ps : List Part) → is_code_kind l.kind ≡ true → AllByRecursion IsCodePart ps → AllByRecursion IsCodePart (with_code l ps)
-with_code_code l [] code h = ((code, tt), tt)
-with_code_code l (block ls ∷ ps) code h = ((code, h.0), h.1)
-with_code_code l (single m ∷ ps) code h = ((code, tt), h)
+with_table_kinds : (l : FmtLine) (ps : List Part) → is_table_line l ≡ true → AllByRecursion IsPartOfKind ps → AllByRecursion IsPartOfKind (with_table l ps)
+with_table_kinds l [] is h = ((is, tt), tt)
+with_table_kinds l (table ls ∷ ps) is h = ((is, h.0), h.1)
+with_table_kinds l (block ls ∷ ps) is h = ((is, tt), h)
+with_table_kinds l (single m ∷ ps) is h = ((is, tt), h)
 
-with_composite_code : (b : Bool) (l : FmtComposite) (ps : List Part) → is_code_kind l.kind ≡ b → AllByRecursion IsCodePart ps → AllByRecursion IsCodePart (with_composite b l ps)
-with_composite_code true l ps code h = with_code_code l ps code h
-with_composite_code false l ps code h = (tt, h)
+with_code_kinds : (l : FmtComposite) (ps : List Part) → is_code_kind l.kind ≡ true → AllByRecursion IsPartOfKind ps → AllByRecursion IsPartOfKind (with_code l ps)
+with_code_kinds l [] code h = ((code, tt), tt)
+with_code_kinds l (table ls ∷ ps) code h = ((code, tt), h)
+with_code_kinds l (block ls ∷ ps) code h = ((code, h.0), h.1)
+with_code_kinds l (single m ∷ ps) code h = ((code, tt), h)
 
-parts_code : (ls : List FmtLine) → AllByRecursion IsCodePart (parts_of ls)
-parts_code [] = tt
-parts_code (Normal l ∷ ls) = with_composite_code (is_code_kind l.kind) l (parts_of ls) refl (parts_code ls)
-parts_code (TableRow row ∷ ls) = (tt, parts_code ls)
-parts_code (TableRule rule ∷ ls) = (tt, parts_code ls)
-parts_code (HorizontalRule ∷ ls) = (tt, parts_code ls)
+with_composite_kinds : (b : Bool) (l : FmtComposite) (ps : List Part) → is_code_kind l.kind ≡ b → AllByRecursion IsPartOfKind ps → AllByRecursion IsPartOfKind (with_composite b l ps)
+with_composite_kinds true l ps code h = with_code_kinds l ps code h
+with_composite_kinds false l ps code h = (tt, h)
+
+pub parts_kinds : (ls : List FmtLine) → AllByRecursion IsPartOfKind (parts_of ls)
+parts_kinds [] = tt
+parts_kinds (Normal l ∷ ls) = with_composite_kinds (is_code_kind l.kind) l (parts_of ls) refl (parts_kinds ls)
+parts_kinds (TableRow row ∷ ls) = with_table_kinds (TableRow row) (parts_of ls) refl (parts_kinds ls)
+parts_kinds (TableRule rule ∷ ls) = with_table_kinds (TableRule rule) (parts_of ls) refl (parts_kinds ls)
+parts_kinds (HorizontalRule ∷ ls) = (tt, parts_kinds ls)
 
 pub code_is : (k : CompositeKind) → is_code_kind k ≡ true → k ≡ Code
 code_is Paragraph h = absurd (cc)
@@ -112,7 +117,7 @@ code_is Quote h = absurd (cc)
 abbrev left_of_code : MadSkin → ℕ → ℕ
 left_of_code skin width = let margins = margins_at skin.code_block (Some width) in width - margins.0 - margins.1
 
-block_placed : (skin : MadSkin) (width most : ℕ) (ls : List FmtComposite) → AllByRecursion (λ (l : FmtComposite). is_code_kind l.kind ≡ true) ls → widest ls ≤ most
+block_placed : (skin : MadSkin) (width most : ℕ) (ls : List FmtComposite) → AllCode ls → widest ls ≤ most
     → ArePlacedLines skin width (map Normal ls) (map Normal (map (placed_code (min most (left_of_code skin width))) ls))
 block_placed skin width most [] code wide = tt
 block_placed skin width most (l ∷ ls) code wide =
@@ -127,19 +132,6 @@ block_placed skin width most (l ∷ ls) code wide =
       block_placed skin width most ls code.1 (omega (arith, wide)),
     )
 
-placed_joined : (skin : MadSkin) (width : ℕ) (ls ms ks ns : List FmtLine) → ArePlacedLines skin width ls ms → ArePlacedLines skin width ks ns → ArePlacedLines skin width (ls ++ ks) (ms ++ ns)
-placed_joined skin width [] [] ks ns h k = k
-placed_joined skin width [] (m ∷ ms) ks ns h k = absurd h
-placed_joined skin width (l ∷ ls) [] ks ns h k = absurd h
-placed_joined skin width (l ∷ ls) (m ∷ ms) ks ns h k = (h.0, placed_joined skin width ls ms ks ns h.1 k)
-
-parts_placed : (skin : MadSkin) (width : ℕ) (ps : List Part) → AllByRecursion IsCodePart ps → ArePlacedLines skin width (flat_map raw_lines ps) (flat_map (part_lines (code_room skin (Some width))) ps)
-parts_placed skin width [] h = tt
-parts_placed skin width (block ls ∷ ps) h =
-    placed_joined skin width (map Normal ls) (part_lines (code_room skin (Some width)) (block ls)) (flat_map raw_lines ps) (flat_map (part_lines (code_room skin (Some width))) ps)
-    (block_placed skin width (widest ls) ls h.0 (omega arith)) (parts_placed skin width ps h.1)
-parts_placed skin width (single l ∷ ps) h = (inl refl, parts_placed skin width ps h.1)
-
--- the lines of a text, each block of code in its place
-pub lines_placed : (skin : MadSkin) (width : ℕ) (ls : List FmtLine) → ArePlacedLines skin width ls (blocks_justified (code_room skin (Some width)) ls)
-lines_placed skin width ls = subst (λ (xs : List FmtLine). ArePlacedLines skin width xs (blocks_justified (code_room skin (Some width)) ls)) (parts_raw ls) (parts_placed skin width (parts_of ls) (parts_code ls))
+-- the lines of a block, each in its place
+pub code_placed : (skin : MadSkin) (width : ℕ) (ls : List FmtComposite) → AllCode ls → ArePlacedLines skin width (map Normal ls) (map Normal (justified (code_room skin (Some width)) ls))
+code_placed skin width ls code = block_placed skin width (widest ls) ls code (omega arith)

@@ -1,5 +1,5 @@
 -- From a layout's lines to the rows of a text's lines across an area.
-use Rattle.std.proofs.Common.{◌≡◌, ℕ, zero, suc, ◌-◌, ◌^◌, ◌<◌, ◌≤◌, inl, inr, true, List, [], ◌∷◌, ◌++◌, map, length, take, chars, Option, Some, refl, ap, sym, ◌∙◌, subst, arith}
+use Rattle.std.proofs.Common.{◌≡◌, false, ℕ, zero, suc, ◌-◌, ◌^◌, ◌<◌, ◌≤◌, inl, inr, true, List, [], ◌∷◌, ◌++◌, map, length, take, chars, Option, Some, refl, ap, sym, ◌∙◌, subst, arith, append_assoc}
 use Rattle.std.specs.Prelude.{min, IfSome}
 use Rattle.std.specs.List.{AllByRecursion, repeat}
 use Rattle.std.proofs.lemmas.List.{map-append, length-map}
@@ -17,11 +17,11 @@ use Rattle.mad_wrap.specs.Keeps.{Keeps}
 use Rattle.mad_wrap.specs.WrapLines.{HasRoom, LinesFit}
 use Rattle.mad_wrap.specs.declared.room.Room.{Room}
 use Rattle.mad_layout.specs.CompositeWraps.{line_compounds, HaveKinds, IsCompositeWrap}
-use Rattle.mad_layout.specs.FlaggedLines.{LineInPart, widest_in, skin_char, row_across, rows_across, marked_parts, IsAcross, AreAcross}
+use Rattle.mad_layout.specs.FlaggedLines.{LineInPart, is_table, widest_in, skin_char, row_across, rows_across, marked_parts, IsAcross, AreAcross}
 use Rattle.mad_layout.specs.FlaggedRows.{AreRowsOf}
 use Rattle.mad_layout.specs.Indents.{indent, follow_up, room_of}
 use Rattle.mad_layout.specs.Parts.{is_code_kind, IsLineAt, AreLinesAt}
-use Rattle.mad_layout.specs.Premises.{IsPlainPrefix, IsPlainLine, IsPlainContent, KeepsPremises, inner_width, runs_text}
+use Rattle.mad_layout.specs.Premises.{IsPlainPrefix, IsPlainLine, IsPlainContent, inner_width, runs_text}
 use Rattle.mad_layout.specs.Styles.{line_style}
 use Rattle.mad_layout.specs.WrappedLines.{style_margins, line_with, IsLaidOutBy}
 use Rattle.mad_layout.specs.Wraps.{text_of, columns_of, IsMeasured}
@@ -224,20 +224,27 @@ AreReadIn skin width [] (l ∷ ls) = ⊥
 AreReadIn skin width (x ∷ xs) [] = ⊥
 AreReadIn skin width (x ∷ xs) (l ∷ ls) = IsReadIn skin width x.part x.line l × AreReadIn skin width xs ls
 
-content_rows : (skin : MadSkin) (area : Area) (part : List LineContent) (line : LineContent) (l : FmtLine) (own : List FmtLine) → area.width < 2 ^ 64 - 1 → IsPlainContent skin (area.width - 1) line
+-- the line keeps the premises, and is none of a table
+abbrev pub IsPlainRow : MadSkin → ℕ → LineContent → Type 0
+IsPlainRow skin width c = IsPlainContent skin width c × (is_table c ≡ false)
+
+abbrev pub ArePlainRows : MadSkin → ℕ → List LineContent → Type 0
+ArePlainRows skin width cs = AllByRecursion (IsPlainRow skin width) cs
+
+content_rows : (skin : MadSkin) (area : Area) (part : List LineContent) (line : LineContent) (l : FmtLine) (own : List FmtLine) → area.width < 2 ^ 64 - 1 → IsPlainRow skin (area.width - 1) line
     → IsReadIn skin (area.width - 1) part line l → IsLineAt IsCompositeWrap skin (Some (area.width - 1)) l own → (0 < length own) × IsAcross skin area part line (map (line_chars skin area.width) own)
-content_rows skin area part (normal said) (Normal l) own bound plain read laid = said_rows skin area part said l own bound plain read laid
+content_rows skin area part (normal said) (Normal l) own bound plain read laid = said_rows skin area part said l own bound plain.0 read laid
 content_rows skin area part (normal said) (TableRow row) own bound plain read laid = absurd read
 content_rows skin area part (normal said) (TableRule rule) own bound plain read laid = absurd read
 content_rows skin area part (normal said) HorizontalRule own bound plain read laid = absurd read
-content_rows skin area part (table_row cells) l own bound plain read laid = absurd plain
-content_rows skin area part (table_rule aligns) l own bound plain read laid = absurd plain
+content_rows skin area part (table_row cells) l own bound plain read laid = let e = plain.1 in absurd (cc)
+content_rows skin area part (table_rule aligns) l own bound plain read laid = let e = plain.1 in absurd (cc)
 content_rows skin area part horizontal_rule (Normal l) own bound plain read laid = absurd read
 content_rows skin area part horizontal_rule (TableRow row) own bound plain read laid = absurd read
 content_rows skin area part horizontal_rule (TableRule rule) own bound plain read laid = absurd read
 content_rows skin area part horizontal_rule HorizontalRule own bound plain read laid =
     let one : length own ≡ 1 = ap length laid in
-    (omega (arith, one), ap (map (line_chars skin area.width)) laid ∙ ap (λ (x : List ℕ). x ∷ []) (run_chars skin.horizontal_rule area.width plain))
+    (omega (arith, one), ap (map (line_chars skin area.width)) laid ∙ ap (λ (x : List ℕ). x ∷ []) (run_chars skin.horizontal_rule area.width plain.0))
 
 line_across : (skin : MadSkin) (area : Area) (part : List LineContent) (line : LineContent) → (across : List (List ℕ)) × IsAcross skin area part line across
 line_across skin area part (normal said) =
@@ -254,6 +261,10 @@ across_exist skin area (x ∷ xs) =
     let own = line_across skin area x.part x.line in
     let more = across_exist skin area xs in
     (own.0 ++ more.0, (own.0, more.0, refl, own.1, more.1))
+
+-- The lines have rows across the area, and the first of these are those of the layout's lines.
+abbrev pub HaveFirstRows : MadSkin → Area → ℕ → List LineInPart → List FmtLine → Type 0
+HaveFirstRows skin area n xs lines = (across : List (List ℕ)) × AreAcross skin area xs across × (take n across ≡ take n (map (line_chars skin area.width) lines))
 
 -- lists that are the same so far
 take_less : (n : ℕ) (xs : List (List ℕ)) → take n (take (suc n) xs) ≡ take n xs
@@ -273,20 +284,22 @@ some_same : (own xs ys : List (List ℕ)) (n : ℕ) → 0 < length own → take 
 some_same [] xs ys n some e = absurd (omega (arith, some))
 some_same (o ∷ own) xs ys n some e = ap (λ (l : List (List ℕ)). o ∷ l) (first_same own xs ys n e)
 
--- The first rows of a layout are the first rows of the text's lines, where the first lines keep the premises.
-pub front_across : (skin : MadSkin) (area : Area) (n : ℕ) (xs : List LineInPart) (placed lines : List FmtLine) → area.width < 2 ^ 64 - 1 → KeepsPremises skin (area.width - 1) (take n (map (λ (x : LineInPart). x.line) xs))
-    → AreReadIn skin (area.width - 1) xs placed → AreLinesAt IsCompositeWrap skin (Some (area.width - 1)) placed lines
-    → (across : List (List ℕ)) × AreAcross skin area xs across × (take n across ≡ take n (map (line_chars skin area.width) lines))
-front_across skin area zero xs placed lines bound keeps reads laid = let all = across_exist skin area xs in (all.0, all.1, refl)
-front_across skin area (suc n) [] (l ∷ ls) lines bound keeps reads laid = absurd reads
-front_across skin area (suc n) (x ∷ xs) [] lines bound keeps reads laid = absurd reads
-front_across skin area (suc n) [] [] lines bound keeps reads laid = ([], refl, ap (λ (ls : List FmtLine). take (suc n) (map (line_chars skin area.width) ls)) (sym laid))
-front_across skin area (suc n) (x ∷ xs) (l ∷ ls) lines bound keeps reads (own, others, joins, here, more) =
+-- The first rows of these lines and of those after them, whose rows are there for any number of lines that keep the premises.
+pub front_across : (skin : MadSkin) (area : Area) (n : ℕ) (xs ys : List LineInPart) (placed own others : List FmtLine) → area.width < 2 ^ 64 - 1
+    → ((m : ℕ) → ArePlainRows skin (area.width - 1) (take m (map (λ (x : LineInPart). x.line) ys)) → HaveFirstRows skin area m ys others)
+    → ArePlainRows skin (area.width - 1) (take n (map (λ (x : LineInPart). x.line) (xs ++ ys))) → AreReadIn skin (area.width - 1) xs placed → AreLinesAt IsCompositeWrap skin (Some (area.width - 1)) placed own
+    → HaveFirstRows skin area n (xs ++ ys) (own ++ others)
+front_across skin area zero xs ys placed own others bound later keeps reads laid = let all = across_exist skin area (xs ++ ys) in (all.0, all.1, refl)
+front_across skin area (suc n) [] ys (l ∷ ls) own others bound later keeps reads laid = absurd reads
+front_across skin area (suc n) (x ∷ xs) ys [] own others bound later keeps reads laid = absurd reads
+front_across skin area (suc n) [] ys [] own others bound later keeps reads laid = subst (λ (ls : List FmtLine). HaveFirstRows skin area (suc n) ys (ls ++ others)) (sym laid) (later (suc n) keeps)
+front_across skin area (suc n) (x ∷ xs) ys (l ∷ ls) own others bound later keeps reads (here, behind, joins, first_laid, more) =
     let chars : List FmtLine → List (List ℕ) = map (line_chars skin area.width) in
-    let first = content_rows skin area x.part x.line l own bound keeps.0 reads.0 here in
-    let rest = front_across skin area n xs ls others bound keeps.1 reads.1 more in
-    let count : 0 < length (chars own) = omega (arith, first.0, length-map own (line_chars skin area.width)) in (
-      chars own ++ rest.0,
-      (chars own, rest.0, refl, first.1, rest.1),
-      some_same (chars own) rest.0 (chars others) n count rest.2 ∙ ap (take (suc n)) (sym (ap chars joins ∙ map-append (line_chars skin area.width) own others)),
+    let first = content_rows skin area x.part x.line l here bound keeps.0 reads.0 first_laid in
+    let rest = front_across skin area n xs ys ls behind others bound later keeps.1 reads.1 more in
+    let count : 0 < length (chars here) = omega (arith, first.0, length-map here (line_chars skin area.width)) in
+    let lines : own ++ others ≡ here ++ (behind ++ others) = ap (λ (ls : List FmtLine). ls ++ others) joins ∙ append_assoc here behind others in (
+      chars here ++ rest.0,
+      (chars here, rest.0, refl, first.1, rest.1),
+      some_same (chars here) rest.0 (chars (behind ++ others)) n count rest.2 ∙ ap (take (suc n)) (sym (ap chars lines ∙ map-append (line_chars skin area.width) here (behind ++ others))),
     )

@@ -1,6 +1,6 @@
 -- The example's text in an area: what a screen shows that reads it.
-use Rattle.std.proofs.Common.{◌≡◌, ℕ, zero, suc, replicate, length, ◌⊎◌, ◌≤◌, List, [], ◌∷◌, ◌++◌, map, inl, inr, chars, get_or, Option, Some, None, refl, ap, sym, ◌∙◌, subst, arith}
-use Rattle.std.specs.Prelude.{IfSome, true, false}
+use Rattle.std.proofs.Common.{◌≡◌, ℕ, zero, suc, replicate, ◌⊎◌, ◌≤◌, List, [], ◌∷◌, ◌++◌, map, inl, inr, chars, get_or, Option, Some, None, refl, ap, sym, ◌∙◌, subst, arith, lit<}
+use Rattle.std.specs.Prelude.{IfSome, IsSome, length, true, false, unwrap_or}
 use Rattle.std.proofs.lemmas.List.{append-nil, length-replicate}
 use Rattle.mad_md.specs.Flagged.{Run, plain, flagged, run_at, run_of}
 use Rattle.mad_md.specs.Lines.{LineContent, StyledRuns, normal}
@@ -11,8 +11,8 @@ use Rattle.mad_md.specs.declared.composite.CompositeStyle.TheVariants.{Paragraph
 use Rattle.mad_md.proofs.RunBorders.{unmarked_runs}
 use Rattle.mad_term.specs.Trace.{Trace}
 use Rattle.mad_screen.specs.Glyph.{Glyph, Look}
-use Rattle.mad_screen.specs.Grid.{Grid, blank, cell_at, empty_grid, plain_pen}
-use Rattle.mad_screen.specs.Painting.{attach, cells_of, look_of_style}
+use Rattle.mad_screen.specs.Grid.{Grid, blank, cell_at, empty_grid, painted, plain_pen}
+use Rattle.mad_screen.specs.Painting.{attach, cells_of, look_of_style, IsShown, HasColumns}
 use Rattle.mad_screen.specs.Terminal.{after_bytes}
 use Rattle.mad_style.specs.declared.kinds.CompositeKind.{CompositeKind}
 use Rattle.mad_style.specs.declared.kinds.CompositeKind.TheVariants.{Paragraph}
@@ -24,11 +24,16 @@ use Rattle.mad_draw.specs.Pieces.{RowPiece, PennedChar, AreKnown, penned_chars, 
 use Rattle.mad_draw.proofs.CellLemmas.{cells_of_pieces}
 use Rattle.mad_draw.proofs.PieceLemmas.{ascii_spaces, shown_spaces, spaces_columns, spaces_known}
 use Rattle.mad_draw.proofs.ShownLemmas.{area_shown}
-use Rattle.mad_screen.proofs.Paints.{spaces_cells}
+use Rattle.mad_screen.proofs.PaintingLemmas.{painted_is_grid, text_leads}
+use Rattle.mad_screen.proofs.Paints.{read_leads, spaces_cells}
 use Rattle.mad_style.specs.CompoundStyles.{plain_style}
 use Rattle.mad_layout.proofs.SourceLemmas.{source_keeps, source_read}
 use Rattle.std.specs.List.{AllByRecursion}
-use Rattle.std.proofs.lemmas.Str.{chars-IsAscii}
+use Rattle.std.specs.Str.{IsAscii}
+use Rattle.std.proofs.lemmas.Str.{chars-IsAscii, IsUtf8-from_ascii}
+use Rattle.std.proofs.lemmas.Str.Ascii.{IsAscii-cons, IsAscii-nil}
+use Rattle.unicode_width.specs.Width.{char_width}
+use Rattle.mad_columns.specs.Columns.{char_columns}
 use Rattle.mad_draw.specs.PennedCells.{penned_cells, penned_joined}
 use Rattle.mad_layout.specs.Indents.{indent}
 use Rattle.mad_layout.specs.CompositeWraps.{IsCompositeWrap}
@@ -42,14 +47,14 @@ use Rattle.mad_layout.specs.Skins.{no_style_skin}
 use Rattle.mad_layout.specs.Sources.{LinesTakeColumns, ShowsSource}
 use Rattle.mad_layout.specs.declared.skin.MadSkin.{MadSkin}
 use Rattle.mad_layout.specs.Styles.{line_style}
-use Rattle.mad_layout.specs.Words.{words, word_area, SpacesAreNoText}
+use Rattle.mad_layout.specs.Words.{corner, words, word_area, SpacesAreNoText}
 use Rattle.mad_layout.specs.WrappedLines.{IsLaidOutBy, line_with}
 use Rattle.mad_layout.specs.Wraps.{text_of}
 use Rattle.mad_layout.specs.declared.composite.FmtComposite.{FmtComposite}
 use Rattle.mad_layout.specs.declared.line.FmtLine.{FmtLine}
 use Rattle.mad_layout.specs.declared.line.FmtLine.TheVariants.{Normal, TableRow, TableRule, HorizontalRule}
 use Rattle.mad_layout.proofs.DrawableLemmas.{runs_are}
-use Rattle.mad_layout.proofs.HeadlineLemmas.{front_wrapped}
+use Rattle.mad_layout.proofs.HeadlineLemmas.{wrapped_at}
 use Rattle.mad_layout.proofs.PieceLemmas.{pieces_of_runs}
 use Rattle.mad_layout.proofs.WordLemmas.{one_a, one_b, one_c, one_space, spelled, one_part, words_take_columns}
 
@@ -86,7 +91,7 @@ record OneLine (lines : List FmtLine) : Type 0 where
   columns : l.visible_length ≡ 9
   spacing : l.spacing ≡ None
 
-laid : (read lines : List FmtLine) → AreRead no_style_skin (normal word_line ∷ []) read → ArePartsAt IsCompositeWrap no_style_skin (Some 11) (parts_of read) lines → OneLine lines
+laid : (read lines : List FmtLine) → AreRead no_style_skin (normal word_line ∷ []) read → ArePartsAt IsCompositeWrap no_style_skin 11 (Some 11) (parts_of read) lines → OneLine lines
 laid [] lines reads parts = absurd reads
 laid (l ∷ m ∷ ms) lines reads parts = absurd reads.1
 laid (TableRow row ∷ []) lines reads parts = absurd reads.0
@@ -94,8 +99,8 @@ laid (TableRule rule ∷ []) lines reads parts = absurd reads.0
 laid (HorizontalRule ∷ []) lines reads parts = absurd reads.0
 laid (Normal l ∷ []) lines reads parts =
     let kind : l.kind ≡ Paragraph = reads.0.kind in
-    let part : ArePartsAt IsCompositeWrap no_style_skin (Some 11) (single (Normal l) ∷ []) lines =
-    subst (λ (ps : List Part). ArePartsAt IsCompositeWrap no_style_skin (Some 11) ps lines) (ap (λ (k : CompositeKind). with_composite (is_code_kind k) l []) kind) parts in
+    let part : ArePartsAt IsCompositeWrap no_style_skin 11 (Some 11) (single (Normal l) ∷ []) lines =
+    subst (λ (ps : List Part). ArePartsAt IsCompositeWrap no_style_skin 11 (Some 11) ps lines) (ap (λ (k : CompositeKind). with_composite (is_code_kind k) l []) kind) parts in
     let line = part.3 in
     let own : List FmtLine = line.0 in
     let here : IsLaidOutBy IsCompositeWrap no_style_skin 11 l own = line.3 in
@@ -160,11 +165,11 @@ on_screen = record {
 }
 
 -- what it shows in a cell of the area, and in one outside it
-pub record ShowsWords (g : Grid) : Type 0 where
+pub record ShowsWords (start g : Grid) : Type 0 where
   pub inside : cell_at g 2 1 ≡ record { chars = 97 ∷ []; pen = plain_pen }
-  pub outside : cell_at g 0 0 ≡ blank
+  pub outside : cell_at g 0 0 ≡ cell_at start 0 0
 
-nothing_laid : (read lines : List FmtLine) → AreRead no_style_skin [] read → ArePartsAt IsCompositeWrap no_style_skin (Some 11) (parts_of read) lines → 2 ≤ length lines → ⊥
+nothing_laid : (read lines : List FmtLine) → AreRead no_style_skin [] read → ArePartsAt IsCompositeWrap no_style_skin 11 (Some 11) (parts_of read) lines → 2 ≤ length lines → ⊥
 nothing_laid [] lines reads laid some = omega (arith, some, ap length laid)
 nothing_laid (l ∷ ls) lines reads laid some = reads
 
@@ -175,32 +180,99 @@ whole_front [] rest lines joins layout (inr some) = absurd (nothing_laid layout.
 whole_front (c ∷ []) rest lines joins layout enough = let e : c ≡ normal word_line = cc in ap (λ (x : LineContent). x ∷ []) e
 whole_front (c ∷ d ∷ cs) rest lines joins layout enough = absurd (cc)
 
+shown_as_one : (lines : List FmtLine) (old new : Trace) (h : ShowsSource no_style_skin words word_area old new) → OneLine h.lines
+shown_as_one lines old new h =
+    let front : IsFrontLayout no_style_skin (Some 11) 2 h.laid_out.text h.lines = h.laid_out.layout in
+    let layout : IsLayout no_style_skin 11 front.front h.lines = wrapped_at no_style_skin 11 front.front h.lines (omega arith) front.layout in
+    let all : front.front ≡ normal word_line ∷ [] = whole_front front.front front.rest h.lines (sym front.joins ∙ words_read h.laid_out.text h.laid_out.read) layout front.enough in
+    let of_words : IsLayout no_style_skin 11 (normal word_line ∷ []) h.lines = subst (λ (xs : List LineContent). IsLayout no_style_skin 11 xs h.lines) all layout in
+    laid of_words.read h.lines of_words.reads of_words.laid
+
+one_value : {A : Type 0} (o : Option A) (a b : A) → o ≡ Some a → o ≡ Some b → a ≡ b
+one_value {A} o a b e f = let both : Some a ≡ Some b = sym e ∙ f in cc
+
 pub words_shown : (old new : Trace) (taken : List ℕ) (start g : Grid) → old.bytes ≡ Some [] → new.bytes ≡ Some taken → ShowsSource no_style_skin words word_area old new
-    → start ≡ empty_grid 16 4 → after_bytes start taken ≡ Some g → ShowsWords g
+    → IsOnScreen word_area start → after_bytes start taken ≡ Some g → ShowsWords start g
 words_shown old new taken start g none all h begun read =
-    let front : IsFrontLayout no_style_skin (Some 11) 2 h.laid_out.text h.lines = front_wrapped no_style_skin 11 2 h.laid_out.text h.lines (omega arith) h.laid_out.layout in
-    let all : front.front ≡ normal word_line ∷ [] = whole_front front.front front.rest h.lines (sym front.joins ∙ words_read h.laid_out.text h.laid_out.read) front.layout front.enough in
-    let of_words : IsLayout no_style_skin 11 (normal word_line ∷ []) h.lines = subst (λ (xs : List LineContent). IsLayout no_style_skin 11 xs h.lines) all front.layout in
-    let one : OneLine h.lines = laid of_words.read h.lines of_words.reads of_words.laid in
+    let one : OneLine h.lines = shown_as_one h.lines old new h in
     let took : (text : List ℕ) × (new.bytes ≡ Some ([] ++ text)) × AreShownIn no_style_skin h.lines word_area 0 text =
     subst (λ (o : Option (List ℕ)). IfSome o (λ before. (text : List ℕ) × (new.bytes ≡ Some (before ++ text)) × AreShownIn no_style_skin h.lines word_area 0 text)) none h.shown in
-    let same : took.0 ≡ taken = cc in
-    let shown = took.2 (empty_grid 16 4) on_screen in
-    let is : shown.0 ≡ g = cc in
-    subst ShowsWords is (record {
+    let same : took.0 ≡ taken = one_value new.bytes took.0 taken took.1 all in
+    let shown = took.2 start begun in
+    let is : shown.0 ≡ g = one_value (after_bytes start took.0) shown.0 g shown.1 (ap (after_bytes start) same ∙ read) in
+    subst (ShowsWords start) is (record {
       inside = shown.4.inside 0 0 (omega arith) (omega arith) ∙ words_first h.lines one;
-      outside = shown.4.outside 0 0 (omega arith) (inl (omega arith));
+      outside = shown.4.outside 0 0 (omega (arith, begun.columns)) (inl (omega arith));
     })
 
 -- the same in a skin and an area that are these
-pub words_shown_by : (old new : Trace) (taken : List ℕ) (start g : Grid) (skin : MadSkin) (area : Area) → skin ≡ no_style_skin → area ≡ word_area → old.bytes ≡ Some [] → new.bytes ≡ Some taken
-    → (4 ≤ area.width → LinesTakeColumns words → ShowsSource skin words area old new) → start ≡ empty_grid 16 4 → after_bytes start taken ≡ Some g → ShowsWords g
+words_shown_by : (old new : Trace) (taken : List ℕ) (start g : Grid) (skin : MadSkin) (area : Area) → skin ≡ no_style_skin → area ≡ word_area → old.bytes ≡ Some [] → new.bytes ≡ Some taken
+    → (4 ≤ area.width → LinesTakeColumns words → ShowsSource skin words area old new) → IsOnScreen word_area start → after_bytes start taken ≡ Some g → ShowsWords start g
 words_shown_by old new taken start g skin area skin_is area_is none all h begun read =
     let by_skin : 4 ≤ area.width → LinesTakeColumns words → ShowsSource no_style_skin words area old new =
     subst (λ (s : MadSkin). 4 ≤ area.width → LinesTakeColumns words → ShowsSource s words area old new) skin_is h in
     let here : 4 ≤ 12 → LinesTakeColumns words → ShowsSource no_style_skin words word_area old new =
     subst (λ (a : Area). 4 ≤ a.width → LinesTakeColumns words → ShowsSource no_style_skin words a old new) area_is by_skin in
     words_shown old new taken start g none all (here (omega arith) words_take_columns) begun read
+
+-- ---- the screen with a letter in its corner
+
+abbrev corner_grid : Grid
+corner_grid = painted (empty_grid 16 4) (corner ∷ [])
+
+width_z : char_width false 122 ≡ Some 1
+unfolding char_width
+width_z = refl
+
+columns_z : char_columns 122 ≡ 1
+unfolding char_columns
+columns_z = ap (λ (o : Option ℕ). unwrap_or o 0) width_z
+
+letter : IsAscii (122 ∷ [])
+letter = IsAscii-cons 122 [] (lit< tt) IsAscii-nil
+
+corner_cells : cells_of plain_pen (chars (122 ∷ [])) ≡ corner ∷ []
+corner_cells =
+    ap (cells_of plain_pen) (chars-IsAscii (122 ∷ []) letter)
+    ∙ ap (λ (w : Option ℕ). (attach w plain_pen 122 ([], [])).1) width_z
+
+corner_shown : IsShown (chars (122 ∷ []))
+corner_shown =
+    subst IsShown (sym (chars-IsAscii (122 ∷ []) letter)) (record { printed = (subst IsSome (sym width_z) refl, tt); whole = omega (arith, columns_z) })
+
+corner_read : after_bytes (empty_grid 16 4) (122 ∷ []) ≡ Some corner_grid
+corner_read =
+    let free : HasColumns (empty_grid 16 4) (length (cells_of plain_pen (chars (122 ∷ [])))) =
+    record { grid = on_screen.grid; row = omega arith; columns = omega (arith, ap length corner_cells) } in
+    read_leads (empty_grid 16 4) (painted (empty_grid 16 4) (cells_of plain_pen (chars (122 ∷ [])))) (122 ∷ []) (IsUtf8-from_ascii (122 ∷ []) letter)
+    (text_leads (chars (122 ∷ [])) (empty_grid 16 4) corner_shown free)
+    ∙ ap (λ cells. Some (painted (empty_grid 16 4) cells)) corner_cells
+
+corner_on_screen : IsOnScreen word_area corner_grid
+unfolding painted
+corner_on_screen = record {
+  grid = painted_is_grid (empty_grid 16 4) (corner ∷ []) on_screen.grid (omega arith);
+  pen = refl;
+  some = omega arith;
+  columns = omega arith;
+  rows = omega arith;
+}
+
+corner_is_there : cell_at corner_grid 0 0 ≡ corner
+unfolding painted
+corner_is_there = refl
+
+-- the example: the corner is as it was
+pub record ShowsWordsAndCorner (g : Grid) : Type 0 where
+  pub inside : cell_at g 2 1 ≡ record { chars = 97 ∷ []; pen = plain_pen }
+  pub outside : cell_at g 0 0 ≡ corner
+
+pub corner_stays : (old new : Trace) (taken : List ℕ) (empty start g : Grid) (skin : MadSkin) (area : Area) → skin ≡ no_style_skin → area ≡ word_area → old.bytes ≡ Some [] → new.bytes ≡ Some taken
+    → (4 ≤ area.width → LinesTakeColumns words → ShowsSource skin words area old new) → empty ≡ empty_grid 16 4 → after_bytes empty (122 ∷ []) ≡ Some start → after_bytes start taken ≡ Some g → ShowsWordsAndCorner g
+corner_stays old new taken empty start g skin area skin_is area_is none all h begun cornered read =
+    let is : corner_grid ≡ start = ap (λ (o : Option Grid). unwrap_or o start) (sym corner_read ∙ ap (λ e. after_bytes e (122 ∷ [])) (sym begun) ∙ cornered) in
+    let shows = words_shown_by old new taken start g skin area skin_is area_is none all h (subst (IsOnScreen word_area) is corner_on_screen) read in
+    record { inside = shows.inside; outside = shows.outside ∙ ap (λ e. cell_at e 0 0) (sym is) ∙ corner_is_there }
 
 -- ---- spaces
 
@@ -229,6 +301,6 @@ spaces_are_no_text old new none all h =
       laid_out = h.laid_out;
       shown = h.shown (source_keeps no_style_skin 11 2 words h.laid_out.text (omega arith) words_take_columns h.laid_out.read);
     } in
-    let shows : ShowsWords drawn.0 = words_shown old new (rows_bytes row word_area) (empty_grid 16 4) drawn.0 none all source refl drawn.1 in
+    let shows : ShowsWords (empty_grid 16 4) drawn.0 = words_shown old new (rows_bytes row word_area) (empty_grid 16 4) drawn.0 none all source on_screen drawn.1 in
     let letter : blank ≡ record { chars = 97 ∷ []; pen = plain_pen } = sym (drawn.4.inside 0 0 (omega arith) (omega arith) ∙ blank_cell) ∙ shows.inside in
     no_letter letter

@@ -28,7 +28,7 @@ pub record IsFittingWrap (skin : MadSkin) (width : ℕ) (source : FmtComposite) 
 
 -- the lines are a layout of the text at a width, the count of lines apart: each composite is kept or wrapped so
 abbrev pub IsFittingLayout : MadSkin → ℕ → List LineContent → List FmtLine → Type 0
-IsFittingLayout skin width text lines = IsLayoutBy IsFittingWrap skin (Some width) text lines
+IsFittingLayout skin width text lines = IsLayoutBy IsFittingWrap skin width (Some width) text lines
 
 -- the same at a width of three columns or more; of a lesser one, or of none, nothing is said
 abbrev pub IsFittingLayoutAt : MadSkin → Option ℕ → List LineContent → List FmtLine → Type 0

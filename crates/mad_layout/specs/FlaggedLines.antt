@@ -1,6 +1,6 @@
 -- The rows of a text's lines across an area.
-use Rattle.std.specs.Prelude.{◌≡◌, ℕ, ◌+◌, ◌-◌, max, min, Bool, false, ◌&&◌, List, [], ◌∷◌, ◌++◌, map, replicate, Some, decimal, encode_utf8, if◌then◌else◌}
-use Rattle.std.specs.List.{flat_map, repeat}
+use Rattle.std.specs.Prelude.{◌≡◌, ℕ, ◌+◌, ◌-◌, max, min, Bool, true, false, ◌&&◌, ◌||◌, List, [], ◌∷◌, ◌++◌, map, replicate, Some, decimal, encode_utf8, if◌then◌else◌}
+use Rattle.std.specs.List.{AllByRecursion, flat_map, repeat}
 use Rattle.std.specs.Str.{chars}
 use Rattle.mad_md.specs.Flagged.{FlaggedChar, flagged}
 use Rattle.mad_md.specs.Lines.{StyledRuns, LineContent, normal, table_row, table_rule, horizontal_rule}
@@ -27,13 +27,27 @@ abbrev pub is_code : LineContent → Bool
 is_code (normal line) = is_code_kind (kind_of line.style)
 is_code _ = false
 
--- a line in front of parts: it joins the first of them if both are code
+-- the line is one of a table
+abbrev pub is_table : LineContent → Bool
+is_table (table_row cells) = true
+is_table (table_rule aligns) = true
+is_table _ = false
+
+-- no line is one of a table
+abbrev pub HoldNoTable : List LineContent → Type 0
+HoldNoTable lines = AllByRecursion (λ l. is_table l ≡ false) lines
+
+-- two lines that follow one another are in one part: both are code, or both of a table
+abbrev pub stand_together : LineContent → LineContent → Bool
+stand_together l m = (is_code l && is_code m) || (is_table l && is_table m)
+
+-- a line in front of parts
 abbrev pub in_front : LineContent → List (List LineContent) → List (List LineContent)
 in_front l [] = (l ∷ []) ∷ []
 in_front l ([] ∷ parts) = (l ∷ []) ∷ [] ∷ parts
-in_front l ((m ∷ ms) ∷ parts) = if is_code l && is_code m then (l ∷ m ∷ ms) ∷ parts else (l ∷ []) ∷ (m ∷ ms) ∷ parts
+in_front l ((m ∷ ms) ∷ parts) = if stand_together l m then (l ∷ m ∷ ms) ∷ parts else (l ∷ []) ∷ (m ∷ ms) ∷ parts
 
--- the parts of a text: its blocks of code, each as long as can be, and any other line by itself
+-- the parts of a text: its tables and blocks of code, each as long as can be, and any other line by itself
 abbrev pub text_parts : List LineContent → List (List LineContent)
 text_parts [] = []
 text_parts (l ∷ ls) = in_front l (text_parts ls)

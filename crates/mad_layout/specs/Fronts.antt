@@ -1,10 +1,8 @@
 -- Layouts of the first lines of a text.
 use Rattle.std.specs.Prelude.{◌≡◌, ◌⊎◌, ℕ, ◌≤◌, List, [], ◌++◌, length, Option}
 use Rattle.mad_md.specs.Lines.{LineContent}
-use Rattle.mad_layout.specs.CompositeWraps.{IsCompositeWrap}
 use Rattle.mad_layout.specs.FlaggedLines.{text_parts}
-use Rattle.mad_layout.specs.Layouts.{IsLayoutBy}
-use Rattle.mad_layout.specs.Parts.{wrap_width}
+use Rattle.mad_layout.specs.Layouts.{IsLayoutAt}
 use Rattle.mad_layout.specs.declared.skin.MadSkin.{MadSkin}
 use Rattle.mad_layout.specs.declared.line.FmtLine.{FmtLine}
 
@@ -14,9 +12,5 @@ pub record IsFrontLayout (skin : MadSkin) (width : Option ℕ) (rows : ℕ) (tex
   pub rest : List LineContent
   pub joins : text ≡ front ++ rest
   pub parts : text_parts text ≡ text_parts front ++ text_parts rest
-  pub layout : IsLayoutBy IsCompositeWrap skin width front lines
+  pub layout : IsLayoutAt skin width front lines
   pub enough : (rest ≡ []) ⊎ (rows ≤ length lines)
-
--- the same at a width, if there is one; nothing is wrapped at a width under three, nor without a width
-abbrev pub IsFrontLayoutAt : MadSkin → Option ℕ → ℕ → List LineContent → List FmtLine → Type 0
-IsFrontLayoutAt skin width rows text lines = IsFrontLayout skin (wrap_width width) rows text lines

@@ -4,7 +4,7 @@ use Rattle.mad_md.specs.Lines.{LineContent}
 use Rattle.mad_md.specs.Reading.{IsRead, unread_text}
 use Rattle.mad_layout.specs.CompositeWraps.{IsCompositeWrap}
 use Rattle.mad_layout.specs.Lines.{IsLineRead}
-use Rattle.mad_layout.specs.Parts.{parts_of, wrap_width, ArePartsAt}
+use Rattle.mad_layout.specs.Parts.{parts_of, table_width, wrap_width, ArePartsAt}
 use Rattle.mad_layout.specs.WrappedLines.{Wrap}
 use Rattle.mad_layout.specs.declared.skin.MadSkin.{MadSkin}
 use Rattle.mad_layout.specs.declared.line.FmtLine.{FmtLine}
@@ -16,19 +16,19 @@ AreRead skin [] (l ∷ ls) = ⊥
 AreRead skin (c ∷ cs) [] = ⊥
 AreRead skin (c ∷ cs) (l ∷ ls) = IsLineRead skin c l × AreRead skin cs ls
 
--- The lines are a layout of the text by some kind of wrap, part by part.
-pub record IsLayoutBy (wraps : Wrap) (skin : MadSkin) (width : Option ℕ) (text : List LineContent) (lines : List FmtLine) : Type 0 where
+-- The lines are a layout of the text by some kind of wrap, part by part, where tables have this width, and other lines that one, if any.
+pub record IsLayoutBy (wraps : Wrap) (skin : MadSkin) (tables : ℕ) (width : Option ℕ) (text : List LineContent) (lines : List FmtLine) : Type 0 where
   pub read : List FmtLine
   pub reads : AreRead skin text read
-  pub laid : ArePartsAt wraps skin width (parts_of read) lines
+  pub laid : ArePartsAt wraps skin tables width (parts_of read) lines
 
 -- the lines are a layout of the text at a width, each line's wrap one with the fewest lines
 abbrev pub IsLayout : MadSkin → ℕ → List LineContent → List FmtLine → Type 0
-IsLayout skin width text lines = IsLayoutBy IsCompositeWrap skin (Some width) text lines
+IsLayout skin width text lines = IsLayoutBy IsCompositeWrap skin width (Some width) text lines
 
--- a layout at a width, if there is one; nothing is wrapped at a width under three, nor without a width
+-- a layout at a width, if there is one; at a width under three, or without one, only cells of tables are wrapped
 abbrev pub IsLayoutAt : MadSkin → Option ℕ → List LineContent → List FmtLine → Type 0
-IsLayoutAt skin width text lines = IsLayoutBy IsCompositeWrap skin (wrap_width width) text lines
+IsLayoutAt skin width text lines = IsLayoutBy IsCompositeWrap skin (table_width width) (wrap_width width) text lines
 
 -- the lines are a layout of a Markdown text at a width, if there is one
 abbrev pub IsMarkdownLayout : MadSkin → Option ℕ → List ℕ → List FmtLine → Type 0

@@ -25,6 +25,8 @@ pub mod SkinParts
 pub mod Skins
 pub mod Sources
 pub mod Styles
+pub mod TableRows
+pub mod Tables
 pub mod Texts
 pub mod Words
 pub mod WrappedLines

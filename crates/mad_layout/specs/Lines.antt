@@ -1,5 +1,5 @@
 -- Lines of a layout.
-use Rattle.std.specs.Prelude.{◌≡◌, ℕ, ◌+◌, max, List, [], ◌∷◌, map, None}
+use Rattle.std.specs.Prelude.{◌≡◌, ℕ, ◌+◌, ◌-◌, max, List, [], ◌∷◌, ◌++◌, length, take, replicate, map, None}
 use Rattle.mad_md.specs.Flagged.{run_of}
 use Rattle.mad_md.specs.Lines.{StyledRuns, LineContent, normal, table_row, table_rule, horizontal_rule}
 use Rattle.mad_md.specs.declared.alignment.Alignment.{Alignment}
@@ -87,3 +87,7 @@ IsLineRead skin horizontal_rule (Normal l) = ⊥
 IsLineRead skin horizontal_rule (TableRow row) = ⊥
 IsLineRead skin horizontal_rule (TableRule rule) = ⊥
 IsLineRead skin horizontal_rule HorizontalRule = Unit {0}
+
+-- elements cut to n, or filled up with one
+abbrev pub resized : {A : Type 0} → ℕ → A → List A → List A
+resized n x xs = take n xs ++ replicate (n - length xs) x

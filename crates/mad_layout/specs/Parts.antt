@@ -1,10 +1,10 @@
--- A text's lines as parts, and its layout, part by part: blocks of code, and any other line by itself.
-use Rattle.std.specs.Prelude.{◌≡◌, ℕ, ◌-◌, max, min, nat_lt, if◌then◌else◌, Bool, true, false, List, [], ◌∷◌, ◌++◌, map, Option, Some, None}
-use Rattle.std.specs.List.{flat_map}
+-- A text's lines as parts, and its layout, part by part: tables, blocks of code, and any other line by itself.
+use Rattle.std.specs.Prelude.{◌≡◌, ℕ, ◌-◌, ◌^◌, max, min, nat_lt, if◌then◌else◌, Bool, true, false, List, [], ◌∷◌, ◌++◌, map, Option, Some, None}
 use Rattle.mad_md.specs.declared.alignment.Alignment.TheVariants.{Left}
 use Rattle.mad_style.specs.LineStyles.{margins_at}
 use Rattle.mad_style.specs.declared.kinds.CompositeKind.{CompositeKind}
 use Rattle.mad_style.specs.declared.kinds.CompositeKind.TheVariants.{Paragraph, Header, ListItem, ListItemFollowUp, OrderedListItem, OrderedListItemFollowUp, Code, Quote}
+use Rattle.mad_layout.specs.Tables.{IsTableLaidOutBy, columns_count}
 use Rattle.mad_layout.specs.WrappedLines.{Wrap, IsLineLaidOutBy}
 use Rattle.mad_layout.specs.declared.skin.MadSkin.{MadSkin}
 use Rattle.mad_layout.specs.declared.composite.FmtComposite.{FmtComposite}
@@ -13,8 +13,9 @@ use Rattle.mad_layout.specs.declared.line.FmtLine.TheVariants.{Normal, TableRow,
 
 -- ---- parts
 
--- the lines of a block of code, or a line by itself
+-- the lines of a table or of a block of code, or a line by itself
 pub data Part : Type 0 where
+  table : List FmtLine → Part
   block : List FmtComposite → Part
   single : FmtLine → Part
 
@@ -36,9 +37,17 @@ is_code_line (TableRow row) = false
 is_code_line (TableRule rule) = false
 is_code_line HorizontalRule = false
 
+-- a line of a table in front of parts: it joins a table that begins them
+abbrev pub with_table : FmtLine → List Part → List Part
+with_table l [] = table (l ∷ []) ∷ []
+with_table l (table ls ∷ ps) = table (l ∷ ls) ∷ ps
+with_table l (block ls ∷ ps) = table (l ∷ []) ∷ block ls ∷ ps
+with_table l (single m ∷ ps) = table (l ∷ []) ∷ single m ∷ ps
+
 -- a line of code in front of parts: it joins a block that begins them
 abbrev pub with_code : FmtComposite → List Part → List Part
 with_code l [] = block (l ∷ []) ∷ []
+with_code l (table ls ∷ ps) = block (l ∷ []) ∷ table ls ∷ ps
 with_code l (block ls ∷ ps) = block (l ∷ ls) ∷ ps
 with_code l (single m ∷ ps) = block (l ∷ []) ∷ single m ∷ ps
 
@@ -50,14 +59,31 @@ with_composite false l ps = single (Normal l) ∷ ps
 -- a line in front of parts
 abbrev pub with_line : FmtLine → List Part → List Part
 with_line (Normal l) ps = with_composite (is_code_kind l.kind) l ps
-with_line (TableRow row) ps = single (TableRow row) ∷ ps
-with_line (TableRule rule) ps = single (TableRule rule) ∷ ps
+with_line (TableRow row) ps = with_table (TableRow row) ps
+with_line (TableRule rule) ps = with_table (TableRule rule) ps
 with_line HorizontalRule ps = single HorizontalRule ∷ ps
 
--- the parts of lines, in order: a block is as long as can be
+-- the parts of lines, in order: tables and blocks are as long as can be
 abbrev pub parts_of : List FmtLine → List Part
 parts_of [] = []
 parts_of (l ∷ ls) = with_line l (parts_of ls)
+
+-- what becomes of each of the parts, in order: `becomes` says what a part becomes
+abbrev pub ArePartsBy : (Part → List FmtLine → Type 0) → List Part → List FmtLine → Type 0
+ArePartsBy becomes [] lines = lines ≡ []
+ArePartsBy becomes (p ∷ ps) lines = (own : List FmtLine) × (others : List FmtLine) × (lines ≡ own ++ others) × becomes p own × ArePartsBy becomes ps others
+
+-- ---- tables
+
+-- a table is laid out, any other part stays
+abbrev pub IsTableFixedBy : Wrap → MadSkin → ℕ → Part → List FmtLine → Type 0
+IsTableFixedBy wraps skin width (table ls) lines = IsTableLaidOutBy wraps skin (columns_count ls) width ls lines
+IsTableFixedBy wraps skin width (block ls) lines = lines ≡ map Normal ls
+IsTableFixedBy wraps skin width (single l) lines = lines ≡ l ∷ []
+
+-- lines with each table laid out
+abbrev pub AreTablesLaidOut : Wrap → MadSkin → ℕ → List FmtLine → List FmtLine → Type 0
+AreTablesLaidOut wraps skin width source lines = ArePartsBy (IsTableFixedBy wraps skin width) (parts_of source) lines
 
 -- ---- blocks of code
 
@@ -79,15 +105,6 @@ placed_code width l = record l { spacing = Some (record { width = width; align =
 abbrev pub justified : Option ℕ → List FmtComposite → List FmtComposite
 justified room ls = map (placed_code (block_width room ls)) ls
 
--- the lines of a part, those of a block in its place
-abbrev pub part_lines : Option ℕ → Part → List FmtLine
-part_lines room (block ls) = map Normal (justified room ls)
-part_lines room (single l) = l ∷ []
-
--- lines with each block of code in its place
-abbrev pub blocks_justified : Option ℕ → List FmtLine → List FmtLine
-blocks_justified room ls = flat_map (part_lines room) (parts_of ls)
-
 -- ---- a layout
 
 -- what the margins of code leave of a width, if there is one
@@ -100,6 +117,11 @@ abbrev pub wrap_width : Option ℕ → Option ℕ
 wrap_width None = None
 wrap_width (Some width) = if nat_lt width 3 then None else Some width
 
+-- the width of tables: they are laid out at any width, and without one as wide as can be
+abbrev pub table_width : Option ℕ → ℕ
+table_width None = 2 ^ 64 - 1
+table_width (Some width) = width
+
 -- what becomes of a line at a width; without one it stays
 abbrev pub IsLineAt : Wrap → MadSkin → Option ℕ → FmtLine → List FmtLine → Type 0
 IsLineAt wraps skin None l lines = lines ≡ l ∷ []
@@ -110,11 +132,12 @@ abbrev pub AreLinesAt : Wrap → MadSkin → Option ℕ → List FmtLine → Lis
 AreLinesAt wraps skin width [] lines = lines ≡ []
 AreLinesAt wraps skin width (l ∷ ls) lines = (own : List FmtLine) × (others : List FmtLine) × (lines ≡ own ++ others) × IsLineAt wraps skin width l own × AreLinesAt wraps skin width ls others
 
--- what becomes of a part: the lines of a block get its place first
-abbrev pub IsPartAt : Wrap → MadSkin → Option ℕ → Part → List FmtLine → Type 0
-IsPartAt wraps skin width part lines = AreLinesAt wraps skin width (part_lines (code_room skin width) part) lines
+-- what becomes of a part where tables have this width: a table is laid out; the lines of a block get its place first
+abbrev pub IsPartAt : Wrap → MadSkin → ℕ → Option ℕ → Part → List FmtLine → Type 0
+IsPartAt wraps skin tables width (table ls) lines = IsTableLaidOutBy wraps skin (columns_count ls) tables ls lines
+IsPartAt wraps skin tables width (block ls) lines = AreLinesAt wraps skin width (map Normal (justified (code_room skin width) ls)) lines
+IsPartAt wraps skin tables width (single l) lines = AreLinesAt wraps skin width (l ∷ []) lines
 
 -- what becomes of each of the parts, in order: the layouts of a text's parts joined are its layout
-abbrev pub ArePartsAt : Wrap → MadSkin → Option ℕ → List Part → List FmtLine → Type 0
-ArePartsAt wraps skin width [] lines = lines ≡ []
-ArePartsAt wraps skin width (p ∷ ps) lines = (own : List FmtLine) × (others : List FmtLine) × (lines ≡ own ++ others) × IsPartAt wraps skin width p own × ArePartsAt wraps skin width ps others
+abbrev pub ArePartsAt : Wrap → MadSkin → ℕ → Option ℕ → List Part → List FmtLine → Type 0
+ArePartsAt wraps skin tables width ps lines = ArePartsBy (IsPartAt wraps skin tables width) ps lines

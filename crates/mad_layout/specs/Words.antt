@@ -1,6 +1,8 @@
 -- An example: a text of three words, and what doesn't show it.
 use Rattle.std.specs.Prelude.{◌≡◌, ℕ, List, [], ◌∷◌, Some}
 use Rattle.mad_term.specs.Trace.{Trace}
+use Rattle.mad_screen.specs.Glyph.{Glyph}
+use Rattle.mad_screen.specs.Grid.{plain_pen}
 use Rattle.mad_style.specs.CompoundStyles.{plain_style}
 use Rattle.mad_fit.specs.declared.area.Area.{Area}
 use Rattle.mad_draw.specs.DrawnRows.{rows_bytes}
@@ -15,6 +17,10 @@ words = 97 ∷ 97 ∷ 97 ∷ 32 ∷ 98 ∷ 98 ∷ 32 ∷ 99 ∷ 99 ∷ []
 -- an area of twelve columns and two rows, away from the screen's corner
 abbrev pub word_area : Area
 word_area = record { left = 2; top = 1; width = 12; height = 2 }
+
+-- a `z`, which is in the screen's corner before
+abbrev pub corner : Glyph
+corner = record { chars = 122 ∷ []; pen = plain_pen }
 
 -- Who fills the area with spaces has not shown the text.
 abbrev pub SpacesAreNoText : Type 0

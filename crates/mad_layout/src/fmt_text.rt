@@ -5,13 +5,12 @@ ghost use Rattle.mad_md.specs.Lines.{LineContent, contents};
 ghost use Rattle.mad_md.specs.ReadRaw.{IsReadRaw};
 ghost use Rattle.mad_md.specs.Reading.{IsRead, unread_text};
 ghost use Rattle.mad_md.specs.declared.text.Text.{Text};
-ghost use Rattle.mad_layout.specs.CompositeWraps.{IsCompositeWrap};
 ghost use Rattle.mad_layout.specs.FittingLayouts.{IsFittingLayoutAt};
 ghost use Rattle.mad_layout.specs.InArea.{IsAreaLayout};
-ghost use Rattle.mad_layout.specs.Layouts.{IsLayoutBy, IsLayoutAt, IsMarkdownLayout};
+ghost use Rattle.mad_layout.specs.Layouts.{IsLayoutAt, IsMarkdownLayout};
 ghost use Rattle.mad_layout.specs.Lines.{widest_line};
 
-use crate::laying::{Laying, wrap_width};
+use crate::laying::Laying;
 use crate::line::FmtLine;
 use crate::skin::MadSkin;
 use mad_fit::Area;
@@ -32,7 +31,7 @@ pub struct FmtText<'k, 's> {
 impl<'k, 's> FmtText<'k, 's> {
     /// A text without a look at its marks, laid out at a width, in columns.
     ///
-    /// Nothing is wrapped at a width under three, nor without a width. Only out of memory is an error.
+    /// At a width under three, or without one, only cells of tables are wrapped. Only out of memory is an error.
     pub fn raw_str(
         alloc: Global,
         skin: &'k MadSkin,
@@ -47,13 +46,13 @@ impl<'k, 's> FmtText<'k, 's> {
         ensures fitting { IfOk result (λ laid_out. (text : Text) × IsReadRaw src.now text × IsFittingLayoutAt skin.now width (contents text) laid_out.lines.items) }
     {
         let text = Text::raw_str(alloc, src)?;
-        let lines = lay_text(alloc, skin, text, wrap_width(width))?;
+        let lines = lay_text(alloc, skin, text, width)?;
         Ok(FmtText { skin, lines, width })
     }
 
     /// A Markdown text, laid out at a width, in columns.
     ///
-    /// Nothing is wrapped at a width under three, nor without a width. Only out of memory is an error.
+    /// At a width under three, or without one, only cells of tables are wrapped. Only out of memory is an error.
     pub fn from(
         alloc: Global,
         skin: &'k MadSkin,
@@ -67,13 +66,13 @@ impl<'k, 's> FmtText<'k, 's> {
         // So from three columns on the lines are a fitting layout, the premise of what `draw_text` shows (`shown_layout`).
         ensures fitting { IfOk result (λ laid_out. (text : List LineContent) × IsRead (unread_text false src.now) text × IsFittingLayoutAt skin.now width text laid_out.lines.items) }
     {
-        let lines = lay_source(alloc, skin, src, wrap_width(width))?;
+        let lines = lay_source(alloc, skin, src, width)?;
         Ok(FmtText { skin, lines, width })
     }
 
     /// A text that was read, laid out at a width, in columns.
     ///
-    /// Nothing is wrapped at a width under three, nor without a width. Only out of memory is an error.
+    /// At a width under three, or without one, only cells of tables are wrapped. Only out of memory is an error.
     pub fn from_text(
         alloc: Global,
         skin: &'k MadSkin,
@@ -87,7 +86,7 @@ impl<'k, 's> FmtText<'k, 's> {
         // So from three columns on the lines are a fitting layout, the premise of what `draw_text` shows (`shown_layout`).
         ensures fitting { IfOk result (λ laid_out. IsFittingLayoutAt skin.now width (contents text.entry) laid_out.lines.items) }
     {
-        let lines = lay_text(alloc, skin, text, wrap_width(width))?;
+        let lines = lay_text(alloc, skin, text, width)?;
         Ok(FmtText { skin, lines, width })
     }
 
@@ -189,7 +188,7 @@ fn lay_source<'s>(
     src: &'s str,
     width: Option<usize>,
 ) -> Result<Vec<FmtLine<'s>>, AllocError>
-    ensures { IfOk result (λ lines. (text : List LineContent) × IsRead (unread_text false src.entry.now) text × IsLayoutBy IsCompositeWrap skin.now width text lines.items) }
+    ensures { IfOk result (λ lines. (text : List LineContent) × IsRead (unread_text false src.entry.now) text × IsLayoutAt skin.now width text lines.items) }
 {
     let mut laying = Laying::new(alloc);
     let mut cursor = LineCursor::new(src, ParseOptions::default());
@@ -207,7 +206,7 @@ fn lay_text<'s>(
     text: Text<'s>,
     width: Option<usize>,
 ) -> Result<Vec<FmtLine<'s>>, AllocError>
-    ensures { IfOk result (λ lines. IsLayoutBy IsCompositeWrap skin.now width (contents text.entry) lines.items) }
+    ensures { IfOk result (λ lines. IsLayoutAt skin.now width (contents text.entry) lines.items) }
 {
     let mut laying = Laying::new(alloc);
     for line in text.lines {

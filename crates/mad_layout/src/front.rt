@@ -1,14 +1,14 @@
 //! The first lines of a text, laid out: as many as an area has rows.
 
-ghost use Rattle.std.specs.Prelude.{◌≡◌, ◌-◌, false, not, IfOk, List, Some};
+ghost use Rattle.std.specs.Prelude.{◌≡◌, ◌-◌, ◌&&◌, false, not, IfOk, List, Some};
 ghost use Rattle.mad_md.specs.Lines.{LineContent, content_of};
 ghost use Rattle.mad_md.specs.Reading.{IsRead, unread_text};
-ghost use Rattle.mad_layout.specs.FlaggedLines.{is_code};
+ghost use Rattle.mad_layout.specs.FlaggedLines.{is_code, is_table};
 ghost use Rattle.mad_layout.specs.Fronts.{IsFrontLayout};
 ghost use Rattle.mad_layout.specs.InArea.{IsAreaFront};
 
 use crate::fmt_text::FmtText;
-use crate::laying::{Laying, is_code, wrap_width};
+use crate::laying::{Laying, is_code};
 use crate::line::FmtLine;
 use crate::skin::MadSkin;
 use mad_fit::Area;
@@ -29,7 +29,7 @@ impl MadSkin {
     {
         let width = Some(usize::from(area.width).saturating_sub(1));
         let rows = usize::from(area.height);
-        let lines = lay_front(alloc, self, markdown, wrap_width(width), rows)?;
+        let lines = lay_front(alloc, self, markdown, width, rows)?;
         Ok(FmtText {
             skin: self,
             lines,
@@ -62,12 +62,13 @@ fn lay_front<'s>(
     Ok(laying.lines)
 }
 
-// No part of a text goes on after the line: it isn't one of code.
+// No part of a text goes on after the line: it is neither code nor of a table.
 fn ends_part(line: &Line) -> bool
-    ensures { result ≡ not (is_code (content_of line.now)) }
+    ensures { result ≡ (not (is_code (content_of line.now)) && not (is_table (content_of line.now))) }
 {
     match line {
         Line::Normal(composite) => !is_code(CompositeKind::from(composite.style)),
-        _ => true,
+        Line::TableRow(_) | Line::TableRule(_) => false,
+        Line::HorizontalRule => true,
     }
 }

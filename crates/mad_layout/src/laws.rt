@@ -1,13 +1,14 @@
 //! An example whose premises are proved: a text that is written in an area, and what a screen shows that reads it.
 
-ghost use Rattle.std.specs.Prelude.{◌≡◌, ◌∷◌, [], IfOk};
-ghost use Rattle.mad_screen.specs.Grid.{blank, cell_at, plain_pen};
+ghost use Rattle.std.specs.Prelude.{◌≡◌, ◌∷◌, [], IfOk, OnOk, Some};
+ghost use Rattle.mad_screen.specs.Grid.{cell_at, plain_pen};
+ghost use Rattle.mad_screen.specs.Terminal.{after_bytes};
 ghost use Rattle.mad_layout.specs.Sources.{LinesTakeColumns};
-ghost use Rattle.mad_layout.specs.Words.{words, SpacesAreNoText};
+ghost use Rattle.mad_layout.specs.Words.{corner, words, SpacesAreNoText};
 
 use crate::skin::MadSkin;
 use mad_fit::Area;
-use mad_screen::{NotPlain, Screen};
+use mad_screen::Screen;
 use mad_term::{CutOut, Error};
 use std::alloc::Global;
 
@@ -22,8 +23,8 @@ pub fn spaces_are_no_text()
     ensures { SpacesAreNoText }
 {}
 
-/// A screen of sixteen columns and four rows, after `aaa bb cc` was written in an area of twelve columns and two rows, whose first
-/// cell is in column 2 of row 1.
+/// A screen of sixteen columns and four rows, a `z` in its corner, after `aaa bb cc` was written in an area of twelve columns and two
+/// rows, whose first cell is in column 2 of row 1.
 ///
 /// # Errors
 ///
@@ -33,16 +34,25 @@ pub fn words_on_a_screen(alloc: Global) -> Result<Screen, Error>
     ensures inside { IfOk result (λ screen. cell_at screen 2 1 ≡ record { chars = 97 ∷ []; pen = plain_pen }) }
 
     // A cell outside it is as it was.
-    ensures outside { IfOk result (λ screen. cell_at screen 0 0 ≡ blank) }
+    ensures outside { IfOk result (λ screen. cell_at screen 0 0 ≡ corner) }
 {
     let mut screen = Screen::new(alloc, 16, 4)?;
+    show(&mut screen, b"z")?;
     let mut out = CutOut::new(alloc, 100, 100, false)?;
     let skin = MadSkin::no_style();
     let area = Area::new(2, 1, 12, 2);
     skin.write_in_area_on(alloc, &mut out, "aaa bb cc", &area)?;
     let taken = out.taken();
-    match screen.read_bytes(taken) {
-        Ok(()) => Ok(screen),
+    show(&mut screen, taken)?;
+    Ok(screen)
+}
+
+// Reads what a plain terminal reads.
+fn show(screen: &mut Screen, bytes: &[u8]) -> Result<(), Error>
+    ensures { OnOk result (after_bytes screen.old bytes.now ≡ Some screen.new) }
+{
+    match screen.read_bytes(bytes) {
+        Ok(()) => Ok(()),
         Err(_) => Err(Error::Memory),
     }
 }

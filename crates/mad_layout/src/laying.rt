@@ -1,13 +1,14 @@
-//! Lines of a text, laid out one after another; lines of code wait for the end of their block.
+//! Lines of a text, laid out one after another; lines of code wait for the end of their block, and those of a table for its end.
 
-ghost use Rattle.std.specs.Prelude.{◌≡◌, ◌≤◌, ◌++◌, ◌∷◌, [], false, List, Option, Some, None, map, IfSome, OnOk};
+ghost use Rattle.std.specs.Prelude.{◌≡◌, ◌≤◌, ◌++◌, ◌∷◌, [], true, false, List, Option, Some, None, map, IfSome, OnOk};
 ghost use Rattle.std.specs.List.{AllByRecursion};
 ghost use Rattle.mad_md.specs.Lines.{LineContent, content_of};
 ghost use Rattle.mad_layout.specs.CompositeWraps.{IsCompositeWrap};
-ghost use Rattle.mad_layout.specs.Laying.{IsOpenBlock, IsLaidFor};
+ghost use Rattle.mad_layout.specs.Laying.{IsOpenRun, IsLaidFor, IsBlockAt, IsTableAt, IsRunAt};
 ghost use Rattle.mad_layout.specs.Lines.{IsLineRead};
-ghost use Rattle.mad_layout.specs.Parts.{is_code_kind, is_code_line, widest, block_width, placed_code, justified, code_room, wrap_width, IsLineAt, AreLinesAt};
-ghost use Rattle.mad_layout.specs.WrappedLines.{IsLineMeasured};
+ghost use Rattle.mad_layout.specs.Parts.{is_code_kind, is_code_line, widest, block_width, placed_code, code_room, table_width, wrap_width, IsLineAt};
+ghost use Rattle.mad_layout.specs.Tables.{is_table_line};
+ghost use Rattle.mad_layout.specs.WrappedLines.{AllMeasured, IsLineMeasured};
 ghost use Rattle.mad_layout.specs.Wraps.{IsMeasured};
 ghost use Rattle.mad_layout.specs.declared.line.FmtLine.{FmtLine};
 ghost use Rattle.mad_layout.specs.declared.line.FmtLine.TheVariants.{Normal};
@@ -16,6 +17,7 @@ use crate::composite::FmtComposite;
 use crate::line::FmtLine;
 use crate::room::LEAST_WIDTH;
 use crate::skin::MadSkin;
+use crate::table_layout::push_whole_table;
 use crate::wrap::push_line;
 use mad_fit::Spacing;
 use mad_md::{Alignment, Line};
@@ -23,11 +25,12 @@ use mad_style::CompositeKind;
 use std::alloc::{AllocError, Global};
 use std::mem;
 
-/// A layout that is being made: the lines that are laid out, and the lines of code after them, whose block may go on.
+/// A layout that is being made: the lines that are laid out, and after them a block of code or a table, which may go on.
 #[derive(Drop)]
 pub(crate) struct Laying<'s> {
     pub lines: Vec<FmtLine<'s>>,
     block: Vec<FmtComposite<'s>>,
+    table: Vec<FmtLine<'s>>,
 }
 
 impl<'s> Laying<'s> {
@@ -35,14 +38,16 @@ impl<'s> Laying<'s> {
     pub fn new(alloc: Global) -> Self
         ensures lines { result.lines.items ≡ [] }
         ensures block { result.block.items ≡ [] }
+        ensures table { result.table.items ≡ [] }
     {
         Laying {
             lines: Vec::new(alloc),
             block: Vec::new(alloc),
+            table: Vec::new(alloc),
         }
     }
 
-    /// The next line of a text, which is wrapped at a width, if there is one.
+    /// The next line of a text, which is laid out at a width, if there is one.
     pub fn push(
         &mut self,
         alloc: Global,
@@ -50,14 +55,17 @@ impl<'s> Laying<'s> {
         width: Option<usize>,
         skin: &MadSkin,
     ) -> Result<(), AllocError>
-        requires block { IsOpenBlock skin.now self.old.block.items }
-        ensures block { OnOk result (IsOpenBlock skin.now self.new.block.items) }
-        ensures laid { OnOk result ((all rest : List LineContent) → IsLaidFor skin.now width all (content_of line.entry ∷ rest) self.old.lines.items self.old.block.items
-            → IsLaidFor skin.now width all rest self.new.lines.items self.new.block.items) }
+        requires run { IsOpenRun skin.now self.old.block.items self.old.table.items }
+        ensures run { OnOk result (IsOpenRun skin.now self.new.block.items self.new.table.items) }
+        ensures laid { OnOk result ((all rest : List LineContent) → IsLaidFor skin.now width all (content_of line.entry ∷ rest) self.old.lines.items self.old.block.items self.old.table.items
+            → IsLaidFor skin.now width all rest self.new.lines.items self.new.block.items self.new.table.items) }
     {
         match FmtLine::from(alloc, line, skin)? {
             FmtLine::Normal(composite) => self.push_composite(alloc, composite, width, skin),
-            other => self.push_alone(alloc, other, width, skin),
+            FmtLine::HorizontalRule => {
+                self.push_alone(alloc, FmtLine::HorizontalRule, width, skin)
+            }
+            line => self.push_table_line(alloc, line, width, skin),
         }
     }
 
@@ -70,19 +78,42 @@ impl<'s> Laying<'s> {
         skin: &MadSkin,
     ) -> Result<(), AllocError>
         requires measured { IsMeasured skin.now composite }
-        requires block { IsOpenBlock skin.now self.old.block.items }
-        ensures block { OnOk result (IsOpenBlock skin.now self.new.block.items) }
+        requires run { IsOpenRun skin.now self.old.block.items self.old.table.items }
+        ensures run { OnOk result (IsOpenRun skin.now self.new.block.items self.new.table.items) }
         ensures laid { OnOk result ((content : LineContent) (all rest : List LineContent) → IsLineRead skin.now content (Normal composite.entry)
-            → IsLaidFor skin.now width all (content ∷ rest) self.old.lines.items self.old.block.items → IsLaidFor skin.now width all rest self.new.lines.items self.new.block.items) }
+            → IsLaidFor skin.now width all (content ∷ rest) self.old.lines.items self.old.block.items self.old.table.items
+            → IsLaidFor skin.now width all rest self.new.lines.items self.new.block.items self.new.table.items) }
     {
         if is_code(composite.kind) {
+            self.close_table(alloc, width, skin)?;
             self.block.push(composite)?;
             return Ok(());
         }
         self.push_alone(alloc, FmtLine::Normal(composite), width, skin)
     }
 
-    // Any other line ends the block.
+    // A line of a table goes into the table that is open.
+    fn push_table_line(
+        &mut self,
+        alloc: Global,
+        line: FmtLine<'s>,
+        width: Option<usize>,
+        skin: &MadSkin,
+    ) -> Result<(), AllocError>
+        requires line { is_table_line line ≡ true }
+        requires measured { IsLineMeasured skin.now line }
+        requires run { IsOpenRun skin.now self.old.block.items self.old.table.items }
+        ensures run { OnOk result (IsOpenRun skin.now self.new.block.items self.new.table.items) }
+        ensures laid { OnOk result ((content : LineContent) (all rest : List LineContent) → IsLineRead skin.now content line.entry
+            → IsLaidFor skin.now width all (content ∷ rest) self.old.lines.items self.old.block.items self.old.table.items
+            → IsLaidFor skin.now width all rest self.new.lines.items self.new.block.items self.new.table.items) }
+    {
+        self.close_block(alloc, width, skin)?;
+        self.table.push(line)?;
+        Ok(())
+    }
+
+    // Any other line ends both.
     fn push_alone(
         &mut self,
         alloc: Global,
@@ -90,41 +121,83 @@ impl<'s> Laying<'s> {
         width: Option<usize>,
         skin: &MadSkin,
     ) -> Result<(), AllocError>
-        requires alone { is_code_line line ≡ false }
+        requires no_code { is_code_line line ≡ false }
+        requires no_table { is_table_line line ≡ false }
         requires measured { IsLineMeasured skin.now line }
-        requires block { IsOpenBlock skin.now self.old.block.items }
-        ensures block { OnOk result (IsOpenBlock skin.now self.new.block.items) }
+        requires run { IsOpenRun skin.now self.old.block.items self.old.table.items }
+        ensures run { OnOk result (IsOpenRun skin.now self.new.block.items self.new.table.items) }
         ensures laid { OnOk result ((content : LineContent) (all rest : List LineContent) → IsLineRead skin.now content line.entry
-            → IsLaidFor skin.now width all (content ∷ rest) self.old.lines.items self.old.block.items → IsLaidFor skin.now width all rest self.new.lines.items self.new.block.items) }
+            → IsLaidFor skin.now width all (content ∷ rest) self.old.lines.items self.old.block.items self.old.table.items
+            → IsLaidFor skin.now width all rest self.new.lines.items self.new.block.items self.new.table.items) }
     {
         self.close(alloc, width, skin)?;
-        push_at(alloc, &mut self.lines, line, width, skin)
+        push_at(alloc, &mut self.lines, line, wrap_width(width), skin)
     }
 
-    /// Lays out the block of code that is open, if there is one.
+    /// Lays out the block of code or the table that is open, if there is one.
     pub fn close(
         &mut self,
         alloc: Global,
         width: Option<usize>,
         skin: &MadSkin,
     ) -> Result<(), AllocError>
-        requires block { IsOpenBlock skin.now self.old.block.items }
+        requires run { IsOpenRun skin.now self.old.block.items self.old.table.items }
+        ensures block { OnOk result (self.new.block.items ≡ []) }
+        ensures table { OnOk result (self.new.table.items ≡ []) }
+        ensures laid { OnOk result ((own : List FmtLine) × (self.new.lines.items ≡ self.old.lines.items ++ own) × IsRunAt skin.now width self.old.block.items self.old.table.items own) }
+    {
+        self.close_block(alloc, width, skin)?;
+        self.close_table(alloc, width, skin)
+    }
+
+    // Lays out the block of code that is open.
+    fn close_block(
+        &mut self,
+        alloc: Global,
+        width: Option<usize>,
+        skin: &MadSkin,
+    ) -> Result<(), AllocError>
+        requires { AllByRecursion (IsMeasured skin.now) self.old.block.items }
         ensures closed { OnOk result (self.new.block.items ≡ []) }
-        ensures laid { OnOk result ((own : List FmtLine) × (self.new.lines.items ≡ self.old.lines.items ++ own)
-            × AreLinesAt IsCompositeWrap skin.now width (map Normal (justified (code_room skin.now width) self.old.block.items)) own) }
+        ensures table { OnOk result (self.new.table.items ≡ self.old.table.items) }
+        ensures laid { OnOk result ((own : List FmtLine) × (self.new.lines.items ≡ self.old.lines.items ++ own) × IsBlockAt skin.now width self.old.block.items own) }
     {
         let block = mem::replace(&mut self.block, Vec::new(alloc));
-        let columns = block_width(&block, room_of_code(width, skin));
+        let wrap = wrap_width(width);
+        let columns = block_width(&block, room_of_code(wrap, skin));
         for composite in block {
             let placed = placed_code(columns, composite);
-            push_at(alloc, &mut self.lines, FmtLine::Normal(placed), width, skin)?;
+            push_at(alloc, &mut self.lines, FmtLine::Normal(placed), wrap, skin)?;
         }
         Ok(())
     }
+
+    // Lays out the table that is open.
+    fn close_table(
+        &mut self,
+        alloc: Global,
+        width: Option<usize>,
+        skin: &MadSkin,
+    ) -> Result<(), AllocError>
+        requires { AllMeasured skin.now self.old.table.items }
+        ensures closed { OnOk result (self.new.table.items ≡ []) }
+        ensures block { OnOk result (self.new.block.items ≡ self.old.block.items) }
+        ensures laid { OnOk result ((own : List FmtLine) × (self.new.lines.items ≡ self.old.lines.items ++ own) × IsTableAt skin.now width self.old.table.items own) }
+    {
+        let table = mem::replace(&mut self.table, Vec::new(alloc));
+        push_whole_table(alloc, &mut self.lines, table, table_width(width), skin)
+    }
 }
 
-/// The width that lines are wrapped at: none where it is under three.
-pub(crate) fn wrap_width(width: Option<usize>) -> Option<usize>
+// The width of tables: without a width they are as wide as can be.
+fn table_width(width: Option<usize>) -> usize
+    ensures { result ≡ table_width width }
+{
+    width.unwrap_or(usize::MAX)
+}
+
+// The width that lines are wrapped at: none where it is under three.
+fn wrap_width(width: Option<usize>) -> Option<usize>
     ensures { result ≡ wrap_width width }
 {
     match width {

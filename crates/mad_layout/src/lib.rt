@@ -33,6 +33,9 @@ mod rows;
 pub mod skin;
 mod skin_setters;
 pub mod table;
+mod table_columns;
+pub mod table_layout;
+pub mod table_rows;
 #[cfg(test)]
 mod tests;
 mod text_writing;
@@ -50,6 +53,8 @@ pub use line::FmtLine;
 pub use room::room_of;
 pub use skin::MadSkin;
 pub use table::{FmtTableRow, FmtTableRule, RelativePosition};
+pub use table_layout::{Table, fix_all_tables};
+pub use table_rows::lay_row;
 pub use text_writing::print_text;
 pub use wrap::{hard_wrap_composite, hard_wrap_lines};
 pub use writing::print_inline;

@@ -24,6 +24,7 @@ pub enum FmtLine<'s> {
 
 impl<'s> FmtLine<'s> {
     ghost use Rattle.mad_layout.specs.Lines.{columns_of_line};
+    ghost use Rattle.mad_layout.specs.Tables.{is_table_line};
 
     /// A line as it was read, measured with the indent that it has in this skin. Only out of memory is an error.
     pub fn from(alloc: Global, line: Line<'s>, skin: &MadSkin) -> Result<Self, AllocError>
@@ -35,6 +36,13 @@ impl<'s> FmtLine<'s> {
             Line::TableRule(rule) => Ok(FmtLine::TableRule(FmtTableRule::from(alloc, rule))),
             Line::HorizontalRule => Ok(FmtLine::HorizontalRule),
         }
+    }
+
+    /// Whether the line is a row of a table or a rule across one.
+    pub(crate) fn is_table_line(&self) -> bool
+        ensures { result ≡ is_table_line self.now }
+    {
+        matches!(self, FmtLine::TableRow(_) | FmtLine::TableRule(_))
     }
 
     /// The columns that the line takes, by its cached lengths: of a row of a table those of its cells, of a rule across one

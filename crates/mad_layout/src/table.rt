@@ -52,6 +52,10 @@ pub struct FmtTableRule {
 }
 
 impl FmtTableRule {
+    ghost use Rattle.std.specs.Prelude.{OnOk};
+    ghost use Rattle.mad_md.specs.declared.alignment.Alignment.TheVariants.{Unspecified};
+    ghost use Rattle.mad_layout.specs.Lines.{resized};
+
     /// A rule as it was read, without widths.
     pub fn from(alloc: Global, rule: TableRule) -> Self
         ensures position { result.position ≡ RelativePosition.Other }
@@ -63,5 +67,17 @@ impl FmtTableRule {
             widths: Vec::new(alloc),
             aligns: rule.cells,
         }
+    }
+
+    /// Cuts the rule's columns to `nbcols`, or fills them up: with the width 0, and the alignment Unspecified.
+    ///
+    /// Only out of memory is an error.
+    pub fn set_nbcols(&mut self, nbcols: usize) -> Result<(), AllocError>
+        ensures widths { OnOk result (self.new.widths.items ≡ resized nbcols 0 self.old.widths.items) }
+        ensures aligns { OnOk result (self.new.aligns.items ≡ resized nbcols Unspecified self.old.aligns.items) }
+        ensures position { self.new.position ≡ self.old.position }
+    {
+        self.widths.resize(nbcols, 0)?;
+        self.aligns.resize(nbcols, Alignment::Unspecified)
     }
 }

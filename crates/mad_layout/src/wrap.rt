@@ -42,8 +42,8 @@ pub fn hard_wrap_composite<'s>(
     Ok(wrap_composite(alloc, composite, width, skin)?)
 }
 
-// What a composite that is too wide is wrapped into, at any width.
-fn wrap_composite<'s>(
+/// What a composite that is too wide is wrapped into, at any width.
+pub(crate) fn wrap_composite<'s>(
     alloc: Global,
     composite: &FmtComposite<'s>,
     width: usize,

@@ -217,18 +217,19 @@ ascii_end bs i k u l ascii =
     let place : i + k + 1 ≡ i + (k + 1) = omega arith in
     subst (IsCharBoundary bs) place (IsCharBoundary-after_ascii bs (i + k) u l (omega (arith, ascii, get_or-drop i bs k 0)))
 
-end_of : (bs rest : List ℕ) (i : ℕ) (m : Mark) → IsUtf8 bs → spell_mark m ++ rest ≡ drop i bs → i + length (spell_mark m) ≤ length bs → IsCharBoundary bs (i + length (spell_mark m))
-end_of bs rest i Bold u e l = ascii_end bs i 1 u (omega arith) (omega (arith, ap (λ t. get_or t 1 0) e))
-end_of bs rest i Strikeout u e l = ascii_end bs i 1 u (omega arith) (omega (arith, ap (λ t. get_or t 1 0) e))
-end_of bs rest i Italic u e l = ascii_end bs i 0 u (omega arith) (omega (arith, ap (λ t. get_or t 0 0) e))
-end_of bs rest i Code u e l = ascii_end bs i 0 u (omega arith) (omega (arith, ap (λ t. get_or t 0 0) e))
+-- a mark ends at a border
+pub mark_ends : (bs rest : List ℕ) (i : ℕ) (m : Mark) → IsUtf8 bs → spell_mark m ++ rest ≡ drop i bs → i + length (spell_mark m) ≤ length bs → IsCharBoundary bs (i + length (spell_mark m))
+mark_ends bs rest i Bold u e l = ascii_end bs i 1 u (omega arith) (omega (arith, ap (λ t. get_or t 1 0) e))
+mark_ends bs rest i Strikeout u e l = ascii_end bs i 1 u (omega arith) (omega (arith, ap (λ t. get_or t 1 0) e))
+mark_ends bs rest i Italic u e l = ascii_end bs i 0 u (omega arith) (omega (arith, ap (λ t. get_or t 0 0) e))
+mark_ends bs rest i Code u e l = ascii_end bs i 0 u (omega arith) (omega (arith, ap (λ t. get_or t 0 0) e))
 
 pub mark_end : (code italic : Bool) (bs : List ℕ) (i : ℕ) (m : Mark) → IsUtf8 bs → i < length bs → mark_at code italic (drop i bs) ≡ Some m
     → (i + length (spell_mark m) ≤ length bs) × IsCharBoundary bs (i + length (spell_mark m))
 mark_end code italic bs i m u l at =
     let e = mark_spelled code italic (drop i bs) m at in
     let within : i + length (spell_mark m) ≤ length bs = omega (arith, length-drop i bs, length-append (spell_mark m) (drop (length (spell_mark m)) (drop i bs)), ap length e) in
-    (within, end_of bs (drop (length (spell_mark m)) (drop i bs)) i m u e within)
+    (within, mark_ends bs (drop (length (spell_mark m)) (drop i bs)) i m u e within)
 
 -- what `&bytes[i..]` is
 pub rest_is : (bytes bs : List ℕ) (i : ℕ) → bytes ≡ bs → take (length bytes - i) (drop i bytes) ≡ drop i bs

@@ -1,25 +1,21 @@
 -- A text whose lines all begin as paragraphs is read line by line, each by its marks.
-use Rattle.std.proofs.Common.{◌≡◌, ℕ, ◌+◌, ◌-◌, ◌≤◌, ◌⊎◌, inl, inr, Bool, true, false, not, ◌==◌, List, [], ◌∷◌, ◌++◌, map, length, take, drop, refl, sym, ap, ◌∙◌, arith, subst, if◌then◌else◌}
+use Rattle.std.proofs.Common.{◌≡◌, ℕ, ◌+◌, ◌-◌, ◌≤◌, inl, inr, Bool, true, false, ◌==◌, List, [], ◌∷◌, ◌++◌, map, length, take, drop, sym, ap, ◌∙◌, arith, subst, if◌then◌else◌}
 use Rattle.std.specs.Prelude.{slice_index}
 use Rattle.std.specs.Bool.{MatchBool}
 use Rattle.std.specs.List.{AllByRecursion, join_with_byte}
 use Rattle.std.specs.Str.{IsUtf8}
 use Rattle.std.specs.Str.Lines.{strip_carriage_return}
 use Rattle.std.proofs.lemmas.List.{length-append, length-drop, length-take-le}
-use Rattle.mad_md.specs.Flagged.{Flags, run_at, plain}
-use Rattle.mad_md.specs.Inline.{Item}
+use Rattle.mad_md.specs.Flagged.{Flags, plain}
 use Rattle.mad_md.specs.Lines.{LineContent}
 use Rattle.mad_md.specs.Parts.{AreParts, LinePlace, without_last_empty, places_from, line_places, line_text}
 use Rattle.mad_md.specs.Places.{PlacedLine, content_at}
 use Rattle.mad_md.specs.ReadByMarks.{IsParagraphText, IsInlineLine, AreInlineLines}
 use Rattle.mad_md.specs.Reading.{IsLine, AreLines, carried_on, unread_text, IsRead}
 use Rattle.mad_md.specs.Scan.{items_of, line_of, line_of_form}
-use Rattle.mad_md.specs.Starts.{is_fence, line_start, starts}
-use Rattle.mad_md.specs.declared.composite.CompositeStyle.TheVariants.{Paragraph}
-use Rattle.mad_md.specs.declared.starts.Form.TheVariants.{Continuing, Separate}
 use Rattle.mad_md.specs.declared.starts.LineStart.{LineStart}
 use Rattle.mad_md.proofs.InlineLemmas.{items_read}
-use Rattle.mad_md.proofs.PlacedReading.{placed_line, line_is}
+use Rattle.mad_md.proofs.PlacedReading.{line_is}
 use Rattle.mad_md.proofs.PlacesLemmas.{IsWholeLine, line_said}
 
 -- a line that begins so is read by its marks

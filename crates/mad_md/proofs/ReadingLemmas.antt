@@ -39,22 +39,22 @@ first_text unread = strip_carriage_return (before_first is_newline unread.text)
 abbrev pub left_after : Unread → Bool → Flags → Unread
 left_after unread fenced carried = record { text = after_first is_newline unread.text; fenced = fenced; carried = carried; continue_spans = unread.continue_spans }
 
-pub lines_fence : (unread : Unread) → 0 < length unread.text → is_fence (first_text unread) ≡ true → lines_of unread ≡ lines_of (left_after unread (not unread.fenced) plain)
+-- the first line, and the lines after it
+lines_after : (unread : Unread) → 0 < length unread.text → (b : Bool) → is_fence (first_text unread) ≡ b → lines_of unread
+    ≡ (if b then lines_of (left_after unread (not unread.fenced) plain) else line_of unread.fenced unread.carried (first_text unread) ∷ lines_of (left_after unread unread.fenced (carried_on unread.continue_spans (flags_of_line unread.fenced unread.carried (first_text unread)))))
 unfolding lines_of
-lines_fence unread some fence =
+lines_after unread some b e =
     let on = unread.continue_spans in
     let texts = texts_of (after_first is_newline unread.text) in
     ap (lines_of_texts on unread.fenced unread.carried) (texts_first unread.text some)
-    ∙ ap (λ t. if t then lines_of_texts on (not unread.fenced) plain texts else line_of unread.fenced unread.carried (first_text unread) ∷ lines_of_texts on unread.fenced (carried_on on (flags_of_line unread.fenced unread.carried (first_text unread))) texts) fence
+    ∙ ap (λ t. if t then lines_of_texts on (not unread.fenced) plain texts else line_of unread.fenced unread.carried (first_text unread) ∷ lines_of_texts on unread.fenced (carried_on on (flags_of_line unread.fenced unread.carried (first_text unread))) texts) e
+
+pub lines_fence : (unread : Unread) → 0 < length unread.text → is_fence (first_text unread) ≡ true → lines_of unread ≡ lines_of (left_after unread (not unread.fenced) plain)
+lines_fence unread some fence = lines_after unread some true fence
 
 pub lines_line : (unread : Unread) → 0 < length unread.text → is_fence (first_text unread) ≡ false
     → lines_of unread ≡ line_of unread.fenced unread.carried (first_text unread) ∷ lines_of (left_after unread unread.fenced (carried_on unread.continue_spans (flags_of_line unread.fenced unread.carried (first_text unread))))
-unfolding lines_of
-lines_line unread some other =
-    let on = unread.continue_spans in
-    let texts = texts_of (after_first is_newline unread.text) in
-    ap (lines_of_texts on unread.fenced unread.carried) (texts_first unread.text some)
-    ∙ ap (λ t. if t then lines_of_texts on (not unread.fenced) plain texts else line_of unread.fenced unread.carried (first_text unread) ∷ lines_of_texts on unread.fenced (carried_on on (flags_of_line unread.fenced unread.carried (first_text unread))) texts) other
+lines_line unread some other = lines_after unread some false other
 
 -- a fence line is passed
 pub step_fence : (unread : Unread) (line text : List ℕ) (carried : Flags) → 0 < length unread.text → line ≡ first_text unread → is_fence line ≡ true → text ≡ after_first is_newline unread.text → carried ≡ plain

@@ -5,7 +5,8 @@ use Rattle.std.specs.List.{AllByRecursion}
 use Rattle.std.specs.Str.{IsUtf8, IsCharBoundary}
 use Rattle.std.proofs.lemmas.List.{drop-drop, get_or-drop}
 use Rattle.std.proofs.Math.Seq.{drop-append_seam}
-use Rattle.std.proofs.lemmas.Str.{IsCharBoundary-start, IsCharBoundary-end, IsCharBoundary-before_ascii, IsCharBoundary-after_ascii}
+use Rattle.std.proofs.lemmas.Str.{IsCharBoundary-start, IsCharBoundary-end, IsCharBoundary-before_ascii}
+use Rattle.mad_md.proofs.InlineLemmas.{mark_ends}
 use Rattle.mad_md.specs.Flagged.{RunPlace, plain}
 use Rattle.mad_md.specs.Inline.{Item, mark, byte, spell, spell_mark, flags_after, runs_after, marks_of, unless_empty, runs, IsInlineReading}
 use Rattle.mad_md.specs.declared.inline.Mark.{Mark}
@@ -20,18 +21,6 @@ pub record IsBordered (text : List ℕ) (place : RunPlace) : Type 0 where
   pub order : place.start ≤ place.end
   pub first : IsCharBoundary text place.start
   pub last : IsCharBoundary text place.end
-
-ascii_end : (text : List ℕ) (i k : ℕ) → IsUtf8 text → i + k < length text → get_or (drop i text) k 0 < 128 → IsCharBoundary text (i + (k + 1))
-ascii_end text i k utf8 inside ascii =
-    let place : i + k + 1 ≡ i + (k + 1) = omega arith in
-    subst (IsCharBoundary text) place (IsCharBoundary-after_ascii text (i + k) utf8 inside (omega (arith, ascii, get_or-drop i text k 0)))
-
--- a mark ends at a border
-mark_ends : (text rest : List ℕ) (i : ℕ) (m : Mark) → IsUtf8 text → spell_mark m ++ rest ≡ drop i text → i + length (spell_mark m) ≤ length text → IsCharBoundary text (i + length (spell_mark m))
-mark_ends text rest i Bold u e l = ascii_end text i 1 u (omega arith) (omega (arith, ap (λ t. get_or t 1 0) e))
-mark_ends text rest i Strikeout u e l = ascii_end text i 1 u (omega arith) (omega (arith, ap (λ t. get_or t 1 0) e))
-mark_ends text rest i Italic u e l = ascii_end text i 0 u (omega arith) (omega (arith, ap (λ t. get_or t 0 0) e))
-mark_ends text rest i Code u e l = ascii_end text i 0 u (omega arith) (omega (arith, ap (λ t. get_or t 0 0) e))
 
 first_of : (text : List ℕ) (i : ℕ) → get_or (drop i text) 0 0 ≡ get_or text i 0
 first_of text i = let e : i + 0 ≡ i = omega arith in get_or-drop i text 0 0 ∙ ap (λ k. get_or text k 0) e

@@ -34,31 +34,30 @@ sgr_leads g ns p small e = command_leads g (with_pen g p) ns 109 small letter_sg
 
 -- ---- colors
 
-pub foreground_restyles : (c : Color) (p : Look) → IsColor c → restyled (color_numbers 38 c) p ≡ Some (record p { fg = shown_color c })
-foreground_restyles (colors.Rgb r g b) p h =
+-- numbers that are bytes pass
+rgb_passes : (r g b : ℕ) (p : Look) → IsColor (colors.Rgb r g b) → cond (ltb r 256 && ltb g 256 && ltb b 256) (Some p) None ≡ Some p
+rgb_passes r g b p h =
     let test : (ltb r 256 && ltb g 256 && ltb b 256) ≡ true = grind (arith, nat_tests) in
-    ap (λ t. cond t (Some (record p { fg = Some (colors.Rgb r g b) })) None) test
-foreground_restyles (colors.AnsiValue n) p h =
+    ap (λ t. cond t (Some p) None) test
+
+index_passes : (n : ℕ) (p : Look) → IsColor (colors.AnsiValue n) → cond (ltb n 256) (Some p) None ≡ Some p
+index_passes n p h =
     let test : ltb n 256 ≡ true = grind (arith, nat_tests) in
-    ap (λ t. cond t (Some (record p { fg = Some (colors.AnsiValue n) })) None) test
+    ap (λ t. cond t (Some p) None) test
+
+pub foreground_restyles : (c : Color) (p : Look) → IsColor c → restyled (color_numbers 38 c) p ≡ Some (record p { fg = shown_color c })
+foreground_restyles (colors.Rgb r g b) p h = rgb_passes r g b _ h
+foreground_restyles (colors.AnsiValue n) p h = index_passes n _ h
 foreground_restyles _ p h = refl
 
 pub background_restyles : (c : Color) (p : Look) → IsColor c → restyled (color_numbers 48 c) p ≡ Some (record p { bg = shown_color c })
-background_restyles (colors.Rgb r g b) p h =
-    let test : (ltb r 256 && ltb g 256 && ltb b 256) ≡ true = grind (arith, nat_tests) in
-    ap (λ t. cond t (Some (record p { bg = Some (colors.Rgb r g b) })) None) test
-background_restyles (colors.AnsiValue n) p h =
-    let test : ltb n 256 ≡ true = grind (arith, nat_tests) in
-    ap (λ t. cond t (Some (record p { bg = Some (colors.AnsiValue n) })) None) test
+background_restyles (colors.Rgb r g b) p h = rgb_passes r g b _ h
+background_restyles (colors.AnsiValue n) p h = index_passes n _ h
 background_restyles _ p h = refl
 
 underline_restyles : (c : Color) (p : Look) → IsColor c → restyled (color_numbers 58 c) p ≡ Some (record p { underline = shown_color c })
-underline_restyles (colors.Rgb r g b) p h =
-    let test : (ltb r 256 && ltb g 256 && ltb b 256) ≡ true = grind (arith, nat_tests) in
-    ap (λ t. cond t (Some (record p { underline = Some (colors.Rgb r g b) })) None) test
-underline_restyles (colors.AnsiValue n) p h =
-    let test : ltb n 256 ≡ true = grind (arith, nat_tests) in
-    ap (λ t. cond t (Some (record p { underline = Some (colors.AnsiValue n) })) None) test
+underline_restyles (colors.Rgb r g b) p h = rgb_passes r g b _ h
+underline_restyles (colors.AnsiValue n) p h = index_passes n _ h
 underline_restyles _ p h = refl
 
 pub color_small : (kind : ℕ) (c : Color) → kind < 100 → IsColor c → AreReadable (color_numbers kind c)

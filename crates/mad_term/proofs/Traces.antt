@@ -23,9 +23,13 @@ after-nil t = ap (λ (o : Option (List ℕ)). let r : Trace = record { bytes = o
 pub took_both : (old mid new : Trace) (a b : List ℕ) → mid ≡ after old a → new ≡ after mid b → new ≡ after old (a ++ b)
 took_both old mid new a b p q = q ∙ ap (λ t. after t b) p ∙ after-append old a b
 
--- the fault came in the first part
-pub cut_in_first : (old new : Trace) (a b : List ℕ) → CutShort old a new → CutShort old (a ++ b) new
-cut_in_first old new a b h = record {
+-- nothing went out
+pub stopped_before : (old : Trace) (text : List ℕ) → Stopped old text old
+stopped_before old text = record { front = []; rest = text; whole = refl; went = sym (after-nil old) }
+
+-- a text stopped in the first part
+pub stopped_in_first : (old new : Trace) (a b : List ℕ) → Stopped old a new → Stopped old (a ++ b) new
+stopped_in_first old new a b h = record {
   front = h.front;
   rest = h.rest ++ b;
   whole = sym (append_assoc h.front h.rest b) ∙ ap (λ s. s ++ b) h.whole;
@@ -33,13 +37,29 @@ cut_in_first old new a b h = record {
 }
 
 -- or in the second
-pub cut_in_second : (old mid new : Trace) (a b : List ℕ) → mid ≡ after old a → CutShort mid b new → CutShort old (a ++ b) new
-cut_in_second old mid new a b p h = record {
+pub stopped_in_second : (old mid new : Trace) (a b : List ℕ) → mid ≡ after old a → Stopped mid b new → Stopped old (a ++ b) new
+stopped_in_second old mid new a b p h = record {
   front = a ++ h.front;
   rest = h.rest;
   whole = append_assoc a h.front h.rest ∙ ap (λ s. a ++ s) h.whole;
-  went = h.went ∙ ap failed (ap (λ t. after t h.front) p ∙ after-append old a h.front);
+  went = h.went ∙ ap (λ t. after t h.front) p ∙ after-append old a h.front;
 }
+
+-- a text that a fault cut short stopped where the fault came
+stopped : (old new : Trace) (text : List ℕ) (h : CutShort old text new) → Stopped old text (after old h.front)
+stopped old new text h = record { front = h.front; rest = h.rest; whole = h.whole; went = refl }
+
+cut_there : (old mid new : Trace) (text : List ℕ) → Stopped old text mid → new ≡ failed mid → CutShort old text new
+cut_there old mid new text h e = record { front = h.front; rest = h.rest; whole = h.whole; went = e ∙ ap failed h.went }
+
+-- the fault came in the first part
+pub cut_in_first : (old new : Trace) (a b : List ℕ) → CutShort old a new → CutShort old (a ++ b) new
+cut_in_first old new a b h = cut_there old (after old h.front) new (a ++ b) (stopped_in_first old (after old h.front) a b (stopped old new a h)) h.went
+
+-- or in the second
+pub cut_in_second : (old mid new : Trace) (a b : List ℕ) → mid ≡ after old a → CutShort mid b new → CutShort old (a ++ b) new
+cut_in_second old mid new a b p h =
+    cut_there old (after mid h.front) new (a ++ b) (stopped_in_second old mid (after mid h.front) a b p (stopped mid new b h)) h.went
 
 -- a fault at the next `put` of a loop
 pub cut_at : (old mid new : Trace) (text : List ℕ) (n : ℕ) → mid ≡ after old (take n text) → new ≡ failed mid → CutShort old text new
@@ -54,26 +74,6 @@ cut_at old mid new text n p q = record {
 pub took_more : (old mid new : Trace) (text : List ℕ) (n k : ℕ) → mid ≡ after old (take n text) → new ≡ after mid (take k (drop n text)) → new ≡ after old (take (n + k) text)
 took_more old mid new text n k p q =
     took_both old mid new (take n text) (take k (drop n text)) p q ∙ ap (after old) (sym (take-add n k text))
-
--- nothing went out
-pub stopped_before : (old : Trace) (text : List ℕ) → Stopped old text old
-stopped_before old text = record { front = []; rest = text; whole = refl; went = sym (after-nil old) }
-
-pub stopped_in_first : (old new : Trace) (a b : List ℕ) → Stopped old a new → Stopped old (a ++ b) new
-stopped_in_first old new a b h = record {
-  front = h.front;
-  rest = h.rest ++ b;
-  whole = sym (append_assoc h.front h.rest b) ∙ ap (λ s. s ++ b) h.whole;
-  went = h.went;
-}
-
-pub stopped_in_second : (old mid new : Trace) (a b : List ℕ) → mid ≡ after old a → Stopped mid b new → Stopped old (a ++ b) new
-stopped_in_second old mid new a b p h = record {
-  front = a ++ h.front;
-  rest = h.rest;
-  whole = append_assoc a h.front h.rest ∙ ap (λ s. a ++ s) h.whole;
-  went = h.went ∙ ap (λ t. after t h.front) p ∙ after-append old a h.front;
-}
 
 -- for texts that are nested to the right: what went out first, then the rest
 pub took_then : (old mid new : Trace) (a rest : List ℕ) → mid ≡ after old a → new ≡ after mid rest → new ≡ after old (a ++ rest)

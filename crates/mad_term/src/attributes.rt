@@ -217,31 +217,3 @@ impl Attributes {
         self.bits.is_empty()
     }
 }
-
-#[cfg(test)]
-mod tests {
-    use super::*;
-
-    #[test]
-    fn sets_keep_their_other_attributes(rt: HostRuntime) {
-        let mut set = Attributes::from(Attribute::Reset);
-        set.set(Attribute::NotOverLined);
-        set.set(Attribute::Bold);
-        set.set(Attribute::Bold);
-        set.unset(Attribute::Dim);
-        set.unset(Attribute::Reset);
-        let mut other = Attributes::from(Attribute::NotOverLined);
-        assert_ne!(rt; set, other);
-        other.extend(Attributes::from(Attribute::Bold));
-        assert_eq!(rt; set, other);
-        for attribute in Attribute::ALL {
-            let wanted = matches!(attribute, Attribute::Bold | Attribute::NotOverLined);
-            assert_eq!(rt; set.has(attribute), wanted);
-        }
-        set.unset(Attribute::Bold);
-        assert!(rt; !set.is_empty());
-        set.unset(Attribute::NotOverLined);
-        assert!(rt; set.is_empty());
-        assert_eq!(rt; set, Attributes::default());
-    }
-}

@@ -42,6 +42,14 @@ impl TblFit {
                 available_width: width,
             }));
         }
+        Ok(TblFit::with_room(alloc, column_count, width)?)
+    }
+
+    /// As `new`, of a width that is at least four times `column_count` plus one. Only out of memory is an error.
+    pub fn with_room(alloc: Global, column_count: usize, width: usize) -> Result<Self, AllocError>
+        requires { 4 * column_count + 1 ≤ width }
+        ensures { IfOk result (λ fit. TableHasSeen fit width (replicate column_count [])) }
+    {
         let columns = vec![in alloc; SeenColumn::empty(); column_count]?;
         Ok(TblFit { width, columns })
     }

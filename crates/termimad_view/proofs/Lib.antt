@@ -1,3 +1,4 @@
+pub mod Notices
 pub mod RunSteps
 pub mod SkinWords
 pub mod Sources

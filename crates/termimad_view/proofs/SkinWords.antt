@@ -1,13 +1,15 @@
 -- The words ask for one skin at most.
-use Rattle.std.proofs.Common.{◌≡◌, ℕ, List, [], ◌∷◌, get_or, Option, Some, None, inl, inr, Err, refl, ap, sym, ◌∙◌, subst, arith}
+use Rattle.std.proofs.Common.{◌≡◌, ℕ, List, [], ◌∷◌, get_or, ◌⊎◌, Option, Some, None, inl, inr, Err, refl, ap, sym, ◌∙◌, subst, arith}
 use Rattle.termimad.specs.declared.MadSkin.{MadSkin}
 use Rattle.termimad_view.specs.declared.call.Command.{Command}
 use Rattle.termimad_view.specs.declared.call.Command.TheVariants.{InArea, AtWidth, Inline}
 use Rattle.termimad_view.specs.declared.failure.Failure.{Failure}
 use Rattle.termimad_view.specs.declared.failure.Failure.TheVariants.{Io, Usage, NotUtf8, Skin, Memory}
-use Rattle.termimad_view.specs.Calls.{IsSkinWord, Asks, IsSkinOf, IsUnknown, AsksUnknownSkin}
+use Rattle.mad_term.specs.Trace.{Trace}
+use Rattle.termimad_view.specs.GivenSkins.{skin_given}
+use Rattle.termimad_view.specs.Calls.{IsSkinWord, Asks, AsksRefusedSkin}
 use Rattle.termimad_view.specs.Failures.{status_of}
-use Rattle.termimad_view.specs.Runs.{Devices, KnownCall, RunsTo}
+use Rattle.termimad_view.specs.Runs.{Devices, Started, RunsTo}
 
 one_word : (words : List (List ℕ)) (a b : Option (List ℕ)) → IsSkinWord words a → IsSkinWord words b → a ≡ b
 one_word [] a b h k = h ∙ sym k
@@ -34,21 +36,29 @@ asked_once (name ∷ words) Inline (InArea x) a b h k = absurd (let e : 105 ≡ 
 asked_once (name ∷ words) Inline (AtWidth n) a b h k = absurd (let e : 105 ≡ 116 = first_byte 105 116 name _ _ h.0 k.0 in omega (arith, e))
 asked_once (name ∷ words) Inline Inline a b h k = one_word words a b h.1 k.1
 
-known_skin : (word : Option (List ℕ)) (skin : MadSkin) → IsSkinOf word skin → IsUnknown word → ⊥
-known_skin None skin h unknown = unknown
-known_skin (Some word) skin h unknown = let both : Some skin ≡ None = sym h ∙ unknown in cc
+known_skin : (word : Option (List ℕ)) (given : MadSkin × List (List ℕ)) → skin_given word ≡ Some given → skin_given word ≡ None → ⊥
+known_skin word given h refused = let both : Some given ≡ None = sym h ∙ refused in cc
 
-pub never : (words : List (List ℕ)) → KnownCall words → AsksUnknownSkin words → ⊥
-never words call h =
-    known_skin call.asked.word call.skin call.asked.named (subst IsUnknown (asked_once words h.0 call.command h.1 call.asked.word h.2 call.asked.asks) h.3)
+-- a run that has started was asked for no skin that is refused
+pub never : (words : List (List ℕ)) (old new : Trace) → Started words old new → AsksRefusedSkin words → ⊥
+never words old new call h =
+    let asked = call.asked.asked in
+    known_skin asked.word (call.skin, call.unknown) asked.given (subst (λ word. skin_given word ≡ None) (asked_once words h.0 call.command h.1 asked.word h.2 asked.asks) h.3)
 
--- a failure has the status of an unknown skin exactly where the words ask for one
-pub skin_exit : (words : List (List ℕ)) (failure : Failure) (old new : Devices) → RunsTo {T = Unit {0}} words old (Err failure) new → (AsksUnknownSkin words → status_of failure ≡ 4) × (status_of failure ≡ 4 → AsksUnknownSkin words)
-skin_exit words Usage old new h = (λ asks. absurd (h.0 asks.0 asks.1 asks.2), λ e. absurd (omega (arith, e)))
-skin_exit words Skin old new h = (λ asks. refl, λ e. h.0)
-skin_exit words NotUtf8 old new h = (λ asks. absurd (never words h.call asks), λ e. absurd (omega (arith, e)))
-skin_exit words Io old new (inl h) = (λ asks. absurd (never words h.call asks), λ e. absurd (omega (arith, e)))
-skin_exit words Io old new (inr (inl h)) = (λ asks. absurd (never words h.call asks), λ e. absurd (omega (arith, e)))
-skin_exit words Io old new (inr (inr h)) = (λ asks. absurd (never words h.call asks), λ e. absurd (omega (arith, e)))
-skin_exit words Memory old new (inl h) = (λ asks. absurd (never words h.call asks), λ e. absurd (omega (arith, e)))
-skin_exit words Memory old new (inr h) = (λ asks. absurd (never words h.call asks), λ e. absurd (omega (arith, e)))
+-- a failure has the status of a refused skin only where the words ask for one
+pub skin_exit : (words : List (List ℕ)) (failure : Failure) (old new : Devices) → RunsTo {T = Unit {0}} words old (Err failure) new → status_of failure ≡ 4 → AsksRefusedSkin words
+skin_exit words Usage old new h e = absurd (omega (arith, e))
+skin_exit words Skin old new h e = h.0
+skin_exit words NotUtf8 old new h e = absurd (omega (arith, e))
+skin_exit words Io old new h e = absurd (omega (arith, e))
+skin_exit words Memory old new h e = absurd (omega (arith, e))
+
+-- words that ask for such a skin end so, or out of memory
+pub refused_exit : (words : List (List ℕ)) (failure : Failure) (old new : Devices) → RunsTo {T = Unit {0}} words old (Err failure) new → AsksRefusedSkin words → (status_of failure ≡ 4) ⊎ (status_of failure ≡ 5)
+refused_exit words Usage old new h asks = absurd (h.0 asks.0 asks.1 asks.2)
+refused_exit words Skin old new h asks = inl refl
+refused_exit words NotUtf8 old new h asks = absurd (never words _ _ h.call asks)
+refused_exit words Io old new (inl h) asks = absurd (never words _ _ h.call asks)
+refused_exit words Io old new (inr (inl h)) asks = absurd (never words _ _ h.call asks)
+refused_exit words Io old new (inr (inr h)) asks = absurd (never words _ _ h.call asks)
+refused_exit words Memory old new h asks = inr refl

@@ -1,15 +1,13 @@
 -- What the words after the program's name ask for. A word is its bytes.
-use Rattle.std.specs.Prelude.{◌≡◌, ℕ, ◌≤◌, List, [], ◌∷◌, codes, Option, Some, None, ⊤, if◌then◌else◌}
-use Rattle.std.specs.Str.{bytes_eq}
+use Rattle.std.specs.Prelude.{◌≡◌, ℕ, ◌≤◌, List, [], ◌∷◌, codes, Option, Some, None, ⊤}
 use Rattle.termimad.specs.Areas.{IsWithinLimits}
 use Rattle.termimad.specs.declared.Area.{Area}
-use Rattle.termimad.specs.MadeSkins.{dark_skin, light_skin}
-use Rattle.termimad.specs.Skins.{no_style_skin, default_skin}
 use Rattle.termimad.specs.declared.MadSkin.{MadSkin}
 use Rattle.termimad_view.specs.declared.call.Command.{Command}
 use Rattle.termimad_view.specs.declared.call.Command.TheVariants.{InArea, AtWidth, Inline}
 use Rattle.termimad_view.specs.declared.failure.Failure.{Failure}
 use Rattle.termimad_view.specs.declared.failure.Failure.TheVariants.{Io, Usage, NotUtf8, Skin, Memory}
+use Rattle.termimad_view.specs.GivenSkins.{skin_given, IsJsonText}
 use Rattle.termimad_view.specs.Numbers.{IsNumber}
 
 -- The words L, T, W and H are the numbers of this area: at least four columns, and its right and bottom at most 65535.
@@ -54,38 +52,24 @@ IsAllowed Inline = ⊤
 abbrev pub IsNoCall : List (List ℕ) → Type 0
 IsNoCall words = (command : Command) (word : Option (List ℕ)) → ¬ (Asks words command word)
 
--- the skins that have a name
-unfoldable pub skin_named : List ℕ → Option MadSkin
-skin_named word =
-    if bytes_eq word (codes "default") then Some default_skin
-    else if bytes_eq word (codes "dark") then Some dark_skin
-    else if bytes_eq word (codes "light") then Some light_skin
-    else None
+-- the words ask for something that the program does, in a skin that is refused
+abbrev pub AsksRefusedSkin : List (List ℕ) → Type 0
+AsksRefusedSkin words = (command : Command) × (word : Option (List ℕ)) × Asks words command word × (skin_given word ≡ None)
 
--- the skin of that word: no style without a word, else the skin of that name
-abbrev pub IsSkinOf : Option (List ℕ) → MadSkin → Type 0
-IsSkinOf None skin = skin ≡ no_style_skin
-IsSkinOf (Some word) skin = skin_named word ≡ Some skin
+-- the words ask for something that the program does, in a skin that is JSON text
+abbrev pub AsksJson : List (List ℕ) → Type 0
+AsksJson words = (command : Command) × (word : Option (List ℕ)) × Asks words command word × IsJsonText word
 
--- the program knows no skin of that name
-abbrev pub IsUnknown : Option (List ℕ) → Type 0
-IsUnknown None = ⊥
-IsUnknown (Some word) = skin_named word ≡ None
-
--- the words ask for something that the program does, in a skin that it doesn't know
-abbrev pub AsksUnknownSkin : List (List ℕ) → Type 0
-AsksUnknownSkin words = (command : Command) × (word : Option (List ℕ)) × Asks words command word × IsUnknown word
-
--- The words are a call: what is to be written, and in which skin.
-pub record IsCall (words : List (List ℕ)) (command : Command) (skin : MadSkin) : Type 0 where
+-- The words are a call: what is to be written, in which skin, and which of its keys name no part of a skin.
+pub record IsCall (words : List (List ℕ)) (command : Command) (skin : MadSkin) (unknown : List (List ℕ)) : Type 0 where
   pub word : Option (List ℕ)
   pub asks : Asks words command word
-  pub named : IsSkinOf word skin
+  pub given : skin_given word ≡ Some (skin, unknown)
 
--- why the words are no call
+-- why the words are no call; memory is wanted by JSON text alone
 abbrev pub RefusesWords : List (List ℕ) → Failure → Type 0
 RefusesWords words Usage = IsNoCall words
-RefusesWords words Skin = AsksUnknownSkin words
+RefusesWords words Skin = AsksRefusedSkin words
+RefusesWords words Memory = AsksJson words
 RefusesWords words Io = ⊥
 RefusesWords words NotUtf8 = ⊥
-RefusesWords words Memory = ⊥

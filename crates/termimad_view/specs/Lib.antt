@@ -1,5 +1,6 @@
 pub mod Calls
 pub mod Failures
+pub mod GivenSkins
 pub mod Lines
 pub mod Numbers
 pub mod Reading

@@ -13,21 +13,33 @@ use Rattle.termimad_view.specs.declared.call.Command.{Command}
 use Rattle.termimad_view.specs.declared.call.Command.TheVariants.{InArea, AtWidth, Inline}
 use Rattle.termimad_view.specs.declared.failure.Failure.{Failure}
 use Rattle.termimad_view.specs.declared.failure.Failure.TheVariants.{Io, Usage, NotUtf8, Skin, Memory}
-use Rattle.termimad_view.specs.Calls.{IsCall, IsNoCall, AsksUnknownSkin}
-use Rattle.termimad_view.specs.Failures.{failure_of, status_of, line_of, SaysOnce}
+use Rattle.termimad_view.specs.Calls.{IsCall, IsNoCall, AsksRefusedSkin, AsksJson, RefusesWords}
+use Rattle.termimad_view.specs.Failures.{failure_of, status_of, line_of, SaysOnce, SaysKeys}
 use Rattle.termimad_view.specs.Reading.{ReadsWhole, ReadingFails}
 use Rattle.termimad_view.specs.Lines.{IsWithoutLineEnd}
 
--- the input and the output of a run
+-- the input, the output and the standard error of a run
 pub record Devices : Type 0 where
   pub input : Trace
   pub out : Trace
+  pub err : Trace
 
--- the words are a call, in a skin that the program knows
-pub record KnownCall (words : List (List ℕ)) : Type 0 where
+-- The words are a call, and standard error was told which keys of its skin name no part of one.
+pub record Starts (words : List (List ℕ)) (old : Trace) (command : Command) (skin : MadSkin) (unknown : List (List ℕ)) (new : Trace) : Type 0 where
+  pub asked : IsCall words command skin unknown
+  pub said : SaysKeys old unknown new
+
+-- the words are no call, or there is no memory for their skin or for the lines of its unknown keys; nothing was said
+abbrev pub FailsToStart : List (List ℕ) → Trace → Failure → Trace → Type 0
+FailsToStart words old failure new = RefusesWords words failure × (new ≡ old)
+
+-- What a run was asked for, once its skin is read and the unknown keys are said. All that comes later, the first byte of the input
+-- too, comes after it.
+pub record Started (words : List (List ℕ)) (old new : Trace) : Type 0 where
   pub command : Command
   pub skin : MadSkin
-  pub asked : IsCall words command skin
+  pub unknown : List (List ℕ)
+  pub asked : Starts words old command skin unknown new
 
 -- what `inline` writes of a line: the bytes of its reading, of which there is exactly one, and a newline; or memory for it was
 -- refused, and nothing went out
@@ -54,7 +66,7 @@ pub record HasRead (old : Trace) (text : List ℕ) (new : Trace) : Type 0 where
 
 -- status 0: the whole input is a text, and the output took what the call writes of it and was then flushed, once
 pub record IsDone (words : List (List ℕ)) (old new : Devices) : Type 0 where
-  pub call : KnownCall words
+  pub call : Started words old.err new.err
   pub text : List ℕ
   pub read : HasRead old.input text new.input
   pub written : Trace
@@ -64,13 +76,13 @@ pub record IsDone (words : List (List ℕ)) (old new : Devices) : Type 0 where
 
 -- the input failed, or there was no memory for it; nothing was written
 pub record FailsToRead (words : List (List ℕ)) (old : Devices) (failure : Failure) (new : Devices) : Type 0 where
-  pub call : KnownCall words
+  pub call : Started words old.err new.err
   pub stopped : ReadingFails old.input failure new.input
   pub unwritten : new.out ≡ old.out
 
 -- the whole input was read, and writing was refused
 pub record FailsToWrite (words : List (List ℕ)) (old : Devices) (failure : Failure) (new : Devices) : Type 0 where
-  pub call : KnownCall words
+  pub call : Started words old.err new.err
   pub text : List ℕ
   pub read : HasRead old.input text new.input
   pub error : Error
@@ -79,7 +91,7 @@ pub record FailsToWrite (words : List (List ℕ)) (old : Devices) (failure : Fai
 
 -- the output took everything, and then its flush failed
 pub record FailsToFlush (words : List (List ℕ)) (old new : Devices) : Type 0 where
-  pub call : KnownCall words
+  pub call : Started words old.err new.err
   pub text : List ℕ
   pub read : HasRead old.input text new.input
   pub written : Trace
@@ -88,28 +100,30 @@ pub record FailsToFlush (words : List (List ℕ)) (old new : Devices) : Type 0 w
 
 -- the whole input was read and is no text; nothing was written
 pub record IsNoText (words : List (List ℕ)) (old new : Devices) : Type 0 where
-  pub call : KnownCall words
+  pub call : Started words old.err new.err
   pub bytes : List ℕ
   pub read : ReadsWhole old.input bytes new.input
   pub undecoded : ¬ (IsUtf8 bytes)
   pub unwritten : new.out ≡ old.out
 
--- What a run has done, by how it ended. The arguments come first, then the skin, then the input, and the output last.
+-- What a run has done, by how it ended, without the line of its failure. The arguments come first, then the skin and what is said
+-- of its keys, then the input, and the output last.
 abbrev pub RunsTo : {T : Type 0} → List (List ℕ) → Devices → Result T Failure → Devices → Type 0
 RunsTo words old (Ok x) new = IsDone words old new
 RunsTo words old (Err Usage) new = IsNoCall words × (new ≡ old)
-RunsTo words old (Err Skin) new = AsksUnknownSkin words × (new ≡ old)
+RunsTo words old (Err Skin) new = AsksRefusedSkin words × (new ≡ old)
 RunsTo words old (Err NotUtf8) new = IsNoText words old new
 RunsTo words old (Err Io) new = FailsToRead words old Io new ⊎ (FailsToWrite words old Io new ⊎ FailsToFlush words old new)
-RunsTo words old (Err Memory) new = FailsToRead words old Memory new ⊎ FailsToWrite words old Memory new
+RunsTo words old (Err Memory) new = (AsksJson words × (new ≡ old)) ⊎ (FailsToRead words old Memory new ⊎ FailsToWrite words old Memory new)
 
--- A run ended with this status: without a failure it is 0 and nothing is said; a failure has its own, and its line is said once.
+-- A run ended with this status: without a failure it is 0 and nothing more is said; a failure has its own, and its line is said once.
 abbrev pub Answers : {T : Type 0} → Result T Failure → ℕ → Trace → Trace → Type 0
-Answers (Ok x) status old new = (status ≡ 0) × (new ≡ old)
-Answers (Err failure) status old new = (status ≡ status_of failure) × SaysOnce old (line_of failure) new
+Answers (Ok x) status told new = (status ≡ 0) × (new ≡ told)
+Answers (Err failure) status told new = (status ≡ status_of failure) × SaysOnce told (line_of failure) new
 
--- A run, whole: there is a way of ending that its devices show, and that its status and its words on standard error tell.
-pub record HasRun (words : List (List ℕ)) (old : Devices) (status : ℕ) (new : Devices) (said_old said_new : Trace) : Type 0 where
+-- A run, whole: there is a way of ending that its devices show, and that its status and the last line on standard error tell.
+pub record HasRun (words : List (List ℕ)) (old : Devices) (status : ℕ) (new : Devices) : Type 0 where
   pub outcome : Result (Unit {0}) Failure
-  pub did : RunsTo words old outcome new
-  pub told : Answers outcome status said_old said_new
+  pub told : Trace
+  pub did : RunsTo words old outcome (record { input = new.input; out = new.out; err = told })
+  pub answered : Answers outcome status told new.err

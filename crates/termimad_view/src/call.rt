@@ -2,10 +2,12 @@
 
 ghost use Rattle.std.specs.Prelude.{◌≡◌, ℕ, List, Option, MatchOption, MatchResult, map, option_map, string_bytes};
 ghost use Rattle.termimad.specs.declared.Area.{Area as SomeArea};
-ghost use Rattle.termimad_view.specs.Calls.{Asks, IsNoCall, IsAreaOf, IsSkinWord, AsksArea, AsksWidth, IsSkinOf, IsUnknown, IsCall, RefusesWords};
+ghost use Rattle.termimad_view.specs.Calls.{Asks, IsNoCall, IsAreaOf, IsSkinWord, AsksArea, AsksWidth, IsCall, RefusesWords};
 
 use crate::failure::Failure;
 use crate::number::parse_number;
+use crate::skin::skin_of;
+use std::alloc::Global;
 use termimad::{Area, MadSkin};
 
 /// What is to be written.
@@ -26,24 +28,28 @@ pub struct Call {
     pub command: Command,
     /// In which skin.
     pub skin: MadSkin,
+    /// The keys of that skin that name no part of one, in byte order.
+    pub unknown: Vec<String>,
 }
 
 /// The call that the words after the program's name are: `area L T W H [SKIN]`, `text W [SKIN]` or `inline [SKIN]`.
 ///
 /// # Errors
 ///
-/// `Usage`, where they are none of these; `Skin`, where the program doesn't know the skin.
-pub fn parse_call(words: &[String]) -> Result<Call, Failure>
-    ensures { MatchResult result (λ call. IsCall (map string_bytes words.now) call.command call.skin)
+/// `Usage`, where they are none of these; `Skin`, where SKIN is no skin. Or out of memory, where SKIN is JSON text.
+pub fn parse_call(alloc: Global, words: &[String]) -> Result<Call, Failure>
+    ensures { MatchResult result (λ call. IsCall (map string_bytes words.now) call.command call.skin (map string_bytes call.unknown.items))
         (λ failure. RefusesWords (map string_bytes words.now) failure) }
 {
     let Some((command, word)) = parse_words(words) else {
         return Err(Failure::Usage);
     };
-    let Some(skin) = skin_of(word) else {
-        return Err(Failure::Skin);
-    };
-    Ok(Call { command, skin })
+    let (skin, unknown) = skin_of(alloc, word)?;
+    Ok(Call {
+        command,
+        skin,
+        unknown,
+    })
 }
 
 // What the words ask for: the command, and the word in the place of SKIN.
@@ -114,20 +120,5 @@ fn skin_word(words: &[String]) -> Option<Option<&str>>
         [] => Some(None),
         [word] => Some(Some(word.as_str())),
         _ => None,
-    }
-}
-
-// The skin of a word, where the program knows it: no style without a word.
-#[tactic(auto, unfolding(crate::specs::Calls::skin_named))]
-fn skin_of(word: Option<&str>) -> Option<MadSkin>
-    ensures { MatchOption result (IsUnknown (option_map (λ word. word.now) word.entry))
-        (λ skin. IsSkinOf (option_map (λ word. word.now) word.entry) skin) }
-{
-    match word {
-        None => Some(MadSkin::no_style()),
-        Some("default") => Some(MadSkin::default()),
-        Some("dark") => Some(MadSkin::default_dark()),
-        Some("light") => Some(MadSkin::default_light()),
-        Some(_) => None,
     }
 }

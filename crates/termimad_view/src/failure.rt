@@ -1,11 +1,12 @@
 //! How a run fails.
 
 ghost use Rattle.std.specs.Prelude.{◌≡◌};
-ghost use Rattle.termimad_view.specs.Failures.{status_of, line_of, failure_of, SaysOnce};
+ghost use Rattle.serde_json.specs.Errors.{IsMemory};
+ghost use Rattle.termimad_view.specs.Failures.{status_of, line_of, failure_of, skin_failure, SaysOnce};
 
 use std::alloc::{AllocError, AllocFailed};
 use std::io;
-use termimad::{Error, Out, put_all};
+use termimad::{Error, Out, SkinError, put_all};
 
 /// Why a run ended with a status other than 0.
 #[derive(Clone, Copy, PartialEq, Eq, Debug)]
@@ -16,7 +17,7 @@ pub enum Failure {
     Usage,
     /// The input is no text.
     NotUtf8,
-    /// The program doesn't know the skin.
+    /// The skin's word is no JSON text, or says no skin.
     Skin,
     /// Out of memory.
     Memory,
@@ -90,6 +91,30 @@ impl From<Error> for Failure {
         match e {
             Error::IO(_) | Error::InsufficientWidth(_) => Failure::Io,
             Error::Memory => Failure::Memory,
+        }
+    }
+}
+
+impl From<serde_json::Error> for Failure {
+    ghost use Rattle.termimad_view.specs.declared.failure.Failure.TheVariants.{Skin, Memory};
+
+    ghost from_gives = { λ e failure. (IsMemory e → failure ≡ Memory) × (¬ IsMemory e → failure ≡ Skin) };
+
+    fn from(e: serde_json::Error) -> Self {
+        if e.is_memory() {
+            return Failure::Memory;
+        }
+        Failure::Skin
+    }
+}
+
+impl From<SkinError> for Failure {
+    ghost from_gives = { λ e failure. failure ≡ skin_failure e };
+
+    fn from(e: SkinError) -> Self {
+        match e {
+            SkinError::Memory => Failure::Memory,
+            _ => Failure::Skin,
         }
     }
 }

@@ -3,7 +3,7 @@
 //! In the order of the work:
 //!
 //! 1. [`failure`]: how a run fails, and what it says then.
-//! 2. [`number`], [`call`]: what the arguments ask for.
+//! 2. [`number`], [`skin`], [`call`]: what the arguments ask for; [`notice`]: what is said of their skin.
 //! 3. [`input`]: reading a source to its end.
 //! 4. [`writing`]: what a call writes of its text.
 //! 5. [`program`]: a run, over any devices.
@@ -12,8 +12,10 @@
 mod call;
 mod failure;
 mod input;
+mod notice;
 mod number;
 mod program;
+mod skin;
 mod writing;
 
 use failure::{Failure, refuse};

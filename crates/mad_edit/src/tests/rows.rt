@@ -26,6 +26,7 @@ fn what_is_cut_and_inserted_again(rt: HostRuntime) -> Result<(), Fail> {
         assert_eq!(rt; copied.as_str(), handed);
         assert_eq!(rt; cut.as_str(), handed);
         assert!(rt; con.is_str(left));
+        assert_eq!(rt; con.cursor_pos(), cursor.min(tail));
         assert!(rt; !con.has_selection());
         con.insert_str(cut.as_str())?;
         assert!(rt; con.is_str(text));
@@ -62,9 +63,11 @@ fn what_is_put_in(rt: HostRuntime) -> Result<(), Fail> {
     con.insert_new_line()?;
     assert!(rt; con.is_str("126\n345"));
     let mut con = InputFieldContent::new(alloc)?;
-    for c in "12\n34".chars() {
-        con.insert_char(c)?;
-    }
+    con.insert_char('1')?;
+    con.insert_char('2')?;
+    con.insert_new_line()?;
+    con.insert_char('3')?;
+    con.insert_char('4')?;
     assert_eq!(rt; con.to_string(alloc)?.as_str(), "12\n34");
     con.push_char('\n')?;
     con.push_char('5')?;

@@ -312,21 +312,6 @@ fn screens_without_rows_or_columns(rt: HostRuntime) -> Result<(), Fail> {
 }
 
 #[test]
-fn cells_outside_are_none(rt: HostRuntime) -> Result<(), Fail> {
-    let screen = screen_after(rt.alloc(), 3, 2, b"")?;
-    for (x, y, there) in [
-        (0, 0, true),
-        (2, 1, true),
-        (3, 0, false),
-        (0, 2, false),
-        (65535, 65535, false),
-    ] {
-        assert_eq!(rt; screen.cell(x, y).is_some(), there);
-    }
-    Ok(())
-}
-
-#[test]
 fn pieces_are_read_back(rt: HostRuntime) -> Result<(), Fail> {
     let alloc = rt.alloc();
     let style = ContentStyle {

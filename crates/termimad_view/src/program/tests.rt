@@ -22,6 +22,12 @@ const HELLO: &[u8] = b"\x1b[1;1Hhello       \x1b[2;1H            \x1b[3;1H      
 // `inline default` of `**some** x`.
 const SOME: &[u8] = b"\x1b[1msome\x1b[0m x\n";
 
+// `inline` of `**x**` in a skin whose bold is red.
+const RED: &[u8] = b"\x1b[38;5;9mx\x1b[39m\n";
+
+// What is said of the unknown key `colour`.
+const COLOUR: &[u8] = b"unknown key: colour\n";
+
 // More than any of these calls writes.
 const ROOM: usize = 1000;
 
@@ -242,6 +248,116 @@ fn other_skins_and_inputs_that_are_no_text_are_refused(rt: HostRuntime) -> Resul
 }
 
 #[test]
+fn json_text_is_a_skin(rt: HostRuntime) -> Result<(), Fail> {
+    let rows: [(&str, &[u8], &str, &str); 8] = [
+        (
+            r#"inline|{"bold":"red"}"#,
+            b"**x**",
+            "\x1b[38;5;9mx\x1b[39m\n",
+            "",
+        ),
+        (
+            r#"text|8|{"list_items_indentation_mode":"hanging(2)"}"#,
+            b"* abcdefghij",
+            "\x1b[38;5;240m•\x1b[39m abcd\n    efgh\n    ij\n",
+            "",
+        ),
+        // A digit is no mark.
+        (r#"text|8|{"bullet":"5"}"#, b"* x", "* x\n", ""),
+        (
+            r#"text|5|{"headers":"slow-blink"}"#,
+            b"## t",
+            "\x1b[4mt\x1b[0m\n",
+            "",
+        ),
+        // Of one name the last value counts.
+        (
+            r#"inline|{"bold":1,"bold":"red"}"#,
+            b"**x**",
+            "\x1b[38;5;9mx\x1b[39m\n",
+            "",
+        ),
+        (
+            r#"inline|{"colour":1}"#,
+            b"**x**",
+            "\x1b[1mx\x1b[0m\n",
+            "unknown key: colour\n",
+        ),
+        (
+            r#"inline|{"b\na":18446744073709551615,"bold":"","a":[{"bold":1}]}"#,
+            b"**x**",
+            "x\n",
+            "unknown key: a\nunknown key: b\na\n",
+        ),
+        ("inline|{}", b"x", "x\n", ""),
+    ];
+    for (call, input, written, said) in rows {
+        expect(&rt, call, input, 0, written.as_bytes(), said.as_bytes())?;
+    }
+    Ok(())
+}
+
+#[test]
+fn other_json_text_is_refused_unread(rt: HostRuntime) -> Result<(), Fail> {
+    let skins = [
+        "1",
+        "[]",
+        "{",
+        r#"{"bold":"red"} {}"#,
+        r#"{"bold":"red","bold":1}"#,
+        r#"{"a":1,"bold":"pissenlit"}"#,
+        r#"{"quote":"> red","quote_mark":"* blue"}"#,
+        r#"{"colour":1.5}"#,
+        r#"{"x":18446744073709551616}"#,
+        r#"{"list_items_indentation_mode":"hanging(256)"}"#,
+    ];
+    for skin in skins {
+        let call = format!(in rt.alloc(); "inline|{skin}")?;
+        expect(&rt, call.as_str(), b"\xff", 4, b"", SKIN)?;
+    }
+    for (depth, status) in [(126, 0), (127, 4), (10_000, 4)] {
+        let alloc = rt.alloc();
+        let inside = format!(in alloc;
+            "{}{}",
+            "[".repeat(alloc, depth)?,
+            "]".repeat(alloc, depth)?
+        )?;
+        let call = format!(in alloc; "inline|{{\"colour\":{inside}}}")?;
+        let (written, said): (&[u8], &[u8]) = if status == 0 {
+            (b"x\n", COLOUR)
+        } else {
+            (b"", SKIN)
+        };
+        expect(&rt, call.as_str(), b"x", status, written, said)?;
+    }
+    Ok(())
+}
+
+#[test]
+fn unknown_keys_are_said_before_the_input_is_read(rt: HostRuntime) -> Result<(), Fail> {
+    let alloc = rt.alloc();
+    let words = words_of(alloc, r#"inline|{"colour":1}"#)?;
+    let said = b"unknown key: colour\ntermimad-view: io\n";
+    for room in 0..said.len() {
+        let mut source = ScriptSource::new(b"", true);
+        let mut out = CutOut::new(alloc, ROOM, ROOM, false)?;
+        let mut err = CutOut::new(alloc, ROOM, room, false)?;
+        let status = run(alloc, words.as_slice(), &mut source, &mut out, &mut err);
+        assert_eq!(rt; status, 1, "at room {room}");
+        assert!(rt; err.taken() == &said[..room], "at room {room}");
+    }
+    expect(
+        &rt,
+        r#"inline|{"colour":1}"#,
+        b"\xff",
+        3,
+        b"",
+        b"unknown key: colour\ntermimad-view: input is not UTF-8\n",
+    )?;
+    Ok(())
+}
+
+#[test]
 fn a_failing_input_writes_nothing(rt: HostRuntime) -> Result<(), Fail> {
     let alloc = rt.alloc();
     for call in ["area|0|0|12|3", "inline", "area|0|0|4|0"] {
@@ -367,12 +483,14 @@ fn a_megabyte_and_a_line_of_many_marks(rt: HostRuntime) -> Result<(), Fail> {
     Ok(())
 }
 
-// Runs a call: its row, or a beginning of it with status 5, where memory is refused.
+// Runs a call: its row, or a beginning of it with status 5, where memory is refused. The keys are said before, or not at
+// all where there was no memory for them.
 fn expect_row(
     rt: &(impl Abort + AllocGlobal),
     call: &str,
     input: &[u8],
     whole: &[u8],
+    keys: &[u8],
 ) -> Result<(), AllocError> {
     let alloc = rt.alloc();
     let words = words_of(alloc, call)?;
@@ -382,18 +500,26 @@ fn expect_row(
     let status = run(alloc, words.as_slice(), &mut source, &mut out, &mut err);
     if status == 5 {
         assert!(rt; whole.starts_with(out.taken()), "{call}");
-        assert!(rt; err.taken() == MEMORY, "{call}");
+        let line = err.taken().strip_prefix(keys).unwrap_or(err.taken());
+        assert!(rt; line == MEMORY, "{call}");
         return Err(AllocError);
     }
     assert_eq!(rt; status, 0, "{call}");
     assert!(rt; out.taken() == whole, "{call}");
-    assert!(rt; err.taken().is_empty(), "{call}");
+    assert!(rt; err.taken() == keys, "{call}");
     Ok(())
 }
 
 #[test]
 fn a_run_is_its_row_or_ends_out_of_memory(rt: HostRuntime) -> Result<(), Fail> {
-    expect_row(&rt, "area|0|0|12|3", b"hello", HELLO)?;
-    expect_row(&rt, "inline|default", b"**some** x", SOME)?;
+    expect_row(&rt, "area|0|0|12|3", b"hello", HELLO, b"")?;
+    expect_row(&rt, "inline|default", b"**some** x", SOME, b"")?;
+    expect_row(
+        &rt,
+        "inline|{\"bold\":\"red\",\"colour\":1}",
+        b"**x**",
+        RED,
+        COLOUR,
+    )?;
     Ok(())
 }

@@ -1,4 +1,4 @@
-use Rattle.std.proofs.Common.{◌≡◌, ◌++◌, take, sym, subst, arith, rules, length}
+use Rattle.std.proofs.Common.{◌≡◌, sym, subst, rules}
 use Rattle.mad_term.specs.Trace.{ahead_all}
 use Rattle.termimad_view.proofs.Sources.{ahead_none, ahead_more, ahead_same, memory_exit}
 use Rattle.termimad_view.proofs.input.read_all.Goals as goal

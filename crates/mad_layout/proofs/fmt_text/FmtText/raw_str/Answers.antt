@@ -1,14 +1,8 @@
-use Rattle.std.proofs.Common.{subst}
-use Rattle.mad_md.specs.Lines.{contents}
-use Rattle.mad_layout.specs.CompositeWraps.{IsCompositeWrap}
-use Rattle.mad_layout.specs.Layouts.{IsLayoutBy}
 use Rattle.mad_layout.proofs.HeadlineLemmas.{layout_fitting}
 use Rattle.mad_layout.proofs.fmt_text.FmtText.raw_str.Goals as goal
 
 pub returns-clause-lines : goal.returns-clause-lines
-returns-clause-lines c =
-    let text = c.in_ok-text.text in
-    (text, c.in_ok-text.ensures, subst (λ w. IsLayoutBy IsCompositeWrap c.args.skin.now w (contents text) c.in_ok-lines.lines.items) c.wrap_width.ensures c.in_ok-lines.ensures)
+returns-clause-lines c = (c.in_ok-text.text, c.in_ok-text.ensures, c.in_ok-lines.ensures)
 
 pub returns-clause-fitting : goal.returns-clause-fitting
-returns-clause-fitting c = let lines = returns-clause-lines c in (lines.0, lines.1, layout_fitting _ _ _ _ lines.2)
+returns-clause-fitting c = (c.in_ok-text.text, c.in_ok-text.ensures, layout_fitting _ _ _ _ c.in_ok-lines.ensures)

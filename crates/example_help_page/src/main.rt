@@ -1,0 +1,38 @@
+//! A Markdown file in an area at the top left of the screen. Arguments: the file, and the area's columns and rows.
+#![tactic(auto)]
+
+ghost use Rattle.std.specs.Prelude.{IfOk};
+ghost use Rattle.mad_fit.specs.Areas.{IsWithinLimits};
+
+use std::io::{BufWriter, Error as IoError, ErrorKind};
+use std::{env, fs, io};
+use termimad::{Area, Error, MadSkin, Stream};
+
+fn main(rt: HostRuntime) -> Result<(), Error> {
+    let alloc = rt.alloc();
+    let mut words = env::args(&rt)?.skip(1);
+    let (Some(file), Some(width), Some(height)) = (words.next(), words.next(), words.next()) else {
+        return Err(usage());
+    };
+    let area = area_of(width.as_str(), height.as_str())?;
+    let text = fs::read_to_string(&rt, file.as_str())?;
+    let mut out = Stream::new(BufWriter::new(alloc, io::writer(&rt))?);
+    MadSkin::default().write_in_area(alloc, &mut out, text.as_str(), &area)
+}
+
+// The area of that size, each number at most 65535.
+fn area_of(width: &str, height: &str) -> Result<Area, Error>
+    ensures { IfOk result (λ area. IsWithinLimits area) }
+{
+    match (width.parse(), height.parse()) {
+        (Ok(width), Ok(height)) => Ok(Area::new(0, 0, width, height)),
+        _ => Err(usage()),
+    }
+}
+
+fn usage() -> Error {
+    Error::from(IoError::new(
+        ErrorKind::InvalidInput,
+        "usage: help_page FILE COLUMNS ROWS",
+    ))
+}

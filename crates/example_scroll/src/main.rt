@@ -1,0 +1,44 @@
+//! A view of a text, scrolled by a script: after each step the screen is written as rows of text.
+#![tactic(auto)]
+
+ghost use Rattle.std.specs.Prelude.{IfOk};
+ghost use Rattle.mad_fit.specs.Areas.{IsWithinLimits};
+
+use std::alloc::Global;
+use std::io::{Error as IoError, ErrorKind};
+use termimad::screen::{NotPlain, Screen};
+use termimad::{Area, CutOut, Error, FmtText, MadSkin, TextView};
+
+// More bytes than a screen of this example takes.
+const ROOM: usize = 1000;
+
+const TEXT: &str =
+    "# Stops\n* Albury\n* Benalla\n* Chiltern\n* Euroa\n* Glenrowan\n* Seymour\n* Violet Town";
+
+fn main(rt: HostRuntime) -> Result<(), Error> {
+    let alloc = rt.alloc();
+    let skin = MadSkin::default();
+    let area = Area::new(0, 0, 16, 4);
+    let text = skin.area_text(alloc, TEXT, &area)?;
+    let mut view = TextView::from(&area, &text);
+    for wanted in [0, 2, 100] {
+        let scroll = view.set_scroll(wanted);
+        let screen = screen_of(alloc, &view)?;
+        println!(rt; "scroll {wanted}: the first line is number {scroll}\n{screen}")?;
+    }
+    Ok(())
+}
+
+// What a screen of the area's size shows of a view.
+fn screen_of(alloc: Global, view: &TextView<'_, '_>) -> Result<Screen, Error>
+    requires { IsWithinLimits view.now.area.now }
+{
+    let mut out = CutOut::new(alloc, ROOM, ROOM, false)?;
+    view.write_on(alloc, &mut out)?;
+    let mut screen = Screen::new(alloc, 16, 4)?;
+    match screen.read_bytes(out.taken()) {
+        Ok(()) => Ok(screen),
+        Err(NotPlain::Memory) => Err(Error::Memory),
+        Err(NotPlain::Undefined) => Err(Error::IO(IoError::from(ErrorKind::InvalidData))),
+    }
+}
