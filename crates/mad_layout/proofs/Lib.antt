@@ -1,4 +1,6 @@
 pub mod DrawableLemmas
+pub mod DrawableTables
+pub mod DrawnParts
 pub mod DrawnLayouts
 pub mod FlaggedBreaks
 pub mod FlaggedTokens

@@ -22,14 +22,13 @@ use Rattle.mad_style.specs.declared.styled_chars.StyledChar.{StyledChar}
 use Rattle.mad_fit.specs.Completions.{left_completion}
 use Rattle.mad_fit.specs.declared.area.Area.{Area}
 use Rattle.mad_fit.specs.declared.spacing.Spacing.{Spacing}
-use Rattle.mad_draw.specs.Pieces.{RowPiece, PennedChar, penned_chars, spaces, single_spaces}
+use Rattle.mad_draw.specs.Pieces.{RowPiece, IsColumnPiece, char_piece, char_run, PennedChar, penned_chars, spaces, single_spaces}
 use Rattle.mad_draw.proofs.PieceLemmas.{ascii_spaces}
-use Rattle.mad_layout.specs.Drawable.{IsColumnPiece}
 use Rattle.mad_layout.specs.FlaggedLines.{widest_in, skin_char, front_of, placed_columns, row_across}
 use Rattle.mad_layout.specs.Indents.{ordered_indent, kept}
 use Rattle.mad_layout.specs.Parts.{is_code_kind}
 use Rattle.mad_layout.specs.Premises.{IsPlainPrefix, inner_width}
-use Rattle.mad_layout.specs.Rows.{char_piece, char_run, number_piece, mark_space, mark_pieces, compound_piece, composite_pieces, row_pieces, left_of_place, right_of_place, align_in, place_of, inner_blanks, outer_blanks}
+use Rattle.mad_layout.specs.Rows.{number_piece, mark_space, mark_pieces, compound_piece, composite_pieces, row_pieces, left_of_place, right_of_place, align_in, place_of, inner_blanks, outer_blanks}
 use Rattle.mad_layout.specs.Styles.{line_style, ordered_item_style}
 use Rattle.mad_layout.specs.WrappedLines.{line_with}
 use Rattle.mad_layout.specs.Wraps.{text_of, columns_of, IsMeasured}

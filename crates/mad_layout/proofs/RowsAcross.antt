@@ -29,7 +29,8 @@ use Rattle.mad_layout.specs.declared.skin.MadSkin.{MadSkin}
 use Rattle.mad_layout.specs.declared.composite.FmtComposite.{FmtComposite}
 use Rattle.mad_layout.specs.declared.line.FmtLine.{FmtLine}
 use Rattle.mad_layout.specs.declared.line.FmtLine.TheVariants.{Normal, TableRow, TableRule, HorizontalRule}
-use Rattle.mad_layout.proofs.DrawableLemmas.{IsPlacedFor, margins-le, has_room, runs_are}
+use Rattle.mad_layout.proofs.DrawableLemmas.{IsPlacedFor, margins-le, has_room}
+use Rattle.mad_layout.proofs.DrawnParts.{runs_are}
 use Rattle.mad_layout.proofs.MarkLemmas.{follow_up_plain}
 use Rattle.mad_layout.proofs.RowChars.{place_for, line_chars, row_chars, run_chars}
 use Rattle.mad_layout.proofs.RowsExist.{by_bool, rows_of, rows_exist}

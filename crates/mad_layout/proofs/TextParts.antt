@@ -22,7 +22,7 @@ use Rattle.mad_layout.specs.declared.skin.MadSkin.{MadSkin}
 use Rattle.mad_layout.specs.declared.composite.FmtComposite.{FmtComposite}
 use Rattle.mad_layout.specs.declared.line.FmtLine.{FmtLine}
 use Rattle.mad_layout.specs.declared.line.FmtLine.TheVariants.{Normal, TableRow, TableRule, HorizontalRule}
-use Rattle.mad_layout.proofs.DrawableLemmas.{runs_are}
+use Rattle.mad_layout.proofs.DrawnParts.{runs_are}
 use Rattle.mad_layout.proofs.PartLemmas.{code_is}
 use Rattle.mad_layout.proofs.RowChars.{place_for, line_chars}
 use Rattle.mad_layout.proofs.RowsAcross.{IsReadIn, AreReadIn, ArePlainRows, HaveFirstRows, code_indent, across_exist, front_across}

@@ -53,7 +53,7 @@ use Rattle.mad_layout.specs.Wraps.{text_of}
 use Rattle.mad_layout.specs.declared.composite.FmtComposite.{FmtComposite}
 use Rattle.mad_layout.specs.declared.line.FmtLine.{FmtLine}
 use Rattle.mad_layout.specs.declared.line.FmtLine.TheVariants.{Normal, TableRow, TableRule, HorizontalRule}
-use Rattle.mad_layout.proofs.DrawableLemmas.{runs_are}
+use Rattle.mad_layout.proofs.DrawnParts.{runs_are}
 use Rattle.mad_layout.proofs.HeadlineLemmas.{wrapped_at}
 use Rattle.mad_layout.proofs.PieceLemmas.{pieces_of_runs}
 use Rattle.mad_layout.proofs.WordLemmas.{one_a, one_b, one_c, one_space, spelled, one_part, words_take_columns}

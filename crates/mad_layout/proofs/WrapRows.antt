@@ -22,7 +22,7 @@ use Rattle.mad_wrap.specs.WrapLines.{runs_of, HasRoom}
 use Rattle.mad_wrap.specs.declared.room.Room.{Room}
 use Rattle.mad_layout.specs.FlaggedRows.{whole, tokens_from, tokens_of, AreBroken, AreRowsOf}
 use Rattle.mad_layout.specs.Premises.{runs_text}
-use Rattle.mad_layout.proofs.DrawableLemmas.{runs_are}
+use Rattle.mad_layout.proofs.DrawnParts.{runs_are}
 use Rattle.mad_layout.proofs.FlaggedBreaks.{break_lifts, flagged_piece}
 use Rattle.mad_layout.proofs.FlaggedTokens.{tokens_agree}
 use Rattle.mad_layout.proofs.RowsExist.{by_bool, line_text, WhiteGaps, whole_tokens, whole_tokens_of}

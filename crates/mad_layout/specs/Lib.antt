@@ -1,6 +1,7 @@
 pub use Rattle.mad_draw.specs.DrawnRows
 pub use Rattle.mad_draw.specs.Pieces
 pub use Rattle.mad_draw.specs.PennedCells
+pub use Rattle.mad_draw.specs.TableRules
 pub mod CompositeWraps
 pub mod Drawable
 pub mod FittingLayouts
@@ -16,6 +17,7 @@ pub mod Layouts
 pub mod Lines
 pub mod MadeSkins
 pub mod Parts
+pub mod PlainTables
 pub mod Premises
 pub mod RecoloredSkins
 pub mod Rows

@@ -4,6 +4,9 @@ ghost use Rattle.std.specs.Prelude.{◌≡◌, ◌∷◌, [], IfOk, OnOk, Some};
 ghost use Rattle.mad_screen.specs.Grid.{cell_at, plain_pen};
 ghost use Rattle.mad_screen.specs.Terminal.{after_bytes};
 ghost use Rattle.mad_layout.specs.Sources.{LinesTakeColumns};
+ghost use Rattle.mad_layout.specs.CompositeWraps.{IsCompositeWrap};
+ghost use Rattle.mad_layout.specs.FittingLayouts.{IsFittingWrap};
+ghost use Rattle.mad_layout.specs.PlainTables.{TablesFit};
 ghost use Rattle.mad_layout.specs.Words.{corner, words, SpacesAreNoText};
 
 use crate::skin::MadSkin;
@@ -16,6 +19,15 @@ use std::alloc::Global;
 #[tactic(auto, using(crate::proofs::WordLemmas::words_take_columns))]
 pub fn words_take_columns()
     ensures { LinesTakeColumns words }
+{}
+
+/// A table that is laid out at a width fits a row at least as wide when it is drawn.
+pub fn tables_fit()
+    // However many lines its cells are wrapped into.
+    ensures fitting { TablesFit IsFittingWrap }
+
+    // So does one whose cells have the fewest lines.
+    ensures least { TablesFit IsCompositeWrap }
 {}
 
 /// Who fills an area with spaces has not shown `aaa bb cc` in it.

@@ -107,6 +107,7 @@ pub use Rattle.mad_json.specs.Fields as SkinFields
 pub use Rattle.mad_json.specs.Lists as SkinLists
 pub use Rattle.mad_json.specs.Modes
 pub use Rattle.mad_json.specs.Reading as SkinReading
+pub use Rattle.mad_json.specs.ReadsBack as SkinsReadBack
 pub use Rattle.mad_json.specs.ScrollBars
 pub use Rattle.mad_json.specs.Texts as SkinTexts
 pub use Rattle.mad_json.specs.Written as SkinWritten
