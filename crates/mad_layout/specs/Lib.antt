@@ -6,6 +6,10 @@ pub mod CodeBlocks
 pub mod CompositeWraps
 pub mod Drawable
 pub mod FittingLayouts
+pub mod FlaggedLines
+pub mod FlaggedRows
+pub mod Fronts
+pub mod Headline
 pub mod InArea
 pub mod Indents
 pub mod Inlines

@@ -68,6 +68,10 @@ pub use Rattle.mad_draw.specs.TableRules
 pub use Rattle.mad_layout.specs.CompositeWraps
 pub use Rattle.mad_layout.specs.Drawable
 pub use Rattle.mad_layout.specs.FittingLayouts
+pub use Rattle.mad_layout.specs.FlaggedLines
+pub use Rattle.mad_layout.specs.FlaggedRows
+pub use Rattle.mad_layout.specs.Fronts
+pub use Rattle.mad_layout.specs.Headline
 pub use Rattle.mad_layout.specs.InArea
 pub use Rattle.mad_layout.specs.Indents
 pub use Rattle.mad_layout.specs.Inlines
