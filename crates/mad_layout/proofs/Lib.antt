@@ -1,5 +1,6 @@
 pub mod CodeBlockLemmas
 pub mod DrawableLemmas
+pub mod ExampleLayouts
 pub mod DrawnLayouts
 pub mod HeadlineLemmas
 pub mod InlineLemmas
