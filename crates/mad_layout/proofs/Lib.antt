@@ -2,6 +2,7 @@ pub mod CodeBlockLemmas
 pub mod DrawableLemmas
 pub mod DrawableTables
 pub mod DrawnParts
+pub mod ExampleLayouts
 pub mod DrawnLayouts
 pub mod FlaggedBreaks
 pub mod FlaggedTokens
