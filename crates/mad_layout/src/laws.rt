@@ -1,5 +1,5 @@
-//! Laws, each the contract of a small function: what the layout of given tables is; and an example whose premises are proved, a text
-//! that is written in an area, and what a screen shows that reads it.
+//! Laws, each the contract of a small function: what the layout of given tables is, and that tables fit their place; and an example whose
+//! premises are proved, a text that is written in an area, and what a screen shows that reads it.
 
 ghost use Rattle.std.specs.Prelude.{◌≡◌, ◌∷◌, [], IfOk, OnOk, Some};
 ghost use Rattle.mad_screen.specs.Grid.{cell_at, plain_pen};
@@ -22,15 +22,6 @@ use std::alloc::Global;
 #[tactic(auto, using(crate::proofs::WordLemmas::words_take_columns))]
 pub fn words_take_columns()
     ensures { LinesTakeColumns words }
-{}
-
-/// A table that is laid out at a width fits a row at least as wide when it is drawn.
-pub fn tables_fit()
-    // However many lines its cells are wrapped into.
-    ensures fitting { TablesFit IsFittingWrap }
-
-    // So does one whose cells have the fewest lines.
-    ensures least { TablesFit IsCompositeWrap }
 {}
 
 /// Who fills an area with spaces has not shown `aaa bb cc` in it.
@@ -62,6 +53,15 @@ pub fn worked_tables()
 #[tactic(auto, using(crate::proofs::WorkedTables::no_tables))]
 pub fn other_tables_are_refused()
     ensures { AreNoTables }
+{}
+
+/// A table that is laid out at a width fits a row at least as wide when it is drawn.
+pub fn tables_fit()
+    // However many lines its cells are wrapped into.
+    ensures fitting { TablesFit IsFittingWrap }
+
+    // So does one whose cells have the fewest lines.
+    ensures least { TablesFit IsCompositeWrap }
 {}
 
 /// A screen of sixteen columns and four rows, a `z` in its corner, after `aaa bb cc` was written in an area of twelve columns and two

@@ -64,17 +64,25 @@ pub use Rattle.mad_fit.specs.TokensLeft
 pub use Rattle.mad_draw.specs.DrawnRows
 pub use Rattle.mad_draw.specs.Pieces
 pub use Rattle.mad_draw.specs.PennedCells
+pub use Rattle.mad_draw.specs.TableRules
+pub use Rattle.mad_layout.specs.CodeBlocks
 pub use Rattle.mad_layout.specs.CompositeWraps
 pub use Rattle.mad_layout.specs.Drawable
 pub use Rattle.mad_layout.specs.FittingLayouts
+pub use Rattle.mad_layout.specs.FlaggedLines
+pub use Rattle.mad_layout.specs.FlaggedRows
+pub use Rattle.mad_layout.specs.Fronts
+pub use Rattle.mad_layout.specs.Headline
 pub use Rattle.mad_layout.specs.InArea
 pub use Rattle.mad_layout.specs.Indents
 pub use Rattle.mad_layout.specs.Inlines
 pub use Rattle.mad_layout.specs.LayoutLaws
+pub use Rattle.mad_layout.specs.LayoutExamples
 pub use Rattle.mad_layout.specs.Layouts
 pub use Rattle.mad_layout.specs.Lines as LayoutLines
 pub use Rattle.mad_layout.specs.MadeSkins
 pub use Rattle.mad_layout.specs.Parts as LayoutParts
+pub use Rattle.mad_layout.specs.PlainTables
 pub use Rattle.mad_layout.specs.Premises
 pub use Rattle.mad_layout.specs.RecoloredSkins
 pub use Rattle.mad_layout.specs.Rows

@@ -6,7 +6,11 @@
 #[cfg(test)]
 mod areas;
 #[cfg(test)]
+mod pages;
+#[cfg(test)]
 mod picture;
+#[cfg(test)]
+mod tables;
 #[cfg(test)]
 mod texts;
 #[cfg(test)]
