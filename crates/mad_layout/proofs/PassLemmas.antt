@@ -1,10 +1,11 @@
 -- Layout part by part is what tables, then blocks of code, then wrapping make of all lines.
 use Rattle.std.proofs.Common.{◌≡◌, ℕ, ◌<◌, Bool, true, false, inl, inr, List, [], ◌∷◌, ◌++◌, map, length, max, Option, Some, None, refl, ap, sym, ◌∙◌, subst, arith, append_assoc}
 use Rattle.std.specs.Prelude.{◌==◌}
-use Rattle.std.specs.List.{AllByRecursion}
+use Rattle.std.specs.List.{AllByRecursion, flat_map}
 use Rattle.mad_fit.specs.declared.spacing.Spacing.{Spacing}
 use Rattle.mad_fit.proofs.AllLemmas.{all_joined}
-use Rattle.mad_layout.specs.LayoutLaws.{IsBlockJustified, AreBlocksJustified, PassesAreParts, PartsArePasses}
+use Rattle.mad_layout.specs.CodeBlocks.{NoCodeFirst, part_placed, blocks_placed}
+use Rattle.mad_layout.specs.LayoutLaws.{PassesAreParts, PartsArePasses}
 use Rattle.mad_layout.specs.Parts.{Part, table, block, single, is_code_kind, is_code_line, with_table, with_code, with_composite, parts_of, ArePartsBy, IsTableFixedBy, justified, code_room, IsLineAt, AreLinesAt, ArePartsAt}
 use Rattle.mad_layout.specs.Tables.{is_table_line, columns_count, columns_from, position_at, IsTableLineBy, AreTableLinesBy, IsTableLaidOutBy}
 use Rattle.mad_layout.specs.WrappedLines.{Wrap}
@@ -14,7 +15,7 @@ use Rattle.mad_layout.specs.declared.line.FmtLine.{FmtLine}
 use Rattle.mad_layout.specs.declared.line.FmtLine.TheVariants.{Normal, TableRow, TableRule, HorizontalRule}
 use Rattle.mad_layout.specs.declared.table.FmtTableRow.{FmtTableRow}
 use Rattle.mad_layout.specs.declared.table.RelativePosition.{RelativePosition}
-use Rattle.mad_layout.proofs.PartRuns.{AllTableLines, AllCode, NoTableFirst, NoCodeFirst, table_not_code, one_table, block_in_front, alone_first}
+use Rattle.mad_layout.proofs.PartRuns.{AllTableLines, AllCode, NoTableFirst, table_not_code, one_table, block_in_front, alone_first}
 
 -- ---- parts that stand apart
 
@@ -169,88 +170,81 @@ table_as_it_is wraps skin width (l ∷ ls) are = (l ∷ [], ls, refl, table_line
 
 -- ---- the passes one after the other
 
-passes : (wraps : Wrap) (skin : MadSkin) (tables : ℕ) (width : Option ℕ) (ps : List Part) (tabled blocked lines : List FmtLine) → StandApart ps
-    → ArePartsBy (IsTableFixedBy wraps skin tables) ps tabled → AreBlocksJustified (code_room skin width) tabled blocked → AreLinesAt wraps skin width blocked lines
-    → ArePartsAt wraps skin tables width ps lines
-passes wraps skin tables width [] tabled blocked lines apart fixed blocks wrapped =
-    let none : blocked ≡ [] = subst (λ (ls : List FmtLine). AreBlocksJustified (code_room skin width) ls blocked) fixed blocks in
-    subst (λ (ls : List FmtLine). AreLinesAt wraps skin width ls lines) none wrapped
-passes wraps skin tables width (table ls ∷ ps) tabled blocked lines apart (own, others, joins, laid, more) blocks wrapped =
+-- the lines of parts, each block in its place
+abbrev placed : Option ℕ → List Part → List FmtLine
+placed room ps = flat_map (part_placed room) ps
+
+passes : (wraps : Wrap) (skin : MadSkin) (tables : ℕ) (width : Option ℕ) (ps : List Part) (tabled lines : List FmtLine) → StandApart ps
+    → ArePartsBy (IsTableFixedBy wraps skin tables) ps tabled → AreLinesAt wraps skin width (blocks_placed (code_room skin width) tabled) lines → ArePartsAt wraps skin tables width ps lines
+passes wraps skin tables width [] tabled lines apart fixed wrapped = subst (λ (ls : List FmtLine). AreLinesAt wraps skin width (blocks_placed (code_room skin width) ls) lines) fixed wrapped
+passes wraps skin tables width (table ls ∷ ps) tabled lines apart (own, others, joins, laid, more) wrapped =
     let run : IsTableRun own = table_run wraps skin (columns_count ls) tables ls own apart.0 apart.1 laid in
     let first : NoTableFirst others = fixed_no_table wraps skin tables ps others apart.3 apart.2 more in
     let parts : parts_of tabled ≡ table own ∷ parts_of others = ap parts_of joins ∙ table_run_in_front own others run first in
-    let apart_blocks : ArePartsBy (IsBlockJustified (code_room skin width)) (table own ∷ parts_of others) blocked =
-    subst (λ (qs : List Part). ArePartsBy (IsBlockJustified (code_room skin width)) qs blocked) parts blocks in
-    let all : blocked ≡ own ++ apart_blocks.1 = apart_blocks.2 ∙ ap (λ xs. xs ++ apart_blocks.1) apart_blocks.3 in
-    let both = lines_split wraps skin width own apart_blocks.1 lines (subst (λ (xs : List FmtLine). AreLinesAt wraps skin width xs lines) all wrapped) in
+    let both = lines_split wraps skin width own (blocks_placed (code_room skin width) others) lines
+    (subst (λ (qs : List Part). AreLinesAt wraps skin width (placed (code_room skin width) qs) lines) parts wrapped) in
     let stays : both.0 ≡ own = table_stays wraps skin width own both.0 run.1 both.3 in
-    (own, both.1, both.2 ∙ ap (λ xs. xs ++ both.1) stays, laid, passes wraps skin tables width ps others apart_blocks.1 both.1 apart.3 more apart_blocks.4 both.4)
-passes wraps skin tables width (block ls ∷ ps) tabled blocked lines apart (own, others, joins, is, more) blocks wrapped =
+    (own, both.1, both.2 ∙ ap (λ xs. xs ++ both.1) stays, laid, passes wraps skin tables width ps others both.1 apart.3 more both.4)
+passes wraps skin tables width (block ls ∷ ps) tabled lines apart (own, others, joins, is, more) wrapped =
     let first : NoCodeFirst others = fixed_no_code wraps skin tables ps others apart.3 apart.2 more in
     let parts : parts_of tabled ≡ block ls ∷ parts_of others = ap parts_of (joins ∙ ap (λ xs. xs ++ others) is) ∙ block_run_in_front ls others apart.0 apart.1 first in
-    let apart_blocks : ArePartsBy (IsBlockJustified (code_room skin width)) (block ls ∷ parts_of others) blocked =
-    subst (λ (qs : List Part). ArePartsBy (IsBlockJustified (code_room skin width)) qs blocked) parts blocks in
-    let all : blocked ≡ map Normal (justified (code_room skin width) ls) ++ apart_blocks.1 = apart_blocks.2 ∙ ap (λ xs. xs ++ apart_blocks.1) apart_blocks.3 in
-    let both = lines_split wraps skin width (map Normal (justified (code_room skin width) ls)) apart_blocks.1 lines (subst (λ (xs : List FmtLine). AreLinesAt wraps skin width xs lines) all wrapped) in
-    (both.0, both.1, both.2, both.3, passes wraps skin tables width ps others apart_blocks.1 both.1 apart.3 more apart_blocks.4 both.4)
-passes wraps skin tables width (single l ∷ ps) tabled blocked lines apart (own, others, joins, is, more) blocks wrapped =
+    let both = lines_split wraps skin width (map Normal (justified (code_room skin width) ls)) (blocks_placed (code_room skin width) others) lines
+    (subst (λ (qs : List Part). AreLinesAt wraps skin width (placed (code_room skin width) qs) lines) parts wrapped) in
+    (both.0, both.1, both.2, both.3, passes wraps skin tables width ps others both.1 apart.3 more both.4)
+passes wraps skin tables width (single l ∷ ps) tabled lines apart (own, others, joins, is, more) wrapped =
     let parts : parts_of tabled ≡ single l ∷ parts_of others = ap parts_of (joins ∙ ap (λ xs. xs ++ others) is) ∙ alone_first l others apart.1 apart.0 in
-    let apart_blocks : ArePartsBy (IsBlockJustified (code_room skin width)) (single l ∷ parts_of others) blocked =
-    subst (λ (qs : List Part). ArePartsBy (IsBlockJustified (code_room skin width)) qs blocked) parts blocks in
-    let all : blocked ≡ (l ∷ []) ++ apart_blocks.1 = apart_blocks.2 ∙ ap (λ xs. xs ++ apart_blocks.1) apart_blocks.3 in
-    let both = lines_split wraps skin width (l ∷ []) apart_blocks.1 lines (subst (λ (xs : List FmtLine). AreLinesAt wraps skin width xs lines) all wrapped) in
-    (both.0, both.1, both.2, both.3, passes wraps skin tables width ps others apart_blocks.1 both.1 apart.2 more apart_blocks.4 both.4)
+    let both = lines_split wraps skin width (l ∷ []) (blocks_placed (code_room skin width) others) lines
+    (subst (λ (qs : List Part). AreLinesAt wraps skin width (placed (code_room skin width) qs) lines) parts wrapped) in
+    (both.0, both.1, both.2, both.3, passes wraps skin tables width ps others both.1 apart.2 more both.4)
 
 -- ---- the passes of a layout part by part
 
--- what the passes make of lines, one after the other
-pub record ArePasses (wraps : Wrap) (skin : MadSkin) (tables : ℕ) (width : Option ℕ) (ps : List Part) (lines : List FmtLine) : Type 0 where
-  pub tabled : List FmtLine
-  pub blocked : List FmtLine
-  pub fixed : ArePartsBy (IsTableFixedBy wraps skin tables) ps tabled
-  pub blocks : AreBlocksJustified (code_room skin width) tabled blocked
-  pub wrapped : AreLinesAt wraps skin width blocked lines
+-- what the passes make of parts, one after the other
+record ArePasses (wraps : Wrap) (skin : MadSkin) (tables : ℕ) (width : Option ℕ) (ps : List Part) (lines : List FmtLine) : Type 0 where
+  tabled : List FmtLine
+  fixed : ArePartsBy (IsTableFixedBy wraps skin tables) ps tabled
+  wrapped : AreLinesAt wraps skin width (blocks_placed (code_room skin width) tabled) lines
 
 parts_passes : (wraps : Wrap) (skin : MadSkin) (tables : ℕ) (width : Option ℕ) (ps : List Part) (lines : List FmtLine) → StandApart ps → ArePartsAt wraps skin tables width ps lines → ArePasses wraps skin tables width ps lines
-parts_passes wraps skin tables width [] lines apart h = record { tabled = []; blocked = []; fixed = refl; blocks = refl; wrapped = h }
+parts_passes wraps skin tables width [] lines apart h = record { tabled = []; fixed = refl; wrapped = h }
 parts_passes wraps skin tables width (table ls ∷ ps) lines apart (own, others, joins, laid, more) =
     let rest : ArePasses wraps skin tables width ps others = parts_passes wraps skin tables width ps others apart.3 more in
     let run : IsTableRun own = table_run wraps skin (columns_count ls) tables ls own apart.0 apart.1 laid in
     let first : NoTableFirst rest.tabled = fixed_no_table wraps skin tables ps rest.tabled apart.3 apart.2 rest.fixed in
+    let after : List FmtLine = blocks_placed (code_room skin width) rest.tabled in
     record {
       tabled = own ++ rest.tabled;
-      blocked = own ++ rest.blocked;
       fixed = (own, rest.tabled, refl, laid, rest.fixed);
-      blocks = subst (λ (qs : List Part). ArePartsBy (IsBlockJustified (code_room skin width)) qs (own ++ rest.blocked)) (sym (table_run_in_front own rest.tabled run first)) (own, rest.blocked, refl, refl, rest.blocks);
-      wrapped = subst (λ (ls : List FmtLine). AreLinesAt wraps skin width (own ++ rest.blocked) ls) (sym joins) (lines_joined wraps skin width own rest.blocked own others (table_as_it_is wraps skin width own run.1) rest.wrapped);
+      wrapped = subst (λ (qs : List Part). AreLinesAt wraps skin width (placed (code_room skin width) qs) lines) (sym (table_run_in_front own rest.tabled run first))
+          (subst (AreLinesAt wraps skin width (own ++ after)) (sym joins) (lines_joined wraps skin width own after own others (table_as_it_is wraps skin width own run.1) rest.wrapped));
     }
 parts_passes wraps skin tables width (block ls ∷ ps) lines apart (own, others, joins, laid, more) =
     let rest : ArePasses wraps skin tables width ps others = parts_passes wraps skin tables width ps others apart.3 more in
     let first : NoCodeFirst rest.tabled = fixed_no_code wraps skin tables ps rest.tabled apart.3 apart.2 rest.fixed in
     let there : List FmtLine = map Normal (justified (code_room skin width) ls) in
+    let after : List FmtLine = blocks_placed (code_room skin width) rest.tabled in
     record {
       tabled = map Normal ls ++ rest.tabled;
-      blocked = there ++ rest.blocked;
       fixed = (map Normal ls, rest.tabled, refl, refl, rest.fixed);
-      blocks = subst (λ (qs : List Part). ArePartsBy (IsBlockJustified (code_room skin width)) qs (there ++ rest.blocked)) (sym (block_run_in_front ls rest.tabled apart.0 apart.1 first)) (there, rest.blocked, refl, refl, rest.blocks);
-      wrapped = subst (λ (ls : List FmtLine). AreLinesAt wraps skin width (there ++ rest.blocked) ls) (sym joins) (lines_joined wraps skin width there rest.blocked own others laid rest.wrapped);
+      wrapped = subst (λ (qs : List Part). AreLinesAt wraps skin width (placed (code_room skin width) qs) lines) (sym (block_run_in_front ls rest.tabled apart.0 apart.1 first))
+          (subst (AreLinesAt wraps skin width (there ++ after)) (sym joins) (lines_joined wraps skin width there after own others laid rest.wrapped));
     }
 parts_passes wraps skin tables width (single l ∷ ps) lines apart (own, others, joins, laid, more) =
     let rest : ArePasses wraps skin tables width ps others = parts_passes wraps skin tables width ps others apart.2 more in
+    let after : List FmtLine = blocks_placed (code_room skin width) rest.tabled in
     record {
       tabled = l ∷ rest.tabled;
-      blocked = l ∷ rest.blocked;
       fixed = (l ∷ [], rest.tabled, refl, refl, rest.fixed);
-      blocks = subst (λ (qs : List Part). ArePartsBy (IsBlockJustified (code_room skin width)) qs (l ∷ rest.blocked)) (sym (alone_first l rest.tabled apart.1 apart.0)) (l ∷ [], rest.blocked, refl, refl, rest.blocks);
-      wrapped = subst (λ (ls : List FmtLine). AreLinesAt wraps skin width (l ∷ rest.blocked) ls) (sym joins) (lines_joined wraps skin width (l ∷ []) rest.blocked own others laid rest.wrapped);
+      wrapped = subst (λ (qs : List Part). AreLinesAt wraps skin width (placed (code_room skin width) qs) lines) (sym (alone_first l rest.tabled apart.1 apart.0))
+          (subst (AreLinesAt wraps skin width (l ∷ after)) (sym joins) (lines_joined wraps skin width (l ∷ []) after own others laid rest.wrapped));
     }
 
 -- ---- the laws
 
 pub passes_are_parts : (wraps : Wrap) → PassesAreParts wraps
-passes_are_parts wraps skin tables width source tabled blocked lines = passes wraps skin tables width (parts_of source) tabled blocked lines (parts_apart source)
+passes_are_parts wraps skin tables width source tabled lines = passes wraps skin tables width (parts_of source) tabled lines (parts_apart source)
 
 pub parts_are_passes : (wraps : Wrap) → PartsArePasses wraps
 parts_are_passes wraps skin tables width source lines h =
     let made : ArePasses wraps skin tables width (parts_of source) lines = parts_passes wraps skin tables width (parts_of source) lines (parts_apart source) h in
-    (made.tabled, made.blocked, made.fixed, made.blocks, made.wrapped)
+    (made.tabled, made.fixed, made.wrapped)
