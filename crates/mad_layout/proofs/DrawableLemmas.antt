@@ -100,11 +100,11 @@ wrapped_drawable skin drawn first margins kind other place r ps ts (l ∷ ls) bo
 
 -- ---- a composite as it was read
 
-margins-le : (style : LineStyle) (width : ℕ) → (margins_at style (Some width)).0 + (margins_at style (Some width)).1 ≤ width
+pub margins-le : (style : LineStyle) (width : ℕ) → (margins_at style (Some width)).0 + (margins_at style (Some width)).1 ≤ width
 margins-le style width = grind (arith, nat_tests)
 
 -- what the margins of a composite's kind leave of a width
-abbrev inner_of : MadSkin → ℕ → FmtComposite → ℕ
+abbrev pub inner_of : MadSkin → ℕ → FmtComposite → ℕ
 inner_of skin width l = width - (style_margins skin width l).0 - (style_margins skin width l).1
 
 -- The composite says what was read, and has no place of its own, or one that is no wider than what its margins leave, and as wide as the
@@ -116,7 +116,7 @@ pub record IsPlacedFor (skin : MadSkin) (width : ℕ) (line : StyledRuns) (l : F
   pub place : IfSome l.spacing (λ s. (s.width ≤ inner_of skin width l) × (min l.visible_length (inner_of skin width l) ≤ s.width))
 
 -- where the composite doesn't fit, its characters have room
-has_room : (skin : MadSkin) (width : ℕ) (line : StyledRuns) (source : FmtComposite) → IsPlainLine skin width line → IsPlacedFor skin width line source
+pub has_room : (skin : MadSkin) (width : ℕ) (line : StyledRuns) (source : FmtComposite) → IsPlainLine skin width line → IsPlacedFor skin width line source
     → width < source.visible_length + (style_margins skin width source).0 + (style_margins skin width source).1 → HasRoom (room_of skin source.kind (inner_of skin width source)) (text_of source)
 has_room skin width line source plain read wide =
     let left = λ (k : CompositeKind). width - (margins_at (line_style skin k) (Some width)).0 - (margins_at (line_style skin k) (Some width)).1 in

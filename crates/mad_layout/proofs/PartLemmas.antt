@@ -103,7 +103,7 @@ parts_kinds (TableRow row ∷ ls) = with_table_kinds (TableRow row) (parts_of ls
 parts_kinds (TableRule rule ∷ ls) = with_table_kinds (TableRule rule) (parts_of ls) refl (parts_kinds ls)
 parts_kinds (HorizontalRule ∷ ls) = (refl, parts_kinds ls)
 
-code_is : (k : CompositeKind) → is_code_kind k ≡ true → k ≡ Code
+pub code_is : (k : CompositeKind) → is_code_kind k ≡ true → k ≡ Code
 code_is Paragraph h = absurd (cc)
 code_is (Header level) h = absurd (cc)
 code_is (ListItem depth) h = absurd (cc)
