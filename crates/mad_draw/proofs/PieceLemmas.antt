@@ -16,9 +16,12 @@ use Rattle.mad_screen.specs.Painting.{Paints, piece_cells, IsShown, look_of_styl
 use Rattle.mad_screen.proofs.Paints.{paints_row, paints_piece, spaces_shown, spaces_cells}
 use Rattle.mad_screen.proofs.PaintingLemmas.{length-cells_of}
 use Rattle.mad_style.specs.declared.compound_styles.CompoundStyle.{CompoundStyle}
+use Rattle.mad_style.specs.declared.styled_chars.StyledChar.{StyledChar}
 use Rattle.mad_style.specs.Runs.{run_bytes}
+use Rattle.mad_style.specs.StyledChars.{char_style, char_alone}
+use Rattle.std.specs.Prelude.{encode_utf8}
 use Rattle.mad_fit.specs.Columns.{columns}
-use Rattle.mad_draw.specs.Pieces.{RowPiece, pieces_bytes, spaces, single_spaces, AreKnown, AreShownPieces, pieces_columns}
+use Rattle.mad_draw.specs.Pieces.{RowPiece, pieces_bytes, spaces, single_spaces, char_run, AreKnown, AreShownPieces, pieces_columns}
 
 -- ---- bytes
 
@@ -39,6 +42,11 @@ run-spaces style (suc n) =
 -- a run of spaces, as a device or a formatter is given it
 pub run_of_spaces : (style : CompoundStyle) (n : ℕ) → styled_run_bytes style.object_style (32 ∷ []) n ≡ pieces_bytes (spaces style n)
 run_of_spaces style n = run-spaces style n
+
+-- a character `n` times, as a formatter is given it
+pub run_of_chars : (c : StyledChar) (n : ℕ) → styled_run_bytes (char_style c).object_style (encode_utf8 (char_alone c)) n ≡ pieces_bytes (char_run c n)
+run_of_chars c zero = refl
+run_of_chars c (suc n) = rw (not_zero n) (sym (append-nil (piece_bytes (char_style c).object_style (repeat (suc n) (encode_utf8 (char_alone c))))))
 
 -- single spaces, one more
 single-suc : (style : CompoundStyle) (n : ℕ) → pieces_bytes (single_spaces style (suc n)) ≡ pieces_bytes (single_spaces style n) ++ piece_bytes style.object_style (32 ∷ [])
@@ -67,6 +75,20 @@ bytes_taken {X} f xs i d inside = flat_map_more f [] (take i xs) (get_or xs i d)
 pub bytes_taken_of : {X : Type 0} (f : X → List ℕ) (xs : List X) (i : ℕ) (x : X) → i < length xs → x ≡ get_or xs i x → flat_map f (take i xs) ++ f x ≡ flat_map f (take (i + 1) xs)
 bytes_taken_of {X} f xs i x inside is = ap (λ y. flat_map f (take i xs) ++ f y) is ∙ bytes_taken f xs i x inside
 
+-- the pieces of one element more
+pub pieces_taken_at : {X : Type 0} (f : X → List RowPiece) (xs : List X) (i : ℕ) (d : X) → i < length xs → flat_map f (take i xs) ++ f (get_or xs i d) ≡ flat_map f (take (i + 1) xs)
+pieces_taken_at {X} f xs i d inside = flat_map_more f [] (take i xs) (get_or xs i d) ∙ ap (flat_map f) (sym (take_more xs i d inside))
+
+pub pieces_taken_of : {X : Type 0} (f : X → List RowPiece) (xs : List X) (i : ℕ) (x : X) → i < length xs → x ≡ get_or xs i x → flat_map f (take i xs) ++ f x ≡ flat_map f (take (i + 1) xs)
+pieces_taken_of {X} f xs i x inside is = ap (λ y. flat_map f (take i xs) ++ f y) is ∙ pieces_taken_at f xs i x inside
+
+pub bytes_both : (ps qs : List RowPiece) → pieces_bytes (ps ++ qs) ≡ pieces_bytes ps ++ pieces_bytes qs
+bytes_both ps qs = flat_map-append (λ (p : RowPiece). piece_bytes p.style p.text) ps qs
+
+-- one piece
+pub bytes_one : (p : RowPiece) → pieces_bytes (p ∷ []) ≡ piece_bytes p.style p.text
+bytes_one p = append-nil (piece_bytes p.style p.text)
+
 -- ---- colors
 
 pub spaces_known : (style : CompoundStyle) (n : ℕ) → IsStyle style.object_style → AreKnown (spaces style n)
@@ -76,6 +98,10 @@ spaces_known style (suc n) known = (known, tt)
 pub single_known : (style : CompoundStyle) (n : ℕ) → IsStyle style.object_style → AreKnown (single_spaces style n)
 single_known style zero known = tt
 single_known style (suc n) known = (known, single_known style n known)
+
+pub char_run_known : (c : StyledChar) (n : ℕ) → IsStyle (char_style c).object_style → AreKnown (char_run c n)
+char_run_known c zero known = tt
+char_run_known c (suc n) known = (known, tt)
 
 -- pieces behind pieces
 pub known_both : (ps qs : List RowPiece) → AreKnown ps → AreKnown qs → AreKnown (ps ++ qs)

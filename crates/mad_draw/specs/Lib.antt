@@ -1,3 +1,4 @@
 pub mod DrawnRows
 pub mod PennedCells
 pub mod Pieces
+pub mod TableRules

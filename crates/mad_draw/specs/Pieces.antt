@@ -1,12 +1,14 @@
 -- Pieces: the texts of which a row is made, each in one style.
-use Rattle.std.specs.Prelude.{◌≡◌, ℕ, zero, suc, ◌+◌, List, [], ◌∷◌, map, replicate}
+use Rattle.std.specs.Prelude.{◌≡◌, ℕ, zero, suc, ◌+◌, List, [], ◌∷◌, map, replicate, encode_utf8}
 use Rattle.std.specs.Str.{chars, IsUtf8}
-use Rattle.std.specs.List.{AllByRecursion, flat_map}
+use Rattle.std.specs.List.{AllByRecursion, flat_map, repeat}
 use Rattle.mad_term.specs.declared.styles.ContentStyle.{ContentStyle}
 use Rattle.mad_screen.specs.Glyph.{Look}
 use Rattle.mad_term.specs.Styles.{IsStyle, piece_bytes}
 use Rattle.mad_screen.specs.Painting.{IsShown, look_of_style}
 use Rattle.mad_style.specs.declared.compound_styles.CompoundStyle.{CompoundStyle}
+use Rattle.mad_style.specs.declared.styled_chars.StyledChar.{StyledChar}
+use Rattle.mad_style.specs.StyledChars.{char_style, char_alone}
 use Rattle.mad_fit.specs.Columns.{columns}
 
 -- a text, in bytes, in one style
@@ -38,6 +40,17 @@ spaces style (suc n) = record { style = style.object_style; text = replicate (su
 abbrev pub single_spaces : CompoundStyle → ℕ → List RowPiece
 single_spaces style n = replicate n (record { style = style.object_style; text = 32 ∷ [] })
 
+-- ---- characters
+
+-- a character in its style
+abbrev pub char_piece : StyledChar → RowPiece
+char_piece c = record { style = (char_style c).object_style; text = encode_utf8 (char_alone c) }
+
+-- a character `count` times as one piece; none of none
+abbrev pub char_run : StyledChar → ℕ → List RowPiece
+char_run c zero = []
+char_run c (suc n) = record { style = (char_style c).object_style; text = repeat (suc n) (encode_utf8 (char_alone c)) } ∷ []
+
 -- ---- what is known of pieces
 
 -- The colors of each piece's style are numbers of the terminal's, as those of every style are that a program has.
@@ -51,6 +64,11 @@ pub record IsShownPiece (p : RowPiece) : Type 0 where
 
 abbrev pub AreShownPieces : List RowPiece → Type 0
 AreShownPieces ps = AllByRecursion IsShownPiece ps
+
+-- a piece that is shown in one column
+pub record IsColumnPiece (p : RowPiece) : Type 0 where
+  pub shown : IsShownPiece p
+  pub one : columns (chars p.text) ≡ 1
 
 -- the columns that pieces take
 abbrev pub pieces_columns : List RowPiece → ℕ

@@ -1,1 +1,4 @@
 pub mod AttributeLemmas
+pub mod ReadBars
+pub mod ReadingBack
+pub mod SkinLaw

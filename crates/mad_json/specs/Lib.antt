@@ -5,6 +5,7 @@ pub mod Lists
 pub mod Modes
 pub mod Readers
 pub mod Reading
+pub mod ReadsBack
 pub mod ScrollBars
 pub mod Texts
 pub mod Written

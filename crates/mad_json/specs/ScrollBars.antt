@@ -1,5 +1,5 @@
 -- Scroll bars as values.
-use Rattle.std.specs.Prelude.{ℕ, ◌==◌, ◌&&◌, Bool, List, Option, Some, None, Result, Ok, Err, codes, unwrap_or, if◌then◌else◌, option_and_then}
+use Rattle.std.specs.Prelude.{ℕ, ◌==◌, ◌&&◌, Bool, List, Option, Some, None, Result, Err, codes, unwrap_or, if◌then◌else◌, option_and_then}
 use Rattle.std.specs.Option.{is_none}
 use Rattle.mad_term.specs.AttributeSets.{no_attributes}
 use Rattle.mad_term.specs.declared.color.Color.TheVariants.{AnsiValue}

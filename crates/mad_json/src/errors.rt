@@ -87,7 +87,7 @@ impl From<AllocError> for ValueError {
     }
 }
 
-// The error of a skin whose key has a value that is refused so.
+/// The error of a skin whose key has a value that is refused so.
 pub(crate) fn at_key(key: &String, error: ValueError) -> SkinError
     ensures { (read : Result MadSkin ValueFault) (seen : List Bool) (unknown : List (List ℕ)) → TellsValue error read → TellsSkin result (found_part (string_bytes key.now) seen unknown read) }
 {

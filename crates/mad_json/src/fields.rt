@@ -28,7 +28,7 @@ pub enum Field {
 }
 
 impl Field {
-    // Its number, from 0 on.
+    /// Its number, from 0 on.
     pub(crate) fn index(self) -> usize
         ensures value { result ≡ field_index self }
         ensures within { result < 16 }

@@ -1,10 +1,12 @@
 //! What a text among the values says.
 
-ghost use Rattle.std.specs.Prelude.{◌≡◌, Ok, IfOk, IfErr};
+ghost use Rattle.std.specs.Prelude.{◌≡◌, Ok, IfOk, IfErr, Some, None, MatchResult};
 ghost use Rattle.mad_parse.specs.Styles.{style_of, line_style_of, styled_char_of, item_style_of};
+ghost use Rattle.serde_json.specs.Find.{as_str};
 ghost use Rattle.serde_json.specs.View.{view};
 ghost use Rattle.mad_json.specs.Faults.{TellsValue};
 ghost use Rattle.mad_json.specs.Texts.{value_said};
+ghost use Rattle.mad_json.specs.declared.errors.ValueError.TheVariants.{WrongType};
 
 use crate::errors::ValueError;
 use mad_parse::{
@@ -25,9 +27,7 @@ pub(crate) fn compound_style_of(alloc: Global, value: &Value) -> Result<Compound
     ensures ok { IfOk result (λ style. value_said style_of (view value.now) ≡ Ok style) }
     ensures err { IfErr result (λ e. TellsValue e (value_said style_of (view value.now))) }
 {
-    let Some(text) = value.as_str() else {
-        return Err(ValueError::WrongType);
-    };
+    let text = text_of(value)?;
     Ok(parse_compound_style(alloc, text)?)
 }
 
@@ -36,9 +36,7 @@ pub(crate) fn line_style_of(alloc: Global, value: &Value) -> Result<LineStyle, V
     ensures ok { IfOk result (λ style. value_said line_style_of (view value.now) ≡ Ok style) }
     ensures err { IfErr result (λ e. TellsValue e (value_said line_style_of (view value.now))) }
 {
-    let Some(text) = value.as_str() else {
-        return Err(ValueError::WrongType);
-    };
+    let text = text_of(value)?;
     Ok(parse_line_style(alloc, text)?)
 }
 
@@ -47,9 +45,7 @@ pub(crate) fn mark_of(alloc: Global, value: &Value) -> Result<StyledChar, ValueE
     ensures ok { IfOk result (λ mark. value_said (styled_char_of 42) (view value.now) ≡ Ok mark) }
     ensures err { IfErr result (λ e. TellsValue e (value_said (styled_char_of 42) (view value.now))) }
 {
-    let Some(text) = value.as_str() else {
-        return Err(ValueError::WrongType);
-    };
+    let text = text_of(value)?;
     Ok(parse_styled_char(alloc, text, MARK)?)
 }
 
@@ -58,8 +54,13 @@ pub(crate) fn item_style_of(alloc: Global, value: &Value) -> Result<OrderedItemS
     ensures ok { IfOk result (λ style. value_said (item_style_of 46) (view value.now) ≡ Ok style) }
     ensures err { IfErr result (λ e. TellsValue e (value_said (item_style_of 46) (view value.now))) }
 {
-    let Some(text) = value.as_str() else {
-        return Err(ValueError::WrongType);
-    };
+    let text = text_of(value)?;
     Ok(parse_ordered_item_style(alloc, text, SUFFIX)?)
+}
+
+fn text_of(value: &Value) -> Result<&str, ValueError>
+    ensures { MatchResult result (λ text. as_str (view value.now) ≡ Some text.now)
+        (λ e. (e ≡ WrongType) × (as_str (view value.now) ≡ None)) }
+{
+    value.as_str().ok_or(ValueError::WrongType)
 }

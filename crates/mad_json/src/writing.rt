@@ -1,8 +1,11 @@
 //! The value that a skin is written as.
 
-ghost use Rattle.std.specs.Prelude.{◌≡◌, ◌++◌, ℕ, List, Option, IfOk, OnOk, MatchOption, map, codes, decimal, string_bytes};
+ghost use Rattle.std.specs.Prelude.{◌≡◌, ◌++◌, ℕ, List, Option, Ok, IfOk, OnOk, MatchOption, map, codes, decimal, string_bytes};
+ghost use Rattle.std.specs.List.{All};
 ghost use Rattle.serde_json.specs.Data.{put, string, array, object};
 ghost use Rattle.serde_json.specs.View.{view, items_of, members_view};
+ghost use Rattle.mad_json.specs.Modes.{mode_said};
+ghost use Rattle.mad_json.specs.ReadsBack.{ReadsBackStyle, ReadsBackLine, ReadsBackChar, ReadsBackItem, ReadsBackBar, ReadBackAdditions, ReadBackMarks, ReadBackLines, ReadBackItems, SkinReadsBack};
 ghost use Rattle.mad_json.specs.ScrollBars.{def_of};
 ghost use Rattle.mad_json.specs.Written.{style_data, line_data, mark_data, item_data, bar_data, mode_text, IsNameOf, with_additions, with_marks, with_lines, with_items, with_borders, IsDataOf};
 
@@ -18,11 +21,14 @@ use std::alloc::{AllocError, Global};
 
 /// The object that says a skin, each part under its first name. Borders that have no name are left out.
 ///
+/// A skin of parts that read back, with borders that have a name, reads back equal.
+///
 /// # Errors
 ///
 /// Out of memory.
 pub fn skin_to_value(alloc: Global, skin: &MadSkin) -> Result<Value, AllocError>
-    ensures { IfOk result (λ value. IsDataOf skin.now (view value)) }
+    ensures value { IfOk result (λ value. IsDataOf skin.now (view value)) }
+    ensures reads_back { IfOk result (λ value. SkinReadsBack skin.now (view value)) }
 {
     let mut members = Map::new(alloc);
     put_additions(alloc, &mut members, skin)?;
@@ -39,7 +45,8 @@ fn put_additions(
     members: &mut Map<String, Value>,
     skin: &MadSkin,
 ) -> Result<(), AllocError>
-    ensures { OnOk result (members_view members.new.entries ≡ with_additions skin.now (members_view members.old.entries)) }
+    ensures value { OnOk result (members_view members.new.entries ≡ with_additions skin.now (members_view members.old.entries)) }
+    ensures reads_back { OnOk result (ReadBackAdditions skin.now) }
 {
     put_style(alloc, members, "bold", &skin.bold)?;
     put_style(alloc, members, "italic", &skin.italic)?;
@@ -54,7 +61,8 @@ fn put_marks(
     members: &mut Map<String, Value>,
     skin: &MadSkin,
 ) -> Result<(), AllocError>
-    ensures { OnOk result (members_view members.new.entries ≡ with_marks skin.now (members_view members.old.entries)) }
+    ensures value { OnOk result (members_view members.new.entries ≡ with_marks skin.now (members_view members.old.entries)) }
+    ensures reads_back { OnOk result (ReadBackMarks skin.now) }
 {
     put_mark(alloc, members, "bullet", &skin.bullet)?;
     put_mark(alloc, members, "quote", &skin.quote_mark)?;
@@ -73,21 +81,12 @@ fn put_lines(
     members: &mut Map<String, Value>,
     skin: &MadSkin,
 ) -> Result<(), AllocError>
-    ensures { OnOk result (members_view members.new.entries ≡ with_lines skin.now (members_view members.old.entries)) }
+    ensures value { OnOk result (members_view members.new.entries ≡ with_lines skin.now (members_view members.old.entries)) }
+    ensures reads_back { OnOk result (ReadBackLines skin.now) }
 {
-    put(
-        members,
-        alloc,
-        "paragraph",
-        line_value(alloc, &skin.paragraph)?,
-    )?;
-    put(
-        members,
-        alloc,
-        "code_block",
-        line_value(alloc, &skin.code_block)?,
-    )?;
-    put(members, alloc, "table", line_value(alloc, &skin.table)?)?;
+    put_line(alloc, members, "paragraph", &skin.paragraph)?;
+    put_line(alloc, members, "code_block", &skin.code_block)?;
+    put_line(alloc, members, "table", &skin.table)?;
     put(
         members,
         alloc,
@@ -102,7 +101,8 @@ fn put_items(
     members: &mut Map<String, Value>,
     skin: &MadSkin,
 ) -> Result<(), AllocError>
-    ensures { OnOk result (members_view members.new.entries ≡ with_items skin.now (members_view members.old.entries)) }
+    ensures value { OnOk result (members_view members.new.entries ≡ with_items skin.now (members_view members.old.entries)) }
+    ensures reads_back { OnOk result (ReadBackItems skin.now) }
 {
     put(
         members,
@@ -140,7 +140,8 @@ fn put_style(
     key: &str,
     style: &CompoundStyle,
 ) -> Result<(), AllocError>
-    ensures { OnOk result (members_view members.new.entries ≡ put key.now (style_data style.now) (members_view members.old.entries)) }
+    ensures value { OnOk result (members_view members.new.entries ≡ put key.now (style_data style.now) (members_view members.old.entries)) }
+    ensures reads_back { OnOk result (ReadsBackStyle style.now) }
 {
     let text = style.to_style_tokens_string(alloc)?;
     put_text(alloc, members, key, text)
@@ -163,59 +164,84 @@ fn object_of(members: Map<String, Value>) -> Value
     Value::Object(members)
 }
 
+fn array_of(values: Vec<Value>) -> Value
+    ensures { view result ≡ array (items_of (map view values.items)) }
+{
+    Value::Array(values)
+}
+
 fn put_mark(
     alloc: Global,
     members: &mut Map<String, Value>,
     key: &str,
     mark: &StyledChar,
 ) -> Result<(), AllocError>
-    ensures { OnOk result (members_view members.new.entries ≡ put key.now (mark_data mark.now) (members_view members.old.entries)) }
+    ensures value { OnOk result (members_view members.new.entries ≡ put key.now (mark_data mark.now) (members_view members.old.entries)) }
+    ensures reads_back { OnOk result (ReadsBackChar mark.now) }
 {
     put(members, alloc, key, mark_value(alloc, mark)?)
 }
 
+fn put_line(
+    alloc: Global,
+    members: &mut Map<String, Value>,
+    key: &str,
+    line: &LineStyle,
+) -> Result<(), AllocError>
+    ensures value { OnOk result (members_view members.new.entries ≡ put key.now (line_data line.now) (members_view members.old.entries)) }
+    ensures reads_back { OnOk result (ReadsBackLine line.now) }
+{
+    put(members, alloc, key, line_value(alloc, line)?)
+}
+
 fn line_value(alloc: Global, line: &LineStyle) -> Result<Value, AllocError>
-    ensures { IfOk result (λ value. view value ≡ line_data line.now) }
+    ensures value { IfOk result (λ value. view value ≡ line_data line.now) }
+    ensures reads_back { IfOk result (λ _. ReadsBackLine line.now) }
 {
     Ok(Value::String(line.to_style_tokens_string(alloc)?))
 }
 
 fn mark_value(alloc: Global, mark: &StyledChar) -> Result<Value, AllocError>
-    ensures { IfOk result (λ value. view value ≡ mark_data mark.now) }
+    ensures value { IfOk result (λ value. view value ≡ mark_data mark.now) }
+    ensures reads_back { IfOk result (λ _. ReadsBackChar mark.now) }
 {
     Ok(Value::String(mark.to_style_tokens_string(alloc)?))
 }
 
 fn item_value(alloc: Global, style: &OrderedItemStyle) -> Result<Value, AllocError>
-    ensures { IfOk result (λ value. view value ≡ item_data style.now) }
+    ensures value { IfOk result (λ value. view value ≡ item_data style.now) }
+    ensures reads_back { IfOk result (λ _. ReadsBackItem style.now) }
 {
     Ok(Value::String(style.to_style_tokens_string(alloc)?))
 }
 
 fn line_values(alloc: Global, lines: &[LineStyle]) -> Result<Value, AllocError>
-    ensures { IfOk result (λ value. view value ≡ array (items_of (map line_data lines.now))) }
+    ensures value { IfOk result (λ value. view value ≡ array (items_of (map line_data lines.now))) }
+    ensures reads_back { IfOk result (λ _. All ReadsBackLine lines.now) }
 {
     let mut values = Vec::new(alloc);
     for line in lines {
         let value = line_value(alloc, line)?;
         values.push(value).map_err(AllocError::from)?;
     }
-    Ok(Value::Array(values))
+    Ok(array_of(values))
 }
 
 fn item_values(alloc: Global, styles: &[OrderedItemStyle]) -> Result<Value, AllocError>
-    ensures { IfOk result (λ value. view value ≡ array (items_of (map item_data styles.now))) }
+    ensures value { IfOk result (λ value. view value ≡ array (items_of (map item_data styles.now))) }
+    ensures reads_back { IfOk result (λ _. All ReadsBackItem styles.now) }
 {
     let mut values = Vec::new(alloc);
     for style in styles {
         let value = item_value(alloc, style)?;
         values.push(value).map_err(AllocError::from)?;
     }
-    Ok(Value::Array(values))
+    Ok(array_of(values))
 }
 
 fn bar_value(alloc: Global, bar: &ScrollBarStyle) -> Result<Value, AllocError>
-    ensures { IfOk result (λ value. view value ≡ bar_data (def_of bar.now)) }
+    ensures value { IfOk result (λ value. view value ≡ bar_data (def_of bar.now)) }
+    ensures reads_back { IfOk result (λ _. ReadsBackBar bar.now) }
 {
     match ScrollBarStyleDef::from(bar) {
         ScrollBarStyleDef::Simple(mark) => mark_value(alloc, &mark),
@@ -229,7 +255,8 @@ fn bar_value(alloc: Global, bar: &ScrollBarStyle) -> Result<Value, AllocError>
 }
 
 fn mode_to_string(alloc: Global, mode: ListItemsIndentationMode) -> Result<String, AllocError>
-    ensures { IfOk result (λ text. string_bytes text ≡ mode_text mode) }
+    ensures value { IfOk result (λ text. string_bytes text ≡ mode_text mode) }
+    ensures reads_back { mode_said (string (mode_text mode)) ≡ Ok mode }
 {
     match mode {
         ListItemsIndentationMode::FirstLineOnly => String::from_str(alloc, "first_line_only"),

@@ -1,11 +1,10 @@
 -- A layout of a plain text is drawn exactly.
-use Rattle.std.proofs.Common.{◌≡◌, ℕ, true, zero, suc, ◌+◌, ◌-◌, ◌^◌, ◌<◌, ◌≤◌, inl, inr, List, [], ◌∷◌, ◌++◌, map, Option, Some, None, Contains, drop, length, min, take, refl, sym, ap, ◌∙◌, subst, arith, append_assoc}
+use Rattle.std.proofs.Common.{◌≡◌, ℕ, false, zero, suc, ◌+◌, ◌-◌, ◌^◌, ◌<◌, ◌≤◌, inl, inr, List, [], ◌∷◌, ◌++◌, map, Option, Some, None, Contains, drop, length, min, take, refl, sym, ap, ◌∙◌, subst, arith, append_assoc}
 use Rattle.std.specs.Prelude.{IfSome, unwrap_or}
 use Rattle.std.specs.List.{AllByRecursion, flat_map}
-use Rattle.std.specs.Str.{IsUtf8}
 use Rattle.std.proofs.lemmas.Bool.Decides.{nat_tests}
 use Rattle.mad_columns.specs.Columns.{char_columns}
-use Rattle.mad_md.specs.Flagged.{FlaggedChar, run_of, flagged_of, flagged_text}
+use Rattle.mad_md.specs.Flagged.{FlaggedChar, run_of, flagged_text}
 use Rattle.mad_md.specs.Lines.{StyledRuns, LineContent, normal, table_row, table_rule, horizontal_rule}
 use Rattle.mad_md.specs.declared.compound.Compound.{Compound}
 use Rattle.mad_style.specs.Kinds.{kind_of}
@@ -21,7 +20,6 @@ use Rattle.mad_wrap.specs.Rooms.{most_indent, token_limit}
 use Rattle.mad_wrap.specs.WrapLines.{HasRoom, LinesFit, IsMadeOf}
 use Rattle.mad_wrap.specs.declared.room.Room.{Room}
 use Rattle.mad_layout.specs.Drawable.{IsDrawableLine, AreDrawable}
-use Rattle.mad_draw.specs.Pieces.{AreShownPieces}
 use Rattle.mad_fit.specs.declared.spacing.Spacing.{Spacing}
 use Rattle.mad_layout.specs.FittingLayouts.{IsFittingWrap, IsFittingLayout}
 use Rattle.mad_layout.specs.Indents.{indent, follow_up, room_of}
@@ -30,7 +28,7 @@ use Rattle.mad_layout.specs.Lines.{IsLineRead}
 use Rattle.mad_layout.specs.Parts.{Part, table, block, single, parts_of, justified, code_room, IsPartAt, IsLineAt, AreLinesAt, ArePartsAt}
 use Rattle.mad_layout.specs.Tables.{is_table_line}
 use Rattle.mad_layout.specs.Premises.{IsPlainRun, runs_text, IsPlainPrefix, IsPlainLine, IsPlainContent, KeepsPremises}
-use Rattle.mad_layout.specs.Rows.{compound_piece, place_of}
+use Rattle.mad_layout.specs.Rows.{place_of}
 use Rattle.mad_layout.specs.Styles.{line_style}
 use Rattle.mad_layout.specs.CompositeWraps.{line_compounds, HaveKinds, IsCompositeWrap}
 use Rattle.mad_layout.specs.WrappedLines.{style_margins, line_with, IsLaidOutBy}
@@ -39,22 +37,14 @@ use Rattle.mad_layout.specs.declared.skin.MadSkin.{MadSkin}
 use Rattle.mad_layout.specs.declared.composite.FmtComposite.{FmtComposite}
 use Rattle.mad_layout.specs.declared.line.FmtLine.{FmtLine}
 use Rattle.mad_layout.specs.declared.line.FmtLine.TheVariants.{Normal, TableRow, TableRule, HorizontalRule}
+use Rattle.mad_layout.proofs.DrawableTables.{table_drawable}
+use Rattle.mad_layout.proofs.DrawnParts.{each_of, pieces_shown, runs_are, some_joined, utf8_of}
 use Rattle.mad_layout.proofs.MarkLemmas.{mark_shown, mark_columns, follow_up_plain}
 use Rattle.mad_layout.proofs.PartLemmas.{IsPlacedLine, ArePlacedLines, IsPartOfKind, raw_lines, parts_raw, parts_kinds, code_placed}
 use Rattle.mad_layout.proofs.WrapKinds.{table_by}
 use Rattle.mad_layout.proofs.WholeTokens.{IsShownRun, plain_is_shown, tokens_shown}
 
 -- ---- one line
-
--- what holds of each element holds of one of them
-each_of : {X : Type 0} (P : X → Type 0) (xs : List X) (x : X) → AllByRecursion P xs → Contains xs x → P x
-each_of P [] x h (k, inside, e) = absurd (omega (arith, inside))
-each_of P (y ∷ ys) x h (zero, inside, e) = subst P e h.0
-each_of P (y ∷ ys) x h (suc k, inside, e) = each_of P ys x h.1 (k, omega (arith, inside), e)
-
-pieces_shown : (skin : MadSkin) (style : LineStyle) (ps : List Compound) → AllByRecursion IsShownRun (map run_of ps) → AreShownPieces (map (compound_piece skin style) ps)
-pieces_shown skin style [] h = tt
-pieces_shown skin style (p ∷ ps) h = (record { utf8 = h.0.utf8; shown = h.0.shown }, pieces_shown skin style ps h.1)
 
 -- a line of so many columns within its own place, if it has one, which fits with these margins
 abbrev FitsPlace : Option Spacing → ℕ → ℕ × ℕ → ℕ → Type 0
@@ -77,12 +67,14 @@ drawable skin drawn margins l bound prefix measured fits place shown =
     record {
       margins = margins;
       margins_are = refl;
-      measured = same;
-      place = within_place l.spacing l.visible_length (columns_of skin l) margins drawn same place;
       fits = place_inside l.spacing l.visible_length (columns_of skin l) margins drawn same fits place;
-      mark = mark_shown skin l.kind prefix;
-      indent_is = mark_columns skin l.kind prefix;
-      text = pieces_shown skin (line_style skin l.kind) l.compounds.items shown;
+      fills = record {
+        measured = same;
+        place = within_place l.spacing l.visible_length (columns_of skin l) margins drawn same place;
+        mark = mark_shown skin l.kind prefix;
+        indent_is = mark_columns skin l.kind prefix;
+        text = pieces_shown skin (line_style skin l.kind) l.compounds.items shown;
+      };
     }
 
 narrower_fits : (place : Option Spacing) (columns wider : ℕ) (margins : ℕ × ℕ) (drawn : ℕ) → columns ≤ wider → FitsPlace place wider margins drawn → FitsPlace place columns margins drawn
@@ -108,19 +100,11 @@ wrapped_drawable skin drawn first margins kind other place r ps ts (l ∷ ls) bo
 
 -- ---- a composite as it was read
 
-pub runs_are : (ps : List Compound) → runs_text (map run_of ps) ≡ flagged_text ps
-runs_are [] = refl
-runs_are (p ∷ ps) = ap (λ l. flagged_of p ++ l) (runs_are ps)
-
-utf8_of : (ps : List Compound) → AllByRecursion IsPlainRun (map run_of ps) → AllByRecursion (λ p. IsUtf8 p.src.now) ps
-utf8_of [] h = tt
-utf8_of (p ∷ ps) h = (h.0.utf8, utf8_of ps h.1)
-
-margins-le : (style : LineStyle) (width : ℕ) → (margins_at style (Some width)).0 + (margins_at style (Some width)).1 ≤ width
+pub margins-le : (style : LineStyle) (width : ℕ) → (margins_at style (Some width)).0 + (margins_at style (Some width)).1 ≤ width
 margins-le style width = grind (arith, nat_tests)
 
 -- what the margins of a composite's kind leave of a width
-abbrev inner_of : MadSkin → ℕ → FmtComposite → ℕ
+abbrev pub inner_of : MadSkin → ℕ → FmtComposite → ℕ
 inner_of skin width l = width - (style_margins skin width l).0 - (style_margins skin width l).1
 
 -- The composite says what was read, and has no place of its own, or one that is no wider than what its margins leave, and as wide as the
@@ -132,7 +116,7 @@ pub record IsPlacedFor (skin : MadSkin) (width : ℕ) (line : StyledRuns) (l : F
   pub place : IfSome l.spacing (λ s. (s.width ≤ inner_of skin width l) × (min l.visible_length (inner_of skin width l) ≤ s.width))
 
 -- where the composite doesn't fit, its characters have room
-has_room : (skin : MadSkin) (width : ℕ) (line : StyledRuns) (source : FmtComposite) → IsPlainLine skin width line → IsPlacedFor skin width line source
+pub has_room : (skin : MadSkin) (width : ℕ) (line : StyledRuns) (source : FmtComposite) → IsPlainLine skin width line → IsPlacedFor skin width line source
     → width < source.visible_length + (style_margins skin width source).0 + (style_margins skin width source).1 → HasRoom (room_of skin source.kind (inner_of skin width source)) (text_of source)
 has_room skin width line source plain read wide =
     let left = λ (k : CompositeKind). width - (margins_at (line_style skin k) (Some width)).0 - (margins_at (line_style skin k) (Some width)).1 in
@@ -196,32 +180,24 @@ read_some skin width line source lines plain read (inr (wide, ([], wraps, same))
 read_some skin width line source lines plain read (inr (wide, (w ∷ ws, wraps, same))) =
     let more : length lines ≡ suc (length (map (line_with (style_margins skin width source)) ws)) = ap length same in omega (arith, more)
 
-one_less : (skin : MadSkin) (drawn : ℕ) (lines : List FmtLine) (n : ℕ) → AreDrawable skin drawn (take (suc n) lines) → AreDrawable skin drawn (take n lines)
-one_less skin drawn lines zero h = tt
-one_less skin drawn [] (suc n) h = tt
-one_less skin drawn (l ∷ ls) (suc n) h = (h.0, one_less skin drawn ls n h.1)
-
-first_joined : (skin : MadSkin) (drawn : ℕ) (own others : List FmtLine) (n : ℕ) → AreDrawable skin drawn own → AreDrawable skin drawn (take n others) → AreDrawable skin drawn (take n (own ++ others))
-first_joined skin drawn own others zero h k = tt
-first_joined skin drawn [] others (suc n) h k = k
-first_joined skin drawn (l ∷ own) others (suc n) h k = (h.0, first_joined skin drawn own others n h.1 (one_less skin drawn others n k))
-
-some_joined : (skin : MadSkin) (drawn : ℕ) (own others : List FmtLine) (n : ℕ) → 0 < length own → AreDrawable skin drawn own → AreDrawable skin drawn (take n others) → AreDrawable skin drawn (take (suc n) (own ++ others))
-some_joined skin drawn [] others n some h k = absurd (omega (arith, some))
-some_joined skin drawn (l ∷ own) others n some h k = (h.0, first_joined skin drawn own others n h.1 k)
-
 -- what becomes of one line of a text
-content_drawable : (skin : MadSkin) (width drawn : ℕ) (content : LineContent) (l m : FmtLine) (own : List FmtLine) → width ≤ drawn → drawn < 2 ^ 64 - 1 → IsPlainContent skin width content → IsLineRead skin content l
+content_drawable : (skin : MadSkin) (width drawn : ℕ) (content : LineContent) (l m : FmtLine) (own : List FmtLine) → width ≤ drawn → drawn < 2 ^ 64 - 1 → IsPlainContent skin width content → IsLineRead skin content l → is_table_line l ≡ false
     → IsPlacedLine skin width l m → IsLineAt IsFittingWrap skin (Some width) m own → (0 < length own) × AreDrawable skin drawn own
-content_drawable skin width drawn (table_row cells) l m own narrower bound plain read placed here = absurd plain
-content_drawable skin width drawn (table_rule aligns) l m own narrower bound plain read placed here = absurd plain
-content_drawable skin width drawn (normal said) (TableRow row) m own narrower bound plain read placed here = absurd read
-content_drawable skin width drawn (normal said) (TableRule rule) m own narrower bound plain read placed here = absurd read
-content_drawable skin width drawn (normal said) HorizontalRule m own narrower bound plain read placed here = absurd read
-content_drawable skin width drawn horizontal_rule (Normal l) m own narrower bound plain read placed here = absurd read
-content_drawable skin width drawn horizontal_rule (TableRow row) m own narrower bound plain read placed here = absurd read
-content_drawable skin width drawn horizontal_rule (TableRule rule) m own narrower bound plain read placed here = absurd read
-content_drawable skin width drawn (normal said) (Normal l) m own narrower bound plain read (inl same) here =
+content_drawable skin width drawn (table_row cells) (Normal l) m own narrower bound plain read alone placed here = absurd read
+content_drawable skin width drawn (table_row cells) (TableRow row) m own narrower bound plain read alone placed here = absurd (cc)
+content_drawable skin width drawn (table_row cells) (TableRule rule) m own narrower bound plain read alone placed here = absurd read
+content_drawable skin width drawn (table_row cells) HorizontalRule m own narrower bound plain read alone placed here = absurd read
+content_drawable skin width drawn (table_rule aligns) (Normal l) m own narrower bound plain read alone placed here = absurd read
+content_drawable skin width drawn (table_rule aligns) (TableRow row) m own narrower bound plain read alone placed here = absurd read
+content_drawable skin width drawn (table_rule aligns) (TableRule rule) m own narrower bound plain read alone placed here = absurd (cc)
+content_drawable skin width drawn (table_rule aligns) HorizontalRule m own narrower bound plain read alone placed here = absurd read
+content_drawable skin width drawn (normal said) (TableRow row) m own narrower bound plain read alone placed here = absurd read
+content_drawable skin width drawn (normal said) (TableRule rule) m own narrower bound plain read alone placed here = absurd read
+content_drawable skin width drawn (normal said) HorizontalRule m own narrower bound plain read alone placed here = absurd read
+content_drawable skin width drawn horizontal_rule (Normal l) m own narrower bound plain read alone placed here = absurd read
+content_drawable skin width drawn horizontal_rule (TableRow row) m own narrower bound plain read alone placed here = absurd read
+content_drawable skin width drawn horizontal_rule (TableRule rule) m own narrower bound plain read alone placed here = absurd read
+content_drawable skin width drawn (normal said) (Normal l) m own narrower bound plain read alone (inl same) here =
     let becomes : IsLaidOutBy IsFittingWrap skin width l own = subst (λ (x : FmtLine). IsLineAt IsFittingWrap skin (Some width) x own) same here in
     let is : IsPlacedFor skin width said l = record {
       kind = read.kind;
@@ -230,44 +206,35 @@ content_drawable skin width drawn (normal said) (Normal l) m own narrower bound 
       place = subst (λ (s : Option Spacing). IfSome s (λ p. (p.width ≤ inner_of skin width l) × (min l.visible_length (inner_of skin width l) ≤ p.width))) (sym read.spacing) tt;
     } in
     (read_some skin width said l own plain is becomes, read_drawable skin width drawn said l own narrower bound plain is becomes)
-content_drawable skin width drawn (normal said) (Normal l) m own narrower bound plain read (inr placed) here =
+content_drawable skin width drawn (normal said) (Normal l) m own narrower bound plain read alone (inr placed) here =
     let p : FmtComposite = record l { spacing = Some placed.place } in
     let becomes : IsLaidOutBy IsFittingWrap skin width p own = subst (λ (x : FmtLine). IsLineAt IsFittingWrap skin (Some width) x own) placed.is here in
     let is : IsPlacedFor skin width said p = record { kind = read.kind; text = read.text; measured = read.measured; place = (placed.inside, placed.holds) } in
     (read_some skin width said p own plain is becomes, read_drawable skin width drawn said p own narrower bound plain is becomes)
-content_drawable skin width drawn horizontal_rule HorizontalRule m own narrower bound plain read (inl same) here =
+content_drawable skin width drawn horizontal_rule HorizontalRule m own narrower bound plain read alone (inl same) here =
     let becomes : own ≡ HorizontalRule ∷ [] = subst (λ (x : FmtLine). IsLineAt IsFittingWrap skin (Some width) x own) same here in
     let one : length own ≡ 1 = ap length becomes in
     (omega (arith, one), subst (AreDrawable skin drawn) (sym becomes) (plain, tt))
-content_drawable skin width drawn horizontal_rule HorizontalRule m own narrower bound plain read (inr placed) here = absurd placed
+content_drawable skin width drawn horizontal_rule HorizontalRule m own narrower bound plain read alone (inr placed) here = absurd placed
 
 -- the lines of a part, where those of the parts after it are drawn exactly
 lines_drawable : (skin : MadSkin) (width drawn n : ℕ) (text : List LineContent) (read placed own rest others : List FmtLine) → width ≤ drawn → drawn < 2 ^ 64 - 1
     → ((m : ℕ) (t : List LineContent) → KeepsPremises skin width (take m t) → AreRead skin t rest → AreDrawable skin drawn (take m others))
-    → KeepsPremises skin width (take n text) → AreRead skin text (read ++ rest) → ArePlacedLines skin width read placed → AreLinesAt IsFittingWrap skin (Some width) placed own → AreDrawable skin drawn (take n (own ++ others))
-lines_drawable skin width drawn zero text read placed own rest others narrower bound later keeps reads places becomes = tt
-lines_drawable skin width drawn (suc n) text [] (m ∷ ms) own rest others narrower bound later keeps reads places becomes = absurd places
-lines_drawable skin width drawn (suc n) text [] [] own rest others narrower bound later keeps reads places becomes =
+    → KeepsPremises skin width (take n text) → AreRead skin text (read ++ rest) → AllByRecursion (λ l. is_table_line l ≡ false) read → ArePlacedLines skin width read placed → AreLinesAt IsFittingWrap skin (Some width) placed own → AreDrawable skin drawn (take n (own ++ others))
+lines_drawable skin width drawn zero text read placed own rest others narrower bound later keeps reads alone places becomes = tt
+lines_drawable skin width drawn (suc n) text [] (m ∷ ms) own rest others narrower bound later keeps reads alone places becomes = absurd places
+lines_drawable skin width drawn (suc n) text [] [] own rest others narrower bound later keeps reads alone places becomes =
     subst (λ (ls : List FmtLine). AreDrawable skin drawn (take (suc n) (ls ++ others))) (sym becomes) (later (suc n) text keeps reads)
-lines_drawable skin width drawn (suc n) [] (l ∷ ls) placed own rest others narrower bound later keeps reads places becomes = absurd reads
-lines_drawable skin width drawn (suc n) (c ∷ cs) (l ∷ ls) [] own rest others narrower bound later keeps reads places becomes = absurd places
-lines_drawable skin width drawn (suc n) (c ∷ cs) (l ∷ ls) (m ∷ ms) own rest others narrower bound later keeps reads places (first, more, joins, here, below) =
-    let one = content_drawable skin width drawn c l m first narrower bound keeps.0 reads.0 places.0 here in
+lines_drawable skin width drawn (suc n) [] (l ∷ ls) placed own rest others narrower bound later keeps reads alone places becomes = absurd reads
+lines_drawable skin width drawn (suc n) (c ∷ cs) (l ∷ ls) [] own rest others narrower bound later keeps reads alone places becomes = absurd places
+lines_drawable skin width drawn (suc n) (c ∷ cs) (l ∷ ls) (m ∷ ms) own rest others narrower bound later keeps reads alone places (first, more, joins, here, below) =
+    let one = content_drawable skin width drawn c l m first narrower bound keeps.0 reads.0 alone.0 places.0 here in
     subst (λ (xs : List FmtLine). AreDrawable skin drawn (take (suc n) xs)) (sym (ap (λ xs. xs ++ others) joins ∙ append_assoc first more others))
-    (some_joined skin drawn first (more ++ others) n one.0 one.1 (lines_drawable skin width drawn n cs ls ms more rest others narrower bound later keeps.1 reads.1 places.1 below))
+    (some_joined skin drawn first (more ++ others) n one.0 one.1 (lines_drawable skin width drawn n cs ls ms more rest others narrower bound later keeps.1 reads.1 alone.1 places.1 below))
 
--- no line of a table keeps the premises
-no_table_line : (skin : MadSkin) (width : ℕ) (c : LineContent) (l : FmtLine) → IsPlainContent skin width c → IsLineRead skin c l → is_table_line l ≡ true → ⊥
-no_table_line skin width (table_row cells) l plain read is = plain
-no_table_line skin width (table_rule aligns) l plain read is = plain
-no_table_line skin width (normal said) (Normal l) plain read is = absurd (cc)
-no_table_line skin width (normal said) (TableRow row) plain read is = read
-no_table_line skin width (normal said) (TableRule rule) plain read is = read
-no_table_line skin width (normal said) HorizontalRule plain read is = read
-no_table_line skin width horizontal_rule (Normal l) plain read is = read
-no_table_line skin width horizontal_rule (TableRow row) plain read is = read
-no_table_line skin width horizontal_rule (TableRule rule) plain read is = read
-no_table_line skin width horizontal_rule HorizontalRule plain read is = absurd (cc)
+no_table_lines : (ls : List FmtComposite) → AllByRecursion (λ l. is_table_line l ≡ false) (map Normal ls)
+no_table_lines [] = tt
+no_table_lines (l ∷ ls) = (refl, no_table_lines ls)
 
 -- the parts of a text, one after the other
 parts_drawable : (skin : MadSkin) (width drawn n : ℕ) (text : List LineContent) (ps : List Part) (lines : List FmtLine) → width ≤ drawn → drawn < 2 ^ 64 - 1 → AllByRecursion IsPartOfKind ps
@@ -279,15 +246,17 @@ parts_drawable skin width drawn (suc n) text (table [] ∷ ps) lines narrower bo
     (parts_drawable skin width drawn (suc n) text ps others narrower bound kinds.1 keeps reads more)
 parts_drawable skin width drawn (suc n) text (table [] ∷ ps) lines narrower bound kinds keeps reads (own, others, joins, inr laid, more) = let some : 0 < 0 = laid.0 in absurd (omega (arith, some))
 parts_drawable skin width drawn (suc n) [] (table (l ∷ ls) ∷ ps) lines narrower bound kinds keeps reads becomes = absurd reads
-parts_drawable skin width drawn (suc n) (c ∷ cs) (table (l ∷ ls) ∷ ps) lines narrower bound kinds keeps reads becomes = absurd (no_table_line skin width c l keeps.0 reads.0 kinds.0.0)
+parts_drawable skin width drawn (suc n) (c ∷ cs) (table (l ∷ ls) ∷ ps) lines narrower bound kinds keeps reads (own, others, joins, here, more) =
+    subst (λ (xs : List FmtLine). AreDrawable skin drawn (take (suc n) xs)) (sym joins)
+    (table_drawable skin width drawn n c cs l ls own (flat_map raw_lines ps) others narrower bound (λ m t k r. parts_drawable skin width drawn m t ps others narrower bound kinds.1 k r more) keeps reads kinds.0 here)
 parts_drawable skin width drawn (suc n) text (block ls ∷ ps) lines narrower bound kinds keeps reads (own, others, joins, here, more) =
     subst (λ (xs : List FmtLine). AreDrawable skin drawn (take (suc n) xs)) (sym joins)
     (lines_drawable skin width drawn (suc n) text (map Normal ls) (map Normal (justified (code_room skin (Some width)) ls)) own (flat_map raw_lines ps) others narrower bound
-    (λ m t k r. parts_drawable skin width drawn m t ps others narrower bound kinds.1 k r more) keeps reads (code_placed skin width ls kinds.0) here)
+    (λ m t k r. parts_drawable skin width drawn m t ps others narrower bound kinds.1 k r more) keeps reads (no_table_lines ls) (code_placed skin width ls kinds.0) here)
 parts_drawable skin width drawn (suc n) text (single l ∷ ps) lines narrower bound kinds keeps reads (own, others, joins, here, more) =
     subst (λ (xs : List FmtLine). AreDrawable skin drawn (take (suc n) xs)) (sym joins)
     (lines_drawable skin width drawn (suc n) text (l ∷ []) (l ∷ []) own (flat_map raw_lines ps) others narrower bound
-    (λ m t k r. parts_drawable skin width drawn m t ps others narrower bound kinds.1 k r more) keeps reads (inl refl, tt) here)
+    (λ m t k r. parts_drawable skin width drawn m t ps others narrower bound kinds.1 k r more) keeps reads (kinds.0, tt) (inl refl, tt) here)
 
 -- Where the first lines of a text keep the premises, the first lines of its layout are drawn exactly in a row at least as wide, however
 -- many lines it has.
@@ -299,7 +268,7 @@ fitting_is_drawable skin width drawn n text lines narrower bound keeps layout =
 
 -- ---- a layout with the fewest lines
 
-wrap_fits : (skin : MadSkin) (width : ℕ) (source : FmtComposite) (lines : List FmtComposite) → IsCompositeWrap skin width source lines → IsFittingWrap skin width source lines
+pub wrap_fits : (skin : MadSkin) (width : ℕ) (source : FmtComposite) (lines : List FmtComposite) → IsCompositeWrap skin width source lines → IsFittingWrap skin width source lines
 wrap_fits skin width source lines wrap = record {
   keeps = wrap.wrap.keeps;
   fits = wrap.wrap.fits;

@@ -1,8 +1,9 @@
 -- From a layout to what its area shows.
-use Rattle.std.proofs.Common.{◌≡◌, ℕ, ◌-◌, ◌≤◌, List, inl, inr, Option, Some, None, Result, Ok, Err, OnOk, IfOk, subst, arith}
+use Rattle.std.proofs.Common.{◌≡◌, ℕ, zero, suc, ◌-◌, ◌≤◌, List, Vec, [], ◌∷◌, ◌++◌, take, inl, inr, Option, Some, None, Result, Ok, Err, OnOk, IfOk, subst, arith}
 use Rattle.std.specs.Prelude.{Bool, false, nat_lt, if◌then◌else◌}
 use Rattle.std.proofs.lemmas.Bool.Decides.{nat_tests}
 use Rattle.mad_md.specs.Lines.{LineContent}
+use Rattle.mad_md.specs.Reading.{IsRead, unread_text}
 use Rattle.std.specs.Result.{IsErrAnd}
 use Rattle.std.specs.declared.io.Error as io
 use Rattle.mad_term.specs.declared.errors.Error.{Error}
@@ -15,9 +16,12 @@ use Rattle.mad_fit.specs.Areas.{IsWithinLimits}
 use Rattle.mad_fit.specs.declared.area.Area.{Area}
 use Rattle.mad_layout.specs.Drawable.{AreDrawable}
 use Rattle.mad_layout.specs.FittingLayouts.{IsFittingLayoutAt}
-use Rattle.mad_layout.specs.InArea.{IsAreaLayout, ShowsText, WritesInArea}
+use Rattle.mad_layout.specs.Fronts.{IsFrontLayout}
+use Rattle.mad_layout.specs.InArea.{IsAreaLayout, IsAreaFront, ShowsText, WritesInArea}
 use Rattle.mad_layout.specs.CompositeWraps.{IsCompositeWrap}
 use Rattle.mad_layout.specs.Layouts.{IsLayoutBy, IsLayout, IsLayoutAt, IsMarkdownLayout}
+use Rattle.mad_layout.specs.Parts.{wrap_width}
+use Rattle.mad_layout.specs.Premises.{KeepsPremises}
 use Rattle.mad_layout.specs.Shown.{lines_shown, AreShownIn}
 use Rattle.mad_layout.specs.declared.skin.MadSkin.{MadSkin}
 use Rattle.mad_layout.specs.declared.line.FmtLine.{FmtLine}
@@ -41,13 +45,22 @@ wrapped_at skin width text lines wide h =
     let test : nat_lt width 3 ≡ false = grind (arith, nat_tests) in
     subst (λ (b : Bool). IsLayoutBy IsCompositeWrap skin width (if b then None else Some width) text lines) test h
 
+-- the first lines of some are first lines of all
+first_keep : (skin : MadSkin) (width n : ℕ) (front rest : List LineContent) → KeepsPremises skin width (take n (front ++ rest)) → KeepsPremises skin width (take n front)
+first_keep skin width zero front rest h = tt
+first_keep skin width (suc n) [] rest h = tt
+first_keep skin width (suc n) (c ∷ cs) rest h = (h.0, first_keep skin width n cs rest h.1)
+
+pub front_keeps : (skin : MadSkin) (width n : ℕ) (text front rest : List LineContent) → text ≡ front ++ rest → KeepsPremises skin width (take n text) → KeepsPremises skin width (take n front)
+front_keeps skin width n text front rest joins h = first_keep skin width n front rest (subst (λ (ls : List LineContent). KeepsPremises skin width (take n ls)) joins h)
+
 -- so it is a fitting layout
 pub layout_fitting : (skin : MadSkin) (width : Option ℕ) (text : List LineContent) (lines : List FmtLine) → IsLayoutAt skin width text lines → IsFittingLayoutAt skin width text lines
 layout_fitting skin None text lines h = tt
 layout_fitting skin (Some width) text lines h = λ wide. layout_fits skin width text lines (wrapped_at skin width text lines wide h)
 
 -- what an area shows of such a text
-pub text_shown : {T E : Type 0} (r : Result T E) (skin own : MadSkin) (markdown : List ℕ) (area : Area) (lines : List FmtLine) (old new : Trace) → IsWithinLimits area → own ≡ skin → IsAreaLayout skin markdown area lines
+pub text_shown : {T E : Type 0} (r : Result T E) (skin own : MadSkin) (markdown : List ℕ) (area : Area) (lines : List FmtLine) (old new : Trace) → IsWithinLimits area → own ≡ skin → IsAreaFront skin markdown area lines
     → OnOk r (AreDrawable own area.width (lines_shown lines area 0) → TookWith old new (AreShownIn own lines area 0))
     → OnOk r (4 ≤ area.width → ShowsText skin markdown area old new)
 text_shown {T} {E} (Ok x) skin own markdown area lines old new limits same laid_out h =
@@ -55,9 +68,9 @@ text_shown {T} {E} (Ok x) skin own markdown area lines old new limits same laid_
       lines = lines;
       laid_out = laid_out;
       shown = λ premises.
-          let layout : IsLayout skin (area.width - 1) laid_out.text lines = wrapped_at skin (area.width - 1) laid_out.text lines (omega arith) laid_out.layout in
+          let front : IsFrontLayout skin (Some (area.width - 1)) area.height laid_out.text lines = laid_out.layout in
           subst (λ (s : MadSkin). AreDrawable s area.width (lines_shown lines area 0) → TookWith old new (AreShownIn s lines area 0)) same h
-          (layout_is_drawable skin (area.width - 1) area.width area.height laid_out.text lines (omega arith) (omega (arith, limits.columns)) premises layout);
+          (layout_is_drawable skin (area.width - 1) area.width area.height front.front lines (omega arith) (omega (arith, limits.columns)) (front_keeps skin (area.width - 1) area.height laid_out.text front.front front.rest front.joins premises) (wrapped_at skin (area.width - 1) front.front lines (omega arith) front.layout));
     }
 text_shown {T} {E} (Err x) skin own markdown area lines old new limits same laid_out h = tt
 

@@ -1,5 +1,5 @@
 -- The colors of rows: their numbers are bytes.
-use Rattle.std.proofs.Common.{◌≡◌, ℕ, zero, suc, ◌+◌, ◌<◌, length, take, get_or, List, [], ◌∷◌, ◌++◌, map, Option, Some, None, if◌then◌else◌, subst}
+use Rattle.std.proofs.Common.{◌≡◌, ℕ, ◌+◌, ◌<◌, length, take, get_or, List, [], ◌∷◌, ◌++◌, map, Option, Some, None, if◌then◌else◌, subst}
 use Rattle.std.specs.Prelude.{Bool, true, false}
 use Rattle.std.specs.Option.{option_or}
 use Rattle.std.specs.List.{flat_map}
@@ -12,16 +12,18 @@ use Rattle.mad_term.specs.Styles.{IsStyle}
 use Rattle.mad_style.specs.CompoundStyles.{overwritten}
 use Rattle.mad_style.specs.declared.compound_styles.CompoundStyle.{CompoundStyle}
 use Rattle.mad_style.specs.declared.line_styles.LineStyle.{LineStyle}
-use Rattle.mad_style.specs.declared.styled_chars.StyledChar.{StyledChar}
-use Rattle.mad_style.specs.StyledChars.{char_style}
 use Rattle.mad_layout.specs.declared.composite.FmtComposite.{FmtComposite}
 use Rattle.mad_layout.specs.declared.line.FmtLine.TheVariants.{Normal}
 use Rattle.mad_layout.specs.declared.skin.MadSkin.{MadSkin}
+use Rattle.mad_layout.specs.declared.table.FmtTableRule.{FmtTableRule}
 use Rattle.mad_draw.specs.Pieces.{RowPiece, AreKnown, single_spaces}
-use Rattle.mad_layout.specs.Rows.{compound_piece, mark_pieces, inner_blanks, outer_blanks, composite_pieces, cell_pieces, char_run, line_pieces, margins_of}
+use Rattle.mad_draw.specs.TableRules.{rule_pieces}
+use Rattle.mad_draw.specs.declared.table_rules.RuleChars.{RuleChars}
+use Rattle.mad_layout.specs.Lines.{rule_columns}
+use Rattle.mad_layout.specs.Rows.{compound_piece, mark_pieces, inner_blanks, outer_blanks, composite_pieces, cell_pieces, line_pieces, margins_of, left_of_place, right_of_place, placed_pieces, row_columns, rule_chars, table_row_pieces, table_rule_pieces, vertical_piece}
 use Rattle.mad_layout.specs.Styles.{AreKnownAdditions, compound_style, ellipsis_bytes, line_style, overwritten_if}
-use Rattle.mad_layout.proofs.PieceLemmas.{pieces_taken_of}
-use Rattle.mad_draw.proofs.PieceLemmas.{known_both, spaces_known, single_known}
+use Rattle.mad_draw.proofs.PieceLemmas.{known_both, pieces_taken_of, spaces_known, single_known}
+use Rattle.mad_draw.proofs.RuleLemmas.{rule_known}
 
 or_known : (a b : Option Color) → IsColorOrNone a → IsColorOrNone b → IsColorOrNone (option_or a b)
 or_known None b h k = k
@@ -61,10 +63,6 @@ asked_known false ps h = tt
 pub spaced_known : (style : CompoundStyle) (n : ℕ) (ps : List RowPiece) → IsStyle style.object_style → AreKnown ps → AreKnown (single_spaces style n ++ ps)
 spaced_known style n ps h k = known_both (single_spaces style n) ps (single_known style n h) k
 
-pub char_run_known : (c : StyledChar) (n : ℕ) → IsStyle (char_style c).object_style → AreKnown (char_run c n)
-char_run_known c zero known = tt
-char_run_known c (suc n) known = (known, tt)
-
 -- a composite, by the styles of its parts
 composite_known : (skin : MadSkin) (outer : Option ℕ) (margins : ℕ × ℕ) (right : Bool) (l : FmtComposite) (style : LineStyle) → style ≡ line_style skin l.kind → IsStyle skin.paragraph.compound_style.object_style
     → IsStyle style.compound_style.object_style → AreKnown (mark_pieces skin l.kind) → AreKnownAdditions skin → AreKnown (composite_pieces skin outer margins right l)
@@ -79,15 +77,32 @@ composite_known skin outer margins right l style is paragraph own mark additions
     (known_both _ _ (spaces_known s.compound_style (inner_blanks l).1 known)
     (asked_known right _ (spaces_known skin.paragraph.compound_style blanks.1 paragraph))))))
 
-pub cell_known : (skin : MadSkin) (l : FmtComposite) (style : LineStyle) → style ≡ line_style skin l.kind → IsStyle skin.paragraph.compound_style.object_style → IsStyle style.compound_style.object_style
-    → AreKnown (mark_pieces skin l.kind) → AreKnownAdditions skin → AreKnown (cell_pieces skin l)
-cell_known skin l style is paragraph own mark additions = composite_known skin None (0, 0) false l style is paragraph own mark additions
+pub cell_known : (skin : MadSkin) (l : FmtComposite) (style : LineStyle) → style ≡ line_style skin l.kind → IsStyle skin.table.compound_style.object_style → IsStyle skin.paragraph.compound_style.object_style
+    → IsStyle style.compound_style.object_style → AreKnown (mark_pieces skin l.kind) → AreKnownAdditions skin → AreKnown (cell_pieces skin l)
+cell_known skin l style is table paragraph own mark additions = (table, composite_known skin None (0, 0) false l style is paragraph own mark additions)
 
 -- the cells of a row, one more
 pub cells_known : (skin : MadSkin) (cells : List FmtComposite) (i : ℕ) (cell : FmtComposite) → i < length cells → cell ≡ get_or cells i cell
     → AreKnown (flat_map (cell_pieces skin) (take i cells)) → AreKnown (cell_pieces skin cell) → AreKnown (flat_map (cell_pieces skin) (take (i + 1) cells))
 cells_known skin cells i cell inside is before own =
     subst AreKnown (pieces_taken_of (cell_pieces skin) cells i cell inside is) (known_both (flat_map (cell_pieces skin) (take i cells)) (cell_pieces skin cell) before own)
+
+-- a line of a table between blanks
+placed_known : (skin : MadSkin) (outer : Option ℕ) (right : Bool) (n : ℕ) (ps : List RowPiece) → IsStyle skin.paragraph.compound_style.object_style → AreKnown ps → AreKnown (placed_pieces skin outer right n ps)
+placed_known skin outer right n ps paragraph own =
+    known_both _ _ (spaces_known skin.paragraph.compound_style (left_of_place skin.table.align n outer) paragraph)
+    (known_both ps _ own (asked_known right _ (spaces_known skin.paragraph.compound_style (right_of_place skin.table.align n outer) paragraph)))
+
+pub table_row_known : (skin : MadSkin) (outer : Option ℕ) (right : Bool) (cells : List FmtComposite) → IsStyle skin.table.compound_style.object_style → IsStyle skin.paragraph.compound_style.object_style
+    → AreKnown (flat_map (cell_pieces skin) cells) → AreKnown (table_row_pieces skin outer right cells)
+table_row_known skin outer right cells table paragraph own =
+    placed_known skin outer right (row_columns cells) (flat_map (cell_pieces skin) cells ++ vertical_piece skin ∷ []) paragraph (known_both (flat_map (cell_pieces skin) cells) (vertical_piece skin ∷ []) own (table, tt))
+
+pub table_rule_known : (skin : MadSkin) (outer : Option ℕ) (right : Bool) (rule : FmtTableRule) → IsStyle skin.table.compound_style.object_style → IsStyle skin.paragraph.compound_style.object_style
+    → AreKnown (table_rule_pieces skin outer right rule)
+table_rule_known skin outer right rule table paragraph =
+    let chars : RuleChars = rule_chars skin.table_border_chars rule.position in
+    placed_known skin outer right (rule_columns rule.widths.items) (rule_pieces skin.table.compound_style chars rule.widths.items) paragraph (rule_known skin.table.compound_style chars rule.widths.items table)
 
 -- a line, by the styles of its parts
 pub line_known : (skin : MadSkin) (outer : Option ℕ) (right : Bool) (l : FmtComposite) (style : LineStyle) → style ≡ line_style skin l.kind → IsStyle skin.paragraph.compound_style.object_style → IsStyle style.compound_style.object_style

@@ -15,11 +15,11 @@ use Rattle.mad_style.specs.declared.kinds.CompositeKind.{CompositeKind}
 use Rattle.mad_style.specs.declared.kinds.CompositeKind.TheVariants.{Paragraph, Header, ListItem, ListItemFollowUp, OrderedListItem, OrderedListItemFollowUp, Code, Quote}
 use Rattle.mad_fit.specs.Columns.{columns}
 use Rattle.mad_fit.proofs.AllLemmas.{all_push, all_joined}
-use Rattle.mad_draw.specs.Pieces.{RowPiece, IsShownPiece, AreShownPieces, pieces_columns, single_spaces}
+use Rattle.mad_draw.specs.Pieces.{RowPiece, IsShownPiece, AreShownPieces, char_piece, pieces_columns, single_spaces}
 use Rattle.mad_draw.proofs.PieceLemmas.{columns-both, spaces_columns, shown_spaces}
 use Rattle.mad_layout.specs.Indents.{follow_up, indent, kept, ordered_indent}
 use Rattle.mad_layout.specs.Premises.{IsPlainPrefix}
-use Rattle.mad_layout.specs.Rows.{char_piece, number_piece, mark_space, mark_pieces}
+use Rattle.mad_layout.specs.Rows.{number_piece, mark_space, mark_pieces}
 use Rattle.mad_layout.specs.Styles.{ordered_item_style}
 use Rattle.mad_layout.specs.declared.skin.MadSkin.{MadSkin}
 

@@ -1,5 +1,5 @@
 -- The parts of a text, and the lines of blocks of code in their places.
-use Rattle.std.proofs.Common.{◌≡◌, ℕ, ◌-◌, ◌≤◌, ◌⊎◌, inl, inr, Bool, true, false, List, [], ◌∷◌, map, min, Option, Some, refl, ap, ◌∙◌, arith}
+use Rattle.std.proofs.Common.{◌≡◌, ℕ, ◌-◌, ◌≤◌, ◌⊎◌, inr, Bool, true, false, List, [], ◌∷◌, map, min, Some, refl, ap, ◌∙◌, arith}
 use Rattle.std.specs.List.{AllByRecursion, flat_map}
 use Rattle.mad_md.specs.declared.alignment.Alignment.TheVariants.{Left}
 use Rattle.mad_style.specs.declared.kinds.CompositeKind.{CompositeKind}
@@ -78,7 +78,7 @@ parts_raw (HorizontalRule ∷ ls) = ap (λ xs. HorizontalRule ∷ xs) (parts_raw
 abbrev pub IsPartOfKind : Part → Type 0
 IsPartOfKind (table ls) = AllTableLines ls
 IsPartOfKind (block ls) = AllCode ls
-IsPartOfKind (single l) = Unit {0}
+IsPartOfKind (single l) = is_table_line l ≡ false
 
 with_table_kinds : (l : FmtLine) (ps : List Part) → is_table_line l ≡ true → AllByRecursion IsPartOfKind ps → AllByRecursion IsPartOfKind (with_table l ps)
 with_table_kinds l [] is h = ((is, tt), tt)
@@ -94,16 +94,16 @@ with_code_kinds l (single m ∷ ps) code h = ((code, tt), h)
 
 with_composite_kinds : (b : Bool) (l : FmtComposite) (ps : List Part) → is_code_kind l.kind ≡ b → AllByRecursion IsPartOfKind ps → AllByRecursion IsPartOfKind (with_composite b l ps)
 with_composite_kinds true l ps code h = with_code_kinds l ps code h
-with_composite_kinds false l ps code h = (tt, h)
+with_composite_kinds false l ps code h = (refl, h)
 
 pub parts_kinds : (ls : List FmtLine) → AllByRecursion IsPartOfKind (parts_of ls)
 parts_kinds [] = tt
 parts_kinds (Normal l ∷ ls) = with_composite_kinds (is_code_kind l.kind) l (parts_of ls) refl (parts_kinds ls)
 parts_kinds (TableRow row ∷ ls) = with_table_kinds (TableRow row) (parts_of ls) refl (parts_kinds ls)
 parts_kinds (TableRule rule ∷ ls) = with_table_kinds (TableRule rule) (parts_of ls) refl (parts_kinds ls)
-parts_kinds (HorizontalRule ∷ ls) = (tt, parts_kinds ls)
+parts_kinds (HorizontalRule ∷ ls) = (refl, parts_kinds ls)
 
-code_is : (k : CompositeKind) → is_code_kind k ≡ true → k ≡ Code
+pub code_is : (k : CompositeKind) → is_code_kind k ≡ true → k ≡ Code
 code_is Paragraph h = absurd (cc)
 code_is (Header level) h = absurd (cc)
 code_is (ListItem depth) h = absurd (cc)

@@ -1,22 +1,25 @@
--- The pieces of composites that stand by themselves.
-use Rattle.std.proofs.Common.{◌≡◌, ℕ, zero, suc, ◌+◌, ◌<◌, ◌==◌, false, List, [], ◌∷◌, ◌++◌, map, length, take, get_or, refl, ap, sym, ◌∙◌, arith}
-use Rattle.std.specs.Prelude.{encode_utf8}
-use Rattle.std.specs.List.{flat_map, repeat}
-use Rattle.std.proofs.lemmas.Bool.Decides.{nat_tests}
-use Rattle.std.proofs.lemmas.List.{append-nil, flat_map_more, take_more}
+-- The bytes of composites that stand by themselves, and of lines of tables.
+use Rattle.std.proofs.Common.{◌≡◌, ℕ, Bool, true, false, List, [], ◌∷◌, ◌++◌, map, Option, refl, ap, sym, ◌∙◌, append_assoc}
+use Rattle.std.specs.Prelude.{if◌then◌else◌}
+use Rattle.std.specs.List.{flat_map}
 use Rattle.std.proofs.lemmas.List.Concat.{flat_map-append}
 use Rattle.mad_md.specs.Flagged.{run_of}
 use Rattle.mad_md.specs.declared.compound.Compound.{Compound}
-use Rattle.mad_term.specs.Styles.{piece_bytes, styled_run_bytes}
+use Rattle.mad_term.specs.Styles.{piece_bytes}
 use Rattle.mad_style.specs.declared.compound_styles.CompoundStyle.{CompoundStyle}
 use Rattle.mad_style.specs.declared.kinds.CompositeKind.{CompositeKind}
 use Rattle.mad_style.specs.declared.line_styles.LineStyle.{LineStyle}
-use Rattle.mad_style.specs.StyledChars.{char_style, char_alone}
-use Rattle.mad_style.specs.declared.styled_chars.StyledChar.{StyledChar}
 use Rattle.mad_draw.specs.Pieces.{RowPiece, pieces_bytes, spaces}
+use Rattle.mad_draw.specs.TableRules.{rule_pieces}
+use Rattle.mad_draw.specs.declared.spaces.Spaces.{Spaces}
+use Rattle.mad_draw.specs.declared.table_rules.RuleChars.{RuleChars}
+use Rattle.mad_draw.proofs.PieceLemmas.{bytes_both, bytes_one}
 use Rattle.mad_layout.specs.declared.skin.MadSkin.{MadSkin}
+use Rattle.mad_layout.specs.declared.composite.FmtComposite.{FmtComposite}
+use Rattle.mad_layout.specs.declared.table.FmtTableRule.{FmtTableRule}
+use Rattle.mad_layout.specs.Lines.{rule_columns}
 use Rattle.mad_layout.specs.Styles.{line_style}
-use Rattle.mad_layout.specs.Rows.{compound_piece, run_piece, mark_pieces, free_pieces, char_run}
+use Rattle.mad_layout.specs.Rows.{compound_piece, run_piece, mark_pieces, free_pieces, left_of_place, right_of_place, placed_pieces, vertical_piece, cell_pieces, row_columns, rule_chars, table_row_pieces, table_rule_pieces}
 
 -- the pieces of compounds are those of what they say
 pub pieces_of_runs : (skin : MadSkin) (style : LineStyle) (ps : List Compound) → map (compound_piece skin style) ps ≡ map (run_piece skin style) (map run_of ps)
@@ -38,21 +41,48 @@ free_bytes skin kind k style ps items kind_is style_is items_are =
     ∙ ap (λ (x : CompositeKind). pieces_bytes (spaces blank (line_style skin x).left_margin ++ (mark_pieces skin x ++ map (compound_piece skin (line_style skin x)) items))) kind_is
     ∙ ap (λ (xs : List RowPiece). pieces_bytes (spaces blank (line_style skin k).left_margin ++ (mark_pieces skin k ++ xs))) (pieces_of_runs skin (line_style skin k) items)
 
--- ---- runs of a character
+-- ---- lines of tables
 
-not_none : (n : ℕ) → (suc n == 0) ≡ false
-not_none n = grind (arith, nat_tests)
+asked_bytes : (right : Bool) (style : CompoundStyle) (n : ℕ) → pieces_bytes (spaces style (if right then n else 0)) ≡ pieces_bytes (if right then spaces style n else [])
+asked_bytes true style n = refl
+asked_bytes false style n = refl
 
--- a character `n` times, as a formatter is given it
-pub run_of_chars : (c : StyledChar) (n : ℕ) → styled_run_bytes (char_style c).object_style (encode_utf8 (char_alone c)) n ≡ pieces_bytes (char_run c n)
-run_of_chars c zero = refl
-run_of_chars c (suc n) = rw (not_none n) (sym (append-nil (piece_bytes (char_style c).object_style (repeat (suc n) (encode_utf8 (char_alone c))))))
+-- the bytes of spaces
+abbrev spaces_bytes : Spaces → List ℕ
+spaces_bytes s = pieces_bytes (spaces s.style s.count)
 
--- ---- the pieces of one element more
+-- pieces between blanks
+pub placed_bytes : (skin : MadSkin) (outer : Option ℕ) (right : Bool) (n : ℕ) (before after : Spaces) (ps : List RowPiece) → before ≡ record { style = skin.paragraph.compound_style; count = left_of_place skin.table.align n outer }
+    → after ≡ record { style = skin.paragraph.compound_style; count = if right then right_of_place skin.table.align n outer else 0 }
+    → spaces_bytes before ++ (pieces_bytes ps ++ spaces_bytes after) ≡ pieces_bytes (placed_pieces skin outer right n ps)
+placed_bytes skin outer right n before after ps left_is right_is =
+    let blank : CompoundStyle = skin.paragraph.compound_style in
+    let left : List RowPiece = spaces blank (left_of_place skin.table.align n outer) in
+    let last : List RowPiece = if right then spaces blank (right_of_place skin.table.align n outer) else [] in
+    ap (λ bs. spaces_bytes before ++ (pieces_bytes ps ++ bs)) (ap spaces_bytes right_is ∙ asked_bytes right blank (right_of_place skin.table.align n outer))
+    ∙ ap (λ bs. bs ++ (pieces_bytes ps ++ pieces_bytes last)) (ap spaces_bytes left_is) ∙ ap (λ bs. pieces_bytes left ++ bs) (sym (bytes_both ps last)) ∙ sym (bytes_both left (ps ++ last))
 
-pub pieces_taken_of : {X : Type 0} (f : X → List RowPiece) (xs : List X) (i : ℕ) (x : X) → i < length xs → x ≡ get_or xs i x → flat_map f (take i xs) ++ f x ≡ flat_map f (take (i + 1) xs)
-pieces_taken_of {X} f xs i x inside is =
-    ap (λ y. flat_map f (take i xs) ++ f y) is ∙ flat_map_more f [] (take i xs) (get_or xs i x) ∙ ap (flat_map f) (sym (take_more xs i x inside))
+-- cells, and a last border between blanks
+pub row_bytes : (skin : MadSkin) (outer : Option ℕ) (right : Bool) (before after : Spaces) (cells all : List FmtComposite) → cells ≡ all
+    → before ≡ record { style = skin.paragraph.compound_style; count = left_of_place skin.table.align (row_columns all) outer }
+    → after ≡ record { style = skin.paragraph.compound_style; count = if right then right_of_place skin.table.align (row_columns all) outer else 0 }
+    → spaces_bytes before ++ (pieces_bytes (flat_map (cell_pieces skin) cells) ++ (piece_bytes (vertical_piece skin).style (vertical_piece skin).text ++ spaces_bytes after)) ≡ pieces_bytes (table_row_pieces skin outer right all)
+row_bytes skin outer right before after cells all same left_is right_is =
+    let border : RowPiece = vertical_piece skin in
+    let own : List RowPiece = flat_map (cell_pieces skin) all in
+    let text : List ℕ = piece_bytes border.style border.text in
+    ap (λ (cs : List FmtComposite). spaces_bytes before ++ (pieces_bytes (flat_map (cell_pieces skin) cs) ++ (text ++ spaces_bytes after))) same
+    ∙ ap (λ bs. spaces_bytes before ++ bs) (sym (append_assoc (pieces_bytes own) text (spaces_bytes after)))
+    ∙ ap (λ bs. spaces_bytes before ++ ((pieces_bytes own ++ bs) ++ spaces_bytes after)) (sym (bytes_one border))
+    ∙ ap (λ bs. spaces_bytes before ++ (bs ++ spaces_bytes after)) (sym (bytes_both own (border ∷ []))) ∙ placed_bytes skin outer right (row_columns all) before after (own ++ border ∷ []) left_is right_is
 
-pub bytes_both : (ps qs : List RowPiece) → pieces_bytes (ps ++ qs) ≡ pieces_bytes ps ++ pieces_bytes qs
-bytes_both ps qs = flat_map-append (λ (p : RowPiece). piece_bytes p.style p.text) ps qs
+-- a rule between blanks
+pub table_rule_bytes : (skin : MadSkin) (outer : Option ℕ) (right : Bool) (before after : Spaces) (rule : FmtTableRule) (ends : RuleChars) (ws : List ℕ) → ws ≡ rule.widths.items → ends ≡ rule_chars skin.table_border_chars rule.position
+    → before ≡ record { style = skin.paragraph.compound_style; count = left_of_place skin.table.align (rule_columns rule.widths.items) outer }
+    → after ≡ record { style = skin.paragraph.compound_style; count = if right then right_of_place skin.table.align (rule_columns rule.widths.items) outer else 0 }
+    → spaces_bytes before ++ (pieces_bytes (rule_pieces skin.table.compound_style ends ws) ++ spaces_bytes after) ≡ pieces_bytes (table_rule_pieces skin outer right rule)
+table_rule_bytes skin outer right before after rule ends ws same ends_are left_is right_is =
+    let style : CompoundStyle = skin.table.compound_style in
+    ap (λ vs. spaces_bytes before ++ (pieces_bytes (rule_pieces style ends vs) ++ spaces_bytes after)) same
+    ∙ ap (λ e. spaces_bytes before ++ (pieces_bytes (rule_pieces style e rule.widths.items) ++ spaces_bytes after)) ends_are
+    ∙ placed_bytes skin outer right (rule_columns rule.widths.items) before after (rule_pieces style (rule_chars skin.table_border_chars rule.position) rule.widths.items) left_is right_is

@@ -1,6 +1,6 @@
 -- Rows: how many columns the pieces of a line fill.
 use Rattle.std.proofs.Common.{◌≡◌, ℕ, ◌+◌, ◌-◌, ◌≤◌, List, [], ◌∷◌, ◌++◌, map, Option, Some, None, refl, ap, arith}
-use Rattle.std.specs.Prelude.{unwrap_or, true, IfSome}
+use Rattle.std.specs.Prelude.{Bool, unwrap_or, true, false, IfSome, if◌then◌else◌}
 use Rattle.std.specs.Str.{chars}
 use Rattle.mad_md.specs.declared.alignment.Alignment.{Alignment}
 use Rattle.mad_md.specs.declared.alignment.Alignment.TheVariants.{Unspecified, Left, Center, Right}
@@ -19,8 +19,8 @@ use Rattle.mad_draw.proofs.PieceLemmas.{columns-both, spaces_columns, shown_spac
 use Rattle.mad_layout.specs.declared.skin.MadSkin.{MadSkin}
 use Rattle.mad_layout.specs.declared.composite.FmtComposite.{FmtComposite}
 use Rattle.mad_layout.specs.declared.line.FmtLine.TheVariants.{Normal}
-use Rattle.mad_layout.specs.Drawable.{IsDrawable}
-use Rattle.mad_layout.specs.Rows.{compound_piece, mark_pieces, left_of_place, right_of_place, align_in, place_of, inner_columns, inner_blanks, outer_blanks, margins_of, line_pieces}
+use Rattle.mad_layout.specs.Drawable.{FillsItsPlace, IsDrawable}
+use Rattle.mad_layout.specs.Rows.{compound_piece, mark_pieces, left_of_place, right_of_place, align_in, place_of, inner_columns, inner_blanks, outer_blanks, margins_of, composite_pieces, line_pieces}
 use Rattle.mad_layout.specs.Styles.{line_style}
 
 -- ---- compounds
@@ -47,6 +47,47 @@ own_place : (spacing : Option Spacing) (n : ℕ) → IfSome spacing (λ s. n ≤
 own_place None n h = omega arith
 own_place (Some s) n h = let half : left_completion s.align (s.width - n) ≤ s.width - n = left_completion-le s.align (s.width - n) in omega (arith, h, half)
 
+-- A composite fills its own place, beside it are the blanks of a wider one, those on its right only where they are asked for.
+composite_columns : (skin : MadSkin) (outer : Option ℕ) (margins : ℕ × ℕ) (right : Bool) (l : FmtComposite) → FillsItsPlace skin l
+    → pieces_columns (composite_pieces skin outer margins right l)
+    ≡ (outer_blanks (line_style skin l.kind).align outer margins l).0 + inner_columns l + pieces_columns (if right then spaces skin.paragraph.compound_style (outer_blanks (line_style skin l.kind).align outer margins l).1 else [])
+composite_columns skin outer margins right l h =
+    let style : LineStyle = line_style skin l.kind in
+    let blank : CompoundStyle = skin.paragraph.compound_style in
+    let own : (inner_blanks l).0 + l.visible_length + (inner_blanks l).1 ≡ inner_columns l = own_place l.spacing l.visible_length h.place in
+    let blanks : ℕ × ℕ = outer_blanks style.align outer margins l in
+    let last : List RowPiece = if right then spaces blank blanks.1 else [] in
+    let tail3 : List RowPiece = spaces style.compound_style (inner_blanks l).1 ++ last in
+    let tail2 : List RowPiece = map (compound_piece skin style) l.compounds.items ++ tail3 in
+    let tail1 : List RowPiece = mark_pieces skin l.kind ++ tail2 in
+    let tail0 : List RowPiece = spaces style.compound_style (inner_blanks l).0 ++ tail1 in
+    let e0 : pieces_columns (spaces blank blanks.0 ++ tail0) ≡ pieces_columns (spaces blank blanks.0) + pieces_columns tail0 = columns-both (spaces blank blanks.0) tail0 in
+    let e1 : pieces_columns tail0 ≡ pieces_columns (spaces style.compound_style (inner_blanks l).0) + pieces_columns tail1 = columns-both (spaces style.compound_style (inner_blanks l).0) tail1 in
+    let e2 : pieces_columns tail1 ≡ pieces_columns (mark_pieces skin l.kind) + pieces_columns tail2 = columns-both (mark_pieces skin l.kind) tail2 in
+    let e3 : pieces_columns tail2 ≡ pieces_columns (map (compound_piece skin style) l.compounds.items) + pieces_columns tail3 = columns-both (map (compound_piece skin style) l.compounds.items) tail3 in
+    let e4 : pieces_columns tail3 ≡ pieces_columns (spaces style.compound_style (inner_blanks l).1) + pieces_columns last = columns-both (spaces style.compound_style (inner_blanks l).1) last in
+    let s0 : pieces_columns (spaces blank blanks.0) ≡ blanks.0 = spaces_columns blank blanks.0 in
+    let s1 : pieces_columns (spaces style.compound_style (inner_blanks l).0) ≡ (inner_blanks l).0 = spaces_columns style.compound_style (inner_blanks l).0 in
+    let s4 : pieces_columns (spaces style.compound_style (inner_blanks l).1) ≡ (inner_blanks l).1 = spaces_columns style.compound_style (inner_blanks l).1 in
+    let text : pieces_columns (map (compound_piece skin style) l.compounds.items) ≡ width_of (flagged_text l.compounds.items) = compounds_columns skin style l.compounds.items in
+    omega (arith, h.measured, h.indent_is, own, e0, e1, e2, e3, e4, s0, s1, s4, text)
+
+shown_if : (right : Bool) (style : CompoundStyle) (n : ℕ) → AreShownPieces (if right then spaces style n else [])
+shown_if true style n = shown_spaces style n
+shown_if false style n = tt
+
+composite_shown : (skin : MadSkin) (outer : Option ℕ) (margins : ℕ × ℕ) (right : Bool) (l : FmtComposite) → FillsItsPlace skin l → AreShownPieces (composite_pieces skin outer margins right l)
+composite_shown skin outer margins right l h =
+    let style : LineStyle = line_style skin l.kind in
+    let blank : CompoundStyle = skin.paragraph.compound_style in
+    let blanks : ℕ × ℕ = outer_blanks style.align outer margins l in
+    all_joined IsShownPiece (spaces blank blanks.0) _ (shown_spaces blank blanks.0)
+    (all_joined IsShownPiece (spaces style.compound_style (inner_blanks l).0) _ (shown_spaces style.compound_style (inner_blanks l).0)
+    (all_joined IsShownPiece (mark_pieces skin l.kind) _ h.mark
+    (all_joined IsShownPiece (map (compound_piece skin style) l.compounds.items) _ h.text
+    (all_joined IsShownPiece (spaces style.compound_style (inner_blanks l).1) _ (shown_spaces style.compound_style (inner_blanks l).1)
+    (shown_if right blank blanks.1)))))
+
 pub line_columns : (skin : MadSkin) (width : ℕ) (l : FmtComposite) → IsDrawable skin width l → pieces_columns (line_pieces skin (Some width) true (Normal l)) ≡ width
 line_columns skin width l h =
     let style : LineStyle = line_style skin l.kind in
@@ -55,34 +96,20 @@ line_columns skin width l h =
     let m_is : m ≡ h.margins = ap (λ o. unwrap_or o (margins_at style (Some width))) h.margins_are in
     let m0 : m.0 ≡ h.margins.0 = ap (λ (p : ℕ × ℕ). p.0) m_is in
     let m1 : m.1 ≡ h.margins.1 = ap (λ (p : ℕ × ℕ). p.1) m_is in
-    let own : (inner_blanks l).0 + l.visible_length + (inner_blanks l).1 ≡ inner_columns l = own_place l.spacing l.visible_length h.place in
     let blanks : ℕ × ℕ = outer_blanks style.align (Some width) m l in
     let rest : ℕ = width - (inner_columns l + m.0 + m.1) in
     let half : left_completion style.align rest ≤ rest = left_completion-le style.align rest in
-    let tail3 : List RowPiece = spaces style.compound_style (inner_blanks l).1 ++ spaces blank blanks.1 in
-    let tail2 : List RowPiece = map (compound_piece skin style) l.compounds.items ++ tail3 in
-    let tail1 : List RowPiece = mark_pieces skin l.kind ++ tail2 in
-    let tail0 : List RowPiece = spaces style.compound_style (inner_blanks l).0 ++ tail1 in
-    let e0 : pieces_columns (spaces blank blanks.0 ++ tail0) ≡ pieces_columns (spaces blank blanks.0) + pieces_columns tail0 = columns-both (spaces blank blanks.0) tail0 in
-    let e1 : pieces_columns tail0 ≡ pieces_columns (spaces style.compound_style (inner_blanks l).0) + pieces_columns tail1 = columns-both (spaces style.compound_style (inner_blanks l).0) tail1 in
-    let e2 : pieces_columns tail1 ≡ pieces_columns (mark_pieces skin l.kind) + pieces_columns tail2 = columns-both (mark_pieces skin l.kind) tail2 in
-    let e3 : pieces_columns tail2 ≡ pieces_columns (map (compound_piece skin style) l.compounds.items) + pieces_columns tail3 = columns-both (map (compound_piece skin style) l.compounds.items) tail3 in
-    let e4 : pieces_columns tail3 ≡ pieces_columns (spaces style.compound_style (inner_blanks l).1) + pieces_columns (spaces blank blanks.1) = columns-both (spaces style.compound_style (inner_blanks l).1) (spaces blank blanks.1) in
-    let s0 : pieces_columns (spaces blank blanks.0) ≡ blanks.0 = spaces_columns blank blanks.0 in
-    let s1 : pieces_columns (spaces style.compound_style (inner_blanks l).0) ≡ (inner_blanks l).0 = spaces_columns style.compound_style (inner_blanks l).0 in
-    let s4 : pieces_columns (spaces style.compound_style (inner_blanks l).1) ≡ (inner_blanks l).1 = spaces_columns style.compound_style (inner_blanks l).1 in
-    let s5 : pieces_columns (spaces blank blanks.1) ≡ blanks.1 = spaces_columns blank blanks.1 in
-    let text : pieces_columns (map (compound_piece skin style) l.compounds.items) ≡ width_of (flagged_text l.compounds.items) = compounds_columns skin style l.compounds.items in
-    omega (arith, h.fits, h.measured, h.indent_is, m0, m1, own, half, e0, e1, e2, e3, e4, s0, s1, s4, s5, text)
+    let all : pieces_columns (composite_pieces skin (Some width) m true l) ≡ blanks.0 + inner_columns l + pieces_columns (spaces blank blanks.1) = composite_columns skin (Some width) m true l h.fills in
+    let last : pieces_columns (spaces blank blanks.1) ≡ blanks.1 = spaces_columns blank blanks.1 in
+    omega (arith, h.fits, m0, m1, half, all, last)
 
 pub line_shown : (skin : MadSkin) (width : ℕ) (l : FmtComposite) → IsDrawable skin width l → AreShownPieces (line_pieces skin (Some width) true (Normal l))
-line_shown skin width l h =
-    let style : LineStyle = line_style skin l.kind in
-    let blank : CompoundStyle = skin.paragraph.compound_style in
-    let blanks : ℕ × ℕ = outer_blanks style.align (Some width) (margins_of skin (Some width) l) l in
-    all_joined IsShownPiece (spaces blank blanks.0) _ (shown_spaces blank blanks.0)
-    (all_joined IsShownPiece (spaces style.compound_style (inner_blanks l).0) _ (shown_spaces style.compound_style (inner_blanks l).0)
-    (all_joined IsShownPiece (mark_pieces skin l.kind) _ h.mark
-    (all_joined IsShownPiece (map (compound_piece skin style) l.compounds.items) _ h.text
-    (all_joined IsShownPiece (spaces style.compound_style (inner_blanks l).1) _ (shown_spaces style.compound_style (inner_blanks l).1)
-    (shown_spaces blank blanks.1)))))
+line_shown skin width l h = composite_shown skin (Some width) (margins_of skin (Some width) l) true l h.fills
+
+-- ---- a cell
+
+pub cell_columns : (skin : MadSkin) (l : FmtComposite) → FillsItsPlace skin l → pieces_columns (composite_pieces skin None (0, 0) false l) ≡ inner_columns l
+cell_columns skin l h = let all : pieces_columns (composite_pieces skin None (0, 0) false l) ≡ 0 + 0 + inner_columns l + 0 = composite_columns skin None (0, 0) false l h in omega (arith, all)
+
+pub cell_shown : (skin : MadSkin) (l : FmtComposite) → FillsItsPlace skin l → AreShownPieces (composite_pieces skin None (0, 0) false l)
+cell_shown skin l h = composite_shown skin None (0, 0) false l h

@@ -1,5 +1,5 @@
 -- The example's text in an area: what a screen shows that reads it.
-use Rattle.std.proofs.Common.{◌≡◌, ℕ, zero, suc, replicate, ◌≤◌, List, [], ◌∷◌, ◌++◌, map, inl, inr, chars, get_or, Option, Some, None, refl, ap, sym, ◌∙◌, subst, arith, lit<}
+use Rattle.std.proofs.Common.{◌≡◌, ℕ, zero, suc, replicate, ◌⊎◌, ◌≤◌, List, [], ◌∷◌, ◌++◌, map, inl, inr, chars, get_or, Option, Some, None, refl, ap, sym, ◌∙◌, subst, arith, lit<}
 use Rattle.std.specs.Prelude.{IfSome, IsSome, length, true, false, unwrap_or}
 use Rattle.std.proofs.lemmas.List.{append-nil, length-replicate}
 use Rattle.mad_md.specs.Flagged.{Run, plain, flagged, run_at, run_of}
@@ -37,6 +37,7 @@ use Rattle.mad_columns.specs.Columns.{char_columns}
 use Rattle.mad_draw.specs.PennedCells.{penned_cells, penned_joined}
 use Rattle.mad_layout.specs.Indents.{indent}
 use Rattle.mad_layout.specs.CompositeWraps.{IsCompositeWrap}
+use Rattle.mad_layout.specs.Fronts.{IsFrontLayout}
 use Rattle.mad_layout.specs.Layouts.{AreRead, IsLayout}
 use Rattle.mad_layout.specs.Parts.{Part, single, is_code_kind, with_composite, parts_of, ArePartsAt}
 use Rattle.mad_layout.specs.Premises.{runs_text}
@@ -52,7 +53,7 @@ use Rattle.mad_layout.specs.Wraps.{text_of}
 use Rattle.mad_layout.specs.declared.composite.FmtComposite.{FmtComposite}
 use Rattle.mad_layout.specs.declared.line.FmtLine.{FmtLine}
 use Rattle.mad_layout.specs.declared.line.FmtLine.TheVariants.{Normal, TableRow, TableRule, HorizontalRule}
-use Rattle.mad_layout.proofs.DrawableLemmas.{runs_are}
+use Rattle.mad_layout.proofs.DrawnParts.{runs_are}
 use Rattle.mad_layout.proofs.HeadlineLemmas.{wrapped_at}
 use Rattle.mad_layout.proofs.PieceLemmas.{pieces_of_runs}
 use Rattle.mad_layout.proofs.WordLemmas.{one_a, one_b, one_c, one_space, spelled, one_part, words_take_columns}
@@ -168,17 +169,37 @@ pub record ShowsWords (start g : Grid) : Type 0 where
   pub inside : cell_at g 2 1 ≡ record { chars = 97 ∷ []; pen = plain_pen }
   pub outside : cell_at g 0 0 ≡ cell_at start 0 0
 
+nothing_laid : (read lines : List FmtLine) → AreRead no_style_skin [] read → ArePartsAt IsCompositeWrap no_style_skin 11 (Some 11) (parts_of read) lines → 2 ≤ length lines → ⊥
+nothing_laid [] lines reads laid some = omega (arith, some, ap length laid)
+nothing_laid (l ∷ ls) lines reads laid some = reads
+
+-- a line is all of itself, or none: and none of it has two rows
+whole_front : (front rest : List LineContent) (lines : List FmtLine) → front ++ rest ≡ normal word_line ∷ [] → IsLayout no_style_skin 11 front lines → (rest ≡ []) ⊎ (2 ≤ length lines) → front ≡ normal word_line ∷ []
+whole_front [] rest lines joins layout (inl none) = let e : [] ≡ normal word_line ∷ [] = sym none ∙ joins in absurd (cc)
+whole_front [] rest lines joins layout (inr some) = absurd (nothing_laid layout.read lines layout.reads layout.laid some)
+whole_front (c ∷ []) rest lines joins layout enough = let e : c ≡ normal word_line = cc in ap (λ (x : LineContent). x ∷ []) e
+whole_front (c ∷ d ∷ cs) rest lines joins layout enough = absurd (cc)
+
+shown_as_one : (lines : List FmtLine) (old new : Trace) (h : ShowsSource no_style_skin words word_area old new) → OneLine h.lines
+shown_as_one lines old new h =
+    let front : IsFrontLayout no_style_skin (Some 11) 2 h.laid_out.text h.lines = h.laid_out.layout in
+    let layout : IsLayout no_style_skin 11 front.front h.lines = wrapped_at no_style_skin 11 front.front h.lines (omega arith) front.layout in
+    let all : front.front ≡ normal word_line ∷ [] = whole_front front.front front.rest h.lines (sym front.joins ∙ words_read h.laid_out.text h.laid_out.read) layout front.enough in
+    let of_words : IsLayout no_style_skin 11 (normal word_line ∷ []) h.lines = subst (λ (xs : List LineContent). IsLayout no_style_skin 11 xs h.lines) all layout in
+    laid of_words.read h.lines of_words.reads of_words.laid
+
+one_value : {A : Type 0} (o : Option A) (a b : A) → o ≡ Some a → o ≡ Some b → a ≡ b
+one_value {A} o a b e f = let both : Some a ≡ Some b = sym e ∙ f in cc
+
 pub words_shown : (old new : Trace) (taken : List ℕ) (start g : Grid) → old.bytes ≡ Some [] → new.bytes ≡ Some taken → ShowsSource no_style_skin words word_area old new
     → IsOnScreen word_area start → after_bytes start taken ≡ Some g → ShowsWords start g
 words_shown old new taken start g none all h begun read =
-    let layout : IsLayout no_style_skin 11 h.laid_out.text h.lines = wrapped_at no_style_skin 11 h.laid_out.text h.lines (omega arith) h.laid_out.layout in
-    let of_words : IsLayout no_style_skin 11 (normal word_line ∷ []) h.lines = subst (λ (xs : List LineContent). IsLayout no_style_skin 11 xs h.lines) (words_read h.laid_out.text h.laid_out.read) layout in
-    let one : OneLine h.lines = laid of_words.read h.lines of_words.reads of_words.laid in
+    let one : OneLine h.lines = shown_as_one h.lines old new h in
     let took : (text : List ℕ) × (new.bytes ≡ Some ([] ++ text)) × AreShownIn no_style_skin h.lines word_area 0 text =
     subst (λ (o : Option (List ℕ)). IfSome o (λ before. (text : List ℕ) × (new.bytes ≡ Some (before ++ text)) × AreShownIn no_style_skin h.lines word_area 0 text)) none h.shown in
-    let same : took.0 ≡ taken = cc in
+    let same : took.0 ≡ taken = one_value new.bytes took.0 taken took.1 all in
     let shown = took.2 start begun in
-    let is : shown.0 ≡ g = cc in
+    let is : shown.0 ≡ g = one_value (after_bytes start took.0) shown.0 g shown.1 (ap (after_bytes start) same ∙ read) in
     subst (ShowsWords start) is (record {
       inside = shown.4.inside 0 0 (omega arith) (omega arith) ∙ words_first h.lines one;
       outside = shown.4.outside 0 0 (omega (arith, begun.columns)) (inl (omega arith));

@@ -1,5 +1,5 @@
 -- Tables by a kind of wrap, where each such wrap is one of another kind.
-use Rattle.std.proofs.Common.{◌≡◌, ℕ, inl, inr, Bool, List, [], ◌∷◌, map}
+use Rattle.std.proofs.Common.{ℕ, inl, inr, Bool, List, [], ◌∷◌}
 use Rattle.std.specs.Prelude.{length, ◌==◌}
 use Rattle.mad_fit.specs.declared.spacing.Spacing.{Spacing}
 use Rattle.mad_layout.specs.Tables.{IsNextLaidOut, AreCellsLaidOut, below, IsRowLaidOutBy, columns_from, position_at, IsTableLineBy, AreTableLinesBy, IsTableLaidOutBy, centered}

@@ -7,6 +7,7 @@ use Rattle.mad_term.specs.Trace.{Trace, TookWith}
 use Rattle.mad_term.specs.declared.errors.Error.{Error}
 use Rattle.mad_term.specs.declared.errors.Error.TheVariants.{Memory}
 use Rattle.mad_fit.specs.declared.area.Area.{Area}
+use Rattle.mad_layout.specs.Fronts.{IsFrontLayout}
 use Rattle.mad_layout.specs.Layouts.{IsLayoutAt}
 use Rattle.mad_layout.specs.Premises.{KeepsPremises}
 use Rattle.mad_layout.specs.Shown.{area_bytes, AreShownIn}
@@ -19,15 +20,21 @@ pub record IsAreaLayout (skin : MadSkin) (markdown : List ℕ) (area : Area) (li
   pub read : IsRead (unread_text false markdown) text
   pub layout : IsLayoutAt skin (Some (area.width - 1)) text lines
 
--- What the call does to its device: it draws such a layout, from its first line on; or memory for the layout was refused, and
--- nothing went out.
+-- The lines are a layout of the text's first lines, one column narrower than the area: of all of them, or of as many as take the area's
+-- rows.
+pub record IsAreaFront (skin : MadSkin) (markdown : List ℕ) (area : Area) (lines : List FmtLine) : Type 0 where
+  pub text : List LineContent
+  pub read : IsRead (unread_text false markdown) text
+  pub layout : IsFrontLayout skin (Some (area.width - 1)) area.height text lines
+
+-- What the call does to its device: it draws such lines, from the first on; or memory for them was refused, and nothing went out.
 abbrev pub WritesInArea : {T : Type 0} → MadSkin → List ℕ → Area → Trace → Result T Error → Trace → Type 0
 WritesInArea skin markdown area old r new =
-    ((lines : List FmtLine) × IsAreaLayout skin markdown area lines × Draws old (area_bytes skin lines area 0) r new) ⊎ (IsErrOf r Memory × (new ≡ old))
+    ((lines : List FmtLine) × IsAreaFront skin markdown area lines × Draws old (area_bytes skin lines area 0) r new) ⊎ (IsErrOf r Memory × (new ≡ old))
 
 -- What a plain terminal shows that reads what was written, where as many lines of the text as the area has rows keep the premises: the
 -- first rows of the layout in the area, every other cell as before, and the plain pen again.
 pub record ShowsText (skin : MadSkin) (markdown : List ℕ) (area : Area) (old new : Trace) : Type 0 where
   pub lines : List FmtLine
-  pub laid_out : IsAreaLayout skin markdown area lines
+  pub laid_out : IsAreaFront skin markdown area lines
   pub shown : KeepsPremises skin (area.width - 1) (take area.height laid_out.text) → TookWith old new (AreShownIn skin lines area 0)

@@ -1,10 +1,15 @@
 pub use Rattle.mad_draw.specs.DrawnRows
 pub use Rattle.mad_draw.specs.Pieces
 pub use Rattle.mad_draw.specs.PennedCells
+pub use Rattle.mad_draw.specs.TableRules
 pub mod CodeBlocks
 pub mod CompositeWraps
 pub mod Drawable
 pub mod FittingLayouts
+pub mod FlaggedLines
+pub mod FlaggedRows
+pub mod Fronts
+pub mod Headline
 pub mod InArea
 pub mod Indents
 pub mod Inlines
@@ -14,6 +19,7 @@ pub mod Layouts
 pub mod Lines
 pub mod MadeSkins
 pub mod Parts
+pub mod PlainTables
 pub mod Premises
 pub mod RecoloredSkins
 pub mod Rows
@@ -23,6 +29,7 @@ pub mod SkinParts
 pub mod Skins
 pub mod Sources
 pub mod Styles
+pub mod TableLaws
 pub mod TableRows
 pub mod Tables
 pub mod Texts

@@ -1,5 +1,5 @@
 -- What a text has to keep for its rows to be shown exactly.
-use Rattle.std.specs.Prelude.{◌≡◌, ℕ, ◌+◌, ◌-◌, ◌<◌, ◌^◌, Bool, true, false, not, List, [], ◌∷◌, Some}
+use Rattle.std.specs.Prelude.{◌≡◌, ℕ, ◌+◌, ◌-◌, ◌<◌, ◌≤◌, ◌^◌, Bool, true, false, not, List, [], ◌∷◌, Some}
 use Rattle.std.specs.List.{AllByRecursion, flat_map}
 use Rattle.std.specs.Char.{is_whitespace}
 use Rattle.std.specs.Str.{chars, IsUtf8}
@@ -13,9 +13,11 @@ use Rattle.mad_style.specs.Kinds.{kind_of}
 use Rattle.mad_style.specs.LineStyles.{margins_at}
 use Rattle.mad_fit.specs.Columns.{width_of}
 use Rattle.mad_layout.specs.Indents.{indent, room_of}
-use Rattle.mad_layout.specs.Drawable.{IsColumnPiece}
-use Rattle.mad_layout.specs.Rows.{char_piece}
+use Rattle.mad_draw.specs.Pieces.{IsColumnPiece, char_piece}
+use Rattle.mad_layout.specs.Drawable.{AreShownChars}
+use Rattle.mad_layout.specs.Rows.{rule_chars, vertical_piece}
 use Rattle.mad_layout.specs.Styles.{line_style, ordered_item_style}
+use Rattle.mad_layout.specs.declared.table.RelativePosition.{RelativePosition}
 use Rattle.mad_wrap.specs.WrapLines.{HasRoom}
 use Rattle.mad_layout.specs.declared.skin.MadSkin.{MadSkin}
 
@@ -59,11 +61,23 @@ pub record IsPlainLine (skin : MadSkin) (width : ℕ) (line : StyledRuns) : Type
   pub room : inner_width skin width line < indent skin.list_items_indentation_mode (kind_of line.style) + width_of (runs_text line.runs)
       → HasRoom (room_of skin (kind_of line.style) (inner_width skin width line)) (runs_text line.runs)
 
--- a line of any kind; lines of tables have no layout yet
+-- A cell of this kind, its text plain, with a plain prefix, and that has room in a column of so many columns where it doesn't fit.
+pub record IsPlainCell (skin : MadSkin) (width : ℕ) (kind : CompositeKind) (runs : List Run) : Type 0 where
+  pub prefix : IsPlainPrefix skin kind
+  pub plain : AllByRecursion IsPlainRun runs
+  pub room : width < indent skin.list_items_indentation_mode kind + width_of (runs_text runs) → HasRoom (room_of skin kind width) (runs_text runs)
+
+-- the characters of a table's borders are shown in one column each, wherever a rule stands in its table
+pub record AreBordersShown (skin : MadSkin) : Type 0 where
+  pub vertical : IsColumnPiece (vertical_piece skin)
+  pub rules : (position : RelativePosition) → AreShownChars skin (rule_chars skin.table_border_chars position)
+
+-- A line of any kind. Of a line of a table: there is place for the ends of a rule, and each cell has room in the narrowest column, of
+-- three columns; so it has in the column that it gets.
 abbrev pub IsPlainContent : MadSkin → ℕ → LineContent → Type 0
 IsPlainContent skin width (normal line) = IsPlainLine skin width line
-IsPlainContent skin width (table_row cells) = ⊥
-IsPlainContent skin width (table_rule aligns) = ⊥
+IsPlainContent skin width (table_row cells) = (2 ≤ width) × AreBordersShown skin × AllByRecursion (λ cell. IsPlainCell skin 3 (kind_of cell.style) cell.runs) cells
+IsPlainContent skin width (table_rule aligns) = (2 ≤ width) × AreBordersShown skin
 IsPlainContent skin width horizontal_rule = IsColumnPiece (char_piece skin.horizontal_rule)
 
 -- so is each line of the text, at a layout's width

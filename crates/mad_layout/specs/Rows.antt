@@ -1,6 +1,6 @@
 -- Rows: what is written of a line, piece by piece.
-use Rattle.std.specs.Prelude.{ℕ, zero, suc, ◌+◌, ◌-◌, Bool, true, false, List, [], ◌∷◌, ◌++◌, map, Option, Some, None, unwrap_or, if◌then◌else◌, decimal, encode_utf8}
-use Rattle.std.specs.List.{flat_map, repeat}
+use Rattle.std.specs.Prelude.{ℕ, ◌+◌, ◌-◌, Bool, true, false, List, [], ◌∷◌, ◌++◌, map, Option, Some, None, unwrap_or, if◌then◌else◌, decimal}
+use Rattle.std.specs.List.{flat_map}
 use Rattle.mad_md.specs.declared.alignment.Alignment.{Alignment}
 use Rattle.mad_md.specs.declared.alignment.Alignment.TheVariants.{Unspecified}
 use Rattle.mad_md.specs.Flagged.{Run, run_of}
@@ -9,24 +9,25 @@ use Rattle.mad_style.specs.declared.kinds.CompositeKind.{CompositeKind}
 use Rattle.mad_style.specs.declared.kinds.CompositeKind.TheVariants.{Paragraph, Header, ListItem, ListItemFollowUp, OrderedListItem, OrderedListItemFollowUp, Code, Quote}
 use Rattle.mad_style.specs.declared.compound_styles.CompoundStyle.{CompoundStyle}
 use Rattle.mad_style.specs.declared.line_styles.LineStyle.{LineStyle}
-use Rattle.mad_style.specs.declared.styled_chars.StyledChar.{StyledChar}
+use Rattle.mad_style.specs.declared.borders.TableBorderChars.{TableBorderChars}
 use Rattle.mad_style.specs.LineStyles.{margins_at}
-use Rattle.mad_style.specs.StyledChars.{char_style, char_alone}
 use Rattle.mad_fit.specs.declared.spacing.Spacing.{Spacing}
 use Rattle.mad_fit.specs.Completions.{left_completion}
 use Rattle.mad_layout.specs.declared.skin.MadSkin.{MadSkin}
 use Rattle.mad_layout.specs.declared.composite.FmtComposite.{FmtComposite}
 use Rattle.mad_layout.specs.declared.line.FmtLine.{FmtLine}
 use Rattle.mad_layout.specs.declared.line.FmtLine.TheVariants.{Normal, TableRow, TableRule, HorizontalRule}
+use Rattle.mad_layout.specs.declared.table.FmtTableRule.{FmtTableRule}
+use Rattle.mad_layout.specs.declared.table.RelativePosition.{RelativePosition}
+use Rattle.mad_layout.specs.declared.table.RelativePosition.TheVariants.{Top, Other, Bottom}
 use Rattle.mad_layout.specs.Indents.{kept, ordered_indent}
-use Rattle.mad_draw.specs.Pieces.{RowPiece, spaces, single_spaces}
+use Rattle.mad_layout.specs.Lines.{bordered, rule_columns}
+use Rattle.mad_draw.specs.Pieces.{RowPiece, char_piece, char_run, spaces, single_spaces}
+use Rattle.mad_draw.specs.TableRules.{border_piece, rule_pieces}
+use Rattle.mad_draw.specs.declared.table_rules.RuleChars.{RuleChars}
 use Rattle.mad_layout.specs.Styles.{line_style, compound_style, ordered_item_style}
 
 -- ---- in front of a line's text
-
--- a character in its style
-abbrev pub char_piece : StyledChar → RowPiece
-char_piece c = record { style = (char_style c).object_style; text = encode_utf8 (char_alone c) }
 
 -- a number
 abbrev pub number_piece : CompoundStyle → ℕ → RowPiece
@@ -123,21 +124,49 @@ abbrev pub free_pieces : MadSkin → CompositeKind → List Run → List RowPiec
 free_pieces skin kind runs =
     spaces skin.paragraph.compound_style (line_style skin kind).left_margin ++ (mark_pieces skin kind ++ map (run_piece skin (line_style skin kind)) runs)
 
--- a character `count` times as one piece; none of none
-abbrev pub char_run : StyledChar → ℕ → List RowPiece
-char_run c zero = []
-char_run c (suc n) = record { style = (char_style c).object_style; text = repeat (suc n) (encode_utf8 (char_alone c)) } ∷ []
+-- ---- a line of a table
 
--- a cell of a table, which has no place in a column yet
+-- pieces of so many columns, between the blanks that the table's alignment gives them in a wider place; those right of them only where
+-- they are asked for
+abbrev pub placed_pieces : MadSkin → Option ℕ → Bool → ℕ → List RowPiece → List RowPiece
+placed_pieces skin outer right columns ps =
+    spaces skin.paragraph.compound_style (left_of_place skin.table.align columns outer)
+    ++ (ps ++ (if right then spaces skin.paragraph.compound_style (right_of_place skin.table.align columns outer) else []))
+
+-- a vertical border, in the table's style
+abbrev pub vertical_piece : MadSkin → RowPiece
+vertical_piece skin = border_piece skin.table.compound_style skin.table_border_chars.vertical
+
+-- a border, and after it a cell in its own place, without margins
 abbrev pub cell_pieces : MadSkin → FmtComposite → List RowPiece
-cell_pieces skin cell = composite_pieces skin None (0, 0) false cell
+cell_pieces skin cell = vertical_piece skin ∷ composite_pieces skin None (0, 0) false cell
 
--- The pieces of a line at an outer width, with its margins. A rule across the place fills it. Lines of tables have no layout yet: a row is
--- its cells one after another, a rule across a table nothing.
+-- the columns of a row of cells: each has a border before it, and one more is the last
+abbrev pub row_columns : List FmtComposite → ℕ
+row_columns cells = 1 + bordered (map inner_columns cells)
+
+-- a row of a table: its cells, and a last border
+abbrev pub table_row_pieces : MadSkin → Option ℕ → Bool → List FmtComposite → List RowPiece
+table_row_pieces skin outer right cells = placed_pieces skin outer right (row_columns cells) (flat_map (cell_pieces skin) cells ++ vertical_piece skin ∷ [])
+
+-- the characters of a rule, by its place in its table: corners or junctions at its ends, a junction or a cross between two columns
+abbrev pub rule_chars : TableBorderChars → RelativePosition → RuleChars
+rule_chars b Top = record { left = b.top_left_corner; horizontal = b.horizontal; between = b.top_junction; right = b.top_right_corner }
+rule_chars b Other = record { left = b.left_junction; horizontal = b.horizontal; between = b.cross; right = b.right_junction }
+rule_chars b Bottom = record { left = b.bottom_left_corner; horizontal = b.horizontal; between = b.bottom_junction; right = b.bottom_right_corner }
+
+-- a rule across a table
+abbrev pub table_rule_pieces : MadSkin → Option ℕ → Bool → FmtTableRule → List RowPiece
+table_rule_pieces skin outer right rule =
+    placed_pieces skin outer right (rule_columns rule.widths.items) (rule_pieces skin.table.compound_style (rule_chars skin.table_border_chars rule.position) rule.widths.items)
+
+-- ---- any line
+
+-- The pieces of a line at an outer width, with its margins. A rule across the place fills it.
 abbrev pub line_pieces : MadSkin → Option ℕ → Bool → FmtLine → List RowPiece
 line_pieces skin outer right (Normal l) = composite_pieces skin outer (margins_of skin outer l) right l
-line_pieces skin outer right (TableRow row) = flat_map (cell_pieces skin) row.cells.items
-line_pieces skin outer right (TableRule rule) = []
+line_pieces skin outer right (TableRow row) = table_row_pieces skin outer right row.cells.items
+line_pieces skin outer right (TableRule rule) = table_rule_pieces skin outer right rule
 line_pieces skin outer right HorizontalRule = char_run skin.horizontal_rule (unwrap_or outer 0)
 
 -- what a place of so many columns shows: a line, filled up on its right; or, past the last line, spaces in the

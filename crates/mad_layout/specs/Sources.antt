@@ -7,7 +7,7 @@ use Rattle.mad_md.specs.Parts.{AreParts, line_places, line_text}
 use Rattle.mad_md.specs.ReadByMarks.{IsParagraphText}
 use Rattle.mad_term.specs.Trace.{Trace, TookWith}
 use Rattle.mad_fit.specs.declared.area.Area.{Area}
-use Rattle.mad_layout.specs.InArea.{IsAreaLayout}
+use Rattle.mad_layout.specs.InArea.{IsAreaFront}
 use Rattle.mad_layout.specs.Shown.{AreShownIn}
 use Rattle.mad_layout.specs.declared.skin.MadSkin.{MadSkin}
 use Rattle.mad_layout.specs.declared.line.FmtLine.{FmtLine}
@@ -26,5 +26,5 @@ LinesTakeColumns source =
 -- before, and the plain pen again.
 pub record ShowsSource (skin : MadSkin) (markdown : List ℕ) (area : Area) (old new : Trace) : Type 0 where
   pub lines : List FmtLine
-  pub laid_out : IsAreaLayout skin markdown area lines
+  pub laid_out : IsAreaFront skin markdown area lines
   pub shown : TookWith old new (AreShownIn skin lines area 0)

@@ -1,20 +1,24 @@
 //! Texts and inline texts as displayed values: the same bytes as the writing calls, piece by piece, without memory.
 
-ghost use Rattle.std.specs.Prelude.{◌≡◌, Some};
+ghost use Rattle.std.specs.Prelude.{◌≡◌, ℕ, Some, if◌then◌else◌};
 ghost use Rattle.mad_draw.specs.Pieces.{pieces_bytes};
-ghost use Rattle.mad_layout.specs.Rows.{mark_pieces};
+ghost use Rattle.mad_layout.specs.Rows.{mark_pieces, left_of_place, right_of_place};
+ghost use Rattle.mad_wrap.specs.WrapLines.{capped};
+ghost use Rattle.mad_style.specs.StyledChars.{styled_char};
 
 use crate::composite::FmtComposite;
 use crate::fmt_inline::FmtInline;
 use crate::fmt_text::FmtText;
 use crate::indents::indent_of;
-use crate::line::FmtLine;
-use crate::rows::{RowPlace, inner_blanks, margins_of, outer_blanks};
+use crate::line::{FmtLine, rule_columns};
+use crate::rows::{RowPlace, inner_blanks, margins_of, outer_blanks, row_columns, rule_chars};
 use crate::skin::MadSkin;
-use mad_draw::{SingleSpaces, Spaces};
+use crate::table::{FmtTableRow, FmtTableRule};
+use mad_draw::{CharRun, RuleAcross, SingleSpaces, Spaces};
+use mad_fit::Spacing;
 use mad_md::{Composite, Compound};
 use mad_style::{CompositeKind, LineStyle, StyledChar};
-use mad_term::{StyledNumber, StyledRun};
+use mad_term::StyledNumber;
 use std::fmt;
 
 // What stands in front of a line's text.
@@ -165,31 +169,7 @@ impl fmt::Display for PlacedComposite<'_, '_> {
     }
 }
 
-// A character `count` times, as one piece; of none nothing is written.
-#[derive(Clone, Copy)]
-struct CharRun {
-    c: StyledChar,
-    count: usize,
-}
-
-impl fmt::Display for CharRun {
-    ghost use Rattle.mad_layout.specs.Rows.{char_run};
-
-    ghost output = { λ r. Some (pieces_bytes (char_run r.c r.count)) };
-
-    #[tactic(auto, using(crate::proofs::PieceLemmas::run_of_chars))]
-    fn fmt<W: fmt::Write>(&self, f: &mut fmt::Formatter<W>) -> fmt::Result {
-        let mut buffer = [0; 4];
-        let run = StyledRun {
-            style: self.c.compound_style().object_style,
-            content: self.c.get_char().encode_utf8(&mut buffer),
-            count: self.count,
-        };
-        write!(f, "{run}")
-    }
-}
-
-// The cells of a table's row, one after another.
+// The cells of a row of a table, a border before each.
 #[derive(Clone, Copy)]
 struct Cells<'a, 's> {
     skin: &'a MadSkin,
@@ -203,6 +183,7 @@ impl fmt::Display for Cells<'_, '_> {
     ghost output = { λ c. Some (pieces_bytes (flat_map (cell_pieces c.skin.now) c.cells.now)) };
 
     fn fmt<W: fmt::Write>(&self, f: &mut fmt::Formatter<W>) -> fmt::Result {
+        let border = vertical(self.skin);
         for composite in self.cells {
             let placed = PlacedComposite {
                 skin: self.skin,
@@ -213,9 +194,92 @@ impl fmt::Display for Cells<'_, '_> {
                     right: false,
                 },
             };
-            write!(f, "{placed}")?;
+            write!(f, "{border}{placed}")?;
         }
         Ok(())
+    }
+}
+
+// A vertical border.
+fn vertical(skin: &MadSkin) -> StyledChar
+    ensures { result ≡ styled_char skin.now.table.compound_style skin.now.table_border_chars.vertical }
+{
+    StyledChar::new(skin.table.compound_style, skin.table_border_chars.vertical)
+}
+
+// The blanks left and right of a line of a table that takes so many columns, at an outer width; those on its right only where they are
+// asked for.
+fn table_blanks(
+    skin: &MadSkin,
+    columns: usize,
+    outer: Option<usize>,
+    right: bool,
+) -> (Spaces, Spaces)
+    ensures left { (n : ℕ) → columns ≡ capped n → result.0 ≡ record { style = skin.now.paragraph.compound_style; count = left_of_place skin.now.table.align n outer } }
+    ensures right { (n : ℕ) → columns ≡ capped n → result.1 ≡ record { style = skin.now.paragraph.compound_style; count = if right then right_of_place skin.now.table.align n outer else 0 } }
+{
+    let style = skin.paragraph.compound_style;
+    let (before, after) = Spacing::optional_completions(skin.table.align, columns, outer);
+    let left = Spaces {
+        style,
+        count: before,
+    };
+    let right = Spaces {
+        style,
+        count: if right { after } else { 0 },
+    };
+    (left, right)
+}
+
+// A row of a table at an outer width.
+#[derive(Clone, Copy)]
+struct PlacedTableRow<'a, 's> {
+    skin: &'a MadSkin,
+    row: &'a FmtTableRow<'s>,
+    outer: Option<usize>,
+    right: bool,
+}
+
+impl fmt::Display for PlacedTableRow<'_, '_> {
+    ghost use Rattle.mad_layout.specs.Rows.{table_row_pieces};
+
+    ghost output = { λ r. Some (pieces_bytes (table_row_pieces r.skin.now r.outer r.right r.row.now.cells.items)) };
+
+    fn fmt<W: fmt::Write>(&self, f: &mut fmt::Formatter<W>) -> fmt::Result {
+        let columns = row_columns(&self.row.cells);
+        let (left, right) = table_blanks(self.skin, columns, self.outer, self.right);
+        let cells = Cells {
+            skin: self.skin,
+            cells: &self.row.cells,
+        };
+        let border = vertical(self.skin);
+        write!(f, "{left}{cells}{border}{right}")
+    }
+}
+
+// A rule across a table at an outer width.
+#[derive(Clone, Copy)]
+struct PlacedTableRule<'a> {
+    skin: &'a MadSkin,
+    rule: &'a FmtTableRule,
+    outer: Option<usize>,
+    right: bool,
+}
+
+impl fmt::Display for PlacedTableRule<'_> {
+    ghost use Rattle.mad_layout.specs.Rows.{table_rule_pieces};
+
+    ghost output = { λ r. Some (pieces_bytes (table_rule_pieces r.skin.now r.outer r.right r.rule.now)) };
+
+    fn fmt<W: fmt::Write>(&self, f: &mut fmt::Formatter<W>) -> fmt::Result {
+        let columns = rule_columns(&self.rule.widths);
+        let (left, right) = table_blanks(self.skin, columns, self.outer, self.right);
+        let rule = RuleAcross {
+            style: self.skin.table.compound_style,
+            chars: rule_chars(&self.skin.table_border_chars, self.rule.position),
+            widths: &self.rule.widths,
+        };
+        write!(f, "{left}{rule}{right}")
     }
 }
 
@@ -249,13 +313,23 @@ impl fmt::Display for PlacedLine<'_, '_> {
                 write!(f, "{placed}")
             }
             FmtLine::TableRow(row) => {
-                let cells = Cells {
+                let placed = PlacedTableRow {
                     skin: self.skin,
-                    cells: &row.cells,
+                    row,
+                    outer: self.outer,
+                    right: self.right,
                 };
-                write!(f, "{cells}")
+                write!(f, "{placed}")
             }
-            FmtLine::TableRule(_) => Ok(()),
+            FmtLine::TableRule(rule) => {
+                let placed = PlacedTableRule {
+                    skin: self.skin,
+                    rule,
+                    outer: self.outer,
+                    right: self.right,
+                };
+                write!(f, "{placed}")
+            }
             FmtLine::HorizontalRule => {
                 let rule = CharRun {
                     c: self.skin.horizontal_rule,

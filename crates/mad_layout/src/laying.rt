@@ -208,7 +208,7 @@ fn wrap_width(width: Option<usize>) -> Option<usize>
     }
 }
 
-fn is_code(kind: CompositeKind) -> bool
+pub(crate) fn is_code(kind: CompositeKind) -> bool
     ensures { result ≡ is_code_kind kind }
 {
     match kind {

@@ -8,7 +8,8 @@
 //! 3. [`composite`], [`line`]: a line with its cached width.
 //! 4. [`wrap`]: wrapping composites and lists of lines, with the fewest lines.
 //! 5. [`bound`]: starts of lines that show that no fitting break has fewer.
-//! 6. [`table`]: lines of a table. `laying`: lines laid out one after another, blocks of code in their place.
+//! 6. [`table`]: lines of a table. `table_columns`, [`table_rows`], [`table_layout`]: the widths of its columns, the rows that a row
+//!    becomes, and whole tables. `laying`: lines laid out one after another, tables and blocks of code as wholes.
 //!    [`code_blocks`]: finding and placing blocks by themselves.
 //!    [`fmt_text`], [`fmt_inline`]: reading a text and laying it out; reading one line.
 //! 7. `rows`: what is written of a line, piece by piece.
@@ -26,7 +27,8 @@ pub mod drawing;
 pub mod examples;
 pub mod fmt_inline;
 pub mod fmt_text;
-pub mod indents;
+pub mod front;
+mod indents;
 pub mod laws;
 mod laying;
 pub mod line;

@@ -4,18 +4,21 @@ ghost use Rattle.std.specs.Prelude.{◌≡◌, Some, true};
 ghost use Rattle.std.specs.Option.{option_copied};
 ghost use Rattle.mad_term.specs.Styles.{IsStyle};
 ghost use Rattle.mad_style.specs.StyledChars.{char_style};
-ghost use Rattle.mad_layout.specs.declared.line.FmtLine.TheVariants.{Normal};
+ghost use Rattle.mad_layout.specs.declared.line.FmtLine.TheVariants.{Normal, TableRow, TableRule};
 ghost use Rattle.mad_draw.specs.Pieces.{AreKnown};
 ghost use Rattle.std.specs.List.{flat_map};
-ghost use Rattle.mad_layout.specs.Rows.{mark_pieces, cell_pieces, line_pieces, row_pieces, inner_blanks, outer_blanks, margins_of};
+ghost use Rattle.mad_layout.specs.Rows.{mark_pieces, cell_pieces, line_pieces, row_pieces, inner_blanks, inner_columns, outer_blanks, margins_of, row_columns, rule_chars};
 ghost use Rattle.mad_layout.specs.Styles.{AreKnownAdditions};
+ghost use Rattle.mad_wrap.specs.WrapLines.{capped};
 
 use crate::composite::FmtComposite;
-use crate::line::FmtLine;
+use crate::line::{FmtLine, rule_columns};
 use crate::skin::MadSkin;
+use crate::table::{FmtTableRow, FmtTableRule, RelativePosition};
+use mad_draw::RuleChars;
 use mad_fit::Spacing;
 use mad_md::Alignment;
-use mad_style::{CompositeKind, CompoundStyle, StyledChar};
+use mad_style::{CompositeKind, CompoundStyle, StyledChar, TableBorderChars};
 
 /// Where a composite stands in a row, in columns.
 #[derive(Clone, Copy)]
@@ -35,6 +38,16 @@ pub(crate) fn inner_blanks(composite: &FmtComposite) -> (usize, usize)
     composite.completions()
 }
 
+/// The columns of a composite: those of its own place, or where it has none those of its text.
+pub(crate) fn inner_columns(composite: &FmtComposite) -> usize
+    ensures { result ≡ inner_columns composite.now }
+{
+    match &composite.spacing {
+        Some(spacing) => spacing.width,
+        None => composite.visible_length,
+    }
+}
+
 /// The blank columns left and right of a composite's own place at the outer width, with the margins.
 pub(crate) fn outer_blanks(
     composite: &FmtComposite,
@@ -43,10 +56,7 @@ pub(crate) fn outer_blanks(
 ) -> (usize, usize)
     ensures { result ≡ outer_blanks align place.outer place.margins composite.now }
 {
-    let inner = match &composite.spacing {
-        Some(spacing) => spacing.width,
-        None => composite.visible_length,
-    };
+    let inner = inner_columns(composite);
     let (left_margin, right_margin) = place.margins;
     let columns = inner
         .saturating_add(left_margin)
@@ -69,28 +79,69 @@ pub(crate) fn margins_of(
     }
 }
 
-/// The columns of blanks beside a line, at most; in a row without a line its width.
-pub(crate) fn row_columns(skin: &MadSkin, line: Option<&FmtLine>, width: usize) -> usize {
+/// The columns of a row of cells: each has a border before it, and one more is the last.
+pub(crate) fn row_columns(cells: &[FmtComposite]) -> usize
+    ensures { result ≡ capped (row_columns cells.now) }
+{
+    let mut columns: usize = 0;
+    for cell in cells {
+        columns = columns
+            .saturating_add(inner_columns(cell))
+            .saturating_add(1);
+    }
+    columns.saturating_add(1)
+}
+
+/// The characters of a rule at this place in its table.
+pub(crate) fn rule_chars(borders: &TableBorderChars, position: RelativePosition) -> RuleChars
+    ensures { result ≡ rule_chars borders.now position }
+{
+    let (left, between, right) = match position {
+        RelativePosition::Top => (
+            borders.top_left_corner,
+            borders.top_junction,
+            borders.top_right_corner,
+        ),
+        RelativePosition::Other => (borders.left_junction, borders.cross, borders.right_junction),
+        RelativePosition::Bottom => (
+            borders.bottom_left_corner,
+            borders.bottom_junction,
+            borders.bottom_right_corner,
+        ),
+    };
+    RuleChars {
+        left,
+        horizontal: borders.horizontal,
+        between,
+        right,
+    }
+}
+
+/// The columns of a row and of the blanks beside its line, at most; of one without a line its width.
+pub(crate) fn most_columns(skin: &MadSkin, line: Option<&FmtLine>, width: usize) -> usize {
     match line {
         Some(FmtLine::Normal(composite)) => {
             let (left, right) = margins_of(skin, composite, Some(width));
             width.saturating_add(left).saturating_add(right)
         }
-        _ => width,
+        Some(FmtLine::TableRow(row)) => width.max(row_columns(&row.cells)),
+        Some(FmtLine::TableRule(rule)) => width.max(rule_columns(&rule.widths)),
+        Some(FmtLine::HorizontalRule) | None => width,
     }
 }
 
 /// What reading a row back needs to know: the numbers of its colors are bytes. Nothing is done.
-#[tactic(auto, using(mad_draw::proofs::PieceLemmas::spaces_known, crate::proofs::KnownLemmas::char_run_known))]
+#[tactic(auto, using(mad_draw::proofs::PieceLemmas::spaces_known, mad_draw::proofs::PieceLemmas::char_run_known))]
 pub(crate) fn read_row(skin: &MadSkin, line: Option<&FmtLine>, width: usize)
     ensures { AreKnown (row_pieces skin.now width (option_copied line.entry)) }
 {
     read_style(skin.paragraph.compound_style);
     match line {
         Some(FmtLine::Normal(composite)) => read_composite(skin, composite, width),
-        Some(FmtLine::TableRow(row)) => read_cells(skin, &row.cells),
+        Some(FmtLine::TableRow(row)) => read_table_row(skin, row, width),
+        Some(FmtLine::TableRule(rule)) => read_table_rule(skin, rule, width),
         Some(FmtLine::HorizontalRule) => read_char(skin.horizontal_rule),
-        Some(FmtLine::TableRule(_)) | None => (),
+        None => (),
     }
 }
 
@@ -110,6 +161,23 @@ fn read_composite(skin: &MadSkin, composite: &FmtComposite, width: usize)
     read_compounds(skin);
 }
 
+// The same of a row of a table.
+fn read_table_row(skin: &MadSkin, row: &FmtTableRow, width: usize)
+    ensures { AreKnown (line_pieces skin.now (Some width) true (TableRow row.now)) }
+{
+    read_style(skin.paragraph.compound_style);
+    read_style(skin.table.compound_style);
+    read_cells(skin, &row.cells);
+}
+
+// The same of a rule across a table.
+fn read_table_rule(skin: &MadSkin, rule: &FmtTableRule, width: usize)
+    ensures { AreKnown (line_pieces skin.now (Some width) true (TableRule rule.now)) }
+{
+    read_style(skin.paragraph.compound_style);
+    read_style(skin.table.compound_style);
+}
+
 // The same of the cells of a row.
 fn read_cells(skin: &MadSkin, cells: &[FmtComposite])
     ensures { AreKnown (flat_map (cell_pieces skin.now) cells.now) }
@@ -124,6 +192,7 @@ fn read_cell(skin: &MadSkin, cell: &FmtComposite)
     ensures { AreKnown (cell_pieces skin.now cell.now) }
 {
     let style = skin.line_style(cell.kind);
+    read_style(skin.table.compound_style);
     read_style(skin.paragraph.compound_style);
     read_style(style.compound_style);
     read_mark(skin, cell.kind);

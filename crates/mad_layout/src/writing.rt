@@ -4,6 +4,7 @@ ghost use Rattle.std.specs.Prelude.{◌≡◌, ◌≤◌, IsErrOf, OnOk};
 ghost use Rattle.mad_term.specs.Draws.{Draws, AndFlushes};
 ghost use Rattle.mad_term.specs.declared.errors.Error.TheVariants.{Memory};
 ghost use Rattle.mad_fit.specs.Areas.{IsWithinLimits};
+ghost use Rattle.mad_layout.specs.Headline.{ShowsFirstRows};
 ghost use Rattle.mad_layout.specs.InArea.{WritesInArea, ShowsText};
 ghost use Rattle.mad_layout.specs.Inlines.{WritesInline, composite_bytes};
 ghost use Rattle.mad_layout.specs.Sources.{LinesTakeColumns, ShowsSource};
@@ -36,11 +37,12 @@ impl MadSkin {
         requires { IsWithinLimits area.now }
         ensures writes { WritesInArea self.now markdown.now area.now (O.seen out.old) result (O.seen out.new) }
         ensures shown { OnOk result (4 ≤ area.now.width → ShowsText self.now markdown.now area.now (O.seen out.old) (O.seen out.new)) }
+        ensures headline { OnOk result (4 ≤ area.now.width → ShowsFirstRows self.now markdown.now area.now (O.seen out.old) (O.seen out.new)) }
 
         // The same with no premise but on the source: each of its characters takes columns, line ends apart.
         ensures shown_source { OnOk result (4 ≤ area.now.width → LinesTakeColumns markdown.now → ShowsSource self.now markdown.now area.now (O.seen out.old) (O.seen out.new)) }
     {
-        let text = self.area_text(alloc, markdown, area)?;
+        let text = self.area_front(alloc, markdown, area)?;
         draw_text(alloc, out, &text, area, 0)
     }
 
@@ -49,7 +51,7 @@ impl MadSkin {
     /// # Errors
     ///
     /// A fault of the device, at its flush too, or out of memory. What went out by then is a beginning of the whole.
-    #[tactic(auto, using(crate::proofs::HeadlineLemmas::shown_flushed, crate::proofs::SourceLemmas::source_flushed))]
+    #[tactic(auto, using(crate::proofs::HeadlineLemmas::shown_flushed, crate::proofs::HeadlineRows::headline_flushed, crate::proofs::SourceLemmas::source_flushed))]
     pub fn write_in_area<O: Out>(
         &self,
         alloc: Global,
@@ -60,6 +62,7 @@ impl MadSkin {
         requires { IsWithinLimits area.now }
         ensures writes { AndFlushes (WritesInArea self.now markdown.now area.now) (O.seen out.old) result (O.seen out.new) }
         ensures shown { OnOk result (4 ≤ area.now.width → ShowsText self.now markdown.now area.now (O.seen out.old) (O.seen out.new)) }
+        ensures headline { OnOk result (4 ≤ area.now.width → ShowsFirstRows self.now markdown.now area.now (O.seen out.old) (O.seen out.new)) }
         ensures shown_source { OnOk result (4 ≤ area.now.width → LinesTakeColumns markdown.now → ShowsSource self.now markdown.now area.now (O.seen out.old) (O.seen out.new)) }
     {
         self.write_in_area_on(alloc, out, markdown, area)?;

@@ -110,8 +110,8 @@ fn lines_between(lines: &Vec<Line>, from: Pos, to: Pos, text: &str) -> Result<Ne
     requires from { IsPlace (lines_of lines.now.items) from }
     requires to { IsPlace (lines_of lines.now.items) to }
     requires plain { All IsPlainLine (lines_of lines.now.items) }
-    ensures text { IfOk result (λ t. text_of (lines_of t.lines.items)
-        ≡ take from.x (line_at (lines_of lines.now.items) from.y) ++ (accepted (chars text.now) ++ drop to.x (line_at (lines_of lines.now.items) to.y))) }
+    ensures text { let ls = lines_of lines.now.items in IfOk result (λ t. text_of (lines_of t.lines.items)
+        ≡ take from.x (line_at ls from.y) ++ (accepted (chars text.now) ++ drop to.x (line_at ls to.y))) }
     ensures end { IfOk result (λ t. IsPlace (lines_of t.lines.items) t.end) }
     ensures ends_at { IfOk result (λ t. offset_of (lines_of t.lines.items) t.end ≡ from.x + length (accepted (chars text.now))) }
     ensures plain { IfOk result (λ t. All IsPlainLine (lines_of t.lines.items)) }

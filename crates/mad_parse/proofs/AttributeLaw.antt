@@ -1,16 +1,17 @@
 -- Attributes that are added one by one.
-use Rattle.std.proofs.Common.{◌≡◌, ℕ, zero, suc, ◌<◌, ◌^◌, ◌==◌, ◌||◌, ◌&&◌, Bool, true, false, List, [], ◌∷◌, filter, refl, sym, ap, ◌∙◌, arith, subst, max, slice_index_or, eqb, eqb-true, inl, inr}
+use Rattle.std.proofs.Common.{◌≡◌, ℕ, ◌^◌, ◌==◌, ◌||◌, ◌&&◌, Bool, true, false, List, [], ◌∷◌, filter, refl, sym, ap, ◌∙◌, eqb, eqb-true, inl, inr}
 use Rattle.std.specs.Int.{bit_at}
-use Rattle.std.proofs.lemmas.Bool.{cases_Bool, cond-false, cond-true, eqb-false, agree_below_at}
+use Rattle.std.proofs.lemmas.Bool.{cases_Bool, cond-false, cond-true, eqb-false}
 use Rattle.std.proofs.Math.Bool.{and-false, and-true, or-false, or_assoc}
-use Rattle.std.proofs.lemmas.Nat.Bits.{bit_at_or, bit_at-lt, bit_at-zero, bit_at-pow_same, bit_at-pow_other}
-use Rattle.mad_term.specs.Attribute.{all_attributes, attribute_index}
+use Rattle.std.proofs.lemmas.Nat.Bits.{bit_at-zero, bit_at-pow_same, bit_at-pow_other}
+use Rattle.mad_term.specs.Attribute.{attribute_index}
 use Rattle.mad_term.specs.Attributes.{attribute_bits, has_attribute}
 use Rattle.mad_term.specs.AttributeSets.{no_attributes, only, united}
 use Rattle.mad_term.specs.declared.attribute.Attribute.{Attribute}
 use Rattle.mad_term.specs.declared.attribute.Attribute.TheVariants as attribute
 use Rattle.mad_term.specs.declared.attributes.Attributes.{Attributes}
-use Rattle.mad_term.proofs.SameAttributes.{bits_same, same_bits}
+use Rattle.mad_term.proofs.Bits.{or_test}
+use Rattle.mad_term.proofs.SameAttributes.{same_sets}
 use Rattle.mad_parse.specs.ReadsBack.{is_written}
 use Rattle.mad_parse.specs.Written.{written_attributes}
 
@@ -26,15 +27,6 @@ is_in a (b ∷ list) = (attribute_index b == attribute_index a) || is_in a list
 has_none : (a : Attribute) → has_attribute no_attributes a ≡ false
 has_none a = ap (λ b. eqb b 1) (bit_at-zero (attribute_index a))
 
-either_one : (x y : ℕ) → x < 2 → y < 2 → (max x y == 1) ≡ ((x == 1) || (y == 1))
-either_one zero zero p q = refl
-either_one zero (suc zero) p q = refl
-either_one zero (suc (suc y)) p q = absurd (omega arith)
-either_one (suc zero) zero p q = refl
-either_one (suc zero) (suc zero) p q = refl
-either_one (suc zero) (suc (suc y)) p q = absurd (omega arith)
-either_one (suc (suc x)) y p q = absurd (omega arith)
-
 one_bit : (i k : ℕ) → (bit_at (2 ^ k) i == 1) ≡ (k == i)
 one_bit i k =
     elim (cases_Bool (k == i)) as (λ _. (bit_at (2 ^ k) i == 1) ≡ (k == i)) [
@@ -46,8 +38,7 @@ one_bit i k =
 has_more : (s : Attributes) (b a : Attribute) → has_attribute (united s (only b)) a ≡ (has_attribute s a || (attribute_index b == attribute_index a))
 has_more s b a =
     let i = attribute_index a in
-    ap (λ x. x == 1) (bit_at_or (attribute_bits s) (2 ^ attribute_index b) i)
-    ∙ either_one (bit_at (attribute_bits s) i) (bit_at (2 ^ attribute_index b) i) (bit_at-lt (attribute_bits s) i) (bit_at-lt (2 ^ attribute_index b) i)
+    or_test (attribute_bits s) (2 ^ attribute_index b) i
     ∙ ap (λ x. has_attribute s a || x) (one_bit i (attribute_index b))
 
 has_added : (s : Attributes) (list : List Attribute) (a : Attribute) → has_attribute (added s list) a ≡ (has_attribute s a || is_in a list)
@@ -120,29 +111,6 @@ has_back s list h a =
       | inl within ↦ ap (λ x. has_attribute s a && x) within ∙ and-true (has_attribute s a)
       | inr other ↦ ap (λ x. has_attribute s a && x) other ∙ and-false (has_attribute s a) ∙ sym (h a other)
     ]
-
--- ---- sets with the same attributes
-
-abbrev at : ℕ → Attribute
-at i = slice_index_or all_attributes i attribute.Reset
-
-attribute_at : (i : ℕ) → i < 24 → attribute_index (at i) ≡ i
-attribute_at i low = eqb-true (attribute_index (at i)) i (agree_below_at (λ k. eqb (attribute_index (at k)) k) (λ _. true) 24 i refl low)
-
-bit_from : (x y : ℕ) → x < 2 → y < 2 → eqb x 1 ≡ eqb y 1 → x ≡ y
-bit_from zero zero p q e = refl
-bit_from zero (suc zero) p q e = cc
-bit_from zero (suc (suc y)) p q e = absurd (omega arith)
-bit_from (suc zero) zero p q e = cc
-bit_from (suc zero) (suc zero) p q e = refl
-bit_from (suc zero) (suc (suc y)) p q e = absurd (omega arith)
-bit_from (suc (suc x)) y p q e = absurd (omega arith)
-
-same_sets : (s t : Attributes) → ((a : Attribute) → has_attribute s a ≡ has_attribute t a) → s ≡ t
-same_sets s t h =
-    same_bits s t (bits_same 24 (attribute_bits s) (attribute_bits t) s.within t.within (λ i low.
-    bit_from (bit_at (attribute_bits s) i) (bit_at (attribute_bits t) i) (bit_at-lt (attribute_bits s) i) (bit_at-lt (attribute_bits t) i)
-    (subst (λ k. eqb (bit_at (attribute_bits s) k) 1 ≡ eqb (bit_at (attribute_bits t) k) 1) (attribute_at i low) (h (at i)))))
 
 -- the attributes of a set that are written give it back, where it has no others
 pub added_back : (s : Attributes) → ((a : Attribute) → is_written a ≡ false → has_attribute s a ≡ false) → added no_attributes (filter (has_attribute s) written_attributes) ≡ s

@@ -49,7 +49,7 @@ pub fn write_align<O: Out>(out: &mut O, align: Alignment) -> Result<(), Error>
     Ok(())
 }
 
-// The name of an align; nothing where it isn't specified.
+/// The name of an align; nothing where it isn't specified.
 pub(crate) fn align_name(align: Alignment) -> &'static str
     ensures { result.now ≡ align_text align }
 {

@@ -129,7 +129,7 @@ pub fn write_attribute<O: Out>(out: &mut O, attribute: Attribute) -> Result<(), 
     Ok(())
 }
 
-// The name of an attribute; nothing of `Reset`.
+/// The name of an attribute; nothing of `Reset`.
 pub(crate) fn attribute_name(attribute: Attribute) -> &'static str
     ensures { result.now ≡ attribute_text attribute }
 {

@@ -27,7 +27,7 @@ impl Class {
     }
 }
 
-// The first token of a text that isn't empty, and the rest.
+/// The first token of a text that isn't empty, and the rest.
 pub(crate) fn cut_token(text: &str) -> (&str, &str)
     requires { 0 < length text.now }
     ensures whole { result.0.now ++ result.1.now ≡ text.entry.now }

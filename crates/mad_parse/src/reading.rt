@@ -50,6 +50,7 @@ pub fn line_style_from(tokens: &[StyleToken]) -> LineStyle
     style
 }
 
+/// The first character of the tokens, or else the default one, in the style of all of them.
 pub(crate) fn styled_char_from(tokens: &[StyleToken], default: char) -> StyledChar
     ensures { result ≡ styled_char_of default tokens.now }
 {
@@ -67,6 +68,7 @@ fn first_char(tokens: &[StyleToken], default: char) -> char
     default
 }
 
+/// The style of a number, by the tokens before the first character, and its suffix, by that character and those after it.
 pub(crate) fn item_style_from(tokens: &[StyleToken], default: char) -> OrderedItemStyle
     ensures { result ≡ item_style_of default tokens.now }
 {

@@ -28,7 +28,7 @@ pub enum StyleToken {
 }
 
 impl StyleToken {
-    // A color or an attribute that is `Reset` and an align that isn't specified have no text.
+    /// Whether it has a text: a color or an attribute that is `Reset` and an align that isn't specified have no text.
     pub(crate) fn has_text(self) -> bool
         ensures { result ≡ has_text self }
     {

@@ -95,12 +95,14 @@ impl Screen {
         self.pen
     }
 
+    /// How many rows it has.
     pub(crate) fn height(&self) -> u16
         ensures { result ≡ self.now.height }
     {
         self.height
     }
 
+    /// Its cells, row by row from the top.
     pub(crate) fn cells(&self) -> &[Cell]
         ensures { result.now ≡ self.now.cells }
     {
@@ -117,6 +119,7 @@ impl Screen {
         &self.cells[start..start + width]
     }
 
+    /// The allocator that its cells were made with.
     pub(crate) fn allocator(&self) -> Global {
         *self.cells.allocator()
     }
@@ -149,6 +152,7 @@ impl Screen {
         Ok(())
     }
 
+    /// Where the cursor's row begins among the cells.
     fn row_start(&self) -> usize
         ensures { result ≡ self.now.y * self.now.width }
     {
@@ -230,6 +234,7 @@ impl Screen {
         }
     }
 
+    /// Leaves spaces of the pen's background in the cells between two positions.
     fn erase(&mut self, from: usize, to: usize) -> Result<(), AllocError>
         ensures { OnOk result (self.new ≡ erased from to self.old) }
     {
@@ -280,6 +285,7 @@ impl Screen {
         }
     }
 
+    /// A copy of the screen.
     fn copy(&self) -> Result<Self, AllocError>
         ensures { IfOk result (λ screen. screen ≡ self.now) }
     {

@@ -56,3 +56,7 @@ same_number m n v w e =
 -- two sets are one where their numbers are
 pub same_bits : (s t : Attributes) → attribute_bits s ≡ attribute_bits t → s ≡ t
 same_bits s t e = same_number _ _ s.within t.within e
+
+-- two sets with the same attributes are one
+pub same_sets : (s t : Attributes) → ((a : Attribute) → has_attribute s a ≡ has_attribute t a) → s ≡ t
+same_sets s t h = same_bits s t (bits_from (attribute_bits s) (attribute_bits t) s.within t.within h)

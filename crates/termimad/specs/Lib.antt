@@ -64,10 +64,15 @@ pub use Rattle.mad_fit.specs.TokensLeft
 pub use Rattle.mad_draw.specs.DrawnRows
 pub use Rattle.mad_draw.specs.Pieces
 pub use Rattle.mad_draw.specs.PennedCells
+pub use Rattle.mad_draw.specs.TableRules
 pub use Rattle.mad_layout.specs.CodeBlocks
 pub use Rattle.mad_layout.specs.CompositeWraps
 pub use Rattle.mad_layout.specs.Drawable
 pub use Rattle.mad_layout.specs.FittingLayouts
+pub use Rattle.mad_layout.specs.FlaggedLines
+pub use Rattle.mad_layout.specs.FlaggedRows
+pub use Rattle.mad_layout.specs.Fronts
+pub use Rattle.mad_layout.specs.Headline
 pub use Rattle.mad_layout.specs.InArea
 pub use Rattle.mad_layout.specs.Indents
 pub use Rattle.mad_layout.specs.Inlines
@@ -76,6 +81,7 @@ pub use Rattle.mad_layout.specs.Layouts
 pub use Rattle.mad_layout.specs.Lines as LayoutLines
 pub use Rattle.mad_layout.specs.MadeSkins
 pub use Rattle.mad_layout.specs.Parts as LayoutParts
+pub use Rattle.mad_layout.specs.PlainTables
 pub use Rattle.mad_layout.specs.Premises
 pub use Rattle.mad_layout.specs.RecoloredSkins
 pub use Rattle.mad_layout.specs.Rows
@@ -84,6 +90,8 @@ pub use Rattle.mad_layout.specs.ShownLayouts
 pub use Rattle.mad_layout.specs.SkinParts
 pub use Rattle.mad_layout.specs.Skins
 pub use Rattle.mad_layout.specs.Styles as SkinStyles
+pub use Rattle.mad_layout.specs.TableLaws
+pub use Rattle.mad_layout.specs.Tables
 pub use Rattle.mad_layout.specs.Texts
 pub use Rattle.mad_layout.specs.WrappedLines
 pub use Rattle.mad_layout.specs.Wraps
@@ -105,6 +113,7 @@ pub use Rattle.mad_json.specs.Fields as SkinFields
 pub use Rattle.mad_json.specs.Lists as SkinLists
 pub use Rattle.mad_json.specs.Modes
 pub use Rattle.mad_json.specs.Reading as SkinReading
+pub use Rattle.mad_json.specs.ReadsBack as SkinsReadBack
 pub use Rattle.mad_json.specs.ScrollBars
 pub use Rattle.mad_json.specs.Texts as SkinTexts
 pub use Rattle.mad_json.specs.Written as SkinWritten

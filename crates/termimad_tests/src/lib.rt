@@ -10,6 +10,8 @@ mod pages;
 #[cfg(test)]
 mod picture;
 #[cfg(test)]
+mod tables;
+#[cfg(test)]
 mod texts;
 #[cfg(test)]
 mod views;

@@ -125,7 +125,7 @@ fn margins_without_end(rt: HostRuntime) -> Result<(), Error> {
 #[test]
 fn words_on_a_screen_are_shown(rt: HostRuntime) -> Result<(), Error> {
     let screen = words_on_a_screen(rt.alloc())?;
-    for (x, y, wanted) in [(2, 1, 'a'), (9, 1, 'c'), (0, 0, ' ')] {
+    for (x, y, wanted) in [(2, 1, 'a'), (9, 1, 'c'), (0, 0, 'z'), (1, 0, ' ')] {
         let cell = screen.cell(x, y);
         assert!(rt;
             cell.is_some_and(|cell| cell.chars.as_slice() == [wanted].as_slice()),

@@ -159,3 +159,16 @@ fn areas_on_a_device_whose_flush_fails(rt: HostRuntime) -> Result<(), Error> {
     assert_eq!(rt; (out.puts(), out.flushes()), (2, 1));
     Ok(())
 }
+
+#[test]
+fn texts_on_a_device_whose_flush_fails(rt: HostRuntime) -> Result<(), Error> {
+    let alloc = rt.alloc();
+    let skin = MadSkin::no_style();
+    let mut out = CutOut::new(alloc, ROOM, ROOM, true)?;
+    let done = skin.write_text_on(alloc, &mut out, "a\n\nb", Some(5));
+    assert_flush_fails(&rt, done, &out, false, "a\n\nb\n");
+    let mut out = CutOut::new(alloc, ROOM, ROOM, true)?;
+    let done = skin.write_text(alloc, &mut out, "a\n\nb", Some(5));
+    assert_flush_fails(&rt, done, &out, true, "a\n\nb\n");
+    Ok(())
+}

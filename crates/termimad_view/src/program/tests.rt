@@ -412,10 +412,12 @@ fn a_failing_output_has_taken_a_beginning(rt: HostRuntime) -> Result<(), Fail> {
     for room in 0..56 {
         expect_front(&rt, "area|0|0|12|3", b"hello", HELLO, room, false)?;
         expect_front(&rt, "inline|default", b"**some** x", SOME, room, false)?;
+        expect_front(&rt, "text|5", b"a\n\nb", b"a\n\nb\n", room, false)?;
     }
     expect_front(&rt, "area|0|0|12|3", b"hello", HELLO, ROOM, true)?;
     expect_front(&rt, "inline|default", b"**some** x", SOME, ROOM, true)?;
     expect_front(&rt, "area|0|0|4|0", b"hello", b"", ROOM, true)?;
+    expect_front(&rt, "text|5", b"a\n\nb", b"a\n\nb\n", ROOM, true)?;
     Ok(())
 }
 
@@ -474,6 +476,8 @@ fn a_megabyte_and_a_line_of_many_marks(rt: HostRuntime) -> Result<(), Fail> {
     )?;
     let rows = format!(in alloc; "\x1b[1;1H{row} \x1b[2;1H{row} ")?;
     expect_large(&rt, "area|0|0|80|2", word.as_str(), rows.as_str())?;
+    let lines = format!(in alloc; "{row}a\n")?.repeat(alloc, 12_500)?;
+    expect_large(&rt, "text|80", word.as_str(), lines.as_str())?;
     let marks = "*a*b".repeat(alloc, 50_000)?;
     let unmarked = format!(in alloc; "{}\n", "ab".repeat(alloc, 50_000)?)?;
     expect_large(&rt, "inline", marks.as_str(), unmarked.as_str())?;

@@ -4,11 +4,11 @@ use Rattle.serde_json.specs.View.{members_view}
 use Rattle.mad_json.specs.Written.{mark_data}
 use Rattle.mad_json.proofs.writing.put_marks.Goals as goal
 
-pub returns : goal.returns
-returns c =
+pub returns-clause-value : goal.returns-clause-value
+returns-clause-value c =
     let skin = c.args.skin.now in
     c.in_ok-put.ensures.ok
-    ∙ ap (λ bar. put (codes "scrollbar") bar (members_view c.put_mark-3.new.members.entries)) c.in_ok-bar_value.ensures
-    ∙ ap (put (codes "scrollbar") _) (c.in_ok-put_mark-3.ensures
-    ∙ ap (put (codes "horizontal_rule") (mark_data skin.horizontal_rule)) (c.in_ok-put_mark-2.ensures
-    ∙ ap (put (codes "quote") (mark_data skin.quote_mark)) c.in_ok-put_mark.ensures))
+    ∙ ap (λ bar. put (codes "scrollbar") bar (members_view c.put_mark-3.new.members.entries)) c.in_ok-bar_value.ensures.value
+    ∙ ap (put (codes "scrollbar") _) (c.in_ok-put_mark-3.ensures.value
+    ∙ ap (put (codes "horizontal_rule") (mark_data skin.horizontal_rule)) (c.in_ok-put_mark-2.ensures.value
+    ∙ ap (put (codes "quote") (mark_data skin.quote_mark)) c.in_ok-put_mark.ensures.value))

@@ -1,7 +1,7 @@
-use Rattle.std.proofs.Common.{◌≡◌, ◌+◌, ◌*◌, ◌≤◌, ◌<◌, ◌^◌, [], arith, sym, subst, rules, length}
+use Rattle.std.proofs.Common.{◌+◌, ◌*◌, ◌≤◌, [], arith, subst, rules}
 use Rattle.mad_widths.specs.SeenCells.{TableHasSeen}
 use Rattle.mad_layout.specs.Tables.{lengths_in, rows_among}
-use Rattle.mad_layout.proofs.TableWidths.{lengths_start, kept_fitted, kept_narrow, ok_narrow}
+use Rattle.mad_layout.proofs.TableWidths.{lengths_start, kept_fitted, ok_narrow}
 use Rattle.mad_layout.proofs.table_columns.kept_widths.Goals as goal
 
 pub returns-then-most-nbcols : goal.returns-then-most-nbcols

@@ -2,7 +2,6 @@ use Rattle.std.proofs.Common.{◌≡◌, [], false, sym, ap, ◌∙◌, arith}
 use Rattle.std.specs.Vec.Iter.{into_iter_items}
 use Rattle.std.proofs.lemmas.Grind.{common_steps}
 use Rattle.mad_layout.specs.Tables.{is_table_line}
-use Rattle.mad_layout.specs.declared.line.FmtLine.{FmtLine}
 use Rattle.mad_layout.proofs.LayoutLemmas.{then_ok}
 use Rattle.mad_layout.proofs.TableLemmas.{tables_other, tables_all}
 use Rattle.mad_layout.proofs.table_layout.fix_all_tables.Goals as goal

@@ -1,4 +1,4 @@
-use Rattle.std.proofs.Common.{refl, arith, ap, ◌∙◌, max, length}
+use Rattle.std.proofs.Common.{refl, arith}
 use Rattle.std.specs.Vec.Iter.{into_iter_items}
 use Rattle.std.proofs.lemmas.List.{drop_all}
 use Rattle.mad_layout.proofs.TableLemmas.{cells_more, cells_all}

@@ -1,5 +1,5 @@
 use Rattle.std.proofs.Common.{◌∙◌, ap, ◌++◌, ◌∷◌, []}
-use Rattle.mad_layout.proofs.LayoutLemmas.{laid_table_line, then_ok}
+use Rattle.mad_layout.proofs.LayoutLemmas.{laid_table_line}
 use Rattle.mad_layout.proofs.laying.Laying.push_table_line.Goals as goal
 
 pub returns-clause-laid : goal.returns-clause-laid

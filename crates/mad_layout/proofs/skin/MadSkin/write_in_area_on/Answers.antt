@@ -1,4 +1,5 @@
 use Rattle.mad_layout.proofs.HeadlineLemmas.{text_shown}
+use Rattle.mad_layout.proofs.HeadlineRows.{headline_shown}
 use Rattle.mad_layout.proofs.SourceLemmas.{source_shown}
 use Rattle.mad_layout.proofs.skin.MadSkin.write_in_area_on.Goals as goal
 
@@ -7,3 +8,6 @@ returns-clause-shown g c = text_shown c.draw_text.result _ _ _ _ _ (g.O.Out.seen
 
 pub returns-clause-shown_source : goal.returns-clause-shown_source
 returns-clause-shown_source g c = source_shown c.draw_text.result _ _ _ (g.O.Out.seen c.args.out.now) (g.O.Out.seen c.draw_text.new.out) (returns-clause-shown g c)
+
+pub returns-clause-headline : goal.returns-clause-headline
+returns-clause-headline g c = headline_shown c.draw_text.result _ _ _ (g.O.Out.seen c.args.out.now) (g.O.Out.seen c.draw_text.new.out) c.requires (returns-clause-shown g c)

@@ -1,0 +1,381 @@
+-- A table that is laid out is drawn exactly.
+use Rattle.std.proofs.Common.{◌≡◌, ℕ, zero, suc, ◌+◌, ◌-◌, ◌^◌, ◌<◌, ◌≤◌, Bool, true, false, inl, inr, List, [], ◌∷◌, ◌++◌, map, max, Option, Some, Contains, length, take, refl, ap, sym, ◌∙◌, subst, arith, append_assoc}
+use Rattle.std.specs.Prelude.{IfSome, unwrap_or, ◌==◌}
+use Rattle.std.specs.List.{AllByRecursion}
+use Rattle.mad_columns.specs.Columns.{char_columns}
+use Rattle.mad_md.specs.Flagged.{FlaggedChar, Run, run_of, flagged_text}
+use Rattle.mad_md.specs.Lines.{StyledRuns, LineContent, normal, table_row, table_rule, horizontal_rule}
+use Rattle.mad_md.specs.declared.alignment.Alignment.{Alignment}
+use Rattle.mad_md.specs.declared.compound.Compound.{Compound}
+use Rattle.mad_style.specs.Kinds.{kind_of}
+use Rattle.mad_style.specs.declared.kinds.CompositeKind.{CompositeKind}
+use Rattle.mad_fit.specs.Columns.{width_of}
+use Rattle.mad_fit.specs.Tokens.{token_run}
+use Rattle.mad_fit.specs.declared.spacing.Spacing.{Spacing}
+use Rattle.mad_fit.specs.declared.tokens.Token.{Token}
+use Rattle.mad_fit.proofs.AllLemmas.{all_joined, all_each}
+use Rattle.mad_fit.proofs.ExistLemmas.{tokens_of_all}
+use Rattle.mad_wrap.specs.Rooms.{most_indent, token_limit}
+use Rattle.mad_wrap.specs.WrapLines.{HasRoom, LinesFit, IsMadeOf}
+use Rattle.mad_wrap.specs.declared.room.Room.{Room}
+use Rattle.mad_draw.specs.Pieces.{AreShownPieces, pieces_columns}
+use Rattle.mad_layout.specs.CompositeWraps.{line_compounds, HaveKinds}
+use Rattle.mad_layout.specs.Drawable.{FillsItsPlace, IsDrawableRow, IsDrawableRule, IsDrawableLine, AreDrawable}
+use Rattle.mad_layout.specs.FittingLayouts.{IsFittingWrap}
+use Rattle.mad_layout.specs.Indents.{indent, follow_up, room_of}
+use Rattle.mad_layout.specs.Layouts.{AreRead}
+use Rattle.mad_layout.specs.Lines.{bordered, rule_columns, AreCompositesRead, IsLineRead}
+use Rattle.mad_layout.specs.PlainTables.{ArePlainCells, IsPlainTableLine}
+use Rattle.mad_layout.specs.Premises.{IsPlainRun, runs_text, IsPlainPrefix, IsPlainCell, AreBordersShown, IsPlainContent, KeepsPremises}
+use Rattle.mad_layout.specs.Rows.{compound_piece, inner_columns, mark_pieces, place_of, row_columns}
+use Rattle.mad_layout.specs.Styles.{line_style}
+use Rattle.mad_layout.specs.Tables.{AreKeptWidths, in_column, IsBlankIn, columns_with, centered, columns_from, columns_count, columns_in, is_table_line, position_at, IsTop, IsAcross, AreDown, below, IsCellLaidOut, AreCellsLaidOut, IsRuleLaidOut, IsTableLineBy, AreTableLinesBy, IsTableLaidOutBy}
+use Rattle.mad_layout.specs.Wraps.{text_of, columns_of, IsMeasured}
+use Rattle.mad_layout.specs.declared.skin.MadSkin.{MadSkin}
+use Rattle.mad_layout.specs.declared.composite.FmtComposite.{FmtComposite}
+use Rattle.mad_layout.specs.declared.line.FmtLine.{FmtLine}
+use Rattle.mad_layout.specs.declared.line.FmtLine.TheVariants.{Normal, TableRow, TableRule, HorizontalRule}
+use Rattle.mad_layout.specs.declared.table.FmtTableRow.{FmtTableRow}
+use Rattle.mad_layout.specs.declared.table.FmtTableRule.{FmtTableRule}
+use Rattle.mad_layout.specs.declared.table.RelativePosition.{RelativePosition}
+use Rattle.mad_layout.proofs.DrawnParts.{each_of, pieces_shown, runs_are, some_joined, utf8_of}
+use Rattle.mad_layout.proofs.MarkLemmas.{mark_shown, mark_columns, follow_up_plain}
+use Rattle.mad_layout.proofs.PartRuns.{AllTableLines}
+use Rattle.mad_layout.proofs.WholeTokens.{IsShownRun, plain_is_shown, tokens_shown}
+
+-- ---- a line of a cell
+
+-- lines of a cell, each of which fills its place in a column
+abbrev FillColumn : MadSkin → Spacing → List FmtComposite → Type 0
+FillColumn skin c ls = AllByRecursion (λ l. FillsItsPlace skin (in_column c l)) ls
+
+fills_column : (skin : MadSkin) (c : Spacing) (l : FmtComposite) → c.width < 2 ^ 64 - 1 → IsPlainPrefix skin l.kind → IsMeasured skin l → columns_of skin l ≤ c.width
+    → AllByRecursion IsShownRun (map run_of l.compounds.items) → FillsItsPlace skin (in_column c l)
+fills_column skin c l bound prefix measured fits shown =
+    let same : l.visible_length ≡ columns_of skin l = omega (arith, measured, fits, bound) in
+    record {
+      measured = same;
+      place = omega (arith, same, fits);
+      mark = mark_shown skin l.kind prefix;
+      indent_is = mark_columns skin l.kind prefix;
+      text = pieces_shown skin (line_style skin l.kind) l.compounds.items shown;
+    }
+
+wrapped_fill : (skin : MadSkin) (c : Spacing) (first : ℕ) (kind other : CompositeKind) (r : Room) (ps : List Compound) (ts : List Token) (wrap : List FmtComposite) → c.width < 2 ^ 64 - 1 → r.width ≡ c.width
+    → first ≡ indent skin.list_items_indentation_mode kind → r.other ≡ indent skin.list_items_indentation_mode other → IsPlainPrefix skin kind → IsPlainPrefix skin other
+    → AllByRecursion IsShownRun (map run_of ps ++ map token_run ts) → HaveKinds kind other wrap → AllByRecursion (IsMeasured skin) wrap → LinesFit first r (map flagged_text (line_compounds wrap))
+    → AllByRecursion (IsMadeOf ps ts) (line_compounds wrap) → FillColumn skin c wrap
+wrapped_fill skin c first kind other r ps ts [] bound width first_is other_is prefix follow shown kinds measured fits parts = tt
+wrapped_fill skin c first kind other r ps ts (l ∷ ls) bound width first_is other_is prefix follow shown kinds measured fits parts =
+    let runs = map run_of ps ++ map token_run ts in
+    let own : indent skin.list_items_indentation_mode l.kind ≡ first = ap (indent skin.list_items_indentation_mode) kinds.0 ∙ sym first_is in
+    let columns : columns_of skin l ≤ c.width = omega (arith, own, width, fits.0) in (
+      fills_column skin c l bound (subst (IsPlainPrefix skin) (sym kinds.0) prefix) measured.0 columns
+          (all_each (Contains runs) IsShownRun (λ x has. each_of IsShownRun runs x shown has) (map run_of l.compounds.items) parts.0),
+      wrapped_fill skin c r.other other other r ps ts ls bound width other_is other_is follow follow shown kinds.1 measured.1 fits.1 parts.1,
+    )
+
+cell_fills : (skin : MadSkin) (c : Spacing) (cell : FmtComposite) (ls : List FmtComposite) → c.width < 2 ^ 64 - 1 → IsMeasured skin cell → IsPlainCell skin c.width cell.kind (map run_of cell.compounds.items)
+    → IsCellLaidOut IsFittingWrap skin c.width cell ls → FillColumn skin c ls
+cell_fills skin c cell ls bound measured plain (inl (fits, same)) =
+    let columns : columns_of skin cell ≤ c.width = omega (arith, measured, fits, bound) in
+    let one = fills_column skin c cell bound plain.prefix measured columns (all_each IsPlainRun IsShownRun plain_is_shown (map run_of cell.compounds.items) plain.plain) in
+    subst (FillColumn skin c) (sym same) (one, tt)
+cell_fills skin c cell ls bound measured plain (inr (wide, wraps)) =
+    let ps = cell.compounds.items in
+    let r : Room = room_of skin cell.kind c.width in
+    let text : runs_text (map run_of ps) ≡ text_of cell = runs_are ps in
+    let premise = λ (t : List FlaggedChar). c.width < indent skin.list_items_indentation_mode cell.kind + width_of t → HasRoom r t in
+    let room_where : premise (text_of cell) = subst premise text plain.room in
+    let room : HasRoom r (text_of cell) = room_where (omega (arith, measured, wide)) in
+    let narrow : AllByRecursion (λ x. char_columns x.char ≤ token_limit r) (flagged_text ps) =
+    all_each (λ x. most_indent r + char_columns x.char ≤ r.width) (λ x. char_columns x.char ≤ token_limit r) (λ x h. omega (arith, h)) (flagged_text ps) room.each in
+    let tokens = tokens_of_all (token_limit r) ps (utf8_of ps plain.plain) in
+    let shown = all_joined IsShownRun (map run_of ps) (map token_run tokens.0) (all_each IsPlainRun IsShownRun plain_is_shown (map run_of ps) plain.plain)
+    (tokens_shown (token_limit r) ps tokens.0 plain.plain narrow tokens.1) in
+    wrapped_fill skin c r.first cell.kind (follow_up cell.kind) r ps tokens.0 ls bound refl refl refl plain.prefix (follow_up_plain skin cell.kind plain.prefix) shown wraps.kinds wraps.measured (wraps.fits room)
+    (wraps.parts tokens.0 tokens.1)
+
+-- ---- a row
+
+-- the widths of columns
+abbrev pub widths_of : List Spacing → List ℕ
+widths_of cs = map (λ c. c.width) cs
+
+-- the lines of each cell fill their places in its column
+abbrev FillColumns : MadSkin → List Spacing → List (List FmtComposite) → Type 0
+FillColumns skin [] lines = Unit {0}
+FillColumns skin (c ∷ cs) [] = Unit {0}
+FillColumns skin (c ∷ cs) (ls ∷ lines) = FillColumn skin c ls × FillColumns skin cs lines
+
+no_cells : (skin : MadSkin) (ws : List ℕ) → ArePlainCells skin ws []
+no_cells skin [] = tt
+no_cells skin (w ∷ ws) = tt
+
+cells_fill : (skin : MadSkin) (cs : List Spacing) (cells : List FmtComposite) (lines : List (List FmtComposite)) → AllByRecursion (λ c. c.width < 2 ^ 64 - 1) cs → ArePlainCells skin (widths_of cs) cells
+    → AreCellsLaidOut IsFittingWrap skin cs cells lines → FillColumns skin cs lines
+cells_fill skin [] cells lines bound plain laid = tt
+cells_fill skin (c ∷ cs) cells [] bound plain laid = tt
+cells_fill skin (c ∷ cs) [] (ls ∷ lines) bound plain laid = (subst (FillColumn skin c) (sym laid.0) tt, cells_fill skin cs [] lines bound.1 (no_cells skin (widths_of cs)) laid.1)
+cells_fill skin (c ∷ cs) (cell ∷ cells) (ls ∷ lines) bound plain laid = (cell_fills skin c cell ls bound.0 plain.0 plain.1 laid.0, cells_fill skin cs cells lines bound.1 plain.2 laid.1)
+
+-- an empty paragraph fills its place
+blank_fills : (skin : MadSkin) (c : Spacing) (x : FmtComposite) → IsBlankIn c x → FillsItsPlace skin x
+blank_fills skin c x h =
+    let none : indent skin.list_items_indentation_mode x.kind ≡ 0 = ap (indent skin.list_items_indentation_mode) h.kind in
+    let text : width_of (text_of x) ≡ 0 = ap (λ (ps : List Compound). width_of (flagged_text ps)) h.empty in
+    let zero_is : x.visible_length ≡ 0 = h.length_is in
+    record {
+      measured = omega (arith, zero_is, none, text);
+      place = subst (λ (s : Option Spacing). IfSome s (λ p. x.visible_length ≤ p.width)) (sym h.spacing) (omega (arith, zero_is));
+      mark = subst (λ (k : CompositeKind). AreShownPieces (mark_pieces skin k)) (sym h.kind) tt;
+      indent_is = subst (λ (k : CompositeKind). pieces_columns (mark_pieces skin k) ≡ indent skin.list_items_indentation_mode k) (sym h.kind) refl;
+      text = subst (λ (ps : List Compound). AreShownPieces (map (compound_piece skin (line_style skin x.kind)) ps)) (sym h.empty) tt;
+    }
+
+top_fills : (skin : MadSkin) (c : Spacing) (ls : List FmtComposite) (x : FmtComposite) → FillColumn skin c ls → IsTop c ls x → FillsItsPlace skin x
+top_fills skin c [] x h top = blank_fills skin c x top
+top_fills skin c (l ∷ ls) x h top = subst (FillsItsPlace skin) (sym top) h.0
+
+top_spacing : (c : Spacing) (ls : List FmtComposite) (x : FmtComposite) → IsTop c ls x → x.spacing ≡ Some c
+top_spacing c [] x top = top.spacing
+top_spacing c (l ∷ ls) x top = ap (λ (y : FmtComposite). y.spacing) top
+
+across_fill : (skin : MadSkin) (cs : List Spacing) (lines : List (List FmtComposite)) (xs : List FmtComposite) → FillColumns skin cs lines → IsAcross cs lines xs → AllByRecursion (FillsItsPlace skin) xs
+across_fill skin [] [] [] h across = tt
+across_fill skin [] [] (x ∷ xs) h across = absurd across
+across_fill skin [] (ls ∷ lines) xs h across = absurd across
+across_fill skin (c ∷ cs) [] xs h across = absurd across
+across_fill skin (c ∷ cs) (ls ∷ lines) [] h across = absurd across
+across_fill skin (c ∷ cs) (ls ∷ lines) (x ∷ xs) h across = (top_fills skin c ls x h.0 across.0, across_fill skin cs lines xs h.1 across.1)
+
+across_columns : (cs : List Spacing) (lines : List (List FmtComposite)) (xs : List FmtComposite) → IsAcross cs lines xs → row_columns xs ≡ 1 + bordered (widths_of cs)
+across_columns [] [] [] across = refl
+across_columns [] [] (x ∷ xs) across = absurd across
+across_columns [] (ls ∷ lines) xs across = absurd across
+across_columns (c ∷ cs) [] xs across = absurd across
+across_columns (c ∷ cs) (ls ∷ lines) [] across = absurd across
+across_columns (c ∷ cs) (ls ∷ lines) (x ∷ xs) across =
+    let rest : row_columns xs ≡ 1 + bordered (widths_of cs) = across_columns cs lines xs across.1 in
+    let own : inner_columns x ≡ c.width = ap (λ s. unwrap_or (place_of s) x.visible_length) (top_spacing c ls x across.0) in
+    omega (arith, rest, own)
+
+below_fill : (skin : MadSkin) (cs : List Spacing) (lines : List (List FmtComposite)) → FillColumns skin cs lines → FillColumns skin cs (map below lines)
+below_fill skin [] lines h = tt
+below_fill skin (c ∷ cs) [] h = tt
+below_fill skin (c ∷ cs) ([] ∷ lines) h = (tt, below_fill skin cs lines h.1)
+below_fill skin (c ∷ cs) ((l ∷ ls) ∷ lines) h = (h.0.1, below_fill skin cs lines h.1)
+
+rows_drawable : (skin : MadSkin) (drawn : ℕ) (cs : List Spacing) (lines : List (List FmtComposite)) (rows : List FmtTableRow) → 1 + bordered (widths_of cs) ≤ drawn → AreBordersShown skin
+    → FillColumns skin cs lines → AreDown cs lines rows → AreDrawable skin drawn (map TableRow rows)
+rows_drawable skin drawn cs lines [] fit borders h down = tt
+rows_drawable skin drawn cs lines (row ∷ rows) fit borders h down = (
+  record {
+    fits = let columns_are : row_columns row.cells.items ≡ 1 + bordered (widths_of cs) = across_columns cs lines row.cells.items down.0 in omega (arith, columns_are, fit);
+    each = across_fill skin cs lines row.cells.items h down.0;
+    border = borders.vertical;
+  },
+  rows_drawable skin drawn cs (map below lines) rows fit borders (below_fill skin cs lines h) down.1,
+)
+
+-- ---- a rule
+
+rule_fits : (ws : List ℕ) (drawn : ℕ) → 2 ≤ drawn → 1 + bordered ws ≤ drawn → rule_columns ws ≤ drawn
+rule_fits [] drawn two fit = two
+rule_fits (w ∷ ws) drawn two fit = fit
+
+rule_drawable : (skin : MadSkin) (drawn : ℕ) (position : RelativePosition) (cs : List Spacing) (rule : FmtTableRule) → 2 ≤ drawn → 1 + bordered (widths_of cs) ≤ drawn
+    → AreBordersShown skin → IsRuleLaidOut position cs rule → IsDrawableRule skin drawn rule
+rule_drawable skin drawn position cs rule two fit borders h = record {
+  fits = subst (λ ws. rule_columns ws ≤ drawn) (sym h.widths_are) (rule_fits (widths_of cs) drawn two fit);
+  chars = borders.rules rule.position;
+}
+
+-- ---- a line of a table
+
+-- the columns of a table have these widths, and fit
+record FitColumns (drawn : ℕ) (ws : List ℕ) (cs : List Spacing) : Type 0 where
+  two : 2 ≤ drawn
+  bound : drawn < 2 ^ 64 - 1
+  fit : 1 + bordered ws ≤ drawn
+  are : widths_of cs ≡ ws
+
+columns_with-widths : (ws : List ℕ) (aligns : List Alignment) → widths_of (columns_with ws aligns) ≡ ws
+columns_with-widths [] aligns = refl
+columns_with-widths (w ∷ ws) [] = ap (λ vs. w ∷ vs) (columns_with-widths ws [])
+columns_with-widths (w ∷ ws) (a ∷ aligns) = ap (λ vs. w ∷ vs) (columns_with-widths ws aligns)
+
+centered-widths : (ws : List ℕ) → widths_of (centered ws) ≡ ws
+centered-widths [] = refl
+centered-widths (w ∷ ws) = ap (λ vs. w ∷ vs) (centered-widths ws)
+
+from-widths : (ws : List ℕ) (cs : List Spacing) (l : FmtLine) → widths_of cs ≡ ws → widths_of (columns_from ws cs l) ≡ ws
+from-widths ws cs (Normal l) h = h
+from-widths ws cs (TableRow row) h = h
+from-widths ws cs (TableRule rule) h = columns_with-widths ws rule.aligns.items
+from-widths ws cs HorizontalRule h = h
+
+fit_from : (drawn : ℕ) (ws : List ℕ) (cs : List Spacing) (l : FmtLine) → FitColumns drawn ws cs → FitColumns drawn ws (columns_from ws cs l)
+fit_from drawn ws cs l h = record { two = h.two; bound = h.bound; fit = h.fit; are = from-widths ws cs l h.are }
+
+widths_small : (drawn : ℕ) (cs : List Spacing) → drawn < 2 ^ 64 - 1 → 1 + bordered (widths_of cs) ≤ drawn → AllByRecursion (λ c. c.width < 2 ^ 64 - 1) cs
+widths_small drawn [] bound fit = tt
+widths_small drawn (c ∷ cs) bound fit = (omega (arith, bound, fit), widths_small drawn cs bound (omega (arith, fit)))
+
+map_some : (rows : List FmtTableRow) → 0 < length rows → 0 < length (map TableRow rows)
+map_some [] h = absurd (omega (arith, h))
+map_some (row ∷ rows) h = omega arith
+
+table_line_drawable : (skin : MadSkin) (drawn : ℕ) (ws : List ℕ) (cs : List Spacing) (position : RelativePosition) (l : FmtLine) (own : List FmtLine) → FitColumns drawn ws cs
+    → AreBordersShown skin → IsPlainTableLine skin ws l → IsTableLineBy IsFittingWrap skin cs position l own → (0 < length own) × AreDrawable skin drawn own
+table_line_drawable skin drawn ws cs position (Normal l) own fit borders plain here = absurd plain
+table_line_drawable skin drawn ws cs position (TableRow row) own fit borders plain (rows, is, laid) =
+    let inside : 1 + bordered (widths_of cs) ≤ drawn = subst (λ vs. 1 + bordered vs ≤ drawn) (sym fit.are) fit.fit in
+    let cells : ArePlainCells skin (widths_of cs) row.cells.items = subst (λ vs. ArePlainCells skin vs row.cells.items) (sym fit.are) plain in
+    let fill : FillColumns skin cs laid.lines = cells_fill skin cs row.cells.items laid.lines (widths_small drawn cs fit.bound inside) cells laid.laid_out in
+    let count : length rows ≡ max _ 1 = laid.count in
+    subst (λ (ls : List FmtLine). (0 < length ls) × AreDrawable skin drawn ls) (sym is) (map_some rows (omega (arith, count)), rows_drawable skin drawn cs laid.lines rows inside borders fill laid.rows_are)
+table_line_drawable skin drawn ws cs position (TableRule source) own fit borders plain (rule, is, laid) =
+    subst (λ (ls : List FmtLine). (0 < length ls) × AreDrawable skin drawn ls) (sym is)
+    (omega arith, (rule_drawable skin drawn position cs rule fit.two (subst (λ vs. 1 + bordered vs ≤ drawn) (sym fit.are) fit.fit) borders laid, tt))
+table_line_drawable skin drawn ws cs position HorizontalRule own fit borders plain here = absurd plain
+
+-- ---- lines without columns
+
+no_row : (cells : List FmtComposite) → length cells ≡ 0 → cells ≡ []
+no_row [] h = refl
+no_row (cell ∷ cells) h = absurd (omega (arith, h))
+
+-- a line of a table without columns stays, and is drawn exactly
+bare_drawable : (skin : MadSkin) (drawn : ℕ) (l : FmtLine) → 2 ≤ drawn → AreBordersShown skin → IsPlainTableLine skin [] l → columns_in l ≡ 0 → IsDrawableLine skin drawn l
+bare_drawable skin drawn (Normal l) two borders plain none = absurd plain
+bare_drawable skin drawn (TableRow row) two borders plain none =
+    subst (IsDrawableRow skin drawn) (sym (no_row row.cells.items none)) (record { fits = omega (arith, two); each = tt; border = borders.vertical })
+bare_drawable skin drawn (TableRule rule) two borders plain none = record { fits = subst (λ (ws : List ℕ). rule_columns ws ≤ drawn) (sym plain) two; chars = borders.rules rule.position }
+bare_drawable skin drawn HorizontalRule two borders plain none = absurd plain
+
+-- ---- lines of a text
+
+wider_room : (skin : MadSkin) (narrow width : ℕ) (kind : CompositeKind) (text : List FlaggedChar) → narrow ≤ width → HasRoom (room_of skin kind narrow) text → HasRoom (room_of skin kind width) text
+wider_room skin narrow width kind text wider h =
+    let few : most_indent (room_of skin kind narrow) ≤ narrow = h.indent in
+    record {
+      indent = omega (arith, few, wider);
+      each = all_each (λ x. most_indent (room_of skin kind narrow) + char_columns x.char ≤ narrow) (λ x. most_indent (room_of skin kind width) + char_columns x.char ≤ width) (λ x k. omega (arith, k, wider)) text h.each;
+    }
+
+wider_cell : (skin : MadSkin) (narrow width : ℕ) (kind : CompositeKind) (runs : List Run) → narrow ≤ width → IsPlainCell skin narrow kind runs → IsPlainCell skin width kind runs
+wider_cell skin narrow width kind runs wider h = record {
+  prefix = h.prefix;
+  plain = h.plain;
+  room = λ wide. wider_room skin narrow width kind (runs_text runs) wider (h.room (omega (arith, wide, wider)));
+}
+
+cells_plain : (skin : MadSkin) (ws : List ℕ) (said : List StyledRuns) (cells : List FmtComposite) → AllByRecursion (λ w. 3 ≤ w) ws → AllByRecursion (λ cell. IsPlainCell skin 3 (kind_of cell.style) cell.runs) said
+    → AreCompositesRead skin said cells → ArePlainCells skin ws cells
+cells_plain skin [] said cells least plain read = tt
+cells_plain skin (w ∷ ws) [] [] least plain read = tt
+cells_plain skin (w ∷ ws) [] (l ∷ ls) least plain read = absurd read
+cells_plain skin (w ∷ ws) (s ∷ ss) [] least plain read = absurd read
+cells_plain skin (w ∷ ws) (s ∷ ss) (l ∷ ls) least plain read =
+    let own : IsPlainCell skin w (kind_of s.style) s.runs = wider_cell skin 3 w (kind_of s.style) s.runs least.0 plain.0 in (
+      read.0.measured,
+      subst (λ (k : CompositeKind). IsPlainCell skin w k (map run_of l.compounds.items)) (sym read.0.kind) (subst (λ (rs : List Run). IsPlainCell skin w (kind_of s.style) rs) (sym read.0.text) own),
+      cells_plain skin ws ss ls least.1 plain.1 read.1,
+    )
+
+-- what a line of a table says that keeps the premises
+record TableContent (skin : MadSkin) (width : ℕ) (ws : List ℕ) (l : FmtLine) : Type 0 where
+  two : 2 ≤ width
+  borders : AreBordersShown skin
+  plain : IsPlainTableLine skin ws l
+
+content_plain : (skin : MadSkin) (width : ℕ) (ws : List ℕ) (c : LineContent) (l : FmtLine) → AllByRecursion (λ w. 3 ≤ w) ws → IsPlainContent skin width c → IsLineRead skin c l → is_table_line l ≡ true → TableContent skin width ws l
+content_plain skin width ws (normal said) (Normal l) least plain read is = absurd (cc)
+content_plain skin width ws (normal said) (TableRow row) least plain read is = absurd read
+content_plain skin width ws (normal said) (TableRule rule) least plain read is = absurd read
+content_plain skin width ws (normal said) HorizontalRule least plain read is = absurd read
+content_plain skin width ws (table_row cells) (Normal l) least plain read is = absurd read
+content_plain skin width ws (table_row cells) (TableRow row) least plain read is = record { two = plain.0; borders = plain.1; plain = cells_plain skin ws cells row.cells.items least plain.2 read }
+content_plain skin width ws (table_row cells) (TableRule rule) least plain read is = absurd read
+content_plain skin width ws (table_row cells) HorizontalRule least plain read is = absurd read
+content_plain skin width ws (table_rule aligns) (Normal l) least plain read is = absurd read
+content_plain skin width ws (table_rule aligns) (TableRow row) least plain read is = absurd read
+content_plain skin width ws (table_rule aligns) (TableRule rule) least plain read is = record { two = plain.0; borders = plain.1; plain = read.widths }
+content_plain skin width ws (table_rule aligns) HorizontalRule least plain read is = absurd read
+content_plain skin width ws horizontal_rule (Normal l) least plain read is = absurd read
+content_plain skin width ws horizontal_rule (TableRow row) least plain read is = absurd read
+content_plain skin width ws horizontal_rule (TableRule rule) least plain read is = absurd read
+content_plain skin width ws horizontal_rule HorizontalRule least plain read is = absurd (cc)
+
+-- whatever lines of a text come after a part, those that are drawn of them are drawn exactly
+abbrev Later : MadSkin → ℕ → ℕ → List FmtLine → List FmtLine → Type 0
+Later skin width drawn rest others = (m : ℕ) (t : List LineContent) → KeepsPremises skin width (take m t) → AreRead skin t rest → AreDrawable skin drawn (take m others)
+
+laid_drawable : (skin : MadSkin) (width drawn n : ℕ) (text : List LineContent) (ws : List ℕ) (cs : List Spacing) (first : Bool) (table own rest others : List FmtLine) → 1 + bordered ws ≤ width → width ≤ drawn → drawn < 2 ^ 64 - 1
+    → widths_of cs ≡ ws → AllByRecursion (λ w. 3 ≤ w) ws → Later skin width drawn rest others → KeepsPremises skin width (take n text) → AreRead skin text (table ++ rest) → AllTableLines table
+    → AreTableLinesBy IsFittingWrap skin ws cs first table own → AreDrawable skin drawn (take n (own ++ others))
+laid_drawable skin width drawn zero text ws cs first table own rest others fit narrower bound are least later keeps reads lines laid = tt
+laid_drawable skin width drawn (suc n) text ws cs first [] own rest others fit narrower bound are least later keeps reads lines laid =
+    subst (λ (ls : List FmtLine). AreDrawable skin drawn (take (suc n) (ls ++ others))) (sym laid) (later (suc n) text keeps reads)
+laid_drawable skin width drawn (suc n) [] ws cs first (l ∷ ls) own rest others fit narrower bound are least later keeps reads lines laid = absurd reads
+laid_drawable skin width drawn (suc n) (c ∷ text) ws cs first (l ∷ ls) own rest others fit narrower bound are least later keeps reads lines (front, more, joins, here, below_it) =
+    let content : TableContent skin width ws l = content_plain skin width ws c l least keeps.0 reads.0 lines.0 in
+    let two : 2 ≤ width = content.two in
+    let columns : FitColumns drawn ws cs = record { two = omega (arith, two, narrower); bound = bound; fit = omega (arith, fit, narrower); are = are } in
+    let one = table_line_drawable skin drawn ws (columns_from ws cs l) (position_at first (length ls == 0)) l front (fit_from drawn ws cs l columns) content.borders content.plain here in
+    subst (λ (xs : List FmtLine). AreDrawable skin drawn (take (suc n) xs)) (sym (ap (λ xs. xs ++ others) joins ∙ append_assoc front more others))
+    (some_joined skin drawn front (more ++ others) n one.0 one.1
+    (laid_drawable skin width drawn n text ws (columns_from ws cs l) false ls more rest others fit narrower bound (from-widths ws cs l are) least later keeps.1 reads.1 lines.1 below_it))
+
+bare_lines : (skin : MadSkin) (width drawn n : ℕ) (text : List LineContent) (table rest others : List FmtLine) → width ≤ drawn → columns_count table ≡ 0 → Later skin width drawn rest others
+    → KeepsPremises skin width (take n text) → AreRead skin text (table ++ rest) → AllTableLines table → AreDrawable skin drawn (take n (table ++ others))
+bare_lines skin width drawn zero text table rest others narrower none later keeps reads lines = tt
+bare_lines skin width drawn (suc n) text [] rest others narrower none later keeps reads lines = later (suc n) text keeps reads
+bare_lines skin width drawn (suc n) [] (l ∷ ls) rest others narrower none later keeps reads lines = absurd reads
+bare_lines skin width drawn (suc n) (c ∷ text) (l ∷ ls) rest others narrower none later keeps reads lines =
+    let content : TableContent skin width [] l = content_plain skin width [] c l tt keeps.0 reads.0 lines.0 in
+    let two : 2 ≤ width = content.two in
+    let own : columns_in l ≡ 0 = omega (arith, none) in
+    (bare_drawable skin drawn l (omega (arith, two, narrower)) content.borders content.plain own, bare_lines skin width drawn n text ls rest others narrower (omega (arith, none)) later keeps.1 reads.1 lines.1)
+
+-- The lines of a table, and those after it.
+pub table_drawable : (skin : MadSkin) (width drawn n : ℕ) (c : LineContent) (text : List LineContent) (l : FmtLine) (ls own rest others : List FmtLine) → width ≤ drawn → drawn < 2 ^ 64 - 1
+    → ((m : ℕ) (t : List LineContent) → KeepsPremises skin width (take m t) → AreRead skin t rest → AreDrawable skin drawn (take m others))
+    → KeepsPremises skin width (take (suc n) (c ∷ text)) → AreRead skin (c ∷ text) ((l ∷ ls) ++ rest) → AllTableLines (l ∷ ls)
+    → IsTableLaidOutBy IsFittingWrap skin (columns_count (l ∷ ls)) width (l ∷ ls) own → AreDrawable skin drawn (take (suc n) (own ++ others))
+table_drawable skin width drawn n c text l ls own rest others narrower bound later keeps reads lines (inl (inl none, stays)) =
+    subst (λ (xs : List FmtLine). AreDrawable skin drawn (take (suc n) (xs ++ others))) (sym stays) (bare_lines skin width drawn (suc n) (c ∷ text) (l ∷ ls) rest others narrower none later keeps reads lines)
+table_drawable skin width drawn n c text l ls own rest others narrower bound later keeps reads lines (inl (inr none, stays)) =
+    let content : TableContent skin width [] l = content_plain skin width [] c l tt keeps.0 reads.0 lines.0 in
+    let two : 2 ≤ width = content.two in
+    absurd (omega (arith, none, two))
+table_drawable skin width drawn n c text l ls own rest others narrower bound later keeps reads lines (inr (some, place, (ws, kept, laid))) =
+    let fit : 1 + bordered ws ≤ width = let inside : bordered ws + 1 ≤ width = kept.fit in omega (arith, inside) in
+    laid_drawable skin width drawn (suc n) (c ∷ text) ws (centered ws) true (l ∷ ls) own rest others fit narrower bound (centered-widths ws) kept.least later keeps reads lines laid
+
+-- ---- a table by itself
+
+alone_drawable : (skin : MadSkin) (drawn : ℕ) (ws : List ℕ) (cs : List Spacing) (first : Bool) (table own : List FmtLine) → FitColumns drawn ws cs → AreBordersShown skin
+    → AllByRecursion (IsPlainTableLine skin ws) table → AreTableLinesBy IsFittingWrap skin ws cs first table own → AreDrawable skin drawn own
+alone_drawable skin drawn ws cs first [] own fit borders plain laid = subst (AreDrawable skin drawn) (sym laid) tt
+alone_drawable skin drawn ws cs first (l ∷ ls) own fit borders plain (front, more, joins, here, below_it) =
+    let below_fit : FitColumns drawn ws (columns_from ws cs l) = fit_from drawn ws cs l fit in
+    let one = table_line_drawable skin drawn ws (columns_from ws cs l) (position_at first (length ls == 0)) l front below_fit borders plain.0 here in
+    subst (AreDrawable skin drawn) (sym joins) (all_joined (IsDrawableLine skin drawn) front more one.1 (alone_drawable skin drawn ws (columns_from ws cs l) false ls more below_fit borders plain.1 below_it))
+
+bare_alone : (skin : MadSkin) (drawn : ℕ) (table : List FmtLine) → 2 ≤ drawn → AreBordersShown skin → columns_count table ≡ 0 → AllByRecursion (IsPlainTableLine skin []) table → AreDrawable skin drawn table
+bare_alone skin drawn [] two borders none plain = tt
+bare_alone skin drawn (l ∷ ls) two borders none plain =
+    let own : columns_in l ≡ 0 = omega (arith, none) in (bare_drawable skin drawn l two borders plain.0 own, bare_alone skin drawn ls two borders (omega (arith, none)) plain.1)
+
+-- A table's lines fit where its columns do with their borders.
+pub tables_fitting : (skin : MadSkin) (width drawn : ℕ) (table lines : List FmtLine) → 2 ≤ width → width ≤ drawn → drawn < 2 ^ 64 - 1 → AreBordersShown skin
+    → AllByRecursion (IsPlainTableLine skin []) table → ((ws : List ℕ) → AreKeptWidths (columns_count table) width table ws → AllByRecursion (IsPlainTableLine skin ws) table)
+    → IsTableLaidOutBy IsFittingWrap skin (columns_count table) width table lines → AreDrawable skin drawn lines
+tables_fitting skin width drawn table lines two narrower bound borders bare plain (inl (inl none, stays)) =
+    subst (AreDrawable skin drawn) (sym stays) (bare_alone skin drawn table (omega (arith, two, narrower)) borders none bare)
+tables_fitting skin width drawn table lines two narrower bound borders bare plain (inl (inr none, stays)) = absurd (omega (arith, none, two))
+tables_fitting skin width drawn table lines two narrower bound borders bare plain (inr (some, place, (ws, kept, laid))) =
+    let inside : bordered ws + 1 ≤ width = kept.fit in
+    alone_drawable skin drawn ws (centered ws) true table lines (record { two = omega (arith, two, narrower); bound = bound; fit = omega (arith, inside, narrower); are = centered-widths ws }) borders (plain ws kept) laid

@@ -1,0 +1,186 @@
+-- The headline follows from what an area shows of a layout.
+use Rattle.std.proofs.Common.{◌≡◌, ℕ, zero, suc, ◌-◌, ◌^◌, ◌<◌, ◌≤◌, ◌⊎◌, inl, inr, List, [], ◌∷◌, ◌++◌, map, take, length, replicate, get_or, Option, Some, None, IfSome, Result, Ok, Err, OnOk, refl, ap, sym, ◌∙◌, subst, arith, append_assoc}
+use Rattle.std.specs.Prelude.{slice_get, unwrap_or}
+use Rattle.std.proofs.Math.ListN.{get_or-map}
+use Rattle.std.specs.List.{flat_map}
+use Rattle.std.proofs.lemmas.List.{append-nil, length-map, map-append}
+use Rattle.std.proofs.lemmas.List.Concat.{flat_map-append}
+use Rattle.mad_columns.specs.Columns.{char_columns}
+use Rattle.mad_screen.specs.Glyph.{Glyph, Look}
+use Rattle.mad_screen.specs.Grid.{plain_pen, blank, glyphs}
+use Rattle.mad_screen.specs.Painting.{attach}
+use Rattle.mad_term.specs.Trace.{Trace, flushed}
+use Rattle.mad_term.proofs.Traces.{took_flushed}
+use Rattle.mad_md.specs.Lines.{LineContent}
+use Rattle.mad_fit.specs.Areas.{IsWithinLimits}
+use Rattle.mad_fit.specs.declared.area.Area.{Area}
+use Rattle.mad_draw.specs.Pieces.{PennedChar, penned_chars}
+use Rattle.mad_draw.specs.PennedCells.{penned_joined, penned_cells}
+use Rattle.mad_layout.specs.FlaggedLines.{LineInPart, HoldNoTable, text_parts, lines_in_parts, AreAcross}
+use Rattle.mad_layout.specs.Fronts.{IsFrontLayout}
+use Rattle.mad_layout.specs.Headline.{cell_chars, AreShownAcross, ShowsFirstRows}
+use Rattle.mad_layout.specs.InArea.{ShowsText}
+use Rattle.mad_layout.specs.Layouts.{IsLayout}
+use Rattle.mad_layout.specs.Rows.{row_pieces}
+use Rattle.mad_layout.specs.Shown.{AreShownIn}
+use Rattle.mad_layout.specs.declared.skin.MadSkin.{MadSkin}
+use Rattle.mad_layout.specs.declared.line.FmtLine.{FmtLine}
+use Rattle.mad_layout.proofs.HeadlineLemmas.{wrapped_at, front_keeps}
+use Rattle.mad_layout.proofs.RowChars.{char_of, line_chars, spaces_chars}
+use Rattle.mad_layout.proofs.RowsAcross.{across_exist}
+use Rattle.mad_layout.proofs.TextParts.{text_across}
+
+-- ---- the characters of cells don't depend on pens
+
+abbrev chars_of : Glyph → List ℕ
+chars_of g = g.chars
+
+abbrev plainly : ℕ → PennedChar
+plainly c = record { char = c; pen = plain_pen }
+
+tails : (k : ℕ) (pen other : Look) → map chars_of (replicate k (record { chars = []; pen = pen })) ≡ map chars_of (replicate k (record { chars = []; pen = other }))
+tails zero pen other = refl
+tails (suc k) pen other = ap (λ l. [] ∷ l) (tails k pen other)
+
+abbrev SameChars : List ℕ × List Glyph → List ℕ × List Glyph → Type 0
+SameChars a b = (a.0 ≡ b.0) × (map chars_of a.1 ≡ map chars_of b.1)
+
+attach_same : (n : ℕ) (pen other : Look) (c : ℕ) (a b : List ℕ × List Glyph) → SameChars a b → SameChars (attach (Some n) pen c a) (attach (Some n) other c b)
+attach_same zero pen other c a b h = (ap (λ l. c ∷ l) h.0, h.1)
+attach_same (suc k) pen other c a b h = (
+  refl,
+  map-append chars_of (glyphs (c ∷ a.0) k pen) a.1
+      ∙ ap (λ l. ((c ∷ l) ∷ map chars_of (replicate k (record { chars = []; pen = pen }))) ++ map chars_of a.1) h.0
+      ∙ ap (λ l. ((c ∷ b.0) ∷ l) ++ map chars_of a.1) (tails k pen other)
+      ∙ ap (λ l. map chars_of (glyphs (c ∷ b.0) k other) ++ l) h.1
+      ∙ sym (map-append chars_of (glyphs (c ∷ b.0) k other) b.1),
+)
+
+joined_same : (cs : List PennedChar) → SameChars (penned_joined cs) (penned_joined (map plainly (map char_of cs)))
+joined_same [] = (refl, refl)
+joined_same (c ∷ cs) = attach_same (char_columns c.char) c.pen plain_pen c.char (penned_joined cs) (penned_joined (map plainly (map char_of cs))) (joined_same cs)
+
+cells_same : (cs : List PennedChar) (i : ℕ) → (get_or (penned_cells cs) i blank).chars ≡ cell_chars (map char_of cs) i
+cells_same cs i =
+    sym (get_or-map chars_of (penned_cells cs) i blank) ∙ ap (λ l. get_or l i (32 ∷ [])) (joined_same cs).1
+    ∙ get_or-map chars_of (penned_cells (map plainly (map char_of cs))) i blank
+
+-- ---- the rows of the area
+
+row_at : (skin : MadSkin) (width : ℕ) (lines : List FmtLine) (j : ℕ) → map char_of (penned_chars (row_pieces skin width (slice_get lines j))) ≡ unwrap_or (slice_get (map (line_chars skin width) lines) j) (replicate width 32)
+row_at skin width [] j = spaces_chars skin.paragraph.compound_style width
+row_at skin width (l ∷ ls) zero = refl
+row_at skin width (l ∷ ls) (suc j) = row_at skin width ls j
+
+same_at : (n : ℕ) (xs ys : List (List ℕ)) → take n xs ≡ take n ys → (j : ℕ) → j < n → slice_get xs j ≡ slice_get ys j
+same_at zero xs ys e j inside = absurd (omega (arith, inside))
+same_at (suc n) [] [] e j inside = refl
+same_at (suc n) [] (y ∷ ys) e j inside = absurd (cc)
+same_at (suc n) (x ∷ xs) [] e j inside = absurd (cc)
+same_at (suc n) (x ∷ xs) (y ∷ ys) e zero inside = let head : x ≡ y = cc in ap Some head
+same_at (suc n) (x ∷ xs) (y ∷ ys) e (suc j) inside = let tail : take n xs ≡ take n ys = cc in same_at n xs ys tail j (omega (arith, inside))
+
+shown_across : (skin : MadSkin) (lines : List FmtLine) (area : Area) (across : List (List ℕ)) → take area.height across ≡ take area.height (map (line_chars skin area.width) lines)
+    → (bytes : List ℕ) → AreShownIn skin lines area 0 bytes → AreShownAcross across area bytes
+shown_across skin lines area across same bytes h = λ g on_screen.
+    let done = h g on_screen in (
+      done.0,
+      done.1,
+      done.2,
+      done.3,
+      record {
+        width = done.4.width;
+        height = done.4.height;
+        inside = λ i j in_width in_height.
+            ap chars_of (done.4.inside i j in_width in_height)
+            ∙ cells_same (penned_chars (row_pieces skin area.width (slice_get lines j))) i
+            ∙ ap (λ cs. cell_chars cs i) (row_at skin area.width lines j)
+            ∙ ap (λ (o : Option (List ℕ)). cell_chars (unwrap_or o (replicate area.width 32)) i) (sym (same_at area.height across (map (line_chars skin area.width) lines) same j in_height));
+        outside = done.4.outside;
+      },
+    )
+
+pub took_more_at : (o : Option (List ℕ)) (new : Trace) (P Q : List ℕ → Type 0) → ((text : List ℕ) → P text → Q text)
+    → IfSome o (λ before. (text : List ℕ) × (new.bytes ≡ Some (before ++ text)) × P text) → IfSome o (λ before. (text : List ℕ) × (new.bytes ≡ Some (before ++ text)) × Q text)
+took_more_at None new P Q more h = tt
+took_more_at (Some before) new P Q more h = (h.0, h.1, more h.0 h.2)
+
+-- ---- the headline
+
+-- what follows rows that are enough isn't seen
+enough_rows : (n : ℕ) (xs ys : List (List ℕ)) → n ≤ length xs → take n (xs ++ ys) ≡ take n xs
+enough_rows zero xs ys h = refl
+enough_rows (suc n) [] ys h = absurd (omega (arith, h))
+enough_rows (suc n) (x ∷ xs) ys h = ap (λ (l : List (List ℕ)). x ∷ l) (enough_rows n xs ys (omega (arith, h)))
+
+as_long : (n : ℕ) (xs ys : List (List ℕ)) → take n xs ≡ take n ys → n ≤ length ys → n ≤ length xs
+as_long zero xs ys e h = omega arith
+as_long (suc n) xs [] e h = absurd (omega (arith, h))
+as_long (suc n) [] (y ∷ ys) e h = absurd (cc)
+as_long (suc n) (x ∷ xs) (y ∷ ys) e h = let tail : take n xs ≡ take n ys = cc in let more : n ≤ length xs = as_long n xs ys tail (omega (arith, h)) in omega (arith, more)
+
+across_both : (skin : MadSkin) (area : Area) (xs ys : List LineInPart) (own others : List (List ℕ)) → AreAcross skin area xs own → AreAcross skin area ys others → AreAcross skin area (xs ++ ys) (own ++ others)
+across_both skin area [] ys own others h more = subst (λ (l : List (List ℕ)). AreAcross skin area ys (l ++ others)) (sym h) more
+across_both skin area (x ∷ xs) ys own others (first, rest, joins, here, h) more =
+    (first, rest ++ others, ap (λ (l : List (List ℕ)). l ++ others) joins ∙ append_assoc first rest others, here, across_both skin area xs ys rest others h more)
+
+-- The rows of a text's first lines are the first rows of the whole text, if they are enough: the rest has rows.
+pub front_is_enough : (skin : MadSkin) (area : Area) (xs ys : List LineInPart) (own lines : List (List ℕ)) → AreAcross skin area xs own → take area.height own ≡ take area.height lines → (ys ≡ []) ⊎ (area.height ≤ length lines)
+    → (across : List (List ℕ)) × AreAcross skin area (xs ++ ys) across × (take area.height across ≡ take area.height lines)
+front_is_enough skin area xs ys own lines h same (inl none) =
+    (own, subst (λ (l : List LineInPart). AreAcross skin area l own) (sym (ap (λ (l : List LineInPart). xs ++ l) none ∙ append-nil xs)) h, same)
+front_is_enough skin area xs ys own lines h same (inr some) =
+    let more = across_exist skin area ys in
+    (own ++ more.0, across_both skin area xs ys own more.0 h more.1, enough_rows area.height own more.0 (as_long area.height own lines same some) ∙ same)
+
+-- the lines of a text in their parts, where no part is cut
+in_parts_both : (text front rest : List LineContent) → text_parts text ≡ text_parts front ++ text_parts rest → lines_in_parts text ≡ lines_in_parts front ++ lines_in_parts rest
+in_parts_both text front rest parts =
+    let each : List LineContent → List LineInPart = λ part. map (λ line. record { part = part; line = line }) part in
+    ap (flat_map each) parts ∙ flat_map-append each (text_parts front) (text_parts rest)
+
+rest_or_enough : (skin : MadSkin) (width : ℕ) (height : ℕ) (rest : List LineContent) (lines : List FmtLine) → (rest ≡ []) ⊎ (height ≤ length lines) → (lines_in_parts rest ≡ []) ⊎ (height ≤ length (map (line_chars skin width) lines))
+rest_or_enough skin width height rest lines (inl none) = inl (ap lines_in_parts none)
+rest_or_enough skin width height rest lines (inr some) = inr (omega (arith, some, length-map lines (line_chars skin width)))
+
+first_tables : (n : ℕ) (front rest : List LineContent) → HoldNoTable (take n (front ++ rest)) → HoldNoTable (take n front)
+first_tables zero front rest h = tt
+first_tables (suc n) [] rest h = tt
+first_tables (suc n) (c ∷ cs) rest h = (h.0, first_tables n cs rest h.1)
+
+front_tables : (n : ℕ) (text front rest : List LineContent) → text ≡ front ++ rest → HoldNoTable (take n text) → HoldNoTable (take n front)
+front_tables n text front rest joins h = first_tables n front rest (subst (λ (ls : List LineContent). HoldNoTable (take n ls)) joins h)
+
+headline : (skin : MadSkin) (markdown : List ℕ) (area : Area) (old new : Trace) → IsWithinLimits area → 4 ≤ area.width → ShowsText skin markdown area old new → ShowsFirstRows skin markdown area old new
+headline skin markdown area old new limits wide h =
+    let text : List LineContent = h.laid_out.text in
+    let width : ℕ = area.width - 1 in
+    let front : IsFrontLayout skin (Some width) area.height text h.lines = h.laid_out.layout in
+    let layout : IsLayout skin width front.front h.lines = wrapped_at skin width front.front h.lines (omega (arith, wide)) front.layout in
+    let bound : area.width < 2 ^ 64 - 1 = omega (arith, limits.columns) in
+    record {
+      lines = text;
+      read = h.laid_out.read;
+      shown = λ premises tables.
+          let first = front_keeps skin width area.height text front.front front.rest front.joins premises in
+          let rows = text_across skin area area.height front.front h.lines bound first (front_tables area.height text front.front front.rest front.joins tables) layout in
+          let all = front_is_enough skin area (lines_in_parts front.front) (lines_in_parts front.rest) rows.0 (map (line_chars skin area.width) h.lines) rows.1 rows.2
+          (rest_or_enough skin area.width area.height front.rest h.lines front.enough) in (
+            all.0,
+            subst (λ (ls : List LineInPart). AreAcross skin area ls all.0) (sym (in_parts_both text front.front front.rest front.parts)) all.1,
+            took_more_at old.bytes new (AreShownIn skin h.lines area 0) (AreShownAcross all.0 area) (shown_across skin h.lines area all.0 all.2) (h.shown premises),
+          );
+    }
+
+pub headline_shown : {T E : Type 0} (r : Result T E) (skin : MadSkin) (markdown : List ℕ) (area : Area) (old new : Trace) → IsWithinLimits area
+    → OnOk r (4 ≤ area.width → ShowsText skin markdown area old new) → OnOk r (4 ≤ area.width → ShowsFirstRows skin markdown area old new)
+headline_shown {T} {E} (Ok x) skin markdown area old new limits h = λ wide. headline skin markdown area old new limits wide (h wide)
+headline_shown {T} {E} (Err e) skin markdown area old new limits h = tt
+
+-- a flush takes nothing from it
+pub headline_flushed : (skin : MadSkin) (markdown : List ℕ) (area : Area) (old mid new : Trace) → ShowsFirstRows skin markdown area old mid → new ≡ flushed mid → ShowsFirstRows skin markdown area old new
+headline_flushed skin markdown area old mid new h e = record {
+  lines = h.lines;
+  read = h.read;
+  shown = λ premises tables. let rows = h.shown premises tables in (rows.0, rows.1, took_flushed old mid new (AreShownAcross rows.0 area) rows.2 e);
+}

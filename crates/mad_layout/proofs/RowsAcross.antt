@@ -1,0 +1,306 @@
+-- From a layout's lines to the rows of a text's lines across an area.
+use Rattle.std.proofs.Common.{◌≡◌, false, ℕ, zero, suc, ◌-◌, ◌^◌, ◌<◌, ◌≤◌, inl, inr, true, List, [], ◌∷◌, ◌++◌, map, length, take, chars, Option, Some, refl, ap, sym, ◌∙◌, subst, arith, append_assoc}
+use Rattle.std.specs.Prelude.{min, IfSome}
+use Rattle.std.specs.List.{AllByRecursion, repeat}
+use Rattle.std.proofs.lemmas.List.{map-append, length-map}
+use Rattle.mad_md.specs.Flagged.{FlaggedChar, Run, flagged, run_of, flagged_of, flagged_text}
+use Rattle.mad_md.specs.Lines.{StyledRuns, LineContent, normal, table_row, table_rule, horizontal_rule}
+use Rattle.mad_md.specs.declared.compound.Compound.{Compound}
+use Rattle.mad_style.specs.Kinds.{kind_of}
+use Rattle.mad_style.specs.LineStyles.{margins_at}
+use Rattle.mad_style.specs.declared.kinds.CompositeKind.{CompositeKind}
+use Rattle.mad_style.specs.declared.kinds.CompositeKind.TheVariants.{Paragraph, Header, ListItem, ListItemFollowUp, OrderedListItem, OrderedListItemFollowUp, Code, Quote}
+use Rattle.mad_fit.specs.Columns.{width_of}
+use Rattle.mad_fit.specs.declared.area.Area.{Area}
+use Rattle.mad_fit.specs.declared.spacing.Spacing.{Spacing}
+use Rattle.mad_wrap.specs.Keeps.{Keeps}
+use Rattle.mad_wrap.specs.WrapLines.{HasRoom, LinesFit}
+use Rattle.mad_wrap.specs.declared.room.Room.{Room}
+use Rattle.mad_layout.specs.CompositeWraps.{line_compounds, HaveKinds, IsCompositeWrap}
+use Rattle.mad_layout.specs.FlaggedLines.{LineInPart, is_table, widest_in, skin_char, row_across, rows_across, marked_parts, IsAcross, AreAcross}
+use Rattle.mad_layout.specs.FlaggedRows.{AreRowsOf}
+use Rattle.mad_layout.specs.Indents.{indent, follow_up, room_of}
+use Rattle.mad_layout.specs.Parts.{is_code_kind, IsLineAt, AreLinesAt}
+use Rattle.mad_layout.specs.Premises.{IsPlainPrefix, IsPlainLine, IsPlainContent, inner_width, runs_text}
+use Rattle.mad_layout.specs.Styles.{line_style}
+use Rattle.mad_layout.specs.WrappedLines.{style_margins, line_with, IsLaidOutBy}
+use Rattle.mad_layout.specs.Wraps.{text_of, columns_of, IsMeasured}
+use Rattle.mad_layout.specs.declared.skin.MadSkin.{MadSkin}
+use Rattle.mad_layout.specs.declared.composite.FmtComposite.{FmtComposite}
+use Rattle.mad_layout.specs.declared.line.FmtLine.{FmtLine}
+use Rattle.mad_layout.specs.declared.line.FmtLine.TheVariants.{Normal, TableRow, TableRule, HorizontalRule}
+use Rattle.mad_layout.proofs.DrawableLemmas.{IsPlacedFor, margins-le, has_room}
+use Rattle.mad_layout.proofs.DrawnParts.{runs_are}
+use Rattle.mad_layout.proofs.MarkLemmas.{follow_up_plain}
+use Rattle.mad_layout.proofs.RowChars.{place_for, line_chars, row_chars, run_chars}
+use Rattle.mad_layout.proofs.RowsExist.{by_bool, rows_of, rows_exist}
+use Rattle.mad_layout.proofs.WrapRows.{whole_parts, kept_rows, wrapped_rows}
+
+-- ---- a line in its place
+
+-- The composite is what was read of a line, in the place of its block, if it is one of code.
+pub record IsPlacedIn (skin : MadSkin) (width : ℕ) (part : List LineContent) (said : StyledRuns) (l : FmtComposite) : Type 0 where
+  pub kind : l.kind ≡ kind_of said.style
+  pub text : map run_of l.compounds.items ≡ said.runs
+  pub measured : IsMeasured skin l
+  pub spacing : l.spacing ≡ place_for (is_code_kind (kind_of said.style)) (min (widest_in part) (inner_width skin width said))
+  pub widest : is_code_kind (kind_of said.style) ≡ true → width_of (runs_text said.runs) ≤ widest_in part
+
+as_kind : (l : FmtComposite) (k : CompositeKind) → l.kind ≡ k → l ≡ record l { kind = k }
+as_kind l k e = ap (λ (x : CompositeKind). record l { kind = x }) e
+
+code_follows : (k : CompositeKind) → is_code_kind (follow_up k) ≡ is_code_kind k
+code_follows Paragraph = refl
+code_follows (Header level) = refl
+code_follows (ListItem depth) = refl
+code_follows (ListItemFollowUp depth) = refl
+code_follows (OrderedListItem level index) = refl
+code_follows (OrderedListItemFollowUp level index) = refl
+code_follows Code = refl
+code_follows Quote = refl
+
+style_follows : (skin : MadSkin) (k : CompositeKind) → line_style skin (follow_up k) ≡ line_style skin k
+style_follows skin Paragraph = refl
+style_follows skin (Header level) = refl
+style_follows skin (ListItem depth) = refl
+style_follows skin (ListItemFollowUp depth) = refl
+style_follows skin (OrderedListItem level index) = refl
+style_follows skin (OrderedListItemFollowUp level index) = refl
+style_follows skin Code = refl
+style_follows skin Quote = refl
+
+pub code_indent : (skin : MadSkin) (k : CompositeKind) → is_code_kind k ≡ true → indent skin.list_items_indentation_mode k ≡ 0
+code_indent skin Paragraph e = refl
+code_indent skin (Header level) e = refl
+code_indent skin (ListItem depth) e = absurd (cc)
+code_indent skin (ListItemFollowUp depth) e = absurd (cc)
+code_indent skin (OrderedListItem level index) e = absurd (cc)
+code_indent skin (OrderedListItemFollowUp level index) e = absurd (cc)
+code_indent skin Code e = refl
+code_indent skin Quote e = absurd (cc)
+
+parts_are : (ps : List Compound) → map (λ (r : Run). flagged r.flags (chars r.text)) (map run_of ps) ≡ map flagged_of ps
+parts_are [] = refl
+parts_are (p ∷ ps) = ap (λ l. flagged_of p ∷ l) (parts_are ps)
+
+-- ---- the rows of one line
+
+-- what is known of a line of a layout that is a row of what was read
+record IsRowLine (skin : MadSkin) (width : ℕ) (part : List LineContent) (said : StyledRuns) (l : FmtComposite) : Type 0 where
+  measured : IsMeasured skin l
+  spacing : l.spacing ≡ place_for (is_code_kind (kind_of said.style)) (min (widest_in part) (inner_width skin width said))
+  inside : columns_of skin l ≤ inner_width skin width said
+  holds : is_code_kind (kind_of said.style) ≡ true → columns_of skin l ≤ widest_in part
+
+one_row : (skin : MadSkin) (area : Area) (part : List LineContent) (said : StyledRuns) (k : CompositeKind) (l : FmtComposite) → area.width < 2 ^ 64 - 1 → l.kind ≡ k → IsPlainPrefix skin k
+    → is_code_kind k ≡ is_code_kind (kind_of said.style) → line_style skin k ≡ line_style skin (kind_of said.style) → IsRowLine skin (area.width - 1) part said l
+    → line_chars skin area.width (line_with (margins_at (line_style skin (kind_of said.style)) (Some (area.width - 1))) l) ≡ row_across skin area part said k (text_of l)
+one_row skin area part said k l bound kind prefix code style facts =
+    let width : ℕ = area.width - 1 in
+    let place : ℕ = min (widest_in part) (inner_width skin width said) in
+    let inner : inner_width skin width said ≡ width - (margins_at (line_style skin k) (Some width)).0 - (margins_at (line_style skin k) (Some width)).1 = ap (λ s. width - (margins_at s (Some width)).0 - (margins_at s (Some width)).1) (sym style) in
+    subst (λ (x : FmtComposite). IsRowLine skin width part said x → line_chars skin area.width (line_with (margins_at (line_style skin (kind_of said.style)) (Some width)) x) ≡ row_across skin area part said k (text_of x)) (sym (as_kind l k kind))
+    (λ f. ap (λ s. line_chars skin area.width (line_with (margins_at s (Some width)) (record l { kind = k }))) (sym style)
+    ∙ row_chars skin area part said (record l { kind = k }) bound prefix f.measured (f.spacing ∙ ap (λ b. place_for b place) (sym code)) inner f.inside (λ on. f.holds (sym code ∙ on))) facts
+
+-- of the lines of a wrap, those after the first
+others_across : (skin : MadSkin) (area : Area) (part : List LineContent) (said : StyledRuns) (wrap : List FmtComposite) → area.width < 2 ^ 64 - 1 → IsPlainPrefix skin (kind_of said.style)
+    → (is_code_kind (kind_of said.style) ≡ true → inner_width skin (area.width - 1) said ≤ widest_in part) → HaveKinds (follow_up (kind_of said.style)) (follow_up (kind_of said.style)) wrap
+    → AllByRecursion (λ (l : FmtComposite). l.spacing ≡ place_for (is_code_kind (kind_of said.style)) (min (widest_in part) (inner_width skin (area.width - 1) said))) wrap → AllByRecursion (IsMeasured skin) wrap
+    → LinesFit (indent skin.list_items_indentation_mode (follow_up (kind_of said.style))) (room_of skin (kind_of said.style) (inner_width skin (area.width - 1) said)) (map flagged_text (line_compounds wrap))
+    → map (line_chars skin area.width) (map (line_with (margins_at (line_style skin (kind_of said.style)) (Some (area.width - 1)))) wrap)
+    ≡ map (row_across skin area part said (follow_up (kind_of said.style))) (map flagged_text (line_compounds wrap))
+others_across skin area part said [] bound prefix most kinds spacing measured fits = refl
+others_across skin area part said (l ∷ ls) bound prefix most kinds spacing measured fits =
+    let k : CompositeKind = kind_of said.style in
+    let own : indent skin.list_items_indentation_mode l.kind ≡ indent skin.list_items_indentation_mode (follow_up k) = ap (indent skin.list_items_indentation_mode) kinds.0 in
+    let inside : columns_of skin l ≤ inner_width skin (area.width - 1) said = omega (arith, own, fits.0) in
+    let facts : IsRowLine skin (area.width - 1) part said l = record { measured = measured.0; spacing = spacing.0; inside = inside; holds = λ on. omega (arith, inside, most on) } in
+    let first = one_row skin area part said (follow_up k) l bound kinds.0 (follow_up_plain skin k prefix) (code_follows k) (style_follows skin k) facts in
+    let rest = others_across skin area part said ls bound prefix most kinds.1 spacing.1 measured.1 fits.1 in
+    ap (λ x. x ∷ map (line_chars skin area.width) (map (line_with (margins_at (line_style skin k) (Some (area.width - 1)))) ls)) first ∙ ap (λ xs. row_across skin area part said (follow_up k) (text_of l) ∷ xs) rest
+
+wrap_across : (skin : MadSkin) (area : Area) (part : List LineContent) (said : StyledRuns) (wrap : List FmtComposite) → area.width < 2 ^ 64 - 1 → IsPlainPrefix skin (kind_of said.style)
+    → (is_code_kind (kind_of said.style) ≡ true → inner_width skin (area.width - 1) said ≤ widest_in part) → HaveKinds (kind_of said.style) (follow_up (kind_of said.style)) wrap
+    → AllByRecursion (λ (l : FmtComposite). l.spacing ≡ place_for (is_code_kind (kind_of said.style)) (min (widest_in part) (inner_width skin (area.width - 1) said))) wrap → AllByRecursion (IsMeasured skin) wrap
+    → LinesFit (indent skin.list_items_indentation_mode (kind_of said.style)) (room_of skin (kind_of said.style) (inner_width skin (area.width - 1) said)) (map flagged_text (line_compounds wrap))
+    → map (line_chars skin area.width) (map (line_with (margins_at (line_style skin (kind_of said.style)) (Some (area.width - 1)))) wrap) ≡ rows_across skin area part said (map flagged_text (line_compounds wrap))
+wrap_across skin area part said [] bound prefix most kinds spacing measured fits = refl
+wrap_across skin area part said (l ∷ ls) bound prefix most kinds spacing measured fits =
+    let k : CompositeKind = kind_of said.style in
+    let own : indent skin.list_items_indentation_mode l.kind ≡ indent skin.list_items_indentation_mode k = ap (indent skin.list_items_indentation_mode) kinds.0 in
+    let inside : columns_of skin l ≤ inner_width skin (area.width - 1) said = omega (arith, own, fits.0) in
+    let facts : IsRowLine skin (area.width - 1) part said l = record { measured = measured.0; spacing = spacing.0; inside = inside; holds = λ on. omega (arith, inside, most on) } in
+    let first = one_row skin area part said k l bound kinds.0 prefix refl refl facts in
+    let rest = others_across skin area part said ls bound prefix most kinds.1 spacing.1 measured.1 fits.1 in
+    ap (λ x. x ∷ map (line_chars skin area.width) (map (line_with (margins_at (line_style skin k) (Some (area.width - 1)))) ls)) first ∙ ap (λ xs. row_across skin area part said k (text_of l) ∷ xs) rest
+
+-- the composite is placed as a line that was read
+placed_for : (skin : MadSkin) (width : ℕ) (part : List LineContent) (said : StyledRuns) (l : FmtComposite) → IsPlacedIn skin width part said (record l { kind = kind_of said.style })
+    → IsPlacedFor skin width said (record l { kind = kind_of said.style })
+placed_for skin width part said l read =
+    let k : CompositeKind = kind_of said.style in
+    let inner : ℕ = inner_width skin width said in
+    let text : width_of (runs_text said.runs) ≡ width_of (text_of l) = ap width_of (ap runs_text (sym read.text) ∙ runs_are l.compounds.items) in
+    let place : IfSome (place_for (is_code_kind k) (min (widest_in part) inner)) (λ s. (s.width ≤ inner) × (min l.visible_length inner ≤ s.width)) =
+    by_bool (λ b. is_code_kind k ≡ b → IfSome (place_for b (min (widest_in part) inner)) (λ s. (s.width ≤ inner) × (min l.visible_length inner ≤ s.width))) (is_code_kind k)
+    (λ on e. (omega arith, omega (arith, read.measured, text, read.widest on, code_indent skin k on))) (λ off e. tt) refl in
+    record { kind = refl; text = read.text; measured = read.measured; place = subst (λ (o : Option Spacing). IfSome o (λ s. (s.width ≤ inner) × (min l.visible_length inner ≤ s.width))) (sym read.spacing) place }
+
+abbrev AreRowsIn : MadSkin → Area → List LineContent → StyledRuns → List FmtLine → Type 0
+AreRowsIn skin area part said own = (0 < length own) × IsAcross skin area part (normal said) (map (line_chars skin area.width) own)
+
+not_none : (ws : List FmtComposite) → (ws ≡ [] → ⊥) → 0 < length ws
+not_none [] h = absurd (h refl)
+not_none (w ∷ ws) h = omega arith
+
+kind_rows : (skin : MadSkin) (area : Area) (part : List LineContent) (said : StyledRuns) (l : FmtComposite) (own : List FmtLine) → area.width < 2 ^ 64 - 1 → IsPlainLine skin (area.width - 1) said
+    → IsPlacedIn skin (area.width - 1) part said (record l { kind = kind_of said.style }) → IsLaidOutBy IsCompositeWrap skin (area.width - 1) (record l { kind = kind_of said.style }) own → AreRowsIn skin area part said own
+kind_rows skin area part said l own bound plain read (inl (fits, same)) =
+    let k : CompositeKind = kind_of said.style in
+    let source : FmtComposite = record l { kind = k } in
+    let width : ℕ = area.width - 1 in
+    let inside : columns_of skin source ≤ inner_width skin width said = omega (arith, fits, read.measured, bound, margins-le (line_style skin k) width) in
+    let text : width_of (runs_text said.runs) ≡ width_of (text_of l) = ap width_of (ap runs_text (sym read.text) ∙ runs_are l.compounds.items) in
+    let facts : IsRowLine skin width part said source = record { measured = read.measured; spacing = read.spacing; inside = inside; holds = λ on. omega (arith, text, read.widest on, code_indent skin k on) } in
+    let one : length own ≡ 1 = ap length same in
+    let parts : marked_parts said ≡ map flagged_of l.compounds.items = ap (map (λ (r : Run). flagged r.flags (chars r.text))) (sym read.text) ∙ parts_are l.compounds.items in
+    let rows = kept_rows (room_of skin k (inner_width skin width said)) (text_of source) (map flagged_of l.compounds.items) (whole_parts l.compounds.items) inside in (
+      omega (arith, one),
+      (
+        text_of source ∷ [],
+        subst (λ (ps : List (List FlaggedChar)). AreRowsOf (room_of skin k (inner_width skin width said)) ps (text_of source ∷ [])) (sym parts) rows,
+        ap (map (line_chars skin area.width)) same ∙ ap (λ x. x ∷ []) (one_row skin area part said k source bound refl plain.prefix refl refl facts),
+      ),
+    )
+kind_rows skin area part said l own bound plain read (inr (wide, (wrap, wraps, same))) =
+    let k : CompositeKind = kind_of said.style in
+    let source : FmtComposite = record l { kind = k } in
+    let width : ℕ = area.width - 1 in
+    let inner : ℕ = inner_width skin width said in
+    let r : Room = room_of skin k inner in
+    let room : HasRoom r (text_of source) = has_room skin width said source plain (placed_for skin width part said l read) wide in
+    let fits : LinesFit r.first r (map flagged_text (line_compounds wrap)) = wraps.wrap.fits room in
+    let text : width_of (runs_text said.runs) ≡ width_of (text_of l) = ap width_of (ap runs_text (sym read.text) ∙ runs_are l.compounds.items) in
+    let most : is_code_kind k ≡ true → inner ≤ widest_in part = λ on. omega (arith, text, read.widest on, code_indent skin k on, read.measured, wide, margins-le (line_style skin k) width) in
+    let spacing : AllByRecursion (λ (x : FmtComposite). x.spacing ≡ place_for (is_code_kind k) (min (widest_in part) inner)) wrap =
+    subst (λ (s : Option Spacing). AllByRecursion (λ (x : FmtComposite). x.spacing ≡ s) wrap) read.spacing wraps.spacing in
+    let parts : marked_parts said ≡ map flagged_of l.compounds.items = ap (map (λ (r : Run). flagged r.flags (chars r.text))) (sym read.text) ∙ parts_are l.compounds.items in
+    let some : 0 < length wrap = not_none wrap (λ e.
+    let none : flagged_text l.compounds.items ≡ [] = subst (λ (xs : List FmtComposite). Keeps (flagged_text l.compounds.items) (map flagged_text (line_compounds xs))) e wraps.wrap.keeps in
+    omega (arith, wide, read.measured, room.indent, ap width_of none, margins-le (line_style skin k) width)) in
+    let count : length own ≡ length (map (line_with (style_margins skin width source)) wrap) = ap length same in (
+      omega (arith, count, some, length-map wrap (line_with (style_margins skin width source))),
+      (
+        map flagged_text (line_compounds wrap),
+        subst (λ (ps : List (List FlaggedChar)). AreRowsOf r ps (map flagged_text (line_compounds wrap))) (sym parts) (wrapped_rows r l.compounds.items (line_compounds wrap) wraps.wrap),
+        ap (map (line_chars skin area.width)) same ∙ wrap_across skin area part said wrap bound plain.prefix most wraps.kinds spacing wraps.measured fits,
+      ),
+    )
+
+pub said_rows : (skin : MadSkin) (area : Area) (part : List LineContent) (said : StyledRuns) (l : FmtComposite) (own : List FmtLine) → area.width < 2 ^ 64 - 1 → IsPlainLine skin (area.width - 1) said
+    → IsPlacedIn skin (area.width - 1) part said l → IsLaidOutBy IsCompositeWrap skin (area.width - 1) l own → AreRowsIn skin area part said own
+said_rows skin area part said l own bound plain read laid =
+    let same : l ≡ record l { kind = kind_of said.style } = as_kind l (kind_of said.style) read.kind in
+    kind_rows skin area part said l own bound plain (subst (IsPlacedIn skin (area.width - 1) part said) same read) (subst (λ (x : FmtComposite). IsLaidOutBy IsCompositeWrap skin (area.width - 1) x own) same laid)
+
+-- ---- the rows of all lines
+
+-- the line of a layout is what was read, in its place
+abbrev pub IsReadIn : MadSkin → ℕ → List LineContent → LineContent → FmtLine → Type 0
+IsReadIn skin width part (normal said) (Normal l) = IsPlacedIn skin width part said l
+IsReadIn skin width part (normal said) (TableRow row) = ⊥
+IsReadIn skin width part (normal said) (TableRule rule) = ⊥
+IsReadIn skin width part (normal said) HorizontalRule = ⊥
+IsReadIn skin width part (table_row cells) l = Unit {0}
+IsReadIn skin width part (table_rule aligns) l = Unit {0}
+IsReadIn skin width part horizontal_rule (Normal l) = ⊥
+IsReadIn skin width part horizontal_rule (TableRow row) = ⊥
+IsReadIn skin width part horizontal_rule (TableRule rule) = ⊥
+IsReadIn skin width part horizontal_rule HorizontalRule = Unit {0}
+
+abbrev pub AreReadIn : MadSkin → ℕ → List LineInPart → List FmtLine → Type 0
+AreReadIn skin width [] [] = Unit {0}
+AreReadIn skin width [] (l ∷ ls) = ⊥
+AreReadIn skin width (x ∷ xs) [] = ⊥
+AreReadIn skin width (x ∷ xs) (l ∷ ls) = IsReadIn skin width x.part x.line l × AreReadIn skin width xs ls
+
+-- the line keeps the premises, and is none of a table
+abbrev pub IsPlainRow : MadSkin → ℕ → LineContent → Type 0
+IsPlainRow skin width c = IsPlainContent skin width c × (is_table c ≡ false)
+
+abbrev pub ArePlainRows : MadSkin → ℕ → List LineContent → Type 0
+ArePlainRows skin width cs = AllByRecursion (IsPlainRow skin width) cs
+
+content_rows : (skin : MadSkin) (area : Area) (part : List LineContent) (line : LineContent) (l : FmtLine) (own : List FmtLine) → area.width < 2 ^ 64 - 1 → IsPlainRow skin (area.width - 1) line
+    → IsReadIn skin (area.width - 1) part line l → IsLineAt IsCompositeWrap skin (Some (area.width - 1)) l own → (0 < length own) × IsAcross skin area part line (map (line_chars skin area.width) own)
+content_rows skin area part (normal said) (Normal l) own bound plain read laid = said_rows skin area part said l own bound plain.0 read laid
+content_rows skin area part (normal said) (TableRow row) own bound plain read laid = absurd read
+content_rows skin area part (normal said) (TableRule rule) own bound plain read laid = absurd read
+content_rows skin area part (normal said) HorizontalRule own bound plain read laid = absurd read
+content_rows skin area part (table_row cells) l own bound plain read laid = let e = plain.1 in absurd (cc)
+content_rows skin area part (table_rule aligns) l own bound plain read laid = let e = plain.1 in absurd (cc)
+content_rows skin area part horizontal_rule (Normal l) own bound plain read laid = absurd read
+content_rows skin area part horizontal_rule (TableRow row) own bound plain read laid = absurd read
+content_rows skin area part horizontal_rule (TableRule rule) own bound plain read laid = absurd read
+content_rows skin area part horizontal_rule HorizontalRule own bound plain read laid =
+    let one : length own ≡ 1 = ap length laid in
+    (omega (arith, one), ap (map (line_chars skin area.width)) laid ∙ ap (λ (x : List ℕ). x ∷ []) (run_chars skin.horizontal_rule area.width plain.0))
+
+line_across : (skin : MadSkin) (area : Area) (part : List LineContent) (line : LineContent) → (across : List (List ℕ)) × IsAcross skin area part line across
+line_across skin area part (normal said) =
+    let r : Room = room_of skin (kind_of said.style) (inner_width skin (area.width - 1) said) in
+    (rows_across skin area part said (rows_of r (marked_parts said)), (rows_of r (marked_parts said), rows_exist r (marked_parts said), refl))
+line_across skin area part (table_row cells) = ([], tt)
+line_across skin area part (table_rule aligns) = ([], tt)
+line_across skin area part horizontal_rule = (repeat area.width (skin_char skin.horizontal_rule) ∷ [], refl)
+
+-- every line has rows across an area
+pub across_exist : (skin : MadSkin) (area : Area) (xs : List LineInPart) → (across : List (List ℕ)) × AreAcross skin area xs across
+across_exist skin area [] = ([], refl)
+across_exist skin area (x ∷ xs) =
+    let own = line_across skin area x.part x.line in
+    let more = across_exist skin area xs in
+    (own.0 ++ more.0, (own.0, more.0, refl, own.1, more.1))
+
+-- The lines have rows across the area, and the first of these are those of the layout's lines.
+abbrev pub HaveFirstRows : MadSkin → Area → ℕ → List LineInPart → List FmtLine → Type 0
+HaveFirstRows skin area n xs lines = (across : List (List ℕ)) × AreAcross skin area xs across × (take n across ≡ take n (map (line_chars skin area.width) lines))
+
+-- lists that are the same so far
+take_less : (n : ℕ) (xs : List (List ℕ)) → take n (take (suc n) xs) ≡ take n xs
+take_less zero xs = refl
+take_less (suc n) [] = refl
+take_less (suc n) (x ∷ xs) = ap (λ (l : List (List ℕ)). x ∷ l) (take_less n xs)
+
+less_same : (xs ys : List (List ℕ)) (n : ℕ) → take (suc n) xs ≡ take (suc n) ys → take n xs ≡ take n ys
+less_same xs ys n e = sym (take_less n xs) ∙ ap (take n) e ∙ take_less n ys
+
+first_same : (own xs ys : List (List ℕ)) (n : ℕ) → take n xs ≡ take n ys → take n (own ++ xs) ≡ take n (own ++ ys)
+first_same own xs ys zero e = refl
+first_same [] xs ys (suc n) e = e
+first_same (o ∷ own) xs ys (suc n) e = ap (λ (l : List (List ℕ)). o ∷ l) (first_same own xs ys n (less_same xs ys n e))
+
+some_same : (own xs ys : List (List ℕ)) (n : ℕ) → 0 < length own → take n xs ≡ take n ys → take (suc n) (own ++ xs) ≡ take (suc n) (own ++ ys)
+some_same [] xs ys n some e = absurd (omega (arith, some))
+some_same (o ∷ own) xs ys n some e = ap (λ (l : List (List ℕ)). o ∷ l) (first_same own xs ys n e)
+
+-- The first rows of these lines and of those after them, whose rows are there for any number of lines that keep the premises.
+pub front_across : (skin : MadSkin) (area : Area) (n : ℕ) (xs ys : List LineInPart) (placed own others : List FmtLine) → area.width < 2 ^ 64 - 1
+    → ((m : ℕ) → ArePlainRows skin (area.width - 1) (take m (map (λ (x : LineInPart). x.line) ys)) → HaveFirstRows skin area m ys others)
+    → ArePlainRows skin (area.width - 1) (take n (map (λ (x : LineInPart). x.line) (xs ++ ys))) → AreReadIn skin (area.width - 1) xs placed → AreLinesAt IsCompositeWrap skin (Some (area.width - 1)) placed own
+    → HaveFirstRows skin area n (xs ++ ys) (own ++ others)
+front_across skin area zero xs ys placed own others bound later keeps reads laid = let all = across_exist skin area (xs ++ ys) in (all.0, all.1, refl)
+front_across skin area (suc n) [] ys (l ∷ ls) own others bound later keeps reads laid = absurd reads
+front_across skin area (suc n) (x ∷ xs) ys [] own others bound later keeps reads laid = absurd reads
+front_across skin area (suc n) [] ys [] own others bound later keeps reads laid = subst (λ (ls : List FmtLine). HaveFirstRows skin area (suc n) ys (ls ++ others)) (sym laid) (later (suc n) keeps)
+front_across skin area (suc n) (x ∷ xs) ys (l ∷ ls) own others bound later keeps reads (here, behind, joins, first_laid, more) =
+    let chars : List FmtLine → List (List ℕ) = map (line_chars skin area.width) in
+    let first = content_rows skin area x.part x.line l here bound keeps.0 reads.0 first_laid in
+    let rest = front_across skin area n xs ys ls behind others bound later keeps.1 reads.1 more in
+    let count : 0 < length (chars here) = omega (arith, first.0, length-map here (line_chars skin area.width)) in
+    let lines : own ++ others ≡ here ++ (behind ++ others) = ap (λ (ls : List FmtLine). ls ++ others) joins ∙ append_assoc here behind others in (
+      chars here ++ rest.0,
+      (chars here, rest.0, refl, first.1, rest.1),
+      some_same (chars here) rest.0 (chars (behind ++ others)) n count rest.2 ∙ ap (take (suc n)) (sym (ap chars lines ∙ map-append (line_chars skin area.width) here (behind ++ others))),
+    )

@@ -1,0 +1,149 @@
+-- The rows of a line that is wrapped, and of one that stays.
+use Rattle.std.proofs.Common.{◌≡◌, ℕ, ◌+◌, ◌≤◌, Bool, true, not, ◌&&◌, List, [], ◌∷◌, ◌++◌, map, chars, Option, Some, None, if◌then◌else◌, refl, ap, sym, ◌∙◌, subst, arith}
+use Rattle.std.specs.Prelude.{is_some}
+use Rattle.std.specs.List.{AllByRecursion, list_all}
+use Rattle.std.specs.Char.{is_whitespace}
+use Rattle.std.proofs.lemmas.Bool.{and_parts}
+use Rattle.std.proofs.lemmas.List.{append-nil, map-append, length-map}
+use Rattle.mad_md.specs.Flagged.{FlaggedChar, Flags, is_blank, flagged, run_of, flags_of, flagged_of, flagged_text}
+use Rattle.mad_md.specs.declared.compound.Compound.{Compound}
+use Rattle.mad_fit.specs.Columns.{width_of}
+use Rattle.mad_fit.specs.Tokens.{flagged_token, tokens_text, AreTokensOf}
+use Rattle.mad_fit.specs.declared.tokens.Token.{Token}
+use Rattle.mad_fit.proofs.AllLemmas.{all_front, all_back, all_joined}
+use Rattle.mad_fit.proofs.TokenTexts.{IsHonest, all_honest}
+use Rattle.mad_wrap.specs.Breaks.{LineAndGap, joined, AllBlank}
+use Rattle.mad_wrap.specs.CleanCut.{clean_cut, drops_middle, is_white, both_fit}
+use Rattle.mad_wrap.specs.Keeps.{Keeps, AllWhite}
+use Rattle.mad_wrap.specs.LeastWrap.{IsWrap}
+use Rattle.mad_wrap.specs.Placings.{GapsForced, ArePlaced}
+use Rattle.mad_wrap.specs.Rooms.{token_limit}
+use Rattle.mad_wrap.specs.WrapLines.{runs_of, HasRoom}
+use Rattle.mad_wrap.specs.declared.room.Room.{Room}
+use Rattle.mad_layout.specs.FlaggedRows.{whole, tokens_from, tokens_of, AreBroken, AreRowsOf}
+use Rattle.mad_layout.specs.Premises.{runs_text}
+use Rattle.mad_layout.proofs.DrawnParts.{runs_are}
+use Rattle.mad_layout.proofs.FlaggedBreaks.{break_lifts, flagged_piece}
+use Rattle.mad_layout.proofs.FlaggedTokens.{tokens_agree}
+use Rattle.mad_layout.proofs.RowsExist.{by_bool, line_text, WhiteGaps, whole_tokens, whole_tokens_of}
+
+pub whole_parts : (ps : List Compound) → whole (map flagged_of ps) ≡ flagged_text ps
+whole_parts [] = refl
+whole_parts (p ∷ ps) = ap (λ l. flagged_of p ++ l) (whole_parts ps)
+
+-- ---- where they break
+
+-- the tokens of a break as flagged text
+flagged_joined : (qs : List (LineAndGap Token)) → joined (map flagged_piece qs) ≡ map flagged_token (joined qs)
+flagged_joined [] = refl
+flagged_joined (q ∷ qs) =
+    sym (map-append flagged_token q.line (q.gap ++ joined qs) ∙ ap (λ l. map flagged_token q.line ++ l) (map-append flagged_token q.gap (joined qs))
+    ∙ ap (λ l. map flagged_token q.line ++ (map flagged_token q.gap ++ l)) (sym (flagged_joined qs)))
+
+tokens_whole : (ts : List Token) → whole (map flagged_token ts) ≡ tokens_text ts
+tokens_whole [] = refl
+tokens_whole (t ∷ ts) = ap (λ l. flagged_token t ++ l) (tokens_whole ts)
+
+flagged_lines : (qs : List (LineAndGap Token)) → map line_text (map flagged_piece qs) ≡ map (λ (p : LineAndGap Token). tokens_text p.line) qs
+flagged_lines [] = refl
+flagged_lines (q ∷ qs) = ap (λ l. l ∷ map line_text (map flagged_piece qs)) (tokens_whole q.line) ∙ ap (λ l. tokens_text q.line ∷ l) (flagged_lines qs)
+
+white_char : (x : FlaggedChar) (b : Bool) → is_blank x ≡ b → b ≡ true → is_whitespace x.char ≡ true
+white_char x b e on = (and_parts (is_whitespace x.char) (not x.flags.code) (e ∙ on)).0
+
+white_chars : (b : Bool) (xs : List FlaggedChar) → AllByRecursion (λ x. is_blank x ≡ b) xs → b ≡ true → AllWhite xs
+white_chars b [] alike on = tt
+white_chars b (x ∷ xs) alike on = (white_char x b alike.0 on, white_chars b xs alike.1 on)
+
+white_tokens : (max : ℕ) (ts : List Token) → AllByRecursion (IsHonest max) ts → AllBlank ts → AllWhite (whole (map flagged_token ts))
+white_tokens max [] honest blank = tt
+white_tokens max (t ∷ ts) honest blank =
+    all_joined (λ (x : FlaggedChar). is_whitespace x.char ≡ true) (flagged_token t) (whole (map flagged_token ts)) (white_chars t.blank (flagged_token t) honest.0.alike.alike blank.0) (white_tokens max ts honest.1 blank.1)
+
+white_gaps : (max indent : ℕ) (r : Room) (qs : List (LineAndGap Token)) → AllByRecursion (IsHonest max) (joined qs) → GapsForced indent r qs → WhiteGaps (map flagged_piece qs)
+white_gaps max indent r [] honest gaps = tt
+white_gaps max indent r (q ∷ qs) honest gaps =
+    let behind = all_back (IsHonest max) q.line (q.gap ++ joined qs) honest in
+    (white_tokens max q.gap (all_front (IsHonest max) q.gap (joined qs) behind) gaps.0, white_gaps max r.other r qs (all_back (IsHonest max) q.gap (joined qs) behind) gaps.2)
+
+-- a placing is broken at tokens
+placed_broken : (r : Room) (ps : List Compound) (ts : List Token) (rows : List (List FlaggedChar)) → AreTokensOf (token_limit r) ps ts → ArePlaced r ts rows → AreBroken r (map flagged_of ps) rows
+placed_broken r ps ts rows cut placed = record {
+  breaks = map flagged_piece placed.breaks;
+  covers = flagged_joined placed.breaks ∙ ap (map flagged_token) placed.placing.covers ∙ tokens_agree r ps ts cut;
+  rows_are = flagged_lines placed.breaks ∙ placed.texts_are;
+  dropped = white_gaps (token_limit r) r.first r placed.breaks (subst (AllByRecursion (IsHonest (token_limit r))) (sym placed.placing.covers) (all_honest (token_limit r) ps ts cut)) placed.placing.gaps;
+}
+
+texts_are : (lines : List (List Compound)) → map flagged_text lines ≡ map runs_text (map runs_of lines)
+texts_are [] = refl
+texts_are (l ∷ ls) = ap (λ t. t ∷ map flagged_text ls) (sym (runs_are l)) ∙ ap (λ ts. runs_text (runs_of l) ∷ ts) (texts_are ls)
+
+-- two lines of a compound each, with a middle of whitespace
+two_broken : (r : Room) (front middle back : Compound) (lines : List (List Compound)) → AllWhite (flagged_of middle) → map runs_of lines ≡ (run_of front ∷ []) ∷ (run_of back ∷ []) ∷ []
+    → AreBroken r (map flagged_of (front ∷ middle ∷ back ∷ [])) (map flagged_text lines)
+two_broken r front middle back lines white two =
+    let limit : ℕ = token_limit r in
+    let cut : Compound → List (List FlaggedChar) = λ p. tokens_from limit [] (flagged_of p) in
+    record {
+      breaks = record { line = cut front; gap = cut middle } ∷ record { line = cut back; gap = [] } ∷ [];
+      covers = refl;
+      rows_are = ap (λ l. l ∷ whole (cut back) ∷ []) (whole_tokens limit [] (flagged_of front) ∙ sym (append-nil (flagged_of front)))
+          ∙ ap (λ l. (flagged_of front ++ []) ∷ l ∷ []) (whole_tokens limit [] (flagged_of back) ∙ sym (append-nil (flagged_of back)))
+          ∙ sym (texts_are lines ∙ ap (map runs_text) two);
+      dropped = (subst AllWhite (sym (whole_tokens limit [] (flagged_of middle))) white, (tt, tt));
+    }
+
+white_middle : (f : Flags) (cs : List ℕ) → list_all is_whitespace cs ≡ true → AllWhite (flagged f cs)
+white_middle f [] e = tt
+white_middle f (c ∷ cs) e = let both = and_parts (is_whitespace c) (list_all is_whitespace cs) e in (both.0, white_middle f cs both.1)
+
+abbrev chosen : Bool → Compound → Compound → Option (Compound × Compound)
+chosen b front back = if b then Some (front, back) else None
+
+-- where a clean cut drops a middle
+cut_broken : (r : Room) (ps : List Compound) (lines : List (List Compound)) → drops_middle r ps ≡ true
+    → ((front back : Compound) → clean_cut r ps ≡ Some (front, back) → map runs_of lines ≡ (run_of front ∷ []) ∷ (run_of back ∷ []) ∷ []) → AreBroken r (map flagged_of ps) (map flagged_text lines)
+cut_broken r [] lines clean two = absurd (cc)
+cut_broken r (p ∷ []) lines clean two = absurd (cc)
+cut_broken r (p ∷ q ∷ []) lines clean two = absurd (cc)
+cut_broken r (front ∷ middle ∷ back ∷ []) lines clean two =
+    by_bool (λ b. (is_white middle && both_fit r front back) ≡ b → is_some (chosen b front back) ≡ true → ((f k : Compound) → chosen b front back ≡ Some (f, k) → map runs_of lines ≡ (run_of f ∷ []) ∷ (run_of k ∷ []) ∷ [])
+    → AreBroken r (map flagged_of (front ∷ middle ∷ back ∷ [])) (map flagged_text lines)) (is_white middle && both_fit r front back)
+    (λ on e c two. two_broken r front middle back lines (white_middle (flags_of middle) (chars middle.src.now) (and_parts (is_white middle) (both_fit r front back) on).0) (two front back refl))
+    (λ off e c two. absurd (cc)) refl clean two
+cut_broken r (p ∷ q ∷ s ∷ t ∷ ps) lines clean two = absurd (cc)
+
+-- ---- their rows
+
+-- a line that fits is its one row
+pub kept_rows : (r : Room) (text : List FlaggedChar) (parts : List (List FlaggedChar)) → whole parts ≡ text → r.first + width_of text ≤ r.width → AreRowsOf r parts (text ∷ [])
+kept_rows r text parts same fits = record {
+  keeps = ([], [], same ∙ sym (append-nil text), tt, refl);
+  broken = record {
+    breaks = record { line = tokens_of r parts; gap = [] } ∷ [];
+    covers = append-nil (tokens_of r parts);
+    rows_are = ap (λ l. l ∷ []) (whole_tokens_of r parts ∙ same);
+    dropped = (tt, tt);
+  };
+  fits = λ room. (fits, tt);
+  least = λ breaks b. b.some;
+}
+
+-- the lines of a wrap are the rows of what was wrapped
+pub wrapped_rows : (r : Room) (ps : List Compound) (lines : List (List Compound)) → IsWrap r ps lines → AreRowsOf r (map flagged_of ps) (map flagged_text lines)
+wrapped_rows r ps lines wrap =
+    let same : whole (map flagged_of ps) ≡ flagged_text ps = whole_parts ps in
+    let ts = wrap.tokenized.tokens in
+    let cut = wrap.tokenized.cut in
+    let best = wrap.least ts cut in
+    record {
+      keeps = subst (λ l. Keeps l (map flagged_text lines)) (sym same) wrap.keeps;
+      broken = by_bool (λ b. drops_middle r ps ≡ b → AreBroken r (map flagged_of ps) (map flagged_text lines)) (drops_middle r ps)
+          (λ on e. cut_broken r ps lines on wrap.cut) (λ off e. placed_broken r ps ts (map flagged_text lines) cut (best.placed off)) refl;
+      fits = λ room. wrap.fits (subst (HasRoom r) same room);
+      least = λ breaks b.
+          let lifted = break_lifts r ps ts breaks cut b in
+          let fewest = best.least lifted.0 lifted.1 in
+          omega (arith, fewest, lifted.2, length-map lines flagged_text);
+    }

@@ -1,0 +1,17 @@
+use Rattle.std.proofs.Common.{◌≡◌, List, ap, ◌∙◌}
+use Rattle.std.proofs.Output.{has_written_of_eq}
+use Rattle.mad_wrap.specs.WrapLines.{capped}
+use Rattle.mad_layout.specs.Rows.{row_columns}
+use Rattle.mad_layout.specs.declared.composite.FmtComposite.{FmtComposite}
+use Rattle.mad_layout.proofs.PieceLemmas.{row_bytes}
+use Rattle.mad_layout.proofs.display.PlacedTableRowDisplay.fmt.Goals as goal
+
+pub returns-clause-writes : goal.returns-clause-writes
+returns-clause-writes g c = λ p ok.
+    let row = c.args.self.now in
+    let cells = row.row.now.cells.items in
+    let columns : c.row_columns-columns.result ≡ capped (row_columns cells) = c.row_columns-columns.ensures ∙ ap (λ (ls : List FmtComposite). capped (row_columns ls)) c.deref.ensures.value in
+    let written = rw c.vertical-border.ensures at (c.write.ensures.writes p ok) in
+    has_written_of_eq _ _ _ _ _
+    (row_bytes row.skin.now row.outer row.right c.table_blanks.result.0 c.table_blanks.result.1 c.deref-2.result.now cells c.deref-2.ensures.value (c.table_blanks.ensures.left (row_columns cells) columns)
+    (c.table_blanks.ensures.right (row_columns cells) columns)) written

@@ -1,0 +1,59 @@
+-- The rows of a line, in the subject's own words: lists of flagged characters.
+use Rattle.std.specs.Prelude.{◌≡◌, ℕ, ◌+◌, ◌<◌, ◌≤◌, Bool, true, ◌&&◌, nat_le, not, List, [], ◌∷◌, ◌++◌, map, length, if◌then◌else◌}
+use Rattle.std.specs.List.{AllByRecursion, flat_map}
+use Rattle.mad_columns.specs.Columns.{char_columns}
+use Rattle.mad_md.specs.Flagged.{FlaggedChar, is_blank}
+use Rattle.mad_fit.specs.Columns.{width_of}
+use Rattle.mad_wrap.specs.Breaks.{LineAndGap, joined}
+use Rattle.mad_wrap.specs.Keeps.{Keeps, AllWhite}
+use Rattle.mad_wrap.specs.Rooms.{token_limit}
+use Rattle.mad_wrap.specs.WrapLines.{HasRoom, LinesFit}
+use Rattle.mad_wrap.specs.declared.room.Room.{Room}
+
+-- pieces of a text, joined
+abbrev pub whole : List (List FlaggedChar) → List FlaggedChar
+whole ts = flat_map (λ t. t) ts
+
+-- a character goes on with a token: both are blank or neither is, and together they are within the limit
+abbrev pub goes_on : ℕ → List FlaggedChar → FlaggedChar → Bool
+goes_on limit [] y = true
+goes_on limit (x ∷ xs) y = (if is_blank x then is_blank y else not (is_blank y)) && nat_le (width_of (x ∷ xs) + char_columns y.char) limit
+
+-- the tokens of a part, of which the first one has begun
+abbrev pub tokens_from : ℕ → List FlaggedChar → List FlaggedChar → List (List FlaggedChar)
+tokens_from limit [] [] = []
+tokens_from limit (x ∷ xs) [] = (x ∷ xs) ∷ []
+tokens_from limit token (y ∷ ys) = if goes_on limit token y then tokens_from limit (token ++ y ∷ []) ys else token ∷ tokens_from limit (y ∷ []) ys
+
+-- the tokens of a line's parts, as they are cut for this room
+abbrev pub tokens_of : Room → List (List FlaggedChar) → List (List FlaggedChar)
+tokens_of r parts = flat_map (tokens_from (token_limit r) []) parts
+
+-- nothing is dropped after the last line
+abbrev pub LastsToEnd : List (LineAndGap (List FlaggedChar)) → Type 0
+LastsToEnd [] = Unit {0}
+LastsToEnd (p ∷ []) = p.gap ≡ []
+LastsToEnd (p ∷ q ∷ ps) = LastsToEnd (q ∷ ps)
+
+-- A fitting break of a line: its tokens in order on lines that fit, with only blanks dropped, and these between two lines.
+pub record IsFittingBreak (r : Room) (parts : List (List FlaggedChar)) (breaks : List (LineAndGap (List FlaggedChar))) : Type 0 where
+  pub some : 0 < length breaks
+  pub covers : joined breaks ≡ tokens_of r parts
+  pub fits : LinesFit r.first r (map (λ p. whole p.line) breaks)
+  pub dropped : AllByRecursion (λ p. AllByRecursion (λ x. is_blank x ≡ true) (whole p.gap)) breaks
+  pub ends : LastsToEnd breaks
+
+-- The rows are lines of a line's tokens in order, with only whitespace dropped after each.
+pub record AreBroken (r : Room) (parts rows : List (List FlaggedChar)) : Type 0 where
+  pub breaks : List (LineAndGap (List FlaggedChar))
+  pub covers : joined breaks ≡ tokens_of r parts
+  pub rows_are : map (λ p. whole p.line) breaks ≡ rows
+  pub dropped : AllByRecursion (λ p. AllWhite (whole p.gap)) breaks
+
+-- The rows of a line: they keep its characters but whitespace at breaks and ends, they are broken at borders of its tokens, they fit
+-- where there is room, and no fitting break has fewer lines.
+pub record AreRowsOf (r : Room) (parts rows : List (List FlaggedChar)) : Type 0 where
+  pub keeps : Keeps (whole parts) rows
+  pub broken : AreBroken r parts rows
+  pub fits : HasRoom r (whole parts) → LinesFit r.first r rows
+  pub least : (breaks : List (LineAndGap (List FlaggedChar))) → IsFittingBreak r parts breaks → length rows ≤ length breaks

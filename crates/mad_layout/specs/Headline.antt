@@ -1,0 +1,39 @@
+-- The headline in the subject's own words: the first rows of a text, in the cells of an area.
+use Rattle.std.specs.Prelude.{◌≡◌, ℕ, false, ◌+◌, ◌-◌, ◌<◌, List, map, replicate, take, Some, slice_get, slice_index_or, unwrap_or}
+use Rattle.mad_screen.specs.Drawing.{IsOutside}
+use Rattle.mad_screen.specs.Grid.{Grid, IsGrid, plain_pen, cell_at, blank}
+use Rattle.mad_screen.specs.Terminal.{after_bytes}
+use Rattle.mad_term.specs.Trace.{Trace, TookWith}
+use Rattle.mad_md.specs.Lines.{LineContent}
+use Rattle.mad_md.specs.Reading.{IsRead, unread_text}
+use Rattle.mad_fit.specs.declared.area.Area.{Area}
+use Rattle.mad_draw.specs.DrawnRows.{IsOnScreen}
+use Rattle.mad_draw.specs.PennedCells.{penned_cells}
+use Rattle.mad_layout.specs.FlaggedLines.{HoldNoTable, lines_in_parts, AreAcross}
+use Rattle.mad_layout.specs.Premises.{KeepsPremises}
+use Rattle.mad_layout.specs.declared.skin.MadSkin.{MadSkin}
+
+-- the characters that the i-th cell of a row shows: one with those joined to it that take no column, or none in a further column of a wide one
+abbrev pub cell_chars : List ℕ → ℕ → List ℕ
+cell_chars cs i = (slice_index_or (penned_cells (map (λ c. record { char = c; pen = plain_pen }) cs)) i blank).chars
+
+-- The area shows these rows from the first on, and spaces below the last; no cell outside it has changed.
+pub record ShowsAcross (across : List (List ℕ)) (area : Area) (old new : Grid) : Type 0 where
+  pub width : new.width ≡ old.width
+  pub height : new.height ≡ old.height
+  pub inside : (i j : ℕ) → i < area.width → j < area.height
+      → (cell_at new (area.left + i) (area.top + j)).chars ≡ cell_chars (unwrap_or (slice_get across j) (replicate area.width 32)) i
+  pub outside : (x y : ℕ) → x < old.width → IsOutside area.left area.top area.width area.height x y → cell_at new x y ≡ cell_at old x y
+
+-- a plain terminal that reads these bytes shows them so, and has the plain pen again
+abbrev pub AreShownAcross : List (List ℕ) → Area → List ℕ → Type 0
+AreShownAcross across area bytes =
+    (g : Grid) → IsOnScreen area g → (new : Grid) × (after_bytes g bytes ≡ Some new) × IsGrid new × (new.pen ≡ plain_pen) × ShowsAcross across area g new
+
+-- The headline: the lines of the text have rows, and where as many lines as the area has rows keep the premises, none of them one of a
+-- table, the area shows the first of these rows.
+pub record ShowsFirstRows (skin : MadSkin) (markdown : List ℕ) (area : Area) (old new : Trace) : Type 0 where
+  pub lines : List LineContent
+  pub read : IsRead (unread_text false markdown) lines
+  pub shown : KeepsPremises skin (area.width - 1) (take area.height lines) → HoldNoTable (take area.height lines)
+      → (across : List (List ℕ)) × AreAcross skin area (lines_in_parts lines) across × TookWith old new (AreShownAcross across area)

@@ -1,0 +1,74 @@
+//! The first lines of a text, laid out: as many as an area has rows.
+
+ghost use Rattle.std.specs.Prelude.{◌≡◌, ◌-◌, ◌&&◌, false, not, IfOk, List, Some};
+ghost use Rattle.mad_md.specs.Lines.{LineContent, content_of};
+ghost use Rattle.mad_md.specs.Reading.{IsRead, unread_text};
+ghost use Rattle.mad_layout.specs.FlaggedLines.{is_code, is_table};
+ghost use Rattle.mad_layout.specs.Fronts.{IsFrontLayout};
+ghost use Rattle.mad_layout.specs.InArea.{IsAreaFront};
+
+use crate::fmt_text::FmtText;
+use crate::laying::{Laying, is_code};
+use crate::line::FmtLine;
+use crate::skin::MadSkin;
+use mad_fit::Area;
+use mad_md::{Line, LineCursor, ParseOptions};
+use mad_style::CompositeKind;
+use std::alloc::{AllocError, Global};
+
+impl MadSkin {
+    // The first lines of a Markdown text, laid out for an area: as many as it has rows, or all of them.
+    pub(crate) fn area_front<'k, 's>(
+        &'k self,
+        alloc: Global,
+        markdown: &'s str,
+        area: &Area,
+    ) -> Result<FmtText<'k, 's>, AllocError>
+        ensures skin { IfOk result (λ text. text.skin.now ≡ self.now) }
+        ensures lines { IfOk result (λ text. IsAreaFront self.now markdown.now area.now text.lines.items) }
+    {
+        let width = Some(usize::from(area.width).saturating_sub(1));
+        let rows = usize::from(area.height);
+        let lines = lay_front(alloc, self, markdown, width, rows)?;
+        Ok(FmtText {
+            skin: self,
+            lines,
+            width,
+        })
+    }
+}
+
+// The first lines of a Markdown text, laid out: at least these many rows, or the whole text.
+fn lay_front<'s>(
+    alloc: Global,
+    skin: &MadSkin,
+    src: &'s str,
+    width: Option<usize>,
+    rows: usize,
+) -> Result<Vec<FmtLine<'s>>, AllocError>
+    ensures { IfOk result (λ lines. (text : List LineContent) × IsRead (unread_text false src.entry.now) text × IsFrontLayout skin.now width rows text lines.items) }
+{
+    let mut laying = Laying::new(alloc);
+    let mut cursor = LineCursor::new(src, ParseOptions::default());
+    let mut ended = true;
+    while !(ended && laying.lines.len() >= rows) {
+        let Some(line) = cursor.next_line(alloc)? else {
+            break;
+        };
+        ended = ends_part(&line);
+        laying.push(alloc, line, width, skin)?;
+    }
+    laying.close(alloc, width, skin)?;
+    Ok(laying.lines)
+}
+
+// No part of a text goes on after the line: it is neither code nor of a table.
+fn ends_part(line: &Line) -> bool
+    ensures { result ≡ (not (is_code (content_of line.now)) && not (is_table (content_of line.now))) }
+{
+    match line {
+        Line::Normal(composite) => !is_code(CompositeKind::from(composite.style)),
+        Line::TableRow(_) | Line::TableRule(_) => false,
+        Line::HorizontalRule => true,
+    }
+}
