@@ -14,6 +14,7 @@ pub record Editor : Type 0 where
   pub offset : ℕ
   pub tail : Option Pos
 
+-- whether two places are the same
 abbrev pub same_place : Pos → Pos → Bool
 same_place = eq_of_both (on (λ p. p.y) nat_eq) (on (λ p. p.x) nat_eq)
 

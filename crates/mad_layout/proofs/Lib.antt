@@ -1,7 +1,8 @@
+pub mod CodeBlockLemmas
 pub mod DrawableLemmas
 pub mod DrawableTables
-pub mod DrawnParts
 pub mod DrawnLayouts
+pub mod DrawnParts
 pub mod FlaggedBreaks
 pub mod FlaggedTokens
 pub mod FrontLemmas
@@ -16,6 +17,7 @@ pub mod MeasureLemmas
 pub mod PartLemmas
 pub mod PartRuns
 pub mod PieceLemmas
+pub mod ReadWraps
 pub mod RowChars
 pub mod RowLemmas
 pub mod RowsAcross
@@ -29,6 +31,7 @@ pub mod TextParts
 pub mod WholeTokens
 pub mod WordLemmas
 pub mod WordScreens
+pub mod WorkedTables
 pub mod WrapKinds
 pub mod WrapLemmas
 pub mod WrapRows

@@ -2,6 +2,7 @@ pub use Rattle.mad_draw.specs.DrawnRows
 pub use Rattle.mad_draw.specs.Pieces
 pub use Rattle.mad_draw.specs.PennedCells
 pub use Rattle.mad_draw.specs.TableRules
+pub mod CodeBlocks
 pub mod CompositeWraps
 pub mod Drawable
 pub mod FittingLayouts
@@ -27,6 +28,7 @@ pub mod SkinParts
 pub mod Skins
 pub mod Sources
 pub mod Styles
+pub mod TableLaws
 pub mod TableRows
 pub mod Tables
 pub mod Texts

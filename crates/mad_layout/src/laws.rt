@@ -1,9 +1,11 @@
-//! An example whose premises are proved: a text that is written in an area, and what a screen shows that reads it.
+//! Laws, each the contract of a small function: what the layout of given tables is, and that tables fit their place; and an example whose
+//! premises are proved, a text that is written in an area, and what a screen shows that reads it.
 
 ghost use Rattle.std.specs.Prelude.{◌≡◌, ◌∷◌, [], IfOk, OnOk, Some};
 ghost use Rattle.mad_screen.specs.Grid.{cell_at, plain_pen};
 ghost use Rattle.mad_screen.specs.Terminal.{after_bytes};
 ghost use Rattle.mad_layout.specs.Sources.{LinesTakeColumns};
+ghost use Rattle.mad_layout.specs.TableLaws.{AreWorkedTables, AreNoTables};
 ghost use Rattle.mad_layout.specs.CompositeWraps.{IsCompositeWrap};
 ghost use Rattle.mad_layout.specs.FittingLayouts.{IsFittingWrap};
 ghost use Rattle.mad_layout.specs.PlainTables.{TablesFit};
@@ -21,6 +23,24 @@ pub fn words_take_columns()
     ensures { LinesTakeColumns words }
 {}
 
+/// Who fills an area with spaces has not shown `aaa bb cc` in it.
+pub fn spaces_are_no_text()
+    ensures { SpacesAreNoText }
+{}
+
+/// The definition of a table's layout gives worked tables their widths.
+#[tactic(auto, using(crate::proofs::WorkedTables::worked_tables))]
+pub fn worked_tables()
+    ensures { AreWorkedTables }
+{}
+
+/// Widths are not a table's where their sum is one too few, or where a column is dropped that has room; rows are not a row's where
+/// a line of a cell stands in another column, or a cell is missing.
+#[tactic(auto, using(crate::proofs::WorkedTables::no_tables))]
+pub fn other_tables_are_refused()
+    ensures { AreNoTables }
+{}
+
 /// A table that is laid out at a width fits a row at least as wide when it is drawn.
 pub fn tables_fit()
     // However many lines its cells are wrapped into.
@@ -28,11 +48,6 @@ pub fn tables_fit()
 
     // So does one whose cells have the fewest lines.
     ensures least { TablesFit IsCompositeWrap }
-{}
-
-/// Who fills an area with spaces has not shown `aaa bb cc` in it.
-pub fn spaces_are_no_text()
-    ensures { SpacesAreNoText }
 {}
 
 /// A screen of sixteen columns and four rows, a `z` in its corner, after `aaa bb cc` was written in an area of twelve columns and two

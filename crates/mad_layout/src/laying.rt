@@ -2,10 +2,10 @@
 
 ghost use Rattle.std.specs.Prelude.{◌≡◌, ◌≤◌, ◌++◌, ◌∷◌, [], true, false, List, Option, Some, None, map, IfSome, OnOk};
 ghost use Rattle.std.specs.List.{AllByRecursion};
-ghost use Rattle.mad_md.specs.Lines.{LineContent, content_of};
+ghost use Rattle.mad_md.specs.Lines.{LineContent, content_of, normal, horizontal_rule, styled_runs};
 ghost use Rattle.mad_layout.specs.CompositeWraps.{IsCompositeWrap};
 ghost use Rattle.mad_layout.specs.Laying.{IsOpenRun, IsLaidFor, IsBlockAt, IsTableAt, IsRunAt};
-ghost use Rattle.mad_layout.specs.Lines.{IsLineRead};
+ghost use Rattle.mad_layout.specs.Lines.{IsLineRead, IsCompositeRead};
 ghost use Rattle.mad_layout.specs.Parts.{is_code_kind, is_code_line, widest, block_width, placed_code, code_room, table_width, wrap_width, IsLineAt};
 ghost use Rattle.mad_layout.specs.Tables.{is_table_line};
 ghost use Rattle.mad_layout.specs.WrappedLines.{AllMeasured, IsLineMeasured};
@@ -18,9 +18,9 @@ use crate::line::FmtLine;
 use crate::room::LEAST_WIDTH;
 use crate::skin::MadSkin;
 use crate::table_layout::push_whole_table;
-use crate::wrap::push_line;
+use crate::wrap::{push_line, push_read};
 use mad_fit::Spacing;
-use mad_md::{Alignment, Line};
+use mad_md::{Alignment, Composite, Line};
 use mad_style::CompositeKind;
 use std::alloc::{AllocError, Global};
 use std::mem;
@@ -60,36 +60,36 @@ impl<'s> Laying<'s> {
         ensures laid { OnOk result ((all rest : List LineContent) → IsLaidFor skin.now width all (content_of line.entry ∷ rest) self.old.lines.items self.old.block.items self.old.table.items
             → IsLaidFor skin.now width all rest self.new.lines.items self.new.block.items self.new.table.items) }
     {
-        match FmtLine::from(alloc, line, skin)? {
-            FmtLine::Normal(composite) => self.push_composite(alloc, composite, width, skin),
-            FmtLine::HorizontalRule => {
-                self.push_alone(alloc, FmtLine::HorizontalRule, width, skin)
+        match line {
+            Line::Normal(composite) => self.push_composite(alloc, composite, width, skin),
+            Line::HorizontalRule => self.push_rule(alloc, width, skin),
+            line => {
+                let line = FmtLine::from(alloc, line, skin)?;
+                self.push_table_line(alloc, line, width, skin)
             }
-            line => self.push_table_line(alloc, line, width, skin),
         }
     }
 
-    // A line of code goes into the block that is open.
+    // A line of code goes into the block that is open, any other composite ends it and the table.
     fn push_composite(
         &mut self,
         alloc: Global,
-        composite: FmtComposite<'s>,
+        composite: Composite<'s>,
         width: Option<usize>,
         skin: &MadSkin,
     ) -> Result<(), AllocError>
-        requires measured { IsMeasured skin.now composite }
         requires run { IsOpenRun skin.now self.old.block.items self.old.table.items }
         ensures run { OnOk result (IsOpenRun skin.now self.new.block.items self.new.table.items) }
-        ensures laid { OnOk result ((content : LineContent) (all rest : List LineContent) → IsLineRead skin.now content (Normal composite.entry)
-            → IsLaidFor skin.now width all (content ∷ rest) self.old.lines.items self.old.block.items self.old.table.items
+        ensures laid { OnOk result ((all rest : List LineContent) → IsLaidFor skin.now width all (normal (styled_runs composite.entry) ∷ rest) self.old.lines.items self.old.block.items self.old.table.items
             → IsLaidFor skin.now width all rest self.new.lines.items self.new.block.items self.new.table.items) }
     {
-        if is_code(composite.kind) {
+        if is_code(CompositeKind::from(composite.style)) {
             self.close_table(alloc, width, skin)?;
-            self.block.push(composite)?;
+            self.block.push(FmtComposite::from(composite, skin))?;
             return Ok(());
         }
-        self.push_alone(alloc, FmtLine::Normal(composite), width, skin)
+        self.close(alloc, width, skin)?;
+        push_read_at(alloc, &mut self.lines, composite, wrap_width(width), skin)
     }
 
     // A line of a table goes into the table that is open.
@@ -113,25 +113,21 @@ impl<'s> Laying<'s> {
         Ok(())
     }
 
-    // Any other line ends both.
-    fn push_alone(
+    // A rule ends both.
+    fn push_rule(
         &mut self,
         alloc: Global,
-        line: FmtLine<'s>,
         width: Option<usize>,
         skin: &MadSkin,
     ) -> Result<(), AllocError>
-        requires no_code { is_code_line line ≡ false }
-        requires no_table { is_table_line line ≡ false }
-        requires measured { IsLineMeasured skin.now line }
         requires run { IsOpenRun skin.now self.old.block.items self.old.table.items }
         ensures run { OnOk result (IsOpenRun skin.now self.new.block.items self.new.table.items) }
-        ensures laid { OnOk result ((content : LineContent) (all rest : List LineContent) → IsLineRead skin.now content line.entry
-            → IsLaidFor skin.now width all (content ∷ rest) self.old.lines.items self.old.block.items self.old.table.items
+        ensures laid { OnOk result ((all rest : List LineContent) → IsLaidFor skin.now width all (horizontal_rule ∷ rest) self.old.lines.items self.old.block.items self.old.table.items
             → IsLaidFor skin.now width all rest self.new.lines.items self.new.block.items self.new.table.items) }
     {
         self.close(alloc, width, skin)?;
-        push_at(alloc, &mut self.lines, line, wrap_width(width), skin)
+        self.lines.push(FmtLine::HorizontalRule)?;
+        Ok(())
     }
 
     /// Lays out the block of code or the table that is open, if there is one.
@@ -162,6 +158,9 @@ impl<'s> Laying<'s> {
         ensures table { OnOk result (self.new.table.items ≡ self.old.table.items) }
         ensures laid { OnOk result ((own : List FmtLine) × (self.new.lines.items ≡ self.old.lines.items ++ own) × IsBlockAt skin.now width self.old.block.items own) }
     {
+        if self.block.is_empty() {
+            return Ok(());
+        }
         let block = mem::replace(&mut self.block, Vec::new(alloc));
         let wrap = wrap_width(width);
         let columns = block_width(&block, room_of_code(wrap, skin));
@@ -184,6 +183,9 @@ impl<'s> Laying<'s> {
         ensures block { OnOk result (self.new.block.items ≡ self.old.block.items) }
         ensures laid { OnOk result ((own : List FmtLine) × (self.new.lines.items ≡ self.old.lines.items ++ own) × IsTableAt skin.now width self.old.table.items own) }
     {
+        if self.table.is_empty() {
+            return Ok(());
+        }
         let table = mem::replace(&mut self.table, Vec::new(alloc));
         push_whole_table(alloc, &mut self.lines, table, table_width(width), skin)
     }
@@ -271,5 +273,22 @@ fn push_at<'s>(
     match width {
         Some(width) => push_line(alloc, lines, line, width, skin),
         None => Ok(lines.push(line)?),
+    }
+}
+
+// Puts what becomes of a composite that was read, at a width, after the lines that are there.
+fn push_read_at<'s>(
+    alloc: Global,
+    lines: &mut Vec<FmtLine<'s>>,
+    composite: Composite<'s>,
+    width: Option<usize>,
+    skin: &MadSkin,
+) -> Result<(), AllocError>
+    ensures { OnOk result ((source : FmtComposite) × IsCompositeRead skin.now (styled_runs composite.entry) source
+        × (own : List FmtLine) × (lines.new.items ≡ lines.old.items ++ own) × IsLineAt IsCompositeWrap skin.now width (Normal source) own) }
+{
+    match width {
+        Some(width) => push_read(alloc, lines, composite, width, skin),
+        None => Ok(lines.push(FmtLine::Normal(FmtComposite::from(composite, skin)))?),
     }
 }

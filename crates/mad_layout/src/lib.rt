@@ -8,7 +8,9 @@
 //! 3. [`composite`], [`line`]: a line with its cached width.
 //! 4. [`wrap`]: wrapping composites and lists of lines, with the fewest lines.
 //! 5. [`bound`]: starts of lines that show that no fitting break has fewer.
-//! 6. [`table`]: lines of a table. `laying`: lines laid out one after another, blocks of code in their place.
+//! 6. [`table`]: lines of a table. `table_columns`, [`table_rows`], [`table_layout`]: the widths of its columns, the rows that a row
+//!    becomes, and whole tables. `laying`: lines laid out one after another, tables and blocks of code as wholes.
+//!    [`code_blocks`]: finding and placing blocks by themselves.
 //!    [`fmt_text`], [`fmt_inline`]: reading a text and laying it out; reading one line.
 //! 7. `rows`: what is written of a line, piece by piece.
 //! 8. [`drawing`]: the rows of a text in an area of the screen.
@@ -16,6 +18,7 @@
 #![tactic(auto)]
 
 pub mod bound;
+pub mod code_blocks;
 pub mod composite;
 mod display;
 pub mod displayable_line;
@@ -43,6 +46,7 @@ pub mod wrap;
 mod writing;
 
 pub use bound::{WrapBound, check_wrap_bound, wrap_bound};
+pub use code_blocks::{CodeBlock, find_blocks, justify_blocks};
 pub use composite::FmtComposite;
 pub use displayable_line::DisplayableLine;
 pub use drawing::draw_text;

@@ -1,4 +1,4 @@
-//! Lines of a table, as they are read: they have no layout yet.
+//! Lines of a table: rows of cells, and rules across it.
 
 ghost use Rattle.std.specs.Prelude.{◌≡◌, [], IfOk, map};
 ghost use Rattle.mad_md.specs.Lines.{styled_runs};

@@ -1,6 +1,6 @@
 //! Rows of a table, laid out in columns.
 
-ghost use Rattle.std.specs.Prelude.{◌≡◌, ◌≤◌, max, IfOk, OnOk};
+ghost use Rattle.std.specs.Prelude.{◌≡◌, max, IfOk, OnOk};
 ghost use Rattle.std.specs.List.{AllByRecursion};
 ghost use Rattle.std.specs.Vec.Iter.{into_iter_items};
 ghost use Rattle.mad_layout.specs.CompositeWraps.{IsCompositeWrap};
@@ -31,8 +31,7 @@ pub fn lay_row<'s>(
     aligns: &[Alignment],
     skin: &MadSkin,
 ) -> Result<Vec<FmtTableRow<'s>>, AllocError>
-    requires wide { AllByRecursion (λ w. 3 ≤ w) widths.now }
-    requires measured { AllByRecursion (IsMeasured skin.now) row.cells.items }
+    requires { AllByRecursion (IsMeasured skin.now) row.cells.items }
     ensures { IfOk result (λ rows. IsRowLaidOutBy IsCompositeWrap skin.now (columns_with widths.now aligns.now) row.entry.cells.items rows.items) }
 {
     let columns = columns_with(alloc, widths, aligns)?;

@@ -24,6 +24,7 @@ mod extremes;
 mod made;
 mod marks;
 mod styles;
+mod table_layouts;
 mod tables;
 
 fn skin_with(left_margin: usize, right_margin: usize, mode: ListItemsIndentationMode) -> MadSkin {

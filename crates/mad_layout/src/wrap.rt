@@ -1,6 +1,8 @@
 ghost use Rattle.std.specs.Prelude.{◌≡◌, ◌≤◌, ◌<◌, ◌⊎◌, ◌++◌, ◌↔◌, List, map, IfOk, IfErr, OnOk, IsTrue};
+ghost use Rattle.mad_md.specs.Lines.{styled_runs};
 ghost use Rattle.mad_layout.specs.CompositeWraps.{AreComposites, IsCompositeWrap};
 ghost use Rattle.mad_layout.specs.Indents.{follow_up};
+ghost use Rattle.mad_layout.specs.Lines.{IsCompositeRead};
 ghost use Rattle.mad_layout.specs.WrappedLines.{AllMeasured, AllFit, AreLinesWrapped, IsLineMeasured, IsLineWrapped, IsWrapped, LineFits, line_with};
 ghost use Rattle.mad_layout.specs.Wraps.{IsMeasured};
 ghost use Rattle.mad_layout.specs.declared.line.FmtLine.{FmtLine};
@@ -12,9 +14,10 @@ use crate::line::FmtLine;
 use crate::room::{LEAST_WIDTH, Room, check_width, room_of};
 use crate::skin::MadSkin;
 use mad_fit::Spacing;
+use mad_md::Composite;
 use mad_style::CompositeKind;
 use mad_term::Error;
-use mad_wrap::{WrappedLine, wrap_compounds};
+use mad_wrap::{WrappedLine, fit_columns, wrap_compounds};
 use std::alloc::{AllocError, Global};
 
 /// Wraps a composite that is wider than `width` columns, in the fewest lines.
@@ -184,20 +187,81 @@ fn push_composite<'s>(
         lines.push(line_with(margins, composite))?;
         return Ok(());
     }
-    let wrap = wrap_composite(alloc, &composite, inner, skin)?;
-    push_lines(lines, wrap, margins)
+    let room = room_of(skin, composite.kind, inner);
+    let wrap = wrap_compounds(alloc, &composite.compounds, room)?;
+    push_wrapped(
+        lines,
+        wrap,
+        composite.kind,
+        room,
+        composite.spacing,
+        margins,
+    )
 }
 
-// Puts composites after the lines that are there, each with these margins.
-fn push_lines<'s>(
+/// Puts what a composite that was read becomes, at any width, after the lines that are there.
+///
+/// Where it is wrapped, it is measured no further than to where it passes the width.
+pub(crate) fn push_read<'s>(
+    alloc: Global,
     lines: &mut Vec<FmtLine<'s>>,
-    wrap: Vec<FmtComposite<'s>>,
+    composite: Composite<'s>,
+    width: usize,
+    skin: &MadSkin,
+) -> Result<(), AllocError>
+    ensures { OnOk result ((source : FmtComposite) × IsCompositeRead skin.now (styled_runs composite.entry) source
+        × (own : List FmtLine) × (lines.new.items ≡ lines.old.items ++ own) × IsWrapped skin.now width source own) }
+{
+    if width == usize::MAX {
+        // Here a composite of more columns fits, by its cached length.
+        let composite = FmtComposite::from(composite, skin);
+        return push_composite(alloc, lines, composite, width, skin);
+    }
+    let Composite { style, compounds } = composite;
+    let kind = CompositeKind::from(style);
+    let margins = skin.line_style(kind).margins_in(Some(width));
+    let room = room_of(skin, kind, width - margins.0 - margins.1);
+    let Some(columns) = fit_columns(&compounds, room) else {
+        let wrap = wrap_compounds(alloc, &compounds, room)?;
+        return push_wrapped(lines, wrap, kind, room, None, margins);
+    };
+    lines.push(FmtLine::Normal(FmtComposite {
+        kind,
+        compounds,
+        visible_length: room.first + columns,
+        spacing: None,
+        margins: Some(margins),
+    }))?;
+    Ok(())
+}
+
+// Puts wrapped lines after the lines that are there, as composites with these margins: the first of this kind, the others of
+// the kind that follows it.
+fn push_wrapped<'s>(
+    lines: &mut Vec<FmtLine<'s>>,
+    wrap: Vec<WrappedLine<'s>>,
+    kind: CompositeKind,
+    room: Room,
+    spacing: Option<Spacing>,
     margins: (usize, usize),
 ) -> Result<(), AllocError>
-    ensures { OnOk result (lines.new.items ≡ lines.old.items ++ map (line_with margins) wrap.entry.items) }
+    ensures { OnOk result ((composites : List FmtComposite) × (lines.new.items ≡ lines.old.items ++ map (line_with margins) composites)
+        × AreComposites kind (follow_up kind) room.first room.other spacing wrap.entry.items composites) }
 {
-    for composite in wrap {
+    let mut kind = kind;
+    let mut indent = room.first;
+    for line in wrap {
+        let WrappedLine { compounds, columns } = line;
+        let composite = FmtComposite {
+            kind,
+            compounds,
+            visible_length: columns.saturating_add(indent),
+            spacing,
+            margins: None,
+        };
         lines.push(line_with(margins, composite))?;
+        kind = follow_up(kind);
+        indent = room.other;
     }
     Ok(())
 }

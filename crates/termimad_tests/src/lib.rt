@@ -8,6 +8,8 @@ mod areas;
 #[cfg(test)]
 mod picture;
 #[cfg(test)]
+mod tables;
+#[cfg(test)]
 mod texts;
 #[cfg(test)]
 mod views;

@@ -47,30 +47,35 @@ fn rule(
     }))
 }
 
-// The lines drawn in an area as wide as the rows, and displayed, which leaves out the spaces behind the last border.
+// The moves to the first four rows.
+const MOVES: [&str; 4] = ["\u{1b}[1;1H", "\u{1b}[2;1H", "\u{1b}[3;1H", "\u{1b}[4;1H"];
+
+// The lines drawn in an area of so many columns and rows, and displayed, which leaves out the spaces after the last border.
 fn assert_rows(
     rt: &impl Abort,
     alloc: Global,
     skin: &MadSkin,
     lines: Vec<FmtLine>,
-    area: Area,
+    sides: [u8; 2],
     rows: &[&str],
 ) -> Result<(), Error> {
+    let [width, height] = sides;
     let text = FmtText {
         skin,
         lines,
-        width: Some(usize::from(area.width)),
+        width: Some(usize::from(width)),
     };
     let mut displayed = String::new(alloc);
     let mut drawn = String::new(alloc);
-    let mut y = 0;
-    for row in rows {
-        y += 1;
-        write!(displayed, "{}\n", row.trim_end())?;
-        write!(drawn, "\u{1b}[{y};1H{row}")?;
+    for (to_row, row) in MOVES.iter().zip(rows) {
+        displayed.push_str(row.trim_end())?;
+        displayed.push_str("\n")?;
+        drawn.push_str(to_row)?;
+        drawn.push_str(row)?;
     }
     assert_eq!(rt; text.to_string(alloc)?.as_str(), displayed.as_str());
     let mut out = CutOut::new(alloc, 1000, 1000, false)?;
+    let area = Area::new(0, 0, width.into(), height.into());
     draw_text(alloc, &mut out, &text, &area, 0)?;
     assert!(rt; out.taken() == drawn.as_bytes(), "{drawn}");
     Ok(())
@@ -92,7 +97,7 @@ fn rows_and_a_rule_in_their_columns(rt: HostRuntime) -> Result<(), Error> {
         "│1  │2  │   ",
         "│  1│  2│   ",
     ];
-    assert_rows(&rt, alloc, &skin, lines, Area::new(0, 0, 12, 4), &rows)
+    assert_rows(&rt, alloc, &skin, lines, [12, 4], &rows)
 }
 
 #[test]
@@ -103,7 +108,7 @@ fn a_table_without_columns(rt: HostRuntime) -> Result<(), Error> {
     lines.push(row(alloc, &skin, &[], Alignment::Center)?)?;
     lines.push(rule(alloc, RelativePosition::Other, &[])?)?;
     let rows = ["│   ", "├┤  "];
-    assert_rows(&rt, alloc, &skin, lines, Area::new(0, 0, 4, 2), &rows)
+    assert_rows(&rt, alloc, &skin, lines, [4, 2], &rows)
 }
 
 #[test]
@@ -131,7 +136,7 @@ fn rules_at_each_place_of_a_table(rt: HostRuntime) -> Result<(), Error> {
         for place in places {
             lines.push(rule(alloc, place, &[3, 2, 1])?)?;
         }
-        assert_rows(&rt, alloc, &skin, lines, Area::new(0, 0, 10, 3), &rows)?;
+        assert_rows(&rt, alloc, &skin, lines, [10, 3], &rows)?;
     }
     Ok(())
 }
@@ -140,12 +145,12 @@ fn rules_at_each_place_of_a_table(rt: HostRuntime) -> Result<(), Error> {
 fn tables_in_a_wider_place(rt: HostRuntime) -> Result<(), Error> {
     let alloc = rt.alloc();
     let cases = [
-        (Alignment::Unspecified, ["│a │    ", "├──┤    "]),
-        (Alignment::Left, ["│a │    ", "├──┤    "]),
-        (Alignment::Center, ["  │a │  ", "  ├──┤  "]),
-        (Alignment::Right, ["    │a │", "    ├──┤"]),
+        (Alignment::Unspecified, "│a │    ", "├──┤    "),
+        (Alignment::Left, "│a │    ", "├──┤    "),
+        (Alignment::Center, "  │a │  ", "  ├──┤  "),
+        (Alignment::Right, "    │a │", "    ├──┤"),
     ];
-    for (align, rows) in cases {
+    for (align, of_row, of_rule) in cases {
         let mut skin = MadSkin::no_style();
         skin.table.align = align;
         // Margins of the table's style say nothing.
@@ -153,7 +158,7 @@ fn tables_in_a_wider_place(rt: HostRuntime) -> Result<(), Error> {
         let mut lines = Vec::new(alloc);
         lines.push(row(alloc, &skin, &[("a", 2)], Alignment::Left)?)?;
         lines.push(rule(alloc, RelativePosition::Other, &[2])?)?;
-        assert_rows(&rt, alloc, &skin, lines, Area::new(0, 0, 8, 2), &rows)?;
+        assert_rows(&rt, alloc, &skin, lines, [8, 2], &[of_row, of_rule])?;
     }
     Ok(())
 }
@@ -181,7 +186,7 @@ fn cells_of_all_kinds(rt: HostRuntime) -> Result<(), Error> {
         };
         row.cells.push(cell)?;
         lines.push(FmtLine::TableRow(row))?;
-        assert_rows(&rt, alloc, &skin, lines, Area::new(0, 0, 9, 1), &[shown])?;
+        assert_rows(&rt, alloc, &skin, lines, [9, 1], &[shown])?;
     }
     Ok(())
 }
