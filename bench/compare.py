@@ -1,9 +1,10 @@
 #!/usr/bin/env python3
 """Runs two programs side by side on texts and prints their instructions, times and memory, each with the ratio.
 
-    compare.py [--cpu N] [--turns N] [--widths W,..] [--height H] BASELINE PORT TEXT ..
+    compare.py [--cpu N] [--turns N] [--widths W,..] [--height H | --whole] BASELINE PORT TEXT ..
 
-Each program is run as `PROGRAM area 0 0 W H`, the text as standard input. A ratio under 1 says that the port needs less.
+Each program is run as `PROGRAM area 0 0 W H`, or with --whole as `PROGRAM text W`, the text as standard input. A ratio under 1 says that
+the port needs less.
 
 - Instructions are counted by valgrind's callgrind, where it is installed: the same in each run, whatever else the machine does.
 - Times are medians. Within a row the programs take turns, so that a slow moment of the machine falls on both.
@@ -63,7 +64,8 @@ def pair(numbers, unit, scale):
 
 
 def row(programs, text, width, given):
-    commands = [[program, "area", "0", "0", str(width), str(given.height)] for program in programs]
+    words = ["text", str(width)] if given.whole else ["area", "0", "0", str(width), str(given.height)]
+    commands = [[program, *words] for program in programs]
     times, outputs = ([], []), [None, None]
     for turn in range(given.turns):
         for which in ((0, 1) if turn % 2 == 0 else (1, 0)):
@@ -86,6 +88,7 @@ def main():
     ask.add_argument("--turns", type=int, default=9)
     ask.add_argument("--widths", default="80,20")
     ask.add_argument("--height", type=int, default=24)
+    ask.add_argument("--whole", action="store_true", help="write the whole text, and not one area of it")
     ask.add_argument("baseline")
     ask.add_argument("port")
     ask.add_argument("texts", nargs="+")

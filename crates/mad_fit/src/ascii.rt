@@ -1,5 +1,5 @@
-ghost use Rattle.std.specs.Prelude.{◌≡◌, ◌≤◌, ◌<◌, ◌+◌, ◌^◌, length};
-ghost use Rattle.mad_fit.specs.Ascii.{AreGraphic, is_end_of_word, is_lone_space};
+ghost use Rattle.std.specs.Prelude.{◌≡◌, ◌≤◌, ◌<◌, ◌+◌, ◌^◌, length, IsTrue};
+ghost use Rattle.mad_fit.specs.Ascii.{AreGraphic, ArePlain, is_end_of_word, is_lone_space};
 
 /// How many bytes from `start` on are graphic ASCII characters, counted up to `most`.
 ///
@@ -17,6 +17,28 @@ pub(crate) fn graphic_at(text: &str, start: usize, most: usize) -> usize
         count += 1;
     }
     count
+}
+
+/// How many bytes at the front are spaces and graphic ASCII characters, counted up to `most`.
+///
+/// Each of these takes one byte and one column.
+pub(crate) fn plain_front(text: &str, most: usize) -> usize
+    ensures plain { ArePlain text.now result }
+    ensures inside { result ≤ length text.now }
+    ensures within { result ≤ most }
+{
+    let bytes = text.as_bytes();
+    let mut count = 0;
+    while count < most && count < bytes.len() && is_plain(bytes[count]) {
+        count += 1;
+    }
+    count
+}
+
+fn is_plain(byte: u8) -> bool
+    ensures { IsTrue result → (31 < byte) × (byte < 127) }
+{
+    byte >= b' ' && byte < 0x7f
 }
 
 /// Whether the text ends at this byte, or has a space there that isn't code.

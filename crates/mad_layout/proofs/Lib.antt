@@ -3,6 +3,7 @@ pub mod DrawableLemmas
 pub mod DrawableTables
 pub mod DrawnLayouts
 pub mod DrawnParts
+pub mod ExampleLayouts
 pub mod FlaggedBreaks
 pub mod FlaggedTokens
 pub mod FrontLemmas

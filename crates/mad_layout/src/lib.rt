@@ -15,6 +15,7 @@
 //! 7. `rows`: what is written of a line, piece by piece.
 //! 8. [`drawing`]: the rows of a text in an area of the screen.
 //! 9. `writing`: the writing calls of a skin; `display`: texts as displayed values.
+//! 10. [`laws`], [`examples`]: an example whose premises are proved, and wrong layouts that the definitions refuse.
 #![tactic(auto)]
 
 pub mod bound;
@@ -23,6 +24,7 @@ pub mod composite;
 mod display;
 pub mod displayable_line;
 pub mod drawing;
+pub mod examples;
 pub mod fmt_inline;
 pub mod fmt_text;
 pub mod front;

@@ -99,3 +99,16 @@ fn a_style_goes_on_over_the_rows_of_its_line(rt: HostRuntime) -> Result<(), Fail
     )?;
     Ok(())
 }
+
+#[test]
+fn margins_without_room_in_the_layout_are_not_drawn(rt: HostRuntime) -> Result<(), Fail> {
+    let alloc = rt.alloc();
+    let mut skin = MadSkin::no_style();
+    skin.code_block.left_margin = 4;
+    skin.code_block.right_margin = 4;
+    let mut out = CutOut::new(alloc, ROOM, ROOM, false)?;
+    skin.write_in_area_on(alloc, &mut out, "    abcdefgh", &area_of([0, 0, 11, 1]))?;
+    let screen = screen_after(&rt, alloc, &out)?;
+    assert_rows(&rt, alloc, &screen, &["abcdefgh   ...", DOTS, DOTS, DOTS])?;
+    Ok(())
+}

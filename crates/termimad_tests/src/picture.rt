@@ -5,7 +5,7 @@ ghost use Rattle.termimad.specs.Areas.{IsWithinLimits};
 use std::alloc::{AllocError, Global};
 use std::process::Abort;
 use termimad::screen::{NotPlain, Pen, Screen};
-use termimad::{Area, Attribute, Attributes, CutOut, Error};
+use termimad::{Area, Attribute, Attributes, Color, CutOut, Error};
 
 /// More than any text of these tests writes.
 pub const ROOM: usize = 2000;
@@ -22,6 +22,14 @@ pub fn area_of(sides: [u8; 4]) -> Area
 pub fn pen_with(attribute: Attribute) -> Pen {
     Pen {
         codes: Attributes::from(attribute),
+        ..Pen::default()
+    }
+}
+
+/// The default pen with one of the 256 colors.
+pub fn colored(color: u8) -> Pen {
+    Pen {
+        fg: Some(Color::AnsiValue(color)),
         ..Pen::default()
     }
 }

@@ -55,6 +55,7 @@ fn items_that_hang(rt: HostRuntime) -> Result<(), Fail> {
             "* abcdefghij",
             "• abcdef\n  ghij\n",
         ),
+        (hanging, "* abcdef gh", "• abcdef\n    gh\n"),
     ];
     for (mode, source, wanted) in rows {
         let mut skin = MadSkin::no_style();
@@ -83,6 +84,23 @@ fn lengths_at_25_columns(rt: HostRuntime) -> Result<(), Fail> {
         for line in &text.lines {
             assert!(rt; line.visible_length() <= width && line.visible_length() > 0);
         }
+    }
+    Ok(())
+}
+
+#[test]
+fn marks_over_letters_are_kept(rt: HostRuntime) -> Result<(), Fail> {
+    let alloc = rt.alloc();
+    let piece = "ZA\u{360}\u{321}\u{34a}LG IS\u{36e}\u{302}\u{489} TH\u{318}<b>E\u{344} ";
+    let source = piece.repeat(alloc, 8)?;
+    let skin = MadSkin::no_style();
+    for width in 40..60 {
+        let text = FmtText::from(alloc, &skin, source.as_str(), Some(width))?;
+        // All that isn't white is there, in order.
+        let shown = text.to_string(alloc)?;
+        let kept = shown.chars().filter(|c| !c.is_whitespace());
+        let wanted = source.chars().filter(|c| !c.is_whitespace());
+        assert!(rt; kept.eq(wanted), "{width}");
     }
     Ok(())
 }

@@ -2,7 +2,9 @@
 
 use crate::picture::{ROOM, area_of, assert_rows, assert_screen, pen_with, screen_after};
 use std::test::Fail;
-use termimad::{Attribute, CutOut, FmtText, MadSkin, TextView};
+use termimad::{
+    Attribute, CutOut, FmtText, MadSkin, ParseOptions, TextView, parse_text_with,
+};
 
 const DOTS: &str = "..............";
 
@@ -42,6 +44,31 @@ fn styles_of_a_scrolled_view(rt: HostRuntime) -> Result<(), Fail> {
         &["b  ...........", "c  ...........", DOTS, DOTS],
         &["a.............", "b.............", DOTS, DOTS],
         &[pen_with(Attribute::Bold), pen_with(Attribute::CrossedOut)],
+    )?;
+    Ok(())
+}
+
+#[test]
+fn marks_that_go_on_over_lines(rt: HostRuntime) -> Result<(), Fail> {
+    let alloc = rt.alloc();
+    let skin = MadSkin::default();
+    let options = ParseOptions {
+        continue_spans: true,
+    };
+    let read = parse_text_with(alloc, "**a\nb** c", options)?;
+    let text = FmtText::from_text(alloc, &skin, read, Some(4))?;
+    let area = area_of([0, 0, 5, 2]);
+    let view = TextView::from(&area, &text);
+    let mut out = CutOut::new(alloc, ROOM, ROOM, false)?;
+    view.write_on(alloc, &mut out)?;
+    let screen = screen_after(&rt, alloc, &out)?;
+    assert_screen(
+        &rt,
+        alloc,
+        &screen,
+        &["a    .........", "b c  .........", DOTS, DOTS],
+        &["a.............", "a.............", DOTS, DOTS],
+        &[pen_with(Attribute::Bold)],
     )?;
     Ok(())
 }

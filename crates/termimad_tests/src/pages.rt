@@ -1,0 +1,247 @@
+//! Whole pages in the default skin, read back from the screen.
+
+use crate::picture::{assert_screen, colored, pen_with};
+use std::alloc::Global;
+use std::process::Abort;
+use std::test::Fail;
+use termimad::screen::{Pen, Screen};
+use termimad::{Area, Attribute, CutOut, MadSkin};
+
+// The text of samples/help.md.
+const HELP: &str = "# disk-report
+
+Shows how full each disk is, and *who* filled it. Wide names such as 概要 take two columns for each character, and a line that is too wide is wrapped in the fewest lines.
+
+## Use
+
+    disk-report [--all] [PATH ..]
+
+* `--all` shows *every* disk, also those that aren't mounted
+* `--sort size` puts the fullest one first
+  1. by size
+  2. by name
+
+> Sizes are in powers of 1024.
+
+---
+";
+
+// More than the bytes of a page.
+const PAGE: usize = 20_000;
+
+// The looks in the order in which they come: the title, italic, a header, code, a bullet, the point after a number, a quote's
+// mark, and the rule.
+fn looks() -> [Pen; 8] {
+    let mut title = pen_with(Attribute::Bold);
+    title.codes.set(Attribute::Underlined);
+    let mut quote = colored(244);
+    quote.codes.set(Attribute::Bold);
+    let mut code = colored(249);
+    code.bg = colored(235).fg;
+    [
+        title,
+        pen_with(Attribute::Italic),
+        pen_with(Attribute::Underlined),
+        code,
+        colored(240),
+        colored(244),
+        quote,
+        colored(238),
+    ]
+}
+
+// Asserts that an area of this size shows the page as the picture.
+fn assert_page(
+    rt: &impl Abort,
+    alloc: Global,
+    width: u8,
+    height: u8,
+    rows: &[&str],
+    letters: &[&str],
+) -> Result<(), Fail> {
+    let area = Area::new(0, 0, width.into(), height.into());
+    let mut out = CutOut::new(alloc, PAGE, PAGE, false)?;
+    MadSkin::default().write_in_area_on(alloc, &mut out, HELP, &area)?;
+    let mut screen = Screen::new(alloc, width.into(), height.into())?;
+    assert!(rt; screen.read_bytes(out.taken()).is_ok(), "the bytes are plain");
+    assert!(rt; screen.pen() == Pen::default(), "the pen is left as it was");
+    assert_screen(rt, alloc, &screen, rows, letters, &looks())?;
+    Ok(())
+}
+
+#[test]
+fn help_page_at_80_columns(rt: HostRuntime) -> Result<(), Fail> {
+    let rows = [
+        "                                  disk-report                                   ",
+        "                                                                                ",
+        "Shows how full each disk is, and who filled it. Wide names such as 概要 take    ",
+        "two columns for each character, and a line that is too wide is wrapped in the   ",
+        "fewest lines.                                                                   ",
+        "                                                                                ",
+        "Use                                                                             ",
+        "                                                                                ",
+        "disk-report [--all] [PATH ..]                                                   ",
+        "                                                                                ",
+        "• --all shows every disk, also those that aren't mounted                        ",
+        "• --sort size puts the fullest one first                                        ",
+        "  1. by size                                                                    ",
+        "  2. by name                                                                    ",
+        "                                                                                ",
+        "▐ Sizes are in powers of 1024.                                                  ",
+        "                                                                                ",
+        "――――――――――――――――――――――――――――――――――――――――――――――――――――――――――――――――――――――――――――――――",
+        "                                                                                ",
+    ];
+    let letters = [
+        "..................................aaaaaaaaaaa...................................",
+        "................................................................................",
+        ".................................bbb............................................",
+        "................................................................................",
+        "................................................................................",
+        "................................................................................",
+        "ccc.............................................................................",
+        "................................................................................",
+        "ddddddddddddddddddddddddddddd...................................................",
+        "................................................................................",
+        "e.ddddd.......bbbbb.............................................................",
+        "e.ddddddddddd...................................................................",
+        "...f............................................................................",
+        "...f............................................................................",
+        "................................................................................",
+        "g...............................................................................",
+        "................................................................................",
+        "hhhhhhhhhhhhhhhhhhhhhhhhhhhhhhhhhhhhhhhhhhhhhhhhhhhhhhhhhhhhhhhhhhhhhhhhhhhhhhhh",
+        "................................................................................",
+    ];
+    assert_page(&rt, rt.alloc(), 80, 19, &rows, &letters)
+}
+
+#[test]
+fn help_page_at_40_columns(rt: HostRuntime) -> Result<(), Fail> {
+    let rows = [
+        "              disk-report               ",
+        "                                        ",
+        "Shows how full each disk is, and who    ",
+        "filled it. Wide names such as 概要 take ",
+        "two columns for each character, and a   ",
+        "line that is too wide is wrapped in the ",
+        "fewest lines.                           ",
+        "                                        ",
+        "Use                                     ",
+        "                                        ",
+        "disk-report [--all] [PATH ..]           ",
+        "                                        ",
+        "• --all shows every disk, also those    ",
+        "  that aren't mounted                   ",
+        "• --sort size                           ",
+        "   puts the fullest one first           ",
+        "  1. by size                            ",
+        "  2. by name                            ",
+        "                                        ",
+        "▐ Sizes are in powers of 1024.          ",
+        "                                        ",
+        "――――――――――――――――――――――――――――――――――――――――",
+        "                                        ",
+    ];
+    let letters = [
+        "..............aaaaaaaaaaa...............",
+        "........................................",
+        ".................................bbb....",
+        "........................................",
+        "........................................",
+        "........................................",
+        "........................................",
+        "........................................",
+        "ccc.....................................",
+        "........................................",
+        "ddddddddddddddddddddddddddddd...........",
+        "........................................",
+        "e.ddddd.......bbbbb.....................",
+        "........................................",
+        "e.ddddddddddd...........................",
+        "........................................",
+        "...f....................................",
+        "...f....................................",
+        "........................................",
+        "g.......................................",
+        "........................................",
+        "hhhhhhhhhhhhhhhhhhhhhhhhhhhhhhhhhhhhhhhh",
+        "........................................",
+    ];
+    assert_page(&rt, rt.alloc(), 40, 23, &rows, &letters)
+}
+
+#[test]
+fn help_page_at_20_columns(rt: HostRuntime) -> Result<(), Fail> {
+    let rows = [
+        "    disk-report     ",
+        "                    ",
+        "Shows how full each ",
+        "disk is, and who    ",
+        "filled it. Wide     ",
+        "names such as 概要  ",
+        "take two columns    ",
+        "for each character, ",
+        "and a line that is  ",
+        "too wide is wrapped ",
+        "in the fewest       ",
+        "lines.              ",
+        "                    ",
+        "Use                 ",
+        "                    ",
+        "disk-report [--all] ",
+        "[PATH ..]           ",
+        "                    ",
+        "• --all shows every ",
+        "  disk, also those  ",
+        "  that aren't       ",
+        "  mounted           ",
+        "• --sort size puts  ",
+        "  the fullest one   ",
+        "  first             ",
+        "  1. by size        ",
+        "  2. by name        ",
+        "                    ",
+        "▐ Sizes are in      ",
+        "▐ powers of 1024.   ",
+        "                    ",
+        "――――――――――――――――――――",
+        "                    ",
+    ];
+    let letters = [
+        "....aaaaaaaaaaa.....",
+        "....................",
+        "....................",
+        ".............bbb....",
+        "....................",
+        "....................",
+        "....................",
+        "....................",
+        "....................",
+        "....................",
+        "....................",
+        "....................",
+        "....................",
+        "ccc.................",
+        "....................",
+        "ddddddddddddddddddd.",
+        "ddddddddddddddddddd.",
+        "....................",
+        "e.ddddd.......bbbbb.",
+        "....................",
+        "....................",
+        "....................",
+        "e.ddddddddddd.......",
+        "....................",
+        "....................",
+        "...f................",
+        "...f................",
+        "....................",
+        "g...................",
+        "g...................",
+        "....................",
+        "hhhhhhhhhhhhhhhhhhhh",
+        "....................",
+    ];
+    assert_page(&rt, rt.alloc(), 20, 33, &rows, &letters)
+}
