@@ -1,9 +1,9 @@
 pub mod CodeBlockLemmas
 pub mod DrawableLemmas
 pub mod DrawableTables
+pub mod DrawnLayouts
 pub mod DrawnParts
 pub mod ExampleLayouts
-pub mod DrawnLayouts
 pub mod FlaggedBreaks
 pub mod FlaggedTokens
 pub mod FrontLemmas
