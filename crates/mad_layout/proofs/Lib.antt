@@ -1,9 +1,9 @@
 pub mod CodeBlockLemmas
 pub mod DrawableLemmas
 pub mod DrawableTables
+pub mod DrawnLayouts
 pub mod DrawnParts
 pub mod ExampleLayouts
-pub mod DrawnLayouts
 pub mod FlaggedBreaks
 pub mod FlaggedTokens
 pub mod FrontLemmas
@@ -17,6 +17,7 @@ pub mod MarkLemmas
 pub mod MeasureLemmas
 pub mod PartLemmas
 pub mod PartRuns
+pub mod PassLemmas
 pub mod PieceLemmas
 pub mod ReadWraps
 pub mod RowChars
