@@ -4,6 +4,7 @@ use Rattle.std.specs.List.{AllByRecursion}
 use Rattle.std.proofs.lemmas.List.{append-nil, map-append}
 use Rattle.mad_md.specs.Lines.{StyledRuns, LineContent, normal, table_row, table_rule, horizontal_rule}
 use Rattle.mad_fit.proofs.AllLemmas.{all_push}
+use Rattle.mad_layout.specs.CodeBlocks.{NoCodeFirst}
 use Rattle.mad_layout.specs.CompositeWraps.{IsCompositeWrap}
 use Rattle.mad_layout.specs.Laying.{IsBlockAt, IsTableAt, IsRunAt, IsOpenRun, IsLaidFrom, IsLaidFor}
 use Rattle.mad_layout.specs.Layouts.{AreRead, IsLayoutAt}
@@ -16,7 +17,7 @@ use Rattle.mad_layout.specs.declared.skin.MadSkin.{MadSkin}
 use Rattle.mad_layout.specs.declared.composite.FmtComposite.{FmtComposite}
 use Rattle.mad_layout.specs.declared.line.FmtLine.{FmtLine}
 use Rattle.mad_layout.specs.declared.line.FmtLine.TheVariants.{Normal, TableRow, TableRule, HorizontalRule}
-use Rattle.mad_layout.proofs.PartRuns.{AllTableLines, AllCode, NoTableFirst, NoCodeFirst, table_not_code, table_parts, table_in_front, block_parts, block_in_front, alone_first}
+use Rattle.mad_layout.proofs.PartRuns.{AllTableLines, AllCode, NoTableFirst, table_not_code, table_parts, table_in_front, block_parts, block_in_front, alone_first}
 
 -- ---- what was read is measured
 

@@ -18,6 +18,7 @@ pub mod MarkLemmas
 pub mod MeasureLemmas
 pub mod PartLemmas
 pub mod PartRuns
+pub mod PassLemmas
 pub mod PieceLemmas
 pub mod ReadWraps
 pub mod RowChars

@@ -1,6 +1,7 @@
 -- Runs of lines that are one part: a table, a block of code.
 use Rattle.std.proofs.Common.{◌≡◌, ℕ, Bool, true, false, List, [], ◌∷◌, ◌++◌, map, refl, ap, sym, ◌∙◌}
 use Rattle.std.specs.List.{AllByRecursion}
+use Rattle.mad_layout.specs.CodeBlocks.{NoCodeFirst}
 use Rattle.mad_layout.specs.Parts.{Part, table, block, single, is_code_kind, is_code_line, with_table, with_code, with_composite, with_line, parts_of, ArePartsBy, IsTableFixedBy, AreTablesLaidOut}
 use Rattle.mad_layout.specs.Tables.{is_table_line}
 use Rattle.mad_layout.specs.WrappedLines.{Wrap}
@@ -20,10 +21,6 @@ AllCode ls = AllByRecursion (λ l. is_code_kind l.kind ≡ true) ls
 abbrev pub NoTableFirst : List FmtLine → Type 0
 NoTableFirst [] = Unit {0}
 NoTableFirst (l ∷ ls) = is_table_line l ≡ false
-
-abbrev pub NoCodeFirst : List FmtLine → Type 0
-NoCodeFirst [] = Unit {0}
-NoCodeFirst (l ∷ ls) = is_code_line l ≡ false
 
 pub table_not_code : (l : FmtLine) → is_table_line l ≡ true → is_code_line l ≡ false
 table_not_code (Normal l) h = absurd (cc)

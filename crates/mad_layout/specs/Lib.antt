@@ -14,6 +14,7 @@ pub mod InArea
 pub mod Indents
 pub mod Inlines
 pub mod Laying
+pub mod LayoutLaws
 pub mod LayoutExamples
 pub mod Layouts
 pub mod Lines

@@ -9,6 +9,7 @@ ghost use Rattle.mad_layout.specs.Sources.{LinesTakeColumns};
 ghost use Rattle.mad_layout.specs.TableLaws.{AreWorkedTables, AreNoTables};
 ghost use Rattle.mad_layout.specs.CompositeWraps.{IsCompositeWrap};
 ghost use Rattle.mad_layout.specs.FittingLayouts.{IsFittingWrap};
+ghost use Rattle.mad_layout.specs.LayoutLaws.{PassesAreParts, PartsArePasses};
 ghost use Rattle.mad_layout.specs.PlainTables.{TablesFit};
 ghost use Rattle.mad_layout.specs.Words.{corner, words, SpacesAreNoText};
 
@@ -32,6 +33,19 @@ pub fn several_kinds_keep_premises()
 /// Who fills an area with spaces has not shown `aaa bb cc` in it.
 pub fn spaces_are_no_text()
     ensures { SpacesAreNoText }
+{}
+
+/// A layout part by part is what three passes over all lines make one after the other: tables, then blocks of code, then wrapping.
+pub fn passes_are_parts()
+    // What the passes make is a layout, where each wrap has the fewest lines.
+    ensures passes { PassesAreParts IsCompositeWrap }
+
+    // Each such layout is one that they make.
+    ensures parts { PartsArePasses IsCompositeWrap }
+
+    // So it is where wraps only have to fit.
+    ensures fitting_passes { PassesAreParts IsFittingWrap }
+    ensures fitting_parts { PartsArePasses IsFittingWrap }
 {}
 
 /// The definition of a table's layout gives worked tables their widths.

@@ -76,6 +76,7 @@ pub use Rattle.mad_layout.specs.Headline
 pub use Rattle.mad_layout.specs.InArea
 pub use Rattle.mad_layout.specs.Indents
 pub use Rattle.mad_layout.specs.Inlines
+pub use Rattle.mad_layout.specs.LayoutLaws
 pub use Rattle.mad_layout.specs.LayoutExamples
 pub use Rattle.mad_layout.specs.Layouts
 pub use Rattle.mad_layout.specs.Lines as LayoutLines

@@ -33,7 +33,7 @@ pub mod wrap {
 pub mod parse {
     pub use mad_parse::{
         ParseAlignError, ParseAttributeError, ParseColorError, ParseStyleTokenError,
-        PushStyleTokens, StyleToken, compound_style_from, line_style_from, parse_align,
+        PushStyleTokens, StyleToken, compound_style_from, laws, line_style_from, parse_align,
         parse_attribute, parse_color, parse_compound_style, parse_line_style,
         parse_ordered_item_style, parse_style_token, parse_style_tokens, parse_styled_char,
         style_tokens_to_string, write_align, write_attribute, write_color, write_style_tokens,

@@ -1,16 +1,17 @@
 //! Tables: in areas, in texts and in views.
 
 use crate::picture::{ROOM, area_of, assert_rows, assert_screen, pen_with, screen_after};
+use std::alloc::Global;
+use std::process::Abort;
 use std::test::Fail;
 use termimad::screen::Pen;
-use termimad::{Attribute, Color, CutOut, FmtText, MadSkin, TextView};
+use termimad::{Attribute, Color, CutOut, Error, FmtText, MadSkin, TextView};
 
 const DOTS: &str = "..............";
 
 #[test]
 fn tables_in_areas(rt: HostRuntime) -> Result<(), Fail> {
     let alloc = rt.alloc();
-    let skin = MadSkin::no_style();
     let rows = [
         (
             "|a|b\n|-|-\n|1|2",
@@ -60,12 +61,24 @@ fn tables_in_areas(rt: HostRuntime) -> Result<(), Fail> {
         ("|", [0, 0, 5, 1], ["│    .........", DOTS, DOTS, DOTS]),
     ];
     for (text, sides, picture) in rows {
-        let mut out = CutOut::new(alloc, ROOM, ROOM, false)?;
-        skin.write_in_area_on(alloc, &mut out, text, &area_of(sides))?;
-        let screen = screen_after(&rt, alloc, &out)?;
-        assert_rows(&rt, alloc, &screen, &picture)?;
+        assert_area(&rt, alloc, text, sides, picture)?;
     }
     Ok(())
+}
+
+// A screen on which the text is written in the area, without style, shows this picture.
+fn assert_area(
+    rt: &impl Abort,
+    alloc: Global,
+    text: &str,
+    sides: [u8; 4],
+    picture: [&str; 4],
+) -> Result<(), Error> {
+    let skin = MadSkin::no_style();
+    let mut out = CutOut::new(alloc, ROOM, ROOM, false)?;
+    skin.write_in_area_on(alloc, &mut out, text, &area_of(sides))?;
+    let screen = screen_after(rt, alloc, &out)?;
+    assert_rows(rt, alloc, &screen, &picture)
 }
 
 #[test]
