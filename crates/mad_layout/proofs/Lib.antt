@@ -10,6 +10,7 @@ pub mod FrontLemmas
 pub mod HeadlineLemmas
 pub mod HeadlineRows
 pub mod InlineLemmas
+pub mod KindLemmas
 pub mod KnownLemmas
 pub mod LayoutLemmas
 pub mod LeastSizes

@@ -49,7 +49,7 @@ unjoined : (flags : Flags) (cs : List ℕ) → AllByRecursion (λ c. 0 < char_co
 unjoined flags [] h behind = tt
 unjoined flags (c ∷ cs) h behind = (λ none. absurd (omega (arith, none, h.0)), unjoined flags cs h.1 (not (is_blank (record { char = c; flags = flags }))))
 
-plain_run : (flags : Flags) (text : List ℕ) → TakesColumns text → IsPlainRun (record { flags = flags; text = text })
+pub plain_run : (flags : Flags) (text : List ℕ) → TakesColumns text → IsPlainRun (record { flags = flags; text = text })
 plain_run flags text h = record { utf8 = h.utf8; printed = printed (chars text) h.columns; joined = unjoined flags (chars text) h.columns false }
 
 -- ---- a line
@@ -74,7 +74,7 @@ every : {A : Type 0} (P : A → Type 0) → ((x : A) → P x) → (xs : List A) 
 every P f [] = tt
 every P f (x ∷ xs) = (f x, every P f xs)
 
-three-le : (style : LineStyle) (width : ℕ) → 3 ≤ width → 3 ≤ width - (margins_at style (Some width)).0 - (margins_at style (Some width)).1
+pub three-le : (style : LineStyle) (width : ℕ) → 3 ≤ width → 3 ≤ width - (margins_at style (Some width)).0 - (margins_at style (Some width)).1
 three-le style width wide = grind (arith, nat_tests)
 
 plain_line : (skin : MadSkin) (width : ℕ) (text : List ℕ) (reading : List Item) → 3 ≤ width → TakesColumns text → IsInlineReading text reading

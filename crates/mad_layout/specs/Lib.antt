@@ -24,6 +24,7 @@ pub mod PlainTables
 pub mod Premises
 pub mod RecoloredSkins
 pub mod Rows
+pub mod SeveralKinds
 pub mod Shown
 pub mod ShownLayouts
 pub mod SkinParts

@@ -4,6 +4,7 @@
 ghost use Rattle.std.specs.Prelude.{◌≡◌, ◌∷◌, [], IfOk, OnOk, Some};
 ghost use Rattle.mad_screen.specs.Grid.{cell_at, plain_pen};
 ghost use Rattle.mad_screen.specs.Terminal.{after_bytes};
+ghost use Rattle.mad_layout.specs.SeveralKinds.{SeveralKindsKeepPremises};
 ghost use Rattle.mad_layout.specs.Sources.{LinesTakeColumns};
 ghost use Rattle.mad_layout.specs.TableLaws.{AreWorkedTables, AreNoTables};
 ghost use Rattle.mad_layout.specs.CompositeWraps.{IsCompositeWrap};
@@ -22,6 +23,11 @@ use std::alloc::Global;
 #[tactic(auto, using(crate::proofs::WordLemmas::words_take_columns))]
 pub fn words_take_columns()
     ensures { LinesTakeColumns words }
+{}
+
+/// A text with a header, a paragraph and a line of code keeps the premises of what an area shows.
+pub fn several_kinds_keep_premises()
+    ensures { SeveralKindsKeepPremises }
 {}
 
 /// Who fills an area with spaces has not shown `aaa bb cc` in it.

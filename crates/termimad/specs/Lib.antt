@@ -86,6 +86,7 @@ pub use Rattle.mad_layout.specs.PlainTables
 pub use Rattle.mad_layout.specs.Premises
 pub use Rattle.mad_layout.specs.RecoloredSkins
 pub use Rattle.mad_layout.specs.Rows
+pub use Rattle.mad_layout.specs.SeveralKinds
 pub use Rattle.mad_layout.specs.Shown
 pub use Rattle.mad_layout.specs.ShownLayouts
 pub use Rattle.mad_layout.specs.SkinParts
