@@ -63,7 +63,10 @@ fn assert_page(
     let mut out = CutOut::new(alloc, PAGE, PAGE, false)?;
     MadSkin::default().write_in_area_on(alloc, &mut out, HELP, &area)?;
     let mut screen = Screen::new(alloc, width.into(), height.into())?;
-    assert!(rt; screen.read_bytes(out.taken()).is_ok(), "the bytes are plain");
+    assert!(rt;
+        screen.read_bytes(out.taken()).is_ok(),
+        "the bytes are plain"
+    );
     assert!(rt; screen.pen() == Pen::default(), "the pen is left as it was");
     assert_screen(rt, alloc, &screen, rows, letters, &looks())?;
     Ok(())

@@ -2,9 +2,7 @@
 
 use crate::picture::{ROOM, area_of, assert_rows, assert_screen, pen_with, screen_after};
 use std::test::Fail;
-use termimad::{
-    Attribute, CutOut, FmtText, MadSkin, ParseOptions, TextView, parse_text_with,
-};
+use termimad::{Attribute, CutOut, FmtText, MadSkin, ParseOptions, TextView, parse_text_with};
 
 const DOTS: &str = "..............";
 
