@@ -63,7 +63,7 @@ fn execute<I: Source, O: Out, E: Out>(
 fn start<E: Out>(alloc: Global, args: &[String], err: &mut E) -> Result<Call, Failure>
     ensures { MatchResult result
         (λ call. Starts (map string_bytes args.now) (E.seen err.old) call.command call.skin
-            (map string_bytes call.unknown.items) (E.seen err.new))
+        (map string_bytes call.unknown.items) (E.seen err.new))
         (λ failure. FailsToStart (map string_bytes args.now) (E.seen err.old) failure (E.seen err.new)) }
 {
     let call = parse_call(alloc, args)?;
