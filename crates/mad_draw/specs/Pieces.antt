@@ -75,7 +75,7 @@ abbrev pub pieces_columns : List RowPiece → ℕ
 pieces_columns [] = 0
 pieces_columns (p ∷ ps) = columns (chars p.text) + pieces_columns ps
 
--- the pieces show cells of their own, which fill so many columns exactly
+-- the pieces show cells of their own, which fill `width` columns exactly
 pub record FillsRow (width : ℕ) (ps : List RowPiece) : Type 0 where
   pub shown : AreShownPieces ps
   pub columns : pieces_columns ps ≡ width

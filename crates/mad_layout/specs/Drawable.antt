@@ -24,14 +24,14 @@ pub record FillsItsPlace (skin : MadSkin) (l : FmtComposite) : Type 0 where
   pub indent_is : pieces_columns (mark_pieces skin l.kind) ≡ indent skin.list_items_indentation_mode l.kind
   pub text : AreShownPieces (map (compound_piece skin (line_style skin l.kind)) l.compounds.items)
 
--- a line that fills its own place, and fits a row of so many columns with its margins
+-- a line that fills its own place, and fits a row of `width` columns with its margins
 pub record IsDrawable (skin : MadSkin) (width : ℕ) (l : FmtComposite) : Type 0 where
   pub margins : ℕ × ℕ
   pub margins_are : l.margins ≡ Some margins
   pub fits : margins.0 + inner_columns l + margins.1 ≤ width
   pub fills : FillsItsPlace skin l
 
--- a row of a table that fits a row of so many columns: each cell fills its place, and a vertical border is shown in one column
+-- a row of a table that fits a row of `width` columns: each cell fills its place, and a vertical border is shown in one column
 pub record IsDrawableRow (skin : MadSkin) (width : ℕ) (cells : List FmtComposite) : Type 0 where
   pub fits : row_columns cells ≤ width
   pub each : AllByRecursion (FillsItsPlace skin) cells
@@ -49,7 +49,7 @@ pub record IsDrawableRule (skin : MadSkin) (width : ℕ) (rule : FmtTableRule) :
   pub fits : rule_columns rule.widths.items ≤ width
   pub chars : AreShownChars skin (rule_chars skin.table_border_chars rule.position)
 
--- a line is drawn exactly in a row of so many columns
+-- a line is drawn exactly in a row of `width` columns
 abbrev pub IsDrawableLine : MadSkin → ℕ → FmtLine → Type 0
 IsDrawableLine skin width (Normal l) = IsDrawable skin width l
 IsDrawableLine skin width (TableRow row) = IsDrawableRow skin width row.cells.items

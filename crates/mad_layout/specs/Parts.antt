@@ -97,7 +97,7 @@ abbrev pub block_width : Option ℕ → List FmtComposite → ℕ
 block_width None ls = widest ls
 block_width (Some room) ls = min (widest ls) room
 
--- a line of code in a place of so many columns
+-- a line of code in a place of `width` columns
 abbrev pub placed_code : ℕ → FmtComposite → FmtComposite
 placed_code width l = record l { spacing = Some (record { width = width; align = Left }) }
 

@@ -21,13 +21,13 @@ use Rattle.mad_layout.specs.declared.table.RelativePosition.{RelativePosition}
 use Rattle.mad_wrap.specs.WrapLines.{HasRoom}
 use Rattle.mad_layout.specs.declared.skin.MadSkin.{MadSkin}
 
--- Each widthless character is no whitespace and stands right behind one that isn't blank; `behind` says whether what stands in
+-- Each widthless character is no whitespace and stands right after one that isn't blank; `behind` says whether what stands in
 -- front of all is such a one.
 abbrev pub AreJoined : Bool → List FlaggedChar → Type 0
 AreJoined behind [] = Unit {0}
 AreJoined behind (x ∷ xs) = (char_columns x.char ≡ 0 → (is_whitespace x.char ≡ false) × (behind ≡ true)) × AreJoined (not (is_blank x)) xs
 
--- A run without control characters, each widthless character behind a non-blank one of the same run.
+-- A run without control characters, each widthless character after a non-blank one of the same run.
 pub record IsPlainRun (r : Run) : Type 0 where
   pub utf8 : IsUtf8 r.text
   pub printed : IsPrinted (chars r.text)
@@ -61,7 +61,7 @@ pub record IsPlainLine (skin : MadSkin) (width : ℕ) (line : StyledRuns) : Type
   pub room : inner_width skin width line < indent skin.list_items_indentation_mode (kind_of line.style) + width_of (runs_text line.runs)
       → HasRoom (room_of skin (kind_of line.style) (inner_width skin width line)) (runs_text line.runs)
 
--- A cell of this kind, its text plain, with a plain prefix, and that has room in a column of so many columns where it doesn't fit.
+-- A cell of this kind, its text plain, with a plain prefix, and that has room in `width` columns where it doesn't fit.
 pub record IsPlainCell (skin : MadSkin) (width : ℕ) (kind : CompositeKind) (runs : List Run) : Type 0 where
   pub prefix : IsPlainPrefix skin kind
   pub plain : AllByRecursion IsPlainRun runs

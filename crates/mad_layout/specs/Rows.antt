@@ -37,7 +37,7 @@ number_piece style n = record { style = style.object_style; text = decimal n }
 abbrev pub mark_space : MadSkin → RowPiece
 mark_space skin = record { style = skin.paragraph.compound_style.object_style; text = 32 ∷ [] }
 
--- the mark of a line: an item's bullet or number behind the spaces of its depth, or as many spaces on a line that follows
+-- the mark of a line: an item's bullet or number after the spaces of its depth, or as many spaces on a line that follows
 -- one and is indented as it is; a quote's mark
 abbrev pub mark_pieces : MadSkin → CompositeKind → List RowPiece
 mark_pieces skin Paragraph = []
@@ -63,7 +63,7 @@ compound_piece skin style p = run_piece skin style (run_of p)
 
 -- ---- beside it
 
--- the columns left and right of so many columns in a place; none where there is no place
+-- the columns left and right of `inner` columns in a place; none where there is no place
 abbrev pub left_of_place : Alignment → ℕ → Option ℕ → ℕ
 left_of_place align inner None = 0
 left_of_place align inner (Some outer) = left_completion align (outer - inner)
@@ -126,7 +126,7 @@ free_pieces skin kind runs =
 
 -- ---- a line of a table
 
--- pieces of so many columns, between the blanks that the table's alignment gives them in a wider place; those right of them only where
+-- pieces that take `columns`, between the blanks that the table's alignment gives them in a wider place; those right of them only where
 -- they are asked for
 abbrev pub placed_pieces : MadSkin → Option ℕ → Bool → ℕ → List RowPiece → List RowPiece
 placed_pieces skin outer right columns ps =
@@ -169,7 +169,7 @@ line_pieces skin outer right (TableRow row) = table_row_pieces skin outer right 
 line_pieces skin outer right (TableRule rule) = table_rule_pieces skin outer right rule
 line_pieces skin outer right HorizontalRule = char_run skin.horizontal_rule (unwrap_or outer 0)
 
--- what a place of so many columns shows: a line, filled up on its right; or, past the last line, spaces in the
+-- what a place of `width` columns shows: a line, filled up on its right; or, past the last line, spaces in the
 -- paragraph's style
 abbrev pub row_pieces : MadSkin → ℕ → Option FmtLine → List RowPiece
 row_pieces skin width (Some line) = line_pieces skin (Some width) true line

@@ -7,7 +7,7 @@ use Rattle.mad_layout.specs.Rows.{row_pieces}
 use Rattle.mad_layout.specs.declared.skin.MadSkin.{MadSkin}
 use Rattle.mad_layout.specs.declared.line.FmtLine.{FmtLine}
 
--- the pieces of row y: those of line `scroll + y` in a row of so many columns; past the last line those of a blank row
+-- the pieces of row y: those of line `scroll + y` in a row of `width` columns; past the last line those of a blank row
 abbrev pub text_row : MadSkin → ℕ → List FmtLine → ℕ → ℕ → List RowPiece
 text_row skin width lines scroll y = row_pieces skin width (slice_get (drop scroll lines) y)
 

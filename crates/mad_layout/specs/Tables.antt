@@ -43,12 +43,12 @@ pub record IsBlankIn (column : Spacing) (l : FmtComposite) : Type 0 where
   pub spacing : l.spacing ≡ Some column
   pub margins : l.margins ≡ None
 
--- the lines of a cell in a column of so many columns: the cell if it fits, else what it is wrapped into
+-- the lines of a cell in a column of this width: the cell if it fits, else what it is wrapped into
 abbrev pub IsCellLaidOut : Wrap → MadSkin → ℕ → FmtComposite → List FmtComposite → Type 0
 IsCellLaidOut wraps skin width cell lines =
     ((cell.visible_length ≤ width) × (lines ≡ cell ∷ [])) ⊎ ((width < cell.visible_length) × wraps skin width cell lines)
 
--- the lines of the first of these cells in a column of so many columns; of a missing cell none
+-- the lines of the first of these cells in a column of this width; of a missing cell none
 abbrev pub IsNextLaidOut : Wrap → MadSkin → ℕ → List FmtComposite → List FmtComposite → Type 0
 IsNextLaidOut wraps skin width [] lines = lines ≡ []
 IsNextLaidOut wraps skin width (cell ∷ cells) lines = IsCellLaidOut wraps skin width cell lines

@@ -22,7 +22,7 @@ FitsWithMargins skin width l = l.visible_length + (style_margins skin width l).0
 abbrev pub line_with : ℕ × ℕ → FmtComposite → FmtLine
 line_with margins l = Normal (record l { margins = Some margins })
 
--- what a composite is wrapped into in so many columns: some kind of wrap
+-- what a composite is wrapped into at a width: some kind of wrap
 abbrev pub Wrap : Type 1
 Wrap = MadSkin → ℕ → FmtComposite → List FmtComposite → Type 0
 

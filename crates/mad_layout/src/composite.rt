@@ -135,7 +135,7 @@ impl<'s> FmtComposite<'s> {
         self.visible_length = columns;
     }
 
-    /// Puts a compound behind the others, and its columns into the cached length. Only out of memory is an error, and
+    /// Puts a compound after the others, and its columns into the cached length. Only out of memory is an error, and
     /// leaves both as they were.
     pub fn add_compound(&mut self, compound: Compound<'s>) -> Result<(), AllocError>
         ensures text { OnOk result (self.new.compounds.items ≡ self.old.compounds.items ++ compound.entry ∷ []) }
@@ -148,7 +148,7 @@ impl<'s> FmtComposite<'s> {
         self.add_measured(compound, columns(compound.src))
     }
 
-    /// Puts a compound behind the others, whose columns are known.
+    /// Puts a compound after the others, whose columns are known.
     pub(crate) fn add_measured(
         &mut self,
         compound: Compound<'s>,

@@ -207,7 +207,7 @@ fn vertical(skin: &MadSkin) -> StyledChar
     StyledChar::new(skin.table.compound_style, skin.table_border_chars.vertical)
 }
 
-// The blanks left and right of a line of a table that takes so many columns, at an outer width; those on its right only where they are
+// The blanks left and right of a line of a table by its columns, at an outer width; those on its right only where they are
 // asked for.
 fn table_blanks(
     skin: &MadSkin,
@@ -341,7 +341,7 @@ impl fmt::Display for PlacedLine<'_, '_> {
     }
 }
 
-/// What a row of so many columns shows: a line, or past the last line spaces in the paragraph's style.
+/// What a row of `width` columns shows: a line, or past the last line spaces in the paragraph's style.
 #[derive(Clone, Copy)]
 pub(crate) struct PlacedRow<'a, 's> {
     pub skin: &'a MadSkin,

@@ -54,14 +54,14 @@ pub fn draw_text<O: Out>(
     draw_rows(alloc, out, &rows, area)
 }
 
-// The lines from one on; none where there are not so many.
+// The lines from line `scroll` on; past the last one none.
 fn lines_from<'a, 's>(lines: &'a [FmtLine<'s>], scroll: usize) -> &'a [FmtLine<'s>]
     ensures { result.now ≡ drop scroll lines.entry.now }
 {
     &lines[scroll.min(lines.len())..]
 }
 
-// The rows of lines in a place of so many columns.
+// The rows of lines in a place of `width` columns.
 #[derive(Clone, Copy)]
 struct TextRows<'a, 's> {
     skin: &'a MadSkin,

@@ -80,7 +80,7 @@ pub(crate) fn rule_columns(widths: &[usize]) -> usize
     bordered(widths).saturating_add(1)
 }
 
-// The columns of columns with a border behind each.
+// The columns of columns with a border after each.
 fn bordered(widths: &[usize]) -> usize
     ensures { result ≡ capped (bordered widths.now) }
 {

@@ -69,7 +69,7 @@ fn is_done_or_want_of_memory(outcome: Result<(), Error>) -> bool {
     matches!(outcome, Ok(()) | Err(Error::Memory))
 }
 
-// A line as text: each compound between bars, behind the letters of its flags.
+// A line as text: each compound between bars, after the letters of its flags.
 fn push_picture(picture: &mut String, line: &FmtComposite) -> Result<(), AllocError> {
     for compound in &line.compounds {
         let flags = [

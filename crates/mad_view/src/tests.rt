@@ -15,7 +15,7 @@ const MAX: usize = usize::MAX;
 // Three rows of `hello` in an area of 12 columns.
 const HELLO: &str = "\x1b[1;1Hhello       \x1b[2;1H            \x1b[3;1H            ";
 
-// An area of so many columns and rows at the top left of the screen.
+// An area of `width` columns and `height` rows at the top left of the screen.
 fn origin_area(width: u16, height: u16) -> Area
     ensures { IsWithinLimits result }
 {

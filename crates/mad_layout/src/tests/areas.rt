@@ -14,7 +14,7 @@ use mad_term::{CutOut, Error};
 
 const MAX: usize = usize::MAX;
 
-// An area of so many columns and rows at the top left of the screen.
+// An area of `width` columns and `height` rows at the top left of the screen.
 fn origin_area(width: u16, height: u16) -> Area
     ensures { IsWithinLimits result }
 {

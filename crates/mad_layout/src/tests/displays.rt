@@ -72,7 +72,7 @@ fn placed<'k>(
     })
 }
 
-// The text's one line displayed, and drawn with so many columns on its right.
+// The text's one line displayed, and drawn with its row filled up on the right.
 fn assert_placed(
     rt: &impl Abort,
     alloc: Global,

@@ -272,7 +272,7 @@ const BY_THEMSELVES: [(Look, CompositeStyle, &str); 9] = [
         "\u{1b}[1m\u{1b}[4mabcd\u{1b}[0m",
     ),
     (Look::Default, CompositeStyle::Header(0), "abcd"),
-    // Each space in front of a mark, and the one behind it, is a piece in the paragraph's style.
+    // Each space in front of a mark, and the one after it, is a piece in the paragraph's style.
     (
         Look::Colored,
         THIRD_ITEM,

@@ -50,7 +50,7 @@ fn rule(
 // The moves to the first four rows.
 const MOVES: [&str; 4] = ["\u{1b}[1;1H", "\u{1b}[2;1H", "\u{1b}[3;1H", "\u{1b}[4;1H"];
 
-// The lines drawn in an area of so many columns and rows, and displayed, which leaves out the spaces after the last border.
+// The lines drawn in an area of this size, and displayed, which leaves out the spaces after the last border.
 fn assert_rows(
     rt: &impl Abort,
     alloc: Global,
