@@ -1,5 +1,5 @@
 -- From a layout's lines to the rows of a text's lines across an area.
-use Rattle.std.proofs.Common.{◌≡◌, false, ℕ, zero, suc, ◌-◌, ◌^◌, ◌<◌, ◌≤◌, inl, inr, true, List, [], ◌∷◌, ◌++◌, map, length, take, chars, Option, Some, refl, ap, sym, ◌∙◌, subst, arith, append_assoc}
+use Rattle.std.proofs.Common.{◌≡◌, false, ℕ, zero, suc, ◌+◌, ◌-◌, ◌^◌, ◌<◌, ◌≤◌, inl, inr, true, List, [], ◌∷◌, ◌++◌, map, length, take, chars, Option, Some, refl, ap, sym, ◌∙◌, subst, arith, append_assoc}
 use Rattle.std.specs.Prelude.{min, IfSome}
 use Rattle.std.specs.List.{AllByRecursion, repeat}
 use Rattle.std.proofs.lemmas.List.{map-append, length-map}
@@ -180,6 +180,7 @@ kind_rows skin area part said l own bound plain read (inr (wide, (wrap, wraps, s
     let inner : ℕ = inner_width skin width said in
     let r : Room = room_of skin k inner in
     let room : HasRoom r (text_of source) = has_room skin width said source plain (placed_for skin width part said l read) wide in
+    let passes : r.width < r.first + width_of (flagged_text l.compounds.items) = omega (arith, wide, read.measured, margins-le (line_style skin k) width) in
     let fits : LinesFit r.first r (map flagged_text (line_compounds wrap)) = wraps.wrap.fits room in
     let text : width_of (runs_text said.runs) ≡ width_of (text_of l) = ap width_of (ap runs_text (sym read.text) ∙ runs_are l.compounds.items) in
     let most : is_code_kind k ≡ true → inner ≤ widest_in part = λ on. omega (arith, text, read.widest on, code_indent skin k on, read.measured, wide, margins-le (line_style skin k) width) in
@@ -193,7 +194,7 @@ kind_rows skin area part said l own bound plain read (inr (wide, (wrap, wraps, s
       omega (arith, count, some, length-map wrap (line_with (style_margins skin width source))),
       (
         map flagged_text (line_compounds wrap),
-        subst (λ (ps : List (List FlaggedChar)). AreRowsOf r ps (map flagged_text (line_compounds wrap))) (sym parts) (wrapped_rows r l.compounds.items (line_compounds wrap) wraps.wrap),
+        subst (λ (ps : List (List FlaggedChar)). AreRowsOf r ps (map flagged_text (line_compounds wrap))) (sym parts) (wrapped_rows r l.compounds.items (line_compounds wrap) passes wraps.wrap),
         ap (map (line_chars skin area.width)) same ∙ wrap_across skin area part said wrap bound plain.prefix most wraps.kinds spacing wraps.measured fits,
       ),
     )

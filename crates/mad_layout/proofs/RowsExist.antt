@@ -1,5 +1,5 @@
 -- Every line of flagged characters has rows.
-use Rattle.std.proofs.Common.{◌≡◌, ℕ, ◌+◌, ◌-◌, ◌≤◌, Bool, true, false, List, [], ◌∷◌, ◌++◌, map, length, Some, None, if◌then◌else◌, nat_le, refl, sym, ap, ◌∙◌, subst, arith, append_assoc}
+use Rattle.std.proofs.Common.{◌≡◌, ℕ, ◌+◌, ◌-◌, ◌<◌, ◌≤◌, Bool, true, false, List, [], ◌∷◌, ◌++◌, map, length, Some, None, if◌then◌else◌, nat_le, refl, sym, ap, ◌∙◌, subst, arith, append_assoc}
 use Rattle.std.specs.Prelude.{not, ◌&&◌}
 use Rattle.std.specs.List.{AllByRecursion, list_all}
 use Rattle.std.specs.Char.{is_whitespace}
@@ -236,6 +236,29 @@ rows_least r parts ps b =
     }) in
     omega (arith, count, best, length-map ps size_piece)
 
+-- ---- there is one, and a line that fits is its one row
+
+rows_some : (r : Room) (i : ℕ) (line : List FlaggedChar) (ended : Bool) (ts : List (List FlaggedChar)) → 0 < length (rows r i line ended ts)
+rows_some r i line ended [] = omega arith
+rows_some r i line true (t ∷ ts) =
+    by_bool (λ b. 0 < length (if b then rows r i line true ts else line ∷ rows r r.other t false ts)) (all_blank t) (λ on. rows_some r i line true ts) (λ off. omega arith)
+rows_some r i line false (t ∷ ts) =
+    by_bool (λ f. 0 < length (if f then rows r i (line ++ t) false ts else (if all_blank t then rows r i line true ts else line ∷ rows r r.other t false ts)))
+    (nat_le (i + width_of line + width_of t) r.width)
+    (λ on. rows_some r i (line ++ t) false ts)
+    (λ off. by_bool (λ b. 0 < length (if b then rows r i line true ts else line ∷ rows r r.other t false ts)) (all_blank t)
+    (λ blank. rows_some r i line true ts) (λ solid. omega arith))
+
+rows_alone : (r : Room) (i : ℕ) (line : List FlaggedChar) (ts : List (List FlaggedChar)) → i + width_of line + width_of (whole ts) ≤ r.width → rows r i line false ts ≡ (line ++ whole ts) ∷ []
+rows_alone r i line [] fits = ap (λ l. l ∷ []) (sym (append-nil line))
+rows_alone r i line (t ∷ ts) fits =
+    let within : i + width_of line + width_of t ≤ r.width = omega (arith, fits, width_of-append t (whole ts)) in
+    let left : i + width_of (line ++ t) + width_of (whole ts) ≤ r.width = omega (arith, fits, width_of-append t (whole ts), width_of-append line t) in
+    by_bool (λ f. (if f then rows r i (line ++ t) false ts else (if all_blank t then rows r i line true ts else line ∷ rows r r.other t false ts)) ≡ (line ++ (t ++ whole ts)) ∷ [])
+    (nat_le (i + width_of line + width_of t) r.width)
+    (λ on. rows_alone r i (line ++ t) ts left ∙ ap (λ l. l ∷ []) (append_assoc line t (whole ts)))
+    (λ off. let test : nat_le (i + width_of line + width_of t) r.width ≡ true = grind (arith, nat_tests) in absurd (cc))
+
 -- ---- every line has rows
 
 each_narrow : (r : Room) (xs : List FlaggedChar) → AllByRecursion (λ x. most_indent r + char_columns x.char ≤ r.width) xs → AllByRecursion (λ x. char_columns x.char ≤ token_limit r) xs
@@ -251,7 +274,16 @@ rows_exist r parts =
     let broken = rows_broken r r.first [] [] false (tokens_of r parts) tt (λ e. refl) in
     record {
       keeps = subst (λ l. Keeps l (rows_of r parts)) (whole_tokens_of r parts) (rows_keep r r.first [] [] false (tokens_of r parts) tt (λ e. refl));
-      broken = record { breaks = broken.0; covers = broken.1; rows_are = broken.2; dropped = broken.3 };
+      broken = record {
+        breaks = broken.0;
+        some = omega (arith, rows_some r r.first [] false (tokens_of r parts), ap length broken.2, length-map broken.0 line_text);
+        covers = broken.1;
+        rows_are = broken.2;
+        dropped = broken.3;
+      };
+      alone = λ fits.
+          let same = whole_tokens_of r parts in
+          rows_alone r r.first [] (tokens_of r parts) (omega (arith, fits, ap width_of same)) ∙ ap (λ l. l ∷ []) same;
       fits = λ room. rows_fit r r.first [] false (tokens_of r parts) (omega (arith, room.indent)) (each_fits r (tokens_of r parts) room.indent (tokens_of_within r parts (each_narrow r (whole parts) room.each)));
       least = λ breaks b. rows_least r parts breaks b;
     }

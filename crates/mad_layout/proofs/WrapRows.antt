@@ -1,5 +1,5 @@
 -- The rows of a line that is wrapped, and of one that stays.
-use Rattle.std.proofs.Common.{◌≡◌, ℕ, ◌+◌, ◌≤◌, Bool, true, not, ◌&&◌, List, [], ◌∷◌, ◌++◌, map, chars, Option, Some, None, if◌then◌else◌, refl, ap, sym, ◌∙◌, subst, arith}
+use Rattle.std.proofs.Common.{◌≡◌, ℕ, ◌+◌, ◌<◌, ◌≤◌, Bool, true, not, ◌&&◌, List, [], ◌∷◌, ◌++◌, map, chars, Option, Some, None, if◌then◌else◌, refl, ap, sym, ◌∙◌, subst, arith}
 use Rattle.std.specs.Prelude.{is_some}
 use Rattle.std.specs.List.{AllByRecursion, list_all}
 use Rattle.std.specs.Char.{is_whitespace}
@@ -70,6 +70,7 @@ white_gaps max indent r (q ∷ qs) honest gaps =
 placed_broken : (r : Room) (ps : List Compound) (ts : List Token) (rows : List (List FlaggedChar)) → AreTokensOf (token_limit r) ps ts → ArePlaced r ts rows → AreBroken r (map flagged_of ps) rows
 placed_broken r ps ts rows cut placed = record {
   breaks = map flagged_piece placed.breaks;
+  some = omega (arith, placed.placing.some_line, length-map placed.breaks flagged_piece);
   covers = flagged_joined placed.breaks ∙ ap (map flagged_token) placed.placing.covers ∙ tokens_agree r ps ts cut;
   rows_are = flagged_lines placed.breaks ∙ placed.texts_are;
   dropped = white_gaps (token_limit r) r.first r placed.breaks (subst (AllByRecursion (IsHonest (token_limit r))) (sym placed.placing.covers) (all_honest (token_limit r) ps ts cut)) placed.placing.gaps;
@@ -87,6 +88,7 @@ two_broken r front middle back lines white two =
     let cut : Compound → List (List FlaggedChar) = λ p. tokens_from limit [] (flagged_of p) in
     record {
       breaks = record { line = cut front; gap = cut middle } ∷ record { line = cut back; gap = [] } ∷ [];
+      some = omega arith;
       covers = refl;
       rows_are = ap (λ l. l ∷ whole (cut back) ∷ []) (whole_tokens limit [] (flagged_of front) ∙ sym (append-nil (flagged_of front)))
           ∙ ap (λ l. (flagged_of front ++ []) ∷ l ∷ []) (whole_tokens limit [] (flagged_of back) ∙ sym (append-nil (flagged_of back)))
@@ -122,17 +124,20 @@ kept_rows r text parts same fits = record {
   keeps = ([], [], same ∙ sym (append-nil text), tt, refl);
   broken = record {
     breaks = record { line = tokens_of r parts; gap = [] } ∷ [];
+    some = omega arith;
     covers = append-nil (tokens_of r parts);
     rows_are = ap (λ l. l ∷ []) (whole_tokens_of r parts ∙ same);
     dropped = (tt, tt);
   };
+  alone = λ within. ap (λ l. l ∷ []) (sym same);
   fits = λ room. (fits, tt);
   least = λ breaks b. b.some;
 }
 
 -- the lines of a wrap are the rows of what was wrapped
-pub wrapped_rows : (r : Room) (ps : List Compound) (lines : List (List Compound)) → IsWrap r ps lines → AreRowsOf r (map flagged_of ps) (map flagged_text lines)
-wrapped_rows r ps lines wrap =
+pub wrapped_rows : (r : Room) (ps : List Compound) (lines : List (List Compound)) → r.width < r.first + width_of (flagged_text ps) → IsWrap r ps lines
+    → AreRowsOf r (map flagged_of ps) (map flagged_text lines)
+wrapped_rows r ps lines wide wrap =
     let same : whole (map flagged_of ps) ≡ flagged_text ps = whole_parts ps in
     let ts = wrap.tokenized.tokens in
     let cut = wrap.tokenized.cut in
@@ -141,6 +146,7 @@ wrapped_rows r ps lines wrap =
       keeps = subst (λ l. Keeps l (map flagged_text lines)) (sym same) wrap.keeps;
       broken = by_bool (λ b. drops_middle r ps ≡ b → AreBroken r (map flagged_of ps) (map flagged_text lines)) (drops_middle r ps)
           (λ on e. cut_broken r ps lines on wrap.cut) (λ off e. placed_broken r ps ts (map flagged_text lines) cut (best.placed off)) refl;
+      alone = λ within. absurd (omega (arith, wide, within, ap width_of same));
       fits = λ room. wrap.fits (subst (HasRoom r) same room);
       least = λ breaks b.
           let lifted = break_lifts r ps ts breaks cut b in

@@ -43,17 +43,19 @@ pub record IsFittingBreak (r : Room) (parts : List (List FlaggedChar)) (breaks :
   pub dropped : AllByRecursion (λ p. AllByRecursion (λ x. is_blank x ≡ true) (whole p.gap)) breaks
   pub ends : LastsToEnd breaks
 
--- The rows are lines of a line's tokens in order, with only whitespace dropped after each.
+-- The rows are lines of a line's tokens in order, at least one, with only whitespace dropped after each.
 pub record AreBroken (r : Room) (parts rows : List (List FlaggedChar)) : Type 0 where
   pub breaks : List (LineAndGap (List FlaggedChar))
+  pub some : 0 < length breaks
   pub covers : joined breaks ≡ tokens_of r parts
   pub rows_are : map (λ p. whole p.line) breaks ≡ rows
   pub dropped : AllByRecursion (λ p. AllWhite (whole p.gap)) breaks
 
 -- The rows of a line: they keep its characters but whitespace at breaks and ends, they are broken at borders of its tokens, they fit
--- where there is room, and no fitting break has fewer lines.
+-- where there is room, and no fitting break has fewer lines. A line that fits is its one row, whole.
 pub record AreRowsOf (r : Room) (parts rows : List (List FlaggedChar)) : Type 0 where
   pub keeps : Keeps (whole parts) rows
   pub broken : AreBroken r parts rows
+  pub alone : r.first + width_of (whole parts) ≤ r.width → rows ≡ whole parts ∷ []
   pub fits : HasRoom r (whole parts) → LinesFit r.first r rows
   pub least : (breaks : List (LineAndGap (List FlaggedChar))) → IsFittingBreak r parts breaks → length rows ≤ length breaks
