@@ -210,7 +210,7 @@ CORPORA = {
 }
 
 
-# Texts that repeat one piece, for reading alone; the first part stands once in front.
+# Texts that repeat one piece, for reading alone; the first part is once in front.
 REPEATED = {
     "words_in_a_line": ("", "a word and **two** more "),
     "words_in_lines": ("", "some words and more of them\n"),
@@ -230,7 +230,39 @@ REPEATED = {
 
 def repeated(name, size):
     front, piece = REPEATED[name]
-    return front + piece * ((size - len(front)) // len(piece))
+    return front + piece * ((size - len(front)) // len(piece.encode()))
+
+
+# Style tokens, over and over.
+TOKENS = {
+    "tokens_words": "red bold left ",
+    "tokens_open": "a(1 ",
+    "tokens_letters": "a ",
+    "tokens_rgb": "rgb(255, 0, 100) ",
+    "tokens_long": "darkmagenta rapid-blink ",
+    "tokens_accents": "é ",
+    "tokens_digits": "12345 ",
+}
+REPEATED.update((name, ("", piece)) for name, piece in TOKENS.items())
+
+
+def skin(name, size):
+    if name == "skin_text":
+        return '{"bold":"' + "red bold left " * (size // 14) + '"}'
+    if name == "skin_list":
+        return '{"headers":[' + '"red bold",' * (size // 11) + '"red bold"]}'
+    if name == "skin_keys":
+        return "{" + ",".join(f'"k{n:08}":1' for n in range(size // 14)) + "}"
+    if name == "skin_keys_back":
+        return "{" + ",".join(f'"k{n:08}":1' for n in range(size // 14, 0, -1)) + "}"
+    if name == "skin_lists":
+        return '{"k":[' + "[1]," * (size // 4) + "[1]]}"
+    return "[" * size
+
+
+for _name in ("skin_text", "skin_list", "skin_keys", "skin_keys_back", "skin_lists", "skin_open"):
+    CORPORA[f"{_name}_1m"] = lambda r, name=_name: skin(name, 1_000_000)
+    CORPORA[f"{_name}_10m"] = lambda r, name=_name: skin(name, 10_000_000)
 
 
 for _name in REPEATED:
