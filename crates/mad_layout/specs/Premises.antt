@@ -21,11 +21,11 @@ use Rattle.mad_layout.specs.declared.table.RelativePosition.{RelativePosition}
 use Rattle.mad_wrap.specs.WrapLines.{HasRoom}
 use Rattle.mad_layout.specs.declared.skin.MadSkin.{MadSkin}
 
--- Each widthless character is no whitespace and stands right after one that isn't blank; `behind` says whether what stands in
--- front of all is such a one.
+-- Each widthless character is no whitespace and comes right after one that isn't blank; `after` says whether what comes before
+-- all of them is such a one.
 abbrev pub AreJoined : Bool → List FlaggedChar → Type 0
-AreJoined behind [] = Unit {0}
-AreJoined behind (x ∷ xs) = (char_columns x.char ≡ 0 → (is_whitespace x.char ≡ false) × (behind ≡ true)) × AreJoined (not (is_blank x)) xs
+AreJoined after [] = Unit {0}
+AreJoined after (x ∷ xs) = (char_columns x.char ≡ 0 → (is_whitespace x.char ≡ false) × (after ≡ true)) × AreJoined (not (is_blank x)) xs
 
 -- A run without control characters, each widthless character after a non-blank one of the same run.
 pub record IsPlainRun (r : Run) : Type 0 where

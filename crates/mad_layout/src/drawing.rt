@@ -39,7 +39,8 @@ pub fn draw_text<O: Out>(
     ensures writes { Draws (O.seen out.old) (area_bytes text.now.skin.now text.now.lines.items area.now scroll) result (O.seen out.new) }
 
     // What a plain terminal shows that reads it, where each line that has a row, as a layout left it, fits the area with its
-    // margins, and no piece of it holds a control character or begins with a widthless one.
+    // margins, no piece of it holds a control character or begins with a widthless one, and each character of a prefix, a rule
+    // and a border takes one column.
     ensures shown { OnOk result (AreDrawable text.now.skin.now area.now.width (lines_shown text.now.lines.items area.now scroll)
         → TookWith (O.seen out.old) (O.seen out.new) (AreShownIn text.now.skin.now text.now.lines.items area.now scroll)) }
 

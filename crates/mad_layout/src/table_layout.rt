@@ -34,7 +34,7 @@ impl Table {
     /// Lays the table out at a width, in columns: its lines are replaced by those that they become, and its height is then
     /// the count of these. The other lines stay. Without columns or without width nothing changes.
     ///
-    /// Its lines have to be there. The lines are taken once from front to back. Only out of memory is an error, and leaves
+    /// Its lines have to be there, and the cached lengths of all lines have to be right. The lines are taken once from front to back. Only out of memory is an error, and leaves
     /// some of the lines.
     pub fn fix_columns<'s>(
         &mut self,
@@ -98,7 +98,7 @@ fn push_rest<'s>(
 /// Lays out each table among the lines at a width, in columns; every other line stays. A table is a run of rows and rules, as
 /// long as can be, with as many columns as its widest line has.
 ///
-/// The lines are taken once from front to back. Only out of memory is an error, and leaves some of the lines.
+/// The cached lengths of all lines have to be right. The lines are taken once from front to back. Only out of memory is an error, and leaves some of the lines.
 pub fn fix_all_tables<'s>(
     alloc: Global,
     lines: &mut Vec<FmtLine<'s>>,

@@ -19,7 +19,7 @@ use std::alloc::{AllocError, Global};
 use std::vec::IntoIter;
 
 /// The rows that a row of a table becomes at these widths of the kept columns, with these alignments; a column without
-/// one has none.
+/// one has none. Each cell's cached length has to be right.
 ///
 /// Each kept cell that is wider than its column is wrapped in it; there are as many rows as the tallest has lines, and at
 /// least one, filled up with empty paragraphs. Only out of memory is an error. The time is linear in the text and in the

@@ -19,7 +19,7 @@ use mad_term::{Error, Out, put_all};
 use std::alloc::Global;
 
 impl MadSkin {
-    /// Writes a text with inline marks in an area: its first rows, each filling the area's width, and below the last
+    /// Writes a Markdown text in an area: its first rows, each filling the area's width, and below the last
     /// one spaces in the paragraph's style. Nothing is flushed.
     ///
     /// The area's right and bottom have to fit a `u16`.
@@ -39,7 +39,7 @@ impl MadSkin {
         ensures shown { OnOk result (4 ≤ area.now.width → ShowsText self.now markdown.now area.now (O.seen out.old) (O.seen out.new)) }
         ensures headline { OnOk result (4 ≤ area.now.width → ShowsFirstRows self.now markdown.now area.now (O.seen out.old) (O.seen out.new)) }
 
-        // The same with no premise but on the source: each of its characters takes columns, line ends apart.
+        // The same with no premise but on the source: its lines begin as paragraphs, and each of its characters takes columns, line ends apart.
         ensures shown_source { OnOk result (4 ≤ area.now.width → LinesTakeColumns markdown.now → ShowsSource self.now markdown.now area.now (O.seen out.old) (O.seen out.new)) }
     {
         let text = self.area_front(alloc, markdown, area)?;
