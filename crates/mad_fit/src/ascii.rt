@@ -12,8 +12,9 @@ pub(crate) fn graphic_at(text: &str, start: usize, most: usize) -> usize
     ensures fits { length text.now < 2 ^ 64 }
 {
     let bytes = text.as_bytes();
+    let room = most.min(bytes.len() - start);
     let mut count = 0;
-    while count < most && start + count < bytes.len() && bytes[start + count].is_ascii_graphic() {
+    while count < room && bytes[start + count].is_ascii_graphic() {
         count += 1;
     }
     count

@@ -8,7 +8,7 @@ use Rattle.std.proofs.lemmas.Bool.{and_right, and_from, cond-false, cond-true}
 use Rattle.std.proofs.lemmas.List.{length-append, length-take, length-drop}
 use Rattle.std.proofs.lemmas.Str.{chars-nil, chars_past_char, encode_ascii, encodes-chars, len_utf8_ascii, drop_past_char, IsUtf8-past_char, IsUtf8-drop, IsUtf8-take, IsCharBoundary-from_drop, length-encode}
 use Rattle.mad_parse.specs.Cuts.{bracket_len, closed_len, begins_with, is_inside_char}
-use Rattle.mad_parse.proofs.CharLemmas.{chars_cut, chars_take_more}
+use Rattle.mad_md.proofs.CharLemmas.{chars_cut, chars_take_more}
 
 -- a text after an opening bracket
 led_by : (k : ℕ) → k < 128 → (text inside : List ℕ) → text ≡ k ∷ inside → text ≡ encode_utf8 k ++ inside

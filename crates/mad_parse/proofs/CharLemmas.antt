@@ -4,24 +4,9 @@ use Rattle.std.specs.List.{prefix_len}
 use Rattle.std.specs.Str.{IsUtf8, IsCharBoundary}
 use Rattle.std.specs.Char.{encode_utf8, len_utf8}
 use Rattle.std.proofs.StrCases.{chars_of_empty}
-use Rattle.std.proofs.lemmas.Str.{chars-nil, chars-append, chars_past_char, drop_past_char, length-encode, IsUtf8-take, IsUtf8-past_char, IsCharBoundary-from_drop}
-use Rattle.std.proofs.lemmas.List.{take-append-drop, append_assoc, append_cancel_right, length-append, length-drop}
-
--- a text is the characters before a place and those from it on
-pub chars_cut : (bs : List ℕ) (i : ℕ) → IsUtf8 bs → i ≤ length bs → IsUtf8 (drop i bs) → chars bs ≡ chars (take i bs) ++ chars (drop i bs)
-chars_cut bs i u l v =
-    ap chars (sym (take-append-drop i bs)) ∙ chars-append (take i bs) (drop i bs) (IsUtf8-take bs i u (IsCharBoundary-from_drop bs i l v))
-
--- one character more
-pub chars_take_more : (bs rest : List ℕ) (i c : ℕ) → IsUtf8 bs → i ≤ length bs → IsUtf8 (drop i bs) → drop i bs ≡ encode_utf8 c ++ rest
-    → chars (take (i + len_utf8 c) bs) ≡ chars (take i bs) ++ c ∷ []
-chars_take_more bs rest i c u l v e =
-    let after : drop (i + len_utf8 c) bs ≡ rest = drop_past_char bs rest i c e in
-    let fits : i + len_utf8 c ≤ length bs = omega (arith, length-encode c, length-drop i bs, (simp length-append at (ap length e))) in
-    let w : IsUtf8 (drop (i + len_utf8 c) bs) = subst IsUtf8 (sym after) (IsUtf8-past_char (drop i bs) rest c v e) in
-    let whole = sym (chars_cut bs (i + len_utf8 c) u fits w) ∙ chars_cut bs i u l v in
-    append_cancel_right (chars (take (i + len_utf8 c) bs)) (chars (take i bs) ++ c ∷ []) (chars rest)
-    (ap (λ r. chars (take (i + len_utf8 c) bs) ++ chars r) (sym after) ∙ whole ∙ ap (λ r. chars (take i bs) ++ r) (chars_past_char (drop i bs) rest c v e) ∙ sym (append_assoc (chars (take i bs)) (c ∷ []) (chars rest)))
+use Rattle.std.proofs.lemmas.Str.{chars-nil, chars_past_char, drop_past_char, length-encode, IsUtf8-past_char, IsCharBoundary-from_drop}
+use Rattle.std.proofs.lemmas.List.{length-append, length-drop}
+use Rattle.mad_md.proofs.CharLemmas.{chars_take_more}
 
 -- the first end bytes of a text are characters that pass
 pub record IsLeading (p : ℕ → Bool) (bs : List ℕ) (end : ℕ) : Type 0 where

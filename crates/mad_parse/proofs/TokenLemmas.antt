@@ -7,7 +7,7 @@ use Rattle.std.proofs.Math.Seq.{take-add, drop-append_seam}
 use Rattle.std.proofs.lemmas.List.{length-append}
 use Rattle.std.proofs.lemmas.Str.{chars-nil, chars-append, IsUtf8-drop, IsUtf8-take}
 use Rattle.mad_parse.specs.Cuts.{bracket_len, token_len, run_len, is_run_char}
-use Rattle.mad_parse.proofs.CharLemmas.{chars_cut}
+use Rattle.mad_md.proofs.CharLemmas.{chars_cut}
 use Rattle.mad_parse.proofs.BracketLemmas.{front_counts}
 
 pub one_char : (text front : List ℕ) (end first : ℕ) → length (chars (take end text)) ≡ prefix_len is_run_char (chars text) → end ≡ 0 → front ≡ take first text → length (chars (take first text)) ≡ 1
