@@ -2,7 +2,7 @@
 
 use mad_style::CompoundStyle;
 use mad_term::{StyledContent, StyledRun};
-use std::fmt;
+use std::fmt::{self, Display};
 
 /// `count` spaces as one piece. Of none nothing is written.
 #[derive(Clone, Copy)]
@@ -21,12 +21,16 @@ impl fmt::Display for Spaces {
 
     #[tactic(auto, using(crate::proofs::PieceLemmas::run_of_spaces))]
     fn fmt<W: fmt::Write>(&self, f: &mut fmt::Formatter<W>) -> fmt::Result {
+        // Most lines have none beside them.
+        if self.count == 0 {
+            return Ok(());
+        }
         let run = StyledRun {
             style: self.style.object_style,
             content: " ",
             count: self.count,
         };
-        write!(f, "{run}")
+        run.fmt(f)
     }
 }
 
@@ -51,7 +55,7 @@ impl fmt::Display for SingleSpaces {
             content: " ",
         };
         for _done in 0..self.count {
-            write!(f, "{space}")?;
+            space.fmt(f)?;
         }
         Ok(())
     }

@@ -1,7 +1,7 @@
 //! A text `count` times, as one piece.
 
 use crate::styles::{ContentStyle, StyleOpening, closing_text};
-use std::fmt;
+use std::fmt::{self, Display};
 
 /// A text `count` times in a style, as one piece; nothing at all if `count` is 0.
 #[derive(Clone, Copy, Debug, PartialEq, Eq)]
@@ -28,7 +28,7 @@ impl fmt::Display for StyledRun<'_> {
         };
         // Most runs are of plain spaces, and need no commands.
         if self.style.is_plain() {
-            return write!(f, "{copies}");
+            return copies.fmt(f);
         }
         let opening = StyleOpening(self.style);
         let closing = closing_text(self.style);
@@ -65,7 +65,7 @@ impl fmt::Display for Copies<'_> {
             content: self.content,
             count: self.count,
         };
-        write!(f, "{all}")
+        all.fmt(f)
     }
 }
 
