@@ -1,12 +1,12 @@
 -- Undoing the last of a list of cuts.
 use Rattle.std.proofs.Common.{ℕ, ◌≡◌, List, [], ◌∷◌, ◌++◌, length, take, drop, min, refl, ap, sym, ◌∙◌, arith, subst, cond, true, false, Bool, nat_lt, rules}
-use Rattle.std.specs.Prelude.{All}
+use Rattle.std.specs.Prelude.{All, Option}
 use Rattle.std.proofs.lemmas.List.{take_at, drop_at, take-append-drop}
 use Rattle.std.proofs.lemmas.List.Elements.{All-append, All-take, All-drop, All-same}
 use Rattle.mad_lines.specs.declared.place.Pos.{Pos}
 use Rattle.mad_lines.specs.TextLines.{accepted, IsAcceptedChar, IsPlace, clamp, line_at, end_of}
-use Rattle.mad_edit.specs.Editor.{replaced, offset_at, clamp_in}
-use Rattle.mad_edit.specs.Undo.{Cut, Removes, LeadsTo}
+use Rattle.mad_edit.specs.Editor.{Editor, IsReplaced, replaced, offset_at, clamp_in, clamp_tail}
+use Rattle.mad_edit.specs.Undo.{Cut, Removes, LeadsTo, put_in, all_undone}
 use Rattle.mad_edit.proofs.TextLemmas.{all_accepted}
 
 -- the text before the last cut
@@ -54,3 +54,22 @@ undone_last first cuts c last new n h at made leads =
     let text : accepted c.text ≡ c.text = all_accepted c.text (all_front c.text (drop r.offset last) (all_back (take r.offset last) (c.text ++ drop r.offset last) whole)) in
     subst (λ (t : List ℕ). LeadsTo first cuts t)
     (r.text ∙ ap (λ s. take r.offset last ++ (s ++ drop r.offset last)) (sym text) ∙ ap (λ m. replaced last m m c.text) (sym same) ∙ sym made) step.1
+
+-- the last of the cuts is undone first
+pub undone_more : (cuts : List Cut) (c : Cut) (e : Editor) → all_undone (cuts ++ c ∷ []) e ≡ all_undone cuts (put_in e (offset_at e.text (clamp_in e.text c.place)) c.text)
+undone_more [] c e = refl
+undone_more (d ∷ cuts) c e =
+    ap (λ (x : Editor). put_in x (offset_at x.text (clamp_in x.text d.place)) d.text) (undone_more cuts c e)
+
+abbrev editor : List ℕ → ℕ → Option Pos → Editor
+editor text offset tail = record { text = text; offset = offset; tail = tail }
+
+put_in_at : (e new : Editor) (n : ℕ) (cs : List ℕ) → IsReplaced (record e { offset = n }) new n n cs → new ≡ put_in e n cs
+put_in_at e new n cs r =
+    let tail : new.tail ≡ (put_in e n cs).tail = r.tail ∙ ap (λ (t : List ℕ). clamp_tail t e.tail) r.text in
+    λ i. editor (r.text i) (r.cursor i) (tail i)
+
+-- the cursor is put at an offset, and a text is put in there
+pub put_in_there : (e there new : Editor) (n : ℕ) (cs : List ℕ) → there ≡ record e { offset = n } → IsReplaced there new there.offset there.offset cs → new ≡ put_in e n cs
+put_in_there e there new n cs h r =
+    put_in_at e new n cs (subst (λ (x : Editor). IsReplaced x new x.offset x.offset cs) h r)

@@ -1,9 +1,10 @@
 -- Lists of cuts, and what undoing them leaves.
-use Rattle.std.specs.Prelude.{ℕ, ◌≡◌, List, [], ◌∷◌, ◌++◌, take, drop}
+use Rattle.std.specs.Prelude.{ℕ, ◌≡◌, ◌+◌, List, [], ◌∷◌, ◌++◌, length, take, drop}
 use Rattle.std.specs.Str.{chars}
 use Rattle.std.specs.Borrow.{Bor}
 use Rattle.mad_lines.specs.declared.place.Pos.{Pos}
-use Rattle.mad_edit.specs.Editor.{IsAt}
+use Rattle.mad_lines.specs.TextLines.{accepted}
+use Rattle.mad_edit.specs.Editor.{Editor, IsAt, offset_at, clamp_in, clamp_tail, replaced}
 
 -- a text that was cut out at a place
 pub record Cut : Type 0 where
@@ -24,3 +25,14 @@ LeadsTo first (cut ∷ cuts) last = (next : List ℕ) × Removes first cut next 
 -- a cut, as it is handed to `undo_cuts`: a place and the text that was cut out there
 abbrev pub cut_of : (Pos × Bor (List ℕ)) → Cut
 cut_of pair = record { place = pair.0; text = chars pair.1.now }
+
+-- the editor after a text is put in at an offset, with the cursor after it
+abbrev pub put_in : Editor → ℕ → List ℕ → Editor
+put_in e n cs =
+    record { text = replaced e.text n n cs; offset = n + length (accepted cs); tail = clamp_tail (replaced e.text n n cs) e.tail }
+
+-- the editor after each text that was cut out is put in at its place again, or at the nearest one, the last cut's first
+abbrev pub all_undone : List Cut → Editor → Editor
+all_undone [] e = e
+all_undone (cut ∷ cuts) e =
+    let later = all_undone cuts e in put_in later (offset_at later.text (clamp_in later.text cut.place)) cut.text
