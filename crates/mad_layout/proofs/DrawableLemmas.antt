@@ -1,10 +1,11 @@
 -- A layout of a plain text is drawn exactly.
-use Rattle.std.proofs.Common.{◌≡◌, ℕ, false, zero, suc, ◌+◌, ◌-◌, ◌^◌, ◌<◌, ◌≤◌, inl, inr, List, [], ◌∷◌, ◌++◌, map, Option, Some, None, Contains, drop, length, min, take, refl, sym, ap, ◌∙◌, subst, arith, append_assoc}
+use Rattle.std.proofs.Common.{◌≡◌, ℕ, Bool, true, false, zero, suc, ◌+◌, ◌-◌, ◌^◌, ◌<◌, ◌≤◌, inl, inr, List, [], ◌∷◌, ◌++◌, map, Option, Some, None, Contains, drop, length, min, take, refl, sym, ap, ◌∙◌, subst, arith, append_assoc}
 use Rattle.std.specs.Prelude.{IfSome, unwrap_or}
-use Rattle.std.specs.List.{AllByRecursion, flat_map}
+use Rattle.std.specs.List.{AllByRecursion}
 use Rattle.std.proofs.lemmas.Bool.Decides.{nat_tests}
 use Rattle.mad_columns.specs.Columns.{char_columns}
 use Rattle.mad_md.specs.Flagged.{FlaggedChar, run_of, flagged_text}
+use Rattle.mad_md.specs.declared.alignment.Alignment.{Alignment}
 use Rattle.mad_md.specs.Lines.{StyledRuns, LineContent, normal, table_row, table_rule, horizontal_rule}
 use Rattle.mad_md.specs.declared.compound.Compound.{Compound}
 use Rattle.mad_style.specs.Kinds.{kind_of}
@@ -32,15 +33,17 @@ use Rattle.mad_layout.specs.Rows.{place_of}
 use Rattle.mad_layout.specs.Styles.{line_style}
 use Rattle.mad_layout.specs.CompositeWraps.{line_compounds, HaveKinds, IsCompositeWrap}
 use Rattle.mad_layout.specs.WrappedLines.{style_margins, line_with, IsLaidOutBy}
+use Rattle.mad_layout.specs.TextParts.{LineInPart, text_parts, aligns_at, lines_in, lines_in_parts}
 use Rattle.mad_layout.specs.Wraps.{text_of, columns_of, IsMeasured}
 use Rattle.mad_layout.specs.declared.skin.MadSkin.{MadSkin}
 use Rattle.mad_layout.specs.declared.composite.FmtComposite.{FmtComposite}
 use Rattle.mad_layout.specs.declared.line.FmtLine.{FmtLine}
 use Rattle.mad_layout.specs.declared.line.FmtLine.TheVariants.{Normal, TableRow, TableRule, HorizontalRule}
-use Rattle.mad_layout.proofs.DrawableTables.{table_drawable}
+use Rattle.mad_layout.proofs.DrawableTables.{Later, table_drawable}
 use Rattle.mad_layout.proofs.DrawnParts.{each_of, pieces_shown, runs_are, some_joined, utf8_of}
 use Rattle.mad_layout.proofs.MarkLemmas.{mark_shown, mark_columns, follow_up_plain}
-use Rattle.mad_layout.proofs.PartLemmas.{IsPlacedLine, ArePlacedLines, IsPartOfKind, raw_lines, parts_raw, parts_kinds, code_placed}
+use Rattle.mad_layout.proofs.PartLemmas.{IsPlacedLine, ArePlacedLines, IsPartOfKind, parts_kinds, code_placed}
+use Rattle.mad_layout.proofs.ReadParts.{ArePartsRead, parts_read, part_raw, all_in}
 use Rattle.mad_layout.proofs.WrapKinds.{table_by}
 use Rattle.mad_layout.proofs.WholeTokens.{IsShownRun, plain_is_shown, tokens_shown}
 
@@ -181,23 +184,23 @@ read_some skin width line source lines plain read (inr (wide, (w ∷ ws, wraps, 
     let more : length lines ≡ suc (length (map (line_with (style_margins skin width source)) ws)) = ap length same in omega (arith, more)
 
 -- what becomes of one line of a text
-content_drawable : (skin : MadSkin) (width drawn : ℕ) (content : LineContent) (l m : FmtLine) (own : List FmtLine) → width ≤ drawn → drawn < 2 ^ 64 - 1 → IsPlainContent skin width content → IsLineRead skin content l → is_table_line l ≡ false
+content_drawable : (skin : MadSkin) (width drawn : ℕ) (part : List LineContent) (content : LineContent) (l m : FmtLine) (own : List FmtLine) → width ≤ drawn → drawn < 2 ^ 64 - 1 → IsPlainContent skin width part content → IsLineRead skin content l → is_table_line l ≡ false
     → IsPlacedLine skin width l m → IsLineAt IsFittingWrap skin (Some width) m own → (0 < length own) × AreDrawable skin drawn own
-content_drawable skin width drawn (table_row cells) (Normal l) m own narrower bound plain read alone placed here = absurd read
-content_drawable skin width drawn (table_row cells) (TableRow row) m own narrower bound plain read alone placed here = absurd (cc)
-content_drawable skin width drawn (table_row cells) (TableRule rule) m own narrower bound plain read alone placed here = absurd read
-content_drawable skin width drawn (table_row cells) HorizontalRule m own narrower bound plain read alone placed here = absurd read
-content_drawable skin width drawn (table_rule aligns) (Normal l) m own narrower bound plain read alone placed here = absurd read
-content_drawable skin width drawn (table_rule aligns) (TableRow row) m own narrower bound plain read alone placed here = absurd read
-content_drawable skin width drawn (table_rule aligns) (TableRule rule) m own narrower bound plain read alone placed here = absurd (cc)
-content_drawable skin width drawn (table_rule aligns) HorizontalRule m own narrower bound plain read alone placed here = absurd read
-content_drawable skin width drawn (normal said) (TableRow row) m own narrower bound plain read alone placed here = absurd read
-content_drawable skin width drawn (normal said) (TableRule rule) m own narrower bound plain read alone placed here = absurd read
-content_drawable skin width drawn (normal said) HorizontalRule m own narrower bound plain read alone placed here = absurd read
-content_drawable skin width drawn horizontal_rule (Normal l) m own narrower bound plain read alone placed here = absurd read
-content_drawable skin width drawn horizontal_rule (TableRow row) m own narrower bound plain read alone placed here = absurd read
-content_drawable skin width drawn horizontal_rule (TableRule rule) m own narrower bound plain read alone placed here = absurd read
-content_drawable skin width drawn (normal said) (Normal l) m own narrower bound plain read alone (inl same) here =
+content_drawable skin width drawn part (table_row cells) (Normal l) m own narrower bound plain read alone placed here = absurd read
+content_drawable skin width drawn part (table_row cells) (TableRow row) m own narrower bound plain read alone placed here = absurd (cc)
+content_drawable skin width drawn part (table_row cells) (TableRule rule) m own narrower bound plain read alone placed here = absurd read
+content_drawable skin width drawn part (table_row cells) HorizontalRule m own narrower bound plain read alone placed here = absurd read
+content_drawable skin width drawn part (table_rule aligns) (Normal l) m own narrower bound plain read alone placed here = absurd read
+content_drawable skin width drawn part (table_rule aligns) (TableRow row) m own narrower bound plain read alone placed here = absurd read
+content_drawable skin width drawn part (table_rule aligns) (TableRule rule) m own narrower bound plain read alone placed here = absurd (cc)
+content_drawable skin width drawn part (table_rule aligns) HorizontalRule m own narrower bound plain read alone placed here = absurd read
+content_drawable skin width drawn part (normal said) (TableRow row) m own narrower bound plain read alone placed here = absurd read
+content_drawable skin width drawn part (normal said) (TableRule rule) m own narrower bound plain read alone placed here = absurd read
+content_drawable skin width drawn part (normal said) HorizontalRule m own narrower bound plain read alone placed here = absurd read
+content_drawable skin width drawn part horizontal_rule (Normal l) m own narrower bound plain read alone placed here = absurd read
+content_drawable skin width drawn part horizontal_rule (TableRow row) m own narrower bound plain read alone placed here = absurd read
+content_drawable skin width drawn part horizontal_rule (TableRule rule) m own narrower bound plain read alone placed here = absurd read
+content_drawable skin width drawn part (normal said) (Normal l) m own narrower bound plain read alone (inl same) here =
     let becomes : IsLaidOutBy IsFittingWrap skin width l own = subst (λ (x : FmtLine). IsLineAt IsFittingWrap skin (Some width) x own) same here in
     let is : IsPlacedFor skin width said l = record {
       kind = read.kind;
@@ -206,65 +209,64 @@ content_drawable skin width drawn (normal said) (Normal l) m own narrower bound 
       place = subst (λ (s : Option Spacing). IfSome s (λ p. (p.width ≤ inner_of skin width l) × (min l.visible_length (inner_of skin width l) ≤ p.width))) (sym read.spacing) tt;
     } in
     (read_some skin width said l own plain is becomes, read_drawable skin width drawn said l own narrower bound plain is becomes)
-content_drawable skin width drawn (normal said) (Normal l) m own narrower bound plain read alone (inr placed) here =
+content_drawable skin width drawn part (normal said) (Normal l) m own narrower bound plain read alone (inr placed) here =
     let p : FmtComposite = record l { spacing = Some placed.place } in
     let becomes : IsLaidOutBy IsFittingWrap skin width p own = subst (λ (x : FmtLine). IsLineAt IsFittingWrap skin (Some width) x own) placed.is here in
     let is : IsPlacedFor skin width said p = record { kind = read.kind; text = read.text; measured = read.measured; place = (placed.inside, placed.holds) } in
     (read_some skin width said p own plain is becomes, read_drawable skin width drawn said p own narrower bound plain is becomes)
-content_drawable skin width drawn horizontal_rule HorizontalRule m own narrower bound plain read alone (inl same) here =
+content_drawable skin width drawn part horizontal_rule HorizontalRule m own narrower bound plain read alone (inl same) here =
     let becomes : own ≡ HorizontalRule ∷ [] = subst (λ (x : FmtLine). IsLineAt IsFittingWrap skin (Some width) x own) same here in
     let one : length own ≡ 1 = ap length becomes in
     (omega (arith, one), subst (AreDrawable skin drawn) (sym becomes) (plain, tt))
-content_drawable skin width drawn horizontal_rule HorizontalRule m own narrower bound plain read alone (inr placed) here = absurd placed
+content_drawable skin width drawn part horizontal_rule HorizontalRule m own narrower bound plain read alone (inr placed) here = absurd placed
 
 -- the lines of a part, where those of the parts after it are drawn exactly
-lines_drawable : (skin : MadSkin) (width drawn n : ℕ) (text : List LineContent) (read placed own rest others : List FmtLine) → width ≤ drawn → drawn < 2 ^ 64 - 1
-    → ((m : ℕ) (t : List LineContent) → KeepsPremises skin width (take m t) → AreRead skin t rest → AreDrawable skin drawn (take m others))
-    → KeepsPremises skin width (take n text) → AreRead skin text (read ++ rest) → AllByRecursion (λ l. is_table_line l ≡ false) read → ArePlacedLines skin width read placed → AreLinesAt IsFittingWrap skin (Some width) placed own → AreDrawable skin drawn (take n (own ++ others))
-lines_drawable skin width drawn zero text read placed own rest others narrower bound later keeps reads alone places becomes = tt
-lines_drawable skin width drawn (suc n) text [] (m ∷ ms) own rest others narrower bound later keeps reads alone places becomes = absurd places
-lines_drawable skin width drawn (suc n) text [] [] own rest others narrower bound later keeps reads alone places becomes =
-    subst (λ (ls : List FmtLine). AreDrawable skin drawn (take (suc n) (ls ++ others))) (sym becomes) (later (suc n) text keeps reads)
-lines_drawable skin width drawn (suc n) [] (l ∷ ls) placed own rest others narrower bound later keeps reads alone places becomes = absurd reads
-lines_drawable skin width drawn (suc n) (c ∷ cs) (l ∷ ls) [] own rest others narrower bound later keeps reads alone places becomes = absurd places
-lines_drawable skin width drawn (suc n) (c ∷ cs) (l ∷ ls) (m ∷ ms) own rest others narrower bound later keeps reads alone places (first, more, joins, here, below) =
-    let one = content_drawable skin width drawn c l m first narrower bound keeps.0 reads.0 alone.0 places.0 here in
+lines_drawable : (skin : MadSkin) (width drawn n : ℕ) (part : List LineContent) (above : Option (List Alignment)) (begins : Bool) (text : List LineContent) (xs : List LineInPart) (read placed own others : List FmtLine) → width ≤ drawn → drawn < 2 ^ 64 - 1 → Later skin width drawn xs others
+    → KeepsPremises skin width (take n (lines_in part above begins text ++ xs)) → AreRead skin text read → AllByRecursion (λ l. is_table_line l ≡ false) read → ArePlacedLines skin width read placed → AreLinesAt IsFittingWrap skin (Some width) placed own
+    → AreDrawable skin drawn (take n (own ++ others))
+lines_drawable skin width drawn zero part above begins text xs read placed own others narrower bound later keeps reads alone places becomes = tt
+lines_drawable skin width drawn (suc n) part above begins text xs [] (m ∷ ms) own others narrower bound later keeps reads alone places becomes = absurd places
+lines_drawable skin width drawn (suc n) part above begins [] xs [] [] own others narrower bound later keeps reads alone places becomes =
+    subst (λ (ls : List FmtLine). AreDrawable skin drawn (take (suc n) (ls ++ others))) (sym becomes) (later (suc n) keeps)
+lines_drawable skin width drawn (suc n) part above begins (c ∷ cs) xs [] [] own others narrower bound later keeps reads alone places becomes = absurd reads
+lines_drawable skin width drawn (suc n) part above begins [] xs (l ∷ ls) placed own others narrower bound later keeps reads alone places becomes = absurd reads
+lines_drawable skin width drawn (suc n) part above begins (c ∷ cs) xs (l ∷ ls) [] own others narrower bound later keeps reads alone places becomes = absurd places
+lines_drawable skin width drawn (suc n) part above begins (c ∷ cs) xs (l ∷ ls) (m ∷ ms) own others narrower bound later keeps reads alone places (first, more, joins, here, below) =
+    let one = content_drawable skin width drawn part c l m first narrower bound keeps.0 reads.0 alone.0 places.0 here in
     subst (λ (xs : List FmtLine). AreDrawable skin drawn (take (suc n) xs)) (sym (ap (λ xs. xs ++ others) joins ∙ append_assoc first more others))
-    (some_joined skin drawn first (more ++ others) n one.0 one.1 (lines_drawable skin width drawn n cs ls ms more rest others narrower bound later keeps.1 reads.1 alone.1 places.1 below))
+    (some_joined skin drawn first (more ++ others) n one.0 one.1 (lines_drawable skin width drawn n part (aligns_at above c) false cs xs ls ms more others narrower bound later keeps.1 reads.1 alone.1 places.1 below))
 
 no_table_lines : (ls : List FmtComposite) → AllByRecursion (λ l. is_table_line l ≡ false) (map Normal ls)
 no_table_lines [] = tt
 no_table_lines (l ∷ ls) = (refl, no_table_lines ls)
 
 -- the parts of a text, one after the other
-parts_drawable : (skin : MadSkin) (width drawn n : ℕ) (text : List LineContent) (ps : List Part) (lines : List FmtLine) → width ≤ drawn → drawn < 2 ^ 64 - 1 → AllByRecursion IsPartOfKind ps
-    → KeepsPremises skin width (take n text) → AreRead skin text (flat_map raw_lines ps) → ArePartsAt IsFittingWrap skin width (Some width) ps lines → AreDrawable skin drawn (take n lines)
-parts_drawable skin width drawn zero text ps lines narrower bound kinds keeps reads becomes = tt
-parts_drawable skin width drawn (suc n) text [] lines narrower bound kinds keeps reads becomes = subst (λ (ls : List FmtLine). AreDrawable skin drawn (take (suc n) ls)) (sym becomes) tt
-parts_drawable skin width drawn (suc n) text (table [] ∷ ps) lines narrower bound kinds keeps reads (own, others, joins, inl stays, more) =
-    subst (λ (ls : List FmtLine). AreDrawable skin drawn (take (suc n) ls)) (sym (joins ∙ ap (λ ls. ls ++ others) stays.1))
-    (parts_drawable skin width drawn (suc n) text ps others narrower bound kinds.1 keeps reads more)
-parts_drawable skin width drawn (suc n) text (table [] ∷ ps) lines narrower bound kinds keeps reads (own, others, joins, inr laid, more) = let some : 0 < 0 = laid.0 in absurd (omega (arith, some))
-parts_drawable skin width drawn (suc n) [] (table (l ∷ ls) ∷ ps) lines narrower bound kinds keeps reads becomes = absurd reads
-parts_drawable skin width drawn (suc n) (c ∷ cs) (table (l ∷ ls) ∷ ps) lines narrower bound kinds keeps reads (own, others, joins, here, more) =
+parts_drawable : (skin : MadSkin) (width drawn n : ℕ) (css : List (List LineContent)) (ps : List Part) (lines : List FmtLine) → width ≤ drawn → drawn < 2 ^ 64 - 1 → AllByRecursion IsPartOfKind ps
+    → KeepsPremises skin width (take n (all_in css)) → ArePartsRead skin css ps → ArePartsAt IsFittingWrap skin width (Some width) ps lines → AreDrawable skin drawn (take n lines)
+parts_drawable skin width drawn zero css ps lines narrower bound kinds keeps reads becomes = tt
+parts_drawable skin width drawn (suc n) [] [] lines narrower bound kinds keeps reads becomes = subst (λ (ls : List FmtLine). AreDrawable skin drawn (take (suc n) ls)) (sym becomes) tt
+parts_drawable skin width drawn (suc n) [] (p ∷ ps) lines narrower bound kinds keeps reads becomes = absurd reads
+parts_drawable skin width drawn (suc n) (cs ∷ css) [] lines narrower bound kinds keeps reads becomes = absurd reads
+parts_drawable skin width drawn (suc n) ([] ∷ css) (p ∷ ps) lines narrower bound kinds keeps reads becomes = absurd reads.0
+parts_drawable skin width drawn (suc n) ((c ∷ cs) ∷ css) (table [] ∷ ps) lines narrower bound kinds keeps reads becomes = absurd reads.0
+parts_drawable skin width drawn (suc n) ((c ∷ cs) ∷ css) (table (l ∷ ls) ∷ ps) lines narrower bound kinds keeps reads (own, others, joins, here, more) =
     subst (λ (xs : List FmtLine). AreDrawable skin drawn (take (suc n) xs)) (sym joins)
-    (table_drawable skin width drawn n c cs l ls own (flat_map raw_lines ps) others narrower bound (λ m t k r. parts_drawable skin width drawn m t ps others narrower bound kinds.1 k r more) keeps reads kinds.0 here)
-parts_drawable skin width drawn (suc n) text (block ls ∷ ps) lines narrower bound kinds keeps reads (own, others, joins, here, more) =
+    (table_drawable skin width drawn n c cs (all_in css) l ls own others narrower bound (λ m k. parts_drawable skin width drawn m css ps others narrower bound kinds.1 k reads.1 more) keeps reads.0 kinds.0 here)
+parts_drawable skin width drawn (suc n) ((c ∷ cs) ∷ css) (block ls ∷ ps) lines narrower bound kinds keeps reads (own, others, joins, here, more) =
     subst (λ (xs : List FmtLine). AreDrawable skin drawn (take (suc n) xs)) (sym joins)
-    (lines_drawable skin width drawn (suc n) text (map Normal ls) (map Normal (justified (code_room skin (Some width)) ls)) own (flat_map raw_lines ps) others narrower bound
-    (λ m t k r. parts_drawable skin width drawn m t ps others narrower bound kinds.1 k r more) keeps reads (no_table_lines ls) (code_placed skin width ls kinds.0) here)
-parts_drawable skin width drawn (suc n) text (single l ∷ ps) lines narrower bound kinds keeps reads (own, others, joins, here, more) =
+    (lines_drawable skin width drawn (suc n) (c ∷ cs) None true (c ∷ cs) (all_in css) (map Normal ls) (map Normal (justified (code_room skin (Some width)) ls)) own others narrower bound
+    (λ m k. parts_drawable skin width drawn m css ps others narrower bound kinds.1 k reads.1 more) keeps (part_raw skin (c ∷ cs) (block ls) reads.0) (no_table_lines ls) (code_placed skin width ls kinds.0) here)
+parts_drawable skin width drawn (suc n) ((c ∷ cs) ∷ css) (single l ∷ ps) lines narrower bound kinds keeps reads (own, others, joins, here, more) =
     subst (λ (xs : List FmtLine). AreDrawable skin drawn (take (suc n) xs)) (sym joins)
-    (lines_drawable skin width drawn (suc n) text (l ∷ []) (l ∷ []) own (flat_map raw_lines ps) others narrower bound
-    (λ m t k r. parts_drawable skin width drawn m t ps others narrower bound kinds.1 k r more) keeps reads (kinds.0, tt) (inl refl, tt) here)
+    (lines_drawable skin width drawn (suc n) (c ∷ cs) None true (c ∷ cs) (all_in css) (l ∷ []) (l ∷ []) own others narrower bound
+    (λ m k. parts_drawable skin width drawn m css ps others narrower bound kinds.1 k reads.1 more) keeps (part_raw skin (c ∷ cs) (single l) reads.0) (kinds.0, tt) (inl refl, tt) here)
 
 -- Where the first lines of a text keep the premises, the first lines of its layout are drawn exactly in a row at least as wide, however
 -- many lines it has.
 pub fitting_is_drawable : (skin : MadSkin) (width drawn n : ℕ) (text : List LineContent) (lines : List FmtLine) → width ≤ drawn → drawn < 2 ^ 64 - 1
-    → KeepsPremises skin width (take n text) → IsFittingLayout skin width text lines → AreDrawable skin drawn (take n lines)
+    → KeepsPremises skin width (take n (lines_in_parts text)) → IsFittingLayout skin width text lines → AreDrawable skin drawn (take n lines)
 fitting_is_drawable skin width drawn n text lines narrower bound keeps layout =
-    parts_drawable skin width drawn n text (parts_of layout.read) lines narrower bound (parts_kinds layout.read) keeps
-    (subst (AreRead skin text) (sym (parts_raw layout.read)) layout.reads) layout.laid
+    parts_drawable skin width drawn n (text_parts text) (parts_of layout.read) lines narrower bound (parts_kinds layout.read) keeps (parts_read skin text layout.read layout.reads) layout.laid
 
 -- ---- a layout with the fewest lines
 
@@ -304,7 +306,7 @@ pub layout_fits : (skin : MadSkin) (width : ℕ) (text : List LineContent) (line
 layout_fits skin width text lines layout = record { read = layout.read; reads = layout.reads; laid = parts_fit skin width (parts_of layout.read) lines layout.laid }
 
 pub layout_is_drawable : (skin : MadSkin) (width drawn n : ℕ) (text : List LineContent) (lines : List FmtLine) → width ≤ drawn → drawn < 2 ^ 64 - 1
-    → KeepsPremises skin width (take n text) → IsLayout skin width text lines → AreDrawable skin drawn (take n lines)
+    → KeepsPremises skin width (take n (lines_in_parts text)) → IsLayout skin width text lines → AreDrawable skin drawn (take n lines)
 layout_is_drawable skin width drawn n text lines narrower bound keeps layout = fitting_is_drawable skin width drawn n text lines narrower bound keeps (layout_fits skin width text lines layout)
 
 -- ---- the lines that have a row

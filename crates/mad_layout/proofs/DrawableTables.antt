@@ -1,5 +1,5 @@
 -- A table that is laid out is drawn exactly.
-use Rattle.std.proofs.Common.{◌≡◌, ℕ, zero, suc, ◌+◌, ◌-◌, ◌^◌, ◌<◌, ◌≤◌, Bool, true, false, inl, inr, List, [], ◌∷◌, ◌++◌, map, max, Option, Some, Contains, length, take, refl, ap, sym, ◌∙◌, subst, arith, append_assoc}
+use Rattle.std.proofs.Common.{◌≡◌, ℕ, zero, suc, ◌+◌, ◌-◌, ◌^◌, ◌<◌, ◌≤◌, Bool, true, false, inl, inr, List, [], ◌∷◌, ◌++◌, map, max, Option, Some, None, Contains, length, take, refl, ap, sym, ◌∙◌, subst, arith, append_assoc}
 use Rattle.std.specs.Prelude.{IfSome, unwrap_or, ◌==◌}
 use Rattle.std.specs.List.{AllByRecursion}
 use Rattle.mad_columns.specs.Columns.{char_columns}
@@ -26,10 +26,12 @@ use Rattle.mad_layout.specs.Indents.{indent, follow_up, room_of}
 use Rattle.mad_layout.specs.Layouts.{AreRead}
 use Rattle.mad_layout.specs.Lines.{bordered, rule_columns, AreCompositesRead, IsLineRead}
 use Rattle.mad_layout.specs.PlainTables.{ArePlainCells, IsPlainTableLine}
-use Rattle.mad_layout.specs.Premises.{IsPlainRun, runs_text, IsPlainPrefix, IsPlainCell, AreBordersShown, IsPlainContent, KeepsPremises}
+use Rattle.mad_layout.specs.Premises.{IsPlainRun, runs_text, IsPlainPrefix, IsPlainCell, AreBordersShown, ArePlainIn, IsPlainContent, KeepsPremises}
 use Rattle.mad_layout.specs.Rows.{compound_piece, inner_columns, mark_pieces, place_of, row_columns}
 use Rattle.mad_layout.specs.Styles.{line_style}
 use Rattle.mad_layout.specs.Tables.{AreKeptWidths, in_column, IsBlankIn, columns_with, centered, columns_from, columns_count, columns_in, is_table_line, position_at, IsTop, IsAcross, AreDown, below, IsCellLaidOut, AreCellsLaidOut, IsRuleLaidOut, IsTableLineBy, AreTableLinesBy, IsTableLaidOutBy}
+use Rattle.mad_layout.specs.TableColumns.{kept_widths}
+use Rattle.mad_layout.specs.TextParts.{LineInPart, aligns_at, lines_in}
 use Rattle.mad_layout.specs.Wraps.{text_of, columns_of, IsMeasured}
 use Rattle.mad_layout.specs.declared.skin.MadSkin.{MadSkin}
 use Rattle.mad_layout.specs.declared.composite.FmtComposite.{FmtComposite}
@@ -41,6 +43,8 @@ use Rattle.mad_layout.specs.declared.table.RelativePosition.{RelativePosition}
 use Rattle.mad_layout.proofs.DrawnParts.{each_of, pieces_shown, runs_are, some_joined, utf8_of}
 use Rattle.mad_layout.proofs.MarkLemmas.{mark_shown, mark_columns, follow_up_plain}
 use Rattle.mad_layout.proofs.PartRuns.{AllTableLines}
+use Rattle.mad_layout.proofs.KeptWidths.{AreTableRead, widths_kept}
+use Rattle.mad_layout.proofs.ReadParts.{table_raw}
 use Rattle.mad_layout.proofs.WholeTokens.{IsShownRun, plain_is_shown, tokens_shown}
 
 -- ---- a line of a cell
@@ -149,7 +153,7 @@ across_fill skin (c ∷ cs) [] xs h across = absurd across
 across_fill skin (c ∷ cs) (ls ∷ lines) [] h across = absurd across
 across_fill skin (c ∷ cs) (ls ∷ lines) (x ∷ xs) h across = (top_fills skin c ls x h.0 across.0, across_fill skin cs lines xs h.1 across.1)
 
-across_columns : (cs : List Spacing) (lines : List (List FmtComposite)) (xs : List FmtComposite) → IsAcross cs lines xs → row_columns xs ≡ 1 + bordered (widths_of cs)
+pub across_columns : (cs : List Spacing) (lines : List (List FmtComposite)) (xs : List FmtComposite) → IsAcross cs lines xs → row_columns xs ≡ 1 + bordered (widths_of cs)
 across_columns [] [] [] across = refl
 across_columns [] [] (x ∷ xs) across = absurd across
 across_columns [] (ls ∷ lines) xs across = absurd across
@@ -200,12 +204,12 @@ record FitColumns (drawn : ℕ) (ws : List ℕ) (cs : List Spacing) : Type 0 whe
   fit : 1 + bordered ws ≤ drawn
   are : widths_of cs ≡ ws
 
-columns_with-widths : (ws : List ℕ) (aligns : List Alignment) → widths_of (columns_with ws aligns) ≡ ws
+pub columns_with-widths : (ws : List ℕ) (aligns : List Alignment) → widths_of (columns_with ws aligns) ≡ ws
 columns_with-widths [] aligns = refl
 columns_with-widths (w ∷ ws) [] = ap (λ vs. w ∷ vs) (columns_with-widths ws [])
 columns_with-widths (w ∷ ws) (a ∷ aligns) = ap (λ vs. w ∷ vs) (columns_with-widths ws aligns)
 
-centered-widths : (ws : List ℕ) → widths_of (centered ws) ≡ ws
+pub centered-widths : (ws : List ℕ) → widths_of (centered ws) ≡ ws
 centered-widths [] = refl
 centered-widths (w ∷ ws) = ap (λ vs. w ∷ vs) (centered-widths ws)
 
@@ -218,11 +222,11 @@ from-widths ws cs HorizontalRule h = h
 fit_from : (drawn : ℕ) (ws : List ℕ) (cs : List Spacing) (l : FmtLine) → FitColumns drawn ws cs → FitColumns drawn ws (columns_from ws cs l)
 fit_from drawn ws cs l h = record { two = h.two; bound = h.bound; fit = h.fit; are = from-widths ws cs l h.are }
 
-widths_small : (drawn : ℕ) (cs : List Spacing) → drawn < 2 ^ 64 - 1 → 1 + bordered (widths_of cs) ≤ drawn → AllByRecursion (λ c. c.width < 2 ^ 64 - 1) cs
+pub widths_small : (drawn : ℕ) (cs : List Spacing) → drawn < 2 ^ 64 - 1 → 1 + bordered (widths_of cs) ≤ drawn → AllByRecursion (λ c. c.width < 2 ^ 64 - 1) cs
 widths_small drawn [] bound fit = tt
 widths_small drawn (c ∷ cs) bound fit = (omega (arith, bound, fit), widths_small drawn cs bound (omega (arith, fit)))
 
-map_some : (rows : List FmtTableRow) → 0 < length rows → 0 < length (map TableRow rows)
+pub map_some : (rows : List FmtTableRow) → 0 < length rows → 0 < length (map TableRow rows)
 map_some [] h = absurd (omega (arith, h))
 map_some (row ∷ rows) h = omega arith
 
@@ -256,103 +260,95 @@ bare_drawable skin drawn HorizontalRule two borders plain none = absurd plain
 
 -- ---- lines of a text
 
-wider_room : (skin : MadSkin) (narrow width : ℕ) (kind : CompositeKind) (text : List FlaggedChar) → narrow ≤ width → HasRoom (room_of skin kind narrow) text → HasRoom (room_of skin kind width) text
-wider_room skin narrow width kind text wider h =
-    let few : most_indent (room_of skin kind narrow) ≤ narrow = h.indent in
-    record {
-      indent = omega (arith, few, wider);
-      each = all_each (λ x. most_indent (room_of skin kind narrow) + char_columns x.char ≤ narrow) (λ x. most_indent (room_of skin kind width) + char_columns x.char ≤ width) (λ x k. omega (arith, k, wider)) text h.each;
-    }
-
-wider_cell : (skin : MadSkin) (narrow width : ℕ) (kind : CompositeKind) (runs : List Run) → narrow ≤ width → IsPlainCell skin narrow kind runs → IsPlainCell skin width kind runs
-wider_cell skin narrow width kind runs wider h = record {
-  prefix = h.prefix;
-  plain = h.plain;
-  room = λ wide. wider_room skin narrow width kind (runs_text runs) wider (h.room (omega (arith, wide, wider)));
-}
-
-cells_plain : (skin : MadSkin) (ws : List ℕ) (said : List StyledRuns) (cells : List FmtComposite) → AllByRecursion (λ w. 3 ≤ w) ws → AllByRecursion (λ cell. IsPlainCell skin 3 (kind_of cell.style) cell.runs) said
-    → AreCompositesRead skin said cells → ArePlainCells skin ws cells
-cells_plain skin [] said cells least plain read = tt
-cells_plain skin (w ∷ ws) [] [] least plain read = tt
-cells_plain skin (w ∷ ws) [] (l ∷ ls) least plain read = absurd read
-cells_plain skin (w ∷ ws) (s ∷ ss) [] least plain read = absurd read
-cells_plain skin (w ∷ ws) (s ∷ ss) (l ∷ ls) least plain read =
-    let own : IsPlainCell skin w (kind_of s.style) s.runs = wider_cell skin 3 w (kind_of s.style) s.runs least.0 plain.0 in (
-      read.0.measured,
-      subst (λ (k : CompositeKind). IsPlainCell skin w k (map run_of l.compounds.items)) (sym read.0.kind) (subst (λ (rs : List Run). IsPlainCell skin w (kind_of s.style) rs) (sym read.0.text) own),
-      cells_plain skin ws ss ls least.1 plain.1 read.1,
-    )
+cells_plain : (skin : MadSkin) (ws : List ℕ) (said : List StyledRuns) (cells : List FmtComposite) → ArePlainIn skin ws said → AreCompositesRead skin said cells → ArePlainCells skin ws cells
+cells_plain skin [] said cells plain read = tt
+cells_plain skin (w ∷ ws) [] [] plain read = tt
+cells_plain skin (w ∷ ws) [] (l ∷ ls) plain read = absurd read
+cells_plain skin (w ∷ ws) (s ∷ ss) [] plain read = absurd read
+cells_plain skin (w ∷ ws) (s ∷ ss) (l ∷ ls) plain read = (
+  read.0.measured,
+  subst (λ (k : CompositeKind). IsPlainCell skin w k (map run_of l.compounds.items)) (sym read.0.kind) (subst (λ (rs : List Run). IsPlainCell skin w (kind_of s.style) rs) (sym read.0.text) plain.0),
+  cells_plain skin ws ss ls plain.1 read.1,
+)
 
 -- what a line of a table says that keeps the premises
-record TableContent (skin : MadSkin) (width : ℕ) (ws : List ℕ) (l : FmtLine) : Type 0 where
-  two : 2 ≤ width
-  borders : AreBordersShown skin
-  plain : IsPlainTableLine skin ws l
+pub record TableContent (skin : MadSkin) (width : ℕ) (ws : List ℕ) (l : FmtLine) : Type 0 where
+  pub two : 2 ≤ width
+  pub borders : AreBordersShown skin
+  pub plain : IsPlainTableLine skin ws l
 
-content_plain : (skin : MadSkin) (width : ℕ) (ws : List ℕ) (c : LineContent) (l : FmtLine) → AllByRecursion (λ w. 3 ≤ w) ws → IsPlainContent skin width c → IsLineRead skin c l → is_table_line l ≡ true → TableContent skin width ws l
-content_plain skin width ws (normal said) (Normal l) least plain read is = absurd (cc)
-content_plain skin width ws (normal said) (TableRow row) least plain read is = absurd read
-content_plain skin width ws (normal said) (TableRule rule) least plain read is = absurd read
-content_plain skin width ws (normal said) HorizontalRule least plain read is = absurd read
-content_plain skin width ws (table_row cells) (Normal l) least plain read is = absurd read
-content_plain skin width ws (table_row cells) (TableRow row) least plain read is = record { two = plain.0; borders = plain.1; plain = cells_plain skin ws cells row.cells.items least plain.2 read }
-content_plain skin width ws (table_row cells) (TableRule rule) least plain read is = absurd read
-content_plain skin width ws (table_row cells) HorizontalRule least plain read is = absurd read
-content_plain skin width ws (table_rule aligns) (Normal l) least plain read is = absurd read
-content_plain skin width ws (table_rule aligns) (TableRow row) least plain read is = absurd read
-content_plain skin width ws (table_rule aligns) (TableRule rule) least plain read is = record { two = plain.0; borders = plain.1; plain = read.widths }
-content_plain skin width ws (table_rule aligns) HorizontalRule least plain read is = absurd read
-content_plain skin width ws horizontal_rule (Normal l) least plain read is = absurd read
-content_plain skin width ws horizontal_rule (TableRow row) least plain read is = absurd read
-content_plain skin width ws horizontal_rule (TableRule rule) least plain read is = absurd read
-content_plain skin width ws horizontal_rule HorizontalRule least plain read is = absurd (cc)
+-- cells that keep the premises of a part are plain in these columns
+abbrev pub ArePartColumns : MadSkin → ℕ → List LineContent → List ℕ → Type 0
+ArePartColumns skin width part ws = (cells : List StyledRuns) → ArePlainIn skin (kept_widths skin width part) cells → ArePlainIn skin ws cells
 
--- whatever lines of a text come after a part, those that are drawn of them are drawn exactly
-abbrev Later : MadSkin → ℕ → ℕ → List FmtLine → List FmtLine → Type 0
-Later skin width drawn rest others = (m : ℕ) (t : List LineContent) → KeepsPremises skin width (take m t) → AreRead skin t rest → AreDrawable skin drawn (take m others)
+pub kept_columns : (skin : MadSkin) (width : ℕ) (part : List LineContent) (ws : List ℕ) → ws ≡ kept_widths skin width part → ArePartColumns skin width part ws
+kept_columns skin width part ws is cells given = subst (λ vs. ArePlainIn skin vs cells) (sym is) given
 
-laid_drawable : (skin : MadSkin) (width drawn n : ℕ) (text : List LineContent) (ws : List ℕ) (cs : List Spacing) (first : Bool) (table own rest others : List FmtLine) → 1 + bordered ws ≤ width → width ≤ drawn → drawn < 2 ^ 64 - 1
-    → widths_of cs ≡ ws → AllByRecursion (λ w. 3 ≤ w) ws → Later skin width drawn rest others → KeepsPremises skin width (take n text) → AreRead skin text (table ++ rest) → AllTableLines table
+pub content_plain : (skin : MadSkin) (width : ℕ) (part : List LineContent) (ws : List ℕ) (c : LineContent) (l : FmtLine) → ArePartColumns skin width part ws → IsPlainContent skin width part c → IsLineRead skin c l → is_table_line l ≡ true
+    → TableContent skin width ws l
+content_plain skin width part ws (normal said) (Normal l) columns plain read is = absurd (cc)
+content_plain skin width part ws (normal said) (TableRow row) columns plain read is = absurd read
+content_plain skin width part ws (normal said) (TableRule rule) columns plain read is = absurd read
+content_plain skin width part ws (normal said) HorizontalRule columns plain read is = absurd read
+content_plain skin width part ws (table_row cells) (Normal l) columns plain read is = absurd read
+content_plain skin width part ws (table_row cells) (TableRow row) columns plain read is = record { two = plain.0; borders = plain.1; plain = cells_plain skin ws cells row.cells.items (columns cells plain.2) read }
+content_plain skin width part ws (table_row cells) (TableRule rule) columns plain read is = absurd read
+content_plain skin width part ws (table_row cells) HorizontalRule columns plain read is = absurd read
+content_plain skin width part ws (table_rule aligns) (Normal l) columns plain read is = absurd read
+content_plain skin width part ws (table_rule aligns) (TableRow row) columns plain read is = absurd read
+content_plain skin width part ws (table_rule aligns) (TableRule rule) columns plain read is = record { two = plain.0; borders = plain.1; plain = read.widths }
+content_plain skin width part ws (table_rule aligns) HorizontalRule columns plain read is = absurd read
+content_plain skin width part ws horizontal_rule (Normal l) columns plain read is = absurd read
+content_plain skin width part ws horizontal_rule (TableRow row) columns plain read is = absurd read
+content_plain skin width part ws horizontal_rule (TableRule rule) columns plain read is = absurd read
+content_plain skin width part ws horizontal_rule HorizontalRule columns plain read is = absurd (cc)
+
+-- of lines of a text that come after a part, those that are drawn are drawn exactly
+abbrev pub Later : MadSkin → ℕ → ℕ → List LineInPart → List FmtLine → Type 0
+Later skin width drawn xs others = (m : ℕ) → KeepsPremises skin width (take m xs) → AreDrawable skin drawn (take m others)
+
+laid_drawable : (skin : MadSkin) (width drawn n : ℕ) (part : List LineContent) (above : Option (List Alignment)) (text : List LineContent) (xs : List LineInPart) (ws : List ℕ) (cs : List Spacing) (first : Bool) (table own others : List FmtLine) → 1 + bordered ws ≤ width → width ≤ drawn → drawn < 2 ^ 64 - 1
+    → widths_of cs ≡ ws → ArePartColumns skin width part ws → Later skin width drawn xs others → KeepsPremises skin width (take n (lines_in part above first text ++ xs)) → AreRead skin text table → AllTableLines table
     → AreTableLinesBy IsFittingWrap skin ws cs first table own → AreDrawable skin drawn (take n (own ++ others))
-laid_drawable skin width drawn zero text ws cs first table own rest others fit narrower bound are least later keeps reads lines laid = tt
-laid_drawable skin width drawn (suc n) text ws cs first [] own rest others fit narrower bound are least later keeps reads lines laid =
-    subst (λ (ls : List FmtLine). AreDrawable skin drawn (take (suc n) (ls ++ others))) (sym laid) (later (suc n) text keeps reads)
-laid_drawable skin width drawn (suc n) [] ws cs first (l ∷ ls) own rest others fit narrower bound are least later keeps reads lines laid = absurd reads
-laid_drawable skin width drawn (suc n) (c ∷ text) ws cs first (l ∷ ls) own rest others fit narrower bound are least later keeps reads lines (front, more, joins, here, below_it) =
-    let content : TableContent skin width ws l = content_plain skin width ws c l least keeps.0 reads.0 lines.0 in
+laid_drawable skin width drawn zero part above text xs ws cs first table own others fit narrower bound are columns later keeps reads lines laid = tt
+laid_drawable skin width drawn (suc n) part above [] xs ws cs first [] own others fit narrower bound are columns later keeps reads lines laid =
+    subst (λ (ls : List FmtLine). AreDrawable skin drawn (take (suc n) (ls ++ others))) (sym laid) (later (suc n) keeps)
+laid_drawable skin width drawn (suc n) part above (c ∷ text) xs ws cs first [] own others fit narrower bound are columns later keeps reads lines laid = absurd reads
+laid_drawable skin width drawn (suc n) part above [] xs ws cs first (l ∷ ls) own others fit narrower bound are columns later keeps reads lines laid = absurd reads
+laid_drawable skin width drawn (suc n) part above (c ∷ text) xs ws cs first (l ∷ ls) own others fit narrower bound are columns later keeps reads lines (front, more, joins, here, below_it) =
+    let content : TableContent skin width ws l = content_plain skin width part ws c l columns keeps.0 reads.0 lines.0 in
     let two : 2 ≤ width = content.two in
-    let columns : FitColumns drawn ws cs = record { two = omega (arith, two, narrower); bound = bound; fit = omega (arith, fit, narrower); are = are } in
-    let one = table_line_drawable skin drawn ws (columns_from ws cs l) (position_at first (length ls == 0)) l front (fit_from drawn ws cs l columns) content.borders content.plain here in
+    let columns_fit : FitColumns drawn ws cs = record { two = omega (arith, two, narrower); bound = bound; fit = omega (arith, fit, narrower); are = are } in
+    let one = table_line_drawable skin drawn ws (columns_from ws cs l) (position_at first (length ls == 0)) l front (fit_from drawn ws cs l columns_fit) content.borders content.plain here in
     subst (λ (xs : List FmtLine). AreDrawable skin drawn (take (suc n) xs)) (sym (ap (λ xs. xs ++ others) joins ∙ append_assoc front more others))
     (some_joined skin drawn front (more ++ others) n one.0 one.1
-    (laid_drawable skin width drawn n text ws (columns_from ws cs l) false ls more rest others fit narrower bound (from-widths ws cs l are) least later keeps.1 reads.1 lines.1 below_it))
+    (laid_drawable skin width drawn n part (aligns_at above c) text xs ws (columns_from ws cs l) false ls more others fit narrower bound (from-widths ws cs l are) columns later keeps.1 reads.1 lines.1 below_it))
 
-bare_lines : (skin : MadSkin) (width drawn n : ℕ) (text : List LineContent) (table rest others : List FmtLine) → width ≤ drawn → columns_count table ≡ 0 → Later skin width drawn rest others
-    → KeepsPremises skin width (take n text) → AreRead skin text (table ++ rest) → AllTableLines table → AreDrawable skin drawn (take n (table ++ others))
-bare_lines skin width drawn zero text table rest others narrower none later keeps reads lines = tt
-bare_lines skin width drawn (suc n) text [] rest others narrower none later keeps reads lines = later (suc n) text keeps reads
-bare_lines skin width drawn (suc n) [] (l ∷ ls) rest others narrower none later keeps reads lines = absurd reads
-bare_lines skin width drawn (suc n) (c ∷ text) (l ∷ ls) rest others narrower none later keeps reads lines =
-    let content : TableContent skin width [] l = content_plain skin width [] c l tt keeps.0 reads.0 lines.0 in
+bare_lines : (skin : MadSkin) (width drawn n : ℕ) (part : List LineContent) (above : Option (List Alignment)) (first : Bool) (text : List LineContent) (xs : List LineInPart) (table others : List FmtLine) → width ≤ drawn → columns_count table ≡ 0 → Later skin width drawn xs others
+    → KeepsPremises skin width (take n (lines_in part above first text ++ xs)) → AreRead skin text table → AllTableLines table → AreDrawable skin drawn (take n (table ++ others))
+bare_lines skin width drawn zero part above first text xs table others narrower none later keeps reads lines = tt
+bare_lines skin width drawn (suc n) part above first [] xs [] others narrower none later keeps reads lines = later (suc n) keeps
+bare_lines skin width drawn (suc n) part above first (c ∷ text) xs [] others narrower none later keeps reads lines = absurd reads
+bare_lines skin width drawn (suc n) part above first [] xs (l ∷ ls) others narrower none later keeps reads lines = absurd reads
+bare_lines skin width drawn (suc n) part above first (c ∷ text) xs (l ∷ ls) others narrower none later keeps reads lines =
+    let content : TableContent skin width [] l = content_plain skin width part [] c l (λ cells given. tt) keeps.0 reads.0 lines.0 in
     let two : 2 ≤ width = content.two in
     let own : columns_in l ≡ 0 = omega (arith, none) in
-    (bare_drawable skin drawn l (omega (arith, two, narrower)) content.borders content.plain own, bare_lines skin width drawn n text ls rest others narrower (omega (arith, none)) later keeps.1 reads.1 lines.1)
+    (bare_drawable skin drawn l (omega (arith, two, narrower)) content.borders content.plain own, bare_lines skin width drawn n part (aligns_at above c) false text xs ls others narrower (omega (arith, none)) later keeps.1 reads.1 lines.1)
 
--- The lines of a table, and those after it.
-pub table_drawable : (skin : MadSkin) (width drawn n : ℕ) (c : LineContent) (text : List LineContent) (l : FmtLine) (ls own rest others : List FmtLine) → width ≤ drawn → drawn < 2 ^ 64 - 1
-    → ((m : ℕ) (t : List LineContent) → KeepsPremises skin width (take m t) → AreRead skin t rest → AreDrawable skin drawn (take m others))
-    → KeepsPremises skin width (take (suc n) (c ∷ text)) → AreRead skin (c ∷ text) ((l ∷ ls) ++ rest) → AllTableLines (l ∷ ls)
+-- The lines of a table, which is a part of a text, and those after it.
+pub table_drawable : (skin : MadSkin) (width drawn n : ℕ) (c : LineContent) (text : List LineContent) (xs : List LineInPart) (l : FmtLine) (ls own others : List FmtLine) → width ≤ drawn → drawn < 2 ^ 64 - 1 → Later skin width drawn xs others
+    → KeepsPremises skin width (take (suc n) (lines_in (c ∷ text) None true (c ∷ text) ++ xs)) → AreTableRead skin (c ∷ text) (l ∷ ls) → AllTableLines (l ∷ ls)
     → IsTableLaidOutBy IsFittingWrap skin (columns_count (l ∷ ls)) width (l ∷ ls) own → AreDrawable skin drawn (take (suc n) (own ++ others))
-table_drawable skin width drawn n c text l ls own rest others narrower bound later keeps reads lines (inl (inl none, stays)) =
-    subst (λ (xs : List FmtLine). AreDrawable skin drawn (take (suc n) (xs ++ others))) (sym stays) (bare_lines skin width drawn (suc n) (c ∷ text) (l ∷ ls) rest others narrower none later keeps reads lines)
-table_drawable skin width drawn n c text l ls own rest others narrower bound later keeps reads lines (inl (inr none, stays)) =
-    let content : TableContent skin width [] l = content_plain skin width [] c l tt keeps.0 reads.0 lines.0 in
+table_drawable skin width drawn n c text xs l ls own others narrower bound later keeps reads lines (inl (inl none, stays)) =
+    subst (λ (xs : List FmtLine). AreDrawable skin drawn (take (suc n) (xs ++ others))) (sym stays) (bare_lines skin width drawn (suc n) (c ∷ text) None true (c ∷ text) xs (l ∷ ls) others narrower none later keeps (table_raw skin (c ∷ text) (l ∷ ls) reads) lines)
+table_drawable skin width drawn n c text xs l ls own others narrower bound later keeps reads lines (inl (inr none, stays)) =
+    let content : TableContent skin width [] l = content_plain skin width (c ∷ text) [] c l (λ cells given. tt) keeps.0 reads.0.read lines.0 in
     let two : 2 ≤ width = content.two in
     absurd (omega (arith, none, two))
-table_drawable skin width drawn n c text l ls own rest others narrower bound later keeps reads lines (inr (some, place, (ws, kept, laid))) =
+table_drawable skin width drawn n c text xs l ls own others narrower bound later keeps reads lines (inr (some, place, (ws, kept, laid))) =
     let fit : 1 + bordered ws ≤ width = let inside : bordered ws + 1 ≤ width = kept.fit in omega (arith, inside) in
-    laid_drawable skin width drawn (suc n) (c ∷ text) ws (centered ws) true (l ∷ ls) own rest others fit narrower bound (centered-widths ws) kept.least later keeps reads lines laid
+    laid_drawable skin width drawn (suc n) (c ∷ text) None (c ∷ text) xs ws (centered ws) true (l ∷ ls) own others fit narrower bound (centered-widths ws) (kept_columns skin width (c ∷ text) ws (widths_kept skin width (c ∷ text) (l ∷ ls) ws reads kept)) later keeps (table_raw skin (c ∷ text) (l ∷ ls) reads) lines laid
 
 -- ---- a table by itself
 

@@ -2,10 +2,10 @@
 use Rattle.std.proofs.Common.{◌≡◌, ℕ, ◌≤◌, ◌⊎◌, inl, inr, Bool, true, false, not, ◌&&◌, ◌||◌, List, [], ◌∷◌, ◌++◌, length, Option, if◌then◌else◌, refl, ap, sym, ◌∙◌, subst, arith, append_assoc}
 use Rattle.std.proofs.lemmas.List.{append-nil, length-append}
 use Rattle.mad_md.specs.Lines.{LineContent}
-use Rattle.mad_layout.specs.FlaggedLines.{is_code, is_table, stand_together, in_front, text_parts}
 use Rattle.mad_layout.specs.Fronts.{IsFrontLayout}
 use Rattle.mad_layout.specs.Laying.{IsOpenRun, IsLaidFor, IsRunAt}
 use Rattle.mad_layout.specs.Layouts.{IsLayoutAt}
+use Rattle.mad_layout.specs.TextParts.{is_code, is_table, stand_together, in_front, text_parts}
 use Rattle.mad_layout.specs.declared.skin.MadSkin.{MadSkin}
 use Rattle.mad_layout.specs.declared.composite.FmtComposite.{FmtComposite}
 use Rattle.mad_layout.specs.declared.line.FmtLine.{FmtLine}
@@ -38,13 +38,13 @@ alone c [] e = refl
 alone c ([] ∷ parts) e = refl
 alone c ((d ∷ ds) ∷ parts) e = ap (λ (b : Bool). if b then (c ∷ d ∷ ds) ∷ parts else (c ∷ []) ∷ (d ∷ ds) ∷ parts) (let other = neither_of (is_code c) (is_table c) e in neither (is_code c) (is_code d) (is_table c) (is_table d) other.0 other.1)
 
-front_joined : (c : LineContent) (p : List LineContent) (ps qs : List (List LineContent)) → in_front c ((p ∷ ps) ++ qs) ≡ in_front c (p ∷ ps) ++ qs
+pub front_joined : (c : LineContent) (p : List LineContent) (ps qs : List (List LineContent)) → in_front c ((p ∷ ps) ++ qs) ≡ in_front c (p ∷ ps) ++ qs
 front_joined c [] ps qs = refl
 front_joined c (d ∷ ds) ps qs =
     by_bool (λ b. (if b then (c ∷ d ∷ ds) ∷ (ps ++ qs) else (c ∷ []) ∷ (d ∷ ds) ∷ (ps ++ qs)) ≡ (if b then (c ∷ d ∷ ds) ∷ ps else (c ∷ []) ∷ (d ∷ ds) ∷ ps) ++ qs) (stand_together c d) (λ on. refl) (λ off. refl)
 
 -- a line in front of parts makes one at least
-some_part : (c : LineContent) (parts : List (List LineContent)) → (p : List LineContent) × (ps : List (List LineContent)) × (in_front c parts ≡ p ∷ ps)
+pub some_part : (c : LineContent) (parts : List (List LineContent)) → (p : List LineContent) × (ps : List (List LineContent)) × (in_front c parts ≡ p ∷ ps)
 some_part c [] = (c ∷ [], [], refl)
 some_part c ([] ∷ parts) = (c ∷ [], [] ∷ parts, refl)
 some_part c ((d ∷ ds) ∷ parts) =

@@ -21,10 +21,12 @@ use Rattle.mad_layout.specs.CompositeWraps.{IsCompositeWrap}
 use Rattle.mad_layout.specs.Layouts.{IsLayoutBy, IsLayout, IsLayoutAt, IsMarkdownLayout}
 use Rattle.mad_layout.specs.Premises.{KeepsPremises}
 use Rattle.mad_layout.specs.Shown.{lines_shown, AreShownIn}
+use Rattle.mad_layout.specs.TextParts.{LineInPart, text_parts, lines_in_parts}
 use Rattle.mad_layout.specs.declared.skin.MadSkin.{MadSkin}
 use Rattle.mad_layout.specs.declared.line.FmtLine.{FmtLine}
 use Rattle.mad_layout.specs.declared.fmt_text.FmtText.{FmtText}
 use Rattle.mad_layout.proofs.DrawableLemmas.{layout_fits, layout_is_drawable}
+use Rattle.mad_layout.proofs.ReadParts.{in_parts_both}
 
 -- a text that was laid out for an area
 pub area_layout : {E : Type 0} (r : Result FmtText E) (skin : MadSkin) (markdown : List ℕ) (area : Area) (width : ℕ) → width ≡ area.width - 1
@@ -44,13 +46,16 @@ wrapped_at skin width text lines wide h =
     subst (λ (b : Bool). IsLayoutBy IsCompositeWrap skin width (if b then None else Some width) text lines) test h
 
 -- the first lines of some are first lines of all
-first_keep : (skin : MadSkin) (width n : ℕ) (front rest : List LineContent) → KeepsPremises skin width (take n (front ++ rest)) → KeepsPremises skin width (take n front)
+first_keep : (skin : MadSkin) (width n : ℕ) (front rest : List LineInPart) → KeepsPremises skin width (take n (front ++ rest)) → KeepsPremises skin width (take n front)
 first_keep skin width zero front rest h = tt
 first_keep skin width (suc n) [] rest h = tt
 first_keep skin width (suc n) (c ∷ cs) rest h = (h.0, first_keep skin width n cs rest h.1)
 
-pub front_keeps : (skin : MadSkin) (width n : ℕ) (text front rest : List LineContent) → text ≡ front ++ rest → KeepsPremises skin width (take n text) → KeepsPremises skin width (take n front)
-front_keeps skin width n text front rest joins h = first_keep skin width n front rest (subst (λ (ls : List LineContent). KeepsPremises skin width (take n ls)) joins h)
+pub front_keeps : (skin : MadSkin) (width n : ℕ) (text front rest : List LineContent) → text_parts text ≡ text_parts front ++ text_parts rest → KeepsPremises skin width (take n (lines_in_parts text))
+    → KeepsPremises skin width (take n (lines_in_parts front))
+front_keeps skin width n text front rest parts h =
+    first_keep skin width n (lines_in_parts front) (lines_in_parts rest)
+    (subst (λ (xs : List LineInPart). KeepsPremises skin width (take n xs)) (in_parts_both text front rest parts) h)
 
 -- so it is a fitting layout
 pub layout_fitting : (skin : MadSkin) (width : Option ℕ) (text : List LineContent) (lines : List FmtLine) → IsLayoutAt skin width text lines → IsFittingLayoutAt skin width text lines
@@ -68,7 +73,7 @@ text_shown {T} {E} (Ok x) skin own markdown area lines old new limits same laid_
       shown = λ premises.
           let front : IsFrontLayout skin (Some (area.width - 1)) area.height laid_out.text lines = laid_out.layout in
           subst (λ (s : MadSkin). AreDrawable s area.width (lines_shown lines area 0) → TookWith old new (AreShownIn s lines area 0)) same h
-          (layout_is_drawable skin (area.width - 1) area.width area.height front.front lines (omega arith) (omega (arith, limits.columns)) (front_keeps skin (area.width - 1) area.height laid_out.text front.front front.rest front.joins premises) (wrapped_at skin (area.width - 1) front.front lines (omega arith) front.layout));
+          (layout_is_drawable skin (area.width - 1) area.width area.height front.front lines (omega arith) (omega (arith, limits.columns)) (front_keeps skin (area.width - 1) area.height laid_out.text front.front front.rest front.parts premises) (wrapped_at skin (area.width - 1) front.front lines (omega arith) front.layout));
     }
 text_shown {T} {E} (Err x) skin own markdown area lines old new limits same laid_out h = tt
 

@@ -2,9 +2,7 @@
 use Rattle.std.proofs.Common.{◌≡◌, ℕ, zero, suc, ◌-◌, ◌^◌, ◌<◌, ◌≤◌, ◌⊎◌, inl, inr, List, [], ◌∷◌, ◌++◌, map, take, length, replicate, get_or, Option, Some, None, IfSome, Result, Ok, Err, OnOk, refl, ap, sym, ◌∙◌, subst, arith, append_assoc}
 use Rattle.std.specs.Prelude.{slice_get, unwrap_or}
 use Rattle.std.proofs.Math.ListN.{get_or-map}
-use Rattle.std.specs.List.{flat_map}
 use Rattle.std.proofs.lemmas.List.{append-nil, length-map, map-append}
-use Rattle.std.proofs.lemmas.List.Concat.{flat_map-append}
 use Rattle.mad_columns.specs.Columns.{char_columns}
 use Rattle.mad_screen.specs.Glyph.{Glyph, Look}
 use Rattle.mad_screen.specs.Grid.{plain_pen, blank, glyphs}
@@ -16,7 +14,7 @@ use Rattle.mad_fit.specs.Areas.{IsWithinLimits}
 use Rattle.mad_fit.specs.declared.area.Area.{Area}
 use Rattle.mad_draw.specs.Pieces.{PennedChar, penned_chars}
 use Rattle.mad_draw.specs.PennedCells.{penned_joined, penned_cells}
-use Rattle.mad_layout.specs.FlaggedLines.{LineInPart, HoldNoTable, text_parts, lines_in_parts, AreAcross}
+use Rattle.mad_layout.specs.FlaggedTexts.{LineInPart, lines_in_parts, AreAcross}
 use Rattle.mad_layout.specs.Fronts.{IsFrontLayout}
 use Rattle.mad_layout.specs.Headline.{cell_chars, AreShownAcross, ShowsFirstRows}
 use Rattle.mad_layout.specs.InArea.{ShowsText}
@@ -25,6 +23,7 @@ use Rattle.mad_layout.specs.Rows.{row_pieces}
 use Rattle.mad_layout.specs.Shown.{AreShownIn}
 use Rattle.mad_layout.specs.declared.skin.MadSkin.{MadSkin}
 use Rattle.mad_layout.specs.declared.line.FmtLine.{FmtLine}
+use Rattle.mad_layout.proofs.ReadParts.{in_parts_both}
 use Rattle.mad_layout.proofs.HeadlineLemmas.{wrapped_at, front_keeps}
 use Rattle.mad_layout.proofs.RowChars.{char_of, line_chars, spaces_chars}
 use Rattle.mad_layout.proofs.RowsAcross.{across_exist}
@@ -80,7 +79,7 @@ same_at (suc n) (x ∷ xs) [] e j inside = absurd (cc)
 same_at (suc n) (x ∷ xs) (y ∷ ys) e zero inside = let head : x ≡ y = cc in ap Some head
 same_at (suc n) (x ∷ xs) (y ∷ ys) e (suc j) inside = let tail : take n xs ≡ take n ys = cc in same_at n xs ys tail j (omega (arith, inside))
 
-shown_across : (skin : MadSkin) (lines : List FmtLine) (area : Area) (across : List (List ℕ)) → take area.height across ≡ take area.height (map (line_chars skin area.width) lines)
+pub shown_across : (skin : MadSkin) (lines : List FmtLine) (area : Area) (across : List (List ℕ)) → take area.height across ≡ take area.height (map (line_chars skin area.width) lines)
     → (bytes : List ℕ) → AreShownIn skin lines area 0 bytes → AreShownAcross across area bytes
 shown_across skin lines area across same bytes h = λ g on_screen.
     let done = h g on_screen in (
@@ -133,23 +132,9 @@ front_is_enough skin area xs ys own lines h same (inr some) =
     let more = across_exist skin area ys in
     (own ++ more.0, across_both skin area xs ys own more.0 h more.1, enough_rows area.height own more.0 (as_long area.height own lines same some) ∙ same)
 
--- the lines of a text in their parts, where no part is cut
-in_parts_both : (text front rest : List LineContent) → text_parts text ≡ text_parts front ++ text_parts rest → lines_in_parts text ≡ lines_in_parts front ++ lines_in_parts rest
-in_parts_both text front rest parts =
-    let each : List LineContent → List LineInPart = λ part. map (λ line. record { part = part; line = line }) part in
-    ap (flat_map each) parts ∙ flat_map-append each (text_parts front) (text_parts rest)
-
 rest_or_enough : (skin : MadSkin) (width : ℕ) (height : ℕ) (rest : List LineContent) (lines : List FmtLine) → (rest ≡ []) ⊎ (height ≤ length lines) → (lines_in_parts rest ≡ []) ⊎ (height ≤ length (map (line_chars skin width) lines))
 rest_or_enough skin width height rest lines (inl none) = inl (ap lines_in_parts none)
 rest_or_enough skin width height rest lines (inr some) = inr (omega (arith, some, length-map lines (line_chars skin width)))
-
-first_tables : (n : ℕ) (front rest : List LineContent) → HoldNoTable (take n (front ++ rest)) → HoldNoTable (take n front)
-first_tables zero front rest h = tt
-first_tables (suc n) [] rest h = tt
-first_tables (suc n) (c ∷ cs) rest h = (h.0, first_tables n cs rest h.1)
-
-front_tables : (n : ℕ) (text front rest : List LineContent) → text ≡ front ++ rest → HoldNoTable (take n text) → HoldNoTable (take n front)
-front_tables n text front rest joins h = first_tables n front rest (subst (λ (ls : List LineContent). HoldNoTable (take n ls)) joins h)
 
 headline : (skin : MadSkin) (markdown : List ℕ) (area : Area) (old new : Trace) → IsWithinLimits area → 4 ≤ area.width → ShowsText skin markdown area old new → ShowsFirstRows skin markdown area old new
 headline skin markdown area old new limits wide h =
@@ -161,9 +146,9 @@ headline skin markdown area old new limits wide h =
     record {
       lines = text;
       read = h.laid_out.read;
-      shown = λ premises tables.
-          let first = front_keeps skin width area.height text front.front front.rest front.joins premises in
-          let rows = text_across skin area area.height front.front h.lines bound first (front_tables area.height text front.front front.rest front.joins tables) layout in
+      shown = λ premises.
+          let first = front_keeps skin width area.height text front.front front.rest front.parts premises in
+          let rows = text_across skin area area.height front.front h.lines bound wide first layout in
           let all = front_is_enough skin area (lines_in_parts front.front) (lines_in_parts front.rest) rows.0 (map (line_chars skin area.width) h.lines) rows.1 rows.2
           (rest_or_enough skin area.width area.height front.rest h.lines front.enough) in (
             all.0,
@@ -182,5 +167,5 @@ pub headline_flushed : (skin : MadSkin) (markdown : List ℕ) (area : Area) (old
 headline_flushed skin markdown area old mid new h e = record {
   lines = h.lines;
   read = h.read;
-  shown = λ premises tables. let rows = h.shown premises tables in (rows.0, rows.1, took_flushed old mid new (AreShownAcross rows.0 area) rows.2 e);
+  shown = λ premises. let rows = h.shown premises in (rows.0, rows.1, took_flushed old mid new (AreShownAcross rows.0 area) rows.2 e);
 }

@@ -1,61 +1,99 @@
 -- The example's text keeps the premises of the headline.
-use Rattle.std.proofs.Common.{◌≡◌, ℕ, ◌+◌, ◌<◌, ◌≤◌, false, List, [], ◌∷◌, ◌++◌, map, ◌⊎◌, inl, inr, refl, ap, sym, ◌∙◌, subst, arith}
-use Rattle.std.specs.Prelude.{◌≢◌}
+use Rattle.std.proofs.Common.{◌≡◌, ℕ, ◌+◌, ◌<◌, ◌≤◌, false, List, [], ◌∷◌, ◌++◌, map, refl, ap, sym, ◌∙◌, subst, arith}
 use Rattle.std.specs.List.{AllByRecursion}
-use Rattle.std.specs.Str.{chars, IsAscii}
-use Rattle.std.proofs.lemmas.Str.{IsUtf8-from_ascii, chars-IsAscii}
+use Rattle.std.specs.Str.{chars, IsUtf8, IsAscii}
+use Rattle.std.proofs.lemmas.Str.{IsUtf8-from_ascii, chars-IsAscii, encode_ascii}
+use Rattle.std.proofs.lemmas.Fmt.{length-decimal-le_succ}
 use Rattle.std.proofs.lemmas.Str.Ascii.{IsAscii-nil, IsAscii-cons}
 use Rattle.mad_columns.specs.Columns.{char_columns}
 use Rattle.mad_columns.proofs.CharColumns.{char_columns-ascii}
 use Rattle.mad_md.specs.Flagged.{plain, flagged}
-use Rattle.mad_md.specs.Lines.{StyledRuns, LineContent, normal}
-use Rattle.mad_md.specs.Places.{PlacedLine, normal_at, content_at}
+use Rattle.mad_md.specs.Lines.{StyledRuns, LineContent, normal, horizontal_rule}
+use Rattle.mad_md.specs.Places.{PlacedLine, normal_at, horizontal_rule_at, content_at}
 use Rattle.mad_md.specs.Reading.{IsReading, AreLines, unread_text}
 use Rattle.mad_md.specs.Inline.{byte}
 use Rattle.mad_md.specs.Parts.{AreParts, HasNoNewline, line_places}
 use Rattle.mad_md.specs.declared.composite.CompositeStyle.{CompositeStyle}
-use Rattle.mad_md.specs.declared.composite.CompositeStyle.TheVariants.{Header, Paragraph, Code}
+use Rattle.mad_md.specs.declared.composite.CompositeStyle.TheVariants.{Header, Paragraph, ListItem, OrderedListItem, Code, Quote}
+use Rattle.std.specs.Prelude.{encode_utf8}
+use Rattle.mad_screen.specs.Painting.{IsShown}
+use Rattle.mad_draw.specs.Pieces.{IsColumnPiece, char_piece}
+use Rattle.mad_style.specs.CompoundStyles.{plain_style}
+use Rattle.mad_style.specs.StyledChars.{styled_char}
+use Rattle.mad_style.specs.declared.compound_styles.CompoundStyle.{CompoundStyle}
 use Rattle.mad_style.specs.Kinds.{kind_of}
-use Rattle.mad_fit.specs.Columns.{width_of}
+use Rattle.mad_fit.specs.Columns.{columns, width_of}
 use Rattle.mad_layout.specs.Indents.{indent}
-use Rattle.mad_layout.specs.Premises.{IsPlainPrefix, IsPlainLine, runs_text}
-use Rattle.mad_layout.specs.SeveralKinds.{several_kinds, SeveralKindsAreShown, SeveralKindsKeepPremises}
-use Rattle.mad_layout.specs.Skins.{no_style_skin}
+use Rattle.mad_layout.specs.Premises.{IsPlainPrefix, IsPlainLine, KeepsPremises, inner_width, runs_text}
+use Rattle.mad_layout.specs.SeveralKinds.{ascii_skin, several_kinds, SeveralKindsKeepPremises}
 use Rattle.mad_layout.specs.Sources.{TakesColumns}
-use Rattle.mad_layout.specs.Styles.{line_style}
-use Rattle.mad_layout.proofs.SourceLemmas.{plain_run, three-le}
+use Rattle.mad_layout.specs.TextParts.{lines_in_parts}
+use Rattle.mad_layout.proofs.SourceLemmas.{plain_run}
+use Rattle.mad_layout.proofs.WholeTokens.{plain_is_shown}
 
 -- a line of one letter
 abbrev letter_line : CompositeStyle → ℕ → StyledRuns
 letter_line style c = record { style = style; runs = record { flags = plain; text = c ∷ [] } ∷ [] }
 
 abbrev kinds_read : List LineContent
-kinds_read = normal (letter_line (Header 1) 97) ∷ normal (letter_line Paragraph 98) ∷ normal (letter_line Code 99) ∷ []
+kinds_read =
+    normal (letter_line (Header 1) 97) ∷ normal (letter_line Paragraph 98) ∷ normal (letter_line (ListItem 0) 99) ∷ normal (letter_line (OrderedListItem 0 1) 100)
+    ∷ normal (letter_line Quote 101) ∷ horizontal_rule ∷ normal (letter_line Code 102) ∷ []
 
 -- where they are
 abbrev at_place : CompositeStyle → ℕ → ℕ → PlacedLine
 at_place style start end = normal_at (record { style = style; places = record { flags = plain; start = start; end = end } ∷ [] })
 
+-- from each line on
+abbrev from_code : List PlacedLine
+from_code = at_place Code 27 28 ∷ []
+abbrev from_rule : List PlacedLine
+from_rule = horizontal_rule_at ∷ from_code
+abbrev from_quote : List PlacedLine
+from_quote = at_place Quote 17 18 ∷ from_rule
+abbrev from_number : List PlacedLine
+from_number = at_place (OrderedListItem 0 1) 13 14 ∷ from_quote
+abbrev from_item : List PlacedLine
+from_item = at_place (ListItem 0) 8 9 ∷ from_number
+abbrev from_paragraph : List PlacedLine
+from_paragraph = at_place Paragraph 4 5 ∷ from_item
+
 abbrev kinds_placed : List PlacedLine
-kinds_placed = at_place (Header 1) 2 3 ∷ at_place Paragraph 4 5 ∷ at_place Code 10 11 ∷ []
+kinds_placed = at_place (Header 1) 2 3 ∷ from_paragraph
+
+abbrev fence : List ℕ
+fence = 96 ∷ 96 ∷ 96 ∷ []
 
 abbrev kinds_parts : List (List ℕ)
-kinds_parts = (35 ∷ 32 ∷ 97 ∷ []) ∷ (98 ∷ []) ∷ (96 ∷ 96 ∷ 96 ∷ []) ∷ (99 ∷ []) ∷ (96 ∷ 96 ∷ 96 ∷ []) ∷ []
+kinds_parts =
+    (35 ∷ 32 ∷ 97 ∷ []) ∷ (98 ∷ []) ∷ (42 ∷ 32 ∷ 99 ∷ []) ∷ (49 ∷ 46 ∷ 32 ∷ 100 ∷ []) ∷ (62 ∷ 32 ∷ 101 ∷ []) ∷ (45 ∷ 45 ∷ 45 ∷ []) ∷ fence ∷ (102 ∷ []) ∷ fence ∷ []
 
-other : (n m : ℕ) → (n < m) ⊎ (m < n) → n ≢ m
-other n m (inl h) e = omega (arith, h, e)
-other n m (inr h) e = omega (arith, h, e)
-
-fence_unbroken : HasNoNewline (96 ∷ 96 ∷ 96 ∷ [])
-fence_unbroken = let b = other 96 10 (inr (omega arith)) in (b, (b, (b, tt)))
+pub no_newline : (bs : List ℕ) → AllByRecursion (λ b. 10 < b) bs → HasNoNewline bs
+no_newline [] h = tt
+no_newline (b ∷ bs) h = (λ e. omega (arith, e, h.0), no_newline bs h.1)
 
 kinds_cut : AreParts several_kinds kinds_parts
 kinds_cut = record {
   some = omega arith;
   joined = refl;
   cut = (
-    (other 35 10 (inr (omega arith)), (other 32 10 (inr (omega arith)), (other 97 10 (inr (omega arith)), tt))),
-    ((other 98 10 (inr (omega arith)), tt), (fence_unbroken, ((other 99 10 (inr (omega arith)), tt), (fence_unbroken, tt)))),
+    no_newline (35 ∷ 32 ∷ 97 ∷ []) (omega arith, (omega arith, (omega arith, tt))),
+    (
+      no_newline (98 ∷ []) (omega arith, tt),
+      (
+        no_newline (42 ∷ 32 ∷ 99 ∷ []) (omega arith, (omega arith, (omega arith, tt))),
+        (
+          no_newline (49 ∷ 46 ∷ 32 ∷ 100 ∷ []) (omega arith, (omega arith, (omega arith, (omega arith, tt)))),
+          (
+            no_newline (62 ∷ 32 ∷ 101 ∷ []) (omega arith, (omega arith, (omega arith, tt))),
+            (
+              no_newline (45 ∷ 45 ∷ 45 ∷ []) (omega arith, (omega arith, (omega arith, tt))),
+              (no_newline fence (omega arith, (omega arith, (omega arith, tt))), (no_newline (102 ∷ []) (omega arith, tt), (no_newline fence (omega arith, (omega arith, (omega arith, tt))), tt))),
+            ),
+          ),
+        ),
+      ),
+    ),
   );
 }
 
@@ -63,16 +101,37 @@ kinds_are : AreLines several_kinds false false plain (line_places kinds_parts) k
 kinds_are = (
   at_place (Header 1) 2 3,
   plain,
-  at_place Paragraph 4 5 ∷ at_place Code 10 11 ∷ [],
+  from_paragraph,
   refl,
   (plain, record { reading = byte 97 ∷ []; reads = record { spells = refl; marked = (refl, tt) }; says = refl; ends = refl }, refl),
   (
     at_place Paragraph 4 5,
     plain,
-    at_place Code 10 11 ∷ [],
+    from_item,
     refl,
     record { reading = byte 98 ∷ []; reads = record { spells = refl; marked = (refl, tt) }; says = refl; ends = refl },
-    (at_place Code 10 11, plain, [], refl, (refl, refl), refl),
+    (
+      at_place (ListItem 0) 8 9,
+      plain,
+      from_number,
+      refl,
+      record { reading = byte 99 ∷ []; reads = record { spells = refl; marked = (refl, tt) }; says = refl; ends = refl },
+      (
+        at_place (OrderedListItem 0 1) 13 14,
+        plain,
+        from_quote,
+        refl,
+        record { reading = byte 100 ∷ []; reads = record { spells = refl; marked = (refl, tt) }; says = refl; ends = refl },
+        (
+          at_place Quote 17 18,
+          plain,
+          from_rule,
+          refl,
+          record { reading = byte 101 ∷ []; reads = record { spells = refl; marked = (refl, tt) }; says = refl; ends = refl },
+          (horizontal_rule_at, plain, from_code, refl, (refl, refl), (at_place Code 27 28, plain, [], refl, (refl, refl), refl)),
+        ),
+      ),
+    ),
   ),
 )
 
@@ -82,10 +141,10 @@ kinds_reading = record { parts = kinds_parts; cut = kinds_cut; are = kinds_are }
 says : map (content_at several_kinds) kinds_placed ≡ kinds_read
 says = refl
 
-letter_ascii : (c : ℕ) → c < 127 → IsAscii (c ∷ [])
+pub letter_ascii : (c : ℕ) → c < 127 → IsAscii (c ∷ [])
 letter_ascii c high = IsAscii-cons c [] (omega (arith, high)) IsAscii-nil
 
-letter_columns : (c : ℕ) → 32 ≤ c → c < 127 → TakesColumns (c ∷ [])
+pub letter_columns : (c : ℕ) → 32 ≤ c → c < 127 → TakesColumns (c ∷ [])
 letter_columns c low high =
     let one : char_columns c ≡ 1 = char_columns-ascii c low high in
     record {
@@ -93,7 +152,8 @@ letter_columns c low high =
       columns = subst (AllByRecursion (λ c. 0 < char_columns c)) (sym (chars-IsAscii (c ∷ []) (letter_ascii c high))) (omega (arith, one), tt);
     }
 
-letter_plain : (style : CompositeStyle) (c : ℕ) → 32 ≤ c → c < 127 → IsPlainPrefix no_style_skin (kind_of style) → indent no_style_skin.list_items_indentation_mode (kind_of style) ≤ 2 → IsPlainLine no_style_skin 11 (letter_line style c)
+letter_plain : (style : CompositeStyle) (c : ℕ) → 32 ≤ c → c < 127 → IsPlainPrefix ascii_skin (kind_of style) → indent ascii_skin.list_items_indentation_mode (kind_of style) + 1 ≤ inner_width ascii_skin 11 (letter_line style c)
+    → IsPlainLine ascii_skin 11 (letter_line style c)
 letter_plain style c low high prefix narrow =
     let one : char_columns c ≡ 1 = char_columns-ascii c low high in
     let line : StyledRuns = letter_line style c in
@@ -102,16 +162,38 @@ letter_plain style c low high prefix narrow =
     record {
       prefix = prefix;
       runs = (plain_run plain (c ∷ []) (letter_columns c low high), tt);
-      room = λ wide. absurd (omega (arith, wide, text, one, narrow, three-le (line_style no_style_skin (kind_of style)) 11 (omega arith)));
+      room = λ wide. absurd (omega (arith, wide, text, one, narrow));
+    }
+
+-- ---- the skin's characters
+
+-- an ASCII character is shown in one column
+pub ascii_piece : (style : CompoundStyle) (c : ℕ) → 32 ≤ c → c < 127 → IsColumnPiece (char_piece (styled_char style c))
+ascii_piece style c low high =
+    let text : encode_utf8 c ≡ c ∷ [] = encode_ascii c (omega (arith, high)) in
+    let shown = plain_is_shown (record { flags = plain; text = c ∷ [] }) (plain_run plain (c ∷ []) (letter_columns c low high)) in
+    let cs : chars (c ∷ []) ≡ c ∷ [] = chars-IsAscii (c ∷ []) (letter_ascii c high) in
+    record {
+      shown = record { utf8 = subst IsUtf8 (sym text) shown.utf8; shown = subst (λ (t : List ℕ). IsShown (chars t)) (sym text) shown.shown };
+      one = ap (λ (t : List ℕ). columns (chars t)) text ∙ ap columns cs ∙ omega (arith, char_columns-ascii c low high);
     }
 
 pub several_kinds_keep_premises : SeveralKindsKeepPremises
 several_kinds_keep_premises lines h =
     let same : lines ≡ kinds_read = h.says ∙ ap (map (content_at several_kinds)) (sym (h.only kinds_placed kinds_reading)) ∙ says in
-    subst SeveralKindsAreShown (sym same) (record {
-      keeps = (
-        letter_plain (Header 1) 97 (omega arith) (omega arith) tt (omega arith),
-        (letter_plain Paragraph 98 (omega arith) (omega arith) tt (omega arith), (letter_plain Code 99 (omega arith) (omega arith) tt (omega arith), tt)),
-      );
-      tables = (refl, (refl, (refl, tt)));
-    })
+    subst (λ (ls : List LineContent). KeepsPremises ascii_skin 11 (lines_in_parts ls)) (sym same) (
+      letter_plain (Header 1) 97 (omega arith) (omega arith) tt (omega arith),
+      (
+        letter_plain Paragraph 98 (omega arith) (omega arith) tt (omega arith),
+        (
+          letter_plain (ListItem 0) 99 (omega arith) (omega arith) (ascii_piece plain_style 42 (omega arith) (omega arith)) (omega arith),
+          (
+            letter_plain (OrderedListItem 0 1) 100 (omega arith) (omega arith) (omega arith, ascii_piece plain_style 46 (omega arith) (omega arith)) (omega (arith, length-decimal-le_succ 1 (omega arith))),
+            (
+              letter_plain Quote 101 (omega arith) (omega arith) (ascii_piece plain_style 62 (omega arith) (omega arith)) (omega arith),
+              (ascii_piece plain_style 45 (omega arith) (omega arith), (letter_plain Code 102 (omega arith) (omega arith) tt (omega arith), tt)),
+            ),
+          ),
+        ),
+      ),
+    )

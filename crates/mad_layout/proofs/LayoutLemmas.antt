@@ -47,7 +47,7 @@ line_measured skin horizontal_rule HorizontalRule h = tt
 
 -- ---- parts
 
-parts_joined : (wraps : Wrap) (skin : MadSkin) (tables : ℕ) (width : Option ℕ) (ps qs : List Part) (own more : List FmtLine) → ArePartsAt wraps skin tables width ps own → ArePartsAt wraps skin tables width qs more
+pub parts_joined : (wraps : Wrap) (skin : MadSkin) (tables : ℕ) (width : Option ℕ) (ps qs : List Part) (own more : List FmtLine) → ArePartsAt wraps skin tables width ps own → ArePartsAt wraps skin tables width qs more
     → ArePartsAt wraps skin tables width (ps ++ qs) (own ++ more)
 parts_joined wraps skin tables width [] qs own more h k = subst (λ (ls : List FmtLine). ArePartsAt wraps skin tables width qs (ls ++ more)) (sym h) k
 parts_joined wraps skin tables width (p ∷ ps) qs own more (first, others, joins, here, rest) k =

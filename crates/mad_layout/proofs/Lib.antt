@@ -1,3 +1,4 @@
+pub mod CellChars
 pub mod CodeBlockLemmas
 pub mod DrawableLemmas
 pub mod DrawableTables
@@ -10,8 +11,11 @@ pub mod FrontLemmas
 pub mod HeadlineLemmas
 pub mod HeadlineRows
 pub mod InlineLemmas
+pub mod ItemCellLemmas
+pub mod KeptWidths
 pub mod KindLemmas
 pub mod KnownLemmas
+pub mod LayoutJoins
 pub mod LayoutLemmas
 pub mod LeastSizes
 pub mod MarkLemmas
@@ -20,6 +24,7 @@ pub mod PartLemmas
 pub mod PartRuns
 pub mod PassLemmas
 pub mod PieceLemmas
+pub mod ReadParts
 pub mod ReadWraps
 pub mod RowChars
 pub mod RowLemmas
@@ -30,6 +35,7 @@ pub mod ShownLemmas
 pub mod SourceLemmas
 pub mod TableLemmas
 pub mod TableWidths
+pub mod TablesAcross
 pub mod TextParts
 pub mod WholeTokens
 pub mod WordLemmas
@@ -38,3 +44,4 @@ pub mod WorkedTables
 pub mod WrapKinds
 pub mod WrapLemmas
 pub mod WrapRows
+pub mod WrittenLemmas

@@ -1,6 +1,6 @@
 -- The parts of a text, and the lines of blocks of code in their places.
-use Rattle.std.proofs.Common.{◌≡◌, ℕ, ◌-◌, ◌≤◌, ◌⊎◌, inr, Bool, true, false, List, [], ◌∷◌, map, min, Some, refl, ap, ◌∙◌, arith}
-use Rattle.std.specs.List.{AllByRecursion, flat_map}
+use Rattle.std.proofs.Common.{◌≡◌, ℕ, ◌-◌, ◌≤◌, ◌⊎◌, inr, Bool, true, false, List, [], ◌∷◌, map, min, Some, refl, ap, arith}
+use Rattle.std.specs.List.{AllByRecursion}
 use Rattle.mad_md.specs.declared.alignment.Alignment.TheVariants.{Left}
 use Rattle.mad_style.specs.declared.kinds.CompositeKind.{CompositeKind}
 use Rattle.mad_style.specs.declared.kinds.CompositeKind.TheVariants.{Paragraph, Header, ListItem, ListItemFollowUp, OrderedListItem, OrderedListItemFollowUp, Code, Quote}
@@ -50,29 +50,6 @@ abbrev pub raw_lines : Part → List FmtLine
 raw_lines (table ls) = ls
 raw_lines (block ls) = map Normal ls
 raw_lines (single l) = l ∷ []
-
-with_code_raw : (l : FmtComposite) (ps : List Part) → flat_map raw_lines (with_code l ps) ≡ Normal l ∷ flat_map raw_lines ps
-with_code_raw l [] = refl
-with_code_raw l (table ls ∷ ps) = refl
-with_code_raw l (block ls ∷ ps) = refl
-with_code_raw l (single m ∷ ps) = refl
-
-with_composite_raw : (b : Bool) (l : FmtComposite) (ps : List Part) → flat_map raw_lines (with_composite b l ps) ≡ Normal l ∷ flat_map raw_lines ps
-with_composite_raw true l ps = with_code_raw l ps
-with_composite_raw false l ps = refl
-
-with_table_raw : (l : FmtLine) (ps : List Part) → flat_map raw_lines (with_table l ps) ≡ l ∷ flat_map raw_lines ps
-with_table_raw l [] = refl
-with_table_raw l (table ls ∷ ps) = refl
-with_table_raw l (block ls ∷ ps) = refl
-with_table_raw l (single m ∷ ps) = refl
-
-pub parts_raw : (ls : List FmtLine) → flat_map raw_lines (parts_of ls) ≡ ls
-parts_raw [] = refl
-parts_raw (Normal l ∷ ls) = with_composite_raw (is_code_kind l.kind) l (parts_of ls) ∙ ap (λ xs. Normal l ∷ xs) (parts_raw ls)
-parts_raw (TableRow row ∷ ls) = with_table_raw (TableRow row) (parts_of ls) ∙ ap (λ xs. TableRow row ∷ xs) (parts_raw ls)
-parts_raw (TableRule rule ∷ ls) = with_table_raw (TableRule rule) (parts_of ls) ∙ ap (λ xs. TableRule rule ∷ xs) (parts_raw ls)
-parts_raw (HorizontalRule ∷ ls) = ap (λ xs. HorizontalRule ∷ xs) (parts_raw ls)
 
 -- a table's lines are of tables, and a block's are code
 abbrev pub IsPartOfKind : Part → Type 0

@@ -1,11 +1,12 @@
 -- The bytes of composites that stand by themselves, and of lines of tables.
-use Rattle.std.proofs.Common.{◌≡◌, ℕ, Bool, true, false, List, [], ◌∷◌, ◌++◌, map, Option, refl, ap, sym, ◌∙◌, append_assoc}
+use Rattle.std.proofs.Common.{◌≡◌, ℕ, ◌+◌, ◌<◌, Bool, true, false, List, [], ◌∷◌, ◌++◌, map, length, take, get_or, Option, refl, ap, sym, ◌∙◌, append_assoc}
 use Rattle.std.specs.Prelude.{if◌then◌else◌}
 use Rattle.std.specs.List.{flat_map}
 use Rattle.std.proofs.lemmas.List.Concat.{flat_map-append}
 use Rattle.mad_md.specs.Flagged.{run_of}
 use Rattle.mad_md.specs.declared.compound.Compound.{Compound}
-use Rattle.mad_term.specs.Styles.{piece_bytes}
+use Rattle.mad_term.specs.Styles.{IsPlain, piece_bytes}
+use Rattle.mad_term.proofs.Pieces.{plain_piece}
 use Rattle.mad_style.specs.declared.compound_styles.CompoundStyle.{CompoundStyle}
 use Rattle.mad_style.specs.declared.kinds.CompositeKind.{CompositeKind}
 use Rattle.mad_style.specs.declared.line_styles.LineStyle.{LineStyle}
@@ -13,18 +14,29 @@ use Rattle.mad_draw.specs.Pieces.{RowPiece, pieces_bytes, spaces}
 use Rattle.mad_draw.specs.TableRules.{rule_pieces}
 use Rattle.mad_draw.specs.declared.spaces.Spaces.{Spaces}
 use Rattle.mad_draw.specs.declared.table_rules.RuleChars.{RuleChars}
-use Rattle.mad_draw.proofs.PieceLemmas.{bytes_both, bytes_one}
+use Rattle.mad_draw.proofs.PieceLemmas.{bytes_both, bytes_one, pieces_taken}
 use Rattle.mad_layout.specs.declared.skin.MadSkin.{MadSkin}
 use Rattle.mad_layout.specs.declared.composite.FmtComposite.{FmtComposite}
 use Rattle.mad_layout.specs.declared.table.FmtTableRule.{FmtTableRule}
 use Rattle.mad_layout.specs.Lines.{rule_columns}
-use Rattle.mad_layout.specs.Styles.{line_style}
+use Rattle.mad_layout.specs.Styles.{line_style, compound_style}
 use Rattle.mad_layout.specs.Rows.{compound_piece, run_piece, mark_pieces, free_pieces, left_of_place, right_of_place, placed_pieces, vertical_piece, cell_pieces, row_columns, rule_chars, table_row_pieces, table_rule_pieces}
 
 -- the pieces of compounds are those of what they say
 pub pieces_of_runs : (skin : MadSkin) (style : LineStyle) (ps : List Compound) → map (compound_piece skin style) ps ≡ map (run_piece skin style) (map run_of ps)
 pieces_of_runs skin style [] = refl
 pieces_of_runs skin style (p ∷ ps) = ap (λ qs. compound_piece skin style p ∷ qs) (pieces_of_runs skin style ps)
+
+-- a compound that looks as its line does, which is plain, writes its text alone
+bare_piece : (skin : MadSkin) (line : LineStyle) (p : Compound) → IsPlain line.compound_style.object_style → compound_style skin line (run_of p) ≡ line.compound_style
+    → p.src.now ≡ piece_bytes (compound_piece skin line p).style (compound_piece skin line p).text
+bare_piece skin line p plain same = sym (ap (λ (s : CompoundStyle). piece_bytes s.object_style p.src.now) same ∙ plain_piece line.compound_style.object_style p.src.now plain)
+
+-- the bytes of one such compound more
+pub bare_taken : (skin : MadSkin) (line : LineStyle) (ps : List Compound) (i : ℕ) (d : Compound) → i < length ps → IsPlain line.compound_style.object_style → compound_style skin line (run_of (get_or ps i d)) ≡ line.compound_style
+    → pieces_bytes (map (compound_piece skin line) (take i ps)) ++ (get_or ps i d).src.now ≡ pieces_bytes (map (compound_piece skin line) (take (i + 1) ps))
+bare_taken skin line ps i d inside plain same =
+    ap (λ r. pieces_bytes (map (compound_piece skin line) (take i ps)) ++ r) (bare_piece skin line (get_or ps i d) plain same) ∙ pieces_taken (compound_piece skin line) ps i d inside
 
 -- the bytes of a composite that stands by itself, part by part
 pub free_bytes : (skin : MadSkin) (kind k : CompositeKind) (style : LineStyle) (ps items : List Compound) → kind ≡ k → style ≡ line_style skin kind → ps ≡ items

@@ -51,12 +51,12 @@ unpenned : (pen : Look) (cs : List ℕ) → map char_of (map (λ c. record { cha
 unpenned pen [] = refl
 unpenned pen (c ∷ cs) = ap (λ l. c ∷ l) (unpenned pen cs)
 
-first_piece : (p : RowPiece) (ps : List RowPiece) → chars_in (p ∷ ps) ≡ chars p.text ++ chars_in ps
+pub first_piece : (p : RowPiece) (ps : List RowPiece) → chars_in (p ∷ ps) ≡ chars p.text ++ chars_in ps
 first_piece p ps =
     map-append char_of (map (λ c. record { char = c; pen = look_of_style p.style }) (chars p.text)) (penned_chars ps)
     ∙ ap (λ l. l ++ chars_in ps) (unpenned (look_of_style p.style) (chars p.text))
 
-both : (ps qs : List RowPiece) → chars_in (ps ++ qs) ≡ chars_in ps ++ chars_in qs
+pub both : (ps qs : List RowPiece) → chars_in (ps ++ qs) ≡ chars_in ps ++ chars_in qs
 both [] qs = refl
 both (p ∷ ps) qs =
     first_piece p (ps ++ qs) ∙ ap (λ l. chars p.text ++ l) (both ps qs) ∙ sym (append_assoc (chars p.text) (chars_in ps) (chars_in qs)) ∙ ap (λ l. l ++ chars_in qs) (sym (first_piece p ps))
@@ -76,7 +76,7 @@ flagged_chars : (f : Flags) (cs : List ℕ) → map (λ (x : FlaggedChar). x.cha
 flagged_chars f [] = refl
 flagged_chars f (c ∷ cs) = ap (λ l. c ∷ l) (flagged_chars f cs)
 
-compounds_chars : (skin : MadSkin) (style : LineStyle) (ps : List Compound) → chars_in (map (compound_piece skin style) ps) ≡ map (λ (x : FlaggedChar). x.char) (flagged_text ps)
+pub compounds_chars : (skin : MadSkin) (style : LineStyle) (ps : List Compound) → chars_in (map (compound_piece skin style) ps) ≡ map (λ (x : FlaggedChar). x.char) (flagged_text ps)
 compounds_chars skin style [] = refl
 compounds_chars skin style (p ∷ ps) =
     let char : FlaggedChar → ℕ = λ x. x.char in
@@ -102,7 +102,7 @@ last_space skin = first_piece (mark_space skin) [] ∙ append-nil (chars (32 ∷
 after_char : (skin : MadSkin) (c : StyledChar) → chars_in (char_piece c ∷ mark_space skin ∷ []) ≡ skin_char c ++ 32 ∷ []
 after_char skin c = first_piece (char_piece c) (mark_space skin ∷ []) ∙ ap (λ l. skin_char c ++ l) (last_space skin)
 
-front_chars : (skin : MadSkin) (kind : CompositeKind) → IsPlainPrefix skin kind → chars_in (mark_pieces skin kind) ≡ front_of skin kind
+pub front_chars : (skin : MadSkin) (kind : CompositeKind) → IsPlainPrefix skin kind → chars_in (mark_pieces skin kind) ≡ front_of skin kind
 front_chars skin Paragraph h = refl
 front_chars skin (Header level) h = refl
 front_chars skin (ListItem depth) h =
@@ -124,7 +124,7 @@ front_chars skin Quote h = after_char skin skin.quote_mark
 
 -- ---- a row
 
-spaces_both : (m n : ℕ) → replicate {A = ℕ} m 32 ++ replicate {A = ℕ} n 32 ≡ replicate {A = ℕ} (m + n) 32
+pub spaces_both : (m n : ℕ) → replicate {A = ℕ} m 32 ++ replicate {A = ℕ} n 32 ≡ replicate {A = ℕ} (m + n) 32
 spaces_both zero n = let e : n ≡ 0 + n = omega arith in ap (λ (k : ℕ). replicate {A = ℕ} k 32) e
 spaces_both (suc m) n = let e : suc (m + n) ≡ suc m + n = omega arith in ap (λ (l : List ℕ). 32 ∷ l) (spaces_both m n) ∙ ap (λ (k : ℕ). replicate {A = ℕ} k 32) e
 

@@ -1,6 +1,6 @@
 -- From a layout's lines to the rows of a text's lines across an area.
-use Rattle.std.proofs.Common.{◌≡◌, false, ℕ, zero, suc, ◌+◌, ◌-◌, ◌^◌, ◌<◌, ◌≤◌, inl, inr, true, List, [], ◌∷◌, ◌++◌, map, length, take, chars, Option, Some, refl, ap, sym, ◌∙◌, subst, arith, append_assoc}
-use Rattle.std.specs.Prelude.{min, IfSome}
+use Rattle.std.proofs.Common.{◌≡◌, ℕ, zero, suc, ◌+◌, ◌-◌, ◌^◌, ◌<◌, ◌≤◌, inl, inr, true, List, [], ◌∷◌, ◌++◌, map, length, take, chars, Option, Some, refl, ap, sym, ◌∙◌, subst, arith, append_assoc}
+use Rattle.std.specs.Prelude.{min, max, IfSome}
 use Rattle.std.specs.List.{AllByRecursion, repeat}
 use Rattle.std.proofs.lemmas.List.{map-append, length-map}
 use Rattle.mad_md.specs.Flagged.{FlaggedChar, Run, flagged, run_of, flagged_of, flagged_text}
@@ -17,12 +17,16 @@ use Rattle.mad_wrap.specs.Keeps.{Keeps}
 use Rattle.mad_wrap.specs.WrapLines.{HasRoom, LinesFit}
 use Rattle.mad_wrap.specs.declared.room.Room.{Room}
 use Rattle.mad_layout.specs.CompositeWraps.{line_compounds, HaveKinds, IsCompositeWrap}
-use Rattle.mad_layout.specs.FlaggedLines.{LineInPart, is_table, widest_in, skin_char, row_across, rows_across, marked_parts, IsAcross, AreAcross}
+use Rattle.mad_layout.specs.FlaggedLines.{widest_in, skin_char, row_across, rows_across, marked_parts}
+use Rattle.mad_layout.specs.FlaggedTexts.{IsAcross, AreAcross}
 use Rattle.mad_layout.specs.FlaggedRows.{AreRowsOf}
+use Rattle.mad_layout.specs.FlaggedTables.{kept_widths, columns_below, rows_in_column, CellInColumn, AreInColumns, rows_down, most_rows, table_across, IsRowAcross, rule_across}
 use Rattle.mad_layout.specs.Indents.{indent, follow_up, room_of}
+use Rattle.mad_layout.specs.Lines.{bordered}
 use Rattle.mad_layout.specs.Parts.{is_code_kind, IsLineAt, AreLinesAt}
-use Rattle.mad_layout.specs.Premises.{IsPlainPrefix, IsPlainLine, IsPlainContent, inner_width, runs_text}
+use Rattle.mad_layout.specs.Premises.{IsPlainPrefix, IsPlainLine, IsPlainContent, KeepsPremises, inner_width, runs_text}
 use Rattle.mad_layout.specs.Styles.{line_style}
+use Rattle.mad_layout.specs.TextParts.{LineInPart}
 use Rattle.mad_layout.specs.WrappedLines.{style_margins, line_with, IsLaidOutBy}
 use Rattle.mad_layout.specs.Wraps.{text_of, columns_of, IsMeasured}
 use Rattle.mad_layout.specs.declared.skin.MadSkin.{MadSkin}
@@ -79,7 +83,7 @@ code_indent skin (OrderedListItemFollowUp level index) e = absurd (cc)
 code_indent skin Code e = refl
 code_indent skin Quote e = absurd (cc)
 
-parts_are : (ps : List Compound) → map (λ (r : Run). flagged r.flags (chars r.text)) (map run_of ps) ≡ map flagged_of ps
+pub parts_are : (ps : List Compound) → map (λ (r : Run). flagged r.flags (chars r.text)) (map run_of ps) ≡ map flagged_of ps
 parts_are [] = refl
 parts_are (p ∷ ps) = ap (λ l. flagged_of p ∷ l) (parts_are ps)
 
@@ -148,7 +152,9 @@ placed_for skin width part said l read =
     record { kind = refl; text = read.text; measured = read.measured; place = subst (λ (o : Option Spacing). IfSome o (λ s. (s.width ≤ inner) × (min l.visible_length inner ≤ s.width))) (sym read.spacing) place }
 
 abbrev AreRowsIn : MadSkin → Area → List LineContent → StyledRuns → List FmtLine → Type 0
-AreRowsIn skin area part said own = (0 < length own) × IsAcross skin area part (normal said) (map (line_chars skin area.width) own)
+AreRowsIn skin area part said own =
+    (0 < length own) × ((rows : List (List FlaggedChar)) × AreRowsOf (room_of skin (kind_of said.style) (inner_width skin (area.width - 1) said)) (marked_parts said) rows
+    × (map (line_chars skin area.width) own ≡ rows_across skin area part said rows))
 
 not_none : (ws : List FmtComposite) → (ws ≡ [] → ⊥) → 0 < length ws
 not_none [] h = absurd (h refl)
@@ -207,14 +213,14 @@ said_rows skin area part said l own bound plain read laid =
 
 -- ---- the rows of all lines
 
--- the line of a layout is what was read, in its place
+-- the line of a layout is what was read, in its place, and none of a table
 abbrev pub IsReadIn : MadSkin → ℕ → List LineContent → LineContent → FmtLine → Type 0
 IsReadIn skin width part (normal said) (Normal l) = IsPlacedIn skin width part said l
 IsReadIn skin width part (normal said) (TableRow row) = ⊥
 IsReadIn skin width part (normal said) (TableRule rule) = ⊥
 IsReadIn skin width part (normal said) HorizontalRule = ⊥
-IsReadIn skin width part (table_row cells) l = Unit {0}
-IsReadIn skin width part (table_rule aligns) l = Unit {0}
+IsReadIn skin width part (table_row cells) l = ⊥
+IsReadIn skin width part (table_rule aligns) l = ⊥
 IsReadIn skin width part horizontal_rule (Normal l) = ⊥
 IsReadIn skin width part horizontal_rule (TableRow row) = ⊥
 IsReadIn skin width part horizontal_rule (TableRule rule) = ⊥
@@ -226,41 +232,50 @@ AreReadIn skin width [] (l ∷ ls) = ⊥
 AreReadIn skin width (x ∷ xs) [] = ⊥
 AreReadIn skin width (x ∷ xs) (l ∷ ls) = IsReadIn skin width x.part x.line l × AreReadIn skin width xs ls
 
--- the line keeps the premises, and is none of a table
-abbrev pub IsPlainRow : MadSkin → ℕ → LineContent → Type 0
-IsPlainRow skin width c = IsPlainContent skin width c × (is_table c ≡ false)
-
-abbrev pub ArePlainRows : MadSkin → ℕ → List LineContent → Type 0
-ArePlainRows skin width cs = AllByRecursion (IsPlainRow skin width) cs
-
-content_rows : (skin : MadSkin) (area : Area) (part : List LineContent) (line : LineContent) (l : FmtLine) (own : List FmtLine) → area.width < 2 ^ 64 - 1 → IsPlainRow skin (area.width - 1) line
-    → IsReadIn skin (area.width - 1) part line l → IsLineAt IsCompositeWrap skin (Some (area.width - 1)) l own → (0 < length own) × IsAcross skin area part line (map (line_chars skin area.width) own)
-content_rows skin area part (normal said) (Normal l) own bound plain read laid = said_rows skin area part said l own bound plain.0 read laid
-content_rows skin area part (normal said) (TableRow row) own bound plain read laid = absurd read
-content_rows skin area part (normal said) (TableRule rule) own bound plain read laid = absurd read
-content_rows skin area part (normal said) HorizontalRule own bound plain read laid = absurd read
-content_rows skin area part (table_row cells) l own bound plain read laid = let e = plain.1 in absurd (cc)
-content_rows skin area part (table_rule aligns) l own bound plain read laid = let e = plain.1 in absurd (cc)
-content_rows skin area part horizontal_rule (Normal l) own bound plain read laid = absurd read
-content_rows skin area part horizontal_rule (TableRow row) own bound plain read laid = absurd read
-content_rows skin area part horizontal_rule (TableRule rule) own bound plain read laid = absurd read
-content_rows skin area part horizontal_rule HorizontalRule own bound plain read laid =
+content_rows : (skin : MadSkin) (area : Area) (x : LineInPart) (line : LineContent) (l : FmtLine) (own : List FmtLine) → area.width < 2 ^ 64 - 1 → IsPlainContent skin (area.width - 1) x.part line
+    → IsReadIn skin (area.width - 1) x.part line l → IsLineAt IsCompositeWrap skin (Some (area.width - 1)) l own → (0 < length own) × IsAcross skin area x line (map (line_chars skin area.width) own)
+content_rows skin area x (normal said) (Normal l) own bound plain read laid = said_rows skin area x.part said l own bound plain read laid
+content_rows skin area x (normal said) (TableRow row) own bound plain read laid = absurd read
+content_rows skin area x (normal said) (TableRule rule) own bound plain read laid = absurd read
+content_rows skin area x (normal said) HorizontalRule own bound plain read laid = absurd read
+content_rows skin area x (table_row cells) l own bound plain read laid = absurd read
+content_rows skin area x (table_rule aligns) l own bound plain read laid = absurd read
+content_rows skin area x horizontal_rule (Normal l) own bound plain read laid = absurd read
+content_rows skin area x horizontal_rule (TableRow row) own bound plain read laid = absurd read
+content_rows skin area x horizontal_rule (TableRule rule) own bound plain read laid = absurd read
+content_rows skin area x horizontal_rule HorizontalRule own bound plain read laid =
     let one : length own ≡ 1 = ap length laid in
-    (omega (arith, one), ap (map (line_chars skin area.width)) laid ∙ ap (λ (x : List ℕ). x ∷ []) (run_chars skin.horizontal_rule area.width plain.0))
+    (omega (arith, one), ap (map (line_chars skin area.width)) laid ∙ ap (λ (t : List ℕ). t ∷ []) (run_chars skin.horizontal_rule area.width plain))
 
-line_across : (skin : MadSkin) (area : Area) (part : List LineContent) (line : LineContent) → (across : List (List ℕ)) × IsAcross skin area part line across
-line_across skin area part (normal said) =
+-- cells have rows in any columns
+cells_exist : (skin : MadSkin) (cs : List Spacing) (cells : List StyledRuns) → (placed : List CellInColumn) × AreInColumns skin cs cells placed
+cells_exist skin [] cells = ([], refl)
+cells_exist skin (c ∷ cs) [] = let more = cells_exist skin cs [] in (record { width = c.width; rows = [] } ∷ more.0, (more.0, refl, more.1))
+cells_exist skin (c ∷ cs) (cell ∷ cells) =
+    let more = cells_exist skin cs cells in
+    let k : CompositeKind = kind_of cell.style in
+    let r : Room = room_of skin k c.width in
+    let rows : List (List FlaggedChar) = rows_of r (marked_parts cell) in
+    (record { width = c.width; rows = rows_in_column skin c k rows } ∷ more.0, (rows, more.0, rows_exist r (marked_parts cell), refl, more.1))
+
+row_exists : (skin : MadSkin) (area : Area) (cs : List Spacing) (cells : List StyledRuns) → (across : List (List ℕ)) × IsRowAcross skin area cs cells across
+row_exists skin area cs cells =
+    let placed = cells_exist skin cs cells in
+    (map (table_across skin area (1 + bordered (map (λ (c : Spacing). c.width) cs))) (rows_down skin (max (most_rows placed.0) 1) placed.0), (placed.0, placed.1, refl))
+
+line_across : (skin : MadSkin) (area : Area) (x : LineInPart) (line : LineContent) → (across : List (List ℕ)) × IsAcross skin area x line across
+line_across skin area x (normal said) =
     let r : Room = room_of skin (kind_of said.style) (inner_width skin (area.width - 1) said) in
-    (rows_across skin area part said (rows_of r (marked_parts said)), (rows_of r (marked_parts said), rows_exist r (marked_parts said), refl))
-line_across skin area part (table_row cells) = ([], tt)
-line_across skin area part (table_rule aligns) = ([], tt)
-line_across skin area part horizontal_rule = (repeat area.width (skin_char skin.horizontal_rule) ∷ [], refl)
+    (rows_across skin area x.part said (rows_of r (marked_parts said)), (rows_of r (marked_parts said), rows_exist r (marked_parts said), refl))
+line_across skin area x (table_row cells) = row_exists skin area (columns_below (kept_widths skin (area.width - 1) x.part) x.aligns) cells
+line_across skin area x (table_rule aligns) = (rule_across skin area x.position (kept_widths skin (area.width - 1) x.part) ∷ [], refl)
+line_across skin area x horizontal_rule = (repeat area.width (skin_char skin.horizontal_rule) ∷ [], refl)
 
 -- every line has rows across an area
 pub across_exist : (skin : MadSkin) (area : Area) (xs : List LineInPart) → (across : List (List ℕ)) × AreAcross skin area xs across
 across_exist skin area [] = ([], refl)
 across_exist skin area (x ∷ xs) =
-    let own = line_across skin area x.part x.line in
+    let own = line_across skin area x x.line in
     let more = across_exist skin area xs in
     (own.0 ++ more.0, (own.0, more.0, refl, own.1, more.1))
 
@@ -282,14 +297,14 @@ first_same own xs ys zero e = refl
 first_same [] xs ys (suc n) e = e
 first_same (o ∷ own) xs ys (suc n) e = ap (λ (l : List (List ℕ)). o ∷ l) (first_same own xs ys n (less_same xs ys n e))
 
-some_same : (own xs ys : List (List ℕ)) (n : ℕ) → 0 < length own → take n xs ≡ take n ys → take (suc n) (own ++ xs) ≡ take (suc n) (own ++ ys)
+pub some_same : (own xs ys : List (List ℕ)) (n : ℕ) → 0 < length own → take n xs ≡ take n ys → take (suc n) (own ++ xs) ≡ take (suc n) (own ++ ys)
 some_same [] xs ys n some e = absurd (omega (arith, some))
 some_same (o ∷ own) xs ys n some e = ap (λ (l : List (List ℕ)). o ∷ l) (first_same own xs ys n e)
 
 -- The first rows of these lines and of those after them, whose rows are there for any number of lines that keep the premises.
 pub front_across : (skin : MadSkin) (area : Area) (n : ℕ) (xs ys : List LineInPart) (placed own others : List FmtLine) → area.width < 2 ^ 64 - 1
-    → ((m : ℕ) → ArePlainRows skin (area.width - 1) (take m (map (λ (x : LineInPart). x.line) ys)) → HaveFirstRows skin area m ys others)
-    → ArePlainRows skin (area.width - 1) (take n (map (λ (x : LineInPart). x.line) (xs ++ ys))) → AreReadIn skin (area.width - 1) xs placed → AreLinesAt IsCompositeWrap skin (Some (area.width - 1)) placed own
+    → ((m : ℕ) → KeepsPremises skin (area.width - 1) (take m ys) → HaveFirstRows skin area m ys others)
+    → KeepsPremises skin (area.width - 1) (take n (xs ++ ys)) → AreReadIn skin (area.width - 1) xs placed → AreLinesAt IsCompositeWrap skin (Some (area.width - 1)) placed own
     → HaveFirstRows skin area n (xs ++ ys) (own ++ others)
 front_across skin area zero xs ys placed own others bound later keeps reads laid = let all = across_exist skin area (xs ++ ys) in (all.0, all.1, refl)
 front_across skin area (suc n) [] ys (l ∷ ls) own others bound later keeps reads laid = absurd reads
@@ -297,7 +312,7 @@ front_across skin area (suc n) (x ∷ xs) ys [] own others bound later keeps rea
 front_across skin area (suc n) [] ys [] own others bound later keeps reads laid = subst (λ (ls : List FmtLine). HaveFirstRows skin area (suc n) ys (ls ++ others)) (sym laid) (later (suc n) keeps)
 front_across skin area (suc n) (x ∷ xs) ys (l ∷ ls) own others bound later keeps reads (here, behind, joins, first_laid, more) =
     let chars : List FmtLine → List (List ℕ) = map (line_chars skin area.width) in
-    let first = content_rows skin area x.part x.line l here bound keeps.0 reads.0 first_laid in
+    let first = content_rows skin area x x.line l here bound keeps.0 reads.0 first_laid in
     let rest = front_across skin area n xs ys ls behind others bound later keeps.1 reads.1 more in
     let count : 0 < length (chars here) = omega (arith, first.0, length-map here (line_chars skin area.width)) in
     let lines : own ++ others ≡ here ++ (behind ++ others) = ap (λ (ls : List FmtLine). ls ++ others) joins ∙ append_assoc here behind others in (

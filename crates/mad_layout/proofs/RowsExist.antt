@@ -1,5 +1,5 @@
 -- Every line of flagged characters has rows.
-use Rattle.std.proofs.Common.{◌≡◌, ℕ, ◌+◌, ◌-◌, ◌<◌, ◌≤◌, Bool, true, false, List, [], ◌∷◌, ◌++◌, map, length, Some, None, if◌then◌else◌, nat_le, refl, sym, ap, ◌∙◌, subst, arith, append_assoc}
+use Rattle.std.proofs.Common.{◌≡◌, ℕ, ◌+◌, ◌-◌, ◌<◌, ◌≤◌, Bool, true, false, List, [], ◌∷◌, ◌++◌, map, length, length-append, Some, None, if◌then◌else◌, nat_le, refl, sym, ap, ◌∙◌, subst, arith, append_assoc}
 use Rattle.std.specs.Prelude.{not, ◌&&◌}
 use Rattle.std.specs.List.{AllByRecursion, list_all}
 use Rattle.std.specs.Char.{is_whitespace}
@@ -259,6 +259,47 @@ rows_alone r i line (t ∷ ts) fits =
     (λ on. rows_alone r i (line ++ t) ts left ∙ ap (λ l. l ∷ []) (append_assoc line t (whole ts)))
     (λ off. let test : nat_le (i + width_of line + width_of t) r.width ≡ true = grind (arith, nat_tests) in absurd (cc))
 
+-- ---- no row is empty
+
+abbrev pub IsSome : List FlaggedChar → Type 0
+IsSome t = 0 < length t
+
+rows_filled : (r : Room) (i : ℕ) (line : List FlaggedChar) (ended : Bool) (ts : List (List FlaggedChar)) → IsSome line → AllByRecursion IsSome ts → AllByRecursion IsSome (rows r i line ended ts)
+rows_filled r i line ended [] some each = (some, tt)
+rows_filled r i line true (t ∷ ts) some each =
+    by_bool (λ b. AllByRecursion IsSome (if b then rows r i line true ts else line ∷ rows r r.other t false ts)) (all_blank t)
+    (λ on. rows_filled r i line true ts some each.1) (λ off. (some, rows_filled r r.other t false ts each.0 each.1))
+rows_filled r i line false (t ∷ ts) some each =
+    by_bool (λ f. AllByRecursion IsSome (if f then rows r i (line ++ t) false ts else (if all_blank t then rows r i line true ts else line ∷ rows r r.other t false ts)))
+    (nat_le (i + width_of line + width_of t) r.width)
+    (λ on. rows_filled r i (line ++ t) false ts (omega (arith, some, length-append line t)) each.1)
+    (λ off. by_bool (λ b. AllByRecursion IsSome (if b then rows r i line true ts else line ∷ rows r r.other t false ts)) (all_blank t)
+    (λ blank. rows_filled r i line true ts some each.1) (λ solid. (some, rows_filled r r.other t false ts each.0 each.1)))
+
+tokens_some : (limit : ℕ) (u cs : List FlaggedChar) → AllByRecursion IsSome (tokens_from limit u cs)
+tokens_some limit [] [] = tt
+tokens_some limit (x ∷ xs) [] = (omega arith, tt)
+tokens_some limit [] (y ∷ ys) = tokens_some limit (y ∷ []) ys
+tokens_some limit (x ∷ xs) (y ∷ ys) =
+    by_bool (λ b. AllByRecursion IsSome (if b then tokens_from limit ((x ∷ xs) ++ y ∷ []) ys else (x ∷ xs) ∷ tokens_from limit (y ∷ []) ys)) (goes_on limit (x ∷ xs) y)
+    (λ on. tokens_some limit ((x ∷ xs) ++ y ∷ []) ys) (λ off. (omega arith, tokens_some limit (y ∷ []) ys))
+
+tokens_of_some : (r : Room) (parts : List (List FlaggedChar)) → AllByRecursion IsSome (tokens_of r parts)
+tokens_of_some r [] = tt
+tokens_of_some r (p ∷ ps) = all_joined IsSome (tokens_from (token_limit r) [] p) (tokens_of r ps) (tokens_some (token_limit r) [] p) (tokens_of_some r ps)
+
+pub whole_some : (parts : List (List FlaggedChar)) → 0 < length parts → AllByRecursion IsSome parts → IsSome (whole parts)
+whole_some [] some each = absurd (omega (arith, some))
+whole_some (p ∷ ps) some each = omega (arith, each.0, length-append p (whole ps))
+
+first_filled : (r : Room) (ts : List (List FlaggedChar)) → most_indent r ≤ r.width → IsSome (whole ts) → AllByRecursion (λ t. width_of t ≤ token_limit r) ts → AllByRecursion IsSome ts → AllByRecursion IsSome (rows r r.first [] false ts)
+first_filled r [] room some within each = absurd (omega (arith, some))
+first_filled r (t ∷ ts) room some within each =
+    let inside : r.first + 0 + width_of t ≤ r.width = omega (arith, room, within.0) in
+    let test : nat_le (r.first + 0 + width_of t) r.width ≡ true = grind (arith, nat_tests) in
+    subst (λ (f : Bool). AllByRecursion IsSome (if f then rows r r.first t false ts else (if all_blank t then rows r r.first [] true ts else [] ∷ rows r r.other t false ts))) (sym test)
+    (rows_filled r r.first t false ts each.0 each.1)
+
 -- ---- every line has rows
 
 each_narrow : (r : Room) (xs : List FlaggedChar) → AllByRecursion (λ x. most_indent r + char_columns x.char ≤ r.width) xs → AllByRecursion (λ x. char_columns x.char ≤ token_limit r) xs
@@ -285,5 +326,8 @@ rows_exist r parts =
           let same = whole_tokens_of r parts in
           rows_alone r r.first [] (tokens_of r parts) (omega (arith, fits, ap width_of same)) ∙ ap (λ l. l ∷ []) same;
       fits = λ room. rows_fit r r.first [] false (tokens_of r parts) (omega (arith, room.indent)) (each_fits r (tokens_of r parts) room.indent (tokens_of_within r parts (each_narrow r (whole parts) room.each)));
+      filled = λ room some each.
+          let within = tokens_of_within r parts (each_narrow r (whole parts) room.each) in
+          first_filled r (tokens_of r parts) room.indent (subst IsSome (sym (whole_tokens_of r parts)) (whole_some parts some each)) within (tokens_of_some r parts);
       least = λ breaks b. rows_least r parts breaks b;
     }

@@ -27,9 +27,11 @@ use Rattle.mad_style.specs.declared.line_styles.LineStyle.{LineStyle}
 use Rattle.mad_fit.specs.declared.area.Area.{Area}
 use Rattle.mad_fit.proofs.AllLemmas.{all_front, all_back, all_each}
 use Rattle.mad_layout.specs.InArea.{ShowsText}
-use Rattle.mad_layout.specs.Premises.{AreJoined, IsPlainRun, IsPlainLine, KeepsPremises, inner_width, runs_text}
+use Rattle.mad_layout.specs.Premises.{AreJoined, IsPlainRun, IsPlainLine, IsPlainContent, KeepsPremises, inner_width, runs_text}
+use Rattle.mad_layout.specs.TextParts.{LineInPart, lines_in_parts}
 use Rattle.mad_layout.specs.Sources.{TakesColumns, LinesTakeColumns, ShowsSource}
 use Rattle.mad_layout.specs.declared.skin.MadSkin.{MadSkin}
+use Rattle.mad_layout.proofs.ReadParts.{lines_are}
 
 -- ---- a run
 
@@ -92,19 +94,23 @@ plain_line skin width text reading wide h reads =
 
 -- ---- a text
 
+-- the line keeps the premises in any part
+abbrev IsPlainAnywhere : MadSkin → ℕ → LineContent → Type 0
+IsPlainAnywhere skin width line = (part : List LineContent) → IsPlainContent skin width part line
+
 lines_keep : (skin : MadSkin) (width : ℕ) (source : List ℕ) (places : List LinePlace) (lines : List LineContent) → 3 ≤ width
-    → AllByRecursion (λ place. TakesColumns (line_text source place)) places → AreInlineLines source places lines → KeepsPremises skin width lines
+    → AllByRecursion (λ place. TakesColumns (line_text source place)) places → AreInlineLines source places lines → AllByRecursion (IsPlainAnywhere skin width) lines
 lines_keep skin width source [] [] wide h reads = tt
 lines_keep skin width source [] (l ∷ ls) wide h reads = absurd reads
 lines_keep skin width source (p ∷ ps) [] wide h reads = absurd reads
 lines_keep skin width source (p ∷ ps) (l ∷ ls) wide h reads =
-    subst (λ (line : LineContent). KeepsPremises skin width (line ∷ ls)) (sym reads.0.says)
-    (plain_line skin width _ reads.0.reading wide h.0 reads.0.reads, lines_keep skin width source ps ls wide h.1 reads.1)
+    subst (λ (line : LineContent). AllByRecursion (IsPlainAnywhere skin width) (line ∷ ls)) (sym reads.0.says)
+    (λ part. plain_line skin width _ reads.0.reading wide h.0 reads.0.reads, lines_keep skin width source ps ls wide h.1 reads.1)
 
-first_keep : (skin : MadSkin) (width n : ℕ) (text : List LineContent) → KeepsPremises skin width text → KeepsPremises skin width (take n text)
-first_keep skin width zero text h = tt
+first_keep : (skin : MadSkin) (width n : ℕ) (xs : List LineInPart) → AllByRecursion (IsPlainAnywhere skin width) (map (λ (x : LineInPart). x.line) xs) → KeepsPremises skin width (take n xs)
+first_keep skin width zero xs h = tt
 first_keep skin width (suc n) [] h = tt
-first_keep skin width (suc n) (l ∷ ls) h = (h.0, first_keep skin width n ls h.1)
+first_keep skin width (suc n) (x ∷ xs) h = (h.0 x.part, first_keep skin width n xs h.1)
 
 -- such a source is read line by line
 pub source_read : (source : List ℕ) (text : List LineContent) → LinesTakeColumns source → (read : IsRead (unread_text false source) text) → AreInlineLines source (line_places read.reads.parts) text
@@ -115,13 +121,13 @@ source_read source text h read =
     (all_each (λ (p : LinePlace). TakesColumns (line_text source p) × IsParagraphText (line_text source p)) (λ (p : LinePlace). IsUtf8 (line_text source p)) (λ p x. x.0.utf8) places given)
     (all_each (λ (p : LinePlace). TakesColumns (line_text source p) × IsParagraphText (line_text source p)) (λ (p : LinePlace). IsParagraphText (line_text source p)) (λ p x. x.1) places given)
 
-pub source_keeps : (skin : MadSkin) (width n : ℕ) (source : List ℕ) (text : List LineContent) → 3 ≤ width → LinesTakeColumns source → IsRead (unread_text false source) text → KeepsPremises skin width (take n text)
+pub source_keeps : (skin : MadSkin) (width n : ℕ) (source : List ℕ) (text : List LineContent) → 3 ≤ width → LinesTakeColumns source → IsRead (unread_text false source) text → KeepsPremises skin width (take n (lines_in_parts text))
 source_keeps skin width n source text wide h read =
     let places : List LinePlace = line_places read.reads.parts in
-    first_keep skin width n text
-    (lines_keep skin width source places text wide
+    first_keep skin width n (lines_in_parts text)
+    (subst (AllByRecursion (IsPlainAnywhere skin width)) (sym (lines_are text)) (lines_keep skin width source places text wide
     (all_each (λ (p : LinePlace). TakesColumns (line_text source p) × IsParagraphText (line_text source p)) (λ (p : LinePlace). TakesColumns (line_text source p)) (λ p x. x.0) places (h read.reads.parts read.reads.cut))
-    (source_read source text h read))
+    (source_read source text h read)))
 
 -- what an area shows of such a source
 pub source_shown : {T E : Type 0} (r : Result T E) (skin : MadSkin) (markdown : List ℕ) (area : Area) (old new : Trace) → OnOk r (4 ≤ area.width → ShowsText skin markdown area old new)

@@ -1,13 +1,17 @@
 -- Worked tables, by computing their widths; and what is no table, each by the part of the definition that it breaks.
-use Rattle.std.proofs.Common.{◌≡◌, ◌≢◌, ℕ, suc, ◌+◌, ◌*◌, ◌≤◌, ◌<◌, List, [], ◌∷◌, length, map, Some, refl, sym, ap, ◌∙◌, subst, arith}
+use Rattle.std.proofs.Common.{◌≡◌, ℕ, suc, ◌<◌, inl, inr, Bool, true, false, List, [], ◌∷◌, ◌++◌, length, map, Some, refl, sym, ap, ◌∙◌, subst, arith}
+use Rattle.std.specs.Prelude.{◌==◌}
 use Rattle.mad_fit.specs.declared.spacing.Spacing.{Spacing}
 use Rattle.mad_widths.specs.Turns.{grants}
 use Rattle.mad_widths.specs.ColumnWidths.{needs_of, first_requests, second_requests, after_first, after_second, column_widths, natural_widths, AreShared}
-use Rattle.mad_layout.specs.TableLaws.{HaveLengths, AreWorkedTables, AreNoTables}
-use Rattle.mad_layout.specs.Tables.{IsTop, IsAcross, AreDown, rows_among, lengths_in, AreKeptWidths, IsRowLaidOutBy}
+use Rattle.mad_layout.specs.TableLaws.{HaveLengths, AreWorkedTables, AreNoTables, AreNoRules}
+use Rattle.mad_layout.specs.Tables.{IsTop, IsAcross, position_at, columns_with, centered, AreKeptWidths, AreTableLinesBy, IsTableLaidOutBy}
+use Rattle.mad_layout.specs.WrappedLines.{Wrap}
+use Rattle.mad_layout.specs.declared.skin.MadSkin.{MadSkin}
 use Rattle.mad_layout.specs.declared.composite.FmtComposite.{FmtComposite}
 use Rattle.mad_layout.specs.declared.line.FmtLine.{FmtLine}
-use Rattle.mad_layout.specs.declared.table.FmtTableRow.{FmtTableRow}
+use Rattle.mad_layout.specs.declared.line.FmtLine.TheVariants.{TableRule}
+use Rattle.mad_layout.specs.declared.table.FmtTableRule.{FmtTableRule}
 
 pub worked_tables : AreWorkedTables
 unfolding column_widths after_second after_first second_requests first_requests grants
@@ -49,4 +53,40 @@ no_tables = record {
       some across.0.empty;
   other_count = λ columns lines row rows other h. other (across_count columns lines row.cells.items h.0);
   other_place = λ column columns lines cell others row rows is other h. other (across_place column columns lines cell others (subst (IsAcross (column ∷ columns) lines) is h.0));
+}
+
+-- ---- places of rules
+
+-- the first rule of lines that begin with one, and the lines after it
+rule_front : (wraps : Wrap) (skin : MadSkin) (ws : List ℕ) (cs : List Spacing) (first : Bool) (source rule : FmtTableRule) (table lines : List FmtLine)
+    → AreTableLinesBy wraps skin ws cs first (TableRule source ∷ table) (TableRule rule ∷ lines)
+    → (rule.position ≡ position_at first (length table == 0)) × AreTableLinesBy wraps skin ws (columns_with ws source.aligns.items) false table lines
+rule_front wraps skin ws cs first source rule table lines (own, others, joins, (drawn, is, laid), more) =
+    let same : TableRule rule ∷ lines ≡ TableRule drawn ∷ others = joins ∙ ap (λ (l : List FmtLine). l ++ others) is in
+    let here : rule ≡ drawn = cc in
+    let rest : lines ≡ others = cc in
+    (ap (λ (r : FmtTableRule). r.position) here ∙ laid.position_is, subst (AreTableLinesBy wraps skin ws (columns_with ws source.aligns.items) false table) (sym rest) more)
+
+-- a table with columns and a width becomes what its lines become
+lines_by : (wraps : Wrap) (skin : MadSkin) (n width : ℕ) (table lines : List FmtLine) → 0 < n → 0 < width → IsTableLaidOutBy wraps skin n width table lines
+    → (ws : List ℕ) × AreTableLinesBy wraps skin ws (centered ws) true table lines
+lines_by wraps skin n width table lines some wide (inl (inl none, stays)) = absurd (omega (arith, none, some))
+lines_by wraps skin n width table lines some wide (inl (inr none, stays)) = absurd (omega (arith, none, wide))
+lines_by wraps skin n width table lines some wide (inr (_, _, (ws, kept, laid))) = (ws, laid)
+
+pub no_rules : (wraps : Wrap) → AreNoRules wraps
+no_rules wraps = record {
+  first = λ skin n width source rule table lines some wide other h.
+      let laid = lines_by wraps skin n width (TableRule source ∷ table) (TableRule rule ∷ lines) some wide h in
+      other (rule_front wraps skin laid.0 (centered laid.0) true source rule table lines laid.1).0;
+  last = λ skin n width top source first rule some wide other h.
+      let laid = lines_by wraps skin n width (TableRule top ∷ TableRule source ∷ []) (TableRule first ∷ TableRule rule ∷ []) some wide h in
+      let below = (rule_front wraps skin laid.0 (centered laid.0) true top first (TableRule source ∷ []) (TableRule rule ∷ []) laid.1).1 in
+      other (rule_front wraps skin laid.0 (columns_with laid.0 top.aligns.items) false source rule [] [] below).0;
+  between = λ skin n width top source bottom first rule last some wide other h.
+      let table : List FmtLine = TableRule source ∷ TableRule bottom ∷ [] in
+      let lines : List FmtLine = TableRule rule ∷ TableRule last ∷ [] in
+      let laid = lines_by wraps skin n width (TableRule top ∷ table) (TableRule first ∷ lines) some wide h in
+      let below = (rule_front wraps skin laid.0 (centered laid.0) true top first table lines laid.1).1 in
+      other (rule_front wraps skin laid.0 (columns_with laid.0 top.aligns.items) false source rule (TableRule bottom ∷ []) (TableRule last ∷ []) below).0;
 }

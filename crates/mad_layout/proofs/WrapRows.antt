@@ -1,10 +1,11 @@
 -- The rows of a line that is wrapped, and of one that stays.
-use Rattle.std.proofs.Common.{◌≡◌, ℕ, ◌+◌, ◌<◌, ◌≤◌, Bool, true, not, ◌&&◌, List, [], ◌∷◌, ◌++◌, map, chars, Option, Some, None, if◌then◌else◌, refl, ap, sym, ◌∙◌, subst, arith}
+use Rattle.std.proofs.Common.{◌≡◌, ℕ, ◌+◌, ◌<◌, ◌≤◌, Bool, true, not, ◌&&◌, List, [], ◌∷◌, ◌++◌, map, length, chars, Option, Some, None, if◌then◌else◌, refl, ap, sym, ◌∙◌, subst, arith}
 use Rattle.std.specs.Prelude.{is_some}
 use Rattle.std.specs.List.{AllByRecursion, list_all}
 use Rattle.std.specs.Char.{is_whitespace}
 use Rattle.std.proofs.lemmas.Bool.{and_parts}
 use Rattle.std.proofs.lemmas.List.{append-nil, map-append, length-map}
+use Rattle.std.proofs.lemmas.Str.{chars-nil}
 use Rattle.mad_md.specs.Flagged.{FlaggedChar, Flags, is_blank, flagged, run_of, flags_of, flagged_of, flagged_text}
 use Rattle.mad_md.specs.declared.compound.Compound.{Compound}
 use Rattle.mad_fit.specs.Columns.{width_of}
@@ -18,14 +19,14 @@ use Rattle.mad_wrap.specs.Keeps.{Keeps, AllWhite}
 use Rattle.mad_wrap.specs.LeastWrap.{IsWrap}
 use Rattle.mad_wrap.specs.Placings.{GapsForced, ArePlaced}
 use Rattle.mad_wrap.specs.Rooms.{token_limit}
-use Rattle.mad_wrap.specs.WrapLines.{runs_of, HasRoom}
+use Rattle.mad_wrap.specs.WrapLines.{runs_of, HasRoom, NoneEmpty}
 use Rattle.mad_wrap.specs.declared.room.Room.{Room}
 use Rattle.mad_layout.specs.FlaggedRows.{whole, tokens_from, tokens_of, AreBroken, AreRowsOf}
 use Rattle.mad_layout.specs.Premises.{runs_text}
 use Rattle.mad_layout.proofs.DrawnParts.{runs_are}
 use Rattle.mad_layout.proofs.FlaggedBreaks.{break_lifts, flagged_piece}
 use Rattle.mad_layout.proofs.FlaggedTokens.{tokens_agree}
-use Rattle.mad_layout.proofs.RowsExist.{by_bool, line_text, WhiteGaps, whole_tokens, whole_tokens_of}
+use Rattle.mad_layout.proofs.RowsExist.{by_bool, line_text, IsSome, WhiteGaps, whole_some, whole_tokens, whole_tokens_of}
 
 pub whole_parts : (ps : List Compound) → whole (map flagged_of ps) ≡ flagged_text ps
 whole_parts [] = refl
@@ -116,6 +117,20 @@ cut_broken r (front ∷ middle ∷ back ∷ []) lines clean two =
     (λ off e c two. absurd (cc)) refl clean two
 cut_broken r (p ∷ q ∷ s ∷ t ∷ ps) lines clean two = absurd (cc)
 
+-- ---- none is empty
+
+some_source : (f : Flags) (t : List ℕ) → 0 < length (flagged f (chars t)) → 0 < length t
+some_source f [] h = absurd (omega (arith, h, ap (λ cs. length (flagged f cs)) chars-nil))
+some_source f (c ∷ cs) h = omega arith
+
+none_empty : (ps : List Compound) → AllByRecursion IsSome (map flagged_of ps) → NoneEmpty ps
+none_empty [] h = tt
+none_empty (p ∷ ps) h = (some_source (flags_of p) p.src.now h.0, none_empty ps h.1)
+
+filled_lines : (lines : List (List Compound)) → AllByRecursion (λ l. 0 < length (flagged_text l)) lines → AllByRecursion IsSome (map flagged_text lines)
+filled_lines [] h = tt
+filled_lines (l ∷ ls) h = (h.0, filled_lines ls h.1)
+
 -- ---- their rows
 
 -- a line that fits is its one row
@@ -131,6 +146,7 @@ kept_rows r text parts same fits = record {
   };
   alone = λ within. ap (λ l. l ∷ []) (sym same);
   fits = λ room. (fits, tt);
+  filled = λ room some each. (subst IsSome same (whole_some parts some each), tt);
   least = λ breaks b. b.some;
 }
 
@@ -148,6 +164,7 @@ wrapped_rows r ps lines wide wrap =
           (λ on e. cut_broken r ps lines on wrap.cut) (λ off e. placed_broken r ps ts (map flagged_text lines) cut (best.placed off)) refl;
       alone = λ within. absurd (omega (arith, wide, within, ap width_of same));
       fits = λ room. wrap.fits (subst (HasRoom r) same room);
+      filled = λ room some each. filled_lines lines (wrap.some (subst (HasRoom r) same room) (none_empty ps each));
       least = λ breaks b.
           let lifted = break_lifts r ps ts breaks cut b in
           let fewest = best.least lifted.0 lifted.1 in

@@ -52,10 +52,12 @@ pub record AreBroken (r : Room) (parts rows : List (List FlaggedChar)) : Type 0 
   pub dropped : AllByRecursion (λ p. AllWhite (whole p.gap)) breaks
 
 -- The rows of a line: they keep its characters but whitespace at breaks and ends, they are broken at borders of its tokens, they fit
--- where there is room, and no fitting break has fewer lines. A line that fits is its one row, whole.
+-- where there is room, and no fitting break has fewer lines. A line that fits is its one row, whole. With room, and where the line has parts
+-- and none is empty, no row is.
 pub record AreRowsOf (r : Room) (parts rows : List (List FlaggedChar)) : Type 0 where
   pub keeps : Keeps (whole parts) rows
   pub broken : AreBroken r parts rows
   pub alone : r.first + width_of (whole parts) ≤ r.width → rows ≡ whole parts ∷ []
   pub fits : HasRoom r (whole parts) → LinesFit r.first r rows
+  pub filled : HasRoom r (whole parts) → 0 < length parts → AllByRecursion (λ p. 0 < length p) parts → AllByRecursion (λ row. 0 < length row) rows
   pub least : (breaks : List (LineAndGap (List FlaggedChar))) → IsFittingBreak r parts breaks → length rows ≤ length breaks

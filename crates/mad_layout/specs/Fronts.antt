@@ -1,8 +1,8 @@
 -- Layouts of the first lines of a text.
 use Rattle.std.specs.Prelude.{◌≡◌, ◌⊎◌, ℕ, ◌≤◌, List, [], ◌++◌, length, Option}
 use Rattle.mad_md.specs.Lines.{LineContent}
-use Rattle.mad_layout.specs.FlaggedLines.{text_parts}
 use Rattle.mad_layout.specs.Layouts.{IsLayoutAt}
+use Rattle.mad_layout.specs.TextParts.{text_parts}
 use Rattle.mad_layout.specs.declared.skin.MadSkin.{MadSkin}
 use Rattle.mad_layout.specs.declared.line.FmtLine.{FmtLine}
 

@@ -9,8 +9,9 @@ use Rattle.mad_md.specs.Reading.{IsRead, unread_text}
 use Rattle.mad_fit.specs.declared.area.Area.{Area}
 use Rattle.mad_draw.specs.DrawnRows.{IsOnScreen}
 use Rattle.mad_draw.specs.PennedCells.{penned_cells}
-use Rattle.mad_layout.specs.FlaggedLines.{HoldNoTable, lines_in_parts, AreAcross}
+use Rattle.mad_layout.specs.FlaggedTexts.{AreAcross}
 use Rattle.mad_layout.specs.Premises.{KeepsPremises}
+use Rattle.mad_layout.specs.TextParts.{lines_in_parts}
 use Rattle.mad_layout.specs.declared.skin.MadSkin.{MadSkin}
 
 -- the characters that the i-th cell of a row shows: one with those joined to it that take no column, or none in a further column of a wide one
@@ -30,10 +31,10 @@ abbrev pub AreShownAcross : List (List ℕ) → Area → List ℕ → Type 0
 AreShownAcross across area bytes =
     (g : Grid) → IsOnScreen area g → (new : Grid) × (after_bytes g bytes ≡ Some new) × IsGrid new × (new.pen ≡ plain_pen) × ShowsAcross across area g new
 
--- The headline: the lines of the text have rows, and where as many lines as the area has rows keep the premises, none of them one of a
--- table, the area shows the first of these rows.
+-- The headline: the lines of the text have rows, and where as many lines as the area has rows keep the premises, the area shows the first
+-- of these rows.
 pub record ShowsFirstRows (skin : MadSkin) (markdown : List ℕ) (area : Area) (old new : Trace) : Type 0 where
   pub lines : List LineContent
   pub read : IsRead (unread_text false markdown) lines
-  pub shown : KeepsPremises skin (area.width - 1) (take area.height lines) → HoldNoTable (take area.height lines)
+  pub shown : KeepsPremises skin (area.width - 1) (take area.height (lines_in_parts lines))
       → (across : List (List ℕ)) × AreAcross skin area (lines_in_parts lines) across × TookWith old new (AreShownAcross across area)

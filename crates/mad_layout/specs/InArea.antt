@@ -11,6 +11,7 @@ use Rattle.mad_layout.specs.Fronts.{IsFrontLayout}
 use Rattle.mad_layout.specs.Layouts.{IsLayoutAt}
 use Rattle.mad_layout.specs.Premises.{KeepsPremises}
 use Rattle.mad_layout.specs.Shown.{area_bytes, AreShownIn}
+use Rattle.mad_layout.specs.TextParts.{lines_in_parts}
 use Rattle.mad_layout.specs.declared.skin.MadSkin.{MadSkin}
 use Rattle.mad_layout.specs.declared.line.FmtLine.{FmtLine}
 
@@ -37,4 +38,4 @@ WritesInArea skin markdown area old r new =
 pub record ShowsText (skin : MadSkin) (markdown : List ℕ) (area : Area) (old new : Trace) : Type 0 where
   pub lines : List FmtLine
   pub laid_out : IsAreaFront skin markdown area lines
-  pub shown : KeepsPremises skin (area.width - 1) (take area.height laid_out.text) → TookWith old new (AreShownIn skin lines area 0)
+  pub shown : KeepsPremises skin (area.width - 1) (take area.height (lines_in_parts laid_out.text)) → TookWith old new (AreShownIn skin lines area 0)

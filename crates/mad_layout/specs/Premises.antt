@@ -1,6 +1,6 @@
 -- What a text has to keep for its rows to be shown exactly.
-use Rattle.std.specs.Prelude.{◌≡◌, ℕ, ◌+◌, ◌-◌, ◌<◌, ◌≤◌, ◌^◌, Bool, true, false, not, List, [], ◌∷◌, Some}
-use Rattle.std.specs.List.{AllByRecursion, flat_map}
+use Rattle.std.specs.Prelude.{◌≡◌, ℕ, ◌+◌, ◌<◌, ◌≤◌, ◌^◌, Bool, true, false, not, List, [], ◌∷◌}
+use Rattle.std.specs.List.{AllByRecursion}
 use Rattle.std.specs.Char.{is_whitespace}
 use Rattle.std.specs.Str.{chars, IsUtf8}
 use Rattle.mad_md.specs.Flagged.{FlaggedChar, Run, flagged, is_blank}
@@ -10,13 +10,15 @@ use Rattle.mad_style.specs.declared.kinds.CompositeKind.TheVariants.{Paragraph, 
 use Rattle.mad_columns.specs.Columns.{char_columns}
 use Rattle.mad_screen.specs.Painting.{IsPrinted}
 use Rattle.mad_style.specs.Kinds.{kind_of}
-use Rattle.mad_style.specs.LineStyles.{margins_at}
 use Rattle.mad_fit.specs.Columns.{width_of}
 use Rattle.mad_layout.specs.Indents.{indent, room_of}
+pub use Rattle.mad_layout.specs.LineTexts.{runs_text, inner_width}
 use Rattle.mad_draw.specs.Pieces.{IsColumnPiece, char_piece}
 use Rattle.mad_layout.specs.Drawable.{AreShownChars}
 use Rattle.mad_layout.specs.Rows.{rule_chars, vertical_piece}
-use Rattle.mad_layout.specs.Styles.{line_style, ordered_item_style}
+use Rattle.mad_layout.specs.Styles.{ordered_item_style}
+use Rattle.mad_layout.specs.TableColumns.{kept_widths}
+use Rattle.mad_layout.specs.TextParts.{LineInPart}
 use Rattle.mad_layout.specs.declared.table.RelativePosition.{RelativePosition}
 use Rattle.mad_wrap.specs.WrapLines.{HasRoom}
 use Rattle.mad_layout.specs.declared.skin.MadSkin.{MadSkin}
@@ -32,15 +34,6 @@ pub record IsPlainRun (r : Run) : Type 0 where
   pub utf8 : IsUtf8 r.text
   pub printed : IsPrinted (chars r.text)
   pub joined : AreJoined false (flagged r.flags (chars r.text))
-
--- the flagged text of runs
-abbrev pub runs_text : List Run → List FlaggedChar
-runs_text rs = flat_map (λ r. flagged r.flags (chars r.text)) rs
-
--- what a line's margins leave of a width
-abbrev pub inner_width : MadSkin → ℕ → StyledRuns → ℕ
-inner_width skin width line =
-    let margins = margins_at (line_style skin (kind_of line.style)) (Some width) in width - margins.0 - margins.1
 
 -- The character in front of a line of this kind, if there is one, is shown in one column: an item's bullet, the mark after its number, a
 -- quote's. (A number that is read has nine digits at most.)
@@ -72,14 +65,20 @@ pub record AreBordersShown (skin : MadSkin) : Type 0 where
   pub vertical : IsColumnPiece (vertical_piece skin)
   pub rules : (position : RelativePosition) → AreShownChars skin (rule_chars skin.table_border_chars position)
 
--- A line of any kind. Of a line of a table: there is place for the ends of a rule, and each cell has room in the narrowest column, of
--- three columns; so it has in the column that it gets.
-abbrev pub IsPlainContent : MadSkin → ℕ → LineContent → Type 0
-IsPlainContent skin width (normal line) = IsPlainLine skin width line
-IsPlainContent skin width (table_row cells) = (2 ≤ width) × AreBordersShown skin × AllByRecursion (λ cell. IsPlainCell skin 3 (kind_of cell.style) cell.runs) cells
-IsPlainContent skin width (table_rule aligns) = (2 ≤ width) × AreBordersShown skin
-IsPlainContent skin width horizontal_rule = IsColumnPiece (char_piece skin.horizontal_rule)
+-- so are cells, each in its column of these widths; nothing is asked of cells past the last column
+abbrev pub ArePlainIn : MadSkin → List ℕ → List StyledRuns → Type 0
+ArePlainIn skin [] cells = Unit {0}
+ArePlainIn skin (w ∷ ws) [] = Unit {0}
+ArePlainIn skin (w ∷ ws) (cell ∷ cells) = IsPlainCell skin w (kind_of cell.style) cell.runs × ArePlainIn skin ws cells
 
--- so is each line of the text, at a layout's width
-abbrev pub KeepsPremises : MadSkin → ℕ → List LineContent → Type 0
-KeepsPremises skin width text = AllByRecursion (IsPlainContent skin width) text
+-- A line of any kind, in its part of a text. Of a line of a table: there is place for the ends of a rule, and each kept cell is plain in
+-- the column that it gets.
+abbrev pub IsPlainContent : MadSkin → ℕ → List LineContent → LineContent → Type 0
+IsPlainContent skin width part (normal line) = IsPlainLine skin width line
+IsPlainContent skin width part (table_row cells) = (2 ≤ width) × AreBordersShown skin × ArePlainIn skin (kept_widths skin width part) cells
+IsPlainContent skin width part (table_rule aligns) = (2 ≤ width) × AreBordersShown skin
+IsPlainContent skin width part horizontal_rule = IsColumnPiece (char_piece skin.horizontal_rule)
+
+-- so is each of these lines of a text, at a layout's width
+abbrev pub KeepsPremises : MadSkin → ℕ → List LineInPart → Type 0
+KeepsPremises skin width lines = AllByRecursion (λ l. IsPlainContent skin width l.part l.line) lines

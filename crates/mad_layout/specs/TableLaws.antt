@@ -1,10 +1,15 @@
 -- What the layout of given tables is, and what it isn't.
 use Rattle.std.specs.Prelude.{◌≡◌, ◌≢◌, ℕ, ◌+◌, ◌*◌, ◌<◌, ◌≤◌, List, [], ◌∷◌, length, Some}
 use Rattle.mad_fit.specs.declared.spacing.Spacing.{Spacing}
-use Rattle.mad_layout.specs.Tables.{AreDown, rows_among, lengths_in, AreKeptWidths}
+use Rattle.mad_layout.specs.Tables.{AreDown, rows_among, lengths_in, AreKeptWidths, IsTableLaidOutBy}
+use Rattle.mad_layout.specs.WrappedLines.{Wrap}
+use Rattle.mad_layout.specs.declared.skin.MadSkin.{MadSkin}
 use Rattle.mad_layout.specs.declared.composite.FmtComposite.{FmtComposite}
 use Rattle.mad_layout.specs.declared.line.FmtLine.{FmtLine}
+use Rattle.mad_layout.specs.declared.line.FmtLine.TheVariants.{TableRule}
 use Rattle.mad_layout.specs.declared.table.FmtTableRow.{FmtTableRow}
+use Rattle.mad_layout.specs.declared.table.FmtTableRule.{FmtTableRule}
+use Rattle.mad_layout.specs.declared.table.RelativePosition.TheVariants.{Top, Other, Bottom}
 
 -- the cells in the columns of these lines have these lengths
 abbrev pub HaveLengths : List FmtLine → List (List ℕ) → Type 0
@@ -28,3 +33,13 @@ pub record AreNoTables : Type 0 where
   pub other_count : (columns : List Spacing) (lines : List (List FmtComposite)) (row : FmtTableRow) (rows : List FmtTableRow) → length row.cells.items ≢ length columns → ¬ (AreDown columns lines (row ∷ rows))
   pub other_place : (column : Spacing) (columns : List Spacing) (lines : List (List FmtComposite)) (cell : FmtComposite) (others : List FmtComposite) (row : FmtTableRow) (rows : List FmtTableRow)
       → row.cells.items ≡ cell ∷ others → cell.spacing ≢ Some column → ¬ (AreDown (column ∷ columns) lines (row ∷ rows))
+
+-- What is no layout of a table, by the places of its rules: a rule that is the first line of a table is not on top; one that is the last of
+-- two is not at the bottom; one between two others isn't just a rule among others.
+pub record AreNoRules (wraps : Wrap) : Type 0 where
+  pub first : (skin : MadSkin) (n width : ℕ) (source rule : FmtTableRule) (table lines : List FmtLine) → 0 < n → 0 < width → rule.position ≢ Top
+      → ¬ (IsTableLaidOutBy wraps skin n width (TableRule source ∷ table) (TableRule rule ∷ lines))
+  pub last : (skin : MadSkin) (n width : ℕ) (top source first rule : FmtTableRule) → 0 < n → 0 < width → rule.position ≢ Bottom
+      → ¬ (IsTableLaidOutBy wraps skin n width (TableRule top ∷ TableRule source ∷ []) (TableRule first ∷ TableRule rule ∷ []))
+  pub between : (skin : MadSkin) (n width : ℕ) (top source bottom first rule last : FmtTableRule) → 0 < n → 0 < width → rule.position ≢ Other
+      → ¬ (IsTableLaidOutBy wraps skin n width (TableRule top ∷ TableRule source ∷ TableRule bottom ∷ []) (TableRule first ∷ TableRule rule ∷ TableRule last ∷ []))

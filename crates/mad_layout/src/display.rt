@@ -12,14 +12,14 @@ use crate::fmt_text::FmtText;
 use crate::indents::indent_of;
 use crate::line::{FmtLine, rule_columns};
 use crate::rows::{RowPlace, inner_blanks, margins_of, outer_blanks, row_columns, rule_chars};
-use crate::skin::MadSkin;
+use crate::skin::{MadSkin, is_bare};
 use crate::table::{FmtTableRow, FmtTableRule};
 use mad_draw::{CharRun, RuleAcross, SingleSpaces, Spaces};
 use mad_fit::Spacing;
 use mad_md::{Composite, Compound};
 use mad_style::{CompositeKind, LineStyle, StyledChar};
 use mad_term::StyledNumber;
-use std::fmt;
+use std::fmt::{self, Display};
 
 // What stands in front of a line's text.
 #[derive(Clone, Copy)]
@@ -63,7 +63,7 @@ impl fmt::Display for Mark<'_> {
             CompositeKind::ListItemFollowUp(_) | CompositeKind::OrderedListItemFollowUp { .. } => {
                 let mode = self.skin.list_items_indentation_mode;
                 let indent = self.spaces(indent_of(self.kind, mode));
-                write!(f, "{indent}")
+                indent.fmt(f)
             }
             CompositeKind::Quote => {
                 let mark = self.skin.quote_mark;
@@ -91,7 +91,7 @@ impl fmt::Display for PlacedCompound<'_, '_> {
     fn fmt<W: fmt::Write>(&self, f: &mut fmt::Formatter<W>) -> fmt::Result {
         let style = self.skin.compound_style(self.style, self.compound);
         let piece = style.apply_to(self.compound.src);
-        write!(f, "{piece}")
+        piece.fmt(f)
     }
 }
 
@@ -110,13 +110,19 @@ impl fmt::Display for Compounds<'_, '_> {
     ghost output = { λ c. Some (pieces_bytes (map (compound_piece c.skin.now c.style.now) c.compounds.now)) };
 
     fn fmt<W: fmt::Write>(&self, f: &mut fmt::Formatter<W>) -> fmt::Result {
+        // Most compounds are plain, and need no commands.
+        let plain = self.style.compound_style.object_style.is_plain();
         for compound in self.compounds {
+            if plain && is_bare(compound) {
+                f.write_str(compound.src)?;
+                continue;
+            }
             let placed = PlacedCompound {
                 skin: self.skin,
                 style: self.style,
                 compound,
             };
-            write!(f, "{placed}")?;
+            placed.fmt(f)?;
         }
         Ok(())
     }
@@ -165,7 +171,12 @@ impl fmt::Display for PlacedComposite<'_, '_> {
             style: blank,
             count: if self.place.right { right } else { 0 },
         };
-        write!(f, "{left}{inner_left}{mark}{compounds}{inner_right}{right}")
+        left.fmt(f)?;
+        inner_left.fmt(f)?;
+        mark.fmt(f)?;
+        compounds.fmt(f)?;
+        inner_right.fmt(f)?;
+        right.fmt(f)
     }
 }
 
@@ -310,7 +321,7 @@ impl fmt::Display for PlacedLine<'_, '_> {
                         right: self.right,
                     },
                 };
-                write!(f, "{placed}")
+                placed.fmt(f)
             }
             FmtLine::TableRow(row) => {
                 let placed = PlacedTableRow {
@@ -319,7 +330,7 @@ impl fmt::Display for PlacedLine<'_, '_> {
                     outer: self.outer,
                     right: self.right,
                 };
-                write!(f, "{placed}")
+                placed.fmt(f)
             }
             FmtLine::TableRule(rule) => {
                 let placed = PlacedTableRule {
@@ -328,14 +339,14 @@ impl fmt::Display for PlacedLine<'_, '_> {
                     outer: self.outer,
                     right: self.right,
                 };
-                write!(f, "{placed}")
+                placed.fmt(f)
             }
             FmtLine::HorizontalRule => {
                 let rule = CharRun {
                     c: self.skin.horizontal_rule,
                     count: self.outer.unwrap_or(0),
                 };
-                write!(f, "{rule}")
+                rule.fmt(f)
             }
         }
     }
@@ -364,14 +375,14 @@ impl fmt::Display for PlacedRow<'_, '_> {
                     outer: Some(self.width),
                     right: true,
                 };
-                write!(f, "{placed}")
+                placed.fmt(f)
             }
             None => {
                 let spaces = Spaces {
                     style: self.skin.paragraph.compound_style,
                     count: self.width,
                 };
-                write!(f, "{spaces}")
+                spaces.fmt(f)
             }
         }
     }
@@ -425,16 +436,16 @@ impl fmt::Display for FmtInline<'_, '_> {
                 right: false,
             },
         };
-        write!(f, "{placed}")
+        placed.fmt(f)
     }
 }
 
-// Lines at an outer width, each ended by a newline.
+/// Lines at an outer width, each ended by a newline.
 #[derive(Clone, Copy)]
-struct PlacedLines<'a, 's> {
-    skin: &'a MadSkin,
-    lines: &'a [FmtLine<'s>],
-    outer: Option<usize>,
+pub(crate) struct PlacedLines<'a, 's> {
+    pub skin: &'a MadSkin,
+    pub lines: &'a [FmtLine<'s>],
+    pub outer: Option<usize>,
 }
 
 impl fmt::Display for PlacedLines<'_, '_> {
@@ -467,6 +478,6 @@ impl fmt::Display for FmtText<'_, '_> {
             lines: self.lines.as_slice(),
             outer: self.width,
         };
-        write!(f, "{lines}")
+        lines.fmt(f)
     }
 }

@@ -6,7 +6,7 @@ ghost use Rattle.mad_term.specs.Draws.{Draws};
 ghost use Rattle.mad_term.specs.Trace.{TookWith};
 ghost use Rattle.mad_fit.specs.Areas.{IsWithinLimits};
 ghost use Rattle.mad_layout.specs.Drawable.{AreDrawable};
-ghost use Rattle.mad_layout.specs.ShownLayouts.{ShowsLayout};
+ghost use Rattle.mad_layout.specs.ShownLayouts.{ShowsLayout, ShowsRowsFrom};
 ghost use Rattle.mad_layout.specs.Shown.{area_bytes, lines_shown, AreShownIn};
 
 use crate::display::PlacedRow;
@@ -46,6 +46,9 @@ pub fn draw_text<O: Out>(
 
     // The same where the lines are a layout, at no more than the area's width, of a text that keeps the premises.
     ensures shown_layout { OnOk result (ShowsLayout text.now.skin.now text.now.lines.items area.now scroll (O.seen out.old) (O.seen out.new)) }
+
+    // The same in the text's own characters, where the layout is a column narrower than the area.
+    ensures headline { OnOk result (ShowsRowsFrom text.now.skin.now text.now.lines.items area.now scroll (O.seen out.old) (O.seen out.new)) }
 {
     let rows = TextRows {
         skin: text.skin,

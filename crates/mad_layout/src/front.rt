@@ -3,7 +3,7 @@
 ghost use Rattle.std.specs.Prelude.{◌≡◌, ◌-◌, ◌&&◌, false, not, IfOk, List, Some};
 ghost use Rattle.mad_md.specs.Lines.{LineContent, content_of};
 ghost use Rattle.mad_md.specs.Reading.{IsRead, unread_text};
-ghost use Rattle.mad_layout.specs.FlaggedLines.{is_code, is_table};
+ghost use Rattle.mad_layout.specs.TextParts.{is_code, is_table};
 ghost use Rattle.mad_layout.specs.Fronts.{IsFrontLayout};
 ghost use Rattle.mad_layout.specs.InArea.{IsAreaFront};
 

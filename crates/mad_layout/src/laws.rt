@@ -4,9 +4,10 @@
 ghost use Rattle.std.specs.Prelude.{◌≡◌, ◌∷◌, [], IfOk, OnOk, Some};
 ghost use Rattle.mad_screen.specs.Grid.{cell_at, plain_pen};
 ghost use Rattle.mad_screen.specs.Terminal.{after_bytes};
+ghost use Rattle.mad_layout.specs.ItemCells.{ItemInACellKeepsPremises};
 ghost use Rattle.mad_layout.specs.SeveralKinds.{SeveralKindsKeepPremises};
 ghost use Rattle.mad_layout.specs.Sources.{LinesTakeColumns};
-ghost use Rattle.mad_layout.specs.TableLaws.{AreWorkedTables, AreNoTables};
+ghost use Rattle.mad_layout.specs.TableLaws.{AreWorkedTables, AreNoTables, AreNoRules};
 ghost use Rattle.mad_layout.specs.CompositeWraps.{IsCompositeWrap};
 ghost use Rattle.mad_layout.specs.FittingLayouts.{IsFittingWrap};
 ghost use Rattle.mad_layout.specs.LayoutLaws.{PassesAreParts, PartsArePasses};
@@ -25,9 +26,14 @@ pub fn words_take_columns()
     ensures { LinesTakeColumns words }
 {}
 
-/// A text with a header, a paragraph and a line of code keeps the premises of what an area shows.
+/// A text with a header, a paragraph, items, a quote, a rule and a line of code keeps the premises of what an area shows.
 pub fn several_kinds_keep_premises()
     ensures { SeveralKindsKeepPremises }
+{}
+
+/// So does a table with an item in a cell that has room in the column that it gets, but none in the narrowest one.
+pub fn an_item_in_a_cell_keeps_premises()
+    ensures { ItemInACellKeepsPremises }
 {}
 
 /// Who fills an area with spaces has not shown `aaa bb cc` in it.
@@ -59,6 +65,13 @@ pub fn worked_tables()
 #[tactic(auto, using(crate::proofs::WorkedTables::no_tables))]
 pub fn other_tables_are_refused()
     ensures { AreNoTables }
+{}
+
+/// A first rule of a table that isn't on top, a last one that isn't at the bottom, and one between others that is on top or at the
+/// bottom, are no layout of it.
+pub fn rules_elsewhere_are_refused()
+    ensures least { AreNoRules IsCompositeWrap }
+    ensures fitting { AreNoRules IsFittingWrap }
 {}
 
 /// A table that is laid out at a width fits a row at least as wide when it is drawn.

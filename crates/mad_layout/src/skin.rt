@@ -1,6 +1,8 @@
 //! The styles of a text's parts.
 
-ghost use Rattle.std.specs.Prelude.{◌≡◌, ◌+◌};
+ghost use Rattle.std.specs.Prelude.{◌≡◌, ◌+◌, IsTrue};
+ghost use Rattle.mad_md.specs.Flagged.{run_of};
+ghost use Rattle.mad_layout.specs.Styles.{compound_style};
 ghost use Rattle.mad_layout.specs.SkinParts.{header_line, first_header_line, default_header_lines, default_quote, default_table};
 
 use crate::indents::indent_of;
@@ -134,11 +136,11 @@ fn default_quote_mark() -> StyledChar
 }
 
 impl MadSkin {
-    ghost use Rattle.mad_md.specs.Flagged.{flagged_text, run_of};
+    ghost use Rattle.mad_md.specs.Flagged.{flagged_text};
     ghost use Rattle.mad_fit.specs.Columns.{width_of};
     ghost use Rattle.mad_layout.specs.Indents.{indent};
     ghost use Rattle.mad_layout.specs.Skins.{no_style_skin};
-    ghost use Rattle.mad_layout.specs.Styles.{line_style, compound_style, ordered_item_style};
+    ghost use Rattle.mad_layout.specs.Styles.{line_style, ordered_item_style};
     ghost use Rattle.mad_wrap.specs.WrapLines.{capped};
 
     /// The characters of the default skin, without style; only the scroll bar looks as the default one.
@@ -221,4 +223,12 @@ impl MadSkin {
         }
         style
     }
+}
+
+/// Whether a compound looks as its line does: it has no flag, and isn't an ellipsis.
+pub(crate) fn is_bare(compound: &Compound) -> bool
+    ensures { IsTrue result → (skin : MadSkin) (line : LineStyle) → compound_style skin line (run_of compound.now) ≡ line.compound_style }
+{
+    let flagged = compound.bold || compound.italic || compound.code || compound.strikeout;
+    !flagged && (compound.src.len() != ELLIPSIS.len() || compound.src != ELLIPSIS)
 }

@@ -34,8 +34,8 @@ impl Table {
     /// Lays the table out at a width, in columns: its lines are replaced by those that they become, and its height is then
     /// the count of these. The other lines stay. Without columns or without width nothing changes.
     ///
-    /// Its lines have to be there, and the cached lengths of all lines have to be right. The lines are taken once from front to back. Only out of memory is an error, and leaves
-    /// some of the lines.
+    /// Its lines have to be there, and their cached lengths have to be right. All lines are taken once from front to back. Only out of
+    /// memory is an error, and leaves some of the lines.
     pub fn fix_columns<'s>(
         &mut self,
         alloc: Global,
@@ -44,7 +44,7 @@ impl Table {
         skin: &MadSkin,
     ) -> Result<(), AllocError>
         requires there { self.old.start + self.old.height ≤ length lines.old.items }
-        requires measured { AllMeasured skin.now lines.old.items }
+        requires measured { AllMeasured skin.now (take self.old.height (drop self.old.start lines.old.items)) }
         ensures lines { OnOk result ((own : List FmtLine)
             × (lines.new.items ≡ take self.old.start lines.old.items ++ (own ++ drop (self.old.start + self.old.height) lines.old.items))
             × IsTableLaidOutBy IsCompositeWrap skin.now self.old.nbcols width (take self.old.height (drop self.old.start lines.old.items)) own

@@ -65,7 +65,7 @@ fn composite<'s>(
 }
 
 // Whether the rows hold, as far as memory goes. A row that doesn't hold ends the process.
-fn is_done_or_want_of_memory(outcome: Result<(), Error>) -> bool {
+fn is_done_or_out_of_memory(outcome: Result<(), Error>) -> bool {
     matches!(outcome, Ok(()) | Err(Error::Memory))
 }
 
@@ -129,9 +129,9 @@ fn paragraphs_in_pictures(rt: HostRuntime) -> Result<(), Error> {
 }
 
 #[test]
-fn paragraphs_in_pictures_or_want_of_memory(rt: HostRuntime) {
+fn paragraphs_in_pictures_or_out_of_memory(rt: HostRuntime) {
     let outcome = paragraphs_in_pictures_rows(&rt, rt.alloc());
-    assert!(rt; is_done_or_want_of_memory(outcome));
+    assert!(rt; is_done_or_out_of_memory(outcome));
 }
 
 fn paragraphs_in_pictures_rows(rt: &impl Abort, alloc: Global) -> Result<(), Error> {
@@ -163,9 +163,9 @@ fn a_long_italic_sentence(rt: HostRuntime) -> Result<(), Error> {
 }
 
 #[test]
-fn a_long_italic_sentence_or_want_of_memory(rt: HostRuntime) {
+fn a_long_italic_sentence_or_out_of_memory(rt: HostRuntime) {
     let outcome = a_long_italic_sentence_rows(&rt, rt.alloc());
-    assert!(rt; is_done_or_want_of_memory(outcome));
+    assert!(rt; is_done_or_out_of_memory(outcome));
 }
 
 fn a_long_italic_sentence_rows(rt: &impl Abort, alloc: Global) -> Result<(), Error> {
@@ -189,9 +189,9 @@ fn items_without_and_with_room(rt: HostRuntime) -> Result<(), Error> {
 }
 
 #[test]
-fn items_without_and_with_room_or_want_of_memory(rt: HostRuntime) {
+fn items_without_and_with_room_or_out_of_memory(rt: HostRuntime) {
     let outcome = items_without_and_with_room_rows(&rt, rt.alloc());
-    assert!(rt; is_done_or_want_of_memory(outcome));
+    assert!(rt; is_done_or_out_of_memory(outcome));
 }
 
 fn items_without_and_with_room_rows(rt: &impl Abort, alloc: Global) -> Result<(), Error> {
@@ -224,9 +224,9 @@ fn starts_that_show_nothing(rt: HostRuntime) -> Result<(), Error> {
 }
 
 #[test]
-fn starts_that_show_nothing_or_want_of_memory(rt: HostRuntime) {
+fn starts_that_show_nothing_or_out_of_memory(rt: HostRuntime) {
     let outcome = starts_that_show_nothing_rows(&rt, rt.alloc());
-    assert!(rt; is_done_or_want_of_memory(outcome));
+    assert!(rt; is_done_or_out_of_memory(outcome));
 }
 
 fn starts_that_show_nothing_rows(rt: &impl Abort, alloc: Global) -> Result<(), Error> {
@@ -254,9 +254,9 @@ fn a_width_under_three(rt: HostRuntime) -> Result<(), Error> {
 }
 
 #[test]
-fn a_width_under_three_or_want_of_memory(rt: HostRuntime) {
+fn a_width_under_three_or_out_of_memory(rt: HostRuntime) {
     let outcome = a_width_under_three_rows(&rt, rt.alloc());
-    assert!(rt; is_done_or_want_of_memory(outcome));
+    assert!(rt; is_done_or_out_of_memory(outcome));
 }
 
 fn a_width_under_three_rows(rt: &impl Abort, alloc: Global) -> Result<(), Error> {
@@ -283,9 +283,9 @@ fn margins_of_the_style(rt: HostRuntime) -> Result<(), Error> {
 }
 
 #[test]
-fn margins_of_the_style_or_want_of_memory(rt: HostRuntime) {
+fn margins_of_the_style_or_out_of_memory(rt: HostRuntime) {
     let outcome = margins_of_the_style_rows(&rt, rt.alloc());
-    assert!(rt; is_done_or_want_of_memory(outcome));
+    assert!(rt; is_done_or_out_of_memory(outcome));
 }
 
 fn margins_of_the_style_rows(rt: &impl Abort, alloc: Global) -> Result<(), Error> {

@@ -6,7 +6,7 @@ ghost use Rattle.mad_term.specs.Trace.{TookWith};
 ghost use Rattle.mad_fit.specs.Areas.{IsWithinLimits};
 ghost use Rattle.mad_layout.specs.Drawable.{AreDrawable};
 ghost use Rattle.mad_layout.specs.Shown.{area_bytes, lines_shown, AreShownIn};
-ghost use Rattle.mad_layout.specs.ShownLayouts.{ShowsLayout};
+ghost use Rattle.mad_layout.specs.ShownLayouts.{ShowsLayout, ShowsRowsFrom};
 ghost use Rattle.mad_view.specs.Scrolls.{scroll_within};
 
 use mad_fit::Area;
@@ -74,6 +74,9 @@ impl<'a, 't> TextView<'a, 't> {
 
         // The same where the lines are a layout of a text that keeps the premises, at most as wide as the area.
         ensures shown_layout { let text = self.now.text.now in OnOk result (ShowsLayout text.skin.now text.lines.items self.now.area.now self.now.scroll (O.seen out.old) (O.seen out.new)) }
+
+        // The same in the text's own characters, where the layout is a column narrower than the area.
+        ensures headline { let text = self.now.text.now in OnOk result (ShowsRowsFrom text.skin.now text.lines.items self.now.area.now self.now.scroll (O.seen out.old) (O.seen out.new)) }
     {
         draw_text(alloc, out, self.text, self.area, self.scroll)
     }
@@ -92,6 +95,7 @@ impl<'a, 't> TextView<'a, 't> {
         ensures shown { let text = self.now.text.now in OnOk result (AreDrawable text.skin.now self.now.area.now.width (lines_shown text.lines.items self.now.area.now self.now.scroll)
             → TookWith (O.seen out.old) (O.seen out.new) (AreShownIn text.skin.now text.lines.items self.now.area.now self.now.scroll)) }
         ensures shown_layout { let text = self.now.text.now in OnOk result (ShowsLayout text.skin.now text.lines.items self.now.area.now self.now.scroll (O.seen out.old) (O.seen out.new)) }
+        ensures headline { let text = self.now.text.now in OnOk result (ShowsRowsFrom text.skin.now text.lines.items self.now.area.now self.now.scroll (O.seen out.old) (O.seen out.new)) }
     {
         self.write_on(alloc, out)?;
         out.flush()?;

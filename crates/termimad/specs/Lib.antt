@@ -71,11 +71,14 @@ pub use Rattle.mad_layout.specs.Drawable
 pub use Rattle.mad_layout.specs.FittingLayouts
 pub use Rattle.mad_layout.specs.FlaggedLines
 pub use Rattle.mad_layout.specs.FlaggedRows
+pub use Rattle.mad_layout.specs.FlaggedTables
+pub use Rattle.mad_layout.specs.FlaggedTexts
 pub use Rattle.mad_layout.specs.Fronts
 pub use Rattle.mad_layout.specs.Headline
 pub use Rattle.mad_layout.specs.InArea
 pub use Rattle.mad_layout.specs.Indents
 pub use Rattle.mad_layout.specs.Inlines
+pub use Rattle.mad_layout.specs.ItemCells
 pub use Rattle.mad_layout.specs.LayoutLaws
 pub use Rattle.mad_layout.specs.LayoutExamples
 pub use Rattle.mad_layout.specs.Layouts
@@ -94,9 +97,11 @@ pub use Rattle.mad_layout.specs.Skins
 pub use Rattle.mad_layout.specs.Styles as SkinStyles
 pub use Rattle.mad_layout.specs.TableLaws
 pub use Rattle.mad_layout.specs.Tables
+pub use Rattle.mad_layout.specs.TextParts
 pub use Rattle.mad_layout.specs.Texts
 pub use Rattle.mad_layout.specs.WrappedLines
 pub use Rattle.mad_layout.specs.Wraps
+pub use Rattle.mad_layout.specs.WrittenParts
 pub use Rattle.mad_view.specs.Scrolls
 pub use Rattle.mad_wrap.specs.Bounds
 pub use Rattle.mad_wrap.specs.Breaks

@@ -1,7 +1,7 @@
 //! Markdown for terminals: all names of the library, from the crates that have them.
 //!
 //! What a text is, what a terminal takes and shows, how lines are wrapped, styles as texts, and the editor's text have
-//! modules of their own: [`md`], [`term`], [`screen`], [`wrap`], [`parse`] and [`edit`].
+//! modules of their own: [`md`], [`term`], [`screen`], [`wrap`], [`parse`] and [`edit`]. Laws of tables are in [`layout`] and [`widths`].
 #![tactic(auto)]
 
 /// What a terminal takes, and what it shows.
@@ -27,6 +27,16 @@ pub mod wrap {
         WrapBound, check_wrap_bound, hard_wrap_composite, hard_wrap_lines, room_of, wrap_bound,
     };
     pub use mad_wrap::Room;
+}
+
+/// Laws of layouts: worked tables, what is no table, and texts whose premises are proved.
+pub mod layout {
+    pub use mad_layout::laws;
+}
+
+/// Laws of the widths of a table's columns.
+pub mod widths {
+    pub use mad_widths::laws;
 }
 
 /// Styles as texts, both ways.

@@ -1,11 +1,11 @@
 //! Texts in areas.
 
-use crate::picture::{ROOM, area_of, assert_rows, assert_screen, pen_with, screen_after};
+use crate::picture::{
+    DOTS, area_of, assert_rows, assert_screen, colored, pen_with, screen_after, written_in_area,
+};
 use std::test::Fail;
 use termimad::screen::Pen;
-use termimad::{Attribute, Color, CutOut, MadSkin};
-
-const DOTS: &str = "..............";
+use termimad::{Attribute, MadSkin};
 
 #[test]
 fn texts_without_style(rt: HostRuntime) -> Result<(), Fail> {
@@ -19,6 +19,7 @@ fn texts_without_style(rt: HostRuntime) -> Result<(), Fail> {
             ["hello       ..", blank, blank, DOTS],
         ),
         ("", [3, 2, 4, 1], [DOTS, DOTS, "...    .......", DOTS]),
+        ("hello", [0, 0, 4, 0], [DOTS, DOTS, DOTS, DOTS]),
         // The text is laid out in three columns, where the second character has no room.
         ("概要", [0, 0, 4, 1], ["概  ..........", DOTS, DOTS, DOTS]),
         (
@@ -28,8 +29,7 @@ fn texts_without_style(rt: HostRuntime) -> Result<(), Fail> {
         ),
     ];
     for (text, sides, picture) in rows {
-        let mut out = CutOut::new(alloc, ROOM, ROOM, false)?;
-        skin.write_in_area_on(alloc, &mut out, text, &area_of(sides))?;
+        let out = written_in_area(alloc, &skin, text, &area_of(sides))?;
         let screen = screen_after(&rt, alloc, &out)?;
         assert_rows(&rt, alloc, &screen, &picture)?;
         // One put for each row.
@@ -40,63 +40,61 @@ fn texts_without_style(rt: HostRuntime) -> Result<(), Fail> {
 }
 
 #[test]
-fn styles_inside_a_line(rt: HostRuntime) -> Result<(), Fail> {
+fn texts_in_the_default_skin(rt: HostRuntime) -> Result<(), Fail> {
     let alloc = rt.alloc();
     let skin = MadSkin::default();
-    let mut out = CutOut::new(alloc, ROOM, ROOM, false)?;
-    skin.write_in_area_on(alloc, &mut out, "**a** *b* `c`", &area_of([0, 1, 6, 1]))?;
-    let screen = screen_after(&rt, alloc, &out)?;
-    let code = Pen {
-        fg: Some(Color::AnsiValue(249)),
-        bg: Some(Color::AnsiValue(235)),
-        ..Pen::default()
-    };
-    assert_screen(
-        &rt,
-        alloc,
-        &screen,
-        &[DOTS, "a b c ........", DOTS, DOTS],
-        &[DOTS, "a.b.c.........", DOTS, DOTS],
-        &[pen_with(Attribute::Bold), pen_with(Attribute::Italic), code],
-    )?;
-    Ok(())
-}
-
-#[test]
-fn widthless_and_wide_characters(rt: HostRuntime) -> Result<(), Fail> {
-    let alloc = rt.alloc();
-    let skin = MadSkin::default();
-    let mut out = CutOut::new(alloc, ROOM, ROOM, false)?;
-    let text = "e\u{301}a **o\u{302}\u{301}概**";
-    skin.write_in_area_on(alloc, &mut out, text, &area_of([0, 0, 8, 1]))?;
-    let screen = screen_after(&rt, alloc, &out)?;
-    assert_screen(
-        &rt,
-        alloc,
-        &screen,
-        &["e\u{301}a o\u{302}\u{301}概  ......", DOTS, DOTS, DOTS],
-        &["...aaa........", DOTS, DOTS, DOTS],
-        &[pen_with(Attribute::Bold)],
-    )?;
-    Ok(())
-}
-
-#[test]
-fn a_style_goes_on_over_the_rows_of_its_line(rt: HostRuntime) -> Result<(), Fail> {
-    let alloc = rt.alloc();
-    let skin = MadSkin::default();
-    let mut out = CutOut::new(alloc, ROOM, ROOM, false)?;
-    skin.write_in_area_on(alloc, &mut out, "*aaaa bbbb*", &area_of([1, 1, 6, 2]))?;
-    let screen = screen_after(&rt, alloc, &out)?;
-    // The blank that fits at the end of the first row is italic, and those that fill the rows aren't.
-    assert_screen(
-        &rt,
-        alloc,
-        &screen,
-        &[DOTS, ".aaaa  .......", ".bbbb  .......", DOTS],
-        &[DOTS, ".aaaaa........", ".aaaa.........", DOTS],
-        &[pen_with(Attribute::Italic)],
-    )?;
+    let bold = pen_with(Attribute::Bold);
+    let italic = pen_with(Attribute::Italic);
+    let mut code = colored(249);
+    code.bg = colored(235).fg;
+    // The area, two rows of the screen from the second on, their looks, and the pens of these.
+    let rows: [(&str, [u8; 4], [&str; 2], [&str; 2], &[Pen]); 5] = [
+        (
+            "**a** *b* `c`",
+            [0, 1, 6, 1],
+            ["a b c ........", DOTS],
+            ["a.b.c.........", DOTS],
+            &[bold, italic, code],
+        ),
+        // Widthless and wide characters.
+        (
+            "e\u{301}a **o\u{302}\u{301}概**",
+            [0, 1, 8, 1],
+            ["e\u{301}a o\u{302}\u{301}概  ......", DOTS],
+            ["...aaa........", DOTS],
+            &[bold],
+        ),
+        // The blank that fits at the end of the first row is italic, and those that fill the rows aren't.
+        (
+            "*aaaa bbbb*",
+            [1, 1, 6, 2],
+            [".aaaa  .......", ".bbbb  ......."],
+            [".aaaaa........", ".aaaa........."],
+            &[italic],
+        ),
+        // A block of code whose widest line the area doesn't show.
+        (
+            "x\n```\na\nbbb\n```",
+            [0, 1, 8, 2],
+            ["x       ......", "a       ......"],
+            [DOTS, "aaa..........."],
+            &[code],
+        ),
+        (
+            "|**a**|b\n|-|-",
+            [0, 1, 12, 2],
+            ["│ a │ b │   ..", "└───┴───┘   .."],
+            ["a.b.a...a.....", "aaaaaaaaa....."],
+            &[colored(239), bold],
+        ),
+    ];
+    for (text, sides, [first, second], [looks, more], pens) in rows {
+        let out = written_in_area(alloc, &skin, text, &area_of(sides))?;
+        let screen = screen_after(&rt, alloc, &out)?;
+        let picture = [DOTS, first, second, DOTS];
+        let letters = [DOTS, looks, more, DOTS];
+        assert_screen(&rt, alloc, &screen, &picture, &letters, pens)?;
+    }
     Ok(())
 }
 
@@ -106,8 +104,7 @@ fn margins_without_room_in_the_layout_are_not_drawn(rt: HostRuntime) -> Result<(
     let mut skin = MadSkin::no_style();
     skin.code_block.left_margin = 4;
     skin.code_block.right_margin = 4;
-    let mut out = CutOut::new(alloc, ROOM, ROOM, false)?;
-    skin.write_in_area_on(alloc, &mut out, "    abcdefgh", &area_of([0, 0, 11, 1]))?;
+    let out = written_in_area(alloc, &skin, "    abcdefgh", &area_of([0, 0, 11, 1]))?;
     let screen = screen_after(&rt, alloc, &out)?;
     assert_rows(&rt, alloc, &screen, &["abcdefgh   ...", DOTS, DOTS, DOTS])?;
     Ok(())

@@ -1,11 +1,11 @@
 //! Whole pages in the default skin, read back from the screen.
 
-use crate::picture::{assert_screen, colored, pen_with};
+use crate::picture::{area_of, assert_screen, colored, pen_with, read_back, written_in_area};
 use std::alloc::Global;
 use std::process::Abort;
 use std::test::Fail;
 use termimad::screen::{Pen, Screen};
-use termimad::{Area, Attribute, CutOut, MadSkin};
+use termimad::{Attribute, MadSkin};
 
 // The text of samples/help.md.
 const HELP: &str = "# disk-report
@@ -25,9 +25,6 @@ Shows how full each disk is, and *who* filled it. Wide names such as 概要 take
 
 ---
 ";
-
-// More than the bytes of a page.
-const PAGE: usize = 20_000;
 
 // The looks in the order in which they come: the title, italic, a header, code, a bullet, the point after a number, a quote's
 // mark, and the rule.
@@ -59,15 +56,14 @@ fn assert_page(
     rows: &[&str],
     letters: &[&str],
 ) -> Result<(), Fail> {
-    let area = Area::new(0, 0, width.into(), height.into());
-    let mut out = CutOut::new(alloc, PAGE, PAGE, false)?;
-    MadSkin::default().write_in_area_on(alloc, &mut out, HELP, &area)?;
+    let out = written_in_area(
+        alloc,
+        &MadSkin::default(),
+        HELP,
+        &area_of([0, 0, width, height]),
+    )?;
     let mut screen = Screen::new(alloc, width.into(), height.into())?;
-    assert!(rt;
-        screen.read_bytes(out.taken()).is_ok(),
-        "the bytes are plain"
-    );
-    assert!(rt; screen.pen() == Pen::default(), "the pen is left as it was");
+    read_back(rt, &mut screen, &out)?;
     assert_screen(rt, alloc, &screen, rows, letters, &looks())?;
     Ok(())
 }

@@ -1,13 +1,10 @@
-//! Tables: in areas, in texts and in views.
+//! Tables: in areas and in texts.
 
-use crate::picture::{ROOM, area_of, assert_rows, assert_screen, pen_with, screen_after};
+use crate::picture::{DOTS, area_of, assert_rows, assert_text, screen_after, written_in_area};
 use std::alloc::Global;
 use std::process::Abort;
 use std::test::Fail;
-use termimad::screen::Pen;
-use termimad::{Attribute, Color, CutOut, Error, FmtText, MadSkin, TextView};
-
-const DOTS: &str = "..............";
+use termimad::{Error, MadSkin};
 
 #[test]
 fn tables_in_areas(rt: HostRuntime) -> Result<(), Fail> {
@@ -53,6 +50,12 @@ fn tables_in_areas(rt: HostRuntime) -> Result<(), Fail> {
             [0, 0, 10, 2],
             ["│概 │ x │ ....", "│概 │   │ ....", DOTS, DOTS],
         ),
+        // It cuts one whose columns have the widths of the row that isn't shown.
+        (
+            "x\n|a|b\n|ccc|ddddd",
+            [0, 0, 12, 2],
+            ["x           ..", "│ a │  b  │ ..", DOTS, DOTS],
+        ),
         (
             "|* a|> q",
             [0, 0, 12, 1],
@@ -74,16 +77,13 @@ fn assert_area(
     sides: [u8; 4],
     picture: [&str; 4],
 ) -> Result<(), Error> {
-    let skin = MadSkin::no_style();
-    let mut out = CutOut::new(alloc, ROOM, ROOM, false)?;
-    skin.write_in_area_on(alloc, &mut out, text, &area_of(sides))?;
+    let out = written_in_area(alloc, &MadSkin::no_style(), text, &area_of(sides))?;
     let screen = screen_after(rt, alloc, &out)?;
     assert_rows(rt, alloc, &screen, &picture)
 }
 
 #[test]
 fn tables_in_texts(rt: HostRuntime) -> Result<(), Fail> {
-    let alloc = rt.alloc();
     let skin = MadSkin::no_style();
     let rows = [
         ("|-|-\n|a|b\n|-|-", 12, "┌───┬───┐\n│a  │b  │\n└───┴───┘\n"),
@@ -96,47 +96,7 @@ fn tables_in_texts(rt: HostRuntime) -> Result<(), Fail> {
         ("|a|b\n|-|-", 2, "│\n└┘\n"),
     ];
     for (source, width, wanted) in rows {
-        let mut out = CutOut::new(alloc, ROOM, ROOM, false)?;
-        skin.write_text(alloc, &mut out, source, Some(width))?;
-        assert!(rt; out.taken() == wanted.as_bytes(), "{source}");
+        assert_text(&rt, rt.alloc(), &skin, source, width, wanted)?;
     }
-    Ok(())
-}
-
-#[test]
-fn looks_of_a_table(rt: HostRuntime) -> Result<(), Fail> {
-    let alloc = rt.alloc();
-    let skin = MadSkin::default();
-    let mut out = CutOut::new(alloc, ROOM, ROOM, false)?;
-    skin.write_in_area_on(alloc, &mut out, "|**a**|b\n|-|-", &area_of([0, 0, 12, 2]))?;
-    let screen = screen_after(&rt, alloc, &out)?;
-    let border = Pen {
-        fg: Some(Color::AnsiValue(239)),
-        ..Pen::default()
-    };
-    assert_screen(
-        &rt,
-        alloc,
-        &screen,
-        &["│ a │ b │   ..", "└───┴───┘   ..", DOTS, DOTS],
-        &["a.b.a...a.....", "aaaaaaaaa.....", DOTS, DOTS],
-        &[border, pen_with(Attribute::Bold)],
-    )?;
-    Ok(())
-}
-
-#[test]
-fn a_scrolled_table(rt: HostRuntime) -> Result<(), Fail> {
-    let alloc = rt.alloc();
-    let skin = MadSkin::no_style();
-    let text = FmtText::from(alloc, &skin, "|a\n|-\n|b\n|c", Some(8))?;
-    let area = area_of([0, 0, 8, 2]);
-    let mut view = TextView::from(&area, &text);
-    assert_eq!(rt; view.set_scroll(1), 1);
-    let mut out = CutOut::new(alloc, ROOM, ROOM, false)?;
-    view.write_on(alloc, &mut out)?;
-    let screen = screen_after(&rt, alloc, &out)?;
-    let rows = ["├───┤   ......", "│b  │   ......", DOTS, DOTS];
-    assert_rows(&rt, alloc, &screen, &rows)?;
     Ok(())
 }

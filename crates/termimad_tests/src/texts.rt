@@ -1,13 +1,11 @@
 //! Texts of all kinds of lines, written at a width.
 
-use crate::picture::ROOM;
+use crate::picture::assert_text;
 use std::test::Fail;
-use termimad::{CutOut, FmtText, ListItemsIndentationMode, MadSkin};
+use termimad::{FmtText, ListItemsIndentationMode, MadSkin};
 
-// What is written of a text in a skin at a width.
 #[test]
 fn lines_of_each_kind(rt: HostRuntime) -> Result<(), Fail> {
-    let alloc = rt.alloc();
     let rows = [
         // The lines of a code block are as wide as the widest; a fence that isn't closed lasts to the end.
         ("```\na\nbbb", 10, "a  \nbbb\n"),
@@ -24,21 +22,10 @@ fn lines_of_each_kind(rt: HostRuntime) -> Result<(), Fail> {
     let mut skin = MadSkin::no_style();
     skin.headers[0].align = MadSkin::default().headers[0].align;
     for (source, width, wanted) in rows {
-        let mut out = CutOut::new(alloc, ROOM, ROOM, false)?;
-        skin.write_text(alloc, &mut out, source, Some(width))?;
-        assert!(rt; out.taken() == wanted.as_bytes(), "{source}");
-        assert_eq!(rt; out.flushes(), 1);
+        assert_text(&rt, rt.alloc(), &skin, source, width, wanted)?;
     }
-    Ok(())
-}
-
-#[test]
-fn header_in_the_default_skin(rt: HostRuntime) -> Result<(), Fail> {
-    let alloc = rt.alloc();
-    let mut out = CutOut::new(alloc, ROOM, ROOM, false)?;
-    MadSkin::default().write_text_on(alloc, &mut out, "# t", Some(5))?;
-    assert!(rt; out.taken() == "  \u{1b}[1m\u{1b}[4mt\u{1b}[0m\n".as_bytes());
-    assert_eq!(rt; out.flushes(), 0);
+    let title = "  \u{1b}[1m\u{1b}[4mt\u{1b}[0m\n";
+    assert_text(&rt, rt.alloc(), &MadSkin::default(), "# t", 5, title)?;
     Ok(())
 }
 
@@ -84,23 +71,6 @@ fn lengths_at_25_columns(rt: HostRuntime) -> Result<(), Fail> {
         for line in &text.lines {
             assert!(rt; line.visible_length() <= width && line.visible_length() > 0);
         }
-    }
-    Ok(())
-}
-
-#[test]
-fn marks_over_letters_are_kept(rt: HostRuntime) -> Result<(), Fail> {
-    let alloc = rt.alloc();
-    let piece = "ZA\u{360}\u{321}\u{34a}LG IS\u{36e}\u{302}\u{489} TH\u{318}<b>E\u{344} ";
-    let source = piece.repeat(alloc, 8)?;
-    let skin = MadSkin::no_style();
-    for width in 40..60 {
-        let text = FmtText::from(alloc, &skin, source.as_str(), Some(width))?;
-        // All that isn't white is there, in order.
-        let shown = text.to_string(alloc)?;
-        let kept = shown.chars().filter(|c| !c.is_whitespace());
-        let wanted = source.chars().filter(|c| !c.is_whitespace());
-        assert!(rt; kept.eq(wanted), "{width}");
     }
     Ok(())
 }

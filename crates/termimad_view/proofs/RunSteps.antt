@@ -9,6 +9,7 @@ use Rattle.termimad.specs.declared.MadSkin.{MadSkin}
 use Rattle.termimad_view.specs.declared.call.Command.{Command}
 use Rattle.termimad_view.specs.declared.call.Command.TheVariants.{InArea, AtWidth, Inline}
 use Rattle.mad_term.proofs.Traces.{took_flushed}
+use Rattle.termimad.specs.Headline.{AreShownAcross}
 use Rattle.termimad.specs.Shown.{AreShownIn}
 use Rattle.termimad_view.specs.declared.failure.Failure.{Failure}
 use Rattle.termimad_view.specs.declared.failure.Failure.TheVariants.{Io, Usage, NotUtf8, Skin, Memory}
@@ -80,10 +81,17 @@ flush_exit {T} words r text old new written call is read h out =
 
 -- a flush takes nothing from what is shown
 pub still_shown : (skin : MadSkin) (command : Command) (text : List ℕ) (old written new : Trace) → ShowsCall skin command text old written → new ≡ flushed written → ShowsCall skin command text old new
-still_shown skin (InArea area) text old written new h is = record {
-  lines = h.lines;
-  laid_out = h.laid_out;
-  shown = λ premises. took_flushed old written new (AreShownIn skin h.lines area 0) (h.shown premises) is;
-}
+still_shown skin (InArea area) text old written new (across, h) is = (
+  record {
+    lines = across.lines;
+    read = across.read;
+    shown = λ premises. let rows = across.shown premises in (rows.0, rows.1, took_flushed old written new (AreShownAcross rows.0 area) rows.2 is);
+  },
+  record {
+    lines = h.lines;
+    laid_out = h.laid_out;
+    shown = λ premises. took_flushed old written new (AreShownIn skin h.lines area 0) (h.shown premises) is;
+  },
+)
 still_shown skin (AtWidth width) text old written new h is = tt
 still_shown skin Inline text old written new h is = tt

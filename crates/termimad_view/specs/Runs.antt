@@ -5,9 +5,10 @@ use Rattle.termimad.specs.Draws.{Draws}
 use Rattle.termimad.specs.Trace.{Trace, failed, flushed}
 use Rattle.termimad.specs.declared.Error.{Error}
 use Rattle.termimad.specs.declared.Error.TheVariants.{Memory as NoMemory}
+use Rattle.termimad.specs.Headline.{ShowsFirstRows}
 use Rattle.termimad.specs.InArea.{WritesInArea, ShowsText}
 use Rattle.termimad.specs.Inlines.{inline_bytes}
-use Rattle.termimad.specs.Texts.{WritesMarkdown}
+use Rattle.termimad.specs.WrittenParts.{WritesParts}
 use Rattle.termimad.specs.declared.MadSkin.{MadSkin}
 use Rattle.termimad_view.specs.declared.call.Command.{Command}
 use Rattle.termimad_view.specs.declared.call.Command.TheVariants.{InArea, AtWidth, Inline}
@@ -47,15 +48,17 @@ abbrev pub WritesLine : {T : Type 0} → MadSkin → List ℕ → Trace → Resu
 WritesLine skin line old r new =
     ((items : List Item) × IsInlineReading line items × Draws old (inline_bytes skin line items ++ (10 ∷ [])) r new) ⊎ (IsErrOf r NoMemory × (new ≡ old))
 
--- what the output is asked to take of a text: the text in its area; or its lines, laid out at a width; or its line without the end of line, and a newline
+-- what the output is asked to take of a text: the text in its area; or its lines, laid out at a width part by part; or its line without the
+-- end of line, and a newline
 abbrev pub WritesCall : {T : Type 0} → MadSkin → Command → List ℕ → Trace → Result T Error → Trace → Type 0
 WritesCall skin (InArea area) text old r new = WritesInArea skin text area old r new
-WritesCall skin (AtWidth width) text old r new = WritesMarkdown skin (Some width) text old r new
+WritesCall skin (AtWidth width) text old r new = WritesParts skin (Some width) text old r new
 WritesCall skin Inline text old r new = (line : List ℕ) × IsWithoutLineEnd text line × WritesLine skin line old r new
 
--- what a plain terminal shows that reads what was written: the first rows of the text in its area; of the others nothing is said
+-- what a plain terminal shows that reads what was written: the first rows of the text in its area, by its characters and by a layout; of the
+-- others nothing is said
 abbrev pub ShowsCall : MadSkin → Command → List ℕ → Trace → Trace → Type 0
-ShowsCall skin (InArea area) text old new = ShowsText skin text area old new
+ShowsCall skin (InArea area) text old new = ShowsFirstRows skin text area old new × ShowsText skin text area old new
 ShowsCall skin (AtWidth width) text old new = ⊤
 ShowsCall skin Inline text old new = ⊤
 

@@ -30,7 +30,7 @@ pub fn write_call<O: Out>(
     match command {
         Command::InArea(area) => skin.write_in_area_on(alloc, out, text, area),
         Command::AtWidth(width) => {
-            skin.write_text_on(alloc, out, text, Some(usize::from(*width)))
+            skin.write_parts_on(alloc, out, text, Some(usize::from(*width)))
         }
         Command::Inline => write_line(alloc, out, skin, line_of(text)),
     }

@@ -4,7 +4,7 @@ ghost use Rattle.std.specs.Prelude.{IfOk};
 ghost use Rattle.mad_layout.specs.Wraps.{IsMeasured};
 
 use super::{
-    assert_bound, assert_wrap, composite, is_done_or_want_of_memory, plain_skin, skin_with,
+    assert_bound, assert_wrap, composite, is_done_or_out_of_memory, plain_skin, skin_with,
 };
 use crate::bound::{WrapBound, check_wrap_bound};
 use mad_md::CompositeStyle;
@@ -21,9 +21,9 @@ fn three_and_four_lines(rt: HostRuntime) -> Result<(), Error> {
 }
 
 #[test]
-fn three_and_four_lines_or_want_of_memory(rt: HostRuntime) {
+fn three_and_four_lines_or_out_of_memory(rt: HostRuntime) {
     let outcome = three_and_four_lines_rows(&rt, rt.alloc());
-    assert!(rt; is_done_or_want_of_memory(outcome));
+    assert!(rt; is_done_or_out_of_memory(outcome));
 }
 
 fn three_and_four_lines_rows(rt: &impl Abort, alloc: Global) -> Result<(), Error> {
@@ -144,9 +144,9 @@ fn starts_of_three_lines_checked(rt: HostRuntime) -> Result<(), Error> {
 }
 
 #[test]
-fn starts_of_three_lines_checked_or_want_of_memory(rt: HostRuntime) {
+fn starts_of_three_lines_checked_or_out_of_memory(rt: HostRuntime) {
     let outcome = starts_of_three_lines_checked_rows(&rt, rt.alloc());
-    assert!(rt; is_done_or_want_of_memory(outcome));
+    assert!(rt; is_done_or_out_of_memory(outcome));
 }
 
 fn starts_of_three_lines_checked_rows(rt: &impl Abort, alloc: Global) -> Result<(), Error> {

@@ -4,7 +4,7 @@ ghost use Rattle.std.specs.Prelude.{IfOk};
 ghost use Rattle.mad_layout.specs.Wraps.{IsMeasured};
 
 use super::{
-    assert_wrap, composite, is_done_or_want_of_memory, is_refused, push_picture, skin_with,
+    assert_wrap, composite, is_done_or_out_of_memory, is_refused, push_picture, skin_with,
 };
 use crate::bound::{check_wrap_bound, wrap_bound};
 use crate::composite::FmtComposite;
@@ -84,9 +84,9 @@ fn texts_at_three_columns(rt: HostRuntime) -> Result<(), Error> {
 }
 
 #[test]
-fn texts_at_three_columns_or_want_of_memory(rt: HostRuntime) {
+fn texts_at_three_columns_or_out_of_memory(rt: HostRuntime) {
     let outcome = texts_at_three_columns_rows(&rt, rt.alloc());
-    assert!(rt; is_done_or_want_of_memory(outcome));
+    assert!(rt; is_done_or_out_of_memory(outcome));
 }
 
 fn texts_at_three_columns_rows(rt: &impl Abort, alloc: Global) -> Result<(), Error> {

@@ -3,13 +3,14 @@
 ghost use Rattle.std.specs.Prelude.{IfOk};
 ghost use Rattle.mad_layout.specs.WrappedLines.{AllMeasured};
 
-use super::is_done_or_want_of_memory;
+use super::is_done_or_out_of_memory;
 use crate::composite::FmtComposite;
 use crate::fmt_text::FmtText;
 use crate::line::FmtLine;
 use crate::skin::MadSkin;
 use crate::table::{FmtTableRule, RelativePosition};
 use crate::table_layout::{Table, fix_all_tables};
+use crate::table_rows::lay_row;
 use mad_md::{Alignment, TableRule, parse_text};
 use mad_term::Error;
 use std::alloc::{AllocError, Global};
@@ -164,7 +165,7 @@ fn tables_in_texts(rt: HostRuntime) -> Result<(), Error> {
 #[test]
 fn tables_in_texts_or_out_of_memory(rt: HostRuntime) {
     let outcome = tables_in_texts_rows(&rt, rt.alloc());
-    assert!(rt; is_done_or_want_of_memory(outcome));
+    assert!(rt; is_done_or_out_of_memory(outcome));
 }
 
 // The lines of a text as they were read.
@@ -201,6 +202,86 @@ fn one_table_among_lines(rt: HostRuntime) -> Result<(), Error> {
     let wanted = "text\nrow aaaa :7c x:3c\nrow bbbb:7c :3c\nbottom 7 3\n---\nrow y\n";
     assert_eq!(&rt; picture(alloc, &lines)?.as_str(), wanted);
     assert_eq!(&rt; (table.start, table.height, table.nbcols), (1, 3, 2));
+    Ok(())
+}
+
+#[test]
+fn tables_of_other_columns_than_their_lines(rt: HostRuntime) -> Result<(), Error> {
+    let alloc = rt.alloc();
+    let skin = MadSkin::no_style();
+    // The count of columns, the width, and what becomes of the table.
+    let cases = [
+        (1, 13, "row aaaa bbbb:9c\nbottom 9\n"),
+        (3, 30, "row aaaa bbbb:9c x:3c :3c\nbottom 9 3 3\n"),
+        (0, 13, "row aaaa bbbb x\nrule\n"),
+        (2, 0, "row aaaa bbbb x\nrule\n"),
+    ];
+    for (nbcols, width, wanted) in cases {
+        let mut lines = read_lines(alloc, "|aaaa bbbb|x\n|-|-", &skin)?;
+        let mut table = Table {
+            start: 0,
+            height: lines.len(),
+            nbcols,
+        };
+        table.fix_columns(alloc, &mut lines, width, &skin)?;
+        assert_eq!(&rt; picture(alloc, &lines)?.as_str(), wanted);
+        assert_eq!(&rt; (table.start, table.height, table.nbcols), (0, 2, nbcols));
+    }
+    Ok(())
+}
+
+#[test]
+fn rows_of_one_row(rt: HostRuntime) -> Result<(), Error> {
+    let alloc = rt.alloc();
+    let skin = MadSkin::no_style();
+    // A row, the widths of columns, their alignments, and its rows.
+    let cases: [(&str, &[usize], &[Alignment], &str); 6] = [
+        // An alignment that is missing is unspecified.
+        (
+            "|a|b|c",
+            &[3, 4, 5],
+            &[Alignment::Left, Alignment::Right],
+            "row a:3l b:4r c:5\n",
+        ),
+        // A cell that is missing is empty.
+        (
+            "|a",
+            &[3, 4],
+            &[Alignment::Center, Alignment::Right],
+            "row a:3c :4r\n",
+        ),
+        // A cell past the columns is left out.
+        (
+            "|a|b",
+            &[3],
+            &[Alignment::Left, Alignment::Right],
+            "row a:3l\n",
+        ),
+        ("|a|b", &[], &[], "row\n"),
+        // As many rows as the tallest cell has lines, whichever that is.
+        (
+            "|a|bbb cc|d e",
+            &[3, 3, 3],
+            &[],
+            "row a:3 bbb:3 d e:3\nrow :3 cc:3 :3\n",
+        ),
+        (
+            "|aaa bbb ccc|* d",
+            &[3, 4],
+            &[],
+            "row aaa:3 d:4\nrow bbb:3 :4\nrow ccc:3 :4\n",
+        ),
+    ];
+    for (source, widths, aligns, wanted) in cases {
+        let mut read = read_lines(alloc, source, &skin)?.into_iter();
+        let mut lines = Vec::new(alloc);
+        if let Some(FmtLine::TableRow(row)) = read.next() {
+            for row in lay_row(alloc, row, widths, aligns, &skin)? {
+                lines.push(FmtLine::TableRow(row))?;
+            }
+        }
+        assert_eq!(&rt; picture(alloc, &lines)?.as_str(), wanted, "{source}");
+    }
     Ok(())
 }
 

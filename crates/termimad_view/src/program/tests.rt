@@ -25,11 +25,18 @@ const SOME: &[u8] = b"\x1b[1msome\x1b[0m x\n";
 // `inline` of `**x**` in a skin whose bold is red.
 const RED: &[u8] = b"\x1b[38;5;9mx\x1b[39m\n";
 
+// `text 8` of `* abcdefghij` in a skin whose items hang by 2.
+const HANGING: &str = "\x1b[38;5;240m•\x1b[39m abcd\n    efgh\n    ij\n";
+
 // What is said of the unknown key `colour`.
 const COLOUR: &[u8] = b"unknown key: colour\n";
 
+// A text of two paragraphs and two items.
+const FOUR_LINES: &str =
+    "This is a *long* line which needs to be **broken**.\nAnd the text goes on with a list:\n* short item\n* a *somewhat longer item* (with a part in **bold**)";
+
 // More than any of these calls writes.
-const ROOM: usize = 1000;
+const ROOM: usize = 4000;
 
 fn words_of(alloc: Global, call: &str) -> Result<Vec<String>, AllocError> {
     let mut words = Vec::new(alloc);
@@ -164,17 +171,103 @@ fn a_text_is_written_in_its_area(rt: HostRuntime) -> Result<(), Fail> {
 
 #[test]
 fn a_text_is_laid_out_at_a_width(rt: HostRuntime) -> Result<(), Fail> {
-    let rows: [(&str, &[u8], &str); 6] = [
-        ("text|10", b"```\na\nbbb", "a  \nbbb\n"),
-        ("text|5", b"---", "―――――\n"),
-        ("text|5", b"> q", "▐ q\n"),
-        ("text|8", b"* abcdef gh", "• abcdef\n  gh\n"),
-        ("text|0", b"aaa bbb", "aaa bbb\n"),
-        ("text|5|default", b"# t", "  \u{1b}[1m\u{1b}[4mt\u{1b}[0m\n"),
+    let rows = [
+        ("text|10", "```\na\nbbb", "a  \nbbb\n"),
+        ("text|10", "```\na  b", "a  b\n"),
+        ("text|10", " 12. ab", " 12. ab\n"),
+        ("text|10", "abcdefgh**   **", "abcdefgh\n   \n"),
+        ("text|10", "|", "│\n"),
+        (
+            "text|12",
+            "|-|-\n|a|b\n|-|-",
+            "┌───┬───┐\n│a  │b  │\n└───┴───┘\n",
+        ),
+        ("text|13", "|aaaa bbbb|x", "│ aaaa  │ x │\n│ bbbb  │   │\n"),
+        ("text|5", "---", "―――――\n"),
+        ("text|5", "> q", "▐ q\n"),
+        ("text|8", "* abcdef gh", "• abcdef\n  gh\n"),
+        ("text|8", "* abcdefghij", "• abcdef\n  ghij\n"),
+        ("text|0", "aaa bbb", "aaa bbb\n"),
+        ("text|5|default", "# t", "  \x1b[1m\x1b[4mt\x1b[0m\n"),
+        // The tokens of a line that is wrapped are pieces. The blank that fits at the end of the sixth line is kept.
+        (
+            "text|25|default",
+            FOUR_LINES,
+            "This is a \x1b[3mlong\x1b[0m line which\nneeds to be \x1b[1mbroken\x1b[0m.\nAnd the text goes on with\na list:\n\x1b[38;5;240m•\x1b[39m short item\n\x1b[38;5;240m•\x1b[39m a \x1b[3msomewhat\x1b[0m\x1b[3m \x1b[0m\x1b[3mlonger\x1b[0m\x1b[3m \x1b[0m\x1b[3mitem\x1b[0m \n  (with a part in \x1b[1mbold\x1b[0m)\n",
+        ),
     ];
     for (call, input, written) in rows {
-        expect(&rt, call, input, 0, written.as_bytes(), b"")?;
+        expect(&rt, call, input.as_bytes(), 0, written.as_bytes(), b"")?;
     }
+    Ok(())
+}
+
+// What is written of a text at a width, in the default skin.
+fn written_at(
+    rt: &(impl Abort + AllocGlobal),
+    width: usize,
+    text: &str,
+) -> Result<CutOut, AllocError> {
+    let alloc = rt.alloc();
+    let words = words_of(alloc, format!(in alloc; "text|{width}|default")?.as_str())?;
+    let mut source = ScriptSource::new(text.as_bytes(), false);
+    let mut out = CutOut::new(alloc, ROOM, ROOM, false)?;
+    let mut err = CutOut::new(alloc, ROOM, ROOM, false)?;
+    let status = run(alloc, words.as_slice(), &mut source, &mut out, &mut err);
+    assert_eq!(rt; status, 0, "{width}");
+    Ok(out)
+}
+
+// The text that is shown: what was written, without the commands.
+fn shown(alloc: Global, out: &CutOut) -> Result<String, AllocError> {
+    let mut shown = String::new(alloc);
+    let mut is_command = false;
+    for c in str::from_utf8(out.taken()).unwrap_or("").chars() {
+        match (is_command, c) {
+            (false, '\x1b') => is_command = true,
+            (true, 'm') => is_command = false,
+            (true, _) => {}
+            (false, _) => shown.push(c)?,
+        }
+    }
+    Ok(shown)
+}
+
+#[test]
+fn lines_keep_to_the_width_and_lose_nothing(rt: HostRuntime) -> Result<(), Fail> {
+    let alloc = rt.alloc();
+    for width in 3..50 {
+        let text = shown(alloc, &written_at(&rt, width, FOUR_LINES)?)?;
+        assert!(rt; text.lines().count() >= 4, "{width}");
+        for line in text.lines() {
+            // Each character here takes one column.
+            let columns = line.chars().count();
+            assert!(rt; 0 < columns && columns <= width, "{width}: {line}");
+        }
+    }
+    let piece = "ZA\u{360}\u{321}\u{34a}LG IS\u{36e}\u{302}\u{489} TH\u{318}<b>E\u{344} ";
+    let marked = piece.repeat(alloc, 8)?;
+    for width in 40..60 {
+        let text = shown(alloc, &written_at(&rt, width, marked.as_str())?)?;
+        let kept = text.chars().filter(|c| !c.is_whitespace());
+        let wanted = marked.chars().filter(|c| !c.is_whitespace());
+        assert!(rt; kept.eq(wanted), "{width}");
+    }
+    Ok(())
+}
+
+#[test]
+fn a_long_italic_sentence(rt: HostRuntime) -> Result<(), Fail> {
+    let alloc = rt.alloc();
+    let sentence =
+        "*Now I'll describe this example with more words than necessary, in order to be sure to demonstrate scrolling (and **wrapping**, too, thanks to long sentences).*";
+    let out = written_at(&rt, 120, sentence)?;
+    assert_eq!(rt;
+        shown(alloc, &out)?.as_str(),
+        "Now I'll describe this example with more words than necessary, in order to be sure to demonstrate scrolling (and \nwrapping, too, thanks to long sentences).\n"
+    );
+    let written = str::from_utf8(out.taken()).unwrap_or("");
+    assert!(rt; written.contains("\n\x1b[1m\x1b[3mwrapping\x1b[0m"));
     Ok(())
 }
 
@@ -249,7 +342,7 @@ fn other_skins_and_inputs_that_are_no_text_are_refused(rt: HostRuntime) -> Resul
 
 #[test]
 fn json_text_is_a_skin(rt: HostRuntime) -> Result<(), Fail> {
-    let rows: [(&str, &[u8], &str, &str); 8] = [
+    let rows: [(&str, &[u8], &str, &str); 11] = [
         (
             r#"inline|{"bold":"red"}"#,
             b"**x**",
@@ -259,7 +352,26 @@ fn json_text_is_a_skin(rt: HostRuntime) -> Result<(), Fail> {
         (
             r#"text|8|{"list_items_indentation_mode":"hanging(2)"}"#,
             b"* abcdefghij",
-            "\x1b[38;5;240m•\x1b[39m abcd\n    efgh\n    ij\n",
+            HANGING,
+            "",
+        ),
+        (
+            r#"text|8|{"list_items_indentation_mode":"hanging(2)"}"#,
+            b"* abcdef gh",
+            "\x1b[38;5;240m•\x1b[39m abcdef\n    gh\n",
+            "",
+        ),
+        (
+            r#"text|8|{"list_items_indentation_mode":"hanging(0)"}"#,
+            b"* abcdefghij",
+            "\x1b[38;5;240m•\x1b[39m abcdef\n  ghij\n",
+            "",
+        ),
+        // Margins without room in the layout aren't drawn.
+        (
+            r#"area|0|0|11|1|{"code_block":"4 4"}"#,
+            b"    abcdefgh",
+            "\x1b[1;1Habcdefgh   ",
             "",
         ),
         // A digit is no mark.
@@ -315,20 +427,37 @@ fn other_json_text_is_refused_unread(rt: HostRuntime) -> Result<(), Fail> {
         let call = format!(in rt.alloc(); "inline|{skin}")?;
         expect(&rt, call.as_str(), b"\xff", 4, b"", SKIN)?;
     }
-    for (depth, status) in [(126, 0), (127, 4), (10_000, 4)] {
-        let alloc = rt.alloc();
-        let inside = format!(in alloc;
-            "{}{}",
-            "[".repeat(alloc, depth)?,
-            "]".repeat(alloc, depth)?
+    Ok(())
+}
+
+// `depth` lists, each in the one before it.
+fn nested(alloc: Global, depth: usize) -> Result<String, AllocError> {
+    let (open, close) = ("[".repeat(alloc, depth)?, "]".repeat(alloc, depth)?);
+    format!(in alloc; "{open}{close}")
+}
+
+#[test]
+fn deep_and_long_json_text_is_read_or_refused(rt: HostRuntime) -> Result<(), Fail> {
+    let alloc = rt.alloc();
+    let digits = "1".repeat(alloc, 1_000_000)?;
+    let rows = [
+        (nested(alloc, 126)?, 0, COLOUR),
+        (nested(alloc, 127)?, 4, SKIN),
+        (nested(alloc, 500_000)?, 4, SKIN),
+        (format!(in alloc; "\"{digits}\"")?, 0, COLOUR),
+        (digits, 4, SKIN),
+    ];
+    for (value, status, said) in &rows {
+        let words = words_of(
+            alloc,
+            format!(in alloc; "inline|{{\"colour\":{value}}}")?.as_str(),
         )?;
-        let call = format!(in alloc; "inline|{{\"colour\":{inside}}}")?;
-        let (written, said): (&[u8], &[u8]) = if status == 0 {
-            (b"x\n", COLOUR)
-        } else {
-            (b"", SKIN)
-        };
-        expect(&rt, call.as_str(), b"x", status, written, said)?;
+        let mut source = ScriptSource::new(b"x", false);
+        let mut out = CutOut::new(alloc, ROOM, ROOM, false)?;
+        let mut err = CutOut::new(alloc, ROOM, ROOM, false)?;
+        let answer = run(alloc, words.as_slice(), &mut source, &mut out, &mut err);
+        assert_eq!(rt; answer, *status, "{} bytes", value.len());
+        assert!(rt; err.taken() == *said, "{} bytes", value.len());
     }
     Ok(())
 }
@@ -413,6 +542,23 @@ fn a_failing_output_has_taken_a_beginning(rt: HostRuntime) -> Result<(), Fail> {
         expect_front(&rt, "area|0|0|12|3", b"hello", HELLO, room, false)?;
         expect_front(&rt, "inline|default", b"**some** x", SOME, room, false)?;
         expect_front(&rt, "text|5", b"a\n\nb", b"a\n\nb\n", room, false)?;
+        expect_front(&rt, "text|10", b"```\na\nbbb", b"a  \nbbb\n", room, false)?;
+        expect_front(
+            &rt,
+            "text|5|default",
+            b"# t",
+            b"  \x1b[1m\x1b[4mt\x1b[0m\n",
+            room,
+            false,
+        )?;
+        expect_front(
+            &rt,
+            r#"text|8|{"list_items_indentation_mode":"hanging(2)"}"#,
+            b"* abcdefghij",
+            HANGING.as_bytes(),
+            room,
+            false,
+        )?;
     }
     expect_front(&rt, "area|0|0|12|3", b"hello", HELLO, ROOM, true)?;
     expect_front(&rt, "inline|default", b"**some** x", SOME, ROOM, true)?;

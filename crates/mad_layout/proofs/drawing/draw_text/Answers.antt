@@ -1,5 +1,5 @@
 use Rattle.std.proofs.Common.{ap, ◌∙◌, drop}
-use Rattle.mad_layout.proofs.DrawnLayouts.{layout_shown}
+use Rattle.mad_layout.proofs.DrawnLayouts.{layout_shown, rows_shown}
 use Rattle.mad_layout.proofs.ShownLemmas.{text_shown_in}
 use Rattle.mad_layout.proofs.drawing.draw_text.Goals as goal
 
@@ -10,3 +10,7 @@ returns-clause-shown g c =
 
 pub returns-clause-shown_layout : goal.returns-clause-shown_layout
 returns-clause-shown_layout g c = layout_shown c.draw_rows.result c.args.text.now.skin.now c.args.text.now.lines.items c.args.area.now c.args.scroll (g.O.Out.seen c.args.out.now) (g.O.Out.seen c.draw_rows.new.out) c.requires (returns-clause-shown g c)
+
+pub returns-clause-headline : goal.returns-clause-headline
+returns-clause-headline g c =
+    rows_shown c.draw_rows.result c.args.text.now.skin.now c.args.text.now.lines.items c.args.area.now c.args.scroll (g.O.Out.seen c.args.out.now) (g.O.Out.seen c.draw_rows.new.out) c.requires (returns-clause-shown_layout g c)

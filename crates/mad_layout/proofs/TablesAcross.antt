@@ -1,0 +1,349 @@
+-- From a table's layout to the rows of its lines across an area.
+use Rattle.std.proofs.Common.{◌≡◌, ℕ, zero, suc, ◌+◌, ◌-◌, ◌*◌, ◌/◌, ◌^◌, ◌<◌, ◌≤◌, ◌==◌, Bool, true, false, inl, inr, max, List, [], ◌∷◌, ◌++◌, map, length, take, replicate, chars, Option, Some, None, if◌then◌else◌, nat_le, refl, ap, sym, ◌∙◌, subst, arith, append_assoc}
+use Rattle.std.specs.List.{AllByRecursion}
+use Rattle.std.proofs.lemmas.Bool.Decides.{nat_tests}
+use Rattle.std.proofs.lemmas.List.{map-append, length-map}
+use Rattle.mad_md.specs.Flagged.{FlaggedChar, Run, flagged, run_of, flagged_of, flagged_text}
+use Rattle.mad_md.specs.Lines.{StyledRuns, LineContent, normal, table_row, table_rule, horizontal_rule}
+use Rattle.mad_md.specs.declared.alignment.Alignment.{Alignment}
+use Rattle.mad_style.specs.Kinds.{kind_of}
+use Rattle.mad_style.specs.declared.kinds.CompositeKind.{CompositeKind}
+use Rattle.mad_widths.specs.ColumnWidths.{needs_of, column_widths, after_second}
+use Rattle.mad_fit.specs.Columns.{width_of}
+use Rattle.mad_fit.specs.declared.area.Area.{Area}
+use Rattle.mad_fit.specs.declared.spacing.Spacing.{Spacing}
+use Rattle.mad_wrap.specs.WrapLines.{HasRoom, LinesFit}
+use Rattle.mad_wrap.specs.declared.room.Room.{Room}
+use Rattle.mad_layout.specs.CompositeWraps.{line_compounds, HaveKinds, IsCompositeWrap}
+use Rattle.mad_layout.specs.FlaggedLines.{marked_parts}
+use Rattle.mad_layout.specs.FlaggedRows.{AreRowsOf}
+use Rattle.mad_layout.specs.FlaggedTables.{columns_among, cells_among, down, kept_widths, columns_below, row_in_column, rows_in_column, CellInColumn, AreInColumns, rows_down, most_rows, table_across, IsRowAcross, rule_across}
+use Rattle.mad_layout.specs.FlaggedTexts.{LineInPart, aligns_at, place_in, lines_in, IsAcross}
+use Rattle.mad_layout.specs.Indents.{indent, follow_up, room_of}
+use Rattle.mad_layout.specs.Lines.{bordered, IsCompositeRead, AreCompositesRead, IsLineRead}
+use Rattle.mad_layout.specs.PlainTables.{ArePlainCells}
+use Rattle.mad_layout.specs.Premises.{IsPlainPrefix, IsPlainCell, KeepsPremises}
+use Rattle.mad_layout.specs.Tables.{in_column, IsCellLaidOut, AreCellsLaidOut, below, tallest, IsRowLaidOutBy, columns_with, columns_from, columns_count, columns_in, is_table_line, position_at, IsTableLineBy, AreTableLinesBy, IsTableLaidOutBy}
+use Rattle.mad_layout.specs.Tables as tables
+use Rattle.mad_layout.specs.Wraps.{text_of, columns_of, IsMeasured}
+use Rattle.mad_layout.specs.declared.skin.MadSkin.{MadSkin}
+use Rattle.mad_layout.specs.declared.composite.FmtComposite.{FmtComposite}
+use Rattle.mad_layout.specs.declared.line.FmtLine.{FmtLine}
+use Rattle.mad_layout.specs.declared.line.FmtLine.TheVariants.{Normal, TableRow, TableRule, HorizontalRule}
+use Rattle.mad_layout.specs.declared.table.FmtTableRow.{FmtTableRow}
+use Rattle.mad_layout.specs.declared.table.RelativePosition.{RelativePosition}
+use Rattle.mad_layout.specs.declared.table.RelativePosition.TheVariants.{Other}
+use Rattle.mad_layout.proofs.CellChars.{cell_chars, column_chars, lines_rows, placed_lines, down_chars, rule_line_chars}
+use Rattle.mad_layout.proofs.DrawableTables.{TableContent, content_plain, kept_columns, widths_of, centered-widths, columns_with-widths, widths_small, map_some}
+use Rattle.mad_layout.proofs.DrawnParts.{runs_are}
+use Rattle.mad_layout.proofs.KeptWidths.{AreTableRead, count_read, widths_kept}
+use Rattle.mad_layout.proofs.MarkLemmas.{follow_up_plain}
+use Rattle.mad_layout.proofs.RowChars.{line_chars}
+use Rattle.mad_layout.proofs.RowsAcross.{parts_are, HaveFirstRows, across_exist, some_same}
+use Rattle.mad_layout.proofs.WrapRows.{whole_parts, kept_rows, wrapped_rows}
+
+-- ---- a cell in its column
+
+one_in_column : (skin : MadSkin) (c : Spacing) (k : CompositeKind) (l : FmtComposite) → c.width < 2 ^ 64 - 1 → IsPlainPrefix skin k → l.kind ≡ k → IsMeasured skin l → columns_of skin l ≤ c.width
+    → cell_chars skin (in_column c l) ≡ row_in_column skin c k (text_of l)
+one_in_column skin c k l bound prefix kind measured fits =
+    let same : l.visible_length ≡ columns_of skin l = omega (arith, measured, fits, bound) in
+    column_chars skin c l (subst (IsPlainPrefix skin) (sym kind) prefix) same ∙ ap (λ (x : CompositeKind). row_in_column skin c x (text_of l)) kind
+
+others_in_column : (skin : MadSkin) (c : Spacing) (k : CompositeKind) (ls : List FmtComposite) → c.width < 2 ^ 64 - 1 → IsPlainPrefix skin (follow_up k) → HaveKinds (follow_up k) (follow_up k) ls → AllByRecursion (IsMeasured skin) ls
+    → LinesFit (indent skin.list_items_indentation_mode (follow_up k)) (room_of skin k c.width) (map flagged_text (line_compounds ls)) → lines_rows skin c ls ≡ map (row_in_column skin c (follow_up k)) (map flagged_text (line_compounds ls))
+others_in_column skin c k [] bound prefix kinds measured fits = refl
+others_in_column skin c k (l ∷ ls) bound prefix kinds measured fits =
+    let own : indent skin.list_items_indentation_mode l.kind ≡ indent skin.list_items_indentation_mode (follow_up k) = ap (indent skin.list_items_indentation_mode) kinds.0 in
+    let first = one_in_column skin c (follow_up k) l bound prefix kinds.0 measured.0 (omega (arith, own, fits.0)) in
+    let rest = others_in_column skin c k ls bound prefix kinds.1 measured.1 fits.1 in
+    ap (λ x. x ∷ lines_rows skin c ls) first ∙ ap (λ xs. row_in_column skin c (follow_up k) (text_of l) ∷ xs) rest
+
+wrap_in_column : (skin : MadSkin) (c : Spacing) (k : CompositeKind) (ls : List FmtComposite) → c.width < 2 ^ 64 - 1 → IsPlainPrefix skin k → HaveKinds k (follow_up k) ls → AllByRecursion (IsMeasured skin) ls
+    → LinesFit (indent skin.list_items_indentation_mode k) (room_of skin k c.width) (map flagged_text (line_compounds ls)) → lines_rows skin c ls ≡ rows_in_column skin c k (map flagged_text (line_compounds ls))
+wrap_in_column skin c k [] bound prefix kinds measured fits = refl
+wrap_in_column skin c k (l ∷ ls) bound prefix kinds measured fits =
+    let own : indent skin.list_items_indentation_mode l.kind ≡ indent skin.list_items_indentation_mode k = ap (indent skin.list_items_indentation_mode) kinds.0 in
+    let first = one_in_column skin c k l bound prefix kinds.0 measured.0 (omega (arith, own, fits.0)) in
+    let rest = others_in_column skin c k ls bound (follow_up_plain skin k prefix) kinds.1 measured.1 fits.1 in
+    ap (λ x. x ∷ lines_rows skin c ls) first ∙ ap (λ xs. row_in_column skin c k (text_of l) ∷ xs) rest
+
+-- the lines of a cell are rows of it
+abbrev HasRowsIn : MadSkin → Spacing → CompositeKind → List (List FlaggedChar) → List FmtComposite → Type 0
+HasRowsIn skin c k parts ls = (rows : List (List FlaggedChar)) × AreRowsOf (room_of skin k c.width) parts rows × (lines_rows skin c ls ≡ rows_in_column skin c k rows)
+
+cell_rows : (skin : MadSkin) (c : Spacing) (cell : FmtComposite) (ls : List FmtComposite) → c.width < 2 ^ 64 - 1 → IsMeasured skin cell → IsPlainCell skin c.width cell.kind (map run_of cell.compounds.items)
+    → IsCellLaidOut IsCompositeWrap skin c.width cell ls → HasRowsIn skin c cell.kind (map flagged_of cell.compounds.items) ls
+cell_rows skin c cell ls bound measured plain (inl (fits, same)) =
+    let inside : columns_of skin cell ≤ c.width = omega (arith, measured, fits, bound) in (
+      text_of cell ∷ [],
+      kept_rows (room_of skin cell.kind c.width) (text_of cell) (map flagged_of cell.compounds.items) (whole_parts cell.compounds.items) inside,
+      ap (lines_rows skin c) same ∙ ap (λ x. x ∷ []) (one_in_column skin c cell.kind cell bound plain.prefix refl measured inside),
+    )
+cell_rows skin c cell ls bound measured plain (inr (wide, wraps)) =
+    let ps = cell.compounds.items in
+    let r : Room = room_of skin cell.kind c.width in
+    let premise = λ (t : List FlaggedChar). c.width < indent skin.list_items_indentation_mode cell.kind + width_of t → HasRoom r t in
+    let room_where : premise (text_of cell) = subst premise (runs_are ps) plain.room in
+    let room : HasRoom r (text_of cell) = room_where (omega (arith, measured, wide)) in
+    let passes : r.width < r.first + width_of (flagged_text ps) = omega (arith, measured, wide) in
+    (map flagged_text (line_compounds ls), wrapped_rows r ps (line_compounds ls) passes wraps.wrap, wrap_in_column skin c cell.kind ls bound plain.prefix wraps.kinds wraps.measured (wraps.wrap.fits room))
+
+said_cell : (skin : MadSkin) (c : Spacing) (said : StyledRuns) (cell : FmtComposite) (ls : List FmtComposite) → IsCompositeRead skin said cell → HasRowsIn skin c cell.kind (map flagged_of cell.compounds.items) ls
+    → HasRowsIn skin c (kind_of said.style) (marked_parts said) ls
+said_cell skin c said cell ls read h =
+    let parts : map flagged_of cell.compounds.items ≡ marked_parts said = sym (ap (map (λ (r : Run). flagged r.flags (chars r.text))) (sym read.text) ∙ parts_are cell.compounds.items) in
+    subst (λ (k : CompositeKind). HasRowsIn skin c k (marked_parts said) ls) read.kind (subst (λ (ps : List (List FlaggedChar)). HasRowsIn skin c cell.kind ps ls) parts h)
+
+-- ---- a row
+
+none_plain : (skin : MadSkin) (ws : List ℕ) → ArePlainCells skin ws []
+none_plain skin [] = tt
+none_plain skin (w ∷ ws) = tt
+
+cells_in_columns : (skin : MadSkin) (cs : List Spacing) (said : List StyledRuns) (cells : List FmtComposite) (lines : List (List FmtComposite)) → AllByRecursion (λ c. c.width < 2 ^ 64 - 1) cs → AreCompositesRead skin said cells
+    → ArePlainCells skin (widths_of cs) cells → AreCellsLaidOut IsCompositeWrap skin cs cells lines → AreInColumns skin cs said (placed_lines skin cs lines)
+cells_in_columns skin [] said cells lines bound read plain laid = refl
+cells_in_columns skin (c ∷ cs) said cells [] bound read plain laid = absurd laid
+cells_in_columns skin (c ∷ cs) [] (cell ∷ cells) (ls ∷ lines) bound read plain laid = absurd read
+cells_in_columns skin (c ∷ cs) (s ∷ ss) [] (ls ∷ lines) bound read plain laid = absurd read
+cells_in_columns skin (c ∷ cs) [] [] (ls ∷ lines) bound read plain laid =
+    let rest : List CellInColumn = placed_lines skin cs lines in (
+      rest,
+      ap (λ (xs : List FmtComposite). record { width = c.width; rows = lines_rows skin c xs } ∷ rest) laid.0,
+      cells_in_columns skin cs [] [] lines bound.1 tt (none_plain skin (widths_of cs)) laid.1,
+    )
+cells_in_columns skin (c ∷ cs) (s ∷ ss) (cell ∷ cells) (ls ∷ lines) bound read plain laid =
+    let rest : List CellInColumn = placed_lines skin cs lines in
+    let own = said_cell skin c s cell ls read.0 (cell_rows skin c cell ls bound.0 plain.0 plain.1 laid.0) in (
+      own.0,
+      rest,
+      own.1,
+      ap (λ (xs : List (List ℕ)). record { width = c.width; rows = xs } ∷ rest) own.2,
+      cells_in_columns skin cs ss cells lines bound.1 read.1 plain.2 laid.1,
+    )
+
+as_tall : (skin : MadSkin) (cs : List Spacing) (cells : List FmtComposite) (lines : List (List FmtComposite)) → AreCellsLaidOut IsCompositeWrap skin cs cells lines → most_rows (placed_lines skin cs lines) ≡ tallest lines
+as_tall skin [] cells [] laid = refl
+as_tall skin [] cells (ls ∷ lines) laid = absurd laid
+as_tall skin (c ∷ cs) cells [] laid = absurd laid
+as_tall skin (c ∷ cs) cells (ls ∷ lines) laid =
+    let rest : most_rows (placed_lines skin cs lines) ≡ tallest lines = as_tall skin cs (below cells) lines laid.1 in
+    let own : length (lines_rows skin c ls) ≡ length ls = length-map ls (λ l. cell_chars skin (in_column c l)) in
+    omega (arith, rest, own)
+
+row_is_across : (skin : MadSkin) (area : Area) (cs : List Spacing) (said : List StyledRuns) (cells : List FmtComposite) (rows : List FmtTableRow) → AllByRecursion (λ c. c.width < 2 ^ 64 - 1) cs → AreCompositesRead skin said cells
+    → ArePlainCells skin (widths_of cs) cells → IsRowLaidOutBy IsCompositeWrap skin cs cells rows → IsRowAcross skin area cs said (map (line_chars skin area.width) (map TableRow rows))
+row_is_across skin area cs said cells rows bound read plain laid =
+    let placed : List CellInColumn = placed_lines skin cs laid.lines in
+    let same : most_rows placed ≡ tallest laid.lines = as_tall skin cs cells laid.lines laid.laid_out in
+    let tall : length rows ≡ max (tallest laid.lines) 1 = laid.count in
+    let count : length rows ≡ max (most_rows placed) 1 = omega (arith, tall, same) in (
+      placed,
+      cells_in_columns skin cs said cells laid.lines bound read plain laid.laid_out,
+      down_chars skin area cs laid.lines rows laid.rows_are ∙ ap (λ n. map (table_across skin area (1 + bordered (widths_of cs))) (rows_down skin n placed)) count,
+    )
+
+-- ---- a line in its table
+
+below-widths : (ws : List ℕ) (aligns : Option (List Alignment)) → widths_of (columns_below ws aligns) ≡ ws
+below-widths ws None = centered-widths ws
+below-widths ws (Some aligns) = columns_with-widths ws aligns
+
+-- a line of a table that was laid out in its part, in columns of these widths
+pub record IsLaidIn (skin : MadSkin) (width : ℕ) (ws : List ℕ) (x : LineInPart) (l : FmtLine) (own : List FmtLine) : Type 0 where
+  pub widths : ws ≡ kept_widths skin width x.part
+  pub table : is_table_line l ≡ true
+  pub read : IsLineRead skin x.line l
+  pub laid : IsTableLineBy IsCompositeWrap skin (columns_below ws x.aligns) x.position l own
+
+line_rows : (skin : MadSkin) (area : Area) (ws : List ℕ) (x : LineInPart) (c : LineContent) (l : FmtLine) (own : List FmtLine) → area.width < 2 ^ 64 - 1 → 1 + bordered ws ≤ area.width - 1 → ws ≡ kept_widths skin (area.width - 1) x.part
+    → TableContent skin (area.width - 1) ws l → IsLineRead skin c l → is_table_line l ≡ true → IsTableLineBy IsCompositeWrap skin (columns_below ws x.aligns) x.position l own
+    → (0 < length own) × IsAcross skin area x c (map (line_chars skin area.width) own)
+line_rows skin area ws x (normal said) (Normal l) own bound fit is content read table laid = absurd (cc)
+line_rows skin area ws x (normal said) (TableRow row) own bound fit is content read table laid = absurd read
+line_rows skin area ws x (normal said) (TableRule rule) own bound fit is content read table laid = absurd read
+line_rows skin area ws x (normal said) HorizontalRule own bound fit is content read table laid = absurd read
+line_rows skin area ws x (table_row cells) (Normal l) own bound fit is content read table laid = absurd read
+line_rows skin area ws x (table_row cells) (TableRow row) own bound fit is content read table (rows, same, laid) =
+    let width : ℕ = area.width - 1 in
+    let cs : List Spacing = columns_below ws x.aligns in
+    let widths : widths_of cs ≡ ws = below-widths ws x.aligns in
+    let inside : 1 + bordered (widths_of cs) ≤ width = subst (λ vs. 1 + bordered vs ≤ width) (sym widths) fit in
+    let plain : ArePlainCells skin (widths_of cs) row.cells.items = subst (λ vs. ArePlainCells skin vs row.cells.items) (sym widths) content.plain in
+    let across = row_is_across skin area cs cells row.cells.items rows (widths_small width cs (omega (arith, bound)) inside) read plain laid in
+    let count : length rows ≡ max _ 1 = laid.count in
+    subst (λ (ls : List FmtLine). (0 < length ls) × IsAcross skin area x (table_row cells) (map (line_chars skin area.width) ls)) (sym same)
+    (map_some rows (omega (arith, count)), subst (λ vs. IsRowAcross skin area (columns_below vs x.aligns) cells (map (line_chars skin area.width) (map TableRow rows))) is across)
+line_rows skin area ws x (table_row cells) (TableRule rule) own bound fit is content read table laid = absurd read
+line_rows skin area ws x (table_row cells) HorizontalRule own bound fit is content read table laid = absurd read
+line_rows skin area ws x (table_rule aligns) (Normal l) own bound fit is content read table laid = absurd read
+line_rows skin area ws x (table_rule aligns) (TableRow row) own bound fit is content read table laid = absurd read
+line_rows skin area ws x (table_rule aligns) (TableRule source) own bound fit is content read table (rule, same, laid) =
+    let chars = rule_line_chars skin area x.position ws rule (content.borders.rules x.position) laid.position_is (laid.widths_are ∙ below-widths ws x.aligns) in
+    subst (λ (ls : List FmtLine). (0 < length ls) × IsAcross skin area x (table_rule aligns) (map (line_chars skin area.width) ls)) (sym same)
+    (omega arith, ap (λ (t : List ℕ). t ∷ []) (chars ∙ ap (rule_across skin area x.position) is))
+line_rows skin area ws x (table_rule aligns) HorizontalRule own bound fit is content read table laid = absurd read
+line_rows skin area ws x horizontal_rule (Normal l) own bound fit is content read table laid = absurd read
+line_rows skin area ws x horizontal_rule (TableRow row) own bound fit is content read table laid = absurd read
+line_rows skin area ws x horizontal_rule (TableRule rule) own bound fit is content read table laid = absurd read
+line_rows skin area ws x horizontal_rule HorizontalRule own bound fit is content read table laid = absurd (cc)
+
+-- ---- the lines of a table
+
+abbrev pub AreLaidIn : MadSkin → ℕ → List ℕ → List LineInPart → List FmtLine → List FmtLine → Type 0
+AreLaidIn skin width ws [] [] lines = lines ≡ []
+AreLaidIn skin width ws [] (l ∷ ls) lines = ⊥
+AreLaidIn skin width ws (x ∷ xs) [] lines = ⊥
+AreLaidIn skin width ws (x ∷ xs) (l ∷ ls) lines = (own : List FmtLine) × (others : List FmtLine) × (lines ≡ own ++ others) × IsLaidIn skin width ws x l own × AreLaidIn skin width ws xs ls others
+
+-- The first rows of these lines and of those after them, whose rows are there for any number of lines that keep the premises.
+pub table_front : (skin : MadSkin) (area : Area) (n : ℕ) (ws : List ℕ) (xs ys : List LineInPart) (read own others : List FmtLine) → area.width < 2 ^ 64 - 1 → 1 + bordered ws ≤ area.width - 1
+    → ((m : ℕ) → KeepsPremises skin (area.width - 1) (take m ys) → HaveFirstRows skin area m ys others)
+    → KeepsPremises skin (area.width - 1) (take n (xs ++ ys)) → AreLaidIn skin (area.width - 1) ws xs read own → HaveFirstRows skin area n (xs ++ ys) (own ++ others)
+table_front skin area zero ws xs ys read own others bound fit later keeps laid = let all = across_exist skin area (xs ++ ys) in (all.0, all.1, refl)
+table_front skin area (suc n) ws [] ys [] own others bound fit later keeps laid = subst (λ (ls : List FmtLine). HaveFirstRows skin area (suc n) ys (ls ++ others)) (sym laid) (later (suc n) keeps)
+table_front skin area (suc n) ws [] ys (l ∷ ls) own others bound fit later keeps laid = absurd laid
+table_front skin area (suc n) ws (x ∷ xs) ys [] own others bound fit later keeps laid = absurd laid
+table_front skin area (suc n) ws (x ∷ xs) ys (l ∷ ls) own others bound fit later keeps (here, behind, joins, h, more) =
+    let drawn : List FmtLine → List (List ℕ) = map (line_chars skin area.width) in
+    let content : TableContent skin (area.width - 1) ws l = content_plain skin (area.width - 1) x.part ws x.line l (kept_columns skin (area.width - 1) x.part ws h.widths) keeps.0 h.read h.table in
+    let first = line_rows skin area ws x x.line l here bound fit h.widths content h.read h.table h.laid in
+    let rest = table_front skin area n ws xs ys ls behind others bound fit later keeps.1 more in
+    let count : 0 < length (drawn here) = omega (arith, first.0, length-map here (line_chars skin area.width)) in
+    let lines : own ++ others ≡ here ++ (behind ++ others) = ap (λ (ls : List FmtLine). ls ++ others) joins ∙ append_assoc here behind others in (
+      drawn here ++ rest.0,
+      (drawn here, rest.0, refl, first.1, rest.1),
+      some_same (drawn here) rest.0 (drawn (behind ++ others)) n count rest.2 ∙ ap (take (suc n)) (sym (ap drawn lines ∙ map-append (line_chars skin area.width) here (behind ++ others))),
+    )
+
+-- ---- lines of a table in their part
+
+as_long : (skin : MadSkin) (cs : List LineContent) (ls : List FmtLine) → AreTableRead skin cs ls → length ls ≡ length cs
+as_long skin [] [] h = refl
+as_long skin [] (l ∷ ls) h = absurd h
+as_long skin (c ∷ cs) [] h = absurd h
+as_long skin (c ∷ cs) (l ∷ ls) h = let rest : length ls ≡ length cs = as_long skin cs ls h.1 in omega (arith, rest)
+
+columns_at : (skin : MadSkin) (ws : List ℕ) (above : Option (List Alignment)) (c : LineContent) (l : FmtLine) → IsLineRead skin c l → is_table_line l ≡ true → columns_from ws (columns_below ws above) l ≡ columns_below ws (aligns_at above c)
+columns_at skin ws above (normal said) (Normal l) read table = refl
+columns_at skin ws above (normal said) (TableRow row) read table = absurd read
+columns_at skin ws above (normal said) (TableRule rule) read table = absurd read
+columns_at skin ws above (normal said) HorizontalRule read table = absurd read
+columns_at skin ws above (table_row cells) (Normal l) read table = absurd read
+columns_at skin ws above (table_row cells) (TableRow row) read table = refl
+columns_at skin ws above (table_row cells) (TableRule rule) read table = absurd read
+columns_at skin ws above (table_row cells) HorizontalRule read table = absurd read
+columns_at skin ws above (table_rule aligns) (Normal l) read table = absurd read
+columns_at skin ws above (table_rule aligns) (TableRow row) read table = absurd read
+columns_at skin ws above (table_rule aligns) (TableRule rule) read table = ap (columns_with ws) read.aligns_are
+columns_at skin ws above (table_rule aligns) HorizontalRule read table = absurd read
+columns_at skin ws above horizontal_rule (Normal l) read table = absurd read
+columns_at skin ws above horizontal_rule (TableRow row) read table = absurd read
+columns_at skin ws above horizontal_rule (TableRule rule) read table = absurd read
+columns_at skin ws above horizontal_rule HorizontalRule read table = refl
+
+laid_in : (skin : MadSkin) (width : ℕ) (ws : List ℕ) (part : List LineContent) (above : Option (List Alignment)) (first : Bool) (cs : List LineContent) (ls own : List FmtLine) → ws ≡ kept_widths skin width part → (columns_among part == 0) ≡ false
+    → AreTableRead skin cs ls → AreTableLinesBy IsCompositeWrap skin ws (columns_below ws above) first ls own → AreLaidIn skin width ws (lines_in part above first cs) ls own
+laid_in skin width ws part above first [] [] own is some reads laid = laid
+laid_in skin width ws part above first [] (l ∷ ls) own is some reads laid = absurd reads
+laid_in skin width ws part above first (c ∷ cs) [] own is some reads laid = absurd reads
+laid_in skin width ws part above first (c ∷ cs) (l ∷ ls) own is some reads (here, behind, joins, one, more) =
+    let columns = columns_at skin ws above c l reads.0.read reads.0.line in
+    let place : position_at first (length ls == 0) ≡ place_in part first (length cs == 0) =
+    ap (λ n. position_at first (n == 0)) (as_long skin cs ls reads.1) ∙ ap (λ (b : Bool). if b then Other else position_at first (length cs == 0)) (sym some) in (
+      here,
+      behind,
+      joins,
+      record {
+        widths = is;
+        table = reads.0.line;
+        read = reads.0.read;
+        laid = subst (λ (p : RelativePosition). IsTableLineBy IsCompositeWrap skin (columns_below ws (aligns_at above c)) p l here) place
+            (subst (λ (xs : List Spacing). IsTableLineBy IsCompositeWrap skin xs (position_at first (length ls == 0)) l here) columns one);
+      },
+      laid_in skin width ws part (aligns_at above c) false cs ls behind is some reads.1 (subst (λ (xs : List Spacing). AreTableLinesBy IsCompositeWrap skin ws xs false ls behind) columns more),
+    )
+
+-- ---- a table without columns
+
+no_columns : (available : ℕ) → column_widths available [] ≡ []
+unfolding column_widths
+no_columns available = let test : nat_le 0 available ≡ true = grind (arith, nat_tests) in ap (λ (b : Bool). if b then [] else after_second available []) test
+
+no_widths : (skin : MadSkin) (width : ℕ) (part : List LineContent) → 0 < width → columns_among part ≡ 0 → [] ≡ kept_widths skin width part
+no_widths skin width part some none =
+    let test : nat_le (4 * columns_among part + 1) width ≡ true = grind (arith, nat_tests) in
+    sym (ap (λ n. if nat_le (4 * n + 1) width then column_widths (width - 1 - n) (map needs_of (down n (cells_among skin part))) else replicate ((width - 1) / 4) 3) none
+    ∙ ap (λ (b : Bool). if b then column_widths (width - 1 - 0) [] else replicate ((width - 1) / 4) 3) (ap (λ n. nat_le (4 * n + 1) width) (sym none) ∙ test)
+    ∙ no_columns (width - 1 - 0))
+
+none_below : (aligns : Option (List Alignment)) → columns_below [] aligns ≡ []
+none_below None = refl
+none_below (Some aligns) = refl
+
+no_items : {A : Type 0} (xs : List A) → length xs ≡ 0 → xs ≡ []
+no_items {A} [] h = refl
+no_items {A} (x ∷ xs) h = absurd (omega (arith, h))
+
+bare_line : (skin : MadSkin) (position : RelativePosition) (c : LineContent) (l : FmtLine) → position ≡ Other → IsLineRead skin c l → is_table_line l ≡ true → columns_in l ≡ 0 → IsTableLineBy IsCompositeWrap skin [] position l (l ∷ [])
+bare_line skin position (normal said) (Normal l) other read table none = refl
+bare_line skin position (normal said) (TableRow row) other read table none = absurd read
+bare_line skin position (normal said) (TableRule rule) other read table none = absurd read
+bare_line skin position (normal said) HorizontalRule other read table none = absurd read
+bare_line skin position (table_row cells) (Normal l) other read table none = absurd read
+bare_line skin position (table_row cells) (TableRow row) other read table none =
+    (row ∷ [], refl, record { lines = []; laid_out = tt; count = refl; rows_are = (subst (tables.IsAcross [] []) (sym (no_items row.cells.items none)) tt, tt) })
+bare_line skin position (table_row cells) (TableRule rule) other read table none = absurd read
+bare_line skin position (table_row cells) HorizontalRule other read table none = absurd read
+bare_line skin position (table_rule aligns) (Normal l) other read table none = absurd read
+bare_line skin position (table_rule aligns) (TableRow row) other read table none = absurd read
+bare_line skin position (table_rule aligns) (TableRule rule) other read table none =
+    (rule, refl, record { position_is = read.position ∙ sym other; widths_are = read.widths; aligns_are = no_items rule.aligns.items none })
+bare_line skin position (table_rule aligns) HorizontalRule other read table none = absurd read
+bare_line skin position horizontal_rule (Normal l) other read table none = absurd read
+bare_line skin position horizontal_rule (TableRow row) other read table none = absurd read
+bare_line skin position horizontal_rule (TableRule rule) other read table none = absurd read
+bare_line skin position horizontal_rule HorizontalRule other read table none = refl
+
+bare_in : (skin : MadSkin) (width : ℕ) (part : List LineContent) (above : Option (List Alignment)) (first : Bool) (cs : List LineContent) (ls : List FmtLine) → [] ≡ kept_widths skin width part → columns_among part ≡ 0 → columns_count ls ≡ 0
+    → AreTableRead skin cs ls → AreLaidIn skin width [] (lines_in part above first cs) ls ls
+bare_in skin width part above first [] [] is none empty reads = refl
+bare_in skin width part above first [] (l ∷ ls) is none empty reads = absurd reads
+bare_in skin width part above first (c ∷ cs) [] is none empty reads = absurd reads
+bare_in skin width part above first (c ∷ cs) (l ∷ ls) is none empty reads =
+    let aligns = aligns_at above c in
+    let place : RelativePosition = place_in part first (length cs == 0) in
+    let other : place ≡ Other = ap (λ n. if n == 0 then Other else position_at first (length cs == 0)) none in
+    let own : columns_in l ≡ 0 = omega (arith, empty) in (
+      l ∷ [],
+      ls,
+      refl,
+      record {
+        widths = is;
+        table = reads.0.line;
+        read = reads.0.read;
+        laid = subst (λ (xs : List Spacing). IsTableLineBy IsCompositeWrap skin xs place l (l ∷ [])) (sym (none_below aligns)) (bare_line skin place c l other reads.0.read reads.0.line own);
+      },
+      bare_in skin width part aligns false cs ls is none (omega (arith, empty)) reads.1,
+    )
+
+-- ---- a table
+
+-- The first rows of a table and of the lines after it.
+pub table_across_area : (skin : MadSkin) (area : Area) (n : ℕ) (part : List LineContent) (ys : List LineInPart) (read own others : List FmtLine) → area.width < 2 ^ 64 - 1 → 4 ≤ area.width
+    → ((m : ℕ) → KeepsPremises skin (area.width - 1) (take m ys) → HaveFirstRows skin area m ys others)
+    → KeepsPremises skin (area.width - 1) (take n (lines_in part None true part ++ ys)) → AreTableRead skin part read
+    → IsTableLaidOutBy IsCompositeWrap skin (columns_count read) (area.width - 1) read own → HaveFirstRows skin area n (lines_in part None true part ++ ys) (own ++ others)
+table_across_area skin area n part ys read own others bound wide later keeps reads (inl (inl none, stays)) =
+    let empty : columns_among part ≡ 0 = sym (count_read skin part read reads) ∙ none in
+    subst (λ (ls : List FmtLine). HaveFirstRows skin area n (lines_in part None true part ++ ys) (ls ++ others)) (sym stays)
+    (table_front skin area n [] (lines_in part None true part) ys read read others bound (omega (arith, wide)) later keeps
+    (bare_in skin (area.width - 1) part None true part read (no_widths skin (area.width - 1) part (omega (arith, wide)) empty) empty none reads))
+table_across_area skin area n part ys read own others bound wide later keeps reads (inl (inr none, stays)) = absurd (omega (arith, none, wide))
+table_across_area skin area n part ys read own others bound wide later keeps reads (inr (some, place, (ws, kept, laid))) =
+    let fit : 1 + bordered ws ≤ area.width - 1 = let inside : bordered ws + 1 ≤ area.width - 1 = kept.fit in omega (arith, inside) in
+    let count : columns_count read ≡ columns_among part = count_read skin part read reads in
+    let columns : (columns_among part == 0) ≡ false = grind (arith, nat_tests) in
+    table_front skin area n ws (lines_in part None true part) ys read own others bound fit later keeps
+    (laid_in skin (area.width - 1) ws part None true part read own (widths_kept skin (area.width - 1) part read ws reads kept) columns reads laid)

@@ -1,0 +1,102 @@
+-- The rows of a table's lines across an area.
+use Rattle.std.specs.Prelude.{◌≡◌, ℕ, zero, suc, ◌+◌, ◌-◌, max, List, [], ◌∷◌, ◌++◌, map, length, replicate, drop, slice_get, unwrap_or, encode_utf8}
+use Rattle.std.specs.List.{flat_map, repeat}
+use Rattle.std.specs.Str.{chars}
+use Rattle.mad_md.specs.Flagged.{FlaggedChar}
+use Rattle.mad_md.specs.Lines.{StyledRuns}
+use Rattle.mad_style.specs.Kinds.{kind_of}
+use Rattle.mad_style.specs.declared.kinds.CompositeKind.{CompositeKind}
+use Rattle.mad_fit.specs.Columns.{width_of}
+use Rattle.mad_fit.specs.Completions.{left_completion}
+use Rattle.mad_fit.specs.declared.area.Area.{Area}
+use Rattle.mad_fit.specs.declared.spacing.Spacing.{Spacing}
+use Rattle.mad_draw.specs.declared.table_rules.RuleChars.{RuleChars}
+use Rattle.mad_layout.specs.FlaggedLines.{front_of, marked_parts}
+use Rattle.mad_layout.specs.FlaggedRows.{AreRowsOf}
+use Rattle.mad_layout.specs.Indents.{indent, follow_up, room_of}
+use Rattle.mad_layout.specs.Lines.{bordered, rule_columns}
+use Rattle.mad_layout.specs.Rows.{rule_chars}
+pub use Rattle.mad_layout.specs.TableColumns.{cell_columns, cells_among, down, kept_widths, columns_below}
+pub use Rattle.mad_layout.specs.TextParts.{count_in, columns_among}
+use Rattle.mad_layout.specs.declared.skin.MadSkin.{MadSkin}
+use Rattle.mad_layout.specs.declared.table.RelativePosition.{RelativePosition}
+
+-- ---- cells in their columns
+
+-- a row of a cell, between what its column's alignment leaves left and right of it
+abbrev pub row_in_column : MadSkin → Spacing → CompositeKind → List FlaggedChar → List ℕ
+row_in_column skin column kind row =
+    let rest = column.width - (indent skin.list_items_indentation_mode kind + width_of row) in
+    let left = left_completion column.align rest in
+    replicate left 32 ++ (front_of skin kind ++ (map (λ x. x.char) row ++ replicate (rest - left) 32))
+
+-- the rows of a cell; those after the first are of the kind that follows
+abbrev pub rows_in_column : MadSkin → Spacing → CompositeKind → List (List FlaggedChar) → List (List ℕ)
+rows_in_column skin column kind [] = []
+rows_in_column skin column kind (row ∷ rows) = row_in_column skin column kind row ∷ map (row_in_column skin column (follow_up kind)) rows
+
+-- a cell in a column of this width: its rows there
+pub record CellInColumn : Type 0 where
+  pub width : ℕ
+  pub rows : List (List ℕ)
+
+-- The cells of a row in its columns: a kept cell has its rows, a missing one none; cells past the last column are left out.
+abbrev pub AreInColumns : MadSkin → List Spacing → List StyledRuns → List CellInColumn → Type 0
+AreInColumns skin [] cells placed = placed ≡ []
+AreInColumns skin (c ∷ cs) [] placed = (others : List CellInColumn) × (placed ≡ record { width = c.width; rows = [] } ∷ others) × AreInColumns skin cs [] others
+AreInColumns skin (c ∷ cs) (cell ∷ cells) placed =
+    (rows : List (List FlaggedChar)) × (others : List CellInColumn) × AreRowsOf (room_of skin (kind_of cell.style) c.width) (marked_parts cell) rows
+    × (placed ≡ record { width = c.width; rows = rows_in_column skin c (kind_of cell.style) rows } ∷ others) × AreInColumns skin cs cells others
+
+-- ---- across the table
+
+-- a character of a border
+abbrev pub border_char : ℕ → List ℕ
+border_char c = chars (encode_utf8 c)
+
+-- a border, and the first row of a cell: spaces where it has none
+abbrev pub first_row : MadSkin → CellInColumn → List ℕ
+first_row skin cell = border_char skin.table_border_chars.vertical ++ unwrap_or (slice_get cell.rows 0) (replicate cell.width 32)
+
+-- the first row of each cell, and a last border
+abbrev pub first_rows : MadSkin → List CellInColumn → List ℕ
+first_rows skin cells = flat_map (first_row skin) cells ++ border_char skin.table_border_chars.vertical
+
+-- a cell without its first row
+abbrev pub below_first : CellInColumn → CellInColumn
+below_first cell = record cell { rows = drop 1 cell.rows }
+
+-- the first n rows, one below the other
+abbrev pub rows_down : MadSkin → ℕ → List CellInColumn → List (List ℕ)
+rows_down skin zero cells = []
+rows_down skin (suc n) cells = first_rows skin cells ∷ rows_down skin n (map below_first cells)
+
+-- the count of rows of the cell that has the most
+abbrev pub most_rows : List CellInColumn → ℕ
+most_rows [] = 0
+most_rows (cell ∷ cells) = max (length cell.rows) (most_rows cells)
+
+-- a rule across columns of these widths: its left end, its horizontals with a junction between two columns, and its right end
+abbrev pub rule_row : RuleChars → List ℕ → List ℕ
+rule_row b [] = border_char b.left ++ border_char b.right
+rule_row b (w ∷ ws) =
+    border_char b.left ++ (repeat w (border_char b.horizontal) ++ (flat_map (λ v. border_char b.between ++ repeat v (border_char b.horizontal)) ws ++ border_char b.right))
+
+-- ---- across an area
+
+-- a row of a table, as wide as `columns`, where the table's alignment puts it
+abbrev pub table_across : MadSkin → Area → ℕ → List ℕ → List ℕ
+table_across skin area columns row =
+    let rest = area.width - columns in
+    let left = left_completion skin.table.align rest in
+    replicate left 32 ++ (row ++ replicate (rest - left) 32)
+
+-- The rows of a table's row: as many as the cell has that has the most, and at least one.
+abbrev pub IsRowAcross : MadSkin → Area → List Spacing → List StyledRuns → List (List ℕ) → Type 0
+IsRowAcross skin area columns cells across =
+    (placed : List CellInColumn) × AreInColumns skin columns cells placed
+    × (across ≡ map (table_across skin area (1 + bordered (map (λ c. c.width) columns))) (rows_down skin (max (most_rows placed) 1) placed))
+
+-- a rule's row, at its place in its table
+abbrev pub rule_across : MadSkin → Area → RelativePosition → List ℕ → List ℕ
+rule_across skin area position widths = table_across skin area (rule_columns widths) (rule_row (rule_chars skin.table_border_chars position) widths)

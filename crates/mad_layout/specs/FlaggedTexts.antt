@@ -1,0 +1,28 @@
+-- The rows of a text's lines across an area.
+use Rattle.std.specs.Prelude.{◌≡◌, ℕ, ◌-◌, List, [], ◌∷◌, ◌++◌}
+use Rattle.std.specs.List.{repeat}
+use Rattle.mad_md.specs.Flagged.{FlaggedChar}
+use Rattle.mad_md.specs.Lines.{LineContent, normal, table_row, table_rule, horizontal_rule}
+use Rattle.mad_style.specs.Kinds.{kind_of}
+use Rattle.mad_fit.specs.declared.area.Area.{Area}
+use Rattle.mad_layout.specs.FlaggedLines.{skin_char, marked_parts, rows_across}
+use Rattle.mad_layout.specs.FlaggedRows.{AreRowsOf}
+use Rattle.mad_layout.specs.FlaggedTables.{kept_widths, columns_below, IsRowAcross, rule_across}
+use Rattle.mad_layout.specs.Indents.{room_of}
+use Rattle.mad_layout.specs.LineTexts.{inner_width}
+pub use Rattle.mad_layout.specs.TextParts.{LineInPart, aligns_at, place_in, lines_in, lines_in_parts}
+use Rattle.mad_layout.specs.declared.skin.MadSkin.{MadSkin}
+
+-- These are the rows of a line across an area.
+abbrev pub IsAcross : MadSkin → Area → LineInPart → LineContent → List (List ℕ) → Type 0
+IsAcross skin area x (normal line) across =
+    (rows : List (List FlaggedChar)) × AreRowsOf (room_of skin (kind_of line.style) (inner_width skin (area.width - 1) line)) (marked_parts line) rows × (across ≡ rows_across skin area x.part line rows)
+IsAcross skin area x (table_row cells) across = IsRowAcross skin area (columns_below (kept_widths skin (area.width - 1) x.part) x.aligns) cells across
+IsAcross skin area x (table_rule aligns) across = across ≡ rule_across skin area x.position (kept_widths skin (area.width - 1) x.part) ∷ []
+IsAcross skin area x horizontal_rule across = across ≡ repeat area.width (skin_char skin.horizontal_rule) ∷ []
+
+-- the rows of lines, in order, across an area
+abbrev pub AreAcross : MadSkin → Area → List LineInPart → List (List ℕ) → Type 0
+AreAcross skin area [] across = across ≡ []
+AreAcross skin area (x ∷ xs) across =
+    (own : List (List ℕ)) × (others : List (List ℕ)) × (across ≡ own ++ others) × IsAcross skin area x x.line own × AreAcross skin area xs others

@@ -1,0 +1,38 @@
+-- Texts that are written part by part.
+use Rattle.std.specs.Prelude.{◌≡◌, ℕ, true, false, List, [], ◌++◌, Option, Result, OnOk, MatchResult}
+use Rattle.mad_md.specs.Lines.{LineContent}
+use Rattle.mad_md.specs.Reading.{IsRead, unread_text}
+use Rattle.mad_term.specs.Draws.{Draws, Refused}
+use Rattle.mad_term.specs.Trace.{Trace, after}
+use Rattle.mad_term.specs.declared.errors.Error.{Error}
+use Rattle.mad_layout.specs.FlaggedLines.{is_code, is_table, text_parts}
+use Rattle.mad_layout.specs.Layouts.{IsLayoutAt}
+use Rattle.mad_layout.specs.Texts.{text_bytes}
+use Rattle.mad_layout.specs.declared.parts_writing.PartKind.{PartKind}
+use Rattle.mad_layout.specs.declared.parts_writing.PartKind.TheVariants.{Code, Table, Alone}
+use Rattle.mad_layout.specs.declared.skin.MadSkin.{MadSkin}
+use Rattle.mad_layout.specs.declared.line.FmtLine.{FmtLine}
+
+-- What a call does that writes a Markdown text part by part: it draws the lines of a layout of the first parts of the text, of all of
+-- them where it succeeds.
+pub record WritesParts {T : Type 0} (skin : MadSkin) (width : Option ℕ) (markdown : List ℕ) (old : Trace) (r : Result T Error) (new : Trace) : Type 0 where
+  pub text : List LineContent
+  pub read : IsRead (unread_text false markdown) text
+  pub front : List LineContent
+  pub rest : List LineContent
+  pub joins : text ≡ front ++ rest
+  pub parts : text_parts text ≡ text_parts front ++ text_parts rest
+  pub all : OnOk r (rest ≡ [])
+  pub lines : List FmtLine
+  pub layout : IsLayoutAt skin width front lines
+  pub drawn : Draws old (text_bytes skin width lines) r new
+
+-- the line is one of this kind
+abbrev pub IsPartKind : LineContent → PartKind → Type 0
+IsPartKind l Code = is_code l ≡ true
+IsPartKind l Table = is_table l ≡ true
+IsPartKind l Alone = (is_code l ≡ false) × (is_table l ≡ false)
+
+-- a front of the bytes went out, and the rest is kept; or they were refused
+abbrev pub HandsOn : {T : Type 0} → Trace → List ℕ → Result T Error → Trace → List ℕ → Type 0
+HandsOn old bytes r new kept = MatchResult r (λ _. (sent : List ℕ) × (bytes ≡ sent ++ kept) × (new ≡ after old sent)) (λ e. Refused old bytes e new)
