@@ -189,6 +189,7 @@ CORPORA = {
     "mixed_1m": lambda r: mixed(r, 1_000_000),
     "mixed_10m": lambda r: mixed(r, 10_000_000),
     "lists_1m": lambda r: lists(r, 1_000_000),
+    "lists_10m": lambda r: lists(r, 10_000_000),
     "table_1000x8": lambda r: table(r, 1000, 8),
     "table_10000x8": lambda r: table(r, 10000, 8),
     "tables_small_1m": lambda r: small_tables(r, 1_000_000),

@@ -3,7 +3,7 @@
 
     build.py SOURCE OUT [WORD OF CARGO ..]
 
-SOURCE is the crate's folder, as `cargo vendor` or cargo's registry has it, OUT a folder for the tree and the program, which is
+SOURCE is the folder of the crate as it is published, with `src` in it, OUT a folder for the tree and the program, which is
 OUT/termimad-rs-spec. Whole modules and functions are cut (input, lists, prompts, JSON skins, templates), so that few crates are needed.
 Five places are changed to this project's rules, so that both programs do equal work: code blocks are capped at the width, a blank that
 doesn't fit ends its line, a token's room ends at 0, and a rule of a table without columns is two wide, in its length and as drawn.
