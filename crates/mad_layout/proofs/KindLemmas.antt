@@ -47,14 +47,19 @@ at_place style start end = normal_at (record { style = style; places = record { 
 -- from each line on
 abbrev from_code : List PlacedLine
 from_code = at_place Code 27 28 ∷ []
+
 abbrev from_rule : List PlacedLine
 from_rule = horizontal_rule_at ∷ from_code
+
 abbrev from_quote : List PlacedLine
 from_quote = at_place Quote 17 18 ∷ from_rule
+
 abbrev from_number : List PlacedLine
 from_number = at_place (OrderedListItem 0 1) 13 14 ∷ from_quote
+
 abbrev from_item : List PlacedLine
 from_item = at_place (ListItem 0) 8 9 ∷ from_number
+
 abbrev from_paragraph : List PlacedLine
 from_paragraph = at_place Paragraph 4 5 ∷ from_item
 
