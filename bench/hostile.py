@@ -134,6 +134,7 @@ def main():
     if len(sys.argv) < 3:
         sys.exit(__doc__)
     program, path, kinds = sys.argv[1], Path(sys.argv[2]) / "hostile.md", sys.argv[3:]
+    path.parent.mkdir(parents=True, exist_ok=True)
     print("| text | status | " + " | ".join(f"`{command}`" for command in COMMANDS) + " |")
     print("|---" * (2 + len(COMMANDS)) + "|")
     for kind, make in TEXTS.items():
