@@ -34,7 +34,7 @@ impl MadSkin {
     ///
     /// # Errors
     ///
-    /// A fault of the device, or out of memory. What went out by then is a beginning of the whole.
+    /// A fault of the device, or out of memory. What went out by then is a beginning of the rows of the text's first parts.
     pub fn write_parts_on<O: Out>(
         &self,
         alloc: Global,
