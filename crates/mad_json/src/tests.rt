@@ -9,17 +9,31 @@ use mad_style::{
 };
 use mad_term::{Attribute, Color};
 use serde_json::Value;
-use std::alloc::Global;
+use std::alloc::{AllocError, Global};
 use std::test::Fail;
+
+// The value of a JSON text.
+fn value_of(alloc: Global, text: &str) -> Result<Value, Fail> {
+    match Value::from_str(alloc, text) {
+        Ok(value) => Ok(value),
+        Err(error) if error.is_memory() => Err(Fail::from(AllocError)),
+        Err(_) => Err(Fail::from("no JSON")),
+    }
+}
+
+// The skin of a value, and its unknown keys.
+fn skin_of(alloc: Global, value: &Value) -> Result<(MadSkin, Vec<String>), Fail> {
+    match skin_from_value(alloc, value) {
+        Ok(read) => Ok(read),
+        Err(SkinError::Memory) => Err(Fail::from(AllocError)),
+        Err(_) => Err(Fail::from("refused")),
+    }
+}
 
 // The skin and the unknown keys of a JSON text, these with a bar after each.
 fn read(alloc: Global, text: &str) -> Result<(MadSkin, String), Fail> {
-    let Ok(value) = Value::from_str(alloc, text) else {
-        return Err(Fail::from("no JSON"));
-    };
-    let Ok((skin, unknown)) = skin_from_value(alloc, &value) else {
-        return Err(Fail::from("refused"));
-    };
+    let value = value_of(alloc, text)?;
+    let (skin, unknown) = skin_of(alloc, &value)?;
     let mut keys = String::new(alloc);
     for key in &unknown {
         keys.push_str(key.as_str())?;
@@ -96,11 +110,11 @@ fn faults(rt: HostRuntime) -> Result<(), Fail> {
         ),
     ];
     for (text, fault) in cases {
-        let Ok(value) = Value::from_str(alloc, text) else {
-            return Err(Fail::from("no JSON"));
-        };
-        let Err(error) = skin_from_value(alloc, &value) else {
-            return Err(Fail::from("read"));
+        let value = value_of(alloc, text)?;
+        let error = match skin_from_value(alloc, &value) {
+            Ok(_) => return Err(Fail::from("read")),
+            Err(SkinError::Memory) => return Err(Fail::from(AllocError)),
+            Err(error) => error,
         };
         assert!(rt; error.to_string(alloc)?.as_str() == fault, "{text}");
     }
@@ -266,9 +280,7 @@ fn skins_read_back(rt: HostRuntime) -> Result<(), Fail> {
         ] {
             skin.list_items_indentation_mode = mode;
             let value = skin_to_value(alloc, &skin)?;
-            let Ok((read, unknown)) = skin_from_value(alloc, &value) else {
-                return Err(Fail::from("refused"));
-            };
+            let (read, unknown) = skin_of(alloc, &value)?;
             assert!(rt; read == skin);
             assert!(rt; unknown.is_empty());
         }
