@@ -8,6 +8,7 @@ use crate::text_view::TextView;
 use mad_fit::Area;
 use mad_layout::{FmtText, MadSkin};
 use mad_term::{CutOut, Error};
+use std::alloc::AllocError;
 use std::test::Fail;
 
 const MAX: usize = usize::MAX;
@@ -22,6 +23,14 @@ fn origin_area(width: u16, height: u16) -> Area
     Area::new(0, 0, width, height)
 }
 
+// What a call answered, unless it is that memory ran out.
+fn within_memory(done: Result<(), Error>) -> Result<Result<(), Error>, AllocError> {
+    match done {
+        Err(Error::Memory) => Err(AllocError),
+        done => Ok(done),
+    }
+}
+
 #[test]
 fn a_view_on_devices_of_each_room(rt: HostRuntime) -> Result<(), Fail> {
     let alloc = rt.alloc();
@@ -32,7 +41,7 @@ fn a_view_on_devices_of_each_room(rt: HostRuntime) -> Result<(), Fail> {
     for room in 0..55 {
         for step in [1, 54] {
             let mut out = CutOut::new(alloc, step, room, false)?;
-            let done = view.write(alloc, &mut out);
+            let done = within_memory(view.write(alloc, &mut out))?;
             let whole = room == HELLO.len();
             assert_eq!(rt; done.is_ok(), whole, "at room {room}");
             assert_eq!(rt; matches!(done, Err(Error::IO(_))), !whole);
@@ -59,7 +68,7 @@ fn a_flush_that_fails(rt: HostRuntime) -> Result<(), Fail> {
     assert!(rt; out.taken() == HELLO.as_bytes());
     assert_eq!(rt; out.faults(), 0);
     let mut out = CutOut::new(alloc, 54, 54, true)?;
-    let done = view.write(alloc, &mut out);
+    let done = within_memory(view.write(alloc, &mut out))?;
     assert!(rt; matches!(done, Err(Error::IO(_))));
     assert!(rt; out.taken() == HELLO.as_bytes());
     assert_eq!(rt; (out.puts(), out.faults(), out.flushes()), (3, 1, 0));
