@@ -4,6 +4,7 @@ pub mod CommandsRead
 pub mod DrawingLemmas
 pub mod Feeding
 pub mod Finding
+pub mod LooksLemmas
 pub mod PaintingLemmas
 pub mod Paints
 pub mod PutList

@@ -1,8 +1,11 @@
--- A screen as text.
-use Rattle.std.specs.Prelude.{ℕ, zero, suc, ◌*◌, List, [], ◌∷◌, ◌++◌, take, drop}
-use Rattle.std.specs.List.{flat_map}
+-- A screen as text, and the looks of its cells as letters.
+use Rattle.std.specs.Prelude.{ℕ, zero, suc, ◌+◌, ◌*◌, ◌==◌, ◌&&◌, not, nat_lt, Bool, if◌then◌else◌, List, [], ◌∷◌, ◌++◌, length, take, drop, Option, Some, None}
+use Rattle.std.specs.List.{flat_map, list_any, position}
+use Rattle.std.specs.Option.{option_eq, is_none}
 use Rattle.std.proofs.Math.Utf8.{encode}
-use Rattle.mad_screen.specs.Glyph.{Glyph}
+use Rattle.mad_term.specs.declared.color.Color.{Color}
+use Rattle.mad_term.specs.contracts.color.ColorPartialEq.TheImpl as color_equality
+use Rattle.mad_screen.specs.Glyph.{Glyph, Look}
 use Rattle.mad_screen.specs.Grid.{Grid}
 
 -- the characters of a cell in UTF-8; a tail has none
@@ -25,3 +28,47 @@ rows_text g (suc y) = rows_text g y ++ (row_text (row_cells g y) ++ 10 ∷ [])
 -- all its rows
 abbrev pub screen_text : Grid → List ℕ
 screen_text g = rows_text g g.height
+
+-- whether two colors are one
+abbrev pub same_color : Color → Color → Bool
+same_color = (color_equality.ghosts).eq
+
+-- whether two pens are one
+abbrev pub same_look : Look → Look → Bool
+same_look a b = option_eq same_color a.fg b.fg && (option_eq same_color a.bg b.bg && (option_eq same_color a.underline b.underline && a.codes == b.codes))
+
+-- whether a pen is the default one
+abbrev pub is_plain : Look → Bool
+is_plain pen = is_none pen.fg && is_none pen.bg && is_none pen.underline && pen.codes == 0
+
+-- Whether a pen gets the next letter, after these pens: it isn't the default one, has no letter yet, and one of the 26 letters is
+-- left.
+abbrev pub gets_letter : List Look → Look → Bool
+gets_letter known pen = nat_lt (length known) 26 && (not (is_plain pen) && not (list_any (λ k. same_look k pen) known))
+
+-- the pens with a letter, once a further pen was seen
+abbrev pub with_letter : List Look → Look → List Look
+with_letter known pen = if gets_letter known pen then known ++ pen ∷ [] else known
+
+-- the pens with a letter, after these cells
+abbrev pub lettered : List Look → List Glyph → List Look
+lettered known [] = known
+lettered known (cell ∷ cells) = lettered (with_letter known cell.pen) cells
+
+-- the n-th of the 26 letters: `a` (97) is the first; past them, and for none, a question mark (63)
+abbrev pub nth_letter : Option ℕ → ℕ
+nth_letter None = 63
+nth_letter (Some n) = if nat_lt n 26 then 97 + n else 63
+
+-- the letter of a pen: that of its place among the pens with one, and a point (46) for the default one
+abbrev pub letter_of : List Look → Look → ℕ
+letter_of known pen = if is_plain pen then 46 else nth_letter (position (λ k. same_look k pen) known)
+
+-- the letters of cells side by side
+abbrev pub row_letters : List Look → List Glyph → List ℕ
+row_letters known cells = flat_map (λ cell. encode (letter_of known cell.pen)) cells
+
+-- this many rows of a screen, from the top, each cell as its pen's letter and each row as a line
+abbrev pub letters_text : List Look → Grid → ℕ → List ℕ
+letters_text known g zero = []
+letters_text known g (suc y) = letters_text known g y ++ (row_letters known (row_cells g y) ++ 10 ∷ [])

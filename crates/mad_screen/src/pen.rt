@@ -2,6 +2,7 @@
 
 ghost use Rattle.std.specs.Prelude.{◌≡◌, option_map};
 ghost use Rattle.mad_screen.specs.Glyph.{look_of};
+ghost use Rattle.mad_screen.specs.Pictures.{is_plain};
 ghost use Rattle.mad_screen.specs.Terminal.{restyled, attribute_of, switched_on, with_code, with_color};
 
 use mad_term::{Attribute, Attributes, Color};
@@ -41,6 +42,13 @@ impl Default for Pen {
 }
 
 impl Pen {
+    /// Whether it is the default pen.
+    pub(crate) fn is_plain(self) -> bool
+        ensures { result ≡ is_plain (look_of self) }
+    {
+        self.fg.is_none() && self.bg.is_none() && self.underline.is_none() && self.codes.is_empty()
+    }
+
     /// The pen after the command `m` with these numbers, if it is one.
     pub(crate) fn restyled(self, numbers: &[u32]) -> Option<Self>
         ensures { option_map look_of result ≡ restyled numbers.now (look_of self) }

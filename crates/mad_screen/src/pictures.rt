@@ -1,7 +1,8 @@
 //! Screens as pictures, for people and for tests: a line of text for each row.
 
-ghost use Rattle.std.specs.Prelude.{◌≡◌, ◌<◌, ◌≤◌, IfOk, vec_len};
-ghost use Rattle.mad_screen.specs.Pictures.{row_cells};
+ghost use Rattle.std.specs.Prelude.{◌≡◌, ◌<◌, ◌≤◌, [], IfOk, map, vec_len};
+ghost use Rattle.mad_screen.specs.Glyph.{look_of};
+ghost use Rattle.mad_screen.specs.Pictures.{gets_letter, is_plain, letter_of, lettered, row_cells};
 
 use crate::cell::Cell;
 use crate::pen::Pen;
@@ -71,6 +72,13 @@ pub struct Looks<'a> {
 // How many letters there are.
 const LETTERS: usize = 26;
 
+// Whether a pen gets the next letter, after these pens.
+fn gets_letter(pens: &[Pen], pen: Pen) -> bool
+    ensures { result ≡ gets_letter (map look_of pens.now) (look_of pen) }
+{
+    pens.len() < LETTERS && !pen.is_plain() && !pens.contains(&pen)
+}
+
 impl Screen {
     /// The looks of its cells, as a picture.
     ///
@@ -80,11 +88,12 @@ impl Screen {
     pub fn looks(&self) -> Result<Looks<'_>, AllocError>
         ensures screen { IfOk result (λ looks. looks.screen.now ≡ self.now) }
         ensures letters { IfOk result (λ looks. vec_len looks.pens ≤ 26) }
+        ensures pens { IfOk result (λ looks. map look_of looks.pens.items ≡ lettered [] self.now.cells) }
     {
         let mut pens = Vec::new(self.allocator());
         for cell in self.cells() {
             let pen = cell.pen;
-            if pens.len() < LETTERS && pen != Pen::default() && !pens.contains(&pen) {
+            if gets_letter(&pens, pen) {
                 pens.push(pen)?;
             }
         }
@@ -100,20 +109,25 @@ impl Looks<'_> {
         &self.pens
     }
 
-    fn letter(&self, pen: Pen) -> char {
-        if pen == Pen::default() {
+    fn letter(&self, pen: Pen) -> char
+        ensures { result ≡ letter_of (map look_of self.now.pens.items) (look_of pen) }
+    {
+        if pen.is_plain() {
             return '.';
         }
-        for (letter, known) in ('a'..='z').zip(&self.pens) {
-            if *known == pen {
-                return letter;
-            }
+        match self.pens.iter().position(|known| *known == pen) {
+            Some(index) if index < LETTERS => char::from(b'a' + index as u8),
+            _ => '?',
         }
-        '?'
     }
 }
 
 impl fmt::Display for Looks<'_> {
+    ghost use Rattle.std.specs.Prelude.{Some};
+    ghost use Rattle.mad_screen.specs.Pictures.{letters_text};
+
+    ghost output = { λ looks. Some (letters_text (map look_of looks.pens.items) looks.screen.now looks.screen.now.height) };
+
     /// The letters row by row, each row as a line.
     fn fmt<W: fmt::Write>(&self, f: &mut fmt::Formatter<W>) -> fmt::Result {
         for y in 0..self.screen.height() {
