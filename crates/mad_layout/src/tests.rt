@@ -64,11 +64,6 @@ fn composite<'s>(
     Ok(FmtComposite::from(read, skin))
 }
 
-// Whether the rows hold, as far as memory goes. A row that doesn't hold ends the process.
-fn is_done_or_out_of_memory(outcome: Result<(), Error>) -> bool {
-    matches!(outcome, Ok(()) | Err(Error::Memory))
-}
-
 // A line as text: each compound between bars, after the letters of its flags.
 fn push_picture(picture: &mut String, line: &FmtComposite) -> Result<(), AllocError> {
     for compound in &line.compounds {
@@ -125,16 +120,7 @@ fn assert_bound(
 
 #[test]
 fn paragraphs_in_pictures(rt: HostRuntime) -> Result<(), Error> {
-    paragraphs_in_pictures_rows(&rt, rt.alloc())
-}
-
-#[test]
-fn paragraphs_in_pictures_or_out_of_memory(rt: HostRuntime) {
-    let outcome = paragraphs_in_pictures_rows(&rt, rt.alloc());
-    assert!(rt; is_done_or_out_of_memory(outcome));
-}
-
-fn paragraphs_in_pictures_rows(rt: &impl Abort, alloc: Global) -> Result<(), Error> {
+    let alloc = rt.alloc();
     let skin = plain_skin();
     let rows: [(&str, usize, &str, &[usize]); 7] = [
         // The blanks that don't fit are dropped, and the word after them begins the next line.
@@ -151,24 +137,15 @@ fn paragraphs_in_pictures_rows(rt: &impl Abort, alloc: Global) -> Result<(), Err
     ];
     for (text, width, wanted, starts) in rows {
         let composite = composite(alloc, text, CompositeStyle::Paragraph, &skin)?;
-        assert_wrap(rt, alloc, &composite, width, &skin, wanted)?;
-        assert_bound(rt, alloc, &composite, width, &skin, starts)?;
+        assert_wrap(&rt, alloc, &composite, width, &skin, wanted)?;
+        assert_bound(&rt, alloc, &composite, width, &skin, starts)?;
     }
     Ok(())
 }
 
 #[test]
 fn a_long_italic_sentence(rt: HostRuntime) -> Result<(), Error> {
-    a_long_italic_sentence_rows(&rt, rt.alloc())
-}
-
-#[test]
-fn a_long_italic_sentence_or_out_of_memory(rt: HostRuntime) {
-    let outcome = a_long_italic_sentence_rows(&rt, rt.alloc());
-    assert!(rt; is_done_or_out_of_memory(outcome));
-}
-
-fn a_long_italic_sentence_rows(rt: &impl Abort, alloc: Global) -> Result<(), Error> {
+    let alloc = rt.alloc();
     let skin = plain_skin();
     let text =
         "*Now I'll describe this example with more words than necessary, in order to be sure to demonstrate scrolling (and **wrapping**, too, thanks to long sentences).*";
@@ -185,20 +162,11 @@ fn a_long_italic_sentence_rows(rt: &impl Abort, alloc: Global) -> Result<(), Err
 
 #[test]
 fn items_without_and_with_room(rt: HostRuntime) -> Result<(), Error> {
-    items_without_and_with_room_rows(&rt, rt.alloc())
-}
-
-#[test]
-fn items_without_and_with_room_or_out_of_memory(rt: HostRuntime) {
-    let outcome = items_without_and_with_room_rows(&rt, rt.alloc());
-    assert!(rt; is_done_or_out_of_memory(outcome));
-}
-
-fn items_without_and_with_room_rows(rt: &impl Abort, alloc: Global) -> Result<(), Error> {
+    let alloc = rt.alloc();
     let block = plain_skin();
     let first_only = skin_with(0, 0, ListItemsIndentationMode::FirstLineOnly);
     let item = composite(alloc, "abcdef gh", CompositeStyle::ListItem(0), &block)?;
-    assert_wrap(rt, alloc, &item, 8, &block, "|abcdef|\n|gh|\n")?;
+    assert_wrap(&rt, alloc, &item, 8, &block, "|abcdef|\n|gh|\n")?;
     assert!(rt; item.visible_length > 8);
     let lines = hard_wrap_composite(alloc, &item, 8, &block)?;
     assert_eq!(rt; lines.len(), 2);
@@ -211,25 +179,16 @@ fn items_without_and_with_room_rows(rt: &impl Abort, alloc: Global) -> Result<()
         (CompositeKind::ListItemFollowUp(0), 4)
     );
     let deep = composite(alloc, "ab", CompositeStyle::ListItem(255), &block)?;
-    assert_wrap(rt, alloc, &deep, 3, &block, "\n|a|\n|b|\n")?;
-    assert_bound(rt, alloc, &deep, 3, &block, &[0, 1])?;
+    assert_wrap(&rt, alloc, &deep, 3, &block, "\n|a|\n|b|\n")?;
+    assert_bound(&rt, alloc, &deep, 3, &block, &[0, 1])?;
     let deep = composite(alloc, "ab", CompositeStyle::ListItem(255), &first_only)?;
-    assert_wrap(rt, alloc, &deep, 3, &first_only, "\n|a||b|\n")?;
-    assert_bound(rt, alloc, &deep, 3, &first_only, &[0])
+    assert_wrap(&rt, alloc, &deep, 3, &first_only, "\n|a||b|\n")?;
+    assert_bound(&rt, alloc, &deep, 3, &first_only, &[0])
 }
 
 #[test]
 fn starts_that_show_nothing(rt: HostRuntime) -> Result<(), Error> {
-    starts_that_show_nothing_rows(&rt, rt.alloc())
-}
-
-#[test]
-fn starts_that_show_nothing_or_out_of_memory(rt: HostRuntime) {
-    let outcome = starts_that_show_nothing_rows(&rt, rt.alloc());
-    assert!(rt; is_done_or_out_of_memory(outcome));
-}
-
-fn starts_that_show_nothing_rows(rt: &impl Abort, alloc: Global) -> Result<(), Error> {
+    let alloc = rt.alloc();
     let skin = plain_skin();
     let composite = composite(alloc, "aaa bb cc", CompositeStyle::Paragraph, &skin)?;
     let rows: [(&[usize], bool); 5] = [
@@ -245,21 +204,12 @@ fn starts_that_show_nothing_rows(rt: &impl Abort, alloc: Global) -> Result<(), E
         };
         assert_eq!(rt; check_wrap_bound(&composite, 5, &skin, &bound)?, wanted);
     }
-    assert_bound(rt, alloc, &composite, 9, &skin, &[0])
+    assert_bound(&rt, alloc, &composite, 9, &skin, &[0])
 }
 
 #[test]
 fn a_width_under_three(rt: HostRuntime) -> Result<(), Error> {
-    a_width_under_three_rows(&rt, rt.alloc())
-}
-
-#[test]
-fn a_width_under_three_or_out_of_memory(rt: HostRuntime) {
-    let outcome = a_width_under_three_rows(&rt, rt.alloc());
-    assert!(rt; is_done_or_out_of_memory(outcome));
-}
-
-fn a_width_under_three_rows(rt: &impl Abort, alloc: Global) -> Result<(), Error> {
+    let alloc = rt.alloc();
     let skin = plain_skin();
     let composite = composite(alloc, "abc", CompositeStyle::Paragraph, &skin)?;
     assert!(rt; composite.visible_length > 2);
@@ -279,16 +229,7 @@ fn is_refused<T: Drop>(outcome: Result<T, Error>, width: usize) -> bool {
 
 #[test]
 fn margins_of_the_style(rt: HostRuntime) -> Result<(), Error> {
-    margins_of_the_style_rows(&rt, rt.alloc())
-}
-
-#[test]
-fn margins_of_the_style_or_out_of_memory(rt: HostRuntime) {
-    let outcome = margins_of_the_style_rows(&rt, rt.alloc());
-    assert!(rt; is_done_or_out_of_memory(outcome));
-}
-
-fn margins_of_the_style_rows(rt: &impl Abort, alloc: Global) -> Result<(), Error> {
+    let alloc = rt.alloc();
     let rows = [
         (2, 3, "|aaaa|| |\n|bbbb|| |\n|cccc|\n", (2, 3)),
         (

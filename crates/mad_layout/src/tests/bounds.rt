@@ -3,30 +3,17 @@
 ghost use Rattle.std.specs.Prelude.{IfOk};
 ghost use Rattle.mad_layout.specs.Wraps.{IsMeasured};
 
-use super::{
-    assert_bound, assert_wrap, composite, is_done_or_out_of_memory, plain_skin, skin_with,
-};
+use super::{assert_bound, assert_wrap, composite, plain_skin, skin_with};
 use crate::bound::{WrapBound, check_wrap_bound};
 use mad_md::CompositeStyle;
 use mad_style::ListItemsIndentationMode;
 use mad_term::Error;
-use std::alloc::Global;
-use std::process::Abort;
 
 const WORDS: &str = "aaa bb cc dd";
 
 #[test]
 fn three_and_four_lines(rt: HostRuntime) -> Result<(), Error> {
-    three_and_four_lines_rows(&rt, rt.alloc())
-}
-
-#[test]
-fn three_and_four_lines_or_out_of_memory(rt: HostRuntime) {
-    let outcome = three_and_four_lines_rows(&rt, rt.alloc());
-    assert!(rt; is_done_or_out_of_memory(outcome));
-}
-
-fn three_and_four_lines_rows(rt: &impl Abort, alloc: Global) -> Result<(), Error> {
+    let alloc = rt.alloc();
     let skin = plain_skin();
     let rows: [(&str, usize, &str, &[usize]); 6] = [
         (WORDS, 5, "|aaa|| |\n|bb|| ||cc|\n|dd|\n", &[0, 2, 6]),
@@ -45,8 +32,8 @@ fn three_and_four_lines_rows(rt: &impl Abort, alloc: Global) -> Result<(), Error
     ];
     for (text, width, wanted, starts) in rows {
         let composite = composite(alloc, text, CompositeStyle::Paragraph, &skin)?;
-        assert_wrap(rt, alloc, &composite, width, &skin, wanted)?;
-        assert_bound(rt, alloc, &composite, width, &skin, starts)?;
+        assert_wrap(&rt, alloc, &composite, width, &skin, wanted)?;
+        assert_bound(&rt, alloc, &composite, width, &skin, starts)?;
     }
     Ok(())
 }
@@ -140,16 +127,7 @@ fn items_that_hang(rt: HostRuntime) -> Result<(), Error> {
 
 #[test]
 fn starts_of_three_lines_checked(rt: HostRuntime) -> Result<(), Error> {
-    starts_of_three_lines_checked_rows(&rt, rt.alloc())
-}
-
-#[test]
-fn starts_of_three_lines_checked_or_out_of_memory(rt: HostRuntime) {
-    let outcome = starts_of_three_lines_checked_rows(&rt, rt.alloc());
-    assert!(rt; is_done_or_out_of_memory(outcome));
-}
-
-fn starts_of_three_lines_checked_rows(rt: &impl Abort, alloc: Global) -> Result<(), Error> {
+    let alloc = rt.alloc();
     let skin = plain_skin();
     let words = composite(alloc, WORDS, CompositeStyle::Paragraph, &skin)?;
     let rows: [(&[usize], bool); 12] = [

@@ -3,9 +3,7 @@
 ghost use Rattle.std.specs.Prelude.{IfOk};
 ghost use Rattle.mad_layout.specs.Wraps.{IsMeasured};
 
-use super::{
-    assert_wrap, composite, is_done_or_out_of_memory, is_refused, push_picture, skin_with,
-};
+use super::{assert_wrap, composite, is_refused, push_picture, skin_with};
 use crate::bound::{check_wrap_bound, wrap_bound};
 use crate::composite::FmtComposite;
 use crate::fmt_text::FmtText;
@@ -80,16 +78,7 @@ fn texts_without_wrapping(rt: HostRuntime) -> Result<(), Error> {
 
 #[test]
 fn texts_at_three_columns(rt: HostRuntime) -> Result<(), Error> {
-    texts_at_three_columns_rows(&rt, rt.alloc())
-}
-
-#[test]
-fn texts_at_three_columns_or_out_of_memory(rt: HostRuntime) {
-    let outcome = texts_at_three_columns_rows(&rt, rt.alloc());
-    assert!(rt; is_done_or_out_of_memory(outcome));
-}
-
-fn texts_at_three_columns_rows(rt: &impl Abort, alloc: Global) -> Result<(), Error> {
+    let alloc = rt.alloc();
     let skin = MadSkin::no_style();
     let rows = [
         ("aaa bb cc", "aaa\nbb \ncc\n"),

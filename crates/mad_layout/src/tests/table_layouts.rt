@@ -3,7 +3,6 @@
 ghost use Rattle.std.specs.Prelude.{IfOk};
 ghost use Rattle.mad_layout.specs.WrappedLines.{AllMeasured};
 
-use super::is_done_or_out_of_memory;
 use crate::composite::FmtComposite;
 use crate::fmt_text::FmtText;
 use crate::line::FmtLine;
@@ -15,7 +14,6 @@ use mad_md::{Alignment, TableRule, parse_text};
 use mad_term::Error;
 use std::alloc::{AllocError, Global};
 use std::fmt::Write;
-use std::process::Abort;
 
 // The letter of an alignment.
 fn letter(align: Alignment) -> &'static str {
@@ -148,24 +146,15 @@ const TABLES: [(&str, Option<usize>, &str); 22] = [
     ),
 ];
 
-fn tables_in_texts_rows(rt: &impl Abort, alloc: Global) -> Result<(), Error> {
+#[test]
+fn tables_in_texts(rt: HostRuntime) -> Result<(), Error> {
+    let alloc = rt.alloc();
     let skin = MadSkin::no_style();
     for (source, width, wanted) in TABLES {
         let text = FmtText::from(alloc, &skin, source, width)?;
         assert_eq!(rt; picture(alloc, &text.lines)?.as_str(), wanted, "{source}");
     }
     Ok(())
-}
-
-#[test]
-fn tables_in_texts(rt: HostRuntime) -> Result<(), Error> {
-    tables_in_texts_rows(&rt, rt.alloc())
-}
-
-#[test]
-fn tables_in_texts_or_out_of_memory(rt: HostRuntime) {
-    let outcome = tables_in_texts_rows(&rt, rt.alloc());
-    assert!(rt; is_done_or_out_of_memory(outcome));
 }
 
 // The lines of a text as they were read.
