@@ -256,7 +256,7 @@ pub out_of_code : (b : ℕ) → is_byte3 96 42 126 b ≡ false → may_begin fal
 out_of_code b h = or_apart (b == 96) (b == 42) (b == 126) h
 
 -- where the first byte begins no mark, there is none
-no_mark : (code italic : Bool) (b : ℕ) (rest : List ℕ) → may_begin code b ≡ false → mark_at code italic (b ∷ rest) ≡ None
+pub no_mark : (code italic : Bool) (b : ℕ) (rest : List ℕ) → may_begin code b ≡ false → mark_at code italic (b ∷ rest) ≡ None
 no_mark true italic b rest h = grind (arith, nat_tests)
 no_mark false italic b rest h = grind (arith, nat_tests)
 

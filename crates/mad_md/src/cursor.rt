@@ -1,10 +1,11 @@
 //! Reading a text line by line.
 
-ghost use Rattle.std.specs.Prelude.{◌≡◌, IfOk, OnErr};
+ghost use Rattle.std.specs.Prelude.{◌≡◌, false, IfOk, OnErr, IsTrue, MatchOption};
 ghost use Rattle.mad_md.specs.Cursor.{unread, IsStep};
 ghost use Rattle.mad_md.specs.Flagged.{flags_of, plain};
 ghost use Rattle.mad_md.specs.Inline.{flags_at_end};
 ghost use Rattle.mad_md.specs.Lines.{content_of};
+ghost use Rattle.mad_md.specs.Plain.{IsPlainStep};
 ghost use Rattle.mad_md.specs.Reading.{unread_text, IsRead, carried_on};
 ghost use Rattle.mad_md.specs.Scan.{items_of, marked_line, line_of_form, flags_of_form, lines_of, line_of, flags_of_line, code_line};
 
@@ -14,6 +15,7 @@ use crate::compound::Compound;
 use crate::inline::read_inline;
 use crate::line::Line;
 use crate::parts::{cut_part, without_return};
+use crate::plain::plain_len;
 use crate::starts::{Form, begins, line_start};
 use std::alloc::{AllocError, Global};
 
@@ -60,6 +62,31 @@ impl<'s> LineCursor<'s> {
         let (line, next) = self.step(alloc)?;
         *self = next;
         Ok(line)
+    }
+
+    /// Reads the next line where it is plain, and moves on after it: a paragraph of at most `most` bytes, all of them spaces or
+    /// graphic ASCII characters, and no mark among them. It begins with a letter, or is empty, and a newline follows.
+    ///
+    /// Where there is none, or another line is next, the cursor stays where it was. No memory is needed.
+    pub fn next_plain(&mut self, most: usize) -> Option<&'s str>
+        ensures { MatchOption result (self.new ≡ self.old) (λ text. IsPlainStep most (unread self.old) text.now (unread self.new)) }
+    {
+        if self.is_bound() {
+            return None;
+        }
+        let src = self.rest.src;
+        let len = plain_len(src.as_bytes(), most)?;
+        self.rest = Compound::raw_str(&src[len + 1..]);
+        Some(&src[..len])
+    }
+
+    // Whether what was read before decides about the next line too: a fence is open, or flags are carried on.
+    fn is_bound(&self) -> bool
+        ensures fence { result ≡ false → self.now.fenced ≡ false }
+        ensures flags { result ≡ false → flags_of self.now.rest ≡ plain }
+    {
+        let rest = self.rest;
+        self.fenced || rest.bold || rest.italic || rest.code || rest.strikeout
     }
 
     // The next line, and the place after it.

@@ -1,0 +1,36 @@
+-- Plain lines: short paragraphs without marks, which their bytes tell.
+use Rattle.std.specs.Prelude.{◌≡◌, ℕ, ◌≤◌, ◌<◌, ◌⊎◌, Bool, true, false, not, ◌&&◌, nat_le, nat_lt, List, ◌∷◌, length, get_or}
+use Rattle.std.specs.Char.{is_ascii_alphabetic}
+use Rattle.mad_md.specs.Inline.{may_begin}
+use Rattle.mad_md.specs.Lines.{LineContent, normal}
+use Rattle.mad_md.specs.ReadRaw.{raw_runs}
+use Rattle.mad_md.specs.Reading.{Unread}
+use Rattle.mad_md.specs.Scan.{lines_of}
+use Rattle.mad_md.specs.declared.composite.CompositeStyle.TheVariants.{Paragraph}
+
+-- a space or a graphic ASCII character, which can't begin a mark
+abbrev pub is_plain_byte : ℕ → Bool
+is_plain_byte b = nat_le 32 b && nat_lt b 127 && not (may_begin false b)
+
+-- the first `n` bytes are such
+abbrev pub ArePlainBytes : List ℕ → ℕ → Type 0
+ArePlainBytes bs n = (k : ℕ) → k < n → is_plain_byte (get_or bs k 0) ≡ true
+
+-- The first `n` bytes are a plain line, and a newline follows: there are none, or they begin with a letter.
+pub record IsPlainFront (most : ℕ) (bs : List ℕ) (n : ℕ) : Type 0 where
+  pub first : (n ≡ 0) ⊎ (is_ascii_alphabetic (get_or bs 0 0) ≡ true)
+  pub plain : ArePlainBytes bs n
+  pub short : n ≤ most
+  pub inside : n < length bs
+  pub ends : get_or bs n 0 ≡ 10
+
+-- a Paragraph of one compound without flags, or of none
+abbrev pub plain_line : List ℕ → LineContent
+plain_line text = normal (record { style = Paragraph; runs = raw_runs text })
+
+-- The step read a plain line of at most `most` bytes, which is the first of the lines that were left.
+pub record IsPlainStep (most : ℕ) (before : Unread) (text : List ℕ) (after : Unread) : Type 0 where
+  pub line : lines_of before ≡ plain_line text ∷ lines_of after
+  pub shorter : length after.text < length before.text
+  pub short : length text ≤ most
+  pub plain : ArePlainBytes text (length text)
