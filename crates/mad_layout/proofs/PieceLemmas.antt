@@ -38,6 +38,10 @@ pub bare_taken : (skin : MadSkin) (line : LineStyle) (ps : List Compound) (i : �
 bare_taken skin line ps i d inside plain same =
     ap (λ r. pieces_bytes (map (compound_piece skin line) (take i ps)) ++ r) (bare_piece skin line (get_or ps i d) plain same) ∙ pieces_taken (compound_piece skin line) ps i d inside
 
+-- bytes after those that are there
+pub put_after : (base so_far kept piece next new : List ℕ) → new ≡ kept ++ piece → kept ≡ base ++ so_far → so_far ++ piece ≡ next → new ≡ base ++ next
+put_after base so_far kept piece next new put held more = put ∙ ap (λ (bs : List ℕ). bs ++ piece) held ∙ append_assoc base so_far piece ∙ ap (λ (bs : List ℕ). base ++ bs) more
+
 -- the bytes of a composite that stands by itself, part by part
 pub free_bytes : (skin : MadSkin) (kind k : CompositeKind) (style : LineStyle) (ps items : List Compound) → kind ≡ k → style ≡ line_style skin kind → ps ≡ items
     → pieces_bytes (spaces skin.paragraph.compound_style style.left_margin) ++ (pieces_bytes (mark_pieces skin kind) ++ pieces_bytes (map (compound_piece skin style) ps)) ≡ pieces_bytes (free_pieces skin k (map run_of items))

@@ -74,12 +74,47 @@ impl fmt::Display for Mark<'_> {
     }
 }
 
-// A compound in a line of that style.
+/// What stands in front of a composite's text: blanks outside of its place and in it, and its mark.
 #[derive(Clone, Copy)]
-struct PlacedCompound<'a, 's> {
-    skin: &'a MadSkin,
-    style: &'a LineStyle,
-    compound: &'a Compound<'s>,
+pub(crate) struct CompositeFront<'a> {
+    pub skin: &'a MadSkin,
+    pub style: &'a LineStyle,
+    pub kind: CompositeKind,
+    pub outer: usize,
+    pub inner: usize,
+}
+
+impl fmt::Display for CompositeFront<'_> {
+    ghost use Rattle.std.specs.Prelude.{◌++◌};
+    ghost use Rattle.mad_draw.specs.Pieces.{spaces};
+
+    ghost output = { λ c. Some (pieces_bytes (spaces c.skin.now.paragraph.compound_style c.outer ++ (spaces c.style.now.compound_style c.inner ++ mark_pieces c.skin.now c.kind))) };
+
+    fn fmt<W: fmt::Write>(&self, f: &mut fmt::Formatter<W>) -> fmt::Result {
+        let outer = Spaces {
+            style: self.skin.paragraph.compound_style,
+            count: self.outer,
+        };
+        let inner = Spaces {
+            style: self.style.compound_style,
+            count: self.inner,
+        };
+        let mark = Mark {
+            skin: self.skin,
+            kind: self.kind,
+        };
+        outer.fmt(f)?;
+        inner.fmt(f)?;
+        mark.fmt(f)
+    }
+}
+
+/// A compound in a line of that style.
+#[derive(Clone, Copy)]
+pub(crate) struct PlacedCompound<'a, 's> {
+    pub skin: &'a MadSkin,
+    pub style: &'a LineStyle,
+    pub compound: &'a Compound<'s>,
 }
 
 impl fmt::Display for PlacedCompound<'_, '_> {
@@ -145,18 +180,12 @@ impl fmt::Display for PlacedComposite<'_, '_> {
         let style = self.skin.line_style(self.composite.kind);
         let (left, right) = outer_blanks(self.composite, style.align, self.place);
         let (inner_left, inner_right) = inner_blanks(self.composite);
-        let blank = self.skin.paragraph.compound_style;
-        let left = Spaces {
-            style: blank,
-            count: left,
-        };
-        let inner_left = Spaces {
-            style: style.compound_style,
-            count: inner_left,
-        };
-        let mark = Mark {
+        let front = CompositeFront {
             skin: self.skin,
+            style,
             kind: self.composite.kind,
+            outer: left,
+            inner: inner_left,
         };
         let compounds = Compounds {
             skin: self.skin,
@@ -168,12 +197,10 @@ impl fmt::Display for PlacedComposite<'_, '_> {
             count: inner_right,
         };
         let right = Spaces {
-            style: blank,
+            style: self.skin.paragraph.compound_style,
             count: if self.place.right { right } else { 0 },
         };
-        left.fmt(f)?;
-        inner_left.fmt(f)?;
-        mark.fmt(f)?;
+        front.fmt(f)?;
         compounds.fmt(f)?;
         inner_right.fmt(f)?;
         right.fmt(f)

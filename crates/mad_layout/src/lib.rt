@@ -14,7 +14,8 @@
 //!    [`fmt_text`], [`fmt_inline`]: reading a text and laying it out; reading one line.
 //! 7. `rows`: what is written of a line, piece by piece.
 //! 8. [`drawing`]: the rows of a text in an area of the screen.
-//! 9. `writing`, `text_writing`, `parts_writing`: the writing calls of a skin; `display`: texts as displayed values.
+//! 9. `writing`, `text_writing`, `parts_writing`: the writing calls of a skin; `display`: texts as displayed values;
+//!    `row_writing`: lines put after a string.
 //! 10. [`laws`], [`examples`]: an example whose premises are proved, and wrong layouts that the definitions refuse.
 #![tactic(auto)]
 
@@ -35,6 +36,7 @@ pub mod line;
 mod made_skins;
 mod parts_writing;
 pub mod room;
+mod row_writing;
 mod rows;
 pub mod skin;
 mod skin_setters;

@@ -6,14 +6,14 @@ ghost use Rattle.mad_layout.specs.FlaggedLines.{stand_together};
 ghost use Rattle.mad_layout.specs.Texts.{text_bytes};
 ghost use Rattle.mad_layout.specs.WrittenParts.{IsPartKind, HandsOn, WritesParts};
 
-use crate::display::PlacedLines;
 use crate::laying::{Laying, is_code};
 use crate::line::FmtLine;
+use crate::row_writing::append_lines;
 use crate::skin::MadSkin;
 use mad_md::{Line, LineCursor, ParseOptions};
 use mad_style::CompositeKind;
 use mad_term::{Error, Out, put_all};
-use std::alloc::{AllocError, Global};
+use std::alloc::Global;
 
 // Rows are kept until they have these many bytes.
 const KEPT: usize = 16384;
@@ -75,30 +75,12 @@ fn hand_on<O: Out>(
     ensures dropped { OnOk result (lines.new.items ≡ []) }
     ensures handed { HandsOn (O.seen out.old) (string_bytes rows.old ++ text_bytes skin.now width lines.old.items) result (O.seen out.new) (string_bytes rows.new) }
 {
-    push_rows(rows, lines.as_slice(), width, skin)?;
+    append_lines(rows, lines.as_slice(), width, skin)?;
     lines.clear();
     if rows.len() >= KEPT {
         put_all(out, rows.as_bytes())?;
         rows.clear();
     }
-    Ok(())
-}
-
-// Writes lines after the rows that are kept.
-fn push_rows(
-    rows: &mut String,
-    lines: &[FmtLine],
-    width: Option<usize>,
-    skin: &MadSkin,
-) -> Result<(), AllocError>
-    ensures { OnOk result (string_bytes rows.new ≡ string_bytes rows.old ++ text_bytes skin.now width lines.now) }
-{
-    let placed = PlacedLines {
-        skin,
-        lines,
-        outer: width,
-    };
-    write!(rows, "{placed}")?;
     Ok(())
 }
 
