@@ -22,6 +22,7 @@ pub mod MarkLemmas
 pub mod MeasureLemmas
 pub mod PartLemmas
 pub mod PartRuns
+pub mod PlainLineLemmas
 pub mod PassLemmas
 pub mod PieceLemmas
 pub mod ReadParts

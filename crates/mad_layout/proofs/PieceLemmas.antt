@@ -28,7 +28,7 @@ pieces_of_runs skin style [] = refl
 pieces_of_runs skin style (p ∷ ps) = ap (λ qs. compound_piece skin style p ∷ qs) (pieces_of_runs skin style ps)
 
 -- a compound that looks as its line does, which is plain, writes its text alone
-bare_piece : (skin : MadSkin) (line : LineStyle) (p : Compound) → IsPlain line.compound_style.object_style → compound_style skin line (run_of p) ≡ line.compound_style
+pub bare_piece : (skin : MadSkin) (line : LineStyle) (p : Compound) → IsPlain line.compound_style.object_style → compound_style skin line (run_of p) ≡ line.compound_style
     → p.src.now ≡ piece_bytes (compound_piece skin line p).style (compound_piece skin line p).text
 bare_piece skin line p plain same = sym (ap (λ (s : CompoundStyle). piece_bytes s.object_style p.src.now) same ∙ plain_piece line.compound_style.object_style p.src.now plain)
 

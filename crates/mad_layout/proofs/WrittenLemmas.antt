@@ -197,13 +197,13 @@ handed_none old = sym (after-nil old)
 
 -- ---- exits
 
-refused_after : (e : Error) (old mid new : Trace) (a b : List ℕ) → mid ≡ after old a → Refused mid b e new → Refused old (a ++ b) e new
+pub refused_after : (e : Error) (old mid new : Trace) (a b : List ℕ) → mid ≡ after old a → Refused mid b e new → Refused old (a ++ b) e new
 refused_after (IO x) old mid new a b p h = cut_in_second old mid new a b p h
 refused_after (InsufficientWidth x) old mid new a b p h = absurd h
 refused_after Memory old mid new a b p h = stopped_in_second old mid new a b p h
 
 -- a refusal owes no whole
-no_whole : {T : Type 0} (r : Result T Error) (e : Error) (P : Type 0) → IsErrAnd r (λ d. d ≡ e) → OnOk r P
+pub no_whole : {T : Type 0} (r : Result T Error) (e : Error) (P : Type 0) → IsErrAnd r (λ d. d ≡ e) → OnOk r P
 no_whole {T} (Ok x) e P h = absurd h
 no_whole {T} (Err d) e P h = tt
 

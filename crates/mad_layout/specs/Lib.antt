@@ -24,6 +24,7 @@ pub mod LineTexts
 pub mod Lines
 pub mod MadeSkins
 pub mod Parts
+pub mod PlainLines
 pub mod PlainTables
 pub mod Premises
 pub mod RecoloredSkins

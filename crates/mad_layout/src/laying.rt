@@ -198,8 +198,8 @@ fn table_width(width: Option<usize>) -> usize
     width.unwrap_or(usize::MAX)
 }
 
-// The width that lines are wrapped at: none where it is under three.
-fn wrap_width(width: Option<usize>) -> Option<usize>
+/// The width that lines are wrapped at: none where it is under three.
+pub(crate) fn wrap_width(width: Option<usize>) -> Option<usize>
     ensures { result ≡ wrap_width width }
 {
     match width {

@@ -1,16 +1,20 @@
 //! Writing a text part by part: each part is laid out, written and dropped.
 
-ghost use Rattle.std.specs.Prelude.{◌≡◌, ◌++◌, [], OnOk, string_bytes};
+ghost use Rattle.std.specs.Prelude.{◌≡◌, ◌≤◌, ◌++◌, [], false, ℕ, length, IfSome, IsTrue, OnOk, string_bytes};
+ghost use Rattle.mad_fit.specs.Completions.{left_completion};
+ghost use Rattle.mad_md.specs.Cursor.{unread};
 ghost use Rattle.mad_md.specs.Lines.{LineContent, content_of};
+ghost use Rattle.mad_md.specs.Scan.{lines_of};
 ghost use Rattle.mad_layout.specs.FlaggedLines.{stand_together};
+ghost use Rattle.mad_layout.specs.PlainLines.{IsPlainWidth, HandsOnPlain};
 ghost use Rattle.mad_layout.specs.Texts.{text_bytes};
 ghost use Rattle.mad_layout.specs.WrittenParts.{IsPartKind, HandsOn, WritesParts};
 
-use crate::laying::{Laying, is_code};
+use crate::laying::{Laying, is_code, wrap_width};
 use crate::line::FmtLine;
 use crate::row_writing::append_lines;
 use crate::skin::MadSkin;
-use mad_md::{Line, LineCursor, ParseOptions};
+use mad_md::{Alignment, Line, LineCursor, ParseOptions};
 use mad_style::CompositeKind;
 use mad_term::{Error, Out, put_all};
 use std::alloc::Global;
@@ -50,7 +54,14 @@ impl MadSkin {
         let mut last = PartKind::Alone;
         while let Some(line) = cursor.next_line(alloc)? {
             let kind = part_kind(&line);
-            if !goes_on(last, kind) {
+            if is_alone(kind) {
+                last = kind;
+                laying.push(alloc, line, width, self)?;
+                laying.close(alloc, width, self)?;
+                hand_on_plain(out, &mut rows, &mut laying.lines, &mut cursor, width, self)?;
+                continue;
+            }
+            if ends(last, kind) {
                 laying.close(alloc, width, self)?;
                 hand_on(out, &mut rows, &mut laying.lines, width, self)?;
             }
@@ -77,11 +88,67 @@ fn hand_on<O: Out>(
 {
     append_lines(rows, lines.as_slice(), width, skin)?;
     lines.clear();
+    send(out, rows)
+}
+
+// The rows that are kept go out once there are enough of them.
+fn send<O: Out>(out: &mut O, rows: &mut String) -> Result<(), Error>
+    ensures { HandsOn (O.seen out.old) (string_bytes rows.old) result (O.seen out.new) (string_bytes rows.new) }
+{
     if rows.len() >= KEPT {
         put_all(out, rows.as_bytes())?;
         rows.clear();
     }
     Ok(())
+}
+
+// Hands lines on, and after them the plain lines that follow in the text, which go to the rows as they are.
+fn hand_on_plain<O: Out>(
+    out: &mut O,
+    rows: &mut String,
+    lines: &mut Vec<FmtLine>,
+    cursor: &mut LineCursor,
+    width: Option<usize>,
+    skin: &MadSkin,
+) -> Result<(), Error>
+    ensures dropped { OnOk result (lines.new.items ≡ []) }
+    ensures shorter { OnOk result (length (unread cursor.new).text ≤ length (unread cursor.old).text) }
+    ensures handed { HandsOnPlain skin.now width (lines_of (unread cursor.old)) (string_bytes rows.old ++ text_bytes skin.now width lines.old.items) (O.seen out.old) result (O.seen out.new) (string_bytes rows.new) (lines_of (unread cursor.new)) }
+{
+    hand_on(out, rows, lines, width, skin)?;
+    let Some(most) = plain_width(width, skin) else {
+        return Ok(());
+    };
+    while let Some(text) = cursor.next_plain(most) {
+        rows.push_str(text)?;
+        rows.push_str("\n")?;
+        send(out, rows)?;
+    }
+    Ok(())
+}
+
+// The columns that a plain line may have to be a row as it is; none where paragraphs have a style or margins, or don't stand left.
+fn plain_width(width: Option<usize>, skin: &MadSkin) -> Option<usize>
+    ensures { IfSome result (IsPlainWidth skin.now width) }
+{
+    let width = wrap_width(width)?;
+    let style = &skin.paragraph;
+    let (left, right) = style.margins_in(Some(width));
+    if left > 0 || right > 0 || !style.compound_style.object_style.is_plain() {
+        return None;
+    }
+    if stands_left(style.align) {
+        Some(width)
+    } else {
+        None
+    }
+}
+
+// Whether no columns are left of a text in a wider place.
+fn stands_left(align: Alignment) -> bool
+    ensures { IsTrue result → (rest : ℕ) → left_completion align rest ≡ 0 }
+{
+    matches!(align, Alignment::Left | Alignment::Unspecified)
 }
 
 fn part_kind(line: &Line) -> PartKind
@@ -94,12 +161,20 @@ fn part_kind(line: &Line) -> PartKind
     }
 }
 
-// Two lines that follow one another are in one part.
-fn goes_on(last: PartKind, next: PartKind) -> bool
-    ensures { (l m : LineContent) → IsPartKind l last → IsPartKind m next → result ≡ stand_together l m }
+// Whether a table or a block of code is open, and ends before the next line.
+fn ends(last: PartKind, next: PartKind) -> bool
+    ensures { IsTrue result → (l m : LineContent) → IsPartKind l last → IsPartKind m next → stand_together l m ≡ false }
 {
     match (last, next) {
-        (PartKind::Code, PartKind::Code) | (PartKind::Table, PartKind::Table) => true,
-        _ => false,
+        (PartKind::Code, PartKind::Code) | (PartKind::Table, PartKind::Table) => false,
+        (PartKind::Alone, _) => false,
+        _ => true,
     }
+}
+
+// Whether no other line is in one part with a line of this kind.
+fn is_alone(kind: PartKind) -> bool
+    ensures { IsTrue result → kind ≡ PartKind.Alone }
+{
+    matches!(kind, PartKind::Alone)
 }

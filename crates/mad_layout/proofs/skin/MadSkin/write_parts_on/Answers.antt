@@ -8,9 +8,9 @@ use Rattle.mad_layout.specs.Laying.{IsOpenRun}
 use Rattle.mad_layout.specs.declared.laying.Laying.{Laying}
 use Rattle.mad_layout.proofs.LayoutLemmas.{open_none}
 use Rattle.mad_layout.proofs.WrittenLemmas.{WrittenSoFar, written_start, written_closed, written_on, written_more, written_cut, written_same, written_early, written_refused, written_cut_short, written_whole, apart_before, apart_last}
-use Rattle.mad_layout.proofs.skin.MadSkin.write_parts_on.Given.{Over}
+use Rattle.mad_layout.proofs.PlainLineLemmas.{written_plain, written_plain_refused}
 use Rattle.mad_layout.proofs.skin.MadSkin.write_parts_on.Goals as goal
-use Rattle.mad_layout.proofs.skin.MadSkin.write_parts_on.Goals.{Joined-not-goes_on, then-not-goes_on+in_ok-close+in_ok-hand_on, else-not-goes_on}
+use Rattle.mad_layout.proofs.skin.MadSkin.write_parts_on.Goals.{then-ends+in_ok-close-2+in_ok-hand_on, else-ends}
 
 pub loop-laying-init : goal.loop-laying-init
 loop-laying-init g c =
@@ -26,30 +26,71 @@ returns-in_err-line g c = record {
   writes = written_early c.args.self.now c.args.width c.args.markdown.now _ _ _ _ _ _ _ _ _ _ c.loop-laying.invariant.read c.loop-laying.invariant.so_far c.from_residual.ensures.1;
 }
 
+pub push-requires : goal.push-requires
+push-requires g c = record { run = c.loop-laying.invariant.so_far.ready }
+
+pub returns-in_err-push : goal.returns-in_err-push
+returns-in_err-push g c = record {
+  writes = written_early c.args.self.now c.args.width c.args.markdown.now _ _ _ _ _ _ _ _ _ _ c.loop-laying.invariant.read c.loop-laying.invariant.so_far c.from_residual-in_err-push.ensures.1;
+}
+
 pub close-requires : goal.close-requires
-close-requires g c = record { run = c.loop-laying.invariant.so_far.ready }
+close-requires g c = record { run = c.in_ok-push.ensures.run }
 
 pub returns-in_err-close : goal.returns-in_err-close
-returns-in_err-close g c = record {
-  writes = written_early c.args.self.now c.args.width c.args.markdown.now _ _ _ _ _ _ _ _ _ _ c.loop-laying.invariant.read c.loop-laying.invariant.so_far c.from_residual-in_err-close.ensures.1;
+returns-in_err-close g c =
+    let step : IsStep (unread c.loop-laying.cursor) (Some c.in-Some.line) (unread c.next_line.new.self) = subst (λ o. IsStep (unread c.loop-laying.cursor) o (unread c.next_line.new.self)) c.in-Some.is c.in_ok-line.ensures.step in
+    let laid = written_more c.args.self.now c.args.width (lines_of (unread_text false c.args.markdown.now)) (lines_of (unread c.loop-laying.cursor)) (lines_of (unread c.next_line.new.self)) (content_of c.in-Some.line) _ _ _ _ _ _ c.loop-laying.last c.part_kind-kind.result _ _ _
+    c.loop-laying.invariant.so_far step.0 c.part_kind-kind.ensures c.in_ok-push.ensures.laid c.in_ok-push.ensures.run in
+    record { writes = written_early c.args.self.now c.args.width c.args.markdown.now _ _ _ _ _ _ _ _ _ _ c.loop-laying.invariant.read laid c.from_residual-in_err-close.ensures.1 }
+
+pub returns-in_err-hand_on_plain : goal.returns-in_err-hand_on_plain
+returns-in_err-hand_on_plain g c =
+    let step : IsStep (unread c.loop-laying.cursor) (Some c.in-Some.line) (unread c.next_line.new.self) = subst (λ o. IsStep (unread c.loop-laying.cursor) o (unread c.next_line.new.self)) c.in-Some.is c.in_ok-line.ensures.step in
+    let laid = written_more c.args.self.now c.args.width (lines_of (unread_text false c.args.markdown.now)) (lines_of (unread c.loop-laying.cursor)) (lines_of (unread c.next_line.new.self)) (content_of c.in-Some.line) _ _ _ _ _ _ c.loop-laying.last c.part_kind-kind.result _ _ _
+    c.loop-laying.invariant.so_far step.0 c.part_kind-kind.ensures c.in_ok-push.ensures.laid c.in_ok-push.ensures.run in
+    let own = c.in_ok-close.ensures.laid in
+    record {
+      writes = written_plain_refused c.args.self.now c.args.width c.args.markdown.now _ _ _ _ c.close.new.self.lines.items own.0 _ _ _ _ _ _ _ _ _ _ c.loop-laying.invariant.read (c.is_alone.ensures c.if-is_alone.true) laid own.1 own.2
+          c.in_err-hand_on_plain.ensures.handed c.from_residual-in_err-hand_on_plain.ensures.1;
+    }
+
+pub loop-laying-preserved-then-is_alone : goal.loop-laying-preserved-then-is_alone
+loop-laying-preserved-then-is_alone g c =
+    let step : IsStep (unread c.loop-laying.cursor) (Some c.in-Some.line) (unread c.next_line.new.self) = subst (λ o. IsStep (unread c.loop-laying.cursor) o (unread c.next_line.new.self)) c.in-Some.is c.in_ok-line.ensures.step in
+    let laid = written_more c.args.self.now c.args.width (lines_of (unread_text false c.args.markdown.now)) (lines_of (unread c.loop-laying.cursor)) (lines_of (unread c.next_line.new.self)) (content_of c.in-Some.line) _ _ _ _ _ _ c.loop-laying.last c.part_kind-kind.result _ _ _
+    c.loop-laying.invariant.so_far step.0 c.part_kind-kind.ensures c.in_ok-push.ensures.laid c.in_ok-push.ensures.run in
+    let own = c.in_ok-close.ensures.laid in
+    record {
+      read = c.loop-laying.invariant.read;
+      so_far = written_plain c.args.self.now c.args.width _ _ _ _ c.close.new.self.lines.items c.hand_on_plain.new.lines.items own.0 _ c.close.new.self.table.items _ c.close.new.self.block.items _ _ _ _ _ _ (c.is_alone.ensures c.if-is_alone.true) laid own.1 own.2
+          c.in_ok-hand_on_plain.ensures.dropped c.in_ok-close.ensures.block c.in_ok-close.ensures.table c.in_ok-hand_on_plain.ensures.handed;
+    }
+
+pub close-requires-then-ends : goal.close-requires-then-ends
+close-requires-then-ends g c = record { run = c.loop-laying.invariant.so_far.ready }
+
+pub returns-in_err-close-2 : goal.returns-in_err-close-2
+returns-in_err-close-2 g c = record {
+  writes = written_early c.args.self.now c.args.width c.args.markdown.now _ _ _ _ _ _ _ _ _ _ c.loop-laying.invariant.read c.loop-laying.invariant.so_far c.from_residual-in_err-close-2.ensures.1;
 }
 
 pub returns-in_err-hand_on : goal.returns-in_err-hand_on
 returns-in_err-hand_on g c =
     let step : IsStep (unread c.loop-laying.cursor) (Some c.in-Some.line) (unread c.next_line.new.self) = subst (λ o. IsStep (unread c.loop-laying.cursor) o (unread c.next_line.new.self)) c.in-Some.is c.in_ok-line.ensures.step in
     let cut = apart_before (lines_of (unread c.loop-laying.cursor)) (lines_of (unread c.next_line.new.self)) (content_of c.in-Some.line) c.loop-laying.last c.part_kind-kind.result step.0 c.part_kind-kind.ensures
-    (λ l m a b. sym c.if-not-goes_on.true ∙ c.goes_on.ensures l m a b) in
-    let own = c.in_ok-close.ensures.laid in
+    (λ l m a b. sym (c.ends.ensures c.if-ends.true l m a b)) in
+    let own = c.in_ok-close-2.ensures.laid in
     record {
       writes = written_refused c.args.self.now c.args.width c.args.markdown.now _ _ _ _ _ _ _ _ _ _ c.loop-laying.invariant.read
-          (written_closed c.args.self.now c.args.width _ _ _ c.close.new.self.lines.items own.0 _ _ _ _ _ _ c.loop-laying.invariant.so_far cut own.1 own.2) c.from_residual-in_err-hand_on.ensures.1 c.in_err-hand_on.ensures.handed;
+          (written_closed c.args.self.now c.args.width _ _ _ c.close-then-ends.new.self.lines.items own.0 _ _ _ _ _ _ c.loop-laying.invariant.so_far cut own.1 own.2) c.from_residual-in_err-hand_on.ensures.1 c.in_err-hand_on.ensures.handed;
     }
 
-pub push-requires : goal.push-requires
-push-requires g c = record {
-  run = elim c.if-not-goes_on.branch as (λ _. IsOpenRun c.args.self.now c.if-not-goes_on.laying.block.items c.if-not-goes_on.laying.table.items) [
-    | then-not-goes_on+in_ok-close+in_ok-hand_on w ↦ subst (λ (s : Laying). IsOpenRun c.args.self.now s.block.items s.table.items) (sym w.laying-is) (open_none c.args.self.now w.close.new.self.block.items w.close.new.self.table.items w.in_ok-close.ensures.block w.in_ok-close.ensures.table)
-    | else-not-goes_on w ↦ subst (λ (s : Laying). IsOpenRun c.args.self.now s.block.items s.table.items) (sym w.laying-is) c.loop-laying.invariant.so_far.ready
+pub push-requires-in-Some : goal.push-requires-in-Some
+push-requires-in-Some g c = record {
+  run = elim c.if-ends.branch as (λ _. IsOpenRun c.args.self.now c.if-ends.laying.block.items c.if-ends.laying.table.items) [
+    | then-ends+in_ok-close-2+in_ok-hand_on w ↦ subst (λ (s : Laying). IsOpenRun c.args.self.now s.block.items s.table.items) (sym w.laying-is) (open_none c.args.self.now w.close-then-ends.new.self.block.items w.close-then-ends.new.self.table.items w.in_ok-close-2.ensures.block w.in_ok-close-2.ensures.table)
+    | else-ends w ↦ subst (λ (s : Laying). IsOpenRun c.args.self.now s.block.items s.table.items) (sym w.laying-is) c.loop-laying.invariant.so_far.ready
   ];
 }
 
@@ -58,53 +99,59 @@ loop-laying-smaller g c =
     let step : IsStep (unread c.loop-laying.cursor) (Some c.in-Some.line) (unread c.next_line.new.self) = subst (λ o. IsStep (unread c.loop-laying.cursor) o (unread c.next_line.new.self)) c.in-Some.is c.in_ok-line.ensures.step in
     step.1
 
--- what the next line begins
-next_step : (g : Over) (c : Joined-not-goes_on g) → IsStep (unread c.loop-laying.cursor) (Some c.in-Some.line) (unread c.next_line.new.self)
-next_step g c = subst (λ o. IsStep (unread c.loop-laying.cursor) o (unread c.next_line.new.self)) c.in-Some.is c.in_ok-line.ensures.step
-
--- before a line is laid, a part that it doesn't go on with was written
-part_before : (g : Over) (c : Joined-not-goes_on g)
-    → WrittenSoFar c.args.self.now c.args.width (lines_of (unread_text false c.args.markdown.now)) (lines_of (unread c.loop-laying.cursor)) c.if-not-goes_on.laying.lines.items c.if-not-goes_on.laying.block.items c.if-not-goes_on.laying.table.items c.loop-laying.last (string_bytes c.if-not-goes_on.rows) (g.O.Out.seen c.args.out.now) (g.O.Out.seen c.if-not-goes_on.out)
-part_before g c =
+pub loop-laying-preserved : goal.loop-laying-preserved
+loop-laying-preserved g c =
     let skin = c.args.self.now in
     let all = lines_of (unread_text false c.args.markdown.now) in
     let left = lines_of (unread c.loop-laying.cursor) in
-    let step = next_step g c in
-    elim c.if-not-goes_on.branch as (λ _. WrittenSoFar skin c.args.width all left c.if-not-goes_on.laying.lines.items c.if-not-goes_on.laying.block.items c.if-not-goes_on.laying.table.items c.loop-laying.last (string_bytes c.if-not-goes_on.rows) (g.O.Out.seen c.args.out.now) (g.O.Out.seen c.if-not-goes_on.out)) [
-      | then-not-goes_on+in_ok-close+in_ok-hand_on w ↦
-          let cut = apart_before left (lines_of (unread c.next_line.new.self)) (content_of c.in-Some.line) c.loop-laying.last c.part_kind-kind.result step.0 c.part_kind-kind.ensures (λ l m a b. sym w.if-not-goes_on.true ∙ c.goes_on.ensures l m a b) in
-          let own = w.in_ok-close.ensures.laid in
-          written_same skin c.args.width all left (record w.close.new.self { lines = w.hand_on.new.lines }) c.if-not-goes_on.laying c.loop-laying.last w.hand_on.new.rows c.if-not-goes_on.rows _ (g.O.Out.seen w.hand_on.new.out) _
-          (written_cut skin c.args.width all left _ w.close.new.self.lines.items w.hand_on.new.lines.items own.0 _ w.close.new.self.table.items _ w.close.new.self.block.items c.loop-laying.last _ _ _ _ _
-          c.loop-laying.invariant.so_far cut own.1 own.2 w.in_ok-hand_on.ensures.dropped w.in_ok-close.ensures.block w.in_ok-close.ensures.table w.in_ok-hand_on.ensures.handed)
+    let step : IsStep (unread c.loop-laying.cursor) (Some c.in-Some.line) (unread c.next_line.new.self) = subst (λ o. IsStep (unread c.loop-laying.cursor) o (unread c.next_line.new.self)) c.in-Some.is c.in_ok-line.ensures.step in
+    let mid : WrittenSoFar skin c.args.width all left c.if-ends.laying.lines.items c.if-ends.laying.block.items c.if-ends.laying.table.items c.loop-laying.last (string_bytes c.if-ends.rows) (g.O.Out.seen c.args.out.now) (g.O.Out.seen c.if-ends.out) =
+    elim c.if-ends.branch as (λ _. WrittenSoFar skin c.args.width all left c.if-ends.laying.lines.items c.if-ends.laying.block.items c.if-ends.laying.table.items c.loop-laying.last (string_bytes c.if-ends.rows) (g.O.Out.seen c.args.out.now) (g.O.Out.seen c.if-ends.out)) [
+      | then-ends+in_ok-close-2+in_ok-hand_on w ↦
+          let cut = apart_before left (lines_of (unread c.next_line.new.self)) (content_of c.in-Some.line) c.loop-laying.last c.part_kind-kind.result step.0 c.part_kind-kind.ensures (λ l m a b. sym (c.ends.ensures w.if-ends.true l m a b)) in
+          let own = w.in_ok-close-2.ensures.laid in
+          written_same skin c.args.width all left (record w.close-then-ends.new.self { lines = w.hand_on.new.lines }) c.if-ends.laying c.loop-laying.last w.hand_on.new.rows c.if-ends.rows _ (g.O.Out.seen w.hand_on.new.out) _
+          (written_cut skin c.args.width all left _ w.close-then-ends.new.self.lines.items w.hand_on.new.lines.items own.0 _ w.close-then-ends.new.self.table.items _ w.close-then-ends.new.self.block.items c.loop-laying.last _ _ _ _ _
+          c.loop-laying.invariant.so_far cut own.1 own.2 w.in_ok-hand_on.ensures.dropped w.in_ok-close-2.ensures.block w.in_ok-close-2.ensures.table w.in_ok-hand_on.ensures.handed)
           w.laying-is w.rows-is (ap g.O.Out.seen w.out-is)
-      | else-not-goes_on w ↦ written_same skin c.args.width all left c.loop-laying.laying c.if-not-goes_on.laying c.loop-laying.last c.loop-laying.rows c.if-not-goes_on.rows _ _ _ c.loop-laying.invariant.so_far w.laying-is w.rows-is (ap g.O.Out.seen w.out-is)
-    ]
-
-pub loop-laying-preserved : goal.loop-laying-preserved
-loop-laying-preserved g c =
-    let before = (goal.at.loop-laying-preserved g c).Joined-not-goes_on in
+      | else-ends w ↦ written_same skin c.args.width all left c.loop-laying.laying c.if-ends.laying c.loop-laying.last c.loop-laying.rows c.if-ends.rows _ _ _ c.loop-laying.invariant.so_far w.laying-is w.rows-is (ap g.O.Out.seen w.out-is)
+    ] in
     record {
       read = c.loop-laying.invariant.read;
-      so_far = written_more c.args.self.now c.args.width _ _ (lines_of (unread c.next_line.new.self)) (content_of c.in-Some.line) _ _ _ _ _ _ c.loop-laying.last c.part_kind-kind.result _ _ _ (part_before g before) (next_step g before).0 c.part_kind-kind.ensures c.in_ok-push.ensures.laid c.in_ok-push.ensures.run;
+      so_far = written_more skin c.args.width all left (lines_of (unread c.next_line.new.self)) (content_of c.in-Some.line) _ _ _ _ _ _ c.loop-laying.last c.part_kind-kind.result _ _ _ mid step.0 c.part_kind-kind.ensures c.in_ok-push-2.ensures.laid c.in_ok-push-2.ensures.run;
     }
 
-pub returns-in_err-push : goal.returns-in_err-push
-returns-in_err-push g c =
-    record { writes = written_early c.args.self.now c.args.width c.args.markdown.now _ _ _ _ _ _ _ _ _ _ c.loop-laying.invariant.read (part_before g (goal.at.returns-in_err-push g c).Joined-not-goes_on) c.from_residual-in_err-push.ensures.1 }
+pub returns-in_err-push-2 : goal.returns-in_err-push-2
+returns-in_err-push-2 g c =
+    let skin = c.args.self.now in
+    let all = lines_of (unread_text false c.args.markdown.now) in
+    let left = lines_of (unread c.loop-laying.cursor) in
+    let step : IsStep (unread c.loop-laying.cursor) (Some c.in-Some.line) (unread c.next_line.new.self) = subst (λ o. IsStep (unread c.loop-laying.cursor) o (unread c.next_line.new.self)) c.in-Some.is c.in_ok-line.ensures.step in
+    let mid : WrittenSoFar skin c.args.width all left c.if-ends.laying.lines.items c.if-ends.laying.block.items c.if-ends.laying.table.items c.loop-laying.last (string_bytes c.if-ends.rows) (g.O.Out.seen c.args.out.now) (g.O.Out.seen c.if-ends.out) =
+    elim c.if-ends.branch as (λ _. WrittenSoFar skin c.args.width all left c.if-ends.laying.lines.items c.if-ends.laying.block.items c.if-ends.laying.table.items c.loop-laying.last (string_bytes c.if-ends.rows) (g.O.Out.seen c.args.out.now) (g.O.Out.seen c.if-ends.out)) [
+      | then-ends+in_ok-close-2+in_ok-hand_on w ↦
+          let cut = apart_before left (lines_of (unread c.next_line.new.self)) (content_of c.in-Some.line) c.loop-laying.last c.part_kind-kind.result step.0 c.part_kind-kind.ensures (λ l m a b. sym (c.ends.ensures w.if-ends.true l m a b)) in
+          let own = w.in_ok-close-2.ensures.laid in
+          written_same skin c.args.width all left (record w.close-then-ends.new.self { lines = w.hand_on.new.lines }) c.if-ends.laying c.loop-laying.last w.hand_on.new.rows c.if-ends.rows _ (g.O.Out.seen w.hand_on.new.out) _
+          (written_cut skin c.args.width all left _ w.close-then-ends.new.self.lines.items w.hand_on.new.lines.items own.0 _ w.close-then-ends.new.self.table.items _ w.close-then-ends.new.self.block.items c.loop-laying.last _ _ _ _ _
+          c.loop-laying.invariant.so_far cut own.1 own.2 w.in_ok-hand_on.ensures.dropped w.in_ok-close-2.ensures.block w.in_ok-close-2.ensures.table w.in_ok-hand_on.ensures.handed)
+          w.laying-is w.rows-is (ap g.O.Out.seen w.out-is)
+      | else-ends w ↦ written_same skin c.args.width all left c.loop-laying.laying c.if-ends.laying c.loop-laying.last c.loop-laying.rows c.if-ends.rows _ _ _ c.loop-laying.invariant.so_far w.laying-is w.rows-is (ap g.O.Out.seen w.out-is)
+    ] in
+    record { writes = written_early skin c.args.width c.args.markdown.now _ _ _ _ _ _ _ _ _ _ c.loop-laying.invariant.read mid c.from_residual-in_err-push-2.ensures.1 }
 
 pub close-requires-2 : goal.close-requires-2
 close-requires-2 g c = record { run = c.loop-laying.invariant.so_far.ready }
 
-pub returns-in_err-close-2 : goal.returns-in_err-close-2
-returns-in_err-close-2 g c = record {
-  writes = written_early c.args.self.now c.args.width c.args.markdown.now _ _ _ _ _ _ _ _ _ _ c.loop-laying.invariant.read c.loop-laying.invariant.so_far c.from_residual-in_err-close-2.ensures.1;
+pub returns-in_err-close-3 : goal.returns-in_err-close-3
+returns-in_err-close-3 g c = record {
+  writes = written_early c.args.self.now c.args.width c.args.markdown.now _ _ _ _ _ _ _ _ _ _ c.loop-laying.invariant.read c.loop-laying.invariant.so_far c.from_residual-in_err-close-3.ensures.1;
 }
 
 pub returns-in_err-hand_on-2 : goal.returns-in_err-hand_on-2
 returns-in_err-hand_on-2 g c =
     let none : lines_of (unread c.loop-laying.cursor) ≡ [] = (subst (λ o. IsStep (unread c.loop-laying.cursor) o (unread c.next_line.new.self)) c.in_default.is c.in_ok-line.ensures.step).0 in
-    let own = c.in_ok-close-2.ensures.laid in
+    let own = c.in_ok-close-3.ensures.laid in
     record {
       writes = written_refused c.args.self.now c.args.width c.args.markdown.now _ _ _ _ _ _ _ _ _ _ c.loop-laying.invariant.read
           (written_closed c.args.self.now c.args.width _ _ _ c.close-2.new.self.lines.items own.0 _ _ _ _ _ _ c.loop-laying.invariant.so_far (λ front ends. apart_last _ front none) own.1 own.2) c.from_residual-in_err-hand_on-2.ensures.1
@@ -114,7 +161,7 @@ returns-in_err-hand_on-2 g c =
 pub returns-in_err-put_all : goal.returns-in_err-put_all
 returns-in_err-put_all g c =
     let none : lines_of (unread c.loop-laying.cursor) ≡ [] = (subst (λ o. IsStep (unread c.loop-laying.cursor) o (unread c.next_line.new.self)) c.in_default.is c.in_ok-line.ensures.step).0 in
-    let own = c.in_ok-close-2.ensures.laid in
+    let own = c.in_ok-close-3.ensures.laid in
     let handed = c.in_ok-hand_on-2.ensures.handed in
     record {
       writes = written_cut_short c.args.self.now c.args.width c.args.markdown.now _ _ _ _ (string_bytes c.hand_on-2.new.rows) _ _ _ (g.O.Out.seen c.hand_on-2.new.out) _ c.loop-laying.invariant.read
@@ -127,7 +174,7 @@ returns-in_err-put_all g c =
 pub returns : goal.returns
 returns g c =
     let none : lines_of (unread c.loop-laying.cursor) ≡ [] = (subst (λ o. IsStep (unread c.loop-laying.cursor) o (unread c.next_line.new.self)) c.in_default.is c.in_ok-line.ensures.step).0 in
-    let own = c.in_ok-close-2.ensures.laid in
+    let own = c.in_ok-close-3.ensures.laid in
     let handed = c.in_ok-hand_on-2.ensures.handed in
     record {
       writes = written_whole c.args.self.now c.args.width c.args.markdown.now _ _ _ _ (string_bytes c.hand_on-2.new.rows) _ (g.O.Out.seen c.hand_on-2.new.out) _ c.loop-laying.invariant.read

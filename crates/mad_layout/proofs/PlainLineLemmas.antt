@@ -1,0 +1,336 @@
+-- Plain lines, which are written as they are.
+use Rattle.std.proofs.Common.{◌≡◌, ℕ, ◌+◌, ◌-◌, ◌<◌, ◌≤◌, ◌^◌, Bool, true, false, not, ◌||◌, List, [], ◌∷◌, ◌++◌, map, length, drop, get_or, chars, Option, None, Some, Result, Ok, Err, Vec, Global, Bor, refl, ap, sym, ◌∙◌, subst, arith, inl, append_assoc}
+use Rattle.std.specs.Prelude.{if◌then◌else◌, nat_eq, ◌&&◌}
+use Rattle.std.specs.List.{AllByRecursion}
+use Rattle.std.specs.Str.{IsUtf8, bytes_eq}
+use Rattle.std.specs.Result.{IsErrAnd}
+use Rattle.std.proofs.StrCases.{chars_of_empty}
+use Rattle.std.proofs.lemmas.Bool.Decides.{nat_tests}
+use Rattle.std.proofs.lemmas.Grind.{flat_map-append}
+use Rattle.std.proofs.lemmas.List.{append-nil, length-drop}
+use Rattle.mad_md.specs.Flagged.{Run, plain, flagged, flagged_text, run_of}
+use Rattle.mad_md.specs.Lines.{LineContent}
+use Rattle.mad_md.specs.Plain.{ArePlainBytes, is_plain_byte, plain_line}
+use Rattle.mad_md.specs.ReadRaw.{raw_runs}
+use Rattle.mad_md.specs.Reading.{IsRead, unread_text}
+use Rattle.mad_md.specs.declared.compound.Compound.{Compound}
+use Rattle.mad_style.specs.LineStyles.{margins_at}
+use Rattle.mad_style.specs.declared.kinds.CompositeKind.TheVariants.{Paragraph}
+use Rattle.mad_fit.specs.Columns.{columns, width_of}
+use Rattle.mad_fit.specs.Completions.{left_completion}
+use Rattle.mad_fit.proofs.AllLemmas.{all_push}
+use Rattle.mad_fit.proofs.FlaggedLemmas.{width_of-flagged}
+use Rattle.mad_fit.proofs.PlainLemmas.{plain_is}
+use Rattle.mad_term.specs.Styles.{IsPlain}
+use Rattle.mad_term.specs.Draws.{Refused}
+use Rattle.mad_term.specs.Trace.{Trace, after}
+use Rattle.mad_term.specs.declared.errors.Error.{Error}
+use Rattle.mad_term.proofs.Traces.{took_both}
+use Rattle.mad_draw.specs.Pieces.{pieces_bytes, spaces}
+use Rattle.mad_layout.specs.CompositeWraps.{IsCompositeWrap}
+use Rattle.mad_layout.specs.FlaggedLines.{is_code, is_table, stand_together}
+use Rattle.mad_layout.specs.Laying.{IsRunAt}
+use Rattle.mad_layout.specs.Layouts.{IsLayoutAt}
+use Rattle.mad_layout.specs.Lines.{IsLineRead}
+use Rattle.mad_layout.specs.Parts.{wrap_width, IsLineAt}
+use Rattle.mad_layout.specs.PlainLines.{IsPlainWidth, HandsOnPlain}
+use Rattle.mad_layout.specs.Rows.{compound_piece, left_of_place}
+use Rattle.mad_layout.specs.Styles.{compound_style, ellipsis_bytes}
+use Rattle.mad_layout.specs.Texts.{line_bytes, text_bytes}
+use Rattle.mad_layout.specs.WrappedLines.{line_with}
+use Rattle.mad_layout.specs.WrittenParts.{IsPartKind, HandsOn, WritesParts}
+use Rattle.mad_layout.specs.declared.parts_writing.PartKind.{PartKind}
+use Rattle.mad_layout.specs.declared.parts_writing.PartKind.TheVariants.{Alone}
+use Rattle.mad_layout.specs.declared.skin.MadSkin.{MadSkin}
+use Rattle.mad_layout.specs.declared.composite.FmtComposite.{FmtComposite}
+use Rattle.mad_layout.specs.declared.line.FmtLine.{FmtLine}
+use Rattle.mad_layout.specs.declared.line.FmtLine.TheVariants.{Normal}
+use Rattle.mad_layout.proofs.LayoutJoins.{apart, layouts_joined}
+use Rattle.mad_layout.proofs.PieceLemmas.{bare_piece}
+use Rattle.mad_layout.proofs.WrittenLemmas.{EndsIn, WrittenSoFar, WrittenParts, written_closed, written_on, written_next, written_refused, no_whole, refused_after}
+
+-- ---- the line that a plain text is
+
+-- a vector of at most one compound, in whatever memory
+abbrev holding : Vec FmtLine Global → List ℕ → Bor (List ℕ) → Vec Compound Global
+holding v [] text = record { ptr = v.ptr; len = 0; cap = 0; alloc = v.alloc; items = []; ok = (refl, omega arith); small = omega arith }
+holding v (b ∷ bs) text = record { ptr = v.ptr; len = 1; cap = 1; alloc = v.alloc; items = record { src = text; bold = false; italic = false; code = false; strikeout = false } ∷ []; ok = (refl, omega arith); small = omega arith }
+
+-- what was read, and the line that it becomes
+abbrev source : Vec FmtLine Global → List ℕ → Bor (List ℕ) → FmtComposite
+source v bs text = record { kind = Paragraph; compounds = holding v bs text; visible_length = length bs; spacing = None; margins = None }
+
+abbrev pub made : Vec FmtLine Global → List ℕ → Bor (List ℕ) → FmtLine
+made v bs text = line_with (0, 0) (source v bs text)
+
+abbrev AllPlain : List ℕ → Type 0
+AllPlain bs = ArePlainBytes bs (length bs)
+
+abbrev one_run : List ℕ → List Run
+one_run t = record { flags = plain; text = t } ∷ []
+
+holding_says : (v : Vec FmtLine Global) (bs : List ℕ) (text : Bor (List ℕ)) → text.now ≡ bs → map run_of (holding v bs text).items ≡ raw_runs bs
+holding_says v [] text is = refl
+holding_says v (b ∷ bs) text is = ap one_run is
+
+holding_width : (v : Vec FmtLine Global) (bs : List ℕ) (text : Bor (List ℕ)) → text.now ≡ bs → width_of (flagged_text (holding v bs text).items) ≡ columns (chars bs)
+holding_width v [] text is = ap columns (sym (chars_of_empty [] refl))
+holding_width v (b ∷ bs) text is =
+    ap width_of (append-nil (flagged plain (chars text.now))) ∙ width_of-flagged plain (chars text.now) ∙ ap (λ t. columns (chars t)) is
+
+low : (b : ℕ) → is_plain_byte b ≡ true → 31 < b
+low b h = grind (arith, nat_tests)
+
+high : (b : ℕ) → is_plain_byte b ≡ true → b < 127
+high b h = grind (arith, nat_tests)
+
+plain_columns : (bs : List ℕ) → IsUtf8 bs → AllPlain bs → columns (chars bs) ≡ length bs
+plain_columns bs utf8 h =
+    let front = plain_is bs (length bs) utf8 (omega arith) (λ k below. (low (get_or bs k 0) (h k below), high (get_or bs k 0) (h k below))) in
+    let none : columns (chars (drop (length bs) bs)) ≡ 0 = ap columns (chars_of_empty (drop (length bs) bs) (omega (arith, length-drop (length bs) bs))) in
+    omega (arith, front.columns_are, none)
+
+-- ---- its layout
+
+read_plain : (skin : MadSkin) (v : Vec FmtLine Global) (bs : List ℕ) (text : Bor (List ℕ)) → text.now ≡ bs → IsUtf8 bs → AllPlain bs → length bs < 2 ^ 64 → IsLineRead skin (plain_line bs) (Normal (source v bs text))
+read_plain skin v bs text is utf8 h range = record {
+  kind = refl;
+  text = holding_says v bs text is;
+  measured = omega (arith, holding_width v bs text is, plain_columns bs utf8 h, range);
+  spacing = refl;
+  margins = refl;
+}
+
+both : (m : ℕ × ℕ) → m.0 ≡ 0 → m.1 ≡ 0 → m ≡ (0, 0)
+both (a, b) h k = ap (λ (n : ℕ). (n, b)) h ∙ ap (λ (n : ℕ). (0, n)) k
+
+stays_plain : (skin : MadSkin) (width : Option ℕ) (most : ℕ) (v : Vec FmtLine Global) (bs : List ℕ) (text : Bor (List ℕ)) → IsPlainWidth skin width most → length bs ≤ most
+    → IsLineAt IsCompositeWrap skin (wrap_width width) (Normal (source v bs text)) (made v bs text ∷ [])
+stays_plain skin width most v bs text h fits =
+    let left = h.left_margin in
+    let right = h.right_margin in
+    let margins : margins_at skin.paragraph (Some most) ≡ (0, 0) = both _ h.left_margin h.right_margin in
+    subst (λ (w : Option ℕ). IsLineAt IsCompositeWrap skin w (Normal (source v bs text)) (made v bs text ∷ [])) (sym h.wraps)
+    (inl (omega (arith, fits, left, right), ap (λ (m : ℕ × ℕ). line_with m (source v bs text) ∷ []) (sym margins)))
+
+pub plain_layout : (skin : MadSkin) (width : Option ℕ) (most : ℕ) (v : Vec FmtLine Global) (bs : List ℕ) (text : Bor (List ℕ)) → IsPlainWidth skin width most → length bs ≤ most → text.now ≡ bs → IsUtf8 bs → AllPlain bs → length bs < 2 ^ 64
+    → IsLayoutAt skin width (plain_line bs ∷ []) (made v bs text ∷ [])
+plain_layout skin width most v bs text h fits is utf8 all range = record {
+  read = Normal (source v bs text) ∷ [];
+  reads = (read_plain skin v bs text is utf8 all range, tt);
+  laid = (made v bs text ∷ [], [], refl, (made v bs text ∷ [], [], refl, stays_plain skin width most v bs text h fits, refl), refl);
+}
+
+-- ---- its bytes
+
+no_left : (skin : MadSkin) (width : Option ℕ) (n : ℕ) → ((rest : ℕ) → left_completion skin.paragraph.align rest ≡ 0) → left_of_place skin.paragraph.align n width ≡ 0
+no_left skin None n h = refl
+no_left skin (Some outer) n h = h (outer - n)
+
+and_not : (a b : Bool) → a ≡ false → (a && b) ≡ false
+and_not a b h = ap (λ t. t && b) h
+
+other_text : (b : ℕ) (bs text : List ℕ) → text ≡ b ∷ bs → is_plain_byte b ≡ true → bytes_eq text ellipsis_bytes ≡ false
+other_text b bs text is h =
+    let other : nat_eq b 226 ≡ false = grind (arith, nat_tests) in
+    ap (λ t. bytes_eq t ellipsis_bytes) is ∙ and_not _ _ other
+
+if_not : {A : Type 0} (t : Bool) (a b : A) → t ≡ false → (if t then a else b) ≡ b
+if_not {A} t a b h = ap (λ s. if s then a else b) h
+
+text_piece : (skin : MadSkin) (v : Vec FmtLine Global) (bs : List ℕ) (text : Bor (List ℕ)) → IsPlain skin.paragraph.compound_style.object_style → text.now ≡ bs → AllPlain bs
+    → pieces_bytes (map (compound_piece skin skin.paragraph) (holding v bs text).items) ≡ bs
+text_piece skin v [] text plain is h = refl
+text_piece skin v (b ∷ bs) text plain is h =
+    let p : Compound = record { src = text; bold = false; italic = false; code = false; strikeout = false } in
+    let same : compound_style skin skin.paragraph (run_of p) ≡ skin.paragraph.compound_style = if_not _ _ _ (other_text b bs text.now is (h 0 (omega arith))) in
+    append-nil _ ∙ sym (bare_piece skin skin.paragraph p plain same) ∙ is
+
+pub plain_bytes : (skin : MadSkin) (width : Option ℕ) (most : ℕ) (v : Vec FmtLine Global) (bs : List ℕ) (text : Bor (List ℕ)) → IsPlainWidth skin width most → text.now ≡ bs → AllPlain bs
+    → line_bytes skin width (made v bs text) ≡ bs ++ 10 ∷ []
+plain_bytes skin width most v bs text h is all =
+    let ps = map (compound_piece skin skin.paragraph) (holding v bs text).items in
+    let none : left_of_place skin.paragraph.align (length bs + 0 + 0) width + 0 ≡ 0 = omega (arith, no_left skin width (length bs + 0 + 0) h.left) in
+    ap (λ n. pieces_bytes (spaces skin.paragraph.compound_style n ++ (ps ++ [])) ++ 10 ∷ []) none
+    ∙ ap (λ qs. pieces_bytes qs ++ 10 ∷ []) (append-nil ps)
+    ∙ ap (λ (t : List ℕ). t ++ 10 ∷ []) (text_piece skin v bs text h.style is all)
+
+-- ---- what is written so far
+
+abbrev pub AllAlone : List LineContent → Type 0
+AllAlone ls = AllByRecursion (λ l. IsPartKind l Alone) ls
+
+-- The first lines are rows that went out or are kept.
+pub record PlainSoFar (skin : MadSkin) (width : Option ℕ) (before left : List LineContent) (bytes kept : List ℕ) (old new : Trace) : Type 0 where
+  pub taken : List LineContent
+  pub lines : List FmtLine
+  pub sent : List ℕ
+  pub joins : before ≡ taken ++ left
+  pub alone : AllAlone taken
+  pub layout : IsLayoutAt skin width taken lines
+  pub both : bytes ++ text_bytes skin width lines ≡ sent ++ kept
+  pub went : new ≡ after old sent
+
+pub plain_start : (skin : MadSkin) (width : Option ℕ) (before : List LineContent) (bytes kept : List ℕ) (old new : Trace) → HandsOn {T = Unit {0}} old bytes (Ok (tt {0})) new kept → PlainSoFar skin width before before bytes kept old new
+plain_start skin width before bytes kept old new (sent, both, went) = record {
+  taken = [];
+  lines = [];
+  sent = sent;
+  joins = refl;
+  alone = tt;
+  layout = record { read = []; reads = tt; laid = refl };
+  both = append-nil bytes ∙ both;
+  went = went;
+}
+
+-- such a line is in no part with another
+alone_off : (c d : LineContent) → IsPartKind c Alone → stand_together c d ≡ false
+alone_off c d h = ap (λ b. (b && is_code d) || (is_table c && is_table d)) h.0 ∙ ap (λ b. b && is_table d) h.1
+
+pub alone_apart : (front rest : List LineContent) → AllAlone front → apart front rest ≡ true
+alone_apart [] rest h = refl
+alone_apart (c ∷ []) [] h = refl
+alone_apart (c ∷ []) (d ∷ ds) h = ap not (alone_off c d h.0)
+alone_apart (c ∷ d ∷ cs) rest h = alone_apart (d ∷ cs) rest h.1
+
+pub plain_more : (skin : MadSkin) (width : Option ℕ) (before left later : List LineContent) (c : LineContent) (l : FmtLine) (bytes kept new_kept : List ℕ) (old new : Trace)
+    → PlainSoFar skin width before left bytes kept old new → left ≡ c ∷ later → IsPartKind c Alone → IsLayoutAt skin width (c ∷ []) (l ∷ []) → new_kept ≡ kept ++ line_bytes skin width l
+    → PlainSoFar skin width before later bytes new_kept old new
+plain_more skin width before left later c l bytes kept new_kept old new h is kind laid row =
+    let more : text_bytes skin width (h.lines ++ l ∷ []) ≡ text_bytes skin width h.lines ++ line_bytes skin width l =
+    flat_map-append (line_bytes skin width) h.lines (l ∷ []) ∙ ap (λ (t : List ℕ). text_bytes skin width h.lines ++ t) (append-nil (line_bytes skin width l)) in
+    record {
+      taken = h.taken ++ c ∷ [];
+      lines = h.lines ++ l ∷ [];
+      sent = h.sent;
+      joins = h.joins ∙ ap (λ (ls : List LineContent). h.taken ++ ls) is ∙ sym (append_assoc h.taken (c ∷ []) later);
+      alone = all_push _ h.taken c h.alone kind;
+      layout = layouts_joined skin width h.taken (c ∷ []) h.lines (l ∷ []) (alone_apart h.taken (c ∷ []) h.alone) h.layout laid;
+      both = ap (λ (t : List ℕ). bytes ++ t) more ∙ sym (append_assoc bytes (text_bytes skin width h.lines) (line_bytes skin width l)) ∙ ap (λ (t : List ℕ). t ++ line_bytes skin width l) h.both
+          ∙ append_assoc h.sent kept (line_bytes skin width l) ∙ ap (λ (t : List ℕ). h.sent ++ t) (sym row);
+      went = h.went;
+    }
+
+pub plain_sent : (skin : MadSkin) (width : Option ℕ) (before left : List LineContent) (bytes kept new_kept : List ℕ) (old mid new : Trace)
+    → PlainSoFar skin width before left bytes kept old mid → HandsOn {T = Unit {0}} mid kept (Ok (tt {0})) new new_kept → PlainSoFar skin width before left bytes new_kept old new
+plain_sent skin width before left bytes kept new_kept old mid new h (sent, both, went) = record {
+  taken = h.taken;
+  lines = h.lines;
+  sent = h.sent ++ sent;
+  joins = h.joins;
+  alone = h.alone;
+  layout = h.layout;
+  both = h.both ∙ ap (λ (t : List ℕ). h.sent ++ t) both ∙ sym (append_assoc h.sent sent new_kept);
+  went = took_both old mid new h.sent sent h.went went;
+}
+
+-- ---- exits
+
+pub plain_done : (skin : MadSkin) (width : Option ℕ) (before left : List LineContent) (bytes kept : List ℕ) (old new : Trace) → PlainSoFar skin width before left bytes kept old new
+    → HandsOnPlain {T = Unit {0}} skin width before bytes old (Ok (tt {0})) new kept left
+plain_done skin width before left bytes kept old new h = record {
+  taken = h.taken;
+  later = left;
+  joins = h.joins;
+  alone = h.alone;
+  lines = h.lines;
+  layout = h.layout;
+  handed = (h.sent, h.both, h.went);
+  rest = refl;
+}
+
+hands_refused : {T : Type 0} (r : Result T Error) (e : Error) (old new : Trace) (bytes kept : List ℕ) → IsErrAnd r (λ d. d ≡ e) → Refused old bytes e new → HandsOn old bytes r new kept
+hands_refused {T} (Ok x) e old new bytes kept is h = absurd is
+hands_refused {T} (Err d) e old new bytes kept is h = subst (λ (f : Error). Refused old bytes f new) (sym is) h
+
+-- the bytes that are kept were refused
+pub plain_refused : {T : Type 0} (skin : MadSkin) (width : Option ℕ) (before left rest : List LineContent) (bytes kept new_kept : List ℕ) (r : Result T Error) (e : Error) (old mid new : Trace) → PlainSoFar skin width before left bytes kept old mid
+    → IsErrAnd r (λ d. d ≡ e) → Refused mid kept e new → HandsOnPlain skin width before bytes old r new new_kept rest
+plain_refused {T} skin width before left rest bytes kept new_kept r e old mid new h is refused = record {
+  taken = h.taken;
+  later = left;
+  joins = h.joins;
+  alone = h.alone;
+  lines = h.lines;
+  layout = h.layout;
+  handed = hands_refused r e old new (bytes ++ text_bytes skin width h.lines) new_kept is (subst (λ (b : List ℕ). Refused old b e new) (sym h.both) (refused_after e old mid new h.sent kept h.went refused));
+  rest = no_whole r e (rest ≡ left) is;
+}
+
+-- the lines in front were refused
+pub plain_none : {T : Type 0} (skin : MadSkin) (width : Option ℕ) (before rest : List LineContent) (bytes kept : List ℕ) (r : Result T Error) (e : Error) (old new : Trace) → IsErrAnd r (λ d. d ≡ e) → Refused old bytes e new
+    → HandsOnPlain skin width before bytes old r new kept rest
+plain_none {T} skin width before rest bytes kept r e old new is refused = record {
+  taken = [];
+  later = before;
+  joins = refl;
+  alone = tt;
+  lines = [];
+  layout = record { read = []; reads = tt; laid = refl };
+  handed = hands_refused r e old new (bytes ++ []) kept is (subst (λ (b : List ℕ). Refused old b e new) (sym (append-nil bytes)) refused);
+  rest = no_whole r e (rest ≡ before) is;
+}
+
+-- a text and a newline after the rows that are kept
+pub row_put : (kept text mid new row : List ℕ) → mid ≡ kept ++ text → new ≡ mid ++ 10 ∷ [] → row ≡ text ++ 10 ∷ [] → new ≡ kept ++ row
+row_put kept text mid new row first last is = last ∙ ap (λ (t : List ℕ). t ++ 10 ∷ []) first ∙ append_assoc kept text (10 ∷ []) ∙ ap (λ (t : List ℕ). kept ++ t) (sym is)
+
+-- ---- after the lines in front
+
+ends_apart : (front left : List LineContent) → EndsIn Alone front → apart front left ≡ true
+ends_apart [] left h = refl
+ends_apart (c ∷ []) [] h = refl
+ends_apart (c ∷ []) (d ∷ ds) h = ap not (alone_off c d h)
+ends_apart (c ∷ d ∷ cs) left h = ends_apart (d ∷ cs) left h
+
+all_end : (taken : List LineContent) → AllAlone taken → EndsIn Alone taken
+all_end [] h = tt
+all_end (c ∷ []) h = h.0
+all_end (c ∷ d ∷ cs) h = all_end (d ∷ cs) h.1
+
+ends_all : (front taken : List LineContent) → EndsIn Alone front → AllAlone taken → EndsIn Alone (front ++ taken)
+ends_all [] taken h all = all_end taken all
+ends_all (b ∷ []) [] h all = h
+ends_all (b ∷ []) (c ∷ cs) h all = all_end (c ∷ cs) all
+ends_all (b ∷ d ∷ cs) taken h all = ends_all (d ∷ cs) taken h all
+
+plain_parts : (skin : MadSkin) (width : Option ℕ) (all left taken later : List LineContent) (lines own : List FmtLine) (kept : List ℕ) (old new : Trace)
+    → WrittenParts skin width all left lines Alone kept old new → left ≡ taken ++ later → AllAlone taken → IsLayoutAt skin width taken own → WrittenParts skin width all later (lines ++ own) Alone kept old new
+plain_parts skin width all left taken later lines own kept old new h is alone laid =
+    let ends : EndsIn Alone (h.front ++ taken) = ends_all h.front taken h.ends alone in
+    record {
+      front = h.front ++ taken;
+      done = h.done;
+      sent = h.sent;
+      joins = h.joins ∙ ap (λ (ls : List LineContent). h.front ++ ls) is ∙ sym (append_assoc h.front taken later);
+      whole = ends_apart (h.front ++ taken) later ends;
+      ends = ends;
+      layout = subst (IsLayoutAt skin width (h.front ++ taken)) (append_assoc h.done lines own) (layouts_joined skin width h.front taken (h.done ++ lines) own (ends_apart h.front taken h.ends) h.layout laid);
+      bytes = h.bytes;
+      went = h.went;
+    }
+
+rows_both : (skin : MadSkin) (width : Option ℕ) (kept : List ℕ) (lines own : List FmtLine) → kept ++ text_bytes skin width (lines ++ own) ≡ (kept ++ text_bytes skin width lines) ++ text_bytes skin width own
+rows_both skin width kept lines own = ap (λ (t : List ℕ). kept ++ t) (flat_map-append (line_bytes skin width) lines own) ∙ sym (append_assoc kept (text_bytes skin width lines) (text_bytes skin width own))
+
+-- a line that is alone is laid out, and it and the plain lines after it are handed on
+pub written_plain : (skin : MadSkin) (width : Option ℕ) (all left later : List LineContent) (lines closed none own table no_table : List FmtLine) (block no_block : List FmtComposite) (last : PartKind) (kept new_kept : List ℕ) (old mid new : Trace)
+    → last ≡ Alone → WrittenSoFar skin width all left lines block table last kept old mid → closed ≡ lines ++ own → IsRunAt skin width block table own → none ≡ [] → no_block ≡ [] → no_table ≡ []
+    → HandsOnPlain {T = Unit {0}} skin width left (kept ++ text_bytes skin width closed) mid (Ok (tt {0})) new new_kept later → WrittenSoFar skin width all later none no_block no_table last new_kept old new
+written_plain skin width all left later lines closed none own table no_table block no_block last kept new_kept old mid new is h closes made empty empty_block empty_table p =
+    let before = subst (λ (k : PartKind). WrittenSoFar skin width all left lines block table k kept old mid) is h in
+    let parts = written_closed skin width all left lines closed own table block Alone kept old mid before (λ front ends. ends_apart front left ends) closes made in
+    let more = plain_parts skin width all left p.taken p.later closed p.lines kept old mid parts p.joins p.alone p.layout in
+    let on = written_on skin width all p.later (closed ++ p.lines) none Alone kept new_kept p.handed.0 old mid new more empty (rows_both skin width kept closed p.lines ∙ p.handed.1) p.handed.2 in
+    let next = written_next skin width all p.later none no_table no_block Alone new_kept old new on empty empty_block empty_table in
+    subst (λ (k : PartKind). WrittenSoFar skin width all later none no_block no_table k new_kept old new) (sym is)
+    (subst (λ (ls : List LineContent). WrittenSoFar skin width all ls none no_block no_table Alone new_kept old new) (sym p.rest) next)
+
+pub written_plain_refused : {T : Type 0} (skin : MadSkin) (width : Option ℕ) (markdown : List ℕ) (all left later : List LineContent) (lines closed own table : List FmtLine) (block : List FmtComposite) (last : PartKind) (kept new_kept : List ℕ) (r : Result T Error) (e : Error) (old mid new : Trace)
+    → IsRead (unread_text false markdown) all → last ≡ Alone → WrittenSoFar skin width all left lines block table last kept old mid → closed ≡ lines ++ own → IsRunAt skin width block table own
+    → HandsOnPlain {T = Unit {0}} skin width left (kept ++ text_bytes skin width closed) mid (Err e) new new_kept later → IsErrAnd r (λ d. d ≡ e) → WritesParts skin width markdown old r new
+written_plain_refused {T} skin width markdown all left later lines closed own table block last kept new_kept r e old mid new read is h closes made p error =
+    let before = subst (λ (k : PartKind). WrittenSoFar skin width all left lines block table k kept old mid) is h in
+    let parts = written_closed skin width all left lines closed own table block Alone kept old mid before (λ front ends. ends_apart front left ends) closes made in
+    let more = plain_parts skin width all left p.taken p.later closed p.lines kept old mid parts p.joins p.alone p.layout in
+    written_refused skin width markdown all p.later (closed ++ p.lines) Alone kept r e old mid new read more error (subst (λ (b : List ℕ). Refused mid b e new) (sym (rows_both skin width kept closed p.lines)) p.handed)

@@ -1,0 +1,58 @@
+use Rattle.std.proofs.Common.{◌<◌, ◌^◌, rules, length, refl, arith}
+use Rattle.std.specs.Str.{IsUtf8}
+use Rattle.mad_md.specs.Cursor.{unread}
+use Rattle.mad_md.specs.Plain.{IsPlainStep, plain_line}
+use Rattle.mad_term.proofs.Traces.{stopped_before}
+use Rattle.mad_term.specs.declared.errors.Error.TheVariants.{Memory}
+use Rattle.mad_layout.specs.Texts.{line_bytes}
+use Rattle.mad_layout.proofs.PlainLineLemmas.{made, plain_layout, plain_bytes, plain_start, plain_more, plain_sent, plain_done, plain_refused, plain_none, row_put}
+use Rattle.mad_layout.proofs.parts_writing.hand_on_plain.Goals as goal
+
+pub returns-in_err-hand_on-clause-handed : goal.returns-in_err-hand_on-clause-handed
+returns-in_err-hand_on-clause-handed g c = plain_none _ _ _ _ _ _ _ _ _ _ c.from_residual.ensures.1 c.in_err-hand_on.ensures.handed
+
+pub returns-in_default-clause-handed : goal.returns-in_default-clause-handed
+returns-in_default-clause-handed g c = plain_done _ _ _ _ _ _ _ _ (plain_start _ _ _ _ _ _ _ c.in_ok-hand_on.ensures.handed)
+
+pub loop-text-init : goal.loop-text-init
+loop-text-init g c = record {
+  so_far = plain_start _ _ _ _ _ _ _ c.in_ok-hand_on.ensures.handed;
+  none = c.in_ok-hand_on.ensures.dropped;
+  shorter = omega arith;
+}
+
+pub returns-in_err-push_str-clause-handed : goal.returns-in_err-push_str-clause-handed
+returns-in_err-push_str-clause-handed g c = plain_refused _ _ _ _ _ _ _ _ _ Memory _ _ _ c.loop-text.invariant.so_far c.from_residual-in_err-push_str.ensures.1 (stopped_before _ _)
+
+pub returns-in_err-push_str-2-clause-handed : goal.returns-in_err-push_str-2-clause-handed
+returns-in_err-push_str-2-clause-handed g c = plain_refused _ _ _ _ _ _ _ _ _ Memory _ _ _ c.loop-text.invariant.so_far c.from_residual-in_err-push_str-2.ensures.1 (stopped_before _ _)
+
+pub loop-text-preserved : goal.loop-text-preserved
+loop-text-preserved g c =
+    let held = c.loop-text.invariant in
+    let text = c.in-Some-next_plain.text in
+    let step : IsPlainStep c.in-Some.most (unread c.loop-text.cursor) text.now (unread c.next_plain.new.self) = c.in-Some-next_plain.ensures in
+    let utf8 : IsUtf8 text.now = search rules in
+    let range : length text.now < 2 ^ 64 = search rules in
+    let skin = c.args.skin.now in
+    let width = c.args.width in
+    let laid = plain_layout skin width c.in-Some.most c.args.lines.now text.now text c.in-Some.ensures step.short refl utf8 step.plain range in
+    let row = row_put _ text.now _ _ (line_bytes skin width (made c.args.lines.now text.now text)) c.in_ok-push_str.ensures.bytes c.in_ok-push_str-2.ensures.bytes (plain_bytes skin width c.in-Some.most c.args.lines.now text.now text c.in-Some.ensures refl step.plain) in
+    record {
+      so_far = plain_sent _ _ _ _ _ _ _ _ _ _ (plain_more skin width _ _ _ (plain_line text.now) (made c.args.lines.now text.now text) _ _ _ _ _ held.so_far step.line (refl, refl) laid row) c.in_ok-send.ensures;
+      none = held.none;
+      shorter = omega (arith, step.shorter, held.shorter);
+    }
+
+pub returns-in_err-send-clause-handed : goal.returns-in_err-send-clause-handed
+returns-in_err-send-clause-handed g c =
+    let held = c.loop-text.invariant in
+    let text = c.in-Some-next_plain.text in
+    let step : IsPlainStep c.in-Some.most (unread c.loop-text.cursor) text.now (unread c.next_plain.new.self) = c.in-Some-next_plain.ensures in
+    let utf8 : IsUtf8 text.now = search rules in
+    let range : length text.now < 2 ^ 64 = search rules in
+    let skin = c.args.skin.now in
+    let width = c.args.width in
+    let laid = plain_layout skin width c.in-Some.most c.args.lines.now text.now text c.in-Some.ensures step.short refl utf8 step.plain range in
+    let row = row_put _ text.now _ _ (line_bytes skin width (made c.args.lines.now text.now text)) c.in_ok-push_str.ensures.bytes c.in_ok-push_str-2.ensures.bytes (plain_bytes skin width c.in-Some.most c.args.lines.now text.now text c.in-Some.ensures refl step.plain) in
+    plain_refused _ _ _ _ _ _ _ _ _ _ _ _ _ (plain_more skin width _ _ _ (plain_line text.now) (made c.args.lines.now text.now text) _ _ _ _ _ held.so_far step.line (refl, refl) laid row) c.from_residual-in_err-send.ensures.1 c.in_err-send.ensures

@@ -1,0 +1,36 @@
+-- Plain lines: paragraphs that are written as they are.
+use Rattle.std.specs.Prelude.{◌≡◌, ℕ, List, ◌++◌, Option, Some, Result, OnOk}
+use Rattle.std.specs.List.{AllByRecursion}
+use Rattle.mad_md.specs.Lines.{LineContent}
+use Rattle.mad_style.specs.LineStyles.{margins_at}
+use Rattle.mad_fit.specs.Completions.{left_completion}
+use Rattle.mad_term.specs.Styles.{IsPlain}
+use Rattle.mad_term.specs.Trace.{Trace}
+use Rattle.mad_term.specs.declared.errors.Error.{Error}
+use Rattle.mad_layout.specs.Layouts.{IsLayoutAt}
+use Rattle.mad_layout.specs.Parts.{wrap_width}
+use Rattle.mad_layout.specs.Texts.{text_bytes}
+use Rattle.mad_layout.specs.WrittenParts.{IsPartKind, HandsOn}
+use Rattle.mad_layout.specs.declared.parts_writing.PartKind.TheVariants.{Alone}
+use Rattle.mad_layout.specs.declared.skin.MadSkin.{MadSkin}
+use Rattle.mad_layout.specs.declared.line.FmtLine.{FmtLine}
+
+-- Paragraphs of at most `most` columns are rows by themselves, which stand left, without margins, and in no style.
+pub record IsPlainWidth (skin : MadSkin) (width : Option ℕ) (most : ℕ) : Type 0 where
+  pub wraps : wrap_width width ≡ Some most
+  pub style : IsPlain skin.paragraph.compound_style.object_style
+  pub left_margin : (margins_at skin.paragraph (Some most)).0 ≡ 0
+  pub right_margin : (margins_at skin.paragraph (Some most)).1 ≡ 0
+  pub left : (rest : ℕ) → left_completion skin.paragraph.align rest ≡ 0
+
+-- These bytes were handed on, and after them the lines of a layout of the first of these lines, each a part by itself; the others are left where that
+-- succeeded.
+pub record HandsOnPlain {T : Type 0} (skin : MadSkin) (width : Option ℕ) (before : List LineContent) (bytes : List ℕ) (old : Trace) (r : Result T Error) (new : Trace) (kept : List ℕ) (left : List LineContent) : Type 0 where
+  pub taken : List LineContent
+  pub later : List LineContent
+  pub joins : before ≡ taken ++ later
+  pub alone : AllByRecursion (λ l. IsPartKind l Alone) taken
+  pub lines : List FmtLine
+  pub layout : IsLayoutAt skin width taken lines
+  pub handed : HandsOn old (bytes ++ text_bytes skin width lines) r new kept
+  pub rest : OnOk r (left ≡ later)
