@@ -9,8 +9,9 @@ use Rattle.mad_layout.specs.declared.laying.Laying.{Laying}
 use Rattle.mad_layout.proofs.LayoutLemmas.{open_none}
 use Rattle.mad_layout.proofs.WrittenLemmas.{WrittenSoFar, written_start, written_closed, written_on, written_more, written_cut, written_same, written_early, written_refused, written_cut_short, written_whole, apart_before, apart_last}
 use Rattle.mad_layout.proofs.PlainLineLemmas.{written_plain, written_plain_refused}
+use Rattle.mad_layout.proofs.skin.MadSkin.write_parts_on.Given.{Over}
 use Rattle.mad_layout.proofs.skin.MadSkin.write_parts_on.Goals as goal
-use Rattle.mad_layout.proofs.skin.MadSkin.write_parts_on.Goals.{then-ends+in_ok-close-2+in_ok-hand_on, else-ends}
+use Rattle.mad_layout.proofs.skin.MadSkin.write_parts_on.Goals.{Joined-ends, then-ends+in_ok-close-2+in_ok-hand_on, else-ends}
 
 pub loop-laying-init : goal.loop-laying-init
 loop-laying-init g c =
@@ -99,13 +100,18 @@ loop-laying-smaller g c =
     let step : IsStep (unread c.loop-laying.cursor) (Some c.in-Some.line) (unread c.next_line.new.self) = subst (λ o. IsStep (unread c.loop-laying.cursor) o (unread c.next_line.new.self)) c.in-Some.is c.in_ok-line.ensures.step in
     step.1
 
-pub loop-laying-preserved : goal.loop-laying-preserved
-loop-laying-preserved g c =
+-- what the next line begins
+next_step : (g : Over) (c : Joined-ends g) → IsStep (unread c.loop-laying.cursor) (Some c.in-Some.line) (unread c.next_line.new.self)
+next_step g c = subst (λ o. IsStep (unread c.loop-laying.cursor) o (unread c.next_line.new.self)) c.in-Some.is c.in_ok-line.ensures.step
+
+-- before a line is laid, a part that it doesn't go on with was written
+part_before : (g : Over) (c : Joined-ends g)
+    → WrittenSoFar c.args.self.now c.args.width (lines_of (unread_text false c.args.markdown.now)) (lines_of (unread c.loop-laying.cursor)) c.if-ends.laying.lines.items c.if-ends.laying.block.items c.if-ends.laying.table.items c.loop-laying.last (string_bytes c.if-ends.rows) (g.O.Out.seen c.args.out.now) (g.O.Out.seen c.if-ends.out)
+part_before g c =
     let skin = c.args.self.now in
     let all = lines_of (unread_text false c.args.markdown.now) in
     let left = lines_of (unread c.loop-laying.cursor) in
-    let step : IsStep (unread c.loop-laying.cursor) (Some c.in-Some.line) (unread c.next_line.new.self) = subst (λ o. IsStep (unread c.loop-laying.cursor) o (unread c.next_line.new.self)) c.in-Some.is c.in_ok-line.ensures.step in
-    let mid : WrittenSoFar skin c.args.width all left c.if-ends.laying.lines.items c.if-ends.laying.block.items c.if-ends.laying.table.items c.loop-laying.last (string_bytes c.if-ends.rows) (g.O.Out.seen c.args.out.now) (g.O.Out.seen c.if-ends.out) =
+    let step = next_step g c in
     elim c.if-ends.branch as (λ _. WrittenSoFar skin c.args.width all left c.if-ends.laying.lines.items c.if-ends.laying.block.items c.if-ends.laying.table.items c.loop-laying.last (string_bytes c.if-ends.rows) (g.O.Out.seen c.args.out.now) (g.O.Out.seen c.if-ends.out)) [
       | then-ends+in_ok-close-2+in_ok-hand_on w ↦
           let cut = apart_before left (lines_of (unread c.next_line.new.self)) (content_of c.in-Some.line) c.loop-laying.last c.part_kind-kind.result step.0 c.part_kind-kind.ensures (λ l m a b. sym (c.ends.ensures w.if-ends.true l m a b)) in
@@ -115,30 +121,19 @@ loop-laying-preserved g c =
           c.loop-laying.invariant.so_far cut own.1 own.2 w.in_ok-hand_on.ensures.dropped w.in_ok-close-2.ensures.block w.in_ok-close-2.ensures.table w.in_ok-hand_on.ensures.handed)
           w.laying-is w.rows-is (ap g.O.Out.seen w.out-is)
       | else-ends w ↦ written_same skin c.args.width all left c.loop-laying.laying c.if-ends.laying c.loop-laying.last c.loop-laying.rows c.if-ends.rows _ _ _ c.loop-laying.invariant.so_far w.laying-is w.rows-is (ap g.O.Out.seen w.out-is)
-    ] in
+    ]
+
+pub loop-laying-preserved : goal.loop-laying-preserved
+loop-laying-preserved g c =
+    let before = (goal.at.loop-laying-preserved g c).Joined-ends in
     record {
       read = c.loop-laying.invariant.read;
-      so_far = written_more skin c.args.width all left (lines_of (unread c.next_line.new.self)) (content_of c.in-Some.line) _ _ _ _ _ _ c.loop-laying.last c.part_kind-kind.result _ _ _ mid step.0 c.part_kind-kind.ensures c.in_ok-push-2.ensures.laid c.in_ok-push-2.ensures.run;
+      so_far = written_more c.args.self.now c.args.width _ _ (lines_of (unread c.next_line.new.self)) (content_of c.in-Some.line) _ _ _ _ _ _ c.loop-laying.last c.part_kind-kind.result _ _ _ (part_before g before) (next_step g before).0 c.part_kind-kind.ensures c.in_ok-push-2.ensures.laid c.in_ok-push-2.ensures.run;
     }
 
 pub returns-in_err-push-2 : goal.returns-in_err-push-2
 returns-in_err-push-2 g c =
-    let skin = c.args.self.now in
-    let all = lines_of (unread_text false c.args.markdown.now) in
-    let left = lines_of (unread c.loop-laying.cursor) in
-    let step : IsStep (unread c.loop-laying.cursor) (Some c.in-Some.line) (unread c.next_line.new.self) = subst (λ o. IsStep (unread c.loop-laying.cursor) o (unread c.next_line.new.self)) c.in-Some.is c.in_ok-line.ensures.step in
-    let mid : WrittenSoFar skin c.args.width all left c.if-ends.laying.lines.items c.if-ends.laying.block.items c.if-ends.laying.table.items c.loop-laying.last (string_bytes c.if-ends.rows) (g.O.Out.seen c.args.out.now) (g.O.Out.seen c.if-ends.out) =
-    elim c.if-ends.branch as (λ _. WrittenSoFar skin c.args.width all left c.if-ends.laying.lines.items c.if-ends.laying.block.items c.if-ends.laying.table.items c.loop-laying.last (string_bytes c.if-ends.rows) (g.O.Out.seen c.args.out.now) (g.O.Out.seen c.if-ends.out)) [
-      | then-ends+in_ok-close-2+in_ok-hand_on w ↦
-          let cut = apart_before left (lines_of (unread c.next_line.new.self)) (content_of c.in-Some.line) c.loop-laying.last c.part_kind-kind.result step.0 c.part_kind-kind.ensures (λ l m a b. sym (c.ends.ensures w.if-ends.true l m a b)) in
-          let own = w.in_ok-close-2.ensures.laid in
-          written_same skin c.args.width all left (record w.close-then-ends.new.self { lines = w.hand_on.new.lines }) c.if-ends.laying c.loop-laying.last w.hand_on.new.rows c.if-ends.rows _ (g.O.Out.seen w.hand_on.new.out) _
-          (written_cut skin c.args.width all left _ w.close-then-ends.new.self.lines.items w.hand_on.new.lines.items own.0 _ w.close-then-ends.new.self.table.items _ w.close-then-ends.new.self.block.items c.loop-laying.last _ _ _ _ _
-          c.loop-laying.invariant.so_far cut own.1 own.2 w.in_ok-hand_on.ensures.dropped w.in_ok-close-2.ensures.block w.in_ok-close-2.ensures.table w.in_ok-hand_on.ensures.handed)
-          w.laying-is w.rows-is (ap g.O.Out.seen w.out-is)
-      | else-ends w ↦ written_same skin c.args.width all left c.loop-laying.laying c.if-ends.laying c.loop-laying.last c.loop-laying.rows c.if-ends.rows _ _ _ c.loop-laying.invariant.so_far w.laying-is w.rows-is (ap g.O.Out.seen w.out-is)
-    ] in
-    record { writes = written_early skin c.args.width c.args.markdown.now _ _ _ _ _ _ _ _ _ _ c.loop-laying.invariant.read mid c.from_residual-in_err-push-2.ensures.1 }
+    record { writes = written_early c.args.self.now c.args.width c.args.markdown.now _ _ _ _ _ _ _ _ _ _ c.loop-laying.invariant.read (part_before g (goal.at.returns-in_err-push-2 g c).Joined-ends) c.from_residual-in_err-push-2.ensures.1 }
 
 pub close-requires-2 : goal.close-requires-2
 close-requires-2 g c = record { run = c.loop-laying.invariant.so_far.ready }
