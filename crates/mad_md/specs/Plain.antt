@@ -1,6 +1,7 @@
 -- Plain lines: short paragraphs without marks, which their bytes tell.
 use Rattle.std.specs.Prelude.{◌≡◌, ℕ, ◌≤◌, ◌<◌, ◌⊎◌, Bool, true, false, not, ◌&&◌, nat_le, nat_lt, List, ◌∷◌, length, get_or}
 use Rattle.std.specs.Char.{is_ascii_alphabetic}
+use Rattle.mad_md.specs.Flagged.{plain}
 use Rattle.mad_md.specs.Inline.{may_begin}
 use Rattle.mad_md.specs.Lines.{LineContent, normal}
 use Rattle.mad_md.specs.ReadRaw.{raw_runs}
@@ -23,6 +24,13 @@ pub record IsPlainFront (most : ℕ) (bs : List ℕ) (n : ℕ) : Type 0 where
   pub short : n ≤ most
   pub inside : n < length bs
   pub ends : get_or bs n 0 ≡ 10
+
+-- The next line is plain and of at most `most` bytes: no fence is open before it, no flags are carried to it, and its bytes tell.
+pub record IsPlainNext (most : ℕ) (unread : Unread) : Type 0 where
+  pub fenced : unread.fenced ≡ false
+  pub carried : unread.carried ≡ plain
+  pub len : ℕ
+  pub front : IsPlainFront most unread.text len
 
 -- a Paragraph of one compound without flags, or of none
 abbrev pub plain_line : List ℕ → LineContent

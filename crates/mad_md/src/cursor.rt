@@ -1,11 +1,11 @@
 //! Reading a text line by line.
 
-ghost use Rattle.std.specs.Prelude.{◌≡◌, false, IfOk, OnErr, IsTrue, MatchOption};
+ghost use Rattle.std.specs.Prelude.{◌≡◌, false, IfOk, OnErr, IsTrue, None, MatchOption};
 ghost use Rattle.mad_md.specs.Cursor.{unread, IsStep};
 ghost use Rattle.mad_md.specs.Flagged.{flags_of, plain};
 ghost use Rattle.mad_md.specs.Inline.{flags_at_end};
 ghost use Rattle.mad_md.specs.Lines.{content_of};
-ghost use Rattle.mad_md.specs.Plain.{IsPlainStep};
+ghost use Rattle.mad_md.specs.Plain.{IsPlainNext, IsPlainStep};
 ghost use Rattle.mad_md.specs.Reading.{unread_text, IsRead, carried_on};
 ghost use Rattle.mad_md.specs.Scan.{items_of, marked_line, line_of_form, flags_of_form, lines_of, line_of, flags_of_line, code_line};
 
@@ -69,7 +69,8 @@ impl<'s> LineCursor<'s> {
     ///
     /// Where there is none, or another line is next, the cursor stays where it was. No memory is needed.
     pub fn next_plain(&mut self, most: usize) -> Option<&'s str>
-        ensures { MatchOption result (self.new ≡ self.old) (λ text. IsPlainStep most (unread self.old) text.now (unread self.new)) }
+        ensures step { MatchOption result (self.new ≡ self.old) (λ text. IsPlainStep most (unread self.old) text.now (unread self.new)) }
+        ensures none { result ≡ None → ¬ IsPlainNext most (unread self.old) }
     {
         if self.is_bound() {
             return None;
@@ -84,6 +85,7 @@ impl<'s> LineCursor<'s> {
     fn is_bound(&self) -> bool
         ensures fence { result ≡ false → self.now.fenced ≡ false }
         ensures flags { result ≡ false → flags_of self.now.rest ≡ plain }
+        ensures bound { IsTrue result → self.now.fenced ≡ false → ¬ (flags_of self.now.rest ≡ plain) }
     {
         let rest = self.rest;
         self.fenced || rest.bold || rest.italic || rest.code || rest.strikeout

@@ -1,12 +1,12 @@
 //! Plain lines: short paragraphs without marks, which their bytes tell.
 
-ghost use Rattle.std.specs.Prelude.{◌≡◌, ◌<◌, ◌⊎◌, length, get_or, true, IsTrue, IfSome};
+ghost use Rattle.std.specs.Prelude.{ℕ, ◌≡◌, ◌<◌, ◌⊎◌, length, get_or, true, false, IsTrue, MatchOption};
 ghost use Rattle.std.specs.Char.{is_ascii_alphabetic};
 ghost use Rattle.mad_md.specs.Plain.{IsPlainFront, ArePlainBytes, is_plain_byte};
 
 /// How many bytes come before the first newline, where these are a plain line of at most `most` bytes.
 pub(crate) fn plain_len(rest: &[u8], most: usize) -> Option<usize>
-    ensures { IfSome result (IsPlainFront most rest.now) }
+    ensures { MatchOption result ((n : ℕ) → ¬ (IsPlainFront most rest.now n)) (IsPlainFront most rest.now) }
 {
     if !begins_plain(rest) {
         return None;
@@ -26,6 +26,7 @@ pub(crate) fn plain_len(rest: &[u8], most: usize) -> Option<usize>
 fn begins_plain(rest: &[u8]) -> bool
     ensures some { IsTrue result → 0 < length rest.now }
     ensures first { IsTrue result → (get_or rest.now 0 0 ≡ 10) ⊎ (is_ascii_alphabetic (get_or rest.now 0 0) ≡ true) }
+    ensures other { result ≡ false → 0 < length rest.now → ¬ ((get_or rest.now 0 0 ≡ 10) ⊎ (is_ascii_alphabetic (get_or rest.now 0 0) ≡ true)) }
 {
     !rest.is_empty() && (rest[0] == b'\n' || rest[0].is_ascii_alphabetic())
 }

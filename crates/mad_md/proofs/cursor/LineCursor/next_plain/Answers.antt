@@ -12,8 +12,8 @@ range_from-requires c =
     let front : IsPlainFront c.args.most c.args.self.now.rest.src.now c.in_ok-len.len = subst (λ bs. IsPlainFront c.args.most bs c.in_ok-len.len) c.as_bytes.ensures.value c.in_ok-len.ensures in
     λ _. IsCharBoundary-after_ascii c.args.self.now.rest.src.now c.in_ok-len.len (search rules) front.inside (omega (arith, front.ends))
 
-pub returns : goal.returns
-returns c =
+pub returns-clause-step : goal.returns-clause-step
+returns-clause-step c =
     let here = unread c.args.self.now in
     let front : IsPlainFront c.args.most here.text c.in_ok-len.len = subst (λ bs. IsPlainFront c.args.most bs c.in_ok-len.len) c.as_bytes.ensures.value c.in_ok-len.ensures in
     let size : c.in_ok-len.len - 0 ≡ c.in_ok-len.len = omega arith in
