@@ -31,7 +31,7 @@ pub loop-text-preserved : goal.loop-text-preserved
 loop-text-preserved g c =
     let held = c.loop-text.invariant in
     let text = c.in-Some-next_plain.text in
-    let step : IsPlainStep c.in-Some.most (unread c.loop-text.cursor) text.now (unread c.next_plain.new.self) = c.in-Some-next_plain.ensures in
+    let step : IsPlainStep c.in-Some.most (unread c.loop-text.cursor) text.now (unread c.next_plain.new.self) = c.in-Some-next_plain.ensures.step in
     let utf8 : IsUtf8 text.now = search rules in
     let range : length text.now < 2 ^ 64 = search rules in
     let skin = c.args.skin.now in
@@ -48,7 +48,7 @@ pub returns-in_err-send-clause-handed : goal.returns-in_err-send-clause-handed
 returns-in_err-send-clause-handed g c =
     let held = c.loop-text.invariant in
     let text = c.in-Some-next_plain.text in
-    let step : IsPlainStep c.in-Some.most (unread c.loop-text.cursor) text.now (unread c.next_plain.new.self) = c.in-Some-next_plain.ensures in
+    let step : IsPlainStep c.in-Some.most (unread c.loop-text.cursor) text.now (unread c.next_plain.new.self) = c.in-Some-next_plain.ensures.step in
     let utf8 : IsUtf8 text.now = search rules in
     let range : length text.now < 2 ^ 64 = search rules in
     let skin = c.args.skin.now in
