@@ -1,7 +1,9 @@
 //! Laws, each the contract of a small function: what the layout of given tables is, and that tables fit their place; and an example whose
 //! premises are proved, a text that is written in an area, and what a screen shows that reads it.
 
-ghost use Rattle.std.specs.Prelude.{◌≡◌, ◌∷◌, [], IfOk, OnOk, Some};
+ghost use Rattle.std.specs.Prelude.{◌≡◌, ◌∷◌, [], Err, IfOk, OnErr, OnOk, Some};
+ghost use Rattle.mad_term.specs.declared.errors.Error.TheVariants.{InsufficientWidth, Memory};
+ghost use Rattle.mad_term.specs.declared.errors.InsufficientWidthError.{InsufficientWidthError};
 ghost use Rattle.mad_screen.specs.Grid.{cell_at, plain_pen};
 ghost use Rattle.mad_screen.specs.Terminal.{after_bytes};
 ghost use Rattle.mad_layout.specs.ItemCells.{ItemInACellKeepsPremises};
@@ -95,6 +97,9 @@ pub fn words_on_a_screen(alloc: Global) -> Result<Screen, Error>
 
     // A cell outside it is as it was.
     ensures outside { IfOk result (λ screen. cell_at screen 0 0 ≡ corner) }
+
+    // The width isn't refused.
+    ensures wide { (e : InsufficientWidthError) → ¬ (result ≡ Err (InsufficientWidth e)) }
 {
     let mut screen = Screen::new(alloc, 16, 4)?;
     show(&mut screen, b"z")?;
@@ -109,7 +114,8 @@ pub fn words_on_a_screen(alloc: Global) -> Result<Screen, Error>
 
 // Reads what a plain terminal reads.
 fn show(screen: &mut Screen, bytes: &[u8]) -> Result<(), Error>
-    ensures { OnOk result (after_bytes screen.old bytes.now ≡ Some screen.new) }
+    ensures shown { OnOk result (after_bytes screen.old bytes.now ≡ Some screen.new) }
+    ensures refused { OnErr result (result ≡ Err Memory) }
 {
     match screen.read_bytes(bytes) {
         Ok(()) => Ok(()),
