@@ -3,6 +3,7 @@ use Rattle.std.specs.Prelude.{◌≡◌, ◌⊎◌, ℕ, List, [], ◌∷◌, �
 use Rattle.termimad.specs.Inline.{Item, IsInlineReading}
 use Rattle.termimad.specs.Draws.{Draws}
 use Rattle.termimad.specs.Trace.{Trace, failed, flushed}
+use Rattle.termimad.specs.Stream.{untold}
 use Rattle.termimad.specs.declared.Error.{Error}
 use Rattle.termimad.specs.declared.Error.TheVariants.{Memory as NoMemory}
 use Rattle.termimad.specs.Headline.{ShowsFirstRows}
@@ -130,3 +131,11 @@ pub record HasRun (words : List (List ℕ)) (old : Devices) (status : ℕ) (new 
   pub told : Trace
   pub did : RunsTo words old outcome (record { input = new.input; out = new.out; err = told })
   pub answered : Answers outcome status told new.err
+
+-- A run on some words, on an input and an output that had done nothing yet, ended with this status; standard error went from the one trace
+-- to the other.
+pub record HasRunOnStreams (old : Trace) (status : ℕ) (new : Trace) : Type 0 where
+  pub words : List (List ℕ)
+  pub input : Trace
+  pub out : Trace
+  pub ran : HasRun words (record { input = untold; out = untold; err = old }) status (record { input = input; out = out; err = new })

@@ -9,6 +9,12 @@
 //! 5. [`program`]: a run, over any devices.
 #![tactic(auto)]
 
+ghost use Rattle.std.specs.Prelude.{◌≡◌, ℕ, List, drop, IfOk, MatchResult};
+ghost use Rattle.std.specs.Vec.Iter.{into_iter_items};
+ghost use Rattle.termimad.specs.Trace.{Trace};
+ghost use Rattle.termimad_view.specs.Failures.{status_of, line_of, SaysOnce};
+ghost use Rattle.termimad_view.specs.Runs.{HasRunOnStreams};
+
 mod call;
 mod failure;
 mod input;
@@ -20,6 +26,7 @@ mod writing;
 
 use failure::{Failure, refuse};
 use program::run;
+use std::alloc::{AllocError, Global};
 use std::io::{BufWriter, ErrorKind};
 use std::process::ExitCode;
 use std::{env, io};
@@ -27,14 +34,25 @@ use termimad::{Out, Stream};
 
 fn main(rt: HostRuntime) -> ExitCode {
     let mut err = Stream::new(rt.stderr());
-    ExitCode::from(match run_on_standard_streams(&rt, &mut err) {
+    let ran = run_on_standard_streams(&rt, &mut err);
+    ExitCode::from(status_after(ran, &mut err))
+}
+
+// The status of a run; that of a failure which came before it, and is said.
+fn status_after<E: Out>(ran: Result<u8, Failure>, err: &mut E) -> u8
+    ensures { MatchResult ran (λ status. (result ≡ status) × (E.seen err.new ≡ E.seen err.old))
+        (λ failure. (result ≡ status_of failure) × SaysOnce (E.seen err.old) (line_of failure) (E.seen err.new)) }
+{
+    match ran {
         Ok(status) => status,
-        Err(failure) => refuse(&mut err, failure),
-    })
+        Err(failure) => refuse(err, failure),
+    }
 }
 
 // Writes through a buffer, so that no row is a call of the system; the input is read by blocks.
-fn run_on_standard_streams<E: Out>(rt: &HostRuntime, err: &mut E) -> Result<u8, Failure> {
+fn run_on_standard_streams<E: Out>(rt: &HostRuntime, err: &mut E) -> Result<u8, Failure>
+    ensures { MatchResult result (λ status. HasRunOnStreams (E.seen err.old) status (E.seen err.new)) (λ _. E.seen err.new ≡ E.seen err.old) }
+{
     let args = arguments(rt)?;
     let writer = BufWriter::new(rt.alloc(), io::writer(rt)).map_err(|_| Failure::Memory)?;
     let mut input = Stream::new(rt.reader());
@@ -48,8 +66,17 @@ fn arguments(rt: &HostRuntime) -> Result<Vec<String>, Failure> {
         ErrorKind::OutOfMemory => Failure::Memory,
         _ => Failure::Usage,
     })?;
-    let mut args = Vec::new(rt.alloc());
-    for arg in given.skip(1) {
+    Ok(without_name(rt.alloc(), given)?)
+}
+
+// The arguments after the first, which is the program's name.
+fn without_name(alloc: Global, given: env::Args) -> Result<Vec<String>, AllocError>
+    ensures { IfOk result (λ args. args.items ≡ drop 1 (into_iter_items given)) }
+{
+    let mut given = given;
+    let _name = given.next();
+    let mut args = Vec::new(alloc);
+    for arg in given {
         args.push(arg)?;
     }
     Ok(args)
