@@ -1,5 +1,5 @@
 -- Rows: what is written of a line, piece by piece.
-use Rattle.std.specs.Prelude.{ℕ, ◌+◌, ◌-◌, Bool, true, false, List, [], ◌∷◌, ◌++◌, map, Option, Some, None, unwrap_or, if◌then◌else◌, decimal}
+use Rattle.std.specs.Prelude.{ℕ, ◌+◌, ◌-◌, max, Bool, true, false, List, [], ◌∷◌, ◌++◌, map, Option, Some, None, unwrap_or, if◌then◌else◌, decimal}
 use Rattle.std.specs.List.{flat_map}
 use Rattle.mad_md.specs.declared.alignment.Alignment.{Alignment}
 use Rattle.mad_md.specs.declared.alignment.Alignment.TheVariants.{Unspecified}
@@ -174,3 +174,11 @@ line_pieces skin outer right HorizontalRule = char_run skin.horizontal_rule (unw
 abbrev pub row_pieces : MadSkin → ℕ → Option FmtLine → List RowPiece
 row_pieces skin width (Some line) = line_pieces skin (Some width) true line
 row_pieces skin width None = spaces skin.paragraph.compound_style width
+
+-- the columns of a row and of the blanks beside its line, at most; of one without a line its width
+abbrev pub most_columns : MadSkin → ℕ → Option FmtLine → ℕ
+most_columns skin width (Some (Normal composite)) = width + (margins_of skin (Some width) composite).0 + (margins_of skin (Some width) composite).1
+most_columns skin width (Some (TableRow row)) = max width (row_columns row.cells.items)
+most_columns skin width (Some (TableRule rule)) = max width (rule_columns rule.widths.items)
+most_columns skin width (Some HorizontalRule) = width
+most_columns skin width None = width

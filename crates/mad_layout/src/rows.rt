@@ -7,7 +7,7 @@ ghost use Rattle.mad_style.specs.StyledChars.{char_style};
 ghost use Rattle.mad_layout.specs.declared.line.FmtLine.TheVariants.{Normal, TableRow, TableRule};
 ghost use Rattle.mad_draw.specs.Pieces.{AreKnown};
 ghost use Rattle.std.specs.List.{flat_map};
-ghost use Rattle.mad_layout.specs.Rows.{mark_pieces, cell_pieces, line_pieces, row_pieces, inner_blanks, inner_columns, outer_blanks, margins_of, row_columns, rule_chars};
+ghost use Rattle.mad_layout.specs.Rows.{mark_pieces, cell_pieces, line_pieces, row_pieces, inner_blanks, inner_columns, outer_blanks, margins_of, most_columns, row_columns, rule_chars};
 ghost use Rattle.mad_layout.specs.Styles.{AreKnownAdditions};
 ghost use Rattle.mad_wrap.specs.WrapLines.{capped};
 
@@ -118,7 +118,9 @@ pub(crate) fn rule_chars(borders: &TableBorderChars, position: RelativePosition)
 }
 
 /// The columns of a row and of the blanks beside its line, at most; of one without a line its width.
-pub(crate) fn most_columns(skin: &MadSkin, line: Option<&FmtLine>, width: usize) -> usize {
+pub(crate) fn most_columns(skin: &MadSkin, line: Option<&FmtLine>, width: usize) -> usize
+    ensures { result ≡ capped (most_columns skin.now width (option_copied line.entry)) }
+{
     match line {
         Some(FmtLine::Normal(composite)) => {
             let (left, right) = margins_of(skin, composite, Some(width));
