@@ -76,9 +76,15 @@ fn a_stuck_writer_is_a_fault_and_not_an_endless_loop(rt: HostRuntime) {
     let mut out = Stream::new(Stuck);
     assert!(rt; put_all(&mut out, b"").is_ok());
     let put = put_all(&mut out, TEXT).map_err(|error| error.kind());
-    assert!(rt; put == Err(io::ErrorKind::WriteZero), "the fault of the put itself");
+    assert!(rt;
+        put == Err(io::ErrorKind::WriteZero),
+        "the fault of the put itself"
+    );
     let flush = out.flush().map_err(|error| error.kind());
-    assert!(rt; flush == Err(io::ErrorKind::Other), "the fault of the flush itself");
+    assert!(rt;
+        flush == Err(io::ErrorKind::Other),
+        "the fault of the flush itself"
+    );
 }
 
 #[test]
