@@ -1,3 +1,5 @@
+//! Fronts of a text that are graphic ASCII, told by their bytes.
+
 ghost use Rattle.std.specs.Prelude.{◌≡◌, ◌≤◌, ◌<◌, ◌+◌, ◌^◌, length, IsTrue};
 ghost use Rattle.mad_fit.specs.Ascii.{AreGraphic, ArePlain, is_end_of_word, is_lone_space};
 

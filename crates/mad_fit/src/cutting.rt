@@ -1,3 +1,5 @@
+//! All tokens of compounds, one after the other.
+
 ghost use Rattle.std.specs.Prelude.{◌≡◌, List, IfOk};
 ghost use Rattle.mad_fit.specs.Tokens.{AreTokensOf};
 ghost use Rattle.mad_fit.specs.TokensLeft.{AreLeft};

@@ -1,3 +1,5 @@
+//! Where the lines of a wrap start, and checking such starts.
+
 ghost use Rattle.std.specs.Prelude.{◌≡◌, ◌≤◌, ◌<◌, List, length, IfOk, IfErr, IsOk, IsTrue};
 ghost use Rattle.mad_fit.specs.declared.tokens.Token.{Token};
 ghost use Rattle.mad_layout.specs.Indents.{room_of};

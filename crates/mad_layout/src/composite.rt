@@ -1,3 +1,5 @@
+//! Composites with their measured length.
+
 ghost use Rattle.std.specs.Prelude.{◌≡◌, ◌≤◌, ◌+◌, ◌++◌, ◌∷◌, [], min, IfOk, OnOk, OnErr, MatchOption};
 ghost use Rattle.mad_fit.specs.Columns.{width_of};
 ghost use Rattle.mad_fit.specs.Completions.{Completes};

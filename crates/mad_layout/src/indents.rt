@@ -1,3 +1,5 @@
+//! The columns in front of lines, by kind and mode.
+
 ghost use Rattle.std.specs.Prelude.{◌≡◌, ◌<◌, ◌^◌};
 ghost use Rattle.mad_layout.specs.Indents.{follow_up, indent, kept};
 

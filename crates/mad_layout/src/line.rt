@@ -1,3 +1,5 @@
+//! Lines of a layout.
+
 ghost use Rattle.std.specs.Prelude.{◌≡◌, IfOk};
 ghost use Rattle.mad_md.specs.Lines.{content_of};
 ghost use Rattle.mad_layout.specs.Lines.{IsLineRead, cells_columns, rule_columns, bordered};

@@ -1,3 +1,5 @@
+//! The room that a composite has in a width.
+
 ghost use Rattle.std.specs.Prelude.{◌≡◌, ◌≤◌, ◌<◌, IfOk, IfErr};
 ghost use Rattle.mad_layout.specs.Indents.{room_of};
 

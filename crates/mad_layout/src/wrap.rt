@@ -1,3 +1,5 @@
+//! Wrapping composites and lines in a skin.
+
 ghost use Rattle.std.specs.Prelude.{◌≡◌, ◌≤◌, ◌<◌, ◌⊎◌, ◌++◌, ◌↔◌, List, map, IfOk, IfErr, OnOk, IsTrue};
 ghost use Rattle.mad_md.specs.Lines.{styled_runs};
 ghost use Rattle.mad_layout.specs.CompositeWraps.{AreComposites, IsCompositeWrap};

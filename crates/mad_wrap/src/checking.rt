@@ -1,3 +1,5 @@
+//! Checking where the lines of a wrap start.
+
 ghost use Rattle.std.specs.Prelude.{◌≡◌, ◌≢◌, ℕ, ◌<◌, ◌≤◌, ◌^◌, ◌⊎◌, ◌==◌, ◌&&◌, List, ◌∷◌, length, IsTrue, IfSome, IfNone};
 ghost use Rattle.mad_fit.specs.declared.tokens.Token.{Token};
 ghost use Rattle.mad_fit.specs.TokensLeft.{AreLeft};

@@ -1,3 +1,5 @@
+//! Compounds that fit on a line each.
+
 ghost use Rattle.std.specs.Prelude.{◌≡◌, IfSome, IsTrue, if◌then◌else◌};
 ghost use Rattle.std.specs.Str.{IsUtf8};
 ghost use Rattle.mad_wrap.specs.CleanCut.{clean_cut, fits_after, is_white, both_fit, AreTexts};

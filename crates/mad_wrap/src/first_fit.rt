@@ -1,3 +1,5 @@
+//! First fit: where a token goes.
+
 ghost use Rattle.std.specs.Prelude.{◌≡◌, ◌+◌, ◌⊎◌, false, true, Some, IfSome, IfNone};
 ghost use Rattle.mad_wrap.specs.LineRoom.{left_of, left_after, fits_in, taken};
 

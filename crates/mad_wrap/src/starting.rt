@@ -1,3 +1,5 @@
+//! Where the lines of a wrap start.
+
 ghost use Rattle.std.specs.Prelude.{◌≡◌, ◌≤◌, ◌<◌, ◌+◌, ◌∷◌, ◌++◌, [], OnOk, List, length, IfOk, MatchOption};
 ghost use Rattle.mad_wrap.specs.Breaks.{total_width};
 ghost use Rattle.mad_md.specs.Flagged.{flagged_text};

@@ -1,3 +1,5 @@
+//! A line of a wrap.
+
 ghost use Rattle.std.specs.Prelude.{◌≡◌, ◌+◌, ◌++◌, ◌∷◌, [], IfOk, OnOk};
 ghost use Rattle.mad_wrap.specs.WrapLines.{capped};
 

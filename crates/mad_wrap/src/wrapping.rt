@@ -1,3 +1,5 @@
+//! Wrapping compounds.
+
 ghost use Rattle.std.specs.Prelude.{◌≡◌, ◌<◌, ◌+◌, IfOk};
 ghost use Rattle.mad_md.specs.Flagged.{flagged_text};
 ghost use Rattle.mad_fit.specs.Columns.{width_of};
