@@ -194,6 +194,7 @@ CORPORA = {
     "table_10000x8": lambda r: table(r, 10000, 8),
     "tables_small_1m": lambda r: small_tables(r, 1_000_000),
     "code_1m": lambda r: code(r, 1_000_000),
+    "code_10m": lambda r: code(r, 10_000_000),
     "cjk_1m": lambda r: cjk(r, 1_000_000),
     "longline_100k": lambda r: long_line(r, 100_000),
     "longline_1m": lambda r: long_line(r, 1_000_000),

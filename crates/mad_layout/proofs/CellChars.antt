@@ -1,5 +1,5 @@
 -- The characters of a table's lines across an area.
-use Rattle.std.proofs.Common.{◌≡◌, ℕ, ◌+◌, ◌-◌, ◌≤◌, List, [], ◌∷◌, ◌++◌, map, length, replicate, chars, false, true, Option, Some, None, refl, ap, sym, ◌∙◌, subst, arith, append_assoc}
+use Rattle.std.proofs.Common.{◌≡◌, ℕ, ◌+◌, ◌-◌, ◌≤◌, List, [], ◌∷◌, ◌++◌, map, length, replicate, drop, chars, false, true, Option, Some, None, refl, ap, sym, ◌∙◌, subst, arith, append_assoc}
 use Rattle.std.specs.Prelude.{slice_get, unwrap_or}
 use Rattle.std.specs.List.{flat_map, repeat}
 use Rattle.std.proofs.lemmas.List.{append-nil}
@@ -17,13 +17,13 @@ use Rattle.mad_draw.specs.Pieces.{RowPiece, spaces}
 use Rattle.mad_draw.specs.TableRules.{border_piece, horizontals, junction, rule_pieces}
 use Rattle.mad_draw.specs.declared.table_rules.RuleChars.{RuleChars}
 use Rattle.mad_layout.specs.Drawable.{AreShownChars}
-use Rattle.mad_layout.specs.FlaggedLines.{front_of}
-use Rattle.mad_layout.specs.FlaggedTables.{row_in_column, CellInColumn, border_char, first_row, first_rows, below_first, rows_down, rule_row, table_across, rule_across}
+use Rattle.mad_layout.specs.FlaggedLines.{skin_char, front_of}
+use Rattle.mad_layout.specs.FlaggedTables.{row_in_column, CellInColumn, first_row, first_rows, rows_down, rule_row, table_across, rule_across}
 use Rattle.mad_layout.specs.Lines.{bordered, rule_columns}
 use Rattle.mad_layout.specs.Premises.{IsPlainPrefix}
-use Rattle.mad_layout.specs.Rows.{mark_pieces, compound_piece, composite_pieces, cell_pieces, vertical_piece, placed_pieces, row_columns, rule_chars, left_of_place, right_of_place, align_in, place_of, inner_blanks}
+use Rattle.mad_layout.specs.Rows.{prefix_pieces, compound_piece, composite_pieces, cell_pieces, vertical_piece, placed_pieces, row_columns, rule_chars, left_of_place, right_of_place, align_in, place_of, inner_blanks}
 use Rattle.mad_layout.specs.Styles.{line_style}
-use Rattle.mad_layout.specs.Tables.{in_column, IsBlankIn, IsTop, IsAcross, AreDown, below}
+use Rattle.mad_layout.specs.Tables.{in_column, IsBlankIn, IsTop, IsLineAcross, AreDown, below}
 use Rattle.mad_layout.specs.Wraps.{text_of, columns_of}
 use Rattle.mad_layout.specs.declared.skin.MadSkin.{MadSkin}
 use Rattle.mad_layout.specs.declared.composite.FmtComposite.{FmtComposite}
@@ -48,12 +48,12 @@ between_blanks skin l prefix =
     let own : CompoundStyle = style.compound_style in
     let text : List ℕ = map (λ (x : FlaggedChar). x.char) (text_of l) in
     let tail2 : List RowPiece = map (compound_piece skin style) l.compounds.items ++ (spaces own (inner_blanks l).1 ++ []) in
-    let tail1 : List RowPiece = mark_pieces skin l.kind ++ tail2 in
+    let tail1 : List RowPiece = prefix_pieces skin l.kind ++ tail2 in
     let e3 : chars_in (spaces own (inner_blanks l).1 ++ []) ≡ replicate (inner_blanks l).1 32 = ap chars_in (append-nil (spaces own (inner_blanks l).1)) ∙ spaces_chars own (inner_blanks l).1 in
     let e2 : chars_in tail2 ≡ text ++ replicate (inner_blanks l).1 32 =
     both (map (compound_piece skin style) l.compounds.items) (spaces own (inner_blanks l).1 ++ []) ∙ ap (λ x. x ++ chars_in (spaces own (inner_blanks l).1 ++ [])) (compounds_chars skin style l.compounds.items) ∙ ap (λ x. text ++ x) e3 in
     let e1 : chars_in tail1 ≡ front_of skin l.kind ++ (text ++ replicate (inner_blanks l).1 32) =
-    both (mark_pieces skin l.kind) tail2 ∙ ap (λ x. x ++ chars_in tail2) (front_chars skin l.kind prefix) ∙ ap (λ x. front_of skin l.kind ++ x) e2 in
+    both (prefix_pieces skin l.kind) tail2 ∙ ap (λ x. x ++ chars_in tail2) (front_chars skin l.kind prefix) ∙ ap (λ x. front_of skin l.kind ++ x) e2 in
     both (spaces own (inner_blanks l).0) tail1 ∙ ap (λ x. x ++ chars_in tail1) (spaces_chars own (inner_blanks l).0) ∙ ap (λ x. replicate (inner_blanks l).0 32 ++ x) e1
 
 -- a line of a cell is a row in its column
@@ -94,7 +94,7 @@ top_chars skin c (l ∷ ls) x top = ap (cell_chars skin) top
 one_char : (p : RowPiece) → chars_in (p ∷ []) ≡ chars p.text
 one_char p = first_piece p [] ∙ append-nil (chars p.text)
 
-across_chars : (skin : MadSkin) (cs : List Spacing) (lines : List (List FmtComposite)) (xs : List FmtComposite) → IsAcross cs lines xs
+across_chars : (skin : MadSkin) (cs : List Spacing) (lines : List (List FmtComposite)) (xs : List FmtComposite) → IsLineAcross cs lines xs
     → chars_in (flat_map (cell_pieces skin) xs ++ vertical_piece skin ∷ []) ≡ first_rows skin (placed_lines skin cs lines)
 across_chars skin [] [] [] across = one_char (vertical_piece skin)
 across_chars skin [] [] (x ∷ xs) across = absurd across
@@ -103,7 +103,7 @@ across_chars skin (c ∷ cs) [] xs across = absurd across
 across_chars skin (c ∷ cs) (ls ∷ lines) [] across = absurd across
 across_chars skin (c ∷ cs) (ls ∷ lines) (x ∷ xs) across =
     let last : List RowPiece = vertical_piece skin ∷ [] in
-    let border : List ℕ = border_char skin.table_border_chars.vertical in
+    let border : List ℕ = skin_char skin.table_border_chars.vertical in
     let cell : CellInColumn = record { width = c.width; rows = lines_rows skin c ls } in
     let rest : List CellInColumn = placed_lines skin cs lines in
     ap chars_in (append_assoc (cell_pieces skin x) (flat_map (cell_pieces skin) xs) last)
@@ -112,7 +112,7 @@ across_chars skin (c ∷ cs) (ls ∷ lines) (x ∷ xs) across =
     ∙ ap (λ t. first_row skin cell ++ t) (across_chars skin cs lines xs across.1)
     ∙ sym (append_assoc (first_row skin cell) (flat_map (first_row skin) rest) border)
 
-below_placed : (skin : MadSkin) (cs : List Spacing) (lines : List (List FmtComposite)) → placed_lines skin cs (map below lines) ≡ map below_first (placed_lines skin cs lines)
+below_placed : (skin : MadSkin) (cs : List Spacing) (lines : List (List FmtComposite)) → placed_lines skin cs (map below lines) ≡ map (λ (cell : CellInColumn). record cell { rows = drop 1 cell.rows }) (placed_lines skin cs lines)
 below_placed skin [] lines = refl
 below_placed skin (c ∷ cs) [] = refl
 below_placed skin (c ∷ cs) ([] ∷ lines) = ap (λ (cells : List CellInColumn). record { width = c.width; rows = [] } ∷ cells) (below_placed skin cs lines)
@@ -141,28 +141,28 @@ down_chars skin area cs lines (row ∷ rows) down =
 
 -- ---- a rule
 
-junctions_chars : (style : CompoundStyle) (b : RuleChars) (ws : List ℕ) → ((n : ℕ) → chars_in (horizontals style b n) ≡ repeat n (border_char b.horizontal))
-    → chars_in (flat_map (junction style b) ws ++ border_piece style b.right ∷ []) ≡ flat_map (λ v. border_char b.between ++ repeat v (border_char b.horizontal)) ws ++ border_char b.right
+junctions_chars : (style : CompoundStyle) (b : RuleChars) (ws : List ℕ) → ((n : ℕ) → chars_in (horizontals style b n) ≡ repeat n (skin_char b.horizontal))
+    → chars_in (flat_map (junction style b) ws ++ border_piece style b.right ∷ []) ≡ flat_map (λ v. skin_char b.between ++ repeat v (skin_char b.horizontal)) ws ++ skin_char b.right
 junctions_chars style b [] across = one_char (border_piece style b.right)
 junctions_chars style b (w ∷ ws) across =
     let last : List RowPiece = border_piece style b.right ∷ [] in
-    let column : ℕ → List ℕ = λ v. border_char b.between ++ repeat v (border_char b.horizontal) in
+    let column : ℕ → List ℕ = λ v. skin_char b.between ++ repeat v (skin_char b.horizontal) in
     ap chars_in (append_assoc (junction style b w) (flat_map (junction style b) ws) last)
     ∙ both (junction style b w) (flat_map (junction style b) ws ++ last)
-    ∙ ap (λ t. t ++ chars_in (flat_map (junction style b) ws ++ last)) (first_piece (border_piece style b.between) (horizontals style b w) ∙ ap (λ t. border_char b.between ++ t) (across w))
+    ∙ ap (λ t. t ++ chars_in (flat_map (junction style b) ws ++ last)) (first_piece (border_piece style b.between) (horizontals style b w) ∙ ap (λ t. skin_char b.between ++ t) (across w))
     ∙ ap (λ t. column w ++ t) (junctions_chars style b ws across)
-    ∙ sym (append_assoc (column w) (flat_map column ws) (border_char b.right))
+    ∙ sym (append_assoc (column w) (flat_map column ws) (skin_char b.right))
 
 rule_pieces_chars : (skin : MadSkin) (b : RuleChars) (ws : List ℕ) → AreShownChars skin b → chars_in (rule_pieces skin.table.compound_style b ws) ≡ rule_row b ws
 rule_pieces_chars skin b [] shown =
     let style : CompoundStyle = skin.table.compound_style in
-    first_piece (border_piece style b.left) (border_piece style b.right ∷ []) ∙ ap (λ t. border_char b.left ++ t) (one_char (border_piece style b.right))
+    first_piece (border_piece style b.left) (border_piece style b.right ∷ []) ∙ ap (λ t. skin_char b.left ++ t) (one_char (border_piece style b.right))
 rule_pieces_chars skin b (w ∷ ws) shown =
     let style : CompoundStyle = skin.table.compound_style in
-    let across : (n : ℕ) → chars_in (horizontals style b n) ≡ repeat n (border_char b.horizontal) = λ n. run_chars (styled_char style b.horizontal) n shown.horizontal in
+    let across : (n : ℕ) → chars_in (horizontals style b n) ≡ repeat n (skin_char b.horizontal) = λ n. run_chars (styled_char style b.horizontal) n shown.horizontal in
     let rest : List RowPiece = flat_map (junction style b) ws ++ border_piece style b.right ∷ [] in
     first_piece (border_piece style b.left) (horizontals style b w ++ rest)
-    ∙ ap (λ t. border_char b.left ++ t) (both (horizontals style b w) rest ∙ ap (λ t. t ++ chars_in rest) (across w) ∙ ap (λ t. repeat w (border_char b.horizontal) ++ t) (junctions_chars style b ws across))
+    ∙ ap (λ t. skin_char b.left ++ t) (both (horizontals style b w) rest ∙ ap (λ t. t ++ chars_in rest) (across w) ∙ ap (λ t. repeat w (skin_char b.horizontal) ++ t) (junctions_chars style b ws across))
 
 pub rule_line_chars : (skin : MadSkin) (area : Area) (position : RelativePosition) (ws : List ℕ) (rule : FmtTableRule) → AreShownChars skin (rule_chars skin.table_border_chars position) → rule.position ≡ position → rule.widths.items ≡ ws
     → line_chars skin area.width (TableRule rule) ≡ rule_across skin area position ws

@@ -4,7 +4,7 @@ use Rattle.std.specs.List.{AllByRecursion, flat_map}
 use Rattle.std.proofs.lemmas.List.{at_drop_more, at_drop_all, map-append, drop-drop, length-append, length-drop, length-take, get_or-append_right, set-append_right, take-append-drop}
 use Rattle.std.proofs.Math.Seq.{take-suc, take-append_seam, drop-append_seam}
 use Rattle.mad_fit.proofs.AllLemmas.{all_push}
-use Rattle.mad_layout.specs.CodeBlocks.{blocks_among, code_blocks, placed_line, with_block_placed, part_placed, blocks_placed, width_within, code_columns, NoCodeFirst, IsBlockAt}
+use Rattle.mad_layout.specs.CodeBlocks.{blocks_among, code_blocks, placed_line, with_block_placed, part_placed, blocks_placed, width_within, code_columns, NoCodeFirst, IsClosedBlock}
 use Rattle.mad_layout.specs.Parts.{Part, table, block, single, with_table, is_code_kind, is_code_line, widest, block_width, placed_code, justified, with_code, with_composite, parts_of}
 use Rattle.mad_layout.specs.declared.code_blocks.CodeBlock.{CodeBlock}
 use Rattle.mad_layout.specs.declared.composite.FmtComposite.{FmtComposite}
@@ -83,12 +83,12 @@ skip_placed room HorizontalRule ls h = refl
 -- ---- what was found at a line
 
 -- none of code begins there
-pub none_here : (lines : List FmtLine) (at : ℕ) (b : CodeBlock) → IsBlockAt lines at b → at < length lines → b.height ≡ 0 → is_code_line (get_or lines at HorizontalRule) ≡ false
+pub none_here : (lines : List FmtLine) (at : ℕ) (b : CodeBlock) → IsClosedBlock lines at b → at < length lines → b.height ≡ 0 → is_code_line (get_or lines at HorizontalRule) ≡ false
 none_here lines at b h inside none =
     let same : at + b.height ≡ at = omega (arith, none) in
     subst NoCodeFirst (ap (λ (n : ℕ). drop n lines) same ∙ at_drop_more (λ l. l) lines at HorizontalRule inside) h.ends
 
-pub found_none : (lines : List FmtLine) (at : ℕ) (b : CodeBlock) → IsBlockAt lines at b → at < length lines → b.height ≡ 0 → blocks_among at (parts_of (drop at lines)) ≡ blocks_among (at + 1) (parts_of (drop (at + 1) lines))
+pub found_none : (lines : List FmtLine) (at : ℕ) (b : CodeBlock) → IsClosedBlock lines at b → at < length lines → b.height ≡ 0 → blocks_among at (parts_of (drop at lines)) ≡ blocks_among (at + 1) (parts_of (drop (at + 1) lines))
 found_none lines at b h inside none =
     ap (λ (ls : List FmtLine). blocks_among at (parts_of ls)) (at_drop_more (λ l. l) lines at HorizontalRule inside) ∙ skip_among at (get_or lines at HorizontalRule) (drop (at + 1) lines) (none_here lines at b h inside none)
 
@@ -101,7 +101,7 @@ some_among : (at : ℕ) (own : List FmtComposite) (rest : List FmtLine) → 0 < 
 some_among at [] rest some code ends = absurd (omega (arith, some))
 some_among at (l ∷ ls) rest some code ends = ap (blocks_among at) (block_first l ls rest code ends)
 
-pub found_some : (lines : List FmtLine) (at : ℕ) (b : CodeBlock) → IsBlockAt lines at b → 0 < b.height → blocks_among at (parts_of (drop at lines)) ≡ b ∷ blocks_among (at + b.height) (parts_of (drop (at + b.height) lines))
+pub found_some : (lines : List FmtLine) (at : ℕ) (b : CodeBlock) → IsClosedBlock lines at b → 0 < b.height → blocks_among at (parts_of (drop at lines)) ≡ b ∷ blocks_among (at + b.height) (parts_of (drop (at + b.height) lines))
 found_some lines at b h some =
     let rest = drop (at + b.height) lines in
     ap (λ (ls : List FmtLine). blocks_among at (parts_of ls)) h.lines_are ∙ some_among at h.own rest (omega (arith, some, h.height)) h.code h.ends
@@ -176,8 +176,8 @@ code_more lines at height width columns new l h inside here line new_is =
       inside = omega (arith, inside);
     }
 
-pub code_ends : (lines : List FmtLine) (at height width : ℕ) (b : CodeBlock) → CodeSoFar lines at height width → NoCodeFirst (drop (at + height) lines) → b ≡ record { start = at; height = height; width = width } → IsBlockAt lines at b
-code_ends lines at height width b h ends is = subst (IsBlockAt lines at) (sym is) (record { own = h.own; code = h.code; start = refl; height = h.height_is; width = h.width_is; lines_are = h.lines_are; ends = ends })
+pub code_ends : (lines : List FmtLine) (at height width : ℕ) (b : CodeBlock) → CodeSoFar lines at height width → NoCodeFirst (drop (at + height) lines) → b ≡ record { start = at; height = height; width = width } → IsClosedBlock lines at b
+code_ends lines at height width b h ends is = subst (IsClosedBlock lines at) (sym is) (record { own = h.own; code = h.code; start = refl; height = h.height_is; width = h.width_is; lines_are = h.lines_are; ends = ends })
 
 pub ends_at : (lines : List FmtLine) (at : ℕ) (l : FmtLine) → at < length lines → l ≡ get_or lines at l → is_code_line l ≡ false → NoCodeFirst (drop at lines)
 ends_at lines at l inside here h = subst NoCodeFirst (sym (line_here lines at l inside here)) h
@@ -190,7 +190,7 @@ length-normal [] = refl
 length-normal (l ∷ ls) = ap suc (length-normal ls)
 
 -- a block ends with the lines at the latest
-pub within_lines : (lines : List FmtLine) (at : ℕ) (b : CodeBlock) → IsBlockAt lines at b → at ≤ length lines → at + b.height ≤ length lines
+pub within_lines : (lines : List FmtLine) (at : ℕ) (b : CodeBlock) → IsClosedBlock lines at b → at ≤ length lines → at + b.height ≤ length lines
 within_lines lines at b h inside =
     omega (arith, inside, h.height, ap length h.lines_are, length-append (map Normal h.own) (drop (at + b.height) lines), length-normal h.own, length-drop at lines, length-drop (at + b.height) lines)
 
@@ -268,7 +268,7 @@ pub record PlacedSoFar (room : Option ℕ) (all lines : List FmtLine) (at : ℕ)
 pub so_far_start : (room : Option ℕ) (all : List FmtLine) → PlacedSoFar room all all 0
 so_far_start room all = record { inside = omega arith; so_far = refl }
 
-pub so_far_line : (room : Option ℕ) (all lines : List FmtLine) (at : ℕ) (b : CodeBlock) → PlacedSoFar room all lines at → IsBlockAt lines at b → at < length lines → b.height ≡ 0 → PlacedSoFar room all lines (at + 1)
+pub so_far_line : (room : Option ℕ) (all lines : List FmtLine) (at : ℕ) (b : CodeBlock) → PlacedSoFar room all lines at → IsClosedBlock lines at b → at < length lines → b.height ≡ 0 → PlacedSoFar room all lines (at + 1)
 so_far_line room all lines at b h is inside none =
     let l = get_or lines at HorizontalRule in
     let rest = drop (at + 1) lines in
@@ -279,7 +279,7 @@ so_far_line room all lines at b h is inside none =
           ∙ ap (λ ls. take at lines ++ ls) (sym (skip_placed room l rest (none_here lines at b is inside none)) ∙ ap (blocks_placed room) (sym next)) ∙ h.so_far;
     }
 
-placed_lines : (room : Option ℕ) (lines : List FmtLine) (at width : ℕ) (b : CodeBlock) (h : IsBlockAt lines at b) → width ≡ width_within room b.width → map (placed_line width) (take b.height (drop at lines)) ≡ map Normal (justified room h.own)
+placed_lines : (room : Option ℕ) (lines : List FmtLine) (at width : ℕ) (b : CodeBlock) (h : IsClosedBlock lines at b) → width ≡ width_within room b.width → map (placed_line width) (take b.height (drop at lines)) ≡ map Normal (justified room h.own)
 placed_lines room lines at width b h lowered =
     let size : b.height ≡ length (map Normal h.own) = h.height ∙ sym (length-normal h.own) in
     let front : take b.height (drop at lines) ≡ map Normal h.own = ap (take b.height) h.lines_are ∙ front_of b.height (map Normal h.own) (drop (at + b.height) lines) size in
@@ -290,7 +290,7 @@ normal_length : (room : Option ℕ) (ls : List FmtComposite) (n : ℕ) → lengt
 normal_length room [] n = refl
 normal_length room (l ∷ ls) n = ap suc (normal_length room ls n)
 
-pub so_far_block : (room : Option ℕ) (all lines new : List FmtLine) (at width : ℕ) (b : CodeBlock) → PlacedSoFar room all lines at → IsBlockAt lines at b → width ≡ width_within room b.width
+pub so_far_block : (room : Option ℕ) (all lines new : List FmtLine) (at width : ℕ) (b : CodeBlock) → PlacedSoFar room all lines at → IsClosedBlock lines at b → width ≡ width_within room b.width
     → new ≡ with_block_placed (record { start = b.start; height = b.height; width = width }) lines → PlacedSoFar room all new (at + b.height)
 so_far_block room all lines new at width b h is lowered placed =
     let front = take at lines in

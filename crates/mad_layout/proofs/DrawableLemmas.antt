@@ -24,11 +24,12 @@ use Rattle.mad_layout.specs.Drawable.{IsDrawableLine, AreDrawable}
 use Rattle.mad_fit.specs.declared.spacing.Spacing.{Spacing}
 use Rattle.mad_layout.specs.FittingLayouts.{IsFittingWrap, IsFittingLayout}
 use Rattle.mad_layout.specs.Indents.{indent, follow_up, room_of}
-use Rattle.mad_layout.specs.Layouts.{AreRead, IsLayout}
+use Rattle.mad_layout.specs.Layouts.{AreRead}
+use Rattle.mad_layout.proofs.WideLayouts.{IsLayout}
 use Rattle.mad_layout.specs.Lines.{IsLineRead}
 use Rattle.mad_layout.specs.Parts.{Part, table, block, single, parts_of, justified, code_room, IsPartAt, IsLineAt, AreLinesAt, ArePartsAt}
 use Rattle.mad_layout.specs.Tables.{is_table_line}
-use Rattle.mad_layout.specs.Premises.{IsPlainRun, runs_text, IsPlainPrefix, IsPlainLine, IsPlainContent, KeepsPremises}
+use Rattle.mad_layout.specs.Premises.{IsPlainRun, inner_width, runs_text, IsPlainPrefix, IsPlainText, IsPlainContent, KeepsPremises}
 use Rattle.mad_layout.specs.Rows.{place_of}
 use Rattle.mad_layout.specs.Styles.{line_style}
 use Rattle.mad_layout.specs.CompositeWraps.{line_compounds, HaveKinds, IsCompositeWrap}
@@ -41,10 +42,11 @@ use Rattle.mad_layout.specs.declared.line.FmtLine.{FmtLine}
 use Rattle.mad_layout.specs.declared.line.FmtLine.TheVariants.{Normal, TableRow, TableRule, HorizontalRule}
 use Rattle.mad_layout.proofs.DrawableTables.{Later, table_drawable}
 use Rattle.mad_layout.proofs.DrawnParts.{each_of, pieces_shown, runs_are, some_joined, utf8_of}
-use Rattle.mad_layout.proofs.MarkLemmas.{mark_shown, mark_columns, follow_up_plain}
+use Rattle.mad_layout.proofs.PrefixLemmas.{prefix_shown, prefix_columns, follow_up_plain}
 use Rattle.mad_layout.proofs.PartLemmas.{IsPlacedLine, ArePlacedLines, IsPartOfKind, parts_kinds, code_placed}
 use Rattle.mad_layout.proofs.ReadParts.{ArePartsRead, parts_read, part_raw, all_in}
 use Rattle.mad_layout.proofs.WrapKinds.{table_by}
+use Rattle.mad_layout.proofs.ColumnChars.{column_piece}
 use Rattle.mad_layout.proofs.WholeTokens.{IsShownRun, plain_is_shown, tokens_shown}
 
 -- ---- one line
@@ -74,8 +76,8 @@ drawable skin drawn margins l bound prefix measured fits place shown =
       fills = record {
         measured = same;
         place = within_place l.spacing l.visible_length (columns_of skin l) margins drawn same place;
-        mark = mark_shown skin l.kind prefix;
-        indent_is = mark_columns skin l.kind prefix;
+        prefix = prefix_shown skin l.kind prefix;
+        indent_is = prefix_columns skin l.kind prefix;
         text = pieces_shown skin (line_style skin l.kind) l.compounds.items shown;
       };
     }
@@ -119,7 +121,7 @@ pub record IsPlacedFor (skin : MadSkin) (width : ℕ) (line : StyledRuns) (l : F
   pub place : IfSome l.spacing (λ s. (s.width ≤ inner_of skin width l) × (min l.visible_length (inner_of skin width l) ≤ s.width))
 
 -- where the composite doesn't fit, its characters have room
-pub has_room : (skin : MadSkin) (width : ℕ) (line : StyledRuns) (source : FmtComposite) → IsPlainLine skin width line → IsPlacedFor skin width line source
+pub has_room : (skin : MadSkin) (width : ℕ) (line : StyledRuns) (source : FmtComposite) → IsPlainText skin (inner_width skin width line) (kind_of line.style) line.runs → IsPlacedFor skin width line source
     → width < source.visible_length + (style_margins skin width source).0 + (style_margins skin width source).1 → HasRoom (room_of skin source.kind (inner_of skin width source)) (text_of source)
 has_room skin width line source plain read wide =
     let left = λ (k : CompositeKind). width - (margins_at (line_style skin k) (Some width)).0 - (margins_at (line_style skin k) (Some width)).1 in
@@ -139,11 +141,11 @@ wrapped_place None length inner margins drawn wide inside h = tt
 wrapped_place (Some s) length inner margins drawn wide inside h = (omega (arith, wide, h.1), omega (arith, inside, h.0))
 
 read_drawable : (skin : MadSkin) (width drawn : ℕ) (line : StyledRuns) (source : FmtComposite) (lines : List FmtLine) → width ≤ drawn → drawn < 2 ^ 64 - 1
-    → IsPlainLine skin width line → IsPlacedFor skin width line source → IsLaidOutBy IsFittingWrap skin width source lines → AreDrawable skin drawn lines
+    → IsPlainText skin (inner_width skin width line) (kind_of line.style) line.runs → IsPlacedFor skin width line source → IsLaidOutBy IsFittingWrap skin width source lines → AreDrawable skin drawn lines
 read_drawable skin width drawn line source lines narrower bound plain read (inl (fits, same)) =
     let margins : ℕ × ℕ = style_margins skin width source in
     let prefix : IsPlainPrefix skin source.kind = subst (IsPlainPrefix skin) (sym read.kind) plain.prefix in
-    let runs : AllByRecursion IsPlainRun (map run_of source.compounds.items) = subst (AllByRecursion IsPlainRun) (sym read.text) plain.runs in
+    let runs : AllByRecursion IsPlainRun (map run_of source.compounds.items) = subst (AllByRecursion IsPlainRun) (sym read.text) plain.plain in
     let columns : columns_of skin source ≡ source.visible_length = omega (arith, fits, read.measured, narrower, bound) in
     let inside : margins.0 + inner_of skin width source + margins.1 ≤ drawn = omega (arith, narrower, margins-le (line_style skin source.kind) width) in
     let inner : source.visible_length ≤ inner_of skin width source = omega (arith, fits) in
@@ -156,7 +158,7 @@ read_drawable skin width drawn line source lines narrower bound plain read (inr 
     let margins : ℕ × ℕ = style_margins skin width source in
     let prefix : IsPlainPrefix skin source.kind = subst (IsPlainPrefix skin) (sym read.kind) plain.prefix in
     let r : Room = room_of skin source.kind (inner_of skin width source) in
-    let runs : AllByRecursion IsPlainRun (map run_of ps) = subst (AllByRecursion IsPlainRun) (sym read.text) plain.runs in
+    let runs : AllByRecursion IsPlainRun (map run_of ps) = subst (AllByRecursion IsPlainRun) (sym read.text) plain.plain in
     let room : HasRoom r (text_of source) = has_room skin width line source plain read wide in
     let narrow : AllByRecursion (λ x. char_columns x.char ≤ token_limit r) (flagged_text ps) =
     all_each (λ x. most_indent r + char_columns x.char ≤ r.width) (λ x. char_columns x.char ≤ token_limit r) (λ x h. omega (arith, h)) (flagged_text ps) room.each in
@@ -173,7 +175,7 @@ read_drawable skin width drawn line source lines narrower bound plain read (inr 
 -- ---- a text
 
 -- so it has a line at least
-read_some : (skin : MadSkin) (width : ℕ) (line : StyledRuns) (source : FmtComposite) (lines : List FmtLine) → IsPlainLine skin width line → IsPlacedFor skin width line source
+read_some : (skin : MadSkin) (width : ℕ) (line : StyledRuns) (source : FmtComposite) (lines : List FmtLine) → IsPlainText skin (inner_width skin width line) (kind_of line.style) line.runs → IsPlacedFor skin width line source
     → IsLaidOutBy IsFittingWrap skin width source lines → 0 < length lines
 read_some skin width line source lines plain read (inl (fits, same)) = let one : length lines ≡ 1 = ap length same in omega (arith, one)
 read_some skin width line source lines plain read (inr (wide, ([], wraps, same))) =
@@ -217,7 +219,7 @@ content_drawable skin width drawn part (normal said) (Normal l) m own narrower b
 content_drawable skin width drawn part horizontal_rule HorizontalRule m own narrower bound plain read alone (inl same) here =
     let becomes : own ≡ HorizontalRule ∷ [] = subst (λ (x : FmtLine). IsLineAt IsFittingWrap skin (Some width) x own) same here in
     let one : length own ≡ 1 = ap length becomes in
-    (omega (arith, one), subst (AreDrawable skin drawn) (sym becomes) (plain, tt))
+    (omega (arith, one), subst (AreDrawable skin drawn) (sym becomes) (column_piece skin.horizontal_rule plain, tt))
 content_drawable skin width drawn part horizontal_rule HorizontalRule m own narrower bound plain read alone (inr placed) here = absurd placed
 
 -- the lines of a part, where those of the parts after it are drawn exactly

@@ -26,10 +26,10 @@ use Rattle.mad_layout.specs.Indents.{indent, follow_up, room_of}
 use Rattle.mad_layout.specs.Layouts.{AreRead}
 use Rattle.mad_layout.specs.Lines.{bordered, rule_columns, AreCompositesRead, IsLineRead}
 use Rattle.mad_layout.specs.PlainTables.{ArePlainCells, IsPlainTableLine}
-use Rattle.mad_layout.specs.Premises.{IsPlainRun, runs_text, IsPlainPrefix, IsPlainCell, AreBordersShown, ArePlainIn, IsPlainContent, KeepsPremises}
-use Rattle.mad_layout.specs.Rows.{compound_piece, inner_columns, mark_pieces, place_of, row_columns}
+use Rattle.mad_layout.specs.Premises.{IsPlainRun, runs_text, IsPlainPrefix, IsPlainText, AreBordersShown, ArePlainIn, IsPlainContent, KeepsPremises}
+use Rattle.mad_layout.specs.Rows.{compound_piece, inner_columns, prefix_pieces, place_of, row_columns, rule_chars}
 use Rattle.mad_layout.specs.Styles.{line_style}
-use Rattle.mad_layout.specs.Tables.{AreKeptWidths, in_column, IsBlankIn, columns_with, centered, columns_from, columns_count, columns_in, is_table_line, position_at, IsTop, IsAcross, AreDown, below, IsCellLaidOut, AreCellsLaidOut, IsRuleLaidOut, IsTableLineBy, AreTableLinesBy, IsTableLaidOutBy}
+use Rattle.mad_layout.specs.Tables.{AreKeptWidths, in_column, IsBlankIn, columns_with, centered, columns_from, columns_count, columns_in, is_table_line, position_at, IsTop, IsLineAcross, AreDown, below, IsCellLaidOut, AreCellsLaidOut, IsRuleLaidOut, IsTableLineBy, AreTableLinesBy, IsTableLaidOutBy}
 use Rattle.mad_layout.specs.TableColumns.{kept_widths}
 use Rattle.mad_layout.specs.TextParts.{LineInPart, aligns_at, lines_in}
 use Rattle.mad_layout.specs.Wraps.{text_of, columns_of, IsMeasured}
@@ -41,10 +41,11 @@ use Rattle.mad_layout.specs.declared.table.FmtTableRow.{FmtTableRow}
 use Rattle.mad_layout.specs.declared.table.FmtTableRule.{FmtTableRule}
 use Rattle.mad_layout.specs.declared.table.RelativePosition.{RelativePosition}
 use Rattle.mad_layout.proofs.DrawnParts.{each_of, pieces_shown, runs_are, some_joined, utf8_of}
-use Rattle.mad_layout.proofs.MarkLemmas.{mark_shown, mark_columns, follow_up_plain}
+use Rattle.mad_layout.proofs.PrefixLemmas.{prefix_shown, prefix_columns, follow_up_plain}
 use Rattle.mad_layout.proofs.PartRuns.{AllTableLines}
 use Rattle.mad_layout.proofs.KeptWidths.{AreTableRead, widths_kept}
 use Rattle.mad_layout.proofs.ReadParts.{table_raw}
+use Rattle.mad_layout.proofs.ColumnChars.{column_border, column_rule}
 use Rattle.mad_layout.proofs.WholeTokens.{IsShownRun, plain_is_shown, tokens_shown}
 
 -- ---- a line of a cell
@@ -60,8 +61,8 @@ fills_column skin c l bound prefix measured fits shown =
     record {
       measured = same;
       place = omega (arith, same, fits);
-      mark = mark_shown skin l.kind prefix;
-      indent_is = mark_columns skin l.kind prefix;
+      prefix = prefix_shown skin l.kind prefix;
+      indent_is = prefix_columns skin l.kind prefix;
       text = pieces_shown skin (line_style skin l.kind) l.compounds.items shown;
     }
 
@@ -79,7 +80,7 @@ wrapped_fill skin c first kind other r ps ts (l ∷ ls) bound width first_is oth
       wrapped_fill skin c r.other other other r ps ts ls bound width other_is other_is follow follow shown kinds.1 measured.1 fits.1 parts.1,
     )
 
-cell_fills : (skin : MadSkin) (c : Spacing) (cell : FmtComposite) (ls : List FmtComposite) → c.width < 2 ^ 64 - 1 → IsMeasured skin cell → IsPlainCell skin c.width cell.kind (map run_of cell.compounds.items)
+cell_fills : (skin : MadSkin) (c : Spacing) (cell : FmtComposite) (ls : List FmtComposite) → c.width < 2 ^ 64 - 1 → IsMeasured skin cell → IsPlainText skin c.width cell.kind (map run_of cell.compounds.items)
     → IsCellLaidOut IsFittingWrap skin c.width cell ls → FillColumn skin c ls
 cell_fills skin c cell ls bound measured plain (inl (fits, same)) =
     let columns : columns_of skin cell ≤ c.width = omega (arith, measured, fits, bound) in
@@ -132,8 +133,8 @@ blank_fills skin c x h =
     record {
       measured = omega (arith, zero_is, none, text);
       place = subst (λ (s : Option Spacing). IfSome s (λ p. x.visible_length ≤ p.width)) (sym h.spacing) (omega (arith, zero_is));
-      mark = subst (λ (k : CompositeKind). AreShownPieces (mark_pieces skin k)) (sym h.kind) tt;
-      indent_is = subst (λ (k : CompositeKind). pieces_columns (mark_pieces skin k) ≡ indent skin.list_items_indentation_mode k) (sym h.kind) refl;
+      prefix = subst (λ (k : CompositeKind). AreShownPieces (prefix_pieces skin k)) (sym h.kind) tt;
+      indent_is = subst (λ (k : CompositeKind). pieces_columns (prefix_pieces skin k) ≡ indent skin.list_items_indentation_mode k) (sym h.kind) refl;
       text = subst (λ (ps : List Compound). AreShownPieces (map (compound_piece skin (line_style skin x.kind)) ps)) (sym h.empty) tt;
     }
 
@@ -141,11 +142,11 @@ top_fills : (skin : MadSkin) (c : Spacing) (ls : List FmtComposite) (x : FmtComp
 top_fills skin c [] x h top = blank_fills skin c x top
 top_fills skin c (l ∷ ls) x h top = subst (FillsItsPlace skin) (sym top) h.0
 
-top_spacing : (c : Spacing) (ls : List FmtComposite) (x : FmtComposite) → IsTop c ls x → x.spacing ≡ Some c
+pub top_spacing : (c : Spacing) (ls : List FmtComposite) (x : FmtComposite) → IsTop c ls x → x.spacing ≡ Some c
 top_spacing c [] x top = top.spacing
 top_spacing c (l ∷ ls) x top = ap (λ (y : FmtComposite). y.spacing) top
 
-across_fill : (skin : MadSkin) (cs : List Spacing) (lines : List (List FmtComposite)) (xs : List FmtComposite) → FillColumns skin cs lines → IsAcross cs lines xs → AllByRecursion (FillsItsPlace skin) xs
+across_fill : (skin : MadSkin) (cs : List Spacing) (lines : List (List FmtComposite)) (xs : List FmtComposite) → FillColumns skin cs lines → IsLineAcross cs lines xs → AllByRecursion (FillsItsPlace skin) xs
 across_fill skin [] [] [] h across = tt
 across_fill skin [] [] (x ∷ xs) h across = absurd across
 across_fill skin [] (ls ∷ lines) xs h across = absurd across
@@ -153,7 +154,7 @@ across_fill skin (c ∷ cs) [] xs h across = absurd across
 across_fill skin (c ∷ cs) (ls ∷ lines) [] h across = absurd across
 across_fill skin (c ∷ cs) (ls ∷ lines) (x ∷ xs) h across = (top_fills skin c ls x h.0 across.0, across_fill skin cs lines xs h.1 across.1)
 
-pub across_columns : (cs : List Spacing) (lines : List (List FmtComposite)) (xs : List FmtComposite) → IsAcross cs lines xs → row_columns xs ≡ 1 + bordered (widths_of cs)
+pub across_columns : (cs : List Spacing) (lines : List (List FmtComposite)) (xs : List FmtComposite) → IsLineAcross cs lines xs → row_columns xs ≡ 1 + bordered (widths_of cs)
 across_columns [] [] [] across = refl
 across_columns [] [] (x ∷ xs) across = absurd across
 across_columns [] (ls ∷ lines) xs across = absurd across
@@ -177,7 +178,7 @@ rows_drawable skin drawn cs lines (row ∷ rows) fit borders h down = (
   record {
     fits = let columns_are : row_columns row.cells.items ≡ 1 + bordered (widths_of cs) = across_columns cs lines row.cells.items down.0 in omega (arith, columns_are, fit);
     each = across_fill skin cs lines row.cells.items h down.0;
-    border = borders.vertical;
+    border = column_border skin.table.compound_style skin.table_border_chars.vertical borders.vertical;
   },
   rows_drawable skin drawn cs (map below lines) rows fit borders (below_fill skin cs lines h) down.1,
 )
@@ -192,7 +193,7 @@ rule_drawable : (skin : MadSkin) (drawn : ℕ) (position : RelativePosition) (cs
     → AreBordersShown skin → IsRuleLaidOut position cs rule → IsDrawableRule skin drawn rule
 rule_drawable skin drawn position cs rule two fit borders h = record {
   fits = subst (λ ws. rule_columns ws ≤ drawn) (sym h.widths_are) (rule_fits (widths_of cs) drawn two fit);
-  chars = borders.rules rule.position;
+  chars = column_rule skin (rule_chars skin.table_border_chars rule.position) (borders.rules rule.position);
 }
 
 -- ---- a line of a table
@@ -254,8 +255,8 @@ no_row (cell ∷ cells) h = absurd (omega (arith, h))
 bare_drawable : (skin : MadSkin) (drawn : ℕ) (l : FmtLine) → 2 ≤ drawn → AreBordersShown skin → IsPlainTableLine skin [] l → columns_in l ≡ 0 → IsDrawableLine skin drawn l
 bare_drawable skin drawn (Normal l) two borders plain none = absurd plain
 bare_drawable skin drawn (TableRow row) two borders plain none =
-    subst (IsDrawableRow skin drawn) (sym (no_row row.cells.items none)) (record { fits = omega (arith, two); each = tt; border = borders.vertical })
-bare_drawable skin drawn (TableRule rule) two borders plain none = record { fits = subst (λ (ws : List ℕ). rule_columns ws ≤ drawn) (sym plain) two; chars = borders.rules rule.position }
+    subst (IsDrawableRow skin drawn) (sym (no_row row.cells.items none)) (record { fits = omega (arith, two); each = tt; border = column_border skin.table.compound_style skin.table_border_chars.vertical borders.vertical })
+bare_drawable skin drawn (TableRule rule) two borders plain none = record { fits = subst (λ (ws : List ℕ). rule_columns ws ≤ drawn) (sym plain) two; chars = column_rule skin (rule_chars skin.table_border_chars rule.position) (borders.rules rule.position) }
 bare_drawable skin drawn HorizontalRule two borders plain none = absurd plain
 
 -- ---- lines of a text
@@ -267,7 +268,7 @@ cells_plain skin (w ∷ ws) [] (l ∷ ls) plain read = absurd read
 cells_plain skin (w ∷ ws) (s ∷ ss) [] plain read = absurd read
 cells_plain skin (w ∷ ws) (s ∷ ss) (l ∷ ls) plain read = (
   read.0.measured,
-  subst (λ (k : CompositeKind). IsPlainCell skin w k (map run_of l.compounds.items)) (sym read.0.kind) (subst (λ (rs : List Run). IsPlainCell skin w (kind_of s.style) rs) (sym read.0.text) plain.0),
+  subst (λ (k : CompositeKind). IsPlainText skin w k (map run_of l.compounds.items)) (sym read.0.kind) (subst (λ (rs : List Run). IsPlainText skin w (kind_of s.style) rs) (sym read.0.text) plain.0),
   cells_plain skin ws ss ls plain.1 read.1,
 )
 

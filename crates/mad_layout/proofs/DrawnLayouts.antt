@@ -6,7 +6,7 @@ use Rattle.mad_fit.specs.Areas.{IsWithinLimits}
 use Rattle.mad_fit.specs.declared.area.Area.{Area}
 use Rattle.mad_layout.specs.Drawable.{AreDrawable}
 use Rattle.mad_layout.specs.Headline.{AreShownAcross}
-use Rattle.mad_layout.specs.Layouts.{IsLayout}
+use Rattle.mad_layout.proofs.WideLayouts.{IsLayout}
 use Rattle.mad_layout.specs.Shown.{lines_shown, AreShownIn}
 use Rattle.mad_layout.specs.ShownLayouts.{ShowsLayout, ShowsRowsFrom}
 use Rattle.mad_layout.specs.declared.skin.MadSkin.{MadSkin}

@@ -3,7 +3,7 @@ use Rattle.std.proofs.Common.{◌≡◌, ℕ, ◌≤◌, ◌⊎◌, inl, inr, Bo
 use Rattle.std.proofs.lemmas.List.{append-nil, length-append}
 use Rattle.mad_md.specs.Lines.{LineContent}
 use Rattle.mad_layout.specs.Fronts.{IsFrontLayout}
-use Rattle.mad_layout.specs.Laying.{IsOpenRun, IsLaidFor, IsRunAt}
+use Rattle.mad_layout.specs.Laying.{AreOpenParts, IsLaidFor, ArePartsClosed}
 use Rattle.mad_layout.specs.Layouts.{IsLayoutAt}
 use Rattle.mad_layout.specs.TextParts.{is_code, is_table, stand_together, in_front, text_parts}
 use Rattle.mad_layout.specs.declared.skin.MadSkin.{MadSkin}
@@ -68,7 +68,7 @@ ends_with (d ∷ f ∷ fs) c e rest =
 pub record FrontSoFar (skin : MadSkin) (width : Option ℕ) (all left : List LineContent) (lines : List FmtLine) (block : List FmtComposite) (table : List FmtLine) (ended : Bool) : Type 0 where
   pub front : List LineContent
   pub joins : all ≡ front ++ left
-  pub ready : IsOpenRun skin block table
+  pub ready : AreOpenParts skin block table
   pub laid : (rest : List LineContent) → IsLaidFor skin width (front ++ rest) rest lines block table
   pub ends : ended ≡ true → EndsPart front
 
@@ -83,7 +83,7 @@ front_start skin width all left lines table block none empty no_table same = rec
 
 pub front_more : (skin : MadSkin) (width : Option ℕ) (all left after : List LineContent) (c : LineContent) (lines new table new_table : List FmtLine) (block new_block : List FmtComposite) (ended ends : Bool)
     → FrontSoFar skin width all left lines block table ended → left ≡ c ∷ after
-    → ((all rest : List LineContent) → IsLaidFor skin width all (c ∷ rest) lines block table → IsLaidFor skin width all rest new new_block new_table) → IsOpenRun skin new_block new_table
+    → ((all rest : List LineContent) → IsLaidFor skin width all (c ∷ rest) lines block table → IsLaidFor skin width all rest new new_block new_table) → AreOpenParts skin new_block new_table
     → ends ≡ stands_alone c → FrontSoFar skin width all after new new_block new_table ends
 front_more skin width all left after c lines new table new_table block new_block ended ends held next laid ready is = record {
   front = held.front ++ c ∷ [];
@@ -96,7 +96,7 @@ front_more skin width all left after c lines new table new_table block new_block
 }
 
 pub front_end : (skin : MadSkin) (width : Option ℕ) (rows : ℕ) (all left : List LineContent) (lines new own table : List FmtLine) (block : List FmtComposite) (ended : Bool) → FrontSoFar skin width all left lines block table ended
-    → new ≡ lines ++ own → IsRunAt skin width block table own → (left ≡ []) ⊎ ((ended ≡ true) × (rows ≤ length lines)) → IsFrontLayout skin width rows all new
+    → new ≡ lines ++ own → ArePartsClosed skin width block table own → (left ≡ []) ⊎ ((ended ≡ true) × (rows ≤ length lines)) → IsFrontLayout skin width rows all new
 front_end skin width rows all left lines new own table block ended held closed made stop =
     let whole : IsLayoutAt skin width held.front new =
     subst (λ (l : List LineContent). IsLayoutAt skin width l new) (append-nil held.front) (laid_end skin width (held.front ++ []) [] lines new own table block (held.laid []) refl held.ready closed made) in

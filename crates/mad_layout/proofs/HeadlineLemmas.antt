@@ -18,7 +18,8 @@ use Rattle.mad_layout.specs.FittingLayouts.{IsFittingLayoutAt}
 use Rattle.mad_layout.specs.Fronts.{IsFrontLayout}
 use Rattle.mad_layout.specs.InArea.{IsAreaLayout, IsAreaFront, ShowsText, WritesInArea}
 use Rattle.mad_layout.specs.CompositeWraps.{IsCompositeWrap}
-use Rattle.mad_layout.specs.Layouts.{IsLayoutBy, IsLayout, IsLayoutAt, IsMarkdownLayout}
+use Rattle.mad_layout.specs.Layouts.{IsLayoutBy, IsLayoutAt, IsMarkdownLayout}
+use Rattle.mad_layout.proofs.WideLayouts.{IsLayout}
 use Rattle.mad_layout.specs.Premises.{KeepsPremises}
 use Rattle.mad_layout.specs.Shown.{lines_shown, AreShownIn}
 use Rattle.mad_layout.specs.TextParts.{LineInPart, text_parts, lines_in_parts}

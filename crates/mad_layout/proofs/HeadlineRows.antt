@@ -1,6 +1,6 @@
 -- The headline follows from what an area shows of a layout.
 use Rattle.std.proofs.Common.{◌≡◌, ℕ, zero, suc, ◌-◌, ◌^◌, ◌<◌, ◌≤◌, ◌⊎◌, inl, inr, List, [], ◌∷◌, ◌++◌, map, take, length, replicate, get_or, Option, Some, None, IfSome, Result, Ok, Err, OnOk, refl, ap, sym, ◌∙◌, subst, arith, append_assoc}
-use Rattle.std.specs.Prelude.{slice_get, unwrap_or}
+use Rattle.std.specs.Prelude.{false, slice_get, unwrap_or}
 use Rattle.std.proofs.Math.ListN.{get_or-map}
 use Rattle.std.proofs.lemmas.List.{append-nil, length-map, map-append}
 use Rattle.mad_columns.specs.Columns.{char_columns}
@@ -10,6 +10,7 @@ use Rattle.mad_screen.specs.Painting.{attach}
 use Rattle.mad_term.specs.Trace.{Trace, flushed}
 use Rattle.mad_term.proofs.Traces.{took_flushed}
 use Rattle.mad_md.specs.Lines.{LineContent}
+use Rattle.mad_md.specs.Reading.{IsRead, unread_text}
 use Rattle.mad_fit.specs.Areas.{IsWithinLimits}
 use Rattle.mad_fit.specs.declared.area.Area.{Area}
 use Rattle.mad_draw.specs.Pieces.{PennedChar, penned_chars}
@@ -18,7 +19,7 @@ use Rattle.mad_layout.specs.FlaggedTexts.{LineInPart, lines_in_parts, AreAcross}
 use Rattle.mad_layout.specs.Fronts.{IsFrontLayout}
 use Rattle.mad_layout.specs.Headline.{cell_chars, AreShownAcross, ShowsFirstRows}
 use Rattle.mad_layout.specs.InArea.{ShowsText}
-use Rattle.mad_layout.specs.Layouts.{IsLayout}
+use Rattle.mad_layout.proofs.WideLayouts.{IsLayout}
 use Rattle.mad_layout.specs.Rows.{row_pieces}
 use Rattle.mad_layout.specs.Shown.{AreShownIn}
 use Rattle.mad_layout.specs.declared.skin.MadSkin.{MadSkin}
@@ -136,36 +137,41 @@ rest_or_enough : (skin : MadSkin) (width : ℕ) (height : ℕ) (rest : List Line
 rest_or_enough skin width height rest lines (inl none) = inl (ap lines_in_parts none)
 rest_or_enough skin width height rest lines (inr some) = inr (omega (arith, some, length-map lines (line_chars skin width)))
 
-headline : (skin : MadSkin) (markdown : List ℕ) (area : Area) (old new : Trace) → IsWithinLimits area → 4 ≤ area.width → ShowsText skin markdown area old new → ShowsFirstRows skin markdown area old new
+-- the text is read as lines, and the area shows the first of their rows
+abbrev ShowsReading : MadSkin → List ℕ → Area → Trace → Trace → Type 0
+ShowsReading skin markdown area old new = (lines : List LineContent) × IsRead (unread_text false markdown) lines × ShowsFirstRows skin lines area old new
+
+headline : (skin : MadSkin) (markdown : List ℕ) (area : Area) (old new : Trace) → IsWithinLimits area → 4 ≤ area.width → ShowsText skin markdown area old new → ShowsReading skin markdown area old new
 headline skin markdown area old new limits wide h =
     let text : List LineContent = h.laid_out.text in
     let width : ℕ = area.width - 1 in
     let front : IsFrontLayout skin (Some width) area.height text h.lines = h.laid_out.layout in
     let layout : IsLayout skin width front.front h.lines = wrapped_at skin width front.front h.lines (omega (arith, wide)) front.layout in
     let bound : area.width < 2 ^ 64 - 1 = omega (arith, limits.columns) in
-    record {
-      lines = text;
-      read = h.laid_out.read;
-      shown = λ premises.
-          let first = front_keeps skin width area.height text front.front front.rest front.parts premises in
-          let rows = text_across skin area area.height front.front h.lines bound wide first layout in
-          let all = front_is_enough skin area (lines_in_parts front.front) (lines_in_parts front.rest) rows.0 (map (line_chars skin area.width) h.lines) rows.1 rows.2
-          (rest_or_enough skin area.width area.height front.rest h.lines front.enough) in (
-            all.0,
-            subst (λ (ls : List LineInPart). AreAcross skin area ls all.0) (sym (in_parts_both text front.front front.rest front.parts)) all.1,
-            took_more_at old.bytes new (AreShownIn skin h.lines area 0) (AreShownAcross all.0 area) (shown_across skin h.lines area all.0 all.2) (h.shown premises),
+    (
+      text,
+      h.laid_out.read,
+      record {
+        shown = λ premises.
+            let first = front_keeps skin width area.height text front.front front.rest front.parts premises in
+            let rows = text_across skin area area.height front.front h.lines bound wide first layout in
+            let all = front_is_enough skin area (lines_in_parts front.front) (lines_in_parts front.rest) rows.0 (map (line_chars skin area.width) h.lines) rows.1 rows.2
+            (rest_or_enough skin area.width area.height front.rest h.lines front.enough) in (
+              all.0,
+              subst (λ (ls : List LineInPart). AreAcross skin area ls all.0) (sym (in_parts_both text front.front front.rest front.parts)) all.1,
+              took_more_at old.bytes new (AreShownIn skin h.lines area 0) (AreShownAcross all.0 area) (shown_across skin h.lines area all.0 all.2) (h.shown premises),
           );
-    }
+      },
+    )
 
 pub headline_shown : {T E : Type 0} (r : Result T E) (skin : MadSkin) (markdown : List ℕ) (area : Area) (old new : Trace) → IsWithinLimits area
-    → OnOk r (4 ≤ area.width → ShowsText skin markdown area old new) → OnOk r (4 ≤ area.width → ShowsFirstRows skin markdown area old new)
+    → OnOk r (4 ≤ area.width → ShowsText skin markdown area old new) → OnOk r (4 ≤ area.width → ShowsReading skin markdown area old new)
 headline_shown {T} {E} (Ok x) skin markdown area old new limits h = λ wide. headline skin markdown area old new limits wide (h wide)
 headline_shown {T} {E} (Err e) skin markdown area old new limits h = tt
 
 -- a flush takes nothing from it
-pub headline_flushed : (skin : MadSkin) (markdown : List ℕ) (area : Area) (old mid new : Trace) → ShowsFirstRows skin markdown area old mid → new ≡ flushed mid → ShowsFirstRows skin markdown area old new
-headline_flushed skin markdown area old mid new h e = record {
-  lines = h.lines;
-  read = h.read;
-  shown = λ premises. let rows = h.shown premises in (rows.0, rows.1, took_flushed old mid new (AreShownAcross rows.0 area) rows.2 e);
-}
+pub headline_flushed : (skin : MadSkin) (lines : List LineContent) (area : Area) (old mid new : Trace) → ShowsFirstRows skin lines area old mid → new ≡ flushed mid → ShowsFirstRows skin lines area old new
+headline_flushed skin lines area old mid new h e = record { shown = λ premises. let rows = h.shown premises in (rows.0, rows.1, took_flushed old mid new (AreShownAcross rows.0 area) rows.2 e) }
+
+pub reading_flushed : (skin : MadSkin) (markdown : List ℕ) (area : Area) (old mid new : Trace) → ShowsReading skin markdown area old mid → new ≡ flushed mid → ShowsReading skin markdown area old new
+reading_flushed skin markdown area old mid new h e = (h.0, h.1, headline_flushed skin h.0 area old mid new h.2 e)

@@ -16,7 +16,7 @@ use Rattle.mad_style.specs.Kinds.{kind_of}
 use Rattle.mad_style.specs.LineStyles.{margins_at}
 use Rattle.mad_layout.specs.Inlines.{IsInlineOf, IsDisplayedAsWritten, WritesInline, composite_bytes}
 use Rattle.mad_draw.specs.Pieces.{RowPiece, pieces_bytes, spaces}
-use Rattle.mad_layout.specs.Rows.{align_in, place_of, left_of_place, right_of_place, inner_blanks, margins_of, mark_pieces, compound_piece, composite_pieces, free_pieces}
+use Rattle.mad_layout.specs.Rows.{align_in, place_of, left_of_place, right_of_place, inner_blanks, margins_of, prefix_pieces, compound_piece, composite_pieces, free_pieces}
 use Rattle.mad_layout.specs.Styles.{line_style}
 use Rattle.mad_layout.specs.declared.skin.MadSkin.{MadSkin}
 use Rattle.mad_layout.specs.declared.composite.FmtComposite.{FmtComposite}
@@ -31,10 +31,10 @@ free_is skin l spacing margins =
     let inner_left : (inner_blanks l).0 ≡ 0 = ap (λ s. left_of_place (align_in s) l.visible_length (place_of s)) spacing in
     let inner_right : (inner_blanks l).1 ≡ 0 = ap (λ s. right_of_place (align_in s) l.visible_length (place_of s)) spacing in
     let text : List RowPiece = map (compound_piece skin style) l.compounds.items in
-    ap (λ n. spaces blank n ++ (spaces style.compound_style (inner_blanks l).0 ++ (mark_pieces skin l.kind ++ (text ++ (spaces style.compound_style (inner_blanks l).1 ++ []))))) outer
-    ∙ ap (λ n. spaces blank style.left_margin ++ (spaces style.compound_style n ++ (mark_pieces skin l.kind ++ (text ++ (spaces style.compound_style (inner_blanks l).1 ++ []))))) inner_left
-    ∙ ap (λ n. spaces blank style.left_margin ++ (mark_pieces skin l.kind ++ (text ++ (spaces style.compound_style n ++ [])))) inner_right
-    ∙ ap (λ ps. spaces blank style.left_margin ++ (mark_pieces skin l.kind ++ ps)) (append-nil text ∙ pieces_of_runs skin style l.compounds.items)
+    ap (λ n. spaces blank n ++ (spaces style.compound_style (inner_blanks l).0 ++ (prefix_pieces skin l.kind ++ (text ++ (spaces style.compound_style (inner_blanks l).1 ++ []))))) outer
+    ∙ ap (λ n. spaces blank style.left_margin ++ (spaces style.compound_style n ++ (prefix_pieces skin l.kind ++ (text ++ (spaces style.compound_style (inner_blanks l).1 ++ []))))) inner_left
+    ∙ ap (λ n. spaces blank style.left_margin ++ (prefix_pieces skin l.kind ++ (text ++ (spaces style.compound_style n ++ [])))) inner_right
+    ∙ ap (λ ps. spaces blank style.left_margin ++ (prefix_pieces skin l.kind ++ ps)) (append-nil text ∙ pieces_of_runs skin style l.compounds.items)
 
 pub displayed : (skin : MadSkin) (src : List ℕ) (l : FmtComposite) → IsInlineOf skin src l → IsDisplayedAsWritten skin src l
 displayed skin src l h items reading =

@@ -18,17 +18,17 @@ use Rattle.mad_md.specs.declared.composite.CompositeStyle.TheVariants.{ListItem}
 use Rattle.mad_style.specs.Kinds.{kind_of}
 use Rattle.mad_widths.specs.ColumnWidths.{needs_of, column_widths}
 use Rattle.mad_fit.specs.Columns.{width_of, columns}
-use Rattle.mad_layout.specs.Drawable.{AreShownChars}
 use Rattle.mad_layout.specs.Indents.{indent}
 use Rattle.mad_layout.specs.ItemCells.{item_in_a_cell, hanging_skin, ItemInACellKeepsPremises}
-use Rattle.mad_layout.specs.Premises.{IsPlainCell, AreBordersShown, ArePlainIn, KeepsPremises, runs_text}
+use Rattle.mad_layout.specs.Premises.{IsColumnChar, AreRuleChars, IsPlainText, AreBordersShown, ArePlainIn, KeepsPremises, runs_text}
 use Rattle.mad_layout.specs.Rows.{rule_chars}
 use Rattle.mad_layout.specs.Sources.{TakesColumns}
 use Rattle.mad_layout.specs.TableColumns.{cell_columns, kept_widths}
 use Rattle.mad_layout.specs.TextParts.{lines_in_parts}
 use Rattle.mad_layout.specs.declared.table.RelativePosition.{RelativePosition}
 use Rattle.mad_layout.specs.declared.table.RelativePosition.TheVariants.{Top, Other, Bottom}
-use Rattle.mad_layout.proofs.KindLemmas.{no_newline, letter_ascii, ascii_piece}
+use Rattle.mad_layout.proofs.KindLemmas.{no_newline, letter_ascii}
+use Rattle.mad_layout.proofs.ColumnChars.{ascii_column}
 use Rattle.mad_layout.proofs.SourceLemmas.{plain_run}
 
 -- ---- what is read
@@ -113,18 +113,17 @@ four =
 
 -- ---- borders
 
-plus_and_hyphens : AreShownChars hanging_skin (record { left = 43; horizontal = 45; between = 43; right = 43 })
+plus_and_hyphens : AreRuleChars (record { left = 43; horizontal = 45; between = 43; right = 43 })
 plus_and_hyphens =
-    let plus = ascii_piece hanging_skin.table.compound_style 43 (omega arith) (omega arith) in
-    record { left = plus; horizontal = ascii_piece hanging_skin.table.compound_style 45 (omega arith) (omega arith); between = plus; right = plus }
+    let plus : IsColumnChar 43 = ascii_column 43 refl (omega arith) (omega arith) in record { left = plus; horizontal = ascii_column 45 refl (omega arith) (omega arith); between = plus; right = plus }
 
-rules : (position : RelativePosition) → AreShownChars hanging_skin (rule_chars hanging_skin.table_border_chars position)
+rules : (position : RelativePosition) → AreRuleChars (rule_chars hanging_skin.table_border_chars position)
 rules Top = plus_and_hyphens
 rules Other = plus_and_hyphens
 rules Bottom = plus_and_hyphens
 
 borders : AreBordersShown hanging_skin
-borders = record { vertical = ascii_piece _ 124 (omega arith) (omega arith); rules = rules }
+borders = record { vertical = ascii_column 124 refl (omega arith) (omega arith); rules = rules }
 
 -- ---- its column
 
@@ -139,9 +138,9 @@ computed = refl
 five : kept_widths hanging_skin 7 item_read ≡ 5 ∷ []
 five = ap (λ (n : ℕ). column_widths 5 (needs_of (n ∷ []) ∷ [])) six ∙ computed
 
-plain_item : IsPlainCell hanging_skin 5 (kind_of item.style) item.runs
+plain_item : IsPlainText hanging_skin 5 (kind_of item.style) item.runs
 plain_item = record {
-  prefix = ascii_piece _ 42 (omega arith) (omega arith);
+  prefix = ascii_column 42 refl (omega arith) (omega arith);
   plain = (plain_run plain letters letters_columns, tt);
   room = λ wide. record {
     indent = omega arith;

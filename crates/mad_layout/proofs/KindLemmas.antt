@@ -1,4 +1,4 @@
--- The example's text keeps the premises of the headline.
+-- A text with lines of several kinds keeps the premises of the headline.
 use Rattle.std.proofs.Common.{◌≡◌, ℕ, ◌+◌, ◌<◌, ◌≤◌, false, List, [], ◌∷◌, ◌++◌, map, refl, ap, sym, ◌∙◌, subst, arith}
 use Rattle.std.specs.List.{AllByRecursion}
 use Rattle.std.specs.Str.{chars, IsUtf8, IsAscii}
@@ -24,12 +24,12 @@ use Rattle.mad_style.specs.declared.compound_styles.CompoundStyle.{CompoundStyle
 use Rattle.mad_style.specs.Kinds.{kind_of}
 use Rattle.mad_fit.specs.Columns.{columns, width_of}
 use Rattle.mad_layout.specs.Indents.{indent}
-use Rattle.mad_layout.specs.Premises.{IsPlainPrefix, IsPlainLine, KeepsPremises, inner_width, runs_text}
+use Rattle.mad_layout.specs.Premises.{IsPlainPrefix, IsPlainText, KeepsPremises, inner_width, runs_text}
 use Rattle.mad_layout.specs.SeveralKinds.{ascii_skin, several_kinds, SeveralKindsKeepPremises}
 use Rattle.mad_layout.specs.Sources.{TakesColumns}
 use Rattle.mad_layout.specs.TextParts.{lines_in_parts}
 use Rattle.mad_layout.proofs.SourceLemmas.{plain_run}
-use Rattle.mad_layout.proofs.WholeTokens.{plain_is_shown}
+use Rattle.mad_layout.proofs.ColumnChars.{ascii_column}
 
 -- a line of one letter
 abbrev letter_line : CompositeStyle → ℕ → StyledRuns
@@ -158,7 +158,7 @@ letter_columns c low high =
     }
 
 letter_plain : (style : CompositeStyle) (c : ℕ) → 32 ≤ c → c < 127 → IsPlainPrefix ascii_skin (kind_of style) → indent ascii_skin.list_items_indentation_mode (kind_of style) + 1 ≤ inner_width ascii_skin 11 (letter_line style c)
-    → IsPlainLine ascii_skin 11 (letter_line style c)
+    → IsPlainText ascii_skin (inner_width ascii_skin 11 (letter_line style c)) (kind_of style) (letter_line style c).runs
 letter_plain style c low high prefix narrow =
     let one : char_columns c ≡ 1 = char_columns-ascii c low high in
     let line : StyledRuns = letter_line style c in
@@ -166,22 +166,11 @@ letter_plain style c low high prefix narrow =
     let text : width_of (runs_text line.runs) ≡ char_columns c + 0 = ap (λ (cs : List ℕ). width_of (flagged plain cs ++ [])) cs in
     record {
       prefix = prefix;
-      runs = (plain_run plain (c ∷ []) (letter_columns c low high), tt);
+      plain = (plain_run plain (c ∷ []) (letter_columns c low high), tt);
       room = λ wide. absurd (omega (arith, wide, text, one, narrow));
     }
 
 -- ---- the skin's characters
-
--- an ASCII character is shown in one column
-pub ascii_piece : (style : CompoundStyle) (c : ℕ) → 32 ≤ c → c < 127 → IsColumnPiece (char_piece (styled_char style c))
-ascii_piece style c low high =
-    let text : encode_utf8 c ≡ c ∷ [] = encode_ascii c (omega (arith, high)) in
-    let shown = plain_is_shown (record { flags = plain; text = c ∷ [] }) (plain_run plain (c ∷ []) (letter_columns c low high)) in
-    let cs : chars (c ∷ []) ≡ c ∷ [] = chars-IsAscii (c ∷ []) (letter_ascii c high) in
-    record {
-      shown = record { utf8 = subst IsUtf8 (sym text) shown.utf8; shown = subst (λ (t : List ℕ). IsShown (chars t)) (sym text) shown.shown };
-      one = ap (λ (t : List ℕ). columns (chars t)) text ∙ ap columns cs ∙ omega (arith, char_columns-ascii c low high);
-    }
 
 pub several_kinds_keep_premises : SeveralKindsKeepPremises
 several_kinds_keep_premises lines h =
@@ -191,12 +180,12 @@ several_kinds_keep_premises lines h =
       (
         letter_plain Paragraph 98 (omega arith) (omega arith) tt (omega arith),
         (
-          letter_plain (ListItem 0) 99 (omega arith) (omega arith) (ascii_piece plain_style 42 (omega arith) (omega arith)) (omega arith),
+          letter_plain (ListItem 0) 99 (omega arith) (omega arith) (ascii_column 42 refl (omega arith) (omega arith)) (omega arith),
           (
-            letter_plain (OrderedListItem 0 1) 100 (omega arith) (omega arith) (omega arith, ascii_piece plain_style 46 (omega arith) (omega arith)) (omega (arith, length-decimal-le_succ 1 (omega arith))),
+            letter_plain (OrderedListItem 0 1) 100 (omega arith) (omega arith) (omega arith, ascii_column 46 refl (omega arith) (omega arith)) (omega (arith, length-decimal-le_succ 1 (omega arith))),
             (
-              letter_plain Quote 101 (omega arith) (omega arith) (ascii_piece plain_style 62 (omega arith) (omega arith)) (omega arith),
-              (ascii_piece plain_style 45 (omega arith) (omega arith), (letter_plain Code 102 (omega arith) (omega arith) tt (omega arith), tt)),
+              letter_plain Quote 101 (omega arith) (omega arith) (ascii_column 62 refl (omega arith) (omega arith)) (omega arith),
+              (ascii_column 45 refl (omega arith) (omega arith), (letter_plain Code 102 (omega arith) (omega arith) tt (omega arith), tt)),
             ),
           ),
         ),

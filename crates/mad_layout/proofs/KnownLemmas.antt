@@ -20,7 +20,7 @@ use Rattle.mad_draw.specs.Pieces.{RowPiece, AreKnown, single_spaces}
 use Rattle.mad_draw.specs.TableRules.{rule_pieces}
 use Rattle.mad_draw.specs.declared.table_rules.RuleChars.{RuleChars}
 use Rattle.mad_layout.specs.Lines.{rule_columns}
-use Rattle.mad_layout.specs.Rows.{compound_piece, mark_pieces, inner_blanks, outer_blanks, composite_pieces, cell_pieces, line_pieces, margins_of, left_of_place, right_of_place, placed_pieces, row_columns, rule_chars, table_row_pieces, table_rule_pieces, vertical_piece}
+use Rattle.mad_layout.specs.Rows.{compound_piece, prefix_pieces, inner_blanks, outer_blanks, composite_pieces, cell_pieces, line_pieces, margins_of, left_of_place, right_of_place, placed_pieces, row_columns, rule_chars, table_row_pieces, table_rule_pieces, vertical_piece}
 use Rattle.mad_layout.specs.Styles.{AreKnownAdditions, compound_style, ellipsis_bytes, line_style, overwritten_if}
 use Rattle.mad_draw.proofs.PieceLemmas.{known_both, pieces_taken_of, spaces_known, single_known}
 use Rattle.mad_draw.proofs.RuleLemmas.{rule_known}
@@ -65,7 +65,7 @@ spaced_known style n ps h k = known_both (single_spaces style n) ps (single_know
 
 -- a composite, by the styles of its parts
 composite_known : (skin : MadSkin) (outer : Option ℕ) (margins : ℕ × ℕ) (right : Bool) (l : FmtComposite) (style : LineStyle) → style ≡ line_style skin l.kind → IsStyle skin.paragraph.compound_style.object_style
-    → IsStyle style.compound_style.object_style → AreKnown (mark_pieces skin l.kind) → AreKnownAdditions skin → AreKnown (composite_pieces skin outer margins right l)
+    → IsStyle style.compound_style.object_style → AreKnown (prefix_pieces skin l.kind) → AreKnownAdditions skin → AreKnown (composite_pieces skin outer margins right l)
 composite_known skin outer margins right l style is paragraph own mark additions =
     let s : LineStyle = line_style skin l.kind in
     let known : IsStyle s.compound_style.object_style = subst (λ (x : LineStyle). IsStyle x.compound_style.object_style) is own in
@@ -78,7 +78,7 @@ composite_known skin outer margins right l style is paragraph own mark additions
     (asked_known right _ (spaces_known skin.paragraph.compound_style blanks.1 paragraph))))))
 
 pub cell_known : (skin : MadSkin) (l : FmtComposite) (style : LineStyle) → style ≡ line_style skin l.kind → IsStyle skin.table.compound_style.object_style → IsStyle skin.paragraph.compound_style.object_style
-    → IsStyle style.compound_style.object_style → AreKnown (mark_pieces skin l.kind) → AreKnownAdditions skin → AreKnown (cell_pieces skin l)
+    → IsStyle style.compound_style.object_style → AreKnown (prefix_pieces skin l.kind) → AreKnownAdditions skin → AreKnown (cell_pieces skin l)
 cell_known skin l style is table paragraph own mark additions = (table, composite_known skin None (0, 0) false l style is paragraph own mark additions)
 
 -- the cells of a row, one more
@@ -106,5 +106,5 @@ table_rule_known skin outer right rule table paragraph =
 
 -- a line, by the styles of its parts
 pub line_known : (skin : MadSkin) (outer : Option ℕ) (right : Bool) (l : FmtComposite) (style : LineStyle) → style ≡ line_style skin l.kind → IsStyle skin.paragraph.compound_style.object_style → IsStyle style.compound_style.object_style
-    → AreKnown (mark_pieces skin l.kind) → AreKnownAdditions skin → AreKnown (line_pieces skin outer right (Normal l))
+    → AreKnown (prefix_pieces skin l.kind) → AreKnownAdditions skin → AreKnown (line_pieces skin outer right (Normal l))
 line_known skin outer right l style is paragraph own mark additions = composite_known skin outer (margins_of skin outer l) right l style is paragraph own mark additions

@@ -6,7 +6,7 @@ use Rattle.mad_md.specs.Lines.{StyledRuns, LineContent, normal, table_row, table
 use Rattle.mad_fit.proofs.AllLemmas.{all_push}
 use Rattle.mad_layout.specs.CodeBlocks.{NoCodeFirst}
 use Rattle.mad_layout.specs.CompositeWraps.{IsCompositeWrap}
-use Rattle.mad_layout.specs.Laying.{IsBlockAt, IsTableAt, IsRunAt, IsOpenRun, IsLaidFrom, IsLaidFor}
+use Rattle.mad_layout.specs.Laying.{IsBlockAt, IsTableAt, ArePartsClosed, AreOpenParts, IsLaidFrom, IsLaidFor}
 use Rattle.mad_layout.specs.Layouts.{AreRead, IsLayoutAt}
 use Rattle.mad_layout.specs.Lines.{IsLineRead, IsCompositeRead, AreCompositesRead}
 use Rattle.mad_layout.specs.Parts.{Part, single, is_code_kind, is_code_line, parts_of, placed_code, block_width, justified, code_room, table_width, wrap_width, IsLineAt, AreLinesAt, ArePartsAt}
@@ -130,7 +130,7 @@ no_code_in_front (t ∷ ts) l reads are h = table_not_code t are.0
 
 -- a line of a table goes into the table that is open, after the block of code before it
 pub laid_table_line : (skin : MadSkin) (width : Option ℕ) (all rest : List LineContent) (c : LineContent) (lines new own table pushed_table : List FmtLine) (block no_block : List FmtComposite) (l : FmtLine)
-    → IsLaidFor skin width all (c ∷ rest) lines block table → IsOpenRun skin block table → IsLineRead skin c l → is_table_line l ≡ true → IsBlockAt skin width block own → new ≡ lines ++ own
+    → IsLaidFor skin width all (c ∷ rest) lines block table → AreOpenParts skin block table → IsLineRead skin c l → is_table_line l ≡ true → IsBlockAt skin width block own → new ≡ lines ++ own
     → no_block ≡ [] → pushed_table ≡ table ++ l ∷ [] → IsLaidFor skin width all rest new no_block pushed_table
 laid_table_line skin width all rest c lines new own table pushed_table block no_block l held ready is line laid pushed empty joins =
     let next : IsLaidFrom skin width all rest lines (map Normal block ++ (table ++ l ∷ [])) =
@@ -141,7 +141,7 @@ laid_table_line skin width all rest c lines new own table pushed_table block no_
 
 -- a line of code goes into the block that is open, after the table before it
 pub laid_code : (skin : MadSkin) (width : Option ℕ) (all rest : List LineContent) (c : LineContent) (lines new own table no_table : List FmtLine) (block pushed_block : List FmtComposite) (l : FmtComposite)
-    → IsLaidFor skin width all (c ∷ rest) lines block table → IsOpenRun skin block table → IsLineRead skin c (Normal l) → IsTableAt skin width table own → new ≡ lines ++ own
+    → IsLaidFor skin width all (c ∷ rest) lines block table → AreOpenParts skin block table → IsLineRead skin c (Normal l) → IsTableAt skin width table own → new ≡ lines ++ own
     → no_table ≡ [] → pushed_block ≡ block ++ l ∷ [] → IsLaidFor skin width all rest new pushed_block no_table
 laid_code skin width all rest c lines new own table no_table block pushed_block l held ready is laid pushed empty joins =
     let next : IsLaidFrom skin width all rest lines ((map Normal block ++ table) ++ Normal l ∷ []) = laid_next skin width all rest c lines (map Normal block ++ table) (Normal l) held is in
@@ -163,8 +163,8 @@ laid_code skin width all rest c lines new own table no_table block pushed_block 
 
 -- any other line ends both
 pub laid_alone : (skin : MadSkin) (width : Option ℕ) (all rest : List LineContent) (c : LineContent) (lines mid new own here table no_table : List FmtLine) (block no_block : List FmtComposite) (l : FmtLine)
-    → IsLaidFor skin width all (c ∷ rest) lines block table → IsOpenRun skin block table → IsLineRead skin c l → is_code_line l ≡ false → is_table_line l ≡ false
-    → mid ≡ lines ++ own → IsRunAt skin width block table own → new ≡ mid ++ here → IsLineAt IsCompositeWrap skin (wrap_width width) l here
+    → IsLaidFor skin width all (c ∷ rest) lines block table → AreOpenParts skin block table → IsLineRead skin c l → is_code_line l ≡ false → is_table_line l ≡ false
+    → mid ≡ lines ++ own → ArePartsClosed skin width block table own → new ≡ mid ++ here → IsLineAt IsCompositeWrap skin (wrap_width width) l here
     → no_block ≡ [] → no_table ≡ [] → IsLaidFor skin width all rest new no_block no_table
 laid_alone skin width all rest c lines mid new own here table no_table block no_block l held ready is no_code no_line closed (first, second, both, first_laid, second_laid) pushed becomes empty empty_table =
     let next : IsLaidFrom skin width all rest lines (map Normal block ++ (table ++ l ∷ [])) =
@@ -181,7 +181,7 @@ laid_alone skin width all rest c lines mid new own here table no_table block no_
 
 -- so does the end of the text
 pub laid_end : (skin : MadSkin) (width : Option ℕ) (all rest : List LineContent) (lines new own table : List FmtLine) (block : List FmtComposite)
-    → IsLaidFor skin width all rest lines block table → rest ≡ [] → IsOpenRun skin block table → new ≡ lines ++ own → IsRunAt skin width block table own → IsLayoutAt skin width all new
+    → IsLaidFor skin width all rest lines block table → rest ≡ [] → AreOpenParts skin block table → new ≡ lines ++ own → ArePartsClosed skin width block table own → IsLayoutAt skin width all new
 laid_end skin width all rest lines new own table block held none ready closed (first, second, both, first_laid, second_laid) =
     let after_block : IsLaidFrom skin width all rest (lines ++ first) table =
     laid_block skin width all rest lines (lines ++ first) first block table held ready.code (λ reads h. no_code_at_end skin rest table reads none ready.table_lines h) first_laid refl in
@@ -193,14 +193,14 @@ laid_end skin width all rest lines new own table block held none ready closed (f
 
 -- ---- the run that is open
 
-pub open_none : (skin : MadSkin) (block : List FmtComposite) (table : List FmtLine) → block ≡ [] → table ≡ [] → IsOpenRun skin block table
+pub open_none : (skin : MadSkin) (block : List FmtComposite) (table : List FmtLine) → block ≡ [] → table ≡ [] → AreOpenParts skin block table
 open_none skin block table empty none =
-    subst (λ (ls : List FmtComposite). IsOpenRun skin ls table) (sym empty) (subst (IsOpenRun skin []) (sym none) (record { code = tt; measured = tt; table_lines = tt; table_measured = tt; one = inl refl }))
+    subst (λ (ls : List FmtComposite). AreOpenParts skin ls table) (sym empty) (subst (AreOpenParts skin []) (sym none) (record { code = tt; measured = tt; table_lines = tt; table_measured = tt; one = inl refl }))
 
-pub open_code : (skin : MadSkin) (block new : List FmtComposite) (table no_table : List FmtLine) (l : FmtComposite) → IsOpenRun skin block table → IsMeasured skin l → is_code_kind l.kind ≡ true → new ≡ block ++ l ∷ [] → no_table ≡ []
-    → IsOpenRun skin new no_table
+pub open_code : (skin : MadSkin) (block new : List FmtComposite) (table no_table : List FmtLine) (l : FmtComposite) → AreOpenParts skin block table → IsMeasured skin l → is_code_kind l.kind ≡ true → new ≡ block ++ l ∷ [] → no_table ≡ []
+    → AreOpenParts skin new no_table
 open_code skin block new table no_table l ready measured code pushed none =
-    subst (λ (ls : List FmtComposite). IsOpenRun skin ls no_table) (sym pushed) (subst (IsOpenRun skin (block ++ l ∷ [])) (sym none) (record {
+    subst (λ (ls : List FmtComposite). AreOpenParts skin ls no_table) (sym pushed) (subst (AreOpenParts skin (block ++ l ∷ [])) (sym none) (record {
       code = all_push (λ (m : FmtComposite). is_code_kind m.kind ≡ true) block l ready.code code;
       measured = all_push (IsMeasured skin) block l ready.measured measured;
       table_lines = tt;
@@ -208,10 +208,10 @@ open_code skin block new table no_table l ready measured code pushed none =
       one = inr refl;
     }))
 
-pub open_table : (skin : MadSkin) (block no_block : List FmtComposite) (table new : List FmtLine) (l : FmtLine) → IsOpenRun skin block table → IsLineMeasured skin l → is_table_line l ≡ true → new ≡ table ++ l ∷ [] → no_block ≡ []
-    → IsOpenRun skin no_block new
+pub open_table : (skin : MadSkin) (block no_block : List FmtComposite) (table new : List FmtLine) (l : FmtLine) → AreOpenParts skin block table → IsLineMeasured skin l → is_table_line l ≡ true → new ≡ table ++ l ∷ [] → no_block ≡ []
+    → AreOpenParts skin no_block new
 open_table skin block no_block table new l ready measured line pushed none =
-    subst (IsOpenRun skin no_block) (sym pushed) (subst (λ (ls : List FmtComposite). IsOpenRun skin ls (table ++ l ∷ [])) (sym none) (record {
+    subst (AreOpenParts skin no_block) (sym pushed) (subst (λ (ls : List FmtComposite). AreOpenParts skin ls (table ++ l ∷ [])) (sym none) (record {
       code = tt;
       measured = tt;
       table_lines = all_push (λ (m : FmtLine). is_table_line m ≡ true) table l ready.table_lines line;

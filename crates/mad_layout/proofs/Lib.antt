@@ -1,5 +1,6 @@
 pub mod CellChars
 pub mod CodeBlockLemmas
+pub mod ColumnChars
 pub mod DrawableLemmas
 pub mod DrawableTables
 pub mod DrawnLayouts
@@ -18,7 +19,7 @@ pub mod KnownLemmas
 pub mod LayoutJoins
 pub mod LayoutLemmas
 pub mod LeastSizes
-pub mod MarkLemmas
+pub mod PrefixLemmas
 pub mod MeasureLemmas
 pub mod PartLemmas
 pub mod PartRuns
@@ -39,6 +40,7 @@ pub mod TableWidths
 pub mod TablesAcross
 pub mod TextParts
 pub mod WholeTokens
+pub mod WideLayouts
 pub mod WordLemmas
 pub mod WordScreens
 pub mod WorkedTables

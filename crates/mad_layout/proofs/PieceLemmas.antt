@@ -20,7 +20,7 @@ use Rattle.mad_layout.specs.declared.composite.FmtComposite.{FmtComposite}
 use Rattle.mad_layout.specs.declared.table.FmtTableRule.{FmtTableRule}
 use Rattle.mad_layout.specs.Lines.{rule_columns}
 use Rattle.mad_layout.specs.Styles.{line_style, compound_style}
-use Rattle.mad_layout.specs.Rows.{compound_piece, run_piece, mark_pieces, free_pieces, left_of_place, right_of_place, placed_pieces, vertical_piece, cell_pieces, row_columns, rule_chars, table_row_pieces, table_rule_pieces}
+use Rattle.mad_layout.specs.Rows.{compound_piece, run_piece, prefix_pieces, free_pieces, left_of_place, right_of_place, placed_pieces, vertical_piece, cell_pieces, row_columns, rule_chars, table_row_pieces, table_rule_pieces}
 
 -- the pieces of compounds are those of what they say
 pub pieces_of_runs : (skin : MadSkin) (style : LineStyle) (ps : List Compound) → map (compound_piece skin style) ps ≡ map (run_piece skin style) (map run_of ps)
@@ -44,18 +44,18 @@ put_after base so_far kept piece next new put held more = put ∙ ap (λ (bs : L
 
 -- the bytes of a composite that stands by itself, part by part
 pub free_bytes : (skin : MadSkin) (kind k : CompositeKind) (style : LineStyle) (ps items : List Compound) → kind ≡ k → style ≡ line_style skin kind → ps ≡ items
-    → pieces_bytes (spaces skin.paragraph.compound_style style.left_margin) ++ (pieces_bytes (mark_pieces skin kind) ++ pieces_bytes (map (compound_piece skin style) ps)) ≡ pieces_bytes (free_pieces skin k (map run_of items))
+    → pieces_bytes (spaces skin.paragraph.compound_style style.left_margin) ++ (pieces_bytes (prefix_pieces skin kind) ++ pieces_bytes (map (compound_piece skin style) ps)) ≡ pieces_bytes (free_pieces skin k (map run_of items))
 free_bytes skin kind k style ps items kind_is style_is items_are =
     let blank : CompoundStyle = skin.paragraph.compound_style in
     let bytes : RowPiece → List ℕ = λ p. piece_bytes p.style p.text in
-    let mark : List RowPiece = mark_pieces skin kind in
+    let mark : List RowPiece = prefix_pieces skin kind in
     let text : List RowPiece = map (compound_piece skin style) ps in
     ap (λ r. pieces_bytes (spaces blank style.left_margin) ++ r) (sym (flat_map-append bytes mark text))
     ∙ sym (flat_map-append bytes (spaces blank style.left_margin) (mark ++ text))
     ∙ ap (λ (xs : List Compound). pieces_bytes (spaces blank style.left_margin ++ (mark ++ map (compound_piece skin style) xs))) items_are
     ∙ ap (λ (s : LineStyle). pieces_bytes (spaces blank s.left_margin ++ (mark ++ map (compound_piece skin s) items))) style_is
-    ∙ ap (λ (x : CompositeKind). pieces_bytes (spaces blank (line_style skin x).left_margin ++ (mark_pieces skin x ++ map (compound_piece skin (line_style skin x)) items))) kind_is
-    ∙ ap (λ (xs : List RowPiece). pieces_bytes (spaces blank (line_style skin k).left_margin ++ (mark_pieces skin k ++ xs))) (pieces_of_runs skin (line_style skin k) items)
+    ∙ ap (λ (x : CompositeKind). pieces_bytes (spaces blank (line_style skin x).left_margin ++ (prefix_pieces skin x ++ map (compound_piece skin (line_style skin x)) items))) kind_is
+    ∙ ap (λ (xs : List RowPiece). pieces_bytes (spaces blank (line_style skin k).left_margin ++ (prefix_pieces skin k ++ xs))) (pieces_of_runs skin (line_style skin k) items)
 
 -- ---- lines of tables
 

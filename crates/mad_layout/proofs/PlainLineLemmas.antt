@@ -29,7 +29,7 @@ use Rattle.mad_term.proofs.Traces.{took_both}
 use Rattle.mad_draw.specs.Pieces.{pieces_bytes, spaces}
 use Rattle.mad_layout.specs.CompositeWraps.{IsCompositeWrap}
 use Rattle.mad_layout.specs.FlaggedLines.{is_code, is_table, stand_together}
-use Rattle.mad_layout.specs.Laying.{IsRunAt}
+use Rattle.mad_layout.specs.Laying.{ArePartsClosed}
 use Rattle.mad_layout.specs.Layouts.{IsLayoutAt}
 use Rattle.mad_layout.specs.Lines.{IsLineRead}
 use Rattle.mad_layout.specs.Parts.{wrap_width, IsLineAt}
@@ -45,6 +45,7 @@ use Rattle.mad_layout.specs.declared.skin.MadSkin.{MadSkin}
 use Rattle.mad_layout.specs.declared.composite.FmtComposite.{FmtComposite}
 use Rattle.mad_layout.specs.declared.line.FmtLine.{FmtLine}
 use Rattle.mad_layout.specs.declared.line.FmtLine.TheVariants.{Normal}
+use Rattle.mad_layout.proofs.FlaggedTokens.{if_false}
 use Rattle.mad_layout.proofs.LayoutJoins.{apart, layouts_joined}
 use Rattle.mad_layout.proofs.PieceLemmas.{bare_piece}
 use Rattle.mad_layout.proofs.WrittenLemmas.{EndsIn, WrittenSoFar, WrittenParts, written_closed, written_on, written_next, written_refused, no_whole, refused_after}
@@ -135,15 +136,12 @@ other_text b bs text is h =
     let other : nat_eq b 226 ≡ false = grind (arith, nat_tests) in
     ap (λ t. bytes_eq t ellipsis_bytes) is ∙ and_not _ _ other
 
-if_not : {A : Type 0} (t : Bool) (a b : A) → t ≡ false → (if t then a else b) ≡ b
-if_not {A} t a b h = ap (λ s. if s then a else b) h
-
 text_piece : (skin : MadSkin) (v : Vec FmtLine Global) (bs : List ℕ) (text : Bor (List ℕ)) → IsPlain skin.paragraph.compound_style.object_style → text.now ≡ bs → AllPlain bs
     → pieces_bytes (map (compound_piece skin skin.paragraph) (holding v bs text).items) ≡ bs
 text_piece skin v [] text plain is h = refl
 text_piece skin v (b ∷ bs) text plain is h =
     let p : Compound = record { src = text; bold = false; italic = false; code = false; strikeout = false } in
-    let same : compound_style skin skin.paragraph (run_of p) ≡ skin.paragraph.compound_style = if_not _ _ _ (other_text b bs text.now is (h 0 (omega arith))) in
+    let same : compound_style skin skin.paragraph (run_of p) ≡ skin.paragraph.compound_style = if_false _ _ _ (other_text b bs text.now is (h 0 (omega arith))) in
     append-nil _ ∙ sym (bare_piece skin skin.paragraph p plain same) ∙ is
 
 pub plain_bytes : (skin : MadSkin) (width : Option ℕ) (most : ℕ) (v : Vec FmtLine Global) (bs : List ℕ) (text : Bor (List ℕ)) → IsPlainWidth skin width most → text.now ≡ bs → AllPlain bs
@@ -315,7 +313,7 @@ rows_both skin width kept lines own = ap (λ (t : List ℕ). kept ++ t) (flat_ma
 
 -- a line that is alone is laid out, and it and the plain lines after it are handed on
 pub written_plain : (skin : MadSkin) (width : Option ℕ) (all left later : List LineContent) (lines closed none own table no_table : List FmtLine) (block no_block : List FmtComposite) (last : PartKind) (kept new_kept : List ℕ) (old mid new : Trace)
-    → last ≡ Alone → WrittenSoFar skin width all left lines block table last kept old mid → closed ≡ lines ++ own → IsRunAt skin width block table own → none ≡ [] → no_block ≡ [] → no_table ≡ []
+    → last ≡ Alone → WrittenSoFar skin width all left lines block table last kept old mid → closed ≡ lines ++ own → ArePartsClosed skin width block table own → none ≡ [] → no_block ≡ [] → no_table ≡ []
     → HandsOnPlain {T = Unit {0}} skin width left (kept ++ text_bytes skin width closed) mid (Ok (tt {0})) new new_kept later → WrittenSoFar skin width all later none no_block no_table last new_kept old new
 written_plain skin width all left later lines closed none own table no_table block no_block last kept new_kept old mid new is h closes made empty empty_block empty_table p =
     let before = subst (λ (k : PartKind). WrittenSoFar skin width all left lines block table k kept old mid) is h in
@@ -327,7 +325,7 @@ written_plain skin width all left later lines closed none own table no_table blo
     (subst (λ (ls : List LineContent). WrittenSoFar skin width all ls none no_block no_table Alone new_kept old new) (sym p.rest) next)
 
 pub written_plain_refused : {T : Type 0} (skin : MadSkin) (width : Option ℕ) (markdown : List ℕ) (all left later : List LineContent) (lines closed own table : List FmtLine) (block : List FmtComposite) (last : PartKind) (kept new_kept : List ℕ) (r : Result T Error) (e : Error) (old mid new : Trace)
-    → IsRead (unread_text false markdown) all → last ≡ Alone → WrittenSoFar skin width all left lines block table last kept old mid → closed ≡ lines ++ own → IsRunAt skin width block table own
+    → IsRead (unread_text false markdown) all → last ≡ Alone → WrittenSoFar skin width all left lines block table last kept old mid → closed ≡ lines ++ own → ArePartsClosed skin width block table own
     → HandsOnPlain {T = Unit {0}} skin width left (kept ++ text_bytes skin width closed) mid (Err e) new new_kept later → IsErrAnd r (λ d. d ≡ e) → WritesParts skin width markdown old r new
 written_plain_refused {T} skin width markdown all left later lines closed own table block last kept new_kept r e old mid new read is h closes made p error =
     let before = subst (λ (k : PartKind). WrittenSoFar skin width all left lines block table k kept old mid) is h in

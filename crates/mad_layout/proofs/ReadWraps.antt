@@ -29,10 +29,8 @@ use Rattle.mad_layout.specs.declared.skin.MadSkin.{MadSkin}
 use Rattle.mad_layout.specs.declared.composite.FmtComposite.{FmtComposite}
 use Rattle.mad_layout.specs.declared.line.FmtLine.{FmtLine}
 use Rattle.mad_layout.specs.declared.line.FmtLine.TheVariants.{Normal, TableRow, TableRule, HorizontalRule}
+use Rattle.mad_layout.proofs.DrawableLemmas.{margins-le}
 use Rattle.mad_layout.proofs.WrapLemmas.{composite_wrap}
-
-margins_within : (style : LineStyle) (width : ℕ) → (margins_at style (Some width)).0 + (margins_at style (Some width)).1 ≤ width
-margins_within style width = grind (arith, nat_tests)
 
 -- the lines that a composite is wrapped into are put after the lines that are there
 abbrev pub ArePushed : Room → CompositeKind → Option Spacing → ℕ × ℕ → List WrappedLine → List FmtLine → List FmtLine → Type 0
@@ -79,7 +77,7 @@ read_fits skin width columns style kind compounds margins r old new kind_is marg
     let own : ℕ × ℕ = style_margins skin width source in
     let first : r.first ≡ (room_of skin kind (width - margins.0 - margins.1)).first = ap (λ (q : Room). q.first) room_is in
     let across : r.width ≡ width - margins.0 - margins.1 = ap (λ (q : Room). q.width) room_is in
-    let within : own.0 + own.1 ≤ width = margins_within (line_style skin kind) width in
+    let within : own.0 + own.1 ≤ width = margins-le (line_style skin kind) width in
     let left : margins.0 ≡ own.0 = ap (λ (m : ℕ × ℕ). m.0) margins_are in
     let right : margins.1 ≡ own.1 = ap (λ (m : ℕ × ℕ). m.1) margins_are in (
       source,

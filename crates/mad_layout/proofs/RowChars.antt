@@ -13,7 +13,7 @@ use Rattle.mad_md.specs.Flagged.{FlaggedChar, Flags, flagged, flags_of, flagged_
 use Rattle.mad_md.specs.Lines.{StyledRuns, LineContent}
 use Rattle.mad_md.specs.declared.compound.Compound.{Compound}
 use Rattle.mad_style.specs.LineStyles.{margins_at}
-use Rattle.mad_style.specs.StyledChars.{char_style}
+use Rattle.mad_style.specs.StyledChars.{char_alone, char_style}
 use Rattle.mad_style.specs.declared.compound_styles.CompoundStyle.{CompoundStyle}
 use Rattle.mad_style.specs.declared.kinds.CompositeKind.{CompositeKind}
 use Rattle.mad_style.specs.declared.kinds.CompositeKind.TheVariants.{Paragraph, Header, ListItem, ListItemFollowUp, OrderedListItem, OrderedListItemFollowUp, Code, Quote}
@@ -25,16 +25,17 @@ use Rattle.mad_fit.specs.declared.spacing.Spacing.{Spacing}
 use Rattle.mad_draw.specs.Pieces.{RowPiece, IsColumnPiece, char_piece, char_run, PennedChar, penned_chars, spaces, single_spaces}
 use Rattle.mad_draw.proofs.PieceLemmas.{ascii_spaces}
 use Rattle.mad_layout.specs.FlaggedLines.{widest_in, skin_char, front_of, placed_columns, row_across}
-use Rattle.mad_layout.specs.Indents.{ordered_indent, kept}
+use Rattle.mad_layout.specs.Indents.{ordered_indent, later_indent}
 use Rattle.mad_layout.specs.Parts.{is_code_kind}
 use Rattle.mad_layout.specs.Premises.{IsPlainPrefix, inner_width}
-use Rattle.mad_layout.specs.Rows.{number_piece, mark_space, mark_pieces, compound_piece, composite_pieces, row_pieces, left_of_place, right_of_place, align_in, place_of, inner_blanks, outer_blanks}
+use Rattle.mad_layout.specs.Rows.{number_piece, prefix_space, prefix_pieces, compound_piece, composite_pieces, row_pieces, left_of_place, right_of_place, align_in, place_of, inner_blanks, outer_blanks}
 use Rattle.mad_layout.specs.Styles.{line_style, ordered_item_style}
 use Rattle.mad_layout.specs.WrappedLines.{line_with}
 use Rattle.mad_layout.specs.Wraps.{text_of, columns_of, IsMeasured}
 use Rattle.mad_layout.specs.declared.skin.MadSkin.{MadSkin}
 use Rattle.mad_layout.specs.declared.composite.FmtComposite.{FmtComposite}
 use Rattle.mad_layout.specs.declared.line.FmtLine.{FmtLine}
+use Rattle.mad_layout.proofs.ColumnChars.{suffix_alone}
 use Rattle.mad_layout.proofs.DrawableLemmas.{margins-le}
 use Rattle.mad_layout.proofs.RowLemmas.{left_completion-le}
 use Rattle.mad_layout.proofs.RowsExist.{by_bool}
@@ -88,7 +89,7 @@ repeat_chars : (n : ℕ) (t : List ℕ) → IsUtf8 t → chars (repeat n t) ≡ 
 repeat_chars zero t utf8 = chars-nil
 repeat_chars (suc n) t utf8 = chars-append t (repeat n t) utf8 ∙ ap (λ l. chars t ++ l) (repeat_chars n t utf8)
 
-pub run_chars : (c : StyledChar) (n : ℕ) → IsColumnPiece (char_piece c) → chars_in (char_run c n) ≡ repeat n (skin_char c)
+pub run_chars : (c : StyledChar) (n : ℕ) → IsColumnPiece (char_piece c) → chars_in (char_run c n) ≡ repeat n (skin_char (char_alone c))
 run_chars c zero h = refl
 run_chars c (suc n) h =
     let t : List ℕ = (char_piece c).text in
@@ -96,29 +97,29 @@ run_chars c (suc n) h =
 
 -- ---- in front of a row
 
-last_space : (skin : MadSkin) → chars_in (mark_space skin ∷ []) ≡ 32 ∷ []
-last_space skin = first_piece (mark_space skin) [] ∙ append-nil (chars (32 ∷ [])) ∙ chars-IsAscii (32 ∷ []) (ascii_spaces 1)
+last_space : (skin : MadSkin) → chars_in (prefix_space skin ∷ []) ≡ 32 ∷ []
+last_space skin = first_piece (prefix_space skin) [] ∙ append-nil (chars (32 ∷ [])) ∙ chars-IsAscii (32 ∷ []) (ascii_spaces 1)
 
-after_char : (skin : MadSkin) (c : StyledChar) → chars_in (char_piece c ∷ mark_space skin ∷ []) ≡ skin_char c ++ 32 ∷ []
-after_char skin c = first_piece (char_piece c) (mark_space skin ∷ []) ∙ ap (λ l. skin_char c ++ l) (last_space skin)
+after_char : (skin : MadSkin) (c : StyledChar) → chars_in (char_piece c ∷ prefix_space skin ∷ []) ≡ skin_char (char_alone c) ++ 32 ∷ []
+after_char skin c = first_piece (char_piece c) (prefix_space skin ∷ []) ∙ ap (λ l. skin_char (char_alone c) ++ l) (last_space skin)
 
-pub front_chars : (skin : MadSkin) (kind : CompositeKind) → IsPlainPrefix skin kind → chars_in (mark_pieces skin kind) ≡ front_of skin kind
+pub front_chars : (skin : MadSkin) (kind : CompositeKind) → IsPlainPrefix skin kind → chars_in (prefix_pieces skin kind) ≡ front_of skin kind
 front_chars skin Paragraph h = refl
 front_chars skin (Header level) h = refl
 front_chars skin (ListItem depth) h =
     let blank : CompoundStyle = skin.paragraph.compound_style in
-    both (single_spaces blank depth) (char_piece skin.bullet ∷ mark_space skin ∷ [])
-    ∙ ap (λ l. l ++ chars_in (char_piece skin.bullet ∷ mark_space skin ∷ [])) (singles_chars blank depth) ∙ ap (λ l. replicate depth 32 ++ l) (after_char skin skin.bullet)
-front_chars skin (ListItemFollowUp depth) h = singles_chars skin.paragraph.compound_style (kept skin.list_items_indentation_mode (2 + depth))
+    both (single_spaces blank depth) (char_piece skin.bullet ∷ prefix_space skin ∷ [])
+    ∙ ap (λ l. l ++ chars_in (char_piece skin.bullet ∷ prefix_space skin ∷ [])) (singles_chars blank depth) ∙ ap (λ l. replicate depth 32 ++ l) (after_char skin skin.bullet)
+front_chars skin (ListItemFollowUp depth) h = singles_chars skin.paragraph.compound_style (later_indent skin.list_items_indentation_mode (2 + depth))
 front_chars skin (OrderedListItem level index) h =
     let blank : CompoundStyle = skin.paragraph.compound_style in
     let style = ordered_item_style skin level in
-    let after : List RowPiece = char_piece style.index_suffix ∷ mark_space skin ∷ [] in
+    let after : List RowPiece = char_piece style.index_suffix ∷ prefix_space skin ∷ [] in
     let number : chars (decimal index) ≡ decimal index = chars-IsAscii (decimal index) (IsAscii-decimal index (omega (arith, h.0))) in
     both (single_spaces blank level) (number_piece style.index_style index ∷ after)
     ∙ ap (λ l. l ++ chars_in (number_piece style.index_style index ∷ after)) (singles_chars blank level)
-    ∙ ap (λ l. replicate level 32 ++ l) (first_piece (number_piece style.index_style index) after ∙ ap (λ l. l ++ chars_in after) number ∙ ap (λ l. decimal index ++ l) (after_char skin style.index_suffix))
-front_chars skin (OrderedListItemFollowUp level index) h = singles_chars skin.paragraph.compound_style (kept skin.list_items_indentation_mode (ordered_indent level index))
+    ∙ ap (λ l. replicate level 32 ++ l) (first_piece (number_piece style.index_style index) after ∙ ap (λ l. l ++ chars_in after) number ∙ ap (λ l. decimal index ++ l) (after_char skin style.index_suffix ∙ ap (λ c. skin_char c ++ 32 ∷ []) (sym (suffix_alone skin level))))
+front_chars skin (OrderedListItemFollowUp level index) h = singles_chars skin.paragraph.compound_style (later_indent skin.list_items_indentation_mode (ordered_indent level index))
 front_chars skin Code h = refl
 front_chars skin Quote h = after_char skin skin.quote_mark
 
@@ -139,14 +140,14 @@ composite_chars skin width margins l prefix =
     let text : List ℕ = map (λ (x : FlaggedChar). x.char) (text_of l) in
     let tail3 : List RowPiece = spaces own (inner_blanks l).1 ++ spaces blank outer.1 in
     let tail2 : List RowPiece = map (compound_piece skin style) l.compounds.items ++ tail3 in
-    let tail1 : List RowPiece = mark_pieces skin l.kind ++ tail2 in
+    let tail1 : List RowPiece = prefix_pieces skin l.kind ++ tail2 in
     let tail0 : List RowPiece = spaces own (inner_blanks l).0 ++ tail1 in
     let e3 : chars_in tail3 ≡ replicate (inner_blanks l).1 32 ++ replicate outer.1 32 =
     both (spaces own (inner_blanks l).1) (spaces blank outer.1) ∙ ap (λ x. x ++ chars_in (spaces blank outer.1)) (spaces_chars own (inner_blanks l).1) ∙ ap (λ x. replicate (inner_blanks l).1 32 ++ x) (spaces_chars blank outer.1) in
     let e2 : chars_in tail2 ≡ text ++ (replicate (inner_blanks l).1 32 ++ replicate outer.1 32) =
     both (map (compound_piece skin style) l.compounds.items) tail3 ∙ ap (λ x. x ++ chars_in tail3) (compounds_chars skin style l.compounds.items) ∙ ap (λ x. text ++ x) e3 in
     let e1 : chars_in tail1 ≡ front_of skin l.kind ++ (text ++ (replicate (inner_blanks l).1 32 ++ replicate outer.1 32)) =
-    both (mark_pieces skin l.kind) tail2 ∙ ap (λ x. x ++ chars_in tail2) (front_chars skin l.kind prefix) ∙ ap (λ x. front_of skin l.kind ++ x) e2 in
+    both (prefix_pieces skin l.kind) tail2 ∙ ap (λ x. x ++ chars_in tail2) (front_chars skin l.kind prefix) ∙ ap (λ x. front_of skin l.kind ++ x) e2 in
     let e0 : chars_in tail0 ≡ replicate (inner_blanks l).0 32 ++ (front_of skin l.kind ++ (text ++ (replicate (inner_blanks l).1 32 ++ replicate outer.1 32))) =
     both (spaces own (inner_blanks l).0) tail1 ∙ ap (λ x. x ++ chars_in tail1) (spaces_chars own (inner_blanks l).0) ∙ ap (λ x. replicate (inner_blanks l).0 32 ++ x) e1 in
     both (spaces blank outer.0) tail0 ∙ ap (λ x. x ++ chars_in tail0) (spaces_chars blank outer.0) ∙ ap (λ x. replicate outer.0 32 ++ x) e0

@@ -20,7 +20,7 @@ use Rattle.mad_layout.specs.declared.skin.MadSkin.{MadSkin}
 use Rattle.mad_layout.specs.declared.composite.FmtComposite.{FmtComposite}
 use Rattle.mad_layout.specs.declared.line.FmtLine.TheVariants.{Normal}
 use Rattle.mad_layout.specs.Drawable.{FillsItsPlace, IsDrawable}
-use Rattle.mad_layout.specs.Rows.{compound_piece, mark_pieces, left_of_place, right_of_place, align_in, place_of, inner_columns, inner_blanks, outer_blanks, margins_of, composite_pieces, line_pieces}
+use Rattle.mad_layout.specs.Rows.{compound_piece, prefix_pieces, left_of_place, right_of_place, align_in, place_of, inner_columns, inner_blanks, outer_blanks, margins_of, composite_pieces, line_pieces}
 use Rattle.mad_layout.specs.Styles.{line_style}
 
 -- ---- compounds
@@ -59,11 +59,11 @@ composite_columns skin outer margins right l h =
     let last : List RowPiece = if right then spaces blank blanks.1 else [] in
     let tail3 : List RowPiece = spaces style.compound_style (inner_blanks l).1 ++ last in
     let tail2 : List RowPiece = map (compound_piece skin style) l.compounds.items ++ tail3 in
-    let tail1 : List RowPiece = mark_pieces skin l.kind ++ tail2 in
+    let tail1 : List RowPiece = prefix_pieces skin l.kind ++ tail2 in
     let tail0 : List RowPiece = spaces style.compound_style (inner_blanks l).0 ++ tail1 in
     let e0 : pieces_columns (spaces blank blanks.0 ++ tail0) ≡ pieces_columns (spaces blank blanks.0) + pieces_columns tail0 = columns-both (spaces blank blanks.0) tail0 in
     let e1 : pieces_columns tail0 ≡ pieces_columns (spaces style.compound_style (inner_blanks l).0) + pieces_columns tail1 = columns-both (spaces style.compound_style (inner_blanks l).0) tail1 in
-    let e2 : pieces_columns tail1 ≡ pieces_columns (mark_pieces skin l.kind) + pieces_columns tail2 = columns-both (mark_pieces skin l.kind) tail2 in
+    let e2 : pieces_columns tail1 ≡ pieces_columns (prefix_pieces skin l.kind) + pieces_columns tail2 = columns-both (prefix_pieces skin l.kind) tail2 in
     let e3 : pieces_columns tail2 ≡ pieces_columns (map (compound_piece skin style) l.compounds.items) + pieces_columns tail3 = columns-both (map (compound_piece skin style) l.compounds.items) tail3 in
     let e4 : pieces_columns tail3 ≡ pieces_columns (spaces style.compound_style (inner_blanks l).1) + pieces_columns last = columns-both (spaces style.compound_style (inner_blanks l).1) last in
     let s0 : pieces_columns (spaces blank blanks.0) ≡ blanks.0 = spaces_columns blank blanks.0 in
@@ -83,7 +83,7 @@ composite_shown skin outer margins right l h =
     let blanks : ℕ × ℕ = outer_blanks style.align outer margins l in
     all_joined IsShownPiece (spaces blank blanks.0) _ (shown_spaces blank blanks.0)
     (all_joined IsShownPiece (spaces style.compound_style (inner_blanks l).0) _ (shown_spaces style.compound_style (inner_blanks l).0)
-    (all_joined IsShownPiece (mark_pieces skin l.kind) _ h.mark
+    (all_joined IsShownPiece (prefix_pieces skin l.kind) _ h.prefix
     (all_joined IsShownPiece (map (compound_piece skin style) l.compounds.items) _ h.text
     (all_joined IsShownPiece (spaces style.compound_style (inner_blanks l).1) _ (shown_spaces style.compound_style (inner_blanks l).1)
     (shown_if right blank blanks.1)))))

@@ -17,6 +17,7 @@ use Rattle.mad_wrap.specs.Keeps.{Keeps}
 use Rattle.mad_wrap.specs.WrapLines.{HasRoom, LinesFit}
 use Rattle.mad_wrap.specs.declared.room.Room.{Room}
 use Rattle.mad_layout.specs.CompositeWraps.{line_compounds, HaveKinds, IsCompositeWrap}
+use Rattle.mad_style.specs.StyledChars.{char_alone}
 use Rattle.mad_layout.specs.FlaggedLines.{widest_in, skin_char, row_across, rows_across, marked_parts}
 use Rattle.mad_layout.specs.FlaggedTexts.{IsAcross, AreAcross}
 use Rattle.mad_layout.specs.FlaggedRows.{AreRowsOf}
@@ -24,7 +25,7 @@ use Rattle.mad_layout.specs.FlaggedTables.{kept_widths, columns_below, rows_in_c
 use Rattle.mad_layout.specs.Indents.{indent, follow_up, room_of}
 use Rattle.mad_layout.specs.Lines.{bordered}
 use Rattle.mad_layout.specs.Parts.{is_code_kind, IsLineAt, AreLinesAt}
-use Rattle.mad_layout.specs.Premises.{IsPlainPrefix, IsPlainLine, IsPlainContent, KeepsPremises, inner_width, runs_text}
+use Rattle.mad_layout.specs.Premises.{IsPlainPrefix, IsPlainText, IsPlainContent, KeepsPremises, inner_width, runs_text}
 use Rattle.mad_layout.specs.Styles.{line_style}
 use Rattle.mad_layout.specs.TextParts.{LineInPart}
 use Rattle.mad_layout.specs.WrappedLines.{style_margins, line_with, IsLaidOutBy}
@@ -35,9 +36,10 @@ use Rattle.mad_layout.specs.declared.line.FmtLine.{FmtLine}
 use Rattle.mad_layout.specs.declared.line.FmtLine.TheVariants.{Normal, TableRow, TableRule, HorizontalRule}
 use Rattle.mad_layout.proofs.DrawableLemmas.{IsPlacedFor, margins-le, has_room}
 use Rattle.mad_layout.proofs.DrawnParts.{runs_are}
-use Rattle.mad_layout.proofs.MarkLemmas.{follow_up_plain}
+use Rattle.mad_layout.proofs.PrefixLemmas.{follow_up_plain}
 use Rattle.mad_layout.proofs.RowChars.{place_for, line_chars, row_chars, run_chars}
 use Rattle.mad_layout.proofs.RowsExist.{by_bool, rows_of, rows_exist}
+use Rattle.mad_layout.proofs.ColumnChars.{column_piece}
 use Rattle.mad_layout.proofs.WrapRows.{whole_parts, kept_rows, wrapped_rows}
 
 -- ---- a line in its place
@@ -160,7 +162,7 @@ not_none : (ws : List FmtComposite) → (ws ≡ [] → ⊥) → 0 < length ws
 not_none [] h = absurd (h refl)
 not_none (w ∷ ws) h = omega arith
 
-kind_rows : (skin : MadSkin) (area : Area) (part : List LineContent) (said : StyledRuns) (l : FmtComposite) (own : List FmtLine) → area.width < 2 ^ 64 - 1 → IsPlainLine skin (area.width - 1) said
+kind_rows : (skin : MadSkin) (area : Area) (part : List LineContent) (said : StyledRuns) (l : FmtComposite) (own : List FmtLine) → area.width < 2 ^ 64 - 1 → IsPlainText skin (inner_width skin (area.width - 1) said) (kind_of said.style) said.runs
     → IsPlacedIn skin (area.width - 1) part said (record l { kind = kind_of said.style }) → IsLaidOutBy IsCompositeWrap skin (area.width - 1) (record l { kind = kind_of said.style }) own → AreRowsIn skin area part said own
 kind_rows skin area part said l own bound plain read (inl (fits, same)) =
     let k : CompositeKind = kind_of said.style in
@@ -205,7 +207,7 @@ kind_rows skin area part said l own bound plain read (inr (wide, (wrap, wraps, s
       ),
     )
 
-pub said_rows : (skin : MadSkin) (area : Area) (part : List LineContent) (said : StyledRuns) (l : FmtComposite) (own : List FmtLine) → area.width < 2 ^ 64 - 1 → IsPlainLine skin (area.width - 1) said
+pub said_rows : (skin : MadSkin) (area : Area) (part : List LineContent) (said : StyledRuns) (l : FmtComposite) (own : List FmtLine) → area.width < 2 ^ 64 - 1 → IsPlainText skin (inner_width skin (area.width - 1) said) (kind_of said.style) said.runs
     → IsPlacedIn skin (area.width - 1) part said l → IsLaidOutBy IsCompositeWrap skin (area.width - 1) l own → AreRowsIn skin area part said own
 said_rows skin area part said l own bound plain read laid =
     let same : l ≡ record l { kind = kind_of said.style } = as_kind l (kind_of said.style) read.kind in
@@ -245,7 +247,7 @@ content_rows skin area x horizontal_rule (TableRow row) own bound plain read lai
 content_rows skin area x horizontal_rule (TableRule rule) own bound plain read laid = absurd read
 content_rows skin area x horizontal_rule HorizontalRule own bound plain read laid =
     let one : length own ≡ 1 = ap length laid in
-    (omega (arith, one), ap (map (line_chars skin area.width)) laid ∙ ap (λ (t : List ℕ). t ∷ []) (run_chars skin.horizontal_rule area.width plain))
+    (omega (arith, one), ap (map (line_chars skin area.width)) laid ∙ ap (λ (t : List ℕ). t ∷ []) (run_chars skin.horizontal_rule area.width (column_piece skin.horizontal_rule plain)))
 
 -- cells have rows in any columns
 cells_exist : (skin : MadSkin) (cs : List Spacing) (cells : List StyledRuns) → (placed : List CellInColumn) × AreInColumns skin cs cells placed
@@ -269,7 +271,7 @@ line_across skin area x (normal said) =
     (rows_across skin area x.part said (rows_of r (marked_parts said)), (rows_of r (marked_parts said), rows_exist r (marked_parts said), refl))
 line_across skin area x (table_row cells) = row_exists skin area (columns_below (kept_widths skin (area.width - 1) x.part) x.aligns) cells
 line_across skin area x (table_rule aligns) = (rule_across skin area x.position (kept_widths skin (area.width - 1) x.part) ∷ [], refl)
-line_across skin area x horizontal_rule = (repeat area.width (skin_char skin.horizontal_rule) ∷ [], refl)
+line_across skin area x horizontal_rule = (repeat area.width (skin_char (char_alone skin.horizontal_rule)) ∷ [], refl)
 
 -- every line has rows across an area
 pub across_exist : (skin : MadSkin) (area : Area) (xs : List LineInPart) → (across : List (List ℕ)) × AreAcross skin area xs across

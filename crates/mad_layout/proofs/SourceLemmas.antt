@@ -27,7 +27,8 @@ use Rattle.mad_style.specs.declared.line_styles.LineStyle.{LineStyle}
 use Rattle.mad_fit.specs.declared.area.Area.{Area}
 use Rattle.mad_fit.proofs.AllLemmas.{all_front, all_back, all_each}
 use Rattle.mad_layout.specs.InArea.{ShowsText}
-use Rattle.mad_layout.specs.Premises.{AreJoined, IsPlainRun, IsPlainLine, IsPlainContent, KeepsPremises, inner_width, runs_text}
+use Rattle.mad_style.specs.Kinds.{kind_of}
+use Rattle.mad_layout.specs.Premises.{AreJoined, IsPlainRun, IsPlainText, IsPlainContent, KeepsPremises, inner_width, runs_text}
 use Rattle.mad_layout.specs.TextParts.{LineInPart, lines_in_parts}
 use Rattle.mad_layout.specs.Sources.{TakesColumns, LinesTakeColumns, ShowsSource}
 use Rattle.mad_layout.specs.declared.skin.MadSkin.{MadSkin}
@@ -80,12 +81,12 @@ pub three-le : (style : LineStyle) (width : ℕ) → 3 ≤ width → 3 ≤ width
 three-le style width wide = grind (arith, nat_tests)
 
 plain_line : (skin : MadSkin) (width : ℕ) (text : List ℕ) (reading : List Item) → 3 ≤ width → TakesColumns text → IsInlineReading text reading
-    → IsPlainLine skin width (record { style = Paragraph; runs = map (run_at text) (runs reading) })
+    → IsPlainText skin (inner_width skin width (record { style = Paragraph; runs = map (run_at text) (runs reading) })) (kind_of Paragraph) (map (run_at text) (runs reading))
 plain_line skin width text reading wide h reads =
     let inner : 3 ≤ inner_width skin width (record { style = Paragraph; runs = map (run_at text) (runs reading) }) = three-le skin.paragraph width wide in
     record {
       prefix = tt;
-      runs = plain_runs text (runs reading) h (runs_bordered text reading h.utf8 reads);
+      plain = plain_runs text (runs reading) h (runs_bordered text reading h.utf8 reads);
       room = λ _. record {
         indent = omega arith;
         each = every _ (λ (x : FlaggedChar). omega (arith, inner, char_columns-three x.char)) (runs_text (map (run_at text) (runs reading)));

@@ -11,8 +11,8 @@ use Rattle.mad_fit.proofs.AllLemmas.{all_push}
 use Rattle.mad_layout.specs.CompositeWraps.{IsCompositeWrap}
 use Rattle.mad_layout.specs.Parts.{Part, ArePartsBy, IsTableFixedBy, AreTablesLaidOut}
 use Rattle.mad_layout.proofs.PartRuns.{AllTableLines, NoTableFirst, one_table, line_stays}
-use Rattle.mad_layout.specs.Tables.{columns_with, centered, columns_from, below, tallest, IsTop, IsNextLaidOut, AreCellsLaidOut, IsAcross, AreDown, IsRowLaidOutBy, position_at, IsTableLineBy, AreTableLinesBy, IsTableLaidOutBy, columns_count, is_table_line}
-use Rattle.mad_layout.specs.TableRows.{left, columns_left, lines_left, AreCellsLeft, TakesRow}
+use Rattle.mad_layout.specs.Tables.{columns_with, centered, columns_from, below, tallest, IsTop, IsNextLaidOut, AreCellsLaidOut, IsLineAcross, AreDown, IsRowLaidOutBy, position_at, IsTableLineBy, AreTableLinesBy, IsTableLaidOutBy, columns_count, is_table_line}
+use Rattle.mad_layout.specs.TableRows.{lines_to_come, columns_left, lines_left, AreCellsLeft, TakesRow}
 use Rattle.mad_layout.specs.WrappedLines.{AllMeasured, IsLineMeasured}
 use Rattle.mad_layout.specs.Wraps.{IsMeasured}
 use Rattle.mad_layout.specs.declared.skin.MadSkin.{MadSkin}
@@ -56,15 +56,15 @@ below_measured skin [] h = tt
 below_measured skin (l ∷ ls) h = h.1
 
 pub cells_more : (skin : MadSkin) (columns : List Spacing) (cells : List FmtComposite) (i : ℕ) (d : Spacing) (rest after : List FmtComposite) (parts new : List CellLines) (p : CellLines) (lines : List FmtComposite) (height taller : ℕ)
-    → i < length columns → CellsSoFar skin columns cells i rest parts height → p.column ≡ get_or columns i d → left p ≡ lines → IsNextLaidOut IsCompositeWrap skin (get_or columns i d).width rest lines
+    → i < length columns → CellsSoFar skin columns cells i rest parts height → p.column ≡ get_or columns i d → lines_to_come p ≡ lines → IsNextLaidOut IsCompositeWrap skin (get_or columns i d).width rest lines
     → after ≡ below rest → new ≡ parts ++ p ∷ [] → taller ≡ max (length lines) height → CellsSoFar skin columns cells (i + 1) after new taller
 cells_more skin columns cells i d rest after parts new p lines height taller inside held column lines_are laid_lines next pushed longer =
-    let laid : IsNextLaidOut IsCompositeWrap skin (get_or columns i d).width rest (left p) = subst (λ (ls : List FmtComposite). IsNextLaidOut IsCompositeWrap skin (get_or columns i d).width rest ls) (sym lines_are) laid_lines in
-    let taller_is : taller ≡ max (length (left p)) height = longer ∙ ap (λ (ls : List FmtComposite). max (length ls) height) (sym lines_are) in
+    let laid : IsNextLaidOut IsCompositeWrap skin (get_or columns i d).width rest (lines_to_come p) = subst (λ (ls : List FmtComposite). IsNextLaidOut IsCompositeWrap skin (get_or columns i d).width rest ls) (sym lines_are) laid_lines in
+    let taller_is : taller ≡ max (length (lines_to_come p)) height = longer ∙ ap (λ (ls : List FmtComposite). max (length ls) height) (sym lines_are) in
     let here : drop i columns ≡ get_or columns i d ∷ drop (i + 1) columns = drop_more columns i d inside in
-    let lines_pushed : lines_left new ≡ lines_left parts ++ left p ∷ [] = ap lines_left pushed ∙ map-append left parts (p ∷ []) in
+    let lines_pushed : lines_left new ≡ lines_left parts ++ lines_to_come p ∷ [] = ap lines_left pushed ∙ map-append lines_to_come parts (p ∷ []) in
     let columns_pushed : columns_left new ≡ columns_left parts ++ p.column ∷ [] = ap columns_left pushed ∙ map-append (λ (q : CellLines). q.column) parts (p ∷ []) in
-    let most : tallest (lines_left new) ≡ max (length (left p)) (tallest (lines_left parts)) = ap tallest lines_pushed ∙ tallest_more (lines_left parts) (left p) in
+    let most : tallest (lines_left new) ≡ max (length (lines_to_come p)) (tallest (lines_left parts)) = ap tallest lines_pushed ∙ tallest_more (lines_left parts) (lines_to_come p) in
     record {
       measured = subst (AllByRecursion (IsMeasured skin)) (sym next) (below_measured skin rest held.measured);
       columns_are =
@@ -72,9 +72,9 @@ cells_more skin columns cells i d rest after parts new p lines height taller ins
           ∙ ap (λ c. columns_left parts ++ c ∷ drop (i + 1) columns) column ∙ ap (λ cs. columns_left parts ++ cs) (sym here) ∙ held.columns_are;
       so_far = λ more h.
           let rest_laid : AreCellsLaidOut IsCompositeWrap skin (drop (i + 1) columns) (below rest) more = subst (λ (ls : List FmtComposite). AreCellsLaidOut IsCompositeWrap skin (drop (i + 1) columns) ls more) next h in
-          let all_laid : AreCellsLaidOut IsCompositeWrap skin (drop i columns) rest (left p ∷ more) = subst (λ (cs : List Spacing). AreCellsLaidOut IsCompositeWrap skin cs rest (left p ∷ more)) (sym here) (laid, rest_laid) in
-          subst (λ (ls : List (List FmtComposite)). AreCellsLaidOut IsCompositeWrap skin columns cells ls) (sym (append_assoc (lines_left parts) (left p ∷ []) more) ∙ ap (λ ls. ls ++ more) (sym lines_pushed))
-          (held.so_far (left p ∷ more) all_laid);
+          let all_laid : AreCellsLaidOut IsCompositeWrap skin (drop i columns) rest (lines_to_come p ∷ more) = subst (λ (cs : List Spacing). AreCellsLaidOut IsCompositeWrap skin cs rest (lines_to_come p ∷ more)) (sym here) (laid, rest_laid) in
+          subst (λ (ls : List (List FmtComposite)). AreCellsLaidOut IsCompositeWrap skin columns cells ls) (sym (append_assoc (lines_left parts) (lines_to_come p ∷ []) more) ∙ ap (λ ls. ls ++ more) (sym lines_pushed))
+          (held.so_far (lines_to_come p ∷ more) all_laid);
       height_is = let before : height ≡ max (tallest (lines_left parts)) 1 = held.height_is in omega (arith, before, most, taller_is);
     }
 
@@ -92,7 +92,7 @@ abbrev pub TakesSoFar : List CellLines → List CellLines → List FmtComposite 
 TakesSoFar all there cells rest = (xs : List FmtComposite) (qs : List CellLines) → TakesRow there xs qs → TakesRow all (cells ++ xs) (rest ++ qs)
 
 pub takes_more : (all there after : List CellLines) (p : CellLines) (cells more_cells : List FmtComposite) (x : FmtComposite) (rest more_rest : List CellLines) (q : CellLines)
-    → TakesSoFar all there cells rest → there ≡ p ∷ after → IsTop p.column (left p) x → q.column ≡ p.column → left q ≡ below (left p)
+    → TakesSoFar all there cells rest → there ≡ p ∷ after → IsTop p.column (lines_to_come p) x → q.column ≡ p.column → lines_to_come q ≡ below (lines_to_come p)
     → more_cells ≡ cells ++ x ∷ [] → more_rest ≡ rest ++ q ∷ [] → TakesSoFar all after more_cells more_rest
 takes_more all there after p cells more_cells x rest more_rest q held next top column behind cells_pushed rest_pushed xs qs h =
     let here : TakesRow there (x ∷ xs) (q ∷ qs) = subst (λ (ps : List CellLines). TakesRow ps (x ∷ xs) (q ∷ qs)) (sym next) (top, column, behind, h) in
@@ -108,7 +108,7 @@ takes_all all there cells rest none held =
 
 -- ---- the rows
 
-takes_across : (ps : List CellLines) (xs : List FmtComposite) (qs : List CellLines) → TakesRow ps xs qs → IsAcross (columns_left ps) (lines_left ps) xs
+takes_across : (ps : List CellLines) (xs : List FmtComposite) (qs : List CellLines) → TakesRow ps xs qs → IsLineAcross (columns_left ps) (lines_left ps) xs
 takes_across [] [] [] h = tt
 takes_across [] [] (q ∷ qs) h = absurd h
 takes_across [] (x ∷ xs) qs h = absurd h
@@ -130,7 +130,7 @@ takes_below [] [] (q ∷ qs) h = absurd h
 takes_below [] (x ∷ xs) qs h = absurd h
 takes_below (p ∷ ps) [] qs h = absurd h
 takes_below (p ∷ ps) (x ∷ xs) [] h = absurd h
-takes_below (p ∷ ps) (x ∷ xs) (q ∷ qs) h = ap (λ ls. ls ∷ lines_left qs) h.2 ∙ ap (λ ls. below (left p) ∷ ls) (takes_below ps xs qs h.3)
+takes_below (p ∷ ps) (x ∷ xs) (q ∷ qs) h = ap (λ ls. ls ∷ lines_left qs) h.2 ∙ ap (λ ls. below (lines_to_come p) ∷ ls) (takes_below ps xs qs h.3)
 
 -- The rows so far, with whatever rows the lines that are left become, are the rows of all lines.
 pub record RowsSoFar (columns : List Spacing) (all parts : List CellLines) (rows : List FmtTableRow) (n : ℕ) : Type 0 where
@@ -144,8 +144,8 @@ rows_start columns all columns_are = record { columns_are = columns_are; count =
 pub rows_more : (columns : List Spacing) (all parts rest : List CellLines) (rows new : List FmtTableRow) (n : ℕ) (row : FmtTableRow) → RowsSoFar columns all parts rows n
     → TakesRow parts row.cells.items rest → new ≡ rows ++ row ∷ [] → RowsSoFar columns all rest new (n + 1)
 rows_more columns all parts rest rows new n row held taken pushed =
-    let across : IsAcross columns (lines_left parts) row.cells.items =
-    subst (λ (cs : List Spacing). IsAcross cs (lines_left parts) row.cells.items) held.columns_are (takes_across parts row.cells.items rest taken) in
+    let across : IsLineAcross columns (lines_left parts) row.cells.items =
+    subst (λ (cs : List Spacing). IsLineAcross cs (lines_left parts) row.cells.items) held.columns_are (takes_across parts row.cells.items rest taken) in
     let longer : length new ≡ length rows + 1 = ap length pushed ∙ length-append rows (row ∷ []) in
     record {
       columns_are = takes_columns parts row.cells.items rest taken ∙ held.columns_are;

@@ -18,11 +18,11 @@ use Rattle.mad_layout.specs.CompositeWraps.{line_compounds, HaveKinds, IsComposi
 use Rattle.mad_layout.specs.FlaggedLines.{marked_parts}
 use Rattle.mad_layout.specs.FlaggedRows.{AreRowsOf}
 use Rattle.mad_layout.specs.FlaggedTables.{columns_among, cells_among, down, kept_widths, columns_below, row_in_column, rows_in_column, CellInColumn, AreInColumns, rows_down, most_rows, table_across, IsRowAcross, rule_across}
-use Rattle.mad_layout.specs.FlaggedTexts.{LineInPart, aligns_at, place_in, lines_in, IsAcross}
+use Rattle.mad_layout.specs.FlaggedTexts.{LineInPart, aligns_at, position_in, lines_in, IsAcross}
 use Rattle.mad_layout.specs.Indents.{indent, follow_up, room_of}
 use Rattle.mad_layout.specs.Lines.{bordered, IsCompositeRead, AreCompositesRead, IsLineRead}
 use Rattle.mad_layout.specs.PlainTables.{ArePlainCells}
-use Rattle.mad_layout.specs.Premises.{IsPlainPrefix, IsPlainCell, KeepsPremises}
+use Rattle.mad_layout.specs.Premises.{IsPlainPrefix, IsPlainText, KeepsPremises}
 use Rattle.mad_layout.specs.Tables.{in_column, IsCellLaidOut, AreCellsLaidOut, below, tallest, IsRowLaidOutBy, columns_with, columns_from, columns_count, columns_in, is_table_line, position_at, IsTableLineBy, AreTableLinesBy, IsTableLaidOutBy}
 use Rattle.mad_layout.specs.Tables as tables
 use Rattle.mad_layout.specs.Wraps.{text_of, columns_of, IsMeasured}
@@ -37,9 +37,11 @@ use Rattle.mad_layout.proofs.CellChars.{cell_chars, column_chars, lines_rows, pl
 use Rattle.mad_layout.proofs.DrawableTables.{TableContent, content_plain, kept_columns, widths_of, centered-widths, columns_with-widths, widths_small, map_some}
 use Rattle.mad_layout.proofs.DrawnParts.{runs_are}
 use Rattle.mad_layout.proofs.KeptWidths.{AreTableRead, count_read, widths_kept}
-use Rattle.mad_layout.proofs.MarkLemmas.{follow_up_plain}
+use Rattle.mad_layout.proofs.PrefixLemmas.{follow_up_plain}
 use Rattle.mad_layout.proofs.RowChars.{line_chars}
 use Rattle.mad_layout.proofs.RowsAcross.{parts_are, HaveFirstRows, across_exist, some_same}
+use Rattle.mad_layout.proofs.ColumnChars.{column_rule}
+use Rattle.mad_layout.specs.Rows.{rule_chars}
 use Rattle.mad_layout.proofs.WrapRows.{whole_parts, kept_rows, wrapped_rows}
 
 -- ---- a cell in its column
@@ -72,7 +74,7 @@ wrap_in_column skin c k (l ∷ ls) bound prefix kinds measured fits =
 abbrev HasRowsIn : MadSkin → Spacing → CompositeKind → List (List FlaggedChar) → List FmtComposite → Type 0
 HasRowsIn skin c k parts ls = (rows : List (List FlaggedChar)) × AreRowsOf (room_of skin k c.width) parts rows × (lines_rows skin c ls ≡ rows_in_column skin c k rows)
 
-cell_rows : (skin : MadSkin) (c : Spacing) (cell : FmtComposite) (ls : List FmtComposite) → c.width < 2 ^ 64 - 1 → IsMeasured skin cell → IsPlainCell skin c.width cell.kind (map run_of cell.compounds.items)
+cell_rows : (skin : MadSkin) (c : Spacing) (cell : FmtComposite) (ls : List FmtComposite) → c.width < 2 ^ 64 - 1 → IsMeasured skin cell → IsPlainText skin c.width cell.kind (map run_of cell.compounds.items)
     → IsCellLaidOut IsCompositeWrap skin c.width cell ls → HasRowsIn skin c cell.kind (map flagged_of cell.compounds.items) ls
 cell_rows skin c cell ls bound measured plain (inl (fits, same)) =
     let inside : columns_of skin cell ≤ c.width = omega (arith, measured, fits, bound) in (
@@ -180,7 +182,7 @@ line_rows skin area ws x (table_row cells) HorizontalRule own bound fit is conte
 line_rows skin area ws x (table_rule aligns) (Normal l) own bound fit is content read table laid = absurd read
 line_rows skin area ws x (table_rule aligns) (TableRow row) own bound fit is content read table laid = absurd read
 line_rows skin area ws x (table_rule aligns) (TableRule source) own bound fit is content read table (rule, same, laid) =
-    let chars = rule_line_chars skin area x.position ws rule (content.borders.rules x.position) laid.position_is (laid.widths_are ∙ below-widths ws x.aligns) in
+    let chars = rule_line_chars skin area x.position ws rule (column_rule skin (rule_chars skin.table_border_chars x.position) (content.borders.rules x.position)) laid.position_is (laid.widths_are ∙ below-widths ws x.aligns) in
     subst (λ (ls : List FmtLine). (0 < length ls) × IsAcross skin area x (table_rule aligns) (map (line_chars skin area.width) ls)) (sym same)
     (omega arith, ap (λ (t : List ℕ). t ∷ []) (chars ∙ ap (rule_across skin area x.position) is))
 line_rows skin area ws x (table_rule aligns) HorizontalRule own bound fit is content read table laid = absurd read
@@ -250,7 +252,7 @@ laid_in skin width ws part above first [] (l ∷ ls) own is some reads laid = ab
 laid_in skin width ws part above first (c ∷ cs) [] own is some reads laid = absurd reads
 laid_in skin width ws part above first (c ∷ cs) (l ∷ ls) own is some reads (here, behind, joins, one, more) =
     let columns = columns_at skin ws above c l reads.0.read reads.0.line in
-    let place : position_at first (length ls == 0) ≡ place_in part first (length cs == 0) =
+    let place : position_at first (length ls == 0) ≡ position_in part first (length cs == 0) =
     ap (λ n. position_at first (n == 0)) (as_long skin cs ls reads.1) ∙ ap (λ (b : Bool). if b then Other else position_at first (length cs == 0)) (sym some) in (
       here,
       behind,
@@ -293,7 +295,7 @@ bare_line skin position (normal said) (TableRule rule) other read table none = a
 bare_line skin position (normal said) HorizontalRule other read table none = absurd read
 bare_line skin position (table_row cells) (Normal l) other read table none = absurd read
 bare_line skin position (table_row cells) (TableRow row) other read table none =
-    (row ∷ [], refl, record { lines = []; laid_out = tt; count = refl; rows_are = (subst (tables.IsAcross [] []) (sym (no_items row.cells.items none)) tt, tt) })
+    (row ∷ [], refl, record { lines = []; laid_out = tt; count = refl; rows_are = (subst (tables.IsLineAcross [] []) (sym (no_items row.cells.items none)) tt, tt) })
 bare_line skin position (table_row cells) (TableRule rule) other read table none = absurd read
 bare_line skin position (table_row cells) HorizontalRule other read table none = absurd read
 bare_line skin position (table_rule aligns) (Normal l) other read table none = absurd read
@@ -313,7 +315,7 @@ bare_in skin width part above first [] (l ∷ ls) is none empty reads = absurd r
 bare_in skin width part above first (c ∷ cs) [] is none empty reads = absurd reads
 bare_in skin width part above first (c ∷ cs) (l ∷ ls) is none empty reads =
     let aligns = aligns_at above c in
-    let place : RelativePosition = place_in part first (length cs == 0) in
+    let place : RelativePosition = position_in part first (length cs == 0) in
     let other : place ≡ Other = ap (λ n. if n == 0 then Other else position_at first (length cs == 0)) none in
     let own : columns_in l ≡ 0 = omega (arith, empty) in (
       l ∷ [],

@@ -12,7 +12,7 @@ use Rattle.mad_layout.specs.CompositeWraps.{IsCompositeWrap}
 use Rattle.mad_layout.specs.FlaggedLines.{is_code, is_table, text_parts, widest_in}
 use Rattle.mad_layout.specs.FlaggedTexts.{lines_in, lines_in_parts}
 use Rattle.mad_layout.specs.Indents.{indent}
-use Rattle.mad_layout.specs.Layouts.{IsLayout}
+use Rattle.mad_layout.proofs.WideLayouts.{IsLayout}
 use Rattle.mad_layout.specs.Lines.{IsLineRead, IsCompositeRead}
 use Rattle.mad_layout.specs.Parts.{Part, table, block, single, is_code_kind, parts_of, widest, placed_code, ArePartsAt}
 use Rattle.mad_layout.specs.Premises.{KeepsPremises, inner_width, runs_text}

@@ -1,4 +1,4 @@
--- The example's text: how it is read, and laid out in a wider place.
+-- The text `aaa bb cc`: how it is read, and laid out in a wider place.
 use Rattle.std.proofs.Common.{◌≡◌, ◌≢◌, ℕ, ◌<◌, inl, false, List, [], ◌∷◌, ◌++◌, chars, Option, Some, refl, ap, sym, subst, arith, lit<}
 use Rattle.std.specs.Prelude.{unwrap_or}
 use Rattle.std.specs.List.{AllByRecursion, join_with_byte}

@@ -38,7 +38,8 @@ use Rattle.mad_draw.specs.PennedCells.{penned_cells, penned_joined}
 use Rattle.mad_layout.specs.Indents.{indent}
 use Rattle.mad_layout.specs.CompositeWraps.{IsCompositeWrap}
 use Rattle.mad_layout.specs.Fronts.{IsFrontLayout}
-use Rattle.mad_layout.specs.Layouts.{AreRead, IsLayout}
+use Rattle.mad_layout.specs.Layouts.{AreRead}
+use Rattle.mad_layout.proofs.WideLayouts.{IsLayout}
 use Rattle.mad_layout.specs.Parts.{Part, single, is_code_kind, with_composite, parts_of, ArePartsAt}
 use Rattle.mad_layout.specs.Premises.{runs_text}
 use Rattle.mad_layout.specs.Rows.{run_piece, line_pieces}

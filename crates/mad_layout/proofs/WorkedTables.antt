@@ -5,13 +5,14 @@ use Rattle.mad_fit.specs.declared.spacing.Spacing.{Spacing}
 use Rattle.mad_widths.specs.Turns.{grants}
 use Rattle.mad_widths.specs.ColumnWidths.{needs_of, first_requests, second_requests, after_first, after_second, column_widths, natural_widths, AreShared}
 use Rattle.mad_layout.specs.TableLaws.{HaveLengths, AreWorkedTables, AreNoTables, AreNoRules}
-use Rattle.mad_layout.specs.Tables.{IsTop, IsAcross, position_at, columns_with, centered, AreKeptWidths, AreTableLinesBy, IsTableLaidOutBy}
+use Rattle.mad_layout.specs.Tables.{IsTop, IsLineAcross, position_at, columns_with, centered, AreKeptWidths, AreTableLinesBy, IsTableLaidOutBy}
 use Rattle.mad_layout.specs.WrappedLines.{Wrap}
 use Rattle.mad_layout.specs.declared.skin.MadSkin.{MadSkin}
 use Rattle.mad_layout.specs.declared.composite.FmtComposite.{FmtComposite}
 use Rattle.mad_layout.specs.declared.line.FmtLine.{FmtLine}
 use Rattle.mad_layout.specs.declared.line.FmtLine.TheVariants.{TableRule}
 use Rattle.mad_layout.specs.declared.table.FmtTableRule.{FmtTableRule}
+use Rattle.mad_layout.proofs.DrawableTables.{top_spacing}
 
 pub worked_tables : AreWorkedTables
 unfolding column_widths after_second after_first second_requests first_requests grants
@@ -28,7 +29,7 @@ too_few lines lengths kept =
     let are : AreShared 10 (3 ∷ 20 ∷ []) shared.0 (3 ∷ 6 ∷ []) = subst (λ cells. AreShared 10 (natural_widths (map needs_of cells)) shared.0 (3 ∷ 6 ∷ [])) lengths shared.1 in
     omega (arith, (are.shared (omega arith) (λ e. absurd (omega (arith, e)))).0)
 
-across_count : (columns : List Spacing) (lines : List (List FmtComposite)) (cells : List FmtComposite) → IsAcross columns lines cells → length cells ≡ length columns
+across_count : (columns : List Spacing) (lines : List (List FmtComposite)) (cells : List FmtComposite) → IsLineAcross columns lines cells → length cells ≡ length columns
 across_count [] [] [] h = refl
 across_count [] [] (x ∷ xs) h = absurd h
 across_count [] (l ∷ lines) cells h = absurd h
@@ -36,23 +37,19 @@ across_count (c ∷ cs) [] cells h = absurd h
 across_count (c ∷ cs) (l ∷ lines) [] h = absurd h
 across_count (c ∷ cs) (l ∷ lines) (x ∷ xs) h = ap suc (across_count cs lines xs h.1)
 
-top_place : (column : Spacing) (lines : List FmtComposite) (x : FmtComposite) → IsTop column lines x → x.spacing ≡ Some column
-top_place column [] x h = h.spacing
-top_place column (l ∷ ls) x h = ap (λ (c : FmtComposite). c.spacing) h
-
-across_place : (column : Spacing) (columns : List Spacing) (lines : List (List FmtComposite)) (x : FmtComposite) (xs : List FmtComposite) → IsAcross (column ∷ columns) lines (x ∷ xs) → x.spacing ≡ Some column
+across_place : (column : Spacing) (columns : List Spacing) (lines : List (List FmtComposite)) (x : FmtComposite) (xs : List FmtComposite) → IsLineAcross (column ∷ columns) lines (x ∷ xs) → x.spacing ≡ Some column
 across_place column columns [] x xs h = absurd h
-across_place column columns (l ∷ lines) x xs h = top_place column l x h.0
+across_place column columns (l ∷ lines) x xs h = top_spacing column l x h.0
 
 pub no_tables : AreNoTables
 no_tables = record {
   one_too_few = too_few;
   column_dropped = λ n width lines widths wide fewer kept. let all : length widths ≡ n = kept.kept wide in omega (arith, all, fewer);
   shifted = λ first second x y z beside row next some is h.
-      let across : IsAcross (first ∷ second ∷ []) ([] ∷ (z ∷ []) ∷ []) (record z { spacing = Some first } ∷ beside ∷ []) = subst (IsAcross (first ∷ second ∷ []) ([] ∷ (z ∷ []) ∷ [])) is h.1.0 in
+      let across : IsLineAcross (first ∷ second ∷ []) ([] ∷ (z ∷ []) ∷ []) (record z { spacing = Some first } ∷ beside ∷ []) = subst (IsLineAcross (first ∷ second ∷ []) ([] ∷ (z ∷ []) ∷ [])) is h.1.0 in
       some across.0.empty;
   other_count = λ columns lines row rows other h. other (across_count columns lines row.cells.items h.0);
-  other_place = λ column columns lines cell others row rows is other h. other (across_place column columns lines cell others (subst (IsAcross (column ∷ columns) lines) is h.0));
+  other_place = λ column columns lines cell others row rows is other h. other (across_place column columns lines cell others (subst (IsLineAcross (column ∷ columns) lines) is h.0));
 }
 
 -- ---- places of rules

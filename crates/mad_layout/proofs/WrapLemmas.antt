@@ -10,7 +10,7 @@ use Rattle.mad_fit.specs.declared.spacing.Spacing.{Spacing}
 use Rattle.mad_wrap.specs.LeastWrap.{IsWrap}
 use Rattle.mad_wrap.specs.WrapLines.{capped, compounds_of, AreCounted}
 use Rattle.mad_wrap.specs.declared.wrapped_line.WrappedLine.{WrappedLine}
-use Rattle.mad_layout.specs.CompositeWraps.{line_compounds, HaveKinds, IsCompositeWrap, AreComposites}
+use Rattle.mad_layout.specs.CompositeWraps.{line_compounds, HaveKinds, IsCompositeWrap, composite_of, AreComposites}
 use Rattle.mad_layout.specs.Indents.{indent, follow_up, room_of}
 use Rattle.mad_layout.specs.Wraps.{text_of, IsMeasured}
 use Rattle.mad_layout.specs.declared.skin.MadSkin.{MadSkin}
@@ -40,7 +40,7 @@ ComposedSoFar first_kind first other spacing all kind indent rest cs =
 
 pub composed_more : (first_kind : CompositeKind) (first other : ℕ) (spacing : Option Spacing) (all : List WrappedLine) (kind : CompositeKind) (indent : ℕ) (rest after : List WrappedLine) (cs new : List FmtComposite) (l : WrappedLine) (c : FmtComposite)
     → ComposedSoFar first_kind first other spacing all kind indent rest cs → follow_up kind ≡ follow_up first_kind → rest ≡ l ∷ after
-    → c ≡ record { kind = kind; compounds = l.compounds; visible_length = capped (l.columns + indent); spacing = spacing; margins = None } → new ≡ cs ++ c ∷ []
+    → c ≡ composite_of kind indent spacing l → new ≡ cs ++ c ∷ []
     → ComposedSoFar first_kind first other spacing all (follow_up kind) other after new
 composed_more first_kind first other spacing all kind indent rest after cs new l c held same next is pushed more h =
     let now : AreComposites (follow_up first_kind) (follow_up first_kind) other other spacing after more = subst (λ k. AreComposites k (follow_up first_kind) other other spacing after more) same h in

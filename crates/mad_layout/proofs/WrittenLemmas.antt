@@ -12,7 +12,7 @@ use Rattle.mad_term.specs.declared.errors.Error.TheVariants.{IO, InsufficientWid
 use Rattle.mad_term.proofs.Exits.{refused_exit}
 use Rattle.mad_term.proofs.Traces.{after-nil, took_both, stopped_before, stopped_in_second, cut_in_second}
 use Rattle.mad_layout.specs.FlaggedLines.{stand_together, text_parts}
-use Rattle.mad_layout.specs.Laying.{IsOpenRun, IsLaidFor, IsRunAt}
+use Rattle.mad_layout.specs.Laying.{AreOpenParts, IsLaidFor, ArePartsClosed}
 use Rattle.mad_layout.specs.Layouts.{IsLayoutAt}
 use Rattle.mad_layout.specs.Texts.{line_bytes, text_bytes}
 use Rattle.mad_layout.specs.WrittenParts.{WritesParts, IsPartKind, HandsOn}
@@ -54,7 +54,7 @@ pub record WrittenSoFar (skin : MadSkin) (width : Option ℕ) (all left : List L
   pub whole : apart front (since ++ left) ≡ true
   pub ends : EndsIn last (front ++ since)
   pub layout : IsLayoutAt skin width front done
-  pub ready : IsOpenRun skin block table
+  pub ready : AreOpenParts skin block table
   pub laid : (rest : List LineContent) → IsLaidFor skin width (since ++ rest) rest lines block table
   pub bytes : text_bytes skin width done ≡ sent ++ kept
   pub went : new ≡ after old sent
@@ -90,7 +90,7 @@ written_start skin width all left lines table block last kept old none empty no_
 
 -- what is open is closed, where no part goes on
 pub written_closed : (skin : MadSkin) (width : Option ℕ) (all left : List LineContent) (lines new_lines own table : List FmtLine) (block : List FmtComposite) (last : PartKind) (kept : List ℕ) (old new : Trace)
-    → WrittenSoFar skin width all left lines block table last kept old new → ((front : List LineContent) → EndsIn last front → apart front left ≡ true) → new_lines ≡ lines ++ own → IsRunAt skin width block table own
+    → WrittenSoFar skin width all left lines block table last kept old new → ((front : List LineContent) → EndsIn last front → apart front left ≡ true) → new_lines ≡ lines ++ own → ArePartsClosed skin width block table own
     → WrittenParts skin width all left new_lines last kept old new
 written_closed skin width all left lines new_lines own table block last kept old new h cut closed made =
     let layout : IsLayoutAt skin width h.since new_lines =
@@ -144,7 +144,7 @@ written_next skin width all left lines table block last kept old new h none empt
 -- a line joins those that are being laid out
 pub written_more : (skin : MadSkin) (width : Option ℕ) (all left later : List LineContent) (c : LineContent) (lines new_lines table new_table : List FmtLine) (block new_block : List FmtComposite) (last next : PartKind) (kept : List ℕ) (old new : Trace)
     → WrittenSoFar skin width all left lines block table last kept old new → left ≡ c ∷ later → IsPartKind c next
-    → ((all rest : List LineContent) → IsLaidFor skin width all (c ∷ rest) lines block table → IsLaidFor skin width all rest new_lines new_block new_table) → IsOpenRun skin new_block new_table
+    → ((all rest : List LineContent) → IsLaidFor skin width all (c ∷ rest) lines block table → IsLaidFor skin width all rest new_lines new_block new_table) → AreOpenParts skin new_block new_table
     → WrittenSoFar skin width all later new_lines new_block new_table next kept old new
 written_more skin width all left later c lines new_lines table new_table block new_block last next kept old new h is kind laid ready =
     let same : h.since ++ left ≡ (h.since ++ c ∷ []) ++ later = ap (λ (l : List LineContent). h.since ++ l) is ∙ sym (append_assoc h.since (c ∷ []) later) in
@@ -169,7 +169,7 @@ pub apart_before : (left later : List LineContent) (c : LineContent) (last next 
 apart_before left later c last next is kind off front ends = ap (apart front) is ∙ apart_next last next front later c ends kind off
 
 pub written_cut : (skin : MadSkin) (width : Option ℕ) (all left : List LineContent) (lines closed none own table no_table : List FmtLine) (block no_block : List FmtComposite) (last : PartKind) (kept new_kept : List ℕ) (old mid new : Trace)
-    → WrittenSoFar skin width all left lines block table last kept old mid → ((front : List LineContent) → EndsIn last front → apart front left ≡ true) → closed ≡ lines ++ own → IsRunAt skin width block table own
+    → WrittenSoFar skin width all left lines block table last kept old mid → ((front : List LineContent) → EndsIn last front → apart front left ≡ true) → closed ≡ lines ++ own → ArePartsClosed skin width block table own
     → none ≡ [] → no_block ≡ [] → no_table ≡ [] → HandsOn {T = Unit {0}} mid (kept ++ text_bytes skin width closed) (Ok (tt {0})) new new_kept → WrittenSoFar skin width all left none no_block no_table last new_kept old new
 written_cut skin width all left lines closed none own table no_table block no_block last kept new_kept old mid new h cut closes made empty empty_block empty_table (sent, both, went) =
     written_next skin width all left none no_table no_block last new_kept old new

@@ -1,7 +1,8 @@
 -- Blocks of code among lines.
-use Rattle.std.specs.Prelude.{◌≡◌, ℕ, ◌+◌, true, false, List, [], ◌∷◌, ◌++◌, map, length, take, drop, min, Option, Some, None, if◌then◌else◌}
+use Rattle.std.specs.Prelude.{◌≡◌, ℕ, ◌+◌, true, false, List, [], ◌∷◌, ◌++◌, map, length, take, drop, Option, Some, None, if◌then◌else◌}
 use Rattle.std.specs.List.{AllByRecursion, flat_map}
 use Rattle.mad_layout.specs.Parts.{Part, table, block, single, is_code_kind, is_code_line, widest, placed_code, justified, parts_of}
+pub use Rattle.mad_layout.specs.Parts.{width_within}
 use Rattle.mad_layout.specs.declared.code_blocks.CodeBlock.{CodeBlock}
 use Rattle.mad_layout.specs.declared.composite.FmtComposite.{FmtComposite}
 use Rattle.mad_layout.specs.declared.line.FmtLine.{FmtLine}
@@ -35,11 +36,6 @@ part_placed room (table ls) = ls
 part_placed room (block ls) = map Normal (justified room ls)
 part_placed room (single l) = l ∷ []
 
--- a width, at most the room, if there is a limit
-abbrev pub width_within : Option ℕ → ℕ → ℕ
-width_within None width = width
-width_within (Some room) width = min width room
-
 -- lines, each block in its place
 abbrev pub blocks_placed : Option ℕ → List FmtLine → List FmtLine
 blocks_placed room ls = flat_map (part_placed room) (parts_of ls)
@@ -57,7 +53,7 @@ NoCodeFirst [] = Unit {0}
 NoCodeFirst (l ∷ ls) = is_code_line l ≡ false
 
 -- The block begins at this line and ends before the first line that isn't code; it has no line where none of code begins there.
-pub record IsBlockAt (lines : List FmtLine) (at : ℕ) (b : CodeBlock) : Type 0 where
+pub record IsClosedBlock (lines : List FmtLine) (at : ℕ) (b : CodeBlock) : Type 0 where
   pub own : List FmtComposite
   pub code : AllByRecursion (λ l. is_code_kind l.kind ≡ true) own
   pub start : b.start ≡ at

@@ -29,9 +29,13 @@ pub record IsCompositeWrap (skin : MadSkin) (width : ℕ) (source : FmtComposite
   pub spacing : AllByRecursion (λ l. l.spacing ≡ source.spacing) lines
   pub margins : AllByRecursion (λ l. l.margins ≡ None) lines
 
+-- a wrapped line as a composite of this kind, with the columns in front of it
+abbrev pub composite_of : CompositeKind → ℕ → Option Spacing → WrappedLine → FmtComposite
+composite_of kind indent spacing l = record { kind = kind; compounds = l.compounds; visible_length = capped (l.columns + indent); spacing = spacing; margins = None }
+
 -- the composites are these lines, the first of this kind and with this indent
 abbrev pub AreComposites : CompositeKind → CompositeKind → ℕ → ℕ → Option Spacing → List WrappedLine → List FmtComposite → Type 0
 AreComposites kind other indent next spacing [] cs = cs ≡ []
 AreComposites kind other indent next spacing (l ∷ ls) [] = ⊥
 AreComposites kind other indent next spacing (l ∷ ls) (c ∷ cs) =
-    (c ≡ record { kind = kind; compounds = l.compounds; visible_length = capped (l.columns + indent); spacing = spacing; margins = None }) × AreComposites other other next next spacing ls cs
+    (c ≡ composite_of kind indent spacing l) × AreComposites other other next next spacing ls cs

@@ -11,17 +11,17 @@ use Rattle.mad_layout.specs.Lines.{rule_columns}
 use Rattle.mad_draw.specs.Pieces.{AreShownPieces, IsColumnPiece, char_piece, pieces_columns}
 use Rattle.mad_draw.specs.TableRules.{border_piece}
 use Rattle.mad_draw.specs.declared.table_rules.RuleChars.{RuleChars}
-use Rattle.mad_layout.specs.Rows.{mark_pieces, compound_piece, inner_columns, row_columns, vertical_piece, rule_chars}
+use Rattle.mad_layout.specs.Rows.{prefix_pieces, compound_piece, inner_columns, row_columns, vertical_piece, rule_chars}
 use Rattle.mad_layout.specs.Styles.{line_style}
 use Rattle.mad_layout.specs.Wraps.{columns_of}
 
--- A composite that fills its own place, if it has one: its cached length is right and within the place, its mark and its compounds are
+-- A composite that fills its own place, if it has one: its cached length is right and within the place, its prefix and its compounds are
 -- shown.
 pub record FillsItsPlace (skin : MadSkin) (l : FmtComposite) : Type 0 where
   pub measured : l.visible_length ≡ columns_of skin l
   pub place : IfSome l.spacing (λ s. l.visible_length ≤ s.width)
-  pub mark : AreShownPieces (mark_pieces skin l.kind)
-  pub indent_is : pieces_columns (mark_pieces skin l.kind) ≡ indent skin.list_items_indentation_mode l.kind
+  pub prefix : AreShownPieces (prefix_pieces skin l.kind)
+  pub indent_is : pieces_columns (prefix_pieces skin l.kind) ≡ indent skin.list_items_indentation_mode l.kind
   pub text : AreShownPieces (map (compound_piece skin (line_style skin l.kind)) l.compounds.items)
 
 -- a line that fills its own place, and fits a row of `width` columns with its margins

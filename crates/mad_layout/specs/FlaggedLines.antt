@@ -8,14 +8,13 @@ use Rattle.mad_style.specs.LineStyles.{margins_at}
 use Rattle.mad_style.specs.StyledChars.{char_alone}
 use Rattle.mad_style.specs.declared.kinds.CompositeKind.{CompositeKind}
 use Rattle.mad_style.specs.declared.kinds.CompositeKind.TheVariants.{ListItem, OrderedListItem, Quote}
-use Rattle.mad_style.specs.declared.styled_chars.StyledChar.{StyledChar}
 use Rattle.mad_fit.specs.Columns.{width_of}
 use Rattle.mad_fit.specs.Completions.{left_completion}
 use Rattle.mad_fit.specs.declared.area.Area.{Area}
 use Rattle.mad_layout.specs.Indents.{indent, follow_up}
 use Rattle.mad_layout.specs.Parts.{is_code_kind}
 use Rattle.mad_layout.specs.LineTexts.{inner_width, runs_text}
-use Rattle.mad_layout.specs.Styles.{line_style, ordered_item_style}
+use Rattle.mad_layout.specs.Styles.{line_style, index_suffix}
 pub use Rattle.mad_layout.specs.TextParts.{is_code, is_table, stand_together, in_front, text_parts}
 use Rattle.mad_layout.specs.declared.skin.MadSkin.{MadSkin}
 
@@ -29,16 +28,16 @@ widest_in [] = 0
 widest_in (normal line ∷ ls) = max (width_of (runs_text line.runs)) (widest_in ls)
 widest_in (l ∷ ls) = widest_in ls
 
--- a character of the skin
-abbrev pub skin_char : StyledChar → List ℕ
-skin_char c = chars (encode_utf8 (char_alone c))
+-- a character of the skin, as it is written
+abbrev pub skin_char : ℕ → List ℕ
+skin_char c = chars (encode_utf8 c)
 
 -- the characters in front of a row of this kind: an item's bullet or number after the spaces of its depth, a quote's mark; on the rows
 -- that follow an item's first one, the spaces of its indent
 abbrev pub front_of : MadSkin → CompositeKind → List ℕ
-front_of skin (ListItem depth) = replicate depth 32 ++ (skin_char skin.bullet ++ 32 ∷ [])
-front_of skin (OrderedListItem level index) = replicate level 32 ++ (decimal index ++ (skin_char (ordered_item_style skin level).index_suffix ++ 32 ∷ []))
-front_of skin Quote = skin_char skin.quote_mark ++ 32 ∷ []
+front_of skin (ListItem depth) = replicate depth 32 ++ (skin_char (char_alone skin.bullet) ++ 32 ∷ [])
+front_of skin (OrderedListItem level index) = replicate level 32 ++ (decimal index ++ (skin_char (index_suffix skin level) ++ 32 ∷ []))
+front_of skin Quote = skin_char (char_alone skin.quote_mark) ++ 32 ∷ []
 front_of skin kind = replicate (indent skin.list_items_indentation_mode kind) 32
 
 -- the columns of a row with those in front of it, or of its block, if it is one of code

@@ -1,7 +1,6 @@
 -- The rows of a table's lines across an area.
-use Rattle.std.specs.Prelude.{◌≡◌, ℕ, zero, suc, ◌+◌, ◌-◌, max, List, [], ◌∷◌, ◌++◌, map, length, replicate, drop, slice_get, unwrap_or, encode_utf8}
+use Rattle.std.specs.Prelude.{◌≡◌, ℕ, zero, suc, ◌+◌, ◌-◌, max, List, [], ◌∷◌, ◌++◌, map, length, replicate, drop, slice_get, unwrap_or}
 use Rattle.std.specs.List.{flat_map, repeat}
-use Rattle.std.specs.Str.{chars}
 use Rattle.mad_md.specs.Flagged.{FlaggedChar}
 use Rattle.mad_md.specs.Lines.{StyledRuns}
 use Rattle.mad_style.specs.Kinds.{kind_of}
@@ -11,7 +10,7 @@ use Rattle.mad_fit.specs.Completions.{left_completion}
 use Rattle.mad_fit.specs.declared.area.Area.{Area}
 use Rattle.mad_fit.specs.declared.spacing.Spacing.{Spacing}
 use Rattle.mad_draw.specs.declared.table_rules.RuleChars.{RuleChars}
-use Rattle.mad_layout.specs.FlaggedLines.{front_of, marked_parts}
+use Rattle.mad_layout.specs.FlaggedLines.{skin_char, front_of, marked_parts}
 use Rattle.mad_layout.specs.FlaggedRows.{AreRowsOf}
 use Rattle.mad_layout.specs.Indents.{indent, follow_up, room_of}
 use Rattle.mad_layout.specs.Lines.{bordered, rule_columns}
@@ -50,26 +49,18 @@ AreInColumns skin (c ∷ cs) (cell ∷ cells) placed =
 
 -- ---- across the table
 
--- a character of a border
-abbrev pub border_char : ℕ → List ℕ
-border_char c = chars (encode_utf8 c)
-
 -- a border, and the first row of a cell: spaces where it has none
 abbrev pub first_row : MadSkin → CellInColumn → List ℕ
-first_row skin cell = border_char skin.table_border_chars.vertical ++ unwrap_or (slice_get cell.rows 0) (replicate cell.width 32)
+first_row skin cell = skin_char skin.table_border_chars.vertical ++ unwrap_or (slice_get cell.rows 0) (replicate cell.width 32)
 
 -- the first row of each cell, and a last border
 abbrev pub first_rows : MadSkin → List CellInColumn → List ℕ
-first_rows skin cells = flat_map (first_row skin) cells ++ border_char skin.table_border_chars.vertical
-
--- a cell without its first row
-abbrev pub below_first : CellInColumn → CellInColumn
-below_first cell = record cell { rows = drop 1 cell.rows }
+first_rows skin cells = flat_map (first_row skin) cells ++ skin_char skin.table_border_chars.vertical
 
 -- the first n rows, one below the other
 abbrev pub rows_down : MadSkin → ℕ → List CellInColumn → List (List ℕ)
 rows_down skin zero cells = []
-rows_down skin (suc n) cells = first_rows skin cells ∷ rows_down skin n (map below_first cells)
+rows_down skin (suc n) cells = first_rows skin cells ∷ rows_down skin n (map (λ (cell : CellInColumn). record cell { rows = drop 1 cell.rows }) cells)
 
 -- the count of rows of the cell that has the most
 abbrev pub most_rows : List CellInColumn → ℕ
@@ -78,9 +69,9 @@ most_rows (cell ∷ cells) = max (length cell.rows) (most_rows cells)
 
 -- a rule across columns of these widths: its left end, its horizontals with a junction between two columns, and its right end
 abbrev pub rule_row : RuleChars → List ℕ → List ℕ
-rule_row b [] = border_char b.left ++ border_char b.right
+rule_row b [] = skin_char b.left ++ skin_char b.right
 rule_row b (w ∷ ws) =
-    border_char b.left ++ (repeat w (border_char b.horizontal) ++ (flat_map (λ v. border_char b.between ++ repeat v (border_char b.horizontal)) ws ++ border_char b.right))
+    skin_char b.left ++ (repeat w (skin_char b.horizontal) ++ (flat_map (λ v. skin_char b.between ++ repeat v (skin_char b.horizontal)) ws ++ skin_char b.right))
 
 -- ---- across an area
 

@@ -6,7 +6,7 @@ use Rattle.mad_layout.specs.TextParts.{text_parts}
 use Rattle.mad_layout.specs.declared.skin.MadSkin.{MadSkin}
 use Rattle.mad_layout.specs.declared.line.FmtLine.{FmtLine}
 
--- The lines are a layout of the first lines of a text, none of its parts cut: of all of them, or of as many as take these many rows.
+-- The lines are a layout of the first lines of a text, none of its parts cut: of all of them, or of enough to take at least this many rows.
 pub record IsFrontLayout (skin : MadSkin) (width : Option ℕ) (rows : ℕ) (text : List LineContent) (lines : List FmtLine) : Type 0 where
   pub front : List LineContent
   pub rest : List LineContent

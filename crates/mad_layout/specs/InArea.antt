@@ -1,4 +1,4 @@
--- The headline: what a text shows that was written in an area.
+-- What a text shows that was written in an area, by way of a layout.
 use Rattle.std.specs.Prelude.{◌≡◌, ◌⊎◌, ℕ, false, ◌-◌, List, Some, Result, IsErrOf, take}
 use Rattle.mad_md.specs.Lines.{LineContent}
 use Rattle.mad_md.specs.Reading.{IsRead, unread_text}
@@ -21,8 +21,8 @@ pub record IsAreaLayout (skin : MadSkin) (markdown : List ℕ) (area : Area) (li
   pub read : IsRead (unread_text false markdown) text
   pub layout : IsLayoutAt skin (Some (area.width - 1)) text lines
 
--- The lines are a layout of the text's first lines, one column narrower than the area: of all of them, or of as many as take the area's
--- rows.
+-- The lines are a layout of the text's first lines, one column narrower than the area: of all of them, or of enough to take at least the
+-- area's rows.
 pub record IsAreaFront (skin : MadSkin) (markdown : List ℕ) (area : Area) (lines : List FmtLine) : Type 0 where
   pub text : List LineContent
   pub read : IsRead (unread_text false markdown) text

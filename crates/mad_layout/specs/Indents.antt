@@ -19,10 +19,10 @@ follow_up Code = Code
 follow_up Quote = Quote
 
 -- what a mode makes of an item's indent on the lines that follow
-abbrev pub kept : ListItemsIndentationMode → ℕ → ℕ
-kept FirstLineOnly n = 0
-kept Block n = n
-kept (Hanging extra) n = n + extra
+abbrev pub later_indent : ListItemsIndentationMode → ℕ → ℕ
+later_indent FirstLineOnly n = 0
+later_indent Block n = n
+later_indent (Hanging extra) n = n + extra
 
 -- the columns in front of an ordered item: those of its level, of its number, and of the mark and the space after that
 abbrev pub ordered_indent : ℕ → ℕ → ℕ
@@ -33,9 +33,9 @@ abbrev pub indent : ListItemsIndentationMode → CompositeKind → ℕ
 indent mode Paragraph = 0
 indent mode (Header level) = 0
 indent mode (ListItem depth) = 2 + depth
-indent mode (ListItemFollowUp depth) = kept mode (2 + depth)
+indent mode (ListItemFollowUp depth) = later_indent mode (2 + depth)
 indent mode (OrderedListItem level index) = ordered_indent level index
-indent mode (OrderedListItemFollowUp level index) = kept mode (ordered_indent level index)
+indent mode (OrderedListItemFollowUp level index) = later_indent mode (ordered_indent level index)
 indent mode Code = 0
 indent mode Quote = 2
 

@@ -14,7 +14,7 @@ use Rattle.mad_layout.specs.declared.line.FmtLine.{FmtLine}
 use Rattle.mad_layout.specs.declared.line.FmtLine.TheVariants.{Normal}
 
 -- lines of code or of a table, measured
-pub record IsOpenRun (skin : MadSkin) (block : List FmtComposite) (table : List FmtLine) : Type 0 where
+pub record AreOpenParts (skin : MadSkin) (block : List FmtComposite) (table : List FmtLine) : Type 0 where
   pub code : AllByRecursion (λ l. is_code_kind l.kind ≡ true) block
   pub measured : AllByRecursion (IsMeasured skin) block
   pub table_lines : AllByRecursion (λ l. is_table_line l ≡ true) table
@@ -39,5 +39,5 @@ abbrev pub IsTableAt : MadSkin → Option ℕ → List FmtLine → List FmtLine 
 IsTableAt skin width table own = IsTableLaidOutBy IsCompositeWrap skin (columns_count table) (table_width width) table own
 
 -- what becomes of both, the one or the other
-abbrev pub IsRunAt : MadSkin → Option ℕ → List FmtComposite → List FmtLine → List FmtLine → Type 0
-IsRunAt skin width block table own = (first : List FmtLine) × (second : List FmtLine) × (own ≡ first ++ second) × IsBlockAt skin width block first × IsTableAt skin width table second
+abbrev pub ArePartsClosed : MadSkin → Option ℕ → List FmtComposite → List FmtLine → List FmtLine → Type 0
+ArePartsClosed skin width block table own = (first : List FmtLine) × (second : List FmtLine) × (own ≡ first ++ second) × IsBlockAt skin width block first × IsTableAt skin width table second

@@ -22,11 +22,8 @@ pub record IsLayoutBy (wraps : Wrap) (skin : MadSkin) (tables : ℕ) (width : Op
   pub reads : AreRead skin text read
   pub laid : ArePartsAt wraps skin tables width (parts_of read) lines
 
--- the lines are a layout of the text at a width, each line's wrap one with the fewest lines
-abbrev pub IsLayout : MadSkin → ℕ → List LineContent → List FmtLine → Type 0
-IsLayout skin width text lines = IsLayoutBy IsCompositeWrap skin width (Some width) text lines
-
--- a layout at a width, if there is one; at a width under three, or without one, only cells of tables are wrapped
+-- The lines are a layout of the text at a width, if there is one; each line's wrap is one with the fewest lines. At a width under three, or
+-- without one, only cells of tables are wrapped.
 abbrev pub IsLayoutAt : MadSkin → Option ℕ → List LineContent → List FmtLine → Type 0
 IsLayoutAt skin width text lines = IsLayoutBy IsCompositeWrap skin (table_width width) (wrap_width width) text lines
 

@@ -92,10 +92,14 @@ abbrev pub widest : List FmtComposite → ℕ
 widest [] = 0
 widest (l ∷ ls) = max l.visible_length (widest ls)
 
+-- a width, at most the room, if there is a limit
+abbrev pub width_within : Option ℕ → ℕ → ℕ
+width_within None width = width
+width_within (Some room) width = min width room
+
 -- the columns of a block, at most the room, if there is a limit
 abbrev pub block_width : Option ℕ → List FmtComposite → ℕ
-block_width None ls = widest ls
-block_width (Some room) ls = min (widest ls) room
+block_width room ls = width_within room (widest ls)
 
 -- a line of code in a place of `width` columns
 abbrev pub placed_code : ℕ → FmtComposite → FmtComposite

@@ -3,7 +3,7 @@ use Rattle.std.specs.Prelude.{◌≡◌, ℕ, ◌-◌, ◌<◌, ◌≤◌, ◌^�
 use Rattle.std.specs.List.{AllByRecursion}
 use Rattle.mad_md.specs.Flagged.{run_of}
 use Rattle.mad_layout.specs.Drawable.{AreDrawable}
-use Rattle.mad_layout.specs.Premises.{AreBordersShown, IsPlainCell}
+use Rattle.mad_layout.specs.Premises.{AreBordersShown, IsPlainText}
 use Rattle.mad_layout.specs.Tables.{AreKeptWidths, IsTableLaidOutBy, columns_count}
 use Rattle.mad_layout.specs.WrappedLines.{Wrap}
 use Rattle.mad_layout.specs.Wraps.{IsMeasured}
@@ -17,7 +17,7 @@ use Rattle.mad_layout.specs.declared.line.FmtLine.TheVariants.{Normal, TableRow,
 abbrev pub ArePlainCells : MadSkin → List ℕ → List FmtComposite → Type 0
 ArePlainCells skin [] cells = Unit {0}
 ArePlainCells skin (w ∷ ws) [] = Unit {0}
-ArePlainCells skin (w ∷ ws) (cell ∷ cells) = IsMeasured skin cell × IsPlainCell skin w cell.kind (map run_of cell.compounds.items) × ArePlainCells skin ws cells
+ArePlainCells skin (w ∷ ws) (cell ∷ cells) = IsMeasured skin cell × IsPlainText skin w cell.kind (map run_of cell.compounds.items) × ArePlainCells skin ws cells
 
 -- a line of a table, not yet laid out, whose cells are so in columns of these widths
 abbrev pub IsPlainTableLine : MadSkin → List ℕ → FmtLine → Type 0

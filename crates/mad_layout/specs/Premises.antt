@@ -1,7 +1,7 @@
 -- What a text has to keep for its rows to be shown exactly.
 use Rattle.std.specs.Prelude.{◌≡◌, ℕ, ◌+◌, ◌<◌, ◌≤◌, ◌^◌, Bool, true, false, not, List, [], ◌∷◌}
 use Rattle.std.specs.List.{AllByRecursion}
-use Rattle.std.specs.Char.{is_whitespace}
+use Rattle.std.specs.Char.{IsScalar, is_whitespace}
 use Rattle.std.specs.Str.{chars, IsUtf8}
 use Rattle.mad_md.specs.Flagged.{FlaggedChar, Run, flagged, is_blank}
 use Rattle.mad_md.specs.Lines.{StyledRuns, LineContent, normal, table_row, table_rule, horizontal_rule}
@@ -10,13 +10,13 @@ use Rattle.mad_style.specs.declared.kinds.CompositeKind.TheVariants.{Paragraph, 
 use Rattle.mad_columns.specs.Columns.{char_columns}
 use Rattle.mad_screen.specs.Painting.{IsPrinted}
 use Rattle.mad_style.specs.Kinds.{kind_of}
+use Rattle.mad_style.specs.StyledChars.{char_alone}
 use Rattle.mad_fit.specs.Columns.{width_of}
 use Rattle.mad_layout.specs.Indents.{indent, room_of}
 pub use Rattle.mad_layout.specs.LineTexts.{runs_text, inner_width}
-use Rattle.mad_draw.specs.Pieces.{IsColumnPiece, char_piece}
-use Rattle.mad_layout.specs.Drawable.{AreShownChars}
-use Rattle.mad_layout.specs.Rows.{rule_chars, vertical_piece}
-use Rattle.mad_layout.specs.Styles.{ordered_item_style}
+use Rattle.mad_draw.specs.declared.table_rules.RuleChars.{RuleChars}
+use Rattle.mad_layout.specs.Rows.{rule_chars}
+use Rattle.mad_layout.specs.Styles.{index_suffix}
 use Rattle.mad_layout.specs.TableColumns.{kept_widths}
 use Rattle.mad_layout.specs.TextParts.{LineInPart}
 use Rattle.mad_layout.specs.declared.table.RelativePosition.{RelativePosition}
@@ -35,49 +35,54 @@ pub record IsPlainRun (r : Run) : Type 0 where
   pub printed : IsPrinted (chars r.text)
   pub joined : AreJoined false (flagged r.flags (chars r.text))
 
--- The character in front of a line of this kind, if there is one, is shown in one column: an item's bullet, the mark after its number, a
--- quote's. (A number that is read has nine digits at most.)
+-- a character that takes one column
+pub record IsColumnChar (c : ℕ) : Type 0 where
+  pub scalar : IsScalar c
+  pub one : char_columns c ≡ 1
+
+-- The character in front of a line of this kind, if there is one, takes one column: an item's bullet, the mark after its number, a quote's.
+-- (A number that is read has nine digits at most.)
 abbrev pub IsPlainPrefix : MadSkin → CompositeKind → Type 0
 IsPlainPrefix skin Paragraph = Unit {0}
 IsPlainPrefix skin (Header level) = Unit {0}
-IsPlainPrefix skin (ListItem depth) = IsColumnPiece (char_piece skin.bullet)
+IsPlainPrefix skin (ListItem depth) = IsColumnChar (char_alone skin.bullet)
 IsPlainPrefix skin (ListItemFollowUp depth) = Unit {0}
-IsPlainPrefix skin (OrderedListItem level index) = (index < 2 ^ 32) × IsColumnPiece (char_piece (ordered_item_style skin level).index_suffix)
+IsPlainPrefix skin (OrderedListItem level index) = (index < 2 ^ 32) × IsColumnChar (index_suffix skin level)
 IsPlainPrefix skin (OrderedListItemFollowUp level index) = Unit {0}
 IsPlainPrefix skin Code = Unit {0}
-IsPlainPrefix skin Quote = IsColumnPiece (char_piece skin.quote_mark)
+IsPlainPrefix skin Quote = IsColumnChar (char_alone skin.quote_mark)
 
--- A line whose text is plain and joined, with a plain prefix, and that has room where it doesn't fit.
-pub record IsPlainLine (skin : MadSkin) (width : ℕ) (line : StyledRuns) : Type 0 where
-  pub prefix : IsPlainPrefix skin (kind_of line.style)
-  pub runs : AllByRecursion IsPlainRun line.runs
-  pub room : inner_width skin width line < indent skin.list_items_indentation_mode (kind_of line.style) + width_of (runs_text line.runs)
-      → HasRoom (room_of skin (kind_of line.style) (inner_width skin width line)) (runs_text line.runs)
-
--- A cell of this kind, its text plain, with a plain prefix, and that has room in `width` columns where it doesn't fit.
-pub record IsPlainCell (skin : MadSkin) (width : ℕ) (kind : CompositeKind) (runs : List Run) : Type 0 where
+-- A line or a cell of this kind, its text plain, with a plain prefix, and that has room in `width` columns where it doesn't fit.
+pub record IsPlainText (skin : MadSkin) (width : ℕ) (kind : CompositeKind) (runs : List Run) : Type 0 where
   pub prefix : IsPlainPrefix skin kind
   pub plain : AllByRecursion IsPlainRun runs
   pub room : width < indent skin.list_items_indentation_mode kind + width_of (runs_text runs) → HasRoom (room_of skin kind width) (runs_text runs)
 
--- the characters of a table's borders are shown in one column each, wherever a rule stands in its table
+-- each character of a rule takes one column
+pub record AreRuleChars (chars : RuleChars) : Type 0 where
+  pub left : IsColumnChar chars.left
+  pub horizontal : IsColumnChar chars.horizontal
+  pub between : IsColumnChar chars.between
+  pub right : IsColumnChar chars.right
+
+-- the characters of a table's borders take one column each, wherever a rule stands in its table
 pub record AreBordersShown (skin : MadSkin) : Type 0 where
-  pub vertical : IsColumnPiece (vertical_piece skin)
-  pub rules : (position : RelativePosition) → AreShownChars skin (rule_chars skin.table_border_chars position)
+  pub vertical : IsColumnChar skin.table_border_chars.vertical
+  pub rules : (position : RelativePosition) → AreRuleChars (rule_chars skin.table_border_chars position)
 
 -- so are cells, each in its column of these widths; nothing is asked of cells past the last column
 abbrev pub ArePlainIn : MadSkin → List ℕ → List StyledRuns → Type 0
 ArePlainIn skin [] cells = Unit {0}
 ArePlainIn skin (w ∷ ws) [] = Unit {0}
-ArePlainIn skin (w ∷ ws) (cell ∷ cells) = IsPlainCell skin w (kind_of cell.style) cell.runs × ArePlainIn skin ws cells
+ArePlainIn skin (w ∷ ws) (cell ∷ cells) = IsPlainText skin w (kind_of cell.style) cell.runs × ArePlainIn skin ws cells
 
 -- A line of any kind, in its part of a text. Of a line of a table: there is place for the ends of a rule, and each kept cell is plain in
 -- the column that it gets.
 abbrev pub IsPlainContent : MadSkin → ℕ → List LineContent → LineContent → Type 0
-IsPlainContent skin width part (normal line) = IsPlainLine skin width line
+IsPlainContent skin width part (normal line) = IsPlainText skin (inner_width skin width line) (kind_of line.style) line.runs
 IsPlainContent skin width part (table_row cells) = (2 ≤ width) × AreBordersShown skin × ArePlainIn skin (kept_widths skin width part) cells
 IsPlainContent skin width part (table_rule aligns) = (2 ≤ width) × AreBordersShown skin
-IsPlainContent skin width part horizontal_rule = IsColumnPiece (char_piece skin.horizontal_rule)
+IsPlainContent skin width part horizontal_rule = IsColumnChar (char_alone skin.horizontal_rule)
 
 -- so is each of these lines of a text, at a layout's width
 abbrev pub KeepsPremises : MadSkin → ℕ → List LineInPart → Type 0

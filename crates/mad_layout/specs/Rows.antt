@@ -20,7 +20,7 @@ use Rattle.mad_layout.specs.declared.line.FmtLine.TheVariants.{Normal, TableRow,
 use Rattle.mad_layout.specs.declared.table.FmtTableRule.{FmtTableRule}
 use Rattle.mad_layout.specs.declared.table.RelativePosition.{RelativePosition}
 use Rattle.mad_layout.specs.declared.table.RelativePosition.TheVariants.{Top, Other, Bottom}
-use Rattle.mad_layout.specs.Indents.{kept, ordered_indent}
+use Rattle.mad_layout.specs.Indents.{later_indent, ordered_indent}
 use Rattle.mad_layout.specs.Lines.{bordered, rule_columns}
 use Rattle.mad_draw.specs.Pieces.{RowPiece, char_piece, char_run, spaces, single_spaces}
 use Rattle.mad_draw.specs.TableRules.{border_piece, rule_pieces}
@@ -34,24 +34,24 @@ abbrev pub number_piece : CompoundStyle → ℕ → RowPiece
 number_piece style n = record { style = style.object_style; text = decimal n }
 
 -- one space in the paragraph's style
-abbrev pub mark_space : MadSkin → RowPiece
-mark_space skin = record { style = skin.paragraph.compound_style.object_style; text = 32 ∷ [] }
+abbrev pub prefix_space : MadSkin → RowPiece
+prefix_space skin = record { style = skin.paragraph.compound_style.object_style; text = 32 ∷ [] }
 
--- the mark of a line: an item's bullet or number after the spaces of its depth, or as many spaces on a line that follows
+-- the prefix of a line: an item's bullet or number after the spaces of its depth, or as many spaces on a line that follows
 -- one and is indented as it is; a quote's mark
-abbrev pub mark_pieces : MadSkin → CompositeKind → List RowPiece
-mark_pieces skin Paragraph = []
-mark_pieces skin (Header level) = []
-mark_pieces skin (ListItem depth) = single_spaces skin.paragraph.compound_style depth ++ (char_piece skin.bullet ∷ mark_space skin ∷ [])
-mark_pieces skin (ListItemFollowUp depth) = single_spaces skin.paragraph.compound_style (kept skin.list_items_indentation_mode (2 + depth))
-mark_pieces skin (OrderedListItem level index) =
+abbrev pub prefix_pieces : MadSkin → CompositeKind → List RowPiece
+prefix_pieces skin Paragraph = []
+prefix_pieces skin (Header level) = []
+prefix_pieces skin (ListItem depth) = single_spaces skin.paragraph.compound_style depth ++ (char_piece skin.bullet ∷ prefix_space skin ∷ [])
+prefix_pieces skin (ListItemFollowUp depth) = single_spaces skin.paragraph.compound_style (later_indent skin.list_items_indentation_mode (2 + depth))
+prefix_pieces skin (OrderedListItem level index) =
     single_spaces skin.paragraph.compound_style level
     ++ (number_piece (ordered_item_style skin level).index_style index
-    ∷ char_piece (ordered_item_style skin level).index_suffix ∷ mark_space skin ∷ [])
-mark_pieces skin (OrderedListItemFollowUp level index) =
-    single_spaces skin.paragraph.compound_style (kept skin.list_items_indentation_mode (ordered_indent level index))
-mark_pieces skin Code = []
-mark_pieces skin Quote = char_piece skin.quote_mark ∷ mark_space skin ∷ []
+    ∷ char_piece (ordered_item_style skin level).index_suffix ∷ prefix_space skin ∷ [])
+prefix_pieces skin (OrderedListItemFollowUp level index) =
+    single_spaces skin.paragraph.compound_style (later_indent skin.list_items_indentation_mode (ordered_indent level index))
+prefix_pieces skin Code = []
+prefix_pieces skin Quote = char_piece skin.quote_mark ∷ prefix_space skin ∷ []
 
 -- what a compound says, in a line of this style
 abbrev pub run_piece : MadSkin → LineStyle → Run → RowPiece
@@ -106,7 +106,7 @@ margins_of skin outer l = unwrap_or l.margins (margins_at (line_style skin l.kin
 -- ---- a line
 
 -- The pieces of a composite at an outer width with these margins: the blanks left of it in the paragraph's style, those of
--- its own place in its own style, its mark, its compounds, and the blanks right of it; those in the paragraph's style only
+-- its own place in its own style, its prefix, its compounds, and the blanks right of it; those in the paragraph's style only
 -- where they are asked for.
 abbrev pub composite_pieces : MadSkin → Option ℕ → ℕ × ℕ → Bool → FmtComposite → List RowPiece
 composite_pieces skin outer margins right l =
@@ -114,15 +114,15 @@ composite_pieces skin outer margins right l =
     let blanks = outer_blanks style.align outer margins l in
     spaces skin.paragraph.compound_style blanks.0
     ++ (spaces style.compound_style (inner_blanks l).0
-    ++ (mark_pieces skin l.kind
+    ++ (prefix_pieces skin l.kind
     ++ (map (compound_piece skin style) l.compounds.items
     ++ (spaces style.compound_style (inner_blanks l).1
     ++ (if right then spaces skin.paragraph.compound_style blanks.1 else [])))))
 
--- the pieces of a composite that stands by itself: its style's left margin, its mark, and what its compounds say
+-- the pieces of a composite that stands by itself: its style's left margin, its prefix, and what its compounds say
 abbrev pub free_pieces : MadSkin → CompositeKind → List Run → List RowPiece
 free_pieces skin kind runs =
-    spaces skin.paragraph.compound_style (line_style skin kind).left_margin ++ (mark_pieces skin kind ++ map (run_piece skin (line_style skin kind)) runs)
+    spaces skin.paragraph.compound_style (line_style skin kind).left_margin ++ (prefix_pieces skin kind ++ map (run_piece skin (line_style skin kind)) runs)
 
 -- ---- a line of a table
 

@@ -8,16 +8,16 @@ use Rattle.mad_layout.specs.declared.skin.MadSkin.{MadSkin}
 use Rattle.mad_layout.specs.declared.composite.FmtComposite.{FmtComposite}
 use Rattle.mad_layout.specs.declared.table_rows.CellLines.{CellLines}
 
--- the lines of a cell that are left
-abbrev pub left : CellLines → List FmtComposite
-left p = into_iter_items p.lines
+-- the lines of a cell that are on no row yet
+abbrev pub lines_to_come : CellLines → List FmtComposite
+lines_to_come p = into_iter_items p.lines
 
--- the columns of cells, and what is left of each
+-- the columns of cells, and the lines to come of each
 abbrev pub columns_left : List CellLines → List Spacing
 columns_left parts = map (λ p. p.column) parts
 
 abbrev pub lines_left : List CellLines → List (List FmtComposite)
-lines_left parts = map left parts
+lines_left parts = map lines_to_come parts
 
 -- the cells are laid out, and nothing is on a row yet
 pub record AreCellsLeft (skin : MadSkin) (columns : List Spacing) (cells : List FmtComposite) (parts : List CellLines) : Type 0 where
@@ -31,4 +31,4 @@ TakesRow [] [] (q ∷ qs) = ⊥
 TakesRow [] (x ∷ xs) rest = ⊥
 TakesRow (p ∷ ps) [] rest = ⊥
 TakesRow (p ∷ ps) (x ∷ xs) [] = ⊥
-TakesRow (p ∷ ps) (x ∷ xs) (q ∷ qs) = IsTop p.column (left p) x × (q.column ≡ p.column) × (left q ≡ below (left p)) × TakesRow ps xs qs
+TakesRow (p ∷ ps) (x ∷ xs) (q ∷ qs) = IsTop p.column (lines_to_come p) x × (q.column ≡ p.column) × (lines_to_come q ≡ below (lines_to_come p)) × TakesRow ps xs qs

@@ -71,18 +71,18 @@ IsTop column [] x = IsBlankIn column x
 IsTop column (l ∷ ls) x = x ≡ in_column column l
 
 -- a row across the columns
-abbrev pub IsAcross : List Spacing → List (List FmtComposite) → List FmtComposite → Type 0
-IsAcross [] [] [] = Unit {0}
-IsAcross [] [] (x ∷ xs) = ⊥
-IsAcross [] (ls ∷ lines) xs = ⊥
-IsAcross (c ∷ cs) [] xs = ⊥
-IsAcross (c ∷ cs) (ls ∷ lines) [] = ⊥
-IsAcross (c ∷ cs) (ls ∷ lines) (x ∷ xs) = IsTop c ls x × IsAcross cs lines xs
+abbrev pub IsLineAcross : List Spacing → List (List FmtComposite) → List FmtComposite → Type 0
+IsLineAcross [] [] [] = Unit {0}
+IsLineAcross [] [] (x ∷ xs) = ⊥
+IsLineAcross [] (ls ∷ lines) xs = ⊥
+IsLineAcross (c ∷ cs) [] xs = ⊥
+IsLineAcross (c ∷ cs) (ls ∷ lines) [] = ⊥
+IsLineAcross (c ∷ cs) (ls ∷ lines) (x ∷ xs) = IsTop c ls x × IsLineAcross cs lines xs
 
 -- the rows, one below the other
 abbrev pub AreDown : List Spacing → List (List FmtComposite) → List FmtTableRow → Type 0
 AreDown columns lines [] = Unit {0}
-AreDown columns lines (row ∷ rows) = IsAcross columns lines row.cells.items × AreDown columns (map below lines) rows
+AreDown columns lines (row ∷ rows) = IsLineAcross columns lines row.cells.items × AreDown columns (map below lines) rows
 
 -- the count of lines of the cell that has the most
 abbrev pub tallest : List (List FmtComposite) → ℕ

@@ -62,14 +62,14 @@ aligns_at above (table_rule aligns) = Some aligns
 aligns_at above horizontal_rule = above
 
 -- where a line stands in a part; in a table without columns nothing tells its ends
-abbrev pub place_in : List LineContent → Bool → Bool → RelativePosition
-place_in part first last = if columns_among part == 0 then Other else position_at first last
+abbrev pub position_in : List LineContent → Bool → Bool → RelativePosition
+position_in part first last = if columns_among part == 0 then Other else position_at first last
 
 -- the lines of a part from one on, below these alignments; `first` says whether no line stands above
 abbrev pub lines_in : List LineContent → Option (List Alignment) → Bool → List LineContent → List LineInPart
 lines_in part above first [] = []
 lines_in part above first (l ∷ ls) =
-    record { part = part; line = l; aligns = aligns_at above l; position = place_in part first (length ls == 0) } ∷ lines_in part (aligns_at above l) false ls
+    record { part = part; line = l; aligns = aligns_at above l; position = position_in part first (length ls == 0) } ∷ lines_in part (aligns_at above l) false ls
 
 -- the lines of a text, each in its part
 abbrev pub lines_in_parts : List LineContent → List LineInPart

@@ -1,12 +1,12 @@
 //! Blocks of code among lines, as calls of their own.
 
 ghost use Rattle.std.specs.Prelude.{◌≡◌, ◌≤◌, ◌<◌, ◌+◌, length, IfOk};
-ghost use Rattle.mad_layout.specs.CodeBlocks.{IsBlockAt, blocks_placed, code_blocks, code_columns, placed_line, width_within};
+ghost use Rattle.mad_layout.specs.CodeBlocks.{IsClosedBlock, blocks_placed, code_blocks, code_columns, placed_line};
 
+use crate::laying::{is_code, width_within};
 use crate::line::FmtLine;
 use mad_fit::Spacing;
 use mad_md::Alignment;
-use mad_style::CompositeKind;
 use std::alloc::{AllocError, Global};
 
 /// A block of code among lines: as many lines of code in a row as there are.
@@ -78,19 +78,10 @@ pub fn justify_blocks(lines: &mut [FmtLine], room: Option<usize>)
     }
 }
 
-fn width_within(width: usize, room: Option<usize>) -> usize
-    ensures { result ≡ width_within room width }
-{
-    match room {
-        Some(room) => width.min(room),
-        None => width,
-    }
-}
-
 // The block that begins at this line; one without lines, where none does.
 fn block_at(lines: &[FmtLine], start: usize) -> CodeBlock
     requires { start ≤ length lines.now }
-    ensures { IsBlockAt lines.now start result }
+    ensures { IsClosedBlock lines.now start result }
 {
     let mut height = 0;
     let mut width = 0;
@@ -117,10 +108,7 @@ fn code_columns(line: &FmtLine) -> Option<usize>
     ensures { result ≡ code_columns line.now }
 {
     match line {
-        FmtLine::Normal(composite) => match composite.kind {
-            CompositeKind::Code => Some(composite.visible_length),
-            _ => None,
-        },
+        FmtLine::Normal(composite) if is_code(composite.kind) => Some(composite.visible_length),
         _ => None,
     }
 }

@@ -1,11 +1,10 @@
 //! Composites with their measured length.
 
-ghost use Rattle.std.specs.Prelude.{◌≡◌, ◌≤◌, ◌+◌, ◌++◌, ◌∷◌, [], min, IfOk, OnOk, OnErr, MatchOption};
+ghost use Rattle.std.specs.Prelude.{◌≡◌, ◌≤◌, ◌+◌, ◌++◌, ◌∷◌, [], IfOk, OnOk, OnErr, MatchOption};
 ghost use Rattle.mad_fit.specs.Columns.{width_of};
 ghost use Rattle.mad_fit.specs.Completions.{Completes};
-ghost use Rattle.mad_md.specs.Flagged.{flagged_of, flagged_text};
+ghost use Rattle.mad_md.specs.Flagged.{flagged_of};
 
-use crate::indents::indent_of;
 use crate::skin::MadSkin;
 use mad_fit::{Spacing, columns};
 use mad_md::{Composite, Compound};
@@ -40,27 +39,11 @@ impl<'s> FmtComposite<'s> {
         ensures spacing { result.spacing ≡ None }
         ensures margins { result.margins ≡ None }
     {
-        Self::begun(alloc, CompositeKind::Paragraph, 0, None)
-    }
-
-    /// A line without text, with the columns in front of it.
-    pub(crate) fn begun(
-        alloc: Global,
-        kind: CompositeKind,
-        indent: usize,
-        spacing: Option<Spacing>,
-    ) -> Self
-        ensures kind { result.kind ≡ kind }
-        ensures empty { result.compounds.items ≡ [] }
-        ensures length { result.visible_length ≡ capped indent }
-        ensures spacing { result.spacing ≡ spacing }
-        ensures margins { result.margins ≡ None }
-    {
         FmtComposite {
-            kind,
+            kind: CompositeKind::Paragraph,
             compounds: Vec::new(alloc),
-            visible_length: indent,
-            spacing,
+            visible_length: 0,
+            spacing: None,
             margins: None,
         }
     }
@@ -85,7 +68,7 @@ impl<'s> FmtComposite<'s> {
         }
     }
 
-    /// A paragraph of one compound.
+    /// A paragraph of one compound. Only out of memory is an error.
     pub fn from_compound(alloc: Global, compound: Compound<'s>) -> Result<Self, AllocError>
         ensures kind { IfOk result (λ l. l.kind ≡ CompositeKind.Paragraph) }
         ensures text { IfOk result (λ l. l.compounds.items ≡ compound.entry ∷ []) }
@@ -98,7 +81,7 @@ impl<'s> FmtComposite<'s> {
         Ok(composite)
     }
 
-    /// A copy, which borrows the same texts.
+    /// A copy, which borrows the same texts. Only out of memory is an error.
     pub fn try_clone(&self, alloc: Global) -> Result<Self, AllocError>
         ensures kind { IfOk result (λ l. l.kind ≡ self.now.kind) }
         ensures text { IfOk result (λ l. l.compounds.items ≡ self.now.compounds.items) }
@@ -147,24 +130,9 @@ impl<'s> FmtComposite<'s> {
         ensures spacing { self.new.spacing ≡ self.old.spacing }
         ensures margins { self.new.margins ≡ self.old.margins }
     {
-        self.add_measured(compound, columns(compound.src))
-    }
-
-    /// Puts a compound after the others, whose columns are known.
-    pub(crate) fn add_measured(
-        &mut self,
-        compound: Compound<'s>,
-        width: usize,
-    ) -> Result<(), AllocError>
-        ensures text { OnOk result (self.new.compounds.items ≡ self.old.compounds.items ++ compound.entry ∷ []) }
-        ensures length { OnOk result (self.new.visible_length ≡ capped (self.old.visible_length + width)) }
-        ensures refused { OnErr result ((self.new.compounds.items ≡ self.old.compounds.items) × (self.new.visible_length ≡ self.old.visible_length)) }
-        ensures kind { self.new.kind ≡ self.old.kind }
-        ensures spacing { self.new.spacing ≡ self.old.spacing }
-        ensures margins { self.new.margins ≡ self.old.margins }
-    {
+        let columns = columns(compound.src);
         self.compounds.push(compound)?;
-        self.visible_length = self.visible_length.saturating_add(width);
+        self.visible_length = self.visible_length.saturating_add(columns);
         Ok(())
     }
 }

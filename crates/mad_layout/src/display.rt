@@ -2,7 +2,7 @@
 
 ghost use Rattle.std.specs.Prelude.{◌≡◌, ℕ, Some, if◌then◌else◌};
 ghost use Rattle.mad_draw.specs.Pieces.{pieces_bytes};
-ghost use Rattle.mad_layout.specs.Rows.{mark_pieces, left_of_place, right_of_place};
+ghost use Rattle.mad_layout.specs.Rows.{prefix_pieces, left_of_place, right_of_place};
 ghost use Rattle.mad_wrap.specs.WrapLines.{capped};
 ghost use Rattle.mad_style.specs.StyledChars.{styled_char};
 
@@ -23,12 +23,12 @@ use std::fmt::{self, Display};
 
 // What stands in front of a line's text.
 #[derive(Clone, Copy)]
-struct Mark<'a> {
+struct Prefix<'a> {
     skin: &'a MadSkin,
     kind: CompositeKind,
 }
 
-impl Mark<'_> {
+impl Prefix<'_> {
     fn spaces(&self, count: usize) -> SingleSpaces
         ensures { result ≡ record { style = self.now.skin.now.paragraph.compound_style; count = count } }
     {
@@ -39,8 +39,8 @@ impl Mark<'_> {
     }
 }
 
-impl fmt::Display for Mark<'_> {
-    ghost output = { λ m. Some (pieces_bytes (mark_pieces m.skin.now m.kind)) };
+impl fmt::Display for Prefix<'_> {
+    ghost output = { λ m. Some (pieces_bytes (prefix_pieces m.skin.now m.kind)) };
 
     fn fmt<W: fmt::Write>(&self, f: &mut fmt::Formatter<W>) -> fmt::Result {
         let space = self.spaces(1);
@@ -74,7 +74,7 @@ impl fmt::Display for Mark<'_> {
     }
 }
 
-/// What stands in front of a composite's text: blanks outside of its place and in it, and its mark.
+/// What stands in front of a composite's text: blanks outside of its place and in it, and its prefix.
 #[derive(Clone, Copy)]
 pub(crate) struct CompositeFront<'a> {
     pub skin: &'a MadSkin,
@@ -88,7 +88,7 @@ impl fmt::Display for CompositeFront<'_> {
     ghost use Rattle.std.specs.Prelude.{◌++◌};
     ghost use Rattle.mad_draw.specs.Pieces.{spaces};
 
-    ghost output = { λ c. Some (pieces_bytes (spaces c.skin.now.paragraph.compound_style c.outer ++ (spaces c.style.now.compound_style c.inner ++ mark_pieces c.skin.now c.kind))) };
+    ghost output = { λ c. Some (pieces_bytes (spaces c.skin.now.paragraph.compound_style c.outer ++ (spaces c.style.now.compound_style c.inner ++ prefix_pieces c.skin.now c.kind))) };
 
     fn fmt<W: fmt::Write>(&self, f: &mut fmt::Formatter<W>) -> fmt::Result {
         let outer = Spaces {
@@ -99,13 +99,13 @@ impl fmt::Display for CompositeFront<'_> {
             style: self.style.compound_style,
             count: self.inner,
         };
-        let mark = Mark {
+        let prefix = Prefix {
             skin: self.skin,
             kind: self.kind,
         };
         outer.fmt(f)?;
         inner.fmt(f)?;
-        mark.fmt(f)
+        prefix.fmt(f)
     }
 }
 
@@ -415,7 +415,7 @@ impl fmt::Display for PlacedRow<'_, '_> {
     }
 }
 
-/// A composite that stands by itself: its style's left margin, its mark and its compounds.
+/// A composite that stands by itself: its style's left margin, its prefix and its compounds.
 #[derive(Clone, Copy)]
 pub(crate) struct FreeComposite<'a, 's> {
     pub skin: &'a MadSkin,
@@ -434,7 +434,7 @@ impl fmt::Display for FreeComposite<'_, '_> {
             style: self.skin.paragraph.compound_style,
             count: style.left_margin,
         };
-        let mark = Mark {
+        let prefix = Prefix {
             skin: self.skin,
             kind,
         };
@@ -443,7 +443,7 @@ impl fmt::Display for FreeComposite<'_, '_> {
             style,
             compounds: &self.composite.compounds,
         };
-        write!(f, "{margin}{mark}{compounds}")
+        write!(f, "{margin}{prefix}{compounds}")
     }
 }
 

@@ -23,7 +23,7 @@ use std::alloc::{AllocError, Global};
 /// line there are spaces in the paragraph's style. Nothing is flushed.
 ///
 /// The area's right and bottom have to fit a `u16`. The lines are drawn as they are: one that is wider than the area, as
-/// one of a text that was laid out for a wider place, leaves it. Each row goes to the device in one piece.
+/// one of a text that was laid out for a wider place, leaves it. Each row goes to the device in one put, as long as that takes all of it.
 ///
 /// # Errors
 ///
@@ -38,9 +38,9 @@ pub fn draw_text<O: Out>(
     requires { IsWithinLimits area.now }
     ensures writes { Draws (O.seen out.old) (area_bytes text.now.skin.now text.now.lines.items area.now scroll) result (O.seen out.new) }
 
-    // What a plain terminal shows that reads it, where each line that has a row, as a layout left it, fits the area with its
-    // margins, no piece of it holds a control character or begins with a widthless one, and each character of a prefix, a rule
-    // and a border takes one column.
+    // What a plain terminal shows that reads it. Asked is of each line that has a row, as a layout left it: with its margins it fits the
+    // area. No piece of it holds a control character or begins with a widthless one. Each character of a prefix, a rule and a border
+    // takes one column.
     ensures shown { OnOk result (AreDrawable text.now.skin.now area.now.width (lines_shown text.now.lines.items area.now scroll)
         → TookWith (O.seen out.old) (O.seen out.new) (AreShownIn text.now.skin.now text.now.lines.items area.now scroll)) }
 

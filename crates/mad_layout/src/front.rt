@@ -1,4 +1,4 @@
-//! The first lines of a text, laid out: as many as an area has rows.
+//! The first lines of a text, laid out: enough of them to take at least the rows of an area.
 
 ghost use Rattle.std.specs.Prelude.{◌≡◌, ◌-◌, ◌&&◌, false, not, IfOk, List, Some};
 ghost use Rattle.mad_md.specs.Lines.{LineContent, content_of};
@@ -17,7 +17,8 @@ use mad_style::CompositeKind;
 use std::alloc::{AllocError, Global};
 
 impl MadSkin {
-    // The first lines of a Markdown text, laid out for an area: as many as it has rows, or all of them.
+    /// The first lines of a Markdown text, laid out for an area: enough to take at least its rows, or all of them. Only out of memory is
+    /// an error.
     pub(crate) fn area_front<'k, 's>(
         &'k self,
         alloc: Global,

@@ -1,15 +1,15 @@
 //! The columns in front of lines, by kind and mode.
 
 ghost use Rattle.std.specs.Prelude.{◌≡◌, ◌<◌, ◌^◌};
-ghost use Rattle.mad_layout.specs.Indents.{follow_up, indent, kept};
+ghost use Rattle.mad_layout.specs.Indents.{follow_up, indent, later_indent};
 
 use crate::skin::MadSkin;
 use mad_style::{CompositeKind, ListItemsIndentationMode, ordered_item_indent};
 
 /// The columns in front of the first line of a composite of this kind, and in front of its other lines.
 ///
-/// These are the columns of bullets, numbers and quote marks with their spaces. In the lines that follow, an item has as many
-/// blanks in block mode, none where only the first line is indented, and more than in block mode where items hang.
+/// These are the columns of bullets, numbers and quote marks with their spaces. On later lines an item has as many blanks in block mode, and
+/// more where items hang. Where only the first line is indented it has none.
 pub fn composite_kind_widths(kind: CompositeKind, skin: &MadSkin) -> (usize, usize)
     ensures first { result.0 ≡ indent skin.now.list_items_indentation_mode kind }
     ensures other { result.1 ≡ indent skin.now.list_items_indentation_mode (follow_up kind) }
@@ -37,10 +37,10 @@ pub(crate) fn indent_of(kind: CompositeKind, mode: ListItemsIndentationMode) -> 
 {
     match kind {
         CompositeKind::ListItem(depth) => 2 + depth as usize,
-        CompositeKind::ListItemFollowUp(depth) => kept(mode, 2 + depth as usize),
+        CompositeKind::ListItemFollowUp(depth) => later_indent(mode, 2 + depth as usize),
         CompositeKind::OrderedListItem { level, index } => ordered_item_indent(level, index),
         CompositeKind::OrderedListItemFollowUp { level, index } => {
-            kept(mode, ordered_item_indent(level, index))
+            later_indent(mode, ordered_item_indent(level, index))
         }
         CompositeKind::Quote => 2,
         CompositeKind::Paragraph | CompositeKind::Header(_) | CompositeKind::Code => 0,
@@ -48,9 +48,9 @@ pub(crate) fn indent_of(kind: CompositeKind, mode: ListItemsIndentationMode) -> 
 }
 
 // What a mode makes of an item's indent on the lines that follow.
-fn kept(mode: ListItemsIndentationMode, indent: usize) -> usize
+fn later_indent(mode: ListItemsIndentationMode, indent: usize) -> usize
     requires { indent < 2 ^ 16 }
-    ensures { result ≡ kept mode indent }
+    ensures { result ≡ later_indent mode indent }
 {
     match mode {
         ListItemsIndentationMode::FirstLineOnly => 0,

@@ -1,5 +1,5 @@
-//! Laws, each the contract of a small function: what the layout of given tables is, and that tables fit their place; and an example whose
-//! premises are proved, a text that is written in an area, and what a screen shows that reads it.
+//! Laws, each the contract of a small function: what the layout of given tables is, that tables fit their place, and what is no layout. And an
+//! example whose premises are proved: a text that is written in an area, and what a screen shows that reads it.
 
 ghost use Rattle.std.specs.Prelude.{◌≡◌, ◌∷◌, [], Err, IfOk, OnErr, OnOk, Some};
 ghost use Rattle.mad_term.specs.declared.errors.Error.TheVariants.{InsufficientWidth, Memory};
@@ -12,6 +12,7 @@ ghost use Rattle.mad_layout.specs.Sources.{LinesTakeColumns};
 ghost use Rattle.mad_layout.specs.TableLaws.{AreWorkedTables, AreNoTables, AreNoRules};
 ghost use Rattle.mad_layout.specs.CompositeWraps.{IsCompositeWrap};
 ghost use Rattle.mad_layout.specs.FittingLayouts.{IsFittingWrap};
+ghost use Rattle.mad_layout.specs.LayoutExamples.{LastLinesWidthIsRefused, LongLineLeftIsRefused, MarginsTestedAgainAreRefused};
 ghost use Rattle.mad_layout.specs.LayoutLaws.{PassesAreParts, PartsArePasses};
 ghost use Rattle.mad_layout.specs.PlainTables.{TablesFit};
 ghost use Rattle.mad_layout.specs.Words.{corner, words, SpacesAreNoText};
@@ -56,14 +57,21 @@ pub fn passes_are_parts()
     ensures fitting_parts { PartsArePasses IsFittingWrap }
 {}
 
+/// None of these lines is a layout: a definition that got weaker would let one through.
+pub fn wrong_layouts()
+    ensures margins_tested_again { MarginsTestedAgainAreRefused }
+    ensures long_line_left { LongLineLeftIsRefused }
+    ensures last_lines_width { LastLinesWidthIsRefused }
+{}
+
 /// The definition of a table's layout gives worked tables their widths.
 #[tactic(auto, using(crate::proofs::WorkedTables::worked_tables))]
 pub fn worked_tables()
     ensures { AreWorkedTables }
 {}
 
-/// Widths are not a table's where their sum is one too few, or where a column is dropped that has room; rows are not a row's where
-/// a line of a cell stands in another column, or a cell is missing.
+/// Widths are not a table's where their sum is one too few, or where a column is dropped that has room. Rows are not a row's where a line
+/// is in another column, cells are missing or too many, or a cell has another place.
 #[tactic(auto, using(crate::proofs::WorkedTables::no_tables))]
 pub fn other_tables_are_refused()
     ensures { AreNoTables }

@@ -4,9 +4,9 @@ ghost use Rattle.std.specs.Prelude.{◌≡◌, ◌≤◌, ◌++◌, ◌∷◌, [
 ghost use Rattle.std.specs.List.{AllByRecursion};
 ghost use Rattle.mad_md.specs.Lines.{LineContent, content_of, normal, horizontal_rule, styled_runs};
 ghost use Rattle.mad_layout.specs.CompositeWraps.{IsCompositeWrap};
-ghost use Rattle.mad_layout.specs.Laying.{IsOpenRun, IsLaidFor, IsBlockAt, IsTableAt, IsRunAt};
+ghost use Rattle.mad_layout.specs.Laying.{AreOpenParts, IsLaidFor, IsBlockAt, IsTableAt, ArePartsClosed};
 ghost use Rattle.mad_layout.specs.Lines.{IsLineRead, IsCompositeRead};
-ghost use Rattle.mad_layout.specs.Parts.{is_code_kind, is_code_line, widest, block_width, placed_code, code_room, table_width, wrap_width, IsLineAt};
+ghost use Rattle.mad_layout.specs.Parts.{is_code_kind, widest, block_width, width_within, placed_code, code_room, table_width, wrap_width, IsLineAt};
 ghost use Rattle.mad_layout.specs.Tables.{is_table_line};
 ghost use Rattle.mad_layout.specs.WrappedLines.{AllMeasured, IsLineMeasured};
 ghost use Rattle.mad_layout.specs.Wraps.{IsMeasured};
@@ -55,8 +55,8 @@ impl<'s> Laying<'s> {
         width: Option<usize>,
         skin: &MadSkin,
     ) -> Result<(), AllocError>
-        requires run { IsOpenRun skin.now self.old.block.items self.old.table.items }
-        ensures run { OnOk result (IsOpenRun skin.now self.new.block.items self.new.table.items) }
+        requires run { AreOpenParts skin.now self.old.block.items self.old.table.items }
+        ensures run { OnOk result (AreOpenParts skin.now self.new.block.items self.new.table.items) }
         ensures laid { OnOk result ((all rest : List LineContent) → IsLaidFor skin.now width all (content_of line.entry ∷ rest) self.old.lines.items self.old.block.items self.old.table.items
             → IsLaidFor skin.now width all rest self.new.lines.items self.new.block.items self.new.table.items) }
     {
@@ -78,8 +78,8 @@ impl<'s> Laying<'s> {
         width: Option<usize>,
         skin: &MadSkin,
     ) -> Result<(), AllocError>
-        requires run { IsOpenRun skin.now self.old.block.items self.old.table.items }
-        ensures run { OnOk result (IsOpenRun skin.now self.new.block.items self.new.table.items) }
+        requires run { AreOpenParts skin.now self.old.block.items self.old.table.items }
+        ensures run { OnOk result (AreOpenParts skin.now self.new.block.items self.new.table.items) }
         ensures laid { OnOk result ((all rest : List LineContent) → IsLaidFor skin.now width all (normal (styled_runs composite.entry) ∷ rest) self.old.lines.items self.old.block.items self.old.table.items
             → IsLaidFor skin.now width all rest self.new.lines.items self.new.block.items self.new.table.items) }
     {
@@ -102,8 +102,8 @@ impl<'s> Laying<'s> {
     ) -> Result<(), AllocError>
         requires line { is_table_line line ≡ true }
         requires measured { IsLineMeasured skin.now line }
-        requires run { IsOpenRun skin.now self.old.block.items self.old.table.items }
-        ensures run { OnOk result (IsOpenRun skin.now self.new.block.items self.new.table.items) }
+        requires run { AreOpenParts skin.now self.old.block.items self.old.table.items }
+        ensures run { OnOk result (AreOpenParts skin.now self.new.block.items self.new.table.items) }
         ensures laid { OnOk result ((content : LineContent) (all rest : List LineContent) → IsLineRead skin.now content line.entry
             → IsLaidFor skin.now width all (content ∷ rest) self.old.lines.items self.old.block.items self.old.table.items
             → IsLaidFor skin.now width all rest self.new.lines.items self.new.block.items self.new.table.items) }
@@ -120,8 +120,8 @@ impl<'s> Laying<'s> {
         width: Option<usize>,
         skin: &MadSkin,
     ) -> Result<(), AllocError>
-        requires run { IsOpenRun skin.now self.old.block.items self.old.table.items }
-        ensures run { OnOk result (IsOpenRun skin.now self.new.block.items self.new.table.items) }
+        requires run { AreOpenParts skin.now self.old.block.items self.old.table.items }
+        ensures run { OnOk result (AreOpenParts skin.now self.new.block.items self.new.table.items) }
         ensures laid { OnOk result ((all rest : List LineContent) → IsLaidFor skin.now width all (horizontal_rule ∷ rest) self.old.lines.items self.old.block.items self.old.table.items
             → IsLaidFor skin.now width all rest self.new.lines.items self.new.block.items self.new.table.items) }
     {
@@ -137,10 +137,10 @@ impl<'s> Laying<'s> {
         width: Option<usize>,
         skin: &MadSkin,
     ) -> Result<(), AllocError>
-        requires run { IsOpenRun skin.now self.old.block.items self.old.table.items }
+        requires run { AreOpenParts skin.now self.old.block.items self.old.table.items }
         ensures block { OnOk result (self.new.block.items ≡ []) }
         ensures table { OnOk result (self.new.table.items ≡ []) }
-        ensures laid { OnOk result ((own : List FmtLine) × (self.new.lines.items ≡ self.old.lines.items ++ own) × IsRunAt skin.now width self.old.block.items self.old.table.items own) }
+        ensures laid { OnOk result ((own : List FmtLine) × (self.new.lines.items ≡ self.old.lines.items ++ own) × ArePartsClosed skin.now width self.old.block.items self.old.table.items own) }
     {
         self.close_block(alloc, width, skin)?;
         self.close_table(alloc, width, skin)
@@ -208,6 +208,7 @@ pub(crate) fn wrap_width(width: Option<usize>) -> Option<usize>
     }
 }
 
+/// Whether a composite of this kind is code.
 pub(crate) fn is_code(kind: CompositeKind) -> bool
     ensures { result ≡ is_code_kind kind }
 {
@@ -230,10 +231,16 @@ fn room_of_code(width: Option<usize>, skin: &MadSkin) -> Option<usize>
 fn block_width(block: &[FmtComposite], room: Option<usize>) -> usize
     ensures { result ≡ block_width room block.now }
 {
-    let widest = widest(block);
+    width_within(widest(block), room)
+}
+
+/// A width, at most the room, if there is a limit.
+pub(crate) fn width_within(width: usize, room: Option<usize>) -> usize
+    ensures { result ≡ width_within room width }
+{
     match room {
-        Some(room) => widest.min(room),
-        None => widest,
+        Some(room) => width.min(room),
+        None => width,
     }
 }
 

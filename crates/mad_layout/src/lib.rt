@@ -4,19 +4,19 @@
 //!
 //! 1. [`skin`]: the styles of a text's parts. `made_skins`, `skin_setters`: skins for a background, and changes of
 //!    several parts.
-//! 2. [`indents`], [`room`]: the columns that a line of a kind has for its text.
+//! 2. `indents`, [`room`]: the columns that a line of a kind has for its text.
 //! 3. [`composite`], [`line`]: a line with its cached width.
 //! 4. [`wrap`]: wrapping composites and lists of lines, with the fewest lines.
 //! 5. [`bound`]: starts of lines that show that no fitting break has fewer.
 //! 6. [`table`]: lines of a table. `table_columns`, [`table_rows`], [`table_layout`]: the widths of its columns, the rows that a row
 //!    becomes, and whole tables. `laying`: lines laid out one after another, tables and blocks of code as wholes.
 //!    [`code_blocks`]: finding and placing blocks by themselves.
-//!    [`fmt_text`], [`fmt_inline`]: reading a text and laying it out; reading one line.
+//!    [`fmt_text`], [`fmt_inline`]: reading a text and laying it out; reading one line. `front`: the first lines of a text, for an area.
 //! 7. `rows`: what is written of a line, piece by piece.
 //! 8. [`drawing`]: the rows of a text in an area of the screen.
-//! 9. `writing`, `text_writing`, `parts_writing`: the writing calls of a skin; `display`: texts as displayed values;
-//!    `row_writing`: lines put after a string.
-//! 10. [`laws`], [`examples`]: an example whose premises are proved, and wrong layouts that the definitions refuse.
+//! 9. `writing`, `text_writing`, `parts_writing`: the writing calls of a skin; `display`, [`displayable_line`]: texts and lines as displayed
+//!    values; `row_writing`: lines put after a string.
+//! 10. [`laws`]: laws of layouts, an example whose premises are proved, and wrong layouts that the definitions refuse.
 #![tactic(auto)]
 
 pub mod bound;
@@ -25,10 +25,9 @@ pub mod composite;
 mod display;
 pub mod displayable_line;
 pub mod drawing;
-pub mod examples;
 pub mod fmt_inline;
 pub mod fmt_text;
-pub mod front;
+mod front;
 mod indents;
 pub mod laws;
 mod laying;

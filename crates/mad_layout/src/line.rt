@@ -47,8 +47,8 @@ impl<'s> FmtLine<'s> {
         matches!(self, FmtLine::TableRow(_) | FmtLine::TableRule(_))
     }
 
-    /// The columns that the line takes, by its cached lengths: of a row of a table those of its cells, of a rule across one
-    /// each column's and one more, and one for its end, or two without columns, of a rule across the place none.
+    /// The columns of the line, by its cached lengths. A row of a table counts its cells, without borders. A rule across one counts its
+    /// columns and borders, and two without columns. A rule across the place counts none.
     pub fn visible_length(&self) -> usize
         ensures { result ≡ columns_of_line self.now }
     {

@@ -34,8 +34,8 @@ impl MadSkin {
         skin
     }
 
-    /// Replaces the characters that are not ASCII: `*` for a bullet, `>` for the mark of a quote, `-` for a rule,
-    /// and the ASCII borders. Scroll bars stay as they are.
+    /// Sets `*` for bullets, `>` for quotes, `-` for rules, and the ASCII borders, whatever was there. Scroll bars and the characters after
+    /// numbers stay as they are.
     pub fn limit_to_ascii(&mut self)
         ensures { self.new ≡ limited_to_ascii self.old }
     {

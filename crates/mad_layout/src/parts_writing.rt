@@ -20,7 +20,7 @@ use mad_term::{Error, Out, put_all};
 use std::alloc::Global;
 
 // Rows are kept until they have these many bytes.
-const KEPT: usize = 16384;
+const ROWS_TO_SEND: usize = 16384;
 
 // Which lines a line is in one part with: lines of code, lines of a table, or none.
 #[derive(Clone, Copy)]
@@ -95,7 +95,7 @@ fn hand_on<O: Out>(
 fn send<O: Out>(out: &mut O, rows: &mut String) -> Result<(), Error>
     ensures { HandsOn (O.seen out.old) (string_bytes rows.old) result (O.seen out.new) (string_bytes rows.new) }
 {
-    if rows.len() >= KEPT {
+    if rows.len() >= ROWS_TO_SEND {
         put_all(out, rows.as_bytes())?;
         rows.clear();
     }

@@ -7,7 +7,7 @@ ghost use Rattle.mad_style.specs.StyledChars.{char_style};
 ghost use Rattle.mad_layout.specs.declared.line.FmtLine.TheVariants.{Normal, TableRow, TableRule};
 ghost use Rattle.mad_draw.specs.Pieces.{AreKnown};
 ghost use Rattle.std.specs.List.{flat_map};
-ghost use Rattle.mad_layout.specs.Rows.{mark_pieces, cell_pieces, line_pieces, row_pieces, inner_blanks, inner_columns, outer_blanks, margins_of, most_columns, row_columns, rule_chars};
+ghost use Rattle.mad_layout.specs.Rows.{prefix_pieces, cell_pieces, line_pieces, row_pieces, inner_blanks, inner_columns, outer_blanks, margins_of, most_columns, row_columns, rule_chars};
 ghost use Rattle.mad_layout.specs.Styles.{AreKnownAdditions};
 ghost use Rattle.mad_wrap.specs.WrapLines.{capped};
 
@@ -159,7 +159,7 @@ fn read_composite(skin: &MadSkin, composite: &FmtComposite, width: usize)
     let style = skin.line_style(composite.kind);
     read_style(skin.paragraph.compound_style);
     read_style(style.compound_style);
-    read_mark(skin, composite.kind);
+    read_prefix(skin, composite.kind);
     read_compounds(skin);
 }
 
@@ -197,14 +197,14 @@ fn read_cell(skin: &MadSkin, cell: &FmtComposite)
     read_style(skin.table.compound_style);
     read_style(skin.paragraph.compound_style);
     read_style(style.compound_style);
-    read_mark(skin, cell.kind);
+    read_prefix(skin, cell.kind);
     read_compounds(skin);
 }
 
 // What the pieces in front of a line's text need.
 #[tactic(auto, using(crate::proofs::KnownLemmas::spaced_known, mad_draw::proofs::PieceLemmas::single_known))]
-fn read_mark(skin: &MadSkin, kind: CompositeKind)
-    ensures { AreKnown (mark_pieces skin.now kind) }
+fn read_prefix(skin: &MadSkin, kind: CompositeKind)
+    ensures { AreKnown (prefix_pieces skin.now kind) }
 {
     read_style(skin.paragraph.compound_style);
     match kind {

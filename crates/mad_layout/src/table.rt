@@ -12,7 +12,7 @@ use std::alloc::{AllocError, Global};
 /// A row of a table.
 #[derive(Debug, Drop)]
 pub struct FmtTableRow<'s> {
-    /// Its cells, one for each column.
+    /// Its cells; once it is laid out, one for each kept column.
     pub cells: Vec<FmtComposite<'s>>,
 }
 
@@ -71,7 +71,7 @@ impl FmtTableRule {
 
     /// Cuts the rule's columns to `nbcols`, or fills them up: with the width 0, and the alignment Unspecified.
     ///
-    /// Only out of memory is an error.
+    /// Only out of memory is an error, which can leave the widths changed.
     pub fn set_nbcols(&mut self, nbcols: usize) -> Result<(), AllocError>
         ensures widths { OnOk result (self.new.widths.items ≡ resized nbcols 0 self.old.widths.items) }
         ensures aligns { OnOk result (self.new.aligns.items ≡ resized nbcols Unspecified self.old.aligns.items) }

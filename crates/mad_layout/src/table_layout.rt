@@ -1,6 +1,6 @@
 //! Layout of tables, in one pass from front to back.
 
-ghost use Rattle.std.specs.Prelude.{◌≡◌, ◌≤◌, ◌+◌, ◌++◌, true, List, map, length, take, drop, IfOk, OnOk};
+ghost use Rattle.std.specs.Prelude.{◌≡◌, ◌≤◌, ◌<◌, ◌+◌, ◌++◌, true, List, map, length, take, drop, IfOk, OnOk};
 ghost use Rattle.std.specs.Vec.Iter.{into_iter_items};
 ghost use Rattle.mad_layout.specs.CompositeWraps.{IsCompositeWrap};
 ghost use Rattle.mad_layout.specs.Parts.{AreTablesLaidOut};
@@ -34,7 +34,7 @@ impl Table {
     /// Lays the table out at a width, in columns: its lines are replaced by those that they become, and its height is then
     /// the count of these. The other lines stay. Without columns or without width nothing changes.
     ///
-    /// Its lines have to be there, and their cached lengths have to be right. All lines are taken once from front to back. Only out of
+    /// Its lines have to be there, and their cached lengths have to be right. Without lines it may begin anywhere. All lines are taken once from front to back. Only out of
     /// memory is an error, and leaves some of the lines.
     pub fn fix_columns<'s>(
         &mut self,
@@ -43,7 +43,7 @@ impl Table {
         width: usize,
         skin: &MadSkin,
     ) -> Result<(), AllocError>
-        requires there { self.old.start + self.old.height ≤ length lines.old.items }
+        requires there { 0 < self.old.height → self.old.start + self.old.height ≤ length lines.old.items }
         requires measured { AllMeasured skin.now (take self.old.height (drop self.old.start lines.old.items)) }
         ensures lines { OnOk result ((own : List FmtLine)
             × (lines.new.items ≡ take self.old.start lines.old.items ++ (own ++ drop (self.old.start + self.old.height) lines.old.items))

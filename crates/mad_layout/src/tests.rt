@@ -187,7 +187,7 @@ fn items_without_and_with_room(rt: HostRuntime) -> Result<(), Error> {
 }
 
 #[test]
-fn starts_that_show_nothing(rt: HostRuntime) -> Result<(), Error> {
+fn starts_of_two_lines_checked(rt: HostRuntime) -> Result<(), Error> {
     let alloc = rt.alloc();
     let skin = plain_skin();
     let composite = composite(alloc, "aaa bb cc", CompositeStyle::Paragraph, &skin)?;
@@ -282,25 +282,6 @@ fn indents_in_each_mode(rt: HostRuntime) {
             let skin = skin_with(0, 0, *mode);
             assert_eq!(rt; composite_kind_widths(kind, &skin), *wanted, "{kind:?}");
         }
-    }
-}
-
-#[test]
-fn a_header_of_level_zero_is_a_paragraph(rt: HostRuntime) {
-    let mut skin = skin_with(1, 0, ListItemsIndentationMode::Block);
-    skin.headers[0].left_margin = 2;
-    skin.headers[7].left_margin = 3;
-    skin.code_block.left_margin = 4;
-    let rows = [
-        (CompositeKind::Header(0), 1),
-        (CompositeKind::Header(1), 2),
-        (CompositeKind::Header(8), 3),
-        (CompositeKind::Header(9), 1),
-        (CompositeKind::Code, 4),
-        (CompositeKind::Quote, 1),
-    ];
-    for (kind, margin) in rows {
-        assert_eq!(rt; skin.line_style(kind).left_margin, margin, "{kind:?}");
     }
 }
 

@@ -2,7 +2,7 @@
 
 ghost use Rattle.std.specs.Prelude.{◌≡◌, ◌≤◌, ◌<◌, ◌⊎◌, ◌++◌, ◌↔◌, List, map, IfOk, IfErr, OnOk, IsTrue};
 ghost use Rattle.mad_md.specs.Lines.{styled_runs};
-ghost use Rattle.mad_layout.specs.CompositeWraps.{AreComposites, IsCompositeWrap};
+ghost use Rattle.mad_layout.specs.CompositeWraps.{AreComposites, IsCompositeWrap, composite_of};
 ghost use Rattle.mad_layout.specs.Indents.{follow_up};
 ghost use Rattle.mad_layout.specs.Lines.{IsCompositeRead};
 ghost use Rattle.mad_layout.specs.WrappedLines.{AllMeasured, AllFit, AreLinesWrapped, IsLineMeasured, IsLineWrapped, IsWrapped, LineFits, line_with};
@@ -13,7 +13,7 @@ ghost use Rattle.mad_term.specs.declared.errors.Error.TheVariants.{InsufficientW
 use crate::composite::FmtComposite;
 use crate::indents::follow_up;
 use crate::line::FmtLine;
-use crate::room::{LEAST_WIDTH, Room, check_width, room_of};
+use crate::room::{Room, check_width, room_of};
 use crate::skin::MadSkin;
 use mad_fit::Spacing;
 use mad_md::Composite;
@@ -25,8 +25,8 @@ use std::alloc::{AllocError, Global};
 /// Wraps a composite that is wider than `width` columns, in the fewest lines.
 ///
 /// The lines keep the composite's text but for whitespace between them and after the last, and no fitting break has fewer.
-/// Where each character has room after the greater indent, each line fits. Two compounds that fit on a line each, also round
-/// one of whitespace, are cut there. Any other text is cut into tokens, which are placed one after the other. The first line
+/// Where each character has room after the greater indent, each line fits. Two compounds that fit on a line each, with or
+/// without one of whitespace between them, are cut there. Any other text is cut into tokens, which are placed one after the other. The first line
 /// has the composite's kind, and the others the kind that follows it; all have its spacing, and no margins.
 ///
 /// The composite has to be wider than the width, and its cached length right. A width under 3 is refused. The time is
@@ -77,25 +77,36 @@ fn composites<'s>(
     let mut kind = kind;
     let mut indent = room.first;
     for line in lines {
-        let WrappedLine { compounds, columns } = line;
-        composites.push(FmtComposite {
-            kind,
-            compounds,
-            visible_length: columns.saturating_add(indent),
-            spacing,
-            margins: None,
-        })?;
+        composites.push(composite_of(line, kind, indent, spacing))?;
         kind = follow_up(kind);
         indent = room.other;
     }
     Ok(composites)
 }
 
+// A wrapped line as a composite of this kind, with the columns in front of it.
+fn composite_of<'s>(
+    line: WrappedLine<'s>,
+    kind: CompositeKind,
+    indent: usize,
+    spacing: Option<Spacing>,
+) -> FmtComposite<'s>
+    ensures { result ≡ composite_of kind indent spacing line.entry }
+{
+    let WrappedLine { compounds, columns } = line;
+    FmtComposite {
+        kind,
+        compounds,
+        visible_length: columns.saturating_add(indent),
+        spacing,
+        margins: None,
+    }
+}
+
 /// Wraps the composites among the lines that are wider than `width` columns with their style's margins.
 ///
-/// A line that fits stays as it is, as do rules and lines of tables. Any other composite is wrapped, as
-/// `hard_wrap_composite` does, in the columns that the margins leave, which is refused at a width under 3. Each line keeps in its field `margins` the margins that it was
-/// laid out with.
+/// A line that fits stays as it is, as do rules and lines of tables. Any other composite is wrapped, as [`hard_wrap_composite`] does, in the
+/// columns that its margins leave. A `width` under 3 is refused then. Each line gets its margins into its field `margins`.
 pub fn hard_wrap_lines<'s>(
     alloc: Global,
     lines: Vec<FmtLine<'s>>,
@@ -253,14 +264,7 @@ fn push_wrapped<'s>(
     let mut kind = kind;
     let mut indent = room.first;
     for line in wrap {
-        let WrappedLine { compounds, columns } = line;
-        let composite = FmtComposite {
-            kind,
-            compounds,
-            visible_length: columns.saturating_add(indent),
-            spacing,
-            margins: None,
-        };
+        let composite = composite_of(line, kind, indent, spacing);
         lines.push(line_with(margins, composite))?;
         kind = follow_up(kind);
         indent = room.other;

@@ -1,6 +1,8 @@
 //! The writing calls of a skin.
 
-ghost use Rattle.std.specs.Prelude.{◌≡◌, ◌≤◌, IsErrOf, OnOk};
+ghost use Rattle.std.specs.Prelude.{◌≡◌, ◌≤◌, false, List, IsErrOf, OnOk};
+ghost use Rattle.mad_md.specs.Lines.{LineContent};
+ghost use Rattle.mad_md.specs.Reading.{IsRead, unread_text};
 ghost use Rattle.mad_term.specs.Draws.{Draws, AndFlushes};
 ghost use Rattle.mad_term.specs.declared.errors.Error.TheVariants.{Memory};
 ghost use Rattle.mad_fit.specs.Areas.{IsWithinLimits};
@@ -37,7 +39,7 @@ impl MadSkin {
         requires { IsWithinLimits area.now }
         ensures writes { WritesInArea self.now markdown.now area.now (O.seen out.old) result (O.seen out.new) }
         ensures shown { OnOk result (4 ≤ area.now.width → ShowsText self.now markdown.now area.now (O.seen out.old) (O.seen out.new)) }
-        ensures headline { OnOk result (4 ≤ area.now.width → ShowsFirstRows self.now markdown.now area.now (O.seen out.old) (O.seen out.new)) }
+        ensures headline { OnOk result (4 ≤ area.now.width → (lines : List LineContent) × IsRead (unread_text false markdown.now) lines × ShowsFirstRows self.now lines area.now (O.seen out.old) (O.seen out.new)) }
 
         // The same with no premise but on the source: its lines begin as paragraphs, and each of its characters takes columns, line ends apart.
         ensures shown_source { OnOk result (4 ≤ area.now.width → LinesTakeColumns markdown.now → ShowsSource self.now markdown.now area.now (O.seen out.old) (O.seen out.new)) }
@@ -51,7 +53,7 @@ impl MadSkin {
     /// # Errors
     ///
     /// A fault of the device, at its flush too, or out of memory. What went out by then is a beginning of the whole.
-    #[tactic(auto, using(crate::proofs::HeadlineLemmas::shown_flushed, crate::proofs::HeadlineRows::headline_flushed, crate::proofs::SourceLemmas::source_flushed))]
+    #[tactic(auto, using(crate::proofs::HeadlineLemmas::shown_flushed, crate::proofs::HeadlineRows::reading_flushed, crate::proofs::SourceLemmas::source_flushed))]
     pub fn write_in_area<O: Out>(
         &self,
         alloc: Global,
@@ -62,7 +64,7 @@ impl MadSkin {
         requires { IsWithinLimits area.now }
         ensures writes { AndFlushes (WritesInArea self.now markdown.now area.now) (O.seen out.old) result (O.seen out.new) }
         ensures shown { OnOk result (4 ≤ area.now.width → ShowsText self.now markdown.now area.now (O.seen out.old) (O.seen out.new)) }
-        ensures headline { OnOk result (4 ≤ area.now.width → ShowsFirstRows self.now markdown.now area.now (O.seen out.old) (O.seen out.new)) }
+        ensures headline { OnOk result (4 ≤ area.now.width → (lines : List LineContent) × IsRead (unread_text false markdown.now) lines × ShowsFirstRows self.now lines area.now (O.seen out.old) (O.seen out.new)) }
         ensures shown_source { OnOk result (4 ≤ area.now.width → LinesTakeColumns markdown.now → ShowsSource self.now markdown.now area.now (O.seen out.old) (O.seen out.new)) }
     {
         self.write_in_area_on(alloc, out, markdown, area)?;
@@ -70,7 +72,7 @@ impl MadSkin {
         Ok(())
     }
 
-    /// Writes a composite by itself, without a width: its style's left margin, its mark, its compounds. Nothing is
+    /// Writes a composite by itself, without a width: its style's left margin, its prefix, its compounds. Nothing is
     /// flushed.
     ///
     /// # Errors

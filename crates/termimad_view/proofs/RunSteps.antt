@@ -82,11 +82,7 @@ flush_exit {T} words r text old new written call is read h out =
 -- a flush takes nothing from what is shown
 pub still_shown : (skin : MadSkin) (command : Command) (text : List ℕ) (old written new : Trace) → ShowsCall skin command text old written → new ≡ flushed written → ShowsCall skin command text old new
 still_shown skin (InArea area) text old written new (across, h) is = (
-  record {
-    lines = across.lines;
-    read = across.read;
-    shown = λ premises. let rows = across.shown premises in (rows.0, rows.1, took_flushed old written new (AreShownAcross rows.0 area) rows.2 is);
-  },
+  (across.0, across.1, record { shown = λ premises. let rows = across.2.shown premises in (rows.0, rows.1, took_flushed old written new (AreShownAcross rows.0 area) rows.2 is) }),
   record {
     lines = h.lines;
     laid_out = h.laid_out;

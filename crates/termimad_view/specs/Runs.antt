@@ -1,6 +1,8 @@
 -- The headline of the program: what a run does to its devices, and how it ends.
-use Rattle.std.specs.Prelude.{◌≡◌, ◌⊎◌, ℕ, List, [], ◌∷◌, ◌++◌, Some, Result, Ok, Err, IsErrOf, IsUtf8, ⊤}
+use Rattle.std.specs.Prelude.{◌≡◌, ◌⊎◌, ℕ, false, List, [], ◌∷◌, ◌++◌, Some, Result, Ok, Err, IsErrOf, IsUtf8, ⊤}
 use Rattle.termimad.specs.Inline.{Item, IsInlineReading}
+use Rattle.termimad.specs.Lines.{LineContent}
+use Rattle.termimad.specs.Reading.{IsRead, unread_text}
 use Rattle.termimad.specs.Draws.{Draws}
 use Rattle.termimad.specs.Trace.{Trace, failed, flushed}
 use Rattle.termimad.specs.Stream.{untold}
@@ -59,7 +61,8 @@ WritesCall skin Inline text old r new = (line : List ℕ) × IsWithoutLineEnd te
 -- what a plain terminal shows that reads what was written: the first rows of the text in its area, by its characters and by a layout; of the
 -- others nothing is said
 abbrev pub ShowsCall : MadSkin → Command → List ℕ → Trace → Trace → Type 0
-ShowsCall skin (InArea area) text old new = ShowsFirstRows skin text area old new × ShowsText skin text area old new
+ShowsCall skin (InArea area) text old new =
+    ((lines : List LineContent) × IsRead (unread_text false text) lines × ShowsFirstRows skin lines area old new) × ShowsText skin text area old new
 ShowsCall skin (AtWidth width) text old new = ⊤
 ShowsCall skin Inline text old new = ⊤
 

@@ -3,12 +3,12 @@ use Rattle.mad_md.specs.Cursor.{unread}
 use Rattle.mad_md.specs.Reading.{unread_text}
 use Rattle.std.specs.Prelude.{false}
 use Rattle.mad_md.specs.Scan.{lines_of}
-use Rattle.mad_layout.specs.Laying.{IsOpenRun, IsLaidFor}
+use Rattle.mad_layout.specs.Laying.{AreOpenParts, IsLaidFor}
 use Rattle.mad_layout.proofs.fmt_text.lay_source.Given as goal
 
 abbrev pub invariant-loop-laying : goal.invariant-loop-laying
 invariant-loop-laying l = record {
-  run : IsOpenRun l.skin l.laying.block.items l.laying.table.items;
+  run : AreOpenParts l.skin l.laying.block.items l.laying.table.items;
   laid : IsLaidFor l.skin l.width (lines_of (unread_text false l.fn.src)) (lines_of (unread l.cursor)) l.laying.lines.items l.laying.block.items l.laying.table.items;
 }
 

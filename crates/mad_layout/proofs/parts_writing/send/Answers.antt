@@ -2,5 +2,5 @@ use Rattle.std.proofs.Common.{[], refl}
 use Rattle.mad_layout.proofs.WrittenLemmas.{handed_none}
 use Rattle.mad_layout.proofs.parts_writing.send.Goals as goal
 
-pub returns-else-len-ge-KEPT : goal.returns-else-len-ge-KEPT
-returns-else-len-ge-KEPT g c = ([], refl, handed_none _)
+pub returns-else-len-ge-ROWS_TO_SEND : goal.returns-else-len-ge-ROWS_TO_SEND
+returns-else-len-ge-ROWS_TO_SEND g c = ([], refl, handed_none _)

@@ -4,4 +4,4 @@ use Rattle.mad_layout.proofs.rows.read_composite.Goals as goal
 
 pub returns : goal.returns
 returns c =
-    line_known c.args.skin.now (Some c.args.width) true c.args.composite.now c.line_style-style.result.now c.line_style-style.ensures c.read_style.ensures c.read_style-2.ensures c.read_mark.ensures c.read_compounds.ensures
+    line_known c.args.skin.now (Some c.args.width) true c.args.composite.now c.line_style-style.result.now c.line_style-style.ensures c.read_style.ensures c.read_style-2.ensures c.read_prefix.ensures c.read_compounds.ensures

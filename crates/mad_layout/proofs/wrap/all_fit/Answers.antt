@@ -2,14 +2,12 @@ use Rattle.std.proofs.Common.{◌≡◌, ℕ, ◌+◌, ◌<◌, List, ◌∷◌,
 use Rattle.std.proofs.lemmas.List.{at_drop_more, at_drop_all}
 use Rattle.mad_layout.specs.WrappedLines.{AllFit}
 use Rattle.mad_layout.specs.declared.line.FmtLine.{FmtLine}
+use Rattle.mad_layout.proofs.CodeBlockLemmas.{line_here}
 use Rattle.mad_layout.proofs.wrap.all_fit.Goals as goal
-
-next_line : (ls : List FmtLine) (i : ℕ) (l : FmtLine) → i < length ls → l ≡ get_or ls i l → drop i ls ≡ l ∷ drop (i + 1) ls
-next_line ls i l inside is = at_drop_more (λ l. l) ls i l inside ∙ ap (λ (x : FmtLine). x ∷ drop (i + 1) ls) (sym is)
 
 pub loop-line-preserved : goal.loop-line-preserved
 loop-line-preserved c =
-    let next = next_line _ _ _ c.loop-line-test.true c.line-item.is in
+    let next = line_here _ _ _ c.loop-line-test.true c.line-item.is in
     let fits = c.line_fits.ensures.0 c.if-not-line_fits.false in
     record {
       from = λ rest. c.loop-line.invariant.from (subst (AllFit c.args.skin.now c.args.width) (sym next) (fits, rest));
@@ -23,7 +21,7 @@ returns c =
 
 pub returns-then-not-line_fits : goal.returns-then-not-line_fits
 returns-then-not-line_fits c =
-    let next = next_line _ _ _ c.loop-line-test.true c.line-item.is in (
+    let next = line_here _ _ _ c.loop-line-test.true c.line-item.is in (
       λ on. absurd (cc),
       λ all. sym c.if-not-line_fits.true ∙ c.line_fits.ensures.1 (subst (AllFit c.args.skin.now c.args.width) next (c.loop-line.invariant.to all)).0,
     )

@@ -1,4 +1,4 @@
-use Rattle.std.proofs.Common.{◌≡◌, [], None, ap, ◌∙◌, arith}
+use Rattle.std.proofs.Common.{◌≡◌, [], ap, ◌∙◌, arith}
 use Rattle.std.specs.Vec.Iter.{into_iter_items}
 use Rattle.std.proofs.lemmas.Grind.{common_steps}
 use Rattle.mad_layout.specs.Indents.{follow_up}
@@ -10,7 +10,7 @@ loop-line-preserved c =
     let held = c.loop-line.invariant in
     let next = c.in-Some.ensures.steps.0 in
     record {
-      so_far = rw c.follow_up-kind.ensures (composed_more _ _ _ _ _ _ _ _ _ _ _ c.in-Some.line _ held.so_far held.next next (ap (λ n. record { kind = c.loop-line.kind; compounds = c.in-Some.line.compounds; visible_length = n; spacing = c.args.spacing; margins = None }) (omega (arith, c.saturating_add.ensures))) c.in_ok-push.ensures.items);
+      so_far = rw c.follow_up-kind.ensures (composed_more _ _ _ _ _ _ _ _ _ _ _ c.in-Some.line _ held.so_far held.next next c.composite_of.ensures c.in_ok-push.ensures.items);
       next = ap follow_up c.follow_up-kind.ensures ∙ follow_up_stays c.loop-line.kind ∙ held.next;
     }
 

@@ -1,4 +1,4 @@
-use Rattle.std.proofs.Common.{◌≡◌, [], ◌∷◌, ◌++◌, None, map, ap, sym, ◌∙◌, arith, refl, subst, append_assoc, append-nil}
+use Rattle.std.proofs.Common.{◌≡◌, [], ◌∷◌, ◌++◌, map, ap, sym, ◌∙◌, arith, refl, subst, append_assoc, append-nil}
 use Rattle.std.proofs.lemmas.List.{map-append}
 use Rattle.std.specs.Vec.Iter.{into_iter_items}
 use Rattle.std.proofs.lemmas.Grind.{common_steps}
@@ -26,14 +26,14 @@ loop-line-preserved c =
     let cs = held.so_far.0 in
     let before = c.args.lines.now.items in
     let next = c.in-Some.ensures.steps.0 in
-    let composite : FmtComposite = record { kind = c.loop-line.kind; compounds = c.in-Some.line.compounds; visible_length = c.saturating_add.result; spacing = c.args.spacing; margins = None } in
+    let composite : FmtComposite = c.composite_of-composite.result in
     let line : FmtLine = line_with c.args.margins composite in
     record {
       so_far = (
         cs ++ composite ∷ [],
         c.in_ok-push.ensures.items ∙ ap (λ l. c.loop-line.lines.items ++ l ∷ []) c.line_with.ensures ∙ ap (λ ls. ls ++ line ∷ []) held.so_far.1
             ∙ append_assoc before (map (line_with c.args.margins) cs) (line ∷ []) ∙ ap (λ ls. before ++ ls) (sym (map-append (line_with c.args.margins) cs (composite ∷ []))),
-        rw c.follow_up-kind.ensures (composed_more _ _ _ _ _ _ _ _ _ _ _ c.in-Some.line _ held.so_far.2 held.next next (ap (λ n. record { kind = c.loop-line.kind; compounds = c.in-Some.line.compounds; visible_length = n; spacing = c.args.spacing; margins = None }) (omega (arith, c.saturating_add.ensures))) refl),
+        rw c.follow_up-kind.ensures (composed_more _ _ _ _ _ _ _ _ _ _ _ c.in-Some.line _ held.so_far.2 held.next next c.composite_of-composite.ensures refl),
       );
       next = ap follow_up c.follow_up-kind.ensures ∙ follow_up_stays c.loop-line.kind ∙ held.next;
     }

@@ -1,4 +1,4 @@
-use Rattle.mad_layout.proofs.HeadlineRows.{headline_flushed}
+use Rattle.mad_layout.proofs.HeadlineRows.{reading_flushed}
 use Rattle.mad_layout.proofs.HeadlineLemmas.{area_not_flushed}
 use Rattle.mad_layout.proofs.skin.MadSkin.write_in_area.Goals as goal
 
@@ -7,4 +7,4 @@ returns-in_err-flush-clause-writes g c =
     area_not_flushed c.from_residual-in_err-flush.result c.in_ok-write_in_area_on.field-0 _ c.args.self.now c.args.markdown.now c.args.area.now _ _ _ c.in_ok-write_in_area_on.ensures.writes c.in_err-flush.ensures c.from_residual-in_err-flush.ensures.1
 
 pub returns-clause-headline : goal.returns-clause-headline
-returns-clause-headline g c = λ wide. headline_flushed c.args.self.now c.args.markdown.now c.args.area.now _ _ _ (c.in_ok-write_in_area_on.ensures.headline wide) c.in_ok-flush.ensures
+returns-clause-headline g c = λ wide. reading_flushed c.args.self.now c.args.markdown.now c.args.area.now _ _ _ (c.in_ok-write_in_area_on.ensures.headline wide) c.in_ok-flush.ensures

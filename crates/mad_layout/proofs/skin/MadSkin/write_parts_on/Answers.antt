@@ -4,7 +4,7 @@ use Rattle.mad_md.specs.Lines.{content_of}
 use Rattle.mad_md.specs.Reading.{IsRead, unread_text}
 use Rattle.mad_md.specs.Scan.{lines_of}
 use Rattle.mad_term.specs.Trace.{after, CutShort}
-use Rattle.mad_layout.specs.Laying.{IsOpenRun}
+use Rattle.mad_layout.specs.Laying.{AreOpenParts}
 use Rattle.mad_layout.specs.declared.laying.Laying.{Laying}
 use Rattle.mad_layout.proofs.LayoutLemmas.{open_none}
 use Rattle.mad_layout.proofs.WrittenLemmas.{WrittenSoFar, written_start, written_closed, written_on, written_more, written_cut, written_same, written_early, written_refused, written_cut_short, written_whole, apart_before, apart_last}
@@ -89,9 +89,9 @@ returns-in_err-hand_on g c =
 
 pub push-requires-in-Some : goal.push-requires-in-Some
 push-requires-in-Some g c = record {
-  run = elim c.if-ends.branch as (λ _. IsOpenRun c.args.self.now c.if-ends.laying.block.items c.if-ends.laying.table.items) [
-    | then-ends+in_ok-close-2+in_ok-hand_on w ↦ subst (λ (s : Laying). IsOpenRun c.args.self.now s.block.items s.table.items) (sym w.laying-is) (open_none c.args.self.now w.close-then-ends.new.self.block.items w.close-then-ends.new.self.table.items w.in_ok-close-2.ensures.block w.in_ok-close-2.ensures.table)
-    | else-ends w ↦ subst (λ (s : Laying). IsOpenRun c.args.self.now s.block.items s.table.items) (sym w.laying-is) c.loop-laying.invariant.so_far.ready
+  run = elim c.if-ends.branch as (λ _. AreOpenParts c.args.self.now c.if-ends.laying.block.items c.if-ends.laying.table.items) [
+    | then-ends+in_ok-close-2+in_ok-hand_on w ↦ subst (λ (s : Laying). AreOpenParts c.args.self.now s.block.items s.table.items) (sym w.laying-is) (open_none c.args.self.now w.close-then-ends.new.self.block.items w.close-then-ends.new.self.table.items w.in_ok-close-2.ensures.block w.in_ok-close-2.ensures.table)
+    | else-ends w ↦ subst (λ (s : Laying). AreOpenParts c.args.self.now s.block.items s.table.items) (sym w.laying-is) c.loop-laying.invariant.so_far.ready
   ];
 }
 

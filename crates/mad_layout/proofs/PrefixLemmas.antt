@@ -1,12 +1,11 @@
 -- What stands in front of a line: it is shown, and takes the columns of its indent.
-use Rattle.std.proofs.Common.{◌≡◌, ℕ, zero, suc, ◌+◌, ◌/◌, ◌%◌, ◌^◌, ◌<◌, ◌≤◌, ◌⊎◌, inl, inr, List, [], ◌∷◌, ◌++◌, length, Option, Some, None, refl, ap, sym, ◌∙◌, subst, arith}
-use Rattle.std.specs.Prelude.{IsSome, unwrap_or, decimal, false}
+use Rattle.std.proofs.Common.{◌≡◌, ℕ, zero, suc, ◌+◌, ◌/◌, ◌%◌, ◌^◌, ◌<◌, ◌≤◌, ◌⊎◌, inl, inr, List, [], ◌∷◌, ◌++◌, length, refl, ap, sym, ◌∙◌, subst, arith}
+use Rattle.std.specs.Prelude.{decimal}
 use Rattle.std.specs.List.{AllByRecursion}
 use Rattle.std.specs.Str.{chars, IsAscii}
 use Rattle.std.proofs.lemmas.Bool.{cases_lt}
 use Rattle.std.proofs.lemmas.Fmt.{IsAscii-decimal, decimal_digit, decimal_step}
 use Rattle.std.proofs.lemmas.Str.{IsUtf8-from_ascii, chars-IsAscii}
-use Rattle.unicode_width.specs.Width.{char_width}
 use Rattle.mad_columns.specs.Columns.{char_columns}
 use Rattle.mad_columns.proofs.CharColumns.{char_columns-ascii}
 use Rattle.mad_screen.specs.Painting.{IsPrinted, IsWhole, IsShown}
@@ -17,11 +16,12 @@ use Rattle.mad_fit.specs.Columns.{columns}
 use Rattle.mad_fit.proofs.AllLemmas.{all_push, all_joined}
 use Rattle.mad_draw.specs.Pieces.{RowPiece, IsShownPiece, AreShownPieces, char_piece, pieces_columns, single_spaces}
 use Rattle.mad_draw.proofs.PieceLemmas.{columns-both, spaces_columns, shown_spaces}
-use Rattle.mad_layout.specs.Indents.{follow_up, indent, kept, ordered_indent}
+use Rattle.mad_layout.specs.Indents.{follow_up, indent, later_indent, ordered_indent}
 use Rattle.mad_layout.specs.Premises.{IsPlainPrefix}
-use Rattle.mad_layout.specs.Rows.{number_piece, mark_space, mark_pieces}
+use Rattle.mad_layout.specs.Rows.{number_piece, prefix_space, prefix_pieces}
 use Rattle.mad_layout.specs.Styles.{ordered_item_style}
 use Rattle.mad_layout.specs.declared.skin.MadSkin.{MadSkin}
+use Rattle.mad_layout.proofs.ColumnChars.{printed_char, column_piece, column_suffix}
 
 -- ---- digits
 
@@ -34,14 +34,6 @@ digits_by (suc k) n less fits (inl low) = subst (AllByRecursion IsDigit) (sym (d
 digits_by (suc k) n less fits (inr high) =
     subst (AllByRecursion IsDigit) (sym (decimal_step n high fits))
     (all_push IsDigit (decimal (n / 10)) (48 + n % 10) (digits_by k (n / 10) (omega (arith, less, high)) (omega (arith, fits)) (cases_lt (n / 10) 10)) (omega arith, omega arith))
-
-some_of : (o : Option ℕ) → unwrap_or o 0 ≡ 1 → IsSome o
-some_of None h = absurd (omega (arith, h))
-some_of (Some n) h = refl
-
-printed_char : (c : ℕ) → char_columns c ≡ 1 → IsSome (char_width false c)
-unfolding char_columns
-printed_char c h = some_of (char_width false c) h
 
 digits_printed : (cs : List ℕ) → AllByRecursion IsDigit cs → IsPrinted cs
 digits_printed [] h = tt
@@ -88,40 +80,40 @@ singles_columns style (suc n) =
 
 -- ---- in front of a line
 
-pub mark_shown : (skin : MadSkin) (kind : CompositeKind) → IsPlainPrefix skin kind → AreShownPieces (mark_pieces skin kind)
-mark_shown skin Paragraph h = tt
-mark_shown skin (Header level) h = tt
-mark_shown skin (ListItem depth) h = all_joined IsShownPiece (single_spaces skin.paragraph.compound_style depth) _ (singles_shown skin.paragraph.compound_style depth) (h.shown, ((shown_spaces skin.paragraph.compound_style 1).0, tt))
-mark_shown skin (ListItemFollowUp depth) h = singles_shown skin.paragraph.compound_style _
-mark_shown skin (OrderedListItem level index) h =
+pub prefix_shown : (skin : MadSkin) (kind : CompositeKind) → IsPlainPrefix skin kind → AreShownPieces (prefix_pieces skin kind)
+prefix_shown skin Paragraph h = tt
+prefix_shown skin (Header level) h = tt
+prefix_shown skin (ListItem depth) h = all_joined IsShownPiece (single_spaces skin.paragraph.compound_style depth) _ (singles_shown skin.paragraph.compound_style depth) ((column_piece skin.bullet h).shown, ((shown_spaces skin.paragraph.compound_style 1).0, tt))
+prefix_shown skin (ListItemFollowUp depth) h = singles_shown skin.paragraph.compound_style _
+prefix_shown skin (OrderedListItem level index) h =
     all_joined IsShownPiece (single_spaces skin.paragraph.compound_style level) _ (singles_shown skin.paragraph.compound_style level)
-    (number_shown (ordered_item_style skin level).index_style index h.0, (h.1.shown, ((shown_spaces skin.paragraph.compound_style 1).0, tt)))
-mark_shown skin (OrderedListItemFollowUp level index) h = singles_shown skin.paragraph.compound_style _
-mark_shown skin Code h = tt
-mark_shown skin Quote h = (h.shown, ((shown_spaces skin.paragraph.compound_style 1).0, tt))
+    (number_shown (ordered_item_style skin level).index_style index h.0, ((column_suffix skin level h.1).shown, ((shown_spaces skin.paragraph.compound_style 1).0, tt)))
+prefix_shown skin (OrderedListItemFollowUp level index) h = singles_shown skin.paragraph.compound_style _
+prefix_shown skin Code h = tt
+prefix_shown skin Quote h = ((column_piece skin.quote_mark h).shown, ((shown_spaces skin.paragraph.compound_style 1).0, tt))
 
-pub mark_columns : (skin : MadSkin) (kind : CompositeKind) → IsPlainPrefix skin kind → pieces_columns (mark_pieces skin kind) ≡ indent skin.list_items_indentation_mode kind
-mark_columns skin Paragraph h = refl
-mark_columns skin (Header level) h = refl
-mark_columns skin (ListItem depth) h =
+pub prefix_columns : (skin : MadSkin) (kind : CompositeKind) → IsPlainPrefix skin kind → pieces_columns (prefix_pieces skin kind) ≡ indent skin.list_items_indentation_mode kind
+prefix_columns skin Paragraph h = refl
+prefix_columns skin (Header level) h = refl
+prefix_columns skin (ListItem depth) h =
     let blank : CompoundStyle = skin.paragraph.compound_style in
-    let after : List RowPiece = char_piece skin.bullet ∷ mark_space skin ∷ [] in
+    let after : List RowPiece = char_piece skin.bullet ∷ prefix_space skin ∷ [] in
     let both : pieces_columns (single_spaces blank depth ++ after) ≡ pieces_columns (single_spaces blank depth) + pieces_columns after = columns-both (single_spaces blank depth) after in
     let before : pieces_columns (single_spaces blank depth) ≡ depth = singles_columns blank depth in
     let one : columns (chars (32 ∷ [])) + 0 ≡ 1 = spaces_columns blank 1 in
-    omega (arith, both, before, one, h.one)
-mark_columns skin (ListItemFollowUp depth) h = singles_columns skin.paragraph.compound_style (kept skin.list_items_indentation_mode (2 + depth))
-mark_columns skin (OrderedListItem level index) h =
+    omega (arith, both, before, one, (column_piece skin.bullet h).one)
+prefix_columns skin (ListItemFollowUp depth) h = singles_columns skin.paragraph.compound_style (later_indent skin.list_items_indentation_mode (2 + depth))
+prefix_columns skin (OrderedListItem level index) h =
     let blank : CompoundStyle = skin.paragraph.compound_style in
     let style = ordered_item_style skin level in
-    let after : List RowPiece = number_piece style.index_style index ∷ char_piece style.index_suffix ∷ mark_space skin ∷ [] in
+    let after : List RowPiece = number_piece style.index_style index ∷ char_piece style.index_suffix ∷ prefix_space skin ∷ [] in
     let both : pieces_columns (single_spaces blank level ++ after) ≡ pieces_columns (single_spaces blank level) + pieces_columns after = columns-both (single_spaces blank level) after in
     let before : pieces_columns (single_spaces blank level) ≡ level = singles_columns blank level in
     let one : columns (chars (32 ∷ [])) + 0 ≡ 1 = spaces_columns blank 1 in
-    omega (arith, both, before, one, h.1.one, number_columns index h.0)
-mark_columns skin (OrderedListItemFollowUp level index) h = singles_columns skin.paragraph.compound_style (kept skin.list_items_indentation_mode (ordered_indent level index))
-mark_columns skin Code h = refl
-mark_columns skin Quote h = let one : columns (chars (32 ∷ [])) + 0 ≡ 1 = spaces_columns skin.paragraph.compound_style 1 in omega (arith, one, h.one)
+    omega (arith, both, before, one, (column_suffix skin level h.1).one, number_columns index h.0)
+prefix_columns skin (OrderedListItemFollowUp level index) h = singles_columns skin.paragraph.compound_style (later_indent skin.list_items_indentation_mode (ordered_indent level index))
+prefix_columns skin Code h = refl
+prefix_columns skin Quote h = let one : columns (chars (32 ∷ [])) + 0 ≡ 1 = spaces_columns skin.paragraph.compound_style 1 in omega (arith, one, (column_piece skin.quote_mark h).one)
 
 -- the lines that follow have a plain prefix too
 pub follow_up_plain : (skin : MadSkin) (kind : CompositeKind) → IsPlainPrefix skin kind → IsPlainPrefix skin (follow_up kind)

@@ -1,5 +1,5 @@
 use Rattle.mad_layout.proofs.ExampleLayouts.{margins_tested_again, long_line_left, last_lines_width}
-use Rattle.mad_layout.proofs.examples.wrong_layouts.Goals as goal
+use Rattle.mad_layout.proofs.laws.wrong_layouts.Goals as goal
 
 pub returns-clause-margins_tested_again : goal.returns-clause-margins_tested_again
 returns-clause-margins_tested_again c = margins_tested_again
