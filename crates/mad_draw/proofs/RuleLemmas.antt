@@ -1,16 +1,14 @@
 -- Rules across the columns of a table: their bytes, their colors, and that they are shown.
-use Rattle.std.proofs.Common.{◌≡◌, ℕ, List, [], ◌∷◌, ◌++◌, refl, ap, sym, ◌∙◌}
+use Rattle.std.proofs.Common.{◌≡◌, ℕ, List, [], ◌∷◌, ◌++◌, ap, sym, ◌∙◌}
 use Rattle.std.specs.List.{flat_map}
-use Rattle.mad_term.specs.Styles.{IsStyle, piece_bytes}
+use Rattle.mad_term.specs.Styles.{IsStyle}
 use Rattle.mad_style.specs.Runs.{styled_char_bytes}
 use Rattle.mad_style.specs.StyledChars.{styled_char}
 use Rattle.mad_style.specs.declared.compound_styles.CompoundStyle.{CompoundStyle}
-use Rattle.mad_fit.proofs.AllLemmas.{all_joined}
-use Rattle.mad_draw.specs.Pieces.{RowPiece, pieces_bytes, AreKnown, IsShownPiece, AreShownPieces, IsColumnPiece}
+use Rattle.mad_draw.specs.Pieces.{RowPiece, pieces_bytes, AreKnown}
 use Rattle.mad_draw.specs.TableRules.{border_piece, horizontals, junction, rule_pieces}
 use Rattle.mad_draw.specs.declared.table_rules.RuleChars.{RuleChars}
 use Rattle.mad_draw.proofs.PieceLemmas.{bytes_both, bytes_one, char_run_known, known_both}
-use Rattle.mad_draw.proofs.RunLemmas.{run_shown}
 
 -- ---- bytes
 

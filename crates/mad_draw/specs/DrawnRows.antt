@@ -14,7 +14,7 @@ abbrev pub rows_from : (ℕ → List RowPiece) → ℕ → ℕ → List (List Ro
 rows_from row y zero = []
 rows_from row y (suc count) = row y ∷ rows_from row (suc y) count
 
--- the bytes of an area's rows, each after a move to its place
+-- the bytes of an area's rows, each after a move to its position
 abbrev pub rows_bytes : (ℕ → List RowPiece) → Area → List ℕ
 rows_bytes row area = drawing area.left area.top (map pieces_bytes (rows_from row 0 area.height))
 
@@ -32,7 +32,7 @@ pub record IsOnScreen (area : Area) (g : Grid) : Type 0 where
   pub columns : area.left + area.width ≤ g.width
   pub rows : area.top + area.height ≤ g.height
 
--- What a plain terminal does that reads these bytes: each row of the area shows the row of its number, no cell outside the area
+-- What a plain terminal does that reads these bytes. Each row of the area shows the row of its number, no cell outside the area
 -- changes, and the pen is plain again.
 abbrev pub AreRowsShown : (ℕ → List RowPiece) → Area → List ℕ → Type 0
 AreRowsShown row area bytes =

@@ -53,7 +53,7 @@ char_run c (suc n) = record { style = (char_style c).object_style; text = repeat
 
 -- ---- what is known of pieces
 
--- The colors of each piece's style are numbers of the terminal's, as those of every style are that a program has.
+-- The numbers of each piece's colors are bytes, as in every style that a program holds.
 abbrev pub AreKnown : List RowPiece → Type 0
 AreKnown ps = AllByRecursion (λ p. IsStyle p.style) ps
 
@@ -62,6 +62,7 @@ pub record IsShownPiece (p : RowPiece) : Type 0 where
   pub utf8 : IsUtf8 p.text
   pub shown : IsShown (chars p.text)
 
+-- each of the pieces shows cells of its own
 abbrev pub AreShownPieces : List RowPiece → Type 0
 AreShownPieces ps = AllByRecursion IsShownPiece ps
 

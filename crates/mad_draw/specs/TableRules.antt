@@ -14,7 +14,7 @@ border_piece style c = char_piece (styled_char style c)
 abbrev pub horizontals : CompoundStyle → RuleChars → ℕ → List RowPiece
 horizontals style chars w = char_run (styled_char style chars.horizontal) w
 
--- over a column that another one stands before: a junction, and its horizontals
+-- over a column that another one is before: a junction, and its horizontals
 abbrev pub junction : CompoundStyle → RuleChars → ℕ → List RowPiece
 junction style chars w = border_piece style chars.between ∷ horizontals style chars w
 

@@ -4,7 +4,7 @@
 //!
 //! 1. [`spaces`], [`char_runs`]: spaces, and other characters many times, as displayed values.
 //! 2. [`table_rules`]: rules across the columns of a table, as displayed values.
-//! 3. [`rows_in_area`]: the rows of an area, each after a move to its place; no other cell changes.
+//! 3. [`rows_in_area`]: the rows of an area, each after a move to its position; no other cell changes.
 #![tactic(auto)]
 
 pub mod char_runs;

@@ -29,9 +29,9 @@ pub trait Rows {
         ensures known { OnOk result (AreKnown (pieces self.now y)) };
 }
 
-/// Draws rows in an area, the first one on top, each after a move to its place. Nothing is flushed.
+/// Draws rows in an area, the first one on top, each after a move to its position. Nothing is flushed.
 ///
-/// The area's right and bottom have to fit a `u16`. Each row goes to the device in one piece.
+/// The area's right and bottom have to fit a `u16`. Each row goes to the device in one put.
 ///
 /// # Errors
 ///
@@ -45,8 +45,8 @@ pub fn draw_rows<O: Out, R: Rows>(
     requires { IsWithinLimits area.now }
     ensures writes { Draws (O.seen out.old) (rows_bytes (R.pieces rows.now) area.now) result (O.seen out.new) }
 
-    // What a plain terminal shows that reads it, where each row fills the area's width exactly, and no piece of it holds a control
-    // character or begins with a widthless one.
+    // What a plain terminal shows that reads it, where each row fills the area's width exactly. No piece of a row may hold a control
+    // character or begin with a widthless one.
     ensures shown { OnOk result (FillArea (R.pieces rows.now) area.now → TookWith (O.seen out.old) (O.seen out.new) (AreRowsShown (R.pieces rows.now) area.now)) }
 {
     let mut bytes = String::new(alloc);

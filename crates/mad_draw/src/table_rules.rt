@@ -17,7 +17,7 @@ pub struct RuleChars {
     pub left: char,
     /// What runs over a column.
     pub horizontal: char,
-    /// What stands between two columns.
+    /// What is between two columns.
     pub between: char,
     /// The right end.
     pub right: char,

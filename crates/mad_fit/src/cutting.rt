@@ -10,10 +10,10 @@ use crate::tokens::Token;
 use mad_md::Compound;
 use std::alloc::{AllocError, Global};
 
-/// The tokens of the compounds, in order, one after the other: runs of equal blankness, each as long as possible, ended also
-/// where the next character would make it wider than `max` columns.
+/// The tokens of the compounds, in order, one after the other.
 ///
-/// A character that is itself wider than `max` is a token. An empty compound has none. Neither this call nor the iterator takes
+/// They are runs of equal blankness, each as long as possible. One ends also where the next character would make it wider than
+/// `max` columns. A character that is itself wider than `max` is a token. An empty compound has none. Neither this call nor the iterator takes
 /// memory.
 pub fn token_iter<'c, 's>(compounds: &'c [Compound<'s>], max: usize) -> Tokens<'c, 's>
     ensures tokens { (ts : List Token) → AreLeft result ts → AreTokensOf max compounds.now ts }
@@ -23,6 +23,10 @@ pub fn token_iter<'c, 's>(compounds: &'c [Compound<'s>], max: usize) -> Tokens<'
 }
 
 /// The tokens of the compounds in a list, as [`token_iter`] gives them. One pass over the text.
+///
+/// # Errors
+///
+/// Out of memory is the only error.
 pub fn tokenize<'s>(
     alloc: Global,
     compounds: &[Compound<'s>],

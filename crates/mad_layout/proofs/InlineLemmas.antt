@@ -39,11 +39,11 @@ free_is skin l spacing margins =
 pub displayed : (skin : MadSkin) (src : List ℕ) (l : FmtComposite) → IsInlineOf skin src l → IsDisplayedAsWritten skin src l
 displayed skin src l h items reading =
     ap pieces_bytes (free_is skin l h.spacing h.margins ∙ ap (λ kind. free_pieces skin kind (map run_of l.compounds.items)) h.kind
-    ∙ ap (free_pieces skin Paragraph) (h.text.each items reading))
+    ∙ ap (free_pieces skin Paragraph) (h.text.1.each items reading))
 
 -- a paragraph that is a line's reading is drawn as the line
 pub written : {T : Type 0} (skin : MadSkin) (src : List ℕ) (read : Composite) (old : Trace) (r : Result T Error) (new : Trace) → read.style ≡ Plain → IsReadInline src read.compounds.items
     → Draws old (composite_bytes skin read) r new → WritesInline skin src old r new
 written skin src read old r new style reads drawn =
-    let bytes = ap (λ s. pieces_bytes (free_pieces skin (kind_of s) (map run_of read.compounds.items))) style ∙ ap (λ runs. pieces_bytes (free_pieces skin Paragraph runs)) (reads.each reads.reading reads.reads) in
-    inl (reads.reading, reads.reads, subst (λ b. Draws old b r new) bytes drawn)
+    let bytes = ap (λ s. pieces_bytes (free_pieces skin (kind_of s) (map run_of read.compounds.items))) style ∙ ap (λ runs. pieces_bytes (free_pieces skin Paragraph runs)) (reads.1.each reads.1.reading reads.1.reads) in
+    inl (reads.1.reading, reads.1.reads, subst (λ b. Draws old b r new) bytes drawn)

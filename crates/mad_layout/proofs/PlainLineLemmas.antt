@@ -10,8 +10,8 @@ use Rattle.std.proofs.lemmas.Grind.{flat_map-append}
 use Rattle.std.proofs.lemmas.List.{append-nil, length-drop}
 use Rattle.mad_md.specs.Flagged.{Run, plain, flagged, flagged_text, run_of}
 use Rattle.mad_md.specs.Lines.{LineContent}
-use Rattle.mad_md.specs.Plain.{ArePlainBytes, is_plain_byte, plain_line}
-use Rattle.mad_md.specs.ReadRaw.{raw_runs}
+use Rattle.mad_md.specs.Plain.{ArePlainBytes, is_plain_byte}
+use Rattle.mad_md.specs.ReadRaw.{raw_runs, plain_line}
 use Rattle.mad_md.specs.Reading.{IsRead, unread_text}
 use Rattle.mad_md.specs.declared.compound.Compound.{Compound}
 use Rattle.mad_style.specs.LineStyles.{margins_at}

@@ -14,9 +14,9 @@ use Rattle.mad_md.specs.Inline.{Item, runs, IsInlineReading}
 use Rattle.mad_md.specs.Lines.{LineContent}
 use Rattle.mad_md.specs.Parts.{LinePlace, line_places, line_text}
 use Rattle.mad_md.specs.Reading.{IsRead, unread_text}
-use Rattle.mad_md.proofs.ParagraphLemmas.{paragraphs_read}
+use Rattle.mad_md.proofs.ParagraphLemmas.{AreInlineLines, paragraphs_read}
 use Rattle.mad_md.proofs.RunBorders.{IsBordered, runs_bordered}
-use Rattle.mad_md.specs.ReadByMarks.{IsParagraphText, AreInlineLines}
+use Rattle.mad_md.specs.ReadByMarks.{IsParagraphText}
 use Rattle.mad_md.specs.declared.composite.CompositeStyle.TheVariants.{Paragraph}
 use Rattle.mad_screen.specs.Painting.{IsPrinted}
 use Rattle.mad_term.specs.Trace.{Trace, flushed}

@@ -5,9 +5,9 @@ use Rattle.std.proofs.lemmas.List.{append-nil, length-replicate}
 use Rattle.mad_md.specs.Flagged.{Run, plain, flagged, run_at, run_of}
 use Rattle.mad_md.specs.Lines.{LineContent, StyledRuns, normal}
 use Rattle.mad_md.specs.Parts.{line_places}
-use Rattle.mad_md.specs.ReadByMarks.{AreInlineLines}
 use Rattle.mad_md.specs.Reading.{IsRead, unread_text}
 use Rattle.mad_md.specs.declared.composite.CompositeStyle.TheVariants.{Paragraph as Plain}
+use Rattle.mad_md.proofs.ParagraphLemmas.{AreInlineLines}
 use Rattle.mad_md.proofs.RunBorders.{unmarked_runs}
 use Rattle.mad_term.specs.Trace.{Trace}
 use Rattle.mad_screen.specs.Glyph.{Glyph, Look}

@@ -18,7 +18,7 @@ use Rattle.mad_md.specs.declared.alignment.Alignment.{Alignment}
 use Rattle.mad_md.specs.declared.inline.Mark.{Mark}
 use Rattle.mad_md.proofs.InlineLemmas.{front_is, items_read}
 use Rattle.mad_md.proofs.PlacesLemmas.{AreWhole, marked_said}
-use Rattle.mad_md.proofs.CellLemmas.{test_is}
+use Rattle.mad_md.proofs.PartsLemmas.{true_test}
 use Rattle.mad_md.proofs.Utf8Lemmas.{start_cuts, end_cuts}
 
 -- ---- a text that begins with a character that isn't whitespace
@@ -120,9 +120,9 @@ hyphen_by x xs false e all = let none : prefix_len (λ b. b == 45) (x ∷ xs) �
 hyphens_first : (xs : List ℕ) → are_hyphens xs ≡ true → (ys : List ℕ) × (xs ≡ 45 ∷ ys)
 hyphens_first [] e = absurd (cc)
 hyphens_first (x ∷ xs) e =
-    let all : prefix_len (λ b. b == 45) (x ∷ xs) ≡ length (x ∷ xs) = test_is _ _ (and_parts (not (length (x ∷ xs) == 0)) _ e).1 in
+    let all : prefix_len (λ b. b == 45) (x ∷ xs) ≡ length (x ∷ xs) = true_test _ _ (and_parts (not (length (x ∷ xs) == 0)) _ e).1 in
     let first : (x == 45) ≡ true = hyphen_by x xs (x == 45) refl all in
-    (xs, ap (λ b. b ∷ xs) (test_is x 45 first))
+    (xs, ap (λ b. b ∷ xs) (true_test x 45 first))
 
 first_of_front : (b : ℕ) (ys zs : List ℕ) (k : ℕ) → take k (b ∷ ys) ≡ 45 ∷ zs → b ≡ 45
 first_of_front b ys zs zero e = absurd (cc)

@@ -1,7 +1,6 @@
 -- Cutting a table part into cells: there is one way, and each cell has one reading.
 use Rattle.std.proofs.Common.{◌≡◌, ℕ, ◌≤◌, ◌<◌, ◌+◌, Bool, true, false, not, ◌&&◌, ◌==◌, List, [], ◌∷◌, ◌++◌, map, length, take, drop, get_or, suc, refl, sym, ap, ◌∙◌, arith, subst, ◌-◌, append_assoc, zero-add, Option, Some, None, Bor, if◌then◌else◌}
 use Rattle.std.specs.List.{AllByRecursion, join_with_byte, onto_first}
-use Rattle.std.proofs.lemmas.Bool.Decides.{nat_tests}
 use Rattle.mad_md.specs.Cells.{odd_with, odd_after, HasBarsInCode, AreClosed, AreCells, cell_style, cell_rest, alignment_of, with_alignment, alignments}
 use Rattle.std.specs.Option.{is_some}
 use Rattle.mad_md.specs.Flagged.{Flags, plain, flags_of, Run, run_of}
@@ -10,13 +9,11 @@ use Rattle.mad_md.specs.declared.alignment.Alignment.{Alignment}
 use Rattle.mad_md.specs.declared.compound.Compound.{Compound}
 use Rattle.mad_md.specs.declared.composite.CompositeStyle.{CompositeStyle}
 use Rattle.mad_md.specs.Lines.{StyledRuns, table_row, table_rule}
-use Rattle.mad_md.specs.Scan.{items_of, cut_cells, cell_len, IsFirstCell, cells_left, kept_cell, cell_of, part_of, rule_texts, with_columns, columns_of, cell_runs, start_trimmed, end_trimmed, kept_cells, rule_or_row_of}
+use Rattle.mad_md.specs.Scan.{items_of, cut_cells, cell_len, IsFirstCell, kept_cell, cell_of, part_of, rule_texts, with_columns, columns_of, cell_runs, start_trimmed, end_trimmed, kept_cells, rule_or_row_of}
 use Rattle.std.proofs.lemmas.List.{append-nil, at_drop_more, at_drop_all, length-append, length-map, length-take-le}
 use Rattle.std.specs.Str.{trim_start}
 use Rattle.mad_md.proofs.InlineLemmas.{items_read}
-
-pub test_is : (a b : ℕ) → (a == b) ≡ true → a ≡ b
-test_is a b e = grind (arith, nat_tests)
+use Rattle.mad_md.proofs.PartsLemmas.{test_true, true_test}
 
 -- ---- only one way
 
@@ -32,7 +29,7 @@ cut_yes odd bs e = ap (λ o. if (124 == 124) && not o then [] ∷ cut_cells fals
 cut_no : (odd : Bool) (b : ℕ) (bs : List ℕ) → (b ≡ 124 → odd ≡ true) → cut_cells odd (b ∷ bs) ≡ onto_first b (cut_cells (odd_with odd b) bs)
 unfolding cut_cells
 cut_no odd b bs h =
-    ap (λ t. if t then [] ∷ cut_cells false bs else onto_first b (cut_cells (odd_with odd b) bs)) (no_cut (b == 124) odd (λ e. h (test_is b 124 e)))
+    ap (λ t. if t then [] ∷ cut_cells false bs else onto_first b (cut_cells (odd_with odd b) bs)) (no_cut (b == 124) odd (λ e. h (true_test b 124 e)))
 
 cut_none : (odd : Bool) → cut_cells odd [] ≡ [] ∷ []
 unfolding cut_cells
@@ -92,15 +89,12 @@ neither true true e h = refl
 neither true false e h = absurd (cc)
 neither false odd e h = absurd (cc)
 
-is_test : (a b : ℕ) → a ≡ b → (a == b) ≡ true
-is_test a b e = grind (arith, nat_tests)
-
 cut_with : (odd : Bool) (b : ℕ) (bs : List ℕ) (t : Bool) → ((b == 124) && not odd) ≡ t → IsCutFrom false bs (cut_cells false bs) → IsCutFrom (odd_with odd b) bs (cut_cells (odd_with odd b) bs)
     → IsCutFrom odd (b ∷ bs) (if t then [] ∷ cut_cells false bs else onto_first b (cut_cells (odd_with odd b) bs))
 cut_with odd b bs true e h k =
     let parts = both (b == 124) odd e in
-    subst (λ (x : ℕ). IsCutFrom odd (x ∷ bs) ([] ∷ cut_cells false bs)) (sym (test_is b 124 parts.0)) (cut_here odd bs (cut_cells false bs) parts.1 h)
-cut_with odd b bs false e h k = cut_onto odd b bs (cut_cells (odd_with odd b) bs) (λ i. neither (b == 124) odd e (is_test b 124 i)) k
+    subst (λ (x : ℕ). IsCutFrom odd (x ∷ bs) ([] ∷ cut_cells false bs)) (sym (true_test b 124 parts.0)) (cut_here odd bs (cut_cells false bs) parts.1 h)
+cut_with odd b bs false e h k = cut_onto odd b bs (cut_cells (odd_with odd b) bs) (λ i. neither (b == 124) odd e (test_true b 124 i)) k
 
 cut_from : (odd : Bool) (bs : List ℕ) → IsCutFrom odd bs (cut_cells odd bs)
 unfolding cut_cells
@@ -141,7 +135,7 @@ ends_with odd b bs true e h = record {
   within = omega arith;
   last = λ all. absurd (omega arith);
   more = λ l. refl;
-  bar = λ l. test_is b 124 (both (b == 124) odd e).0;
+  bar = λ l. true_test b 124 (both (b == 124) odd e).0;
 }
 ends_with odd b bs false e h = let next : 1 + cell_len (odd_with odd b) bs ≡ suc (cell_len (odd_with odd b) bs) = omega arith in
     ends_later b bs (cut_cells (odd_with odd b) bs) (cell_len (odd_with odd b) bs) (1 + cell_len (odd_with odd b) bs) next h
@@ -204,6 +198,11 @@ left_len None = 0
 left_len (Some rest) = suc (length rest.now)
 
 -- ---- cell by cell
+
+-- the cells of what is left of a part, if there is more
+abbrev pub cells_left : Option (Bor (List ℕ)) → List (List ℕ)
+cells_left None = []
+cells_left (Some rest) = cut_cells false rest.now
 
 pub first_left : (part cell : List ℕ) (after : Option (Bor (List ℕ))) → IsFirstCell part cell after → cut_cells false part ≡ cell ∷ cells_left after
 first_left part cell None h = h

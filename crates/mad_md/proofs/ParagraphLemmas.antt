@@ -6,19 +6,34 @@ use Rattle.std.specs.List.{AllByRecursion, join_with_byte}
 use Rattle.std.specs.Str.{IsUtf8}
 use Rattle.std.specs.Str.Lines.{strip_carriage_return}
 use Rattle.std.proofs.lemmas.List.{length-append, length-drop, length-take-le}
-use Rattle.mad_md.specs.Flagged.{Flags, plain}
-use Rattle.mad_md.specs.Lines.{LineContent}
+use Rattle.mad_md.specs.Flagged.{Flags, plain, run_at}
+use Rattle.mad_md.specs.Inline.{Item, IsInlineReading, runs}
+use Rattle.mad_md.specs.Lines.{LineContent, normal}
 use Rattle.mad_md.specs.Parts.{AreParts, LinePlace, without_last_empty, places_from, line_places, line_text}
 use Rattle.mad_md.specs.Places.{PlacedLine, content_at}
-use Rattle.mad_md.specs.ReadByMarks.{IsParagraphText, IsInlineLine, AreInlineLines}
+use Rattle.mad_md.specs.ReadByMarks.{IsParagraphText}
 use Rattle.mad_md.specs.Reading.{IsLine, AreLines, carried_on, unread_text, IsRead}
 use Rattle.mad_md.specs.Scan.{items_of, line_of, line_of_form}
+use Rattle.mad_md.specs.declared.composite.CompositeStyle.TheVariants.{Paragraph}
 use Rattle.mad_md.specs.declared.starts.LineStart.{LineStart}
 use Rattle.mad_md.proofs.InlineLemmas.{items_read}
 use Rattle.mad_md.proofs.PlacedReading.{line_is}
 use Rattle.mad_md.proofs.PlacesLemmas.{IsWholeLine, line_said}
 
--- a line that begins so is read by its marks
+-- The line is a Paragraph of the runs of its text, which has been read by its marks.
+pub record IsInlineLine (text : List ℕ) (line : LineContent) : Type 0 where
+  pub reading : List Item
+  pub reads : IsInlineReading text reading
+  pub says : line ≡ normal (record { style = Paragraph; runs = map (run_at text) (runs reading) })
+
+-- There are as many lines as places, and each is in order the Paragraph of the text at its place, read by its marks.
+abbrev pub AreInlineLines : List ℕ → List LinePlace → List LineContent → Type 0
+AreInlineLines source [] [] = Unit {0}
+AreInlineLines source [] (line ∷ lines) = ⊥
+AreInlineLines source (place ∷ places) [] = ⊥
+AreInlineLines source (place ∷ places) (line ∷ lines) = IsInlineLine (line_text source place) line × AreInlineLines source places lines
+
+-- a line that begins as a paragraph is read by its marks
 paragraph_said : (text : List ℕ) → IsParagraphText text → IsInlineLine text (line_of false plain text)
 unfolding line_of
 paragraph_said text (fence, inl start) =

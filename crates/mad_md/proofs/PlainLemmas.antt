@@ -10,8 +10,8 @@ use Rattle.std.proofs.lemmas.List.Sums.{position_or_len_is}
 use Rattle.mad_md.specs.Flagged.{Run, plain, run_at}
 use Rattle.mad_md.specs.Inline.{Item, byte, may_begin, unless_empty, runs_after, runs_with, marks_after, flags_after, flags_at_end}
 use Rattle.mad_md.specs.Lines.{normal}
-use Rattle.mad_md.specs.Plain.{is_plain_byte, IsPlainFront, IsPlainStep, plain_line}
-use Rattle.mad_md.specs.ReadRaw.{raw_runs}
+use Rattle.mad_md.specs.Plain.{is_plain_byte, IsPlainFront, IsPlainStep}
+use Rattle.mad_md.specs.ReadRaw.{raw_runs, plain_line}
 use Rattle.mad_md.specs.Reading.{Unread, carried_on}
 use Rattle.mad_md.specs.Scan.{with_item, items_within, items_of, line_of, line_of_form, flags_of_line, flags_of_form}
 use Rattle.mad_md.specs.Starts.{begins, is_fence, indent, item_after, ordered_after, item_start, header_of, header_start, plain_start, line_start, starts}
@@ -20,7 +20,7 @@ use Rattle.mad_md.specs.declared.composite.CompositeStyle.TheVariants.{Paragraph
 use Rattle.mad_md.specs.declared.starts.LineStart.{LineStart}
 use Rattle.mad_md.specs.declared.starts.Form.TheVariants.{Continuing}
 use Rattle.mad_md.proofs.InlineLemmas.{no_mark}
-use Rattle.mad_md.proofs.PartsLemmas.{is_newline}
+use Rattle.mad_md.proofs.PartsLemmas.{is_newline, test_true, test_false}
 use Rattle.mad_md.proofs.ReadingLemmas.{step_line, step_shorter, first_text}
 
 -- ---- what its bytes are
@@ -30,12 +30,6 @@ low b h = grind (arith, nat_tests)
 
 no_begin : (b : ℕ) → is_plain_byte b ≡ true → may_begin false b ≡ false
 no_begin b h = grind (arith, nat_tests)
-
-test_false : (a b : ℕ) → ¬ (a ≡ b) → (a == b) ≡ false
-test_false a b e = grind (arith, nat_tests)
-
-test_true : (a b : ℕ) → a ≡ b → (a == b) ≡ true
-test_true a b e = grind (arith, nat_tests)
 
 -- ---- its marks: there are none
 

@@ -12,9 +12,10 @@ use Rattle.mad_md.specs.Inline.{Item, mark, byte, spell, spell_mark, flags_after
 use Rattle.mad_md.specs.declared.inline.Mark.{Mark}
 use Rattle.mad_md.specs.declared.inline.Mark.TheVariants.{Bold, Strikeout, Italic, Code}
 
-both : {A : Type 0} (P : A → Type 0) (xs ys : List A) → AllByRecursion P xs → AllByRecursion P ys → AllByRecursion P (xs ++ ys)
-both P [] ys h k = k
-both P (x ∷ xs) ys h k = (h.0, both P xs ys h.1 k)
+-- what holds of each element of two lists, of these joined
+pub all_joined : {A : Type 0} (P : A → Type 0) (xs ys : List A) → AllByRecursion P xs → AllByRecursion P ys → AllByRecursion P (xs ++ ys)
+all_joined P [] ys h k = k
+all_joined P (x ∷ xs) ys h k = (h.0, all_joined P xs ys h.1 k)
 
 -- a place between two borders of characters
 pub record IsBordered (text : List ℕ) (place : RunPlace) : Type 0 where
@@ -56,7 +57,7 @@ bordered text before start at (mark m ∷ items) utf8 order inside first spells 
     let long : length (spell_mark m ++ spell items) ≡ length (spell_mark m) + length (spell items) = length-append (spell_mark m) (spell items) in
     let within : at + length (spell_mark m) ≤ length text = omega (arith, inside, ap length spells, length-drop at text, long) in
     let begins : IsCharBoundary text at = mark_begins text (spell items) at m spells (omega (arith, within, some_mark m)) in
-    both (IsBordered text) (unless_empty (flags_after before) start at) _
+    all_joined (IsBordered text) (unless_empty (flags_after before) start at) _
     (if_all (IsBordered text) (nat_lt start at) _ (record { order = order; first = first; last = begins }))
     (bordered text (m ∷ before) (at + length (spell_mark m)) (at + length (spell_mark m)) items utf8 (omega arith) within (mark_ends text (spell items) at m utf8 spells within) (rest_of text (spell_mark m) (spell items) at spells))
 bordered text before start at (byte b ∷ items) utf8 order inside first spells =

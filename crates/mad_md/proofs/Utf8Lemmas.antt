@@ -10,7 +10,7 @@ use Rattle.std.proofs.lemmas.Str.{chars-encodes, encodes-append, IsUtf8-take, Is
 use Rattle.mad_md.specs.Inline.{spell_mark}
 use Rattle.mad_md.specs.declared.inline.Mark.{Mark}
 use Rattle.mad_md.specs.declared.inline.Mark.TheVariants.{Bold, Strikeout, Italic, Code}
-use Rattle.mad_md.proofs.CellLemmas.{test_is}
+use Rattle.mad_md.proofs.PartsLemmas.{true_test}
 
 -- ---- a text that is cut at an ASCII byte
 
@@ -91,5 +91,5 @@ strip_by part false e h = ([], sym (append-nil part), h)
 strip_by [] true e h = ([], refl, h)
 strip_by (b ∷ part) true e h =
     let n = length (b ∷ part) - 1 in
-    let last : get_or (b ∷ part) n 0 ≡ 13 = test_is (get_or (b ∷ part) n 0) 13 e in
+    let last : get_or (b ∷ part) n 0 ≡ 13 = true_test (get_or (b ∷ part) n 0) 13 e in
     (drop n (b ∷ part), sym (take-append-drop n (b ∷ part)), IsUtf8-take (b ∷ part) n h (IsCharBoundary-before_ascii (b ∷ part) n (omega arith) (omega (arith, last))))

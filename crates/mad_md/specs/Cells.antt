@@ -4,7 +4,7 @@ use Rattle.std.specs.List.{AllByRecursion, join_with_byte}
 use Rattle.std.specs.Str.{trim, trim_start, trim_end}
 use Rattle.mad_md.specs.Flagged.{RunPlace, plain}
 use Rattle.mad_md.specs.Inline.{Item, IsInlineReading, runs_with}
-use Rattle.mad_md.specs.Parts.{LinePlace, line_text}
+use Rattle.mad_md.specs.Parts.{LinePlace, line_text, without_last_if}
 use Rattle.mad_md.specs.Places.{StyledPlaces, PlacedLine, table_row_at, table_rule_at}
 use Rattle.mad_md.specs.Starts.{begins, run_len}
 use Rattle.mad_md.specs.declared.alignment.Alignment.{Alignment}
@@ -34,7 +34,8 @@ AreClosed [] = Unit {0}
 AreClosed (cell ∷ []) = Unit {0}
 AreClosed (cell ∷ next ∷ cells) = (odd_after false cell ≡ false) × AreClosed (next ∷ cells)
 
--- The part is cut at each bar that follows an even number of backquotes since its cell's start: joined by bars the cells are the part, no cell holds such a bar, and each bar between two is one.
+-- The part is cut at each bar that follows an even number of backquotes since its cell's start.
+-- Joined by bars the cells are the part, no cell holds such a bar, and each bar between two is one.
 pub record AreCells (part : List ℕ) (cells : List (List ℕ)) : Type 0 where
   pub some : 0 < length cells
   pub joined : join_with_byte 124 cells ≡ part
@@ -51,10 +52,11 @@ cell_style text = if begins text (42 ∷ 32 ∷ []) then ListItem 0 else if begi
 abbrev pub cell_rest : List ℕ → List ℕ
 cell_rest text = if begins text (42 ∷ 32 ∷ []) || begins text (62 ∷ 32 ∷ []) then drop 2 text else text
 
--- a place without the whitespace at its start, and at its end; in code nothing is blank
+-- a place without the whitespace at its start; in code nothing is blank
 abbrev pub start_trimmed_place : List ℕ → RunPlace → RunPlace
 start_trimmed_place source place = if place.flags.code then place else record place { start = place.end - length (trim_start (slice_range source place.start place.end)) }
 
+-- a place without the whitespace at its end; in code nothing is blank
 abbrev pub end_trimmed_place : List ℕ → RunPlace → RunPlace
 end_trimmed_place source place = if place.flags.code then place else record place { end = place.start + length (trim_end (slice_range source place.start place.end)) }
 
@@ -81,7 +83,8 @@ without_blanks_at_end source (place ∷ places) = last_kept source place (withou
 abbrev pub cell_places : List ℕ → List RunPlace → List RunPlace
 cell_places source places = without_blanks_in_front source (without_blanks_at_end source places)
 
--- The cell is the reading of its text, from its place in the source on: whitespace in front and its prefix are left out, the rest is read by its marks without flags before it, and blanks are dropped at both ends.
+-- The cell is the reading of its text, from its place in the source on. Whitespace in front and its prefix are left out.
+-- The rest is read by its marks without flags before it, and blanks are dropped at both ends.
 pub record IsCell (source : List ℕ) (at : ℕ) (text : List ℕ) (cell : StyledPlaces) : Type 0 where
   pub reading : List Item
   pub reads : IsInlineReading (cell_rest (trim_start text)) reading
@@ -96,22 +99,23 @@ AreReadCells source at (text ∷ texts) (cell ∷ cells) = IsCell source at text
 
 -- the cells without the last one, if that has no compound
 abbrev pub without_last_empty_cell : List StyledPlaces → List StyledPlaces
-without_last_empty_cell [] = []
-without_last_empty_cell (cell ∷ []) = if length cell.places == 0 then [] else cell ∷ []
-without_last_empty_cell (cell ∷ next ∷ cells) = cell ∷ without_last_empty_cell (next ∷ cells)
+without_last_empty_cell cells = without_last_if (λ cell. length cell.places == 0) cells
 
 -- ---- rules
 
--- whether a text begins, and ends, with a colon
+-- whether a text begins with a colon
 abbrev pub begins_with_colon : List ℕ → Bool
 begins_with_colon text = begins text (58 ∷ [])
 
+-- the text without a colon in front
 abbrev pub without_first_colon : List ℕ → List ℕ
 without_first_colon text = if begins_with_colon text then drop 1 text else text
 
+-- whether a text ends with a colon
 abbrev pub ends_with_colon : List ℕ → Bool
 ends_with_colon text = slice_index text (length text - 1) == 58
 
+-- the text without a colon at its end
 abbrev pub without_last_colon : List ℕ → List ℕ
 without_last_colon text = if ends_with_colon text then take (length text - 1) text else text
 
@@ -131,6 +135,7 @@ abbrev pub trimmed_alignment : List ℕ → Option Alignment
 trimmed_alignment text =
     if are_hyphens (without_last_colon (without_first_colon text)) then Some (alignment_by (begins_with_colon text) (ends_with_colon (without_first_colon text))) else None
 
+-- the same of a text that may have whitespace at its ends
 abbrev pub alignment_of : List ℕ → Option Alignment
 alignment_of text = trimmed_alignment (trim text)
 
@@ -151,7 +156,7 @@ rule_or_row (Some (alignment ∷ others)) cells = table_rule_at (alignment ∷ o
 rule_or_row (Some []) cells = table_row_at cells
 rule_or_row None cells = table_row_at cells
 
--- what the texts of cells and the cells say: a last cell without compounds is dropped, and of those that are left each has an alignment in a rule
+-- What the texts of cells and the cells say. A last cell without compounds is dropped, and of those that are left each has an alignment in a rule.
 abbrev pub part_says : List (List ℕ) → List StyledPlaces → PlacedLine
 part_says texts cells = rule_or_row (alignments (take (length (without_last_empty_cell cells)) texts)) (without_last_empty_cell cells)
 

@@ -3,13 +3,11 @@ use Rattle.std.specs.Prelude.{◌≡◌, ℕ, ◌≤◌, ◌<◌, ◌⊎◌, Boo
 use Rattle.std.specs.Char.{is_ascii_alphabetic}
 use Rattle.mad_md.specs.Flagged.{plain}
 use Rattle.mad_md.specs.Inline.{may_begin}
-use Rattle.mad_md.specs.Lines.{LineContent, normal}
-use Rattle.mad_md.specs.ReadRaw.{raw_runs}
+use Rattle.mad_md.specs.ReadRaw.{plain_line}
 use Rattle.mad_md.specs.Reading.{Unread}
 use Rattle.mad_md.specs.Scan.{lines_of}
-use Rattle.mad_md.specs.declared.composite.CompositeStyle.TheVariants.{Paragraph}
 
--- a space or a graphic ASCII character, which can't begin a mark
+-- a space or a graphic ASCII character other than `*`, `~` and a backquote
 abbrev pub is_plain_byte : ℕ → Bool
 is_plain_byte b = nat_le 32 b && nat_lt b 127 && not (may_begin false b)
 
@@ -25,16 +23,12 @@ pub record IsPlainFront (most : ℕ) (bs : List ℕ) (n : ℕ) : Type 0 where
   pub inside : n < length bs
   pub ends : get_or bs n 0 ≡ 10
 
--- The next line is plain and of at most `most` bytes: no fence is open before it, no flags are carried to it, and its bytes tell.
+-- The next line is plain, and of at most `most` bytes. No fence is open before it, no flags are carried to it, and its bytes are a plain line's.
 pub record IsPlainNext (most : ℕ) (unread : Unread) : Type 0 where
   pub fenced : unread.fenced ≡ false
   pub carried : unread.carried ≡ plain
   pub len : ℕ
   pub front : IsPlainFront most unread.text len
-
--- a Paragraph of one compound without flags, or of none
-abbrev pub plain_line : List ℕ → LineContent
-plain_line text = normal (record { style = Paragraph; runs = raw_runs text })
 
 -- The step read a plain line of at most `most` bytes, which is the first of the lines that were left.
 pub record IsPlainStep (most : ℕ) (before : Unread) (text : List ℕ) (after : Unread) : Type 0 where

@@ -17,14 +17,14 @@ use Rattle.mad_md.specs.declared.starts.Form.TheVariants.{TablePart, Code, Rule,
 abbrev pub code_at : LinePlace → PlacedLine
 code_at place = normal_at (record { style = CodeStyle; places = unless_empty plain place.start place.end })
 
--- The line is the text at this place in this style, read by its marks with these flags carried to it, and these are on at its end.
+-- The line is the text at this place in this style, read by its marks with the flags `carried` before it. The flags `after` are on at its end.
 pub record IsMarked (source : List ℕ) (carried : Flags) (style : CompositeStyle) (place : LinePlace) (line : PlacedLine) (after : Flags) : Type 0 where
   pub reading : List Item
   pub reads : IsInlineReadingWith carried (line_text source place) reading
   pub says : line ≡ normal_at (record { style = style; places = runs_with carried place.start reading })
   pub ends : after ≡ flags_at_end carried reading
 
--- what a line of this form is, by the place of its text after its beginning, with the flags that are carried to it and those that it carries on
+-- What a line of this form is, by the place of its text after its beginning. Flags are carried to it, and it carries flags on.
 abbrev pub IsOfForm : List ℕ → Form → Flags → LinePlace → PlacedLine → Flags → Type 0
 IsOfForm source TablePart carried rest line after = IsTablePart source rest line × (after ≡ plain)
 IsOfForm source Code carried rest line after = (line ≡ code_at rest) × (after ≡ plain)
@@ -45,13 +45,14 @@ IsLine source false carried place line after = IsOfForm source (line_start (line
 abbrev pub carried_on : Bool → Flags → Flags
 carried_on continue_spans flags = if continue_spans then flags else plain
 
--- the lines at places in a row, a fence being open before the first of them or not: a fence line is none, and opens or closes a fence
+-- The lines at places in a row, a fence being open before the first of them or not. A fence line is none, and opens or closes a fence.
 abbrev pub AreLines : List ℕ → Bool → Bool → Flags → List LinePlace → List PlacedLine → Type 0
 AreLines source continue_spans fenced carried [] lines = lines ≡ []
 AreLines source continue_spans fenced carried (place ∷ places) lines =
     MatchBool (is_fence (line_text source place)) (AreLines source continue_spans (not fenced) plain places lines) ((line : PlacedLine) × (after : Flags) × (more : List PlacedLine) × (lines ≡ line ∷ more) × IsLine source fenced carried place line after × AreLines source continue_spans fenced (carried_on continue_spans after) places more)
 
--- what is left of a text that is read: its bytes, whether a fence is open before them, the flags that are carried to them, and whether lines carry any
+-- What is left of a text that is read: its bytes, and whether a fence is open before them.
+-- With them come the flags that are carried to them, and whether lines carry any.
 pub record Unread : Type 0 where
   pub text : List ℕ
   pub fenced : Bool

@@ -9,7 +9,7 @@ use Rattle.mad_md.specs.Cells.{odd_with, cell_style, cell_rest, alignments}
 use Rattle.mad_md.specs.Flagged.{Flags, Run, run_at, plain}
 use Rattle.mad_md.specs.Inline.{Item, mark, byte, spell_mark, mark_at, is_on, marks_of, runs_with, flags_at_end}
 use Rattle.mad_md.specs.Lines.{StyledRuns, LineContent, normal, table_row, table_rule, horizontal_rule}
-use Rattle.mad_md.specs.Parts.{without_last_empty}
+use Rattle.mad_md.specs.Parts.{without_last_if, without_last_empty}
 use Rattle.mad_md.specs.ReadRaw.{raw_runs}
 use Rattle.mad_md.specs.Reading.{Unread, carried_on}
 use Rattle.mad_md.specs.Starts.{is_fence, line_start}
@@ -52,15 +52,11 @@ abbrev pub IsFirstCell : List ℕ → List ℕ → Option (Bor (List ℕ)) → T
 IsFirstCell part cell None = cut_cells false part ≡ cell ∷ []
 IsFirstCell part cell (Some rest) = (cut_cells false part ≡ cell ∷ cut_cells false rest.now) × (length rest.now < length part)
 
--- the cells of what is left of a part, if there is more
-abbrev pub cells_left : Option (Bor (List ℕ)) → List (List ℕ)
-cells_left None = []
-cells_left (Some rest) = cut_cells false rest.now
-
--- a run without the blanks in front, and at its end
+-- a run without the blanks in front
 abbrev pub run_start_trimmed : Run → Run
 run_start_trimmed run = if run.flags.code then run else record run { text = trim_start run.text }
 
+-- a run without the blanks at its end
 abbrev pub run_end_trimmed : Run → Run
 run_end_trimmed run = if run.flags.code then run else record run { text = trim_end run.text }
 
@@ -101,9 +97,7 @@ kept_cell more cell = if not more && (length cell.runs == 0) then [] else cell �
 
 -- the cells without the last one, if that has no run
 abbrev pub kept_cells : List StyledRuns → List StyledRuns
-kept_cells [] = []
-kept_cells (cell ∷ []) = if length cell.runs == 0 then [] else cell ∷ []
-kept_cells (cell ∷ next ∷ cells) = cell ∷ kept_cells (next ∷ cells)
+kept_cells cells = without_last_if (λ cell. length cell.runs == 0) cells
 
 -- the texts of the cells that are kept
 abbrev pub rule_texts : List (List ℕ) → List (List ℕ)
@@ -145,7 +139,7 @@ code_line text = normal (record { style = CodeStyle; runs = raw_runs text })
 abbrev pub marked_line : Flags → CompositeStyle → List ℕ → LineContent
 marked_line flags style text = normal (record { style = style; runs = map (run_at text) (runs_with flags 0 (items_of flags text)) })
 
--- a line of this form, and the flags that it carries on
+-- a line of this form
 abbrev pub line_of_form : Form → Flags → List ℕ → LineContent
 line_of_form TablePart carried text = part_of text
 line_of_form Code carried text = code_line text
@@ -153,6 +147,7 @@ line_of_form Rule carried text = horizontal_rule
 line_of_form (Continuing style) carried text = marked_line carried style text
 line_of_form (Separate style) carried text = marked_line plain style text
 
+-- the flags that it carries on
 abbrev pub flags_of_form : Form → Flags → List ℕ → Flags
 flags_of_form TablePart carried text = plain
 flags_of_form Code carried text = plain
@@ -160,14 +155,17 @@ flags_of_form Rule carried text = plain
 flags_of_form (Continuing style) carried text = flags_at_end carried (items_of carried text)
 flags_of_form (Separate style) carried text = plain
 
+-- the line that a text is, between fences or outside them
 unfoldable pub line_of : Bool → Flags → List ℕ → LineContent
 line_of true carried text = code_line text
 line_of false carried text = line_of_form (line_start text).form carried (drop (line_start text).len text)
 
+-- the flags that it carries on
 unfoldable pub flags_of_line : Bool → Flags → List ℕ → Flags
 flags_of_line true carried text = plain
 flags_of_line false carried text = flags_of_form (line_start text).form carried (drop (line_start text).len text)
 
+-- the lines that texts in a row are, a fence being open before the first of them or not
 abbrev pub lines_of_texts : Bool → Bool → Flags → List (List ℕ) → List LineContent
 lines_of_texts continue_spans fenced carried [] = []
 lines_of_texts continue_spans fenced carried (text ∷ texts) =

@@ -20,7 +20,7 @@ run_len byte line = prefix_len (λ b. b == byte) line
 abbrev pub starts : Form → ℕ → LineStart
 starts form len = record { form = form; len = len }
 
--- three backquotes: the line opens or closes a fence
+-- A line that begins with three backquotes opens or closes a code block, in which each other line is code.
 abbrev pub is_fence : List ℕ → Bool
 is_fence line = begins line (96 ∷ 96 ∷ 96 ∷ [])
 
@@ -50,6 +50,7 @@ header_of level line =
     if (level == 0) || nat_lt 8 level || not (begins (drop level line) (32 ∷ [])) then None
     else Some (starts (Separate (Header level)) (level + 1))
 
+-- a header, by how many signs # are in front
 abbrev pub header_start : List ℕ → Option LineStart
 header_start line = header_of (run_len 35 line) line
 

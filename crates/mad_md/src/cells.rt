@@ -156,7 +156,7 @@ fn trim_end(compounds: &mut Vec<Compound>)
     let kept = kept_len(compounds);
     compounds.truncate(kept);
     if kept > 0 {
-        compounds[kept - 1] = end_trimmed(compounds[kept - 1]);
+        compounds[kept - 1] = compound_end_trimmed(compounds[kept - 1]);
     }
 }
 
@@ -168,7 +168,7 @@ fn kept_len(compounds: &[Compound]) -> usize
 {
     let mut kept = compounds.len();
     while kept > 0 {
-        if !end_trimmed(compounds[kept - 1]).src.is_empty() {
+        if !compound_end_trimmed(compounds[kept - 1]).src.is_empty() {
             return kept;
         }
         kept -= 1;
@@ -181,18 +181,18 @@ fn trim_start(compounds: &mut Vec<Compound>)
     ensures { map run_of compounds.new.items ≡ start_trimmed (map run_of compounds.old.items) }
 {
     let mut blank = 0;
-    while blank < compounds.len() && start_trimmed(compounds[blank]).src.is_empty() {
+    while blank < compounds.len() && compound_start_trimmed(compounds[blank]).src.is_empty() {
         blank += 1;
     }
     compounds.rotate_left(blank);
     compounds.truncate(compounds.len() - blank);
     if !compounds.is_empty() {
-        compounds[0] = start_trimmed(compounds[0]);
+        compounds[0] = compound_start_trimmed(compounds[0]);
     }
 }
 
 // The compound without the blanks in front.
-fn start_trimmed<'s>(compound: Compound<'s>) -> Compound<'s>
+fn compound_start_trimmed<'s>(compound: Compound<'s>) -> Compound<'s>
     ensures { run_of result ≡ run_start_trimmed (run_of compound.entry) }
 {
     if compound.code {
@@ -205,7 +205,7 @@ fn start_trimmed<'s>(compound: Compound<'s>) -> Compound<'s>
 }
 
 // The compound without the blanks at its end.
-fn end_trimmed<'s>(compound: Compound<'s>) -> Compound<'s>
+fn compound_end_trimmed<'s>(compound: Compound<'s>) -> Compound<'s>
     ensures { run_of result ≡ run_end_trimmed (run_of compound.entry) }
 {
     if compound.code {

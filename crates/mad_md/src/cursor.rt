@@ -64,8 +64,9 @@ impl<'s> LineCursor<'s> {
         Ok(line)
     }
 
-    /// Reads the next line where it is plain, and moves on after it: a paragraph of at most `most` bytes, all of them spaces or
-    /// graphic ASCII characters, and no mark among them. It begins with a letter, or is empty, and a newline follows.
+    /// Reads the next line where it is plain, and moves on after it. A plain line is a paragraph of at most `most` bytes, all of
+    /// them spaces or graphic ASCII characters. No `*`, `~` or backquote is among them at all. It begins with a letter, or is
+    /// empty, and a newline follows.
     ///
     /// Where there is none, or another line is next, the cursor stays where it was. No memory is needed.
     pub fn next_plain(&mut self, most: usize) -> Option<&'s str>

@@ -6,7 +6,7 @@ ghost use Rattle.std.specs.Char.{is_ascii_digit};
 ghost use Rattle.std.specs.Str.Parse.{AllDigits, digits_value};
 ghost use Rattle.mad_md.specs.Starts.{indent, header_start, item_start, line_start};
 
-use crate::composite::CompositeStyle;
+use crate::composite::{CompositeStyle, MAX_HEADER_DEPTH};
 
 /// What a line outside fences is.
 #[derive(Clone, Copy)]
@@ -92,7 +92,7 @@ fn scan_header(line: &[u8]) -> Option<LineStart>
     ensures { result ≡ header_start line.now }
 {
     let level = run_len(line, b'#');
-    if level == 0 || level > 8 || !begins(tail(line, level), b" ") {
+    if level == 0 || level > MAX_HEADER_DEPTH || !begins(tail(line, level), b" ") {
         return None;
     }
     Some(starts(

@@ -1,4 +1,4 @@
--- Starts of lines that no fitting break can do with fewer of.
+-- Starts that pass the checker bound the lines of each fitting break from below.
 use Rattle.std.proofs.Common.{◌≡◌, ℕ, ◌+◌, ◌-◌, ◌<◌, ◌≤◌, ◌==◌, ◌||◌, ◌⊎◌, not, nat_lt, take, drop, get_or, slice_range, slice_get, inl, inr, Bool, true, false, List, [], ◌∷◌, ◌++◌, length, refl, sym, ap, ◌∙◌, subst, arith}
 use Rattle.std.proofs.lemmas.List.{append_assoc, length-append}
 use Rattle.std.proofs.lemmas.Bool.{and_parts, or_cases}

@@ -1,7 +1,6 @@
 -- A clean cut is a wrap of its compounds.
-use Rattle.std.proofs.Common.{◌≡◌, ℕ, ◌≤◌, ◌<◌, ◌+◌, Bool, true, false, ◌&&◌, nat_le, List, [], ◌∷◌, ◌++◌, map, chars, length, Option, Some, None, is_some, unwrap_or, if◌then◌else◌, Contains, refl, sym, ap, ◌∙◌, arith, subst, append-nil}
+use Rattle.std.proofs.Common.{◌≡◌, ℕ, ◌≤◌, ◌<◌, ◌+◌, Bool, true, false, ◌&&◌, List, [], ◌∷◌, ◌++◌, map, chars, length, Option, Some, None, is_some, unwrap_or, if◌then◌else◌, Contains, refl, sym, ap, ◌∙◌, arith, subst, append-nil}
 use Rattle.std.proofs.lemmas.Bool.{and_parts}
-use Rattle.std.proofs.lemmas.Bool.Decides.{nat_tests}
 use Rattle.std.proofs.lemmas.List.Elements.{Contains-append_left}
 use Rattle.std.specs.List.{AllByRecursion, list_all}
 use Rattle.std.specs.Char.{is_whitespace}
@@ -23,6 +22,7 @@ use Rattle.mad_wrap.specs.declared.wrapped_line.WrappedLine.{WrappedLine}
 use Rattle.mad_wrap.specs.WrapLines.{compounds_of, AreCounted}
 use Rattle.mad_wrap.specs.Rooms.{token_limit}
 use Rattle.mad_wrap.proofs.BoundLemmas.{two_lines}
+use Rattle.mad_wrap.proofs.PlaceLemmas.{le_from_test}
 use Rattle.mad_wrap.proofs.WrapLemmas.{total_is, one_list}
 
 -- what a clean cut says of its compounds
@@ -40,9 +40,6 @@ pub record IsCut (r : Room) (ps : List Compound) (front back : Compound) : Type 
 pub made_by : {A : Type 0} (b : Bool) (x y : A) → (if b then Some x else None) ≡ Some y → (b ≡ true) × (x ≡ y)
 made_by true x y e = (refl, cc)
 made_by false x y e = absurd (cc)
-
-pub le_from_test : (a b : ℕ) → nat_le a b ≡ true → a ≤ b
-le_from_test a b e = grind (arith, nat_tests)
 
 white_flagged : (f : Flags) (cs : List ℕ) → list_all is_whitespace cs ≡ true → AllWhite (flagged f cs)
 white_flagged f [] h = tt
@@ -90,11 +87,12 @@ cut_is r (a ∷ m ∷ b ∷ []) front back e =
     subst (λ (q : Compound × Compound). IsCut r (a ∷ m ∷ b ∷ []) q.0 q.1) made.1 (cut_of_three r a m b made.0)
 cut_is r (a ∷ b ∷ c ∷ d ∷ ps) front back e = absurd (cc)
 
--- a clean cut has room for the first line's indent
-some_made : {A : Type 0} (b : Bool) (x : A) → is_some (if b then Some x else None) ≡ true → b ≡ true
+-- what was made by a test passed it
+pub some_made : {A : Type 0} (b : Bool) (x : A) → is_some (if b then Some x else None) ≡ true → b ≡ true
 some_made true x e = refl
 some_made false x e = absurd (cc)
 
+-- a clean cut has room for the first line's indent
 pub cut_has_room : (r : Room) (ps : List Compound) → is_cut_clean r ps ≡ true → r.first ≤ r.width
 cut_has_room r [] e = absurd (cc)
 cut_has_room r (a ∷ []) e = absurd (cc)

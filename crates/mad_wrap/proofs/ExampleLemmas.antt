@@ -20,7 +20,7 @@ use Rattle.mad_wrap.specs.Rooms.{token_limit}
 use Rattle.mad_wrap.specs.WrapLines.{runs_of}
 use Rattle.mad_wrap.specs.declared.room.Room.{Room}
 use Rattle.mad_wrap.proofs.KeepLemmas.{text_of_runs, width_is}
-use Rattle.mad_wrap.proofs.PlacingLemmas.{one_first_fit}
+use Rattle.mad_wrap.proofs.UniqueLemmas.{one_first_fit}
 
 -- the character at a place
 abbrev char_at : ℕ → List FlaggedChar → FlaggedChar

@@ -15,10 +15,10 @@ use Rattle.mad_wrap.specs.LeastWrap.{AreTokensIn, IsWrap}
 use Rattle.mad_wrap.specs.Placings.{IsFirstFit, AreFirstFit}
 use Rattle.mad_wrap.specs.WrapLines.{runs_of, HasRoom}
 use Rattle.mad_wrap.specs.declared.room.Room.{Room}
-use Rattle.mad_wrap.proofs.BoundOfLemmas.{some_past}
+use Rattle.mad_wrap.proofs.PromisedStarts.{some_past}
 use Rattle.mad_wrap.proofs.ClosedBreaks.{dropped_at_end, length-starts}
 use Rattle.mad_wrap.proofs.PassLemmas.{starts_each}
-use Rattle.mad_wrap.proofs.PlacingLemmas.{one_first_fit}
+use Rattle.mad_wrap.proofs.UniqueLemmas.{one_first_fit}
 use Rattle.mad_wrap.proofs.WrapLemmas.{room_for_tokens, total_is}
 
 -- ---- one wrap

@@ -4,7 +4,6 @@ use Rattle.std.proofs.lemmas.List.{length-append}
 use Rattle.std.specs.List.{AllByRecursion}
 use Rattle.mad_fit.specs.declared.tokens.Token.{Token}
 use Rattle.mad_wrap.specs.Breaks.{LineAndGap, joined, total_width, AllBlank, FitsFrom, TrimmingBreak}
-use Rattle.mad_wrap.specs.PlacedLines.{TokensHaveRoom}
 use Rattle.mad_wrap.specs.Placings.{GapsForced, LinesForced, LinesWithin, IsFirstFit}
 use Rattle.mad_wrap.specs.Rooms.{most_indent}
 use Rattle.mad_wrap.specs.declared.room.Room.{Room}
@@ -45,6 +44,11 @@ pub least : (r : Room) (ts : List Token) (ps qs : List (LineAndGap Token)) → I
 least r ts ps qs h b = least_from r.first r [] ps qs b.some_line h.forced b.fits (b.covers ∙ sym h.placing.covers)
 
 -- ---- with room each line fits
+
+-- each token fits on each line
+pub record TokensHaveRoom (r : Room) (ts : List Token) : Type 0 where
+  pub indent : most_indent r ≤ r.width
+  pub each : AllByRecursion (λ t. most_indent r + t.width ≤ r.width) ts
 
 one_fits : (i : ℕ) (r : Room) (line : List Token) → i ≤ most_indent r → most_indent r ≤ r.width → AllByRecursion (λ t. most_indent r + t.width ≤ r.width) line → (1 < length line → i + total_width line ≤ r.width) → i + total_width line ≤ r.width
 one_fits i r [] l indent room more = omega arith

@@ -1,5 +1,4 @@
 pub mod BoundLemmas
-pub mod BoundOfLemmas
 pub mod CheckLemmas
 pub mod CheckerSteps
 pub mod ClosedBreaks
@@ -13,6 +12,7 @@ pub mod MeasureLemmas
 pub mod PassLemmas
 pub mod PastLemmas
 pub mod PlaceLemmas
-pub mod PlacingLemmas
+pub mod PromisedStarts
 pub mod StartLemmas
+pub mod UniqueLemmas
 pub mod WrapLemmas

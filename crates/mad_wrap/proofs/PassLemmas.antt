@@ -7,13 +7,12 @@ use Rattle.mad_fit.specs.declared.tokens.Token.{Token}
 use Rattle.mad_wrap.specs.Bounds.{are_starts, are_starts_from}
 use Rattle.mad_wrap.specs.Breaks.{LineAndGap, joined, total_width}
 use Rattle.mad_wrap.specs.LineStarts.{starts_from, dropped_after, dropped_from, from_first, starts_of}
-use Rattle.mad_wrap.specs.PlacedLines.{TokensHaveRoom}
 use Rattle.mad_wrap.specs.Placings.{GapsForced, BeginsAfter, LinesForced, IsFirstFit}
 use Rattle.mad_wrap.specs.Rooms.{most_indent}
 use Rattle.mad_wrap.specs.declared.room.Room.{Room}
 use Rattle.mad_wrap.proofs.BoundLemmas.{total_width-append}
 use Rattle.mad_wrap.proofs.CheckerSteps.{start_after}
-use Rattle.mad_wrap.proofs.LeastLemmas.{first_some}
+use Rattle.mad_wrap.proofs.LeastLemmas.{TokensHaveRoom, first_some}
 
 -- the starts after that of a line which begins at the n-th token
 abbrev others_of : ℕ → LineAndGap Token → List (LineAndGap Token) → List ℕ

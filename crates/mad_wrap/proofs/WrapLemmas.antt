@@ -14,13 +14,13 @@ use Rattle.mad_wrap.specs.CleanCut.{clean_cut}
 use Rattle.mad_wrap.specs.Keeps.{Keeps}
 use Rattle.mad_wrap.specs.LeastWrap.{AreTokensIn, AreTokenized, IsLeastBreak, IsWrap}
 use Rattle.mad_wrap.specs.WrapLines.{compounds_of, AreCounted}
-use Rattle.mad_wrap.specs.PlacedLines.{TokensHaveRoom, ArePlacedLines}
+use Rattle.mad_wrap.specs.PlacedLines.{ArePlacedLines}
 use Rattle.mad_wrap.specs.Rooms.{most_indent, token_limit}
 use Rattle.mad_wrap.specs.WrapLines.{HasRoom, LinesFit}
 use Rattle.mad_wrap.specs.declared.room.Room.{Room}
 use Rattle.mad_wrap.specs.declared.wrapped_line.WrappedLine.{WrappedLine}
 use Rattle.mad_wrap.proofs.KeepLemmas.{texts_are, lengths_are, runs_are, keeps_break, tokens_room, width_is, fit_break, some_lines, counted_are, parts_are, filled_lines}
-use Rattle.mad_wrap.proofs.LeastLemmas.{least, fits_with_room, some_with_room}
+use Rattle.mad_wrap.proofs.LeastLemmas.{TokensHaveRoom, least, fits_with_room, some_with_room}
 
 -- room for each character is room for each token
 pub room_for_tokens : (r : Room) (ps : List Compound) (ts : List Token) → AreTokensIn r ps ts → HasRoom r (flagged_text ps) → TokensHaveRoom r ts

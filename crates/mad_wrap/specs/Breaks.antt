@@ -29,7 +29,7 @@ FitsFrom indent r [] = Unit {0}
 FitsFrom indent r (p ∷ ps) = (indent + total_width p.line ≤ r.width) × AllBlank p.gap × FitsFrom r.other r ps
 
 -- nothing is dropped after the last line
-abbrev pub EndsWithLine : List (LineAndGap Token) → Type 0
+abbrev pub EndsWithLine : {A : Type 0} → List (LineAndGap A) → Type 0
 EndsWithLine [] = Unit {0}
 EndsWithLine (p ∷ []) = p.gap ≡ []
 EndsWithLine (p ∷ q ∷ ps) = EndsWithLine (q ∷ ps)

@@ -1,4 +1,4 @@
--- Clean cuts: two compounds that fit on a line each, also round a middle of whitespace, are two lines.
+-- Clean cuts: two compounds that fit on a line each, with or without a middle of whitespace, are two lines.
 use Rattle.std.specs.Prelude.{ℕ, ◌+◌, Bool, false, ◌&&◌, nat_le, List, [], ◌∷◌, chars, Option, Some, None, is_some, if◌then◌else◌}
 use Rattle.std.specs.List.{AllByRecursion, list_all}
 use Rattle.std.specs.Str.{IsUtf8}

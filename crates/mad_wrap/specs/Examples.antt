@@ -13,10 +13,12 @@ use Rattle.mad_wrap.specs.declared.room.Room.{Room}
 abbrev pub lines_of : ℕ → Room
 lines_of width = record { first = 0; other = 0; width = width }
 
+-- a token of this many columns that isn't blank
 pub record IsWord (columns : ℕ) (t : Token) : Type 0 where
   pub width : t.width ≡ columns
   pub solid : t.blank ≡ false
 
+-- a blank token of this many columns
 pub record IsSpace (columns : ℕ) (t : Token) : Type 0 where
   pub width : t.width ≡ columns
   pub blank : t.blank ≡ true

@@ -35,11 +35,11 @@ pub record IsFirstPast (r : Room) (ts : List Token) (i : ℕ) : Type 0 where
   pub before : r.first ≤ r.width → r.first + total_width (take i ts) ≤ r.width
   pub passes : r.width < r.first + total_width (take (i + 1) ts)
 
--- the starts of a clean cut: 0, and the first token that passes the first line, if one does; where that is token 0 itself, 0 alone
+-- The starts of a clean cut: 0, and the first token that passes the first line, if one does. Where that is token 0 itself, they are 0 alone.
 abbrev pub AreCutStarts : Room → List Token → List ℕ → Type 0
 AreCutStarts r ts starts = ((r.first + total_width ts ≤ r.width) × (starts ≡ 0 ∷ [])) ⊎ ((i : ℕ) × IsFirstPast r ts i × (0 < i → starts ≡ 0 ∷ i ∷ []) × (i ≡ 0 → starts ≡ 0 ∷ []))
 
--- The starts of the lines of a wrap of the compounds; of a text that is cut clean, 0 and the first token that passes the first line.
+-- The starts of the lines of a wrap of the compounds. Of a text that is cut clean, they are 0 and the first token that passes the first line.
 pub record AreStartsOf (r : Room) (ps : List Compound) (starts : List ℕ) : Type 0 where
   -- the starts of the lines of the first fit
   pub lines : is_cut_clean r ps ≡ false → (ts : List Token) → AreTokensIn r ps ts → (breaks : List (LineAndGap Token)) → IsFirstFit r ts breaks → starts ≡ starts_of breaks

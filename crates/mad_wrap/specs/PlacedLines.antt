@@ -1,6 +1,5 @@
 -- Lines and starts that are made of placed tokens, for the private calls that make them.
-use Rattle.std.specs.Prelude.{◌≡◌, ℕ, ◌+◌, ◌≤◌, List, [], ◌∷◌, map}
-use Rattle.std.specs.List.{AllByRecursion}
+use Rattle.std.specs.Prelude.{◌≡◌, ℕ, List, [], ◌∷◌, map}
 use Rattle.std.specs.Str.{IsUtf8}
 use Rattle.mad_md.specs.Flagged.{Run, run_of, flagged_of}
 use Rattle.mad_md.specs.declared.compound.Compound.{Compound}
@@ -12,7 +11,6 @@ use Rattle.mad_wrap.specs.declared.wrapped_line.WrappedLine.{WrappedLine}
 use Rattle.mad_wrap.specs.Breaks.{LineAndGap, total_width}
 use Rattle.mad_wrap.specs.LineStarts.{starts_of}
 use Rattle.mad_wrap.specs.Placings.{IsFirstFit}
-use Rattle.mad_wrap.specs.Rooms.{most_indent}
 use Rattle.mad_wrap.specs.WrapLines.{runs_of, capped}
 
 -- the line says this, in `columns` columns
@@ -30,11 +28,6 @@ HoldBreak [] [] = Unit {0}
 HoldBreak [] (l ∷ ls) = ⊥
 HoldBreak (p ∷ ps) [] = ⊥
 HoldBreak (p ∷ ps) (l ∷ ls) = HoldsTokens p.line l × HoldBreak ps ls
-
--- each token fits on each line
-pub record TokensHaveRoom (r : Room) (ts : List Token) : Type 0 where
-  pub indent : most_indent r ≤ r.width
-  pub each : AllByRecursion (λ t. most_indent r + t.width ≤ r.width) ts
 
 -- the tokens are on these lines, by first fit
 pub record ArePlacedLines (r : Room) (ts : List Token) (lines : List WrappedLine) : Type 0 where

@@ -17,9 +17,14 @@ use mad_md::Compound;
 /// Whether these starts show that each fitting break of the compounds has at least as many lines. Other starts may be right
 /// too, and are not shown to be by this check.
 ///
-/// They do if they begin with 0, rise, are numbers of tokens (0 always is), all but the first and the last of tokens that aren't
-/// blank, and the tokens from each start up to and with the next are wider than the line of that number. It takes no memory. The
-/// time is linear in the text.
+/// They show it where
+///
+/// - the first is 0, and each is greater than the one before;
+/// - each numbers a token, as 0 always does;
+/// - each but the first and the last numbers one that isn't blank;
+/// - the tokens from each up to and with the next are wider than their line.
+///
+/// It takes no memory. The time is linear in the text.
 pub fn check_starts(compounds: &[Compound], room: Room, starts: &[usize]) -> bool
     ensures tokenized { AreTokenized room compounds.now }
     ensures exact { (ts : List Token) → AreTokensIn room compounds.now ts → result ≡ are_starts room ts starts.now }

@@ -5,11 +5,13 @@ ghost use Rattle.std.specs.Str.{IsUtf8};
 ghost use Rattle.mad_wrap.specs.CleanCut.{clean_cut, fits_after, is_white, both_fit, AreTexts};
 
 use crate::room::Room;
-use mad_fit::columns;
+use mad_fit::columns_within;
 use mad_md::Compound;
 
-/// The two compounds that a clean cut puts on a line each, where one is made: those of two compounds, or the outer ones
-/// of three with whitespace between them, if the first fits on the first line and the last on another.
+/// The two compounds that a clean cut puts on a line each, where one is made.
+///
+/// They are two compounds, or the outer ones of three with whitespace between them. The first fits on the first line, and
+/// the last on another.
 pub(crate) fn clean_cut<'s>(
     compounds: &[Compound<'s>],
     room: Room,
@@ -48,7 +50,7 @@ fn fits_after(indent: usize, width: usize, compound: &Compound) -> bool
     ensures text { IsTrue result → IsUtf8 compound.now.src.now }
 {
     match width.checked_sub(indent) {
-        Some(left) => columns(compound.src) <= left,
+        Some(left) => columns_within(compound.src, left).is_some(),
         None => false,
     }
 }

@@ -18,7 +18,7 @@ pub(crate) enum Put {
 }
 
 /// First fit: a token goes on the line while it fits. A blank one that doesn't ends the line, and is dropped with the
-/// blanks after it; any other begins the next line, whether it fits there or not.
+/// blanks after it. Any other begins the next line, whether it fits there or not.
 #[derive(Clone, Copy, Debug)]
 pub(crate) struct FirstFit {
     room: Room,

@@ -20,8 +20,8 @@ use std::alloc::{AllocError, Global};
 
 /// Starts that show how many lines each fitting break of the compounds has at least.
 ///
-/// They are the numbers of the tokens that begin the lines of the wrap, and where blanks are dropped after the last line, the first
-/// of these. Of a clean cut they are 0 and the first token that passes the first line.
+/// They are the numbers of the tokens that begin the lines of the wrap. Where blanks are dropped after the last line, the first of
+/// these is a start too. Of a clean cut they are 0 and the first token that passes the first line.
 ///
 /// The time is linear in the text. The only error is out of memory, which also answers a text of 2^64 tokens or more: only
 /// overlapping slices can be one.
@@ -120,7 +120,7 @@ fn past_here(left: Option<usize>, number: usize) -> Option<usize>
     }
 }
 
-// Puts a start after the others. The very first token is a start already: where there is no room for it, it begins the
+// Puts a start after the others. The very first token is a start already. Where there is no room for it, it begins the
 // second line, and the first line has none.
 fn push_start(starts: &mut Vec<usize>, start: usize) -> Result<(), AllocError>
     ensures { OnOk result ((0 < start → starts.new.items ≡ starts.old.items ++ start ∷ []) × (start ≡ 0 → starts.new.items ≡ starts.old.items)) }

@@ -18,8 +18,8 @@ use std::alloc::{AllocError, Global};
 /// Breaks compounds that are wider than the first line into the fewest lines.
 ///
 /// The lines keep the text but for whitespace between them and after the last, and no fitting break has fewer. Where each
-/// character has room after the greater indent, each line fits. Two compounds that fit on a line each, also round one of
-/// whitespace, are cut there. Any other text is cut into tokens, which are placed one after the other.
+/// character has room after the greater indent, each line fits. Two compounds that fit on a line each, with or without one
+/// of whitespace between them, are cut there. Any other text is cut into tokens, which are placed one after the other.
 ///
 /// The time is linear in the text. No character is copied, and no list of tokens is made. The only error is out of memory.
 pub fn wrap_compounds<'s>(

@@ -8,6 +8,7 @@ pub use Rattle.mad_md.specs.ReadRaw
 pub use Rattle.mad_md.specs.Cells
 pub use Rattle.mad_md.specs.Cursor
 pub use Rattle.mad_md.specs.Places
+pub use Rattle.mad_md.specs.Plain
 pub use Rattle.mad_md.specs.Reading
 pub use Rattle.mad_md.specs.ReadingLaws
 pub use Rattle.mad_md.specs.Scan

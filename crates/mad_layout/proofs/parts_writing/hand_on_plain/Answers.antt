@@ -1,7 +1,8 @@
 use Rattle.std.proofs.Common.{◌<◌, ◌^◌, rules, length, refl, arith}
 use Rattle.std.specs.Str.{IsUtf8}
 use Rattle.mad_md.specs.Cursor.{unread}
-use Rattle.mad_md.specs.Plain.{IsPlainStep, plain_line}
+use Rattle.mad_md.specs.Plain.{IsPlainStep}
+use Rattle.mad_md.specs.ReadRaw.{plain_line}
 use Rattle.mad_term.proofs.Traces.{stopped_before}
 use Rattle.mad_term.specs.declared.errors.Error.TheVariants.{Memory}
 use Rattle.mad_layout.specs.Texts.{line_bytes}

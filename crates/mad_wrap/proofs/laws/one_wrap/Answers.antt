@@ -1,5 +1,5 @@
 use Rattle.mad_wrap.proofs.LawLemmas.{one_wrap}
-use Rattle.mad_wrap.proofs.PlacingLemmas.{one_first_fit}
+use Rattle.mad_wrap.proofs.UniqueLemmas.{one_first_fit}
 use Rattle.mad_wrap.proofs.laws.one_wrap.Goals as goal
 
 pub returns-clause-wrap : goal.returns-clause-wrap

@@ -7,7 +7,7 @@ use Rattle.mad_md.specs.declared.compound.Compound.{Compound}
 use Rattle.mad_wrap.specs.LeastWrap.{AreTokensIn}
 use Rattle.mad_wrap.specs.Rooms.{token_limit}
 use Rattle.mad_wrap.specs.declared.room.Room.{Room}
-use Rattle.mad_wrap.proofs.BoundOfLemmas.{cut_starts_of, cut_fewest, placed_starts_of, placed_fewest, cut_checked, placed_checked, checked_bound}
+use Rattle.mad_wrap.proofs.PromisedStarts.{cut_starts_of, cut_fewest, placed_starts_of, placed_fewest, cut_checked, placed_checked, checked_bound}
 use Rattle.mad_wrap.proofs.CutLemmas.{cut_has_room}
 use Rattle.mad_wrap.proofs.WrapLemmas.{one_list, ok_each}
 use Rattle.mad_wrap.proofs.starting.wrap_starts.Goals as goal

@@ -1,5 +1,5 @@
--- The starts that bound the lines of a composite.
-use Rattle.std.proofs.Common.{◌≡◌, ℕ, zero, suc, ◌≤◌, ◌<◌, ◌+◌, ◌==◌, ◌&&◌, not, Bool, true, false, Some, None, is_some, if◌then◌else◌, List, [], ◌∷◌, ◌++◌, chars, length, take, drop, slice_range, slice_get, refl, sym, ap, ◌∙◌, arith, subst, append-nil, inl, inr}
+-- What `wrap_starts` promises: its starts pass the checker, and are as few as the lines of some fitting break.
+use Rattle.std.proofs.Common.{◌≡◌, ℕ, zero, suc, ◌≤◌, ◌<◌, ◌+◌, ◌==◌, ◌&&◌, not, Bool, true, false, None, is_some, List, [], ◌∷◌, ◌++◌, chars, length, take, drop, slice_range, slice_get, refl, sym, ap, ◌∙◌, arith, subst, append-nil, inl, inr}
 use Rattle.std.proofs.lemmas.Bool.{and_parts}
 use Rattle.std.proofs.lemmas.List.{take-append-drop}
 use Rattle.std.specs.List.{AllByRecursion, list_all}
@@ -18,19 +18,20 @@ use Rattle.mad_wrap.specs.CleanCut.{fits_after, both_fit, is_white, clean_cut, i
 use Rattle.mad_wrap.specs.LeastBound.{IsBound, AreChecked, drops_code, AreStartsOf, AreFewest, AreCutStarts, IsFirstPast}
 use Rattle.mad_wrap.specs.LeastWrap.{AreTokensIn}
 use Rattle.mad_wrap.specs.LineStarts.{starts_of}
-use Rattle.mad_wrap.specs.PlacedLines.{TokensHaveRoom, ArePlacedStarts}
+use Rattle.mad_wrap.specs.PlacedLines.{ArePlacedStarts}
 use Rattle.mad_wrap.specs.Placings.{IsFirstFit}
 use Rattle.mad_wrap.specs.Rooms.{most_indent, token_limit}
 use Rattle.mad_wrap.specs.WrapLines.{HasRoom}
 use Rattle.mad_wrap.specs.declared.room.Room.{Room}
 use Rattle.mad_wrap.proofs.BoundLemmas.{bound, total_width-append, eq_from_test}
-use Rattle.mad_wrap.proofs.CutLemmas.{le_from_test}
+use Rattle.mad_wrap.proofs.CutLemmas.{some_made}
 use Rattle.mad_wrap.proofs.KeepLemmas.{width_is}
 use Rattle.mad_wrap.proofs.CheckerSteps.{step_true, none_left}
 use Rattle.mad_wrap.proofs.ClosedBreaks.{ClosedBreak, closed, length-starts}
-use Rattle.mad_wrap.proofs.LeastLemmas.{fits_with_room}
+use Rattle.mad_wrap.proofs.LeastLemmas.{TokensHaveRoom, fits_with_room}
 use Rattle.mad_wrap.proofs.PassLemmas.{starts_pass, starts_each}
-use Rattle.mad_wrap.proofs.PlacingLemmas.{one_first_fit}
+use Rattle.mad_wrap.proofs.PlaceLemmas.{le_from_test}
+use Rattle.mad_wrap.proofs.UniqueLemmas.{one_first_fit}
 use Rattle.mad_wrap.proofs.WrapLemmas.{room_for_tokens, total_is}
 
 -- a single start is 0
@@ -107,10 +108,6 @@ middle_blank : (max : ℕ) (m : Compound) (own : List Token) → AreTokensFrom m
 middle_blank max m own tokens white off =
     blank_tokens max own (tokens_honest max 0 m own tokens) (subst (AllByRecursion (λ x. is_blank x ≡ true)) (sym (text_from max 0 m own tokens)) (white_blank (flags_of m) (chars m.src.now) white off))
 
-was_made : {A : Type 0} (b : Bool) (x : A) → is_some (if b then Some x else None) ≡ true → b ≡ true
-was_made true x e = refl
-was_made false x e = absurd (cc)
-
 -- a break of two lines
 TwoLines : Room → List Token → Type 0
 TwoLines r ts = (breaks : List (LineAndGap Token)) × FittingBreak r ts breaks × (length breaks ≡ 2)
@@ -121,7 +118,7 @@ cut_break r [] ts on off tokens = absurd (cc)
 cut_break r (a ∷ []) ts on off tokens = absurd (cc)
 cut_break r (a ∷ b ∷ []) ts on off (own, others, joins, first, (own', others', joins', second, none)) =
     let max = token_limit r in
-    let fit = and_parts (fits_after r.first r.width a) (fits_after r.other r.width b) (was_made (both_fit r a b) (a, b) on) in
+    let fit = and_parts (fits_after r.first r.width a) (fits_after r.other r.width b) (some_made (both_fit r a b) (a, b) on) in
     let front : LineAndGap Token = record { line = own; gap = [] } in
     let back : LineAndGap Token = record { line = own'; gap = [] } in (
       front ∷ back ∷ [],
@@ -141,7 +138,7 @@ cut_break r (a ∷ b ∷ []) ts on off (own, others, joins, first, (own', others
     )
 cut_break r (a ∷ m ∷ b ∷ []) ts on off (own, others, joins, first, (own', others', joins', middle, (own'', others'', joins'', last, none))) =
     let max = token_limit r in
-    let test = was_made (is_white m && both_fit r a b) (a, b) on in
+    let test = some_made (is_white m && both_fit r a b) (a, b) on in
     let white = and_parts (is_white m) (both_fit r a b) test in
     let fit = and_parts (fits_after r.first r.width a) (fits_after r.other r.width b) white.1 in
     let plain : m.code ≡ false = sym (ap (λ (t : Bool). t && m.code) on) ∙ off in

@@ -1,4 +1,4 @@
--- First fit places tokens in one way only.
+-- Tokens have one first fit: two first fits of them are equal.
 use Rattle.std.proofs.Common.{◌≡◌, ℕ, ◌≤◌, ◌<◌, ◌+◌, true, false, List, [], ◌∷◌, ◌++◌, length, refl, sym, ap, ◌∙◌, arith, subst, inl, inr}
 use Rattle.std.proofs.lemmas.List.{length-append}
 use Rattle.mad_fit.specs.declared.tokens.Token.{Token}
