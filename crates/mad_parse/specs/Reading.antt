@@ -1,7 +1,7 @@
 -- What a text of style tokens says.
 use Rattle.std.specs.Prelude.{◌≡◌, ℕ, List, [], ◌∷◌, Result, Ok, Err, string_bytes}
 use Rattle.mad_parse.specs.Cuts.{token_texts}
-use Rattle.mad_parse.specs.Values.{Fault, unrecognized, bad_color, token_of}
+use Rattle.mad_parse.specs.StyleTokens.{Fault, unrecognized, bad_color, token_of}
 use Rattle.mad_parse.specs.declared.errors.ParseStyleTokenError.{ParseStyleTokenError}
 use Rattle.mad_parse.specs.declared.errors.ParseStyleTokenError.TheVariants as error
 use Rattle.mad_parse.specs.declared.tokens.StyleToken.{StyleToken}

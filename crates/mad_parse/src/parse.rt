@@ -4,7 +4,7 @@ ghost use Rattle.std.specs.Prelude.{◌≡◌, IfOk, IfErr, Ok, codes};
 ghost use Rattle.std.specs.Str.{chars};
 ghost use Rattle.mad_parse.specs.Names.{is_named};
 ghost use Rattle.mad_parse.specs.Numbers.{signed_number_below};
-ghost use Rattle.mad_parse.specs.Values.{token_of, only};
+ghost use Rattle.mad_parse.specs.StyleTokens.{token_of, only};
 ghost use Rattle.mad_parse.specs.Reading.{tokens_of, said, Tells};
 ghost use Rattle.mad_parse.specs.Styles.{style_of, line_style_of, styled_char_of, item_style_of};
 

@@ -47,7 +47,7 @@ impl From<CompoundStyle> for LineStyle {
 impl LineStyle {
     ghost use Rattle.mad_style.specs.CompoundStyles.{foreground_set, background_set, attribute_added};
     ghost use Rattle.mad_style.specs.LineStyles.{unmargined, margins_at};
-    ghost use Rattle.mad_style.specs.Runs.{run_bytes};
+    ghost use Rattle.mad_style.specs.Repeats.{repeat_bytes};
 
     /// A style without margins.
     pub fn new(compound_style: CompoundStyle, align: Alignment) -> Self
@@ -117,7 +117,7 @@ impl LineStyle {
         text: &str,
         count: usize,
     ) -> Result<(), Error>
-        ensures writes { Draws (O.seen out.old) (run_bytes self.now.compound_style text.now count) result (O.seen out.new) }
+        ensures writes { Draws (O.seen out.old) (repeat_bytes self.now.compound_style text.now count) result (O.seen out.new) }
         ensures early { IsErrOf result Memory → O.seen out.new ≡ O.seen out.old }
         ensures bytes { IsStyle self.now.compound_style.object_style }
     {
@@ -136,7 +136,7 @@ impl LineStyle {
         c: char,
         count: usize,
     ) -> Result<(), Error>
-        ensures writes { Draws (O.seen out.old) (run_bytes self.now.compound_style (encode_utf8 c) count) result (O.seen out.new) }
+        ensures writes { Draws (O.seen out.old) (repeat_bytes self.now.compound_style (encode_utf8 c) count) result (O.seen out.new) }
         ensures early { IsErrOf result Memory → O.seen out.new ≡ O.seen out.old }
         ensures bytes { IsStyle self.now.compound_style.object_style }
     {
@@ -154,7 +154,7 @@ impl LineStyle {
         out: &mut O,
         count: usize,
     ) -> Result<(), Error>
-        ensures writes { Draws (O.seen out.old) (run_bytes self.now.compound_style (32 ∷ []) count) result (O.seen out.new) }
+        ensures writes { Draws (O.seen out.old) (repeat_bytes self.now.compound_style (32 ∷ []) count) result (O.seen out.new) }
         ensures early { IsErrOf result Memory → O.seen out.new ≡ O.seen out.old }
         ensures bytes { IsStyle self.now.compound_style.object_style }
     {

@@ -17,7 +17,7 @@ use mad_term::{
 use std::alloc::{AllocError, Global};
 
 impl CompoundStyle {
-    ghost use Rattle.mad_style.specs.Runs.{run_bytes};
+    ghost use Rattle.mad_style.specs.Repeats.{repeat_bytes};
     ghost use Rattle.mad_style.specs.StyledChars.{styled_char};
 
     /// A text in this style, as a piece.
@@ -133,7 +133,7 @@ impl CompoundStyle {
         text: &str,
         count: usize,
     ) -> Result<(), Error>
-        ensures writes { Draws (O.seen out.old) (run_bytes self.now text.now count) result (O.seen out.new) }
+        ensures writes { Draws (O.seen out.old) (repeat_bytes self.now text.now count) result (O.seen out.new) }
         ensures early { IsErrOf result Memory → O.seen out.new ≡ O.seen out.old }
         ensures bytes { IsStyle self.now.object_style }
     {
@@ -155,7 +155,7 @@ impl CompoundStyle {
         c: char,
         count: usize,
     ) -> Result<(), Error>
-        ensures writes { Draws (O.seen out.old) (run_bytes self.now (encode_utf8 c) count) result (O.seen out.new) }
+        ensures writes { Draws (O.seen out.old) (repeat_bytes self.now (encode_utf8 c) count) result (O.seen out.new) }
         ensures early { IsErrOf result Memory → O.seen out.new ≡ O.seen out.old }
         ensures bytes { IsStyle self.now.object_style }
     {
@@ -174,7 +174,7 @@ impl CompoundStyle {
         out: &mut O,
         count: usize,
     ) -> Result<(), Error>
-        ensures writes { Draws (O.seen out.old) (run_bytes self.now (32 ∷ []) count) result (O.seen out.new) }
+        ensures writes { Draws (O.seen out.old) (repeat_bytes self.now (32 ∷ []) count) result (O.seen out.new) }
         ensures early { IsErrOf result Memory → O.seen out.new ≡ O.seen out.old }
         ensures bytes { IsStyle self.now.object_style }
     {
@@ -194,7 +194,7 @@ impl CompoundStyle {
         text: &str,
         count: usize,
     ) -> Result<(), AllocError>
-        ensures writes { OnOk result (string_bytes row.new ≡ string_bytes row.old ++ run_bytes self.now text.now count) }
+        ensures writes { OnOk result (string_bytes row.new ≡ string_bytes row.old ++ repeat_bytes self.now text.now count) }
         ensures bytes { IsStyle self.now.object_style }
     {
         // Most runs are of plain spaces, and need no formatting.

@@ -244,7 +244,7 @@ fn kinds_of_what_was_read(rt: HostRuntime) {
     );
 }
 
-// Each call once, a bar after each; runs of none show as two bars.
+// Each call once, a bar after each; texts repeated no times show as two bars.
 #[test]
 fn what_the_writing_calls_write(rt: HostRuntime) -> Result<(), Fail> {
     let alloc = rt.alloc();
@@ -335,7 +335,7 @@ fn a_fault_in_mid_stream_leaves_a_front(rt: HostRuntime) -> Result<(), Fail> {
 }
 
 #[test]
-fn a_run_that_no_memory_holds_is_refused_before_any_byte(rt: HostRuntime) -> Result<(), Fail> {
+fn a_repeat_that_no_memory_holds_is_refused_before_any_byte(rt: HostRuntime) -> Result<(), Fail> {
     let alloc = rt.alloc();
     let mut out = CutOut::new(alloc, 4, 100, false)?;
     for style in [CompoundStyle::default(), CompoundStyle::with_fg(Color::Red)] {

@@ -82,5 +82,5 @@ abbrev pub piece_bytes : ContentStyle → List ℕ → List ℕ
 piece_bytes style text = opening_bytes style ++ (text ++ closing_bytes style)
 
 -- a text `count` times in one style, as one piece; none at all writes nothing
-abbrev pub styled_run_bytes : ContentStyle → List ℕ → ℕ → List ℕ
-styled_run_bytes style text count = if count == 0 then [] else piece_bytes style (repeat count text)
+abbrev pub styled_repeat_bytes : ContentStyle → List ℕ → ℕ → List ℕ
+styled_repeat_bytes style text count = if count == 0 then [] else piece_bytes style (repeat count text)

@@ -123,7 +123,7 @@ fn written_margin(margin: usize) -> u16
     margin.min(65535) as u16
 }
 
-fn push_mark(mark: StyledChar, tokens: &mut Vec<StyleToken>) -> Result<(), AllocError>
+fn push_styled_char(mark: StyledChar, tokens: &mut Vec<StyleToken>) -> Result<(), AllocError>
     ensures tokens { OnOk result (tokens.new.items ≡ tokens.old.items ++ styled_char_tokens mark) }
     ensures char { IsScalar (char_alone mark) }
     ensures bytes { IsStyle (char_style mark).object_style }
@@ -139,7 +139,7 @@ fn push_item(item: OrderedItemStyle, tokens: &mut Vec<StyleToken>) -> Result<(),
     ensures suffix_bytes { IsStyle (char_style item.index_suffix).object_style }
 {
     push_style(item.index_style, tokens)?;
-    push_mark(item.index_suffix, tokens)
+    push_styled_char(item.index_suffix, tokens)
 }
 
 impl PushStyleTokens for CompoundStyle {
@@ -180,7 +180,7 @@ impl PushStyleTokens for StyledChar {
     ghost tokens_of_value = { styled_char_tokens };
 
     fn push_style_tokens(&self, tokens: &mut Vec<StyleToken>) -> Result<(), AllocError> {
-        push_mark(*self, tokens)
+        push_styled_char(*self, tokens)
     }
 
     fn to_style_tokens_string(&self, alloc: Global) -> Result<String, AllocError>
@@ -188,7 +188,7 @@ impl PushStyleTokens for StyledChar {
         ensures reads_back { IfOk result (λ text. CharReadsBack self.now (string_bytes text)) }
     {
         let mut tokens = Vec::new(alloc);
-        push_mark(*self, &mut tokens)?;
+        push_styled_char(*self, &mut tokens)?;
         style_tokens_to_string(alloc, &tokens)
     }
 }

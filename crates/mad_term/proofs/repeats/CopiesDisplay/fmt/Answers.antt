@@ -2,7 +2,7 @@ use Rattle.std.proofs.Common.{rules, arith, ◌%◌, ◌≡◌, [], ◌∷◌, a
 use Rattle.std.specs.List.{repeat}
 use Rattle.std.proofs.Output.{has_written_of_eq}
 use Rattle.mad_term.proofs.Repeating.{spaces_by_64, spaces_boundary}
-use Rattle.mad_term.proofs.runs.CopiesDisplay.fmt.Goals as goal
+use Rattle.mad_term.proofs.repeats.CopiesDisplay.fmt.Goals as goal
 
 pub returns-then-eq-clause-writes : goal.returns-then-eq-clause-writes
 returns-then-eq-clause-writes g c = λ plain. λ ok.

@@ -5,17 +5,17 @@ use std::fmt::{self, Display};
 
 /// A text `count` times in a style, as one piece; nothing at all if `count` is 0.
 #[derive(Clone, Copy, Debug, PartialEq, Eq)]
-pub struct StyledRun<'a> {
+pub struct StyledRepeat<'a> {
     pub style: ContentStyle,
     pub content: &'a str,
     pub count: usize,
 }
 
-impl fmt::Display for StyledRun<'_> {
+impl fmt::Display for StyledRepeat<'_> {
     ghost use Rattle.std.specs.Prelude.{Some};
-    ghost use Rattle.mad_term.specs.Styles.{styled_run_bytes};
+    ghost use Rattle.mad_term.specs.Styles.{styled_repeat_bytes};
 
-    ghost output = { λ r. Some (styled_run_bytes r.style r.content.now r.count) };
+    ghost output = { λ r. Some (styled_repeat_bytes r.style r.content.now r.count) };
 
     #[tactic(auto, using(crate::proofs::Pieces::plain_piece))]
     fn fmt<W: fmt::Write>(&self, f: &mut fmt::Formatter<W>) -> fmt::Result {
@@ -26,7 +26,7 @@ impl fmt::Display for StyledRun<'_> {
             content: self.content,
             count: self.count,
         };
-        // Most runs are of plain spaces, and need no commands.
+        // Most are plain spaces, and need no commands.
         if self.style.is_plain() {
             return copies.fmt(f);
         }
@@ -53,6 +53,10 @@ impl fmt::Display for Copies<'_> {
     ghost output = { λ c. Some (repeat c.count c.content.now) };
 
     fn fmt<W: fmt::Write>(&self, f: &mut fmt::Formatter<W>) -> fmt::Result {
+        // Nothing, however often.
+        if self.content.is_empty() {
+            return Ok(());
+        }
         if self.content == " " {
             let many = EachCopy {
                 content: SPACES,

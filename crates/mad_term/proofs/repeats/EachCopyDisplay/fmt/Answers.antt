@@ -1,7 +1,7 @@
 use Rattle.std.proofs.Common.{rules}
 use Rattle.std.proofs.Output.{has_written_of_eq, has_written_append}
 use Rattle.mad_term.proofs.Repeating.{repeat-more}
-use Rattle.mad_term.proofs.runs.EachCopyDisplay.fmt.Goals as goal
+use Rattle.mad_term.proofs.repeats.EachCopyDisplay.fmt.Goals as goal
 
 pub loop-preserved : goal.loop-preserved
 loop-preserved g c = λ p.

@@ -1,4 +1,4 @@
-//! Runs as they are displayed.
+//! Repeated texts as they are displayed.
 
 use super::*;
 use crate::attribute::Attribute;
@@ -7,7 +7,7 @@ use crate::color::Color;
 use std::test::Fail;
 
 #[test]
-fn a_run_is_one_piece_and_a_run_of_none_nothing(rt: HostRuntime) -> Result<(), Fail> {
+fn a_repeated_text_is_one_piece_and_of_none_nothing(rt: HostRuntime) -> Result<(), Fail> {
     let alloc = rt.alloc();
     let plain = ContentStyle::default();
     let red = ContentStyle {
@@ -30,15 +30,17 @@ fn a_run_is_one_piece_and_a_run_of_none_nothing(rt: HostRuntime) -> Result<(), F
         (red, "", 2, "\x1b[38;5;9m\x1b[39m"),
         (red, "", 0, ""),
         (plain, "", 2, ""),
+        (plain, "", usize::MAX, ""),
+        (red, "", usize::MAX, "\x1b[38;5;9m\x1b[39m"),
     ];
     for (style, content, count, bytes) in cases {
-        let run = StyledRun {
+        let repeated = StyledRepeat {
             style,
             content,
             count,
         };
         assert!(rt;
-            run.to_string(alloc)?.as_str() == bytes,
+            repeated.to_string(alloc)?.as_str() == bytes,
             "{content:?} {count} times"
         );
     }

@@ -3,8 +3,8 @@ use Rattle.mad_term.specs.Attributes.{has_attribute}
 use Rattle.mad_term.specs.declared.attribute.Attribute.TheVariants.{Reset}
 use Rattle.mad_parse.specs.Written.{written_attributes}
 use Rattle.mad_parse.proofs.WriteLemmas.{attribute_pushed, attribute_passed}
-use Rattle.mad_parse.proofs.values.push_attributes.Goals.{then-has+in_ok-push, else-has}
-use Rattle.mad_parse.proofs.values.push_attributes.Goals as goal
+use Rattle.mad_parse.proofs.written.push_attributes.Goals.{then-has+in_ok-push, else-has}
+use Rattle.mad_parse.proofs.written.push_attributes.Goals as goal
 
 pub loop-attribute-preserved : goal.loop-attribute-preserved
 loop-attribute-preserved c =

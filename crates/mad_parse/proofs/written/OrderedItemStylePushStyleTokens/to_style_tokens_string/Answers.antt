@@ -2,7 +2,7 @@ use Rattle.std.proofs.Common.{◌∙◌, ap, string_bytes}
 use Rattle.std.proofs.lemmas.Result.{IfOk-weaker}
 use Rattle.mad_parse.specs.Written.{tokens_text}
 use Rattle.mad_parse.proofs.ReadingBack.{pushed, item_reads_back}
-use Rattle.mad_parse.proofs.values.OrderedItemStylePushStyleTokens.to_style_tokens_string.Goals as goal
+use Rattle.mad_parse.proofs.written.OrderedItemStylePushStyleTokens.to_style_tokens_string.Goals as goal
 
 pub returns-clause-reads_back : goal.returns-clause-reads_back
 returns-clause-reads_back c =
