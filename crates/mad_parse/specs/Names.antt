@@ -6,7 +6,7 @@ use Rattle.mad_md.specs.declared.alignment.Alignment.TheVariants.{Unspecified, L
 use Rattle.mad_term.specs.declared.attribute.Attribute.{Attribute}
 use Rattle.mad_term.specs.declared.attribute.Attribute.TheVariants.{Reset, Bold, Dim, Italic, Underlined, SlowBlink, RapidBlink, Reverse, Hidden, CrossedOut, Fraktur, NoBold, NormalIntensity, NoItalic, NoUnderline, NoBlink, NoReverse, NoHidden, NotCrossedOut, Framed, Encircled, OverLined, NotFramedOrEncircled, NotOverLined}
 
--- a text is this name, whatever the case of its ASCII letters
+-- whether a text is this name, whatever the case of its ASCII letters
 abbrev pub is_named : List ℕ → List ℕ → Bool
 is_named text name = str_eq_ignore_ascii_case text name
 
@@ -19,11 +19,11 @@ named (entry ∷ table) text = if is_named text entry.0 then Some entry.1 else n
 abbrev pub of_length : {A : Type 0} → ℕ → List (List ℕ × A) → List (List ℕ × A)
 of_length n table = filter (λ entry. length entry.0 == n) table
 
--- the aligns that have a name
+-- the alignments that have a name
 abbrev pub align_names : List (List ℕ × Alignment)
 align_names = (codes "left", Left) ∷ (codes "center", Center) ∷ (codes "right", Right) ∷ []
 
--- the name of an align as it is written; one that isn't specified has none
+-- the name of an alignment as it is written; one that isn't specified has none
 abbrev pub align_text : Alignment → List ℕ
 align_text Left = codes "left"
 align_text Center = codes "center"

@@ -16,6 +16,7 @@ abbrev pub in_order : Result StyleToken Fault → Result (List StyleToken) Fault
 in_order (Ok t) rest = and_after t rest
 in_order (Err fault) rest = Err fault
 
+-- what the texts of tokens say, one after another
 abbrev pub read_all : List (List ℕ) → Result (List StyleToken) Fault
 read_all [] = Ok []
 read_all (text ∷ texts) = in_order (token_of text) (read_all texts)

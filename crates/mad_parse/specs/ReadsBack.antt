@@ -14,7 +14,7 @@ use Rattle.mad_style.specs.StyledChars.{char_alone, char_style}
 use Rattle.mad_parse.specs.Reading.{tokens_of, said}
 use Rattle.mad_parse.specs.Styles.{style_of, line_style_of, styled_char_of, item_style_of}
 
--- an attribute that is written
+-- whether an attribute is written
 abbrev pub is_written : Attribute → Bool
 is_written Bold = true
 is_written Dim = true
@@ -33,11 +33,13 @@ IsReadBackColor color.Black = ⊥
 IsReadBackColor color.White = ⊥
 IsReadBackColor _ = ⊤
 
+-- a color that reads back, where there is one
 abbrev pub IsReadBackOrNone : Option Color → Type 0
 IsReadBackOrNone None = ⊤
 IsReadBackOrNone (Some c) = IsReadBackColor c
 
--- a style whose colors read back, without a color of its own for the underline, and with no other attributes than those that are written
+-- A style that reads back: its colors do, it has no color of its own for the underline, and it has no attributes but those that
+-- are written.
 pub record IsReadBackStyle (s : CompoundStyle) : Type 0 where
   pub foreground : IsReadBackOrNone s.object_style.foreground_color
   pub background : IsReadBackOrNone s.object_style.background_color
@@ -50,10 +52,10 @@ pub record IsReadBackLine (s : LineStyle) : Type 0 where
   pub left : s.left_margin < 65536
   pub right : s.right_margin < 65536
 
--- such a style of a mark that is neither whitespace nor an ASCII digit
+-- such a style of a character that is neither whitespace nor an ASCII digit
 pub record IsReadBackChar (c : StyledChar) : Type 0 where
   pub style : IsReadBackStyle (char_style c)
-  pub mark : is_whitespace (char_alone c) ≡ false
+  pub no_whitespace : is_whitespace (char_alone c) ≡ false
   pub no_digit : is_ascii_digit (char_alone c) ≡ false
 
 -- such styles of an ordered item's number and suffix
@@ -61,16 +63,18 @@ pub record IsReadBackItem (s : OrderedItemStyle) : Type 0 where
   pub index : IsReadBackStyle s.index_style
   pub suffix : IsReadBackChar s.index_suffix
 
--- what is read of a text is the value that wrote it
+-- what is read of the text that a style is written as is that style
 abbrev pub StyleReadsBack : CompoundStyle → List ℕ → Type 0
 StyleReadsBack s text = IsReadBackStyle s → said style_of (tokens_of text) ≡ Ok s
 
+-- the same of a line's style
 abbrev pub LineReadsBack : LineStyle → List ℕ → Type 0
 LineReadsBack s text = IsReadBackLine s → said line_style_of (tokens_of text) ≡ Ok s
 
--- whatever the reader takes for a mark where there is none
+-- the same of a character in a style, whatever the reader takes for a character where there is none
 abbrev pub CharReadsBack : StyledChar → List ℕ → Type 0
 CharReadsBack c text = IsReadBackChar c → (default : ℕ) → said (styled_char_of default) (tokens_of text) ≡ Ok c
 
+-- the same of an ordered item's style
 abbrev pub ItemReadsBack : OrderedItemStyle → List ℕ → Type 0
 ItemReadsBack s text = IsReadBackItem s → (default : ℕ) → said (item_style_of default) (tokens_of text) ≡ Ok s

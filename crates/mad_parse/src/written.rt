@@ -123,13 +123,13 @@ fn written_margin(margin: usize) -> u16
     margin.min(65535) as u16
 }
 
-fn push_styled_char(mark: StyledChar, tokens: &mut Vec<StyleToken>) -> Result<(), AllocError>
-    ensures tokens { OnOk result (tokens.new.items ≡ tokens.old.items ++ styled_char_tokens mark) }
-    ensures char { IsScalar (char_alone mark) }
-    ensures bytes { IsStyle (char_style mark).object_style }
+fn push_styled_char(c: StyledChar, tokens: &mut Vec<StyleToken>) -> Result<(), AllocError>
+    ensures tokens { OnOk result (tokens.new.items ≡ tokens.old.items ++ styled_char_tokens c) }
+    ensures char { IsScalar (char_alone c) }
+    ensures bytes { IsStyle (char_style c).object_style }
 {
-    tokens.push(StyleToken::Char(mark.get_char()))?;
-    push_style(*mark.compound_style(), tokens)
+    tokens.push(StyleToken::Char(c.get_char()))?;
+    push_style(*c.compound_style(), tokens)
 }
 
 fn push_item(item: OrderedItemStyle, tokens: &mut Vec<StyleToken>) -> Result<(), AllocError>

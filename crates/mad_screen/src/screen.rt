@@ -142,7 +142,7 @@ impl Screen {
             return Err(NotPlain::Undefined);
         };
         let mut reader = Reader::new(*self.cells.allocator(), self.copy()?);
-        if !reader.run(text)? {
+        if !reader.feed_all(text)? {
             return Err(NotPlain::Undefined);
         }
         let Some(screen) = reader.finish() else {

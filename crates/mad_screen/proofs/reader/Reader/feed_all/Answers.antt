@@ -4,9 +4,9 @@ use Rattle.std.proofs.lemmas.List.{length_push}
 use Rattle.std.proofs.lemmas.Iterator.Consumers.{YieldsList-turn, YieldsList-end}
 use Rattle.std.specs.Str.{chars}
 use Rattle.mad_screen.specs.Terminal.{feed, feed_all}
-use Rattle.mad_screen.specs.Stages.{reading_of}
+use Rattle.mad_screen.specs.Readers.{reading_of}
 use Rattle.mad_screen.proofs.Feeding.{feed_all-drop, feed_all-end}
-use Rattle.mad_screen.proofs.reader.Reader.run.Goals as goal
+use Rattle.mad_screen.proofs.reader.Reader.feed_all.Goals as goal
 
 pub returns-then-not-branch : goal.returns-then-not-branch
 returns-then-not-branch c =
