@@ -123,7 +123,8 @@ tokens_cut bs first rest u v e some black len =
 pub read_start : (text rest : List ℕ) (ts : List StyleToken) → IsUtf8 text → rest ≡ trim_start text → ts ≡ [] → tokens_of text ≡ all_after ts (tokens_of rest)
 read_start text rest ts u is none = sym (ap (λ l. all_after l (tokens_of rest)) none ∙ ap tokens_of is ∙ tokens_trimmed text u)
 
-counted_chars : (cs bs : List ℕ) → encode_utf8_all cs ≡ bs → 0 < length bs → 0 < length cs
+-- a text with bytes has characters
+pub counted_chars : (cs bs : List ℕ) → encode_utf8_all cs ≡ bs → 0 < length bs → 0 < length cs
 counted_chars [] bs e h = absurd (omega (arith, ap length e))
 counted_chars (c ∷ cs) bs e h = omega arith
 

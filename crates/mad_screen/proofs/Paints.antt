@@ -104,7 +104,7 @@ joined_both pen (c ∷ a) b h = ap (attach (char_width false c) pen c) (joined_b
 pub cells_both : (pen : Look) (a b : List ℕ) → IsWhole b → cells_of pen (a ++ b) ≡ cells_of pen a ++ cells_of pen b
 cells_both pen a b whole = ap (λ (p : List ℕ × List Glyph). p.1) (joined_both pen a b (no_marks pen b whole))
 
-printed_both : (a b : List ℕ) → IsPrinted a → IsPrinted b → IsPrinted (a ++ b)
+pub printed_both : (a b : List ℕ) → IsPrinted a → IsPrinted b → IsPrinted (a ++ b)
 printed_both [] b p q = q
 printed_both (c ∷ a) b p q = (p.0, printed_both a b p.1 q)
 

@@ -20,14 +20,14 @@ row_text cells = flat_map cell_text cells
 abbrev pub row_cells : Grid → ℕ → List Glyph
 row_cells g y = take g.width (drop (y * g.width) g.cells)
 
--- this many rows of a screen, from the top, each as a line that a newline (10) ends
-abbrev pub rows_text : Grid → ℕ → List ℕ
-rows_text g zero = []
-rows_text g (suc y) = rows_text g y ++ (row_text (row_cells g y) ++ 10 ∷ [])
+-- so many rows of a screen, from the top, each with the text that its cells have by f, as a line that a newline (10) ends
+abbrev pub lines_text : (List Glyph → List ℕ) → Grid → ℕ → List ℕ
+lines_text f g zero = []
+lines_text f g (suc y) = lines_text f g y ++ (f (row_cells g y) ++ 10 ∷ [])
 
--- all its rows
+-- all its rows, each with its characters
 abbrev pub screen_text : Grid → List ℕ
-screen_text g = rows_text g g.height
+screen_text g = lines_text row_text g g.height
 
 -- whether two colors are one
 abbrev pub same_color : Color → Color → Bool
@@ -68,7 +68,6 @@ letter_of known pen = if is_plain pen then 46 else nth_letter (position (λ k. s
 abbrev pub row_letters : List Look → List Glyph → List ℕ
 row_letters known cells = flat_map (λ cell. encode (letter_of known cell.pen)) cells
 
--- this many rows of a screen, from the top, each cell as its pen's letter and each row as a line
-abbrev pub letters_text : List Look → Grid → ℕ → List ℕ
-letters_text known g zero = []
-letters_text known g (suc y) = letters_text known g y ++ (row_letters known (row_cells g y) ++ 10 ∷ [])
+-- all its rows, each with its pens' letters
+abbrev pub letters_text : List Look → Grid → List ℕ
+letters_text known g = lines_text (row_letters known) g g.height

@@ -126,7 +126,7 @@ impl fmt::Display for Looks<'_> {
     ghost use Rattle.std.specs.Prelude.{Some};
     ghost use Rattle.mad_screen.specs.Pictures.{letters_text};
 
-    ghost output = { λ looks. Some (letters_text (map look_of looks.pens.items) looks.screen.now looks.screen.now.height) };
+    ghost output = { λ looks. Some (letters_text (map look_of looks.pens.items) looks.screen.now) };
 
     /// The letters row by row, each row as a line.
     fn fmt<W: fmt::Write>(&self, f: &mut fmt::Formatter<W>) -> fmt::Result {

@@ -11,7 +11,7 @@ ghost use Rattle.mad_term.specs.Styles.{foreground_bytes, background_bytes, pres
 use crate::compound_styles::CompoundStyle;
 use crate::styled_chars::StyledChar;
 use mad_term::{
-    ClearType, Error, Out, StyledContent, push_background, push_clear, push_styled, put_all,
+    ClearType, Error, Out, StyledContent, StyledRepeat, push_background, push_clear, put_all,
     queue_styled,
 };
 use std::alloc::{AllocError, Global};
@@ -197,15 +197,21 @@ impl CompoundStyle {
         ensures writes { OnOk result (string_bytes row.new ≡ string_bytes row.old ++ repeat_bytes self.now text.now count) }
         ensures bytes { IsStyle self.now.object_style }
     {
-        // Most runs are of plain spaces, and need no formatting.
+        // Most are plain spaces, and need no formatting.
         if self.object_style.is_plain() {
             return push_copies(row, text, count);
         }
         if count == 0 {
             return Ok(());
         }
-        let content = text.repeat(*row.allocator(), count)?;
-        push_styled(row, self.object_style, content.as_str())
+        // One growth for the text; where its bytes are more than a `usize` counts, it is refused.
+        row.reserve(text.len().saturating_mul(count))?;
+        let repeated = StyledRepeat {
+            style: self.object_style,
+            content: text,
+            count,
+        };
+        write!(row, "{repeated}")
     }
 }
 

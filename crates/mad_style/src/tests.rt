@@ -34,7 +34,6 @@ fn the_attributes_of_written_styles(rt: HostRuntime) {
         Attribute::OverLined,
     ];
     assert_eq!(rt; ATTRIBUTES, names);
-    assert_eq!(rt; MAX_ORDERED_LIST_DEPTH, 4);
 }
 
 #[test]
@@ -118,6 +117,7 @@ fn indents_of_items_of_ordered_lists(rt: HostRuntime) {
 
 #[test]
 fn made_styles_of_items_and_bars(rt: HostRuntime) -> Result<(), Fail> {
+    assert_eq!(rt; MAX_ORDERED_LIST_DEPTH, 4);
     let item = OrderedItemStyle::default();
     assert_eq!(rt; item.index_style, CompoundStyle::default());
     assert_eq!(rt;
