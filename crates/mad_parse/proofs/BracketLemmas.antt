@@ -18,7 +18,7 @@ led_by k l text inside e = e ∙ ap (λ x. x ++ inside) (sym (encode_ascii k l))
 opened : (text inside : List ℕ) → IsUtf8 text → text ≡ 40 ∷ inside → chars text ≡ 40 ∷ chars inside
 opened text inside u e = chars_past_char text inside 40 u (led_by 40 (lit< tt) text inside e)
 
--- what stands after the characters inside
+-- what comes after the characters inside
 after_inside : (p : ℕ → Bool) (bs : List ℕ) (end : ℕ) → IsUtf8 bs → IsCharBoundary bs end → length (chars (take end bs)) ≡ prefix_len p (chars bs)
     → drop (prefix_len p (chars bs)) (chars bs) ≡ chars (drop end bs)
 after_inside p bs end u border len =

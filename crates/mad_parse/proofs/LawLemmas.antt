@@ -1,4 +1,4 @@
--- What is written of a color or a number is read as it was.
+-- A color of three numbers or of the palette, and a number: the text that each is written as is read as what it was.
 use Rattle.std.proofs.Common.{◌≡◌, ℕ, ◌<◌, ◌+◌, ◌^◌, ◌==◌, Bool, true, false, List, [], ◌∷◌, ◌++◌, length, drop, refl, sym, ap, ◌∙◌, arith, subst, ne_eqb, lt-ltb, le-leb, append_assoc, append-nil, Some}
 use Rattle.std.specs.Prelude.{codes, decimal, Ok}
 use Rattle.std.specs.List.{prefix_len, list_all}
@@ -80,7 +80,7 @@ rgb_numbers r g b small_r small_g small_b =
     ∙ ap (λ t. rgb_color (number_below 256 (decimal r)) (number_below 256 (decimal g)) (number_below 256 t)) trim_last
     ∙ numbers
 
--- what stands between the brackets
+-- what is between the brackets
 abbrev pub rgb_inside : ℕ → ℕ → ℕ → List ℕ
 rgb_inside r g b = decimal r ++ 44 ∷ (32 ∷ (decimal g ++ 44 ∷ (32 ∷ decimal b)))
 

@@ -44,7 +44,7 @@ hex_pair high low = hex_digit high * 16 + hex_digit low
 abbrev pub hex_twice : ℕ → ℕ
 hex_twice digit = hex_pair digit digit
 
--- the color of 3 to 6 hex digits, cut 1 1 1, 2 1 1, 2 2 1 or 2 2 2; another count has none
+-- The color of 3 to 6 hex digits, cut 1 1 1, 2 1 1, 2 2 1 or 2 2 2. Another count has none.
 abbrev pub hex_cut : List ℕ → Option Color
 hex_cut (r ∷ g ∷ b ∷ []) = Some (Rgb (hex_twice r) (hex_twice g) (hex_twice b))
 hex_cut (r ∷ s ∷ g ∷ b ∷ []) = Some (Rgb (hex_pair r s) (hex_twice g) (hex_twice b))

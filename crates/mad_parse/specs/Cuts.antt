@@ -24,7 +24,8 @@ abbrev pub is_in : Class → ℕ → Bool
 is_in Word c = is_word_char c
 is_in Inside c = is_inside_char c
 
--- how many characters a bracket takes with n characters inside, where this is what comes after them; 0 where there are none or it stays open
+-- How many characters a bracket takes, with n characters inside and this text after them. 0, where n is 0 or the bracket
+-- stays open.
 abbrev pub closed_len : ℕ → List ℕ → ℕ
 closed_len n rest = if nat_lt 0 n && begins_with 41 rest then n + 2 else 0
 

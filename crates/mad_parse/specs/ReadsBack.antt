@@ -38,8 +38,8 @@ abbrev pub IsReadBackOrNone : Option Color → Type 0
 IsReadBackOrNone None = ⊤
 IsReadBackOrNone (Some c) = IsReadBackColor c
 
--- A style that reads back: its colors do, it has no color of its own for the underline, and it has no attributes but those that
--- are written.
+-- A style that reads back: its colors do, and it has no attributes but those that are written. It has no color of its own for
+-- the underline.
 pub record IsReadBackStyle (s : CompoundStyle) : Type 0 where
   pub foreground : IsReadBackOrNone s.object_style.foreground_color
   pub background : IsReadBackOrNone s.object_style.background_color

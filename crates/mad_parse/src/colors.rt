@@ -15,8 +15,8 @@ use mad_term::{Color, Error, Out, put_all};
 use std::alloc::Global;
 use std::fmt;
 
-/// The color that a text says, without regard to ASCII case: a name as `red` or `darkgrey`, `ansi(n)`,
-/// `gray(level)`, `rgb(r,g,b)`, or `#` and 3 to 6 hex digits.
+/// The color that a text says, without regard to ASCII case. It may be a name, as `red` or `darkgrey`, or
+/// `ansi(n)`, `gray(level)`, `rgb(r,g,b)`, or `#` and 3 to 6 hex digits.
 ///
 /// # Errors
 ///

@@ -20,10 +20,10 @@ row_text cells = flat_map cell_text cells
 abbrev pub row_cells : Grid → ℕ → List Glyph
 row_cells g y = take g.width (drop (y * g.width) g.cells)
 
--- so many rows of a screen, from the top, each with the text that its cells have by f, as a line that a newline (10) ends
+-- the first rows of a screen, n of them, each with the text that f gives its cells and a newline (10)
 abbrev pub lines_text : (List Glyph → List ℕ) → Grid → ℕ → List ℕ
 lines_text f g zero = []
-lines_text f g (suc y) = lines_text f g y ++ (f (row_cells g y) ++ 10 ∷ [])
+lines_text f g (suc n) = lines_text f g n ++ (f (row_cells g n) ++ 10 ∷ [])
 
 -- all its rows, each with its characters
 abbrev pub screen_text : Grid → List ℕ
@@ -41,8 +41,8 @@ same_look a b = option_eq same_color a.fg b.fg && (option_eq same_color a.bg b.b
 abbrev pub is_plain : Look → Bool
 is_plain pen = is_none pen.fg && is_none pen.bg && is_none pen.underline && pen.codes == 0
 
--- Whether a pen gets the next letter, after these pens: it isn't the default one, has no letter yet, and one of the 26 letters is
--- left.
+-- Whether a pen gets the next letter, after these pens. It isn't the default one and has no letter yet, and one of the 26
+-- is left.
 abbrev pub gets_letter : List Look → Look → Bool
 gets_letter known pen = nat_lt (length known) 26 && (not (is_plain pen) && not (list_any (λ k. same_look k pen) known))
 

@@ -35,7 +35,7 @@ pub(crate) struct Reader {
 pub enum NotPlain {
     /// The plain terminal can't read it.
     Undefined,
-    /// There was not the memory for it.
+    /// Out of memory.
     Memory,
 }
 

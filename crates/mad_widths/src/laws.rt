@@ -7,8 +7,9 @@ pub fn worked_widths()
     ensures { AreWorkedWidths }
 {}
 
-/// Widths are not the definition's where they take one column too few or too many, where each is three though more is
-/// available, where one is under three, and where one is wider than its cells need.
+/// Widths are not the definition's where their sum is one column too few or too many, or where each is three though more is
+/// available. Nor are they where one is under three, where one is wider than its cells need, or where they are not called
+/// reduced.
 pub fn other_widths_are_refused()
     ensures { RefusedWidths }
 {}

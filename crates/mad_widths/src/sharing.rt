@@ -237,7 +237,8 @@ fn give_up(widths: &mut [usize], cuts: &[usize])
     }
 }
 
-/// Takes off each width what its column gives up of its request, in turn until the excess is gone, and answers what is left of it.
+/// Takes off each width what its column gives up of its request, in turn until the excess is gone. It answers what is left
+/// of the excess.
 pub fn give_up_in_turn(
     widths: &mut [usize],
     requests: &mut [usize],

@@ -1,4 +1,4 @@
-//! Aligns as texts.
+//! Alignments as texts.
 
 ghost use Rattle.std.specs.Prelude.{◌≡◌, IsErrOf};
 ghost use Rattle.std.specs.Option.{ok_or};
@@ -11,7 +11,7 @@ use crate::errors::ParseAlignError;
 use mad_md::Alignment;
 use mad_term::{Error, Out, put_all};
 
-/// The align of this name, without regard to ASCII case: `left`, `center` or `right`.
+/// The alignment of this name, without regard to ASCII case: `left`, `center` or `right`.
 ///
 /// # Errors
 ///
@@ -36,7 +36,7 @@ fn align_named(text: &str) -> Option<Alignment>
     }
 }
 
-/// Writes the name of an align; nothing where it isn't specified.
+/// Writes the name of an alignment; nothing where it isn't specified.
 ///
 /// # Errors
 ///
@@ -49,7 +49,7 @@ pub fn write_align<O: Out>(out: &mut O, align: Alignment) -> Result<(), Error>
     Ok(())
 }
 
-/// The name of an align; nothing where it isn't specified.
+/// The name of an alignment; nothing where it isn't specified.
 pub(crate) fn align_name(align: Alignment) -> &'static str
     ensures { result.now ≡ align_text align }
 {
