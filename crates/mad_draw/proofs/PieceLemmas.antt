@@ -9,7 +9,7 @@ use Rattle.std.proofs.lemmas.List.{append-nil, flat_map_more, length-replicate, 
 use Rattle.std.proofs.lemmas.List.Concat.{flat_map-append}
 use Rattle.std.proofs.lemmas.List.Sums.{sum_by-cons}
 use Rattle.mad_columns.specs.Columns.{char_columns}
-use Rattle.mad_term.specs.Styles.{IsStyle, piece_bytes, styled_run_bytes}
+use Rattle.mad_term.specs.Styles.{IsStyle, piece_bytes, styled_repeat_bytes}
 use Rattle.mad_screen.specs.Glyph.{Glyph}
 use Rattle.mad_screen.specs.Grid.{plain_pen}
 use Rattle.mad_screen.specs.Painting.{Paints, piece_cells, IsShown, look_of_style}
@@ -17,11 +17,11 @@ use Rattle.mad_screen.proofs.Paints.{paints_row, paints_piece, spaces_shown, spa
 use Rattle.mad_screen.proofs.PaintingLemmas.{length-cells_of}
 use Rattle.mad_style.specs.declared.compound_styles.CompoundStyle.{CompoundStyle}
 use Rattle.mad_style.specs.declared.styled_chars.StyledChar.{StyledChar}
-use Rattle.mad_style.specs.Runs.{run_bytes}
+use Rattle.mad_style.specs.Repeats.{repeat_bytes}
 use Rattle.mad_style.specs.StyledChars.{char_style, char_alone}
 use Rattle.std.specs.Prelude.{encode_utf8}
 use Rattle.mad_fit.specs.Columns.{columns}
-use Rattle.mad_draw.specs.Pieces.{RowPiece, pieces_bytes, spaces, single_spaces, char_run, AreKnown, AreShownPieces, pieces_columns}
+use Rattle.mad_draw.specs.Pieces.{RowPiece, pieces_bytes, spaces, single_spaces, char_repeat, AreKnown, AreShownPieces, pieces_columns}
 
 -- ---- bytes
 
@@ -34,19 +34,19 @@ not_zero : (n : ℕ) → (suc n == 0) ≡ false
 not_zero n = grind (arith, nat_tests)
 
 -- a run of spaces is a piece of them
-pub run-spaces : (style : CompoundStyle) (n : ℕ) → run_bytes style (32 ∷ []) n ≡ pieces_bytes (spaces style n)
+pub run-spaces : (style : CompoundStyle) (n : ℕ) → repeat_bytes style (32 ∷ []) n ≡ pieces_bytes (spaces style n)
 run-spaces style zero = refl
 run-spaces style (suc n) =
     rw (not_zero n) (ap (λ text. piece_bytes style.object_style text) (repeat-one (suc n) 32) ∙ sym (append-nil (piece_bytes style.object_style (replicate (suc n) 32))))
 
 -- a run of spaces, as a device or a formatter is given it
-pub run_of_spaces : (style : CompoundStyle) (n : ℕ) → styled_run_bytes style.object_style (32 ∷ []) n ≡ pieces_bytes (spaces style n)
-run_of_spaces style n = run-spaces style n
+pub repeat_of_spaces : (style : CompoundStyle) (n : ℕ) → styled_repeat_bytes style.object_style (32 ∷ []) n ≡ pieces_bytes (spaces style n)
+repeat_of_spaces style n = run-spaces style n
 
 -- a character `n` times, as a formatter is given it
-pub run_of_chars : (c : StyledChar) (n : ℕ) → styled_run_bytes (char_style c).object_style (encode_utf8 (char_alone c)) n ≡ pieces_bytes (char_run c n)
-run_of_chars c zero = refl
-run_of_chars c (suc n) = rw (not_zero n) (sym (append-nil (piece_bytes (char_style c).object_style (repeat (suc n) (encode_utf8 (char_alone c))))))
+pub repeat_of_chars : (c : StyledChar) (n : ℕ) → styled_repeat_bytes (char_style c).object_style (encode_utf8 (char_alone c)) n ≡ pieces_bytes (char_repeat c n)
+repeat_of_chars c zero = refl
+repeat_of_chars c (suc n) = rw (not_zero n) (sym (append-nil (piece_bytes (char_style c).object_style (repeat (suc n) (encode_utf8 (char_alone c))))))
 
 -- single spaces, one more
 single-suc : (style : CompoundStyle) (n : ℕ) → pieces_bytes (single_spaces style (suc n)) ≡ pieces_bytes (single_spaces style n) ++ piece_bytes style.object_style (32 ∷ [])
@@ -99,9 +99,9 @@ pub single_known : (style : CompoundStyle) (n : ℕ) → IsStyle style.object_st
 single_known style zero known = tt
 single_known style (suc n) known = (known, single_known style n known)
 
-pub char_run_known : (c : StyledChar) (n : ℕ) → IsStyle (char_style c).object_style → AreKnown (char_run c n)
-char_run_known c zero known = tt
-char_run_known c (suc n) known = (known, tt)
+pub char_repeat_known : (c : StyledChar) (n : ℕ) → IsStyle (char_style c).object_style → AreKnown (char_repeat c n)
+char_repeat_known c zero known = tt
+char_repeat_known c (suc n) known = (known, tt)
 
 -- pieces behind pieces
 pub known_both : (ps qs : List RowPiece) → AreKnown ps → AreKnown qs → AreKnown (ps ++ qs)

@@ -2,13 +2,13 @@
 use Rattle.std.proofs.Common.{◌≡◌, ℕ, List, [], ◌∷◌, ◌++◌, ap, sym, ◌∙◌}
 use Rattle.std.specs.List.{flat_map}
 use Rattle.mad_term.specs.Styles.{IsStyle}
-use Rattle.mad_style.specs.Runs.{styled_char_bytes}
+use Rattle.mad_style.specs.Repeats.{styled_char_bytes}
 use Rattle.mad_style.specs.StyledChars.{styled_char}
 use Rattle.mad_style.specs.declared.compound_styles.CompoundStyle.{CompoundStyle}
 use Rattle.mad_draw.specs.Pieces.{RowPiece, pieces_bytes, AreKnown}
 use Rattle.mad_draw.specs.TableRules.{border_piece, horizontals, junction, rule_pieces}
 use Rattle.mad_draw.specs.declared.table_rules.RuleChars.{RuleChars}
-use Rattle.mad_draw.proofs.PieceLemmas.{bytes_both, bytes_one, char_run_known, known_both}
+use Rattle.mad_draw.proofs.PieceLemmas.{bytes_both, bytes_one, char_repeat_known, known_both}
 
 -- ---- bytes
 
@@ -37,12 +37,12 @@ ends_bytes style chars all is =
 junctions_known : (style : CompoundStyle) (chars : RuleChars) (ws : List ℕ) → IsStyle style.object_style → AreKnown (flat_map (junction style chars) ws)
 junctions_known style chars [] known = tt
 junctions_known style chars (w ∷ ws) known =
-    (known, known_both (horizontals style chars w) (flat_map (junction style chars) ws) (char_run_known (styled_char style chars.horizontal) w known) (junctions_known style chars ws known))
+    (known, known_both (horizontals style chars w) (flat_map (junction style chars) ws) (char_repeat_known (styled_char style chars.horizontal) w known) (junctions_known style chars ws known))
 
 pub rule_known : (style : CompoundStyle) (chars : RuleChars) (ws : List ℕ) → IsStyle style.object_style → AreKnown (rule_pieces style chars ws)
 rule_known style chars [] known = (known, (known, tt))
 rule_known style chars (w ∷ ws) known = (
   known,
-  known_both (horizontals style chars w) (flat_map (junction style chars) ws ++ border_piece style chars.right ∷ []) (char_run_known (styled_char style chars.horizontal) w known)
+  known_both (horizontals style chars w) (flat_map (junction style chars) ws ++ border_piece style chars.right ∷ []) (char_repeat_known (styled_char style chars.horizontal) w known)
       (known_both (flat_map (junction style chars) ws) (border_piece style chars.right ∷ []) (junctions_known style chars ws known) (known, tt)),
 )

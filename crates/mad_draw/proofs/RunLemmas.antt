@@ -8,7 +8,7 @@ use Rattle.mad_screen.specs.Painting.{IsPrinted, IsWhole}
 use Rattle.mad_style.specs.declared.styled_chars.StyledChar.{StyledChar}
 use Rattle.mad_style.specs.StyledChars.{char_alone}
 use Rattle.mad_fit.specs.Columns.{columns}
-use Rattle.mad_draw.specs.Pieces.{char_piece, char_run, AreShownPieces, IsColumnPiece, pieces_columns}
+use Rattle.mad_draw.specs.Pieces.{char_piece, char_repeat, AreShownPieces, IsColumnPiece, pieces_columns}
 
 columns-append : (cs ds : List ℕ) → columns (cs ++ ds) ≡ columns cs + columns ds
 columns-append [] ds = omega arith
@@ -37,7 +37,7 @@ whole-append : (cs ds : List ℕ) → columns cs ≡ 1 → IsWhole cs → IsWhol
 whole-append [] ds one h = absurd (omega (arith, one))
 whole-append (c ∷ cs) ds one h = h
 
-pub run_shown : (c : StyledChar) (n : ℕ) → IsColumnPiece (char_piece c) → AreShownPieces (char_run c n)
+pub run_shown : (c : StyledChar) (n : ℕ) → IsColumnPiece (char_piece c) → AreShownPieces (char_repeat c n)
 run_shown c zero h = tt
 run_shown c (suc n) h =
     let t : List ℕ = encode_utf8 (char_alone c) in
@@ -45,6 +45,6 @@ run_shown c (suc n) h =
     let whole : IsWhole (chars (t ++ repeat n t)) = subst IsWhole (sym (chars-append t (repeat n t) utf8)) (whole-append (chars t) (chars (repeat n t)) h.one h.shown.shown.whole) in
     (record { utf8 = repeat_utf8 (suc n) t utf8; shown = record { printed = repeat_printed (suc n) t utf8 h.shown.shown.printed; whole = whole } }, tt)
 
-pub run_columns : (c : StyledChar) (n : ℕ) → IsColumnPiece (char_piece c) → pieces_columns (char_run c n) ≡ n
+pub run_columns : (c : StyledChar) (n : ℕ) → IsColumnPiece (char_piece c) → pieces_columns (char_repeat c n) ≡ n
 run_columns c zero h = refl
 run_columns c (suc n) h = let text : columns (chars (repeat (suc n) (encode_utf8 (char_alone c)))) ≡ suc n = repeat_columns (suc n) (encode_utf8 (char_alone c)) h.shown.utf8 h.one in omega (arith, text)

@@ -47,9 +47,9 @@ abbrev pub char_piece : StyledChar → RowPiece
 char_piece c = record { style = (char_style c).object_style; text = encode_utf8 (char_alone c) }
 
 -- a character `count` times as one piece; none of none
-abbrev pub char_run : StyledChar → ℕ → List RowPiece
-char_run c zero = []
-char_run c (suc n) = record { style = (char_style c).object_style; text = repeat (suc n) (encode_utf8 (char_alone c)) } ∷ []
+abbrev pub char_repeat : StyledChar → ℕ → List RowPiece
+char_repeat c zero = []
+char_repeat c (suc n) = record { style = (char_style c).object_style; text = repeat (suc n) (encode_utf8 (char_alone c)) } ∷ []
 
 -- ---- what is known of pieces
 

@@ -3,7 +3,7 @@ use Rattle.std.specs.Prelude.{ℕ, List, [], ◌∷◌, ◌++◌}
 use Rattle.std.specs.List.{flat_map}
 use Rattle.mad_style.specs.declared.compound_styles.CompoundStyle.{CompoundStyle}
 use Rattle.mad_style.specs.StyledChars.{styled_char}
-use Rattle.mad_draw.specs.Pieces.{RowPiece, char_piece, char_run}
+use Rattle.mad_draw.specs.Pieces.{RowPiece, char_piece, char_repeat}
 use Rattle.mad_draw.specs.declared.table_rules.RuleChars.{RuleChars}
 
 -- a character of a table's borders, in their style
@@ -12,7 +12,7 @@ border_piece style c = char_piece (styled_char style c)
 
 -- the horizontals over one column, as one piece
 abbrev pub horizontals : CompoundStyle → RuleChars → ℕ → List RowPiece
-horizontals style chars w = char_run (styled_char style chars.horizontal) w
+horizontals style chars w = char_repeat (styled_char style chars.horizontal) w
 
 -- over a column that another one is before: a junction, and its horizontals
 abbrev pub junction : CompoundStyle → RuleChars → ℕ → List RowPiece

@@ -1,7 +1,7 @@
 //! Spaces in a style, as displayed values.
 
 use mad_style::CompoundStyle;
-use mad_term::{StyledContent, StyledRun};
+use mad_term::{StyledContent, StyledRepeat};
 use std::fmt::{self, Display};
 
 /// `count` spaces as one piece. Of none nothing is written.
@@ -19,18 +19,18 @@ impl fmt::Display for Spaces {
 
     ghost output = { λ s. Some (pieces_bytes (spaces s.style s.count)) };
 
-    #[tactic(auto, using(crate::proofs::PieceLemmas::run_of_spaces))]
+    #[tactic(auto, using(crate::proofs::PieceLemmas::repeat_of_spaces))]
     fn fmt<W: fmt::Write>(&self, f: &mut fmt::Formatter<W>) -> fmt::Result {
         // Most lines have none beside them.
         if self.count == 0 {
             return Ok(());
         }
-        let run = StyledRun {
+        let repeated = StyledRepeat {
             style: self.style.object_style,
             content: " ",
             count: self.count,
         };
-        run.fmt(f)
+        repeated.fmt(f)
     }
 }
 

@@ -6,7 +6,7 @@ ghost use Rattle.mad_style.specs.StyledChars.{styled_char};
 ghost use Rattle.mad_draw.specs.Pieces.{pieces_bytes};
 ghost use Rattle.mad_draw.specs.TableRules.{junction, rule_pieces};
 
-use crate::char_runs::CharRun;
+use crate::char_repeats::CharRepeat;
 use mad_style::{CompoundStyle, StyledChar};
 use std::fmt;
 
@@ -82,10 +82,10 @@ fn border(style: CompoundStyle, c: char) -> StyledChar
 }
 
 // The horizontals over one column.
-fn horizontals(style: CompoundStyle, chars: RuleChars, width: usize) -> CharRun
+fn horizontals(style: CompoundStyle, chars: RuleChars, width: usize) -> CharRepeat
     ensures { result ≡ record { c = styled_char style chars.horizontal; count = width } }
 {
-    CharRun {
+    CharRepeat {
         c: border(style, chars.horizontal),
         count: width,
     }

@@ -11,11 +11,11 @@ use Rattle.mad_term.specs.declared.color.Color.TheVariants.{AnsiValue}
 use Rattle.mad_style.specs.StyledChars.{colored_char, char_alone, char_style}
 use Rattle.mad_style.specs.declared.scroll_bars.ScrollBarStyle.{ScrollBarStyle}
 use Rattle.mad_style.specs.declared.styled_chars.StyledChar.{StyledChar}
-use Rattle.mad_parse.specs.ReadsBack.{IsWrittenChar}
+use Rattle.mad_parse.specs.ReadsBack.{IsReadBackChar}
 use Rattle.mad_parse.specs.Reading.{said, tokens_of}
 use Rattle.mad_parse.specs.Styles.{styled_char_of}
 use Rattle.mad_parse.specs.Written.{tokens_text, styled_char_tokens}
-use Rattle.mad_json.specs.ReadsBack.{IsOnlyColored, IsWrittenBar, ReadsBackChar, ReadsBackBar}
+use Rattle.mad_json.specs.ReadsBack.{IsOnlyColored, IsReadBackBar, ReadsBackChar, ReadsBackBar}
 use Rattle.mad_json.specs.ScrollBars.{bar_of_char, is_simple, simple_char, def_of, scrollbar_said}
 use Rattle.mad_json.specs.Texts.{of_text, made, and_next}
 use Rattle.mad_json.specs.Written.{bar_data}
@@ -56,7 +56,7 @@ only_colored mark d colored background underline =
     ∙ ap (λ u. marked c style.foreground_color style.background_color u no_attributes) (sym underline)
     ∙ ap (λ a. marked c style.foreground_color style.background_color style.underline_color a) (sym colored.attributes)
 
-simple_back : (bar : ScrollBarStyle) → IsWrittenBar bar → is_simple bar ≡ true → bar_of_char (simple_char bar) ≡ bar
+simple_back : (bar : ScrollBarStyle) → IsReadBackBar bar → is_simple bar ≡ true → bar_of_char (simple_char bar) ≡ bar
 simple_back bar h simple =
     let parts = and_parts _ _ simple in
     let bare = and_parts _ _ parts.1 in
@@ -69,7 +69,7 @@ simple_back bar h simple =
     ∙ ap (λ c. let b : ScrollBarStyle = record { track = bar.track; thumb = colored_char (unwrap_or (char_style bar.thumb).object_style.foreground_color (AnsiValue 253)) c } in b) same
     ∙ ap (λ t. let b : ScrollBarStyle = record { track = bar.track; thumb = t } in b) thumb
 
-simple_written : (bar : ScrollBarStyle) → IsWrittenBar bar → is_simple bar ≡ true → IsWrittenChar (simple_char bar)
+simple_written : (bar : ScrollBarStyle) → IsReadBackBar bar → is_simple bar ≡ true → IsReadBackChar (simple_char bar)
 simple_written bar h simple = record {
   style = record {
     foreground = h.thumb.style.foreground;
@@ -77,7 +77,7 @@ simple_written bar h simple = record {
     underline = refl;
     attributes = λ a unwritten. subst (λ s. has_attribute s a ≡ false) (h.simple_thumb simple).attributes (h.thumb.style.attributes a unwritten);
   };
-  mark = h.track.mark;
+  no_whitespace = h.track.no_whitespace;
   no_digit = h.track.no_digit;
 }
 
@@ -92,7 +92,7 @@ pub simple_read : (bar : ScrollBarStyle) (mark : StyledChar) → def_of bar ≡ 
 simple_read bar mark is reads =
     λ h.
     let parts = simple_parts bar mark is in
-    let written : IsWrittenChar mark = subst IsWrittenChar (sym parts.1) (simple_written bar h parts.0) in
+    let written : IsReadBackChar mark = subst IsReadBackChar (sym parts.1) (simple_written bar h parts.0) in
     ap (λ d. scrollbar_said (bar_data d)) is
     ∙ ap (λ r. made bar_of_char (of_text r)) (reads written 42)
     ∙ ap (λ m. Ok (bar_of_char m)) parts.1
@@ -116,8 +116,8 @@ pub rich_read : (bar : ScrollBarStyle) (track thumb : StyledChar) → def_of bar
 rich_read bar track thumb is read_track read_thumb =
     λ h.
     let parts = rich_parts bar track thumb is in
-    let written_track : IsWrittenChar track = subst IsWrittenChar (sym parts.0) h.track in
-    let written_thumb : IsWrittenChar thumb = subst IsWrittenChar (sym parts.1) h.thumb in
+    let written_track : IsReadBackChar track = subst IsReadBackChar (sym parts.0) h.track in
+    let written_thumb : IsReadBackChar thumb = subst IsReadBackChar (sym parts.1) h.thumb in
     ap (λ d. scrollbar_said (bar_data d)) is
     ∙ ap (λ r. and_next (of_text r) (λ t. made (λ u. let b : ScrollBarStyle = record { track = u; thumb = t } in b) (of_text (said (styled_char_of 42) (tokens_of (tokens_text (styled_char_tokens track))))))) (read_thumb written_thumb 42)
     ∙ ap (λ r. made (λ u. let b : ScrollBarStyle = record { track = u; thumb = thumb } in b) (of_text r)) (read_track written_track 42)

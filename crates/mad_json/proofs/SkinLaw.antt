@@ -11,7 +11,7 @@ use Rattle.mad_style.specs.declared.compound_styles.CompoundStyle.{CompoundStyle
 use Rattle.mad_style.specs.declared.line_styles.LineStyle.{LineStyle}
 use Rattle.mad_style.specs.declared.ordered_items.OrderedItemStyle.{OrderedItemStyle}
 use Rattle.mad_style.specs.declared.styled_chars.StyledChar.{StyledChar}
-use Rattle.mad_parse.specs.ReadsBack.{IsWrittenStyle, IsWrittenLine, IsWrittenChar, IsWrittenItem}
+use Rattle.mad_parse.specs.ReadsBack.{IsReadBackStyle, IsReadBackLine, IsReadBackChar, IsReadBackItem}
 use Rattle.mad_parse.specs.Styles.{style_of, line_style_of, styled_char_of, item_style_of}
 use Rattle.mad_parse.specs.Written.{tokens_text, line_style_tokens, item_tokens}
 use Rattle.mad_layout.specs.Skins.{default_skin}
@@ -19,7 +19,7 @@ use Rattle.mad_layout.specs.declared.skin.MadSkin.{MadSkin}
 use Rattle.mad_json.specs.Fields.{field_named}
 use Rattle.mad_json.specs.Lists.{replaced, headers_said, ordered_items_said}
 use Rattle.mad_json.specs.Reading.{Found, nothing_found, borders_or, part_said, is_seen, now_seen, members_read, then_found, value_read, names_again, found_part, skin_and_unknown, skin_read}
-use Rattle.mad_json.specs.ReadsBack.{ReadsBackStyle, ReadsBackLine, ReadsBackChar, ReadsBackItem, ReadBackAdditions, ReadBackMarks, ReadBackLines, ReadBackItems, IsWrittenSkin, SkinReadsBack}
+use Rattle.mad_json.specs.ReadsBack.{ReadsBackStyle, ReadsBackLine, ReadsBackChar, ReadsBackItem, ReadBackAdditions, ReadBackMarks, ReadBackLines, ReadBackItems, IsReadBackSkin, SkinReadsBack}
 use Rattle.mad_json.specs.ScrollBars.{def_of}
 use Rattle.mad_json.specs.Texts.{of_text, made, value_said}
 use Rattle.mad_json.specs.Written.{style_data, line_data, mark_data, item_data, bar_data, mode_text, IsNameOf, skin_data}
@@ -31,24 +31,24 @@ use Rattle.mad_json.proofs.ReadingBack.{items_back, replaced_all, texts_flat}
 
 -- ---- values
 
-style_said : (style : CompoundStyle) → ReadsBackStyle style → IsWrittenStyle style → value_said style_of (style_data style) ≡ Ok style
+style_said : (style : CompoundStyle) → ReadsBackStyle style → IsReadBackStyle style → value_said style_of (style_data style) ≡ Ok style
 style_said style reads written = ap of_text (reads written)
 
-line_said : (line : LineStyle) → ReadsBackLine line → IsWrittenLine line → value_said line_style_of (line_data line) ≡ Ok line
+line_said : (line : LineStyle) → ReadsBackLine line → IsReadBackLine line → value_said line_style_of (line_data line) ≡ Ok line
 line_said line reads written = ap of_text (reads written)
 
-mark_said : (mark : StyledChar) → ReadsBackChar mark → IsWrittenChar mark → value_said (styled_char_of 42) (mark_data mark) ≡ Ok mark
+mark_said : (mark : StyledChar) → ReadsBackChar mark → IsReadBackChar mark → value_said (styled_char_of 42) (mark_data mark) ≡ Ok mark
 mark_said mark reads written = ap of_text (reads written 42)
 
-item_said : (style : OrderedItemStyle) → ReadsBackItem style → IsWrittenItem style → value_said (item_style_of 46) (item_data style) ≡ Ok style
+item_said : (style : OrderedItemStyle) → ReadsBackItem style → IsReadBackItem style → value_said (item_style_of 46) (item_data style) ≡ Ok style
 item_said style reads written = ap of_text (reads written 46)
 
 -- lists that are as long as those of the default skin
-lines_said : (lines old : List LineStyle) → All ReadsBackLine lines → All IsWrittenLine lines → length old ≡ length lines → headers_said (array (items_of (map line_data lines))) old ≡ Ok lines
+lines_said : (lines old : List LineStyle) → All ReadsBackLine lines → All IsReadBackLine lines → length old ≡ length lines → headers_said (array (items_of (map line_data lines))) old ≡ Ok lines
 lines_said lines old reads written same =
     ap (made (replaced old)) (items_back line_style_of line_data lines [] (λ k d within. line_said _ (reads k d within) (written k d within))) ∙ ap Ok (replaced_all old lines same)
 
-items_all_said : (styles old : List OrderedItemStyle) → All ReadsBackItem styles → All IsWrittenItem styles → length old ≡ length styles → ordered_items_said (array (items_of (map item_data styles))) old ≡ Ok styles
+items_all_said : (styles old : List OrderedItemStyle) → All ReadsBackItem styles → All IsReadBackItem styles → length old ≡ length styles → ordered_items_said (array (items_of (map item_data styles))) old ≡ Ok styles
 items_all_said styles old reads written same =
     ap (made (replaced old)) (items_back (item_style_of 46) item_data styles [] (λ k d within. item_said _ (reads k d within) (written k d within))) ∙ ap Ok (replaced_all old styles same)
 
@@ -109,7 +109,7 @@ members_in_order : (bold italic strikeout inline_code ellipsis bullet quote rule
 members_in_order bold italic strikeout inline_code ellipsis bullet quote rule bar paragraph code table headers items mode borders = refl
 
 -- the skin of a name that borders have
-written_skin : (skin : MadSkin) (name : List ℕ) → borders_named name ≡ Some skin.table_border_chars → ReadBackAdditions skin → ReadBackMarks skin → ReadBackLines skin → ReadBackItems skin → IsWrittenSkin skin
+written_skin : (skin : MadSkin) (name : List ℕ) → borders_named name ≡ Some skin.table_border_chars → ReadBackAdditions skin → ReadBackMarks skin → ReadBackLines skin → ReadBackItems skin → IsReadBackSkin skin
     → skin_read (skin_data skin (Some name)) ≡ Ok (skin, [])
 written_skin skin name named a m l i h =
     let s0 : MadSkin = default_skin in

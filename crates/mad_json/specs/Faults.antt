@@ -1,6 +1,6 @@
 -- Why a value is no skin.
 use Rattle.std.specs.Prelude.{◌≡◌, ℕ, List, Result, Err, string_bytes}
-use Rattle.mad_parse.specs.Values.{Fault, unrecognized, bad_color}
+use Rattle.mad_parse.specs.StyleTokens.{Fault, unrecognized, bad_color}
 use Rattle.mad_parse.specs.declared.errors.ParseStyleTokenError.TheVariants as token_error
 use Rattle.mad_json.specs.declared.errors.SkinError.{SkinError}
 use Rattle.mad_json.specs.declared.errors.SkinError.TheVariants.{NotObject, WrongType, Style, TwoNames, Memory}

@@ -5,7 +5,7 @@ use Rattle.mad_style.specs.declared.kinds.ListItemsIndentationMode.TheVariants.{
 use Rattle.mad_parse.specs.Colors.{cut_at, without_last}
 use Rattle.mad_parse.specs.Names.{is_named}
 use Rattle.mad_parse.specs.Numbers.{number_below}
-use Rattle.mad_parse.specs.Values.{unrecognized}
+use Rattle.mad_parse.specs.StyleTokens.{unrecognized}
 use Rattle.serde_json.specs.Data.{Data}
 use Rattle.serde_json.specs.Find.{as_str}
 use Rattle.mad_json.specs.Faults.{ValueFault, wrong_kind, bad_text}

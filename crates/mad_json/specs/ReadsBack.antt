@@ -10,7 +10,7 @@ use Rattle.mad_style.specs.declared.line_styles.LineStyle.{LineStyle}
 use Rattle.mad_style.specs.declared.ordered_items.OrderedItemStyle.{OrderedItemStyle}
 use Rattle.mad_style.specs.declared.scroll_bars.ScrollBarStyle.{ScrollBarStyle}
 use Rattle.mad_style.specs.declared.styled_chars.StyledChar.{StyledChar}
-use Rattle.mad_parse.specs.ReadsBack.{IsWrittenStyle, IsWrittenLine, IsWrittenChar, IsWrittenItem, StyleReadsBack, LineReadsBack, CharReadsBack, ItemReadsBack}
+use Rattle.mad_parse.specs.ReadsBack.{IsReadBackStyle, IsReadBackLine, IsReadBackChar, IsReadBackItem, StyleReadsBack, LineReadsBack, CharReadsBack, ItemReadsBack}
 use Rattle.mad_parse.specs.Written.{tokens_text, style_tokens, line_style_tokens, styled_char_tokens, item_tokens}
 use Rattle.mad_layout.specs.declared.skin.MadSkin.{MadSkin}
 use Rattle.serde_json.specs.Data.{Data, string}
@@ -25,9 +25,9 @@ pub record IsOnlyColored (mark : StyledChar) : Type 0 where
   pub attributes : (char_style mark).object_style.attributes ≡ no_attributes
 
 -- A bar whose characters read back; one that is written as a text has two foregrounds, and no attributes.
-pub record IsWrittenBar (bar : ScrollBarStyle) : Type 0 where
-  pub track : IsWrittenChar bar.track
-  pub thumb : IsWrittenChar bar.thumb
+pub record IsReadBackBar (bar : ScrollBarStyle) : Type 0 where
+  pub track : IsReadBackChar bar.track
+  pub thumb : IsReadBackChar bar.thumb
   pub simple_track : is_simple bar ≡ true → IsOnlyColored bar.track
   pub simple_thumb : is_simple bar ≡ true → IsOnlyColored bar.thumb
 
@@ -36,26 +36,26 @@ abbrev pub AreNamed : TableBorderChars → Type 0
 AreNamed borders = (name : List ℕ) × (borders_named name ≡ Some borders)
 
 -- A skin of such parts, in any indentation mode.
-pub record IsWrittenSkin (skin : MadSkin) : Type 0 where
-  pub paragraph : IsWrittenLine skin.paragraph
-  pub bold : IsWrittenStyle skin.bold
-  pub italic : IsWrittenStyle skin.italic
-  pub strikeout : IsWrittenStyle skin.strikeout
-  pub inline_code : IsWrittenStyle skin.inline_code
-  pub code_block : IsWrittenLine skin.code_block
-  pub headers : All IsWrittenLine skin.headers
-  pub scrollbar : IsWrittenBar skin.scrollbar
-  pub table : IsWrittenLine skin.table
-  pub bullet : IsWrittenChar skin.bullet
-  pub ordered_items : All IsWrittenItem skin.ordered_item_styles
-  pub quote_mark : IsWrittenChar skin.quote_mark
-  pub horizontal_rule : IsWrittenChar skin.horizontal_rule
-  pub ellipsis : IsWrittenStyle skin.ellipsis
+pub record IsReadBackSkin (skin : MadSkin) : Type 0 where
+  pub paragraph : IsReadBackLine skin.paragraph
+  pub bold : IsReadBackStyle skin.bold
+  pub italic : IsReadBackStyle skin.italic
+  pub strikeout : IsReadBackStyle skin.strikeout
+  pub inline_code : IsReadBackStyle skin.inline_code
+  pub code_block : IsReadBackLine skin.code_block
+  pub headers : All IsReadBackLine skin.headers
+  pub scrollbar : IsReadBackBar skin.scrollbar
+  pub table : IsReadBackLine skin.table
+  pub bullet : IsReadBackChar skin.bullet
+  pub ordered_items : All IsReadBackItem skin.ordered_item_styles
+  pub quote_mark : IsReadBackChar skin.quote_mark
+  pub horizontal_rule : IsReadBackChar skin.horizontal_rule
+  pub ellipsis : IsReadBackStyle skin.ellipsis
   pub borders : AreNamed skin.table_border_chars
 
 -- such a skin is read of that value, and no key of it is unknown
 abbrev pub SkinReadsBack : MadSkin → Data → Type 0
-SkinReadsBack skin d = IsWrittenSkin skin → skin_read d ≡ Ok (skin, [])
+SkinReadsBack skin d = IsReadBackSkin skin → skin_read d ≡ Ok (skin, [])
 
 -- Of the parts: each is read back from what it is written as.
 abbrev pub ReadsBackStyle : CompoundStyle → Type 0
@@ -71,7 +71,7 @@ abbrev pub ReadsBackItem : OrderedItemStyle → Type 0
 ReadsBackItem style = ItemReadsBack style (tokens_text (item_tokens style))
 
 abbrev pub ReadsBackBar : ScrollBarStyle → Type 0
-ReadsBackBar bar = IsWrittenBar bar → scrollbar_said (bar_data (def_of bar)) ≡ Ok bar
+ReadsBackBar bar = IsReadBackBar bar → scrollbar_said (bar_data (def_of bar)) ≡ Ok bar
 
 -- what text adds to its line
 pub record ReadBackAdditions (skin : MadSkin) : Type 0 where

@@ -1,6 +1,6 @@
 -- What a text among the values says.
 use Rattle.std.specs.Prelude.{ℕ, List, Option, Some, None, Result, Ok, Err}
-use Rattle.mad_parse.specs.Values.{Fault}
+use Rattle.mad_parse.specs.StyleTokens.{Fault}
 use Rattle.mad_parse.specs.Reading.{tokens_of, said}
 use Rattle.mad_parse.specs.declared.tokens.StyleToken.{StyleToken}
 use Rattle.serde_json.specs.Data.{Data}

@@ -22,7 +22,7 @@ use Rattle.mad_style.specs.declared.styled_chars.StyledChar.{StyledChar}
 use Rattle.mad_fit.specs.Completions.{left_completion}
 use Rattle.mad_fit.specs.declared.area.Area.{Area}
 use Rattle.mad_fit.specs.declared.spacing.Spacing.{Spacing}
-use Rattle.mad_draw.specs.Pieces.{RowPiece, IsColumnPiece, char_piece, char_run, PennedChar, penned_chars, spaces, single_spaces}
+use Rattle.mad_draw.specs.Pieces.{RowPiece, IsColumnPiece, char_piece, char_repeat, PennedChar, penned_chars, spaces, single_spaces}
 use Rattle.mad_draw.proofs.PieceLemmas.{ascii_spaces}
 use Rattle.mad_layout.specs.FlaggedLines.{widest_in, skin_char, front_of, placed_columns, row_across}
 use Rattle.mad_layout.specs.Indents.{ordered_indent, later_indent}
@@ -89,7 +89,7 @@ repeat_chars : (n : ℕ) (t : List ℕ) → IsUtf8 t → chars (repeat n t) ≡ 
 repeat_chars zero t utf8 = chars-nil
 repeat_chars (suc n) t utf8 = chars-append t (repeat n t) utf8 ∙ ap (λ l. chars t ++ l) (repeat_chars n t utf8)
 
-pub run_chars : (c : StyledChar) (n : ℕ) → IsColumnPiece (char_piece c) → chars_in (char_run c n) ≡ repeat n (skin_char (char_alone c))
+pub run_chars : (c : StyledChar) (n : ℕ) → IsColumnPiece (char_piece c) → chars_in (char_repeat c n) ≡ repeat n (skin_char (char_alone c))
 run_chars c zero h = refl
 run_chars c (suc n) h =
     let t : List ℕ = (char_piece c).text in

@@ -22,7 +22,7 @@ use Rattle.mad_layout.specs.declared.table.RelativePosition.{RelativePosition}
 use Rattle.mad_layout.specs.declared.table.RelativePosition.TheVariants.{Top, Other, Bottom}
 use Rattle.mad_layout.specs.Indents.{later_indent, ordered_indent}
 use Rattle.mad_layout.specs.Lines.{bordered, rule_columns}
-use Rattle.mad_draw.specs.Pieces.{RowPiece, char_piece, char_run, spaces, single_spaces}
+use Rattle.mad_draw.specs.Pieces.{RowPiece, char_piece, char_repeat, spaces, single_spaces}
 use Rattle.mad_draw.specs.TableRules.{border_piece, rule_pieces}
 use Rattle.mad_draw.specs.declared.table_rules.RuleChars.{RuleChars}
 use Rattle.mad_layout.specs.Styles.{line_style, compound_style, ordered_item_style}
@@ -167,7 +167,7 @@ abbrev pub line_pieces : MadSkin → Option ℕ → Bool → FmtLine → List Ro
 line_pieces skin outer right (Normal l) = composite_pieces skin outer (margins_of skin outer l) right l
 line_pieces skin outer right (TableRow row) = table_row_pieces skin outer right row.cells.items
 line_pieces skin outer right (TableRule rule) = table_rule_pieces skin outer right rule
-line_pieces skin outer right HorizontalRule = char_run skin.horizontal_rule (unwrap_or outer 0)
+line_pieces skin outer right HorizontalRule = char_repeat skin.horizontal_rule (unwrap_or outer 0)
 
 -- what a place of `width` columns shows: a line, filled up on its right; or, past the last line, spaces in the
 -- paragraph's style

@@ -14,7 +14,7 @@ use crate::line::{FmtLine, rule_columns};
 use crate::rows::{RowPlace, inner_blanks, margins_of, outer_blanks, row_columns, rule_chars};
 use crate::skin::{MadSkin, is_bare};
 use crate::table::{FmtTableRow, FmtTableRule};
-use mad_draw::{CharRun, RuleAcross, SingleSpaces, Spaces};
+use mad_draw::{CharRepeat, RuleAcross, SingleSpaces, Spaces};
 use mad_fit::Spacing;
 use mad_md::{Composite, Compound};
 use mad_style::{CompositeKind, LineStyle, StyledChar};
@@ -369,7 +369,7 @@ impl fmt::Display for PlacedLine<'_, '_> {
                 placed.fmt(f)
             }
             FmtLine::HorizontalRule => {
-                let rule = CharRun {
+                let rule = CharRepeat {
                     c: self.skin.horizontal_rule,
                     count: self.outer.unwrap_or(0),
                 };

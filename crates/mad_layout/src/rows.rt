@@ -133,7 +133,7 @@ pub(crate) fn most_columns(skin: &MadSkin, line: Option<&FmtLine>, width: usize)
 }
 
 /// What reading a row back needs to know: the numbers of its colors are bytes. Nothing is done.
-#[tactic(auto, using(mad_draw::proofs::PieceLemmas::spaces_known, mad_draw::proofs::PieceLemmas::char_run_known))]
+#[tactic(auto, using(mad_draw::proofs::PieceLemmas::spaces_known, mad_draw::proofs::PieceLemmas::char_repeat_known))]
 pub(crate) fn read_row(skin: &MadSkin, line: Option<&FmtLine>, width: usize)
     ensures { AreKnown (row_pieces skin.now width (option_copied line.entry)) }
 {

@@ -9,6 +9,7 @@ use Rattle.std.proofs.lemmas.List.{length-append, length-take, length-drop}
 use Rattle.std.proofs.lemmas.Str.{chars-nil, chars_past_char, encode_ascii, encodes-chars, len_utf8_ascii, drop_past_char, IsUtf8-past_char, IsUtf8-drop, IsUtf8-take, IsCharBoundary-from_drop, length-encode}
 use Rattle.mad_parse.specs.Cuts.{bracket_len, closed_len, begins_with, is_inside_char}
 use Rattle.mad_md.proofs.CharLemmas.{chars_cut, chars_take_more}
+use Rattle.mad_parse.proofs.CutLemmas.{counted_chars}
 
 -- a text after an opening bracket
 led_by : (k : ℕ) → k < 128 → (text inside : List ℕ) → text ≡ k ∷ inside → text ≡ encode_utf8 k ++ inside
@@ -17,7 +18,7 @@ led_by k l text inside e = e ∙ ap (λ x. x ++ inside) (sym (encode_ascii k l))
 opened : (text inside : List ℕ) → IsUtf8 text → text ≡ 40 ∷ inside → chars text ≡ 40 ∷ chars inside
 opened text inside u e = chars_past_char text inside 40 u (led_by 40 (lit< tt) text inside e)
 
--- what stands after the characters inside
+-- what comes after the characters inside
 after_inside : (p : ℕ → Bool) (bs : List ℕ) (end : ℕ) → IsUtf8 bs → IsCharBoundary bs end → length (chars (take end bs)) ≡ prefix_len p (chars bs)
     → drop (prefix_len p (chars bs)) (chars bs) ≡ chars (drop end bs)
 after_inside p bs end u border len =
@@ -58,14 +59,10 @@ unopened_len (c ∷ cs) e = cond-false _ _ _ e
 pub unopened : (text : List ℕ) → IsUtf8 text → ((rest : List ℕ) → text ≢ 40 ∷ rest) → bracket_len (chars text) ≡ 0
 unopened text u other = unopened_len (chars text) (otherwise 40 (lit< tt) text u other)
 
-counted : (cs bs : List ℕ) → encode_utf8_all cs ≡ bs → 0 < length bs → 0 < length cs
-counted [] bs e h = absurd (omega (arith, ap length e))
-counted (c ∷ cs) bs e h = omega arith
-
 -- a text whose front has characters
 pub front_counts : (bs : List ℕ) (end : ℕ) → IsUtf8 bs → IsCharBoundary bs end → 0 < end → 0 < length (chars (take end bs))
 front_counts bs end u border h =
-    counted (chars (take end bs)) (take end bs) (encodes-chars (take end bs) (IsUtf8-take bs end u border)) (omega (arith, h, border.0, length-take end bs))
+    counted_chars (chars (take end bs)) (take end bs) (encodes-chars (take end bs) (IsUtf8-take bs end u border)) (omega (arith, h, border.0, length-take end bs))
 
 -- the whole bracket: one more on each side
 pub closed_front : (text inside rest : List ℕ) (end : ℕ) → IsUtf8 text → IsUtf8 inside → text ≡ 40 ∷ inside → IsCharBoundary inside end → drop end inside ≡ encode_utf8 41 ++ rest

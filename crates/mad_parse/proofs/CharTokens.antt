@@ -10,7 +10,7 @@ use Rattle.std.proofs.lemmas.Str.{encode_ascii, inside_one, chars-nil, chars_pas
 use Rattle.mad_parse.specs.Colors.{color_of, color_names, without_last, text_with, call_front, named_or_called}
 use Rattle.mad_parse.specs.Names.{is_named, named, align_names, attribute_names}
 use Rattle.mad_parse.specs.Numbers.{number_below, signed_number_below}
-use Rattle.mad_parse.specs.Values.{token_of, only}
+use Rattle.mad_parse.specs.StyleTokens.{token_of, only}
 use Rattle.mad_parse.specs.declared.errors.ParseColorError.TheVariants as color_error
 use Rattle.mad_parse.specs.declared.tokens.StyleToken.TheVariants as token
 use Rattle.mad_parse.proofs.ColorLemmas.{token_char}

@@ -20,7 +20,7 @@ use Rattle.mad_term.specs.declared.attribute.Attribute.{Attribute}
 use Rattle.mad_term.specs.declared.color.Color.{Color}
 use Rattle.mad_parse.specs.Colors.{cut_at, front_with, without_last, text_with, rgb_parts, rgb_first, rgb_last, rgb_color, color_of, color_names, named_or_called, call_front, call_parts, called_color}
 use Rattle.mad_parse.specs.Names.{is_named, named, align_names, attribute_names}
-use Rattle.mad_parse.specs.Values.{token_of, unrecognized, as_number, as_color, as_attribute, as_align, as_char, only}
+use Rattle.mad_parse.specs.StyleTokens.{token_of, unrecognized, as_number, as_color, as_attribute, as_align, as_char, only}
 use Rattle.mad_parse.specs.declared.errors.ParseColorError.TheVariants as color_error
 use Rattle.mad_parse.specs.declared.tokens.StyleToken.TheVariants as token
 use Rattle.mad_parse.specs.Numbers.{number_below, signed_number_below}

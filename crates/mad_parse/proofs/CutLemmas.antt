@@ -9,12 +9,12 @@ use Rattle.std.proofs.lemmas.Bool.Decides.{nat_tests}
 use Rattle.std.proofs.lemmas.List.{length-append, length-drop}
 use Rattle.std.proofs.lemmas.Str.{chars-append, chars-encodes, encodes-chars, scalars-chars}
 use Rattle.std.proofs.Math.Seq.{take-append_seam, drop-append_seam}
-use Rattle.mad_parse.specs.Cuts.{cut_after, token_len, run_len, is_run_char, bracket_len}
+use Rattle.mad_parse.specs.Cuts.{cut_after, token_len, word_len, is_word_char, bracket_len}
 use Rattle.std.proofs.StrCases.{chars_of_empty}
 use Rattle.std.specs.Prelude.{string_bytes}
 use Rattle.mad_parse.specs.declared.errors.ParseStyleTokenError.{ParseStyleTokenError}
 use Rattle.mad_parse.specs.declared.errors.ParseStyleTokenError.TheVariants as error
-use Rattle.mad_parse.specs.Values.{Fault, unrecognized, bad_color, token_of}
+use Rattle.mad_parse.specs.StyleTokens.{Fault, unrecognized, bad_color, token_of}
 use Rattle.mad_parse.specs.Reading.{tokens_of, read_all, in_order, and_after, Tells}
 use Rattle.mad_parse.specs.declared.tokens.StyleToken.{StyleToken}
 
@@ -53,8 +53,8 @@ trimmed_black (c ∷ cs) =
     ]
 
 -- a token has a character
-run_len_pos : (n : ℕ) (cs : List ℕ) → 0 < run_len n cs
-run_len_pos n cs = cond_both (n == 0) 1 (n + bracket_len (drop n cs)) (λ x. 0 < x) (λ e. lit< tt) (λ e. grind (arith, nat_tests))
+word_len_pos : (n : ℕ) (cs : List ℕ) → 0 < word_len n cs
+word_len_pos n cs = cond_both (n == 0) 1 (n + bracket_len (drop n cs)) (λ x. 0 < x) (λ e. lit< tt) (λ e. grind (arith, nat_tests))
 
 drop_one : (n c : ℕ) (cs : List ℕ) → 0 < n → drop (n - 1) cs ≡ drop n (c ∷ cs)
 drop_one zero c cs h = absurd (omega arith)
@@ -65,7 +65,7 @@ pub cut_first : (cs : List ℕ) → 0 < length cs → begins_white cs ≡ false 
 cut_first [] some black = absurd (omega arith)
 cut_first (c ∷ cs) some black =
     let n = token_len (c ∷ cs) in
-    let pos : 0 < n = run_len_pos (prefix_len is_run_char (c ∷ cs)) (c ∷ cs) in
+    let pos : 0 < n = word_len_pos (prefix_len is_word_char (c ∷ cs)) (c ∷ cs) in
     let step : drop (n - 1) cs ≡ drop n (c ∷ cs) = drop_one n c cs pos in
     if_false (is_whitespace c) _ _ black ∙ ap (λ r. take n (c ∷ cs) ∷ r) (cut_drop (n - 1) cs ∙ ap (cut_after 0) step)
 
@@ -123,7 +123,8 @@ tokens_cut bs first rest u v e some black len =
 pub read_start : (text rest : List ℕ) (ts : List StyleToken) → IsUtf8 text → rest ≡ trim_start text → ts ≡ [] → tokens_of text ≡ all_after ts (tokens_of rest)
 read_start text rest ts u is none = sym (ap (λ l. all_after l (tokens_of rest)) none ∙ ap tokens_of is ∙ tokens_trimmed text u)
 
-counted_chars : (cs bs : List ℕ) → encode_utf8_all cs ≡ bs → 0 < length bs → 0 < length cs
+-- a text with bytes has characters
+pub counted_chars : (cs bs : List ℕ) → encode_utf8_all cs ≡ bs → 0 < length bs → 0 < length cs
 counted_chars [] bs e h = absurd (omega (arith, ap length e))
 counted_chars (c ∷ cs) bs e h = omega arith
 
@@ -169,7 +170,7 @@ not_none (suc n) h = omega arith
 -- a token takes at least one byte
 pub read_smaller : (rest first after_it next : List ℕ) (n : ℕ) → first ++ after_it ≡ rest → length (chars first) ≡ token_len (chars rest) → next ≡ drop n after_it → length next < length rest
 read_smaller rest first after_it next n parts len is =
-    let pos : 0 < token_len (chars rest) = run_len_pos (prefix_len is_run_char (chars rest)) (chars rest) in
+    let pos : 0 < token_len (chars rest) = word_len_pos (prefix_len is_word_char (chars rest)) (chars rest) in
     let some : (length first ≡ 0 → ⊥) = λ none. absurd (omega (arith, pos, len, ap length (chars_of_empty first none))) in
     let bytes : 0 < length first = not_none (length first) some in
     omega (arith, bytes, ap length is, length-drop n after_it, ap length parts, length-append first after_it)

@@ -10,14 +10,14 @@ use Rattle.std.proofs.lemmas.Bool.{and_from, and_parts, cases_Bool}
 use Rattle.std.proofs.lemmas.Bool.Decides.{nat_tests}
 use Rattle.std.proofs.lemmas.Fmt.{decimal_is_IsNumeral}
 use Rattle.std.proofs.lemmas.Str.Parse.{digit_from_value}
-use Rattle.mad_parse.specs.Cuts.{is_run_char, is_inside_char}
+use Rattle.mad_parse.specs.Cuts.{is_word_char, is_inside_char}
 
 -- an ASCII character
 abbrev pub is_low : ℕ → Bool
 is_low b = nat_lt b 128
 
-digit_run : (d : ℕ) → IsInRange 48 57 d → is_run_char d ≡ true
-digit_run d h = grind (arith, nat_tests)
+digit_word : (d : ℕ) → IsInRange 48 57 d → is_word_char d ≡ true
+digit_word d h = grind (arith, nat_tests)
 
 digit_inside : (d : ℕ) → IsInRange 48 57 d → is_inside_char d ≡ true
 digit_inside d h = grind (arith, nat_tests)
@@ -26,9 +26,9 @@ all_digits : (p : ℕ → Bool) → ((d : ℕ) → IsInRange 48 57 d → p d ≡
 all_digits p h [] all = refl
 all_digits p h (d ∷ ds) all = and_from (p d) (list_all p ds) (h d (digit_from_value d all.0)) (all_digits p h ds all.1)
 
--- a decimal number is of run characters, of inside characters, and ASCII
-pub decimal_run : (n : ℕ) → n < 2 ^ 64 → list_all is_run_char (decimal n) ≡ true
-decimal_run n h = all_digits is_run_char digit_run (decimal n) (decimal_is_IsNumeral n h).0.1
+-- a decimal number has characters of a word alone, which may also be in its bracket, and is ASCII
+pub decimal_word : (n : ℕ) → n < 2 ^ 64 → list_all is_word_char (decimal n) ≡ true
+decimal_word n h = all_digits is_word_char digit_word (decimal n) (decimal_is_IsNumeral n h).0.1
 
 pub decimal_inside : (n : ℕ) → n < 2 ^ 64 → list_all is_inside_char (decimal n) ≡ true
 decimal_inside n h = all_digits is_inside_char digit_inside (decimal n) (decimal_is_IsNumeral n h).0.1
@@ -42,11 +42,11 @@ low_ascii [] low i = lit< tt
 low_ascii (b ∷ bs) low zero = ltb-true b 128 (and_parts _ _ low).0
 low_ascii (b ∷ bs) low (suc i) = low_ascii bs (and_parts _ _ low).1 i
 
--- a character of a run is no whitespace
-pub run_black : (c : ℕ) → is_run_char c ≡ true → is_whitespace c ≡ false
-run_black c run =
+-- a character of a word is no whitespace
+pub word_char_black : (c : ℕ) → is_word_char c ≡ true → is_whitespace c ≡ false
+word_char_black c word =
     elim (cases_Bool (is_whitespace c)) as (λ _. is_whitespace c ≡ false) [
-      | inl white ↦ absurd (true≢false (sym run ∙ ap (λ w. not (w || c == 40 || c == 41)) white))
+      | inl white ↦ absurd (true≢false (sym word ∙ ap (λ w. not (w || c == 40 || c == 41)) white))
       | inr black ↦ black
     ]
 

@@ -6,7 +6,7 @@ use Rattle.std.specs.Str.{chars}
 use Rattle.mad_term.specs.declared.color.Color.{Color}
 use Rattle.mad_term.specs.declared.color.Color.TheVariants.{Blue, DarkBlue, Red}
 use Rattle.mad_parse.specs.Reading.{tokens_of}
-use Rattle.mad_parse.specs.Values.{Fault, unrecognized}
+use Rattle.mad_parse.specs.StyleTokens.{Fault, unrecognized}
 use Rattle.mad_parse.specs.declared.tokens.StyleToken.{StyleToken}
 use Rattle.mad_parse.specs.declared.tokens.StyleToken.TheVariants as token
 

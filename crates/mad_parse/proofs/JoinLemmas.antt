@@ -4,7 +4,7 @@ use Rattle.std.specs.Prelude.{Ok}
 use Rattle.std.specs.Str.{IsUtf8, encode_utf8_all}
 use Rattle.std.proofs.lemmas.Str.{chars-nil, chars_past_char, encode_ascii, IsUtf8-nil}
 use Rattle.mad_parse.specs.Cuts.{cut_after, token_len}
-use Rattle.mad_parse.specs.Values.{token_of}
+use Rattle.mad_parse.specs.StyleTokens.{token_of}
 use Rattle.mad_parse.specs.Reading.{tokens_of, read_all, and_after, in_order}
 use Rattle.mad_parse.specs.declared.tokens.StyleToken.{StyleToken}
 use Rattle.mad_parse.proofs.CutLemmas.{tokens_cut, begins_white}

@@ -1,4 +1,4 @@
--- What is written of a color or a number is read as it was.
+-- A color of three numbers or of the palette, and a number: the text that each is written as is read as what it was.
 use Rattle.std.proofs.Common.{◌≡◌, ℕ, ◌<◌, ◌+◌, ◌^◌, ◌==◌, Bool, true, false, List, [], ◌∷◌, ◌++◌, length, drop, refl, sym, ap, ◌∙◌, arith, subst, ne_eqb, lt-ltb, le-leb, append_assoc, append-nil, Some}
 use Rattle.std.specs.Prelude.{codes, decimal, Ok}
 use Rattle.std.specs.List.{prefix_len, list_all}
@@ -12,12 +12,12 @@ use Rattle.std.proofs.lemmas.Fmt.{decimal_is_IsNumeral}
 use Rattle.mad_term.specs.declared.color.Color.TheVariants as color
 use Rattle.mad_parse.specs.Colors.{color_of, color_text, without_last, cut_at, front_with, call_front, ansi_color, rgb_color, rgb_first, rgb_last, rgb_parts}
 use Rattle.mad_parse.specs.Numbers.{number_below, signed_number_below}
-use Rattle.mad_parse.specs.Cuts.{is_run_char, is_inside_char, token_len, run_len, bracket_len, closed_len}
+use Rattle.mad_parse.specs.Cuts.{is_word_char, is_inside_char, token_len, word_len, bracket_len, closed_len}
 use Rattle.std.proofs.lemmas.List.Folds.{list_all-append}
 use Rattle.std.proofs.lemmas.Str.{chars-IsAscii, encodes-IsAscii}
 use Rattle.mad_parse.proofs.ColorLemmas.{without_put}
 use Rattle.mad_parse.proofs.CutLemmas.{begins_white}
-use Rattle.mad_parse.proofs.Digits.{is_low, low_ascii, run_black, decimal_low, decimal_run}
+use Rattle.mad_parse.proofs.Digits.{is_low, low_ascii, word_char_black, decimal_low, decimal_word}
 
 -- decimal digits are ASCII digits
 one_digit : (d : ℕ) → digit_value d < 10 → is_ascii_digit d ≡ true
@@ -46,9 +46,9 @@ digits_cut (d ∷ ds) ys all =
     let r = digit_from_value d all.0 in
     cond-false (d == 44) _ _ (ne_eqb d 44 (λ e. absurd (omega (arith, r.0, e)))) ∙ ap (λ o. front_with d o) (digits_cut ds ys all.1)
 
-begins_black : (ds ys : List ℕ) → 0 < length ds → list_all is_run_char ds ≡ true → begins_white (ds ++ ys) ≡ false
+begins_black : (ds ys : List ℕ) → 0 < length ds → list_all is_word_char ds ≡ true → begins_white (ds ++ ys) ≡ false
 begins_black [] ys some all = absurd (omega arith)
-begins_black (d ∷ ds) ys some all = run_black d (and_parts _ _ all).0
+begins_black (d ∷ ds) ys some all = word_char_black d (and_parts _ _ all).0
 
 skip_black : (cs : List ℕ) → begins_white cs ≡ false → skip_leading_whitespace cs ≡ cs
 skip_black [] black = refl
@@ -67,9 +67,9 @@ rgb_numbers r g b small_r small_g small_b =
     let tail = decimal g ++ 44 ∷ (32 ∷ decimal b) in
     let low_b : list_all is_low (decimal b) ≡ true = decimal_low b (big b small_b) in
     let low_tail : list_all is_low tail ≡ true = list_all-append is_low (decimal g) (44 ∷ (32 ∷ decimal b)) ∙ and_from _ _ (decimal_low g (big g small_g)) low_b in
-    let trim_tail : trim_start (32 ∷ tail) ≡ tail = space_trimmed tail low_tail (begins_black (decimal g) _ (digits g small_g).0 (decimal_run g (big g small_g))) in
+    let trim_tail : trim_start (32 ∷ tail) ≡ tail = space_trimmed tail low_tail (begins_black (decimal g) _ (digits g small_g).0 (decimal_word g (big g small_g))) in
     let trim_last : trim_start (32 ∷ decimal b) ≡ decimal b =
-    space_trimmed (decimal b) low_b (ap begins_white (sym (append-nil (decimal b))) ∙ begins_black (decimal b) [] (digits b small_b).0 (decimal_run b (big b small_b))) in
+    space_trimmed (decimal b) low_b (ap begins_white (sym (append-nil (decimal b))) ∙ begins_black (decimal b) [] (digits b small_b).0 (decimal_word b (big b small_b))) in
     let numbers : rgb_color (number_below 256 (decimal r)) (number_below 256 (decimal g)) (number_below 256 (decimal b)) ≡ Ok (color.Rgb r g b) =
     ap (λ o. rgb_color o (number_below 256 (decimal g)) (number_below 256 (decimal b))) (decimal_reads 256 r small_r (big r small_r))
     ∙ ap (λ o. rgb_color (Some r) o (number_below 256 (decimal b))) (decimal_reads 256 g small_g (big g small_g))
@@ -80,7 +80,7 @@ rgb_numbers r g b small_r small_g small_b =
     ∙ ap (λ t. rgb_color (number_below 256 (decimal r)) (number_below 256 (decimal g)) (number_below 256 t)) trim_last
     ∙ numbers
 
--- what stands between the brackets
+-- what is between the brackets
 abbrev pub rgb_inside : ℕ → ℕ → ℕ → List ℕ
 rgb_inside r g b = decimal r ++ 44 ∷ (32 ∷ (decimal g ++ 44 ∷ (32 ∷ decimal b)))
 
@@ -105,33 +105,33 @@ rgb_all p digits comma space r g b small_r small_g small_b =
     ∙ and_from _ _ (digits r small_r)
     (and_from _ _ comma (and_from _ _ space (list_all-append p (decimal g) (44 ∷ (32 ∷ decimal b)) ∙ and_from _ _ (digits g small_g) (and_from _ _ comma (and_from _ _ space (digits b small_b))))))
 
--- a run ends at the first character that is none of it
-pub run_front : (p : ℕ → Bool) (xs ys : List ℕ) → list_all p xs ≡ true → prefix_len p ys ≡ 0 → prefix_len p (xs ++ ys) ≡ length xs
-run_front p [] ys all stop = stop
-run_front p (x ∷ xs) ys all stop =
+-- characters that are all of a kind end at the first one that is none
+pub prefix_front : (p : ℕ → Bool) (xs ys : List ℕ) → list_all p xs ≡ true → prefix_len p ys ≡ 0 → prefix_len p (xs ++ ys) ≡ length xs
+prefix_front p [] ys all stop = stop
+prefix_front p (x ∷ xs) ys all stop =
     let parts = and_parts (p x) (list_all p xs) all in
-    cond-true (p x) _ _ parts.0 ∙ ap (λ n. 1 + n) (run_front p xs ys parts.1 stop) ∙ omega arith
+    cond-true (p x) _ _ parts.0 ∙ ap (λ n. 1 + n) (prefix_front p xs ys parts.1 stop) ∙ omega arith
 
--- a run with no bracket after it is a token
 not_zero : (n : ℕ) → 0 < n → (n == 0) ≡ false
 not_zero n h = ne_eqb n 0 (λ z. absurd (omega (arith, h, z)))
 
-pub run_alone : (xs ys : List ℕ) → 0 < length xs → list_all is_run_char xs ≡ true → prefix_len is_run_char ys ≡ 0 → token_len (xs ++ ys) ≡ length xs + bracket_len ys
-run_alone xs ys some all stop =
-    ap (λ n. run_len n (xs ++ ys)) (run_front is_run_char xs ys all stop)
+-- a word, and the bracket after it if there is one, is a token
+pub word_alone : (xs ys : List ℕ) → 0 < length xs → list_all is_word_char xs ≡ true → prefix_len is_word_char ys ≡ 0 → token_len (xs ++ ys) ≡ length xs + bracket_len ys
+word_alone xs ys some all stop =
+    ap (λ n. word_len n (xs ++ ys)) (prefix_front is_word_char xs ys all stop)
     ∙ cond-false (length xs == 0) 1 (length xs + bracket_len (drop (length xs) (xs ++ ys))) (not_zero (length xs) some)
     ∙ ap (λ r. length xs + bracket_len r) (drop-append_seam xs ys)
 
 -- a word with its bracket is a token
-pub call_cut : (xs inside rest : List ℕ) → 0 < length xs → list_all is_run_char xs ≡ true → 0 < length inside → list_all is_inside_char inside ≡ true
+pub call_cut : (xs inside rest : List ℕ) → 0 < length xs → list_all is_word_char xs ≡ true → 0 < length inside → list_all is_inside_char inside ≡ true
     → token_len (xs ++ 40 ∷ (inside ++ 41 ∷ rest)) ≡ length xs + (length inside + 2)
 call_cut xs inside rest some all more within =
-    let n : prefix_len is_inside_char (inside ++ 41 ∷ rest) ≡ length inside = run_front is_inside_char inside (41 ∷ rest) within refl in
+    let n : prefix_len is_inside_char (inside ++ 41 ∷ rest) ≡ length inside = prefix_front is_inside_char inside (41 ∷ rest) within refl in
     let beyond : drop (length inside) (inside ++ 41 ∷ rest) ≡ 41 ∷ rest = drop-append_seam inside (41 ∷ rest) in
     let closes : closed_len (length inside) (41 ∷ rest) ≡ length inside + 2 = cond-true _ _ _ (and_from _ _ (lt-ltb 0 (length inside) more) refl) in
     let bracket : bracket_len (40 ∷ (inside ++ 41 ∷ rest)) ≡ length inside + 2 =
     ap (λ k. closed_len k (drop k (inside ++ 41 ∷ rest))) n ∙ ap (closed_len (length inside)) beyond ∙ closes in
-    run_alone xs (40 ∷ (inside ++ 41 ∷ rest)) some all refl ∙ ap (λ k. length xs + k) bracket
+    word_alone xs (40 ∷ (inside ++ 41 ∷ rest)) some all refl ∙ ap (λ k. length xs + k) bracket
 
 -- digits begin with no plus
 no_plus : (ds : List ℕ) → AllDigits 10 ds → without_leading_plus ds ≡ ds

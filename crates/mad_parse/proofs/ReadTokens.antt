@@ -19,20 +19,20 @@ use Rattle.mad_term.specs.declared.attribute.Attribute.TheVariants as attribute
 use Rattle.mad_term.specs.declared.color.Color.{Color}
 use Rattle.mad_term.specs.declared.color.Color.TheVariants as color
 use Rattle.mad_parse.specs.Colors.{color_of, color_text}
-use Rattle.mad_parse.specs.Cuts.{is_run_char, is_inside_char, token_len, run_len, bracket_len}
+use Rattle.mad_parse.specs.Cuts.{is_word_char, is_inside_char, token_len, word_len, bracket_len}
 use Rattle.mad_parse.specs.Names.{is_named}
 use Rattle.mad_parse.specs.Numbers.{signed_number_below}
-use Rattle.mad_parse.specs.ReadsBack.{IsWrittenColor, is_written}
-use Rattle.mad_parse.specs.Values.{token_of, as_number, as_color}
+use Rattle.mad_parse.specs.ReadsBack.{IsReadBackColor, is_written}
+use Rattle.mad_parse.specs.StyleTokens.{token_of, as_number, as_color}
 use Rattle.mad_parse.specs.Reading.{tokens_of, and_after}
 use Rattle.mad_parse.specs.Written.{token_text, tokens_text, has_text}
 use Rattle.mad_parse.specs.declared.tokens.StyleToken.{StyleToken}
 use Rattle.mad_parse.specs.declared.tokens.StyleToken.TheVariants as token
 use Rattle.mad_parse.proofs.CharTokens.{char_reads, no_number}
 use Rattle.mad_parse.proofs.CutLemmas.{begins_white}
-use Rattle.mad_parse.proofs.Digits.{is_low, low_ascii, run_black, digit_lower, decimal_run, decimal_inside, decimal_low}
+use Rattle.mad_parse.proofs.Digits.{is_low, low_ascii, word_char_black, digit_lower, decimal_word, decimal_inside, decimal_low}
 use Rattle.mad_parse.proofs.JoinLemmas.{tokens_joined, tokens_last, nothing_read}
-use Rattle.mad_parse.proofs.LawLemmas.{run_alone, call_cut, margin_reads, ansi_reads, rgb_inside, rgb_text, rgb_reads, rgb_all}
+use Rattle.mad_parse.proofs.LawLemmas.{word_alone, call_cut, margin_reads, ansi_reads, rgb_inside, rgb_text, rgb_reads, rgb_all}
 
 -- a token whose text is cut off as one token and says it; cs is that text's characters
 pub record IsRead (t : StyleToken) : Type 0 where
@@ -42,7 +42,7 @@ pub record IsRead (t : StyleToken) : Type 0 where
   pub is : chars (token_text t) ≡ cs
   pub some : 0 < length cs
   pub black : begins_white cs ≡ false
-  pub cut : (rest : List ℕ) → prefix_len is_run_char rest ≡ 0 → bracket_len rest ≡ 0 → token_len (cs ++ rest) ≡ length cs
+  pub cut : (rest : List ℕ) → prefix_len is_word_char rest ≡ 0 → bracket_len rest ≡ 0 → token_len (cs ++ rest) ≡ length cs
   pub says : token_of (token_text t) ≡ Ok t
 
 -- each of a list is one
@@ -99,11 +99,11 @@ tokens_read ts h = ap (λ us. tokens_of (join_with_byte 32 (map token_text us)))
 -- ---- each kind
 
 -- a character
-one_cut : (c : ℕ) (rest : List ℕ) → prefix_len is_run_char rest ≡ 0 → bracket_len rest ≡ 0 → token_len (c ∷ rest) ≡ 1
+one_cut : (c : ℕ) (rest : List ℕ) → prefix_len is_word_char rest ≡ 0 → bracket_len rest ≡ 0 → token_len (c ∷ rest) ≡ 1
 one_cut c rest stop none =
-    elim (cases_Bool (is_run_char c)) as (λ _. token_len (c ∷ rest) ≡ 1) [
-      | inl run ↦ run_alone (c ∷ []) rest (lit< tt) (and_from (is_run_char c) true run refl) stop ∙ ap (λ n. 1 + n) none
-      | inr other ↦ ap (λ n. run_len n (c ∷ rest)) (cond-false (is_run_char c) _ _ other)
+    elim (cases_Bool (is_word_char c)) as (λ _. token_len (c ∷ rest) ≡ 1) [
+      | inl word ↦ word_alone (c ∷ []) rest (lit< tt) (and_from (is_word_char c) true word refl) stop ∙ ap (λ n. 1 + n) none
+      | inr other ↦ ap (λ n. word_len n (c ∷ rest)) (cond-false (is_word_char c) _ _ other)
     ]
 
 pub read_char : (c : ℕ) → IsScalar c → is_whitespace c ≡ false → is_ascii_digit c ≡ false → IsRead (token.Char c)
@@ -119,19 +119,19 @@ read_char c scalar black digit = record {
 }
 
 -- a word of ASCII characters
-word_black : (cs : List ℕ) → 0 < length cs → list_all is_run_char cs ≡ true → begins_white cs ≡ false
-word_black [] some run = absurd (omega arith)
-word_black (c ∷ cs) some run = run_black c (and_parts _ _ run).0
+word_black : (cs : List ℕ) → 0 < length cs → list_all is_word_char cs ≡ true → begins_white cs ≡ false
+word_black [] some word = absurd (omega arith)
+word_black (c ∷ cs) some word = word_char_black c (and_parts _ _ word).0
 
-pub read_word : (t : StyleToken) → has_text t ≡ true → 0 < length (token_text t) → list_all is_low (token_text t) ≡ true → list_all is_run_char (token_text t) ≡ true → token_of (token_text t) ≡ Ok t → IsRead t
-read_word t text some low run says = record {
+pub read_word : (t : StyleToken) → has_text t ≡ true → 0 < length (token_text t) → list_all is_low (token_text t) ≡ true → list_all is_word_char (token_text t) ≡ true → token_of (token_text t) ≡ Ok t → IsRead t
+read_word t text some low word says = record {
   cs = token_text t;
   text = text;
   utf8 = IsUtf8-from_ascii (token_text t) (low_ascii (token_text t) low);
   is = chars-IsAscii (token_text t) (low_ascii (token_text t) low);
   some = some;
-  black = word_black (token_text t) some run;
-  cut = λ rest stop none. run_alone (token_text t) rest some run stop ∙ ap (λ n. length (token_text t) + n) none ∙ omega arith;
+  black = word_black (token_text t) some word;
+  cut = λ rest stop none. word_alone (token_text t) rest some word stop ∙ ap (λ n. length (token_text t) + n) none ∙ omega arith;
   says = says;
 }
 
@@ -146,9 +146,9 @@ call_low name inside low within = list_all-append is_low name (40 ∷ (inside ++
 call_len : (name inside : List ℕ) → length (name ++ 40 ∷ (inside ++ 41 ∷ [])) ≡ length name + (length inside + 2)
 call_len name inside = omega (arith, length-append name (40 ∷ (inside ++ 41 ∷ [])), length-append inside (41 ∷ []))
 
-pub read_call : (t : StyleToken) (name inside : List ℕ) → has_text t ≡ true → token_text t ≡ name ++ 40 ∷ (inside ++ 41 ∷ []) → 0 < length name → list_all is_run_char name ≡ true → list_all is_low name ≡ true
+pub read_call : (t : StyleToken) (name inside : List ℕ) → has_text t ≡ true → token_text t ≡ name ++ 40 ∷ (inside ++ 41 ∷ []) → 0 < length name → list_all is_word_char name ≡ true → list_all is_low name ≡ true
     → 0 < length inside → list_all is_inside_char inside ≡ true → list_all is_low inside ≡ true → token_of (token_text t) ≡ Ok t → IsRead t
-read_call t name inside text is some run low more within low_inside says =
+read_call t name inside text is some word low more within low_inside says =
     let whole = name ++ 40 ∷ (inside ++ 41 ∷ []) in
     let ascii = low_ascii whole (call_low name inside low low_inside) in
     record {
@@ -157,8 +157,8 @@ read_call t name inside text is some run low more within low_inside says =
       utf8 = subst IsUtf8 (sym is) (IsUtf8-from_ascii whole ascii);
       is = ap chars is ∙ chars-IsAscii whole ascii;
       some = front_some name _ some;
-      black = front_black name _ some (word_black name some run);
-      cut = λ rest stop none. ap token_len (call_text name inside rest) ∙ call_cut name inside rest some run more within ∙ sym (call_len name inside);
+      black = front_black name _ some (word_black name some word);
+      cut = λ rest stop none. ap token_len (call_text name inside rest) ∙ call_cut name inside rest some word more within ∙ sym (call_len name inside);
       says = says;
     }
 
@@ -175,7 +175,7 @@ pub read_number : (n : ℕ) → n < 65536 → IsRead (token.Dimension n)
 read_number n small =
     let big : n < 2 ^ 64 = omega (arith, small) in
     let digits = (decimal_is_IsNumeral n big).0 in
-    read_word (token.Dimension n) refl digits.0 (decimal_low n big) (decimal_run n big)
+    read_word (token.Dimension n) refl digits.0 (decimal_low n big) (decimal_word n big)
     (cond-false _ _ _ (number_named (decimal n) digits.1 digits.0) ∙ ap (λ o. as_number o (decimal n)) (margin_reads n small))
 
 -- a color of the palette, and one of three numbers
@@ -196,7 +196,7 @@ read_rgb r g b small_r small_g small_b =
     (rgb_all is_low (λ n h. decimal_low n (big n h)) refl refl r g b small_r small_g small_b)
     (color_token (color_text (color.Rgb r g b)) (color.Rgb r g b) refl (no_number 114 (drop 1 (color_text (color.Rgb r g b))) refl (λ e. absurd (omega (arith, e)))) (rgb_reads r g b small_r small_g small_b))
 
-pub read_color : (c : Color) → IsColor c → IsWrittenColor c → IsRead (token.Color c)
+pub read_color : (c : Color) → IsColor c → IsReadBackColor c → IsRead (token.Color c)
 read_color color.Reset bytes written = absurd written
 read_color color.Black bytes written = absurd written
 read_color color.White bytes written = absurd written

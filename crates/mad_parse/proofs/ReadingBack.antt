@@ -18,7 +18,7 @@ use Rattle.mad_style.specs.declared.ordered_items.OrderedItemStyle.{OrderedItemS
 use Rattle.mad_style.specs.declared.styled_chars.StyledChar.{StyledChar}
 use Rattle.mad_style.specs.StyledChars.{char_alone, char_style, styled_char}
 use Rattle.mad_parse.specs.Reading.{tokens_of, said}
-use Rattle.mad_parse.specs.ReadsBack.{IsWrittenStyle, IsWrittenLine, IsWrittenChar, IsWrittenItem, StyleReadsBack, LineReadsBack, CharReadsBack, ItemReadsBack}
+use Rattle.mad_parse.specs.ReadsBack.{IsReadBackStyle, IsReadBackLine, IsReadBackChar, IsReadBackItem, StyleReadsBack, LineReadsBack, CharReadsBack, ItemReadsBack}
 use Rattle.mad_parse.specs.Styles.{first_or, last_or, colors_of, attributes_of, aligns_of, numbers_of, style_of, line_style_of, styled_char_of, item_style_of, char_index}
 use Rattle.mad_parse.specs.Written.{written_attributes, style_tokens, align_tokens, margin_tokens, line_style_tokens, styled_char_tokens, item_tokens, tokens_text}
 use Rattle.mad_parse.specs.declared.tokens.StyleToken.{StyleToken}
@@ -32,7 +32,7 @@ back f x ts text is read says = ap (λ t. said f (tokens_of t)) is ∙ ap (said 
 
 -- ---- a style
 
-style_alone : (s : CompoundStyle) → IsWrittenStyle s → style_of (style_tokens s) ≡ s
+style_alone : (s : CompoundStyle) → IsReadBackStyle s → style_of (style_tokens s) ≡ s
 style_alone s h = ap style_of (sym (append-nil (style_tokens s))) ∙ style_back s [] [] h refl refl refl refl
 
 pub style_reads_back : (s : CompoundStyle) (text : List ℕ) → IsStyle s.object_style → text ≡ tokens_text (style_tokens s) → StyleReadsBack s text
@@ -56,7 +56,7 @@ map_styling : (list : List Attribute) → list_all is_styling (map token.Attribu
 map_styling [] = refl
 map_styling (a ∷ list) = map_styling list
 
-style_styling : (s : CompoundStyle) → IsWrittenStyle s → list_all is_styling (style_tokens s) ≡ true
+style_styling : (s : CompoundStyle) → IsReadBackStyle s → list_all is_styling (style_tokens s) ≡ true
 style_styling s h =
     let list = filter (has_attribute s.object_style.attributes) written_attributes in
     ap (list_all is_styling) (tokens_are s h) ∙ list_all-append is_styling (two_colors s.object_style.foreground_color s.object_style.background_color) (map token.Attribute list)
@@ -163,7 +163,7 @@ line_of style a l r = record { compound_style = style; align = a; left_margin = 
 same_line : (s t : CompoundStyle) (a b : Alignment) (l m r q : ℕ) → s ≡ t → a ≡ b → l ≡ m → r ≡ q → line_of s a l r ≡ line_of t b m q
 same_line s t a b l m r q e f g h = ap (λ x. line_of x a l r) e ∙ ap (λ x. line_of t x l r) f ∙ ap (λ x. line_of t b x r) g ∙ ap (λ x. line_of t b m x) h
 
-line_alone : (s : LineStyle) → IsWrittenLine s → line_style_of (line_style_tokens s) ≡ s
+line_alone : (s : LineStyle) → IsReadBackLine s → line_style_of (line_style_tokens s) ≡ s
 line_alone s h =
     let m = margin_tokens s.left_margin s.right_margin in
     let k = margins s.left_margin s.right_margin in
@@ -187,42 +187,42 @@ line_reads_back s text bytes is = λ h.
     (all_append (align_tokens s.align) m (aligns_read s.align) (margins_read s.left_margin s.right_margin (margins s.left_margin s.right_margin))))
     (line_alone s h)
 
--- ---- a mark
+-- ---- a character
 
-mark_alone : (c : StyledChar) (default : ℕ) → IsWrittenStyle (char_style c) → styled_char_of default (styled_char_tokens c) ≡ c
-mark_alone c default h =
+styled_char_alone : (c : StyledChar) (default : ℕ) → IsReadBackStyle (char_style c) → styled_char_of default (styled_char_tokens c) ≡ c
+styled_char_alone c default h =
     ap (λ s. styled_char s (char_alone c)) (ap (λ ts. style_of (token.Char (char_alone c) ∷ ts)) (sym (append-nil (style_tokens (char_style c)))) ∙ style_back (char_style c) (token.Char (char_alone c) ∷ []) [] h refl refl refl refl)
 
-mark_read : (c : StyledChar) → IsScalar (char_alone c) → IsStyle (char_style c).object_style → IsWrittenChar c → AllRead (styled_char_tokens c)
-mark_read c scalar bytes h = (read_char (char_alone c) scalar h.mark h.no_digit, style_read (char_style c) h.style bytes.foreground bytes.background)
+styled_char_read : (c : StyledChar) → IsScalar (char_alone c) → IsStyle (char_style c).object_style → IsReadBackChar c → AllRead (styled_char_tokens c)
+styled_char_read c scalar bytes h = (read_char (char_alone c) scalar h.no_whitespace h.no_digit, style_read (char_style c) h.style bytes.foreground bytes.background)
 
 pub char_reads_back : (c : StyledChar) (text : List ℕ) → IsScalar (char_alone c) → IsStyle (char_style c).object_style → text ≡ tokens_text (styled_char_tokens c) → CharReadsBack c text
-char_reads_back c text scalar bytes is = λ h default. back (styled_char_of default) c (styled_char_tokens c) text is (mark_read c scalar bytes h) (mark_alone c default h.style)
+char_reads_back c text scalar bytes is = λ h default. back (styled_char_of default) c (styled_char_tokens c) text is (styled_char_read c scalar bytes h) (styled_char_alone c default h.style)
 
 -- ---- an ordered item
 
 abbrev item_of : CompoundStyle → StyledChar → OrderedItemStyle
-item_of style mark = record { index_style = style; index_suffix = mark }
+item_of style suffix = record { index_style = style; index_suffix = suffix }
 
 same_item : (s t : CompoundStyle) (c d : StyledChar) → s ≡ t → c ≡ d → item_of s c ≡ item_of t d
 same_item s t c d e f = ap (λ x. item_of x c) e ∙ ap (item_of t) f
 
-item_alone : (s : OrderedItemStyle) (default : ℕ) → IsWrittenItem s → item_style_of default (item_tokens s) ≡ s
+item_alone : (s : OrderedItemStyle) (default : ℕ) → IsReadBackItem s → item_style_of default (item_tokens s) ≡ s
 item_alone s default h =
     let front = style_tokens s.index_style in
     let suffix = styled_char_tokens s.index_suffix in
     let n : char_index (item_tokens s) ≡ length front = char_past front (style_tokens (char_style s.index_suffix)) (char_alone s.index_suffix) (style_styling s.index_style h.index) in
     let index : style_of (take (char_index (item_tokens s)) (item_tokens s)) ≡ s.index_style =
     ap (λ k. style_of (take k (item_tokens s))) n ∙ ap style_of (take-append_seam front suffix) ∙ style_alone s.index_style h.index in
-    let mark : styled_char_of default (drop (char_index (item_tokens s)) (item_tokens s)) ≡ s.index_suffix =
-    ap (λ k. styled_char_of default (drop k (item_tokens s))) n ∙ ap (styled_char_of default) (drop-append_seam front suffix) ∙ mark_alone s.index_suffix default h.suffix.style in
-    same_item (style_of (take (char_index (item_tokens s)) (item_tokens s))) s.index_style (styled_char_of default (drop (char_index (item_tokens s)) (item_tokens s))) s.index_suffix index mark
+    let suffix_back : styled_char_of default (drop (char_index (item_tokens s)) (item_tokens s)) ≡ s.index_suffix =
+    ap (λ k. styled_char_of default (drop k (item_tokens s))) n ∙ ap (styled_char_of default) (drop-append_seam front suffix) ∙ styled_char_alone s.index_suffix default h.suffix.style in
+    same_item (style_of (take (char_index (item_tokens s)) (item_tokens s))) s.index_style (styled_char_of default (drop (char_index (item_tokens s)) (item_tokens s))) s.index_suffix index suffix_back
 
 pub item_reads_back : (s : OrderedItemStyle) (text : List ℕ) → IsStyle s.index_style.object_style → IsScalar (char_alone s.index_suffix) → IsStyle (char_style s.index_suffix).object_style
     → text ≡ tokens_text (item_tokens s) → ItemReadsBack s text
 item_reads_back s text bytes scalar suffix_bytes is = λ h default.
     back (item_style_of default) s (item_tokens s) text is
-    (all_append (style_tokens s.index_style) (styled_char_tokens s.index_suffix) (style_read s.index_style h.index bytes.foreground bytes.background) (mark_read s.index_suffix scalar suffix_bytes h.suffix))
+    (all_append (style_tokens s.index_style) (styled_char_tokens s.index_suffix) (style_read s.index_style h.index bytes.foreground bytes.background) (styled_char_read s.index_suffix scalar suffix_bytes h.suffix))
     (item_alone s default h)
 
 -- ---- the writing calls

@@ -11,7 +11,7 @@ use Rattle.mad_term.specs.declared.color.Color.{Color}
 use Rattle.mad_term.specs.declared.color.Color.TheVariants as color
 use Rattle.mad_style.specs.declared.compound_styles.CompoundStyle.{CompoundStyle}
 use Rattle.mad_style.specs.CompoundStyles.{text_style}
-use Rattle.mad_parse.specs.ReadsBack.{is_written, IsWrittenColor, IsWrittenOrNone, IsWrittenStyle}
+use Rattle.mad_parse.specs.ReadsBack.{is_written, IsReadBackColor, IsReadBackOrNone, IsReadBackStyle}
 use Rattle.mad_parse.specs.Styles.{first_or, colors_of, attributes_of, last_color, all_added, style_of}
 use Rattle.mad_parse.specs.Written.{written_attributes, foreground_tokens, background_tokens, attribute_tokens, style_tokens}
 use Rattle.mad_parse.specs.declared.tokens.StyleToken.{StyleToken}
@@ -41,7 +41,7 @@ attributes_of_append (token.None ∷ xs) ys = attributes_of_append xs ys
 
 -- ---- the colors
 
-foreground_written : (c : Color) (background : Option Color) → IsWrittenColor c → foreground_tokens (Some c) background ≡ token.Color c ∷ []
+foreground_written : (c : Color) (background : Option Color) → IsReadBackColor c → foreground_tokens (Some c) background ≡ token.Color c ∷ []
 foreground_written color.Reset background h = absurd h
 foreground_written color.Black background h = absurd h
 foreground_written color.White background h = absurd h
@@ -62,7 +62,7 @@ foreground_written color.Cyan background h = refl
 foreground_written color.DarkCyan background h = refl
 foreground_written color.Grey background h = refl
 
-background_written : (c : Color) → IsWrittenColor c → background_tokens (Some c) ≡ token.Color c ∷ []
+background_written : (c : Color) → IsReadBackColor c → background_tokens (Some c) ≡ token.Color c ∷ []
 background_written color.Reset h = absurd h
 background_written color.Black h = absurd h
 background_written color.White h = absurd h
@@ -90,7 +90,7 @@ two_colors None (Some b) = token.None ∷ token.Color b ∷ []
 two_colors (Some f) None = token.Color f ∷ []
 two_colors (Some f) (Some b) = token.Color f ∷ token.Color b ∷ []
 
-colors_written : (f b : Option Color) → IsWrittenOrNone f → IsWrittenOrNone b → foreground_tokens f b ++ background_tokens b ≡ two_colors f b
+colors_written : (f b : Option Color) → IsReadBackOrNone f → IsReadBackOrNone b → foreground_tokens f b ++ background_tokens b ≡ two_colors f b
 colors_written None None h k = refl
 colors_written None (Some b) h k = ap (λ l. token.None ∷ l) (background_written b k)
 colors_written (Some f) None h k = ap (λ l. l ++ []) (foreground_written f None h)
@@ -114,7 +114,7 @@ colors_alone None (Some b) = refl
 colors_alone (Some f) None = refl
 colors_alone (Some f) (Some b) = refl
 
-colors_read : (f b : Option Color) → IsColorOrNone f → IsColorOrNone b → IsWrittenOrNone f → IsWrittenOrNone b → AllRead (two_colors f b)
+colors_read : (f b : Option Color) → IsColorOrNone f → IsColorOrNone b → IsReadBackOrNone f → IsReadBackOrNone b → AllRead (two_colors f b)
 colors_read None None p q h k = tt
 colors_read None (Some b) p q h k = (read_none, (read_color b q k, tt))
 colors_read (Some f) None p q h k = (read_color f p h, tt)
@@ -137,20 +137,20 @@ styled_added f b s (a ∷ list) = styled_added f b (united s (only a)) list
 -- ---- a style
 
 -- its tokens are those of its colors and those of its attributes
-pub tokens_are : (s : CompoundStyle) → IsWrittenStyle s
+pub tokens_are : (s : CompoundStyle) → IsReadBackStyle s
     → style_tokens s ≡ two_colors s.object_style.foreground_color s.object_style.background_color ++ attribute_tokens s.object_style.attributes
 tokens_are s h =
     let o = s.object_style in
     sym (append_assoc (foreground_tokens o.foreground_color o.background_color) (background_tokens o.background_color) (attribute_tokens o.attributes))
     ∙ ap (λ l. l ++ attribute_tokens o.attributes) (colors_written o.foreground_color o.background_color h.foreground h.background)
 
-style_colors : (s : CompoundStyle) → IsWrittenStyle s → colors_of (style_tokens s) ≡ colors_of (two_colors s.object_style.foreground_color s.object_style.background_color)
+style_colors : (s : CompoundStyle) → IsReadBackStyle s → colors_of (style_tokens s) ≡ colors_of (two_colors s.object_style.foreground_color s.object_style.background_color)
 style_colors s h =
     let two = two_colors s.object_style.foreground_color s.object_style.background_color in
     let list = filter (has_attribute s.object_style.attributes) written_attributes in
     ap colors_of (tokens_are s h) ∙ colors_of_append two (map token.Attribute list) ∙ ap (λ l. colors_of two ++ l) (attributes_plain list) ∙ append-nil (colors_of two)
 
-style_attributes : (s : CompoundStyle) → IsWrittenStyle s → attributes_of (style_tokens s) ≡ filter (has_attribute s.object_style.attributes) written_attributes
+style_attributes : (s : CompoundStyle) → IsReadBackStyle s → attributes_of (style_tokens s) ≡ filter (has_attribute s.object_style.attributes) written_attributes
 style_attributes s h =
     let two = two_colors s.object_style.foreground_color s.object_style.background_color in
     let list = filter (has_attribute s.object_style.attributes) written_attributes in
@@ -161,7 +161,7 @@ no_underline : (s : CompoundStyle) → s.object_style.underline_color ≡ None �
 no_underline s e = ap (λ u. record s { object_style = record s.object_style { underline_color = u } }) (sym e)
 
 -- a style is what is said by tokens of its colors and its attributes
-style_from : (s : CompoundStyle) (ts : List StyleToken) → IsWrittenStyle s → colors_of ts ≡ colors_of (style_tokens s) → attributes_of ts ≡ attributes_of (style_tokens s) → style_of ts ≡ s
+style_from : (s : CompoundStyle) (ts : List StyleToken) → IsReadBackStyle s → colors_of ts ≡ colors_of (style_tokens s) → attributes_of ts ≡ attributes_of (style_tokens s) → style_of ts ≡ s
 style_from s ts h colors attributes =
     let o = s.object_style in
     let cs : colors_of ts ≡ colors_of (two_colors o.foreground_color o.background_color) = colors ∙ style_colors s h in
@@ -175,7 +175,7 @@ style_from s ts h colors attributes =
     ∙ no_underline s h.underline
 
 -- also with tokens before and after that say nothing of a style
-pub style_back : (s : CompoundStyle) (before after : List StyleToken) → IsWrittenStyle s → colors_of before ≡ [] → attributes_of before ≡ [] → colors_of after ≡ [] → attributes_of after ≡ []
+pub style_back : (s : CompoundStyle) (before after : List StyleToken) → IsReadBackStyle s → colors_of before ≡ [] → attributes_of before ≡ [] → colors_of after ≡ [] → attributes_of after ≡ []
     → style_of (before ++ (style_tokens s ++ after)) ≡ s
 style_back s before after h c1 a1 c2 a2 =
     style_from s (before ++ (style_tokens s ++ after)) h
@@ -193,7 +193,7 @@ attributes_read p (a ∷ list) h =
       | inr hasnt ↦ subst (λ l. AllRead (map token.Attribute l)) (sym (cond-false (p a) (a ∷ filter p list) (filter p list) hasnt)) (attributes_read p list (and_parts _ _ h).1)
     ]
 
-pub style_read : (s : CompoundStyle) → IsWrittenStyle s → IsColorOrNone s.object_style.foreground_color → IsColorOrNone s.object_style.background_color → AllRead (style_tokens s)
+pub style_read : (s : CompoundStyle) → IsReadBackStyle s → IsColorOrNone s.object_style.foreground_color → IsColorOrNone s.object_style.background_color → AllRead (style_tokens s)
 style_read s h p q =
     let o = s.object_style in
     subst AllRead (sym (tokens_are s h))

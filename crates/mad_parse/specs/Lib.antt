@@ -6,6 +6,6 @@ pub mod Names
 pub mod Numbers
 pub mod Reading
 pub mod ReadsBack
+pub mod StyleTokens
 pub mod Styles
-pub mod Values
 pub mod Written

@@ -4,9 +4,10 @@ use Rattle.std.specs.Str.{str_eq_ignore_ascii_case}
 use Rattle.mad_md.specs.declared.alignment.Alignment.{Alignment}
 use Rattle.mad_md.specs.declared.alignment.Alignment.TheVariants.{Unspecified, Left, Center, Right}
 use Rattle.mad_term.specs.declared.attribute.Attribute.{Attribute}
-use Rattle.mad_term.specs.declared.attribute.Attribute.TheVariants.{Reset, Bold, Dim, Italic, Underlined, SlowBlink, RapidBlink, Reverse, Hidden, CrossedOut, Fraktur, NoBold, NormalIntensity, NoItalic, NoUnderline, NoBlink, NoReverse, NoHidden, NotCrossedOut, Framed, Encircled, OverLined, NotFramedOrEncircled, NotOverLined}
+use Rattle.mad_term.specs.declared.attribute.Attribute.TheVariants.{Reset, Bold, Dim, Italic, Underlined, SlowBlink, RapidBlink, Reverse, CrossedOut, Encircled, OverLined}
+use Rattle.mad_term.specs.Attribute.{attribute_name}
 
--- a text is this name, whatever the case of its ASCII letters
+-- whether a text is this name, whatever the case of its ASCII letters
 abbrev pub is_named : List ℕ → List ℕ → Bool
 is_named text name = str_eq_ignore_ascii_case text name
 
@@ -19,11 +20,11 @@ named (entry ∷ table) text = if is_named text entry.0 then Some entry.1 else n
 abbrev pub of_length : {A : Type 0} → ℕ → List (List ℕ × A) → List (List ℕ × A)
 of_length n table = filter (λ entry. length entry.0 == n) table
 
--- the aligns that have a name
+-- the alignments that have a name
 abbrev pub align_names : List (List ℕ × Alignment)
 align_names = (codes "left", Left) ∷ (codes "center", Center) ∷ (codes "right", Right) ∷ []
 
--- the name of an align as it is written; one that isn't specified has none
+-- the name of an alignment as it is written; one that isn't specified has none
 abbrev pub align_text : Alignment → List ℕ
 align_text Left = codes "left"
 align_text Center = codes "center"
@@ -51,26 +52,4 @@ attribute_names =
 -- the name of an attribute as it is written; `Reset` has none
 abbrev pub attribute_text : Attribute → List ℕ
 attribute_text Reset = codes ""
-attribute_text Bold = codes "Bold"
-attribute_text Dim = codes "Dim"
-attribute_text Italic = codes "Italic"
-attribute_text Underlined = codes "Underlined"
-attribute_text SlowBlink = codes "SlowBlink"
-attribute_text RapidBlink = codes "RapidBlink"
-attribute_text Reverse = codes "Reverse"
-attribute_text Hidden = codes "Hidden"
-attribute_text CrossedOut = codes "CrossedOut"
-attribute_text Fraktur = codes "Fraktur"
-attribute_text NoBold = codes "NoBold"
-attribute_text NormalIntensity = codes "NormalIntensity"
-attribute_text NoItalic = codes "NoItalic"
-attribute_text NoUnderline = codes "NoUnderline"
-attribute_text NoBlink = codes "NoBlink"
-attribute_text NoReverse = codes "NoReverse"
-attribute_text NoHidden = codes "NoHidden"
-attribute_text NotCrossedOut = codes "NotCrossedOut"
-attribute_text Framed = codes "Framed"
-attribute_text Encircled = codes "Encircled"
-attribute_text OverLined = codes "OverLined"
-attribute_text NotFramedOrEncircled = codes "NotFramedOrEncircled"
-attribute_text NotOverLined = codes "NotOverLined"
+attribute_text a = attribute_name a

@@ -1,7 +1,7 @@
 -- What a text of style tokens says.
 use Rattle.std.specs.Prelude.{◌≡◌, ℕ, List, [], ◌∷◌, Result, Ok, Err, string_bytes}
 use Rattle.mad_parse.specs.Cuts.{token_texts}
-use Rattle.mad_parse.specs.Values.{Fault, unrecognized, bad_color, token_of}
+use Rattle.mad_parse.specs.StyleTokens.{Fault, unrecognized, bad_color, token_of}
 use Rattle.mad_parse.specs.declared.errors.ParseStyleTokenError.{ParseStyleTokenError}
 use Rattle.mad_parse.specs.declared.errors.ParseStyleTokenError.TheVariants as error
 use Rattle.mad_parse.specs.declared.tokens.StyleToken.{StyleToken}
@@ -16,6 +16,7 @@ abbrev pub in_order : Result StyleToken Fault → Result (List StyleToken) Fault
 in_order (Ok t) rest = and_after t rest
 in_order (Err fault) rest = Err fault
 
+-- what the texts of tokens say, one after another
 abbrev pub read_all : List (List ℕ) → Result (List StyleToken) Fault
 read_all [] = Ok []
 read_all (text ∷ texts) = in_order (token_of text) (read_all texts)

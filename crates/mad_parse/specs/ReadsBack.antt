@@ -14,7 +14,7 @@ use Rattle.mad_style.specs.StyledChars.{char_alone, char_style}
 use Rattle.mad_parse.specs.Reading.{tokens_of, said}
 use Rattle.mad_parse.specs.Styles.{style_of, line_style_of, styled_char_of, item_style_of}
 
--- an attribute that is written
+-- whether an attribute is written
 abbrev pub is_written : Attribute → Bool
 is_written Bold = true
 is_written Dim = true
@@ -27,50 +27,54 @@ is_written OverLined = true
 is_written _ = false
 
 -- a color that reads back: none of the three that are read as another or not at all
-abbrev pub IsWrittenColor : Color → Type 0
-IsWrittenColor color.Reset = ⊥
-IsWrittenColor color.Black = ⊥
-IsWrittenColor color.White = ⊥
-IsWrittenColor _ = ⊤
+abbrev pub IsReadBackColor : Color → Type 0
+IsReadBackColor color.Reset = ⊥
+IsReadBackColor color.Black = ⊥
+IsReadBackColor color.White = ⊥
+IsReadBackColor _ = ⊤
 
-abbrev pub IsWrittenOrNone : Option Color → Type 0
-IsWrittenOrNone None = ⊤
-IsWrittenOrNone (Some c) = IsWrittenColor c
+-- a color that reads back, where there is one
+abbrev pub IsReadBackOrNone : Option Color → Type 0
+IsReadBackOrNone None = ⊤
+IsReadBackOrNone (Some c) = IsReadBackColor c
 
--- a style whose colors read back, without a color of its own for the underline, and with no other attributes than those that are written
-pub record IsWrittenStyle (s : CompoundStyle) : Type 0 where
-  pub foreground : IsWrittenOrNone s.object_style.foreground_color
-  pub background : IsWrittenOrNone s.object_style.background_color
+-- A style that reads back: its colors do, and it has no attributes but those that are written. It has no color of its own for
+-- the underline.
+pub record IsReadBackStyle (s : CompoundStyle) : Type 0 where
+  pub foreground : IsReadBackOrNone s.object_style.foreground_color
+  pub background : IsReadBackOrNone s.object_style.background_color
   pub underline : s.object_style.underline_color ≡ None
   pub attributes : (a : Attribute) → is_written a ≡ false → has_attribute s.object_style.attributes a ≡ false
 
 -- such a style of a line, with margins below 65536
-pub record IsWrittenLine (s : LineStyle) : Type 0 where
-  pub style : IsWrittenStyle s.compound_style
+pub record IsReadBackLine (s : LineStyle) : Type 0 where
+  pub style : IsReadBackStyle s.compound_style
   pub left : s.left_margin < 65536
   pub right : s.right_margin < 65536
 
--- such a style of a mark that is neither whitespace nor an ASCII digit
-pub record IsWrittenChar (c : StyledChar) : Type 0 where
-  pub style : IsWrittenStyle (char_style c)
-  pub mark : is_whitespace (char_alone c) ≡ false
+-- such a style of a character that is neither whitespace nor an ASCII digit
+pub record IsReadBackChar (c : StyledChar) : Type 0 where
+  pub style : IsReadBackStyle (char_style c)
+  pub no_whitespace : is_whitespace (char_alone c) ≡ false
   pub no_digit : is_ascii_digit (char_alone c) ≡ false
 
 -- such styles of an ordered item's number and suffix
-pub record IsWrittenItem (s : OrderedItemStyle) : Type 0 where
-  pub index : IsWrittenStyle s.index_style
-  pub suffix : IsWrittenChar s.index_suffix
+pub record IsReadBackItem (s : OrderedItemStyle) : Type 0 where
+  pub index : IsReadBackStyle s.index_style
+  pub suffix : IsReadBackChar s.index_suffix
 
--- what is read of a text is the value that wrote it
+-- what is read of the text that a style is written as is that style
 abbrev pub StyleReadsBack : CompoundStyle → List ℕ → Type 0
-StyleReadsBack s text = IsWrittenStyle s → said style_of (tokens_of text) ≡ Ok s
+StyleReadsBack s text = IsReadBackStyle s → said style_of (tokens_of text) ≡ Ok s
 
+-- the same of a line's style
 abbrev pub LineReadsBack : LineStyle → List ℕ → Type 0
-LineReadsBack s text = IsWrittenLine s → said line_style_of (tokens_of text) ≡ Ok s
+LineReadsBack s text = IsReadBackLine s → said line_style_of (tokens_of text) ≡ Ok s
 
--- whatever the reader takes for a mark where there is none
+-- the same of a character in a style, whatever the reader takes for a character where there is none
 abbrev pub CharReadsBack : StyledChar → List ℕ → Type 0
-CharReadsBack c text = IsWrittenChar c → (default : ℕ) → said (styled_char_of default) (tokens_of text) ≡ Ok c
+CharReadsBack c text = IsReadBackChar c → (default : ℕ) → said (styled_char_of default) (tokens_of text) ≡ Ok c
 
+-- the same of an ordered item's style
 abbrev pub ItemReadsBack : OrderedItemStyle → List ℕ → Type 0
-ItemReadsBack s text = IsWrittenItem s → (default : ℕ) → said (item_style_of default) (tokens_of text) ≡ Ok s
+ItemReadsBack s text = IsReadBackItem s → (default : ℕ) → said (item_style_of default) (tokens_of text) ≡ Ok s

@@ -23,7 +23,7 @@ use Rattle.mad_parse.specs.declared.tokens.StyleToken.TheVariants as token
 abbrev pub written_attributes : List Attribute
 written_attributes = Bold ∷ Dim ∷ Italic ∷ Underlined ∷ Reverse ∷ CrossedOut ∷ Encircled ∷ OverLined ∷ []
 
--- the text of a token; a color or an attribute that is Reset and an align that isn't specified have none
+-- the text of a token; a color or an attribute that is Reset and an alignment that isn't specified have none
 abbrev pub token_text : StyleToken → List ℕ
 token_text (token.Char c) = encode_utf8 c
 token_text (token.Color c) = color_text c
@@ -32,7 +32,7 @@ token_text (token.Align align) = align_text align
 token_text (token.Dimension n) = decimal n
 token_text token.None = codes "none"
 
--- a token has a text
+-- whether a token has a text
 abbrev pub has_text : StyleToken → Bool
 has_text (token.Color color.Reset) = false
 has_text (token.Attribute Reset) = false
@@ -43,21 +43,24 @@ has_text _ = true
 abbrev pub tokens_text : List StyleToken → List ℕ
 tokens_text ts = join_with_byte 32 (map token_text (filter has_text ts))
 
--- the tokens of the colors: no background, and then no token for a foreground that is absent or Reset; else `none` for such a one
+-- one token for a background that is present and not Reset
 abbrev pub background_tokens : Option Color → List StyleToken
 background_tokens None = []
 background_tokens (Some color.Reset) = []
 background_tokens (Some c) = token.Color c ∷ []
 
+-- what is written for a foreground without a token: `none`, where a background is present
 abbrev pub none_unless : Option Color → List StyleToken
 none_unless None = []
 none_unless (Some background) = token.None ∷ []
 
+-- one token for a foreground that is present and not Reset; where a background is present, `none` for one without a token
 abbrev pub foreground_tokens : Option Color → Option Color → List StyleToken
 foreground_tokens None background = none_unless background
 foreground_tokens (Some color.Reset) background = none_unless background
 foreground_tokens (Some c) background = token.Color c ∷ []
 
+-- one token for each attribute of a set that is written
 abbrev pub attribute_tokens : Attributes → List StyleToken
 attribute_tokens s = map token.Attribute (filter (has_attribute s) written_attributes)
 
@@ -67,21 +70,25 @@ style_tokens s =
     foreground_tokens s.object_style.foreground_color s.object_style.background_color
     ++ (background_tokens s.object_style.background_color ++ attribute_tokens s.object_style.attributes)
 
+-- one token for an alignment that is specified
 abbrev pub align_tokens : Alignment → List StyleToken
 align_tokens Unspecified = []
 align_tokens Left = token.Align Left ∷ []
 align_tokens Center = token.Align Center ∷ []
 align_tokens Right = token.Align Right ∷ []
 
+-- two numbers for the margins, the left one first, each 65535 at most; none where both are 0
 abbrev pub margin_tokens : ℕ → ℕ → List StyleToken
 margin_tokens left right = if left + right == 0 then [] else token.Dimension (min left 65535) ∷ token.Dimension (min right 65535) ∷ []
 
+-- the tokens that a line's style is written as: its style, its alignment, its margins
 abbrev pub line_style_tokens : LineStyle → List StyleToken
 line_style_tokens s = style_tokens s.compound_style ++ (align_tokens s.align ++ margin_tokens s.left_margin s.right_margin)
 
--- a mark first, and then its style
+-- a character first, and then its style
 abbrev pub styled_char_tokens : StyledChar → List StyleToken
 styled_char_tokens c = token.Char (char_alone c) ∷ style_tokens (char_style c)
 
+-- the style of the number, and then the suffix in its style
 abbrev pub item_tokens : OrderedItemStyle → List StyleToken
 item_tokens s = style_tokens s.index_style ++ styled_char_tokens s.index_suffix

@@ -116,7 +116,7 @@ fn is_either(text: &str, one: &str, other: &str) -> bool
     text.eq_ignore_ascii_case(one) || text.eq_ignore_ascii_case(other)
 }
 
-/// Writes the name of an attribute; nothing of `Reset`.
+/// Writes the name of an attribute; nothing for `Reset`.
 ///
 /// # Errors
 ///
@@ -129,34 +129,12 @@ pub fn write_attribute<O: Out>(out: &mut O, attribute: Attribute) -> Result<(), 
     Ok(())
 }
 
-/// The name of an attribute; nothing of `Reset`.
+/// The name of an attribute; nothing for `Reset`.
 pub(crate) fn attribute_name(attribute: Attribute) -> &'static str
     ensures { result.now ≡ attribute_text attribute }
 {
     match attribute {
         Attribute::Reset => "",
-        Attribute::Bold => "Bold",
-        Attribute::Dim => "Dim",
-        Attribute::Italic => "Italic",
-        Attribute::Underlined => "Underlined",
-        Attribute::SlowBlink => "SlowBlink",
-        Attribute::RapidBlink => "RapidBlink",
-        Attribute::Reverse => "Reverse",
-        Attribute::Hidden => "Hidden",
-        Attribute::CrossedOut => "CrossedOut",
-        Attribute::Fraktur => "Fraktur",
-        Attribute::NoBold => "NoBold",
-        Attribute::NormalIntensity => "NormalIntensity",
-        Attribute::NoItalic => "NoItalic",
-        Attribute::NoUnderline => "NoUnderline",
-        Attribute::NoBlink => "NoBlink",
-        Attribute::NoReverse => "NoReverse",
-        Attribute::NoHidden => "NoHidden",
-        Attribute::NotCrossedOut => "NotCrossedOut",
-        Attribute::Framed => "Framed",
-        Attribute::Encircled => "Encircled",
-        Attribute::OverLined => "OverLined",
-        Attribute::NotFramedOrEncircled => "NotFramedOrEncircled",
-        Attribute::NotOverLined => "NotOverLined",
+        _ => attribute.name(),
     }
 }

@@ -10,12 +10,13 @@ ghost use Rattle.mad_parse.specs.Names.{named, of_length};
 ghost use Rattle.mad_parse.specs.Numbers.{number_below};
 
 use crate::errors::ParseColorError;
+use mad_style::gray;
 use mad_term::{Color, Error, Out, put_all};
 use std::alloc::Global;
 use std::fmt;
 
-/// The color that a text says, without regard to ASCII case: a name as `red` or `darkgrey`, `ansi(n)`,
-/// `gray(level)`, `rgb(r,g,b)`, or `#` and 3 to 6 hex digits.
+/// The color that a text says, without regard to ASCII case. It may be a name, as `red` or `darkgrey`, or
+/// `ansi(n)`, `gray(level)`, `rgb(r,g,b)`, or `#` and 3 to 6 hex digits.
 ///
 /// # Errors
 ///
@@ -233,7 +234,7 @@ fn gray_color(level: Option<u8>) -> Result<Color, ParseColorError>
     ensures { result ≡ gray_color level }
 {
     match level {
-        Some(level) if level < 24 => Ok(Color::AnsiValue(232 + level)),
+        Some(level) if level < 24 => Ok(gray(level)),
         Some(level) => Err(ParseColorError::InvalidGreyLevel { level }),
         None => Err(ParseColorError::Unrecognized),
     }
@@ -276,7 +277,7 @@ fn byte_of(text: &str) -> Option<u8>
     text.parse::<u8>().ok()
 }
 
-/// Writes the text of a color; nothing of `Reset`.
+/// Writes the text of a color; nothing for `Reset`.
 ///
 /// # Errors
 ///
@@ -310,7 +311,7 @@ impl fmt::Display for ColorText {
     }
 }
 
-// The name of a color; nothing of `Reset` and of the colors that have none.
+// The name of a color; nothing for `Reset` and for the colors that have none.
 fn color_name(color: Color) -> &'static str
     ensures { result.now ≡ color_name color }
 {

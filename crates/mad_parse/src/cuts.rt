@@ -3,14 +3,14 @@
 ghost use Rattle.std.specs.Prelude.{◌≡◌, ◌<◌, ◌++◌, take, length};
 ghost use Rattle.std.specs.List.{prefix_len};
 ghost use Rattle.std.specs.Str.{chars, IsCharBoundary};
-ghost use Rattle.mad_parse.specs.Cuts.{is_run_char, is_inside_char, is_in, bracket_len, token_len};
+ghost use Rattle.mad_parse.specs.Cuts.{is_word_char, is_inside_char, is_in, bracket_len, token_len};
 
 // A kind of characters.
 #[derive(Clone, Copy)]
 pub(crate) enum Class {
-    /// Neither whitespace nor a bracket.
-    Run,
-    /// What may stand in the bracket after a run.
+    /// What a word is of: neither whitespace nor a bracket.
+    Word,
+    /// What may be in the bracket after a word.
     Inside,
 }
 
@@ -19,7 +19,7 @@ impl Class {
         ensures { result ≡ is_in self c }
     {
         match self {
-            Class::Run => !(c.is_whitespace() || c == '(' || c == ')'),
+            Class::Word => !(c.is_whitespace() || c == '(' || c == ')'),
             Class::Inside => {
                 c.is_ascii_alphanumeric() || c == '_' || c == ',' || c.is_whitespace()
             }
@@ -33,7 +33,7 @@ pub(crate) fn cut_token(text: &str) -> (&str, &str)
     ensures whole { result.0.now ++ result.1.now ≡ text.entry.now }
     ensures len { length (chars result.0.now) ≡ token_len (chars text.entry.now) }
 {
-    let end = leading(text, Class::Run);
+    let end = leading(text, Class::Word);
     if end == 0 {
         return text.split_at(first_char_len(text));
     }

@@ -48,10 +48,10 @@ impl fmt::Display for ParseAttributeError {
 
 impl Error for ParseAttributeError {}
 
-/// Why a text is no align.
+/// Why a text is no alignment.
 #[derive(Clone, Copy, Debug, PartialEq, Eq)]
 pub enum ParseAlignError {
-    /// No align is written so.
+    /// No alignment is written so.
     Unrecognized,
 }
 
@@ -68,9 +68,9 @@ impl Error for ParseAlignError {}
 /// Why a text of style tokens is refused.
 #[derive(Debug, Drop, PartialEq)]
 pub enum ParseStyleTokenError {
-    /// The first word that is no token.
+    /// The first text that is no token.
     Unrecognized(String),
-    /// The first word that is no token is a gray of a level that there isn't.
+    /// The first text that is no token, which is a gray above level 23.
     InvalidColor(ParseColorError),
     /// A growth of a list or a text was refused.
     Memory,

@@ -2,13 +2,13 @@
 //!
 //! In the order of the work:
 //!
-//! 1. [`tokens`]: what a token is, and its text; [`aligns`], [`attributes`], [`colors`]: three of its kinds;
-//! 2. [`cuts`]: how a text is cut into tokens; [`parse`]: what they say; [`errors`]: why a text is refused;
-//! 3. [`reading`]: the style that tokens say;
-//! 4. [`values`]: the tokens that a style is written as; [`writing`]: the text of tokens.
+//! 1. [`tokens`]: what a token is, and its text. [`alignments`], [`attributes`], [`colors`]: three of its kinds.
+//! 2. [`cuts`]: how a text is cut into tokens. [`parse`]: what they say. [`errors`]: why a text is refused.
+//! 3. [`reading`]: the style that tokens say.
+//! 4. [`written`]: the tokens that a style is written as. [`writing`]: the text of tokens.
 #![tactic(auto)]
 
-mod aligns;
+mod alignments;
 mod attributes;
 mod colors;
 mod cuts;
@@ -17,10 +17,10 @@ pub mod laws;
 mod parse;
 mod reading;
 mod tokens;
-mod values;
 mod writing;
+mod written;
 
-pub use aligns::{parse_align, write_align};
+pub use alignments::{parse_align, write_align};
 pub use attributes::{parse_attribute, write_attribute};
 pub use colors::{parse_color, write_color};
 pub use errors::{ParseAlignError, ParseAttributeError, ParseColorError, ParseStyleTokenError};
@@ -30,8 +30,8 @@ pub use parse::{
 };
 pub use reading::{compound_style_from, line_style_from};
 pub use tokens::StyleToken;
-pub use values::PushStyleTokens;
 pub use writing::{style_tokens_to_string, write_style_tokens};
+pub use written::PushStyleTokens;
 
 #[cfg(test)]
 mod tests;

@@ -4,11 +4,11 @@ ghost use Rattle.std.specs.Prelude.{◌≡◌, IfOk, IfErr, Ok, codes};
 ghost use Rattle.std.specs.Str.{chars};
 ghost use Rattle.mad_parse.specs.Names.{is_named};
 ghost use Rattle.mad_parse.specs.Numbers.{signed_number_below};
-ghost use Rattle.mad_parse.specs.Values.{token_of, only};
+ghost use Rattle.mad_parse.specs.StyleTokens.{token_of, only};
 ghost use Rattle.mad_parse.specs.Reading.{tokens_of, said, Tells};
 ghost use Rattle.mad_parse.specs.Styles.{style_of, line_style_of, styled_char_of, item_style_of};
 
-use crate::aligns::parse_align;
+use crate::alignments::parse_align;
 use crate::attributes::parse_attribute;
 use crate::colors::parse_color;
 use crate::cuts::cut_token;
@@ -18,7 +18,7 @@ use crate::tokens::StyleToken;
 use mad_style::{CompoundStyle, LineStyle, OrderedItemStyle, StyledChar};
 use std::alloc::Global;
 
-/// What a token says: `none`, a number that is a `u16`, a color, an attribute, an align or a character,
+/// What a token says: `none`, a number that is a `u16`, a color, an attribute, an alignment or a character,
 /// whichever it is first.
 ///
 /// # Errors
@@ -77,9 +77,9 @@ fn only_char(text: &str) -> Option<char>
     }
 }
 
-/// The tokens of a text: a run without whitespace and brackets, with the bracket that stands at once
-/// after it if that holds ASCII letters, digits, `_`, commas and whitespace alone, or else one
-/// character.
+/// The tokens of a text. Each is a word without whitespace and brackets, with the bracket that comes at once
+/// after it, or else one character. The bracket counts if it has ASCII letters, digits, `_`, commas and
+/// whitespace alone, at least one.
 ///
 /// # Errors
 ///
@@ -102,7 +102,7 @@ pub fn parse_style_tokens(
 }
 
 /// The style that a text says: the first color or `none` is the foreground, the last of the later colors the
-/// background. Its characters, aligns and numbers are passed over.
+/// background. Its characters, alignments and numbers are passed over.
 ///
 /// # Errors
 ///
@@ -118,8 +118,8 @@ pub fn parse_compound_style(
     Ok(compound_style_from(&tokens))
 }
 
-/// The style of a line that a text says: the last align, and of its numbers the first as the left margin, the
-/// last of the later ones as the right. Its characters are passed over.
+/// The style of a line that a text says: the last alignment, and the margins. The first number is the left
+/// margin, the last of the later ones the right. Characters are passed over.
 ///
 /// # Errors
 ///
@@ -149,9 +149,9 @@ pub fn parse_styled_char(
     Ok(styled_char_from(&tokens, default))
 }
 
-/// The style of an ordered item that a text says: what comes before its first character is the number's style,
-/// that character and what comes after it the suffix. Without a character all is the number's style, and the
-/// suffix is `default` without style.
+/// The style of an ordered item that a text says: what comes before its first character is the number's style.
+/// That character and what comes after it are the suffix. Without a character all is the number's style, and
+/// the suffix is `default` without style.
 ///
 /// # Errors
 ///

@@ -29,8 +29,8 @@ pub fn compound_style_from(tokens: &[StyleToken]) -> CompoundStyle
     style
 }
 
-/// The style of a line: that of its text, the last align, the first number as its left margin and the
-/// last of the later ones as its right margin.
+/// The style of a line: that of its text, the last alignment, and the margins. The first number is the left
+/// margin, the last of the later ones the right.
 pub fn line_style_from(tokens: &[StyleToken]) -> LineStyle
     ensures { result ≡ line_style_of tokens.now }
 {

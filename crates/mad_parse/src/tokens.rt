@@ -3,7 +3,7 @@
 ghost use Rattle.std.specs.Prelude.{◌≡◌, Some, false};
 ghost use Rattle.mad_parse.specs.Written.{token_text, has_text};
 
-use crate::aligns::align_name;
+use crate::alignments::align_name;
 use crate::attributes::attribute_name;
 use crate::colors::ColorText;
 use mad_md::Alignment;
@@ -13,13 +13,13 @@ use std::fmt;
 /// A word of a text that says a style.
 #[derive(Clone, Copy, Debug, PartialEq)]
 pub enum StyleToken {
-    /// A character that is looked at, as a bullet.
+    /// A character that is drawn, as a bullet.
     Char(char),
     /// The foreground, or the background where the foreground is said already.
     Color(Color),
     /// An attribute.
     Attribute(Attribute),
-    /// Where a line stands.
+    /// On which side a line is.
     Align(Alignment),
     /// A margin, in columns.
     Dimension(u16),
@@ -28,7 +28,7 @@ pub enum StyleToken {
 }
 
 impl StyleToken {
-    /// Whether it has a text: a color or an attribute that is `Reset` and an align that isn't specified have no text.
+    /// Whether it has a text: a color or an attribute that is `Reset` and an alignment that isn't specified have none.
     pub(crate) fn has_text(self) -> bool
         ensures { result ≡ has_text self }
     {

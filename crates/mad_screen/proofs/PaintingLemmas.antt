@@ -1,4 +1,4 @@
--- Characters on the grid.
+-- Characters that are fed to a screen paint their cells: wide ones with their tails, and widthless ones joined.
 use Rattle.std.proofs.Common.{◌≡◌, ⊎_elim, ℕ, suc, zero, ◌+◌, ◌*◌, ◌<◌, ◌≤◌, true, false, cond, eqb, leb, ltb, List, [], ◌∷◌, ◌++◌, length, get_or, set, replicate, Option, Some, None, refl, ap, sym, ◌∙◌, subst, arith, length-append, append_assoc}
 use Rattle.std.specs.Prelude.{IsSome, option_map, unwrap_or}
 use Rattle.std.specs.List.{sum_by}
@@ -18,6 +18,7 @@ use Rattle.mad_screen.proofs.Reading.{nothing_leads, next_leads}
 
 -- ---- painting
 
+-- cells, and then cells after them
 pub painted-append : (g : Grid) (a b : List Glyph) → painted (painted g a) b ≡ painted g (a ++ b)
 unfolding painted
 painted-append g a b =
@@ -27,12 +28,14 @@ painted-append g a b =
     ∙ ap (λ l. record g { cells = l; x = g.x + length a + length b }) (sym (put_list-append g.cells (g.y * g.width + g.x) a b))
     ∙ ap (λ n. record g { cells = put_list g.cells (g.y * g.width + g.x) (a ++ b); x = n }) column
 
+-- no cells change nothing
 pub painted-nil : (g : Grid) → painted g [] ≡ g
 unfolding painted
 painted-nil g =
     let column : g.x + 0 ≡ g.x = omega arith in
     ap (λ n. record g { x = n }) column
 
+-- painted cells leave a grid, where there are columns for them
 pub painted_is_grid : (g : Grid) (gs : List Glyph) → IsGrid g → g.x + length gs ≤ g.width → IsGrid (painted g gs)
 unfolding painted
 painted_is_grid g gs h fits = record {
@@ -50,6 +53,7 @@ painted_columns g gs n m h fits = record {
   columns = omega (arith, h.columns);
 }
 
+-- where columns are free, fewer are
 pub fewer_columns : (g : Grid) (n m : ℕ) → HasColumns g n → m ≤ n → HasColumns g m
 fewer_columns g n m h fits = record { grid = h.grid; row = h.row; columns = omega (arith, h.columns) }
 
@@ -78,6 +82,7 @@ printed_feeds g c w in_rows e =
     ∙ ap (λ b. option_map resting (cond b (put_wide (char_width false c) g c) None)) on_screen
     ∙ ap (λ o. option_map resting (put_wide o g c)) e
 
+-- a character that takes columns paints its cells
 pub wide_feeds : (g : Grid) (c k : ℕ) → char_width false c ≡ Some (suc k) → HasColumns g (suc k) → feed (resting g) c ≡ Some (resting (painted g (glyphs (c ∷ []) k g.pen)))
 wide_feeds g c k e h =
     let fits : g.x + suc k ≤ g.width = h.columns in
@@ -87,6 +92,7 @@ wide_feeds g c k e h =
 
 -- ---- a widthless character
 
+-- the first cell to the left that is no tail, over k tails
 pub head_found : (cells : List Glyph) (start x k : ℕ) → ((i : ℕ) → i < k → is_tail (get_or cells (start + (x + suc i)) blank) ≡ true) → is_tail (get_or cells (start + x) blank) ≡ false → head_before cells start (x + suc k) ≡ Some (start + x)
 head_found cells start x zero tails head =
     let next : x + 1 ≡ suc x = omega arith in
@@ -113,10 +119,10 @@ tail_there g chars k i h below =
     ∙ put_list-same g.cells (g.y * g.width + g.x) (glyphs chars k g.pen) (suc i) blank (omega arith) (omega (arith, rest_fits g (suc k) h))
     ∙ get_or-replicate k i (record { chars = []; pen = g.pen }) blank below
 
--- it joins the character before it
-pub mark_feeds : (g : Grid) (c m k : ℕ) (done : List ℕ) → HasColumns g (suc k) → char_width false m ≡ Some 0 → feed (resting (painted g (glyphs (c ∷ done) k g.pen))) m ≡ Some (resting (painted g (glyphs (c ∷ (done ++ m ∷ [])) k g.pen)))
+-- a widthless character joins the character before it
+pub widthless_feeds : (g : Grid) (c m k : ℕ) (done : List ℕ) → HasColumns g (suc k) → char_width false m ≡ Some 0 → feed (resting (painted g (glyphs (c ∷ done) k g.pen))) m ≡ Some (resting (painted g (glyphs (c ∷ (done ++ m ∷ [])) k g.pen)))
 unfolding painted
-mark_feeds g c m k done h e =
+widthless_feeds g c m k done h e =
     let start = g.y * g.width in
     let G : Glyph = record { chars = c ∷ done; pen = g.pen } in
     let T : List Glyph = replicate k (record { chars = []; pen = g.pen }) in
@@ -135,6 +141,7 @@ mark_feeds g c m k done h e =
 
 -- ---- a text
 
+-- how many cells a character takes
 pub length-glyphs : (chars : List ℕ) (k : ℕ) (pen : Look) → length (glyphs chars k pen) ≡ suc k
 length-glyphs chars k pen = ap suc (length-replicate k (record { chars = []; pen = pen }))
 
@@ -147,7 +154,7 @@ unfolding painted
 rest_step None d cs e some ih g c done k h = absurd (false≢true some)
 rest_step (Some zero) d cs e some ih g c done k h =
     let j : List ℕ × List Glyph = joined g.pen cs in
-    next_leads _ _ _ _ _ (mark_feeds g c d k done (fewer_columns g (suc k + length j.1) (suc k) h (omega arith)) e)
+    next_leads _ _ _ _ _ (widthless_feeds g c d k done (fewer_columns g (suc k + length j.1) (suc k) h (omega arith)) e)
     (subst (λ (l : List ℕ). Leads (resting (painted g (glyphs (c ∷ (done ++ d ∷ [])) k g.pen))) cs (resting (painted g (glyphs (c ∷ l) k g.pen ++ j.1)))) (append_assoc done (d ∷ []) j.0)
     (ih g c (done ++ d ∷ []) k h))
 rest_step (Some (suc n)) d cs e some ih g c done k h =

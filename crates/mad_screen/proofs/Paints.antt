@@ -1,4 +1,4 @@
--- What bytes paint, from pieces to rows. These are the lemmas that drawing is proved by.
+-- The cells that bytes paint: of a text, of a piece, of texts one after another. Drawing is proved by these lemmas.
 use Rattle.std.proofs.Common.{◌≡◌, ℕ, suc, zero, ◌+◌, ◌<◌, false, cond, List, [], ◌∷◌, ◌++◌, length, replicate, Option, Some, None, refl, ap, sym, ◌∙◌, subst, arith, length-append, append_assoc, IsUtf8}
 use Rattle.std.specs.Prelude.{IsAscii, IsSome, option_and_then, unwrap_or}
 use Rattle.std.specs.List.{AllByRecursion, flat_map}
@@ -19,6 +19,7 @@ use Rattle.mad_screen.proofs.StyleLemmas.{piece_paints}
 
 -- ---- from bytes to characters
 
+-- bytes are read as their characters are
 pub read_leads : (g new : Grid) (bytes : List ℕ) → IsUtf8 bytes → Leads (resting g) (chars bytes) (resting new) → after_bytes g bytes ≡ Some new
 unfolding after_bytes Leads
 read_leads g new bytes text h =
@@ -80,16 +81,16 @@ paints_row text cells (x ∷ xs) h = paints_both (text x) (flat_map text xs) (ce
 
 -- ---- texts in one pen
 
-no_marks_by : (o : Option ℕ) (pen : Look) (c : ℕ) (r : List ℕ × List Glyph) → 0 < unwrap_or o 0 → (attach o pen c r).0 ≡ []
-no_marks_by None pen c r h = absurd (omega arith)
-no_marks_by (Some zero) pen c r h = absurd (omega arith)
-no_marks_by (Some (suc k)) pen c r h = refl
+no_widthless_by : (o : Option ℕ) (pen : Look) (c : ℕ) (r : List ℕ × List Glyph) → 0 < unwrap_or o 0 → (attach o pen c r).0 ≡ []
+no_widthless_by None pen c r h = absurd (omega arith)
+no_widthless_by (Some zero) pen c r h = absurd (omega arith)
+no_widthless_by (Some (suc k)) pen c r h = refl
 
--- no widthless character waits for one before it
-no_marks : (pen : Look) (cs : List ℕ) → IsWhole cs → (joined pen cs).0 ≡ []
+-- a text that begins with a character of columns has no widthless ones in front
+no_widthless : (pen : Look) (cs : List ℕ) → IsWhole cs → (joined pen cs).0 ≡ []
 unfolding char_columns
-no_marks pen [] h = refl
-no_marks pen (c ∷ cs) h = no_marks_by (char_width false c) pen c (joined pen cs) h
+no_widthless pen [] h = refl
+no_widthless pen (c ∷ cs) h = no_widthless_by (char_width false c) pen c (joined pen cs) h
 
 attach_more : (o : Option ℕ) (pen : Look) (c : ℕ) (r : List ℕ × List Glyph) (gs : List Glyph) → attach o pen c (r.0, r.1 ++ gs) ≡ ((attach o pen c r).0, (attach o pen c r).1 ++ gs)
 attach_more None pen c r gs = refl
@@ -102,9 +103,10 @@ joined_both pen (c ∷ a) b h = ap (attach (char_width false c) pen c) (joined_b
 
 -- the cells of one text and then another, which begins with a character that takes columns
 pub cells_both : (pen : Look) (a b : List ℕ) → IsWhole b → cells_of pen (a ++ b) ≡ cells_of pen a ++ cells_of pen b
-cells_both pen a b whole = ap (λ (p : List ℕ × List Glyph). p.1) (joined_both pen a b (no_marks pen b whole))
+cells_both pen a b whole = ap (λ (p : List ℕ × List Glyph). p.1) (joined_both pen a b (no_widthless pen b whole))
 
-printed_both : (a b : List ℕ) → IsPrinted a → IsPrinted b → IsPrinted (a ++ b)
+-- no control characters in one text nor in another
+pub printed_both : (a b : List ℕ) → IsPrinted a → IsPrinted b → IsPrinted (a ++ b)
 printed_both [] b p q = q
 printed_both (c ∷ a) b p q = (p.0, printed_both a b p.1 q)
 
@@ -112,6 +114,7 @@ whole_both : (a b : List ℕ) → IsWhole a → IsWhole b → IsWhole (a ++ b)
 whole_both [] b p q = q
 whole_both (c ∷ a) b p q = p
 
+-- nothing shows cells of its own, and so do two texts that do
 pub shown_nothing : IsShown []
 shown_nothing = record { printed = tt; whole = tt }
 
@@ -136,13 +139,15 @@ spaces_whole : (n : ℕ) → IsWhole (replicate n 32)
 spaces_whole zero = tt
 spaces_whole (suc n) = omega (arith, space_columns)
 
+-- spaces show cells of their own
 pub spaces_shown : (n : ℕ) → IsShown (replicate n 32)
 spaces_shown n = record { printed = spaces_printed n; whole = spaces_whole n }
 
+-- and each is one cell
 pub spaces_cells : (pen : Look) (n : ℕ) → cells_of pen (replicate n 32) ≡ replicate n (record { chars = 32 ∷ []; pen = pen })
 spaces_cells pen zero = refl
 spaces_cells pen (suc n) =
     let rest : List ℕ × List Glyph = joined pen (replicate n 32) in
     ap (λ (o : Option ℕ). (attach o pen 32 rest).1) space_width
-    ∙ ap (λ (l : List ℕ). glyphs (32 ∷ l) 0 pen ++ rest.1) (no_marks pen (replicate n 32) (spaces_whole n))
+    ∙ ap (λ (l : List ℕ). glyphs (32 ∷ l) 0 pen ++ rest.1) (no_widthless pen (replicate n 32) (spaces_whole n))
     ∙ ap (λ (l : List Glyph). record { chars = 32 ∷ []; pen = pen } ∷ l) (spaces_cells pen n)

@@ -139,8 +139,7 @@ parts_leads g p s (a ∷ rest) k some at =
     (part_leads g p s a k (has_attribute s a) refl some at.0)
     (parts_leads g p s rest (suc k) (omega arith) at.1))
 
--- all attributes of a set, where the codes were empty; Reset makes the pen plain first
--- the colors that stay before the attributes of a set
+-- the colors that a pen keeps before the attributes of a set: none where one is Reset, which makes the pen plain
 abbrev colors_of : Bool → Look → Look
 colors_of true p = plain_pen
 colors_of false p = p

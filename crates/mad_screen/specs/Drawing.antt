@@ -64,6 +64,7 @@ pub record Strip : Type 0 where
   pub bytes : List ℕ
   pub cells : List Glyph
 
+-- strips one after another: to each the cursor goes first
 abbrev pub strips_bytes : List Strip → List ℕ
 strips_bytes = flat_map (λ s. move_to_bytes s.x s.y ++ s.bytes)
 

@@ -4,8 +4,8 @@ use Rattle.mad_term.specs.declared.color.Color.{Color}
 use Rattle.mad_screen.specs.declared.pen.Pen as pens
 use Rattle.mad_term.specs.Attributes.{attribute_bits}
 
--- A pen as the definitions see it: three colors, `None` for the terminal's default, and the set of attributes as a
--- number, one bit for each at its index.
+-- A pen as the definitions see it: three colors, `None` for the terminal's default, and a set of attributes. The set is a
+-- number, with one bit for each attribute at its index.
 pub record Look : Type 0 where
   pub fg : Option Color
   pub bg : Option Color

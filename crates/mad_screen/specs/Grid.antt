@@ -10,8 +10,8 @@ plain_pen = record { fg = None; bg = None; underline = None; codes = 0 }
 abbrev pub blank : Glyph
 blank = record { chars = 32 ∷ []; pen = plain_pen }
 
--- the cells are the rows from the top, each from the left; the cursor is at column x of row y, and x is the width
--- once the row's last column was written
+-- A screen. Its cells are the rows from the top, each from the left. The cursor is at column x of row y, and x is the width
+-- once the row's last column was written.
 pub record Grid : Type 0 where
   pub width : ℕ
   pub height : ℕ

@@ -3,7 +3,7 @@ pub mod Glyph
 pub mod Grid
 pub mod Painting
 pub mod Pictures
+pub mod Readers
 pub mod Refusals
-pub mod Stages
 pub mod Terminal
 pub mod TerminalLaws

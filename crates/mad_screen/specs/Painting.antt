@@ -71,8 +71,8 @@ abbrev pub shown_color : Color → Option Color
 shown_color (Rgb r g b) = Some (Rgb r g b)
 shown_color c = option_map AnsiValue (color_number c)
 
--- the pen that a style writes with, where the pen was plain: Reset comes after the colors, before the other attributes,
--- and isn't kept itself (2 ^ 24 - 2 ^ 1 has the bits of all attributes but Reset)
+-- The pen that a style writes with, where the pen was plain. Reset comes after the colors, before the other attributes, and
+-- isn't kept itself. 2 ^ 24 - 2 ^ 1 has the bits of all attributes but Reset.
 abbrev pub look_of_style : ContentStyle → Look
 look_of_style s =
     let codes = bit_and (attribute_bits s.attributes) (2 ^ 24 - 2 ^ 1) in

@@ -20,14 +20,14 @@ row_text cells = flat_map cell_text cells
 abbrev pub row_cells : Grid → ℕ → List Glyph
 row_cells g y = take g.width (drop (y * g.width) g.cells)
 
--- this many rows of a screen, from the top, each as a line that a newline (10) ends
-abbrev pub rows_text : Grid → ℕ → List ℕ
-rows_text g zero = []
-rows_text g (suc y) = rows_text g y ++ (row_text (row_cells g y) ++ 10 ∷ [])
+-- the first rows of a screen, n of them, each with the text that f gives its cells and a newline (10)
+abbrev pub lines_text : (List Glyph → List ℕ) → Grid → ℕ → List ℕ
+lines_text f g zero = []
+lines_text f g (suc n) = lines_text f g n ++ (f (row_cells g n) ++ 10 ∷ [])
 
--- all its rows
+-- all its rows, each with its characters
 abbrev pub screen_text : Grid → List ℕ
-screen_text g = rows_text g g.height
+screen_text g = lines_text row_text g g.height
 
 -- whether two colors are one
 abbrev pub same_color : Color → Color → Bool
@@ -41,8 +41,8 @@ same_look a b = option_eq same_color a.fg b.fg && (option_eq same_color a.bg b.b
 abbrev pub is_plain : Look → Bool
 is_plain pen = is_none pen.fg && is_none pen.bg && is_none pen.underline && pen.codes == 0
 
--- Whether a pen gets the next letter, after these pens: it isn't the default one, has no letter yet, and one of the 26 letters is
--- left.
+-- Whether a pen gets the next letter, after these pens. It isn't the default one and has no letter yet, and one of the 26
+-- is left.
 abbrev pub gets_letter : List Look → Look → Bool
 gets_letter known pen = nat_lt (length known) 26 && (not (is_plain pen) && not (list_any (λ k. same_look k pen) known))
 
@@ -68,7 +68,6 @@ letter_of known pen = if is_plain pen then 46 else nth_letter (position (λ k. s
 abbrev pub row_letters : List Look → List Glyph → List ℕ
 row_letters known cells = flat_map (λ cell. encode (letter_of known cell.pen)) cells
 
--- this many rows of a screen, from the top, each cell as its pen's letter and each row as a line
-abbrev pub letters_text : List Look → Grid → ℕ → List ℕ
-letters_text known g zero = []
-letters_text known g (suc y) = letters_text known g y ++ (row_letters known (row_cells g y) ++ 10 ∷ [])
+-- all its rows, each with its pens' letters
+abbrev pub letters_text : List Look → Grid → List ℕ
+letters_text known g = lines_text (row_letters known) g g.height

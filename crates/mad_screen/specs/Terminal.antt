@@ -57,13 +57,15 @@ space_of p = record { chars = 32 ∷ []; pen = record plain_pen { bg = p.bg } }
 unfoldable pub erased : ℕ → ℕ → Grid → Grid
 erased from to g = record g { cells = put_list g.cells from (replicate (to - from) (space_of g.pen)) }
 
--- the indexes where the cursor's row begins and ends, and where the screen ends; cells are counted along the rows
+-- the index where the cursor's row begins; cells are counted along the rows
 abbrev pub row_start : Grid → ℕ
 row_start g = g.y * g.width
 
+-- the index where it ends
 abbrev pub row_end : Grid → ℕ
 row_end g = g.y * g.width + g.width
 
+-- the index where the screen ends
 abbrev pub screen_end : Grid → ℕ
 screen_end g = g.height * g.width
 
@@ -90,7 +92,7 @@ switched_on a p = record p { codes = bit_or p.codes (2 ^ attribute_index a) }
 abbrev pub attribute_of : ℕ → Option Attribute
 attribute_of n = find (λ a. attribute_code a == n) all_attributes
 
--- the default color for characters, for their background or for the lines below, or an attribute
+-- the default color for characters (39), for their background (49) or for the lines below (59), or an attribute
 abbrev pub with_code : ℕ → Look → Option Look
 with_code n p =
     if n == 39 then Some (record p { fg = None })
@@ -98,7 +100,7 @@ with_code n p =
     else if n == 59 then Some (record p { underline = None })
     else option_map (λ a. switched_on a p) (attribute_of n)
 
--- a color for characters, for their background or for the lines below
+-- a color for characters (38), for their background (48) or for the lines below (58)
 abbrev pub with_color : ℕ → Color → Look → Option Look
 with_color n c p =
     if n == 38 then Some (record p { fg = Some c })
@@ -124,7 +126,8 @@ perform c ps g =
 
 -- ---- sequences
 
--- how far a sequence has come: outside one, after ESC, or among the numbers, with those read so far and what there is of the next
+-- How far a sequence has come: outside one, after ESC, or among the numbers. These come with those read so far, and with what
+-- there is of the next.
 pub data Mode : Type 0 where
   Outside : Mode
   Escape : Mode

@@ -68,6 +68,7 @@ pub record PaintsPositions (g : Grid) (cells : List Glyph) : Type 0 where
   pub row : (painted g cells).y ≡ g.y
   pub pen : (painted g cells).pen ≡ g.pen
 
+-- painted cells are at their positions alone
 abbrev pub ChangesNoOtherPosition : Type 0
 ChangesNoOtherPosition = (g : Grid) (cells : List Glyph) → HasColumns g (length cells) → PaintsPositions g cells
 

@@ -96,7 +96,7 @@ pub(crate) fn lay(
     Ok(())
 }
 
-/// Makes spaces with the pen's background of the cells from one index up to another, as far as there are cells.
+/// Puts spaces with the pen's background into the cells from index `from` up to `to`, as far as there are cells.
 pub(crate) fn erase(
     cells: &mut Vec<Cell>,
     from: usize,

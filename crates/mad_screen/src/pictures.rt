@@ -61,8 +61,8 @@ impl fmt::Display for Screen {
 
 /// The looks of a screen's cells as a picture: a letter for each pen, a point for the default one.
 ///
-/// The letters go to the pens in the order in which they first appear, row by row: `a` for the first pen that isn't
-/// the default one, `b` for the second, up to `z`. A pen that comes when all letters are taken is a question mark.
+/// The letters go to the pens in the order in which they first appear, row by row. The first pen that isn't the default
+/// one gets `a`, the second `b`, up to `z`. A pen that comes when all letters are taken is a question mark.
 #[derive(Debug, Drop)]
 pub struct Looks<'a> {
     screen: &'a Screen,
@@ -126,7 +126,7 @@ impl fmt::Display for Looks<'_> {
     ghost use Rattle.std.specs.Prelude.{Some};
     ghost use Rattle.mad_screen.specs.Pictures.{letters_text};
 
-    ghost output = { λ looks. Some (letters_text (map look_of looks.pens.items) looks.screen.now looks.screen.now.height) };
+    ghost output = { λ looks. Some (letters_text (map look_of looks.pens.items) looks.screen.now) };
 
     /// The letters row by row, each row as a line.
     fn fmt<W: fmt::Write>(&self, f: &mut fmt::Formatter<W>) -> fmt::Result {

@@ -2,7 +2,7 @@
 
 ghost use Rattle.std.specs.Prelude.{◌≡◌, ◌<◌, None, Some, IfOk, MatchBool, chars};
 ghost use Rattle.mad_screen.specs.Terminal.{feed, feed_all, settled, with_digit, resting};
-ghost use Rattle.mad_screen.specs.Stages.{reading_of};
+ghost use Rattle.mad_screen.specs.Readers.{reading_of};
 
 use crate::screen::Screen;
 use std::alloc::{AllocError, Global};
@@ -10,19 +10,24 @@ use std::fmt;
 
 /// How far a sequence has come.
 #[derive(Clone, Copy, Debug, PartialEq, Eq)]
-pub(crate) enum Stage {
-    Text,
-    Escaped,
-    InNumbers,
+pub(crate) enum Mode {
+    /// Outside a sequence.
+    Outside,
+    /// After ESC.
+    Escape,
+    /// Among the numbers.
+    Numbers,
 }
 
 /// A screen in the middle of a text.
 #[derive(Drop)]
 pub(crate) struct Reader {
     screen: Screen,
-    stage: Stage,
+    mode: Mode,
+    // The numbers that are read.
     numbers: Vec<u32>,
-    now: Option<u32>,
+    // What there is of the next number.
+    digits: Option<u32>,
 }
 
 /// Why a text was not read.
@@ -30,7 +35,7 @@ pub(crate) struct Reader {
 pub enum NotPlain {
     /// The plain terminal can't read it.
     Undefined,
-    /// There was not the memory for it.
+    /// Out of memory.
     Memory,
 }
 
@@ -80,30 +85,30 @@ impl Reader {
         Reader {
             screen,
             numbers: Vec::new(alloc),
-            stage: Stage::Text,
-            now: None,
+            mode: Mode::Outside,
+            digits: None,
         }
     }
 
     /// A character among numbers. It answers whether it may come there.
     fn number(&mut self, c: char) -> Result<bool, AllocError>
-        requires { self.old.stage ≡ Stage.InNumbers }
+        requires { self.old.mode ≡ Mode.Numbers }
         ensures { IfOk result (λ done. MatchBool done (feed (reading_of self.old) c ≡ Some (reading_of self.new)) (feed (reading_of self.old) c ≡ None)) }
     {
         if '0' <= c && c <= '9' {
-            self.now = with_digit(self.now, c as u32 - 48);
-            return Ok(self.now.is_some());
+            self.digits = with_digit(self.digits, c as u32 - 48);
+            return Ok(self.digits.is_some());
         }
-        match self.now {
+        match self.digits {
             Some(n) => self.numbers.push(n)?,
             None if self.numbers.is_empty() => {}
             None => return Ok(false),
         }
-        if c == ';' && self.now.is_some() {
-            self.now = None;
+        if c == ';' && self.digits.is_some() {
+            self.digits = None;
             return Ok(true);
         }
-        self.stage = Stage::Text;
+        self.mode = Mode::Outside;
         self.screen.perform(c, &self.numbers)
     }
 
@@ -111,24 +116,24 @@ impl Reader {
     fn feed(&mut self, c: char) -> Result<bool, AllocError>
         ensures { IfOk result (λ done. MatchBool done (feed (reading_of self.old) c ≡ Some (reading_of self.new)) (feed (reading_of self.old) c ≡ None)) }
     {
-        match self.stage {
-            Stage::Text => {
+        match self.mode {
+            Mode::Outside => {
                 if c == '\x1b' {
-                    self.stage = Stage::Escaped;
+                    self.mode = Mode::Escape;
                     return Ok(true);
                 }
                 self.screen.put(c)
             }
-            Stage::Escaped => {
+            Mode::Escape => {
                 if c != '[' {
                     return Ok(false);
                 }
                 self.numbers.clear();
-                self.now = None;
-                self.stage = Stage::InNumbers;
+                self.digits = None;
+                self.mode = Mode::Numbers;
                 Ok(true)
             }
-            Stage::InNumbers => self.number(c),
+            Mode::Numbers => self.number(c),
         }
     }
 
@@ -138,18 +143,18 @@ impl Reader {
     {
         let Reader {
             screen,
-            stage,
+            mode,
             numbers: _,
-            now: _,
+            digits: _,
         } = self;
-        match stage {
-            Stage::Text => Some(screen),
+        match mode {
+            Mode::Outside => Some(screen),
             _ => None,
         }
     }
 
     /// Characters, one after another. It answers whether the terminal can read them.
-    pub(crate) fn run(&mut self, text: &str) -> Result<bool, AllocError>
+    pub(crate) fn feed_all(&mut self, text: &str) -> Result<bool, AllocError>
         ensures { IfOk result (λ done. MatchBool done (feed_all (chars text.now) (reading_of self.old) ≡ Some (reading_of self.new)) (feed_all (chars text.now) (reading_of self.old) ≡ None)) }
     {
         for c in text.chars() {

@@ -16,15 +16,23 @@ use unicode_width::UnicodeWidthChar;
 
 /// The screen of a plain terminal: rows of cells, a cursor and a pen.
 ///
-/// It reads characters and the sequences that this crate writes, exactly as they are written: moves (`ESC[row;columnH`,
-/// counted from one), one color or one attribute in a command (`ESC[..m`) and erasures (`ESC[J`, `ESC[1J`, `ESC[2J`,
-/// `ESC[K`, `ESC[2K`). A character takes the columns that `unicode_width` gives it, itself in the first and tails in the
-/// others; a widthless one joins the first cell to the left that is no tail. Half of a wide character can be overwritten,
-/// and the other half stays. Erasing leaves spaces with the pen's background alone, and the cursor where it was.
+/// It reads characters and the sequences that this library writes, exactly as they are written:
 ///
-/// All else is undefined: other sequences, numbers with a leading zero or missing, colors past 255, a move off the screen
-/// (also to the column past the last), a character without room before the right edge, a widthless one in column 0, a
-/// control character. A screen may have no rows or no columns; every character on it is undefined.
+/// - moves, `ESC[row;columnH`, counted from one;
+/// - one color or one attribute in a command, `ESC[..m`;
+/// - erasures, `ESC[J`, `ESC[1J`, `ESC[2J`, `ESC[K` and `ESC[2K`.
+///
+/// A character takes the columns that `unicode_width` gives it, itself in the first and tails in the others. A widthless one
+/// joins the first cell to the left that is no tail. Half of a wide character can be overwritten, and the other half stays.
+/// Erasing leaves spaces with the pen's background alone, and the cursor where it was.
+///
+/// All else is undefined:
+///
+/// - another sequence, a number with a leading zero or a missing one, a color past 255;
+/// - a move off the screen, also to the column past the last;
+/// - a character without room before the right edge, a widthless one in column 0, a control character.
+///
+/// A screen may have no rows or no columns; every character on it is undefined.
 #[derive(Debug, Drop)]
 pub struct Screen {
     width: u16,
@@ -48,7 +56,7 @@ impl Model for Screen {
 
 impl Screen {
     /// An empty screen of `width` columns and `height` rows: spaces in the default pen, the cursor at the first position.
-    /// It keeps the allocator, and fails where there is not the memory.
+    /// It keeps the allocator. Out of memory is the only error.
     pub fn new(alloc: Global, width: u16, height: u16) -> Result<Self, AllocError>
         ensures { IfOk result (λ screen. screen ≡ empty_grid width height) }
     {
@@ -124,15 +132,15 @@ impl Screen {
         *self.cells.allocator()
     }
 
-    /// Reads a text: characters in UTF-8, and the sequences that this crate writes. A text that comes in parts can be
+    /// Reads a text: characters in UTF-8, and the sequences that this library writes. A text that comes in parts can be
     /// read part by part, if no part ends inside a character or a sequence.
     ///
     /// It takes time that grows with the screen too, since the text is read on a copy.
     ///
     /// # Errors
     ///
-    /// `Undefined` where a plain terminal can't read the text, and `Memory` where there is not the memory to. The screen
-    /// is then as it was.
+    /// `Undefined` where a plain terminal can't read the text, and `Memory` for out of memory. The screen is then as it
+    /// was.
     pub fn read_bytes(&mut self, bytes: &[u8]) -> Result<(), NotPlain>
         ensures read { OnOk result (after_bytes self.old bytes.now ≡ Some self.new) }
         ensures not_plain { IsErrOf result NotPlain.Undefined → after_bytes self.old bytes.now ≡ None }
@@ -142,7 +150,7 @@ impl Screen {
             return Err(NotPlain::Undefined);
         };
         let mut reader = Reader::new(*self.cells.allocator(), self.copy()?);
-        if !reader.run(text)? {
+        if !reader.feed_all(text)? {
             return Err(NotPlain::Undefined);
         }
         let Some(screen) = reader.finish() else {

@@ -2,5 +2,5 @@ pub mod Borders
 pub mod CompoundStyles
 pub mod Kinds
 pub mod LineStyles
-pub mod Runs
+pub mod Repeats
 pub mod StyledChars

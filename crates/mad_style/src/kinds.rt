@@ -1,4 +1,4 @@
-//! The kinds of composites, and how the later lines of an item are pushed in.
+//! The kinds of composites, and how the later lines of an item are indented.
 
 ghost use Rattle.std.specs.Prelude.{◌≡◌};
 
@@ -42,7 +42,7 @@ impl From<CompositeStyle> for CompositeKind {
     }
 }
 
-/// How the later lines of a list's item are pushed in.
+/// How the later lines of a list's item are indented.
 #[derive(Clone, Copy, Debug, PartialEq)]
 pub enum ListItemsIndentationMode {
     /// Not at all.

@@ -28,7 +28,7 @@ pub use borders::{
 pub use colors::{ansi, gray, rgb};
 pub use compound_styles::{ATTRIBUTES, CompoundStyle};
 pub use kinds::{CompositeKind, ListItemsIndentationMode};
-pub use line_styles::LineStyle;
+pub use line_styles::{LEAST_WIDTH, LineStyle};
 pub use ordered_items::{MAX_ORDERED_LIST_DEPTH, OrderedItemStyle, ordered_item_indent};
 pub use scroll_bars::ScrollBarStyle;
 pub use styled_chars::StyledChar;

@@ -10,6 +10,9 @@ use mad_md::Alignment;
 use mad_term::{Attribute, Color, Error, Out};
 use std::alloc::Global;
 
+/// The least width of a line, in columns: in less no text is laid out.
+pub const LEAST_WIDTH: usize = 3;
+
 /// How the text of a line looks, on which side it is, and how many columns stay free on its left
 /// and on its right.
 #[derive(Clone, Copy, Debug, PartialEq)]
@@ -47,7 +50,7 @@ impl From<CompoundStyle> for LineStyle {
 impl LineStyle {
     ghost use Rattle.mad_style.specs.CompoundStyles.{foreground_set, background_set, attribute_added};
     ghost use Rattle.mad_style.specs.LineStyles.{unmargined, margins_at};
-    ghost use Rattle.mad_style.specs.Runs.{run_bytes};
+    ghost use Rattle.mad_style.specs.Repeats.{repeat_bytes};
 
     /// A style without margins.
     pub fn new(compound_style: CompoundStyle, align: Alignment) -> Self
@@ -61,15 +64,14 @@ impl LineStyle {
         }
     }
 
-    /// The left and the right margin of a line of `width` columns: none where they would leave less than
-    /// three columns, which is too few to lay a line out in, and else both. Without a width there is room
-    /// for both.
+    /// The left and the right margin of a line of `available_width` columns: none where they would leave less
+    /// than [`LEAST_WIDTH`], and else both. Without a width there is room for both.
     pub fn margins_in(&self, available_width: Option<usize>) -> (usize, usize)
         ensures { result ≡ margins_at self.now available_width }
     {
         if let Some(width) = available_width {
             // Margins may be so large that their sum is no `usize`.
-            let needed = self.left_margin as u128 + self.right_margin as u128 + 3;
+            let needed = self.left_margin as u128 + self.right_margin as u128 + LEAST_WIDTH as u128;
             if (width as u128) < needed {
                 return (0, 0);
             }
@@ -117,7 +119,7 @@ impl LineStyle {
         text: &str,
         count: usize,
     ) -> Result<(), Error>
-        ensures writes { Draws (O.seen out.old) (run_bytes self.now.compound_style text.now count) result (O.seen out.new) }
+        ensures writes { Draws (O.seen out.old) (repeat_bytes self.now.compound_style text.now count) result (O.seen out.new) }
         ensures early { IsErrOf result Memory → O.seen out.new ≡ O.seen out.old }
         ensures bytes { IsStyle self.now.compound_style.object_style }
     {
@@ -136,7 +138,7 @@ impl LineStyle {
         c: char,
         count: usize,
     ) -> Result<(), Error>
-        ensures writes { Draws (O.seen out.old) (run_bytes self.now.compound_style (encode_utf8 c) count) result (O.seen out.new) }
+        ensures writes { Draws (O.seen out.old) (repeat_bytes self.now.compound_style (encode_utf8 c) count) result (O.seen out.new) }
         ensures early { IsErrOf result Memory → O.seen out.new ≡ O.seen out.old }
         ensures bytes { IsStyle self.now.compound_style.object_style }
     {
@@ -154,7 +156,7 @@ impl LineStyle {
         out: &mut O,
         count: usize,
     ) -> Result<(), Error>
-        ensures writes { Draws (O.seen out.old) (run_bytes self.now.compound_style (32 ∷ []) count) result (O.seen out.new) }
+        ensures writes { Draws (O.seen out.old) (repeat_bytes self.now.compound_style (32 ∷ []) count) result (O.seen out.new) }
         ensures early { IsErrOf result Memory → O.seen out.new ≡ O.seen out.old }
         ensures bytes { IsStyle self.now.compound_style.object_style }
     {

@@ -1,4 +1,4 @@
-//! How the numbers of an ordered list look, and how far they push its items in.
+//! How the numbers of an ordered list look, and how far its items are indented.
 
 ghost use Rattle.std.specs.Prelude.{◌≡◌, ◌+◌, length, decimal};
 ghost use Rattle.mad_term.specs.declared.color.Color.TheVariants.{AnsiValue};
@@ -47,8 +47,8 @@ impl OrderedItemStyle {
     }
 }
 
-/// The columns in front of the text of an item of an ordered list: a column for each level and each
-/// digit of its number, and one each for the character and the space after it.
+/// The columns in front of the text of an item of an ordered list: one for each level and each digit of
+/// its number. The character and the space after the number take one each.
 pub fn ordered_item_indent(level: u8, index: u32) -> usize
     ensures { result ≡ length (decimal index) + 2 + level }
 {

@@ -11,13 +11,13 @@ ghost use Rattle.mad_term.specs.Styles.{foreground_bytes, background_bytes, pres
 use crate::compound_styles::CompoundStyle;
 use crate::styled_chars::StyledChar;
 use mad_term::{
-    ClearType, Error, Out, StyledContent, push_background, push_clear, push_styled, put_all,
+    ClearType, Error, Out, StyledContent, StyledRepeat, push_background, push_clear, put_all,
     queue_styled,
 };
 use std::alloc::{AllocError, Global};
 
 impl CompoundStyle {
-    ghost use Rattle.mad_style.specs.Runs.{run_bytes};
+    ghost use Rattle.mad_style.specs.Repeats.{repeat_bytes};
     ghost use Rattle.mad_style.specs.StyledChars.{styled_char};
 
     /// A text in this style, as a piece.
@@ -133,7 +133,7 @@ impl CompoundStyle {
         text: &str,
         count: usize,
     ) -> Result<(), Error>
-        ensures writes { Draws (O.seen out.old) (run_bytes self.now text.now count) result (O.seen out.new) }
+        ensures writes { Draws (O.seen out.old) (repeat_bytes self.now text.now count) result (O.seen out.new) }
         ensures early { IsErrOf result Memory → O.seen out.new ≡ O.seen out.old }
         ensures bytes { IsStyle self.now.object_style }
     {
@@ -155,7 +155,7 @@ impl CompoundStyle {
         c: char,
         count: usize,
     ) -> Result<(), Error>
-        ensures writes { Draws (O.seen out.old) (run_bytes self.now (encode_utf8 c) count) result (O.seen out.new) }
+        ensures writes { Draws (O.seen out.old) (repeat_bytes self.now (encode_utf8 c) count) result (O.seen out.new) }
         ensures early { IsErrOf result Memory → O.seen out.new ≡ O.seen out.old }
         ensures bytes { IsStyle self.now.object_style }
     {
@@ -174,7 +174,7 @@ impl CompoundStyle {
         out: &mut O,
         count: usize,
     ) -> Result<(), Error>
-        ensures writes { Draws (O.seen out.old) (run_bytes self.now (32 ∷ []) count) result (O.seen out.new) }
+        ensures writes { Draws (O.seen out.old) (repeat_bytes self.now (32 ∷ []) count) result (O.seen out.new) }
         ensures early { IsErrOf result Memory → O.seen out.new ≡ O.seen out.old }
         ensures bytes { IsStyle self.now.object_style }
     {
@@ -194,18 +194,24 @@ impl CompoundStyle {
         text: &str,
         count: usize,
     ) -> Result<(), AllocError>
-        ensures writes { OnOk result (string_bytes row.new ≡ string_bytes row.old ++ run_bytes self.now text.now count) }
+        ensures writes { OnOk result (string_bytes row.new ≡ string_bytes row.old ++ repeat_bytes self.now text.now count) }
         ensures bytes { IsStyle self.now.object_style }
     {
-        // Most runs are of plain spaces, and need no formatting.
+        // Most are plain spaces, and need no formatting.
         if self.object_style.is_plain() {
             return push_copies(row, text, count);
         }
         if count == 0 {
             return Ok(());
         }
-        let content = text.repeat(*row.allocator(), count)?;
-        push_styled(row, self.object_style, content.as_str())
+        // One growth for the text; where its bytes are more than a `usize` counts, it is refused.
+        row.reserve(text.len().saturating_mul(count))?;
+        let repeated = StyledRepeat {
+            style: self.object_style,
+            content: text,
+            count,
+        };
+        write!(row, "{repeated}")
     }
 }
 

@@ -36,8 +36,8 @@ impl From<StyledChar> for ScrollBarStyle {
       thumb = colored_char (unwrap_or (char_style c).object_style.foreground_color (AnsiValue 253)) (char_alone c);
     } };
 
-    /// A bar of this character: its thumb has the character's foreground, its track the character's
-    /// background, both as foregrounds, and where one is absent the gray of the default bar.
+    /// A bar of this character. Its thumb has the character's foreground, and its track has the character's
+    /// background as its foreground. Where one is absent it has the gray of the default bar.
     fn from(styled_char: StyledChar) -> Self {
         let nude_char = styled_char.nude_char();
         let track = styled_char.get_bg().unwrap_or(gray(5));

@@ -21,7 +21,7 @@ pub struct StyledChar {
 
 impl StyledChar {
     ghost use Rattle.mad_style.specs.CompoundStyles.{plain_style, foreground_set, background_set};
-    ghost use Rattle.mad_style.specs.Runs.{run_style, styled_char_bytes, char_run_bytes};
+    ghost use Rattle.mad_style.specs.Repeats.{repeat_style, styled_char_bytes, char_repeat_bytes};
     ghost use Rattle.mad_style.specs.StyledChars.{char_style, char_alone, styled_char, colored_char};
 
     /// A character in a style.
@@ -117,7 +117,7 @@ impl StyledChar {
     ///
     /// Out of memory.
     pub fn repeated(&self, alloc: Global, count: usize) -> Result<StyledText, AllocError>
-        ensures style { IfOk result (λ text. text.style ≡ run_style (char_style self.now) count) }
+        ensures style { IfOk result (λ text. text.style ≡ repeat_style (char_style self.now) count) }
         ensures content { IfOk result (λ text. string_bytes text.content ≡ repeat count (encode_utf8 (char_alone self.now))) }
     {
         let style = if count == 0 {
@@ -144,7 +144,7 @@ impl StyledChar {
         out: &mut O,
         count: usize,
     ) -> Result<(), Error>
-        ensures writes { Draws (O.seen out.old) (char_run_bytes self.now count) result (O.seen out.new) }
+        ensures writes { Draws (O.seen out.old) (char_repeat_bytes self.now count) result (O.seen out.new) }
         ensures early { IsErrOf result Memory → O.seen out.new ≡ O.seen out.old }
         ensures bytes { IsStyle (char_style self.now).object_style }
     {
@@ -187,7 +187,7 @@ impl StyledChar {
     ///
     /// Out of memory.
     pub fn push_repeated(&self, row: &mut String, count: usize) -> Result<(), AllocError>
-        ensures writes { OnOk result (string_bytes row.new ≡ string_bytes row.old ++ char_run_bytes self.now count) }
+        ensures writes { OnOk result (string_bytes row.new ≡ string_bytes row.old ++ char_repeat_bytes self.now count) }
         ensures bytes { IsStyle (char_style self.now).object_style }
     {
         let mut buffer = [0; 4];
@@ -198,7 +198,7 @@ impl StyledChar {
 
 impl fmt::Display for StyledChar {
     ghost use Rattle.std.specs.Prelude.{Some};
-    ghost use Rattle.mad_style.specs.Runs.{styled_char_bytes};
+    ghost use Rattle.mad_style.specs.Repeats.{styled_char_bytes};
 
     ghost output = { λ c. Some (styled_char_bytes c) };
 

@@ -34,7 +34,6 @@ fn the_attributes_of_written_styles(rt: HostRuntime) {
         Attribute::OverLined,
     ];
     assert_eq!(rt; ATTRIBUTES, names);
-    assert_eq!(rt; MAX_ORDERED_LIST_DEPTH, 4);
 }
 
 #[test]
@@ -118,6 +117,7 @@ fn indents_of_items_of_ordered_lists(rt: HostRuntime) {
 
 #[test]
 fn made_styles_of_items_and_bars(rt: HostRuntime) -> Result<(), Fail> {
+    assert_eq!(rt; MAX_ORDERED_LIST_DEPTH, 4);
     let item = OrderedItemStyle::default();
     assert_eq!(rt; item.index_style, CompoundStyle::default());
     assert_eq!(rt;
@@ -145,13 +145,13 @@ fn made_styles_of_items_and_bars(rt: HostRuntime) -> Result<(), Fail> {
     );
     assert_eq!(rt; bar.clone()?.track.get_fg(), Some(Color::AnsiValue(237)));
 
-    let mut mark = CompoundStyle::with_fgbg(Color::Red, Color::Blue).style_char('#');
-    let colored = ScrollBarStyle::from(mark);
+    let mut styled = CompoundStyle::with_fgbg(Color::Red, Color::Blue).style_char('#');
+    let colored = ScrollBarStyle::from(styled);
     assert_eq!(rt; colored.thumb, StyledChar::from_fg_char(Color::Red, '#'));
     assert_eq!(rt; colored.track, StyledChar::from_fg_char(Color::Blue, '#'));
-    mark.set_compound_style(CompoundStyle::default());
-    mark.set_char('|');
-    let plain = ScrollBarStyle::from(mark);
+    styled.set_compound_style(CompoundStyle::default());
+    styled.set_char('|');
+    let plain = ScrollBarStyle::from(styled);
     assert_eq!(rt;
         plain.thumb,
         StyledChar::from_fg_char(Color::AnsiValue(253), '|')
@@ -244,7 +244,7 @@ fn kinds_of_what_was_read(rt: HostRuntime) {
     );
 }
 
-// Each call once, a bar after each; runs of none show as two bars.
+// Each call once, a bar after each; texts repeated no times show as two bars.
 #[test]
 fn what_the_writing_calls_write(rt: HostRuntime) -> Result<(), Fail> {
     let alloc = rt.alloc();
@@ -253,7 +253,7 @@ fn what_the_writing_calls_write(rt: HostRuntime) -> Result<(), Fail> {
     let mut bold = CompoundStyle::with_fgbg(Color::Red, Color::Blue);
     bold.add_attr(Attribute::Bold);
     let red = LineStyle::from(CompoundStyle::with_fg(Color::Red));
-    let mark = CompoundStyle::with_bg(rgb(1, 2, 3)).style_char('é');
+    let styled = CompoundStyle::with_bg(rgb(1, 2, 3)).style_char('é');
 
     bold.queue(alloc, &mut out, "ab")?;
     put_all(&mut out, b"|")?;
@@ -273,10 +273,10 @@ fn what_the_writing_calls_write(rt: HostRuntime) -> Result<(), Fail> {
     bold.repeat_char(alloc, &mut out, 'a', 0)?;
     bold.repeat_string(alloc, &mut out, "a", 0)?;
     bold.repeat_space(alloc, &mut out, 0)?;
-    mark.queue_repeat(alloc, &mut out, 0)?;
+    styled.queue_repeat(alloc, &mut out, 0)?;
     put_all(&mut out, b"|")?;
-    mark.queue(alloc, &mut out)?;
-    mark.queue_repeat(alloc, &mut out, 2)?;
+    styled.queue(alloc, &mut out)?;
+    styled.queue_repeat(alloc, &mut out, 2)?;
     let expected = concat!(
         "\u{1b}[48;5;12m\u{1b}[38;5;9m\u{1b}[1mab\u{1b}[0m|",
         "\u{1b}[38;5;9m\u{1b}[39m|",
@@ -293,25 +293,25 @@ fn what_the_writing_calls_write(rt: HostRuntime) -> Result<(), Fail> {
 #[test]
 fn what_is_shown_and_pushed_is_what_is_written(rt: HostRuntime) -> Result<(), Fail> {
     let alloc = rt.alloc();
-    let mark = StyledChar::from_fg_char(gray(8), '•');
+    let styled = StyledChar::from_fg_char(gray(8), '•');
     let mut row = String::new(alloc);
-    mark.push(&mut row)?;
+    styled.push(&mut row)?;
     assert!(rt; row.as_str() == "\u{1b}[38;5;240m•\u{1b}[39m");
-    assert!(rt; row.as_str() == mark.to_string(alloc)?.as_str());
+    assert!(rt; row.as_str() == styled.to_string(alloc)?.as_str());
     row.clear();
-    mark.push_repeated(&mut row, 2)?;
-    mark.compound_style().push_repeated(&mut row, "ab", 0)?;
+    styled.push_repeated(&mut row, 2)?;
+    styled.compound_style().push_repeated(&mut row, "ab", 0)?;
     assert!(rt; row.as_str() == "\u{1b}[38;5;240m••\u{1b}[39m");
-    let twice = mark.repeated(alloc, 2)?;
+    let twice = styled.repeated(alloc, 2)?;
     assert!(rt; twice.to_string(alloc)?.as_str() == row.as_str());
-    assert_eq!(rt; twice.as_piece().style, mark.compound_style().object_style);
+    assert_eq!(rt; twice.as_piece().style, styled.compound_style().object_style);
     row.clear();
     CompoundStyle::default().push_repeated(&mut row, "ab", 2)?;
     assert!(rt; row.as_str() == "abab");
-    let none = mark.repeated(alloc, 0)?;
+    let none = styled.repeated(alloc, 0)?;
     assert_eq!(rt; none.style, ContentStyle::default());
     assert!(rt; none.content.is_empty());
-    let applied = mark.compound_style().apply_to("ab");
+    let applied = styled.compound_style().apply_to("ab");
     assert!(rt; applied.to_string(alloc)?.as_str() == "\u{1b}[38;5;240mab\u{1b}[39m");
     Ok(())
 }
@@ -335,7 +335,7 @@ fn a_fault_in_mid_stream_leaves_a_front(rt: HostRuntime) -> Result<(), Fail> {
 }
 
 #[test]
-fn a_run_that_no_memory_holds_is_refused_before_any_byte(rt: HostRuntime) -> Result<(), Fail> {
+fn a_repeat_that_no_memory_holds_is_refused_before_any_byte(rt: HostRuntime) -> Result<(), Fail> {
     let alloc = rt.alloc();
     let mut out = CutOut::new(alloc, 4, 100, false)?;
     for style in [CompoundStyle::default(), CompoundStyle::with_fg(Color::Red)] {

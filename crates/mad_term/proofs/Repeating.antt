@@ -14,6 +14,12 @@ repeat-suc {A} (suc n) xs = append_assoc xs (repeat n xs) xs ∙ ap (λ ys. xs +
 pub repeat-more : {A : Type 0} (n : ℕ) (xs : List A) → repeat n xs ++ xs ≡ repeat (n + 1) xs
 repeat-more {A} n xs = let e : suc n ≡ n + 1 = omega arith in repeat-suc n xs ∙ ap (λ k. repeat k xs) e
 
+-- nothing, however often
+pub repeat-nil : {A : Type 0} (n : ℕ) (xs : List A) → length xs ≡ 0 → repeat n xs ≡ []
+repeat-nil {A} zero xs e = refl
+repeat-nil {A} (suc n) [] e = repeat-nil n [] e
+repeat-nil {A} (suc n) (x ∷ xs) e = absurd (omega (arith, e))
+
 repeat-add : {A : Type 0} (m n : ℕ) (xs : List A) → repeat (m + n) xs ≡ repeat m xs ++ repeat n xs
 repeat-add {A} zero n xs = let e : zero + n ≡ n = omega arith in ap (λ k. repeat k xs) e
 repeat-add {A} (suc m) n xs =

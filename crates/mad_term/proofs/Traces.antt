@@ -75,15 +75,11 @@ pub took_more : (old mid new : Trace) (text : List ℕ) (n k : ℕ) → mid ≡ 
 took_more old mid new text n k p q =
     took_both old mid new (take n text) (take k (drop n text)) p q ∙ ap (after old) (sym (take-add n k text))
 
--- for texts that are nested to the right: what went out first, then the rest
-pub took_then : (old mid new : Trace) (a rest : List ℕ) → mid ≡ after old a → new ≡ after mid rest → new ≡ after old (a ++ rest)
-took_then old mid new a rest p q = took_both old mid new a rest p q
-
 pub took_none : (t : Trace) → t ≡ after t []
 took_none t = sym (after-nil t)
 
 -- what joins the calls of one function
-pub ruleset joins = (took_then, took_none, cut_in_first, cut_in_second, stopped_before, stopped_in_first, stopped_in_second)
+pub ruleset joins = (took_both, took_none, cut_in_first, cut_in_second, stopped_before, stopped_in_first, stopped_in_second)
 
 took_with_at : (o : Option (List ℕ)) (text : List ℕ) (P : List ℕ → Type 0) → P text → IfSome o (λ before. (t : List ℕ) × (option_map (λ b. b ++ text) o ≡ Some (before ++ t)) × P t)
 took_with_at None text P h = tt

@@ -1,7 +1,34 @@
--- The attributes of a text, and the code of each.
-use Rattle.std.specs.Prelude.{ℕ, List, [], ◌∷◌}
+-- The attributes of a text, and the name, the code and the index of each.
+use Rattle.std.specs.Prelude.{ℕ, List, [], ◌∷◌, codes}
 use Rattle.mad_term.specs.declared.attribute.Attribute.{Attribute}
 use Rattle.mad_term.specs.declared.attribute.Attribute.TheVariants.{Reset, Bold, Dim, Italic, Underlined, SlowBlink, RapidBlink, Reverse, Hidden, CrossedOut, Fraktur, NoBold, NormalIntensity, NoItalic, NoUnderline, NoBlink, NoReverse, NoHidden, NotCrossedOut, Framed, Encircled, OverLined, NotFramedOrEncircled, NotOverLined}
+
+-- the name of an attribute
+abbrev pub attribute_name : Attribute → List ℕ
+attribute_name Reset = codes "Reset"
+attribute_name Bold = codes "Bold"
+attribute_name Dim = codes "Dim"
+attribute_name Italic = codes "Italic"
+attribute_name Underlined = codes "Underlined"
+attribute_name SlowBlink = codes "SlowBlink"
+attribute_name RapidBlink = codes "RapidBlink"
+attribute_name Reverse = codes "Reverse"
+attribute_name Hidden = codes "Hidden"
+attribute_name CrossedOut = codes "CrossedOut"
+attribute_name Fraktur = codes "Fraktur"
+attribute_name NoBold = codes "NoBold"
+attribute_name NormalIntensity = codes "NormalIntensity"
+attribute_name NoItalic = codes "NoItalic"
+attribute_name NoUnderline = codes "NoUnderline"
+attribute_name NoBlink = codes "NoBlink"
+attribute_name NoReverse = codes "NoReverse"
+attribute_name NoHidden = codes "NoHidden"
+attribute_name NotCrossedOut = codes "NotCrossedOut"
+attribute_name Framed = codes "Framed"
+attribute_name Encircled = codes "Encircled"
+attribute_name OverLined = codes "OverLined"
+attribute_name NotFramedOrEncircled = codes "NotFramedOrEncircled"
+attribute_name NotOverLined = codes "NotOverLined"
 
 -- the code of an attribute: the number of the command that sets it
 abbrev pub attribute_code : Attribute → ℕ
@@ -30,7 +57,7 @@ attribute_code OverLined = 53
 attribute_code NotFramedOrEncircled = 54
 attribute_code NotOverLined = 55
 
--- the attributes in the order of that table, in which a style's are written
+-- the attributes in the order of these tables, in which those of a style are written
 abbrev pub all_attributes : List Attribute
 all_attributes =
     Reset

@@ -13,7 +13,7 @@ numbers_bytes (n ∷ ns) = decimal n ++ flat_map (λ m. 59 ∷ decimal m) ns
 abbrev pub command_bytes : List ℕ → ℕ → List ℕ
 command_bytes numbers letter = 27 ∷ 91 ∷ (numbers_bytes numbers ++ letter ∷ [])
 
--- the cursor goes to column x of row y, both counted from 0; the command counts rows and columns from 1, and ends in H (72)
+-- the cursor goes to column x of row y, both counted from 0. The command counts rows and columns from 1, and ends in H (72).
 abbrev pub move_to_bytes : ℕ → ℕ → List ℕ
 move_to_bytes x y = command_bytes ((y + 1) ∷ (x + 1) ∷ []) 72
 

@@ -11,12 +11,12 @@ Refused old text (IO e) new = CutShort old text new
 Refused old text (InsufficientWidth e) new = ⊥
 Refused old text Memory new = Stopped old text new
 
--- what a writing call does: its text goes out whole and nothing is flushed, or it was refused so
+-- what a writing call does: its text goes out whole and nothing is flushed, or it was refused
 abbrev pub Draws : {T : Type 0} → Trace → List ℕ → Result T Error → Trace → Type 0
 Draws old text r new = MatchResult r (λ _. new ≡ after old text) (λ e. Refused old text e new)
 
--- what a call does that writes and then flushes: its text goes out whole, and then there is one flush; or it was refused as
--- the writing alone is, also by a fault of the flush, which comes after the whole text
+-- What a call does that writes and then flushes: its text goes out whole, and then there is one flush. Or it was refused as
+-- the writing alone is. A fault of the flush counts as one that came after the whole text.
 abbrev pub AndFlushes : {T : Type 0} → (Trace → Result T Error → Trace → Type 0) → Trace → Result T Error → Trace → Type 0
 AndFlushes writes old r new =
     MatchResult r (λ x. (written : Trace) × writes old (Ok x) written × (new ≡ flushed written)) (λ e. writes old (Err e) new)

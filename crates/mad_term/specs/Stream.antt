@@ -16,7 +16,7 @@ stream_trace s = record { bytes = None; faults = s.faults; flushes = s.flushes }
 abbrev pub untold : Trace
 untold = record { bytes = None; faults = 0; flushes = 0 }
 
--- A get took from the bytes that a reader is known to have left the one that it handed out; at the end it found none
+-- What a get took from the bytes that a reader is known to have left: the one that it handed out. At the end it found none
 -- and took none, and at a fault it took none.
 abbrev pub GetConsumes : {E : Type 0} → Option (List ℕ) → Option (List ℕ) → Result (Option ℕ) E → Type 0
 GetConsumes old new r = MatchResult r (λ o. MatchOption o (IsAtEnd new × Keeps old new) (λ byte. Consumes old new (byte ∷ []))) (λ _. Keeps old new)

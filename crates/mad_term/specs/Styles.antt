@@ -16,8 +16,8 @@ abbrev pub palette_numbers : ℕ → Option ℕ → List ℕ
 palette_numbers kind None = (kind + 1) ∷ []
 palette_numbers kind (Some n) = kind ∷ 5 ∷ n ∷ []
 
--- the numbers of the command that sets a color: first what is colored (38 the foreground, 48 the background, 58 the
--- underline), or one more where it gets its default
+-- The numbers of the command that sets a color: first what is colored, or one more where it gets its default. The
+-- foreground is 38, the background 48, the underline 58.
 abbrev pub color_numbers : ℕ → Color → List ℕ
 color_numbers kind (Rgb r g b) = kind ∷ 2 ∷ r ∷ g ∷ b ∷ []
 color_numbers kind color = palette_numbers kind (color_number color)
@@ -26,12 +26,15 @@ color_numbers kind color = palette_numbers kind (color_number color)
 abbrev pub color_bytes : ℕ → Color → List ℕ
 color_bytes kind color = sgr_bytes (color_numbers kind color)
 
+-- the command that sets the foreground
 abbrev pub foreground_bytes : Color → List ℕ
 foreground_bytes = color_bytes 38
 
+-- the command that sets the background
 abbrev pub background_bytes : Color → List ℕ
 background_bytes = color_bytes 48
 
+-- the command that sets the underline's color
 abbrev pub underline_bytes : Color → List ℕ
 underline_bytes = color_bytes 58
 
@@ -39,11 +42,11 @@ underline_bytes = color_bytes 58
 abbrev pub attribute_bytes : Attribute → List ℕ
 attribute_bytes a = sgr_bytes (attribute_code a ∷ [])
 
--- those of a set's attributes, each a command of its own, in the order of the table of codes
+-- the commands of a set's attributes, one for each, in the order of the table of codes
 abbrev pub attributes_bytes : Attributes → List ℕ
 attributes_bytes s = flat_map (λ a. if has_attribute s a then attribute_bytes a else []) all_attributes
 
--- the command of a color that is present
+-- the command of a color, if it is present
 abbrev pub present_bytes : (Color → List ℕ) → Option Color → List ℕ
 present_bytes bytes None = []
 present_bytes bytes (Some color) = bytes color
@@ -69,8 +72,8 @@ opening_bytes s =
     ++ (present_bytes underline_bytes s.underline_color
     ++ attributes_bytes s.attributes))
 
--- and after it, so that the pen is plain again: code 0 after an underline color or an attribute, and else the default
--- of each color that was written, the background's first
+-- What a style writes after a text, so that the pen is plain again: code 0 after an underline color or an attribute. Else
+-- the default of each color that was written, the background's first.
 abbrev pub closing_bytes : ContentStyle → List ℕ
 closing_bytes s =
     if is_some s.underline_color || not (attribute_bits s.attributes == 0) then sgr_bytes (0 ∷ [])
@@ -82,5 +85,5 @@ abbrev pub piece_bytes : ContentStyle → List ℕ → List ℕ
 piece_bytes style text = opening_bytes style ++ (text ++ closing_bytes style)
 
 -- a text `count` times in one style, as one piece; none at all writes nothing
-abbrev pub styled_run_bytes : ContentStyle → List ℕ → ℕ → List ℕ
-styled_run_bytes style text count = if count == 0 then [] else piece_bytes style (repeat count text)
+abbrev pub styled_repeat_bytes : ContentStyle → List ℕ → ℕ → List ℕ
+styled_repeat_bytes style text count = if count == 0 then [] else piece_bytes style (repeat count text)

@@ -1,8 +1,8 @@
 -- What a device has done, and what a call may do to it.
 use Rattle.std.specs.Prelude.{◌≡◌, ℕ, ◌+◌, ◌-◌, ◌^◌, ◌<◌, ◌≤◌, min, List, [], ◌∷◌, ◌++◌, length, take, Option, Some, option_map, IfSome, Result, MatchResult, MatchOption}
 
--- The bytes that a device has taken (of a source: those that it has left), where it tells them, how often it has
--- failed, and how often it was flushed (a source never is).
+-- The bytes that a device has taken, where it tells them, how often it has failed, and how often it was flushed. Of a
+-- source the bytes are those that it has left, and it is never flushed.
 pub record Trace : Type 0 where
   pub bytes : Option (List ℕ)
   pub faults : ℕ
@@ -56,25 +56,25 @@ Flushes old r new = MatchResult r (λ _. new ≡ flushed old) (λ _. new ≡ fai
 unfoldable pub ahead : ℕ → Trace → Trace
 ahead byte t = record { bytes = option_map (λ rest. byte ∷ rest) t.bytes; faults = t.faults; flushes = t.flushes }
 
--- the source is at its end, where it tells its bytes, and has not changed
+-- where the source tells its bytes, it has none left
+abbrev pub IsAtItsEnd : Trace → Type 0
+IsAtItsEnd t = IfSome t.bytes (λ rest. rest ≡ [])
+
+-- the source is at its end, and has not changed
 pub record Ended (old new : Trace) : Type 0 where
-  pub left : IfSome old.bytes (λ bytes. bytes ≡ [])
+  pub left : IsAtItsEnd old
   pub same : new ≡ old
 
 -- what one get does: it hands out the next byte, or the end, or it is a fault and no byte is lost
 abbrev pub Gets : {E : Type 0} → Trace → Result (Option ℕ) E → Trace → Type 0
 Gets old r new = MatchResult r (λ o. MatchOption o (Ended old new) (λ byte. old ≡ ahead byte new)) (λ _. new ≡ failed old)
 
--- these bytes stand before what a source has left
+-- these bytes come before what a source has left
 unfoldable pub ahead_all : List ℕ → Trace → Trace
 ahead_all bytes t = record { bytes = option_map (λ rest. bytes ++ rest) t.bytes; faults = t.faults; flushes = t.flushes }
 
--- where the source tells its bytes, it has none left
-abbrev pub IsAtItsEnd : Trace → Type 0
-IsAtItsEnd t = IfSome t.bytes (λ rest. rest ≡ [])
-
--- One fill put the first bytes of a source, as many as it answers, into the front of the buffer; none only at the source's
--- end, or into an empty buffer.
+-- One fill put the first bytes of a source, as many as it answers, into the front of the buffer. It puts none only at the
+-- source's end, or into an empty buffer.
 pub record Filled (old : Trace) (buffer : List ℕ) (count : ℕ) (new : Trace) : Type 0 where
   pub within : count ≤ length buffer
   pub handed_out : old ≡ ahead_all (take count buffer) new

@@ -1,7 +1,7 @@
-//! The attributes of a text on a terminal, and the code that sets each.
+//! The attributes of a text on a terminal, and the name and the code of each.
 
 ghost use Rattle.std.specs.Prelude.{◌≡◌};
-ghost use Rattle.mad_term.specs.Attribute.{attribute_index, attribute_code};
+ghost use Rattle.mad_term.specs.Attribute.{attribute_index, attribute_name, attribute_code};
 
 /// How a text looks, apart from its colors.
 #[derive(Clone, Copy, Debug, PartialEq, Eq)]
@@ -66,6 +66,38 @@ impl Attribute {
         ensures { result ≡ attribute_index self }
     {
         self as u32
+    }
+
+    /// Its name.
+    pub fn name(self) -> &'static str
+        ensures { result.now ≡ attribute_name self }
+    {
+        match self {
+            Attribute::Reset => "Reset",
+            Attribute::Bold => "Bold",
+            Attribute::Dim => "Dim",
+            Attribute::Italic => "Italic",
+            Attribute::Underlined => "Underlined",
+            Attribute::SlowBlink => "SlowBlink",
+            Attribute::RapidBlink => "RapidBlink",
+            Attribute::Reverse => "Reverse",
+            Attribute::Hidden => "Hidden",
+            Attribute::CrossedOut => "CrossedOut",
+            Attribute::Fraktur => "Fraktur",
+            Attribute::NoBold => "NoBold",
+            Attribute::NormalIntensity => "NormalIntensity",
+            Attribute::NoItalic => "NoItalic",
+            Attribute::NoUnderline => "NoUnderline",
+            Attribute::NoBlink => "NoBlink",
+            Attribute::NoReverse => "NoReverse",
+            Attribute::NoHidden => "NoHidden",
+            Attribute::NotCrossedOut => "NotCrossedOut",
+            Attribute::Framed => "Framed",
+            Attribute::Encircled => "Encircled",
+            Attribute::OverLined => "OverLined",
+            Attribute::NotFramedOrEncircled => "NotFramedOrEncircled",
+            Attribute::NotOverLined => "NotOverLined",
+        }
     }
 
     /// Its code: the number of the command that sets it.

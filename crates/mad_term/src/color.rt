@@ -5,8 +5,8 @@ ghost use Rattle.mad_term.specs.Color.{color_number, IsColor};
 
 /// A color of the foreground, of the background or of an underline.
 ///
-/// A named color is one of the first sixteen numbers of the terminal's palette, `AnsiValue` any of
-/// its 256 numbers, and `Reset` what the terminal shows where no color is set.
+/// A named color is one of the first sixteen numbers of the terminal's palette, and `AnsiValue` any of
+/// its 256. `Reset` is what the terminal shows where no color is set.
 #[derive(Clone, Copy, Debug, PartialEq, Eq)]
 pub enum Color {
     Reset,

@@ -7,7 +7,7 @@
 //! 3. [`streams`]: the readers and writers of the standard library as devices.
 //! 4. [`scripted`]: devices for tests, which fail where one wants them to.
 //! 5. [`color`], [`attribute`], [`attributes`]: how a text may look.
-//! 6. [`commands`], [`styles`], [`runs`]: the bytes of moves, erasures and texts in a style, by Display and in a row buffer.
+//! 6. [`commands`], [`styles`], [`repeats`]: the bytes of moves, erasures and texts in a style, by Display and in a row buffer.
 //! 7. [`queue`]: the same, to a device.
 #![tactic(auto)]
 
@@ -18,7 +18,7 @@ mod commands;
 mod devices;
 mod errors;
 mod queue;
-mod runs;
+mod repeats;
 mod scripted;
 mod streams;
 mod styles;
@@ -31,7 +31,7 @@ pub use devices::{Out, Source, put_all};
 pub use errors::{Error, InsufficientWidthError};
 pub use mad_columns::char_columns;
 pub use queue::{queue_bg, queue_clear, queue_fg, queue_move, queue_styled};
-pub use runs::StyledRun;
+pub use repeats::StyledRepeat;
 pub use scripted::{CutOut, ScriptSource};
 pub use streams::Stream;
 pub use styles::{

@@ -23,10 +23,10 @@ pub struct CutOut {
 impl CutOut {
     ghost use Rattle.mad_term.specs.Scripted.{cut_trace, cut_puts, IsCutOut, IsSameDevice};
 
-    /// A device that takes at most `step` bytes at a put and `room` bytes in all; a put that could take
+    /// A device that takes at most `step` bytes at a put and `room` bytes in all. A put that could take
     /// nothing is a fault, and so is each flush if `flush_fails`.
     ///
-    /// Its room is reserved here, so that no put takes memory.
+    /// Its room is reserved here, so that no put takes memory. Out of memory is the only error.
     pub fn new(
         alloc: Global,
         step: usize,

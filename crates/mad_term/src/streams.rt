@@ -10,7 +10,7 @@ use std::io;
 
 /// A reader or a writer of the standard library as a device. It tells no bytes.
 ///
-/// A writer that takes nothing of a piece that isn't empty has failed, so that no call repeats it for ever.
+/// A writer that takes none of some bytes has failed, so that no call repeats it for ever.
 #[derive(Drop)]
 pub struct Stream<S> {
     inner: S,

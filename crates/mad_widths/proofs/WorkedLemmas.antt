@@ -3,13 +3,13 @@ use Rattle.std.proofs.Common.{refl, arith}
 use Rattle.std.proofs.lemmas.Bool.{false≢true}
 use Rattle.mad_widths.specs.Turns.{grants}
 use Rattle.mad_widths.specs.ColumnWidths.{first_requests, second_requests, after_first, after_second, column_widths}
-use Rattle.mad_widths.specs.WorkedWidths.{AreWorkedWidths, AreNoWidths}
+use Rattle.mad_widths.specs.WorkedWidths.{AreWorkedWidths, RefusedWidths}
 
 pub worked : AreWorkedWidths
 unfolding column_widths after_second after_first second_requests first_requests grants
 worked = record { natural = refl; single = refl; reduced = refl; uneven = refl }
 
-pub none : AreNoWidths
+pub none : RefusedWidths
 none = record {
   other_sum = λ available naturals widths reduced more several other h. other (h.shared more several).0;
   one_too_few = λ reduced h. absurd (omega (arith, (h.shared (omega arith) (λ e. absurd (omega (arith, e)))).0));

@@ -23,6 +23,7 @@ average_width total count = if count == 0 then 0 else div_ceil total count
 abbrev pub needs_of : List ℕ → Needs
 needs_of ws = record { natural = max (widest ws) 3; average = average_width (sum ws) (length ws) }
 
+-- the widths in which all cells fit, column by column
 abbrev pub natural_widths : List Needs → List ℕ
 natural_widths ns = map (λ n. n.natural) ns
 
@@ -40,8 +41,8 @@ over_average n = n.natural - n.average
 abbrev pub spare : Needs → ℕ
 spare n = if nat_lt 4 n.natural && nat_lt 1 (over_average n) then min (over_average n) 4 else 0
 
--- A column's share of a goal, where all columns together can easily give up `spares`: in proportion to what it is wider
--- than its cells' average, down to a width of four.
+-- A column's share of a goal, where all columns together can easily give up `spares`. It is in proportion to what the column
+-- is wider than its cells' average, down to a width of four.
 abbrev pub first_request : ℕ → ℕ → Needs → ℕ
 first_request spares goal n =
     if nat_lt 0 goal && (nat_lt 4 n.natural && nat_lt 0 (over_average n)) then min (div_ceil (over_average n * goal) spares) (n.natural - 4) else 0
@@ -62,13 +63,14 @@ second_request excess above w = min (div_ceil ((w - 3) * excess) above) (w - 3)
 unfoldable pub second_requests : ℕ → List ℕ → List ℕ
 second_requests excess ws = map (second_request excess (above_three ws)) ws
 
--- the widths after the first step, and after the second
+-- the widths after the first step
 unfoldable pub after_first : ℕ → List Needs → List ℕ
 after_first available ns =
     let ws = natural_widths ns in
     let excess = sum ws - available in
     narrowed ws (grants ws (first_requests excess ns) excess)
 
+-- the widths after the second step
 unfoldable pub after_second : ℕ → List Needs → List ℕ
 after_second available ns =
     let ws = after_first available ns in
@@ -90,8 +92,8 @@ column_widths available ns =
 abbrev pub AreEven : List Needs → List ℕ → Type 0
 AreEven ns widths = (i j : ℕ) (d : Needs) → i < j → j < length ns → slice_index_or ns i d ≡ slice_index_or ns j d → slice_index widths i ≤ slice_index widths j
 
--- What every such list of widths is, whatever the steps: the natural widths where they fit; else all that is available for
--- a single column; else widths from three to the natural ones whose sum is exactly what is available.
+-- What every such list of widths is, whatever the steps: the natural widths where they fit. Else a single column has all
+-- that is available. Several have widths from three to the natural ones, whose sum is exactly what is available.
 pub record AreShared (available : ℕ) (naturals : List ℕ) (reduced : Bool) (widths : List ℕ) : Type 0 where
   pub fitting : sum naturals ≤ available → (widths ≡ naturals) × (reduced ≡ false)
   pub single : available < sum naturals → length naturals ≡ 1 → (widths ≡ available ∷ []) × (reduced ≡ false)

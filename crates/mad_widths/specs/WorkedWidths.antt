@@ -23,7 +23,7 @@ pub record AreWorkedWidths : Type 0 where
 
 -- What widths of several columns that need more than is available are not: of another sum, under three, wider than natural,
 -- or not called reduced. The examples are two columns that need 3 and 20 and have 10.
-pub record AreNoWidths : Type 0 where
+pub record RefusedWidths : Type 0 where
   pub other_sum : (available : ℕ) (naturals widths : List ℕ) (reduced : Bool) → available < sum naturals → length naturals ≢ 1 → sum widths ≢ available → ¬ (AreShared available naturals reduced widths)
   pub one_too_few : (reduced : Bool) → ¬ (AreShared 10 (3 ∷ 20 ∷ []) reduced (3 ∷ 6 ∷ []))
   pub three_each : (reduced : Bool) → ¬ (AreShared 10 (3 ∷ 20 ∷ []) reduced (3 ∷ 3 ∷ []))

@@ -1,14 +1,15 @@
 //! What the definition of column widths says of given tables, each a function that does nothing and states its law.
 
-ghost use Rattle.mad_widths.specs.WorkedWidths.{AreWorkedWidths, AreNoWidths};
+ghost use Rattle.mad_widths.specs.WorkedWidths.{AreWorkedWidths, RefusedWidths};
 
 /// The definition gives the widths of worked tables: of columns that fit, of a single one, and of several that are too wide.
 pub fn worked_widths()
     ensures { AreWorkedWidths }
 {}
 
-/// Widths are not the definition's where they take one column too few or too many, where each is three though more is
-/// available, where one is under three, and where one is wider than its cells need.
+/// Widths are not the definition's where their sum is one column too few or too many, or where each is three though more is
+/// available. Nor are they where one is under three, where one is wider than its cells need, or where they are not called
+/// reduced.
 pub fn other_widths_are_refused()
-    ensures { AreNoWidths }
+    ensures { RefusedWidths }
 {}

@@ -2,7 +2,7 @@
 
 ghost use Rattle.std.specs.Prelude.{sum_by, ◌≡◌, ℕ, ◌+◌, ◌-◌, ◌*◌, ◌^◌, ◌<◌, ◌≤◌, ◌++◌, ◌∷◌, [], List, length, map, max, min, sum, IfOk, All, slice_index};
 ghost use Rattle.mad_widths.specs.Turns.{AreTurns, CanGiveUp, grants, turn_of};
-ghost use Rattle.mad_widths.specs.ColumnWidths.{over_average, spare, first_request, first_requests, above_three, second_request, second_requests, narrowed};
+ghost use Rattle.mad_widths.specs.ColumnWidths.{natural_widths, over_average, spare, first_request, first_requests, above_three, second_request, second_requests, narrowed};
 ghost use Rattle.mad_widths.specs.SeenCells.{ColumnHasSeen, needs_in};
 
 use std::alloc::{AllocError, Global};
@@ -111,8 +111,9 @@ fn capped(count: usize, limit: u128) -> usize
 }
 
 /// The width that each column needs.
+#[tactic(auto, using(crate::proofs::CellLemmas::naturals_in))]
 pub fn natural_widths(alloc: Global, columns: &[SeenColumn]) -> Result<Vec<usize>, AllocError>
-    ensures { IfOk result (λ widths. widths.items ≡ map (λ c. max c.widest 3) columns.now) }
+    ensures { IfOk result (λ widths. widths.items ≡ natural_widths (map needs_in columns.now)) }
 {
     columns.iter().map(|column| column.natural()).collect(alloc)
 }
@@ -236,7 +237,8 @@ fn give_up(widths: &mut [usize], cuts: &[usize])
     }
 }
 
-/// Takes off each width what its column gives up of its request, in turn until the excess is gone, and answers what is left of it.
+/// Takes off each width what its column gives up of its request, in turn until the excess is gone. It answers what is left
+/// of the excess.
 pub fn give_up_in_turn(
     widths: &mut [usize],
     requests: &mut [usize],

@@ -28,7 +28,7 @@ pub use Rattle.mad_screen.specs.Painting
 pub use Rattle.mad_screen.specs.Pictures
 pub use Rattle.mad_screen.specs.Refusals
 pub use Rattle.mad_term.specs.Scripted
-pub use Rattle.mad_screen.specs.Stages
+pub use Rattle.mad_screen.specs.Readers
 pub use Rattle.mad_term.specs.Stream
 pub use Rattle.mad_term.specs.Styles
 pub use Rattle.mad_screen.specs.Terminal
@@ -39,7 +39,7 @@ pub use Rattle.mad_style.specs.Borders
 pub use Rattle.mad_style.specs.CompoundStyles
 pub use Rattle.mad_style.specs.Kinds
 pub use Rattle.mad_style.specs.LineStyles
-pub use Rattle.mad_style.specs.Runs
+pub use Rattle.mad_style.specs.Repeats
 pub use Rattle.mad_style.specs.StyledChars
 pub use Rattle.mad_parse.specs.Colors
 pub use Rattle.mad_parse.specs.Cuts
@@ -49,7 +49,7 @@ pub use Rattle.mad_parse.specs.Numbers
 pub use Rattle.mad_parse.specs.Reading as ParseReading
 pub use Rattle.mad_parse.specs.ReadsBack
 pub use Rattle.mad_parse.specs.Styles as ParseStyles
-pub use Rattle.mad_parse.specs.Values
+pub use Rattle.mad_parse.specs.StyleTokens
 pub use Rattle.mad_parse.specs.Written
 pub use Rattle.mad_widths.specs.ColumnWidths
 pub use Rattle.mad_widths.specs.SeenCells

@@ -28,16 +28,16 @@ fn wide_and_joined_characters(rt: HostRuntime) -> Result<(), Fail> {
         // In the last two columns, and one of three columns.
         ("ab\u{4e00}", "ab\u{4e00}\n    \n", (4, 0)),
         ("\u{17d8}x", "\u{17d8}x\n    \n", (4, 0)),
-        // Marks after a wide character, two on one letter, one past the last column.
+        // Combining characters after a wide character, two on one letter, one past the last column.
         ("\u{4e00}\u{301}b", "\u{4e00}\u{301}b \n    \n", (3, 0)),
         ("e\u{301}\u{302}", "e\u{301}\u{302}   \n    \n", (1, 0)),
         ("abcd\u{301}", "abcd\u{301}\n    \n", (4, 0)),
-        // A mark after a space that no text wrote.
+        // A combining character after a space that no text wrote.
         ("\x1b[2;3H\u{301}", "    \n  \u{301}  \n", (2, 1)),
         // Half of a wide character is overwritten: the other half stays.
         ("\u{4e00}\x1b[1;1Hx", "x  \n    \n", (1, 0)),
         ("\u{4e00}\x1b[1;2Hx", "\u{4e00}x  \n    \n", (2, 0)),
-        // Through the tail that is left, a mark joins the first cell that is none.
+        // Through the tail that is left, a combining character joins the first cell that is none.
         (
             "\u{4e00}\x1b[1;1Hx\x1b[1;3H\u{301}",
             "x\u{301}  \n    \n",
@@ -379,7 +379,7 @@ fn a_screen_of_one_cell(rt: HostRuntime) -> Result<(), Fail> {
 
 // Where the screen has 65535 columns or rows, the last of them is 65534, counted from 0.
 #[test]
-fn moves_to_the_greatest_places(rt: HostRuntime) -> Result<(), Fail> {
+fn moves_to_the_greatest_positions(rt: HostRuntime) -> Result<(), Fail> {
     let alloc = rt.alloc();
     for (width, height, x, y) in [(u16::MAX, 1, 65534, 0), (1, u16::MAX, 0, 65534)] {
         let mut row = String::new(alloc);

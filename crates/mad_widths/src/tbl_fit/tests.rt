@@ -4,8 +4,8 @@ use std::test::Fail;
 
 const MAX: usize = usize::MAX;
 
-// The columns of a table and its width, the column and the width of each cell that it sees, and what it is fitted to:
-// whether it is reduced, and its column widths; or nothing, where its width is refused.
+// The count of a table's columns and its width, and the column and the width of each cell that it sees. Then what it is
+// fitted to: whether it is reduced, and its column widths, or nothing where its width is refused.
 type Row = (
     usize,
     usize,

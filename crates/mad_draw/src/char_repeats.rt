@@ -1,0 +1,32 @@
+//! A character many times, as a displayed value.
+
+ghost use Rattle.std.specs.Prelude.{Some};
+ghost use Rattle.mad_draw.specs.Pieces.{pieces_bytes, char_repeat};
+
+use mad_style::StyledChar;
+use mad_term::StyledRepeat;
+use std::fmt;
+
+/// A character `count` times, as one piece. Of none nothing is written.
+#[derive(Clone, Copy)]
+pub struct CharRepeat {
+    /// The character, in its style.
+    pub c: StyledChar,
+    /// How many times it is written.
+    pub count: usize,
+}
+
+impl fmt::Display for CharRepeat {
+    ghost output = { λ r. Some (pieces_bytes (char_repeat r.c r.count)) };
+
+    #[tactic(auto, using(crate::proofs::PieceLemmas::repeat_of_chars))]
+    fn fmt<W: fmt::Write>(&self, f: &mut fmt::Formatter<W>) -> fmt::Result {
+        let mut buffer = [0; 4];
+        let repeated = StyledRepeat {
+            style: self.c.compound_style().object_style,
+            content: self.c.get_char().encode_utf8(&mut buffer),
+            count: self.count,
+        };
+        write!(f, "{repeated}")
+    }
+}
