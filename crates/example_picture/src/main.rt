@@ -15,7 +15,7 @@ use termimad::{Area, CutOut, Error, MadSkin, TextView};
 
 const COLUMNS: u16 = 60;
 
-// More bytes than a screen of this tool takes.
+// Bytes for some 200 rows; a longer text is refused.
 const ROOM: usize = 20000;
 
 fn main(rt: HostRuntime) -> Result<(), Error> {

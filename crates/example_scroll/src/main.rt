@@ -7,7 +7,7 @@ ghost use Rattle.mad_fit.specs.Areas.{IsWithinLimits};
 use std::alloc::Global;
 use std::io::{Error as IoError, ErrorKind};
 use termimad::screen::{NotPlain, Screen};
-use termimad::{Area, CutOut, Error, FmtText, MadSkin, TextView};
+use termimad::{Area, CutOut, Error, MadSkin, TextView};
 
 // More bytes than a screen of this example takes.
 const ROOM: usize = 1000;

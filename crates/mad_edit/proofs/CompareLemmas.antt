@@ -1,5 +1,5 @@
 -- Two editors are the same exactly where the lines, the cursors and the tails that they keep are.
-use Rattle.std.proofs.Common.{ℕ, ◌≡◌, List, [], ◌∷◌, drop, get_or, ap, sym, ◌∙◌, refl, Bool, true, false, ◌&&◌, Option, None, Some, IsTrue, ◌↔◌}
+use Rattle.std.proofs.Common.{ℕ, ◌≡◌, List, [], ◌∷◌, drop, get_or, ap, sym, ◌∙◌, refl, Bool, Option, None, Some, IsTrue, ◌↔◌}
 use Rattle.std.specs.Bool.{Decides, one_answer}
 use Rattle.std.specs.Cmp.{first_so, second_so, unsigned_Decides}
 use Rattle.std.specs.Cmp.Lexicographic.{pointwise, bytes_decides}
@@ -7,12 +7,9 @@ use Rattle.std.specs.Option.{option_eq, unwrap_or}
 use Rattle.mad_lines.specs.declared.line.Line.{Line}
 use Rattle.mad_lines.specs.declared.place.Pos.{Pos}
 use Rattle.mad_lines.specs.TextLines.{lines, chars_of, lines_of, text_of, offset_of}
+use Rattle.mad_edit.proofs.TextLemmas.{both}
 use Rattle.mad_edit.proofs.EditorLemmas.{Seen, lines_seen, line_seen, column_seen}
 use Rattle.mad_edit.specs.Editor.{Editor, IsValid, same_editor, same_place, cursor_line, cursor_column}
-
-both : (a b : Bool) → a ≡ true → b ≡ true → (a && b) ≡ true
-both true b p q = q
-both false b p q = cc
 
 abbrev place : ℕ → ℕ → Pos
 place y x = record { y = y; x = x }

@@ -4,16 +4,13 @@ use Rattle.std.proofs.lemmas.List.Sums.{suffix_len_is, sum_by-cons}
 use Rattle.std.proofs.Common.{inl, inr, get_or, ℕ, suc, ◌+◌, ◌-◌, ◌<◌, ◌≤◌, ◌≡◌, ◌==◌, List, [], ◌∷◌, ◌++◌, length, take, drop, reverse, refl, ap, sym, ◌∙◌, arith, append-nil, append_assoc, cond, true, false, Bool, not, ◌&&◌, length-append, zero-add}
 use Rattle.std.specs.Prelude.{All, count_by}
 use Rattle.std.specs.List.{prefix_len, suffix_len}
-use Rattle.std.specs.Char.{IsScalar}
 use Rattle.std.proofs.lemmas.List.{take_at, drop_at, length-take-le, length-drop, reverse-append}
 use Rattle.std.proofs.lemmas.List.Elements.{All-head, All-tail, All-take, All-drop, All-get_or}
 use Rattle.mad_lines.specs.declared.place.Pos.{Pos}
+use Rattle.mad_edit.proofs.SplitLemmas.{IsLineChar, not_newline}
 use Rattle.mad_edit.specs.Editor.{is_in_line}
-use Rattle.mad_lines.specs.TextLines.{is_newline, led_lines, text_of, line_at, IsPlace, IsPlainLine, is_plain, is_accepted, offset_of}
+use Rattle.mad_lines.specs.TextLines.{is_newline, led_lines, text_of, line_at, IsPlace, IsLineText, is_accepted, offset_of}
 use Rattle.mad_lines.proofs.PlaceLemmas.{before, after, take_before, drop_after, led_cons, earlier_line}
-
-abbrev IsPlainChar : ℕ → Type 0
-IsPlainChar c = (is_plain c ≡ true) × IsScalar c
 
 plain_in_line : (b r : Bool) → (not b && r) ≡ true → not b ≡ true
 plain_in_line true r h = cc
@@ -25,17 +22,17 @@ prefix_stops p [] ys h = ap (λ b. cond b (1 + prefix_len p ys) 0) h
 prefix_stops p (x ∷ xs) ys h = ap (λ n. cond (p x) (1 + n) 0) (prefix_stops p xs ys h)
 
 -- all of a plain line is in the line
-prefix_plain : (l : List ℕ) → IsPlainLine l → prefix_len is_in_line l ≡ length l
+prefix_plain : (l : List ℕ) → IsLineText l → prefix_len is_in_line l ≡ length l
 prefix_plain [] h = refl
 prefix_plain (c ∷ l) h =
-    ap (λ b. cond b (1 + prefix_len is_in_line l) 0) (plain_in_line (c == 10) (is_accepted c) (All-head IsPlainChar c l h).0)
-    ∙ ap (λ n. 1 + n) (prefix_plain l (All-tail IsPlainChar c l h)) ∙ omega arith
+    ap (λ b. cond b (1 + prefix_len is_in_line l) 0) (plain_in_line (c == 10) (is_accepted c) (All-head IsLineChar c l h).0)
+    ∙ ap (λ n. 1 + n) (prefix_plain l (All-tail IsLineChar c l h)) ∙ omega arith
 
-suffix_plain : (l : List ℕ) (x : ℕ) → x ≤ length l → IsPlainLine l → suffix_len is_in_line (take x l) ≡ x
+suffix_plain : (l : List ℕ) (x : ℕ) → x ≤ length l → IsLineText l → suffix_len is_in_line (take x l) ≡ x
 suffix_plain l x h plain =
     let n = length-take-le x l h in
     let all : (k : ℕ) → 0 ≤ k → k < length (take x l) → is_in_line (get_or (take x l) k 0) ≡ true = λ k low high.
-    plain_in_line (get_or (take x l) k 0 == 10) (is_accepted (get_or (take x l) k 0)) (All-get_or IsPlainChar (take x l) k 0 high (All-take IsPlainChar x l plain)).0 in
+    plain_in_line (get_or (take x l) k 0 == 10) (is_accepted (get_or (take x l) k 0)) (All-get_or IsLineChar (take x l) k 0 high (All-take IsLineChar x l plain)).0 in
     suffix_len_is is_in_line (take x l) 0 0 (omega arith) all (λ low. absurd (omega arith)) ∙ omega arith
 
 suffix_cut : (p : ℕ → Bool) (a m : List ℕ) → p 10 ≡ false → suffix_len p (a ++ 10 ∷ m) ≡ suffix_len p m
@@ -52,28 +49,28 @@ text_after : (ls : List (List ℕ)) (p : Pos) → IsPlace ls p → drop (offset_
 unfolding after
 text_after ls p h = ap (drop (suc (offset_of ls p))) (sym (led_cons ls (omega arith))) ∙ drop_after ls p h
 
-plain_line : (ls : List (List ℕ)) (y : ℕ) → y < length ls → All IsPlainLine ls → IsPlainLine (line_at ls y)
-plain_line ls y h plain = All-get_or IsPlainLine ls y [] h plain
+plain_line : (ls : List (List ℕ)) (y : ℕ) → y < length ls → All IsLineText ls → IsLineText (line_at ls y)
+plain_line ls y h plain = All-get_or IsLineText ls y [] h plain
 
-prefix_after : (l : List ℕ) (ls : List (List ℕ)) → IsPlainLine l → prefix_len is_in_line (l ++ led_lines ls) ≡ length l
+prefix_after : (l : List ℕ) (ls : List (List ℕ)) → IsLineText l → prefix_len is_in_line (l ++ led_lines ls) ≡ length l
 prefix_after l [] h = ap (prefix_len is_in_line) (append-nil l) ∙ prefix_plain l h
 prefix_after l (m ∷ ls) h = prefix_stops is_in_line l (m ++ led_lines ls) refl ∙ prefix_plain l h
 
 -- how much of the line is after a place
-pub length_after : (ls : List (List ℕ)) (p : Pos) → IsPlace ls p → All IsPlainLine ls → prefix_len is_in_line (drop (offset_of ls p) (text_of ls)) ≡ length (line_at ls p.y) - p.x
+pub length_after : (ls : List (List ℕ)) (p : Pos) → IsPlace ls p → All IsLineText ls → prefix_len is_in_line (drop (offset_of ls p) (text_of ls)) ≡ length (line_at ls p.y) - p.x
 length_after ls p h plain =
     ap (prefix_len is_in_line) (text_after ls p h)
-    ∙ prefix_after (drop p.x (line_at ls p.y)) (drop (suc p.y) ls) (All-drop IsPlainChar p.x (line_at ls p.y) (plain_line ls p.y h.0 plain))
+    ∙ prefix_after (drop p.x (line_at ls p.y)) (drop (suc p.y) ls) (All-drop IsLineChar p.x (line_at ls p.y) (plain_line ls p.y h.0 plain))
     ∙ length-drop p.x (line_at ls p.y)
 
 -- the rest of a place's line
-pub rest_after : (ls : List (List ℕ)) (p : Pos) → IsPlace ls p → All IsPlainLine ls → take (prefix_len is_in_line (drop (offset_of ls p) (text_of ls))) (drop (offset_of ls p) (text_of ls)) ≡ drop p.x (line_at ls p.y)
+pub rest_after : (ls : List (List ℕ)) (p : Pos) → IsPlace ls p → All IsLineText ls → take (prefix_len is_in_line (drop (offset_of ls p) (text_of ls))) (drop (offset_of ls p) (text_of ls)) ≡ drop p.x (line_at ls p.y)
 rest_after ls p h plain =
     ap (take (prefix_len is_in_line (drop (offset_of ls p) (text_of ls)))) (text_after ls p h)
     ∙ take_at (drop p.x (line_at ls p.y)) (led_lines (drop (suc p.y) ls)) _ (length-drop p.x (line_at ls p.y) ∙ sym (length_after ls p h plain))
 
 -- how much of the line is before a place
-pub length_front : (ls : List (List ℕ)) (p : Pos) → IsPlace ls p → All IsPlainLine ls → suffix_len is_in_line (take (offset_of ls p) (text_of ls)) ≡ p.x
+pub length_front : (ls : List (List ℕ)) (p : Pos) → IsPlace ls p → All IsLineText ls → suffix_len is_in_line (take (offset_of ls p) (text_of ls)) ≡ p.x
 length_front ls p h plain =
     sym (suffix_cut is_in_line [] (take (offset_of ls p) (text_of ls)) refl)
     ∙ ap (suffix_len is_in_line) (text_before ls p h)
@@ -81,7 +78,7 @@ length_front ls p h plain =
     ∙ suffix_plain (line_at ls p.y) p.x h.1 (plain_line ls p.y h.0 plain)
 
 -- the front of a place's line
-pub front_before : (ls : List (List ℕ)) (p : Pos) → IsPlace ls p → All IsPlainLine ls → drop (offset_of ls p - suffix_len is_in_line (take (offset_of ls p) (text_of ls))) (take (offset_of ls p) (text_of ls)) ≡ take p.x (line_at ls p.y)
+pub front_before : (ls : List (List ℕ)) (p : Pos) → IsPlace ls p → All IsLineText ls → drop (offset_of ls p - suffix_len is_in_line (take (offset_of ls p) (text_of ls))) (take (offset_of ls p) (text_of ls)) ≡ take p.x (line_at ls p.y)
 front_before ls p h plain =
     let start : offset_of ls p - p.x ≡ length (led_lines (take p.y ls)) = omega arith in
     let led : length (led_lines (take p.y ls) ++ 10 ∷ []) ≡ suc (length (led_lines (take p.y ls))) = length-append (led_lines (take p.y ls)) (10 ∷ []) ∙ omega arith in
@@ -91,35 +88,31 @@ front_before ls p h plain =
     ∙ ap (drop (suc (length (led_lines (take p.y ls))))) (sym (append_assoc (led_lines (take p.y ls)) (10 ∷ []) (take p.x (line_at ls p.y))))
     ∙ drop_at (led_lines (take p.y ls) ++ 10 ∷ []) (take p.x (line_at ls p.y)) _ led
 
-not_newline : (b r : Bool) → (not b && r) ≡ true → b ≡ false
-not_newline true r h = cc
-not_newline false r h = refl
-
 count_cons : (c : ℕ) (cs : List ℕ) → count_by is_newline (c ∷ cs) ≡ cond (is_newline c) 1 0 + count_by is_newline cs
 count_cons c cs = sum_by-cons (λ x. cond (is_newline x) 1 0) c cs
 
-count_plain : (l ys : List ℕ) → IsPlainLine l → count_by is_newline (l ++ ys) ≡ count_by is_newline ys
+count_plain : (l ys : List ℕ) → IsLineText l → count_by is_newline (l ++ ys) ≡ count_by is_newline ys
 count_plain [] ys h = refl
 count_plain (c ∷ l) ys h =
-    count_cons c (l ++ ys) ∙ ap (λ b. cond b 1 0 + count_by is_newline (l ++ ys)) (not_newline (c == 10) (is_accepted c) (All-head IsPlainChar c l h).0)
-    ∙ zero-add _ ∙ count_plain l ys (All-tail IsPlainChar c l h)
+    count_cons c (l ++ ys) ∙ ap (λ b. cond b 1 0 + count_by is_newline (l ++ ys)) (not_newline (c == 10) (is_accepted c) (All-head IsLineChar c l h).0)
+    ∙ zero-add _ ∙ count_plain l ys (All-tail IsLineChar c l h)
 
-count_led : (ls : List (List ℕ)) (ys : List ℕ) → All IsPlainLine ls → count_by is_newline (led_lines ls ++ ys) ≡ length ls + count_by is_newline ys
+count_led : (ls : List (List ℕ)) (ys : List ℕ) → All IsLineText ls → count_by is_newline (led_lines ls ++ ys) ≡ length ls + count_by is_newline ys
 count_led [] ys h = omega arith
 count_led (l ∷ ls) ys h =
     count_cons 10 ((l ++ led_lines ls) ++ ys)
     ∙ ap (λ t. 1 + count_by is_newline t) (append_assoc l (led_lines ls) ys)
-    ∙ ap (λ n. 1 + n) (count_plain l (led_lines ls ++ ys) (All-head IsPlainLine l ls h) ∙ count_led ls ys (All-tail IsPlainLine l ls h))
+    ∙ ap (λ n. 1 + n) (count_plain l (led_lines ls ++ ys) (All-head IsLineText l ls h) ∙ count_led ls ys (All-tail IsLineText l ls h))
     ∙ omega arith
 
 -- the newlines before a place are as many as its line's number
-pub newlines_before : (ls : List (List ℕ)) (p : Pos) → IsPlace ls p → All IsPlainLine ls → count_by is_newline (take (offset_of ls p) (text_of ls)) ≡ p.y
+pub newlines_before : (ls : List (List ℕ)) (p : Pos) → IsPlace ls p → All IsLineText ls → count_by is_newline (take (offset_of ls p) (text_of ls)) ≡ p.y
 newlines_before ls p h plain =
     let all = sym (count_cons 10 (take (offset_of ls p) (text_of ls))) ∙ ap (count_by is_newline) (text_before ls p h) in
-    let led = count_led (take p.y ls) (10 ∷ take p.x (line_at ls p.y)) (All-take IsPlainLine p.y ls plain) in
+    let led = count_led (take p.y ls) (10 ∷ take p.x (line_at ls p.y)) (All-take IsLineText p.y ls plain) in
     let front = ap (count_by is_newline) (append-nil (take p.x (line_at ls p.y))) in
     let next = count_cons 10 (take p.x (line_at ls p.y)) in
-    let line = count_plain (take p.x (line_at ls p.y)) [] (All-take IsPlainChar p.x (line_at ls p.y) (plain_line ls p.y h.0 plain)) in
+    let line = count_plain (take p.x (line_at ls p.y)) [] (All-take IsLineChar p.x (line_at ls p.y) (plain_line ls p.y h.0 plain)) in
     let n = length-take-le p.y ls (omega arith) in
     omega (arith, all, led, front, next, line, n)
 

@@ -4,16 +4,16 @@ use Rattle.std.specs.Prelude.{All}
 use Rattle.std.specs.List.{swap}
 use Rattle.std.proofs.lemmas.List.Edits.{swap_is, length-swap}
 use Rattle.std.proofs.lemmas.List.Elements.{All-set, All-get_or, All-same}
-use Rattle.mad_lines.specs.TextLines.{lines, text_of, IsPlainLine}
+use Rattle.mad_lines.specs.TextLines.{lines, text_of, IsLineText}
 use Rattle.mad_edit.proofs.SplitLemmas.{lines-text_of}
 
-pub swapped_plain : (ls new : List (List ℕ)) (a b : ℕ) → a < length ls → b < length ls → All IsPlainLine ls → new ≡ swap ls a b → All IsPlainLine new
+pub swapped_plain : (ls new : List (List ℕ)) (a b : ℕ) → a < length ls → b < length ls → All IsLineText ls → new ≡ swap ls a b → All IsLineText new
 swapped_plain ls new a b ha hb plain e =
-    All-same IsPlainLine new (set (set ls a (get_or ls b [])) b (get_or ls a [])) (e ∙ sym (swap_is ls a b [] ha hb))
-    (All-set IsPlainLine (set ls a (get_or ls b [])) b (get_or ls a []) (All-get_or IsPlainLine ls a [] ha plain)
-    (All-set IsPlainLine ls a (get_or ls b []) (All-get_or IsPlainLine ls b [] hb plain) plain))
+    All-same IsLineText new (set (set ls a (get_or ls b [])) b (get_or ls a [])) (e ∙ sym (swap_is ls a b [] ha hb))
+    (All-set IsLineText (set ls a (get_or ls b [])) b (get_or ls a []) (All-get_or IsLineText ls a [] ha plain)
+    (All-set IsLineText ls a (get_or ls b []) (All-get_or IsLineText ls b [] hb plain) plain))
 
-pub swapped_lines : (ls new : List (List ℕ)) (a b : ℕ) → a < length ls → b < length ls → All IsPlainLine ls → new ≡ swap ls a b → lines (text_of new) ≡ new
+pub swapped_lines : (ls new : List (List ℕ)) (a b : ℕ) → a < length ls → b < length ls → All IsLineText ls → new ≡ swap ls a b → lines (text_of new) ≡ new
 swapped_lines ls new a b ha hb plain e =
     let size = length-swap ls a b in
     let some : 0 < length new = subst (λ (l : List (List ℕ)). 0 < length l) (sym e) (omega arith) in

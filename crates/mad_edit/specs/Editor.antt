@@ -1,14 +1,17 @@
 -- What an editor is: one text, an offset into it, and an optional tail.
-use Rattle.std.specs.Prelude.{ℕ, ◌+◌, ◌-◌, ◌<◌, ◌≤◌, ◌≡◌, List, ◌++◌, All, Option, None, Some, Bool, not, ◌==◌, length, take, drop, min, max, option_map, slice_range, count_by, nat_lt, nat_eq, if◌then◌else◌}
+use Rattle.std.specs.Prelude.{ℕ, ◌+◌, ◌-◌, ◌<◌, ◌≤◌, ◌≡◌, ◌↔◌, List, ◌++◌, All, Option, None, Some, IfSome, IsSome, IsTrue, Bool, not, ◌==◌, length, take, drop, min, max, option_map, slice_range, count_by, nat_lt, nat_eq, if◌then◌else◌}
+use Rattle.std.specs.Bool.{OnTrue, OnFalse}
 use Rattle.std.specs.Cmp.Lexicographic.{pointwise}
 use Rattle.std.specs.Option.{ForSome, option_eq}
 use Rattle.std.specs.Ordering.{on, eq_of_both}
 use Rattle.std.specs.List.{prefix_len, suffix_len}
 use Rattle.mad_lines.specs.declared.place.Pos.{Pos}
-use Rattle.mad_lines.specs.CharClasses.{is_alphanumeric}
+use Rattle.mad_lines.specs.declared.words.CharClass.{CharClass}
+use Rattle.mad_lines.specs.CharClasses.{is_alphanumeric, is_of}
 use Rattle.mad_lines.specs.LineColumns.{columns, IsIndexAtColumn}
-use Rattle.mad_lines.specs.TextLines.{lines, line_at, IsPlace, IsPlainLine, IsAcceptedChar, is_newline, offset_of, accepted, clamp}
+use Rattle.mad_lines.specs.TextLines.{lines, line_at, IsPlace, IsLineText, IsAcceptedChar, is_newline, offset_of, accepted, clamp}
 
+-- an editor
 pub record Editor : Type 0 where
   pub text : List ℕ
   pub offset : ℕ
@@ -23,13 +26,15 @@ abbrev pub same_editor : Editor → Editor → Bool
 same_editor =
     eq_of_both (on (λ e. e.text) (pointwise nat_eq)) (eq_of_both (on (λ e. e.offset) nat_eq) (on (λ e. e.tail) (option_eq same_place)))
 
--- a place of the text, and the offset that says the same
+-- a place is one of the text
 abbrev pub IsPlaceIn : List ℕ → Pos → Type 0
 IsPlaceIn t p = IsPlace (lines t) p
 
+-- the offset that says the same as a place
 abbrev pub offset_at : List ℕ → Pos → ℕ
 offset_at t p = offset_of (lines t) p
 
+-- a place of the text that says the same as an offset
 abbrev pub IsAt : List ℕ → ℕ → Pos → Type 0
 IsAt t n p = IsPlaceIn t p × (offset_at t p ≡ n)
 
@@ -46,19 +51,23 @@ abbrev pub tail_offset : List ℕ → ℕ → Option Pos → ℕ
 tail_offset t n None = n
 tail_offset t n (Some p) = offset_at t p
 
--- the selection: from the lesser of cursor and tail up to and with the character at the greater
+-- where the selection begins: at the lesser of cursor and tail
 abbrev pub selection_start : Editor → ℕ
 selection_start e = min e.offset (tail_offset e.text e.offset e.tail)
 
+-- its last character: the one at the greater of cursor and tail
 abbrev pub selection_last : Editor → ℕ
 selection_last e = max e.offset (tail_offset e.text e.offset e.tail)
 
+-- the offset past its last character, or the end of the text
 abbrev pub selection_end : Editor → ℕ
 selection_end e = min (selection_last e + 1) (length e.text)
 
+-- the selected characters
 abbrev pub selected : Editor → List ℕ
 selected e = slice_range e.text (selection_start e) (selection_end e)
 
+-- the tail is elsewhere than the cursor
 abbrev pub IsWide : Editor → Type 0
 IsWide e = selection_start e < selection_last e
 
@@ -70,19 +79,23 @@ replaced t from to cs = take from t ++ (accepted cs ++ drop to t)
 abbrev pub without : List ℕ → ℕ → ℕ → List ℕ
 without t from to = take from t ++ drop to t
 
+-- a character that is no newline
 abbrev pub is_in_line : ℕ → Bool
 is_in_line c = not (c == 10)
 
--- the cursor's line: its number, how much of it is before the cursor, its characters before the cursor and after it
+-- the number of the cursor's line
 abbrev pub cursor_line : Editor → ℕ
 cursor_line e = count_by is_newline (take e.offset e.text)
 
+-- how much of its line is before the cursor
 abbrev pub cursor_column : Editor → ℕ
 cursor_column e = suffix_len is_in_line (take e.offset e.text)
 
+-- the characters of its line before the cursor
 abbrev pub front_of_line : Editor → List ℕ
 front_of_line e = drop (e.offset - cursor_column e) (take e.offset e.text)
 
+-- the characters of its line after the cursor
 abbrev pub rest_of_line : Editor → List ℕ
 rest_of_line e = take (prefix_len is_in_line (drop e.offset e.text)) (drop e.offset e.text)
 
@@ -93,11 +106,11 @@ pub record IsEditor (e : Editor) : Type 0 where
   pub last : selection_last e ≤ length e.text
   pub accepted : All IsAcceptedChar e.text
 
--- lines with a cursor and a tail: there is a line, the places are places of it, the lines are plain
+-- lines with a cursor and a tail: both are places of the lines, and each line is the text of one
 pub record IsValid (ls : List (List ℕ)) (at : Pos) (tail : Option Pos) : Type 0 where
   pub cursor : IsPlace ls at
   pub selected : ForSome tail (IsPlace ls)
-  pub plain : All IsPlainLine ls
+  pub plain : All IsLineText ls
 
 -- the editor after characters were put in place of what was between two offsets
 pub record IsReplaced (old new : Editor) (from to : ℕ) (cs : List ℕ) : Type 0 where
@@ -127,15 +140,25 @@ pub record IsCut (old new : Editor) : Type 0 where
   pub cursor : new.offset ≡ selection_start old
   pub tail : new.tail ≡ None
 
--- what a removal at the cursor takes: the character there or the newline; at the end of the text the newline before,
--- if the last line is empty
+-- the characters of a class around the cursor are selected, if it is at one: the tail is at the first, the cursor at the last
+pub record SelectsAround (class : CharClass) (old new : Editor) (answer : Bool) : Type 0 where
+  pub found : IsTrue answer ↔ (0 < prefix_len (is_of class) (rest_of_line old))
+  pub cursor : OnTrue answer (new.offset + 1 ≡ old.offset + prefix_len (is_of class) (rest_of_line old))
+  pub tail : OnTrue answer (IfSome new.tail (λ p. IsAt old.text (old.offset - suffix_len (is_of class) (front_of_line old)) p))
+  pub some : OnTrue answer (IsSome new.tail)
+  pub text : new.text ≡ old.text
+  pub none : OnFalse answer (new ≡ old)
+
+-- Where what a removal at the cursor takes begins: at the cursor. At the end of the text it is the newline before, if the last line
+-- is empty.
 abbrev pub below_start : Editor → ℕ
 below_start e = if nat_lt e.offset (length e.text) then e.offset else (if length (front_of_line e) == 0 then e.offset - 1 else e.offset)
 
+-- where it ends: after the character at the cursor, or at the end of the text
 abbrev pub below_end : Editor → ℕ
 below_end e = min (e.offset + 1) (length e.text)
 
--- where the cursor is after a removal to the right: one step back in its line where letters and digits reached the line's end
+-- where the cursor is after a removal to the right: one step back in its line where letters and numbers reached the line's end
 abbrev pub after_word_removed : Editor → ℕ
 after_word_removed e =
     if prefix_len is_alphanumeric (rest_of_line e) == length (rest_of_line e) then e.offset - min 1 (length (front_of_line e)) else e.offset

@@ -2,7 +2,7 @@
 
 ghost use Rattle.std.specs.Prelude.{◌≡◌, ◌<◌, ◌≤◌, ◌+◌, ◌-◌, ◌↔◌, [], None, Some, length, chars, min, max, option_map, IfOk, IfSome, IsSome, OnOk, OnErr, IsTrue, string_bytes, encode_utf8_all, slice_range};
 ghost use Rattle.std.specs.Option.{option_or, ForSome};
-ghost use Rattle.mad_lines.specs.TextLines.{lines, lines_of, accepted};
+ghost use Rattle.mad_lines.specs.TextLines.{lines, lines_of, accepted, clamp, IsPlace};
 ghost use Rattle.mad_edit.specs.Editor.{IsPlaceIn, offset_at, IsAt, clamp_in, clamp_tail, replaced, cursor_line, cursor_column, front_of_line, rest_of_line, IsEditor, IsWide, IsMovedToLine, selection_start, selection_last};
 
 mod comparing;
@@ -39,8 +39,24 @@ impl Model for InputFieldContent {
     ghost invariant = { λ a. IsValid (lines_of a.lines.items) a.pos a.selection_tail };
 }
 
+/// A tail at the nearest place of these lines.
+fn clamp_tail(lines: &Vec<Line>, tail: Option<Pos>) -> Option<Pos>
+    requires { 0 < length lines.now.items }
+    ensures is { result ≡ option_map (clamp (lines_of lines.now.items)) tail }
+    ensures place { ForSome result (IsPlace (lines_of lines.now.items)) }
+{
+    match tail {
+        Some(tail) => Some(valid_pos(lines, tail)),
+        None => None,
+    }
+}
+
 impl InputFieldContent {
     /// An empty text.
+    ///
+    /// # Errors
+    ///
+    /// Out of memory is the only error.
     pub fn new(alloc: Global) -> Result<InputFieldContent, AllocError>
         ensures { IfOk result (λ e. e ≡ record { text = []; offset = 0; tail = None }) }
     {
@@ -60,6 +76,7 @@ impl InputFieldContent {
         ensures column { result.x ≡ cursor_column self.now }
         ensures valid { IsEditor self.now }
     {
+        // Read so that the invariant of the lines is at hand.
         let _ = &self.lines;
         self.pos
     }
@@ -77,9 +94,7 @@ impl InputFieldContent {
     {
         let pos = edit_lines(&mut self.lines, from, to, s)?;
         self.pos = pos;
-        if let Some(tail) = self.selection_tail {
-            self.selection_tail = Some(valid_pos(&self.lines, tail));
-        }
+        self.selection_tail = clamp_tail(&self.lines, self.selection_tail);
         Ok(())
     }
 
@@ -88,6 +103,7 @@ impl InputFieldContent {
         requires { IsPlaceIn self.old.text p }
         ensures { self.new ≡ record self.old { offset = offset_at self.old.text p } }
     {
+        // Read so that the invariant of the lines is at hand.
         let _ = &self.lines;
         self.pos = p;
     }
@@ -208,6 +224,10 @@ impl InputFieldContent {
     }
 
     /// A copy of the text, the cursor and the tail.
+    ///
+    /// # Errors
+    ///
+    /// Out of memory is the only error.
     pub fn try_clone(&self, alloc: Global) -> Result<InputFieldContent, AllocError>
         ensures { IfOk result (λ copy. copy ≡ self.now) }
     {
@@ -240,6 +260,7 @@ impl InputFieldContent {
     pub(crate) fn start(&self) -> Pos
         ensures { IsAt self.now.text 0 result }
     {
+        // Read so that the invariant of the lines is at hand.
         let _ = &self.lines;
         Pos { y: 0, x: 0 }
     }
@@ -276,6 +297,7 @@ impl InputFieldContent {
         requires { IsPlaceIn self.old.text p }
         ensures { self.new ≡ record self.old { tail = Some p } }
     {
+        // Read so that the invariant of the lines is at hand.
         let _ = &self.lines;
         self.selection_tail = Some(p);
     }

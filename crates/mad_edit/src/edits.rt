@@ -1,4 +1,4 @@
-//! Edits at the cursor. After out of memory the editor is unchanged.
+//! Edits at the cursor.
 
 ghost use Rattle.std.specs.Prelude.{◌≡◌, ◌<◌, ◌≤◌, ◌+◌, ◌-◌, ◌↔◌, ◌⊎◌, [], ◌∷◌, ◌++◌, false, length, chars, IfOk, OnOk, OnErr, IsTrue};
 ghost use Rattle.mad_lines.specs.TextLines.{accepted};
@@ -12,6 +12,10 @@ use std::alloc::AllocError;
 
 impl InputFieldContent {
     /// Puts a text in at the cursor, and the cursor after it. Carriage returns and backspaces are left out.
+    ///
+    /// # Errors
+    ///
+    /// Out of memory is the only error, and leaves the editor unchanged.
     pub fn insert_str(&mut self, s: &str) -> Result<(), AllocError>
         ensures ok { OnOk result (IsReplaced self.old self.new self.old.offset self.old.offset (chars s.now)) }
         ensures err { OnErr result (self.new ≡ self.old) }
@@ -21,6 +25,10 @@ impl InputFieldContent {
     }
 
     /// Puts a character in at the cursor, and the cursor after it. A carriage return or a backspace is left out.
+    ///
+    /// # Errors
+    ///
+    /// Out of memory is the only error, and leaves the editor unchanged.
     pub fn insert_char(&mut self, c: char) -> Result<(), AllocError>
         ensures ok { OnOk result (IsReplaced self.old self.new self.old.offset self.old.offset (c ∷ [])) }
         ensures err { OnErr result (self.new ≡ self.old) }
@@ -31,6 +39,10 @@ impl InputFieldContent {
     }
 
     /// Puts a newline in at the cursor, and the cursor after it.
+    ///
+    /// # Errors
+    ///
+    /// Out of memory is the only error, and leaves the editor unchanged.
     pub fn insert_new_line(&mut self) -> Result<(), AllocError>
         ensures ok { OnOk result (IsReplaced self.old self.new self.old.offset self.old.offset (10 ∷ [])) }
         ensures err { OnErr result (self.new ≡ self.old) }
@@ -40,6 +52,10 @@ impl InputFieldContent {
 
     /// Puts a character in at the end of the text. The cursor and the tail stay.
     /// A carriage return or a backspace is left out.
+    ///
+    /// # Errors
+    ///
+    /// Out of memory is the only error, and leaves the editor unchanged.
     pub fn push_char(&mut self, c: char) -> Result<(), AllocError>
         ensures text { OnOk result (self.new.text ≡ self.old.text ++ accepted (c ∷ [])) }
         ensures cursor { OnOk result (self.new.offset ≡ self.old.offset) }
@@ -68,6 +84,10 @@ impl InputFieldContent {
     }
 
     /// Removes the character before the cursor. Returns whether there is one.
+    ///
+    /// # Errors
+    ///
+    /// Out of memory is the only error, and leaves the editor unchanged.
     pub fn del_char_left(&mut self) -> Result<bool, AllocError>
         ensures done { IfOk result (λ b. IsTrue b ↔ (0 < self.old.offset)) }
         ensures removed { IfOk result (λ b. IsTrue b → IsRemoved self.old self.new (self.old.offset - 1) self.old.offset) }
@@ -86,6 +106,10 @@ impl InputFieldContent {
 
     /// Removes the character at the cursor, or the newline at a line's end. At the end of the text it removes
     /// the last line if that is empty and not the only one. Returns whether anything was removed.
+    ///
+    /// # Errors
+    ///
+    /// Out of memory is the only error, and leaves the editor unchanged.
     pub fn del_char_below(&mut self) -> Result<bool, AllocError>
         ensures done { IfOk result (λ b. IsTrue b ↔ (below_start self.old < below_end self.old)) }
         ensures removed { IfOk result (λ b. IsTrue b → IsRemoved self.old self.new (below_start self.old) (below_end self.old)) }
@@ -104,6 +128,10 @@ impl InputFieldContent {
     }
 
     /// Removes the word before the cursor in its line: what a move by a word goes over. Returns whether there is a step.
+    ///
+    /// # Errors
+    ///
+    /// Out of memory is the only error, and leaves the editor unchanged.
     pub fn del_word_left(&mut self) -> Result<bool, AllocError>
         ensures done { IfOk result (λ b. IsTrue b ↔ (0 < length (front_of_line self.old))) }
         ensures removed { IfOk result (λ b. IsTrue b →
@@ -121,9 +149,13 @@ impl InputFieldContent {
         Ok(true)
     }
 
-    /// Removes letters and digits after the cursor in its line, and the first other character. Where they reach the
+    /// Removes letters and numbers after the cursor in its line, and the first other character. Where they reach the
     /// line's end, or where the cursor is there, the cursor goes one step back in its line.
     /// Returns whether anything was done.
+    ///
+    /// # Errors
+    ///
+    /// Out of memory is the only error, and leaves the editor unchanged.
     pub fn del_word_right(&mut self) -> Result<bool, AllocError>
         ensures done { IfOk result (λ b. IsTrue b ↔ ((0 < length (front_of_line self.old)) ⊎ (0 < length (rest_of_line self.old)))) }
         ensures removed { OnOk result (0 < length (rest_of_line self.old) → (self.new.text

@@ -110,7 +110,7 @@ impl InputFieldContent {
         count > 0
     }
 
-    /// A word to the left in the line: one step, and on to the line's start or past the last letter or digit.
+    /// A word to the left in the line: one step, and on to the line's start or past the last letter or number.
     /// Returns whether there is a step.
     pub fn move_word_left(&mut self) -> bool
         ensures can { IsTrue result ↔ (0 < length (front_of_line self.old)) }
@@ -122,7 +122,7 @@ impl InputFieldContent {
         count > 0
     }
 
-    /// A word to the right in the line: one step, and on as far as the character after the next one is a letter or digit.
+    /// A word to the right in the line: one step, and on while the character after the next one is a letter or number.
     /// Returns whether there is a step.
     pub fn move_word_right(&mut self) -> bool
         ensures can { IsTrue result ↔ (0 < length (rest_of_line self.old)) }

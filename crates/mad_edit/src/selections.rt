@@ -1,13 +1,10 @@
 //! What is selected: copied, removed, replaced.
 
-ghost use Rattle.std.specs.Prelude.{◌≡◌, ◌<◌, ◌≤◌, ◌+◌, ◌-◌, ◌↔◌, false, length, chars, IfOk, OnOk, OnErr, IsTrue, IfSome, string_bytes, encode_utf8_all, IsSome, None};
-ghost use Rattle.std.specs.Bool.{OnTrue, OnFalse};
-ghost use Rattle.std.specs.List.{prefix_len, suffix_len};
-ghost use Rattle.mad_lines.specs.CharClasses.{is_of};
+ghost use Rattle.std.specs.Prelude.{◌≡◌, ◌<◌, ◌≤◌, ◌+◌, ◌↔◌, false, length, chars, IfOk, OnOk, OnErr, IsTrue, string_bytes, encode_utf8_all, None};
 ghost use Rattle.mad_lines.specs.TextLines.{accepted};
 ghost use Rattle.mad_edit.specs.Undo.{Removes};
 ghost use Rattle.mad_lines.specs.declared.place.Pos.{Pos};
-ghost use Rattle.mad_edit.specs.Editor.{IsEditor, inserted, IsAt, IsCut, IsRemoved, IsReplaced, IsWide, replaced, selected, selection_start, selection_last, selection_end, below_start, below_end, front_of_line, rest_of_line};
+ghost use Rattle.mad_edit.specs.Editor.{IsEditor, inserted, IsAt, IsCut, IsRemoved, IsReplaced, IsWide, replaced, selected, selection_start, selection_last, selection_end, below_start, below_end, SelectsAround};
 
 use crate::content::InputFieldContent;
 use mad_lines::{CharClass, Range};
@@ -15,6 +12,10 @@ use std::alloc::AllocError;
 
 impl InputFieldContent {
     /// The selected characters.
+    ///
+    /// # Errors
+    ///
+    /// Out of memory is the only error.
     pub fn selection_string(&self) -> Result<String, AllocError>
         ensures is { IfOk result (λ s. string_bytes s ≡ encode_utf8_all (selected self.now)) }
         ensures valid { IsEditor self.now }
@@ -25,6 +26,10 @@ impl InputFieldContent {
     }
 
     /// A copy of the selected characters.
+    ///
+    /// # Errors
+    ///
+    /// Out of memory is the only error.
     pub fn copy_selection(&self) -> Result<String, AllocError>
         ensures { IfOk result (λ s. string_bytes s ≡ encode_utf8_all (selected self.now)) }
     {
@@ -45,6 +50,10 @@ impl InputFieldContent {
 
     /// Removes the selected characters where the selection is wide, else what `del_char_below` removes.
     /// Returns whether anything was removed.
+    ///
+    /// # Errors
+    ///
+    /// Out of memory is the only error, and leaves the editor unchanged.
     pub fn del_selection(&mut self) -> Result<bool, AllocError>
         ensures wide { IfOk result (λ b. IsWide self.old → IsCut self.old self.new × IsTrue b) }
         ensures done { IfOk result (λ b. selection_last self.old ≤ selection_start self.old → (IsTrue b ↔ (below_start self.old < below_end self.old))) }
@@ -62,6 +71,10 @@ impl InputFieldContent {
 
     /// Hands out the selected characters and removes what `del_selection` removes. Inserting what a wide selection
     /// handed out gives back the text.
+    ///
+    /// # Errors
+    ///
+    /// Out of memory is the only error, and leaves the editor unchanged.
     pub fn cut_selection(&mut self) -> Result<String, AllocError>
         ensures handed { IfOk result (λ s. string_bytes s ≡ encode_utf8_all (selected self.old)) }
         ensures wide { OnOk result (IsWide self.old → IsCut self.old self.new) }
@@ -80,6 +93,10 @@ impl InputFieldContent {
     }
 
     /// Puts a text in place of a wide selection, or in at the cursor. Carriage returns and backspaces are left out.
+    ///
+    /// # Errors
+    ///
+    /// Out of memory is the only error, and leaves the editor unchanged.
     pub fn replace_selection(&mut self, s: &str) -> Result<(), AllocError>
         ensures wide { OnOk result (IsWide self.old → (self.new.text
             ≡ replaced self.old.text (selection_start self.old) (selection_end self.old) (chars s.now))
@@ -100,12 +117,7 @@ impl InputFieldContent {
 
     /// Selects the characters of a class around the cursor: the tail at the first, the cursor at the last.
     fn select_around(&mut self, class: CharClass) -> bool
-        ensures found { IsTrue result ↔ (0 < prefix_len (is_of class) (rest_of_line self.old)) }
-        ensures cursor { OnTrue result (self.new.offset + 1 ≡ self.old.offset + prefix_len (is_of class) (rest_of_line self.old)) }
-        ensures tail { OnTrue result (IfSome self.new.tail (λ p. IsAt self.old.text (self.old.offset - suffix_len (is_of class) (front_of_line self.old)) p)) }
-        ensures some { OnTrue result (IsSome self.new.tail) }
-        ensures text { self.new.text ≡ self.old.text }
-        ensures none { OnFalse result (self.new ≡ self.old) }
+        ensures { SelectsAround class self.old self.new result }
     {
         let after = class.count_front(self.rest_of_line());
         if after == 0 {
@@ -119,27 +131,17 @@ impl InputFieldContent {
         true
     }
 
-    /// Selects the word around the cursor: letters, digits and `_`. The tail is put at its first character, the
+    /// Selects the word around the cursor: letters, numbers and `_`. The tail is put at its first character, the
     /// cursor at its last. Returns whether the cursor is at a character of a word.
     pub fn select_word_around(&mut self) -> bool
-        ensures found { IsTrue result ↔ (0 < prefix_len (is_of CharClass.Word) (rest_of_line self.old)) }
-        ensures cursor { OnTrue result (self.new.offset + 1 ≡ self.old.offset + prefix_len (is_of CharClass.Word) (rest_of_line self.old)) }
-        ensures tail { OnTrue result (IfSome self.new.tail (λ p. IsAt self.old.text (self.old.offset - suffix_len (is_of CharClass.Word) (front_of_line self.old)) p)) }
-        ensures some { OnTrue result (IsSome self.new.tail) }
-        ensures text { self.new.text ≡ self.old.text }
-        ensures none { OnFalse result (self.new ≡ self.old) }
+        ensures { SelectsAround CharClass.Word self.old self.new result }
     {
         self.select_around(CharClass::Word)
     }
 
     /// Selects the characters around the cursor that are no whitespace, as `select_word_around` does a word.
     pub fn select_non_space_around(&mut self) -> bool
-        ensures found { IsTrue result ↔ (0 < prefix_len (is_of CharClass.NonSpace) (rest_of_line self.old)) }
-        ensures cursor { OnTrue result (self.new.offset + 1 ≡ self.old.offset + prefix_len (is_of CharClass.NonSpace) (rest_of_line self.old)) }
-        ensures tail { OnTrue result (IfSome self.new.tail (λ p. IsAt self.old.text (self.old.offset - suffix_len (is_of CharClass.NonSpace) (front_of_line self.old)) p)) }
-        ensures some { OnTrue result (IsSome self.new.tail) }
-        ensures text { self.new.text ≡ self.old.text }
-        ensures none { OnFalse result (self.new ≡ self.old) }
+        ensures { SelectsAround CharClass.NonSpace self.old self.new result }
     {
         self.select_around(CharClass::NonSpace)
     }

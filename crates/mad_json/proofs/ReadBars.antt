@@ -31,9 +31,9 @@ some_is : {A : Type 0} (o : Option A) (d : A) → IsSome o → Some (unwrap_or o
 some_is None d h = let e : false ≡ true = h in cc
 some_is (Some x) d h = refl
 
--- a mark of these parts
-abbrev marked : ℕ → Option Color → Option Color → Option Color → Attributes → StyledChar
-marked c foreground background underline attributes =
+-- a drawn character of these parts
+abbrev char_of_parts : ℕ → Option Color → Option Color → Option Color → Attributes → StyledChar
+char_of_parts c foreground background underline attributes =
     record {
       compound_style = record {
         object_style = record {
@@ -46,15 +46,15 @@ marked c foreground background underline attributes =
       nude_char = c;
     }
 
-only_colored : (mark : StyledChar) (d : Color) → IsOnlyColored mark → (char_style mark).object_style.background_color ≡ None → (char_style mark).object_style.underline_color ≡ None
-    → colored_char (unwrap_or (char_style mark).object_style.foreground_color d) (char_alone mark) ≡ mark
-only_colored mark d colored background underline =
-    let c = char_alone mark in
-    let style = (char_style mark).object_style in
-    ap (λ f. marked c f None None no_attributes) (some_is style.foreground_color d colored.foreground)
-    ∙ ap (λ b. marked c style.foreground_color b None no_attributes) (sym background)
-    ∙ ap (λ u. marked c style.foreground_color style.background_color u no_attributes) (sym underline)
-    ∙ ap (λ a. marked c style.foreground_color style.background_color style.underline_color a) (sym colored.attributes)
+only_colored : (drawn : StyledChar) (d : Color) → IsOnlyColored drawn → (char_style drawn).object_style.background_color ≡ None → (char_style drawn).object_style.underline_color ≡ None
+    → colored_char (unwrap_or (char_style drawn).object_style.foreground_color d) (char_alone drawn) ≡ drawn
+only_colored drawn d colored background underline =
+    let c = char_alone drawn in
+    let style = (char_style drawn).object_style in
+    ap (λ f. char_of_parts c f None None no_attributes) (some_is style.foreground_color d colored.foreground)
+    ∙ ap (λ b. char_of_parts c style.foreground_color b None no_attributes) (sym background)
+    ∙ ap (λ u. char_of_parts c style.foreground_color style.background_color u no_attributes) (sym underline)
+    ∙ ap (λ a. char_of_parts c style.foreground_color style.background_color style.underline_color a) (sym colored.attributes)
 
 simple_back : (bar : ScrollBarStyle) → IsReadBackBar bar → is_simple bar ≡ true → bar_of_char (simple_char bar) ≡ bar
 simple_back bar h simple =
@@ -77,22 +77,22 @@ simple_written bar h simple = record {
     underline = refl;
     attributes = λ a unwritten. subst (λ s. has_attribute s a ≡ false) (h.simple_thumb simple).attributes (h.thumb.style.attributes a unwritten);
   };
-  no_whitespace = h.track.no_whitespace;
+  mark = h.track.mark;
   no_digit = h.track.no_digit;
 }
 
-simple_parts : (bar : ScrollBarStyle) (mark : StyledChar) → def_of bar ≡ Simple mark → (is_simple bar ≡ true) × (mark ≡ simple_char bar)
-simple_parts bar mark is =
-    elim (cases_Bool (is_simple bar)) as (λ _. (is_simple bar ≡ true) × (mark ≡ simple_char bar)) [
-      | inl holds ↦ (holds, let e : Simple mark ≡ Simple (simple_char bar) = sym is ∙ cond-true (is_simple bar) (Simple (simple_char bar)) (Rich bar.track bar.thumb) holds in cc)
-      | inr fails ↦ absurd (let e : Simple mark ≡ Rich bar.track bar.thumb = sym is ∙ cond-false (is_simple bar) (Simple (simple_char bar)) (Rich bar.track bar.thumb) fails in cc)
+simple_parts : (bar : ScrollBarStyle) (drawn : StyledChar) → def_of bar ≡ Simple drawn → (is_simple bar ≡ true) × (drawn ≡ simple_char bar)
+simple_parts bar drawn is =
+    elim (cases_Bool (is_simple bar)) as (λ _. (is_simple bar ≡ true) × (drawn ≡ simple_char bar)) [
+      | inl holds ↦ (holds, let e : Simple drawn ≡ Simple (simple_char bar) = sym is ∙ cond-true (is_simple bar) (Simple (simple_char bar)) (Rich bar.track bar.thumb) holds in cc)
+      | inr fails ↦ absurd (let e : Simple drawn ≡ Rich bar.track bar.thumb = sym is ∙ cond-false (is_simple bar) (Simple (simple_char bar)) (Rich bar.track bar.thumb) fails in cc)
     ]
 
-pub simple_read : (bar : ScrollBarStyle) (mark : StyledChar) → def_of bar ≡ Simple mark → ReadsBackChar mark → ReadsBackBar bar
-simple_read bar mark is reads =
+pub simple_read : (bar : ScrollBarStyle) (drawn : StyledChar) → def_of bar ≡ Simple drawn → ReadsBackChar drawn → ReadsBackBar bar
+simple_read bar drawn is reads =
     λ h.
-    let parts = simple_parts bar mark is in
-    let written : IsReadBackChar mark = subst IsReadBackChar (sym parts.1) (simple_written bar h parts.0) in
+    let parts = simple_parts bar drawn is in
+    let written : IsReadBackChar drawn = subst IsReadBackChar (sym parts.1) (simple_written bar h parts.0) in
     ap (λ d. scrollbar_said (bar_data d)) is
     ∙ ap (λ r. made bar_of_char (of_text r)) (reads written 42)
     ∙ ap (λ m. Ok (bar_of_char m)) parts.1

@@ -1,4 +1,4 @@
--- What a skin is written as says that skin.
+-- Lists and modes read back from what they are written as.
 use Rattle.std.proofs.Common.{◌≡◌, ℕ, ◌+◌, ◌<◌, ◌≤◌, get_or, subst, zero, suc, false, List, [], ◌∷◌, ◌++◌, length, map, take, drop, refl, sym, ap, ◌∙◌, arith, lt-ltb, append_assoc, append-nil, None, Result, Ok}
 use Rattle.std.specs.Prelude.{codes, decimal, nat_lt, option_map}
 use Rattle.std.specs.List.{All}

@@ -1,4 +1,4 @@
--- What a skin is written as says that skin.
+-- A whole skin reads back from what it is written as.
 use Rattle.std.proofs.Common.{◌≡◌, ℕ, false, List, [], length, map, refl, sym, ap, ◌∙◌, Option, Some, None, Ok}
 use Rattle.std.specs.Prelude.{codes}
 use Rattle.std.specs.List.{All}
@@ -19,10 +19,10 @@ use Rattle.mad_layout.specs.declared.skin.MadSkin.{MadSkin}
 use Rattle.mad_json.specs.Fields.{field_named}
 use Rattle.mad_json.specs.Lists.{replaced, headers_said, ordered_items_said}
 use Rattle.mad_json.specs.Reading.{Found, nothing_found, borders_or, part_said, is_seen, now_seen, members_read, then_found, value_read, names_again, found_part, skin_and_unknown, skin_read}
-use Rattle.mad_json.specs.ReadsBack.{ReadsBackStyle, ReadsBackLine, ReadsBackChar, ReadsBackItem, ReadBackAdditions, ReadBackMarks, ReadBackLines, ReadBackItems, IsReadBackSkin, SkinReadsBack}
+use Rattle.mad_json.specs.ReadsBack.{ReadsBackStyle, ReadsBackLine, ReadsBackChar, ReadsBackItem, ReadBackAdditions, ReadBackChars, ReadBackLines, ReadBackItems, IsReadBackSkin, SkinReadsBack}
 use Rattle.mad_json.specs.ScrollBars.{def_of}
 use Rattle.mad_json.specs.Texts.{of_text, made, value_said}
-use Rattle.mad_json.specs.Written.{style_data, line_data, mark_data, item_data, bar_data, mode_text, IsNameOf, skin_data}
+use Rattle.mad_json.specs.Written.{style_data, line_data, char_data, item_data, bar_data, mode_text, IsNameOf, skin_data}
 use Rattle.mad_json.specs.declared.fields.Field.{Field}
 use Rattle.mad_json.specs.declared.fields.Field.TheVariants.{Bold, Italic, Strikeout, InlineCode, Ellipsis, Bullet, QuoteMark, HorizontalRule, ScrollBar, Paragraph, CodeBlock, Table, Headers, OrderedItems, TableBorders, IndentationMode}
 use Rattle.mad_json.specs.declared.scroll_bars.ScrollBarStyleDef.{ScrollBarStyleDef}
@@ -37,8 +37,8 @@ style_said style reads written = ap of_text (reads written)
 line_said : (line : LineStyle) → ReadsBackLine line → IsReadBackLine line → value_said line_style_of (line_data line) ≡ Ok line
 line_said line reads written = ap of_text (reads written)
 
-mark_said : (mark : StyledChar) → ReadsBackChar mark → IsReadBackChar mark → value_said (styled_char_of 42) (mark_data mark) ≡ Ok mark
-mark_said mark reads written = ap of_text (reads written 42)
+char_said : (drawn : StyledChar) → ReadsBackChar drawn → IsReadBackChar drawn → value_said (styled_char_of 42) (char_data drawn) ≡ Ok drawn
+char_said drawn reads written = ap of_text (reads written 42)
 
 item_said : (style : OrderedItemStyle) → ReadsBackItem style → IsReadBackItem style → value_said (item_style_of 46) (item_data style) ≡ Ok style
 item_said style reads written = ap of_text (reads written 46)
@@ -53,7 +53,7 @@ items_all_said styles old reads written same =
     ap (made (replaced old)) (items_back (item_style_of 46) item_data styles [] (λ k d within. item_said _ (reads k d within) (written k d within))) ∙ ap Ok (replaced_all old styles same)
 
 bar_flat : (def : ScrollBarStyleDef) → has_float (bar_data def) ≡ false
-bar_flat (Simple mark) = refl
+bar_flat (Simple drawn) = refl
 bar_flat (Rich track thumb) = refl
 
 -- ---- members
@@ -109,7 +109,7 @@ members_in_order : (bold italic strikeout inline_code ellipsis bullet quote rule
 members_in_order bold italic strikeout inline_code ellipsis bullet quote rule bar paragraph code table headers items mode borders = refl
 
 -- the skin of a name that borders have
-written_skin : (skin : MadSkin) (name : List ℕ) → borders_named name ≡ Some skin.table_border_chars → ReadBackAdditions skin → ReadBackMarks skin → ReadBackLines skin → ReadBackItems skin → IsReadBackSkin skin
+written_skin : (skin : MadSkin) (name : List ℕ) → borders_named name ≡ Some skin.table_border_chars → ReadBackAdditions skin → ReadBackChars skin → ReadBackLines skin → ReadBackItems skin → IsReadBackSkin skin
     → skin_read (skin_data skin (Some name)) ≡ Ok (skin, [])
 written_skin skin name named a m l i h =
     let s0 : MadSkin = default_skin in
@@ -151,36 +151,36 @@ written_skin skin name named a m l i h =
     let m14 : Members = member (codes "table") (line_data skin.table) m15 in
     let m13 : Members = member (codes "strikeout") (style_data skin.strikeout) m14 in
     let m12 : Members = member (codes "scrollbar") (bar_data (def_of skin.scrollbar)) m13 in
-    let m11 : Members = member (codes "quote") (mark_data skin.quote_mark) m12 in
+    let m11 : Members = member (codes "quote") (char_data skin.quote_mark) m12 in
     let m10 : Members = member (codes "paragraph") (line_data skin.paragraph) m11 in
     let m9 : Members = member (codes "ordered_items") (array (items_of (map item_data skin.ordered_item_styles))) m10 in
     let m8 : Members = member (codes "list_items_indentation_mode") (string (mode_text skin.list_items_indentation_mode)) m9 in
     let m7 : Members = member (codes "italic") (style_data skin.italic) m8 in
     let m6 : Members = member (codes "inline_code") (style_data skin.inline_code) m7 in
-    let m5 : Members = member (codes "horizontal_rule") (mark_data skin.horizontal_rule) m6 in
+    let m5 : Members = member (codes "horizontal_rule") (char_data skin.horizontal_rule) m6 in
     let m4 : Members = member (codes "headers") (array (items_of (map line_data skin.headers))) m5 in
     let m3 : Members = member (codes "ellipsis") (style_data skin.ellipsis) m4 in
     let m2 : Members = member (codes "code_block") (line_data skin.code_block) m3 in
-    let m1 : Members = member (codes "bullet") (mark_data skin.bullet) m2 in
-    ap (λ ms. skin_and_unknown (members_read ms nothing_found)) (members_in_order (style_data skin.bold) (style_data skin.italic) (style_data skin.strikeout) (style_data skin.inline_code) (style_data skin.ellipsis) (mark_data skin.bullet) (mark_data skin.quote_mark) (mark_data skin.horizontal_rule) (bar_data (def_of skin.scrollbar)) (line_data skin.paragraph) (line_data skin.code_block) (line_data skin.table) (array (items_of (map line_data skin.headers))) (array (items_of (map item_data skin.ordered_item_styles))) (string (mode_text skin.list_items_indentation_mode)) (string name))
+    let m1 : Members = member (codes "bullet") (char_data skin.bullet) m2 in
+    ap (λ ms. skin_and_unknown (members_read ms nothing_found)) (members_in_order (style_data skin.bold) (style_data skin.italic) (style_data skin.strikeout) (style_data skin.inline_code) (style_data skin.ellipsis) (char_data skin.bullet) (char_data skin.quote_mark) (char_data skin.horizontal_rule) (bar_data (def_of skin.scrollbar)) (line_data skin.paragraph) (line_data skin.code_block) (line_data skin.table) (array (items_of (map line_data skin.headers))) (array (items_of (map item_data skin.ordered_item_styles))) (string (mode_text skin.list_items_indentation_mode)) (string name))
     ∙ ap skin_and_unknown
     (part_read (codes "bold") (style_data skin.bold) Bold f0 s1 m1 refl refl (refl) (ap (made (λ x. record s0 { bold = x })) (style_said _ a.bold h.bold))
-    ∙ part_read (codes "bullet") (mark_data skin.bullet) Bullet f1 s2 m2 refl refl (refl) (ap (made (λ x. record s1 { bullet = x })) (mark_said _ m.bullet h.bullet))
+    ∙ part_read (codes "bullet") (char_data skin.bullet) Bullet f1 s2 m2 refl refl (refl) (ap (made (λ x. record s1 { bullet = x })) (char_said _ m.bullet h.bullet))
     ∙ part_read (codes "code_block") (line_data skin.code_block) CodeBlock f2 s3 m3 refl refl (refl) (ap (made (λ x. record s2 { code_block = x })) (line_said _ l.code_block h.code_block))
     ∙ part_read (codes "ellipsis") (style_data skin.ellipsis) Ellipsis f3 s4 m4 refl refl (refl) (ap (made (λ x. record s3 { ellipsis = x })) (style_said _ a.ellipsis h.ellipsis))
     ∙ part_read (codes "headers") (array (items_of (map line_data skin.headers))) Headers f4 s5 m5 refl refl (texts_flat (λ x. tokens_text (line_style_tokens x)) skin.headers) (ap (made (λ x. record s4 { headers = x })) (lines_said skin.headers default_skin.headers l.headers h.headers (sym l.levels)))
-    ∙ part_read (codes "horizontal_rule") (mark_data skin.horizontal_rule) HorizontalRule f5 s6 m6 refl refl (refl) (ap (made (λ x. record s5 { horizontal_rule = x })) (mark_said _ m.horizontal_rule h.horizontal_rule))
+    ∙ part_read (codes "horizontal_rule") (char_data skin.horizontal_rule) HorizontalRule f5 s6 m6 refl refl (refl) (ap (made (λ x. record s5 { horizontal_rule = x })) (char_said _ m.horizontal_rule h.horizontal_rule))
     ∙ part_read (codes "inline_code") (style_data skin.inline_code) InlineCode f6 s7 m7 refl refl (refl) (ap (made (λ x. record s6 { inline_code = x })) (style_said _ a.inline_code h.inline_code))
     ∙ part_read (codes "italic") (style_data skin.italic) Italic f7 s8 m8 refl refl (refl) (ap (made (λ x. record s7 { italic = x })) (style_said _ a.italic h.italic))
     ∙ part_read (codes "list_items_indentation_mode") (string (mode_text skin.list_items_indentation_mode)) IndentationMode f8 s9 m9 refl refl (refl) (ap (made (λ x. record s8 { list_items_indentation_mode = x })) (i.mode))
     ∙ part_read (codes "ordered_items") (array (items_of (map item_data skin.ordered_item_styles))) OrderedItems f9 s10 m10 refl refl (texts_flat (λ x. tokens_text (item_tokens x)) skin.ordered_item_styles) (ap (made (λ x. record s9 { ordered_item_styles = x })) (items_all_said skin.ordered_item_styles default_skin.ordered_item_styles i.items h.ordered_items (sym i.levels)))
     ∙ part_read (codes "paragraph") (line_data skin.paragraph) Paragraph f10 s11 m11 refl refl (refl) (ap (made (λ x. record s10 { paragraph = x })) (line_said _ l.paragraph h.paragraph))
-    ∙ part_read (codes "quote") (mark_data skin.quote_mark) QuoteMark f11 s12 m12 refl refl (refl) (ap (made (λ x. record s11 { quote_mark = x })) (mark_said _ m.quote_mark h.quote_mark))
+    ∙ part_read (codes "quote") (char_data skin.quote_mark) QuoteMark f11 s12 m12 refl refl (refl) (ap (made (λ x. record s11 { quote_mark = x })) (char_said _ m.quote_mark h.quote_mark))
     ∙ part_read (codes "scrollbar") (bar_data (def_of skin.scrollbar)) ScrollBar f12 s13 m13 refl refl (bar_flat (def_of skin.scrollbar)) (ap (made (λ x. record s12 { scrollbar = x })) (m.scrollbar h.scrollbar))
     ∙ part_read (codes "strikeout") (style_data skin.strikeout) Strikeout f13 s14 m14 refl refl (refl) (ap (made (λ x. record s13 { strikeout = x })) (style_said _ a.strikeout h.strikeout))
     ∙ part_read (codes "table") (line_data skin.table) Table f14 s15 m15 refl refl (refl) (ap (made (λ x. record s14 { table = x })) (line_said _ l.table h.table))
     ∙ part_read (codes "table_border_chars") (string name) TableBorders f15 s16 m16 refl refl (refl) (ap (λ o. let s : MadSkin = record s15 { table_border_chars = borders_or s15.table_border_chars o } in Ok s) named))
 
-pub skin_back : (skin : MadSkin) (name : Option (List ℕ)) (d : Data) → IsNameOf skin.table_border_chars name → d ≡ skin_data skin name → ReadBackAdditions skin → ReadBackMarks skin → ReadBackLines skin → ReadBackItems skin → SkinReadsBack skin d
+pub skin_back : (skin : MadSkin) (name : Option (List ℕ)) (d : Data) → IsNameOf skin.table_border_chars name → d ≡ skin_data skin name → ReadBackAdditions skin → ReadBackChars skin → ReadBackLines skin → ReadBackItems skin → SkinReadsBack skin d
 skin_back skin None d unnamed is a m l i h = absurd (unnamed h.borders.0 h.borders.1)
 skin_back skin (Some name) d named is a m l i h = ap skin_read is ∙ written_skin skin name named a m l i h

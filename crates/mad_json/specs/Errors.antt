@@ -4,6 +4,7 @@ use Rattle.mad_parse.specs.Errors.{token_error_text}
 use Rattle.mad_json.specs.declared.errors.SkinError.{SkinError}
 use Rattle.mad_json.specs.declared.errors.SkinError.TheVariants.{NotObject, WrongType, Style, TwoNames, Memory}
 
+-- the text of an error
 abbrev pub skin_error_text : SkinError → List ℕ
 skin_error_text NotObject = codes "not an object"
 skin_error_text (WrongType key) = codes "wrong type: " ++ string_bytes key

@@ -7,12 +7,12 @@ use Rattle.mad_json.specs.declared.errors.SkinError.TheVariants.{NotObject, Wron
 use Rattle.mad_json.specs.declared.errors.ValueError.{ValueError}
 use Rattle.mad_json.specs.declared.errors.ValueError.TheVariants as value_error
 
--- why the value of a key says no part of a skin: it is of another kind, or a text in it is no text of its kind
+-- why a key's value says no part of a skin: it is of another kind, or a text in it is none of its kind
 pub data ValueFault : Type 0 where
   wrong_kind : ValueFault
   bad_text : Fault → ValueFault
 
--- why a value is no skin: it is no object; the value of a key is at fault; a key names what another key before it named
+-- why a value is no skin: it is no object; a key's value is at fault; a key names what another before it named
 pub data SkinFault : Type 0 where
   not_object : SkinFault
   at_key : List ℕ → ValueFault → SkinFault
@@ -25,7 +25,7 @@ TellsValue (value_error.Style (token_error.Unrecognized text)) r = r ≡ Err (ba
 TellsValue (value_error.Style (token_error.InvalidColor e)) r = r ≡ Err (bad_text (bad_color e))
 TellsValue (value_error.Style token_error.Memory) r = Unit {0}
 
--- an error of a skin tells of its fault; out of memory may come before any, and is never told of as the fault of a style
+-- An error of a skin tells of its fault. Out of memory may come before any, and is never told of as the fault of a style.
 abbrev pub TellsSkin : {A : Type 0} → SkinError → Result A SkinFault → Type 0
 TellsSkin NotObject r = r ≡ Err not_object
 TellsSkin (WrongType key) r = r ≡ Err (at_key (string_bytes key) wrong_kind)

@@ -16,8 +16,8 @@ addition_named key =
     else None
 
 -- characters that are drawn
-abbrev pub mark_named : List ℕ → Option Field
-mark_named key =
+abbrev pub char_named : List ℕ → Option Field
+char_named key =
     if bytes_eq key (codes "bullet") then Some Bullet
     else if bytes_eq key (codes "quote") || (bytes_eq key (codes "quote_mark") || bytes_eq key (codes "quote-mark")) then Some QuoteMark
     else if bytes_eq key (codes "horizontal_rule") || (bytes_eq key (codes "horizontal-rule") || bytes_eq key (codes "rule")) then Some HorizontalRule
@@ -43,7 +43,7 @@ form_named key =
 
 -- the part that a key names, byte for byte
 abbrev pub field_named : List ℕ → Option Field
-field_named key = option_or (addition_named key) (option_or (mark_named key) (option_or (line_named key) (form_named key)))
+field_named key = option_or (addition_named key) (option_or (char_named key) (option_or (line_named key) (form_named key)))
 
 -- the parts are numbered
 abbrev pub field_index : Field → ℕ

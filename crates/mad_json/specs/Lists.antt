@@ -36,7 +36,7 @@ align_or Left other = Left
 align_or Center other = Center
 align_or Right other = Right
 
--- a header with the colors, the attributes that are written, and the align that another line has; its margins stay
+-- a style with the colors and the written attributes that another has
 abbrev pub compound_with : CompoundStyle → CompoundStyle → CompoundStyle
 compound_with line style =
     all_added
@@ -48,6 +48,7 @@ compound_with line style =
     })
     (filter (has_attribute line.object_style.attributes) written_attributes)
 
+-- a header with the colors, the attributes that are written, and the align that another line has; its margins stay
 abbrev pub header_with : LineStyle → LineStyle → LineStyle
 header_with line header =
     record header { compound_style = compound_with line.compound_style header.compound_style; align = align_or line.align header.align }
@@ -57,6 +58,7 @@ abbrev pub headers_told : Option (List ℕ) → Data → List LineStyle → Resu
 headers_told (Some text) d old = made (λ line. map (header_with line) old) (text_said line_style_of (Some text))
 headers_told None d old = levels_said line_style_of (as_array d) old
 
+-- the same of a value, which is a text or not
 abbrev pub headers_said : Data → List LineStyle → Result (List LineStyle) ValueFault
 headers_said d old = headers_told (as_str d) d old
 

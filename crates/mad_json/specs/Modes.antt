@@ -15,10 +15,12 @@ abbrev pub called_mode : List ℕ → List ℕ → Option ListItemsIndentationMo
 called_mode name digits =
     if is_named name (codes "hanging") && nat_lt (length digits) 4 then option_map Hanging (number_below 256 digits) else None
 
+-- the mode of a text that is cut at its first bracket, where it has one
 abbrev pub hanging_parts : Option (List ℕ × List ℕ) → Option ListItemsIndentationMode
 hanging_parts None = None
 hanging_parts (Some parts) = called_mode parts.0 parts.1
 
+-- the mode of a text that ends in a bracket, from what is before that
 abbrev pub hanging_front : Option (List ℕ) → Option ListItemsIndentationMode
 hanging_front None = None
 hanging_front (Some front) = hanging_parts (cut_at 40 front)
@@ -30,10 +32,12 @@ mode_named text =
     else if is_named text (codes "block") then Some Block
     else hanging_front (without_last 41 text)
 
+-- a mode that was found, or the fault of its text
 abbrev pub known_mode : List ℕ → Option ListItemsIndentationMode → Result ListItemsIndentationMode ValueFault
 known_mode text (Some mode) = Ok mode
 known_mode text None = Err (bad_text (unrecognized text))
 
+-- the mode of a text, where there is one
 abbrev pub text_mode : Option (List ℕ) → Result ListItemsIndentationMode ValueFault
 text_mode None = Err wrong_kind
 text_mode (Some text) = known_mode text (mode_named text)

@@ -22,11 +22,12 @@ abbrev pub borders_or : TableBorderChars → Option TableBorderChars → TableBo
 borders_or old None = old
 borders_or old (Some borders) = borders
 
+-- the same by a text, where there is one
 abbrev pub borders_said : TableBorderChars → Option (List ℕ) → Result TableBorderChars ValueFault
 borders_said old None = Err wrong_kind
 borders_said old (Some name) = Ok (borders_or old (borders_named name))
 
--- a skin with one part as a value says it; a mark that isn't told is `*`
+-- a skin with one part as a value says it; a drawn character that isn't told is `*`
 abbrev pub part_said : Field → Data → MadSkin → Result MadSkin ValueFault
 part_said Bold d skin = made (λ x. record skin { bold = x }) (value_said style_of d)
 part_said Italic d skin = made (λ x. record skin { italic = x }) (value_said style_of d)
@@ -59,6 +60,7 @@ nothing_found = record { skin = default_skin; seen = replicate 16 false; unknown
 abbrev pub is_seen : Field → List Bool → Bool
 is_seen field seen = slice_index_or seen (field_index field) false
 
+-- a part is named now
 abbrev pub now_seen : Field → List Bool → List Bool
 now_seen field seen = slice_set seen (field_index field) true
 
@@ -89,10 +91,12 @@ abbrev pub then_found : Result Found SkinFault → (Found → Result Found SkinF
 then_found (Ok found) next = next found
 then_found (Err fault) next = Err fault
 
+-- the members, front to back, up to the first fault
 abbrev pub members_read : Members → Found → Result Found SkinFault
 members_read no_members found = Ok found
 members_read (member key d ms) found = then_found (member_read key d found) (members_read ms)
 
+-- the members of an object, where there is one
 abbrev pub object_read : Option Members → Result Found SkinFault
 object_read None = Err not_object
 object_read (Some ms) = members_read ms nothing_found

@@ -19,10 +19,10 @@ use Rattle.mad_json.specs.Reading.{skin_read}
 use Rattle.mad_json.specs.ScrollBars.{is_simple, def_of, scrollbar_said}
 use Rattle.mad_json.specs.Written.{bar_data, mode_text}
 
--- a mark that has a foreground, and no attributes
-pub record IsOnlyColored (mark : StyledChar) : Type 0 where
-  pub foreground : IsSome (char_style mark).object_style.foreground_color
-  pub attributes : (char_style mark).object_style.attributes ≡ no_attributes
+-- a drawn character that has a foreground, and no attributes
+pub record IsOnlyColored (drawn : StyledChar) : Type 0 where
+  pub foreground : IsSome (char_style drawn).object_style.foreground_color
+  pub attributes : (char_style drawn).object_style.attributes ≡ no_attributes
 
 -- A bar whose characters read back; one that is written as a text has two foregrounds, and no attributes.
 pub record IsReadBackBar (bar : ScrollBarStyle) : Type 0 where
@@ -57,19 +57,23 @@ pub record IsReadBackSkin (skin : MadSkin) : Type 0 where
 abbrev pub SkinReadsBack : MadSkin → Data → Type 0
 SkinReadsBack skin d = IsReadBackSkin skin → skin_read d ≡ Ok (skin, [])
 
--- Of the parts: each is read back from what it is written as.
+-- a style of text is read back from what it is written as
 abbrev pub ReadsBackStyle : CompoundStyle → Type 0
 ReadsBackStyle style = StyleReadsBack style (tokens_text (style_tokens style))
 
+-- so is a line
 abbrev pub ReadsBackLine : LineStyle → Type 0
 ReadsBackLine line = LineReadsBack line (tokens_text (line_style_tokens line))
 
+-- so is a drawn character
 abbrev pub ReadsBackChar : StyledChar → Type 0
-ReadsBackChar mark = CharReadsBack mark (tokens_text (styled_char_tokens mark))
+ReadsBackChar drawn = CharReadsBack drawn (tokens_text (styled_char_tokens drawn))
 
+-- so is the style of an item
 abbrev pub ReadsBackItem : OrderedItemStyle → Type 0
 ReadsBackItem style = ItemReadsBack style (tokens_text (item_tokens style))
 
+-- so is a scroll bar
 abbrev pub ReadsBackBar : ScrollBarStyle → Type 0
 ReadsBackBar bar = IsReadBackBar bar → scrollbar_said (bar_data (def_of bar)) ≡ Ok bar
 
@@ -82,7 +86,7 @@ pub record ReadBackAdditions (skin : MadSkin) : Type 0 where
   pub ellipsis : ReadsBackStyle skin.ellipsis
 
 -- characters that are drawn
-pub record ReadBackMarks (skin : MadSkin) : Type 0 where
+pub record ReadBackChars (skin : MadSkin) : Type 0 where
   pub bullet : ReadsBackChar skin.bullet
   pub quote_mark : ReadsBackChar skin.quote_mark
   pub horizontal_rule : ReadsBackChar skin.horizontal_rule

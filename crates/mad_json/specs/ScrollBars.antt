@@ -35,10 +35,12 @@ is_simple bar =
     (char_alone bar.track == char_alone bar.thumb)
     && (is_none (char_style bar.track).object_style.background_color && is_none (char_style bar.thumb).object_style.background_color)
 
+-- that character: its foreground is the thumb's color, its background the track's
 abbrev pub simple_char : ScrollBarStyle → StyledChar
 simple_char bar =
     styled_char (text_style (char_style bar.thumb).object_style.foreground_color (char_style bar.track).object_style.foreground_color no_attributes) (char_alone bar.track)
 
+-- what a bar is described by
 abbrev pub def_of : ScrollBarStyle → ScrollBarStyleDef
 def_of bar = if is_simple bar then Simple (simple_char bar) else Rich bar.track bar.thumb
 
@@ -59,5 +61,6 @@ abbrev pub scrollbar_told : Option (List ℕ) → Data → Result ScrollBarStyle
 scrollbar_told (Some text) d = made bar_of_char (text_said (styled_char_of 42) (Some text))
 scrollbar_told None d = both_said (text_member (codes "thumb") d) (text_member (codes "track") d)
 
+-- the same of a value, which is a text or not
 abbrev pub scrollbar_said : Data → Result ScrollBarStyle ValueFault
 scrollbar_said d = scrollbar_told (as_str d) d

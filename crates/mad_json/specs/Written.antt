@@ -20,20 +20,24 @@ use Rattle.mad_json.specs.declared.scroll_bars.ScrollBarStyleDef.TheVariants.{Si
 abbrev pub style_data : CompoundStyle → Data
 style_data style = string (tokens_text (style_tokens style))
 
+-- so is a line
 abbrev pub line_data : LineStyle → Data
 line_data line = string (tokens_text (line_style_tokens line))
 
-abbrev pub mark_data : StyledChar → Data
-mark_data mark = string (tokens_text (styled_char_tokens mark))
+-- so is a drawn character
+abbrev pub char_data : StyledChar → Data
+char_data drawn = string (tokens_text (styled_char_tokens drawn))
 
+-- so is the style of an item
 abbrev pub item_data : OrderedItemStyle → Data
 item_data style = string (tokens_text (item_tokens style))
 
 -- a scroll bar as one text, or as an object of its two characters
 abbrev pub bar_data : ScrollBarStyleDef → Data
-bar_data (Simple mark) = mark_data mark
-bar_data (Rich track thumb) = object (put (codes "track") (mark_data track) (put (codes "thumb") (mark_data thumb) no_members))
+bar_data (Simple drawn) = char_data drawn
+bar_data (Rich track thumb) = object (put (codes "track") (char_data track) (put (codes "thumb") (char_data thumb) no_members))
 
+-- the text of an indentation mode
 abbrev pub mode_text : ListItemsIndentationMode → List ℕ
 mode_text FirstLineOnly = codes "first_line_only"
 mode_text Block = codes "block"
@@ -44,23 +48,26 @@ abbrev pub IsNameOf : TableBorderChars → Option (List ℕ) → Type 0
 IsNameOf borders (Some name) = borders_named name ≡ Some borders
 IsNameOf borders None = (name : List ℕ) → borders_named name ≢ Some borders
 
--- the members of the object, each under the first name of its part
+-- the members of what text adds to its line, each under the first name of its part
 abbrev pub with_additions : MadSkin → Members → Members
 with_additions skin members =
     put (codes "ellipsis") (style_data skin.ellipsis)
     (put (codes "inline_code") (style_data skin.inline_code)
     (put (codes "strikeout") (style_data skin.strikeout) (put (codes "italic") (style_data skin.italic) (put (codes "bold") (style_data skin.bold) members))))
 
-abbrev pub with_marks : MadSkin → Members → Members
-with_marks skin members =
+-- the members of drawn characters
+abbrev pub with_chars : MadSkin → Members → Members
+with_chars skin members =
     put (codes "scrollbar") (bar_data (def_of skin.scrollbar))
-    (put (codes "horizontal_rule") (mark_data skin.horizontal_rule) (put (codes "quote") (mark_data skin.quote_mark) (put (codes "bullet") (mark_data skin.bullet) members)))
+    (put (codes "horizontal_rule") (char_data skin.horizontal_rule) (put (codes "quote") (char_data skin.quote_mark) (put (codes "bullet") (char_data skin.bullet) members)))
 
+-- the members of lines
 abbrev pub with_lines : MadSkin → Members → Members
 with_lines skin members =
     put (codes "headers") (array (items_of (map line_data skin.headers)))
     (put (codes "table") (line_data skin.table) (put (codes "code_block") (line_data skin.code_block) (put (codes "paragraph") (line_data skin.paragraph) members)))
 
+-- the members of items of lists
 abbrev pub with_items : MadSkin → Members → Members
 with_items skin members =
     put (codes "list_items_indentation_mode") (string (mode_text skin.list_items_indentation_mode))
@@ -73,7 +80,8 @@ with_borders (Some name) members = put (codes "table_border_chars") (string name
 
 -- the value of a skin, whose borders have this name or none
 abbrev pub skin_data : MadSkin → Option (List ℕ) → Data
-skin_data skin name = object (with_borders name (with_items skin (with_lines skin (with_marks skin (with_additions skin no_members)))))
+skin_data skin name = object (with_borders name (with_items skin (with_lines skin (with_chars skin (with_additions skin no_members)))))
 
+-- a value is that of a skin, under the name of its borders, if they have one
 abbrev pub IsDataOf : MadSkin → Data → Type 0
 IsDataOf skin d = (name : Option (List ℕ)) × IsNameOf skin.table_border_chars name × (d ≡ skin_data skin name)

@@ -1,7 +1,7 @@
 //! The names of the parts of a skin.
 
 ghost use Rattle.std.specs.Prelude.{◌≡◌, ◌<◌};
-ghost use Rattle.mad_json.specs.Fields.{field_named, addition_named, mark_named, line_named, form_named, field_index};
+ghost use Rattle.mad_json.specs.Fields.{field_named, addition_named, char_named, line_named, form_named, field_index};
 
 /// How many parts a skin has.
 pub const FIELD_COUNT: usize = 16;
@@ -42,7 +42,7 @@ pub fn field_of(key: &str) -> Option<Field>
     ensures { result ≡ field_named key.now }
 {
     addition_of(key)
-        .or(mark_of(key))
+        .or(char_of(key))
         .or(line_of(key))
         .or(form_of(key))
 }
@@ -62,8 +62,8 @@ fn addition_of(key: &str) -> Option<Field>
 }
 
 // Characters that are drawn.
-fn mark_of(key: &str) -> Option<Field>
-    ensures { result ≡ mark_named key.now }
+fn char_of(key: &str) -> Option<Field>
+    ensures { result ≡ char_named key.now }
 {
     match key {
         "bullet" => Some(Field::Bullet),

@@ -14,8 +14,8 @@ use mad_style::{ATTRIBUTES, CompoundStyle, LineStyle, OrderedItemStyle};
 use serde_json::Value;
 use std::alloc::{AllocError, Global};
 
-/// Sets the headers as a value says: a text sets in each the colors, the attributes and the align that it has, a list
-/// replaces them by level. After a refusal they are as they were.
+/// Sets the headers as a value says. A text sets in each the colors, the attributes that are written (not slow-blink and
+/// rapid-blink) and the align that it has. A list replaces them by level. After a refusal they are as they were.
 pub fn set_headers(
     alloc: Global,
     headers: &mut [LineStyle],
@@ -94,7 +94,8 @@ fn set_each(headers: &mut [LineStyle], line: &LineStyle)
     }
 }
 
-// A header with the colors, the attributes and the align that a line has; its margins stay.
+// A header with the colors, the attributes that are written (not slow-blink and rapid-blink) and the align that a line has;
+// its margins stay.
 fn header_with(line: &LineStyle, header: LineStyle) -> LineStyle
     ensures { result ≡ header_with line.now header }
 {

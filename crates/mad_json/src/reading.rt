@@ -12,7 +12,7 @@ use crate::floats::holds_float;
 use crate::lists::{set_headers, set_ordered_items};
 use crate::modes::mode_of;
 use crate::scroll_bars::scrollbar_of;
-use crate::texts::{compound_style_of, line_style_of, mark_of};
+use crate::texts::{compound_style_of, line_style_of, styled_char_of};
 use mad_layout::MadSkin;
 use mad_style::TableBorderChars;
 use serde_json::Value;
@@ -33,9 +33,14 @@ struct Reader {
 ///
 /// # Errors
 ///
-/// The first fault: no object; a second name of one part, before its value is read; a value that holds a float at
-/// any depth or is of another kind than its part; a text that has a word which is no style token. Or out of memory,
-/// which may come before any of these.
+/// The first fault, which is one of these:
+///
+/// - the value is no object;
+/// - a key is a second name of one part, which is refused before its value is read;
+/// - a value holds a float at any depth, or is of another kind than its part;
+/// - a text has a word that is no style token, or says no indentation mode.
+///
+/// Or out of memory, which may come before any of these.
 pub fn skin_from_value(alloc: Global, value: &Value) -> Result<(MadSkin, Vec<String>), SkinError>
     ensures ok { IfOk result (λ read. skin_read (view value.now) ≡ Ok (read.0, map string_bytes read.1.items)) }
     ensures err { IfErr result (λ e. TellsSkin e (skin_read (view value.now))) }
@@ -112,9 +117,9 @@ fn set_part(
         Field::Strikeout => skin.strikeout = compound_style_of(alloc, value)?,
         Field::InlineCode => skin.inline_code = compound_style_of(alloc, value)?,
         Field::Ellipsis => skin.ellipsis = compound_style_of(alloc, value)?,
-        Field::Bullet => skin.bullet = mark_of(alloc, value)?,
-        Field::QuoteMark => skin.quote_mark = mark_of(alloc, value)?,
-        Field::HorizontalRule => skin.horizontal_rule = mark_of(alloc, value)?,
+        Field::Bullet => skin.bullet = styled_char_of(alloc, value)?,
+        Field::QuoteMark => skin.quote_mark = styled_char_of(alloc, value)?,
+        Field::HorizontalRule => skin.horizontal_rule = styled_char_of(alloc, value)?,
         Field::ScrollBar => skin.scrollbar = scrollbar_of(alloc, value)?,
         Field::Paragraph => skin.paragraph = line_style_of(alloc, value)?,
         Field::CodeBlock => skin.code_block = line_style_of(alloc, value)?,

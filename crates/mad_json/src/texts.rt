@@ -16,8 +16,8 @@ use mad_style::{CompoundStyle, LineStyle, OrderedItemStyle, StyledChar};
 use serde_json::Value;
 use std::alloc::Global;
 
-/// A mark that isn't told.
-pub(crate) const MARK: char = '*';
+/// A drawn character that isn't told.
+pub(crate) const DRAWN_CHAR: char = '*';
 
 // The character after an item's number that isn't told.
 const SUFFIX: char = '.';
@@ -40,13 +40,13 @@ pub(crate) fn line_style_of(alloc: Global, value: &Value) -> Result<LineStyle, V
     Ok(parse_line_style(alloc, text)?)
 }
 
-/// The mark that a value says, `*` where it tells none.
-pub(crate) fn mark_of(alloc: Global, value: &Value) -> Result<StyledChar, ValueError>
-    ensures ok { IfOk result (λ mark. value_said (styled_char_of 42) (view value.now) ≡ Ok mark) }
+/// The drawn character that a value says, `*` where it tells none.
+pub(crate) fn styled_char_of(alloc: Global, value: &Value) -> Result<StyledChar, ValueError>
+    ensures ok { IfOk result (λ drawn. value_said (styled_char_of 42) (view value.now) ≡ Ok drawn) }
     ensures err { IfErr result (λ e. TellsValue e (value_said (styled_char_of 42) (view value.now))) }
 {
     let text = text_of(value)?;
-    Ok(parse_styled_char(alloc, text, MARK)?)
+    Ok(parse_styled_char(alloc, text, DRAWN_CHAR)?)
 }
 
 /// The style of an ordered item that a value says, with a dot where it tells no other character.

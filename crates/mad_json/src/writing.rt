@@ -1,13 +1,13 @@
 //! The value that a skin is written as.
 
-ghost use Rattle.std.specs.Prelude.{◌≡◌, ◌++◌, ℕ, List, Option, Ok, IfOk, OnOk, MatchOption, map, codes, decimal, string_bytes};
+ghost use Rattle.std.specs.Prelude.{◌≡◌, ◌++◌, ℕ, List, Option, Ok, IfOk, OnOk, map, string_bytes};
 ghost use Rattle.std.specs.List.{All};
 ghost use Rattle.serde_json.specs.Data.{put, string, array, object};
 ghost use Rattle.serde_json.specs.View.{view, items_of, members_view};
 ghost use Rattle.mad_json.specs.Modes.{mode_said};
-ghost use Rattle.mad_json.specs.ReadsBack.{ReadsBackStyle, ReadsBackLine, ReadsBackChar, ReadsBackItem, ReadsBackBar, ReadBackAdditions, ReadBackMarks, ReadBackLines, ReadBackItems, SkinReadsBack};
+ghost use Rattle.mad_json.specs.ReadsBack.{ReadsBackStyle, ReadsBackLine, ReadsBackChar, ReadsBackItem, ReadsBackBar, ReadBackAdditions, ReadBackChars, ReadBackLines, ReadBackItems, SkinReadsBack};
 ghost use Rattle.mad_json.specs.ScrollBars.{def_of};
-ghost use Rattle.mad_json.specs.Written.{style_data, line_data, mark_data, item_data, bar_data, mode_text, IsNameOf, with_additions, with_marks, with_lines, with_items, with_borders, IsDataOf};
+ghost use Rattle.mad_json.specs.Written.{style_data, line_data, char_data, item_data, bar_data, mode_text, IsNameOf, with_additions, with_chars, with_lines, with_items, with_borders, IsDataOf};
 
 use crate::scroll_bars::ScrollBarStyleDef;
 use mad_layout::MadSkin;
@@ -32,7 +32,7 @@ pub fn skin_to_value(alloc: Global, skin: &MadSkin) -> Result<Value, AllocError>
 {
     let mut members = Map::new(alloc);
     put_additions(alloc, &mut members, skin)?;
-    put_marks(alloc, &mut members, skin)?;
+    put_chars(alloc, &mut members, skin)?;
     put_lines(alloc, &mut members, skin)?;
     put_items(alloc, &mut members, skin)?;
     put_borders(alloc, &mut members, &skin.table_border_chars)?;
@@ -56,17 +56,17 @@ fn put_additions(
     Ok(())
 }
 
-fn put_marks(
+fn put_chars(
     alloc: Global,
     members: &mut Map<String, Value>,
     skin: &MadSkin,
 ) -> Result<(), AllocError>
-    ensures value { OnOk result (members_view members.new.entries ≡ with_marks skin.now (members_view members.old.entries)) }
-    ensures reads_back { OnOk result (ReadBackMarks skin.now) }
+    ensures value { OnOk result (members_view members.new.entries ≡ with_chars skin.now (members_view members.old.entries)) }
+    ensures reads_back { OnOk result (ReadBackChars skin.now) }
 {
-    put_mark(alloc, members, "bullet", &skin.bullet)?;
-    put_mark(alloc, members, "quote", &skin.quote_mark)?;
-    put_mark(alloc, members, "horizontal_rule", &skin.horizontal_rule)?;
+    put_char(alloc, members, "bullet", &skin.bullet)?;
+    put_char(alloc, members, "quote", &skin.quote_mark)?;
+    put_char(alloc, members, "horizontal_rule", &skin.horizontal_rule)?;
     put(
         members,
         alloc,
@@ -170,16 +170,16 @@ fn array_of(values: Vec<Value>) -> Value
     Value::Array(values)
 }
 
-fn put_mark(
+fn put_char(
     alloc: Global,
     members: &mut Map<String, Value>,
     key: &str,
-    mark: &StyledChar,
+    styled_char: &StyledChar,
 ) -> Result<(), AllocError>
-    ensures value { OnOk result (members_view members.new.entries ≡ put key.now (mark_data mark.now) (members_view members.old.entries)) }
-    ensures reads_back { OnOk result (ReadsBackChar mark.now) }
+    ensures value { OnOk result (members_view members.new.entries ≡ put key.now (char_data styled_char.now) (members_view members.old.entries)) }
+    ensures reads_back { OnOk result (ReadsBackChar styled_char.now) }
 {
-    put(members, alloc, key, mark_value(alloc, mark)?)
+    put(members, alloc, key, char_value(alloc, styled_char)?)
 }
 
 fn put_line(
@@ -201,11 +201,11 @@ fn line_value(alloc: Global, line: &LineStyle) -> Result<Value, AllocError>
     Ok(Value::String(line.to_style_tokens_string(alloc)?))
 }
 
-fn mark_value(alloc: Global, mark: &StyledChar) -> Result<Value, AllocError>
-    ensures value { IfOk result (λ value. view value ≡ mark_data mark.now) }
-    ensures reads_back { IfOk result (λ _. ReadsBackChar mark.now) }
+fn char_value(alloc: Global, styled_char: &StyledChar) -> Result<Value, AllocError>
+    ensures value { IfOk result (λ value. view value ≡ char_data styled_char.now) }
+    ensures reads_back { IfOk result (λ _. ReadsBackChar styled_char.now) }
 {
-    Ok(Value::String(mark.to_style_tokens_string(alloc)?))
+    Ok(Value::String(styled_char.to_style_tokens_string(alloc)?))
 }
 
 fn item_value(alloc: Global, style: &OrderedItemStyle) -> Result<Value, AllocError>
@@ -244,11 +244,11 @@ fn bar_value(alloc: Global, bar: &ScrollBarStyle) -> Result<Value, AllocError>
     ensures reads_back { IfOk result (λ _. ReadsBackBar bar.now) }
 {
     match ScrollBarStyleDef::from(bar) {
-        ScrollBarStyleDef::Simple(mark) => mark_value(alloc, &mark),
+        ScrollBarStyleDef::Simple(styled_char) => char_value(alloc, &styled_char),
         ScrollBarStyleDef::Rich { track, thumb } => {
             let mut members = Map::new(alloc);
-            put_mark(alloc, &mut members, "thumb", &thumb)?;
-            put_mark(alloc, &mut members, "track", &track)?;
+            put_char(alloc, &mut members, "thumb", &thumb)?;
+            put_char(alloc, &mut members, "track", &track)?;
             Ok(object_of(members))
         }
     }

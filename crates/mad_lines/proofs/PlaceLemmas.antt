@@ -1,5 +1,6 @@
 -- Places in a text, and edits between two places.
-use Rattle.std.proofs.Common.{ℕ, zero, suc, ◌+◌, ◌<◌, ◌≤◌, ◌≡◌, List, [], ◌∷◌, ◌++◌, ◌-◌, length, take, drop, get_or, slice_get, Some, None, refl, ap, sym, ◌∙◌, arith, append_assoc, length-append}
+use Rattle.std.proofs.Common.{ℕ, zero, suc, ◌+◌, ◌<◌, ◌≤◌, ◌≡◌, ◌⊎◌, inl, inr, List, [], ◌∷◌, ◌++◌, ◌-◌, length, take, drop, get_or, slice_get, Some, None, refl, ap, sym, ◌∙◌, arith, append_assoc, length-append}
+use Rattle.std.proofs.lemmas.Bool.{cases_lt}
 use Rattle.std.proofs.lemmas.List.{take_at, drop_at, length-take-le, take-append-drop, get_or_append_left, get_or-append_right, take-append-le, take_more, drop_more, length-drop, drop_all}
 use Rattle.std.proofs.lemmas.List.Elements.{All-append, All-take, All-drop}
 use Rattle.std.specs.Prelude.{All}
@@ -130,12 +131,33 @@ more_lines ls y h =
 pub no_lines : (ls : List (List ℕ)) (y : ℕ) → length ls ≤ y → length (led_lines (drop y ls)) ≡ 0
 no_lines ls y h = ap (λ t. length (led_lines t)) (drop_all y ls h)
 
+-- on an earlier line, or on the same line and earlier in it
+abbrev pub IsEarlier : Pos → Pos → Type 0
+IsEarlier p q = (p.y < q.y) ⊎ ((p.y ≡ q.y) × (p.x < q.x))
+
 -- a place on an earlier line is before one on a later line
 pub earlier_line : (ls : List (List ℕ)) (p q : Pos) → IsPlace ls p → IsPlace ls q → p.y < q.y → offset_of ls p < offset_of ls q
 earlier_line ls p q hp hq h =
     let n = next_line ls p.y hp.0 in
     let up = lines_up ls (p.y + 1) q.y (omega arith) in
     omega (arith, n, up)
+
+-- the order of places is that of their offsets
+pub earlier_place : (ls : List (List ℕ)) (p q : Pos) → IsPlace ls p → IsPlace ls q → IsEarlier p q → offset_of ls p < offset_of ls q
+earlier_place ls p q hp hq (inl less) = earlier_line ls p q hp hq less
+earlier_place ls p q hp hq (inr same) = let e = ap (λ y. length (led_lines (take y ls))) same.0 in omega (arith, e, same.1)
+
+pub lesser_offset : (ls : List (List ℕ)) (p q : Pos) → IsPlace ls p → IsPlace ls q → offset_of ls p < offset_of ls q → IsEarlier p q
+lesser_offset ls p q hp hq h = elim (cases_lt p.y q.y) [
+  | inl less ↦ inl less
+  | inr le ↦ elim (cases_lt q.y p.y) [
+    | inl more ↦ absurd (let e = earlier_line ls q p hq hp more in omega (arith, e, h))
+    | inr ge ↦
+        let same : p.y ≡ q.y = omega (arith, le, ge) in
+        let e = ap (λ y. length (led_lines (take y ls))) same in
+        inr (same, omega (arith, e, h))
+  ]
+]
 
 slice_get_at : (p q : List ℕ) (n : ℕ) → length p ≡ n → slice_get (p ++ q) n ≡ slice_get q 0
 slice_get_at [] q zero h = refl

@@ -14,6 +14,7 @@ led_lines (l ∷ ls) = (10 ∷ l) ++ led_lines ls
 abbrev pub text_of : List (List ℕ) → List ℕ
 text_of ls = drop 1 (led_lines ls)
 
+-- a newline (10)
 abbrev pub is_newline : ℕ → Bool
 is_newline c = c == 10
 
@@ -21,6 +22,7 @@ is_newline c = c == 10
 abbrev pub lines : List ℕ → List (List ℕ)
 lines t = slice_split is_newline t
 
+-- a line by its number, empty past the last
 abbrev pub line_at : List (List ℕ) → ℕ → List ℕ
 line_at ls y = slice_index_or ls y []
 
@@ -32,10 +34,11 @@ IsPlace ls p = (p.y < length ls) × (p.x ≤ length (line_at ls p.y))
 abbrev pub offset_of : List (List ℕ) → Pos → ℕ
 offset_of ls p = length (led_lines (take p.y ls)) + p.x
 
--- what of a text is put in: no carriage return, no backspace
+-- whether a character of a text is put in: a carriage return or a backspace isn't
 abbrev pub is_accepted : ℕ → Bool
 is_accepted c = not (c == 13) && not (c == 8)
 
+-- what is left of characters: those that are put in
 abbrev pub accepted : List ℕ → List ℕ
 accepted cs = filter is_accepted cs
 
@@ -44,15 +47,18 @@ abbrev pub IsAcceptedChar : ℕ → Type 0
 IsAcceptedChar c = (is_accepted c ≡ true) × IsScalar c
 
 -- a character of a line: no newline, carriage return or backspace
-abbrev pub is_plain : ℕ → Bool
-is_plain c = not (c == 10) && is_accepted c
+abbrev pub is_line_char : ℕ → Bool
+is_line_char c = not (c == 10) && is_accepted c
 
-abbrev pub IsPlainLine : List ℕ → Type 0
-IsPlainLine l = All (λ c. (is_plain c ≡ true) × IsScalar c) l
+-- such characters alone
+abbrev pub IsLineText : List ℕ → Type 0
+IsLineText l = All (λ c. (is_line_char c ≡ true) × IsScalar c) l
 
+-- the characters of a line
 abbrev pub chars_of : Line → List ℕ
 chars_of l = l.chars.items
 
+-- the characters of each line
 abbrev pub lines_of : List Line → List (List ℕ)
 lines_of ls = map chars_of ls
 
@@ -60,9 +66,10 @@ lines_of ls = map chars_of ls
 abbrev pub led_lines_with : List (List ℕ) → List ℕ → List ℕ
 led_lines_with ls l = led_lines ls ++ (10 ∷ l)
 
-pub record ArePlain (ls : List (List ℕ)) (l : List ℕ) : Type 0 where
-  pub lines : All IsPlainLine ls
-  pub line : IsPlainLine l
+-- lines, and one more after them: all of them hold such characters alone
+pub record AreLineTexts (ls : List (List ℕ)) (l : List ℕ) : Type 0 where
+  pub lines : All IsLineText ls
+  pub line : IsLineText l
 
 -- the end of the text
 abbrev pub end_of : List (List ℕ) → Pos

@@ -1,7 +1,7 @@
 //! Edits of a list of lines.
 
 ghost use Rattle.std.specs.Prelude.{◌≡◌, ◌≤◌, ◌+◌, ◌∷◌, [], ◌++◌, All, length, take, drop, chars, IfOk, OnOk, OnErr};
-ghost use Rattle.mad_lines.specs.TextLines.{IsPlace, IsPlainLine, ArePlain, lines_of, line_at, led_lines_with, text_of, accepted, offset_of};
+ghost use Rattle.mad_lines.specs.TextLines.{IsPlace, IsLineText, AreLineTexts, lines_of, line_at, led_lines_with, text_of, accepted, offset_of};
 
 use crate::line::Line;
 use crate::place::Pos;
@@ -9,7 +9,11 @@ use crate::places::{front_at, rest_at};
 use std::alloc::{AllocError, Global};
 use std::mem;
 
-/// Puts lines in place of those from `from` up to `to`. After out of memory the lines are unchanged.
+/// Puts lines in place of those from `from` up to `to`.
+///
+/// # Errors
+///
+/// Out of memory is the only error, and leaves the lines unchanged.
 pub fn replace_lines(
     lines: &mut Vec<Line>,
     from: usize,
@@ -34,8 +38,8 @@ fn add_char(
 ) -> Result<(), AllocError>
     ensures text { OnOk result (led_lines_with (lines_of lines.new.items) current.new.items
         ≡ led_lines_with (lines_of lines.old.items) current.old.items ++ accepted (c ∷ [])) }
-    ensures plain { OnOk result (ArePlain (lines_of lines.old.items) current.old.items
-        → ArePlain (lines_of lines.new.items) current.new.items) }
+    ensures plain { OnOk result (AreLineTexts (lines_of lines.old.items) current.old.items
+        → AreLineTexts (lines_of lines.new.items) current.new.items) }
 {
     if c == '\n' {
         let chars = mem::replace(current, Vec::new(alloc));
@@ -60,12 +64,12 @@ fn lines_with_text(
     text: &str,
     back: &[char],
 ) -> Result<NewLines, AllocError>
-    requires front { IsPlainLine front.now }
-    requires back { IsPlainLine back.now }
+    requires front { IsLineText front.now }
+    requires back { IsLineText back.now }
     ensures text { IfOk result (λ t. text_of (lines_of t.lines.items) ≡ front.now ++ (accepted (chars text.now) ++ back.now)) }
     ensures end { IfOk result (λ t. IsPlace (lines_of t.lines.items) t.end) }
     ensures ends_at { IfOk result (λ t. offset_of (lines_of t.lines.items) t.end ≡ length front.now + length (accepted (chars text.now))) }
-    ensures plain { IfOk result (λ t. All IsPlainLine (lines_of t.lines.items)) }
+    ensures plain { IfOk result (λ t. All IsLineText (lines_of t.lines.items)) }
 {
     let mut lines = Vec::new(alloc);
     let mut current = front.to_vec(alloc)?;
@@ -82,22 +86,25 @@ fn lines_with_text(
 }
 
 /// Puts a text in place of what is between two places, and returns the place after it.
-/// Carriage returns and backspaces are left out. After out of memory the lines are unchanged.
+/// Carriage returns and backspaces are left out.
+///
+/// # Errors
+///
+/// Out of memory is the only error, and leaves the lines unchanged.
 pub fn edit_lines(lines: &mut Vec<Line>, from: Pos, to: Pos, text: &str) -> Result<Pos, AllocError>
     requires from { IsPlace (lines_of lines.old.items) from }
     requires to { IsPlace (lines_of lines.old.items) to }
     requires order { from.y ≤ to.y }
-    requires plain { All IsPlainLine (lines_of lines.old.items) }
+    requires plain { All IsLineText (lines_of lines.old.items) }
     ensures text { OnOk result (let ls = lines_of lines.old.items in text_of (lines_of lines.new.items)
         ≡ take (offset_of ls from) (text_of ls) ++ (accepted (chars text.now) ++ drop (offset_of ls to) (text_of ls))) }
     ensures place { IfOk result (λ p. IsPlace (lines_of lines.new.items) p) }
     ensures at { IfOk result (λ p. offset_of (lines_of lines.new.items) p
         ≡ offset_of (lines_of lines.old.items) from + length (accepted (chars text.now))) }
-    ensures plain { OnOk result (All IsPlainLine (lines_of lines.new.items)) }
+    ensures plain { OnOk result (All IsLineText (lines_of lines.new.items)) }
     ensures err { OnErr result (lines_of lines.new.items ≡ lines_of lines.old.items) }
 {
-    let made = lines_between(lines, from, to, text)?;
-    let NewLines { lines: made, end } = made;
+    let NewLines { lines: made, end } = lines_made(lines, from, to, text)?;
     replace_lines(lines, from.y, to.y + 1, made)?;
     Ok(Pos {
         y: from.y + end.y,
@@ -105,16 +112,16 @@ pub fn edit_lines(lines: &mut Vec<Line>, from: Pos, to: Pos, text: &str) -> Resu
     })
 }
 
-/// The lines that take the place of those of two places when a text is put between them.
-fn lines_between(lines: &Vec<Line>, from: Pos, to: Pos, text: &str) -> Result<NewLines, AllocError>
+/// The lines that replace those from `from`'s to `to`'s, once the text is in place of what is between.
+fn lines_made(lines: &Vec<Line>, from: Pos, to: Pos, text: &str) -> Result<NewLines, AllocError>
     requires from { IsPlace (lines_of lines.now.items) from }
     requires to { IsPlace (lines_of lines.now.items) to }
-    requires plain { All IsPlainLine (lines_of lines.now.items) }
+    requires plain { All IsLineText (lines_of lines.now.items) }
     ensures text { let ls = lines_of lines.now.items in IfOk result (λ t. text_of (lines_of t.lines.items)
         ≡ take from.x (line_at ls from.y) ++ (accepted (chars text.now) ++ drop to.x (line_at ls to.y))) }
     ensures end { IfOk result (λ t. IsPlace (lines_of t.lines.items) t.end) }
     ensures ends_at { IfOk result (λ t. offset_of (lines_of t.lines.items) t.end ≡ from.x + length (accepted (chars text.now))) }
-    ensures plain { IfOk result (λ t. All IsPlainLine (lines_of t.lines.items)) }
+    ensures plain { IfOk result (λ t. All IsLineText (lines_of t.lines.items)) }
 {
     let front = front_at(lines, from);
     let back = rest_at(lines, to);

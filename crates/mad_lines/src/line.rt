@@ -56,6 +56,10 @@ impl Line {
     }
 
     /// A copy of the line.
+    ///
+    /// # Errors
+    ///
+    /// Out of memory is the only error.
     pub fn try_clone(&self, alloc: Global) -> Result<Line, AllocError>
         ensures { IfOk result (λ l. l.chars.items ≡ self.now.chars.items) }
     {

@@ -4,6 +4,7 @@ ghost use Rattle.std.specs.List.{swap};
 ghost use Rattle.std.specs.Prelude.{◌≡◌, ◌<◌, ◌≤◌, ◌+◌, ◌↔◌, [], ◌∷◌, IfSome, IsSome, IsTrue, Some, IfOk, length, take, drop, min, max, slice_get, slice_range, string_bytes, encode_utf8_all};
 ghost use Rattle.mad_lines.specs.TextLines.{IsPlace, lines_of, line_at, text_of, offset_of, end_of, clamp};
 
+use crate::chars::Chars;
 use crate::line::Line;
 use crate::place::{Pos, Range};
 use std::alloc::{AllocError, Global};
@@ -103,13 +104,7 @@ pub fn in_order(lines: &Vec<Line>, a: Pos, b: Pos) -> Range
         ≡ max (offset_of (lines_of lines.now.items) a) (offset_of (lines_of lines.now.items) b) }
     ensures order { result.min.y ≤ result.max.y }
 {
-    if b.y < a.y {
-        return Range { min: b, max: a };
-    }
-    if a.y < b.y {
-        return Range { min: a, max: b };
-    }
-    if b.x < a.x {
+    if b < a {
         Range { min: b, max: a }
     } else {
         Range { min: a, max: b }
@@ -124,13 +119,7 @@ pub fn place_past(lines: &Vec<Line>, p: Pos) -> Pos
         ≡ min (offset_of (lines_of lines.now.items) p + 1) (length (text_of (lines_of lines.now.items))) }
     ensures order { p.y ≤ result.y }
 {
-    if p.x < line_len(lines, p.y) {
-        Pos { y: p.y, x: p.x + 1 }
-    } else if p.y < line_count(lines) - 1 {
-        Pos { y: p.y + 1, x: 0 }
-    } else {
-        p
-    }
+    place_after(lines, p).unwrap_or(p)
 }
 
 /// The character at a place.
@@ -155,13 +144,9 @@ pub fn char_and_next(lines: &Vec<Line>, p: Pos) -> Option<(char, Pos)>
     ensures next { IfSome result (λ r. offset_of (lines_of lines.now.items) r.1 ≡ offset_of (lines_of lines.now.items) p + 1) }
     ensures at_end { IsSome result ↔ (offset_of (lines_of lines.now.items) p < length (text_of (lines_of lines.now.items))) }
 {
-    match char_at(lines, p) {
-        None => None,
-        Some(c) => match place_after(lines, p) {
-            None => None,
-            Some(next) => Some((c, next)),
-        },
-    }
+    let c = char_at(lines, p)?;
+    let next = place_after(lines, p)?;
+    Some((c, next))
 }
 
 /// Whether a place is before another.
@@ -170,16 +155,14 @@ pub fn is_before(lines: &Vec<Line>, p: Pos, q: Pos) -> bool
     requires q { IsPlace (lines_of lines.now.items) q }
     ensures { IsTrue result ↔ (offset_of (lines_of lines.now.items) p < offset_of (lines_of lines.now.items) q) }
 {
-    if p.y < q.y {
-        return true;
-    }
-    if q.y < p.y {
-        return false;
-    }
-    p.x < q.x
+    p < q
 }
 
 /// The text between two places.
+///
+/// # Errors
+///
+/// Out of memory is the only error.
 pub fn text_between(
     alloc: Global,
     lines: &Vec<Line>,
@@ -193,13 +176,8 @@ pub fn text_between(
         string_bytes s ≡ encode_utf8_all (slice_range (text_of ls) (offset_of ls from) (offset_of ls to))) }
 {
     let mut out = String::new(alloc);
-    let mut at = from;
-    'chars: while is_before(lines, at, to) {
-        let Some((c, next)) = char_and_next(lines, at) else {
-            break;
-        };
+    for c in Chars::new(lines, from, to) {
         out.push(c)?;
-        at = next;
     }
     Ok(out)
 }
@@ -235,6 +213,10 @@ pub fn rest_at(lines: &Vec<Line>, p: Pos) -> &[char]
 }
 
 /// A copy of lines.
+///
+/// # Errors
+///
+/// Out of memory is the only error.
 pub fn clone_lines(alloc: Global, lines: &Vec<Line>) -> Result<Vec<Line>, AllocError>
     ensures { IfOk result (λ copy. lines_of copy.items ≡ lines_of lines.now.items) }
 {

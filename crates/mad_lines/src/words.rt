@@ -9,15 +9,15 @@ use unicode::properties::{GeneralCategory, is_alphabetic};
 /// A class of characters.
 #[derive(Clone, Copy, Debug, PartialEq, Eq)]
 pub enum CharClass {
-    /// Letters and digits.
+    /// Letters and numbers, by Unicode's `Alphabetic` and its three categories of numbers.
     Alphanumeric,
-    /// Letters, digits and `_`.
+    /// Letters, numbers and `_`.
     Word,
     /// All that is no whitespace.
     NonSpace,
 }
 
-/// Whether a character is a letter or a digit.
+/// Whether a character is a letter or a number, by Unicode's `Alphabetic` and its three categories of numbers.
 pub fn is_alphanumeric(c: char) -> bool
     ensures { result ≡ is_alphanumeric c }
 {

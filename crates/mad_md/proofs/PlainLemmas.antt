@@ -54,9 +54,9 @@ items_are (suc n) (b ∷ bs) fits h =
     by_byte _ _ _ (no_mark false false b bs (no_begin b (h 0 (omega arith))))
     ∙ ap (λ items. byte b ∷ items) (items_are n bs (omega arith) (later_plain b bs h))
 
-repeat_bytes : (bs : List ℕ) (start at : ℕ) → runs_after [] start at (bytes_of bs) ≡ unless_empty plain start (at + length bs)
-repeat_bytes [] start at = ap (unless_empty plain start) (omega arith)
-repeat_bytes (b ∷ bs) start at = repeat_bytes bs start (at + 1) ∙ ap (unless_empty plain start) (omega arith)
+run_bytes : (bs : List ℕ) (start at : ℕ) → runs_after [] start at (bytes_of bs) ≡ unless_empty plain start (at + length bs)
+run_bytes [] start at = ap (unless_empty plain start) (omega arith)
+run_bytes (b ∷ bs) start at = run_bytes bs start (at + 1) ∙ ap (unless_empty plain start) (omega arith)
 
 no_marks : (bs : List ℕ) → marks_after [] (bytes_of bs) ≡ []
 no_marks [] = refl
@@ -77,7 +77,7 @@ run_is (b ∷ bs) =
 said_plain : (bs : List ℕ) → AllPlain bs → map (run_at bs) (runs_with plain 0 (items_of plain bs)) ≡ raw_runs bs
 said_plain bs h =
     ap (λ items. map (run_at bs) (runs_with plain 0 items)) (items_are (length bs) bs (omega arith) h)
-    ∙ ap (map (run_at bs)) (repeat_bytes bs 0 0) ∙ run_is bs
+    ∙ ap (map (run_at bs)) (run_bytes bs 0 0) ∙ run_is bs
 
 ends_plain : (bs : List ℕ) → AllPlain bs → flags_at_end plain (items_of plain bs) ≡ plain
 ends_plain bs h = ap (λ items. flags_at_end plain items) (items_are (length bs) bs (omega arith) h) ∙ ap flags_after (no_marks bs)

@@ -1,4 +1,5 @@
-//! Views of texts: what goes out, on devices that fail at each byte and at their flush, and scrolls and areas at the ends of the types.
+//! Views of texts: what goes out, on devices that fail at each byte and at their flush. Scrolls and areas at the ends of the types
+//! are tried too.
 //!
 //! What a plain terminal shows of a view is tested in pictures, in the crate that tests what crosses the crates.
 

@@ -42,8 +42,8 @@ impl<'a, 't> TextView<'a, 't> {
         self.text.lines.len()
     }
 
-    /// Scrolls so that the line of this number comes first, but no further than to where the text's last line stands in the
-    /// area's last row, so a text that fits isn't scrolled; answers the scroll that is set.
+    /// Scrolls so that the line of this number comes first. It goes no further than to the text's last line in the area's last
+    /// row, so a text that fits isn't scrolled. Answers the scroll that is set.
     pub fn set_scroll(&mut self, scroll: usize) -> usize
         ensures kept { self.new ≡ record self.old { scroll = scroll_within (vec_len self.old.text.now.lines) self.old.area.now.height scroll } }
         ensures answer { result ≡ self.new.scroll }
@@ -67,8 +67,9 @@ impl<'a, 't> TextView<'a, 't> {
         requires { IsWithinLimits self.now.area.now }
         ensures writes { let text = self.now.text.now in Draws (O.seen out.old) (area_bytes text.skin.now text.lines.items self.now.area.now self.now.scroll) result (O.seen out.new) }
 
-        // What a plain terminal shows that reads it, where each line, as a layout left it, fits the area with its margins, and
-        // no piece of it holds a control character or begins with a widthless one.
+        // What a plain terminal shows that reads it, where each line that has a row keeps these. As a layout left it, it fits the
+        // area with its margins. No piece of it holds a control character or begins with a widthless one. Each character of a
+        // prefix, a rule and a border takes one column.
         ensures shown { let text = self.now.text.now in OnOk result (AreDrawable text.skin.now self.now.area.now.width (lines_shown text.lines.items self.now.area.now self.now.scroll)
             → TookWith (O.seen out.old) (O.seen out.new) (AreShownIn text.skin.now text.lines.items self.now.area.now self.now.scroll)) }
 

@@ -1,7 +1,8 @@
 //! Markdown for terminals: all names of the library, from the crates that have them.
 //!
-//! What a text is, what a terminal takes and shows, how lines are wrapped, styles as texts, and the editor's text have
-//! modules of their own: [`md`], [`term`], [`screen`], [`wrap`], [`parse`] and [`edit`]. Laws of tables are in [`layout`] and [`widths`].
+//! What a text is, what a terminal takes and shows, and how lines are wrapped have modules of their own. So have styles as
+//! texts and the editor's text: [`md`], [`term`], [`screen`], [`wrap`], [`parse`] and [`edit`]. Laws are in [`term`], [`layout`],
+//! [`widths`] and [`parse`].
 #![tactic(auto)]
 
 /// What a terminal takes, and what it shows.

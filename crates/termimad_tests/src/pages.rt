@@ -7,7 +7,7 @@ use std::test::Fail;
 use termimad::screen::{Pen, Screen};
 use termimad::{Attribute, MadSkin};
 
-// The text of samples/help.md.
+// The text of samples/help.md, without its section on the exit status.
 const HELP: &str = "# disk-report
 
 Shows how full each disk is, and *who* filled it. Wide names such as 概要 take two columns for each character, and a line that is too wide is wrapped in the fewest lines.
@@ -26,8 +26,8 @@ Shows how full each disk is, and *who* filled it. Wide names such as 概要 take
 ---
 ";
 
-// The looks in the order in which they come: the title, italic, a header, code, a bullet, the point after a number, a quote's
-// mark, and the rule.
+// The looks in the order in which they come: title, italic, header, code, bullet, the point after a number, a quote's mark, and
+// rule.
 fn looks() -> [Pen; 8] {
     let mut title = pen_with(Attribute::Bold);
     title.codes.set(Attribute::Underlined);

@@ -27,8 +27,8 @@ abbrev pub made_or_json : Option MadSkin → List ℕ → Option (MadSkin × Lis
 made_or_json (Some skin) text = Some (skin, [])
 made_or_json None text = json_skin text
 
--- The skin of a word, and those of its keys that name no part of a skin: no style without a word, the made skin of that name,
--- or what the word says as JSON text. None, where it says none.
+-- The skin of a word, and those of its keys that name no part of a skin. It is no style without a word, the made skin of that
+-- name, or what the word says as JSON text. None, where it says none.
 abbrev pub skin_given : Option (List ℕ) → Option (MadSkin × List (List ℕ))
 skin_given None = Some (no_style_skin, [])
 skin_given (Some word) = made_or_json (skin_named word) word

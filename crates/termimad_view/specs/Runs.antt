@@ -45,21 +45,21 @@ pub record Started (words : List (List ℕ)) (old new : Trace) : Type 0 where
   pub unknown : List (List ℕ)
   pub asked : Starts words old command skin unknown new
 
--- what `inline` writes of a line: the bytes of its reading, of which there is exactly one, and a newline; or memory for it was
--- refused, and nothing went out
+-- What `inline` writes of a line: the bytes of its reading, of which there is exactly one, and a newline. Or memory for it was
+-- refused, and nothing went out.
 abbrev pub WritesLine : {T : Type 0} → MadSkin → List ℕ → Trace → Result T Error → Trace → Type 0
 WritesLine skin line old r new =
     ((items : List Item) × IsInlineReading line items × Draws old (inline_bytes skin line items ++ (10 ∷ [])) r new) ⊎ (IsErrOf r NoMemory × (new ≡ old))
 
--- what the output is asked to take of a text: the text in its area; or its lines, laid out at a width part by part; or its line without the
--- end of line, and a newline
+-- What the output is asked to take of a text. It is the text in its area, or its lines, laid out at a width part by part. Of `inline`
+-- it is the line without its end, and a newline.
 abbrev pub WritesCall : {T : Type 0} → MadSkin → Command → List ℕ → Trace → Result T Error → Trace → Type 0
 WritesCall skin (InArea area) text old r new = WritesInArea skin text area old r new
 WritesCall skin (AtWidth width) text old r new = WritesParts skin (Some width) text old r new
 WritesCall skin Inline text old r new = (line : List ℕ) × IsWithoutLineEnd text line × WritesLine skin line old r new
 
--- what a plain terminal shows that reads what was written: the first rows of the text in its area, by its characters and by a layout; of the
--- others nothing is said
+-- What a plain terminal shows that reads what was written. It is the first rows of the text in its area, by its characters and by a
+-- layout. Of the others nothing is said.
 abbrev pub ShowsCall : MadSkin → Command → List ℕ → Trace → Trace → Type 0
 ShowsCall skin (InArea area) text old new =
     ((lines : List LineContent) × IsRead (unread_text false text) lines × ShowsFirstRows skin lines area old new) × ShowsText skin text area old new
@@ -123,7 +123,7 @@ RunsTo words old (Err NotUtf8) new = IsNoText words old new
 RunsTo words old (Err Io) new = FailsToRead words old Io new ⊎ (FailsToWrite words old Io new ⊎ FailsToFlush words old new)
 RunsTo words old (Err Memory) new = (AsksJson words × (new ≡ old)) ⊎ (FailsToRead words old Memory new ⊎ FailsToWrite words old Memory new)
 
--- A run ended with this status: without a failure it is 0 and nothing more is said; a failure has its own, and its line is said once.
+-- A run ended with this status. Without a failure it is 0 and nothing more is said; a failure has its own, and its line is said once.
 abbrev pub Answers : {T : Type 0} → Result T Failure → ℕ → Trace → Trace → Type 0
 Answers (Ok x) status told new = (status ≡ 0) × (new ≡ told)
 Answers (Err failure) status told new = (status ≡ status_of failure) × SaysOnce told (line_of failure) new
@@ -135,8 +135,8 @@ pub record HasRun (words : List (List ℕ)) (old : Devices) (status : ℕ) (new 
   pub did : RunsTo words old outcome (record { input = new.input; out = new.out; err = told })
   pub answered : Answers outcome status told new.err
 
--- A run on some words, on an input and an output that had done nothing yet, ended with this status; standard error went from the one trace
--- to the other.
+-- A run on some words, on an input and an output that had done nothing yet, ended with this status. Standard error went from the
+-- one trace to the other.
 pub record HasRunOnStreams (old : Trace) (status : ℕ) (new : Trace) : Type 0 where
   pub words : List (List ℕ)
   pub input : Trace

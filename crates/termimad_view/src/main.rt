@@ -9,9 +9,8 @@
 //! 5. [`program`]: a run, over any devices.
 #![tactic(auto)]
 
-ghost use Rattle.std.specs.Prelude.{◌≡◌, ℕ, List, drop, IfOk, MatchResult};
+ghost use Rattle.std.specs.Prelude.{◌≡◌, drop, IfOk, MatchResult};
 ghost use Rattle.std.specs.Vec.Iter.{into_iter_items};
-ghost use Rattle.termimad.specs.Trace.{Trace};
 ghost use Rattle.termimad_view.specs.Failures.{status_of, line_of, SaysOnce};
 ghost use Rattle.termimad_view.specs.Runs.{HasRunOnStreams};
 

@@ -2,7 +2,7 @@
 
 ghost use Rattle.std.specs.Prelude.{◌≡◌, ◌↔◌, ◌⊎◌, MatchResult, map, string_bytes};
 ghost use Rattle.termimad_view.specs.Calls.{IsNoCall, AsksRefusedSkin};
-ghost use Rattle.termimad_view.specs.Runs.{Devices, Starts, FailsToStart, RunsTo, HasRun};
+ghost use Rattle.termimad_view.specs.Runs.{Starts, FailsToStart, RunsTo, HasRun};
 
 use crate::call::{Call, parse_call};
 use crate::failure::{Failure, refuse};
@@ -14,7 +14,7 @@ use termimad::{Out, Source};
 
 /// Runs the program on its arguments, without its own name, and answers its status.
 ///
-/// The arguments are checked first, then the skin, whose unknown keys are said on `err`; then the input is read whole
+/// The arguments are checked first, then the skin, whose unknown keys are said on `err`. Then the input is read whole
 /// and decoded, and then the output is written and flushed. A failure is said on `err`, in one line; a fault of `err`
 /// changes no status.
 pub fn run<I: Source, O: Out, E: Out>(

@@ -15,7 +15,8 @@ use termimad::{Error, MadSkin, Out, put_all};
 ///
 /// # Errors
 ///
-/// A fault of the device, or out of memory. What went out by then is a beginning of the whole.
+/// A fault of the device, or out of memory. What went out by then is a beginning of the whole; of `text W`, of the rows of the
+/// text's first parts.
 pub fn write_call<O: Out>(
     alloc: Global,
     out: &mut O,

@@ -6,12 +6,16 @@ ghost use Rattle.std.specs.List.{swap};
 ghost use Rattle.mad_lines.specs.TextLines.{lines, text_of, accepted};
 ghost use Rattle.mad_edit.specs.Editor.{clamp_in, clamp_tail, offset_at, cursor_line, cursor_column};
 
-use crate::content::InputFieldContent;
+use crate::content::{InputFieldContent, clamp_tail};
 use mad_lines::{Pos, clear_lines, line_count, swap_lines, valid_pos};
 use std::alloc::{AllocError, Global};
 
 impl InputFieldContent {
     /// A text, with the cursor at its end. Carriage returns and backspaces are left out.
+    ///
+    /// # Errors
+    ///
+    /// Out of memory is the only error.
     pub fn from(alloc: Global, s: &str) -> Result<InputFieldContent, AllocError>
         ensures text { IfOk result (λ e. e.text ≡ accepted (chars s.now)) }
         ensures cursor { IfOk result (λ e. e.offset ≡ length (accepted (chars s.now))) }
@@ -23,7 +27,10 @@ impl InputFieldContent {
     }
 
     /// Puts a text in place of the whole one, with the cursor at its end and no tail. An equal text changes nothing.
-    /// After out of memory the editor is unchanged.
+    ///
+    /// # Errors
+    ///
+    /// Out of memory is the only error, and leaves the editor unchanged.
     pub fn set_str(&mut self, s: &str) -> Result<(), AllocError>
         ensures same { OnOk result (self.old.text ≡ chars s.now → self.new ≡ self.old) }
         ensures text { OnOk result (self.old.text ≢ chars s.now → self.new.text ≡ accepted (chars s.now)) }
@@ -65,9 +72,7 @@ impl InputFieldContent {
         }
         swap_lines(&mut self.lines, ya, yb);
         self.pos = valid_pos(&self.lines, self.pos);
-        if let Some(tail) = self.selection_tail {
-            self.selection_tail = Some(valid_pos(&self.lines, tail));
-        }
+        self.selection_tail = clamp_tail(&self.lines, self.selection_tail);
         true
     }
 

@@ -10,8 +10,11 @@ use std::alloc::AllocError;
 
 impl InputFieldContent {
     /// Undoes cuts, the last one first: each text is put in at its place again, or at the nearest one, and the cursor after
-    /// it. If the list of cuts led from an editor's text to the one that is there now, that text is there again. After out
-    /// of memory the editor is unchanged.
+    /// it. If the list of cuts led from an editor's text to the one that is there now, that text is there again.
+    ///
+    /// # Errors
+    ///
+    /// Out of memory is the only error, and leaves the editor unchanged.
     pub fn undo_cuts(&mut self, cuts: &[(Pos, &str)]) -> Result<(), AllocError>
         ensures undone { OnOk result ((first : List ℕ) → All IsAcceptedChar first
             → LeadsTo first (map cut_of cuts.now) self.old.text → self.new.text ≡ first) }

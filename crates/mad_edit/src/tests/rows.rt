@@ -102,6 +102,17 @@ fn words_are_removed_to_the_right(rt: HostRuntime) -> Result<(), Fail> {
 }
 
 #[test]
+fn words_are_removed_to_the_left(rt: HostRuntime) -> Result<(), Fail> {
+    let mut con = content(rt.alloc(), "aaa bbb", Pos::new(7, 0), None)?;
+    for (text, x, done) in [("aaa ", 4, true), ("", 0, true), ("", 0, false)] {
+        assert_eq!(rt; con.del_word_left()?, done);
+        assert!(rt; con.is_str(text));
+        assert_eq!(rt; con.cursor_pos(), Pos::new(x, 0));
+    }
+    Ok(())
+}
+
+#[test]
 fn a_tail_at_the_end_is_kept_in_the_text(rt: HostRuntime) -> Result<(), Fail> {
     let alloc = rt.alloc();
     let mut con = content(alloc, "aaa bbb ccc", Pos::new(5, 0), Some(Pos::new(11, 0)))?;

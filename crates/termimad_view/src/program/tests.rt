@@ -46,8 +46,8 @@ fn words_of(alloc: Global, call: &str) -> Result<Vec<String>, AllocError> {
     Ok(words)
 }
 
-// Runs a call with room for all, its input handed out in blocks of one byte, of some and of all, and looks at everything
-// that it leaves.
+// Runs a call with room for all, its input handed out in blocks of one byte, of some and of all. Looks at everything that it
+// leaves.
 fn expect(
     rt: &(impl Abort + AllocGlobal),
     call: &str,

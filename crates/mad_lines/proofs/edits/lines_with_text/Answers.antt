@@ -5,7 +5,7 @@ use Rattle.std.proofs.lemmas.Iterator.{YieldsList-from_chars}
 use Rattle.std.proofs.lemmas.Iterator.Consumers.{YieldsList-end}
 use Rattle.std.specs.Str.{chars}
 use Rattle.std.specs.Char.{IsScalar}
-use Rattle.mad_lines.specs.TextLines.{lines_of, accepted, is_plain, IsPlainLine}
+use Rattle.mad_lines.specs.TextLines.{lines_of, accepted, is_line_char, IsLineText}
 use Rattle.mad_lines.proofs.TextLemmas.{typed_text, typed_end}
 use Rattle.mad_lines.proofs.edits.lines_with_text.Goals as goal
 
@@ -30,5 +30,5 @@ returns-clause-ends_at c =
 pub returns-clause-plain : goal.returns-clause-plain
 returns-clause-plain c =
     rw (c.in_ok-push.ensures.items, map-append) (
-    All-append IsPlainLine (lines_of c.loop-c.lines.items) _ c.loop-c.invariant.1.lines
-    (All-cons IsPlainLine _ [] (rw c.in_ok-extend_from_slice.ensures.items (All-append (λ x. (is_plain x ≡ true) × IsScalar x) _ _ c.loop-c.invariant.1.line c.requires.back)) (All-nil IsPlainLine)))
+    All-append IsLineText (lines_of c.loop-c.lines.items) _ c.loop-c.invariant.1.lines
+    (All-cons IsLineText _ [] (rw c.in_ok-extend_from_slice.ensures.items (All-append (λ x. (is_line_char x ≡ true) × IsScalar x) _ _ c.loop-c.invariant.1.line c.requires.back)) (All-nil IsLineText)))

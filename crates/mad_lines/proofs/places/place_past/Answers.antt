@@ -1,20 +1,19 @@
-use Rattle.std.proofs.Common.{arith, suc}
-use Rattle.mad_lines.specs.TextLines.{lines_of}
-use Rattle.mad_lines.proofs.PlaceLemmas.{next_line, length-text, more_lines, no_lines}
+use Rattle.std.proofs.Common.{ℕ, ◌≡◌, ◌<◌, ◌+◌, ◌↔◌, List, Option, Some, None, IsSome, ap, ◌∙◌, arith, length, min, refl, inl, inr}
+use Rattle.std.specs.Prelude.{IfSome, unwrap_or}
+use Rattle.std.proofs.lemmas.Bool.{cases_lt}
+use Rattle.mad_lines.specs.declared.place.Pos.{Pos}
+use Rattle.mad_lines.specs.TextLines.{lines_of, text_of, offset_of, IsPlace}
+use Rattle.mad_lines.proofs.PlaceLemmas.{length-text}
 use Rattle.mad_lines.proofs.places.place_past.Goals as goal
 
-pub returns-then-p-line_len-clause-next : goal.returns-then-p-line_len-clause-next
-returns-then-p-line_len-clause-next c = let e = length-text (lines_of c.args.lines.now.items) c.args.p c.requires in omega arith
+-- the next place, or the end
+past : (ls : List (List ℕ)) (p : Pos) (r : Option Pos) → IsPlace ls p → IfSome r (λ q. offset_of ls q ≡ offset_of ls p + 1) → (IsSome r ↔ (offset_of ls p < length (text_of ls)))
+    → offset_of ls (unwrap_or r p) ≡ min (offset_of ls p + 1) (length (text_of ls))
+past ls p (Some q) h next at_end = let low = at_end.0 refl in omega (arith, next, low)
+past ls p None h next at_end = elim (cases_lt (offset_of ls p) (length (text_of ls))) [
+  | inl less ↦ let none = at_end.1 less in cc
+  | inr le ↦ let e = length-text ls p h in omega (arith, e, le)
+]
 
-pub returns-then-p-line_count-clause-next : goal.returns-then-p-line_count-clause-next
-returns-then-p-line_count-clause-next c =
-    let e = length-text (lines_of c.args.lines.now.items) c.args.p c.requires in
-    let n = next_line (lines_of c.args.lines.now.items) c.args.p.y (omega arith) in
-    let m = more_lines (lines_of c.args.lines.now.items) (suc c.args.p.y) (omega arith) in
-    omega arith
-
-pub returns-else-p-line_count-clause-next : goal.returns-else-p-line_count-clause-next
-returns-else-p-line_count-clause-next c =
-    let e = length-text (lines_of c.args.lines.now.items) c.args.p c.requires in
-    let m = no_lines (lines_of c.args.lines.now.items) (suc c.args.p.y) (omega arith) in
-    omega arith
+pub returns-clause-next : goal.returns-clause-next
+returns-clause-next c = ap (offset_of (lines_of c.args.lines.now.items)) c.unwrap_or.ensures ∙ past (lines_of c.args.lines.now.items) c.args.p c.place_after.result c.requires c.place_after.ensures.next c.place_after.ensures.at_end
