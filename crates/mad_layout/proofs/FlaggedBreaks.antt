@@ -12,7 +12,7 @@ use Rattle.mad_fit.proofs.FlaggedLemmas.{width_of-append}
 use Rattle.mad_fit.proofs.TokenTexts.{IsHonest, all_honest, some_flagged}
 use Rattle.mad_wrap.specs.Breaks.{LineAndGap, joined, total_width, AllBlank, FitsFrom, FittingBreak, EndsWithLine}
 use Rattle.mad_wrap.specs.Rooms.{token_limit}
-use Rattle.mad_layout.specs.FlaggedRows.{whole, LastsToEnd, IsFittingBreak}
+use Rattle.mad_layout.specs.FlaggedRows.{whole, IsFittingBreak}
 use Rattle.mad_wrap.specs.WrapLines.{LinesFit}
 use Rattle.mad_wrap.specs.declared.room.Room.{Room}
 use Rattle.mad_layout.proofs.FlaggedTokens.{tokens_agree}
@@ -76,7 +76,7 @@ no_tokens : (ts : List Token) → map flagged_token ts ≡ [] → ts ≡ []
 no_tokens [] e = refl
 no_tokens (t ∷ ts) e = absurd (cc)
 
-ends_back : (qs : List (LineAndGap Token)) → LastsToEnd (map flagged_piece qs) → EndsWithLine qs
+ends_back : (qs : List (LineAndGap Token)) → EndsWithLine (map flagged_piece qs) → EndsWithLine qs
 ends_back [] h = tt
 ends_back (q ∷ []) h = no_tokens q.gap h
 ends_back (q ∷ q' ∷ qs) h = ends_back (q' ∷ qs) h
@@ -99,7 +99,7 @@ break_lifts r ps ts breaks cut b =
               (subst (λ l. LinesFit r.first r (map (λ p. whole p.line) l)) same b.fits)
               (subst (AllByRecursion (λ p. AllByRecursion (λ x. is_blank x ≡ true) (whole p.gap))) same b.dropped);
         };
-        ends = ends_back qs (subst LastsToEnd same b.ends);
+        ends = ends_back qs (subst EndsWithLine same b.ends);
       },
       count,
     )

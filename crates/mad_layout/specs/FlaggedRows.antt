@@ -4,7 +4,7 @@ use Rattle.std.specs.List.{AllByRecursion, flat_map}
 use Rattle.mad_columns.specs.Columns.{char_columns}
 use Rattle.mad_md.specs.Flagged.{FlaggedChar, is_blank}
 use Rattle.mad_fit.specs.Columns.{width_of}
-use Rattle.mad_wrap.specs.Breaks.{LineAndGap, joined}
+use Rattle.mad_wrap.specs.Breaks.{LineAndGap, EndsWithLine, joined}
 use Rattle.mad_wrap.specs.Keeps.{Keeps, AllWhite}
 use Rattle.mad_wrap.specs.Rooms.{token_limit}
 use Rattle.mad_wrap.specs.WrapLines.{HasRoom, LinesFit}
@@ -29,19 +29,13 @@ tokens_from limit token (y ∷ ys) = if goes_on limit token y then tokens_from l
 abbrev pub tokens_of : Room → List (List FlaggedChar) → List (List FlaggedChar)
 tokens_of r parts = flat_map (tokens_from (token_limit r) []) parts
 
--- nothing is dropped after the last line
-abbrev pub LastsToEnd : List (LineAndGap (List FlaggedChar)) → Type 0
-LastsToEnd [] = Unit {0}
-LastsToEnd (p ∷ []) = p.gap ≡ []
-LastsToEnd (p ∷ q ∷ ps) = LastsToEnd (q ∷ ps)
-
 -- A fitting break of a line: its tokens in order on lines that fit, with only blanks dropped, and these between two lines.
 pub record IsFittingBreak (r : Room) (parts : List (List FlaggedChar)) (breaks : List (LineAndGap (List FlaggedChar))) : Type 0 where
   pub some : 0 < length breaks
   pub covers : joined breaks ≡ tokens_of r parts
   pub fits : LinesFit r.first r (map (λ p. whole p.line) breaks)
   pub dropped : AllByRecursion (λ p. AllByRecursion (λ x. is_blank x ≡ true) (whole p.gap)) breaks
-  pub ends : LastsToEnd breaks
+  pub ends : EndsWithLine breaks
 
 -- The rows are lines of a line's tokens in order, at least one, with only whitespace dropped after each.
 pub record AreBroken (r : Room) (parts rows : List (List FlaggedChar)) : Type 0 where

@@ -15,13 +15,12 @@ ghost use Rattle.mad_layout.specs.declared.line.FmtLine.TheVariants.{Normal};
 
 use crate::composite::FmtComposite;
 use crate::line::FmtLine;
-use crate::room::LEAST_WIDTH;
 use crate::skin::MadSkin;
 use crate::table_layout::push_whole_table;
 use crate::wrap::{push_line, push_read};
 use mad_fit::Spacing;
 use mad_md::{Alignment, Composite, Line};
-use mad_style::CompositeKind;
+use mad_style::{CompositeKind, LEAST_WIDTH};
 use std::alloc::{AllocError, Global};
 use std::mem;
 

@@ -5,12 +5,9 @@ ghost use Rattle.mad_layout.specs.Indents.{room_of};
 
 use crate::indents::composite_kind_widths;
 use crate::skin::MadSkin;
-use mad_style::CompositeKind;
+use mad_style::{CompositeKind, LEAST_WIDTH};
 use mad_term::InsufficientWidthError;
 pub use mad_wrap::Room;
-
-/// The least width, in columns, in which anything is wrapped.
-pub(crate) const LEAST_WIDTH: usize = 3;
 
 /// The room of a composite's lines at a width.
 pub fn room_of(skin: &MadSkin, kind: CompositeKind, width: usize) -> Room

@@ -47,13 +47,15 @@ impl InputFieldContent {
         Ok(())
     }
 
-    /// Leaves an empty text without a tail.
+    /// Leaves an empty text. A tail stays, at its only place.
     pub fn clear(&mut self)
-        ensures { self.new ≡ record { text = []; offset = 0; tail = None } }
+        ensures text { self.new.text ≡ [] }
+        ensures cursor { self.new.offset ≡ 0 }
+        ensures tail { self.new.tail ≡ clamp_tail [] self.old.tail }
     {
         clear_lines(&mut self.lines);
         self.pos = Pos { y: 0, x: 0 };
-        self.selection_tail = None;
+        self.selection_tail = clamp_tail(&self.lines, self.selection_tail);
     }
 
     /// Two lines change places. The cursor and the tail keep their line and place numbers as far as the text goes.

@@ -119,6 +119,9 @@ fn a_tail_at_the_end_is_kept_in_the_text(rt: HostRuntime) -> Result<(), Fail> {
     let mut copy = con.try_clone(alloc)?;
     con.clear();
     assert!(rt; con.is_empty());
+    assert!(rt; con.has_selection());
+    con.del_selection()?;
+    assert!(rt; con.is_empty());
     assert!(rt; copy.del_char_left()?);
     assert!(rt; copy.del_selection()?);
     assert!(rt; copy.is_str("aaa "));
