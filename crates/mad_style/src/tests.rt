@@ -304,7 +304,10 @@ fn what_is_shown_and_pushed_is_what_is_written(rt: HostRuntime) -> Result<(), Fa
     assert!(rt; row.as_str() == "\u{1b}[38;5;240m••\u{1b}[39m");
     let twice = styled.repeated(alloc, 2)?;
     assert!(rt; twice.to_string(alloc)?.as_str() == row.as_str());
-    assert_eq!(rt; twice.as_piece().style, styled.compound_style().object_style);
+    assert_eq!(rt;
+        twice.as_piece().style,
+        styled.compound_style().object_style
+    );
     row.clear();
     CompoundStyle::default().push_repeated(&mut row, "ab", 2)?;
     assert!(rt; row.as_str() == "abab");

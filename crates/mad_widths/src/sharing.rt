@@ -1,6 +1,6 @@
 //! How the columns of a table that is too wide give up their excess.
 
-ghost use Rattle.std.specs.Prelude.{sum_by, ◌≡◌, ℕ, ◌+◌, ◌-◌, ◌*◌, ◌^◌, ◌<◌, ◌≤◌, ◌++◌, ◌∷◌, [], List, length, map, max, min, sum, IfOk, All, slice_index};
+ghost use Rattle.std.specs.Prelude.{sum_by, ◌≡◌, ℕ, ◌+◌, ◌-◌, ◌*◌, ◌^◌, ◌<◌, ◌≤◌, ◌++◌, ◌∷◌, [], List, length, map, min, sum, IfOk, All, slice_index};
 ghost use Rattle.mad_widths.specs.Turns.{AreTurns, CanGiveUp, grants, turn_of};
 ghost use Rattle.mad_widths.specs.ColumnWidths.{natural_widths, over_average, spare, first_request, first_requests, above_three, second_request, second_requests, narrowed};
 ghost use Rattle.mad_widths.specs.SeenCells.{ColumnHasSeen, needs_in};
