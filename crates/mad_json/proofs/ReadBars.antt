@@ -77,7 +77,7 @@ simple_written bar h simple = record {
     underline = refl;
     attributes = λ a unwritten. subst (λ s. has_attribute s a ≡ false) (h.simple_thumb simple).attributes (h.thumb.style.attributes a unwritten);
   };
-  mark = h.track.mark;
+  no_whitespace = h.track.no_whitespace;
   no_digit = h.track.no_digit;
 }
 

@@ -147,8 +147,7 @@ headline skin markdown area old new limits wide h =
     let width : ℕ = area.width - 1 in
     let front : IsFrontLayout skin (Some width) area.height text h.lines = h.laid_out.layout in
     let layout : IsLayout skin width front.front h.lines = wrapped_at skin width front.front h.lines (omega (arith, wide)) front.layout in
-    let bound : area.width < 2 ^ 64 - 1 = omega (arith, limits.columns) in
-    (
+    let bound : area.width < 2 ^ 64 - 1 = omega (arith, limits.columns) in (
       text,
       h.laid_out.read,
       record {
@@ -160,7 +159,7 @@ headline skin markdown area old new limits wide h =
               all.0,
               subst (λ (ls : List LineInPart). AreAcross skin area ls all.0) (sym (in_parts_both text front.front front.rest front.parts)) all.1,
               took_more_at old.bytes new (AreShownIn skin h.lines area 0) (AreShownAcross all.0 area) (shown_across skin h.lines area all.0 all.2) (h.shown premises),
-          );
+            );
       },
     )
 
