@@ -6,8 +6,6 @@ mod edits;
 pub mod laws;
 mod moves;
 mod selections;
-#[cfg(test)]
-mod tests;
 mod words;
 
 pub use content::InputFieldContent;

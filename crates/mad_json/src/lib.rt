@@ -22,6 +22,3 @@ pub use errors::SkinError;
 pub use reading::skin_from_value;
 pub use scroll_bars::ScrollBarStyleDef;
 pub use writing::skin_to_value;
-
-#[cfg(test)]
-mod tests;

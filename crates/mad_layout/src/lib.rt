@@ -43,8 +43,6 @@ pub mod table;
 mod table_columns;
 pub mod table_layout;
 pub mod table_rows;
-#[cfg(test)]
-mod tests;
 mod text_writing;
 pub mod wrap;
 mod writing;

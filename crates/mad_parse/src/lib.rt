@@ -32,6 +32,3 @@ pub use reading::{compound_style_from, line_style_from};
 pub use tokens::StyleToken;
 pub use writing::{style_tokens_to_string, write_style_tokens};
 pub use written::PushStyleTokens;
-
-#[cfg(test)]
-mod tests;

@@ -140,6 +140,3 @@ impl fmt::Display for Looks<'_> {
         Ok(())
     }
 }
-
-#[cfg(test)]
-mod tests;

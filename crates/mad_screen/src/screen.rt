@@ -307,6 +307,3 @@ impl Screen {
         })
     }
 }
-
-#[cfg(test)]
-mod tests;

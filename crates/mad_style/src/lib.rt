@@ -33,6 +33,3 @@ pub use ordered_items::{MAX_ORDERED_LIST_DEPTH, OrderedItemStyle, ordered_item_i
 pub use scroll_bars::ScrollBarStyle;
 pub use styled_chars::StyledChar;
 pub use styled_texts::StyledText;
-
-#[cfg(test)]
-mod tests;

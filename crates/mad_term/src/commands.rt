@@ -89,6 +89,3 @@ pub(crate) fn clear_text(what: ClearType) -> &'static str
         ClearType::UntilNewLine => "\x1b[K",
     }
 }
-
-#[cfg(test)]
-mod tests;

@@ -65,6 +65,3 @@ pub fn put_all<O: Out>(out: &mut O, bytes: &[u8]) -> io::Result<()>
     }
     Ok(())
 }
-
-#[cfg(test)]
-mod tests;

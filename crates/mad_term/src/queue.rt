@@ -102,6 +102,3 @@ pub fn queue_styled<O: Out>(
     put_all(out, bytes.as_bytes())?;
     Ok(())
 }
-
-#[cfg(test)]
-mod tests;

@@ -93,6 +93,3 @@ impl fmt::Display for EachCopy<'_> {
         Ok(())
     }
 }
-
-#[cfg(test)]
-mod tests;

@@ -258,6 +258,3 @@ pub fn push_styled(row: &mut String, style: ContentStyle, text: &str) -> Result<
     };
     write!(row, "{piece}")
 }
-
-#[cfg(test)]
-mod tests;

@@ -21,8 +21,6 @@ pub mod measuring;
 mod placing;
 pub mod room;
 pub mod starting;
-#[cfg(test)]
-mod tests;
 pub mod wrapped_line;
 pub mod wrapping;
 

@@ -6,6 +6,8 @@
 #[cfg(test)]
 mod areas;
 #[cfg(test)]
+mod json;
+#[cfg(test)]
 mod pages;
 #[cfg(test)]
 mod picture;

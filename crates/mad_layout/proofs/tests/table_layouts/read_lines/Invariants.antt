@@ -1,5 +1,0 @@
-use Rattle.mad_layout.specs.WrappedLines.{AllMeasured}
-use Rattle.mad_layout.proofs.tests.table_layouts.read_lines.Given as goal
-
-abbrev pub invariant-loop-line : goal.invariant-loop-line
-invariant-loop-line l = AllMeasured l.skin l.lines.items

@@ -1,0 +1,118 @@
+//! Composites and skins of the tests, and lines against a picture of them.
+
+ghost use Rattle.std.specs.Prelude.{IfOk};
+ghost use Rattle.mad_layout.specs.Wraps.{IsMeasured};
+
+use mad_layout::{FmtComposite, MadSkin, check_wrap_bound, hard_wrap_composite, wrap_bound};
+use mad_md::{Alignment, Composite, CompositeStyle};
+use mad_style::{CompoundStyle, LineStyle, ListItemsIndentationMode};
+use mad_term::Error;
+use std::alloc::{AllocError, Global};
+use std::process::Abort;
+
+/// A skin without looks, with margins and a mode of items.
+pub fn skin_with(
+    left_margin: usize,
+    right_margin: usize,
+    mode: ListItemsIndentationMode,
+) -> MadSkin {
+    let style = LineStyle {
+        compound_style: CompoundStyle::default(),
+        align: Alignment::Unspecified,
+        left_margin,
+        right_margin,
+    };
+    MadSkin {
+        paragraph: style,
+        code_block: style,
+        headers: [style; 8],
+        list_items_indentation_mode: mode,
+        ..MadSkin::no_style()
+    }
+}
+
+/// A skin without looks and margins.
+pub fn plain_skin() -> MadSkin {
+    skin_with(0, 0, ListItemsIndentationMode::Block)
+}
+
+/// The composite that inline marks make, in a style.
+pub fn composite<'s>(
+    alloc: Global,
+    text: &'s str,
+    style: CompositeStyle,
+    skin: &MadSkin,
+) -> Result<FmtComposite<'s>, AllocError>
+    ensures { IfOk result (IsMeasured skin.now) }
+{
+    let read = Composite::from_inline(alloc, text)?;
+    let read = Composite {
+        style,
+        compounds: read.compounds,
+    };
+    Ok(FmtComposite::from(read, skin))
+}
+
+/// A line as text: each compound between bars, after the letters of its flags.
+pub fn push_picture(picture: &mut String, line: &FmtComposite) -> Result<(), AllocError> {
+    for compound in &line.compounds {
+        let flags = [
+            (compound.bold, "b"),
+            (compound.italic, "i"),
+            (compound.code, "c"),
+            (compound.strikeout, "s"),
+        ];
+        for (is_on, letter) in flags {
+            if is_on {
+                picture.push_str(letter)?;
+            }
+        }
+        picture.push_str("|")?;
+        picture.push_str(compound.src)?;
+        picture.push_str("|")?;
+    }
+    picture.push_str("\n")
+}
+
+/// What a composite wider than a width is wrapped into, as a picture.
+pub fn assert_wrap(
+    rt: &impl Abort,
+    alloc: Global,
+    composite: &FmtComposite,
+    width: usize,
+    skin: &MadSkin,
+    wanted: &str,
+) -> Result<(), Error>
+    requires { IsMeasured skin.now composite.now }
+{
+    assert!(rt; composite.visible_length > width);
+    let mut picture = String::new(alloc);
+    for line in &hard_wrap_composite(alloc, composite, width, skin)? {
+        push_picture(&mut picture, line)?;
+    }
+    assert_eq!(rt; picture.as_str(), wanted);
+    Ok(())
+}
+
+/// Where the lines of a composite's bound start, and that its check passes.
+pub fn assert_bound(
+    rt: &impl Abort,
+    alloc: Global,
+    composite: &FmtComposite,
+    width: usize,
+    skin: &MadSkin,
+    wanted: &[usize],
+) -> Result<(), Error> {
+    let bound = wrap_bound(alloc, composite, width, skin)?;
+    assert_eq!(rt; bound.starts.as_slice(), wanted);
+    assert!(rt; check_wrap_bound(composite, width, skin, &bound)?);
+    Ok(())
+}
+
+/// Whether a call is refused for its width.
+pub fn is_refused<T: Drop>(outcome: Result<T, Error>, width: usize) -> bool {
+    match outcome {
+        Err(Error::InsufficientWidth(error)) => error.available_width == width,
+        _ => false,
+    }
+}

@@ -1,0 +1,23 @@
+//! Worked rows, and calls at random beside a plain string with an offset.
+
+mod random;
+mod rows;
+
+use mad_edit::InputFieldContent;
+use mad_lines::Pos;
+use std::alloc::{AllocError, Global};
+
+/// A text with the cursor and, perhaps, a tail.
+pub(crate) fn content(
+    alloc: Global,
+    text: &str,
+    cursor: Pos,
+    tail: Option<Pos>,
+) -> Result<InputFieldContent, AllocError> {
+    let mut content = InputFieldContent::from(alloc, text)?;
+    content.set_cursor_pos(cursor);
+    if let Some(tail) = tail {
+        content.set_selection_tail(tail);
+    }
+    Ok(content)
+}

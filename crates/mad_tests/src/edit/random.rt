@@ -1,0 +1,154 @@
+//! Some thousand calls at random, applied to an editor and to a plain text with an offset.
+
+use mad_edit::InputFieldContent;
+use mad_lines::Pos;
+use std::alloc::{AllocError, Global};
+use std::process::Abort;
+use std::test::Fail;
+
+// A text with an offset.
+#[derive(Drop)]
+struct Plain {
+    text: Vec<char>,
+    at: usize,
+}
+
+impl Plain {
+    // Puts a text in place of what is between two offsets, and the offset after it.
+    fn replace(
+        &mut self,
+        alloc: Global,
+        from: usize,
+        to: usize,
+        s: &str,
+    ) -> Result<(), AllocError> {
+        let front = self.text.iter().copied().take(from);
+        let back = self.text.iter().copied().skip(to);
+        self.text = front.chain(s.chars()).chain(back).collect(alloc)?;
+        self.at = from.saturating_add(s.chars().count());
+        Ok(())
+    }
+
+    fn place_of(&self, offset: usize) -> Pos {
+        let front = &self.text.as_slice()[..offset.min(self.text.len())];
+        let y = front.iter().filter(|c| **c == '\n').count();
+        let x = front.iter().rev().take_while(|c| **c != '\n').count();
+        Pos::new(x, y)
+    }
+
+    fn to_text(&self, alloc: Global) -> Result<String, AllocError> {
+        self.text.iter().copied().collect(alloc)
+    }
+
+    // How much of the line is after the offset.
+    fn rest_of_line(&self) -> usize {
+        self.text
+            .iter()
+            .skip(self.at)
+            .take_while(|c| **c != '\n')
+            .count()
+    }
+}
+
+// A fixed generator: the next number, below a bound.
+fn draw(state: &mut u64, bound: usize) -> usize {
+    *state = state
+        .wrapping_mul(6_364_136_223_846_793_005)
+        .wrapping_add(1_442_695_040_888_963_407);
+    let high = (*state >> 33) as usize;
+    if bound == 0 { 0 } else { high % bound }
+}
+
+// One call on both.
+fn step(
+    alloc: Global,
+    state: &mut u64,
+    con: &mut InputFieldContent,
+    plain: &mut Plain,
+) -> Result<(), AllocError> {
+    let len = plain.text.len();
+    let at = plain.at;
+    match draw(state, 14) {
+        0 | 1 => {
+            con.insert_char('a')?;
+            plain.replace(alloc, at, at, "a")?;
+        }
+        2 => {
+            con.insert_new_line()?;
+            plain.replace(alloc, at, at, "\n")?;
+        }
+        3 => {
+            con.insert_str("b c\r\n\u{8}é")?;
+            plain.replace(alloc, at, at, "b c\né")?;
+        }
+        4 | 5 => {
+            let moved = con.move_left();
+            plain.at = at.saturating_sub(usize::from(moved));
+        }
+        6 | 7 => {
+            let moved = con.move_right();
+            plain.at = at.saturating_add(usize::from(moved));
+        }
+        8 => {
+            con.del_char_left()?;
+            plain.replace(alloc, at.saturating_sub(1), at, "")?;
+        }
+        9 => {
+            con.move_to_line_end();
+            plain.at = at.saturating_add(plain.rest_of_line());
+        }
+        10 => {
+            let target = draw(state, len.saturating_add(1));
+            con.set_cursor_pos(plain.place_of(target));
+            plain.at = target;
+        }
+        11 => {
+            con.move_to_start();
+            plain.at = 0;
+        }
+        12 => {
+            let target = draw(state, len.saturating_add(1));
+            con.set_selection_tail(plain.place_of(target));
+            con.replace_selection("xy")?;
+            let (from, to) = if target == at {
+                (at, at)
+            } else {
+                (at.min(target), at.max(target).saturating_add(1))
+            };
+            con.unselect();
+            plain.replace(alloc, from, to, "xy")?;
+        }
+        _ => {
+            let target = draw(state, len.saturating_add(1));
+            con.set_selection_tail(plain.place_of(target));
+            if con.has_wide_selection() {
+                con.cut_selection()?;
+                plain.replace(alloc, at.min(target), at.max(target).saturating_add(1), "")?;
+            }
+            con.unselect();
+        }
+    }
+    Ok(())
+}
+
+fn steps(rt: &impl Abort, alloc: Global) -> Result<(), AllocError> {
+    let mut state = 20_261_122;
+    let mut con = InputFieldContent::new(alloc)?;
+    let mut plain = Plain {
+        text: Vec::new(alloc),
+        at: 0,
+    };
+    for _call in 0..4000 {
+        step(alloc, &mut state, &mut con, &mut plain)?;
+        let text = plain.to_text(alloc)?;
+        assert!(rt; con.is_str(text.as_str()));
+        assert_eq!(rt; con.cursor_pos(), plain.place_of(plain.at));
+    }
+    Ok(())
+}
+
+#[test]
+fn calls_at_random_beside_a_plain_text(rt: HostRuntime) -> Result<(), Fail> {
+    steps(&rt, rt.alloc())?;
+    Ok(())
+}

@@ -1,0 +1,19 @@
+//! Tests of the crates below `mad_layout`: worked rows, and what no contract says.
+//!
+//! They stand apart, as Cargo keeps a crate's `tests/`: a crate with tests is proved once more with them. The crate has no function of its own.
+#![tactic(auto)]
+
+#[cfg(test)]
+mod edit;
+#[cfg(test)]
+mod md;
+#[cfg(test)]
+mod parse;
+#[cfg(test)]
+mod screen;
+#[cfg(test)]
+mod style;
+#[cfg(test)]
+mod term;
+#[cfg(test)]
+mod wrap;

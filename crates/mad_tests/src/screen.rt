@@ -1,0 +1,4 @@
+//! What a plain terminal shows.
+
+mod pictures;
+mod screens;
