@@ -4,7 +4,11 @@
 #![tactic(auto)]
 
 #[cfg(test)]
+mod columns;
+#[cfg(test)]
 mod edit;
+#[cfg(test)]
+mod fit;
 #[cfg(test)]
 mod md;
 #[cfg(test)]
@@ -15,5 +19,7 @@ mod screen;
 mod style;
 #[cfg(test)]
 mod term;
+#[cfg(test)]
+mod widths;
 #[cfg(test)]
 mod wrap;

@@ -1,3 +1,5 @@
+//! Lines by their forms, inline marks, cursors and long texts.
+
 use mad_md::{
     Composite, CompositeStyle, Compound, Line, LineCursor, ParseOptions, Text, first_lines,
     parse_text,

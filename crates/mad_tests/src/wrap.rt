@@ -1,3 +1,5 @@
+//! Wrapped compounds, and the starts of their lines.
+
 use mad_md::Compound;
 use mad_wrap::{Room, WrappedLine, check_starts, fit_columns, wrap_compounds, wrap_starts};
 use std::alloc::Global;

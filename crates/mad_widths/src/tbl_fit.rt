@@ -78,6 +78,3 @@ impl TblFit {
         )
     }
 }
-
-#[cfg(test)]
-mod tests;

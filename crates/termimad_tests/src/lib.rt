@@ -16,4 +16,6 @@ mod tables;
 #[cfg(test)]
 mod texts;
 #[cfg(test)]
+mod view_calls;
+#[cfg(test)]
 mod views;

@@ -1,5 +1,6 @@
-// The rows of the grammar's page: a text, and its lines. `tools/grammar_page` writes docs/GRAMMAR.md's tables from
-// them, a table for each title. A line is its form and its compounds in quotes, each after its flags.
+//! The rows of the grammar's page: a text, and its lines. `tools/grammar_page` writes docs/GRAMMAR.md's tables from
+//! them, a table for each title. A line is its form and its compounds in quotes, each after its flags.
+
 use mad_md::{
     Alignment, Composite, CompositeStyle, Line, ParseOptions, TableRow, TableRule, parse_text_with,
 };

@@ -1,16 +1,13 @@
 //! Views of texts: what goes out, on devices that fail at each byte and at their flush. Scrolls and areas at the ends of the types
 //! are tried too.
 //!
-//! What a plain terminal shows of a view is tested in pictures, in the crate that tests what crosses the crates.
+//! What a plain terminal shows of a view is in `views`.
 
-ghost use Rattle.mad_fit.specs.Areas.{IsWithinLimits};
+ghost use Rattle.termimad.specs.Areas.{IsWithinLimits};
 
-use crate::text_view::TextView;
-use mad_fit::Area;
-use mad_layout::{FmtText, MadSkin};
-use mad_term::{CutOut, Error};
 use std::alloc::AllocError;
 use std::test::Fail;
+use termimad::{Area, CutOut, Error, FmtText, MadSkin, TextView};
 
 const MAX: usize = usize::MAX;
 

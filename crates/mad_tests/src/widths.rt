@@ -1,4 +1,8 @@
-use super::*;
+//! The widths of a table's columns.
+
+use mad_term::Error;
+use mad_widths::TblFit;
+use std::alloc::Global;
 use std::process::Abort;
 use std::test::Fail;
 
