@@ -1,16 +1,8 @@
-//! Tests of the crates below `mad_layout`: worked rows, and what no contract says.
+//! Tests of the crates of the terminal: commands, screens, styles and their texts: worked rows, and what no contract says.
 //!
 //! They stand apart, as Cargo keeps a crate's `tests/`: a crate with tests is proved once more with them. The crate has no function of its own.
 #![tactic(auto)]
 
-#[cfg(test)]
-mod columns;
-#[cfg(test)]
-mod edit;
-#[cfg(test)]
-mod fit;
-#[cfg(test)]
-mod md;
 #[cfg(test)]
 mod parse;
 #[cfg(test)]
@@ -19,7 +11,3 @@ mod screen;
 mod style;
 #[cfg(test)]
 mod term;
-#[cfg(test)]
-mod widths;
-#[cfg(test)]
-mod wrap;

@@ -1,0 +1,17 @@
+//! Tests of the crates of text, from its lines to the editor: worked rows, and what no contract says.
+//!
+//! They stand apart, as Cargo keeps a crate's `tests/`: a crate with tests is proved once more with them. The crate has no function of its own.
+#![tactic(auto)]
+
+#[cfg(test)]
+mod columns;
+#[cfg(test)]
+mod edit;
+#[cfg(test)]
+mod fit;
+#[cfg(test)]
+mod md;
+#[cfg(test)]
+mod widths;
+#[cfg(test)]
+mod wrap;
