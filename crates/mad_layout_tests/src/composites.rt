@@ -74,7 +74,7 @@ pub fn push_picture(picture: &mut String, line: &FmtComposite) -> Result<(), All
     picture.push_str("\n")
 }
 
-/// What a composite wider than a width is wrapped into, as a picture.
+/// Asserts what a composite that is wider than the width is wrapped into, as a picture.
 pub fn assert_wrap(
     rt: &impl Abort,
     alloc: Global,
@@ -94,7 +94,7 @@ pub fn assert_wrap(
     Ok(())
 }
 
-/// Where the lines of a composite's bound start, and that its check passes.
+/// Asserts where the lines of a composite's bound start, and that the bound passes its check.
 pub fn assert_bound(
     rt: &impl Abort,
     alloc: Global,
@@ -109,7 +109,7 @@ pub fn assert_bound(
     Ok(())
 }
 
-/// Whether a call is refused for its width.
+/// Whether a call was refused for this width.
 pub fn is_refused<T: Drop>(outcome: Result<T, Error>, width: usize) -> bool {
     match outcome {
         Err(Error::InsufficientWidth(error)) => error.available_width == width,

@@ -1,6 +1,6 @@
 //! Tests of `mad_layout`: tables of what is laid out, displayed and drawn.
 //!
-//! They stand apart, as Cargo keeps a crate's `tests/`: a crate with tests is proved once more with them. The crate has no function of its own.
+//! They stand apart, as Cargo keeps a crate's `tests/`: a crate with tests is proved once more with them. Without tests this crate is empty.
 #![tactic(auto)]
 
 #[cfg(test)]

@@ -1,6 +1,6 @@
-//! Tests of the crates of text, from its lines to the editor: worked rows, and what no contract says.
+//! Tests of the crates of text, from its lines to the editor. They are worked rows, and what no contract says.
 //!
-//! They stand apart, as Cargo keeps a crate's `tests/`: a crate with tests is proved once more with them. The crate has no function of its own.
+//! They stand apart, as Cargo keeps a crate's `tests/`: a crate with tests is proved once more with them. Without tests this crate is empty.
 #![tactic(auto)]
 
 #[cfg(test)]

@@ -218,6 +218,7 @@ fn draw_rule(picture: &mut String, rule: &TableRule) -> Result<(), Fail> {
     Ok(())
 }
 
+/// Appends a line as the rows write it.
 pub(crate) fn draw_line(picture: &mut String, line: &Line) -> Result<(), Fail> {
     match line {
         Line::Normal(composite) => draw_composite(picture, composite),
