@@ -7,7 +7,7 @@ use mad_style::StyledChar;
 use mad_term::StyledRepeat;
 use std::fmt;
 
-/// A character `count` times, as one piece. Of none nothing is written.
+/// A character `count` times, as one piece. A `count` of 0 writes nothing.
 #[derive(Clone, Copy)]
 pub struct CharRepeat {
     /// The character, in its style.

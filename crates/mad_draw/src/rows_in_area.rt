@@ -31,7 +31,7 @@ pub trait Rows {
 
 /// Draws rows in an area, the first one on top, each after a move to its position. Nothing is flushed.
 ///
-/// The area's right and bottom have to fit a `u16`. Each row goes to the device in one put.
+/// The area's right and bottom have to fit a `u16`. Each row goes to the device in one put, as long as that takes all of it.
 ///
 /// # Errors
 ///

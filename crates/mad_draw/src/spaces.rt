@@ -4,7 +4,7 @@ use mad_style::CompoundStyle;
 use mad_term::{StyledContent, StyledRepeat};
 use std::fmt::{self, Display};
 
-/// `count` spaces as one piece. Of none nothing is written.
+/// `count` spaces as one piece. A `count` of 0 writes nothing.
 #[derive(Clone, Copy)]
 pub struct Spaces {
     /// How they are written.

@@ -1,4 +1,4 @@
-//! How far the lines of an item are pushed in, as a text.
+//! The indentation mode of list items, as a text.
 
 ghost use Rattle.std.specs.Prelude.{◌≡◌, Ok, IfOk, IfErr};
 ghost use Rattle.serde_json.specs.View.{view};
@@ -46,12 +46,7 @@ fn mode_named(text: &str) -> Option<ListItemsIndentationMode>
 fn hanging_of(text: &str) -> Option<ListItemsIndentationMode>
     ensures { result ≡ hanging_front (without_last 41 text.now) }
 {
-    let Some(front) = text.strip_suffix(')') else {
-        return None;
-    };
-    let Some((name, digits)) = front.split_once('(') else {
-        return None;
-    };
+    let (name, digits) = text.strip_suffix(')')?.split_once('(')?;
     called_mode(name, digits)
 }
 

@@ -12,7 +12,6 @@ use Rattle.mad_layout.specs.declared.skin.MadSkin.{MadSkin}
 use Rattle.mad_layout.specs.declared.composite.FmtComposite.{FmtComposite}
 use Rattle.mad_layout.specs.declared.line.FmtLine.{FmtLine}
 use Rattle.mad_layout.specs.declared.line.FmtLine.TheVariants.{Normal, TableRow, TableRule, HorizontalRule}
-use Rattle.mad_layout.proofs.FrontLemmas.{front_joined, some_part}
 use Rattle.mad_layout.proofs.LayoutLemmas.{parts_joined}
 use Rattle.mad_layout.proofs.PartRuns.{table_in_front, block_in_front, alone_first}
 use Rattle.mad_layout.proofs.RowsExist.{by_bool}
@@ -36,6 +35,19 @@ apart_front front [] rest h = apart_end front
 apart_front [] (d ∷ ds) rest h = refl
 apart_front (c ∷ []) (d ∷ ds) rest h = h
 apart_front (b ∷ c ∷ cs) (d ∷ ds) rest h = apart_front (c ∷ cs) (d ∷ ds) rest h
+
+front_joined : (c : LineContent) (p : List LineContent) (ps qs : List (List LineContent)) → in_front c ((p ∷ ps) ++ qs) ≡ in_front c (p ∷ ps) ++ qs
+front_joined c [] ps qs = refl
+front_joined c (d ∷ ds) ps qs =
+    by_bool (λ b. (if b then (c ∷ d ∷ ds) ∷ (ps ++ qs) else (c ∷ []) ∷ (d ∷ ds) ∷ (ps ++ qs)) ≡ (if b then (c ∷ d ∷ ds) ∷ ps else (c ∷ []) ∷ (d ∷ ds) ∷ ps) ++ qs) (stand_together c d) (λ on. refl) (λ off. refl)
+
+-- a line in front of parts makes one at least
+some_part : (c : LineContent) (parts : List (List LineContent)) → (p : List LineContent) × (ps : List (List LineContent)) × (in_front c parts ≡ p ∷ ps)
+some_part c [] = (c ∷ [], [], refl)
+some_part c ([] ∷ parts) = (c ∷ [], [] ∷ parts, refl)
+some_part c ((d ∷ ds) ∷ parts) =
+    by_bool (λ b. (p : List LineContent) × (ps : List (List LineContent)) × ((if b then (c ∷ d ∷ ds) ∷ parts else (c ∷ []) ∷ (d ∷ ds) ∷ parts) ≡ p ∷ ps)) (stand_together c d)
+    (λ on. (c ∷ d ∷ ds, parts, refl)) (λ off. (c ∷ [], (d ∷ ds) ∷ parts, refl))
 
 -- the parts begin with their first line
 begins : (c : LineContent) (parts : List (List LineContent)) → (cs : List LineContent) × (ps : List (List LineContent)) × (in_front c parts ≡ (c ∷ cs) ∷ ps)

@@ -39,8 +39,8 @@ use Rattle.mad_layout.specs.Styles.{compound_style, ellipsis_bytes}
 use Rattle.mad_layout.specs.Texts.{line_bytes, text_bytes}
 use Rattle.mad_layout.specs.WrappedLines.{line_with}
 use Rattle.mad_layout.specs.WrittenParts.{IsPartKind, HandsOn, WritesParts}
-use Rattle.mad_layout.specs.declared.parts_writing.PartKind.{PartKind}
-use Rattle.mad_layout.specs.declared.parts_writing.PartKind.TheVariants.{Alone}
+use Rattle.mad_layout.specs.declared.part_kinds.PartKind.{PartKind}
+use Rattle.mad_layout.specs.declared.part_kinds.PartKind.TheVariants.{Alone}
 use Rattle.mad_layout.specs.declared.skin.MadSkin.{MadSkin}
 use Rattle.mad_layout.specs.declared.composite.FmtComposite.{FmtComposite}
 use Rattle.mad_layout.specs.declared.line.FmtLine.{FmtLine}
@@ -48,7 +48,7 @@ use Rattle.mad_layout.specs.declared.line.FmtLine.TheVariants.{Normal}
 use Rattle.mad_layout.proofs.FlaggedTokens.{if_false}
 use Rattle.mad_layout.proofs.LayoutJoins.{apart, layouts_joined}
 use Rattle.mad_layout.proofs.PieceLemmas.{bare_piece}
-use Rattle.mad_layout.proofs.WrittenLemmas.{EndsIn, WrittenSoFar, WrittenParts, written_closed, written_on, written_next, written_refused, no_whole, refused_after}
+use Rattle.mad_layout.proofs.WrittenLemmas.{EndsIn, alone_off, ends_apart, hands_refused, WrittenSoFar, WrittenParts, written_closed, written_on, written_next, written_refused, no_whole, refused_after}
 
 -- ---- the line that a plain text is
 
@@ -181,10 +181,6 @@ plain_start skin width before bytes kept old new (sent, both, went) = record {
   went = went;
 }
 
--- such a line is in no part with another
-alone_off : (c d : LineContent) → IsPartKind c Alone → stand_together c d ≡ false
-alone_off c d h = ap (λ b. (b && is_code d) || (is_table c && is_table d)) h.0 ∙ ap (λ b. b && is_table d) h.1
-
 pub alone_apart : (front rest : List LineContent) → AllAlone front → apart front rest ≡ true
 alone_apart [] rest h = refl
 alone_apart (c ∷ []) [] h = refl
@@ -237,10 +233,6 @@ plain_done skin width before left bytes kept old new h = record {
   rest = refl;
 }
 
-hands_refused : {T : Type 0} (r : Result T Error) (e : Error) (old new : Trace) (bytes kept : List ℕ) → IsErrAnd r (λ d. d ≡ e) → Refused old bytes e new → HandsOn old bytes r new kept
-hands_refused {T} (Ok x) e old new bytes kept is h = absurd is
-hands_refused {T} (Err d) e old new bytes kept is h = subst (λ (f : Error). Refused old bytes f new) (sym is) h
-
 -- the bytes that are kept were refused
 pub plain_refused : {T : Type 0} (skin : MadSkin) (width : Option ℕ) (before left rest : List LineContent) (bytes kept new_kept : List ℕ) (r : Result T Error) (e : Error) (old mid new : Trace) → PlainSoFar skin width before left bytes kept old mid
     → IsErrAnd r (λ d. d ≡ e) → Refused mid kept e new → HandsOnPlain skin width before bytes old r new new_kept rest
@@ -274,12 +266,6 @@ pub row_put : (kept text mid new row : List ℕ) → mid ≡ kept ++ text → ne
 row_put kept text mid new row first last is = last ∙ ap (λ (t : List ℕ). t ++ 10 ∷ []) first ∙ append_assoc kept text (10 ∷ []) ∙ ap (λ (t : List ℕ). kept ++ t) (sym is)
 
 -- ---- after the lines in front
-
-ends_apart : (front left : List LineContent) → EndsIn Alone front → apart front left ≡ true
-ends_apart [] left h = refl
-ends_apart (c ∷ []) [] h = refl
-ends_apart (c ∷ []) (d ∷ ds) h = ap not (alone_off c d h)
-ends_apart (c ∷ d ∷ cs) left h = ends_apart (d ∷ cs) left h
 
 all_end : (taken : List LineContent) → AllAlone taken → EndsIn Alone taken
 all_end [] h = tt

@@ -1,9 +1,9 @@
 -- Tables, laid out row by row and line by line.
-use Rattle.std.proofs.Common.{◌≡◌, ℕ, zero, suc, ◌+◌, ◌<◌, ◌==◌, inl, inr, Bool, true, false, List, [], ◌∷◌, ◌++◌, map, length, length-append, take, drop, get_or, max, refl, ap, sym, ◌∙◌, subst, arith, append_assoc}
+use Rattle.std.proofs.Common.{◌≡◌, ℕ, zero, suc, ◌+◌, ◌<◌, ◌≤◌, set, ◌==◌, inl, inr, Bool, true, false, List, [], ◌∷◌, ◌++◌, map, length, length-append, take, drop, get_or, max, refl, ap, sym, ◌∙◌, subst, arith, append_assoc}
 use Rattle.std.specs.Prelude.{slice_get, unwrap_or}
 use Rattle.std.specs.List.{AllByRecursion}
 use Rattle.std.proofs.lemmas.Bool.Decides.{nat_tests}
-use Rattle.std.proofs.lemmas.List.{append-nil, map-append, drop_more}
+use Rattle.std.proofs.lemmas.List.{append-nil, map-append, drop_more, drop_all, take_all, get_or_at, set_at}
 use Rattle.mad_md.specs.declared.alignment.Alignment.{Alignment}
 use Rattle.mad_md.specs.declared.alignment.Alignment.TheVariants.{Unspecified}
 use Rattle.mad_fit.specs.declared.spacing.Spacing.{Spacing}
@@ -91,7 +91,7 @@ cells_all skin columns cells i rest parts height none held = record {
 abbrev pub TakesSoFar : List CellLines → List CellLines → List FmtComposite → List CellLines → Type 0
 TakesSoFar all there cells rest = (xs : List FmtComposite) (qs : List CellLines) → TakesRow there xs qs → TakesRow all (cells ++ xs) (rest ++ qs)
 
-pub takes_more : (all there after : List CellLines) (p : CellLines) (cells more_cells : List FmtComposite) (x : FmtComposite) (rest more_rest : List CellLines) (q : CellLines)
+takes_more : (all there after : List CellLines) (p : CellLines) (cells more_cells : List FmtComposite) (x : FmtComposite) (rest more_rest : List CellLines) (q : CellLines)
     → TakesSoFar all there cells rest → there ≡ p ∷ after → IsTop p.column (lines_to_come p) x → q.column ≡ p.column → lines_to_come q ≡ below (lines_to_come p)
     → more_cells ≡ cells ++ x ∷ [] → more_rest ≡ rest ++ q ∷ [] → TakesSoFar all after more_cells more_rest
 takes_more all there after p cells more_cells x rest more_rest q held next top column behind cells_pushed rest_pushed xs qs h =
@@ -101,10 +101,60 @@ takes_more all there after p cells more_cells x rest more_rest q held next top c
     let rest_are : more_rest ++ qs ≡ rest ++ q ∷ qs = ap (λ ys. ys ++ qs) rest_pushed ∙ append_assoc rest (q ∷ []) qs in
     subst (λ (ys : List FmtComposite). TakesRow all ys (more_rest ++ qs)) (sym cells_are) (subst (λ (ys : List CellLines). TakesRow all (cells ++ x ∷ xs) ys) (sym rest_are) both)
 
-pub takes_all : (all there : List CellLines) (cells : List FmtComposite) (rest : List CellLines) → there ≡ [] → TakesSoFar all there cells rest → TakesRow all cells rest
+takes_all : (all there : List CellLines) (cells : List FmtComposite) (rest : List CellLines) → there ≡ [] → TakesSoFar all there cells rest → TakesRow all cells rest
 takes_all all there cells rest none held =
     let both : TakesRow all (cells ++ []) (rest ++ []) = held [] [] (subst (λ (ps : List CellLines). TakesRow ps [] []) (sym none) tt) in
     subst (λ (ys : List FmtComposite). TakesRow all ys rest) (append-nil cells) (subst (λ (ys : List CellLines). TakesRow all (cells ++ []) ys) (append-nil rest) both)
+
+-- A row is taken off the first cells, and the others are as they were.
+pub record TakenSoFar (all cells : List CellLines) (i : ℕ) (row : List FmtComposite) : Type 0 where
+  pub done : List CellLines
+  pub long : length done ≡ i
+  pub is : cells ≡ done ++ drop i all
+  pub so_far : TakesSoFar all (drop i all) row done
+
+pub taken_none : (all cells : List CellLines) (row : List FmtComposite) → cells ≡ all → row ≡ [] → TakenSoFar all cells 0 row
+taken_none all cells row same none = record {
+  done = [];
+  long = refl;
+  is = same;
+  so_far = subst (λ (r : List FmtComposite). TakesSoFar all all r []) (sym none) (λ xs qs h. h);
+}
+
+pub taken_next : (all cells : List CellLines) (i : ℕ) (row new_row : List FmtComposite) (x : FmtComposite) (p q : CellLines) → i < length all → TakenSoFar all cells i row → p ≡ get_or cells i p
+    → IsTop p.column (lines_to_come p) x → q.column ≡ p.column → lines_to_come q ≡ below (lines_to_come p) → new_row ≡ row ++ x ∷ [] → TakenSoFar all (set cells i q) (i + 1) new_row
+taken_next all cells i row new_row x p q inside held there top column rest pushed =
+    let first : CellLines = get_or all i p in
+    let later : List CellLines = drop (i + 1) all in
+    let split : drop i all ≡ first ∷ later = drop_more all i p inside in
+    let parts : cells ≡ held.done ++ first ∷ later = held.is ∙ ap (λ (l : List CellLines). held.done ++ l) split in
+    let read : p ≡ first = there ∙ ap (λ (l : List CellLines). get_or l i p) parts ∙ get_or_at held.done first later p i held.long in
+    record {
+      done = held.done ++ q ∷ [];
+      long = let before : length held.done ≡ i = held.long in omega (arith, before, length-append held.done (q ∷ []));
+      is = ap (λ (l : List CellLines). set l i q) parts ∙ set_at held.done first later q i held.long ∙ sym (append_assoc held.done (q ∷ []) later);
+      so_far = takes_more all (drop i all) later first row new_row x held.done (held.done ++ q ∷ []) q held.so_far split (subst (λ (r : CellLines). IsTop r.column (lines_to_come r) x) read top)
+          (subst (λ (r : CellLines). q.column ≡ r.column) read column) (subst (λ (r : CellLines). lines_to_come q ≡ below (lines_to_come r)) read rest) pushed refl;
+    }
+
+pub taken_all : (all cells : List CellLines) (i : ℕ) (row : List FmtComposite) → length all ≤ i → TakenSoFar all cells i row → TakesRow all row cells
+taken_all all cells i row past held =
+    let none : drop i all ≡ [] = drop_all i all past in
+    subst (TakesRow all row) (sym (held.is ∙ ap (λ (l : List CellLines). held.done ++ l) none ∙ append-nil held.done)) (takes_all all (drop i all) row held.done none held.so_far)
+
+takes_long : (ps : List CellLines) (xs : List FmtComposite) (qs : List CellLines) → TakesRow ps xs qs → length qs ≡ length ps
+takes_long [] [] [] h = refl
+takes_long [] [] (q ∷ qs) h = absurd h
+takes_long [] (x ∷ xs) qs h = absurd h
+takes_long (p ∷ ps) [] qs h = absurd h
+takes_long (p ∷ ps) (x ∷ xs) [] h = absurd h
+takes_long (p ∷ ps) (x ∷ xs) (q ∷ qs) h = ap suc (takes_long ps xs qs h.3)
+
+-- the cells, back from the slice that they were
+pub taken_back : (ps : List CellLines) (xs : List FmtComposite) (qs : List CellLines) (n : ℕ) → TakesRow ps xs qs → length ps ≡ n → take n (qs ++ drop (length qs) ps) ≡ qs
+taken_back ps xs qs n h long =
+    let same : length qs ≡ length ps = takes_long ps xs qs h in
+    ap (λ (rest : List CellLines). take n (qs ++ rest)) (drop_all (length qs) ps (omega (arith, same))) ∙ ap (take n) (append-nil qs) ∙ take_all n qs (omega (arith, same, long))
 
 -- ---- the rows
 

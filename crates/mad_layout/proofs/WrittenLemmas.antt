@@ -1,8 +1,8 @@
 -- Texts that are written part by part, line by line.
-use Rattle.std.proofs.Common.{◌≡◌, ℕ, true, false, not, List, [], ◌∷◌, ◌++◌, Option, Result, Ok, Err, OnOk, String, Global, string_bytes, refl, ap, sym, ◌∙◌, subst, append_assoc}
+use Rattle.std.proofs.Common.{◌≡◌, ℕ, ◌+◌, ◌<◌, true, false, not, ◌&&◌, ◌||◌, List, [], ◌∷◌, ◌++◌, length, take, drop, get_or, Option, Result, Ok, Err, OnOk, String, Global, string_bytes, refl, ap, sym, ◌∙◌, subst, append_assoc}
 use Rattle.std.specs.Result.{IsErrAnd}
 use Rattle.std.proofs.lemmas.Grind.{flat_map-append}
-use Rattle.std.proofs.lemmas.List.{append-nil}
+use Rattle.std.proofs.lemmas.List.{append-nil, take-append-drop}
 use Rattle.mad_md.specs.Lines.{LineContent}
 use Rattle.mad_md.specs.Reading.{IsRead, unread_text}
 use Rattle.mad_term.specs.Draws.{Refused}
@@ -10,14 +10,16 @@ use Rattle.mad_term.specs.Trace.{Trace, after}
 use Rattle.mad_term.specs.declared.errors.Error.{Error}
 use Rattle.mad_term.specs.declared.errors.Error.TheVariants.{IO, InsufficientWidth, Memory}
 use Rattle.mad_term.proofs.Exits.{refused_exit}
-use Rattle.mad_term.proofs.Traces.{after-nil, took_both, stopped_before, stopped_in_second, cut_in_second}
-use Rattle.mad_layout.specs.FlaggedLines.{stand_together, text_parts}
+use Rattle.mad_term.proofs.Traces.{after-nil, took_both, stopped_before, stopped_in_first, stopped_in_second, cut_in_first, cut_in_second}
+use Rattle.mad_draw.proofs.PieceLemmas.{bytes_taken_of}
+use Rattle.mad_layout.specs.FlaggedLines.{is_code, is_table, stand_together, text_parts}
 use Rattle.mad_layout.specs.Laying.{AreOpenParts, IsLaidFor, ArePartsClosed}
 use Rattle.mad_layout.specs.Layouts.{IsLayoutAt}
 use Rattle.mad_layout.specs.Texts.{line_bytes, text_bytes}
 use Rattle.mad_layout.specs.WrittenParts.{WritesParts, IsPartKind, HandsOn}
 use Rattle.mad_layout.specs.declared.laying.Laying.{Laying}
-use Rattle.mad_layout.specs.declared.parts_writing.PartKind.{PartKind}
+use Rattle.mad_layout.specs.declared.part_kinds.PartKind.{PartKind}
+use Rattle.mad_layout.specs.declared.part_kinds.PartKind.TheVariants.{Alone}
 use Rattle.mad_layout.specs.declared.skin.MadSkin.{MadSkin}
 use Rattle.mad_layout.specs.declared.composite.FmtComposite.{FmtComposite}
 use Rattle.mad_layout.specs.declared.line.FmtLine.{FmtLine}
@@ -32,7 +34,7 @@ EndsIn kind [] = Unit {0}
 EndsIn kind (c ∷ []) = IsPartKind c kind
 EndsIn kind (c ∷ d ∷ cs) = EndsIn kind (d ∷ cs)
 
-ends_in : (kind : PartKind) (front : List LineContent) (c : LineContent) → IsPartKind c kind → EndsIn kind (front ++ c ∷ [])
+pub ends_in : (kind : PartKind) (front : List LineContent) (c : LineContent) → IsPartKind c kind → EndsIn kind (front ++ c ∷ [])
 ends_in kind [] c h = h
 ends_in kind (b ∷ []) c h = h
 ends_in kind (b ∷ d ∷ cs) c h = ends_in kind (d ∷ cs) c h
@@ -43,6 +45,16 @@ pub apart_next : (last next : PartKind) (front later : List LineContent) (c : Li
 apart_next last next [] later c ends is off = refl
 apart_next last next (b ∷ []) later c ends is off = ap not (sym (off b c ends is))
 apart_next last next (b ∷ d ∷ cs) later c ends is off = apart_next last next (d ∷ cs) later c ends is off
+
+-- a line that is neither code nor of a table is in no part with another
+pub alone_off : (c d : LineContent) → IsPartKind c Alone → stand_together c d ≡ false
+alone_off c d h = ap (λ b. (b && is_code d) || (is_table c && is_table d)) h.0 ∙ ap (λ b. b && is_table d) h.1
+
+pub ends_apart : (front left : List LineContent) → EndsIn Alone front → apart front left ≡ true
+ends_apart [] left h = refl
+ends_apart (c ∷ []) [] h = refl
+ends_apart (c ∷ []) (d ∷ ds) h = ap not (alone_off c d h)
+ends_apart (c ∷ d ∷ cs) left h = ends_apart (d ∷ cs) left h
 
 -- All that was read is in parts that are laid out, whose bytes went out or are kept, and in lines that are being laid out.
 pub record WrittenSoFar (skin : MadSkin) (width : Option ℕ) (all left : List LineContent) (lines : List FmtLine) (block : List FmtComposite) (table : List FmtLine) (last : PartKind) (kept : List ℕ) (old new : Trace) : Type 0 where
@@ -192,6 +204,10 @@ pub handed_early : {T : Type 0} (r : Result T Error) (old : Trace) (bytes kept :
 handed_early {T} (Ok x) old bytes kept is = absurd is
 handed_early {T} (Err e) old bytes kept is = subst (λ (d : Error). Refused old bytes d old) (sym is) (stopped_before old bytes)
 
+pub hands_refused : {T : Type 0} (r : Result T Error) (e : Error) (old new : Trace) (bytes kept : List ℕ) → IsErrAnd r (λ d. d ≡ e) → Refused old bytes e new → HandsOn old bytes r new kept
+hands_refused {T} (Ok x) e old new bytes kept is h = absurd is
+hands_refused {T} (Err d) e old new bytes kept is h = subst (λ (f : Error). Refused old bytes f new) (sym is) h
+
 pub handed_none : (old : Trace) → old ≡ after old []
 handed_none old = sym (after-nil old)
 
@@ -201,6 +217,12 @@ pub refused_after : (e : Error) (old mid new : Trace) (a b : List ℕ) → mid �
 refused_after (IO x) old mid new a b p h = cut_in_second old mid new a b p h
 refused_after (InsufficientWidth x) old mid new a b p h = absurd h
 refused_after Memory old mid new a b p h = stopped_in_second old mid new a b p h
+
+-- more bytes were to come after those that were refused
+refused_before : (e : Error) (old new : Trace) (a b : List ℕ) → Refused old a e new → Refused old (a ++ b) e new
+refused_before (IO x) old new a b h = cut_in_first old new a b h
+refused_before (InsufficientWidth x) old new a b h = absurd h
+refused_before Memory old new a b h = stopped_in_first old new a b h
 
 -- a refusal owes no whole
 pub no_whole : {T : Type 0} (r : Result T Error) (e : Error) (P : Type 0) → IsErrAnd r (λ d. d ≡ e) → OnOk r P
@@ -268,3 +290,43 @@ written_whole skin width markdown all left lines last kept old mid new read h no
 -- nothing follows the last line
 pub apart_last : (left front : List LineContent) → left ≡ [] → apart front left ≡ true
 apart_last left front none = ap (apart front) none ∙ apart_end front
+
+-- ---- rows handed on, line by line
+
+-- the rows down to a line, and its own
+rows_with : (skin : MadSkin) (width : Option ℕ) (kept : List ℕ) (lines : List FmtLine) (i : ℕ) (x : FmtLine) → i < length lines → x ≡ get_or lines i x
+    → kept ++ text_bytes skin width (take (i + 1) lines) ≡ (kept ++ text_bytes skin width (take i lines)) ++ line_bytes skin width x
+rows_with skin width kept lines i x inside here =
+    ap (λ (t : List ℕ). kept ++ t) (sym (bytes_taken_of (line_bytes skin width) lines i x inside here)) ∙ sym (append_assoc kept (text_bytes skin width (take i lines)) (line_bytes skin width x))
+
+-- all rows: those down to a line, its own, and those after it
+rows_around : (skin : MadSkin) (width : Option ℕ) (kept : List ℕ) (lines : List FmtLine) (i : ℕ) (x : FmtLine) → i < length lines → x ≡ get_or lines i x
+    → kept ++ text_bytes skin width lines ≡ ((kept ++ text_bytes skin width (take i lines)) ++ line_bytes skin width x) ++ text_bytes skin width (drop (i + 1) lines)
+rows_around skin width kept lines i x inside here =
+    ap (λ (ls : List FmtLine). kept ++ text_bytes skin width ls) (sym (take-append-drop (i + 1) lines))
+    ∙ ap (λ (t : List ℕ). kept ++ t) (flat_map-append (line_bytes skin width) (take (i + 1) lines) (drop (i + 1) lines))
+    ∙ sym (append_assoc kept (text_bytes skin width (take (i + 1) lines)) (text_bytes skin width (drop (i + 1) lines)))
+    ∙ ap (λ (t : List ℕ). t ++ text_bytes skin width (drop (i + 1) lines)) (rows_with skin width kept lines i x inside here)
+
+-- the rows down to a line were handed on, and so is its own
+pub row_handed : (skin : MadSkin) (width : Option ℕ) (lines : List FmtLine) (i : ℕ) (x : FmtLine) (first kept put new_kept : List ℕ) (old mid new : Trace) → i < length lines → x ≡ get_or lines i x
+    → HandsOn {T = Unit {0}} old (first ++ text_bytes skin width (take i lines)) (Ok (tt {0})) mid kept → put ≡ kept ++ line_bytes skin width x
+    → HandsOn {T = Unit {0}} mid put (Ok (tt {0})) new new_kept → HandsOn {T = Unit {0}} old (first ++ text_bytes skin width (take (i + 1) lines)) (Ok (tt {0})) new new_kept
+row_handed skin width lines i x first kept put new_kept old mid new inside here (sent, is, went) row (more, both, goes) = (
+  sent ++ more,
+  rows_with skin width first lines i x inside here ∙ ap (λ (t : List ℕ). t ++ line_bytes skin width x) is ∙ append_assoc sent kept (line_bytes skin width x)
+      ∙ ap (λ (t : List ℕ). sent ++ t) (sym row ∙ both) ∙ sym (append_assoc sent more new_kept),
+  took_both old mid new sent more went goes,
+)
+
+-- a row was refused, or there was no memory for it
+pub row_refused : {T : Type 0} (skin : MadSkin) (width : Option ℕ) (lines : List FmtLine) (i : ℕ) (x : FmtLine) (first kept put any : List ℕ) (r : Result T Error) (e : Error) (old mid new : Trace) → i < length lines → x ≡ get_or lines i x
+    → HandsOn {T = Unit {0}} old (first ++ text_bytes skin width (take i lines)) (Ok (tt {0})) mid kept → put ≡ kept ++ line_bytes skin width x
+    → IsErrAnd r (λ f. f ≡ e) → Refused mid put e new → HandsOn old (first ++ text_bytes skin width lines) r new any
+row_refused {T} skin width lines i x first kept put any r e old mid new inside here (sent, is, went) row error refused =
+    let own : List ℕ = line_bytes skin width x in
+    let tail : List ℕ = text_bytes skin width (drop (i + 1) lines) in
+    let whole : first ++ text_bytes skin width lines ≡ (sent ++ put) ++ tail =
+    rows_around skin width first lines i x inside here ∙ ap (λ (t : List ℕ). (t ++ own) ++ tail) is ∙ ap (λ (t : List ℕ). t ++ tail) (append_assoc sent kept own ∙ ap (λ (t : List ℕ). sent ++ t) (sym row)) in
+    hands_refused r e old new (first ++ text_bytes skin width lines) any error
+    (subst (λ (b : List ℕ). Refused old b e new) (sym whole) (refused_before e old new (sent ++ put) tail (refused_after e old mid new sent put went refused)))

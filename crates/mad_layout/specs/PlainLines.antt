@@ -11,7 +11,7 @@ use Rattle.mad_layout.specs.Layouts.{IsLayoutAt}
 use Rattle.mad_layout.specs.Parts.{wrap_width}
 use Rattle.mad_layout.specs.Texts.{text_bytes}
 use Rattle.mad_layout.specs.WrittenParts.{IsPartKind, HandsOn}
-use Rattle.mad_layout.specs.declared.parts_writing.PartKind.TheVariants.{Alone}
+use Rattle.mad_layout.specs.declared.part_kinds.PartKind.TheVariants.{Alone}
 use Rattle.mad_layout.specs.declared.skin.MadSkin.{MadSkin}
 use Rattle.mad_layout.specs.declared.line.FmtLine.{FmtLine}
 

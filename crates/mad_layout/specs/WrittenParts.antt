@@ -8,8 +8,8 @@ use Rattle.mad_term.specs.declared.errors.Error.{Error}
 use Rattle.mad_layout.specs.FlaggedLines.{is_code, is_table, text_parts}
 use Rattle.mad_layout.specs.Layouts.{IsLayoutAt}
 use Rattle.mad_layout.specs.Texts.{text_bytes}
-use Rattle.mad_layout.specs.declared.parts_writing.PartKind.{PartKind}
-use Rattle.mad_layout.specs.declared.parts_writing.PartKind.TheVariants.{Code, Table, Alone}
+use Rattle.mad_layout.specs.declared.part_kinds.PartKind.{PartKind}
+use Rattle.mad_layout.specs.declared.part_kinds.PartKind.TheVariants.{Code, Table, Alone}
 use Rattle.mad_layout.specs.declared.skin.MadSkin.{MadSkin}
 use Rattle.mad_layout.specs.declared.line.FmtLine.{FmtLine}
 

@@ -28,11 +28,16 @@ pub struct WrapBound {
 /// Starts that show how many lines each fitting break of the composite has at least, in `width` columns.
 ///
 /// `check_wrap_bound` says yes to them. They are the starts of the lines that `hard_wrap_composite` gives, and of the blanks
-/// that it drops after the last. A first line without a token and what comes after it both have the start 0, which is said once.
+/// that it drops after the last. Where the first line has no room for a token, it and the next line both start at token 0, which is listed
+/// once.
 /// Of a clean cut they are 0 and the first token that passes the first line, if one does. Where each character has room, some
 /// fitting break has as many lines, unless a clean cut drops a middle in code; a composite that fits has one start.
 ///
-/// A width under 3 is refused. The time is linear in the text.
+/// The time is linear in the text.
+///
+/// # Errors
+///
+/// A width under 3 is refused. The only other error is out of memory.
 pub fn wrap_bound(
     alloc: Global,
     composite: &FmtComposite,
@@ -58,8 +63,12 @@ pub fn wrap_bound(
 /// starts may be right too, and are not shown to be by this check.
 ///
 /// They do if they begin with 0, rise, are numbers of tokens (0 always is), all but the first and the last of tokens that
-/// aren't blank, and the tokens from each start up to and with the next are wider than the line of that number. A width
-/// under 3 is refused. The call takes no memory, and the time is linear in the text.
+/// aren't blank, and the tokens from each start up to and with the next are wider than the line of that number. The call
+/// takes no memory, and the time is linear in the text.
+///
+/// # Errors
+///
+/// A width under 3 is refused.
 pub fn check_wrap_bound(
     composite: &FmtComposite,
     width: usize,

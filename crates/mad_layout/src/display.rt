@@ -171,6 +171,31 @@ pub(crate) struct PlacedComposite<'a, 's> {
     pub place: RowPlace,
 }
 
+impl<'a, 's> PlacedComposite<'a, 's> {
+    ghost use Rattle.mad_layout.specs.Rows.{margins_of};
+
+    /// A composite at an outer width, with its margins there; where `right` is set, the columns right of it are filled up.
+    pub fn at(
+        skin: &'a MadSkin,
+        composite: &'a FmtComposite<'s>,
+        outer: Option<usize>,
+        right: bool,
+    ) -> Self
+        ensures { result ≡ record { skin = skin.entry; composite = composite.entry; place = record { outer = outer; margins = margins_of skin.now outer composite.now; right = right } } }
+    {
+        let margins = margins_of(skin, composite, outer);
+        PlacedComposite {
+            skin,
+            composite,
+            place: RowPlace {
+                outer,
+                margins,
+                right,
+            },
+        }
+    }
+}
+
 impl fmt::Display for PlacedComposite<'_, '_> {
     ghost use Rattle.mad_layout.specs.Rows.{composite_pieces};
 
@@ -338,17 +363,7 @@ impl fmt::Display for PlacedLine<'_, '_> {
     fn fmt<W: fmt::Write>(&self, f: &mut fmt::Formatter<W>) -> fmt::Result {
         match self.line {
             FmtLine::Normal(composite) => {
-                let margins = margins_of(self.skin, composite, self.outer);
-                let placed = PlacedComposite {
-                    skin: self.skin,
-                    composite,
-                    place: RowPlace {
-                        outer: self.outer,
-                        margins,
-                        right: self.right,
-                    },
-                };
-                placed.fmt(f)
+                PlacedComposite::at(self.skin, composite, self.outer, self.right).fmt(f)
             }
             FmtLine::TableRow(row) => {
                 let placed = PlacedTableRow {
@@ -454,16 +469,7 @@ impl fmt::Display for FmtInline<'_, '_> {
     ghost output = { λ i. Some (pieces_bytes (composite_pieces i.skin.now None (margins_of i.skin.now None i.composite) false i.composite)) };
 
     fn fmt<W: fmt::Write>(&self, f: &mut fmt::Formatter<W>) -> fmt::Result {
-        let placed = PlacedComposite {
-            skin: self.skin,
-            composite: &self.composite,
-            place: RowPlace {
-                outer: None,
-                margins: margins_of(self.skin, &self.composite, None),
-                right: false,
-            },
-        };
-        placed.fmt(f)
+        PlacedComposite::at(self.skin, &self.composite, None, false).fmt(f)
     }
 }
 

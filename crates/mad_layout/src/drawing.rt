@@ -12,7 +12,7 @@ ghost use Rattle.mad_layout.specs.Shown.{area_bytes, lines_shown, AreShownIn};
 use crate::display::PlacedRow;
 use crate::fmt_text::FmtText;
 use crate::line::FmtLine;
-use crate::rows::{most_columns, read_row};
+use crate::rows::{know_row, most_columns};
 use crate::skin::MadSkin;
 use mad_draw::{Rows, draw_rows};
 use mad_fit::Area;
@@ -80,7 +80,8 @@ impl Rows for TextRows<'_, '_> {
 
     fn push_row(&self, bytes: &mut String, y: u16) -> Result<(), AllocError> {
         let line = line_at(self.lines, y);
-        read_row(self.skin, line, self.width);
+        // Nothing is done: this only says that the colors of the row are known.
+        know_row(self.skin, line, self.width);
         // Margins and columns that no memory has room for are refused before anything is written of the row.
         bytes.reserve(most_columns(self.skin, line, self.width))?;
         let shown = PlacedRow {

@@ -125,7 +125,8 @@ impl MadSkin {
         FmtText::from(alloc, self, markdown, Some(width))
     }
 
-    /// A Markdown text, laid out at a width, in columns, if there is one. Only out of memory is an error.
+    /// A Markdown text, laid out at a width, in columns, if there is one. Without one nothing is wrapped, and a rule across the page is an
+    /// empty row. Only out of memory is an error.
     pub fn text<'k, 's>(
         &'k self,
         alloc: Global,

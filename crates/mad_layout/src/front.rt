@@ -1,19 +1,18 @@
 //! The first lines of a text, laid out: enough of them to take at least the rows of an area.
 
-ghost use Rattle.std.specs.Prelude.{◌≡◌, ◌-◌, ◌&&◌, false, not, IfOk, List, Some};
-ghost use Rattle.mad_md.specs.Lines.{LineContent, content_of};
+ghost use Rattle.std.specs.Prelude.{◌≡◌, ◌-◌, false, IfOk, List, Some};
+ghost use Rattle.mad_md.specs.Lines.{LineContent};
 ghost use Rattle.mad_md.specs.Reading.{IsRead, unread_text};
-ghost use Rattle.mad_layout.specs.TextParts.{is_code, is_table};
 ghost use Rattle.mad_layout.specs.Fronts.{IsFrontLayout};
 ghost use Rattle.mad_layout.specs.InArea.{IsAreaFront};
 
 use crate::fmt_text::FmtText;
-use crate::laying::{Laying, is_code};
+use crate::laying::Laying;
 use crate::line::FmtLine;
+use crate::part_kinds::{PartKind, ends, is_alone, part_kind};
 use crate::skin::MadSkin;
 use mad_fit::Area;
-use mad_md::{Line, LineCursor, ParseOptions};
-use mad_style::CompositeKind;
+use mad_md::{LineCursor, ParseOptions};
 use std::alloc::{AllocError, Global};
 
 impl MadSkin {
@@ -51,25 +50,21 @@ fn lay_front<'s>(
 {
     let mut laying = Laying::new(alloc);
     let mut cursor = LineCursor::new(src, ParseOptions::default());
-    let mut ended = true;
-    while !(ended && laying.lines.len() >= rows) {
+    let mut last = PartKind::Alone;
+    while !(is_alone(last) && laying.lines.len() >= rows) {
         let Some(line) = cursor.next_line(alloc)? else {
             break;
         };
-        ended = ends_part(&line);
+        let kind = part_kind(&line);
+        if ends(last, kind) {
+            laying.close(alloc, width, skin)?;
+            if laying.lines.len() >= rows {
+                return Ok(laying.lines);
+            }
+        }
+        last = kind;
         laying.push(alloc, line, width, skin)?;
     }
     laying.close(alloc, width, skin)?;
     Ok(laying.lines)
-}
-
-// No part of a text goes on after the line: it is neither code nor of a table.
-fn ends_part(line: &Line) -> bool
-    ensures { result ≡ (not (is_code (content_of line.now)) && not (is_table (content_of line.now))) }
-{
-    match line {
-        Line::Normal(composite) => !is_code(CompositeKind::from(composite.style)),
-        Line::TableRow(_) | Line::TableRule(_) => false,
-        Line::HorizontalRule => true,
-    }
 }

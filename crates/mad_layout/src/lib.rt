@@ -11,11 +11,12 @@
 //! 6. [`table`]: lines of a table. `table_columns`, [`table_rows`], [`table_layout`]: the widths of its columns, the rows that a row
 //!    becomes, and whole tables. `laying`: lines laid out one after another, tables and blocks of code as wholes.
 //!    [`code_blocks`]: finding and placing blocks by themselves.
-//!    [`fmt_text`], [`fmt_inline`]: reading a text and laying it out; reading one line. `front`: the first lines of a text, for an area.
+//!    [`fmt_text`], [`fmt_inline`]: reading a text and laying it out; reading one line. `part_kinds`: where a part of a text ends.
+//!    `front`: the first lines of a text, for an area.
 //! 7. `rows`: what is written of a line, piece by piece.
 //! 8. [`drawing`]: the rows of a text in an area of the screen.
 //! 9. `writing`, `text_writing`, `parts_writing`: the writing calls of a skin; `display`, [`displayable_line`]: texts and lines as displayed
-//!    values; `row_writing`: lines put after a string.
+//!    values; `row_writing`: a line put after a string.
 //! 10. [`laws`]: laws of layouts, an example whose premises are proved, and wrong layouts that the definitions refuse.
 #![tactic(auto)]
 
@@ -33,6 +34,7 @@ pub mod laws;
 mod laying;
 pub mod line;
 mod made_skins;
+mod part_kinds;
 mod parts_writing;
 pub mod room;
 mod row_writing;

@@ -3,38 +3,28 @@
 ghost use Rattle.std.specs.Prelude.{◌≡◌, ◌≤◌, ◌++◌, [], false, ℕ, length, IfSome, IsTrue, OnOk, string_bytes};
 ghost use Rattle.mad_fit.specs.Completions.{left_completion};
 ghost use Rattle.mad_md.specs.Cursor.{unread};
-ghost use Rattle.mad_md.specs.Lines.{LineContent, content_of};
 ghost use Rattle.mad_md.specs.Scan.{lines_of};
-ghost use Rattle.mad_layout.specs.FlaggedLines.{stand_together};
 ghost use Rattle.mad_layout.specs.PlainLines.{IsPlainWidth, HandsOnPlain};
 ghost use Rattle.mad_layout.specs.Texts.{text_bytes};
-ghost use Rattle.mad_layout.specs.WrittenParts.{IsPartKind, HandsOn, WritesParts};
+ghost use Rattle.mad_layout.specs.WrittenParts.{HandsOn, WritesParts};
 
-use crate::laying::{Laying, is_code, wrap_width};
+use crate::laying::{Laying, wrap_width};
 use crate::line::FmtLine;
-use crate::row_writing::append_lines;
+use crate::part_kinds::{PartKind, ends, is_alone, part_kind};
+use crate::row_writing::append_line;
 use crate::skin::MadSkin;
-use mad_md::{Alignment, Line, LineCursor, ParseOptions};
-use mad_style::CompositeKind;
+use mad_md::{Alignment, LineCursor, ParseOptions};
 use mad_term::{Error, Out, put_all};
 use std::alloc::Global;
 
 // Rows are kept until they have these many bytes.
 const ROWS_TO_SEND: usize = 16384;
 
-// Which lines a line is in one part with: lines of code, lines of a table, or none.
-#[derive(Clone, Copy)]
-enum PartKind {
-    Code,
-    Table,
-    Alone,
-}
-
 impl MadSkin {
     /// Writes a Markdown text, laid out at a width, if there is one, part by part: each line and a newline. Nothing is flushed.
     ///
-    /// A part is a table, a block of code, or any other line. The bytes are those of [`MadSkin::write_text_on`], with memory for the
-    /// largest part and for some rows alone.
+    /// A part is a table, a block of code, or any other line. The bytes are those of [`MadSkin::write_text_on`]. It takes memory for the
+    /// lines of the largest part, and for some rows.
     ///
     /// # Errors
     ///
@@ -75,7 +65,7 @@ impl MadSkin {
     }
 }
 
-// Writes lines after the rows that are kept, and drops them; the rows go out once there are enough of them.
+// Writes lines as [`send_lines`] does, and drops them.
 fn hand_on<O: Out>(
     out: &mut O,
     rows: &mut String,
@@ -86,9 +76,26 @@ fn hand_on<O: Out>(
     ensures dropped { OnOk result (lines.new.items ≡ []) }
     ensures handed { HandsOn (O.seen out.old) (string_bytes rows.old ++ text_bytes skin.now width lines.old.items) result (O.seen out.new) (string_bytes rows.new) }
 {
-    append_lines(rows, lines.as_slice(), width, skin)?;
+    send_lines(out, rows, lines.as_slice(), width, skin)?;
     lines.clear();
-    send(out, rows)
+    Ok(())
+}
+
+// Writes lines after the rows that are kept; the rows go out once there are enough of them.
+fn send_lines<O: Out>(
+    out: &mut O,
+    rows: &mut String,
+    lines: &[FmtLine],
+    width: Option<usize>,
+    skin: &MadSkin,
+) -> Result<(), Error>
+    ensures { HandsOn (O.seen out.old) (string_bytes rows.old ++ text_bytes skin.now width lines.now) result (O.seen out.new) (string_bytes rows.new) }
+{
+    for line in lines {
+        append_line(rows, line, width, skin)?;
+        send(out, rows)?;
+    }
+    Ok(())
 }
 
 // The rows that are kept go out once there are enough of them.
@@ -149,32 +156,4 @@ fn stands_left(align: Alignment) -> bool
     ensures { IsTrue result → (rest : ℕ) → left_completion align rest ≡ 0 }
 {
     matches!(align, Alignment::Left | Alignment::Unspecified)
-}
-
-fn part_kind(line: &Line) -> PartKind
-    ensures { IsPartKind (content_of line.now) result }
-{
-    match line {
-        Line::Normal(composite) if is_code(CompositeKind::from(composite.style)) => PartKind::Code,
-        Line::TableRow(_) | Line::TableRule(_) => PartKind::Table,
-        _ => PartKind::Alone,
-    }
-}
-
-// Whether a table or a block of code is open, and ends before the next line.
-fn ends(last: PartKind, next: PartKind) -> bool
-    ensures { IsTrue result → (l m : LineContent) → IsPartKind l last → IsPartKind m next → stand_together l m ≡ false }
-{
-    match (last, next) {
-        (PartKind::Code, PartKind::Code) | (PartKind::Table, PartKind::Table) => false,
-        (PartKind::Alone, _) => false,
-        _ => true,
-    }
-}
-
-// Whether no other line is in one part with a line of this kind.
-fn is_alone(kind: PartKind) -> bool
-    ensures { IsTrue result → kind ≡ PartKind.Alone }
-{
-    matches!(kind, PartKind::Alone)
 }

@@ -3,7 +3,7 @@
 ghost use Rattle.std.specs.Prelude.{◌≡◌, ◌++◌, ◌∷◌, [], false, map, OnOk, string_bytes};
 ghost use Rattle.mad_draw.specs.Pieces.{pieces_bytes};
 ghost use Rattle.mad_layout.specs.Rows.{compound_piece, composite_pieces, margins_of};
-ghost use Rattle.mad_layout.specs.Texts.{line_bytes, text_bytes};
+ghost use Rattle.mad_layout.specs.Texts.{line_bytes};
 
 use crate::composite::FmtComposite;
 use crate::display::{CompositeFront, PlacedCompound, PlacedLine};
@@ -15,23 +15,8 @@ use mad_md::Compound;
 use mad_style::LineStyle;
 use std::alloc::AllocError;
 
-/// Puts lines after the rows that are there, each ended by a newline.
-pub(crate) fn append_lines(
-    rows: &mut String,
-    lines: &[FmtLine],
-    width: Option<usize>,
-    skin: &MadSkin,
-) -> Result<(), AllocError>
-    ensures { OnOk result (string_bytes rows.new ≡ string_bytes rows.old ++ text_bytes skin.now width lines.now) }
-{
-    for line in lines {
-        append_line(rows, line, width, skin)?;
-    }
-    Ok(())
-}
-
-// One line and a newline.
-fn append_line(
+/// Puts a line and a newline after the rows that are there.
+pub(crate) fn append_line(
     rows: &mut String,
     line: &FmtLine,
     width: Option<usize>,

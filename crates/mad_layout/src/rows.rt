@@ -134,103 +134,103 @@ pub(crate) fn most_columns(skin: &MadSkin, line: Option<&FmtLine>, width: usize)
 
 /// What reading a row back needs to know: the numbers of its colors are bytes. Nothing is done.
 #[tactic(auto, using(mad_draw::proofs::PieceLemmas::spaces_known, mad_draw::proofs::PieceLemmas::char_repeat_known))]
-pub(crate) fn read_row(skin: &MadSkin, line: Option<&FmtLine>, width: usize)
+pub(crate) fn know_row(skin: &MadSkin, line: Option<&FmtLine>, width: usize)
     ensures { AreKnown (row_pieces skin.now width (option_copied line.entry)) }
 {
-    read_style(skin.paragraph.compound_style);
+    know_style(skin.paragraph.compound_style);
     match line {
-        Some(FmtLine::Normal(composite)) => read_composite(skin, composite, width),
-        Some(FmtLine::TableRow(row)) => read_table_row(skin, row, width),
-        Some(FmtLine::TableRule(rule)) => read_table_rule(skin, rule, width),
-        Some(FmtLine::HorizontalRule) => read_char(skin.horizontal_rule),
+        Some(FmtLine::Normal(composite)) => know_composite(skin, composite, width),
+        Some(FmtLine::TableRow(row)) => know_table_row(skin, row, width),
+        Some(FmtLine::TableRule(rule)) => know_table_rule(skin, rule, width),
+        Some(FmtLine::HorizontalRule) => know_char(skin.horizontal_rule),
         None => (),
     }
 }
 
 // The numbers of a style's colors are bytes.
-fn read_style(style: CompoundStyle)
+fn know_style(style: CompoundStyle)
     ensures { IsStyle style.object_style }
 {}
 
 // The same of a line.
-fn read_composite(skin: &MadSkin, composite: &FmtComposite, width: usize)
+fn know_composite(skin: &MadSkin, composite: &FmtComposite, width: usize)
     ensures { AreKnown (line_pieces skin.now (Some width) true (Normal composite.now)) }
 {
     let style = skin.line_style(composite.kind);
-    read_style(skin.paragraph.compound_style);
-    read_style(style.compound_style);
-    read_prefix(skin, composite.kind);
-    read_compounds(skin);
+    know_style(skin.paragraph.compound_style);
+    know_style(style.compound_style);
+    know_prefix(skin, composite.kind);
+    know_compounds(skin);
 }
 
 // The same of a row of a table.
-fn read_table_row(skin: &MadSkin, row: &FmtTableRow, width: usize)
+fn know_table_row(skin: &MadSkin, row: &FmtTableRow, width: usize)
     ensures { AreKnown (line_pieces skin.now (Some width) true (TableRow row.now)) }
 {
-    read_style(skin.paragraph.compound_style);
-    read_style(skin.table.compound_style);
-    read_cells(skin, &row.cells);
+    know_style(skin.paragraph.compound_style);
+    know_style(skin.table.compound_style);
+    know_cells(skin, &row.cells);
 }
 
 // The same of a rule across a table.
-fn read_table_rule(skin: &MadSkin, rule: &FmtTableRule, width: usize)
+fn know_table_rule(skin: &MadSkin, rule: &FmtTableRule, width: usize)
     ensures { AreKnown (line_pieces skin.now (Some width) true (TableRule rule.now)) }
 {
-    read_style(skin.paragraph.compound_style);
-    read_style(skin.table.compound_style);
+    know_style(skin.paragraph.compound_style);
+    know_style(skin.table.compound_style);
 }
 
 // The same of the cells of a row.
-fn read_cells(skin: &MadSkin, cells: &[FmtComposite])
+fn know_cells(skin: &MadSkin, cells: &[FmtComposite])
     ensures { AreKnown (flat_map (cell_pieces skin.now) cells.now) }
 {
     for cell in cells {
-        read_cell(skin, cell);
+        know_cell(skin, cell);
     }
 }
 
 // The same of a cell.
-fn read_cell(skin: &MadSkin, cell: &FmtComposite)
+fn know_cell(skin: &MadSkin, cell: &FmtComposite)
     ensures { AreKnown (cell_pieces skin.now cell.now) }
 {
     let style = skin.line_style(cell.kind);
-    read_style(skin.table.compound_style);
-    read_style(skin.paragraph.compound_style);
-    read_style(style.compound_style);
-    read_prefix(skin, cell.kind);
-    read_compounds(skin);
+    know_style(skin.table.compound_style);
+    know_style(skin.paragraph.compound_style);
+    know_style(style.compound_style);
+    know_prefix(skin, cell.kind);
+    know_compounds(skin);
 }
 
 // What the pieces in front of a line's text need.
 #[tactic(auto, using(crate::proofs::KnownLemmas::spaced_known, mad_draw::proofs::PieceLemmas::single_known))]
-fn read_prefix(skin: &MadSkin, kind: CompositeKind)
+fn know_prefix(skin: &MadSkin, kind: CompositeKind)
     ensures { AreKnown (prefix_pieces skin.now kind) }
 {
-    read_style(skin.paragraph.compound_style);
+    know_style(skin.paragraph.compound_style);
     match kind {
-        CompositeKind::ListItem(_) => read_char(skin.bullet),
+        CompositeKind::ListItem(_) => know_char(skin.bullet),
         CompositeKind::OrderedListItem { level, .. } => {
             let style = skin.ordered_item_style(level);
-            read_style(style.index_style);
-            read_char(style.index_suffix);
+            know_style(style.index_style);
+            know_char(style.index_suffix);
         }
-        CompositeKind::Quote => read_char(skin.quote_mark),
+        CompositeKind::Quote => know_char(skin.quote_mark),
         CompositeKind::ListItemFollowUp(_) | CompositeKind::OrderedListItemFollowUp { .. } => (),
         CompositeKind::Paragraph | CompositeKind::Header(_) | CompositeKind::Code => (),
     }
 }
 
-fn read_char(c: StyledChar)
+fn know_char(c: StyledChar)
     ensures { IsStyle (char_style c).object_style }
 {}
 
 // What compounds add to their line's style.
-fn read_compounds(skin: &MadSkin)
+fn know_compounds(skin: &MadSkin)
     ensures { AreKnownAdditions skin.now }
 {
-    read_style(skin.bold);
-    read_style(skin.italic);
-    read_style(skin.strikeout);
-    read_style(skin.inline_code);
-    read_style(skin.ellipsis);
+    know_style(skin.bold);
+    know_style(skin.italic);
+    know_style(skin.strikeout);
+    know_style(skin.inline_code);
+    know_style(skin.ellipsis);
 }

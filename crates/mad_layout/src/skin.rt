@@ -57,7 +57,7 @@ pub struct MadSkin {
     pub ellipsis: CompoundStyle,
     /// The characters of a table's borders.
     pub table_border_chars: TableBorderChars,
-    /// Whether the lines of an item after its first are indented.
+    /// How the lines of an item after its first are indented.
     pub list_items_indentation_mode: ListItemsIndentationMode,
 }
 

@@ -22,7 +22,7 @@ use std::vec::IntoIter;
 /// A run of a text's lines that are rows of a table and rules across it.
 #[derive(Debug, Drop)]
 pub struct Table {
-    /// The number of its first line.
+    /// The index of its first line, from 0.
     pub start: usize,
     /// The count of its lines.
     pub height: usize,

@@ -18,8 +18,8 @@ use mad_md::Alignment;
 use std::alloc::{AllocError, Global};
 use std::vec::IntoIter;
 
-/// The rows that a row of a table becomes at these widths of the kept columns, with these alignments; a column without
-/// one has none. Each cell's cached length has to be right.
+/// The rows that a row of a table becomes at these widths of the kept columns, with these alignments; a column past the
+/// last alignment is `Unspecified`. Each cell's cached length has to be right.
 ///
 /// Each kept cell that is wider than its column is wrapped in it; there are as many rows as the tallest has lines, and at
 /// least one, filled up with empty paragraphs. Only out of memory is an error. The time is linear in the text and in the
@@ -48,12 +48,10 @@ pub(crate) fn lay_row_in<'s>(
     requires { AllByRecursion (IsMeasured skin.now) row.cells.items }
     ensures { IfOk result (λ rows. IsRowLaidOutBy IsCompositeWrap skin.now columns.now row.entry.cells.items rows.items) }
 {
-    let (mut parts, height) = lay_cells(alloc, row.cells, columns, skin)?;
+    let (mut cells, height) = lay_cells(alloc, row.cells, columns, skin)?;
     let mut rows = Vec::with_capacity(alloc, height)?;
     for _done in 0..height {
-        let (row, rest) = take_row(alloc, parts)?;
-        rows.push(row)?;
-        parts = rest;
+        rows.push(take_row(alloc, &mut cells)?)?;
     }
     Ok(rows)
 }
@@ -125,22 +123,18 @@ fn lay_cell<'s>(
     Ok(lines)
 }
 
-// The next row, of the next line of each cell; and the lines that are left.
+// The next row, of the next line of each cell, which is taken off it.
 fn take_row<'s>(
     alloc: Global,
-    parts: Vec<CellLines<'s>>,
-) -> Result<(FmtTableRow<'s>, Vec<CellLines<'s>>), AllocError>
-    ensures { IfOk result (λ taken. TakesRow parts.entry.items taken.0.cells.items taken.1.items) }
+    cells: &mut [CellLines<'s>],
+) -> Result<FmtTableRow<'s>, AllocError>
+    ensures { IfOk result (λ row. TakesRow cells.old row.cells.items cells.new) }
 {
-    let mut cells = Vec::with_capacity(alloc, parts.len())?;
-    let mut rest = Vec::with_capacity(alloc, parts.len())?;
-    for part in parts {
-        let CellLines { mut lines, column } = part;
-        let cell = next_cell(alloc, &mut lines, column);
-        cells.push(cell)?;
-        rest.push(CellLines { lines, column })?;
+    let mut row = Vec::with_capacity(alloc, cells.len())?;
+    for cell in cells {
+        row.push(next_cell(alloc, &mut cell.lines, cell.column))?;
     }
-    Ok((FmtTableRow { cells }, rest))
+    Ok(FmtTableRow { cells: row })
 }
 
 // The next line at its place in a column, or an empty paragraph where there is none.

@@ -11,7 +11,6 @@ use crate::composite::FmtComposite;
 use crate::display::{PlacedComposite, PlacedLine};
 use crate::fmt_text::FmtText;
 use crate::line::FmtLine;
-use crate::rows::{RowPlace, margins_of};
 use crate::skin::MadSkin;
 use mad_term::{Error, Out, put_all};
 use std::alloc::Global;
@@ -36,15 +35,7 @@ impl MadSkin {
         ensures early { IsErrOf result Memory → O.seen out.new ≡ O.seen out.old }
     {
         let mut row = String::new(alloc);
-        let placed = PlacedComposite {
-            skin: self,
-            composite,
-            place: RowPlace {
-                outer: width,
-                margins: margins_of(self, composite, width),
-                right: with_right_completion,
-            },
-        };
+        let placed = PlacedComposite::at(self, composite, width, with_right_completion);
         write!(row, "{placed}")?;
         put_all(out, row.as_bytes())?;
         Ok(())

@@ -29,8 +29,12 @@ use std::alloc::{AllocError, Global};
 /// without one of whitespace between them, are cut there. Any other text is cut into tokens, which are placed one after the other. The first line
 /// has the composite's kind, and the others the kind that follows it; all have its spacing, and no margins.
 ///
-/// The composite has to be wider than the width, and its cached length right. A width under 3 is refused. The time is
-/// linear in the text; no character is copied.
+/// The composite has to be wider than the width, and its cached length right. The time is linear in the text; no character is
+/// copied.
+///
+/// # Errors
+///
+/// A width under 3 is refused. The only other error is out of memory.
 pub fn hard_wrap_composite<'s>(
     alloc: Global,
     composite: &FmtComposite<'s>,
@@ -105,8 +109,14 @@ fn composite_of<'s>(
 
 /// Wraps the composites among the lines that are wider than `width` columns with their style's margins.
 ///
-/// A line that fits stays as it is, as do rules and lines of tables. Any other composite is wrapped, as [`hard_wrap_composite`] does, in the
-/// columns that its margins leave. A `width` under 3 is refused then. Each line gets its margins into its field `margins`.
+/// A composite that fits stays one line. Any other is wrapped, as [`hard_wrap_composite`] does, in the columns that its margins leave. The
+/// field `margins` of each becomes its style's margins at this width. Rules and lines of tables stay as they are.
+///
+/// The cached lengths have to be right.
+///
+/// # Errors
+///
+/// Where a line doesn't fit, a `width` under 3 is refused. The only other error is out of memory.
 pub fn hard_wrap_lines<'s>(
     alloc: Global,
     lines: Vec<FmtLine<'s>>,

@@ -24,7 +24,8 @@ impl MadSkin {
     /// Writes a Markdown text in an area: its first rows, each filling the area's width, and below the last
     /// one spaces in the paragraph's style. Nothing is flushed.
     ///
-    /// The area's right and bottom have to fit a `u16`.
+    /// The area's right and bottom have to fit a `u16`. What it shows is promised from four columns on: in fewer, only cells of tables are
+    /// wrapped, and a line can go past the area.
     ///
     /// # Errors
     ///

@@ -70,4 +70,5 @@ fn the_items_of_a_level_are_changed(rt: HostRuntime) {
     expected.ordered_item_styles[3] = OrderedItemStyle::no_style();
     assert!(rt; skin == expected);
     assert!(rt; skin.ordered_item_style_mut(4).is_none());
+    assert!(rt; skin == expected);
 }

@@ -88,6 +88,9 @@ fn lines_with_text(
 /// Puts a text in place of what is between two places, and returns the place after it.
 /// Carriage returns and backspaces are left out.
 ///
+/// The line of `to` may not be above that of `from`. Where both are in one line and `to` is before `from`, what is between them is
+/// doubled.
+///
 /// # Errors
 ///
 /// Out of memory is the only error, and leaves the lines unchanged.

@@ -1,4 +1,11 @@
 //! The lines of a text, places in them, and edits between two places.
+//!
+//! In the order of the work:
+//!
+//! 1. [`line`]: a line, and its columns.
+//! 2. [`place`], [`places`]: places in lines, what is at them, and what is between two.
+//! 3. [`chars`]: the characters between two places. [`words`]: which characters are in one word.
+//! 4. [`edits`]: a text put in place of what is between two places.
 #![tactic(auto)]
 
 mod chars;

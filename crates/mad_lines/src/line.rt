@@ -80,7 +80,7 @@ impl Line {
         }
     }
 
-    /// The columns of the first `idx` characters, at most `usize::MAX`.
+    /// The columns of the first `idx` characters, at most `usize::MAX`. The line has to have these many.
     pub fn char_idx_to_col(&self, idx: usize) -> usize
         requires { idx ≤ length self.now.chars.items }
         ensures { result ≡ columns (take idx self.now.chars.items) }

@@ -20,7 +20,7 @@ impl Pos {
     }
 }
 
-/// From one place to another, both in it.
+/// A range of places; both ends are in it.
 #[derive(Clone, Copy, Debug)]
 pub struct Range {
     pub min: Pos,

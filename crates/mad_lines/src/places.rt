@@ -158,7 +158,7 @@ pub fn is_before(lines: &Vec<Line>, p: Pos, q: Pos) -> bool
     p < q
 }
 
-/// The text between two places.
+/// The text between two places; `from` may not be after `to`.
 ///
 /// # Errors
 ///

@@ -16,7 +16,8 @@ use std::alloc::Global;
 use std::fmt;
 
 /// The color that a text says, without regard to ASCII case. It may be a name, as `red` or `darkgrey`, or
-/// `ansi(n)`, `gray(level)`, `rgb(r,g,b)`, or `#` and 3 to 6 hex digits.
+/// `ansi(n)`, `gray(level)`, `rgb(r,g,b)`, or `#` and 3 to 6 hex digits. `black` and `white` are the palette's numbers 16 and 231, since
+/// users change its first sixteen colors.
 ///
 /// # Errors
 ///
@@ -223,10 +224,8 @@ fn is_gray(name: &str) -> bool
 fn ansi_color(number: Option<u8>) -> Result<Color, ParseColorError>
     ensures { result ≡ ansi_color number }
 {
-    match number {
-        Some(n) => Ok(Color::AnsiValue(n)),
-        None => Err(ParseColorError::Unrecognized),
-    }
+    let number = number.ok_or(ParseColorError::Unrecognized)?;
+    Ok(Color::AnsiValue(number))
 }
 
 // The gray of a level, if there is one.
@@ -243,15 +242,9 @@ fn gray_color(level: Option<u8>) -> Result<Color, ParseColorError>
 fn rgb_color(red: Option<u8>, green: Option<u8>, blue: Option<u8>) -> Result<Color, ParseColorError>
     ensures { result ≡ rgb_color red green blue }
 {
-    let Some(r) = red else {
-        return Err(ParseColorError::Unrecognized);
-    };
-    let Some(g) = green else {
-        return Err(ParseColorError::Unrecognized);
-    };
-    let Some(b) = blue else {
-        return Err(ParseColorError::Unrecognized);
-    };
+    let r = red.ok_or(ParseColorError::Unrecognized)?;
+    let g = green.ok_or(ParseColorError::Unrecognized)?;
+    let b = blue.ok_or(ParseColorError::Unrecognized)?;
     Ok(Color::Rgb { r, g, b })
 }
 

@@ -6,6 +6,7 @@
 //! 2. [`cuts`]: how a text is cut into tokens. [`parse`]: what they say. [`errors`]: why a text is refused.
 //! 3. [`reading`]: the style that tokens say.
 //! 4. [`written`]: the tokens that a style is written as. [`writing`]: the text of tokens.
+//! 5. [`laws`]: what follows from the definitions alone.
 #![tactic(auto)]
 
 mod alignments;

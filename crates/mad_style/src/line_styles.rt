@@ -10,7 +10,7 @@ use mad_md::Alignment;
 use mad_term::{Attribute, Color, Error, Out};
 use std::alloc::Global;
 
-/// The least width of a line, in columns: in less no text is laid out.
+/// The least width, in columns, in which a line is wrapped, and the least that margins leave.
 pub const LEAST_WIDTH: usize = 3;
 
 /// How the text of a line looks, on which side it is, and how many columns stay free on its left

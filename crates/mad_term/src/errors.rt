@@ -29,7 +29,7 @@ impl std::error::Error for InsufficientWidthError {}
 pub enum Error {
     /// A device failed in this very call.
     IO(io::Error),
-    /// The width is too small to lay anything out in.
+    /// The width is under three where lines are to be wrapped, or too small for the columns and borders of a table.
     InsufficientWidth(InsufficientWidthError),
     /// A growth of a list or a text was refused.
     Memory,

@@ -1,7 +1,7 @@
 //! Styles, and the commands that a piece, a text in a style, is written with.
 //!
 //! The commands are SGR of ECMA-48. The numbers after 38 and 48, the codes 58 and 59 and the meaning
-//! of 21 are those of this project's profile. Colors are always written.
+//! of 21 are those of this project's profile. A color that is set is written whatever the environment says: `NO_COLOR` isn't read.
 
 ghost use Rattle.std.specs.Prelude.{◌≡◌, ◌++◌, ◌↔◌, IsTrue, OnOk, string_bytes};
 ghost use Rattle.mad_term.specs.Styles.{foreground_bytes, background_bytes, piece_bytes, closing_bytes, IsStyle};

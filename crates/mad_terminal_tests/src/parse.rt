@@ -162,6 +162,10 @@ fn colors_attributes_and_alignments(rt: HostRuntime) -> Result<(), Fail> {
             "{text}"
         );
     }
+    assert_eq!(rt;
+        ParseColorError::Unrecognized.to_string(alloc)?.as_str(),
+        "not a recognized color"
+    );
     let level = ParseColorError::InvalidGreyLevel { level: 25 };
     assert!(rt; parse_color("gray(25)") == Err(level));
 
@@ -306,6 +310,8 @@ fn tokens_are_written_to_a_device(rt: HostRuntime) -> Result<(), Fail> {
     ];
     let written = style_tokens_to_string(alloc, &tokens)?;
     assert_eq!(rt; written.as_str(), "é ansi(11) none 7");
+    let bold = [color(Color::Red), attribute(Attribute::Bold)];
+    assert_eq!(rt; style_tokens_to_string(alloc, &bold)?.as_str(), "Red Bold");
     let mut out = CutOut::new(alloc, 3, 1000, true)?;
     write_style_tokens(alloc, &mut out, &tokens)?;
     write_color(alloc, &mut out, rgb(1, 20, 255))?;

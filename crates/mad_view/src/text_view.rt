@@ -19,7 +19,7 @@ use std::alloc::Global;
 pub struct TextView<'a, 't> {
     area: &'a Area,
     text: &'t FmtText<'t, 't>,
-    /// The number of its first line that is shown. All numbers are allowed: past the last line the area is blank.
+    /// The index, from 0, of its first line that is shown. All are allowed: past the last line the area is blank.
     pub scroll: usize,
 }
 

@@ -104,10 +104,7 @@ fn first_past(tokens: Tokens, room: Room) -> Result<Option<usize>, AllocError>
 fn number_after(number: usize) -> Result<usize, AllocError>
     ensures { IfOk result (λ next. next ≡ number + 1) }
 {
-    match number.checked_add(1) {
-        Some(next) => Ok(next),
-        None => Err(AllocError),
-    }
+    number.checked_add(1).ok_or(AllocError)
 }
 
 // This number where nothing is left.

@@ -1,8 +1,8 @@
-//! Markdown for terminals: all names of the library, from the crates that have them.
+//! Markdown for terminals: the names that a program needs, from the crates that have them.
 //!
 //! What a text is, what a terminal takes and shows, and how lines are wrapped have modules of their own. So have styles as
-//! texts and the editor's text: [`md`], [`term`], [`screen`], [`wrap`], [`parse`] and [`edit`]. Laws are in [`term`], [`layout`],
-//! [`widths`] and [`parse`].
+//! texts and the editor's text: [`md`], [`term`], [`screen`], [`wrap`], [`parse`] and [`edit`]. Laws are in [`md`], [`term`],
+//! [`wrap`], [`layout`], [`widths`], [`parse`] and [`edit`].
 #![tactic(auto)]
 
 /// What a terminal takes, and what it shows.
@@ -27,7 +27,7 @@ pub mod wrap {
     pub use mad_layout::{
         WrapBound, check_wrap_bound, hard_wrap_composite, hard_wrap_lines, room_of, wrap_bound,
     };
-    pub use mad_wrap::Room;
+    pub use mad_wrap::{Room, laws};
 }
 
 /// Laws of layouts: worked tables, what is no table, and texts whose premises are proved.
@@ -53,7 +53,7 @@ pub mod parse {
 
 /// The editor's text.
 pub mod edit {
-    pub use mad_edit::{Chars, InputFieldContent, Line, Pos, Range};
+    pub use mad_edit::{Chars, InputFieldContent, Line, Pos, Range, laws};
 }
 
 pub use mad_edit::{Chars, InputFieldContent, Pos, Range};

@@ -196,6 +196,8 @@ fn parts(rt: HostRuntime) -> Result<(), Fail> {
         thumb: StyledChar::nude('y'),
     };
     assert!(rt; skin == expected);
+    let (skin, _) = read(alloc, r#"{"list_items_indentation_mode":"hanging(0)"}"#)?;
+    assert!(rt; skin.list_items_indentation_mode == ListItemsIndentationMode::Hanging(0));
     Ok(())
 }
 

@@ -48,6 +48,12 @@ fn a_view_on_devices_of_each_room(rt: HostRuntime) -> Result<(), Fail> {
                 (out.faults(), out.flushes()),
                 (u64::from(!whole), u64::from(whole))
             );
+            let mut drawn = CutOut::new(alloc, step, room, false)?;
+            let done = within_memory(skin.write_in_area_on(alloc, &mut drawn, "hello", &area))?;
+            let fits = room >= HELLO.len();
+            assert_eq!(rt; done.is_ok(), fits, "at room {room}");
+            assert_eq!(rt; matches!(done, Err(Error::IO(_))), !fits);
+            assert!(rt; drawn.taken() == out.taken());
         }
     }
     Ok(())
@@ -79,7 +85,10 @@ fn scrolls_to_the_ends(rt: HostRuntime) -> Result<(), Fail> {
     let skin = MadSkin::no_style();
     let text = FmtText::raw_str(alloc, &skin, "a\nb\nc\nd\ne", Some(3))?;
     let none = FmtText::raw_str(alloc, &skin, "", Some(3))?;
+    let twenty = FmtText::raw_str(alloc, &skin, "a\nb\nc\nd\ne\nf\ng\nh\ni\nj\nk\nl\nm\nn\no\np\nq\nr\ns\nt", Some(3))?;
+    let rest = "\x1b[1;1Hk  \x1b[2;1Hl  \x1b[3;1Hm  \x1b[4;1Hn  \x1b[5;1Ho  \x1b[6;1Hp  \x1b[7;1Hq  \x1b[8;1Hr  \x1b[9;1Hs  \x1b[10;1Ht  ";
     let rows = [
+        (&twenty, 10, 25, 10, rest),
         (&text, 3, 1, 1, "\x1b[1;1Hb  \x1b[2;1Hc  \x1b[3;1Hd  "),
         (&text, 3, MAX, 2, "\x1b[1;1Hc  \x1b[2;1Hd  \x1b[3;1He  "),
         (&text, 1, MAX, 4, "\x1b[1;1He  "),
@@ -102,7 +111,7 @@ fn scrolls_to_the_ends(rt: HostRuntime) -> Result<(), Fail> {
         assert_eq!(rt; view.content_height(), text.lines.len());
         assert_eq!(rt; view.set_scroll(asked), kept);
         assert_eq!(rt; view.scroll, kept);
-        let mut out = CutOut::new(alloc, 60, 60, false)?;
+        let mut out = CutOut::new(alloc, 100, 100, false)?;
         view.write_on(alloc, &mut out)?;
         assert!(rt;
             out.taken() == wanted.as_bytes(),

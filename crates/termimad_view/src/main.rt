@@ -59,7 +59,7 @@ fn run_on_standard_streams<E: Out>(rt: &HostRuntime, err: &mut E) -> Result<u8, 
     Ok(run(rt.alloc(), args.as_slice(), &mut input, &mut out, err))
 }
 
-// The arguments, without the program's name. One that is no text is none that the program knows.
+// The arguments, without the program's name. One that isn't UTF-8 is a usage failure.
 fn arguments(rt: &HostRuntime) -> Result<Vec<String>, Failure> {
     let given = env::args(rt).map_err(|e| match e.kind() {
         ErrorKind::OutOfMemory => Failure::Memory,

@@ -1,10 +1,15 @@
-use Rattle.std.proofs.Common.{◌≡◌, [], arith}
-use Rattle.std.specs.Vec.Iter.{into_iter_items}
+use Rattle.std.proofs.Common.{◌≡◌, length, get_or, ap, refl, arith}
 use Rattle.std.proofs.lemmas.Grind.{common_steps}
-use Rattle.mad_layout.proofs.TableLemmas.{takes_all}
+use Rattle.mad_layout.proofs.TableLemmas.{taken_none, taken_next, taken_all}
 use Rattle.mad_layout.proofs.table_rows.take_row.Goals as goal
 
+pub loop-cell-init : goal.loop-cell-init
+loop-cell-init c = taken_none _ _ _ refl c.in_ok-row.ensures.items
+
+pub loop-cell-preserved : goal.loop-cell-preserved
+loop-cell-preserved c =
+    taken_next c.args.cells.now c.loop-cell.cell-items c.loop-cell.cell-index c.loop-cell.row.items _ _ (get_or c.loop-cell.cell-items c.loop-cell.cell-index c.cell-item.result) _ (omega arith) c.loop-cell.invariant (ap (get_or c.loop-cell.cell-items c.loop-cell.cell-index) c.cell-item.is) c.next_cell.ensures.top refl c.next_cell.ensures.rest
+    c.in_ok-push.ensures.items
+
 pub returns : goal.returns
-returns c =
-    let none : into_iter_items c.loop-part.part-iterator ≡ [] = grind (arith, common_steps) in
-    takes_all c.args.parts.items (into_iter_items c.loop-part.part-iterator) c.loop-part.cells.items c.loop-part.rest.items none c.loop-part.invariant
+returns c = taken_all c.args.cells.now c.loop-cell.cell-items c.loop-cell.cell-index c.loop-cell.row.items (omega arith) c.loop-cell.invariant
