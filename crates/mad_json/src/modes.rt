@@ -46,7 +46,12 @@ fn mode_named(text: &str) -> Option<ListItemsIndentationMode>
 fn hanging_of(text: &str) -> Option<ListItemsIndentationMode>
     ensures { result ≡ hanging_front (without_last 41 text.now) }
 {
-    let (name, digits) = text.strip_suffix(')')?.split_once('(')?;
+    let Some(front) = text.strip_suffix(')') else {
+        return None;
+    };
+    let Some((name, digits)) = front.split_once('(') else {
+        return None;
+    };
     called_mode(name, digits)
 }
 

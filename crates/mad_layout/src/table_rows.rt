@@ -124,10 +124,7 @@ fn lay_cell<'s>(
 }
 
 // The next row, of the next line of each cell, which is taken off it.
-fn take_row<'s>(
-    alloc: Global,
-    cells: &mut [CellLines<'s>],
-) -> Result<FmtTableRow<'s>, AllocError>
+fn take_row<'s>(alloc: Global, cells: &mut [CellLines<'s>]) -> Result<FmtTableRow<'s>, AllocError>
     ensures { IfOk result (λ row. TakesRow cells.old row.cells.items cells.new) }
 {
     let mut row = Vec::with_capacity(alloc, cells.len())?;

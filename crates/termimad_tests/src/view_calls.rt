@@ -85,8 +85,16 @@ fn scrolls_to_the_ends(rt: HostRuntime) -> Result<(), Fail> {
     let skin = MadSkin::no_style();
     let text = FmtText::raw_str(alloc, &skin, "a\nb\nc\nd\ne", Some(3))?;
     let none = FmtText::raw_str(alloc, &skin, "", Some(3))?;
-    let twenty = FmtText::raw_str(alloc, &skin, "a\nb\nc\nd\ne\nf\ng\nh\ni\nj\nk\nl\nm\nn\no\np\nq\nr\ns\nt", Some(3))?;
-    let rest = "\x1b[1;1Hk  \x1b[2;1Hl  \x1b[3;1Hm  \x1b[4;1Hn  \x1b[5;1Ho  \x1b[6;1Hp  \x1b[7;1Hq  \x1b[8;1Hr  \x1b[9;1Hs  \x1b[10;1Ht  ";
+    let twenty = FmtText::raw_str(
+        alloc,
+        &skin,
+        "a\nb\nc\nd\ne\nf\ng\nh\ni\nj\nk\nl\nm\nn\no\np\nq\nr\ns\nt",
+        Some(3),
+    )?;
+    let rest = concat!(
+        "\x1b[1;1Hk  \x1b[2;1Hl  \x1b[3;1Hm  \x1b[4;1Hn  \x1b[5;1Ho  ",
+        "\x1b[6;1Hp  \x1b[7;1Hq  \x1b[8;1Hr  \x1b[9;1Hs  \x1b[10;1Ht  ",
+    );
     let rows = [
         (&twenty, 10, 25, 10, rest),
         (&text, 3, 1, 1, "\x1b[1;1Hb  \x1b[2;1Hc  \x1b[3;1Hd  "),
