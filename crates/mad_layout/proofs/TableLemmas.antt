@@ -3,7 +3,7 @@ use Rattle.std.proofs.Common.{◌≡◌, ℕ, zero, suc, ◌+◌, ◌<◌, ◌�
 use Rattle.std.specs.Prelude.{slice_get, unwrap_or}
 use Rattle.std.specs.List.{AllByRecursion}
 use Rattle.std.proofs.lemmas.Bool.Decides.{nat_tests}
-use Rattle.std.proofs.lemmas.List.{append-nil, map-append, drop_more, drop_all, take_all, get_or_at, set_at}
+use Rattle.std.proofs.lemmas.List.{append-nil, map-append, length-map, drop_more, drop_all, take_all, get_or_at, set_at}
 use Rattle.mad_md.specs.declared.alignment.Alignment.{Alignment}
 use Rattle.mad_md.specs.declared.alignment.Alignment.TheVariants.{Unspecified}
 use Rattle.mad_fit.specs.declared.spacing.Spacing.{Spacing}
@@ -142,20 +142,6 @@ taken_all all cells i row past held =
     let none : drop i all ≡ [] = drop_all i all past in
     subst (TakesRow all row) (sym (held.is ∙ ap (λ (l : List CellLines). held.done ++ l) none ∙ append-nil held.done)) (takes_all all (drop i all) row held.done none held.so_far)
 
-takes_long : (ps : List CellLines) (xs : List FmtComposite) (qs : List CellLines) → TakesRow ps xs qs → length qs ≡ length ps
-takes_long [] [] [] h = refl
-takes_long [] [] (q ∷ qs) h = absurd h
-takes_long [] (x ∷ xs) qs h = absurd h
-takes_long (p ∷ ps) [] qs h = absurd h
-takes_long (p ∷ ps) (x ∷ xs) [] h = absurd h
-takes_long (p ∷ ps) (x ∷ xs) (q ∷ qs) h = ap suc (takes_long ps xs qs h.3)
-
--- the cells, back from the slice that they were
-pub taken_back : (ps : List CellLines) (xs : List FmtComposite) (qs : List CellLines) (n : ℕ) → TakesRow ps xs qs → length ps ≡ n → take n (qs ++ drop (length qs) ps) ≡ qs
-taken_back ps xs qs n h long =
-    let same : length qs ≡ length ps = takes_long ps xs qs h in
-    ap (λ (rest : List CellLines). take n (qs ++ rest)) (drop_all (length qs) ps (omega (arith, same))) ∙ ap (take n) (append-nil qs) ∙ take_all n qs (omega (arith, same, long))
-
 -- ---- the rows
 
 takes_across : (ps : List CellLines) (xs : List FmtComposite) (qs : List CellLines) → TakesRow ps xs qs → IsLineAcross (columns_left ps) (lines_left ps) xs
@@ -173,6 +159,12 @@ takes_columns [] (x ∷ xs) qs h = absurd h
 takes_columns (p ∷ ps) [] qs h = absurd h
 takes_columns (p ∷ ps) (x ∷ xs) [] h = absurd h
 takes_columns (p ∷ ps) (x ∷ xs) (q ∷ qs) h = ap (λ c. c ∷ columns_left qs) h.1 ∙ ap (λ cs. p.column ∷ cs) (takes_columns ps xs qs h.3)
+
+-- the cells, back from the slice that they were
+pub taken_back : (ps : List CellLines) (xs : List FmtComposite) (qs : List CellLines) (n : ℕ) → TakesRow ps xs qs → length ps ≡ n → take n (qs ++ drop (length qs) ps) ≡ qs
+taken_back ps xs qs n h long =
+    let same : length qs ≡ length ps = sym (length-map qs (λ q. q.column)) ∙ ap length (takes_columns ps xs qs h) ∙ length-map ps (λ p. p.column) in
+    ap (λ (rest : List CellLines). take n (qs ++ rest)) (drop_all (length qs) ps (omega (arith, same))) ∙ ap (take n) (append-nil qs) ∙ take_all n qs (omega (arith, same, long))
 
 takes_below : (ps : List CellLines) (xs : List FmtComposite) (qs : List CellLines) → TakesRow ps xs qs → lines_left qs ≡ map below (lines_left ps)
 takes_below [] [] [] h = refl
