@@ -1,6 +1,6 @@
 //! Which lines of a text are in one part with others.
 
-ghost use Rattle.std.specs.Prelude.{◌≡◌, false, IsTrue};
+ghost use Rattle.std.specs.Prelude.{◌≡◌, ◌↔◌, ◌⊎◌, false, IsTrue, IsFalse};
 ghost use Rattle.mad_md.specs.Lines.{LineContent, content_of};
 ghost use Rattle.mad_layout.specs.TextParts.{stand_together};
 ghost use Rattle.mad_layout.specs.WrittenParts.{IsPartKind};
@@ -30,7 +30,8 @@ pub(crate) fn part_kind(line: &Line) -> PartKind
 
 /// Whether a table or a block of code is open, and ends before the next line.
 pub(crate) fn ends(last: PartKind, next: PartKind) -> bool
-    ensures { IsTrue result → (l m : LineContent) → IsPartKind l last → IsPartKind m next → stand_together l m ≡ false }
+    ensures apart { IsTrue result → (l m : LineContent) → IsPartKind l last → IsPartKind m next → stand_together l m ≡ false }
+    ensures stays { IsFalse result → (last ≡ PartKind.Alone) ⊎ (last ≡ next) }
 {
     match (last, next) {
         (PartKind::Code, PartKind::Code) | (PartKind::Table, PartKind::Table) => false,
@@ -41,7 +42,7 @@ pub(crate) fn ends(last: PartKind, next: PartKind) -> bool
 
 /// Whether no other line is in one part with a line of this kind.
 pub(crate) fn is_alone(kind: PartKind) -> bool
-    ensures { IsTrue result → kind ≡ PartKind.Alone }
+    ensures { IsTrue result ↔ (kind ≡ PartKind.Alone) }
 {
     matches!(kind, PartKind::Alone)
 }

@@ -35,7 +35,7 @@ returns-then-len-rows c =
     let lines = c.close.new.self.lines.items in
     let start : unread c.new-cursor.result ≡ unread_text false c.args.src.now = search rules in
     let step : IsStep (unread c.loop-laying.cursor) (Some c.in-Some.line) (unread c.next_line.new.self) = subst (λ o. IsStep (unread c.loop-laying.cursor) o (unread c.next_line.new.self)) c.in-Some.is c.in_ok-line.ensures.step in
-    let cut = apart_before left (lines_of (unread c.next_line.new.self)) (content_of c.in-Some.line) c.loop-laying.last c.part_kind-kind.result step.0 c.part_kind-kind.ensures (λ l m a b. sym (c.ends.ensures c.if-ends.true l m a b)) in
+    let cut = apart_before left (lines_of (unread c.next_line.new.self)) (content_of c.in-Some.line) c.loop-laying.last c.part_kind-kind.result step.0 c.part_kind-kind.ensures (λ l m a b. sym (c.ends.ensures.apart c.if-ends.true l m a b)) in
     let own = c.in_ok-close.ensures.laid in
     let enough : c.args.rows ≤ length lines = omega (arith, c.if-len-rows.true, c.len-then-ends.ensures) in (
       all,
@@ -55,7 +55,7 @@ loop-laying-preserved c =
     let before : FrontSoFar skin c.args.width all left c.if-ends.laying.lines.items c.if-ends.laying.block.items c.if-ends.laying.table.items last =
     elim c.if-ends.branch as (λ _. FrontSoFar skin c.args.width all left c.if-ends.laying.lines.items c.if-ends.laying.block.items c.if-ends.laying.table.items last) [
       | then-ends+in_ok-close+else-len-rows w ↦
-          let cut = apart_before left later (content_of c.in-Some.line) last c.part_kind-kind.result step.0 c.part_kind-kind.ensures (λ l m a b. sym (c.ends.ensures w.if-ends.true l m a b)) in
+          let cut = apart_before left later (content_of c.in-Some.line) last c.part_kind-kind.result step.0 c.part_kind-kind.ensures (λ l m a b. sym (c.ends.ensures.apart w.if-ends.true l m a b)) in
           let own = w.in_ok-close.ensures.laid in
           let closed = w.close.new.self in
           front_same skin c.args.width all left closed c.if-ends.laying last
@@ -78,7 +78,7 @@ returns c =
     let stop : (left ≡ []) ⊎ ((last ≡ Alone) × (c.args.rows ≤ length laying.lines.items)) =
     elim c.if-not-len-rows.branch as (λ _. (left ≡ []) ⊎ ((last ≡ Alone) × (c.args.rows ≤ length laying.lines.items))) [
       | else-not-len-rows w ↦ elim c.if-is_alone.branch as (λ _. (left ≡ []) ⊎ ((last ≡ Alone) × (c.args.rows ≤ length laying.lines.items))) [
-        | then-is_alone v ↦ inr (c.is_alone.ensures v.if-is_alone.true, let e : nat_le c.args.rows v.len.result ≡ true = sym v.value-is ∙ w.if-not-len-rows.false in grind (arith, nat_tests, common_steps))
+        | then-is_alone v ↦ inr (c.is_alone.ensures.0 v.if-is_alone.true, let e : nat_le c.args.rows v.len.result ≡ true = sym v.value-is ∙ w.if-not-len-rows.false in grind (arith, nat_tests, common_steps))
         | else-is_alone v ↦ absurd (let e : false ≡ true = sym v.if-is_alone.false ∙ sym v.value-is ∙ w.if-not-len-rows.false in cc)
       ]
       | then-not-len-rows+in_ok-line+in_default w ↦ inl ((subst (λ o. IsStep (unread c.loop-laying.cursor) o (unread w.next_line.new.self)) w.in_default.is w.in_ok-line.ensures.step).0)

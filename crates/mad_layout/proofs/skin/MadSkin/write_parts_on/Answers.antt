@@ -52,7 +52,7 @@ returns-in_err-hand_on_plain g c =
     c.loop-laying.invariant.so_far step.0 c.part_kind-kind.ensures c.in_ok-push.ensures.laid c.in_ok-push.ensures.run in
     let own = c.in_ok-close.ensures.laid in
     record {
-      writes = written_plain_refused c.args.self.now c.args.width c.args.markdown.now _ _ _ _ c.close.new.self.lines.items own.0 _ _ _ _ _ _ _ _ _ _ c.loop-laying.invariant.read (c.is_alone.ensures c.if-is_alone.true) laid own.1 own.2
+      writes = written_plain_refused c.args.self.now c.args.width c.args.markdown.now _ _ _ _ c.close.new.self.lines.items own.0 _ _ _ _ _ _ _ _ _ _ c.loop-laying.invariant.read (c.is_alone.ensures.0 c.if-is_alone.true) laid own.1 own.2
           c.in_err-hand_on_plain.ensures.handed c.from_residual-in_err-hand_on_plain.ensures.1;
     }
 
@@ -64,7 +64,7 @@ loop-laying-preserved-then-is_alone g c =
     let own = c.in_ok-close.ensures.laid in
     record {
       read = c.loop-laying.invariant.read;
-      so_far = written_plain c.args.self.now c.args.width _ _ _ _ c.close.new.self.lines.items c.hand_on_plain.new.lines.items own.0 _ c.close.new.self.table.items _ c.close.new.self.block.items _ _ _ _ _ _ (c.is_alone.ensures c.if-is_alone.true) laid own.1 own.2
+      so_far = written_plain c.args.self.now c.args.width _ _ _ _ c.close.new.self.lines.items c.hand_on_plain.new.lines.items own.0 _ c.close.new.self.table.items _ c.close.new.self.block.items _ _ _ _ _ _ (c.is_alone.ensures.0 c.if-is_alone.true) laid own.1 own.2
           c.in_ok-hand_on_plain.ensures.dropped c.in_ok-close.ensures.block c.in_ok-close.ensures.table c.in_ok-hand_on_plain.ensures.handed;
     }
 
@@ -80,7 +80,7 @@ pub returns-in_err-hand_on : goal.returns-in_err-hand_on
 returns-in_err-hand_on g c =
     let step : IsStep (unread c.loop-laying.cursor) (Some c.in-Some.line) (unread c.next_line.new.self) = subst (λ o. IsStep (unread c.loop-laying.cursor) o (unread c.next_line.new.self)) c.in-Some.is c.in_ok-line.ensures.step in
     let cut = apart_before (lines_of (unread c.loop-laying.cursor)) (lines_of (unread c.next_line.new.self)) (content_of c.in-Some.line) c.loop-laying.last c.part_kind-kind.result step.0 c.part_kind-kind.ensures
-    (λ l m a b. sym (c.ends.ensures c.if-ends.true l m a b)) in
+    (λ l m a b. sym (c.ends.ensures.apart c.if-ends.true l m a b)) in
     let own = c.in_ok-close-2.ensures.laid in
     record {
       writes = written_refused c.args.self.now c.args.width c.args.markdown.now _ _ _ _ _ _ _ _ _ _ c.loop-laying.invariant.read
@@ -114,7 +114,7 @@ part_before g c =
     let step = next_step g c in
     elim c.if-ends.branch as (λ _. WrittenSoFar skin c.args.width all left c.if-ends.laying.lines.items c.if-ends.laying.block.items c.if-ends.laying.table.items c.loop-laying.last (string_bytes c.if-ends.rows) (g.O.Out.seen c.args.out.now) (g.O.Out.seen c.if-ends.out)) [
       | then-ends+in_ok-close-2+in_ok-hand_on w ↦
-          let cut = apart_before left (lines_of (unread c.next_line.new.self)) (content_of c.in-Some.line) c.loop-laying.last c.part_kind-kind.result step.0 c.part_kind-kind.ensures (λ l m a b. sym (c.ends.ensures w.if-ends.true l m a b)) in
+          let cut = apart_before left (lines_of (unread c.next_line.new.self)) (content_of c.in-Some.line) c.loop-laying.last c.part_kind-kind.result step.0 c.part_kind-kind.ensures (λ l m a b. sym (c.ends.ensures.apart w.if-ends.true l m a b)) in
           let own = w.in_ok-close-2.ensures.laid in
           written_same skin c.args.width all left (record w.close-then-ends.new.self { lines = w.hand_on.new.lines }) c.if-ends.laying c.loop-laying.last w.hand_on.new.rows c.if-ends.rows _ (g.O.Out.seen w.hand_on.new.out) _
           (written_cut skin c.args.width all left _ w.close-then-ends.new.self.lines.items w.hand_on.new.lines.items own.0 _ w.close-then-ends.new.self.table.items _ w.close-then-ends.new.self.block.items c.loop-laying.last _ _ _ _ _
