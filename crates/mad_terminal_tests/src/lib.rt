@@ -8,6 +8,8 @@ mod parse;
 #[cfg(test)]
 mod screen;
 #[cfg(test)]
+mod shown;
+#[cfg(test)]
 mod style;
 #[cfg(test)]
 mod term;

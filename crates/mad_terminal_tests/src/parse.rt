@@ -1,5 +1,6 @@
 //! What no clause says: that each call succeeds, and that the definitions are the rules, row by row.
 
+use crate::shown::shows;
 use mad_md::Alignment;
 use mad_parse::{
     ParseColorError, ParseStyleTokenError, PushStyleTokens, StyleToken, parse_align,
@@ -7,72 +8,96 @@ use mad_parse::{
     parse_style_token, parse_style_tokens, parse_styled_char, style_tokens_to_string, write_align,
     write_attribute, write_color, write_style_tokens,
 };
-use mad_style::{CompoundStyle, LineStyle, OrderedItemStyle, StyledChar, ansi, gray, rgb};
+use mad_style::{CompoundStyle, LineStyle, OrderedItemStyle, StyledChar, gray, rgb};
 use mad_term::{Attribute, Color, CutOut};
 use std::alloc::Global;
 use std::test::Fail;
 
+const RED: StyleToken = StyleToken::Color(Color::Red);
+
+const YELLOW: StyleToken = StyleToken::Color(Color::Yellow);
+
+const BOLD: StyleToken = StyleToken::Attribute(Attribute::Bold);
+
+const ITALIC: StyleToken = StyleToken::Attribute(Attribute::Italic);
+
+const LEFT: StyleToken = StyleToken::Align(Alignment::Left);
+
+const CENTER: StyleToken = StyleToken::Align(Alignment::Center);
+
 const NONE: StyleToken = StyleToken::None;
 
-fn color(color: Color) -> StyleToken {
-    StyleToken::Color(color)
-}
-
-fn attribute(attribute: Attribute) -> StyleToken {
-    StyleToken::Attribute(attribute)
-}
-
-fn align(align: Alignment) -> StyleToken {
-    StyleToken::Align(align)
-}
-
-fn char(c: char) -> StyleToken {
-    StyleToken::Char(c)
-}
-
-fn number(n: u16) -> StyleToken {
-    StyleToken::Dimension(n)
-}
+// Each text, and its words.
+const TOKENS: &[(&str, &[StyleToken])] = &[
+    ("", &[]),
+    (" \n\t", &[]),
+    (
+        "Center grey(15) RGB(51, 47, 58) bold",
+        &[
+            CENTER,
+            StyleToken::Color(Color::AnsiValue(247)),
+            StyleToken::Color(Color::Rgb {
+                r: 51,
+                g: 47,
+                b: 58,
+            }),
+            BOLD,
+        ],
+    ),
+    ("red bold left", &[RED, BOLD, LEFT]),
+    (" Yellow Italic ", &[YELLOW, ITALIC]),
+    ("| Yellow red", &[StyleToken::Char('|'), YELLOW, RED]),
+    (
+        "rgb(255,0,100) #fb0",
+        &[
+            StyleToken::Color(Color::Rgb {
+                r: 255,
+                g: 0,
+                b: 100,
+            }),
+            StyleToken::Color(Color::Rgb {
+                r: 255,
+                g: 187,
+                b: 0,
+            }),
+        ],
+    ),
+    ("darkblue", &[StyleToken::Color(Color::DarkBlue)]),
+    (
+        "None +5 007 65535",
+        &[
+            NONE,
+            StyleToken::Dimension(5),
+            StyleToken::Dimension(7),
+            StyleToken::Dimension(65535),
+        ],
+    ),
+    (
+        "rgb(1,\u{3000}2,3)⟡",
+        &[
+            StyleToken::Color(Color::Rgb { r: 1, g: 2, b: 3 }),
+            StyleToken::Char('⟡'),
+        ],
+    ),
+    (
+        "(+)",
+        &[
+            StyleToken::Char('('),
+            StyleToken::Char('+'),
+            StyleToken::Char(')'),
+        ],
+    ),
+    ("#\u{a0}é", &[StyleToken::Char('#'), StyleToken::Char('é')]),
+];
 
 #[test]
 fn texts_are_read_as_tokens(rt: HostRuntime) -> Result<(), Fail> {
     let alloc = rt.alloc();
-    let bold = attribute(Attribute::Bold);
-    let red = color(Color::Red);
-    let yellow = color(Color::Yellow);
-    let rows: [(&str, &[StyleToken]); 12] = [
-        ("", &[]),
-        (" \n\t", &[]),
-        (
-            "Center grey(15) RGB(51, 47, 58) bold",
-            &[
-                align(Alignment::Center),
-                color(ansi(247)),
-                color(rgb(51, 47, 58)),
-                bold,
-            ],
-        ),
-        ("red bold left", &[red, bold, align(Alignment::Left)]),
-        (" Yellow Italic ", &[yellow, attribute(Attribute::Italic)]),
-        ("| Yellow red", &[char('|'), yellow, red]),
-        (
-            "rgb(255,0,100) #fb0",
-            &[color(rgb(255, 0, 100)), color(rgb(255, 187, 0))],
-        ),
-        ("darkblue", &[color(Color::DarkBlue)]),
-        (
-            "None +5 007 65535",
-            &[NONE, number(5), number(7), number(65535)],
-        ),
-        ("rgb(1,\u{3000}2,3)⟡", &[color(rgb(1, 2, 3)), char('⟡')]),
-        ("(+)", &[char('('), char('+'), char(')')]),
-        ("#\u{a0}é", &[char('#'), char('é')]),
-    ];
-    for (text, tokens) in rows {
+    for (text, tokens) in TOKENS {
         let read = parse_style_tokens(alloc, text)?;
-        assert!(rt; read.as_slice() == tokens, "{text}: {read:?}");
+        assert!(rt; read.as_slice() == *tokens, "{text}");
     }
-    assert_eq!(rt; parse_style_token(alloc, "gray(0)")?, color(gray(0)));
+    assert!(rt; parse_style_token(alloc, "gray(0)")? == StyleToken::Color(gray(0)));
     Ok(())
 }
 
@@ -87,146 +112,183 @@ fn refusal(alloc: Global, text: &str) -> Result<String, Fail> {
     Ok(error.to_string(alloc)?)
 }
 
+// Each text, and its first word outside the grammar.
+const UNRECOGNIZED: &[(&str, &str)] = &[
+    ("red pissenlit zz", "pissenlit"),
+    ("centered", "centered"),
+    ("rgb() x", "rgb"),
+    ("red(red)", "red(red)"),
+    ("bold red)left zz(1)", "zz(1)"),
+    ("65536", "65536"),
+    ("++1", "++1"),
+    ("rgb( 1,2,3)", "rgb( 1,2,3)"),
+    ("rgb(255, 260, 45)", "rgb(255, 260, 45)"),
+    ("ansi(+5)", "ansi"),
+    ("#ab", "#ab"),
+    ("#abcdefa", "#abcdefa"),
+    ("ré", "ré"),
+];
+
 #[test]
 fn the_first_word_outside_the_grammar_is_told(rt: HostRuntime) -> Result<(), Fail> {
     let alloc = rt.alloc();
-    let rows = [
-        ("red pissenlit zz", "pissenlit"),
-        ("centered", "centered"),
-        ("rgb() x", "rgb"),
-        ("red(red)", "red(red)"),
-        ("bold red)left zz(1)", "zz(1)"),
-        ("65536", "65536"),
-        ("++1", "++1"),
-        ("rgb( 1,2,3)", "rgb( 1,2,3)"),
-        ("rgb(255, 260, 45)", "rgb(255, 260, 45)"),
-        ("ansi(+5)", "ansi"),
-        ("#ab", "#ab"),
-        ("#abcdefa", "#abcdefa"),
-        ("ré", "ré"),
-    ];
-    for (text, word) in rows {
+    for (text, word) in UNRECOGNIZED {
         let told = refusal(alloc, text)?;
         let expected = format!(in alloc; "{word} not recognized as a style token")?;
         assert!(rt; told == expected, "{text}: {told}");
     }
-    let told = refusal(alloc, " red gray(40) pissenlit")?;
+    Ok(())
+}
+
+#[test]
+fn a_level_that_no_grey_has_is_told(rt: HostRuntime) -> Result<(), Fail> {
+    let told = refusal(rt.alloc(), " red gray(40) pissenlit")?;
     let expected = "Invalid color: grey level must be between 0 and 23 (got 40)";
     assert!(rt; told.as_str() == expected, "{told}");
     Ok(())
 }
 
+const COLORS: &[(&str, Color)] = &[
+    ("Green", Color::Green),
+    ("ansi(11)", Color::AnsiValue(11)),
+    ("ansi(007)", Color::AnsiValue(7)),
+    ("GREY(11)", Color::AnsiValue(243)),
+    ("grayscale(23)", Color::AnsiValue(255)),
+    ("black", Color::AnsiValue(16)),
+    ("WHITE", Color::AnsiValue(231)),
+    ("darkgrey", Color::DarkGrey),
+    ("DarkMagenta", Color::DarkMagenta),
+];
+
 #[test]
-fn colors_attributes_and_alignments(rt: HostRuntime) -> Result<(), Fail> {
-    let alloc = rt.alloc();
-    let colors = [
-        ("rgb(255, 35, 45)", rgb(255, 35, 45)),
-        ("Green", Color::Green),
-        ("ansi(11)", ansi(11)),
-        ("ansi(007)", ansi(7)),
-        ("GREY(11)", gray(11)),
-        ("grayscale(23)", gray(23)),
-        ("#abcd", rgb(171, 204, 221)),
-        ("#fB0", rgb(255, 187, 0)),
-        ("#12345", rgb(18, 52, 85)),
-        ("#a0b1c2", rgb(160, 177, 194)),
-        ("black", ansi(16)),
-        ("WHITE", ansi(231)),
-        ("darkgrey", Color::DarkGrey),
-        ("DarkMagenta", Color::DarkMagenta),
-    ];
-    for (text, color) in colors {
-        assert!(rt; parse_color(text) == Ok(color), "{text}");
+fn texts_are_read_as_colors(rt: HostRuntime) {
+    for (text, color) in COLORS {
+        assert!(rt; parse_color(text) == Ok(*color), "{text}");
     }
-    let none = [
-        "",
-        "#",
-        "#12",
-        "#-12",
-        "rgb(255, 260, 45)",
-        "rgb(1 ,2,3)",
-        "rgb(1,2,3,4)",
-        "rgb(1,2)",
-        "ansi( 1)",
-        "ansi()",
-        "gray(256)",
-        "dark-blue",
-        "Red ",
-        "ansi(1",
-        "ansi1)",
-        "blac\u{212A}",
-    ];
-    for text in none {
-        assert!(rt;
-            parse_color(text) == Err(ParseColorError::Unrecognized),
-            "{text}"
-        );
+}
+
+// Texts of colors by their amounts of red, green and blue.
+const AMOUNTS: &[(&str, u8, u8, u8)] = &[
+    ("rgb(255, 35, 45)", 255, 35, 45),
+    ("#abcd", 171, 204, 221),
+    ("#fB0", 255, 187, 0),
+    ("#12345", 18, 52, 85),
+    ("#a0b1c2", 160, 177, 194),
+];
+
+#[test]
+fn texts_are_read_as_amounts_of_colors(rt: HostRuntime) {
+    for (text, red, green, blue) in AMOUNTS {
+        assert!(rt; parse_color(text) == Ok(rgb(*red, *green, *blue)), "{text}");
     }
-    assert_eq!(rt;
-        ParseColorError::Unrecognized.to_string(alloc)?.as_str(),
-        "not a recognized color"
-    );
+}
+
+const NO_COLORS: &[&str] = &[
+    "",
+    "#",
+    "#12",
+    "#-12",
+    "rgb(255, 260, 45)",
+    "rgb(1 ,2,3)",
+    "rgb(1,2,3,4)",
+    "rgb(1,2)",
+    "ansi( 1)",
+    "ansi()",
+    "gray(256)",
+    "dark-blue",
+    "Red ",
+    "ansi(1",
+    "ansi1)",
+    "blac\u{212A}",
+];
+
+#[test]
+fn texts_of_no_color_are_refused(rt: HostRuntime) {
+    for text in NO_COLORS {
+        let read = parse_color(text);
+        assert!(rt; read == Err(ParseColorError::Unrecognized), "{text}");
+    }
     let level = ParseColorError::InvalidGreyLevel { level: 25 };
     assert!(rt; parse_color("gray(25)") == Err(level));
+}
 
+#[test]
+fn texts_are_read_as_attributes_and_alignments(rt: HostRuntime) {
     assert!(rt; parse_attribute("Crossed_Out") == Ok(Attribute::CrossedOut));
     assert!(rt; parse_attribute("rapidblink") == Ok(Attribute::RapidBlink));
     assert!(rt; parse_attribute("ENCIRCLED") == Ok(Attribute::Encircled));
-    let no_attribute = parse_attribute("under lined").unwrap_err();
-    assert_eq!(rt;
-        no_attribute.to_string(alloc)?.as_str(),
-        "not a recognized attribute"
-    );
     assert!(rt; parse_align("Right") == Ok(Alignment::Right));
+}
+
+#[test]
+fn each_refusal_has_its_text(rt: HostRuntime) -> Result<(), Fail> {
+    let alloc = rt.alloc();
+    let no_color = ParseColorError::Unrecognized;
+    let no_attribute = parse_attribute("under lined").unwrap_err();
     let no_align = parse_align("unspecified").unwrap_err();
-    assert_eq!(rt;
-        no_align.to_string(alloc)?.as_str(),
-        "not a valid alignment"
-    );
+    assert!(rt; shows(alloc, &no_color, "not a recognized color")?);
+    assert!(rt; shows(alloc, &no_attribute, "not a recognized attribute")?);
+    assert!(rt; shows(alloc, &no_align, "not a valid alignment")?);
     Ok(())
 }
 
 #[test]
 fn texts_are_read_as_styles(rt: HostRuntime) -> Result<(), Fail> {
     let alloc = rt.alloc();
-    let mut red_on_blue = CompoundStyle::with_fgbg(Color::Red, Color::Blue);
-    let on_blue = CompoundStyle::with_bg(Color::Blue);
+    let red_on_blue = CompoundStyle::with_fgbg(Color::Red, Color::Blue);
     let rows = [
         ("", CompoundStyle::default()),
         ("none", CompoundStyle::default()),
-        ("none blue", on_blue),
+        ("none blue", CompoundStyle::with_bg(Color::Blue)),
         ("red none blue", red_on_blue),
         ("x red left green 7 blue none", red_on_blue),
     ];
     for (text, style) in rows {
         assert!(rt; parse_compound_style(alloc, text)? == style, "{text}");
     }
-    red_on_blue.add_attr(Attribute::SlowBlink);
+    Ok(())
+}
+
+#[test]
+fn texts_are_read_as_line_styles(rt: HostRuntime) -> Result<(), Fail> {
+    let mut compound_style = CompoundStyle::with_fgbg(Color::Red, Color::Blue);
+    compound_style.add_attr(Attribute::SlowBlink);
     let line = LineStyle {
-        compound_style: red_on_blue,
+        compound_style,
         align: Alignment::Right,
         left_margin: 1,
         right_margin: 3,
     };
-    let read = parse_line_style(alloc, "slowblink red left 1 2 blue x right 3")?;
-    assert_eq!(rt; read, line);
-    let styled = StyledChar::new(on_blue, '>');
-    assert_eq!(rt; parse_styled_char(alloc, "none > blue |", '*')?, styled);
-    let default = StyledChar::new(on_blue, '*');
-    assert_eq!(rt; parse_styled_char(alloc, "none blue", '*')?, default);
+    let read = parse_line_style(rt.alloc(), "slowblink red left 1 2 blue x right 3")?;
+    assert!(rt; read == line);
+    Ok(())
+}
+
+fn on_blue(c: char) -> StyledChar {
+    StyledChar::new(CompoundStyle::with_bg(Color::Blue), c)
+}
+
+#[test]
+fn texts_are_read_as_styled_characters(rt: HostRuntime) -> Result<(), Fail> {
+    let alloc = rt.alloc();
+    assert!(rt; parse_styled_char(alloc, "none > blue |", '*')? == on_blue('>'));
+    assert!(rt; parse_styled_char(alloc, "none blue", '*')? == on_blue('*'));
+    Ok(())
+}
+
+#[test]
+fn texts_are_read_as_styles_of_ordered_items(rt: HostRuntime) -> Result<(), Fail> {
+    let alloc = rt.alloc();
     let item = OrderedItemStyle {
         index_style: CompoundStyle::with_fg(Color::Green),
-        index_suffix: styled,
+        index_suffix: on_blue('>'),
     };
-    assert_eq!(rt;
-        parse_ordered_item_style(alloc, "green > none | blue", '.')?,
-        item
-    );
+    assert!(rt; parse_ordered_item_style(alloc, "green > none | blue", '.')? == item);
     let plain = OrderedItemStyle {
-        index_style: on_blue,
+        index_style: CompoundStyle::with_bg(Color::Blue),
         index_suffix: StyledChar::nude('.'),
     };
-    assert_eq!(rt; parse_ordered_item_style(alloc, "none blue", '.')?, plain);
+    assert!(rt; parse_ordered_item_style(alloc, "none blue", '.')? == plain);
     Ok(())
 }
 
@@ -264,6 +326,12 @@ fn styles_are_written_as_texts(rt: HostRuntime) -> Result<(), Fail> {
     for (style, text) in rows {
         assert!(rt; is_written(alloc, &style, text)?, "{text}");
     }
+    Ok(())
+}
+
+#[test]
+fn characters_and_items_are_written_as_texts(rt: HostRuntime) -> Result<(), Fail> {
+    let alloc = rt.alloc();
     let styled = StyledChar::new(CompoundStyle::with_fg(gray(12)), '(');
     assert!(rt; is_written(alloc, &styled, "( ansi(244)")?);
     let item = OrderedItemStyle {
@@ -296,29 +364,39 @@ fn both_margins_are_written(rt: HostRuntime) -> Result<(), Fail> {
     Ok(())
 }
 
+// Three of them have no text.
+const WRITTEN: &[StyleToken] = &[
+    StyleToken::Color(Color::Reset),
+    StyleToken::Char('é'),
+    StyleToken::Align(Alignment::Unspecified),
+    StyleToken::Color(Color::AnsiValue(11)),
+    StyleToken::Attribute(Attribute::Reset),
+    NONE,
+    StyleToken::Dimension(7),
+];
+
+#[test]
+fn tokens_are_written_as_texts(rt: HostRuntime) -> Result<(), Fail> {
+    let alloc = rt.alloc();
+    for (tokens, text) in [(WRITTEN, "é ansi(11) none 7"), (&[RED, BOLD], "Red Bold")] {
+        assert!(rt;
+            style_tokens_to_string(alloc, tokens)?.as_str() == text,
+            "{text}"
+        );
+    }
+    Ok(())
+}
+
 #[test]
 fn tokens_are_written_to_a_device(rt: HostRuntime) -> Result<(), Fail> {
     let alloc = rt.alloc();
-    let tokens = [
-        color(Color::Reset),
-        char('é'),
-        align(Alignment::Unspecified),
-        color(ansi(11)),
-        attribute(Attribute::Reset),
-        NONE,
-        number(7),
-    ];
-    let written = style_tokens_to_string(alloc, &tokens)?;
-    assert_eq!(rt; written.as_str(), "é ansi(11) none 7");
-    let bold = [color(Color::Red), attribute(Attribute::Bold)];
-    assert_eq!(rt; style_tokens_to_string(alloc, &bold)?.as_str(), "Red Bold");
     let mut out = CutOut::new(alloc, 3, 1000, true)?;
-    write_style_tokens(alloc, &mut out, &tokens)?;
+    write_style_tokens(alloc, &mut out, WRITTEN)?;
     write_color(alloc, &mut out, rgb(1, 20, 255))?;
     write_attribute(&mut out, Attribute::NotFramedOrEncircled)?;
     write_align(&mut out, Alignment::Center)?;
     let expected = "é ansi(11) none 7rgb(1, 20, 255)NotFramedOrEncircledcenter";
-    assert_eq!(rt; out.taken(), expected.as_bytes());
+    assert!(rt; out.taken() == expected.as_bytes());
     Ok(())
 }
 
@@ -327,6 +405,6 @@ fn a_megabyte_of_open_brackets_is_read(rt: HostRuntime) -> Result<(), Fail> {
     let alloc = rt.alloc();
     let text = "a(1 ".repeat(alloc, 250_000)?;
     let tokens = parse_style_tokens(alloc, text.as_str())?;
-    assert_eq!(rt; tokens.len(), 750_000);
+    assert!(rt; tokens.len() == 750_000);
     Ok(())
 }

@@ -1,6 +1,7 @@
 //! What no clause says: that each call succeeds, that the definitions are those of the field, and how texts look.
 
-use mad_md::{Alignment, CompositeStyle};
+use crate::shown::shows;
+use mad_md::CompositeStyle;
 use mad_style::{
     ASCII_TABLE_BORDER_CHARS, ATTRIBUTES, CompositeKind, CompoundStyle, LineStyle,
     ListItemsIndentationMode, MAX_ORDERED_LIST_DEPTH, OrderedItemStyle, ROUNDED_TABLE_BORDER_CHARS,
@@ -10,6 +11,7 @@ use mad_style::{
 use mad_term::{
     Attribute, Attributes, ClearType, Color, ContentStyle, CutOut, Error, Out, put_all,
 };
+use std::alloc::{AllocError, Global};
 use std::test::Fail;
 
 #[test]
@@ -22,7 +24,7 @@ fn colors_by_number(rt: HostRuntime) {
         (ansi(255), Color::AnsiValue(255)),
     ];
     for (color, expected) in cases {
-        assert_eq!(rt; color, expected);
+        assert!(rt; color == expected);
     }
 }
 
@@ -38,7 +40,7 @@ fn the_attributes_of_written_styles(rt: HostRuntime) {
         Attribute::Encircled,
         Attribute::OverLined,
     ];
-    assert_eq!(rt; ATTRIBUTES, names);
+    assert!(rt; ATTRIBUTES == names);
 }
 
 #[test]
@@ -56,44 +58,44 @@ fn an_absent_color_lets_the_one_below_through(rt: HostRuntime) {
     };
     both.attributes.set(Attribute::Italic);
     below.overwrite_with(&above);
-    assert_eq!(rt; below, CompoundStyle::from(both));
+    assert!(rt; below == CompoundStyle::from(both));
 }
+
+const MAX: usize = usize::MAX;
+
+// Each left and right margin, a width, and the margins in that width.
+const MARGINS: &[(usize, usize, Option<usize>, (usize, usize))] = &[
+    (2, 3, None, (2, 3)),
+    (2, 3, Some(7), (0, 0)),
+    (2, 3, Some(8), (2, 3)),
+    (0, 0, Some(0), (0, 0)),
+    (0, 0, None, (0, 0)),
+    (0, 0, Some(MAX), (0, 0)),
+    (1, 0, Some(3), (0, 0)),
+    (1, 0, Some(4), (1, 0)),
+    (0, 1, Some(3), (0, 0)),
+    (0, 1, Some(4), (0, 1)),
+    (MAX, 0, Some(MAX), (0, 0)),
+    (MAX, MAX, Some(0), (0, 0)),
+    (MAX, MAX, Some(1), (0, 0)),
+    (MAX, MAX, Some(2), (0, 0)),
+    (MAX, MAX, Some(3), (0, 0)),
+    (MAX, MAX, Some(MAX), (0, 0)),
+    (MAX, MAX, None, (MAX, MAX)),
+    (MAX - 3, 0, Some(MAX), (MAX - 3, 0)),
+    (MAX - 3, 1, Some(MAX), (0, 0)),
+];
 
 #[test]
 fn margins_go_where_they_leave_less_than_three_columns(rt: HostRuntime) {
-    const MAX: usize = usize::MAX;
-    let cases = [
-        (2, 3, None, (2, 3)),
-        (2, 3, Some(7), (0, 0)),
-        (2, 3, Some(8), (2, 3)),
-        (0, 0, Some(0), (0, 0)),
-        (0, 0, None, (0, 0)),
-        (0, 0, Some(MAX), (0, 0)),
-        (1, 0, Some(3), (0, 0)),
-        (1, 0, Some(4), (1, 0)),
-        (0, 1, Some(3), (0, 0)),
-        (0, 1, Some(4), (0, 1)),
-        (MAX, 0, Some(MAX), (0, 0)),
-        (MAX, MAX, Some(0), (0, 0)),
-        (MAX, MAX, Some(1), (0, 0)),
-        (MAX, MAX, Some(2), (0, 0)),
-        (MAX, MAX, Some(3), (0, 0)),
-        (MAX, MAX, Some(MAX), (0, 0)),
-        (MAX, MAX, None, (MAX, MAX)),
-        (MAX - 3, 0, Some(MAX), (MAX - 3, 0)),
-        (MAX - 3, 1, Some(MAX), (0, 0)),
-    ];
-    for (left_margin, right_margin, width, expected) in cases {
+    for (left_margin, right_margin, width, expected) in MARGINS {
         let style = LineStyle {
-            left_margin,
-            right_margin,
+            left_margin: *left_margin,
+            right_margin: *right_margin,
             ..LineStyle::default()
         };
-        assert_eq!(rt;
-            style.margins_in(width),
-            expected,
-            "{left_margin}, {right_margin}"
-        );
+        let margins = style.margins_in(*width);
+        assert!(rt; margins == *expected, "{left_margin}, {right_margin}");
     }
 }
 
@@ -112,111 +114,101 @@ fn indents_of_items_of_ordered_lists(rt: HostRuntime) {
         (255, u32::MAX, 267),
     ];
     for (level, index, expected) in cases {
-        assert_eq!(rt;
-            ordered_item_indent(level, index),
-            expected,
-            "{index} at level {level}"
-        );
+        let indent = ordered_item_indent(level, index);
+        assert!(rt; indent == expected, "{index} at level {level}");
     }
 }
 
 #[test]
-fn made_styles_of_items_and_bars(rt: HostRuntime) -> Result<(), Fail> {
-    assert_eq!(rt; MAX_ORDERED_LIST_DEPTH, 4);
+fn made_styles_of_items(rt: HostRuntime) {
+    assert!(rt; MAX_ORDERED_LIST_DEPTH == 4);
     let item = OrderedItemStyle::default();
-    assert_eq!(rt; item.index_style, CompoundStyle::default());
-    assert_eq!(rt;
-        item.index_suffix,
-        StyledChar::from_fg_char(Color::AnsiValue(244), '.')
-    );
-    assert_eq!(rt;
-        OrderedItemStyle::no_style().index_suffix,
-        StyledChar::nude('.')
-    );
+    assert!(rt; item.index_style == CompoundStyle::default());
+    assert!(rt; item.index_suffix == StyledChar::from_fg_char(Color::AnsiValue(244), '.'));
+    assert!(rt; OrderedItemStyle::no_style().index_suffix == StyledChar::nude('.'));
+}
 
+// A bar of a character, with these foregrounds.
+fn bar_of(track: Color, thumb: Color, c: char) -> ScrollBarStyle {
+    ScrollBarStyle {
+        track: StyledChar::from_fg_char(track, c),
+        thumb: StyledChar::from_fg_char(thumb, c),
+    }
+}
+
+#[test]
+fn made_styles_of_bars(rt: HostRuntime) -> Result<(), Fail> {
     let mut bar = ScrollBarStyle::default();
-    assert_eq!(rt;
-        bar.track,
-        StyledChar::from_fg_char(Color::AnsiValue(237), '\u{2590}')
-    );
-    assert_eq!(rt;
-        bar.thumb,
-        StyledChar::from_fg_char(Color::AnsiValue(253), '\u{2590}')
-    );
+    assert!(rt; bar == bar_of(Color::AnsiValue(237), Color::AnsiValue(253), '\u{2590}'));
     bar.set_bg(Color::Blue);
-    assert_eq!(rt;
-        (bar.track.get_bg(), bar.thumb.get_bg()),
-        (Some(Color::Blue), Some(Color::Blue))
-    );
-    assert_eq!(rt; bar.clone()?.track.get_fg(), Some(Color::AnsiValue(237)));
-
-    let mut styled = CompoundStyle::with_fgbg(Color::Red, Color::Blue).style_char('#');
-    let colored = ScrollBarStyle::from(styled);
-    assert_eq!(rt; colored.thumb, StyledChar::from_fg_char(Color::Red, '#'));
-    assert_eq!(rt; colored.track, StyledChar::from_fg_char(Color::Blue, '#'));
-    styled.set_compound_style(CompoundStyle::default());
-    styled.set_char('|');
-    let plain = ScrollBarStyle::from(styled);
-    assert_eq!(rt;
-        plain.thumb,
-        StyledChar::from_fg_char(Color::AnsiValue(253), '|')
-    );
-    assert_eq!(rt;
-        plain.track,
-        StyledChar::from_fg_char(Color::AnsiValue(237), '|')
-    );
+    assert!(rt; bar.track.get_bg() == Some(Color::Blue));
+    assert!(rt; bar.thumb.get_bg() == Some(Color::Blue));
+    assert!(rt; bar.clone()?.track.get_fg() == Some(Color::AnsiValue(237)));
     Ok(())
 }
 
 #[test]
+fn bars_of_styled_characters(rt: HostRuntime) {
+    let mut styled = CompoundStyle::with_fgbg(Color::Red, Color::Blue).style_char('#');
+    let colored = ScrollBarStyle::from(styled);
+    assert!(rt; colored == bar_of(Color::Blue, Color::Red, '#'));
+    styled.set_compound_style(CompoundStyle::default());
+    styled.set_char('|');
+    let plain = ScrollBarStyle::from(styled);
+    assert!(rt; plain == bar_of(Color::AnsiValue(237), Color::AnsiValue(253), '|'));
+}
+
+// Each key, and its characters: two lines, four corners, four junctions, and the cross.
+const BORDERS: &[(&str, [char; 11])] = &[
+    (
+        "standard",
+        ['─', '│', '┌', '┐', '┘', '└', '┬', '┤', '┴', '├', '┼'],
+    ),
+    (
+        "ascii",
+        ['-', '|', '+', '+', '+', '+', '+', '+', '+', '+', '+'],
+    ),
+    (
+        "rounded",
+        ['─', '│', '╭', '╮', '╯', '╰', '┬', '┤', '┴', '├', '┼'],
+    ),
+];
+
+fn border_set(chars: [char; 11]) -> TableBorderChars {
+    let [horizontal, vertical, a, b, c, d, e, f, g, h, cross] = chars;
+    TableBorderChars {
+        horizontal,
+        vertical,
+        top_left_corner: a,
+        top_right_corner: b,
+        bottom_right_corner: c,
+        bottom_left_corner: d,
+        top_junction: e,
+        right_junction: f,
+        bottom_junction: g,
+        left_junction: h,
+        cross,
+    }
+}
+
+#[test]
 fn border_sets_are_spelled_and_named(rt: HostRuntime) {
-    let cases = [
-        (
-            "standard",
-            ['─', '│', '┌', '┐', '┘', '└', '┬', '┤', '┴', '├', '┼'],
-        ),
-        (
-            "ascii",
-            ['-', '|', '+', '+', '+', '+', '+', '+', '+', '+', '+'],
-        ),
-        (
-            "rounded",
-            ['─', '│', '╭', '╮', '╯', '╰', '┬', '┤', '┴', '├', '┼'],
-        ),
-    ];
-    for (key, [horizontal, vertical, a, b, c, d, e, f, g, h, cross]) in cases {
-        let set = TableBorderChars {
-            horizontal,
-            vertical,
-            top_left_corner: a,
-            top_right_corner: b,
-            bottom_right_corner: c,
-            bottom_left_corner: d,
-            top_junction: e,
-            right_junction: f,
-            bottom_junction: g,
-            left_junction: h,
-            cross,
-        };
-        assert_eq!(rt; TableBorderChars::by_key(key), Some(set), "{key}");
-        assert!(rt; set.key().is_some_and(|name| name == key), "{key}");
+    for (key, chars) in BORDERS {
+        let set = border_set(*chars);
+        assert!(rt; TableBorderChars::by_key(key) == Some(set), "{key}");
+        assert!(rt; set.key() == Some(*key), "{key}");
         let other = TableBorderChars { cross: '*', ..set };
         assert!(rt; other.key().is_none(), "{key}");
     }
-    assert_eq!(rt;
-        TableBorderChars::by_key("standard"),
-        Some(STANDARD_TABLE_BORDER_CHARS)
-    );
-    assert_eq!(rt;
-        TableBorderChars::by_key("ascii"),
-        Some(ASCII_TABLE_BORDER_CHARS)
-    );
-    assert_eq!(rt;
-        TableBorderChars::by_key("rounded"),
-        Some(ROUNDED_TABLE_BORDER_CHARS)
-    );
+}
+
+#[test]
+fn border_sets_are_found_by_their_keys(rt: HostRuntime) {
+    assert!(rt; TableBorderChars::by_key("standard") == Some(STANDARD_TABLE_BORDER_CHARS));
+    assert!(rt; TableBorderChars::by_key("ascii") == Some(ASCII_TABLE_BORDER_CHARS));
+    assert!(rt; TableBorderChars::by_key("rounded") == Some(ROUNDED_TABLE_BORDER_CHARS));
     for unknown in ["", "Standard", "standard ", "round"] {
-        assert_eq!(rt; TableBorderChars::by_key(unknown), None, "{unknown}");
+        assert!(rt; TableBorderChars::by_key(unknown).is_none(), "{unknown}");
     }
 }
 
@@ -241,86 +233,146 @@ fn kinds_of_what_was_read(rt: HostRuntime) {
         (CompositeStyle::Quote, CompositeKind::Quote),
     ];
     for (style, kind) in cases {
-        assert_eq!(rt; CompositeKind::from(style), kind);
+        assert!(rt; CompositeKind::from(style) == kind);
     }
-    assert_eq!(rt;
-        ListItemsIndentationMode::default(),
-        ListItemsIndentationMode::Block
-    );
+    assert!(rt; ListItemsIndentationMode::default() == ListItemsIndentationMode::Block);
 }
 
-// Each call once, a bar after each; texts repeated no times show as two bars.
-#[test]
-fn what_the_writing_calls_write(rt: HostRuntime) -> Result<(), Fail> {
-    let alloc = rt.alloc();
-    // Its flush fails: a call that flushes would be refused.
-    let mut out = CutOut::new(alloc, 7, 1000, true)?;
-    let mut bold = CompoundStyle::with_fgbg(Color::Red, Color::Blue);
-    bold.add_attr(Attribute::Bold);
-    let red = LineStyle::from(CompoundStyle::with_fg(Color::Red));
-    let styled = CompoundStyle::with_bg(rgb(1, 2, 3)).style_char('é');
+// A device whose flush fails: a call that flushes would be refused.
+fn device(alloc: Global) -> Result<CutOut, AllocError> {
+    CutOut::new(alloc, 7, 1000, true)
+}
 
-    bold.queue(alloc, &mut out, "ab")?;
+fn red() -> CompoundStyle {
+    CompoundStyle::with_fg(Color::Red)
+}
+
+fn bold() -> CompoundStyle {
+    let mut style = CompoundStyle::with_fgbg(Color::Red, Color::Blue);
+    style.add_attr(Attribute::Bold);
+    style
+}
+
+#[test]
+fn what_texts_and_colors_write(rt: HostRuntime) -> Result<(), Fail> {
+    let alloc = rt.alloc();
+    let mut out = device(alloc)?;
+    bold().queue(alloc, &mut out, "ab")?;
     put_all(&mut out, b"|")?;
-    red.compound_style.queue_str(alloc, &mut out, "")?;
+    red().queue_str(alloc, &mut out, "")?;
     put_all(&mut out, b"|")?;
-    bold.queue_fg(alloc, &mut out)?;
-    bold.queue_bg(alloc, &mut out)?;
-    put_all(&mut out, b"|")?;
-    red.compound_style.queue_bg(alloc, &mut out)?;
-    red.compound_style.clear(alloc, &mut out, ClearType::All)?;
-    bold.clear(alloc, &mut out, ClearType::UntilNewLine)?;
-    put_all(&mut out, b"|")?;
-    red.repeat_char(alloc, &mut out, '…', 2)?;
-    red.repeat_string(alloc, &mut out, "xy", 2)?;
-    red.repeat_space(alloc, &mut out, 3)?;
-    put_all(&mut out, b"|")?;
-    bold.repeat_char(alloc, &mut out, 'a', 0)?;
-    bold.repeat_string(alloc, &mut out, "a", 0)?;
-    bold.repeat_space(alloc, &mut out, 0)?;
-    styled.queue_repeat(alloc, &mut out, 0)?;
-    put_all(&mut out, b"|")?;
-    styled.queue(alloc, &mut out)?;
-    styled.queue_repeat(alloc, &mut out, 2)?;
+    bold().queue_fg(alloc, &mut out)?;
+    bold().queue_bg(alloc, &mut out)?;
     let expected = concat!(
         "\u{1b}[48;5;12m\u{1b}[38;5;9m\u{1b}[1mab\u{1b}[0m|",
         "\u{1b}[38;5;9m\u{1b}[39m|",
-        "\u{1b}[38;5;9m\u{1b}[48;5;12m|",
-        "\u{1b}[2J\u{1b}[48;5;12m\u{1b}[K|",
-        "\u{1b}[38;5;9m……\u{1b}[39m\u{1b}[38;5;9mxyxy\u{1b}[39m\u{1b}[38;5;9m   \u{1b}[39m|",
-        "|",
-        "\u{1b}[48;2;1;2;3mé\u{1b}[49m\u{1b}[48;2;1;2;3méé\u{1b}[49m",
+        "\u{1b}[38;5;9m\u{1b}[48;5;12m",
     );
     assert!(rt; out.taken() == expected.as_bytes());
     Ok(())
 }
 
+// A background that is absent writes nothing, and none goes before an erasure.
+#[test]
+fn what_erasures_write(rt: HostRuntime) -> Result<(), Fail> {
+    let alloc = rt.alloc();
+    let mut out = device(alloc)?;
+    red().queue_bg(alloc, &mut out)?;
+    red().clear(alloc, &mut out, ClearType::All)?;
+    bold().clear(alloc, &mut out, ClearType::UntilNewLine)?;
+    let expected = "\u{1b}[2J\u{1b}[48;5;12m\u{1b}[K";
+    assert!(rt; out.taken() == expected.as_bytes());
+    Ok(())
+}
+
+#[test]
+fn what_repeats_write(rt: HostRuntime) -> Result<(), Fail> {
+    let alloc = rt.alloc();
+    let mut out = device(alloc)?;
+    let line = LineStyle::from(red());
+    line.repeat_char(alloc, &mut out, '…', 2)?;
+    line.repeat_string(alloc, &mut out, "xy", 2)?;
+    line.repeat_space(alloc, &mut out, 3)?;
+    let expected = concat!(
+        "\u{1b}[38;5;9m……\u{1b}[39m",
+        "\u{1b}[38;5;9mxyxy\u{1b}[39m",
+        "\u{1b}[38;5;9m   \u{1b}[39m",
+    );
+    assert!(rt; out.taken() == expected.as_bytes());
+    Ok(())
+}
+
+fn on_dark(c: char) -> StyledChar {
+    CompoundStyle::with_bg(rgb(1, 2, 3)).style_char(c)
+}
+
+#[test]
+fn repeats_of_no_times_write_nothing(rt: HostRuntime) -> Result<(), Fail> {
+    let alloc = rt.alloc();
+    let mut out = device(alloc)?;
+    bold().repeat_char(alloc, &mut out, 'a', 0)?;
+    bold().repeat_string(alloc, &mut out, "a", 0)?;
+    bold().repeat_space(alloc, &mut out, 0)?;
+    on_dark('é').queue_repeat(alloc, &mut out, 0)?;
+    assert!(rt; out.taken().is_empty());
+    Ok(())
+}
+
+#[test]
+fn what_styled_characters_write(rt: HostRuntime) -> Result<(), Fail> {
+    let alloc = rt.alloc();
+    let mut out = device(alloc)?;
+    on_dark('é').queue(alloc, &mut out)?;
+    on_dark('é').queue_repeat(alloc, &mut out, 2)?;
+    let expected = "\u{1b}[48;2;1;2;3mé\u{1b}[49m\u{1b}[48;2;1;2;3méé\u{1b}[49m";
+    assert!(rt; out.taken() == expected.as_bytes());
+    Ok(())
+}
+
+// A bullet in a gray, whose command is `ESC[38;5;240m`.
+fn bullet() -> StyledChar {
+    StyledChar::from_fg_char(gray(8), '•')
+}
+
 #[test]
 fn what_is_shown_and_pushed_is_what_is_written(rt: HostRuntime) -> Result<(), Fail> {
     let alloc = rt.alloc();
-    let styled = StyledChar::from_fg_char(gray(8), '•');
+    let expected = "\u{1b}[38;5;240m•\u{1b}[39m";
     let mut row = String::new(alloc);
-    styled.push(&mut row)?;
-    assert!(rt; row.as_str() == "\u{1b}[38;5;240m•\u{1b}[39m");
-    assert!(rt; row.as_str() == styled.to_string(alloc)?.as_str());
-    row.clear();
-    styled.push_repeated(&mut row, 2)?;
-    styled.compound_style().push_repeated(&mut row, "ab", 0)?;
+    bullet().push(&mut row)?;
+    assert!(rt; row.as_str() == expected);
+    assert!(rt; shows(alloc, &bullet(), expected)?);
+    let applied = bullet().compound_style().apply_to("ab");
+    assert!(rt; shows(alloc, &applied, "\u{1b}[38;5;240mab\u{1b}[39m")?);
+    Ok(())
+}
+
+#[test]
+fn what_is_pushed_repeated(rt: HostRuntime) -> Result<(), Fail> {
+    let mut row = String::new(rt.alloc());
+    bullet().push_repeated(&mut row, 2)?;
+    bullet().compound_style().push_repeated(&mut row, "ab", 0)?;
     assert!(rt; row.as_str() == "\u{1b}[38;5;240m••\u{1b}[39m");
-    let twice = styled.repeated(alloc, 2)?;
-    assert!(rt; twice.to_string(alloc)?.as_str() == row.as_str());
-    assert_eq!(rt;
-        twice.as_piece().style,
-        styled.compound_style().object_style
-    );
     row.clear();
     CompoundStyle::default().push_repeated(&mut row, "ab", 2)?;
     assert!(rt; row.as_str() == "abab");
-    let none = styled.repeated(alloc, 0)?;
-    assert_eq!(rt; none.style, ContentStyle::default());
+    Ok(())
+}
+
+#[test]
+fn what_a_character_repeated_twice_is(rt: HostRuntime) -> Result<(), Fail> {
+    let alloc = rt.alloc();
+    let twice = bullet().repeated(alloc, 2)?;
+    assert!(rt; shows(alloc, &twice, "\u{1b}[38;5;240m••\u{1b}[39m")?);
+    assert!(rt; twice.as_piece().style == bullet().compound_style().object_style);
+    Ok(())
+}
+
+#[test]
+fn what_a_character_repeated_no_times_is(rt: HostRuntime) -> Result<(), Fail> {
+    let none = bullet().repeated(rt.alloc(), 0)?;
+    assert!(rt; none.style == ContentStyle::default());
     assert!(rt; none.content.is_empty());
-    let applied = styled.compound_style().apply_to("ab");
-    assert!(rt; applied.to_string(alloc)?.as_str() == "\u{1b}[38;5;240mab\u{1b}[39m");
     Ok(())
 }
 
@@ -337,7 +389,7 @@ fn a_fault_in_mid_stream_leaves_a_front(rt: HostRuntime) -> Result<(), Fail> {
             return Err(Fail::from("all went out"));
         }
         assert!(rt; out.taken() == &whole.as_bytes()[..room], "at room {room}");
-        assert_eq!(rt; out.faults(), 1, "at room {room}");
+        assert!(rt; out.faults() == 1, "at room {room}");
     }
     Ok(())
 }

@@ -1,27 +1,31 @@
 //! A screen as its two pictures.
 
+use crate::shown::shows;
 use mad_screen::Screen;
+use std::alloc::Global;
 use std::test::Fail;
+
+const DRAWN: &str = "a\u{4e00}\u{301}b\x1b[2;2H\x1b[38;5;1mred\x1b[1mx\x1b[39m\x1b[3;1H";
+
+// A screen with a wide character, a joined one, and two pens.
+fn drawn_screen(alloc: Global) -> Result<Screen, Fail> {
+    let mut screen = Screen::new(alloc, 6, 3)?;
+    screen.read_bytes(DRAWN.as_bytes())?;
+    screen.read_bytes(b"\x1b[0m\x1b[38;5;1mr\x1b[0m-")?;
+    Ok(screen)
+}
 
 #[test]
 fn rows_and_looks(rt: HostRuntime) -> Result<(), Fail> {
     let alloc = rt.alloc();
-    let mut screen = Screen::new(alloc, 6, 3)?;
-    screen.read_bytes(
-        "a\u{4e00}\u{301}b\x1b[2;2H\x1b[38;5;1mred\x1b[1mx\x1b[39m\x1b[3;1H".as_bytes(),
-    )?;
-    screen.read_bytes(b"\x1b[0m\x1b[38;5;1mr\x1b[0m-")?;
-    assert_eq!(rt;
-        screen.to_string(alloc)?.as_str(),
-        "a\u{4e00}\u{301}b  \n redx \nr-    \n"
-    );
+    let screen = drawn_screen(alloc)?;
+    assert!(rt; shows(alloc, &screen, "a\u{4e00}\u{301}b  \n redx \nr-    \n")?);
     let looks = screen.looks()?;
-    assert_eq!(rt;
-        looks.to_string(alloc)?.as_str(),
-        "......\n.aaab.\na.....\n"
-    );
-    assert_eq!(rt; looks.pens().len(), 2);
-    assert!(rt; looks.pens()[1] == screen.cell(4, 1).ok_or("no cell")?.pen);
+    assert!(rt; shows(alloc, &looks, "......\n.aaab.\na.....\n")?);
+    let [_, second] = looks.pens() else {
+        return Err(Fail::from("not two pens"));
+    };
+    assert!(rt; *second == screen.cell(4, 1).ok_or("no cell")?.pen);
     Ok(())
 }
 
@@ -32,7 +36,7 @@ fn looks_past_the_last_letter(rt: HostRuntime) -> Result<(), Fail> {
     for number in 0..28 {
         screen.read_bytes(format!(in alloc; "\x1b[38;5;{number}m#")?.as_bytes())?;
     }
-    let picture = screen.looks()?.to_string(alloc)?;
-    assert_eq!(rt; picture.as_str(), "abcdefghijklmnopqrstuvwxyz??..\n");
+    let looks = screen.looks()?;
+    assert!(rt; shows(alloc, &looks, "abcdefghijklmnopqrstuvwxyz??..\n")?);
     Ok(())
 }

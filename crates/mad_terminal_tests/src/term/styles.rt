@@ -1,5 +1,6 @@
 //! The bytes of colors, attributes and pieces, by Display and in a row buffer.
 
+use crate::shown::shows;
 use mad_term::{
     Attribute, Attributes, Color, ContentStyle, StyledContent, StyledNumber, push_background,
     push_foreground, push_styled,
@@ -8,7 +9,7 @@ use std::alloc::{AllocError, Global};
 use std::test::Fail;
 
 // Each color, and what its command has between `ESC[38;` (or 48, or 58) and `m`.
-const COLORS: [(Color, &str); 19] = [
+const COLORS: &[(Color, &str)] = &[
     (Color::Black, "5;0"),
     (Color::DarkRed, "5;1"),
     (Color::DarkGreen, "5;2"),
@@ -31,7 +32,7 @@ const COLORS: [(Color, &str); 19] = [
 ];
 
 // Each attribute, and its code.
-const CODES: [(Attribute, &str); 24] = [
+const CODES: &[(Attribute, &str)] = &[
     (Attribute::Reset, "0"),
     (Attribute::Bold, "1"),
     (Attribute::Dim, "2"),
@@ -66,13 +67,16 @@ fn set_of(attributes: &[Attribute]) -> Attributes {
     set
 }
 
-// A piece in a row buffer, which is also what it displays.
-fn piece(alloc: Global, style: ContentStyle, content: &str) -> Result<(String, bool), AllocError> {
+// Whether these are the bytes of a piece, in a row buffer and as it is displayed.
+fn is_piece(
+    alloc: Global,
+    style: ContentStyle,
+    content: &str,
+    bytes: &str,
+) -> Result<bool, AllocError> {
     let mut row = String::new(alloc);
     push_styled(&mut row, style, content)?;
-    let shown = StyledContent { style, content }.to_string(alloc)?;
-    let same = shown.as_str() == row.as_str();
-    Ok((row, same))
+    Ok(row.as_str() == bytes && shows(alloc, &StyledContent { style, content }, bytes)?)
 }
 
 #[test]
@@ -80,93 +84,106 @@ fn each_color_has_its_command(rt: HostRuntime) -> Result<(), Fail> {
     let alloc = rt.alloc();
     for (color, numbers) in COLORS {
         let mut row = String::new(alloc);
-        push_foreground(&mut row, color)?;
-        push_background(&mut row, color)?;
+        push_foreground(&mut row, *color)?;
+        push_background(&mut row, *color)?;
         let commands = format!(in alloc; "\x1b[38;{numbers}m\x1b[48;{numbers}m")?;
-        assert!(rt; row.as_str() == commands.as_str());
+        assert!(rt; row == commands, "{numbers}");
+    }
+    Ok(())
+}
 
+#[test]
+fn each_color_underlines(rt: HostRuntime) -> Result<(), Fail> {
+    let alloc = rt.alloc();
+    for (color, numbers) in COLORS {
         let style = ContentStyle {
-            underline_color: Some(color),
+            underline_color: Some(*color),
             ..ContentStyle::default()
         };
         let bytes = format!(in alloc; "\x1b[58;{numbers}mx\x1b[0m")?;
-        assert!(rt; piece(alloc, style, "x")?.0.as_str() == bytes.as_str());
+        assert!(rt; is_piece(alloc, style, "x", bytes.as_str())?, "{numbers}");
     }
     Ok(())
+}
+
+// A style of attributes alone.
+fn style_of(attributes: Attributes) -> ContentStyle {
+    ContentStyle {
+        attributes,
+        ..ContentStyle::default()
+    }
 }
 
 #[test]
 fn each_attribute_has_its_code(rt: HostRuntime) -> Result<(), Fail> {
     let alloc = rt.alloc();
-    let mut all = Attributes::default();
-    let mut bytes = String::new(alloc);
     for (attribute, code) in CODES {
-        let style = ContentStyle {
-            attributes: Attributes::from(attribute),
-            ..ContentStyle::default()
-        };
-        let alone = format!(in alloc; "\x1b[{code}mx\x1b[0m")?;
-        assert!(rt; piece(alloc, style, "x")?.0.as_str() == alone.as_str());
-        all.set(attribute);
-        write!(bytes, "\x1b[{code}m")?;
+        let style = style_of(Attributes::from(*attribute));
+        let bytes = format!(in alloc; "\x1b[{code}mx\x1b[0m")?;
+        assert!(rt; is_piece(alloc, style, "x", bytes.as_str())?, "{code}");
     }
-    let style = ContentStyle {
-        attributes: all,
-        ..ContentStyle::default()
-    };
-    bytes.push_str("x\x1b[0m")?;
-    assert!(rt; piece(alloc, style, "x")?.0.as_str() == bytes.as_str());
     Ok(())
 }
 
 #[test]
-fn pieces_have_the_parts_that_are_present(rt: HostRuntime) -> Result<(), Fail> {
+fn all_attributes_come_in_order(rt: HostRuntime) -> Result<(), Fail> {
     let alloc = rt.alloc();
-    let nothing = ContentStyle::default();
-    let foreground = ContentStyle {
-        foreground_color: Some(Color::DarkGreen),
-        ..nothing
-    };
-    let background = ContentStyle {
-        background_color: Some(Color::DarkRed),
-        ..nothing
-    };
-    let colored = ContentStyle {
-        foreground_color: Some(Color::DarkGreen),
-        background_color: Some(Color::DarkRed),
-        ..nothing
-    };
+    let mut all = Attributes::default();
+    let mut bytes = String::new(alloc);
+    for (attribute, code) in CODES {
+        all.set(*attribute);
+        write!(bytes, "\x1b[{code}m")?;
+    }
+    bytes.push_str("x\x1b[0m")?;
+    assert!(rt; is_piece(alloc, style_of(all), "x", bytes.as_str())?);
+    Ok(())
+}
+
+// Foregrounds, backgrounds and contents of pieces, and their bytes.
+const COLORED: &[(Option<Color>, Option<Color>, &str, &str)] = &[
+    (None, None, "a b", "a b"),
+    (None, None, "", ""),
+    (GREEN, None, "x", "\x1b[38;5;2mx\x1b[39m"),
+    (None, RED, "x", "\x1b[48;5;1mx\x1b[49m"),
+    (GREEN, RED, "x", "\x1b[48;5;1m\x1b[38;5;2mx\x1b[49m\x1b[39m"),
+    (GREEN, RED, "", "\x1b[48;5;1m\x1b[38;5;2m\x1b[49m\x1b[39m"),
+];
+
+const GREEN: Option<Color> = Some(Color::DarkGreen);
+
+const RED: Option<Color> = Some(Color::DarkRed);
+
+#[test]
+fn pieces_have_the_parts_that_are_present(rt: HostRuntime) -> Result<(), Fail> {
+    for (foreground, background, content, bytes) in COLORED {
+        let style = ContentStyle {
+            foreground_color: *foreground,
+            background_color: *background,
+            ..ContentStyle::default()
+        };
+        assert!(rt; is_piece(rt.alloc(), style, content, bytes)?, "{bytes:?}");
+    }
+    Ok(())
+}
+
+#[test]
+fn pieces_may_have_all_parts(rt: HostRuntime) -> Result<(), Fail> {
+    let alloc = rt.alloc();
     let reset = ContentStyle {
         foreground_color: Some(Color::Reset),
         background_color: Some(Color::Reset),
         underline_color: Some(Color::Reset),
-        ..nothing
+        ..ContentStyle::default()
     };
+    assert!(rt; is_piece(alloc, reset, "x", "\x1b[49m\x1b[39m\x1b[59mx\x1b[0m")?);
     let whole = ContentStyle {
         foreground_color: Some(Color::Rgb { r: 1, g: 2, b: 3 }),
         background_color: Some(Color::DarkBlue),
         underline_color: Some(Color::AnsiValue(200)),
         attributes: set_of(&[Attribute::OverLined, Attribute::Bold]),
     };
-    let cases = [
-        (nothing, "a b", "a b"),
-        (nothing, "", ""),
-        (foreground, "x", "\x1b[38;5;2mx\x1b[39m"),
-        (background, "x", "\x1b[48;5;1mx\x1b[49m"),
-        (colored, "x", "\x1b[48;5;1m\x1b[38;5;2mx\x1b[49m\x1b[39m"),
-        (colored, "", "\x1b[48;5;1m\x1b[38;5;2m\x1b[49m\x1b[39m"),
-        (reset, "x", "\x1b[49m\x1b[39m\x1b[59mx\x1b[0m"),
-        (
-            whole,
-            "a\u{4e00}",
-            "\x1b[48;5;4m\x1b[38;2;1;2;3m\x1b[58;5;200m\x1b[1m\x1b[53ma\u{4e00}\x1b[0m",
-        ),
-    ];
-    for (style, content, bytes) in cases {
-        let (row, same) = piece(alloc, style, content)?;
-        assert!(rt; row.as_str() == bytes);
-        assert!(rt; same);
-    }
+    let bytes = "\x1b[48;5;4m\x1b[38;2;1;2;3m\x1b[58;5;200m\x1b[1m\x1b[53ma\u{4e00}\x1b[0m";
+    assert!(rt; is_piece(alloc, whole, "a\u{4e00}", bytes)?);
     Ok(())
 }
 
@@ -186,8 +203,10 @@ fn a_number_in_a_style_is_a_piece_of_its_digits(rt: HostRuntime) -> Result<(), F
         (blue, u32::MAX, "\x1b[48;5;12m\x1b[1m4294967295\x1b[0m"),
     ];
     for (style, number, bytes) in cases {
-        let shown = StyledNumber { style, number }.to_string(alloc)?;
-        assert!(rt; shown.as_str() == bytes, "{number}");
+        assert!(rt;
+            shows(alloc, &StyledNumber { style, number }, bytes)?,
+            "{number}"
+        );
     }
     Ok(())
 }
