@@ -3,7 +3,10 @@
 ghost use Rattle.std.specs.Prelude.{IfOk};
 ghost use Rattle.mad_layout.specs.Wraps.{IsMeasured};
 
-use mad_layout::{FmtComposite, MadSkin, check_wrap_bound, hard_wrap_composite, wrap_bound};
+use crate::shown::assert_text;
+use mad_layout::{
+    FmtComposite, MadSkin, WrapBound, check_wrap_bound, hard_wrap_composite, wrap_bound,
+};
 use mad_md::{Alignment, Composite, CompositeStyle};
 use mad_style::{CompoundStyle, LineStyle, ListItemsIndentationMode};
 use mad_term::Error;
@@ -90,7 +93,7 @@ pub fn assert_wrap(
     for line in &hard_wrap_composite(alloc, composite, width, skin)? {
         push_picture(&mut picture, line)?;
     }
-    assert_eq!(rt; picture.as_str(), wanted);
+    assert_text(rt, picture.as_str(), wanted);
     Ok(())
 }
 
@@ -104,8 +107,41 @@ pub fn assert_bound(
     wanted: &[usize],
 ) -> Result<(), Error> {
     let bound = wrap_bound(alloc, composite, width, skin)?;
-    assert_eq!(rt; bound.starts.as_slice(), wanted);
+    assert!(rt; bound.starts.as_slice() == wanted, "{wanted:?}");
     assert!(rt; check_wrap_bound(composite, width, skin, &bound)?);
+    Ok(())
+}
+
+/// A text, a width, what it is wrapped into as a picture, and where the lines of its bound start.
+pub type Wrap = (&'static str, usize, &'static str, &'static [usize]);
+
+/// Asserts what lines of a kind are wrapped into in a mode of items, and where the lines of their bounds start.
+pub fn assert_wraps(
+    rt: &impl Abort,
+    alloc: Global,
+    style: CompositeStyle,
+    mode: ListItemsIndentationMode,
+    wraps: &[Wrap],
+) -> Result<(), Error> {
+    let skin = skin_with(0, 0, mode);
+    for (text, width, wanted, starts) in wraps {
+        let composite = composite(alloc, text, style, &skin)?;
+        assert_wrap(rt, alloc, &composite, *width, &skin, wanted)?;
+        assert_bound(rt, alloc, &composite, *width, &skin, starts)?;
+    }
+    Ok(())
+}
+
+/// Asserts which starts of lines a composite's check at five columns passes.
+pub fn assert_checked(
+    rt: &impl Abort,
+    composite: &FmtComposite,
+    skin: &MadSkin,
+    starts: Vec<usize>,
+    wanted: bool,
+) -> Result<(), Error> {
+    let bound = WrapBound { starts };
+    assert!(rt; check_wrap_bound(composite, 5, skin, &bound)? == wanted);
     Ok(())
 }
 

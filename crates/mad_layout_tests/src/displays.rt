@@ -1,6 +1,7 @@
 //! Texts displayed and drawn: rows of several lines, and where a line stands in a wider place.
 
 use crate::composites::skin_with;
+use crate::shown::{assert_displayed, assert_taken};
 use mad_fit::{Area, Spacing};
 use mad_layout::{FmtComposite, FmtLine, FmtText, MadSkin, draw_text};
 use mad_md::{Alignment, Compound};
@@ -9,34 +10,44 @@ use mad_term::{Color, CutOut, Error};
 use std::alloc::{AllocError, Global};
 use std::process::Abort;
 
+// A text, its width, and what is displayed of it without style.
+const SEVERAL_LINES: &[(&str, Option<usize>, &str)] = &[
+    ("aaa bb cc", Some(5), "aaa \nbb cc\n"),
+    ("a\r\nb\r", Some(10), "a\nb\n"),
+    ("a\n\nb\n", None, "a\n\nb\n"),
+    ("", Some(10), ""),
+];
+
 #[test]
 fn texts_of_several_lines(rt: HostRuntime) -> Result<(), Error> {
     let alloc = rt.alloc();
-    let plain = MadSkin::no_style();
-    let styled = MadSkin::default();
-    let rows = [
-        (&plain, "aaa bb cc", Some(5), "aaa \nbb cc\n"),
-        (&plain, "a\r\nb\r", Some(10), "a\nb\n"),
-        (&plain, "a\n\nb\n", None, "a\n\nb\n"),
-        (&plain, "", Some(10), ""),
-        (
-            &styled,
-            "**aa bb** `c`\n~~d~~",
-            Some(4),
-            concat!(
-                "\u{1b}[1maa\u{1b}[0m\u{1b}[1m \u{1b}[0m\n",
-                "\u{1b}[1mbb\u{1b}[0m \u{1b}[48;5;235m\u{1b}[38;5;249mc\u{1b}[49m\u{1b}[39m\n",
-                "\u{1b}[9md\u{1b}[0m\n"
-            ),
-        ),
-    ];
-    for (skin, source, width, wanted) in rows {
-        let text = FmtText::from(alloc, skin, source, width)?;
-        assert_eq!(rt; text.to_string(alloc)?.as_str(), wanted);
+    let skin = MadSkin::no_style();
+    for (source, width, wanted) in SEVERAL_LINES {
+        let text = FmtText::from(alloc, &skin, source, *width)?;
+        assert_displayed(&rt, alloc, &text, wanted)?;
     }
-    let raw = FmtText::raw_str(alloc, &styled, "**a** `b`\nc", Some(7))?;
-    assert_eq!(rt; raw.to_string(alloc)?.as_str(), "**a** \n`b`\nc\n");
     Ok(())
+}
+
+#[test]
+fn marks_in_several_lines(rt: HostRuntime) -> Result<(), Error> {
+    let alloc = rt.alloc();
+    let skin = MadSkin::default();
+    let wanted = concat!(
+        "\u{1b}[1maa\u{1b}[0m\u{1b}[1m \u{1b}[0m\n",
+        "\u{1b}[1mbb\u{1b}[0m \u{1b}[48;5;235m\u{1b}[38;5;249mc\u{1b}[49m\u{1b}[39m\n",
+        "\u{1b}[9md\u{1b}[0m\n"
+    );
+    let text = FmtText::from(alloc, &skin, "**aa bb** `c`\n~~d~~", Some(4))?;
+    Ok(assert_displayed(&rt, alloc, &text, wanted)?)
+}
+
+#[test]
+fn marks_that_are_not_read(rt: HostRuntime) -> Result<(), Error> {
+    let alloc = rt.alloc();
+    let skin = MadSkin::default();
+    let text = FmtText::raw_str(alloc, &skin, "**a** `b`\nc", Some(7))?;
+    Ok(assert_displayed(&rt, alloc, &text, "**a** \n`b`\nc\n")?)
 }
 
 // A skin of red paragraphs with this align and these margins, and green code with this align.
@@ -78,37 +89,39 @@ fn assert_placed(
 ) -> Result<(), Error> {
     let mut displayed = String::from_str(alloc, shown)?;
     displayed.push_str("\n")?;
-    assert_eq!(rt; text.to_string(alloc)?.as_str(), displayed.as_str());
+    assert_displayed(rt, alloc, text, displayed.as_str())?;
     let mut drawn = String::from_str(alloc, "\u{1b}[1;1H")?;
     drawn.push_str(shown)?;
     drawn.push_str(right)?;
     let mut out = CutOut::new(alloc, 200, 200, false)?;
     draw_text(alloc, &mut out, text, &Area::new(0, 0, 13, 1), 0)?;
-    assert!(rt; out.taken() == drawn.as_bytes(), "{shown}");
+    assert_taken(rt, &out, drawn.as_str());
     Ok(())
 }
+
+// How a text stands in thirteen columns with margins, and what is left and right of it.
+const IN_A_WIDER_PLACE: &[(Alignment, (usize, usize), &str, &str)] = &[
+    (Alignment::Unspecified, (0, 0), "abcd", "         "),
+    (Alignment::Left, (0, 0), "abcd", "         "),
+    // The odd column is right.
+    (Alignment::Center, (0, 0), "    abcd", "     "),
+    (Alignment::Right, (0, 0), "         abcd", ""),
+    (Alignment::Unspecified, (4, 4), "    abcd", "     "),
+    (Alignment::Center, (4, 4), "    abcd", "     "),
+    (Alignment::Right, (4, 4), "     abcd", "    "),
+    (Alignment::Center, (4, 0), "      abcd", "   "),
+    // Margins that leave less than three columns are none.
+    (Alignment::Unspecified, (7, 4), "abcd", "         "),
+    // Those that leave three are kept, and the line is too wide.
+    (Alignment::Right, (6, 4), "      abcd", "    "),
+];
 
 #[test]
 fn lines_in_a_wider_place(rt: HostRuntime) -> Result<(), Error> {
     let alloc = rt.alloc();
-    let rows = [
-        (Alignment::Unspecified, (0, 0), "abcd", "         "),
-        (Alignment::Left, (0, 0), "abcd", "         "),
-        // The odd column is right.
-        (Alignment::Center, (0, 0), "    abcd", "     "),
-        (Alignment::Right, (0, 0), "         abcd", ""),
-        (Alignment::Unspecified, (4, 4), "    abcd", "     "),
-        (Alignment::Center, (4, 4), "    abcd", "     "),
-        (Alignment::Right, (4, 4), "     abcd", "    "),
-        (Alignment::Center, (4, 0), "      abcd", "   "),
-        // Margins that leave less than three columns are none.
-        (Alignment::Unspecified, (7, 4), "abcd", "         "),
-        // Those that leave three are kept, and the line is too wide.
-        (Alignment::Right, (6, 4), "      abcd", "    "),
-    ];
-    for (align, margins, shown, right) in rows {
+    for (align, margins, shown, right) in IN_A_WIDER_PLACE {
         let mut skin = skin_with(margins.0, margins.1, ListItemsIndentationMode::Block);
-        skin.paragraph.align = align;
+        skin.paragraph.align = *align;
         let text = placed(alloc, &skin, CompositeKind::Paragraph, None, 13)?;
         assert_placed(&rt, alloc, &text, shown, right)?;
     }
@@ -116,7 +129,7 @@ fn lines_in_a_wider_place(rt: HostRuntime) -> Result<(), Error> {
 }
 
 // How a text stands in nine columns, how these stand in thirteen with margins, and what is left and right of them.
-const PLACED: [(Alignment, Alignment, (usize, usize), &str, &str); 7] = [
+const PLACED: &[(Alignment, Alignment, (usize, usize), &str, &str)] = &[
     (
         Alignment::Center,
         Alignment::Left,
@@ -173,10 +186,10 @@ fn lines_in_a_place_of_their_own(rt: HostRuntime) -> Result<(), Error> {
     let alloc = rt.alloc();
     for (inner, outer, margins, shown, right) in PLACED {
         let mut skin = skin_with(margins.0, margins.1, ListItemsIndentationMode::Block);
-        skin.paragraph.align = outer;
+        skin.paragraph.align = *outer;
         let spacing = Spacing {
             width: 9,
-            align: inner,
+            align: *inner,
         };
         let text = placed(alloc, &skin, CompositeKind::Paragraph, Some(spacing), 13)?;
         assert_placed(&rt, alloc, &text, shown, right)?;
@@ -184,6 +197,7 @@ fn lines_in_a_place_of_their_own(rt: HostRuntime) -> Result<(), Error> {
     Ok(())
 }
 
+// The place's own blanks are in the line's style, and those round it in the paragraph's.
 #[test]
 fn styles_of_the_blanks_beside_a_line(rt: HostRuntime) -> Result<(), Error> {
     let alloc = rt.alloc();
@@ -191,74 +205,82 @@ fn styles_of_the_blanks_beside_a_line(rt: HostRuntime) -> Result<(), Error> {
         width: 9,
         align: Alignment::Center,
     };
-    // The place's own blanks are in the line's style, and those round it in the paragraph's.
     let skin = colored_skin(Alignment::Left, (0, 0), Alignment::Center);
     let text = placed(alloc, &skin, CompositeKind::Code, Some(spacing), 13)?;
     let shown = concat!(
         "\u{1b}[38;5;9m  \u{1b}[39m",
         "\u{1b}[38;5;10m  \u{1b}[39m\u{1b}[38;5;10mabcd\u{1b}[39m\u{1b}[38;5;10m   \u{1b}[39m"
     );
-    assert_placed(&rt, alloc, &text, shown, "\u{1b}[38;5;9m  \u{1b}[39m")?;
-    // A completion and a margin are one piece.
+    assert_placed(&rt, alloc, &text, shown, "\u{1b}[38;5;9m  \u{1b}[39m")
+}
+
+#[test]
+fn a_completion_and_a_margin_are_one_piece(rt: HostRuntime) -> Result<(), Error> {
+    let alloc = rt.alloc();
     let skin = colored_skin(Alignment::Right, (2, 3), Alignment::Left);
     let text = placed(alloc, &skin, CompositeKind::Paragraph, None, 13)?;
     let shown = "\u{1b}[38;5;9m      \u{1b}[39m\u{1b}[38;5;9mabcd\u{1b}[39m";
     assert_placed(&rt, alloc, &text, shown, "\u{1b}[38;5;9m   \u{1b}[39m")
 }
 
+// The columns of an area of two rows, and what is written there of `abcdefgh` with margins of four.
+const MARGINS_OF_A_LAYOUT: &[(u16, &str)] = &[
+    // The layout's ten columns have no room for margins, the area's eleven would have.
+    (11, "\u{1b}[1;1Habcdefgh   \u{1b}[2;1H           "),
+    (12, "\u{1b}[1;1H    abc     \u{1b}[2;1H    def     "),
+    (
+        18,
+        "\u{1b}[1;1H    abcdefgh      \u{1b}[2;1H                  ",
+    ),
+];
+
 #[test]
 fn margins_of_a_layout_are_kept(rt: HostRuntime) -> Result<(), Error> {
     let alloc = rt.alloc();
     let skin = skin_with(4, 4, ListItemsIndentationMode::Block);
-    let rows = [
-        // The layout's ten columns have no room for margins, the area's eleven would have.
-        (11, "\u{1b}[1;1Habcdefgh   \u{1b}[2;1H           "),
-        (12, "\u{1b}[1;1H    abc     \u{1b}[2;1H    def     "),
-        (
-            18,
-            "\u{1b}[1;1H    abcdefgh      \u{1b}[2;1H                  ",
-        ),
-    ];
-    for (width, wanted) in rows {
-        let area = Area::new(0, 0, width, 2);
+    for (width, wanted) in MARGINS_OF_A_LAYOUT {
+        let area = Area::new(0, 0, *width, 2);
         let mut out = CutOut::new(alloc, 100, 100, false)?;
         skin.write_in_area_on(alloc, &mut out, "abcdefgh", &area)?;
-        assert!(rt; out.taken() == wanted.as_bytes(), "{width}");
+        assert_taken(&rt, &out, wanted);
     }
     Ok(())
 }
 
-#[test]
-fn a_block_of_code_lines(rt: HostRuntime) -> Result<(), Error> {
-    let alloc = rt.alloc();
-    let rows = [
-        (MadSkin::no_style(), "a  \nbbb\n"),
-        (
-            MadSkin::default(),
-            concat!(
-                "\u{1b}[48;5;235m\u{1b}[38;5;249ma\u{1b}[49m\u{1b}[39m",
-                "\u{1b}[48;5;235m\u{1b}[38;5;249m  \u{1b}[49m\u{1b}[39m\n",
-                "\u{1b}[48;5;235m\u{1b}[38;5;249mbbb\u{1b}[49m\u{1b}[39m\n"
-            ),
-        ),
-    ];
-    for (skin, wanted) in rows {
-        let mut lines = Vec::new(alloc);
-        for code in ["a", "bbb"] {
-            let mut composite = FmtComposite::from_compound(alloc, Compound::raw_str(code))?;
-            composite.kind = CompositeKind::Code;
-            composite.spacing = Some(Spacing {
-                width: 3,
-                align: Alignment::Left,
-            });
-            lines.push(FmtLine::Normal(composite))?;
-        }
-        let text = FmtText {
-            skin: &skin,
-            lines,
-            width: Some(10),
-        };
-        assert_eq!(rt; text.to_string(alloc)?.as_str(), wanted);
+// A text of two lines of code in a place of three columns.
+fn block<'k>(alloc: Global, skin: &'k MadSkin) -> Result<FmtText<'k, 'static>, AllocError> {
+    let mut lines = Vec::new(alloc);
+    for code in ["a", "bbb"] {
+        let mut composite = FmtComposite::from_compound(alloc, Compound::raw_str(code))?;
+        composite.kind = CompositeKind::Code;
+        composite.spacing = Some(Spacing {
+            width: 3,
+            align: Alignment::Left,
+        });
+        lines.push(FmtLine::Normal(composite))?;
     }
-    Ok(())
+    Ok(FmtText {
+        skin,
+        lines,
+        width: Some(10),
+    })
+}
+
+#[test]
+fn a_block_of_code_lines(rt: HostRuntime) -> Result<(), AllocError> {
+    let alloc = rt.alloc();
+    let skin = MadSkin::no_style();
+    assert_displayed(&rt, alloc, &block(alloc, &skin)?, "a  \nbbb\n")
+}
+
+#[test]
+fn a_block_of_code_lines_in_its_style(rt: HostRuntime) -> Result<(), AllocError> {
+    let alloc = rt.alloc();
+    let skin = MadSkin::default();
+    let wanted = concat!(
+        "\u{1b}[48;5;235m\u{1b}[38;5;249ma\u{1b}[49m\u{1b}[39m",
+        "\u{1b}[48;5;235m\u{1b}[38;5;249m  \u{1b}[49m\u{1b}[39m\n",
+        "\u{1b}[48;5;235m\u{1b}[38;5;249mbbb\u{1b}[49m\u{1b}[39m\n"
+    );
+    assert_displayed(&rt, alloc, &block(alloc, &skin)?, wanted)
 }

@@ -20,6 +20,8 @@ mod made;
 #[cfg(test)]
 mod marks;
 #[cfg(test)]
+mod shown;
+#[cfg(test)]
 mod styles;
 #[cfg(test)]
 mod table_layouts;

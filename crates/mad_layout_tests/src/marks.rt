@@ -1,6 +1,7 @@
 //! Marks in front of lines: bullets, numbers, quote marks, and the blanks that stand for them in lines that follow.
 
 use crate::composites::{composite, skin_with};
+use crate::shown::{assert_count, assert_displayed, assert_taken};
 use mad_fit::Area;
 use mad_layout::{FmtComposite, FmtLine, FmtText, MadSkin, draw_text, hard_wrap_lines};
 use mad_md::{Composite, CompositeStyle, Compound};
@@ -58,7 +59,7 @@ const NESTED_TWELFTH: CompositeStyle = CompositeStyle::OrderedListItem {
 };
 
 // A text, the width that it is wrapped at, and what is displayed of it.
-const DISPLAYED: [(Look, CompositeStyle, &str, usize, &str); 11] = [
+const DISPLAYED: &[(Look, CompositeStyle, &str, usize, &str)] = &[
     (Look::Plain, ITEM, "abcdef gh", 8, "• abcdef\n  gh\n"),
     (Look::Plain, SECOND_ITEM, "abc def", 6, " • abc\n   def\n"),
     (Look::Plain, THIRD_ITEM, "ab", 8, "  • ab\n"),
@@ -91,7 +92,7 @@ const DISPLAYED: [(Look, CompositeStyle, &str, usize, &str); 11] = [
 ];
 
 // The same in the default skin.
-const DISPLAYED_BY_DEFAULT: [(Look, CompositeStyle, &str, usize, &str); 7] = [
+const DISPLAYED_BY_DEFAULT: &[(Look, CompositeStyle, &str, usize, &str)] = &[
     (
         Look::Default,
         ITEM,
@@ -162,7 +163,7 @@ fn laid_out<'k, 's>(
     })
 }
 
-fn assert_displayed(
+fn assert_rows_displayed(
     rt: &impl Abort,
     alloc: Global,
     rows: &[(Look, CompositeStyle, &str, usize, &str)],
@@ -170,19 +171,23 @@ fn assert_displayed(
     for (look, style, text, width, wanted) in rows {
         let skin = skin_of(*look);
         let text = laid_out(alloc, &skin, *style, text, *width)?;
-        assert_eq!(rt; text.to_string(alloc)?.as_str(), *wanted);
+        assert_displayed(rt, alloc, &text, wanted)?;
     }
     Ok(())
 }
 
 #[test]
 fn marked_lines_displayed(rt: HostRuntime) -> Result<(), Error> {
-    assert_displayed(&rt, rt.alloc(), &DISPLAYED)?;
-    assert_displayed(&rt, rt.alloc(), &DISPLAYED_BY_DEFAULT)
+    assert_rows_displayed(&rt, rt.alloc(), DISPLAYED)
+}
+
+#[test]
+fn marked_lines_displayed_by_default(rt: HostRuntime) -> Result<(), Error> {
+    assert_rows_displayed(&rt, rt.alloc(), DISPLAYED_BY_DEFAULT)
 }
 
 // A text that is wrapped at eight columns, and what is drawn of it in two rows of nine.
-const DRAWN: [(Look, CompositeStyle, &str, &str); 5] = [
+const DRAWN: &[(Look, CompositeStyle, &str, &str)] = &[
     (
         Look::Plain,
         ITEM,
@@ -220,11 +225,11 @@ fn marked_lines_drawn(rt: HostRuntime) -> Result<(), Error> {
     let alloc = rt.alloc();
     let area = Area::new(2, 1, 9, 2);
     for (look, style, text, wanted) in DRAWN {
-        let skin = skin_of(look);
-        let text = laid_out(alloc, &skin, style, text, 8)?;
+        let skin = skin_of(*look);
+        let text = laid_out(alloc, &skin, *style, text, 8)?;
         let mut out = CutOut::new(alloc, 11, 100, false)?;
         draw_text(alloc, &mut out, &text, &area, 0)?;
-        assert!(rt; out.taken() == wanted.as_bytes(), "{style:?}");
+        assert_taken(&rt, &out, wanted);
     }
     Ok(())
 }
@@ -240,7 +245,7 @@ fn written<'s>(
 }
 
 // What is written of `abcd` by itself.
-const BY_THEMSELVES: [(Look, CompositeStyle, &str); 9] = [
+const BY_THEMSELVES: &[(Look, CompositeStyle, &str)] = &[
     (Look::Default, ITEM, "\u{1b}[38;5;240m•\u{1b}[39m abcd"),
     (
         Look::Default,
@@ -280,59 +285,71 @@ const BY_THEMSELVES: [(Look, CompositeStyle, &str); 9] = [
 ];
 
 #[test]
-fn composites_by_themselves(rt: HostRuntime) -> Result<(), Error> {
+fn composites_written_by_themselves(rt: HostRuntime) -> Result<(), Error> {
     let alloc = rt.alloc();
     for (look, style, wanted) in BY_THEMSELVES {
-        let skin = skin_of(look);
-        let composite = written(alloc, style, Compound::raw_str("abcd"))?;
-        for prints in [false, true] {
-            let mut out = CutOut::new(alloc, 11, 100, false)?;
-            if prints {
-                skin.print_composite(alloc, &mut out, &composite)?;
-            } else {
-                skin.write_composite(alloc, &mut out, &composite)?;
-            }
-            assert!(rt; out.taken() == wanted.as_bytes(), "{style:?}");
-        }
+        let composite = written(alloc, *style, Compound::raw_str("abcd"))?;
+        let mut out = CutOut::new(alloc, 11, 100, false)?;
+        skin_of(*look).write_composite(alloc, &mut out, &composite)?;
+        assert_taken(&rt, &out, wanted);
     }
     Ok(())
 }
 
 #[test]
-fn blanks_that_stand_for_a_mark(rt: HostRuntime) -> Result<(), Error> {
+fn composites_printed_by_themselves(rt: HostRuntime) -> Result<(), Error> {
     let alloc = rt.alloc();
-    let colored = colored_skin();
-    let first_only = MadSkin {
-        list_items_indentation_mode: ListItemsIndentationMode::FirstLineOnly,
-        ..colored_skin()
-    };
-    let space = "\u{1b}[38;5;9m \u{1b}[39m";
-    let item = CompositeKind::ListItemFollowUp(1);
-    let number = CompositeKind::OrderedListItemFollowUp {
-        level: 0,
-        index: 12,
-    };
-    let rows = [
-        (&colored, item, 3),
-        (&colored, number, 4),
-        (&first_only, item, 0),
-        (&first_only, number, 0),
-    ];
-    for (skin, kind, spaces) in rows {
-        let mut composite = FmtComposite::from_compound(alloc, Compound::raw_str("ab"))?;
-        composite.kind = kind;
-        composite.recompute_width(skin);
-        assert_eq!(rt; composite.visible_length, spaces + 2);
-        let mut lines = Vec::new(alloc);
-        lines.push(FmtLine::Normal(composite))?;
-        let text = FmtText {
-            skin,
-            lines,
-            width: None,
-        };
-        let mut wanted = space.repeat(alloc, spaces)?;
-        wanted.push_str("\u{1b}[38;5;9mab\u{1b}[39m\n")?;
-        assert_eq!(rt; text.to_string(alloc)?.as_str(), wanted.as_str());
+    for (look, style, wanted) in BY_THEMSELVES {
+        let composite = written(alloc, *style, Compound::raw_str("abcd"))?;
+        let mut out = CutOut::new(alloc, 11, 100, false)?;
+        skin_of(*look).print_composite(alloc, &mut out, &composite)?;
+        assert_taken(&rt, &out, wanted);
     }
     Ok(())
+}
+
+const FOLLOW_UP: CompositeKind = CompositeKind::ListItemFollowUp(1);
+
+const NUMBERED_FOLLOW_UP: CompositeKind = CompositeKind::OrderedListItemFollowUp {
+    level: 0,
+    index: 12,
+};
+
+// Asserts that a line of this kind has spaces in the paragraph's red in front.
+fn assert_spaces(
+    rt: &impl Abort,
+    alloc: Global,
+    skin: &MadSkin,
+    kind: CompositeKind,
+    spaces: usize,
+) -> Result<(), AllocError> {
+    let mut composite = FmtComposite::from_compound(alloc, Compound::raw_str("ab"))?;
+    composite.kind = kind;
+    composite.recompute_width(skin);
+    assert_count(rt, composite.visible_length, spaces.saturating_add(2));
+    let mut lines = Vec::new(alloc);
+    lines.push(FmtLine::Normal(composite))?;
+    let text = FmtText {
+        skin,
+        lines,
+        width: None,
+    };
+    let mut wanted = "\u{1b}[38;5;9m \u{1b}[39m".repeat(alloc, spaces)?;
+    wanted.push_str("\u{1b}[38;5;9mab\u{1b}[39m\n")?;
+    assert_displayed(rt, alloc, &text, wanted.as_str())
+}
+
+#[test]
+fn blanks_that_stand_for_a_mark(rt: HostRuntime) -> Result<(), AllocError> {
+    let skin = colored_skin();
+    assert_spaces(&rt, rt.alloc(), &skin, FOLLOW_UP, 3)?;
+    assert_spaces(&rt, rt.alloc(), &skin, NUMBERED_FOLLOW_UP, 4)
+}
+
+#[test]
+fn no_blanks_after_the_first_line_only(rt: HostRuntime) -> Result<(), AllocError> {
+    let mut skin = colored_skin();
+    skin.list_items_indentation_mode = ListItemsIndentationMode::FirstLineOnly;
+    assert_spaces(&rt, rt.alloc(), &skin, FOLLOW_UP, 0)?;
+    assert_spaces(&rt, rt.alloc(), &skin, NUMBERED_FOLLOW_UP, 0)
 }

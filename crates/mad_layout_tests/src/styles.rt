@@ -1,5 +1,6 @@
 //! The skins that are made, and the styles of a text's parts.
 
+use crate::shown::assert_displayed;
 use mad_layout::{FmtText, MadSkin};
 use mad_md::{Alignment, Compound};
 use mad_style::{CompositeKind, CompoundStyle, LineStyle, ListItemsIndentationMode, StyledChar};
@@ -167,6 +168,14 @@ fn an_ellipsis_has_its_own_style(rt: HostRuntime) {
     }
 }
 
+// A text, its width, and what is displayed of it with red ellipses.
+const ELLIPSES: &[(&str, usize, &str)] = &[
+    // In a wrapped line the ellipsis is a compound of its own, in one that fits it isn't.
+    ("aaaa … bbbb", 8, "aaaa \u{1b}[38;5;9m…\u{1b}[39m \nbbbb\n"),
+    ("aaaa … bbbb", 11, "aaaa … bbbb\n"),
+    ("a*…*b", 8, "a\u{1b}[38;5;9m…\u{1b}[39mb\n"),
+];
+
 #[test]
 fn ellipses_in_lines_that_are_wrapped(rt: HostRuntime) -> Result<(), Error> {
     let alloc = rt.alloc();
@@ -174,15 +183,9 @@ fn ellipses_in_lines_that_are_wrapped(rt: HostRuntime) -> Result<(), Error> {
         ellipsis: CompoundStyle::with_fg(Color::Red),
         ..MadSkin::no_style()
     };
-    let rows = [
-        // In a wrapped line the ellipsis is a compound of its own, in one that fits it isn't.
-        ("aaaa … bbbb", 8, "aaaa \u{1b}[38;5;9m…\u{1b}[39m \nbbbb\n"),
-        ("aaaa … bbbb", 11, "aaaa … bbbb\n"),
-        ("a*…*b", 8, "a\u{1b}[38;5;9m…\u{1b}[39mb\n"),
-    ];
-    for (source, width, wanted) in rows {
-        let text = FmtText::from(alloc, &skin, source, Some(width))?;
-        assert_eq!(rt; text.to_string(alloc)?.as_str(), wanted);
+    for (source, width, wanted) in ELLIPSES {
+        let text = FmtText::from(alloc, &skin, source, Some(*width))?;
+        assert_displayed(&rt, alloc, &text, wanted)?;
     }
     Ok(())
 }

@@ -1,11 +1,15 @@
 //! Lines of tables displayed and drawn: cells in their columns, borders and rules.
 
+use crate::shown::{assert_displayed, assert_taken};
 use mad_fit::{Area, Spacing};
 use mad_layout::{
     FmtComposite, FmtLine, FmtTableRow, FmtTableRule, FmtText, MadSkin, RelativePosition, draw_text,
 };
 use mad_md::{Alignment, Composite, CompositeStyle};
-use mad_style::{ASCII_TABLE_BORDER_CHARS, ROUNDED_TABLE_BORDER_CHARS};
+use mad_style::{
+    ASCII_TABLE_BORDER_CHARS, ROUNDED_TABLE_BORDER_CHARS, STANDARD_TABLE_BORDER_CHARS,
+    TableBorderChars,
+};
 use mad_term::{Color, CutOut, Error};
 use std::alloc::{AllocError, Global};
 use std::process::Abort;
@@ -70,11 +74,11 @@ fn assert_rows(
         drawn.push_str(to_row)?;
         drawn.push_str(row)?;
     }
-    assert_eq!(rt; text.to_string(alloc)?.as_str(), displayed.as_str());
+    assert_displayed(rt, alloc, &text, displayed.as_str())?;
     let mut out = CutOut::new(alloc, 1000, 1000, false)?;
     let area = Area::new(0, 0, width.into(), height.into());
     draw_text(alloc, &mut out, &text, &area, 0)?;
-    assert!(rt; out.taken() == drawn.as_bytes(), "{drawn}");
+    assert_taken(rt, &out, drawn.as_str());
     Ok(())
 }
 
@@ -108,82 +112,105 @@ fn a_table_without_columns(rt: HostRuntime) -> Result<(), Error> {
     assert_rows(&rt, alloc, &skin, lines, [4, 2], &rows)
 }
 
+const PLACES: &[RelativePosition] = &[
+    RelativePosition::Top,
+    RelativePosition::Other,
+    RelativePosition::Bottom,
+];
+
+// Asserts what the rules at each place of a table are with these characters.
+fn assert_rules(
+    rt: &impl Abort,
+    alloc: Global,
+    borders: TableBorderChars,
+    rows: &[&str],
+) -> Result<(), Error> {
+    let mut skin = MadSkin::no_style();
+    skin.table_border_chars = borders;
+    let mut lines = Vec::new(alloc);
+    for place in PLACES {
+        lines.push(rule(alloc, *place, &[3, 2, 1])?)?;
+    }
+    assert_rows(rt, alloc, &skin, lines, [10, 3], rows)
+}
+
 #[test]
 fn rules_at_each_place_of_a_table(rt: HostRuntime) -> Result<(), Error> {
-    let alloc = rt.alloc();
-    let mut rounded = MadSkin::no_style();
-    rounded.table_border_chars = ROUNDED_TABLE_BORDER_CHARS;
-    let mut ascii = MadSkin::no_style();
-    ascii.table_border_chars = ASCII_TABLE_BORDER_CHARS;
-    let places = [
-        RelativePosition::Top,
-        RelativePosition::Other,
-        RelativePosition::Bottom,
-    ];
-    let cases = [
-        (
-            MadSkin::no_style(),
-            ["┌───┬──┬─┐", "├───┼──┼─┤", "└───┴──┴─┘"],
-        ),
-        (rounded, ["╭───┬──┬─╮", "├───┼──┼─┤", "╰───┴──┴─╯"]),
-        (ascii, ["+---+--+-+", "+---+--+-+", "+---+--+-+"]),
-    ];
-    for (skin, rows) in cases {
-        let mut lines = Vec::new(alloc);
-        for place in places {
-            lines.push(rule(alloc, place, &[3, 2, 1])?)?;
-        }
-        assert_rows(&rt, alloc, &skin, lines, [10, 3], &rows)?;
-    }
-    Ok(())
+    let rows = ["┌───┬──┬─┐", "├───┼──┼─┤", "└───┴──┴─┘"];
+    assert_rules(&rt, rt.alloc(), STANDARD_TABLE_BORDER_CHARS, &rows)
 }
+
+#[test]
+fn rules_with_round_corners(rt: HostRuntime) -> Result<(), Error> {
+    let rows = ["╭───┬──┬─╮", "├───┼──┼─┤", "╰───┴──┴─╯"];
+    assert_rules(&rt, rt.alloc(), ROUNDED_TABLE_BORDER_CHARS, &rows)
+}
+
+#[test]
+fn rules_in_ascii(rt: HostRuntime) -> Result<(), Error> {
+    let rows = ["+---+--+-+", "+---+--+-+", "+---+--+-+"];
+    assert_rules(&rt, rt.alloc(), ASCII_TABLE_BORDER_CHARS, &rows)
+}
+
+// On which side a table of one column stands in a place of eight, and its row and its rule there.
+const IN_A_WIDER_PLACE: &[(Alignment, &str, &str)] = &[
+    (Alignment::Unspecified, "│a │    ", "├──┤    "),
+    (Alignment::Left, "│a │    ", "├──┤    "),
+    (Alignment::Center, "  │a │  ", "  ├──┤  "),
+    (Alignment::Right, "    │a │", "    ├──┤"),
+];
 
 #[test]
 fn tables_in_a_wider_place(rt: HostRuntime) -> Result<(), Error> {
     let alloc = rt.alloc();
-    let cases = [
-        (Alignment::Unspecified, "│a │    ", "├──┤    "),
-        (Alignment::Left, "│a │    ", "├──┤    "),
-        (Alignment::Center, "  │a │  ", "  ├──┤  "),
-        (Alignment::Right, "    │a │", "    ├──┤"),
-    ];
-    for (align, of_row, of_rule) in cases {
-        let mut skin = MadSkin::no_style();
-        skin.table.align = align;
-        // Margins of the table's style say nothing.
-        skin.table.left_margin = 1;
+    let mut skin = MadSkin::no_style();
+    // Margins of the table's style say nothing.
+    skin.table.left_margin = 1;
+    for (align, of_row, of_rule) in IN_A_WIDER_PLACE {
+        skin.table.align = *align;
         let mut lines = Vec::new(alloc);
         lines.push(row(alloc, &skin, &[("a", 2)], Alignment::Left)?)?;
         lines.push(rule(alloc, RelativePosition::Other, &[2])?)?;
-        assert_rows(&rt, alloc, &skin, lines, [8, 2], &[of_row, of_rule])?;
+        assert_rows(&rt, alloc, &skin, lines, [8, 2], &[*of_row, *of_rule])?;
     }
     Ok(())
 }
+
+// A row of one cell of this kind, six columns wide.
+fn row_of_kind(
+    alloc: Global,
+    skin: &MadSkin,
+    kind: CompositeStyle,
+) -> Result<FmtLine<'static>, AllocError> {
+    let mut read = Composite::from_inline(alloc, "概")?;
+    read.style = kind;
+    let mut cell = FmtComposite::from(read, skin);
+    cell.spacing = Some(Spacing {
+        width: 6,
+        align: Alignment::Left,
+    });
+    let mut row = FmtTableRow {
+        cells: Vec::new(alloc),
+    };
+    row.cells.push(cell)?;
+    Ok(FmtLine::TableRow(row))
+}
+
+// The kind of a cell, and its row.
+const KINDS: &[(CompositeStyle, &str)] = &[
+    (CompositeStyle::Paragraph, "│概    │ "),
+    (CompositeStyle::ListItem(0), "│• 概  │ "),
+    (CompositeStyle::Quote, "│▐ 概  │ "),
+];
 
 #[test]
 fn cells_of_all_kinds(rt: HostRuntime) -> Result<(), Error> {
     let alloc = rt.alloc();
     let skin = MadSkin::no_style();
-    let kinds = [
-        (CompositeStyle::Paragraph, "│概    │ "),
-        (CompositeStyle::ListItem(0), "│• 概  │ "),
-        (CompositeStyle::Quote, "│▐ 概  │ "),
-    ];
-    for (style, shown) in kinds {
-        let mut read = Composite::from_inline(alloc, "概")?;
-        read.style = style;
-        let mut cell = FmtComposite::from(read, &skin);
-        cell.spacing = Some(Spacing {
-            width: 6,
-            align: Alignment::Left,
-        });
+    for (kind, shown) in KINDS {
         let mut lines = Vec::new(alloc);
-        let mut row = FmtTableRow {
-            cells: Vec::new(alloc),
-        };
-        row.cells.push(cell)?;
-        lines.push(FmtLine::TableRow(row))?;
-        assert_rows(&rt, alloc, &skin, lines, [9, 1], &[shown])?;
+        lines.push(row_of_kind(alloc, &skin, *kind)?)?;
+        assert_rows(&rt, alloc, &skin, lines, [9, 1], &[*shown])?;
     }
     Ok(())
 }
@@ -208,6 +235,5 @@ fn styles_of_a_table(rt: HostRuntime) -> Result<(), Error> {
         "\u{1b}[38;5;9m┌\u{1b}[39m\u{1b}[38;5;9m──\u{1b}[39m\u{1b}[38;5;9m┬\u{1b}[39m",
         "\u{1b}[38;5;9m─\u{1b}[39m\u{1b}[38;5;9m┐\u{1b}[39m\n"
     );
-    assert_eq!(rt; text.to_string(alloc)?.as_str(), shown);
-    Ok(())
+    Ok(assert_displayed(&rt, alloc, &text, shown)?)
 }

@@ -1,11 +1,13 @@
 //! The worked rows: what composites are wrapped into, and their bounds.
 
 use crate::composites::{
-    assert_bound, assert_wrap, composite, is_refused, plain_skin, push_picture, skin_with,
+    Wrap, assert_bound, assert_checked, assert_wrap, assert_wraps, composite, is_refused,
+    plain_skin, push_picture, skin_with,
 };
+use crate::shown::{assert_count, assert_text};
 use mad_fit::Spacing;
 use mad_layout::{
-    FmtComposite, FmtLine, WrapBound, check_wrap_bound, composite_kind_widths, hard_wrap_composite,
+    FmtComposite, FmtLine, MadSkin, check_wrap_bound, composite_kind_widths, hard_wrap_composite,
     hard_wrap_lines, wrap_bound,
 };
 use mad_md::{Alignment, Composite, CompositeStyle, Compound, Line};
@@ -14,29 +16,24 @@ use mad_term::Error;
 use std::alloc::{AllocError, Global};
 use std::process::Abort;
 
+const PARAGRAPHS: &[Wrap] = &[
+    // The blanks that don't fit are dropped, and the word after them begins the next line.
+    ("abcdefgh   ab", 10, "|abcdefgh|\n|ab|\n", &[0, 2]),
+    // Two compounds that fit on a line each.
+    ("abcdefgh**   **", 10, "|abcdefgh|\nb|   |\n", &[0, 1]),
+    ("aaa bb cc", 5, "|aaa|| |\n|bb|| ||cc|\n", &[0, 2]),
+    // Blanks at the end make no line of their own.
+    ("abcde   ", 5, "|abcde|\n", &[0, 1]),
+    ("概要概要", 3, "|概|\n|要|\n|概|\n|要|\n", &[0, 1, 2, 3]),
+    ("syntax coloring", 8, "|syntax|| |\n|coloring|\n", &[0, 2]),
+    // A middle of whitespace is dropped, in code too.
+    ("**abcd**` `*efgh*", 5, "b|abcd|\ni|efgh|\n", &[0, 2]),
+];
+
 #[test]
 fn paragraphs_in_pictures(rt: HostRuntime) -> Result<(), Error> {
-    let alloc = rt.alloc();
-    let skin = plain_skin();
-    let rows: [(&str, usize, &str, &[usize]); 7] = [
-        // The blanks that don't fit are dropped, and the word after them begins the next line.
-        ("abcdefgh   ab", 10, "|abcdefgh|\n|ab|\n", &[0, 2]),
-        // Two compounds that fit on a line each.
-        ("abcdefgh**   **", 10, "|abcdefgh|\nb|   |\n", &[0, 1]),
-        ("aaa bb cc", 5, "|aaa|| |\n|bb|| ||cc|\n", &[0, 2]),
-        // Blanks at the end make no line of their own.
-        ("abcde   ", 5, "|abcde|\n", &[0, 1]),
-        ("概要概要", 3, "|概|\n|要|\n|概|\n|要|\n", &[0, 1, 2, 3]),
-        ("syntax coloring", 8, "|syntax|| |\n|coloring|\n", &[0, 2]),
-        // A middle of whitespace is dropped, in code too.
-        ("**abcd**` `*efgh*", 5, "b|abcd|\ni|efgh|\n", &[0, 2]),
-    ];
-    for (text, width, wanted, starts) in rows {
-        let composite = composite(alloc, text, CompositeStyle::Paragraph, &skin)?;
-        assert_wrap(&rt, alloc, &composite, width, &skin, wanted)?;
-        assert_bound(&rt, alloc, &composite, width, &skin, starts)?;
-    }
-    Ok(())
+    let mode = ListItemsIndentationMode::Block;
+    assert_wraps(&rt, rt.alloc(), CompositeStyle::Paragraph, mode, PARAGRAPHS)
 }
 
 #[test]
@@ -48,57 +45,61 @@ fn a_long_italic_sentence(rt: HostRuntime) -> Result<(), Error> {
     let composite = composite(alloc, text, CompositeStyle::Paragraph, &skin)?;
     assert!(rt; composite.visible_length > 120);
     let lines = hard_wrap_composite(alloc, &composite, 120, &skin)?;
-    assert_eq!(rt; lines.len(), 2);
-    assert!(rt; !lines[1].compounds.is_empty());
-    let first = lines[1].compounds[0];
-    assert_eq!(rt; first.src, "wrapping");
-    assert!(rt; first.bold && first.italic && !first.code && !first.strikeout);
+    let [_, second] = lines.as_slice() else {
+        panic!(rt; "{} lines", lines.len());
+    };
+    let Some(first) = second.compounds.first() else {
+        panic!(rt; "an empty line");
+    };
+    assert!(rt; *first == Compound::raw_str("wrapping").bold().italic());
     Ok(())
 }
 
 #[test]
-fn items_without_and_with_room(rt: HostRuntime) -> Result<(), Error> {
+fn an_item_and_its_second_line(rt: HostRuntime) -> Result<(), Error> {
     let alloc = rt.alloc();
-    let block = plain_skin();
-    let first_only = skin_with(0, 0, ListItemsIndentationMode::FirstLineOnly);
-    let item = composite(alloc, "abcdef gh", CompositeStyle::ListItem(0), &block)?;
-    assert_wrap(&rt, alloc, &item, 8, &block, "|abcdef|\n|gh|\n")?;
+    let skin = plain_skin();
+    let item = composite(alloc, "abcdef gh", CompositeStyle::ListItem(0), &skin)?;
+    assert_wrap(&rt, alloc, &item, 8, &skin, "|abcdef|\n|gh|\n")?;
     assert!(rt; item.visible_length > 8);
-    let lines = hard_wrap_composite(alloc, &item, 8, &block)?;
-    assert_eq!(rt; lines.len(), 2);
-    assert_eq!(rt;
-        (lines[0].kind, lines[0].visible_length),
-        (CompositeKind::ListItem(0), 8)
-    );
-    assert_eq!(rt;
-        (lines[1].kind, lines[1].visible_length),
-        (CompositeKind::ListItemFollowUp(0), 4)
-    );
-    let deep = composite(alloc, "ab", CompositeStyle::ListItem(255), &block)?;
-    assert_wrap(&rt, alloc, &deep, 3, &block, "\n|a|\n|b|\n")?;
-    assert_bound(&rt, alloc, &deep, 3, &block, &[0, 1])?;
-    let deep = composite(alloc, "ab", CompositeStyle::ListItem(255), &first_only)?;
-    assert_wrap(&rt, alloc, &deep, 3, &first_only, "\n|a||b|\n")?;
-    assert_bound(&rt, alloc, &deep, 3, &first_only, &[0])
+    let lines = hard_wrap_composite(alloc, &item, 8, &skin)?;
+    let [first, second] = lines.as_slice() else {
+        panic!(rt; "{} lines", lines.len());
+    };
+    assert!(rt; first.kind == CompositeKind::ListItem(0) && first.visible_length == 8);
+    assert!(rt; second.kind == CompositeKind::ListItemFollowUp(0) && second.visible_length == 4);
+    Ok(())
 }
+
+const DEEP_BLOCK: &[Wrap] = &[("ab", 3, "\n|a|\n|b|\n", &[0, 1])];
+
+const DEEP_FIRST_LINE: &[Wrap] = &[("ab", 3, "\n|a||b|\n", &[0])];
+
+#[test]
+fn items_without_and_with_room(rt: HostRuntime) -> Result<(), Error> {
+    let deep = CompositeStyle::ListItem(255);
+    let block = ListItemsIndentationMode::Block;
+    assert_wraps(&rt, rt.alloc(), deep, block, DEEP_BLOCK)?;
+    let first_only = ListItemsIndentationMode::FirstLineOnly;
+    assert_wraps(&rt, rt.alloc(), deep, first_only, DEEP_FIRST_LINE)
+}
+
+// Starts of lines of five columns, and whether they pass the check.
+const STARTS: &[(&[usize], bool)] = &[
+    (&[0, 2], true),
+    (&[0, 1, 2], false),
+    (&[0, 2, 4], false),
+    (&[], false),
+    (&[0], true),
+];
 
 #[test]
 fn starts_of_two_lines_checked(rt: HostRuntime) -> Result<(), Error> {
     let alloc = rt.alloc();
     let skin = plain_skin();
     let composite = composite(alloc, "aaa bb cc", CompositeStyle::Paragraph, &skin)?;
-    let rows: [(&[usize], bool); 5] = [
-        (&[0, 2], true),
-        (&[0, 1, 2], false),
-        (&[0, 2, 4], false),
-        (&[], false),
-        (&[0], true),
-    ];
-    for (starts, wanted) in rows {
-        let bound = WrapBound {
-            starts: starts.to_vec(alloc)?,
-        };
-        assert_eq!(rt; check_wrap_bound(&composite, 5, &skin, &bound)?, wanted);
+    for (starts, wanted) in STARTS {
+        assert_checked(&rt, &composite, &skin, starts.to_vec(alloc)?, *wanted)?;
     }
     assert_bound(&rt, alloc, &composite, 9, &skin, &[0])
 }
@@ -116,33 +117,36 @@ fn a_width_under_three(rt: HostRuntime) -> Result<(), Error> {
     Ok(())
 }
 
+// Asserts the margins of lines that are wrapped in a style with these margins, and the lines.
+fn assert_margins(
+    rt: &impl Abort,
+    alloc: Global,
+    skin: &MadSkin,
+    margins: (usize, usize),
+    wanted: &str,
+) -> Result<(), Error> {
+    let composite = composite(alloc, "aaaa bbbb cccc", CompositeStyle::Paragraph, skin)?;
+    let mut lines = Vec::new(alloc);
+    lines.push(FmtLine::Normal(composite))?;
+    let mut picture = String::new(alloc);
+    for line in &hard_wrap_lines(alloc, lines, 12, skin)? {
+        if let FmtLine::Normal(line) = line {
+            assert!(rt; line.margins == Some(margins));
+            push_picture(&mut picture, line)?;
+        }
+    }
+    assert_text(rt, picture.as_str(), wanted);
+    Ok(())
+}
+
 #[test]
 fn margins_of_the_style(rt: HostRuntime) -> Result<(), Error> {
-    let alloc = rt.alloc();
-    let rows = [
-        (2, 3, "|aaaa|| |\n|bbbb|| |\n|cccc|\n", (2, 3)),
-        (
-            usize::MAX,
-            usize::MAX,
-            "|aaaa|| ||bbbb|| |\n|cccc|\n",
-            (0, 0),
-        ),
-    ];
-    for (left, right, wanted, margins) in rows {
-        let skin = skin_with(left, right, ListItemsIndentationMode::Block);
-        let composite = composite(alloc, "aaaa bbbb cccc", CompositeStyle::Paragraph, &skin)?;
-        let mut lines = Vec::new(alloc);
-        lines.push(FmtLine::Normal(composite))?;
-        let mut picture = String::new(alloc);
-        for line in &hard_wrap_lines(alloc, lines, 12, &skin)? {
-            if let FmtLine::Normal(line) = line {
-                assert_eq!(rt; line.margins, Some(margins));
-                push_picture(&mut picture, line)?;
-            }
-        }
-        assert_eq!(rt; picture.as_str(), wanted);
-    }
-    Ok(())
+    let mode = ListItemsIndentationMode::Block;
+    let wanted = "|aaaa|| |\n|bbbb|| |\n|cccc|\n";
+    assert_margins(&rt, rt.alloc(), &skin_with(2, 3, mode), (2, 3), wanted)?;
+    let endless = skin_with(usize::MAX, usize::MAX, mode);
+    let wanted = "|aaaa|| ||bbbb|| |\n|cccc|\n";
+    assert_margins(&rt, rt.alloc(), &endless, (0, 0), wanted)
 }
 
 #[test]
@@ -151,7 +155,7 @@ fn indents_in_each_mode(rt: HostRuntime) {
         level: 0,
         index: 100,
     };
-    // In a block, on the first line only, and hanging by 2.
+    // In a block, with the first line alone indented, and hanging by 2.
     let rows = [
         (CompositeKind::Paragraph, [(0, 0), (0, 0), (0, 0)]),
         (CompositeKind::Header(1), [(0, 0), (0, 0), (0, 0)]),
@@ -161,43 +165,56 @@ fn indents_in_each_mode(rt: HostRuntime) {
         (CompositeKind::Quote, [(2, 2), (2, 2), (2, 2)]),
         (CompositeKind::Code, [(0, 0), (0, 0), (0, 0)]),
     ];
-    let modes = [
-        ListItemsIndentationMode::Block,
-        ListItemsIndentationMode::FirstLineOnly,
-        ListItemsIndentationMode::Hanging(2),
-    ];
-    for (kind, wanted) in rows {
-        for (mode, wanted) in modes.iter().zip(wanted.iter()) {
-            let skin = skin_with(0, 0, *mode);
-            assert_eq!(rt; composite_kind_widths(kind, &skin), *wanted, "{kind:?}");
-        }
+    let block = plain_skin();
+    let first_only = skin_with(0, 0, ListItemsIndentationMode::FirstLineOnly);
+    let hanging = skin_with(0, 0, ListItemsIndentationMode::Hanging(2));
+    for (kind, [in_block, in_first, in_hanging]) in rows {
+        assert!(rt; composite_kind_widths(kind, &block) == in_block, "{kind:?}");
+        assert!(rt;
+            composite_kind_widths(kind, &first_only) == in_first,
+            "{kind:?}"
+        );
+        assert!(rt;
+            composite_kind_widths(kind, &hanging) == in_hanging,
+            "{kind:?}"
+        );
     }
 }
 
 #[test]
-fn composites_measured_and_copied(rt: HostRuntime) -> Result<(), Error> {
+fn compounds_are_added(rt: HostRuntime) -> Result<(), AllocError> {
     let alloc = rt.alloc();
-    let skin = plain_skin();
-    assert_eq!(rt; FmtComposite::new(alloc).visible_length, 0);
+    assert_count(&rt, FmtComposite::new(alloc).visible_length, 0);
     let mut line = FmtComposite::from_compound(alloc, Compound::raw_str("概要"))?;
     line.add_compound(Compound::raw_str("ab").bold())?;
-    assert_eq!(rt; line.visible_length, 6);
-    assert_eq!(rt; line.completions(), (0, 0));
+    assert!(rt; line.visible_length == 6 && line.completions() == (0, 0));
+    let mut picture = String::new(alloc);
+    push_picture(&mut picture, &line.try_clone(alloc)?)?;
+    assert_text(&rt, picture.as_str(), "|概要|b|ab|\n");
+    Ok(())
+}
+
+#[test]
+fn composites_measured_and_copied(rt: HostRuntime) -> Result<(), AllocError> {
+    let alloc = rt.alloc();
+    let mut line = FmtComposite::from_compound(alloc, Compound::raw_str("概要ab"))?;
     line.kind = CompositeKind::Quote;
-    line.recompute_width(&skin);
-    assert_eq!(rt; line.visible_length, 8);
+    line.recompute_width(&plain_skin());
     line.spacing = Some(Spacing {
         width: 13,
         align: Alignment::Center,
     });
-    assert_eq!(rt; line.completions(), (2, 3));
     let copy = line.try_clone(alloc)?;
-    assert_eq!(rt; (copy.kind, copy.visible_length), (line.kind, 8));
-    let mut picture = String::new(alloc);
-    push_picture(&mut picture, &copy)?;
-    assert_eq!(rt; picture.as_str(), "|概要|b|ab|\n");
+    assert!(rt; copy.kind == CompositeKind::Quote && copy.visible_length == 8);
+    assert!(rt; copy.completions() == (2, 3));
+    Ok(())
+}
+
+#[test]
+fn the_length_of_a_line(rt: HostRuntime) -> Result<(), AllocError> {
+    let alloc = rt.alloc();
     let read = Composite::from_inline(alloc, "*a* b")?;
-    let line = FmtLine::from(alloc, Line::Normal(read), &skin)?;
-    assert_eq!(rt; line.visible_length(), 3);
+    let line = FmtLine::from(alloc, Line::Normal(read), &plain_skin())?;
+    assert_count(&rt, line.visible_length(), 3);
     Ok(())
 }

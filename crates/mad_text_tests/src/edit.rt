@@ -6,6 +6,7 @@ mod rows;
 use mad_edit::InputFieldContent;
 use mad_lines::Pos;
 use std::alloc::{AllocError, Global};
+use std::process::Abort;
 
 /// A text with the cursor and, perhaps, a tail.
 pub(crate) fn content(
@@ -20,4 +21,15 @@ pub(crate) fn content(
         content.set_selection_tail(tail);
     }
     Ok(content)
+}
+
+/// Asserts the text of an editor, and where its cursor is.
+pub(crate) fn assert_content(
+    rt: &impl Abort,
+    content: &InputFieldContent,
+    text: &str,
+    cursor: Pos,
+) {
+    assert!(rt; content.is_str(text), "{text}");
+    assert!(rt; content.cursor_pos() == cursor, "{text}");
 }

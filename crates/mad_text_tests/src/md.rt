@@ -19,15 +19,8 @@ fn expect_inline(
     wanted: &[Compound],
 ) -> Result<(), Fail> {
     let composite = Composite::from_inline(alloc, line)?;
-    assert!(rt;
-        composite.style == CompositeStyle::Paragraph,
-        "the style of {line:?}"
-    );
-    assert_eq!(rt;
-        composite.compounds.as_slice(),
-        wanted,
-        "the compounds of {line:?}"
-    );
+    assert!(rt; composite.style == CompositeStyle::Paragraph, "{line}");
+    assert!(rt; composite.compounds.as_slice() == wanted, "{line}");
     Ok(())
 }
 
@@ -38,7 +31,13 @@ fn inline_marks(rt: HostRuntime) -> Result<(), Fail> {
     expect_inline(&rt, alloc, "", &[])?;
     expect_inline(&rt, alloc, "2 *", &[raw("2 *")])?;
     expect_inline(&rt, alloc, "*a*", &[raw("a").italic()])?;
-    expect_inline(&rt, alloc, "**a", &[raw("a").bold()])?;
+    expect_inline(&rt, alloc, "**a", &[raw("a").bold()])
+}
+
+#[test]
+fn inline_marks_within_others(rt: HostRuntime) -> Result<(), Fail> {
+    let alloc = rt.alloc();
+    let raw = Compound::raw_str;
     expect_inline(
         &rt,
         alloc,
@@ -51,50 +50,56 @@ fn inline_marks(rt: HostRuntime) -> Result<(), Fail> {
         "**a*b**c*",
         &[raw("a").bold(), raw("b").bold().italic(), raw("c").italic()],
     )?;
-    // In code neither of the longer marks counts, and what was on stays on.
+    expect_inline(
+        &rt,
+        alloc,
+        "*概*e\u{301}~~要~~",
+        &[raw("概").italic(), raw("e\u{301}"), raw("要").strikeout()],
+    )
+}
+
+// In code neither of the longer marks counts, and what was on stays on.
+#[test]
+fn inline_marks_in_code(rt: HostRuntime) -> Result<(), Fail> {
+    let alloc = rt.alloc();
+    let raw = Compound::raw_str;
     expect_inline(&rt, alloc, "`a~~b**c`d", &[raw("a~~b**c").code(), raw("d")])?;
     expect_inline(
         &rt,
         alloc,
         "~~`**`~~x",
         &[raw("**").code().strikeout(), raw("x")],
-    )?;
+    )
+}
+
+#[test]
+fn odd_inline_marks(rt: HostRuntime) -> Result<(), Fail> {
+    let alloc = rt.alloc();
+    let raw = Compound::raw_str;
     expect_inline(&rt, alloc, "***", &[raw("*").bold()])?;
     expect_inline(&rt, alloc, "**", &[])?;
-    expect_inline(&rt, alloc, "~a~~b", &[raw("~a"), raw("b").strikeout()])?;
-    expect_inline(
-        &rt,
-        alloc,
-        "*概*e\u{301}~~要~~",
-        &[raw("概").italic(), raw("e\u{301}"), raw("要").strikeout()],
-    )?;
-    Ok(())
+    expect_inline(&rt, alloc, "~a~~b", &[raw("~a"), raw("b").strikeout()])
+}
+
+// Whether a line is a paragraph of this text without marks.
+fn is_raw(line: &Line, text: &str) -> bool {
+    let Line::Normal(composite) = line else {
+        return false;
+    };
+    let compounds = composite.compounds.as_slice();
+    let is_whole = match compounds {
+        [] => text.is_empty(),
+        [one] => !text.is_empty() && *one == Compound::raw_str(text),
+        _ => false,
+    };
+    composite.style == CompositeStyle::Paragraph && is_whole
 }
 
 fn expect_raw(rt: &impl Abort, alloc: Global, src: &str, wanted: &[&str]) -> Result<(), Fail> {
     let text = Text::raw_str(alloc, src)?;
-    assert_eq!(rt;
-        text.lines.len(),
-        wanted.len(),
-        "how many lines {src:?} has"
-    );
+    assert!(rt; text.lines.len() == wanted.len(), "{src}");
     for (line, want) in text.lines.iter().zip(wanted) {
-        let Line::Normal(composite) = line else {
-            assert!(rt; false, "a line of {src:?} is no composite");
-            continue;
-        };
-        assert!(rt;
-            composite.style == CompositeStyle::Paragraph,
-            "the style of {want:?} in {src:?}"
-        );
-        assert_eq!(rt;
-            composite.compounds.len(),
-            usize::from(!want.is_empty()),
-            "{want:?} in {src:?}"
-        );
-        for compound in &composite.compounds {
-            assert_eq!(rt; *compound, Compound::raw_str(want), "{want:?} in {src:?}");
-        }
+        assert!(rt; is_raw(line, want), "{want}");
     }
     Ok(())
 }
@@ -127,16 +132,21 @@ fn expect_lines(
     wanted: &[&[Compound]],
 ) -> Result<(), Fail> {
     let text = parse_text(alloc, src)?;
-    assert_eq!(rt; text.lines.len(), wanted.len());
+    assert!(rt; text.lines.len() == wanted.len());
     for (line, want) in text.lines.iter().zip(wanted) {
-        let Line::Normal(composite) = line else {
-            assert!(rt; false, "a line is no composite");
-            continue;
-        };
-        assert!(rt; composite.style == CompositeStyle::Paragraph);
-        assert!(rt; composite.compounds.as_slice() == *want);
+        assert!(rt; is_paragraph(line, want));
     }
     Ok(())
+}
+
+// Whether a line is a paragraph of these compounds.
+fn is_paragraph(line: &Line, compounds: &[Compound]) -> bool {
+    match line {
+        Line::Normal(read) => {
+            read.style == CompositeStyle::Paragraph && read.compounds.as_slice() == compounds
+        }
+        _ => false,
+    }
 }
 
 #[test]
@@ -159,35 +169,35 @@ fn a_mark_ends_with_its_line(rt: HostRuntime) -> Result<(), Fail> {
 }
 
 #[test]
-fn empty_and_very_long_texts(rt: HostRuntime) -> Result<(), Fail> {
-    const MANY: usize = 20000;
+fn empty_texts(rt: HostRuntime) -> Result<(), Fail> {
     let alloc = rt.alloc();
     expect_inline(&rt, alloc, "", &[])?;
     expect_raw(&rt, alloc, "", &[])?;
-    expect_lines(&rt, alloc, "", &[])?;
+    expect_lines(&rt, alloc, "", &[])
+}
 
-    let word = many(alloc, "w", MEGABYTE)?;
-    for text in ["\u{301}\u{301}", word.as_str()] {
-        let whole = Compound::raw_str(text);
-        assert!(rt;
-            Composite::from_inline(alloc, text)?.compounds.as_slice() == [whole].as_slice()
-        );
-        expect_lines(&rt, alloc, text, &[&[whole]])?;
-        let raw = Text::raw_str(alloc, text)?;
-        assert_eq!(rt; raw.lines.len(), 1);
-        for line in &raw.lines {
-            let one =
-                matches!(line, Line::Normal(read) if read.compounds.as_slice() == [whole].as_slice());
-            assert!(rt; one);
-        }
+#[test]
+fn texts_of_one_word(rt: HostRuntime) -> Result<(), Fail> {
+    let alloc = rt.alloc();
+    let long = many(alloc, "w", MEGABYTE)?;
+    for word in ["\u{301}\u{301}", long.as_str()] {
+        let whole = Compound::raw_str(word);
+        expect_inline(&rt, alloc, word, &[whole])?;
+        expect_lines(&rt, alloc, word, &[&[whole]])?;
+        expect_raw(&rt, alloc, word, &[word])?;
     }
+    Ok(())
+}
 
-    // All of them marks, and all of them lines.
-    let stars = many(alloc, "*", MANY)?;
-    expect_inline(&rt, alloc, stars.as_str(), &[])?;
+const MANY: usize = 20000;
+
+#[test]
+fn texts_of_stars_and_of_newlines(rt: HostRuntime) -> Result<(), Fail> {
+    let alloc = rt.alloc();
+    expect_inline(&rt, alloc, many(alloc, "*", MANY)?.as_str(), &[])?;
     let newlines = many(alloc, "\n", MANY)?;
-    assert_eq!(rt; Text::raw_str(alloc, newlines.as_str())?.lines.len(), MANY);
-    assert_eq!(rt; parse_text(alloc, newlines.as_str())?.lines.len(), MANY);
+    assert!(rt; Text::raw_str(alloc, newlines.as_str())?.lines.len() == MANY);
+    assert!(rt; parse_text(alloc, newlines.as_str())?.lines.len() == MANY);
     Ok(())
 }
 
@@ -206,66 +216,77 @@ fn draw_lines(alloc: Global, cursor: LineCursor) -> Result<String, Fail> {
     Ok(picture)
 }
 
+const FENCES: &str = "a\n```\nb\n```\n```\n```\nc\n```";
+
+// What is left of its lines, after each that was read.
+const LEFT: &[&str] = &[
+    "[Paragraph 'a'][Code 'b'][Paragraph 'c']",
+    "[Code 'b'][Paragraph 'c']",
+    "[Paragraph 'c']",
+    "",
+    "",
+];
+
 #[test]
 fn a_cursor_reads_on_from_any_copy(rt: HostRuntime) -> Result<(), Fail> {
     let alloc = rt.alloc();
-    let src = "a\n```\nb\n```\n```\n```\nc\n```";
-    let mut cursor = LineCursor::new(src, ParseOptions::default());
-    assert_eq!(rt;
-        draw_lines(alloc, cursor)?.as_str(),
-        "[Paragraph 'a'][Code 'b'][Paragraph 'c']"
-    );
-    for rest in ["[Code 'b'][Paragraph 'c']", "[Paragraph 'c']", ""] {
-        assert!(rt; cursor.next_line(alloc)?.is_some());
-        assert_eq!(rt; draw_lines(alloc, cursor)?.as_str(), rest);
+    let mut cursor = LineCursor::new(FENCES, ParseOptions::default());
+    for left in LEFT {
+        assert!(rt; draw_lines(alloc, cursor)?.as_str() == *left, "{left}");
+        assert!(rt;
+            cursor.next_line(alloc)?.is_none() == left.is_empty(),
+            "{left}"
+        );
     }
-    assert!(rt; cursor.next_line(alloc)?.is_none() && cursor.next_line(alloc)?.is_none());
-    assert_eq!(rt;
-        first_lines(alloc, src, ParseOptions::default(), 2)?.len(),
-        2
-    );
-    assert_eq!(rt;
-        first_lines(alloc, src, ParseOptions::default(), 9)?.len(),
-        3
-    );
     Ok(())
 }
 
-// Each piece many times in one line or text, as it is and after a bar.
+#[test]
+fn as_many_lines_as_there_are(rt: HostRuntime) -> Result<(), Fail> {
+    let options = ParseOptions::default();
+    assert!(rt; first_lines(rt.alloc(), FENCES, options, 2)?.len() == 2);
+    assert!(rt; first_lines(rt.alloc(), FENCES, options, 9)?.len() == 3);
+    Ok(())
+}
+
+// A piece, and how many lines a text of it 20,000 times has.
+const PIECES: &[(&str, usize)] = &[
+    ("|", 1),
+    ("`", 0),
+    ("|`", 1),
+    ("* ", 1),
+    ("** ", 1),
+    ("|** ** ", 1),
+    (" ", 1),
+    ("#", 1),
+    ("1", 1),
+    ("-", 1),
+    ("|-", 1),
+    (":", 1),
+    ("\n", MANY),
+    ("```\n", 0),
+    ("|\u{3000}", 1),
+];
+
 #[test]
 fn long_lines(rt: HostRuntime) -> Result<(), Fail> {
-    const MANY: usize = 20000;
-    let alloc = rt.alloc();
-    let pieces = [
-        "|",
-        "`",
-        "|`",
-        "* ",
-        "** ",
-        "|** ** ",
-        " ",
-        "#",
-        "1",
-        "-",
-        "|-",
-        ":",
-        "\n",
-        "```\n",
-        "|\u{3000}",
-    ];
-    for piece in pieces {
-        let line = many(alloc, piece, MANY)?;
-        let text = parse_text(alloc, line.as_str())?;
-        let wanted = match piece {
-            "\n" => MANY,
-            "`" | "```\n" => 0,
-            _ => 1,
-        };
-        assert_eq!(rt; text.lines.len(), wanted, "of {piece:?}");
-        let mut table = String::new(alloc);
-        table.push_str("|")?;
-        table.push_str(line.as_str())?;
-        assert!(rt; !parse_text(alloc, table.as_str())?.lines.is_empty());
+    for (piece, lines) in PIECES {
+        let text = many(rt.alloc(), piece, MANY)?;
+        let read = parse_text(rt.alloc(), text.as_str())?;
+        assert!(rt; read.lines.len() == *lines, "{piece}");
+    }
+    Ok(())
+}
+
+#[test]
+fn long_lines_after_a_bar(rt: HostRuntime) -> Result<(), Fail> {
+    for (piece, _) in PIECES {
+        let mut table = String::from_str(rt.alloc(), "|")?;
+        table.push_str(many(rt.alloc(), piece, MANY)?.as_str())?;
+        assert!(rt;
+            !parse_text(rt.alloc(), table.as_str())?.lines.is_empty(),
+            "{piece}"
+        );
     }
     Ok(())
 }

@@ -16,15 +16,26 @@ fn assert_wrap(
     wanted_starts: &[usize],
 ) -> Result<(), Fail> {
     let starts = wrap_starts(alloc, compounds, room)?;
-    assert_eq!(rt; starts.as_slice(), wanted_starts, "{compounds:?}");
-    assert_eq!(rt; check_starts(compounds, room, wanted_starts), true);
+    assert!(rt; starts.as_slice() == wanted_starts, "{wanted_starts:?}");
+    assert!(rt;
+        check_starts(compounds, room, wanted_starts),
+        "{wanted_starts:?}"
+    );
     let lines = wrapped(alloc, compounds, room)?;
-    assert_eq!(rt; lines.len(), wanted.len(), "{compounds:?}");
-    for (line, wanted) in lines.iter().zip(wanted) {
-        let first = line.compounds.first().map(|c| c.src).unwrap_or("");
-        assert_eq!(rt; (line.compounds.len(), first), *wanted);
+    assert!(rt; lines.len() == wanted.len(), "{wanted_starts:?}");
+    for (line, (count, first)) in lines.iter().zip(wanted) {
+        assert!(rt; begins(line, *count, first), "{first}");
     }
     Ok(())
+}
+
+// Whether a line has this many compounds, the first of them of this text.
+fn begins(line: &WrappedLine, count: usize, text: &str) -> bool {
+    let is_first = line
+        .compounds
+        .first()
+        .is_some_and(|first| first.src == text);
+    line.compounds.len() == count && is_first
 }
 
 // The lines of compounds that are too wide; none of others.
@@ -80,22 +91,27 @@ fn words_blanks_and_cuts(rt: HostRuntime) -> Result<(), Fail> {
     )
 }
 
+// A width, starts of the lines of `aaa bb cc`, and whether they pass the check.
+const STARTS: &[(usize, &[usize], bool)] = &[
+    (5, &[0, 2], true),
+    (5, &[0], true),
+    (5, &[0, 1, 2], false),
+    (5, &[0, 2, 4], false),
+    (5, &[], false),
+    (5, &[0, 0], false),
+    (5, &[0, 2, 2], false),
+    (50, &[0], true),
+];
+
 // Neither the arguments nor the check take memory, so no refused growth is noticed here.
 #[test]
 fn starts_are_checked_without_memory(rt: HostRuntime) {
     let compounds = [Compound::raw_str("aaa bb cc")];
-    let rows: [(usize, &[usize], bool); 8] = [
-        (5, &[0, 2], true),
-        (5, &[0], true),
-        (5, &[0, 1, 2], false),
-        (5, &[0, 2, 4], false),
-        (5, &[], false),
-        (5, &[0, 0], false),
-        (5, &[0, 2, 2], false),
-        (50, &[0], true),
-    ];
-    for (width, starts, wanted) in rows {
-        assert_eq!(rt; check_starts(&compounds, at(width), starts), wanted);
+    for (width, starts, wanted) in STARTS {
+        assert!(rt;
+            check_starts(&compounds, at(*width), starts) == *wanted,
+            "{starts:?}"
+        );
     }
 }
 

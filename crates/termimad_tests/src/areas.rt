@@ -7,34 +7,48 @@ use std::test::Fail;
 use termimad::screen::Pen;
 use termimad::{Attribute, MadSkin};
 
+const BLANK: &str = "            ..";
+
+// A text, the sides of an area, and the screen's rows.
+const WITHOUT_STYLE: &[(&str, [u8; 4], &[&str])] = &[
+    (
+        "hello",
+        [0, 0, 12, 3],
+        &["hello       ..", BLANK, BLANK, DOTS],
+    ),
+    ("", [3, 2, 4, 1], &[DOTS, DOTS, "...    .......", DOTS]),
+    ("hello", [0, 0, 4, 0], &[DOTS, DOTS, DOTS, DOTS]),
+    // The text is laid out in three columns, where the second character has no room.
+    ("概要", [0, 0, 4, 1], &["概  ..........", DOTS, DOTS, DOTS]),
+    (
+        "aaa bb cc",
+        [2, 1, 6, 2],
+        &[DOTS, "..aaa   ......", "..bb cc ......", DOTS],
+    ),
+];
+
 #[test]
 fn texts_without_style(rt: HostRuntime) -> Result<(), Fail> {
     let alloc = rt.alloc();
     let skin = MadSkin::no_style();
-    let blank = "            ..";
-    let rows = [
-        (
-            "hello",
-            [0, 0, 12, 3],
-            ["hello       ..", blank, blank, DOTS],
-        ),
-        ("", [3, 2, 4, 1], [DOTS, DOTS, "...    .......", DOTS]),
-        ("hello", [0, 0, 4, 0], [DOTS, DOTS, DOTS, DOTS]),
-        // The text is laid out in three columns, where the second character has no room.
-        ("概要", [0, 0, 4, 1], ["概  ..........", DOTS, DOTS, DOTS]),
-        (
-            "aaa bb cc",
-            [2, 1, 6, 2],
-            [DOTS, "..aaa   ......", "..bb cc ......", DOTS],
-        ),
-    ];
-    for (text, sides, picture) in rows {
-        let out = written_in_area(alloc, &skin, text, &area_of(sides))?;
+    for (text, sides, picture) in WITHOUT_STYLE {
+        let out = written_in_area(alloc, &skin, text, &area_of(*sides))?;
         let screen = screen_after(&rt, alloc, &out)?;
-        assert_rows(&rt, alloc, &screen, &picture)?;
-        // One put for each row.
-        assert_eq!(rt; out.puts(), u64::from(sides[3]), "{text}");
-        assert_eq!(rt; out.flushes(), 0, "{text}");
+        assert_rows(&rt, alloc, &screen, picture)?;
+    }
+    Ok(())
+}
+
+#[test]
+fn one_put_for_each_row_and_no_flush(rt: HostRuntime) -> Result<(), Fail> {
+    let alloc = rt.alloc();
+    let skin = MadSkin::no_style();
+    for (text, sides, _) in WITHOUT_STYLE {
+        let out = written_in_area(alloc, &skin, text, &area_of(*sides))?;
+        assert!(rt;
+            out.puts() == u64::from(sides[3]) && out.flushes() == 0,
+            "{text}"
+        );
     }
     Ok(())
 }

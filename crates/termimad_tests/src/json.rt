@@ -10,6 +10,7 @@ use mad_style::{
 use mad_term::{Attribute, Color};
 use serde_json::Value;
 use std::alloc::{AllocError, Global};
+use std::process::Abort;
 use std::test::Fail;
 
 // The value of a JSON text.
@@ -42,102 +43,111 @@ fn read(alloc: Global, text: &str) -> Result<(MadSkin, String), Fail> {
     Ok((skin, keys))
 }
 
+// A JSON text, and the text of its fault.
+const FAULTS: &[(&str, &str)] = &[
+    ("[]", "not an object"),
+    ("null", "not an object"),
+    (r#"{"bold":1}"#, "wrong type: bold"),
+    (r#"{"bold":"red","bold":1}"#, "wrong type: bold"),
+    (
+        r#"{"quote":"> red","quote_mark":"* blue"}"#,
+        "two names: quote_mark",
+    ),
+    (
+        r#"{"quote":"> red","quote_mark":1.5}"#,
+        "two names: quote_mark",
+    ),
+    (r#"{"rule":"-","horizontal-rule":"-"}"#, "two names: rule"),
+    (r#"{"colour":1.5}"#, "wrong type: colour"),
+    (r#"{"colour":[{"x":[1,1e3]}]}"#, "wrong type: colour"),
+    (r#"{"x":18446744073709551616}"#, "wrong type: x"),
+    (
+        r#"{"table":1,"bold":"pissenlit"}"#,
+        "bold: pissenlit not recognized as a style token",
+    ),
+    (
+        r#"{"table":"gray(40)"}"#,
+        "table: Invalid color: grey level must be between 0 and 23 (got 40)",
+    ),
+    (
+        r#"{"headers":["red",1,"pissenlit"]}"#,
+        "wrong type: headers",
+    ),
+    (
+        r#"{"headers":["red","pissenlit",1]}"#,
+        "headers: pissenlit not recognized as a style token",
+    ),
+    (r#"{"ordered_items":"red"}"#, "wrong type: ordered_items"),
+    (r#"{"scrollbar":{"thumb":"x"}}"#, "wrong type: scrollbar"),
+    (
+        r#"{"scrollbar":{"track":"pissenlit","thumb":1}}"#,
+        "wrong type: scrollbar",
+    ),
+    (
+        r#"{"scrollbar":{"track":"two","thumb":"one"}}"#,
+        "scrollbar: one not recognized as a style token",
+    ),
+    (
+        r#"{"scrollbar":{"track":"x","thumb":"y","x":1.5}}"#,
+        "wrong type: scrollbar",
+    ),
+    (
+        r#"{"list_items_indentation_mode":"hanging(256)"}"#,
+        "list_items_indentation_mode: hanging(256) not recognized as a style token",
+    ),
+    (
+        r#"{"list_items_indentation_mode":" block"}"#,
+        "list_items_indentation_mode:  block not recognized as a style token",
+    ),
+    (
+        r#"{"list-items-indentation-mode":"hanging(0001)"}"#,
+        "list-items-indentation-mode: hanging(0001) not recognized as a style token",
+    ),
+    (
+        r#"{"list-items-indentation-mode":"block","list_items_indentation_mode":"block"}"#,
+        "two names: list_items_indentation_mode",
+    ),
+];
+
+// The fault of a JSON text.
+fn fault_of(alloc: Global, text: &str) -> Result<SkinError, Fail> {
+    let value = value_of(alloc, text)?;
+    match skin_from_value(alloc, &value) {
+        Ok(_) => Err(Fail::from("read")),
+        Err(SkinError::Memory) => Err(Fail::from(AllocError)),
+        Err(error) => Ok(error),
+    }
+}
+
 #[test]
 fn faults(rt: HostRuntime) -> Result<(), Fail> {
     let alloc = rt.alloc();
-    let cases = [
-        ("[]", "not an object"),
-        ("null", "not an object"),
-        (r#"{"bold":1}"#, "wrong type: bold"),
-        (r#"{"bold":"red","bold":1}"#, "wrong type: bold"),
-        (
-            r#"{"quote":"> red","quote_mark":"* blue"}"#,
-            "two names: quote_mark",
-        ),
-        (
-            r#"{"quote":"> red","quote_mark":1.5}"#,
-            "two names: quote_mark",
-        ),
-        (r#"{"rule":"-","horizontal-rule":"-"}"#, "two names: rule"),
-        (r#"{"colour":1.5}"#, "wrong type: colour"),
-        (r#"{"colour":[{"x":[1,1e3]}]}"#, "wrong type: colour"),
-        (r#"{"x":18446744073709551616}"#, "wrong type: x"),
-        (
-            r#"{"table":1,"bold":"pissenlit"}"#,
-            "bold: pissenlit not recognized as a style token",
-        ),
-        (
-            r#"{"table":"gray(40)"}"#,
-            "table: Invalid color: grey level must be between 0 and 23 (got 40)",
-        ),
-        (
-            r#"{"headers":["red",1,"pissenlit"]}"#,
-            "wrong type: headers",
-        ),
-        (
-            r#"{"headers":["red","pissenlit",1]}"#,
-            "headers: pissenlit not recognized as a style token",
-        ),
-        (r#"{"ordered_items":"red"}"#, "wrong type: ordered_items"),
-        (r#"{"scrollbar":{"thumb":"x"}}"#, "wrong type: scrollbar"),
-        (
-            r#"{"scrollbar":{"track":"pissenlit","thumb":1}}"#,
-            "wrong type: scrollbar",
-        ),
-        (
-            r#"{"scrollbar":{"track":"two","thumb":"one"}}"#,
-            "scrollbar: one not recognized as a style token",
-        ),
-        (
-            r#"{"scrollbar":{"track":"x","thumb":"y","x":1.5}}"#,
-            "wrong type: scrollbar",
-        ),
-        (
-            r#"{"list_items_indentation_mode":"hanging(256)"}"#,
-            "list_items_indentation_mode: hanging(256) not recognized as a style token",
-        ),
-        (
-            r#"{"list_items_indentation_mode":" block"}"#,
-            "list_items_indentation_mode:  block not recognized as a style token",
-        ),
-        (
-            r#"{"list-items-indentation-mode":"hanging(0001)"}"#,
-            "list-items-indentation-mode: hanging(0001) not recognized as a style token",
-        ),
-        (
-            r#"{"list-items-indentation-mode":"block","list_items_indentation_mode":"block"}"#,
-            "two names: list_items_indentation_mode",
-        ),
-    ];
-    for (text, fault) in cases {
-        let value = value_of(alloc, text)?;
-        let error = match skin_from_value(alloc, &value) {
-            Ok(_) => return Err(Fail::from("read")),
-            Err(SkinError::Memory) => return Err(Fail::from(AllocError)),
-            Err(error) => error,
-        };
-        assert!(rt; error.to_string(alloc)?.as_str() == fault, "{text}");
+    for (text, fault) in FAULTS {
+        let told = fault_of(alloc, text)?.to_string(alloc)?;
+        assert!(rt; told.as_str() == *fault, "{text}");
     }
     assert!(rt; SkinError::Memory.to_string(alloc)?.as_str() == "want of memory");
     Ok(())
 }
 
+// A JSON text, and its unknown keys.
+const UNKNOWN: &[(&str, &str)] = &[
+    ("{}", ""),
+    (r#"{"colour":1}"#, "colour|"),
+    (
+        r#"{"é":[],"b":{"bold":null},"B":true,"x":18446744073709551615}"#,
+        "B|b|x|é|",
+    ),
+    (r#"{"table_border_chars":"curly","Bold":"red"}"#, "Bold|"),
+];
+
 #[test]
 fn unknown_keys_in_byte_order(rt: HostRuntime) -> Result<(), Fail> {
     let alloc = rt.alloc();
-    let cases = [
-        ("{}", ""),
-        (r#"{"colour":1}"#, "colour|"),
-        (
-            r#"{"é":[],"b":{"bold":null},"B":true,"x":18446744073709551615}"#,
-            "B|b|x|é|",
-        ),
-        (r#"{"table_border_chars":"curly","Bold":"red"}"#, "Bold|"),
-    ];
-    for (text, keys) in cases {
+    for (text, keys) in UNKNOWN {
         let (skin, unknown) = read(alloc, text)?;
         assert!(rt; skin == MadSkin::default(), "{text}");
-        assert!(rt; unknown.as_str() == keys, "{text}");
+        assert!(rt; unknown.as_str() == *keys, "{text}");
     }
     Ok(())
 }
@@ -258,34 +268,35 @@ fn colored() -> MadSkin {
     skin
 }
 
-#[test]
-fn skins_read_back(rt: HostRuntime) -> Result<(), Fail> {
-    let alloc = rt.alloc();
-    let mut ascii = MadSkin::no_style();
-    ascii.limit_to_ascii();
-    let mut barred = MadSkin::default();
-    barred.scrollbar.set_bg(Color::Blue);
-    let skins = [
-        MadSkin::default(),
-        MadSkin::default_dark(),
-        MadSkin::default_light(),
-        ascii,
-        colored(),
-        barred,
-    ];
-    for skin in &skins {
-        let mut skin = skin.clone()?;
-        for mode in [
-            skin.list_items_indentation_mode,
-            ListItemsIndentationMode::FirstLineOnly,
-            ListItemsIndentationMode::Hanging(3),
-        ] {
-            skin.list_items_indentation_mode = mode;
-            let value = skin_to_value(alloc, &skin)?;
-            let (read, unknown) = skin_of(alloc, &value)?;
-            assert!(rt; read == skin);
-            assert!(rt; unknown.is_empty());
-        }
+// Asserts that a skin is read back from its value, in each mode of items.
+fn assert_read_back(rt: &impl Abort, alloc: Global, mut skin: MadSkin) -> Result<(), Fail> {
+    for mode in [
+        skin.list_items_indentation_mode,
+        ListItemsIndentationMode::FirstLineOnly,
+        ListItemsIndentationMode::Hanging(3),
+    ] {
+        skin.list_items_indentation_mode = mode;
+        let value = skin_to_value(alloc, &skin)?;
+        let (read, unknown) = skin_of(alloc, &value)?;
+        assert!(rt; read == skin && unknown.is_empty());
     }
     Ok(())
+}
+
+#[test]
+fn made_skins_are_read_back(rt: HostRuntime) -> Result<(), Fail> {
+    assert_read_back(&rt, rt.alloc(), MadSkin::default())?;
+    assert_read_back(&rt, rt.alloc(), MadSkin::default_dark())?;
+    assert_read_back(&rt, rt.alloc(), MadSkin::default_light())?;
+    let mut ascii = MadSkin::no_style();
+    ascii.limit_to_ascii();
+    assert_read_back(&rt, rt.alloc(), ascii)
+}
+
+#[test]
+fn changed_skins_are_read_back(rt: HostRuntime) -> Result<(), Fail> {
+    assert_read_back(&rt, rt.alloc(), colored())?;
+    let mut barred = MadSkin::default();
+    barred.scrollbar.set_bg(Color::Blue);
+    assert_read_back(&rt, rt.alloc(), barred)
 }

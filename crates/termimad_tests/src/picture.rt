@@ -62,8 +62,10 @@ pub fn assert_text(
 ) -> Result<(), Error> {
     let mut out = CutOut::new(alloc, ROOM, ROOM, false)?;
     skin.write_text(alloc, &mut out, text, Some(width))?;
-    assert!(rt; out.taken() == wanted.as_bytes(), "{text}");
-    assert_eq!(rt; out.flushes(), 1);
+    assert!(rt;
+        out.taken() == wanted.as_bytes() && out.flushes() == 1,
+        "{text}"
+    );
     Ok(())
 }
 

@@ -29,10 +29,9 @@ fn a_table_from_its_rule_on(rt: HostRuntime) -> Result<(), Fail> {
 }
 
 #[test]
-fn styles_and_marks_that_go_on_over_lines(rt: HostRuntime) -> Result<(), Fail> {
+fn styles_in_a_view(rt: HostRuntime) -> Result<(), Fail> {
     let alloc = rt.alloc();
     let skin = MadSkin::default();
-    let bold = pen_with(Attribute::Bold);
     let text = FmtText::from(alloc, &skin, "a\n**b**\n~~c~~", Some(3))?;
     let screen = viewed(&rt, alloc, &text, [0, 0, 3, 2], 1)?;
     assert_screen(
@@ -41,8 +40,15 @@ fn styles_and_marks_that_go_on_over_lines(rt: HostRuntime) -> Result<(), Fail> {
         &screen,
         &["b  ...........", "c  ...........", DOTS, DOTS],
         &["a.............", "b.............", DOTS, DOTS],
-        &[bold, pen_with(Attribute::CrossedOut)],
+        &[pen_with(Attribute::Bold), pen_with(Attribute::CrossedOut)],
     )?;
+    Ok(())
+}
+
+#[test]
+fn marks_that_go_on_over_lines(rt: HostRuntime) -> Result<(), Fail> {
+    let alloc = rt.alloc();
+    let skin = MadSkin::default();
     let options = ParseOptions {
         continue_spans: true,
     };
@@ -55,7 +61,7 @@ fn styles_and_marks_that_go_on_over_lines(rt: HostRuntime) -> Result<(), Fail> {
         &screen,
         &["a    .........", "b c  .........", DOTS, DOTS],
         &["a.............", "a.............", DOTS, DOTS],
-        &[bold],
+        &[pen_with(Attribute::Bold)],
     )?;
     Ok(())
 }

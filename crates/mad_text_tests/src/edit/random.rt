@@ -1,5 +1,6 @@
 //! Some thousand calls at random, applied to an editor and to a plain text with an offset.
 
+use crate::edit::assert_content;
 use mad_edit::InputFieldContent;
 use mad_lines::Pos;
 use std::alloc::{AllocError, Global};
@@ -141,8 +142,7 @@ fn steps(rt: &impl Abort, alloc: Global) -> Result<(), AllocError> {
     for _call in 0..4000 {
         step(alloc, &mut state, &mut con, &mut plain)?;
         let text = plain.to_text(alloc)?;
-        assert!(rt; con.is_str(text.as_str()));
-        assert_eq!(rt; con.cursor_pos(), plain.place_of(plain.at));
+        assert_content(rt, &con, text.as_str(), plain.place_of(plain.at));
     }
     Ok(())
 }

@@ -15,11 +15,14 @@ fn assert_tokens(
     wanted: &[(usize, usize, bool)],
 ) -> Result<(), Fail> {
     let tokens = tokenize(alloc, &[compound], max)?;
-    assert_eq!(rt; tokens.len(), wanted.len(), "{compound:?} at {max}");
+    assert!(rt; tokens.len() == wanted.len(), "{compound:?} at {max}");
     let mut start = 0;
     for (token, wanted) in tokens.iter().zip(wanted) {
-        assert_eq!(rt; token.start_in_compound, start, "{token:?}");
-        assert_eq!(rt; (token.end_in_compound, token.width, token.blank), *wanted);
+        assert!(rt; token.start_in_compound == start, "{token:?}");
+        assert!(rt;
+            (token.end_in_compound, token.width, token.blank) == *wanted,
+            "{token:?}"
+        );
         start = token.end_in_compound;
     }
     Ok(())
@@ -108,14 +111,10 @@ fn tokens_end_with_their_compounds(rt: HostRuntime) -> Result<(), Fail> {
         (last, 0, 1, true),
         (last, 1, 2, false),
     ];
-    assert_eq!(rt; tokens.len(), wanted.len());
+    assert!(rt; tokens.len() == wanted.len());
     for (token, (compound, start, end, blank)) in tokens.iter().zip(wanted) {
-        assert_eq!(rt; token.compound, compound);
-        assert_eq!(rt;
-            (token.start_in_compound, token.end_in_compound),
-            (start, end)
-        );
-        assert_eq!(rt; token.blank, blank);
+        let ends = (token.start_in_compound, token.end_in_compound);
+        assert!(rt; token.compound == compound && ends == (start, end) && token.blank == blank);
     }
     Ok(())
 }
