@@ -1,6 +1,7 @@
 //! What is displayed, taken by a device and counted, against what is wanted.
 //!
-//! Each call tells both values where they differ. A test that calls one is proved faster than one with its own `assert_eq`.
+//! Texts and counts that differ are told with what is wanted, bytes only by what is wanted. A test that calls one of these is proved faster
+//! than one with its own `assert_eq`.
 
 use mad_layout::FmtText;
 use mad_term::CutOut;
