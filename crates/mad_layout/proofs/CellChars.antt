@@ -19,18 +19,18 @@ use Rattle.mad_draw.specs.declared.table_rules.RuleChars.{RuleChars}
 use Rattle.mad_layout.specs.Drawable.{AreShownChars}
 use Rattle.mad_layout.specs.FlaggedLines.{skin_char, front_of}
 use Rattle.mad_layout.specs.FlaggedTables.{row_in_column, CellInColumn, first_row, first_rows, rows_down, rule_row, table_across, rule_across}
-use Rattle.mad_layout.specs.Lines.{bordered, rule_columns}
+use Rattle.mad_format.specs.Lines.{bordered, rule_columns}
 use Rattle.mad_layout.specs.Premises.{IsPlainPrefix}
 use Rattle.mad_layout.specs.Rows.{prefix_pieces, compound_piece, composite_pieces, cell_pieces, vertical_piece, placed_pieces, row_columns, rule_chars, left_of_place, right_of_place, align_in, place_of, inner_blanks}
-use Rattle.mad_layout.specs.Styles.{line_style}
-use Rattle.mad_layout.specs.Tables.{in_column, IsBlankIn, IsTop, IsLineAcross, AreDown, below}
-use Rattle.mad_layout.specs.Wraps.{text_of, columns_of}
+use Rattle.mad_layout.specs.Styles.{line_rules, line_style}
+use Rattle.mad_format.specs.Tables.{in_column, IsBlankIn, IsTop, IsLineAcross, AreDown, below}
+use Rattle.mad_format.specs.Wraps.{text_of, columns_of}
 use Rattle.mad_layout.specs.declared.skin.MadSkin.{MadSkin}
-use Rattle.mad_layout.specs.declared.composite.FmtComposite.{FmtComposite}
-use Rattle.mad_layout.specs.declared.line.FmtLine.TheVariants.{TableRow, TableRule}
-use Rattle.mad_layout.specs.declared.table.FmtTableRow.{FmtTableRow}
-use Rattle.mad_layout.specs.declared.table.FmtTableRule.{FmtTableRule}
-use Rattle.mad_layout.specs.declared.table.RelativePosition.{RelativePosition}
+use Rattle.mad_format.specs.declared.composite.FmtComposite.{FmtComposite}
+use Rattle.mad_format.specs.declared.line.FmtLine.TheVariants.{TableRow, TableRule}
+use Rattle.mad_format.specs.declared.table.FmtTableRow.{FmtTableRow}
+use Rattle.mad_format.specs.declared.table.FmtTableRule.{FmtTableRule}
+use Rattle.mad_format.specs.declared.table.RelativePosition.{RelativePosition}
 use Rattle.mad_layout.proofs.DrawableTables.{widths_of, across_columns}
 use Rattle.mad_layout.proofs.RowChars.{chars_in, line_chars, first_piece, both, spaces_chars, spaces_both, compounds_chars, front_chars, run_chars}
 use Rattle.mad_layout.proofs.RowLemmas.{left_completion-le}
@@ -57,7 +57,7 @@ between_blanks skin l prefix =
     both (spaces own (inner_blanks l).0) tail1 ∙ ap (λ x. x ++ chars_in tail1) (spaces_chars own (inner_blanks l).0) ∙ ap (λ x. replicate (inner_blanks l).0 32 ++ x) e1
 
 -- a line of a cell is a row in its column
-pub column_chars : (skin : MadSkin) (c : Spacing) (l : FmtComposite) → IsPlainPrefix skin l.kind → l.visible_length ≡ columns_of skin l → cell_chars skin (in_column c l) ≡ row_in_column skin c l.kind (text_of l)
+pub column_chars : (skin : MadSkin) (c : Spacing) (l : FmtComposite) → IsPlainPrefix skin l.kind → l.visible_length ≡ columns_of (line_rules skin) l → cell_chars skin (in_column c l) ≡ row_in_column skin c l.kind (text_of l)
 column_chars skin c l prefix same =
     let text : List ℕ = map (λ (x : FlaggedChar). x.char) (text_of l) in
     between_blanks skin (in_column c l) prefix

@@ -2,7 +2,6 @@
 use Rattle.std.proofs.Common.{◌≡◌, ℕ, Bool, true, false, zero, suc, ◌+◌, ◌-◌, ◌^◌, ◌<◌, ◌≤◌, inl, inr, List, [], ◌∷◌, ◌++◌, map, Option, Some, None, Contains, drop, length, min, take, refl, sym, ap, ◌∙◌, subst, arith, append_assoc}
 use Rattle.std.specs.Prelude.{IfSome, unwrap_or}
 use Rattle.std.specs.List.{AllByRecursion}
-use Rattle.std.proofs.lemmas.Bool.Decides.{nat_tests}
 use Rattle.mad_columns.specs.Columns.{char_columns}
 use Rattle.mad_md.specs.Flagged.{FlaggedChar, run_of, flagged_text}
 use Rattle.mad_md.specs.declared.alignment.Alignment.{Alignment}
@@ -11,7 +10,6 @@ use Rattle.mad_md.specs.declared.compound.Compound.{Compound}
 use Rattle.mad_style.specs.Kinds.{kind_of}
 use Rattle.mad_style.specs.LineStyles.{margins_at}
 use Rattle.mad_style.specs.declared.kinds.CompositeKind.{CompositeKind}
-use Rattle.mad_style.specs.declared.line_styles.LineStyle.{LineStyle}
 use Rattle.mad_fit.specs.Columns.{width_of}
 use Rattle.mad_fit.specs.Tokens.{token_run}
 use Rattle.mad_fit.specs.declared.tokens.Token.{Token}
@@ -22,30 +20,31 @@ use Rattle.mad_wrap.specs.WrapLines.{HasRoom, LinesFit, IsMadeOf}
 use Rattle.mad_wrap.specs.declared.room.Room.{Room}
 use Rattle.mad_layout.specs.Drawable.{IsDrawableLine, AreDrawable}
 use Rattle.mad_fit.specs.declared.spacing.Spacing.{Spacing}
-use Rattle.mad_layout.specs.FittingLayouts.{IsFittingWrap, IsFittingLayout}
-use Rattle.mad_layout.specs.Indents.{indent, follow_up, room_of}
-use Rattle.mad_layout.specs.Layouts.{AreRead}
-use Rattle.mad_layout.proofs.WideLayouts.{IsLayout}
-use Rattle.mad_layout.specs.Lines.{IsLineRead}
-use Rattle.mad_layout.specs.Parts.{Part, table, block, single, parts_of, justified, code_room, IsPartAt, IsLineAt, AreLinesAt, ArePartsAt}
-use Rattle.mad_layout.specs.Tables.{is_table_line}
+use Rattle.mad_format.specs.FittingLayouts.{IsFittingWrap, IsFittingLayout}
+use Rattle.mad_format.specs.Indents.{indent, follow_up, room_of}
+use Rattle.mad_format.specs.Layouts.{AreRead}
+use Rattle.mad_format.proofs.WideLayouts.{IsLayout}
+use Rattle.mad_format.specs.Lines.{IsLineRead}
+use Rattle.mad_format.specs.Parts.{Part, table, block, single, parts_of, justified, code_room, IsLineAt, AreLinesAt, ArePartsAt}
+use Rattle.mad_format.specs.Tables.{is_table_line}
 use Rattle.mad_layout.specs.Premises.{IsPlainRun, inner_width, runs_text, IsPlainPrefix, IsPlainText, IsPlainContent, KeepsPremises}
 use Rattle.mad_layout.specs.Rows.{place_of}
-use Rattle.mad_layout.specs.Styles.{line_style}
-use Rattle.mad_layout.specs.CompositeWraps.{line_compounds, HaveKinds, IsCompositeWrap}
-use Rattle.mad_layout.specs.WrappedLines.{style_margins, line_with, IsLaidOutBy}
+use Rattle.mad_layout.specs.Styles.{line_rules, line_style}
+use Rattle.mad_format.specs.CompositeWraps.{line_compounds, HaveKinds}
+use Rattle.mad_format.specs.WrappedLines.{style_margins, line_with, IsLaidOutBy}
 use Rattle.mad_layout.specs.TextParts.{LineInPart, text_parts, aligns_at, lines_in, lines_in_parts}
-use Rattle.mad_layout.specs.Wraps.{text_of, columns_of, IsMeasured}
+use Rattle.mad_format.specs.Wraps.{text_of, columns_of, IsMeasured}
 use Rattle.mad_layout.specs.declared.skin.MadSkin.{MadSkin}
-use Rattle.mad_layout.specs.declared.composite.FmtComposite.{FmtComposite}
-use Rattle.mad_layout.specs.declared.line.FmtLine.{FmtLine}
-use Rattle.mad_layout.specs.declared.line.FmtLine.TheVariants.{Normal, TableRow, TableRule, HorizontalRule}
+use Rattle.mad_format.specs.declared.composite.FmtComposite.{FmtComposite}
+use Rattle.mad_format.specs.declared.line.FmtLine.{FmtLine}
+use Rattle.mad_format.specs.declared.line.FmtLine.TheVariants.{Normal, TableRow, TableRule, HorizontalRule}
 use Rattle.mad_layout.proofs.DrawableTables.{Later, table_drawable}
 use Rattle.mad_layout.proofs.DrawnParts.{each_of, pieces_shown, runs_are, some_joined, utf8_of}
 use Rattle.mad_layout.proofs.PrefixLemmas.{prefix_shown, prefix_columns, follow_up_plain}
-use Rattle.mad_layout.proofs.PartLemmas.{IsPlacedLine, ArePlacedLines, IsPartOfKind, parts_kinds, code_placed}
+use Rattle.mad_format.proofs.PartLemmas.{IsPlacedLine, ArePlacedLines, IsPartOfKind, parts_kinds, code_placed}
 use Rattle.mad_layout.proofs.ReadParts.{ArePartsRead, parts_read, part_raw, all_in}
-use Rattle.mad_layout.proofs.WrapKinds.{table_by}
+use Rattle.mad_format.proofs.WrapKinds.{layout_fits}
+use Rattle.mad_format.proofs.ReadWraps.{margins-le}
 use Rattle.mad_layout.proofs.ColumnChars.{column_piece}
 use Rattle.mad_layout.proofs.WholeTokens.{IsShownRun, plain_is_shown, tokens_shown}
 
@@ -65,17 +64,17 @@ place_inside None length columns margins drawn same fits h = omega (arith, same,
 place_inside (Some s) length columns margins drawn same fits h = h.1
 
 -- a line that fits with these margins
-drawable : (skin : MadSkin) (drawn : ℕ) (margins : ℕ × ℕ) (l : FmtComposite) → drawn < 2 ^ 64 - 1 → IsPlainPrefix skin l.kind → IsMeasured skin l
-    → margins.0 + columns_of skin l + margins.1 ≤ drawn → FitsPlace l.spacing (columns_of skin l) margins drawn → AllByRecursion IsShownRun (map run_of l.compounds.items) → IsDrawableLine skin drawn (line_with margins l)
+drawable : (skin : MadSkin) (drawn : ℕ) (margins : ℕ × ℕ) (l : FmtComposite) → drawn < 2 ^ 64 - 1 → IsPlainPrefix skin l.kind → IsMeasured (line_rules skin) l
+    → margins.0 + columns_of (line_rules skin) l + margins.1 ≤ drawn → FitsPlace l.spacing (columns_of (line_rules skin) l) margins drawn → AllByRecursion IsShownRun (map run_of l.compounds.items) → IsDrawableLine skin drawn (line_with margins l)
 drawable skin drawn margins l bound prefix measured fits place shown =
-    let same : l.visible_length ≡ columns_of skin l = omega (arith, measured, fits, bound) in
+    let same : l.visible_length ≡ columns_of (line_rules skin) l = omega (arith, measured, fits, bound) in
     record {
       margins = margins;
       margins_are = refl;
-      fits = place_inside l.spacing l.visible_length (columns_of skin l) margins drawn same fits place;
+      fits = place_inside l.spacing l.visible_length (columns_of (line_rules skin) l) margins drawn same fits place;
       fills = record {
         measured = same;
-        place = within_place l.spacing l.visible_length (columns_of skin l) margins drawn same place;
+        place = within_place l.spacing l.visible_length (columns_of (line_rules skin) l) margins drawn same place;
         prefix = prefix_shown skin l.kind prefix;
         indent_is = prefix_columns skin l.kind prefix;
         text = pieces_shown skin (line_style skin l.kind) l.compounds.items shown;
@@ -90,14 +89,14 @@ narrower_fits (Some s) columns wider margins drawn less h = (omega (arith, less,
 wrapped_drawable : (skin : MadSkin) (drawn first : ℕ) (margins : ℕ × ℕ) (kind other : CompositeKind) (place : Option Spacing) (r : Room) (ps : List Compound) (ts : List Token) (wrap : List FmtComposite) → drawn < 2 ^ 64 - 1
     → margins.0 + r.width + margins.1 ≤ drawn → FitsPlace place r.width margins drawn → first ≡ indent skin.list_items_indentation_mode kind → r.other ≡ indent skin.list_items_indentation_mode other
     → IsPlainPrefix skin kind → IsPlainPrefix skin other → AllByRecursion IsShownRun (map run_of ps ++ map token_run ts) → HaveKinds kind other wrap → AllByRecursion (λ l. l.spacing ≡ place) wrap
-    → AllByRecursion (IsMeasured skin) wrap → LinesFit first r (map flagged_text (line_compounds wrap)) → AllByRecursion (IsMadeOf ps ts) (line_compounds wrap) → AreDrawable skin drawn (map (line_with margins) wrap)
+    → AllByRecursion (IsMeasured (line_rules skin)) wrap → LinesFit first r (map flagged_text (line_compounds wrap)) → AllByRecursion (IsMadeOf ps ts) (line_compounds wrap) → AreDrawable skin drawn (map (line_with margins) wrap)
 wrapped_drawable skin drawn first margins kind other place r ps ts [] bound inside fits_place first_is other_is prefix follow shown kinds spacing measured fits parts = tt
 wrapped_drawable skin drawn first margins kind other place r ps ts (l ∷ ls) bound inside fits_place first_is other_is prefix follow shown kinds spacing measured fits parts =
     let runs = map run_of ps ++ map token_run ts in
     let own : indent skin.list_items_indentation_mode l.kind ≡ first = ap (indent skin.list_items_indentation_mode) kinds.0 ∙ sym first_is in
-    let columns : columns_of skin l ≤ r.width = omega (arith, own, fits.0) in
-    let in_place : FitsPlace l.spacing (columns_of skin l) margins drawn =
-    subst (λ (s : Option Spacing). FitsPlace s (columns_of skin l) margins drawn) (sym spacing.0) (narrower_fits place (columns_of skin l) r.width margins drawn columns fits_place) in (
+    let columns : columns_of (line_rules skin) l ≤ r.width = omega (arith, own, fits.0) in
+    let in_place : FitsPlace l.spacing (columns_of (line_rules skin) l) margins drawn =
+    subst (λ (s : Option Spacing). FitsPlace s (columns_of (line_rules skin) l) margins drawn) (sym spacing.0) (narrower_fits place (columns_of (line_rules skin) l) r.width margins drawn columns fits_place) in (
       drawable skin drawn margins l bound (subst (IsPlainPrefix skin) (sym kinds.0) prefix) measured.0 (omega (arith, columns, inside)) in_place
           (all_each (Contains runs) IsShownRun (λ x has. each_of IsShownRun runs x shown has) (map run_of l.compounds.items) parts.0),
       wrapped_drawable skin drawn r.other margins other other place r ps ts ls bound inside fits_place other_is other_is follow follow shown kinds.1 spacing.1 measured.1 fits.1 parts.1,
@@ -105,27 +104,24 @@ wrapped_drawable skin drawn first margins kind other place r ps ts (l ∷ ls) bo
 
 -- ---- a composite as it was read
 
-pub margins-le : (style : LineStyle) (width : ℕ) → (margins_at style (Some width)).0 + (margins_at style (Some width)).1 ≤ width
-margins-le style width = grind (arith, nat_tests)
-
 -- what the margins of a composite's kind leave of a width
 abbrev pub inner_of : MadSkin → ℕ → FmtComposite → ℕ
-inner_of skin width l = width - (style_margins skin width l).0 - (style_margins skin width l).1
+inner_of skin width l = width - (style_margins (line_rules skin) width l).0 - (style_margins (line_rules skin) width l).1
 
 -- The composite says what was read, and has no place of its own, or one that is no wider than what its margins leave, and as wide as the
 -- composite or as that.
 pub record IsPlacedFor (skin : MadSkin) (width : ℕ) (line : StyledRuns) (l : FmtComposite) : Type 0 where
   pub kind : l.kind ≡ kind_of line.style
   pub text : map run_of l.compounds.items ≡ line.runs
-  pub measured : IsMeasured skin l
+  pub measured : IsMeasured (line_rules skin) l
   pub place : IfSome l.spacing (λ s. (s.width ≤ inner_of skin width l) × (min l.visible_length (inner_of skin width l) ≤ s.width))
 
 -- where the composite doesn't fit, its characters have room
 pub has_room : (skin : MadSkin) (width : ℕ) (line : StyledRuns) (source : FmtComposite) → IsPlainText skin (inner_width skin width line) (kind_of line.style) line.runs → IsPlacedFor skin width line source
-    → width < source.visible_length + (style_margins skin width source).0 + (style_margins skin width source).1 → HasRoom (room_of skin source.kind (inner_of skin width source)) (text_of source)
+    → width < source.visible_length + (style_margins (line_rules skin) width source).0 + (style_margins (line_rules skin) width source).1 → HasRoom (room_of (line_rules skin) source.kind (inner_of skin width source)) (text_of source)
 has_room skin width line source plain read wide =
     let left = λ (k : CompositeKind). width - (margins_at (line_style skin k) (Some width)).0 - (margins_at (line_style skin k) (Some width)).1 in
-    let premise = λ (k : CompositeKind) (text : List FlaggedChar). left k < indent skin.list_items_indentation_mode k + width_of text → HasRoom (room_of skin k (left k)) text in
+    let premise = λ (k : CompositeKind) (text : List FlaggedChar). left k < indent skin.list_items_indentation_mode k + width_of text → HasRoom (room_of (line_rules skin) k (left k)) text in
     let text : runs_text line.runs ≡ text_of source = ap runs_text (sym read.text) ∙ runs_are source.compounds.items in
     let room : premise source.kind (text_of source) = subst (λ k. premise k (text_of source)) (sym read.kind) (subst (premise (kind_of line.style)) text plain.room) in
     room (omega (arith, wide, read.measured, margins-le (line_style skin source.kind) width))
@@ -141,23 +137,23 @@ wrapped_place None length inner margins drawn wide inside h = tt
 wrapped_place (Some s) length inner margins drawn wide inside h = (omega (arith, wide, h.1), omega (arith, inside, h.0))
 
 read_drawable : (skin : MadSkin) (width drawn : ℕ) (line : StyledRuns) (source : FmtComposite) (lines : List FmtLine) → width ≤ drawn → drawn < 2 ^ 64 - 1
-    → IsPlainText skin (inner_width skin width line) (kind_of line.style) line.runs → IsPlacedFor skin width line source → IsLaidOutBy IsFittingWrap skin width source lines → AreDrawable skin drawn lines
+    → IsPlainText skin (inner_width skin width line) (kind_of line.style) line.runs → IsPlacedFor skin width line source → IsLaidOutBy IsFittingWrap (line_rules skin) width source lines → AreDrawable skin drawn lines
 read_drawable skin width drawn line source lines narrower bound plain read (inl (fits, same)) =
-    let margins : ℕ × ℕ = style_margins skin width source in
+    let margins : ℕ × ℕ = style_margins (line_rules skin) width source in
     let prefix : IsPlainPrefix skin source.kind = subst (IsPlainPrefix skin) (sym read.kind) plain.prefix in
     let runs : AllByRecursion IsPlainRun (map run_of source.compounds.items) = subst (AllByRecursion IsPlainRun) (sym read.text) plain.plain in
-    let columns : columns_of skin source ≡ source.visible_length = omega (arith, fits, read.measured, narrower, bound) in
+    let columns : columns_of (line_rules skin) source ≡ source.visible_length = omega (arith, fits, read.measured, narrower, bound) in
     let inside : margins.0 + inner_of skin width source + margins.1 ≤ drawn = omega (arith, narrower, margins-le (line_style skin source.kind) width) in
     let inner : source.visible_length ≤ inner_of skin width source = omega (arith, fits) in
     let one = drawable skin drawn margins source bound prefix read.measured (omega (arith, fits, columns, narrower))
-    (kept_place source.spacing source.visible_length (columns_of skin source) (inner_of skin width source) margins drawn columns inner inside read.place)
+    (kept_place source.spacing source.visible_length (columns_of (line_rules skin) source) (inner_of skin width source) margins drawn columns inner inside read.place)
     (all_each IsPlainRun IsShownRun plain_is_shown (map run_of source.compounds.items) runs) in
     subst (AreDrawable skin drawn) (sym same) (one, tt)
 read_drawable skin width drawn line source lines narrower bound plain read (inr (wide, (wrap, wraps, same))) =
     let ps = source.compounds.items in
-    let margins : ℕ × ℕ = style_margins skin width source in
+    let margins : ℕ × ℕ = style_margins (line_rules skin) width source in
     let prefix : IsPlainPrefix skin source.kind = subst (IsPlainPrefix skin) (sym read.kind) plain.prefix in
-    let r : Room = room_of skin source.kind (inner_of skin width source) in
+    let r : Room = room_of (line_rules skin) source.kind (inner_of skin width source) in
     let runs : AllByRecursion IsPlainRun (map run_of ps) = subst (AllByRecursion IsPlainRun) (sym read.text) plain.plain in
     let room : HasRoom r (text_of source) = has_room skin width line source plain read wide in
     let narrow : AllByRecursion (λ x. char_columns x.char ≤ token_limit r) (flagged_text ps) =
@@ -176,18 +172,18 @@ read_drawable skin width drawn line source lines narrower bound plain read (inr 
 
 -- so it has a line at least
 read_some : (skin : MadSkin) (width : ℕ) (line : StyledRuns) (source : FmtComposite) (lines : List FmtLine) → IsPlainText skin (inner_width skin width line) (kind_of line.style) line.runs → IsPlacedFor skin width line source
-    → IsLaidOutBy IsFittingWrap skin width source lines → 0 < length lines
+    → IsLaidOutBy IsFittingWrap (line_rules skin) width source lines → 0 < length lines
 read_some skin width line source lines plain read (inl (fits, same)) = let one : length lines ≡ 1 = ap length same in omega (arith, one)
 read_some skin width line source lines plain read (inr (wide, ([], wraps, same))) =
-    let room : HasRoom (room_of skin source.kind (inner_of skin width source)) (text_of source) = has_room skin width line source plain read wide in
+    let room : HasRoom (room_of (line_rules skin) source.kind (inner_of skin width source)) (text_of source) = has_room skin width line source plain read wide in
     let empty : width_of (text_of source) ≡ 0 = ap width_of wraps.keeps in
     absurd (omega (arith, wide, read.measured, room.indent, empty, margins-le (line_style skin source.kind) width))
 read_some skin width line source lines plain read (inr (wide, (w ∷ ws, wraps, same))) =
-    let more : length lines ≡ suc (length (map (line_with (style_margins skin width source)) ws)) = ap length same in omega (arith, more)
+    let more : length lines ≡ suc (length (map (line_with (style_margins (line_rules skin) width source)) ws)) = ap length same in omega (arith, more)
 
 -- what becomes of one line of a text
-content_drawable : (skin : MadSkin) (width drawn : ℕ) (part : List LineContent) (content : LineContent) (l m : FmtLine) (own : List FmtLine) → width ≤ drawn → drawn < 2 ^ 64 - 1 → IsPlainContent skin width part content → IsLineRead skin content l → is_table_line l ≡ false
-    → IsPlacedLine skin width l m → IsLineAt IsFittingWrap skin (Some width) m own → (0 < length own) × AreDrawable skin drawn own
+content_drawable : (skin : MadSkin) (width drawn : ℕ) (part : List LineContent) (content : LineContent) (l m : FmtLine) (own : List FmtLine) → width ≤ drawn → drawn < 2 ^ 64 - 1 → IsPlainContent skin width part content → IsLineRead (line_rules skin) content l → is_table_line l ≡ false
+    → IsPlacedLine (line_rules skin) width l m → IsLineAt IsFittingWrap (line_rules skin) (Some width) m own → (0 < length own) × AreDrawable skin drawn own
 content_drawable skin width drawn part (table_row cells) (Normal l) m own narrower bound plain read alone placed here = absurd read
 content_drawable skin width drawn part (table_row cells) (TableRow row) m own narrower bound plain read alone placed here = absurd (cc)
 content_drawable skin width drawn part (table_row cells) (TableRule rule) m own narrower bound plain read alone placed here = absurd read
@@ -203,7 +199,7 @@ content_drawable skin width drawn part horizontal_rule (Normal l) m own narrower
 content_drawable skin width drawn part horizontal_rule (TableRow row) m own narrower bound plain read alone placed here = absurd read
 content_drawable skin width drawn part horizontal_rule (TableRule rule) m own narrower bound plain read alone placed here = absurd read
 content_drawable skin width drawn part (normal said) (Normal l) m own narrower bound plain read alone (inl same) here =
-    let becomes : IsLaidOutBy IsFittingWrap skin width l own = subst (λ (x : FmtLine). IsLineAt IsFittingWrap skin (Some width) x own) same here in
+    let becomes : IsLaidOutBy IsFittingWrap (line_rules skin) width l own = subst (λ (x : FmtLine). IsLineAt IsFittingWrap (line_rules skin) (Some width) x own) same here in
     let is : IsPlacedFor skin width said l = record {
       kind = read.kind;
       text = read.text;
@@ -213,18 +209,18 @@ content_drawable skin width drawn part (normal said) (Normal l) m own narrower b
     (read_some skin width said l own plain is becomes, read_drawable skin width drawn said l own narrower bound plain is becomes)
 content_drawable skin width drawn part (normal said) (Normal l) m own narrower bound plain read alone (inr placed) here =
     let p : FmtComposite = record l { spacing = Some placed.place } in
-    let becomes : IsLaidOutBy IsFittingWrap skin width p own = subst (λ (x : FmtLine). IsLineAt IsFittingWrap skin (Some width) x own) placed.is here in
+    let becomes : IsLaidOutBy IsFittingWrap (line_rules skin) width p own = subst (λ (x : FmtLine). IsLineAt IsFittingWrap (line_rules skin) (Some width) x own) placed.is here in
     let is : IsPlacedFor skin width said p = record { kind = read.kind; text = read.text; measured = read.measured; place = (placed.inside, placed.holds) } in
     (read_some skin width said p own plain is becomes, read_drawable skin width drawn said p own narrower bound plain is becomes)
 content_drawable skin width drawn part horizontal_rule HorizontalRule m own narrower bound plain read alone (inl same) here =
-    let becomes : own ≡ HorizontalRule ∷ [] = subst (λ (x : FmtLine). IsLineAt IsFittingWrap skin (Some width) x own) same here in
+    let becomes : own ≡ HorizontalRule ∷ [] = subst (λ (x : FmtLine). IsLineAt IsFittingWrap (line_rules skin) (Some width) x own) same here in
     let one : length own ≡ 1 = ap length becomes in
     (omega (arith, one), subst (AreDrawable skin drawn) (sym becomes) (column_piece skin.horizontal_rule plain, tt))
 content_drawable skin width drawn part horizontal_rule HorizontalRule m own narrower bound plain read alone (inr placed) here = absurd placed
 
 -- the lines of a part, where those of the parts after it are drawn exactly
 lines_drawable : (skin : MadSkin) (width drawn n : ℕ) (part : List LineContent) (above : Option (List Alignment)) (begins : Bool) (text : List LineContent) (xs : List LineInPart) (read placed own others : List FmtLine) → width ≤ drawn → drawn < 2 ^ 64 - 1 → Later skin width drawn xs others
-    → KeepsPremises skin width (take n (lines_in part above begins text ++ xs)) → AreRead skin text read → AllByRecursion (λ l. is_table_line l ≡ false) read → ArePlacedLines skin width read placed → AreLinesAt IsFittingWrap skin (Some width) placed own
+    → KeepsPremises skin width (take n (lines_in part above begins text ++ xs)) → AreRead (line_rules skin) text read → AllByRecursion (λ l. is_table_line l ≡ false) read → ArePlacedLines (line_rules skin) width read placed → AreLinesAt IsFittingWrap (line_rules skin) (Some width) placed own
     → AreDrawable skin drawn (take n (own ++ others))
 lines_drawable skin width drawn zero part above begins text xs read placed own others narrower bound later keeps reads alone places becomes = tt
 lines_drawable skin width drawn (suc n) part above begins text xs [] (m ∷ ms) own others narrower bound later keeps reads alone places becomes = absurd places
@@ -244,7 +240,7 @@ no_table_lines (l ∷ ls) = (refl, no_table_lines ls)
 
 -- the parts of a text, one after the other
 parts_drawable : (skin : MadSkin) (width drawn n : ℕ) (css : List (List LineContent)) (ps : List Part) (lines : List FmtLine) → width ≤ drawn → drawn < 2 ^ 64 - 1 → AllByRecursion IsPartOfKind ps
-    → KeepsPremises skin width (take n (all_in css)) → ArePartsRead skin css ps → ArePartsAt IsFittingWrap skin width (Some width) ps lines → AreDrawable skin drawn (take n lines)
+    → KeepsPremises skin width (take n (all_in css)) → ArePartsRead skin css ps → ArePartsAt IsFittingWrap (line_rules skin) width (Some width) ps lines → AreDrawable skin drawn (take n lines)
 parts_drawable skin width drawn zero css ps lines narrower bound kinds keeps reads becomes = tt
 parts_drawable skin width drawn (suc n) [] [] lines narrower bound kinds keeps reads becomes = subst (λ (ls : List FmtLine). AreDrawable skin drawn (take (suc n) ls)) (sym becomes) tt
 parts_drawable skin width drawn (suc n) [] (p ∷ ps) lines narrower bound kinds keeps reads becomes = absurd reads
@@ -256,8 +252,8 @@ parts_drawable skin width drawn (suc n) ((c ∷ cs) ∷ css) (table (l ∷ ls) �
     (table_drawable skin width drawn n c cs (all_in css) l ls own others narrower bound (λ m k. parts_drawable skin width drawn m css ps others narrower bound kinds.1 k reads.1 more) keeps reads.0 kinds.0 here)
 parts_drawable skin width drawn (suc n) ((c ∷ cs) ∷ css) (block ls ∷ ps) lines narrower bound kinds keeps reads (own, others, joins, here, more) =
     subst (λ (xs : List FmtLine). AreDrawable skin drawn (take (suc n) xs)) (sym joins)
-    (lines_drawable skin width drawn (suc n) (c ∷ cs) None true (c ∷ cs) (all_in css) (map Normal ls) (map Normal (justified (code_room skin (Some width)) ls)) own others narrower bound
-    (λ m k. parts_drawable skin width drawn m css ps others narrower bound kinds.1 k reads.1 more) keeps (part_raw skin (c ∷ cs) (block ls) reads.0) (no_table_lines ls) (code_placed skin width ls kinds.0) here)
+    (lines_drawable skin width drawn (suc n) (c ∷ cs) None true (c ∷ cs) (all_in css) (map Normal ls) (map Normal (justified (code_room (line_rules skin) (Some width)) ls)) own others narrower bound
+    (λ m k. parts_drawable skin width drawn m css ps others narrower bound kinds.1 k reads.1 more) keeps (part_raw skin (c ∷ cs) (block ls) reads.0) (no_table_lines ls) (code_placed (line_rules skin) width ls kinds.0) here)
 parts_drawable skin width drawn (suc n) ((c ∷ cs) ∷ css) (single l ∷ ps) lines narrower bound kinds keeps reads (own, others, joins, here, more) =
     subst (λ (xs : List FmtLine). AreDrawable skin drawn (take (suc n) xs)) (sym joins)
     (lines_drawable skin width drawn (suc n) (c ∷ cs) None true (c ∷ cs) (all_in css) (l ∷ []) (l ∷ []) own others narrower bound
@@ -266,50 +262,15 @@ parts_drawable skin width drawn (suc n) ((c ∷ cs) ∷ css) (single l ∷ ps) l
 -- Where the first lines of a text keep the premises, the first lines of its layout are drawn exactly in a row at least as wide, however
 -- many lines it has.
 pub fitting_is_drawable : (skin : MadSkin) (width drawn n : ℕ) (text : List LineContent) (lines : List FmtLine) → width ≤ drawn → drawn < 2 ^ 64 - 1
-    → KeepsPremises skin width (take n (lines_in_parts text)) → IsFittingLayout skin width text lines → AreDrawable skin drawn (take n lines)
+    → KeepsPremises skin width (take n (lines_in_parts text)) → IsFittingLayout (line_rules skin) width text lines → AreDrawable skin drawn (take n lines)
 fitting_is_drawable skin width drawn n text lines narrower bound keeps layout =
     parts_drawable skin width drawn n (text_parts text) (parts_of layout.read) lines narrower bound (parts_kinds layout.read) keeps (parts_read skin text layout.read layout.reads) layout.laid
 
 -- ---- a layout with the fewest lines
 
-pub wrap_fits : (skin : MadSkin) (width : ℕ) (source : FmtComposite) (lines : List FmtComposite) → IsCompositeWrap skin width source lines → IsFittingWrap skin width source lines
-wrap_fits skin width source lines wrap = record {
-  keeps = wrap.wrap.keeps;
-  fits = wrap.wrap.fits;
-  parts = λ ts tokens. (wrap.wrap.least ts tokens).parts;
-  kinds = wrap.kinds;
-  measured = wrap.measured;
-  spacing = wrap.spacing;
-  margins = wrap.margins;
-}
-
-line_fits : (skin : MadSkin) (width : ℕ) (l : FmtLine) (own : List FmtLine) → IsLineAt IsCompositeWrap skin (Some width) l own → IsLineAt IsFittingWrap skin (Some width) l own
-line_fits skin width (Normal l) own (inl here) = inl here
-line_fits skin width (Normal l) own (inr (wide, (wrap, wraps, same))) =
-    let margins = style_margins skin width l in inr (wide, (wrap, wrap_fits skin (width - margins.0 - margins.1) l wrap wraps, same))
-line_fits skin width (TableRow row) own here = here
-line_fits skin width (TableRule rule) own here = here
-line_fits skin width HorizontalRule own here = here
-
-lines_fit : (skin : MadSkin) (width : ℕ) (read lines : List FmtLine) → AreLinesAt IsCompositeWrap skin (Some width) read lines → AreLinesAt IsFittingWrap skin (Some width) read lines
-lines_fit skin width [] lines h = h
-lines_fit skin width (l ∷ ls) lines (own, others, joins, here, more) = (own, others, joins, line_fits skin width l own here, lines_fit skin width ls others more)
-
-part_fits : (skin : MadSkin) (width : ℕ) (p : Part) (own : List FmtLine) → IsPartAt IsCompositeWrap skin width (Some width) p own → IsPartAt IsFittingWrap skin width (Some width) p own
-part_fits skin width (table ls) own here = table_by IsCompositeWrap IsFittingWrap wrap_fits skin _ width ls own here
-part_fits skin width (block ls) own here = lines_fit skin width (map Normal (justified (code_room skin (Some width)) ls)) own here
-part_fits skin width (single l) own here = lines_fit skin width (l ∷ []) own here
-
-parts_fit : (skin : MadSkin) (width : ℕ) (ps : List Part) (lines : List FmtLine) → ArePartsAt IsCompositeWrap skin width (Some width) ps lines → ArePartsAt IsFittingWrap skin width (Some width) ps lines
-parts_fit skin width [] lines h = h
-parts_fit skin width (p ∷ ps) lines (own, others, joins, here, more) = (own, others, joins, part_fits skin width p own here, parts_fit skin width ps others more)
-
-pub layout_fits : (skin : MadSkin) (width : ℕ) (text : List LineContent) (lines : List FmtLine) → IsLayout skin width text lines → IsFittingLayout skin width text lines
-layout_fits skin width text lines layout = record { read = layout.read; reads = layout.reads; laid = parts_fit skin width (parts_of layout.read) lines layout.laid }
-
 pub layout_is_drawable : (skin : MadSkin) (width drawn n : ℕ) (text : List LineContent) (lines : List FmtLine) → width ≤ drawn → drawn < 2 ^ 64 - 1
-    → KeepsPremises skin width (take n (lines_in_parts text)) → IsLayout skin width text lines → AreDrawable skin drawn (take n lines)
-layout_is_drawable skin width drawn n text lines narrower bound keeps layout = fitting_is_drawable skin width drawn n text lines narrower bound keeps (layout_fits skin width text lines layout)
+    → KeepsPremises skin width (take n (lines_in_parts text)) → IsLayout (line_rules skin) width text lines → AreDrawable skin drawn (take n lines)
+layout_is_drawable skin width drawn n text lines narrower bound keeps layout = fitting_is_drawable skin width drawn n text lines narrower bound keeps (layout_fits (line_rules skin) width text lines layout)
 
 -- ---- the lines that have a row
 

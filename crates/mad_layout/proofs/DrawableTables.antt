@@ -1,5 +1,5 @@
 -- A table that is laid out is drawn exactly.
-use Rattle.std.proofs.Common.{◌≡◌, ℕ, zero, suc, ◌+◌, ◌-◌, ◌^◌, ◌<◌, ◌≤◌, Bool, true, false, inl, inr, List, [], ◌∷◌, ◌++◌, map, max, Option, Some, None, Contains, length, take, refl, ap, sym, ◌∙◌, subst, arith, append_assoc}
+use Rattle.std.proofs.Common.{◌≡◌, ℕ, zero, suc, ◌+◌, ◌-◌, ◌^◌, ◌<◌, ◌≤◌, Bool, true, false, inl, inr, List, [], ◌∷◌, ◌++◌, map, max, Option, None, Contains, length, take, refl, ap, sym, ◌∙◌, subst, arith, append_assoc}
 use Rattle.std.specs.Prelude.{IfSome, unwrap_or, ◌==◌}
 use Rattle.std.specs.List.{AllByRecursion}
 use Rattle.mad_columns.specs.Columns.{char_columns}
@@ -19,30 +19,31 @@ use Rattle.mad_wrap.specs.Rooms.{most_indent, token_limit}
 use Rattle.mad_wrap.specs.WrapLines.{HasRoom, LinesFit, IsMadeOf}
 use Rattle.mad_wrap.specs.declared.room.Room.{Room}
 use Rattle.mad_draw.specs.Pieces.{AreShownPieces, pieces_columns}
-use Rattle.mad_layout.specs.CompositeWraps.{line_compounds, HaveKinds}
+use Rattle.mad_format.specs.CompositeWraps.{line_compounds, HaveKinds}
 use Rattle.mad_layout.specs.Drawable.{FillsItsPlace, IsDrawableRow, IsDrawableRule, IsDrawableLine, AreDrawable}
-use Rattle.mad_layout.specs.FittingLayouts.{IsFittingWrap}
-use Rattle.mad_layout.specs.Indents.{indent, follow_up, room_of}
-use Rattle.mad_layout.specs.Layouts.{AreRead}
-use Rattle.mad_layout.specs.Lines.{bordered, rule_columns, AreCompositesRead, IsLineRead}
+use Rattle.mad_format.specs.FittingLayouts.{IsFittingWrap}
+use Rattle.mad_format.specs.Indents.{indent, follow_up, room_of}
+use Rattle.mad_format.specs.Layouts.{AreRead}
+use Rattle.mad_format.specs.Lines.{bordered, rule_columns, AreCompositesRead, IsLineRead}
 use Rattle.mad_layout.specs.PlainTables.{ArePlainCells, IsPlainTableLine}
 use Rattle.mad_layout.specs.Premises.{IsPlainRun, runs_text, IsPlainPrefix, IsPlainText, AreBordersShown, ArePlainIn, IsPlainContent, KeepsPremises}
 use Rattle.mad_layout.specs.Rows.{compound_piece, inner_columns, prefix_pieces, place_of, row_columns, rule_chars}
-use Rattle.mad_layout.specs.Styles.{line_style}
-use Rattle.mad_layout.specs.Tables.{AreKeptWidths, in_column, IsBlankIn, columns_with, centered, columns_from, columns_count, columns_in, is_table_line, position_at, IsTop, IsLineAcross, AreDown, below, IsCellLaidOut, AreCellsLaidOut, IsRuleLaidOut, IsTableLineBy, AreTableLinesBy, IsTableLaidOutBy}
+use Rattle.mad_layout.specs.Styles.{line_rules, line_style}
+use Rattle.mad_format.specs.Tables.{AreKeptWidths, in_column, IsBlankIn, columns_with, centered, columns_from, columns_count, columns_in, is_table_line, position_at, IsTop, IsLineAcross, AreDown, below, IsCellLaidOut, AreCellsLaidOut, IsRuleLaidOut, IsTableLineBy, AreTableLinesBy, IsTableLaidOutBy}
 use Rattle.mad_layout.specs.TableColumns.{kept_widths}
 use Rattle.mad_layout.specs.TextParts.{LineInPart, aligns_at, lines_in}
-use Rattle.mad_layout.specs.Wraps.{text_of, columns_of, IsMeasured}
+use Rattle.mad_format.specs.Wraps.{text_of, columns_of, IsMeasured}
 use Rattle.mad_layout.specs.declared.skin.MadSkin.{MadSkin}
-use Rattle.mad_layout.specs.declared.composite.FmtComposite.{FmtComposite}
-use Rattle.mad_layout.specs.declared.line.FmtLine.{FmtLine}
-use Rattle.mad_layout.specs.declared.line.FmtLine.TheVariants.{Normal, TableRow, TableRule, HorizontalRule}
-use Rattle.mad_layout.specs.declared.table.FmtTableRow.{FmtTableRow}
-use Rattle.mad_layout.specs.declared.table.FmtTableRule.{FmtTableRule}
-use Rattle.mad_layout.specs.declared.table.RelativePosition.{RelativePosition}
+use Rattle.mad_format.specs.declared.composite.FmtComposite.{FmtComposite}
+use Rattle.mad_format.specs.declared.line.FmtLine.{FmtLine}
+use Rattle.mad_format.specs.declared.line.FmtLine.TheVariants.{Normal, TableRow, TableRule, HorizontalRule}
+use Rattle.mad_format.specs.declared.table.FmtTableRow.{FmtTableRow}
+use Rattle.mad_format.specs.declared.table.FmtTableRule.{FmtTableRule}
+use Rattle.mad_format.specs.declared.table.RelativePosition.{RelativePosition}
 use Rattle.mad_layout.proofs.DrawnParts.{each_of, pieces_shown, runs_are, some_joined, utf8_of}
 use Rattle.mad_layout.proofs.PrefixLemmas.{prefix_shown, prefix_columns, follow_up_plain}
-use Rattle.mad_layout.proofs.PartRuns.{AllTableLines}
+use Rattle.mad_format.proofs.PartRuns.{AllTableLines}
+use Rattle.mad_format.proofs.TableLemmas.{top_spacing}
 use Rattle.mad_layout.proofs.KeptWidths.{AreTableRead, widths_kept}
 use Rattle.mad_layout.proofs.ReadParts.{table_raw}
 use Rattle.mad_layout.proofs.ColumnChars.{column_border, column_rule}
@@ -54,10 +55,10 @@ use Rattle.mad_layout.proofs.WholeTokens.{IsShownRun, plain_is_shown, tokens_sho
 abbrev FillColumn : MadSkin → Spacing → List FmtComposite → Type 0
 FillColumn skin c ls = AllByRecursion (λ l. FillsItsPlace skin (in_column c l)) ls
 
-fills_column : (skin : MadSkin) (c : Spacing) (l : FmtComposite) → c.width < 2 ^ 64 - 1 → IsPlainPrefix skin l.kind → IsMeasured skin l → columns_of skin l ≤ c.width
+fills_column : (skin : MadSkin) (c : Spacing) (l : FmtComposite) → c.width < 2 ^ 64 - 1 → IsPlainPrefix skin l.kind → IsMeasured (line_rules skin) l → columns_of (line_rules skin) l ≤ c.width
     → AllByRecursion IsShownRun (map run_of l.compounds.items) → FillsItsPlace skin (in_column c l)
 fills_column skin c l bound prefix measured fits shown =
-    let same : l.visible_length ≡ columns_of skin l = omega (arith, measured, fits, bound) in
+    let same : l.visible_length ≡ columns_of (line_rules skin) l = omega (arith, measured, fits, bound) in
     record {
       measured = same;
       place = omega (arith, same, fits);
@@ -68,27 +69,27 @@ fills_column skin c l bound prefix measured fits shown =
 
 wrapped_fill : (skin : MadSkin) (c : Spacing) (first : ℕ) (kind other : CompositeKind) (r : Room) (ps : List Compound) (ts : List Token) (wrap : List FmtComposite) → c.width < 2 ^ 64 - 1 → r.width ≡ c.width
     → first ≡ indent skin.list_items_indentation_mode kind → r.other ≡ indent skin.list_items_indentation_mode other → IsPlainPrefix skin kind → IsPlainPrefix skin other
-    → AllByRecursion IsShownRun (map run_of ps ++ map token_run ts) → HaveKinds kind other wrap → AllByRecursion (IsMeasured skin) wrap → LinesFit first r (map flagged_text (line_compounds wrap))
+    → AllByRecursion IsShownRun (map run_of ps ++ map token_run ts) → HaveKinds kind other wrap → AllByRecursion (IsMeasured (line_rules skin)) wrap → LinesFit first r (map flagged_text (line_compounds wrap))
     → AllByRecursion (IsMadeOf ps ts) (line_compounds wrap) → FillColumn skin c wrap
 wrapped_fill skin c first kind other r ps ts [] bound width first_is other_is prefix follow shown kinds measured fits parts = tt
 wrapped_fill skin c first kind other r ps ts (l ∷ ls) bound width first_is other_is prefix follow shown kinds measured fits parts =
     let runs = map run_of ps ++ map token_run ts in
     let own : indent skin.list_items_indentation_mode l.kind ≡ first = ap (indent skin.list_items_indentation_mode) kinds.0 ∙ sym first_is in
-    let columns : columns_of skin l ≤ c.width = omega (arith, own, width, fits.0) in (
+    let columns : columns_of (line_rules skin) l ≤ c.width = omega (arith, own, width, fits.0) in (
       fills_column skin c l bound (subst (IsPlainPrefix skin) (sym kinds.0) prefix) measured.0 columns
           (all_each (Contains runs) IsShownRun (λ x has. each_of IsShownRun runs x shown has) (map run_of l.compounds.items) parts.0),
       wrapped_fill skin c r.other other other r ps ts ls bound width other_is other_is follow follow shown kinds.1 measured.1 fits.1 parts.1,
     )
 
-cell_fills : (skin : MadSkin) (c : Spacing) (cell : FmtComposite) (ls : List FmtComposite) → c.width < 2 ^ 64 - 1 → IsMeasured skin cell → IsPlainText skin c.width cell.kind (map run_of cell.compounds.items)
-    → IsCellLaidOut IsFittingWrap skin c.width cell ls → FillColumn skin c ls
+cell_fills : (skin : MadSkin) (c : Spacing) (cell : FmtComposite) (ls : List FmtComposite) → c.width < 2 ^ 64 - 1 → IsMeasured (line_rules skin) cell → IsPlainText skin c.width cell.kind (map run_of cell.compounds.items)
+    → IsCellLaidOut IsFittingWrap (line_rules skin) c.width cell ls → FillColumn skin c ls
 cell_fills skin c cell ls bound measured plain (inl (fits, same)) =
-    let columns : columns_of skin cell ≤ c.width = omega (arith, measured, fits, bound) in
+    let columns : columns_of (line_rules skin) cell ≤ c.width = omega (arith, measured, fits, bound) in
     let one = fills_column skin c cell bound plain.prefix measured columns (all_each IsPlainRun IsShownRun plain_is_shown (map run_of cell.compounds.items) plain.plain) in
     subst (FillColumn skin c) (sym same) (one, tt)
 cell_fills skin c cell ls bound measured plain (inr (wide, wraps)) =
     let ps = cell.compounds.items in
-    let r : Room = room_of skin cell.kind c.width in
+    let r : Room = room_of (line_rules skin) cell.kind c.width in
     let text : runs_text (map run_of ps) ≡ text_of cell = runs_are ps in
     let premise = λ (t : List FlaggedChar). c.width < indent skin.list_items_indentation_mode cell.kind + width_of t → HasRoom r t in
     let room_where : premise (text_of cell) = subst premise text plain.room in
@@ -118,7 +119,7 @@ no_cells skin [] = tt
 no_cells skin (w ∷ ws) = tt
 
 cells_fill : (skin : MadSkin) (cs : List Spacing) (cells : List FmtComposite) (lines : List (List FmtComposite)) → AllByRecursion (λ c. c.width < 2 ^ 64 - 1) cs → ArePlainCells skin (widths_of cs) cells
-    → AreCellsLaidOut IsFittingWrap skin cs cells lines → FillColumns skin cs lines
+    → AreCellsLaidOut IsFittingWrap (line_rules skin) cs cells lines → FillColumns skin cs lines
 cells_fill skin [] cells lines bound plain laid = tt
 cells_fill skin (c ∷ cs) cells [] bound plain laid = tt
 cells_fill skin (c ∷ cs) [] (ls ∷ lines) bound plain laid = (subst (FillColumn skin c) (sym laid.0) tt, cells_fill skin cs [] lines bound.1 (no_cells skin (widths_of cs)) laid.1)
@@ -141,10 +142,6 @@ blank_fills skin c x h =
 top_fills : (skin : MadSkin) (c : Spacing) (ls : List FmtComposite) (x : FmtComposite) → FillColumn skin c ls → IsTop c ls x → FillsItsPlace skin x
 top_fills skin c [] x h top = blank_fills skin c x top
 top_fills skin c (l ∷ ls) x h top = subst (FillsItsPlace skin) (sym top) h.0
-
-pub top_spacing : (c : Spacing) (ls : List FmtComposite) (x : FmtComposite) → IsTop c ls x → x.spacing ≡ Some c
-top_spacing c [] x top = top.spacing
-top_spacing c (l ∷ ls) x top = ap (λ (y : FmtComposite). y.spacing) top
 
 across_fill : (skin : MadSkin) (cs : List Spacing) (lines : List (List FmtComposite)) (xs : List FmtComposite) → FillColumns skin cs lines → IsLineAcross cs lines xs → AllByRecursion (FillsItsPlace skin) xs
 across_fill skin [] [] [] h across = tt
@@ -232,7 +229,7 @@ map_some [] h = absurd (omega (arith, h))
 map_some (row ∷ rows) h = omega arith
 
 table_line_drawable : (skin : MadSkin) (drawn : ℕ) (ws : List ℕ) (cs : List Spacing) (position : RelativePosition) (l : FmtLine) (own : List FmtLine) → FitColumns drawn ws cs
-    → AreBordersShown skin → IsPlainTableLine skin ws l → IsTableLineBy IsFittingWrap skin cs position l own → (0 < length own) × AreDrawable skin drawn own
+    → AreBordersShown skin → IsPlainTableLine skin ws l → IsTableLineBy IsFittingWrap (line_rules skin) cs position l own → (0 < length own) × AreDrawable skin drawn own
 table_line_drawable skin drawn ws cs position (Normal l) own fit borders plain here = absurd plain
 table_line_drawable skin drawn ws cs position (TableRow row) own fit borders plain (rows, is, laid) =
     let inside : 1 + bordered (widths_of cs) ≤ drawn = subst (λ vs. 1 + bordered vs ≤ drawn) (sym fit.are) fit.fit in
@@ -261,7 +258,7 @@ bare_drawable skin drawn HorizontalRule two borders plain none = absurd plain
 
 -- ---- lines of a text
 
-cells_plain : (skin : MadSkin) (ws : List ℕ) (said : List StyledRuns) (cells : List FmtComposite) → ArePlainIn skin ws said → AreCompositesRead skin said cells → ArePlainCells skin ws cells
+cells_plain : (skin : MadSkin) (ws : List ℕ) (said : List StyledRuns) (cells : List FmtComposite) → ArePlainIn skin ws said → AreCompositesRead (line_rules skin) said cells → ArePlainCells skin ws cells
 cells_plain skin [] said cells plain read = tt
 cells_plain skin (w ∷ ws) [] [] plain read = tt
 cells_plain skin (w ∷ ws) [] (l ∷ ls) plain read = absurd read
@@ -285,7 +282,7 @@ ArePartColumns skin width part ws = (cells : List StyledRuns) → ArePlainIn ski
 pub kept_columns : (skin : MadSkin) (width : ℕ) (part : List LineContent) (ws : List ℕ) → ws ≡ kept_widths skin width part → ArePartColumns skin width part ws
 kept_columns skin width part ws is cells given = subst (λ vs. ArePlainIn skin vs cells) (sym is) given
 
-pub content_plain : (skin : MadSkin) (width : ℕ) (part : List LineContent) (ws : List ℕ) (c : LineContent) (l : FmtLine) → ArePartColumns skin width part ws → IsPlainContent skin width part c → IsLineRead skin c l → is_table_line l ≡ true
+pub content_plain : (skin : MadSkin) (width : ℕ) (part : List LineContent) (ws : List ℕ) (c : LineContent) (l : FmtLine) → ArePartColumns skin width part ws → IsPlainContent skin width part c → IsLineRead (line_rules skin) c l → is_table_line l ≡ true
     → TableContent skin width ws l
 content_plain skin width part ws (normal said) (Normal l) columns plain read is = absurd (cc)
 content_plain skin width part ws (normal said) (TableRow row) columns plain read is = absurd read
@@ -309,8 +306,8 @@ abbrev pub Later : MadSkin → ℕ → ℕ → List LineInPart → List FmtLine 
 Later skin width drawn xs others = (m : ℕ) → KeepsPremises skin width (take m xs) → AreDrawable skin drawn (take m others)
 
 laid_drawable : (skin : MadSkin) (width drawn n : ℕ) (part : List LineContent) (above : Option (List Alignment)) (text : List LineContent) (xs : List LineInPart) (ws : List ℕ) (cs : List Spacing) (first : Bool) (table own others : List FmtLine) → 1 + bordered ws ≤ width → width ≤ drawn → drawn < 2 ^ 64 - 1
-    → widths_of cs ≡ ws → ArePartColumns skin width part ws → Later skin width drawn xs others → KeepsPremises skin width (take n (lines_in part above first text ++ xs)) → AreRead skin text table → AllTableLines table
-    → AreTableLinesBy IsFittingWrap skin ws cs first table own → AreDrawable skin drawn (take n (own ++ others))
+    → widths_of cs ≡ ws → ArePartColumns skin width part ws → Later skin width drawn xs others → KeepsPremises skin width (take n (lines_in part above first text ++ xs)) → AreRead (line_rules skin) text table → AllTableLines table
+    → AreTableLinesBy IsFittingWrap (line_rules skin) ws cs first table own → AreDrawable skin drawn (take n (own ++ others))
 laid_drawable skin width drawn zero part above text xs ws cs first table own others fit narrower bound are columns later keeps reads lines laid = tt
 laid_drawable skin width drawn (suc n) part above [] xs ws cs first [] own others fit narrower bound are columns later keeps reads lines laid =
     subst (λ (ls : List FmtLine). AreDrawable skin drawn (take (suc n) (ls ++ others))) (sym laid) (later (suc n) keeps)
@@ -326,7 +323,7 @@ laid_drawable skin width drawn (suc n) part above (c ∷ text) xs ws cs first (l
     (laid_drawable skin width drawn n part (aligns_at above c) text xs ws (columns_from ws cs l) false ls more others fit narrower bound (from-widths ws cs l are) columns later keeps.1 reads.1 lines.1 below_it))
 
 bare_lines : (skin : MadSkin) (width drawn n : ℕ) (part : List LineContent) (above : Option (List Alignment)) (first : Bool) (text : List LineContent) (xs : List LineInPart) (table others : List FmtLine) → width ≤ drawn → columns_count table ≡ 0 → Later skin width drawn xs others
-    → KeepsPremises skin width (take n (lines_in part above first text ++ xs)) → AreRead skin text table → AllTableLines table → AreDrawable skin drawn (take n (table ++ others))
+    → KeepsPremises skin width (take n (lines_in part above first text ++ xs)) → AreRead (line_rules skin) text table → AllTableLines table → AreDrawable skin drawn (take n (table ++ others))
 bare_lines skin width drawn zero part above first text xs table others narrower none later keeps reads lines = tt
 bare_lines skin width drawn (suc n) part above first [] xs [] others narrower none later keeps reads lines = later (suc n) keeps
 bare_lines skin width drawn (suc n) part above first (c ∷ text) xs [] others narrower none later keeps reads lines = absurd reads
@@ -340,7 +337,7 @@ bare_lines skin width drawn (suc n) part above first (c ∷ text) xs (l ∷ ls) 
 -- The lines of a table, which is a part of a text, and those after it.
 pub table_drawable : (skin : MadSkin) (width drawn n : ℕ) (c : LineContent) (text : List LineContent) (xs : List LineInPart) (l : FmtLine) (ls own others : List FmtLine) → width ≤ drawn → drawn < 2 ^ 64 - 1 → Later skin width drawn xs others
     → KeepsPremises skin width (take (suc n) (lines_in (c ∷ text) None true (c ∷ text) ++ xs)) → AreTableRead skin (c ∷ text) (l ∷ ls) → AllTableLines (l ∷ ls)
-    → IsTableLaidOutBy IsFittingWrap skin (columns_count (l ∷ ls)) width (l ∷ ls) own → AreDrawable skin drawn (take (suc n) (own ++ others))
+    → IsTableLaidOutBy IsFittingWrap (line_rules skin) (columns_count (l ∷ ls)) width (l ∷ ls) own → AreDrawable skin drawn (take (suc n) (own ++ others))
 table_drawable skin width drawn n c text xs l ls own others narrower bound later keeps reads lines (inl (inl none, stays)) =
     subst (λ (xs : List FmtLine). AreDrawable skin drawn (take (suc n) (xs ++ others))) (sym stays) (bare_lines skin width drawn (suc n) (c ∷ text) None true (c ∷ text) xs (l ∷ ls) others narrower none later keeps (table_raw skin (c ∷ text) (l ∷ ls) reads) lines)
 table_drawable skin width drawn n c text xs l ls own others narrower bound later keeps reads lines (inl (inr none, stays)) =
@@ -354,7 +351,7 @@ table_drawable skin width drawn n c text xs l ls own others narrower bound later
 -- ---- a table by itself
 
 alone_drawable : (skin : MadSkin) (drawn : ℕ) (ws : List ℕ) (cs : List Spacing) (first : Bool) (table own : List FmtLine) → FitColumns drawn ws cs → AreBordersShown skin
-    → AllByRecursion (IsPlainTableLine skin ws) table → AreTableLinesBy IsFittingWrap skin ws cs first table own → AreDrawable skin drawn own
+    → AllByRecursion (IsPlainTableLine skin ws) table → AreTableLinesBy IsFittingWrap (line_rules skin) ws cs first table own → AreDrawable skin drawn own
 alone_drawable skin drawn ws cs first [] own fit borders plain laid = subst (AreDrawable skin drawn) (sym laid) tt
 alone_drawable skin drawn ws cs first (l ∷ ls) own fit borders plain (front, more, joins, here, below_it) =
     let below_fit : FitColumns drawn ws (columns_from ws cs l) = fit_from drawn ws cs l fit in
@@ -369,7 +366,7 @@ bare_alone skin drawn (l ∷ ls) two borders none plain =
 -- A table's lines fit where its columns do with their borders.
 pub tables_fitting : (skin : MadSkin) (width drawn : ℕ) (table lines : List FmtLine) → 2 ≤ width → width ≤ drawn → drawn < 2 ^ 64 - 1 → AreBordersShown skin
     → AllByRecursion (IsPlainTableLine skin []) table → ((ws : List ℕ) → AreKeptWidths (columns_count table) width table ws → AllByRecursion (IsPlainTableLine skin ws) table)
-    → IsTableLaidOutBy IsFittingWrap skin (columns_count table) width table lines → AreDrawable skin drawn lines
+    → IsTableLaidOutBy IsFittingWrap (line_rules skin) (columns_count table) width table lines → AreDrawable skin drawn lines
 tables_fitting skin width drawn table lines two narrower bound borders bare plain (inl (inl none, stays)) =
     subst (AreDrawable skin drawn) (sym stays) (bare_alone skin drawn table (omega (arith, two, narrower)) borders none bare)
 tables_fitting skin width drawn table lines two narrower bound borders bare plain (inl (inr none, stays)) = absurd (omega (arith, none, two))

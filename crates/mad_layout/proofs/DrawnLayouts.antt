@@ -6,16 +6,18 @@ use Rattle.mad_fit.specs.Areas.{IsWithinLimits}
 use Rattle.mad_fit.specs.declared.area.Area.{Area}
 use Rattle.mad_layout.specs.Drawable.{AreDrawable}
 use Rattle.mad_layout.specs.Headline.{AreShownAcross}
-use Rattle.mad_layout.proofs.WideLayouts.{IsLayout}
+use Rattle.mad_format.proofs.WideLayouts.{IsLayout}
 use Rattle.mad_layout.specs.Shown.{lines_shown, AreShownIn}
 use Rattle.mad_layout.specs.ShownLayouts.{ShowsLayout, ShowsRowsFrom}
 use Rattle.mad_layout.specs.declared.skin.MadSkin.{MadSkin}
-use Rattle.mad_layout.specs.declared.line.FmtLine.{FmtLine}
-use Rattle.mad_layout.proofs.DrawableLemmas.{fitting_is_drawable, drawable_from, layout_fits}
-use Rattle.mad_layout.proofs.HeadlineLemmas.{wrapped_at}
+use Rattle.mad_format.specs.declared.line.FmtLine.{FmtLine}
+use Rattle.mad_layout.proofs.DrawableLemmas.{fitting_is_drawable, drawable_from}
+use Rattle.mad_format.proofs.WrapKinds.{layout_fits}
+use Rattle.mad_format.proofs.WrapKinds.{wrapped_at}
 use Rattle.mad_layout.proofs.HeadlineRows.{shown_across, took_more_at}
 use Rattle.mad_layout.proofs.RowChars.{line_chars}
 use Rattle.mad_layout.proofs.TextParts.{text_across}
+use Rattle.mad_layout.specs.Styles.{line_rules}
 
 -- of drawable lines, so of a layout
 pub layout_shown : {T E : Type 0} (r : Result T E) (skin : MadSkin) (lines : List FmtLine) (area : Area) (scroll : ℕ) (old new : Trace) → IsWithinLimits area
@@ -50,7 +52,7 @@ rows_shown {T} {E} (Ok x) skin lines area scroll old new limits h =
     λ text wide keeps laid.
     let width : ℕ = area.width - 1 in
     let n : ℕ = scroll + area.height in
-    let layout : IsLayout skin width text lines = wrapped_at skin width text lines (omega (arith, wide)) laid in
+    let layout : IsLayout (line_rules skin) width text lines = wrapped_at (line_rules skin) width text lines (omega (arith, wide)) laid in
     let bound : area.width < 2 ^ 64 - 1 = omega (arith, limits.columns) in
     let rows = text_across skin area n text lines bound wide keeps layout in
     let same : take area.height (drop scroll rows.0) ≡ take area.height (map (line_chars skin area.width) (drop scroll lines)) =
@@ -58,7 +60,7 @@ rows_shown {T} {E} (Ok x) skin lines area scroll old new limits h =
       rows.0,
       rows.1,
       took_more_at old.bytes new (AreShownIn skin lines area scroll) (AreShownAcross (drop scroll rows.0) area) (shown_across skin (drop scroll lines) area (drop scroll rows.0) same)
-          (h text width (omega arith) keeps (layout_fits skin width text lines layout)),
+          (h text width (omega arith) keeps (layout_fits (line_rules skin) width text lines layout)),
     )
 rows_shown {T} {E} (Err x) skin lines area scroll old new limits h = tt
 

@@ -10,7 +10,7 @@ use Rattle.mad_layout.specs.Drawable.{AreDrawable}
 use Rattle.mad_layout.specs.Premises.{IsPlainRun, runs_text}
 use Rattle.mad_layout.specs.Rows.{compound_piece}
 use Rattle.mad_layout.specs.declared.skin.MadSkin.{MadSkin}
-use Rattle.mad_layout.specs.declared.line.FmtLine.{FmtLine}
+use Rattle.mad_format.specs.declared.line.FmtLine.{FmtLine}
 use Rattle.mad_layout.proofs.WholeTokens.{IsShownRun}
 
 -- what holds of each element holds of one of them

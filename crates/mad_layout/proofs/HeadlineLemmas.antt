@@ -1,7 +1,5 @@
 -- From a layout to what its area shows.
-use Rattle.std.proofs.Common.{◌≡◌, ℕ, zero, suc, ◌-◌, ◌≤◌, List, [], ◌∷◌, ◌++◌, take, inl, inr, Option, Some, None, Result, Ok, Err, OnOk, IfOk, subst, arith}
-use Rattle.std.specs.Prelude.{Bool, false, nat_lt, if◌then◌else◌}
-use Rattle.std.proofs.lemmas.Bool.Decides.{nat_tests}
+use Rattle.std.proofs.Common.{◌≡◌, ℕ, zero, suc, ◌-◌, ◌≤◌, List, [], ◌∷◌, ◌++◌, take, inl, inr, Some, Result, Ok, Err, OnOk, IfOk, subst, arith}
 use Rattle.mad_md.specs.Lines.{LineContent}
 use Rattle.std.specs.Result.{IsErrAnd}
 use Rattle.std.specs.declared.io.Error as io
@@ -14,37 +12,30 @@ use Rattle.mad_term.proofs.Traces.{flush_failed, took_flushed}
 use Rattle.mad_fit.specs.Areas.{IsWithinLimits}
 use Rattle.mad_fit.specs.declared.area.Area.{Area}
 use Rattle.mad_layout.specs.Drawable.{AreDrawable}
-use Rattle.mad_layout.specs.FittingLayouts.{IsFittingLayoutAt}
 use Rattle.mad_layout.specs.Fronts.{IsFrontLayout}
 use Rattle.mad_layout.specs.InArea.{IsAreaLayout, IsAreaFront, ShowsText, WritesInArea}
-use Rattle.mad_layout.specs.CompositeWraps.{IsCompositeWrap}
-use Rattle.mad_layout.specs.Layouts.{IsLayoutBy, IsLayoutAt, IsMarkdownLayout}
-use Rattle.mad_layout.proofs.WideLayouts.{IsLayout}
+use Rattle.mad_format.specs.Layouts.{IsLayoutAt, IsMarkdownLayout}
 use Rattle.mad_layout.specs.Premises.{KeepsPremises}
 use Rattle.mad_layout.specs.Shown.{lines_shown, AreShownIn}
 use Rattle.mad_layout.specs.TextParts.{LineInPart, text_parts, lines_in_parts}
 use Rattle.mad_layout.specs.declared.skin.MadSkin.{MadSkin}
-use Rattle.mad_layout.specs.declared.line.FmtLine.{FmtLine}
+use Rattle.mad_format.specs.declared.line.FmtLine.{FmtLine}
 use Rattle.mad_layout.specs.declared.fmt_text.FmtText.{FmtText}
-use Rattle.mad_layout.proofs.DrawableLemmas.{layout_fits, layout_is_drawable}
+use Rattle.mad_layout.proofs.DrawableLemmas.{layout_is_drawable}
+use Rattle.mad_format.proofs.WrapKinds.{wrapped_at}
 use Rattle.mad_layout.proofs.ReadParts.{in_parts_both}
+use Rattle.mad_layout.specs.Styles.{line_rules}
 
 -- a text that was laid out for an area
 pub area_layout : {E : Type 0} (r : Result FmtText E) (skin : MadSkin) (markdown : List ℕ) (area : Area) (width : ℕ) → width ≡ area.width - 1
-    → IfOk r (λ laid_out. IsMarkdownLayout skin (Some width) markdown laid_out.lines.items)
+    → IfOk r (λ laid_out. IsMarkdownLayout (line_rules skin) (Some width) markdown laid_out.lines.items)
     → IfOk r (λ laid_out. IsAreaLayout skin markdown area laid_out.lines.items)
 area_layout {E} (Ok laid_out) skin markdown area width e h = record {
   text = h.0;
   read = h.1;
-  layout = subst (λ (w : ℕ). IsLayoutAt skin (Some w) h.0 laid_out.lines.items) e h.2;
+  layout = subst (λ (w : ℕ). IsLayoutAt (line_rules skin) (Some w) h.0 laid_out.lines.items) e h.2;
 }
 area_layout {E} (Err x) skin markdown area width e h = tt
-
--- at a width of three and more the text is wrapped
-pub wrapped_at : (skin : MadSkin) (width : ℕ) (text : List LineContent) (lines : List FmtLine) → 3 ≤ width → IsLayoutAt skin (Some width) text lines → IsLayout skin width text lines
-wrapped_at skin width text lines wide h =
-    let test : nat_lt width 3 ≡ false = grind (arith, nat_tests) in
-    subst (λ (b : Bool). IsLayoutBy IsCompositeWrap skin width (if b then None else Some width) text lines) test h
 
 -- the first lines of some are first lines of all
 first_keep : (skin : MadSkin) (width n : ℕ) (front rest : List LineInPart) → KeepsPremises skin width (take n (front ++ rest)) → KeepsPremises skin width (take n front)
@@ -58,11 +49,6 @@ front_keeps skin width n text front rest parts h =
     first_keep skin width n (lines_in_parts front) (lines_in_parts rest)
     (subst (λ (xs : List LineInPart). KeepsPremises skin width (take n xs)) (in_parts_both text front rest parts) h)
 
--- so it is a fitting layout
-pub layout_fitting : (skin : MadSkin) (width : Option ℕ) (text : List LineContent) (lines : List FmtLine) → IsLayoutAt skin width text lines → IsFittingLayoutAt skin width text lines
-layout_fitting skin None text lines h = tt
-layout_fitting skin (Some width) text lines h = λ wide. layout_fits skin width text lines (wrapped_at skin width text lines wide h)
-
 -- what an area shows of such a text
 pub text_shown : {T E : Type 0} (r : Result T E) (skin own : MadSkin) (markdown : List ℕ) (area : Area) (lines : List FmtLine) (old new : Trace) → IsWithinLimits area → own ≡ skin → IsAreaFront skin markdown area lines
     → OnOk r (AreDrawable own area.width (lines_shown lines area 0) → TookWith old new (AreShownIn own lines area 0))
@@ -74,7 +60,7 @@ text_shown {T} {E} (Ok x) skin own markdown area lines old new limits same laid_
       shown = λ premises.
           let front : IsFrontLayout skin (Some (area.width - 1)) area.height laid_out.text lines = laid_out.layout in
           subst (λ (s : MadSkin). AreDrawable s area.width (lines_shown lines area 0) → TookWith old new (AreShownIn s lines area 0)) same h
-          (layout_is_drawable skin (area.width - 1) area.width area.height front.front lines (omega arith) (omega (arith, limits.columns)) (front_keeps skin (area.width - 1) area.height laid_out.text front.front front.rest front.parts premises) (wrapped_at skin (area.width - 1) front.front lines (omega arith) front.layout));
+          (layout_is_drawable skin (area.width - 1) area.width area.height front.front lines (omega arith) (omega (arith, limits.columns)) (front_keeps skin (area.width - 1) area.height laid_out.text front.front front.rest front.parts premises) (wrapped_at (line_rules skin) (area.width - 1) front.front lines (omega arith) front.layout));
     }
 text_shown {T} {E} (Err x) skin own markdown area lines old new limits same laid_out h = tt
 

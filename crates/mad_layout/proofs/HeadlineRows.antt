@@ -19,16 +19,18 @@ use Rattle.mad_layout.specs.FlaggedTexts.{LineInPart, lines_in_parts, AreAcross}
 use Rattle.mad_layout.specs.Fronts.{IsFrontLayout}
 use Rattle.mad_layout.specs.Headline.{cell_chars, AreShownAcross, ShowsFirstRows}
 use Rattle.mad_layout.specs.InArea.{ShowsText}
-use Rattle.mad_layout.proofs.WideLayouts.{IsLayout}
+use Rattle.mad_format.proofs.WideLayouts.{IsLayout}
 use Rattle.mad_layout.specs.Rows.{row_pieces}
 use Rattle.mad_layout.specs.Shown.{AreShownIn}
 use Rattle.mad_layout.specs.declared.skin.MadSkin.{MadSkin}
-use Rattle.mad_layout.specs.declared.line.FmtLine.{FmtLine}
+use Rattle.mad_format.specs.declared.line.FmtLine.{FmtLine}
 use Rattle.mad_layout.proofs.ReadParts.{in_parts_both}
-use Rattle.mad_layout.proofs.HeadlineLemmas.{wrapped_at, front_keeps}
+use Rattle.mad_layout.proofs.HeadlineLemmas.{front_keeps}
+use Rattle.mad_format.proofs.WrapKinds.{wrapped_at}
 use Rattle.mad_layout.proofs.RowChars.{char_of, line_chars, spaces_chars}
 use Rattle.mad_layout.proofs.RowsAcross.{across_exist}
 use Rattle.mad_layout.proofs.TextParts.{text_across}
+use Rattle.mad_layout.specs.Styles.{line_rules}
 
 -- ---- the characters of cells don't depend on pens
 
@@ -146,7 +148,7 @@ headline skin markdown area old new limits wide h =
     let text : List LineContent = h.laid_out.text in
     let width : ℕ = area.width - 1 in
     let front : IsFrontLayout skin (Some width) area.height text h.lines = h.laid_out.layout in
-    let layout : IsLayout skin width front.front h.lines = wrapped_at skin width front.front h.lines (omega (arith, wide)) front.layout in
+    let layout : IsLayout (line_rules skin) width front.front h.lines = wrapped_at (line_rules skin) width front.front h.lines (omega (arith, wide)) front.layout in
     let bound : area.width < 2 ^ 64 - 1 = omega (arith, limits.columns) in (
       text,
       h.laid_out.read,

@@ -19,7 +19,7 @@ use Rattle.mad_draw.specs.Pieces.{RowPiece, pieces_bytes, spaces}
 use Rattle.mad_layout.specs.Rows.{align_in, place_of, left_of_place, right_of_place, inner_blanks, margins_of, prefix_pieces, compound_piece, composite_pieces, free_pieces}
 use Rattle.mad_layout.specs.Styles.{line_style}
 use Rattle.mad_layout.specs.declared.skin.MadSkin.{MadSkin}
-use Rattle.mad_layout.specs.declared.composite.FmtComposite.{FmtComposite}
+use Rattle.mad_format.specs.declared.composite.FmtComposite.{FmtComposite}
 use Rattle.mad_layout.proofs.PieceLemmas.{pieces_of_runs}
 
 free_is : (skin : MadSkin) (l : FmtComposite) → l.spacing ≡ None → l.margins ≡ None → composite_pieces skin None (margins_of skin None l) false l ≡ free_pieces skin l.kind (map run_of l.compounds.items)

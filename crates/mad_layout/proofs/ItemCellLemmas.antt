@@ -17,16 +17,15 @@ use Rattle.mad_md.specs.Reading.{IsReading, IsRead, unread_text}
 use Rattle.mad_md.specs.declared.composite.CompositeStyle.TheVariants.{ListItem}
 use Rattle.mad_style.specs.Kinds.{kind_of}
 use Rattle.mad_widths.specs.ColumnWidths.{needs_of, column_widths}
-use Rattle.mad_fit.specs.Columns.{width_of, columns}
-use Rattle.mad_layout.specs.Indents.{indent}
+use Rattle.mad_fit.specs.Columns.{width_of}
 use Rattle.mad_layout.specs.ItemCells.{item_in_a_cell, hanging_skin, ItemInACellKeepsPremises}
 use Rattle.mad_layout.specs.Premises.{IsColumnChar, AreRuleChars, IsPlainText, AreBordersShown, ArePlainIn, KeepsPremises, runs_text}
 use Rattle.mad_layout.specs.Rows.{rule_chars}
 use Rattle.mad_layout.specs.Sources.{TakesColumns}
 use Rattle.mad_layout.specs.TableColumns.{cell_columns, kept_widths}
 use Rattle.mad_layout.specs.TextParts.{lines_in_parts}
-use Rattle.mad_layout.specs.declared.table.RelativePosition.{RelativePosition}
-use Rattle.mad_layout.specs.declared.table.RelativePosition.TheVariants.{Top, Other, Bottom}
+use Rattle.mad_format.specs.declared.table.RelativePosition.{RelativePosition}
+use Rattle.mad_format.specs.declared.table.RelativePosition.TheVariants.{Top, Other, Bottom}
 use Rattle.mad_layout.proofs.KindLemmas.{no_newline, letter_ascii}
 use Rattle.mad_layout.proofs.ColumnChars.{ascii_column}
 use Rattle.mad_layout.proofs.SourceLemmas.{plain_run}

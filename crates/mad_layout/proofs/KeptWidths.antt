@@ -12,25 +12,25 @@ use Rattle.mad_fit.specs.Columns.{width_of}
 use Rattle.mad_wrap.specs.WrapLines.{capped}
 use Rattle.mad_layout.specs.FlaggedLines.{is_table}
 use Rattle.mad_layout.specs.FlaggedTables.{count_in, columns_among, cell_columns, cells_among, down, kept_widths}
-use Rattle.mad_layout.specs.Indents.{indent}
-use Rattle.mad_layout.specs.Lines.{AreCompositesRead, IsLineRead}
+use Rattle.mad_format.specs.Indents.{indent}
+use Rattle.mad_format.specs.Lines.{AreCompositesRead, IsLineRead}
 use Rattle.mad_layout.specs.Premises.{runs_text}
-use Rattle.mad_layout.specs.Tables.{below, rows_among, first_lengths, lengths_in, AreKeptWidths, columns_count, columns_in, is_table_line}
-use Rattle.mad_layout.specs.Tables as tables
-use Rattle.mad_layout.specs.Wraps.{text_of}
+use Rattle.mad_format.specs.Tables.{below, rows_among, first_lengths, lengths_in, AreKeptWidths, columns_count, columns_in, is_table_line}
+use Rattle.mad_format.specs.Wraps.{text_of}
 use Rattle.mad_layout.specs.declared.skin.MadSkin.{MadSkin}
-use Rattle.mad_layout.specs.declared.composite.FmtComposite.{FmtComposite}
-use Rattle.mad_layout.specs.declared.line.FmtLine.{FmtLine}
-use Rattle.mad_layout.specs.declared.line.FmtLine.TheVariants.{Normal, TableRow, TableRule, HorizontalRule}
+use Rattle.mad_format.specs.declared.composite.FmtComposite.{FmtComposite}
+use Rattle.mad_format.specs.declared.line.FmtLine.{FmtLine}
+use Rattle.mad_format.specs.declared.line.FmtLine.TheVariants.{Normal, TableRow, TableRule, HorizontalRule}
 use Rattle.mad_layout.proofs.DrawnParts.{runs_are}
 use Rattle.mad_layout.proofs.RowsExist.{by_bool}
+use Rattle.mad_layout.specs.Styles.{line_rules}
 
 -- ---- what was read of a table
 
 pub record IsTableLineRead (skin : MadSkin) (c : LineContent) (l : FmtLine) : Type 0 where
   pub table : is_table c ≡ true
   pub line : is_table_line l ≡ true
-  pub read : IsLineRead skin c l
+  pub read : IsLineRead (line_rules skin) c l
 
 abbrev pub AreTableRead : MadSkin → List LineContent → List FmtLine → Type 0
 AreTableRead skin [] [] = Unit {0}
@@ -40,13 +40,13 @@ AreTableRead skin (c ∷ cs) (l ∷ ls) = IsTableLineRead skin c l × AreTableRe
 
 -- ---- the widths
 
-counts_read : (skin : MadSkin) (said : List StyledRuns) (cells : List FmtComposite) → AreCompositesRead skin said cells → length cells ≡ length said
+counts_read : (skin : MadSkin) (said : List StyledRuns) (cells : List FmtComposite) → AreCompositesRead (line_rules skin) said cells → length cells ≡ length said
 counts_read skin [] [] h = refl
 counts_read skin [] (l ∷ ls) h = absurd h
 counts_read skin (s ∷ ss) [] h = absurd h
 counts_read skin (s ∷ ss) (l ∷ ls) h = let rest : length ls ≡ length ss = counts_read skin ss ls h.1 in omega (arith, rest)
 
-lengths_read : (skin : MadSkin) (said : List StyledRuns) (cells : List FmtComposite) → AreCompositesRead skin said cells → map (λ (l : FmtComposite). l.visible_length) cells ≡ map (cell_columns skin) said
+lengths_read : (skin : MadSkin) (said : List StyledRuns) (cells : List FmtComposite) → AreCompositesRead (line_rules skin) said cells → map (λ (l : FmtComposite). l.visible_length) cells ≡ map (cell_columns skin) said
 lengths_read skin [] [] h = refl
 lengths_read skin [] (l ∷ ls) h = absurd h
 lengths_read skin (s ∷ ss) [] h = absurd h
@@ -56,7 +56,7 @@ lengths_read skin (s ∷ ss) (l ∷ ls) h =
     h.0.measured ∙ ap (λ (k : CompositeKind). capped (indent skin.list_items_indentation_mode k + width_of (text_of l))) h.0.kind ∙ ap (λ (t : List FlaggedChar). capped (indent skin.list_items_indentation_mode (kind_of s.style) + width_of t)) text in
     ap (λ n. n ∷ map (λ (l : FmtComposite). l.visible_length) ls) own ∙ ap (λ ns. cell_columns skin s ∷ ns) (lengths_read skin ss ls h.1)
 
-line_count : (skin : MadSkin) (c : LineContent) (l : FmtLine) → IsLineRead skin c l → columns_in l ≡ count_in c
+line_count : (skin : MadSkin) (c : LineContent) (l : FmtLine) → IsLineRead (line_rules skin) c l → columns_in l ≡ count_in c
 line_count skin (normal said) (Normal l) read = refl
 line_count skin (normal said) (TableRow row) read = absurd read
 line_count skin (normal said) (TableRule rule) read = absurd read

@@ -1,8 +1,8 @@
 -- A text with lines of several kinds keeps the premises of the headline.
 use Rattle.std.proofs.Common.{◌≡◌, ℕ, ◌+◌, ◌<◌, ◌≤◌, false, List, [], ◌∷◌, ◌++◌, map, refl, ap, sym, ◌∙◌, subst, arith}
 use Rattle.std.specs.List.{AllByRecursion}
-use Rattle.std.specs.Str.{chars, IsUtf8, IsAscii}
-use Rattle.std.proofs.lemmas.Str.{IsUtf8-from_ascii, chars-IsAscii, encode_ascii}
+use Rattle.std.specs.Str.{chars, IsAscii}
+use Rattle.std.proofs.lemmas.Str.{IsUtf8-from_ascii, chars-IsAscii}
 use Rattle.std.proofs.lemmas.Fmt.{length-decimal-le_succ}
 use Rattle.std.proofs.lemmas.Str.Ascii.{IsAscii-nil, IsAscii-cons}
 use Rattle.mad_columns.specs.Columns.{char_columns}
@@ -15,15 +15,9 @@ use Rattle.mad_md.specs.Inline.{byte}
 use Rattle.mad_md.specs.Parts.{AreParts, HasNoNewline, line_places}
 use Rattle.mad_md.specs.declared.composite.CompositeStyle.{CompositeStyle}
 use Rattle.mad_md.specs.declared.composite.CompositeStyle.TheVariants.{Header, Paragraph, ListItem, OrderedListItem, Code, Quote}
-use Rattle.std.specs.Prelude.{encode_utf8}
-use Rattle.mad_screen.specs.Painting.{IsShown}
-use Rattle.mad_draw.specs.Pieces.{IsColumnPiece, char_piece}
-use Rattle.mad_style.specs.CompoundStyles.{plain_style}
-use Rattle.mad_style.specs.StyledChars.{styled_char}
-use Rattle.mad_style.specs.declared.compound_styles.CompoundStyle.{CompoundStyle}
 use Rattle.mad_style.specs.Kinds.{kind_of}
-use Rattle.mad_fit.specs.Columns.{columns, width_of}
-use Rattle.mad_layout.specs.Indents.{indent}
+use Rattle.mad_fit.specs.Columns.{width_of}
+use Rattle.mad_format.specs.Indents.{indent}
 use Rattle.mad_layout.specs.Premises.{IsPlainPrefix, IsPlainText, KeepsPremises, inner_width, runs_text}
 use Rattle.mad_layout.specs.SeveralKinds.{ascii_skin, several_kinds, SeveralKindsKeepPremises}
 use Rattle.mad_layout.specs.Sources.{TakesColumns}

@@ -12,14 +12,14 @@ use Rattle.mad_term.specs.Styles.{IsStyle}
 use Rattle.mad_style.specs.CompoundStyles.{overwritten}
 use Rattle.mad_style.specs.declared.compound_styles.CompoundStyle.{CompoundStyle}
 use Rattle.mad_style.specs.declared.line_styles.LineStyle.{LineStyle}
-use Rattle.mad_layout.specs.declared.composite.FmtComposite.{FmtComposite}
-use Rattle.mad_layout.specs.declared.line.FmtLine.TheVariants.{Normal}
+use Rattle.mad_format.specs.declared.composite.FmtComposite.{FmtComposite}
+use Rattle.mad_format.specs.declared.line.FmtLine.TheVariants.{Normal}
 use Rattle.mad_layout.specs.declared.skin.MadSkin.{MadSkin}
-use Rattle.mad_layout.specs.declared.table.FmtTableRule.{FmtTableRule}
+use Rattle.mad_format.specs.declared.table.FmtTableRule.{FmtTableRule}
 use Rattle.mad_draw.specs.Pieces.{RowPiece, AreKnown, single_spaces}
 use Rattle.mad_draw.specs.TableRules.{rule_pieces}
 use Rattle.mad_draw.specs.declared.table_rules.RuleChars.{RuleChars}
-use Rattle.mad_layout.specs.Lines.{rule_columns}
+use Rattle.mad_format.specs.Lines.{rule_columns}
 use Rattle.mad_layout.specs.Rows.{compound_piece, prefix_pieces, inner_blanks, outer_blanks, composite_pieces, cell_pieces, line_pieces, margins_of, left_of_place, right_of_place, placed_pieces, row_columns, rule_chars, table_row_pieces, table_rule_pieces, vertical_piece}
 use Rattle.mad_layout.specs.Styles.{AreKnownAdditions, compound_style, ellipsis_bytes, line_style, overwritten_if}
 use Rattle.mad_draw.proofs.PieceLemmas.{known_both, pieces_taken_of, spaces_known, single_known}

@@ -2,18 +2,18 @@
 use Rattle.std.proofs.Common.{◌≡◌, ℕ, Bool, true, false, not, ◌&&◌, ◌||◌, List, [], ◌∷◌, ◌++◌, Option, if◌then◌else◌, refl, ap, sym, ◌∙◌, subst}
 use Rattle.std.proofs.lemmas.List.{append-nil}
 use Rattle.mad_md.specs.Lines.{LineContent, normal, table_row, table_rule, horizontal_rule}
-use Rattle.mad_layout.specs.CompositeWraps.{IsCompositeWrap}
+use Rattle.mad_format.specs.CompositeWraps.{IsCompositeWrap}
 use Rattle.mad_layout.specs.FlaggedLines.{is_code, is_table, stand_together, in_front, text_parts}
-use Rattle.mad_layout.specs.Layouts.{AreRead, IsLayoutAt}
-use Rattle.mad_layout.specs.Lines.{IsLineRead}
-use Rattle.mad_layout.specs.Parts.{Part, table, block, single, is_code_kind, is_code_line, with_table, with_code, with_composite, with_line, parts_of, table_width, wrap_width, ArePartsAt}
-use Rattle.mad_layout.specs.Tables.{is_table_line}
-use Rattle.mad_layout.specs.declared.skin.MadSkin.{MadSkin}
-use Rattle.mad_layout.specs.declared.composite.FmtComposite.{FmtComposite}
-use Rattle.mad_layout.specs.declared.line.FmtLine.{FmtLine}
-use Rattle.mad_layout.specs.declared.line.FmtLine.TheVariants.{Normal, TableRow, TableRule, HorizontalRule}
-use Rattle.mad_layout.proofs.LayoutLemmas.{parts_joined}
-use Rattle.mad_layout.proofs.PartRuns.{table_in_front, block_in_front, alone_first}
+use Rattle.mad_format.specs.Layouts.{AreRead, IsLayoutAt}
+use Rattle.mad_format.specs.Lines.{IsLineRead}
+use Rattle.mad_format.specs.Parts.{Part, table, block, single, is_code_kind, is_code_line, with_table, with_code, with_composite, with_line, parts_of, table_width, wrap_width, ArePartsAt}
+use Rattle.mad_format.specs.Tables.{is_table_line}
+use Rattle.mad_format.specs.LineRules.{LineRules}
+use Rattle.mad_format.specs.declared.composite.FmtComposite.{FmtComposite}
+use Rattle.mad_format.specs.declared.line.FmtLine.{FmtLine}
+use Rattle.mad_format.specs.declared.line.FmtLine.TheVariants.{Normal, TableRow, TableRule, HorizontalRule}
+use Rattle.mad_format.proofs.LayoutLemmas.{parts_joined}
+use Rattle.mad_format.proofs.PartRuns.{table_in_front, block_in_front, alone_first}
 use Rattle.mad_layout.proofs.RowsExist.{by_bool}
 
 -- ---- no part goes on from these lines to those
@@ -79,7 +79,7 @@ apart_parts (c ∷ d ∷ cs) rest h =
 
 -- ---- so it is for what was read of them
 
-is_as_read : (skin : MadSkin) (c : LineContent) (l : FmtLine) → IsLineRead skin c l → (is_code_line l ≡ is_code c) × (is_table_line l ≡ is_table c)
+is_as_read : (skin : LineRules) (c : LineContent) (l : FmtLine) → IsLineRead skin c l → (is_code_line l ≡ is_code c) × (is_table_line l ≡ is_table c)
 is_as_read skin (normal said) (Normal l) h = (ap is_code_kind h.kind, refl)
 is_as_read skin (normal said) (TableRow row) h = absurd h
 is_as_read skin (normal said) (TableRule rule) h = absurd h
@@ -163,7 +163,7 @@ lines_apart (TableRow row) m ms h = table_in_front (TableRow row ∷ []) (m ∷ 
 lines_apart (TableRule rule) m ms h = table_in_front (TableRule rule ∷ []) (m ∷ ms) (refl, tt) h
 lines_apart HorizontalRule m ms h = refl
 
-read_apart : (skin : MadSkin) (front rest : List LineContent) (ls ms : List FmtLine) → apart front rest ≡ true → AreRead skin front ls → AreRead skin rest ms → parts_of (ls ++ ms) ≡ parts_of ls ++ parts_of ms
+read_apart : (skin : LineRules) (front rest : List LineContent) (ls ms : List FmtLine) → apart front rest ≡ true → AreRead skin front ls → AreRead skin rest ms → parts_of (ls ++ ms) ≡ parts_of ls ++ parts_of ms
 read_apart skin [] rest [] ms h f r = refl
 read_apart skin [] rest (l ∷ ls) ms h f r = absurd f
 read_apart skin (c ∷ front) rest [] ms h f r = absurd f
@@ -185,14 +185,14 @@ read_apart skin (c ∷ d ∷ cs) rest (l ∷ k ∷ ls) ms h f r =
     ∙ line_joined l some.0 some.1 (parts_of ms)
     ∙ ap (λ (ps : List Part). with_line l ps ++ parts_of ms) (sym some.2)
 
-both_read : (skin : MadSkin) (front rest : List LineContent) (ls ms : List FmtLine) → AreRead skin front ls → AreRead skin rest ms → AreRead skin (front ++ rest) (ls ++ ms)
+both_read : (skin : LineRules) (front rest : List LineContent) (ls ms : List FmtLine) → AreRead skin front ls → AreRead skin rest ms → AreRead skin (front ++ rest) (ls ++ ms)
 both_read skin [] rest [] ms f r = r
 both_read skin [] rest (l ∷ ls) ms f r = absurd f
 both_read skin (c ∷ cs) rest [] ms f r = absurd f
 both_read skin (c ∷ cs) rest (l ∷ ls) ms f r = (f.0, both_read skin cs rest ls ms f.1 r)
 
 -- layouts join where no part is cut
-pub layouts_joined : (skin : MadSkin) (width : Option ℕ) (front rest : List LineContent) (done lines : List FmtLine) → apart front rest ≡ true → IsLayoutAt skin width front done → IsLayoutAt skin width rest lines
+pub layouts_joined : (skin : LineRules) (width : Option ℕ) (front rest : List LineContent) (done lines : List FmtLine) → apart front rest ≡ true → IsLayoutAt skin width front done → IsLayoutAt skin width rest lines
     → IsLayoutAt skin width (front ++ rest) (done ++ lines)
 layouts_joined skin width front rest done lines h f r = record {
   read = f.read ++ r.read;

@@ -16,9 +16,9 @@ use Rattle.mad_draw.specs.declared.spaces.Spaces.{Spaces}
 use Rattle.mad_draw.specs.declared.table_rules.RuleChars.{RuleChars}
 use Rattle.mad_draw.proofs.PieceLemmas.{bytes_both, bytes_one, pieces_taken}
 use Rattle.mad_layout.specs.declared.skin.MadSkin.{MadSkin}
-use Rattle.mad_layout.specs.declared.composite.FmtComposite.{FmtComposite}
-use Rattle.mad_layout.specs.declared.table.FmtTableRule.{FmtTableRule}
-use Rattle.mad_layout.specs.Lines.{rule_columns}
+use Rattle.mad_format.specs.declared.composite.FmtComposite.{FmtComposite}
+use Rattle.mad_format.specs.declared.table.FmtTableRule.{FmtTableRule}
+use Rattle.mad_format.specs.Lines.{rule_columns}
 use Rattle.mad_layout.specs.Styles.{line_style, compound_style}
 use Rattle.mad_layout.specs.Rows.{compound_piece, run_piece, prefix_pieces, free_pieces, left_of_place, right_of_place, placed_pieces, vertical_piece, cell_pieces, row_columns, rule_chars, table_row_pieces, table_rule_pieces}
 

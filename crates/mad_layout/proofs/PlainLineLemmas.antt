@@ -1,6 +1,6 @@
 -- Plain lines, which are written as they are.
-use Rattle.std.proofs.Common.{◌≡◌, ℕ, ◌+◌, ◌-◌, ◌<◌, ◌≤◌, ◌^◌, Bool, true, false, not, ◌||◌, List, [], ◌∷◌, ◌++◌, map, length, drop, get_or, chars, Option, None, Some, Result, Ok, Err, Vec, Global, Bor, refl, ap, sym, ◌∙◌, subst, arith, inl, append_assoc}
-use Rattle.std.specs.Prelude.{if◌then◌else◌, nat_eq, ◌&&◌}
+use Rattle.std.proofs.Common.{◌≡◌, ℕ, ◌+◌, ◌-◌, ◌<◌, ◌≤◌, ◌^◌, Bool, true, false, not, List, [], ◌∷◌, ◌++◌, map, length, drop, get_or, chars, Option, None, Some, Result, Ok, Err, Vec, Global, Bor, refl, ap, sym, ◌∙◌, subst, arith, inl, append_assoc}
+use Rattle.std.specs.Prelude.{nat_eq, ◌&&◌}
 use Rattle.std.specs.List.{AllByRecursion}
 use Rattle.std.specs.Str.{IsUtf8, bytes_eq}
 use Rattle.std.specs.Result.{IsErrAnd}
@@ -27,24 +27,23 @@ use Rattle.mad_term.specs.Trace.{Trace, after}
 use Rattle.mad_term.specs.declared.errors.Error.{Error}
 use Rattle.mad_term.proofs.Traces.{took_both}
 use Rattle.mad_draw.specs.Pieces.{pieces_bytes, spaces}
-use Rattle.mad_layout.specs.CompositeWraps.{IsCompositeWrap}
-use Rattle.mad_layout.specs.FlaggedLines.{is_code, is_table, stand_together}
-use Rattle.mad_layout.specs.Laying.{ArePartsClosed}
-use Rattle.mad_layout.specs.Layouts.{IsLayoutAt}
-use Rattle.mad_layout.specs.Lines.{IsLineRead}
-use Rattle.mad_layout.specs.Parts.{wrap_width, IsLineAt}
+use Rattle.mad_format.specs.CompositeWraps.{IsCompositeWrap}
+use Rattle.mad_format.specs.Laying.{ArePartsClosed}
+use Rattle.mad_format.specs.Layouts.{IsLayoutAt}
+use Rattle.mad_format.specs.Lines.{IsLineRead}
+use Rattle.mad_format.specs.Parts.{wrap_width, IsLineAt}
 use Rattle.mad_layout.specs.PlainLines.{IsPlainWidth, HandsOnPlain}
 use Rattle.mad_layout.specs.Rows.{compound_piece, left_of_place}
-use Rattle.mad_layout.specs.Styles.{compound_style, ellipsis_bytes}
+use Rattle.mad_layout.specs.Styles.{line_rules, compound_style, ellipsis_bytes}
 use Rattle.mad_layout.specs.Texts.{line_bytes, text_bytes}
-use Rattle.mad_layout.specs.WrappedLines.{line_with}
+use Rattle.mad_format.specs.WrappedLines.{line_with}
 use Rattle.mad_layout.specs.WrittenParts.{IsPartKind, HandsOn, WritesParts}
 use Rattle.mad_layout.specs.declared.part_kinds.PartKind.{PartKind}
 use Rattle.mad_layout.specs.declared.part_kinds.PartKind.TheVariants.{Alone}
 use Rattle.mad_layout.specs.declared.skin.MadSkin.{MadSkin}
-use Rattle.mad_layout.specs.declared.composite.FmtComposite.{FmtComposite}
-use Rattle.mad_layout.specs.declared.line.FmtLine.{FmtLine}
-use Rattle.mad_layout.specs.declared.line.FmtLine.TheVariants.{Normal}
+use Rattle.mad_format.specs.declared.composite.FmtComposite.{FmtComposite}
+use Rattle.mad_format.specs.declared.line.FmtLine.{FmtLine}
+use Rattle.mad_format.specs.declared.line.FmtLine.TheVariants.{Normal}
 use Rattle.mad_layout.proofs.FlaggedTokens.{if_false}
 use Rattle.mad_layout.proofs.LayoutJoins.{apart, layouts_joined}
 use Rattle.mad_layout.proofs.PieceLemmas.{bare_piece}
@@ -93,7 +92,7 @@ plain_columns bs utf8 h =
 
 -- ---- its layout
 
-read_plain : (skin : MadSkin) (v : Vec FmtLine Global) (bs : List ℕ) (text : Bor (List ℕ)) → text.now ≡ bs → IsUtf8 bs → AllPlain bs → length bs < 2 ^ 64 → IsLineRead skin (plain_line bs) (Normal (source v bs text))
+read_plain : (skin : MadSkin) (v : Vec FmtLine Global) (bs : List ℕ) (text : Bor (List ℕ)) → text.now ≡ bs → IsUtf8 bs → AllPlain bs → length bs < 2 ^ 64 → IsLineRead (line_rules skin) (plain_line bs) (Normal (source v bs text))
 read_plain skin v bs text is utf8 h range = record {
   kind = refl;
   text = holding_says v bs text is;
@@ -106,16 +105,16 @@ both : (m : ℕ × ℕ) → m.0 ≡ 0 → m.1 ≡ 0 → m ≡ (0, 0)
 both (a, b) h k = ap (λ (n : ℕ). (n, b)) h ∙ ap (λ (n : ℕ). (0, n)) k
 
 stays_plain : (skin : MadSkin) (width : Option ℕ) (most : ℕ) (v : Vec FmtLine Global) (bs : List ℕ) (text : Bor (List ℕ)) → IsPlainWidth skin width most → length bs ≤ most
-    → IsLineAt IsCompositeWrap skin (wrap_width width) (Normal (source v bs text)) (made v bs text ∷ [])
+    → IsLineAt IsCompositeWrap (line_rules skin) (wrap_width width) (Normal (source v bs text)) (made v bs text ∷ [])
 stays_plain skin width most v bs text h fits =
     let left = h.left_margin in
     let right = h.right_margin in
     let margins : margins_at skin.paragraph (Some most) ≡ (0, 0) = both _ h.left_margin h.right_margin in
-    subst (λ (w : Option ℕ). IsLineAt IsCompositeWrap skin w (Normal (source v bs text)) (made v bs text ∷ [])) (sym h.wraps)
+    subst (λ (w : Option ℕ). IsLineAt IsCompositeWrap (line_rules skin) w (Normal (source v bs text)) (made v bs text ∷ [])) (sym h.wraps)
     (inl (omega (arith, fits, left, right), ap (λ (m : ℕ × ℕ). line_with m (source v bs text) ∷ []) (sym margins)))
 
 pub plain_layout : (skin : MadSkin) (width : Option ℕ) (most : ℕ) (v : Vec FmtLine Global) (bs : List ℕ) (text : Bor (List ℕ)) → IsPlainWidth skin width most → length bs ≤ most → text.now ≡ bs → IsUtf8 bs → AllPlain bs → length bs < 2 ^ 64
-    → IsLayoutAt skin width (plain_line bs ∷ []) (made v bs text ∷ [])
+    → IsLayoutAt (line_rules skin) width (plain_line bs ∷ []) (made v bs text ∷ [])
 plain_layout skin width most v bs text h fits is utf8 all range = record {
   read = Normal (source v bs text) ∷ [];
   reads = (read_plain skin v bs text is utf8 all range, tt);
@@ -165,7 +164,7 @@ pub record PlainSoFar (skin : MadSkin) (width : Option ℕ) (before left : List 
   pub sent : List ℕ
   pub joins : before ≡ taken ++ left
   pub alone : AllAlone taken
-  pub layout : IsLayoutAt skin width taken lines
+  pub layout : IsLayoutAt (line_rules skin) width taken lines
   pub both : bytes ++ text_bytes skin width lines ≡ sent ++ kept
   pub went : new ≡ after old sent
 
@@ -188,7 +187,7 @@ alone_apart (c ∷ []) (d ∷ ds) h = ap not (alone_off c d h.0)
 alone_apart (c ∷ d ∷ cs) rest h = alone_apart (d ∷ cs) rest h.1
 
 pub plain_more : (skin : MadSkin) (width : Option ℕ) (before left later : List LineContent) (c : LineContent) (l : FmtLine) (bytes kept new_kept : List ℕ) (old new : Trace)
-    → PlainSoFar skin width before left bytes kept old new → left ≡ c ∷ later → IsPartKind c Alone → IsLayoutAt skin width (c ∷ []) (l ∷ []) → new_kept ≡ kept ++ line_bytes skin width l
+    → PlainSoFar skin width before left bytes kept old new → left ≡ c ∷ later → IsPartKind c Alone → IsLayoutAt (line_rules skin) width (c ∷ []) (l ∷ []) → new_kept ≡ kept ++ line_bytes skin width l
     → PlainSoFar skin width before later bytes new_kept old new
 plain_more skin width before left later c l bytes kept new_kept old new h is kind laid row =
     let more : text_bytes skin width (h.lines ++ l ∷ []) ≡ text_bytes skin width h.lines ++ line_bytes skin width l =
@@ -199,7 +198,7 @@ plain_more skin width before left later c l bytes kept new_kept old new h is kin
       sent = h.sent;
       joins = h.joins ∙ ap (λ (ls : List LineContent). h.taken ++ ls) is ∙ sym (append_assoc h.taken (c ∷ []) later);
       alone = all_push _ h.taken c h.alone kind;
-      layout = layouts_joined skin width h.taken (c ∷ []) h.lines (l ∷ []) (alone_apart h.taken (c ∷ []) h.alone) h.layout laid;
+      layout = layouts_joined (line_rules skin) width h.taken (c ∷ []) h.lines (l ∷ []) (alone_apart h.taken (c ∷ []) h.alone) h.layout laid;
       both = ap (λ (t : List ℕ). bytes ++ t) more ∙ sym (append_assoc bytes (text_bytes skin width h.lines) (line_bytes skin width l)) ∙ ap (λ (t : List ℕ). t ++ line_bytes skin width l) h.both
           ∙ append_assoc h.sent kept (line_bytes skin width l) ∙ ap (λ (t : List ℕ). h.sent ++ t) (sym row);
       went = h.went;
@@ -279,7 +278,7 @@ ends_all (b ∷ []) (c ∷ cs) h all = all_end (c ∷ cs) all
 ends_all (b ∷ d ∷ cs) taken h all = ends_all (d ∷ cs) taken h all
 
 plain_parts : (skin : MadSkin) (width : Option ℕ) (all left taken later : List LineContent) (lines own : List FmtLine) (kept : List ℕ) (old new : Trace)
-    → WrittenParts skin width all left lines Alone kept old new → left ≡ taken ++ later → AllAlone taken → IsLayoutAt skin width taken own → WrittenParts skin width all later (lines ++ own) Alone kept old new
+    → WrittenParts skin width all left lines Alone kept old new → left ≡ taken ++ later → AllAlone taken → IsLayoutAt (line_rules skin) width taken own → WrittenParts skin width all later (lines ++ own) Alone kept old new
 plain_parts skin width all left taken later lines own kept old new h is alone laid =
     let ends : EndsIn Alone (h.front ++ taken) = ends_all h.front taken h.ends alone in
     record {
@@ -289,7 +288,7 @@ plain_parts skin width all left taken later lines own kept old new h is alone la
       joins = h.joins ∙ ap (λ (ls : List LineContent). h.front ++ ls) is ∙ sym (append_assoc h.front taken later);
       whole = ends_apart (h.front ++ taken) later ends;
       ends = ends;
-      layout = subst (IsLayoutAt skin width (h.front ++ taken)) (append_assoc h.done lines own) (layouts_joined skin width h.front taken (h.done ++ lines) own (ends_apart h.front taken h.ends) h.layout laid);
+      layout = subst (IsLayoutAt (line_rules skin) width (h.front ++ taken)) (append_assoc h.done lines own) (layouts_joined (line_rules skin) width h.front taken (h.done ++ lines) own (ends_apart h.front taken h.ends) h.layout laid);
       bytes = h.bytes;
       went = h.went;
     }
@@ -299,7 +298,7 @@ rows_both skin width kept lines own = ap (λ (t : List ℕ). kept ++ t) (flat_ma
 
 -- a line that is alone is laid out, and it and the plain lines after it are handed on
 pub written_plain : (skin : MadSkin) (width : Option ℕ) (all left later : List LineContent) (lines closed none own table no_table : List FmtLine) (block no_block : List FmtComposite) (last : PartKind) (kept new_kept : List ℕ) (old mid new : Trace)
-    → last ≡ Alone → WrittenSoFar skin width all left lines block table last kept old mid → closed ≡ lines ++ own → ArePartsClosed skin width block table own → none ≡ [] → no_block ≡ [] → no_table ≡ []
+    → last ≡ Alone → WrittenSoFar skin width all left lines block table last kept old mid → closed ≡ lines ++ own → ArePartsClosed (line_rules skin) width block table own → none ≡ [] → no_block ≡ [] → no_table ≡ []
     → HandsOnPlain {T = Unit {0}} skin width left (kept ++ text_bytes skin width closed) mid (Ok (tt {0})) new new_kept later → WrittenSoFar skin width all later none no_block no_table last new_kept old new
 written_plain skin width all left later lines closed none own table no_table block no_block last kept new_kept old mid new is h closes made empty empty_block empty_table p =
     let before = subst (λ (k : PartKind). WrittenSoFar skin width all left lines block table k kept old mid) is h in
@@ -311,7 +310,7 @@ written_plain skin width all left later lines closed none own table no_table blo
     (subst (λ (ls : List LineContent). WrittenSoFar skin width all ls none no_block no_table Alone new_kept old new) (sym p.rest) next)
 
 pub written_plain_refused : {T : Type 0} (skin : MadSkin) (width : Option ℕ) (markdown : List ℕ) (all left later : List LineContent) (lines closed own table : List FmtLine) (block : List FmtComposite) (last : PartKind) (kept new_kept : List ℕ) (r : Result T Error) (e : Error) (old mid new : Trace)
-    → IsRead (unread_text false markdown) all → last ≡ Alone → WrittenSoFar skin width all left lines block table last kept old mid → closed ≡ lines ++ own → ArePartsClosed skin width block table own
+    → IsRead (unread_text false markdown) all → last ≡ Alone → WrittenSoFar skin width all left lines block table last kept old mid → closed ≡ lines ++ own → ArePartsClosed (line_rules skin) width block table own
     → HandsOnPlain {T = Unit {0}} skin width left (kept ++ text_bytes skin width closed) mid (Err e) new new_kept later → IsErrAnd r (λ d. d ≡ e) → WritesParts skin width markdown old r new
 written_plain_refused {T} skin width markdown all left later lines closed own table block last kept new_kept r e old mid new read is h closes made p error =
     let before = subst (λ (k : PartKind). WrittenSoFar skin width all left lines block table k kept old mid) is h in

@@ -25,18 +25,18 @@ use Rattle.mad_fit.specs.declared.spacing.Spacing.{Spacing}
 use Rattle.mad_draw.specs.Pieces.{RowPiece, IsColumnPiece, char_piece, char_repeat, PennedChar, penned_chars, spaces, single_spaces}
 use Rattle.mad_draw.proofs.PieceLemmas.{ascii_spaces}
 use Rattle.mad_layout.specs.FlaggedLines.{widest_in, skin_char, front_of, placed_columns, row_across}
-use Rattle.mad_layout.specs.Indents.{ordered_indent, later_indent}
-use Rattle.mad_layout.specs.Parts.{is_code_kind}
+use Rattle.mad_format.specs.Indents.{ordered_indent, later_indent}
+use Rattle.mad_format.specs.Parts.{is_code_kind}
 use Rattle.mad_layout.specs.Premises.{IsPlainPrefix, inner_width}
 use Rattle.mad_layout.specs.Rows.{number_piece, prefix_space, prefix_pieces, compound_piece, composite_pieces, row_pieces, left_of_place, right_of_place, align_in, place_of, inner_blanks, outer_blanks}
-use Rattle.mad_layout.specs.Styles.{line_style, ordered_item_style}
-use Rattle.mad_layout.specs.WrappedLines.{line_with}
-use Rattle.mad_layout.specs.Wraps.{text_of, columns_of, IsMeasured}
+use Rattle.mad_layout.specs.Styles.{line_rules, line_style, ordered_item_style}
+use Rattle.mad_format.specs.WrappedLines.{line_with}
+use Rattle.mad_format.specs.Wraps.{text_of, columns_of, IsMeasured}
 use Rattle.mad_layout.specs.declared.skin.MadSkin.{MadSkin}
-use Rattle.mad_layout.specs.declared.composite.FmtComposite.{FmtComposite}
-use Rattle.mad_layout.specs.declared.line.FmtLine.{FmtLine}
+use Rattle.mad_format.specs.declared.composite.FmtComposite.{FmtComposite}
+use Rattle.mad_format.specs.declared.line.FmtLine.{FmtLine}
 use Rattle.mad_layout.proofs.ColumnChars.{suffix_alone}
-use Rattle.mad_layout.proofs.DrawableLemmas.{margins-le}
+use Rattle.mad_format.proofs.ReadWraps.{margins-le}
 use Rattle.mad_layout.proofs.RowLemmas.{left_completion-le}
 use Rattle.mad_layout.proofs.RowsExist.{by_bool}
 
@@ -172,16 +172,16 @@ abbrev pub line_chars : MadSkin → ℕ → FmtLine → List ℕ
 line_chars skin width line = chars_in (row_pieces skin width (Some line))
 
 -- a line that stands so is a row across the area
-pub row_chars : (skin : MadSkin) (area : Area) (part : List LineContent) (said : StyledRuns) (l : FmtComposite) → area.width < 2 ^ 64 - 1 → IsPlainPrefix skin l.kind → IsMeasured skin l
+pub row_chars : (skin : MadSkin) (area : Area) (part : List LineContent) (said : StyledRuns) (l : FmtComposite) → area.width < 2 ^ 64 - 1 → IsPlainPrefix skin l.kind → IsMeasured (line_rules skin) l
     → l.spacing ≡ place_for (is_code_kind l.kind) (min (widest_in part) (inner_width skin (area.width - 1) said))
     → inner_width skin (area.width - 1) said ≡ area.width - 1 - (margins_at (line_style skin l.kind) (Some (area.width - 1))).0 - (margins_at (line_style skin l.kind) (Some (area.width - 1))).1
-    → columns_of skin l ≤ inner_width skin (area.width - 1) said → (is_code_kind l.kind ≡ true → columns_of skin l ≤ widest_in part)
+    → columns_of (line_rules skin) l ≤ inner_width skin (area.width - 1) said → (is_code_kind l.kind ≡ true → columns_of (line_rules skin) l ≤ widest_in part)
     → line_chars skin area.width (line_with (margins_at (line_style skin l.kind) (Some (area.width - 1))) l) ≡ row_across skin area part said l.kind (text_of l)
 row_chars skin area part said l bound prefix measured place inner_is inside holds =
     let width : ℕ = area.width - 1 in
     let style : LineStyle = line_style skin l.kind in
     let margins : ℕ × ℕ = margins_at style (Some width) in
-    let own : ℕ = columns_of skin l in
+    let own : ℕ = columns_of (line_rules skin) l in
     let block : ℕ = min (widest_in part) (inner_width skin width said) in
     let columns : ℕ = placed_columns skin area part said l.kind (text_of l) in
     let same : l.visible_length ≡ own = omega (arith, measured, inside, inner_is, bound) in

@@ -17,8 +17,8 @@ use Rattle.mad_fit.proofs.FlaggedLemmas.{width_of-append, width_of-flagged}
 use Rattle.mad_draw.specs.Pieces.{RowPiece, IsShownPiece, AreShownPieces, pieces_columns, spaces}
 use Rattle.mad_draw.proofs.PieceLemmas.{columns-both, spaces_columns, shown_spaces}
 use Rattle.mad_layout.specs.declared.skin.MadSkin.{MadSkin}
-use Rattle.mad_layout.specs.declared.composite.FmtComposite.{FmtComposite}
-use Rattle.mad_layout.specs.declared.line.FmtLine.TheVariants.{Normal}
+use Rattle.mad_format.specs.declared.composite.FmtComposite.{FmtComposite}
+use Rattle.mad_format.specs.declared.line.FmtLine.TheVariants.{Normal}
 use Rattle.mad_layout.specs.Drawable.{FillsItsPlace, IsDrawable}
 use Rattle.mad_layout.specs.Rows.{compound_piece, prefix_pieces, left_of_place, right_of_place, align_in, place_of, inner_columns, inner_blanks, outer_blanks, margins_of, composite_pieces, line_pieces}
 use Rattle.mad_layout.specs.Styles.{line_style}

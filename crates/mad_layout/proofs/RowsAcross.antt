@@ -16,25 +16,26 @@ use Rattle.mad_fit.specs.declared.spacing.Spacing.{Spacing}
 use Rattle.mad_wrap.specs.Keeps.{Keeps}
 use Rattle.mad_wrap.specs.WrapLines.{HasRoom, LinesFit}
 use Rattle.mad_wrap.specs.declared.room.Room.{Room}
-use Rattle.mad_layout.specs.CompositeWraps.{line_compounds, HaveKinds, IsCompositeWrap}
+use Rattle.mad_format.specs.CompositeWraps.{line_compounds, HaveKinds, IsCompositeWrap}
 use Rattle.mad_style.specs.StyledChars.{char_alone}
 use Rattle.mad_layout.specs.FlaggedLines.{widest_in, skin_char, row_across, rows_across, marked_parts}
 use Rattle.mad_layout.specs.FlaggedTexts.{IsAcross, AreAcross}
 use Rattle.mad_layout.specs.FlaggedRows.{AreRowsOf}
 use Rattle.mad_layout.specs.FlaggedTables.{kept_widths, columns_below, rows_in_column, CellInColumn, AreInColumns, rows_down, most_rows, table_across, IsRowAcross, rule_across}
-use Rattle.mad_layout.specs.Indents.{indent, follow_up, room_of}
-use Rattle.mad_layout.specs.Lines.{bordered}
-use Rattle.mad_layout.specs.Parts.{is_code_kind, IsLineAt, AreLinesAt}
+use Rattle.mad_format.specs.Indents.{indent, follow_up, room_of}
+use Rattle.mad_format.specs.Lines.{bordered}
+use Rattle.mad_format.specs.Parts.{is_code_kind, IsLineAt, AreLinesAt}
 use Rattle.mad_layout.specs.Premises.{IsPlainPrefix, IsPlainText, IsPlainContent, KeepsPremises, inner_width, runs_text}
-use Rattle.mad_layout.specs.Styles.{line_style}
+use Rattle.mad_layout.specs.Styles.{line_rules, line_style}
 use Rattle.mad_layout.specs.TextParts.{LineInPart}
-use Rattle.mad_layout.specs.WrappedLines.{style_margins, line_with, IsLaidOutBy}
-use Rattle.mad_layout.specs.Wraps.{text_of, columns_of, IsMeasured}
+use Rattle.mad_format.specs.WrappedLines.{style_margins, line_with, IsLaidOutBy}
+use Rattle.mad_format.specs.Wraps.{text_of, columns_of, IsMeasured}
 use Rattle.mad_layout.specs.declared.skin.MadSkin.{MadSkin}
-use Rattle.mad_layout.specs.declared.composite.FmtComposite.{FmtComposite}
-use Rattle.mad_layout.specs.declared.line.FmtLine.{FmtLine}
-use Rattle.mad_layout.specs.declared.line.FmtLine.TheVariants.{Normal, TableRow, TableRule, HorizontalRule}
-use Rattle.mad_layout.proofs.DrawableLemmas.{IsPlacedFor, margins-le, has_room}
+use Rattle.mad_format.specs.declared.composite.FmtComposite.{FmtComposite}
+use Rattle.mad_format.specs.declared.line.FmtLine.{FmtLine}
+use Rattle.mad_format.specs.declared.line.FmtLine.TheVariants.{Normal, TableRow, TableRule, HorizontalRule}
+use Rattle.mad_layout.proofs.DrawableLemmas.{IsPlacedFor, has_room}
+use Rattle.mad_format.proofs.ReadWraps.{margins-le}
 use Rattle.mad_layout.proofs.DrawnParts.{runs_are}
 use Rattle.mad_layout.proofs.PrefixLemmas.{follow_up_plain}
 use Rattle.mad_layout.proofs.RowChars.{place_for, line_chars, row_chars, run_chars}
@@ -48,7 +49,7 @@ use Rattle.mad_layout.proofs.WrapRows.{whole_parts, kept_rows, wrapped_rows}
 pub record IsPlacedIn (skin : MadSkin) (width : ℕ) (part : List LineContent) (said : StyledRuns) (l : FmtComposite) : Type 0 where
   pub kind : l.kind ≡ kind_of said.style
   pub text : map run_of l.compounds.items ≡ said.runs
-  pub measured : IsMeasured skin l
+  pub measured : IsMeasured (line_rules skin) l
   pub spacing : l.spacing ≡ place_for (is_code_kind (kind_of said.style)) (min (widest_in part) (inner_width skin width said))
   pub widest : is_code_kind (kind_of said.style) ≡ true → width_of (runs_text said.runs) ≤ widest_in part
 
@@ -93,10 +94,10 @@ parts_are (p ∷ ps) = ap (λ l. flagged_of p ∷ l) (parts_are ps)
 
 -- what is known of a line of a layout that is a row of what was read
 record IsRowLine (skin : MadSkin) (width : ℕ) (part : List LineContent) (said : StyledRuns) (l : FmtComposite) : Type 0 where
-  measured : IsMeasured skin l
+  measured : IsMeasured (line_rules skin) l
   spacing : l.spacing ≡ place_for (is_code_kind (kind_of said.style)) (min (widest_in part) (inner_width skin width said))
-  inside : columns_of skin l ≤ inner_width skin width said
-  holds : is_code_kind (kind_of said.style) ≡ true → columns_of skin l ≤ widest_in part
+  inside : columns_of (line_rules skin) l ≤ inner_width skin width said
+  holds : is_code_kind (kind_of said.style) ≡ true → columns_of (line_rules skin) l ≤ widest_in part
 
 one_row : (skin : MadSkin) (area : Area) (part : List LineContent) (said : StyledRuns) (k : CompositeKind) (l : FmtComposite) → area.width < 2 ^ 64 - 1 → l.kind ≡ k → IsPlainPrefix skin k
     → is_code_kind k ≡ is_code_kind (kind_of said.style) → line_style skin k ≡ line_style skin (kind_of said.style) → IsRowLine skin (area.width - 1) part said l
@@ -112,15 +113,15 @@ one_row skin area part said k l bound kind prefix code style facts =
 -- of the lines of a wrap, those after the first
 others_across : (skin : MadSkin) (area : Area) (part : List LineContent) (said : StyledRuns) (wrap : List FmtComposite) → area.width < 2 ^ 64 - 1 → IsPlainPrefix skin (kind_of said.style)
     → (is_code_kind (kind_of said.style) ≡ true → inner_width skin (area.width - 1) said ≤ widest_in part) → HaveKinds (follow_up (kind_of said.style)) (follow_up (kind_of said.style)) wrap
-    → AllByRecursion (λ (l : FmtComposite). l.spacing ≡ place_for (is_code_kind (kind_of said.style)) (min (widest_in part) (inner_width skin (area.width - 1) said))) wrap → AllByRecursion (IsMeasured skin) wrap
-    → LinesFit (indent skin.list_items_indentation_mode (follow_up (kind_of said.style))) (room_of skin (kind_of said.style) (inner_width skin (area.width - 1) said)) (map flagged_text (line_compounds wrap))
+    → AllByRecursion (λ (l : FmtComposite). l.spacing ≡ place_for (is_code_kind (kind_of said.style)) (min (widest_in part) (inner_width skin (area.width - 1) said))) wrap → AllByRecursion (IsMeasured (line_rules skin)) wrap
+    → LinesFit (indent skin.list_items_indentation_mode (follow_up (kind_of said.style))) (room_of (line_rules skin) (kind_of said.style) (inner_width skin (area.width - 1) said)) (map flagged_text (line_compounds wrap))
     → map (line_chars skin area.width) (map (line_with (margins_at (line_style skin (kind_of said.style)) (Some (area.width - 1)))) wrap)
     ≡ map (row_across skin area part said (follow_up (kind_of said.style))) (map flagged_text (line_compounds wrap))
 others_across skin area part said [] bound prefix most kinds spacing measured fits = refl
 others_across skin area part said (l ∷ ls) bound prefix most kinds spacing measured fits =
     let k : CompositeKind = kind_of said.style in
     let own : indent skin.list_items_indentation_mode l.kind ≡ indent skin.list_items_indentation_mode (follow_up k) = ap (indent skin.list_items_indentation_mode) kinds.0 in
-    let inside : columns_of skin l ≤ inner_width skin (area.width - 1) said = omega (arith, own, fits.0) in
+    let inside : columns_of (line_rules skin) l ≤ inner_width skin (area.width - 1) said = omega (arith, own, fits.0) in
     let facts : IsRowLine skin (area.width - 1) part said l = record { measured = measured.0; spacing = spacing.0; inside = inside; holds = λ on. omega (arith, inside, most on) } in
     let first = one_row skin area part said (follow_up k) l bound kinds.0 (follow_up_plain skin k prefix) (code_follows k) (style_follows skin k) facts in
     let rest = others_across skin area part said ls bound prefix most kinds.1 spacing.1 measured.1 fits.1 in
@@ -128,14 +129,14 @@ others_across skin area part said (l ∷ ls) bound prefix most kinds spacing mea
 
 wrap_across : (skin : MadSkin) (area : Area) (part : List LineContent) (said : StyledRuns) (wrap : List FmtComposite) → area.width < 2 ^ 64 - 1 → IsPlainPrefix skin (kind_of said.style)
     → (is_code_kind (kind_of said.style) ≡ true → inner_width skin (area.width - 1) said ≤ widest_in part) → HaveKinds (kind_of said.style) (follow_up (kind_of said.style)) wrap
-    → AllByRecursion (λ (l : FmtComposite). l.spacing ≡ place_for (is_code_kind (kind_of said.style)) (min (widest_in part) (inner_width skin (area.width - 1) said))) wrap → AllByRecursion (IsMeasured skin) wrap
-    → LinesFit (indent skin.list_items_indentation_mode (kind_of said.style)) (room_of skin (kind_of said.style) (inner_width skin (area.width - 1) said)) (map flagged_text (line_compounds wrap))
+    → AllByRecursion (λ (l : FmtComposite). l.spacing ≡ place_for (is_code_kind (kind_of said.style)) (min (widest_in part) (inner_width skin (area.width - 1) said))) wrap → AllByRecursion (IsMeasured (line_rules skin)) wrap
+    → LinesFit (indent skin.list_items_indentation_mode (kind_of said.style)) (room_of (line_rules skin) (kind_of said.style) (inner_width skin (area.width - 1) said)) (map flagged_text (line_compounds wrap))
     → map (line_chars skin area.width) (map (line_with (margins_at (line_style skin (kind_of said.style)) (Some (area.width - 1)))) wrap) ≡ rows_across skin area part said (map flagged_text (line_compounds wrap))
 wrap_across skin area part said [] bound prefix most kinds spacing measured fits = refl
 wrap_across skin area part said (l ∷ ls) bound prefix most kinds spacing measured fits =
     let k : CompositeKind = kind_of said.style in
     let own : indent skin.list_items_indentation_mode l.kind ≡ indent skin.list_items_indentation_mode k = ap (indent skin.list_items_indentation_mode) kinds.0 in
-    let inside : columns_of skin l ≤ inner_width skin (area.width - 1) said = omega (arith, own, fits.0) in
+    let inside : columns_of (line_rules skin) l ≤ inner_width skin (area.width - 1) said = omega (arith, own, fits.0) in
     let facts : IsRowLine skin (area.width - 1) part said l = record { measured = measured.0; spacing = spacing.0; inside = inside; holds = λ on. omega (arith, inside, most on) } in
     let first = one_row skin area part said k l bound kinds.0 prefix refl refl facts in
     let rest = others_across skin area part said ls bound prefix most kinds.1 spacing.1 measured.1 fits.1 in
@@ -155,7 +156,7 @@ placed_for skin width part said l read =
 
 abbrev AreRowsIn : MadSkin → Area → List LineContent → StyledRuns → List FmtLine → Type 0
 AreRowsIn skin area part said own =
-    (0 < length own) × ((rows : List (List FlaggedChar)) × AreRowsOf (room_of skin (kind_of said.style) (inner_width skin (area.width - 1) said)) (marked_parts said) rows
+    (0 < length own) × ((rows : List (List FlaggedChar)) × AreRowsOf (room_of (line_rules skin) (kind_of said.style) (inner_width skin (area.width - 1) said)) (marked_parts said) rows
     × (map (line_chars skin area.width) own ≡ rows_across skin area part said rows))
 
 not_none : (ws : List FmtComposite) → (ws ≡ [] → ⊥) → 0 < length ws
@@ -163,21 +164,21 @@ not_none [] h = absurd (h refl)
 not_none (w ∷ ws) h = omega arith
 
 kind_rows : (skin : MadSkin) (area : Area) (part : List LineContent) (said : StyledRuns) (l : FmtComposite) (own : List FmtLine) → area.width < 2 ^ 64 - 1 → IsPlainText skin (inner_width skin (area.width - 1) said) (kind_of said.style) said.runs
-    → IsPlacedIn skin (area.width - 1) part said (record l { kind = kind_of said.style }) → IsLaidOutBy IsCompositeWrap skin (area.width - 1) (record l { kind = kind_of said.style }) own → AreRowsIn skin area part said own
+    → IsPlacedIn skin (area.width - 1) part said (record l { kind = kind_of said.style }) → IsLaidOutBy IsCompositeWrap (line_rules skin) (area.width - 1) (record l { kind = kind_of said.style }) own → AreRowsIn skin area part said own
 kind_rows skin area part said l own bound plain read (inl (fits, same)) =
     let k : CompositeKind = kind_of said.style in
     let source : FmtComposite = record l { kind = k } in
     let width : ℕ = area.width - 1 in
-    let inside : columns_of skin source ≤ inner_width skin width said = omega (arith, fits, read.measured, bound, margins-le (line_style skin k) width) in
+    let inside : columns_of (line_rules skin) source ≤ inner_width skin width said = omega (arith, fits, read.measured, bound, margins-le (line_style skin k) width) in
     let text : width_of (runs_text said.runs) ≡ width_of (text_of l) = ap width_of (ap runs_text (sym read.text) ∙ runs_are l.compounds.items) in
     let facts : IsRowLine skin width part said source = record { measured = read.measured; spacing = read.spacing; inside = inside; holds = λ on. omega (arith, text, read.widest on, code_indent skin k on) } in
     let one : length own ≡ 1 = ap length same in
     let parts : marked_parts said ≡ map flagged_of l.compounds.items = ap (map (λ (r : Run). flagged r.flags (chars r.text))) (sym read.text) ∙ parts_are l.compounds.items in
-    let rows = kept_rows (room_of skin k (inner_width skin width said)) (text_of source) (map flagged_of l.compounds.items) (whole_parts l.compounds.items) inside in (
+    let rows = kept_rows (room_of (line_rules skin) k (inner_width skin width said)) (text_of source) (map flagged_of l.compounds.items) (whole_parts l.compounds.items) inside in (
       omega (arith, one),
       (
         text_of source ∷ [],
-        subst (λ (ps : List (List FlaggedChar)). AreRowsOf (room_of skin k (inner_width skin width said)) ps (text_of source ∷ [])) (sym parts) rows,
+        subst (λ (ps : List (List FlaggedChar)). AreRowsOf (room_of (line_rules skin) k (inner_width skin width said)) ps (text_of source ∷ [])) (sym parts) rows,
         ap (map (line_chars skin area.width)) same ∙ ap (λ x. x ∷ []) (one_row skin area part said k source bound refl plain.prefix refl refl facts),
       ),
     )
@@ -186,7 +187,7 @@ kind_rows skin area part said l own bound plain read (inr (wide, (wrap, wraps, s
     let source : FmtComposite = record l { kind = k } in
     let width : ℕ = area.width - 1 in
     let inner : ℕ = inner_width skin width said in
-    let r : Room = room_of skin k inner in
+    let r : Room = room_of (line_rules skin) k inner in
     let room : HasRoom r (text_of source) = has_room skin width said source plain (placed_for skin width part said l read) wide in
     let passes : r.width < r.first + width_of (flagged_text l.compounds.items) = omega (arith, wide, read.measured, margins-le (line_style skin k) width) in
     let fits : LinesFit r.first r (map flagged_text (line_compounds wrap)) = wraps.wrap.fits room in
@@ -198,8 +199,8 @@ kind_rows skin area part said l own bound plain read (inr (wide, (wrap, wraps, s
     let some : 0 < length wrap = not_none wrap (λ e.
     let none : flagged_text l.compounds.items ≡ [] = subst (λ (xs : List FmtComposite). Keeps (flagged_text l.compounds.items) (map flagged_text (line_compounds xs))) e wraps.wrap.keeps in
     omega (arith, wide, read.measured, room.indent, ap width_of none, margins-le (line_style skin k) width)) in
-    let count : length own ≡ length (map (line_with (style_margins skin width source)) wrap) = ap length same in (
-      omega (arith, count, some, length-map wrap (line_with (style_margins skin width source))),
+    let count : length own ≡ length (map (line_with (style_margins (line_rules skin) width source)) wrap) = ap length same in (
+      omega (arith, count, some, length-map wrap (line_with (style_margins (line_rules skin) width source))),
       (
         map flagged_text (line_compounds wrap),
         subst (λ (ps : List (List FlaggedChar)). AreRowsOf r ps (map flagged_text (line_compounds wrap))) (sym parts) (wrapped_rows r l.compounds.items (line_compounds wrap) passes wraps.wrap),
@@ -208,10 +209,10 @@ kind_rows skin area part said l own bound plain read (inr (wide, (wrap, wraps, s
     )
 
 pub said_rows : (skin : MadSkin) (area : Area) (part : List LineContent) (said : StyledRuns) (l : FmtComposite) (own : List FmtLine) → area.width < 2 ^ 64 - 1 → IsPlainText skin (inner_width skin (area.width - 1) said) (kind_of said.style) said.runs
-    → IsPlacedIn skin (area.width - 1) part said l → IsLaidOutBy IsCompositeWrap skin (area.width - 1) l own → AreRowsIn skin area part said own
+    → IsPlacedIn skin (area.width - 1) part said l → IsLaidOutBy IsCompositeWrap (line_rules skin) (area.width - 1) l own → AreRowsIn skin area part said own
 said_rows skin area part said l own bound plain read laid =
     let same : l ≡ record l { kind = kind_of said.style } = as_kind l (kind_of said.style) read.kind in
-    kind_rows skin area part said l own bound plain (subst (IsPlacedIn skin (area.width - 1) part said) same read) (subst (λ (x : FmtComposite). IsLaidOutBy IsCompositeWrap skin (area.width - 1) x own) same laid)
+    kind_rows skin area part said l own bound plain (subst (IsPlacedIn skin (area.width - 1) part said) same read) (subst (λ (x : FmtComposite). IsLaidOutBy IsCompositeWrap (line_rules skin) (area.width - 1) x own) same laid)
 
 -- ---- the rows of all lines
 
@@ -235,7 +236,7 @@ AreReadIn skin width (x ∷ xs) [] = ⊥
 AreReadIn skin width (x ∷ xs) (l ∷ ls) = IsReadIn skin width x.part x.line l × AreReadIn skin width xs ls
 
 content_rows : (skin : MadSkin) (area : Area) (x : LineInPart) (line : LineContent) (l : FmtLine) (own : List FmtLine) → area.width < 2 ^ 64 - 1 → IsPlainContent skin (area.width - 1) x.part line
-    → IsReadIn skin (area.width - 1) x.part line l → IsLineAt IsCompositeWrap skin (Some (area.width - 1)) l own → (0 < length own) × IsAcross skin area x line (map (line_chars skin area.width) own)
+    → IsReadIn skin (area.width - 1) x.part line l → IsLineAt IsCompositeWrap (line_rules skin) (Some (area.width - 1)) l own → (0 < length own) × IsAcross skin area x line (map (line_chars skin area.width) own)
 content_rows skin area x (normal said) (Normal l) own bound plain read laid = said_rows skin area x.part said l own bound plain read laid
 content_rows skin area x (normal said) (TableRow row) own bound plain read laid = absurd read
 content_rows skin area x (normal said) (TableRule rule) own bound plain read laid = absurd read
@@ -256,7 +257,7 @@ cells_exist skin (c ∷ cs) [] = let more = cells_exist skin cs [] in (record { 
 cells_exist skin (c ∷ cs) (cell ∷ cells) =
     let more = cells_exist skin cs cells in
     let k : CompositeKind = kind_of cell.style in
-    let r : Room = room_of skin k c.width in
+    let r : Room = room_of (line_rules skin) k c.width in
     let rows : List (List FlaggedChar) = rows_of r (marked_parts cell) in
     (record { width = c.width; rows = rows_in_column skin c k rows } ∷ more.0, (rows, more.0, rows_exist r (marked_parts cell), refl, more.1))
 
@@ -267,7 +268,7 @@ row_exists skin area cs cells =
 
 line_across : (skin : MadSkin) (area : Area) (x : LineInPart) (line : LineContent) → (across : List (List ℕ)) × IsAcross skin area x line across
 line_across skin area x (normal said) =
-    let r : Room = room_of skin (kind_of said.style) (inner_width skin (area.width - 1) said) in
+    let r : Room = room_of (line_rules skin) (kind_of said.style) (inner_width skin (area.width - 1) said) in
     (rows_across skin area x.part said (rows_of r (marked_parts said)), (rows_of r (marked_parts said), rows_exist r (marked_parts said), refl))
 line_across skin area x (table_row cells) = row_exists skin area (columns_below (kept_widths skin (area.width - 1) x.part) x.aligns) cells
 line_across skin area x (table_rule aligns) = (rule_across skin area x.position (kept_widths skin (area.width - 1) x.part) ∷ [], refl)
@@ -306,7 +307,7 @@ some_same (o ∷ own) xs ys n some e = ap (λ (l : List (List ℕ)). o ∷ l) (f
 -- The first rows of these lines and of those after them, whose rows are there for any number of lines that keep the premises.
 pub front_across : (skin : MadSkin) (area : Area) (n : ℕ) (xs ys : List LineInPart) (placed own others : List FmtLine) → area.width < 2 ^ 64 - 1
     → ((m : ℕ) → KeepsPremises skin (area.width - 1) (take m ys) → HaveFirstRows skin area m ys others)
-    → KeepsPremises skin (area.width - 1) (take n (xs ++ ys)) → AreReadIn skin (area.width - 1) xs placed → AreLinesAt IsCompositeWrap skin (Some (area.width - 1)) placed own
+    → KeepsPremises skin (area.width - 1) (take n (xs ++ ys)) → AreReadIn skin (area.width - 1) xs placed → AreLinesAt IsCompositeWrap (line_rules skin) (Some (area.width - 1)) placed own
     → HaveFirstRows skin area n (xs ++ ys) (own ++ others)
 front_across skin area zero xs ys placed own others bound later keeps reads laid = let all = across_exist skin area (xs ++ ys) in (all.0, all.1, refl)
 front_across skin area (suc n) [] ys (l ∷ ls) own others bound later keeps reads laid = absurd reads

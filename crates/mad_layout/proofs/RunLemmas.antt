@@ -15,11 +15,11 @@ use Rattle.mad_draw.specs.declared.table_rules.RuleChars.{RuleChars}
 use Rattle.mad_draw.proofs.PieceLemmas.{columns-both, spaces_columns, shown_spaces}
 use Rattle.mad_draw.proofs.RunLemmas.{run_columns, run_shown}
 use Rattle.mad_layout.specs.declared.skin.MadSkin.{MadSkin}
-use Rattle.mad_layout.specs.declared.composite.FmtComposite.{FmtComposite}
-use Rattle.mad_layout.specs.declared.line.FmtLine.{FmtLine}
-use Rattle.mad_layout.specs.declared.line.FmtLine.TheVariants.{Normal, TableRow, TableRule, HorizontalRule}
+use Rattle.mad_format.specs.declared.composite.FmtComposite.{FmtComposite}
+use Rattle.mad_format.specs.declared.line.FmtLine.{FmtLine}
+use Rattle.mad_format.specs.declared.line.FmtLine.TheVariants.{Normal, TableRow, TableRule, HorizontalRule}
 use Rattle.mad_layout.specs.Drawable.{AreShownChars, FillsItsPlace, IsDrawableLine}
-use Rattle.mad_layout.specs.Lines.{bordered, rule_columns}
+use Rattle.mad_format.specs.Lines.{bordered, rule_columns}
 use Rattle.mad_layout.specs.Rows.{cell_pieces, composite_pieces, inner_columns, left_of_place, line_pieces, placed_pieces, right_of_place, row_columns, rule_chars, vertical_piece}
 use Rattle.mad_layout.proofs.RowLemmas.{cell_columns, cell_shown, left_completion-le, line_columns, line_shown}
 

@@ -7,7 +7,7 @@ use Rattle.mad_draw.specs.DrawnRows.{FillArea, AreRowsShown}
 use Rattle.mad_draw.specs.Pieces.{FillsRow}
 use Rattle.mad_draw.proofs.PieceLemmas.{spaces_columns, shown_spaces}
 use Rattle.mad_layout.specs.declared.skin.MadSkin.{MadSkin}
-use Rattle.mad_layout.specs.declared.line.FmtLine.{FmtLine}
+use Rattle.mad_format.specs.declared.line.FmtLine.{FmtLine}
 use Rattle.mad_layout.specs.Drawable.{AreDrawable}
 use Rattle.mad_layout.specs.Rows.{row_pieces}
 use Rattle.mad_layout.specs.Shown.{lines_shown, AreShownIn}

@@ -14,25 +14,25 @@ use Rattle.mad_fit.specs.declared.area.Area.{Area}
 use Rattle.mad_fit.specs.declared.spacing.Spacing.{Spacing}
 use Rattle.mad_wrap.specs.WrapLines.{HasRoom, LinesFit}
 use Rattle.mad_wrap.specs.declared.room.Room.{Room}
-use Rattle.mad_layout.specs.CompositeWraps.{line_compounds, HaveKinds, IsCompositeWrap}
+use Rattle.mad_format.specs.CompositeWraps.{line_compounds, HaveKinds, IsCompositeWrap}
 use Rattle.mad_layout.specs.FlaggedLines.{marked_parts}
 use Rattle.mad_layout.specs.FlaggedRows.{AreRowsOf}
 use Rattle.mad_layout.specs.FlaggedTables.{columns_among, cells_among, down, kept_widths, columns_below, row_in_column, rows_in_column, CellInColumn, AreInColumns, rows_down, most_rows, table_across, IsRowAcross, rule_across}
 use Rattle.mad_layout.specs.FlaggedTexts.{LineInPart, aligns_at, position_in, lines_in, IsAcross}
-use Rattle.mad_layout.specs.Indents.{indent, follow_up, room_of}
-use Rattle.mad_layout.specs.Lines.{bordered, IsCompositeRead, AreCompositesRead, IsLineRead}
+use Rattle.mad_format.specs.Indents.{indent, follow_up, room_of}
+use Rattle.mad_format.specs.Lines.{bordered, IsCompositeRead, AreCompositesRead, IsLineRead}
 use Rattle.mad_layout.specs.PlainTables.{ArePlainCells}
 use Rattle.mad_layout.specs.Premises.{IsPlainPrefix, IsPlainText, KeepsPremises}
-use Rattle.mad_layout.specs.Tables.{in_column, IsCellLaidOut, AreCellsLaidOut, below, tallest, IsRowLaidOutBy, columns_with, columns_from, columns_count, columns_in, is_table_line, position_at, IsTableLineBy, AreTableLinesBy, IsTableLaidOutBy}
-use Rattle.mad_layout.specs.Tables as tables
-use Rattle.mad_layout.specs.Wraps.{text_of, columns_of, IsMeasured}
+use Rattle.mad_format.specs.Tables.{in_column, IsCellLaidOut, AreCellsLaidOut, below, tallest, IsRowLaidOutBy, columns_with, columns_from, columns_count, columns_in, is_table_line, position_at, IsTableLineBy, AreTableLinesBy, IsTableLaidOutBy}
+use Rattle.mad_format.specs.Tables as tables
+use Rattle.mad_format.specs.Wraps.{text_of, columns_of, IsMeasured}
 use Rattle.mad_layout.specs.declared.skin.MadSkin.{MadSkin}
-use Rattle.mad_layout.specs.declared.composite.FmtComposite.{FmtComposite}
-use Rattle.mad_layout.specs.declared.line.FmtLine.{FmtLine}
-use Rattle.mad_layout.specs.declared.line.FmtLine.TheVariants.{Normal, TableRow, TableRule, HorizontalRule}
-use Rattle.mad_layout.specs.declared.table.FmtTableRow.{FmtTableRow}
-use Rattle.mad_layout.specs.declared.table.RelativePosition.{RelativePosition}
-use Rattle.mad_layout.specs.declared.table.RelativePosition.TheVariants.{Other}
+use Rattle.mad_format.specs.declared.composite.FmtComposite.{FmtComposite}
+use Rattle.mad_format.specs.declared.line.FmtLine.{FmtLine}
+use Rattle.mad_format.specs.declared.line.FmtLine.TheVariants.{Normal, TableRow, TableRule, HorizontalRule}
+use Rattle.mad_format.specs.declared.table.FmtTableRow.{FmtTableRow}
+use Rattle.mad_format.specs.declared.table.RelativePosition.{RelativePosition}
+use Rattle.mad_format.specs.declared.table.RelativePosition.TheVariants.{Other}
 use Rattle.mad_layout.proofs.CellChars.{cell_chars, column_chars, lines_rows, placed_lines, down_chars, rule_line_chars}
 use Rattle.mad_layout.proofs.DrawableTables.{TableContent, content_plain, kept_columns, widths_of, centered-widths, columns_with-widths, widths_small, map_some}
 use Rattle.mad_layout.proofs.DrawnParts.{runs_are}
@@ -43,17 +43,18 @@ use Rattle.mad_layout.proofs.RowsAcross.{parts_are, HaveFirstRows, across_exist,
 use Rattle.mad_layout.proofs.ColumnChars.{column_rule}
 use Rattle.mad_layout.specs.Rows.{rule_chars}
 use Rattle.mad_layout.proofs.WrapRows.{whole_parts, kept_rows, wrapped_rows}
+use Rattle.mad_layout.specs.Styles.{line_rules}
 
 -- ---- a cell in its column
 
-one_in_column : (skin : MadSkin) (c : Spacing) (k : CompositeKind) (l : FmtComposite) → c.width < 2 ^ 64 - 1 → IsPlainPrefix skin k → l.kind ≡ k → IsMeasured skin l → columns_of skin l ≤ c.width
+one_in_column : (skin : MadSkin) (c : Spacing) (k : CompositeKind) (l : FmtComposite) → c.width < 2 ^ 64 - 1 → IsPlainPrefix skin k → l.kind ≡ k → IsMeasured (line_rules skin) l → columns_of (line_rules skin) l ≤ c.width
     → cell_chars skin (in_column c l) ≡ row_in_column skin c k (text_of l)
 one_in_column skin c k l bound prefix kind measured fits =
-    let same : l.visible_length ≡ columns_of skin l = omega (arith, measured, fits, bound) in
+    let same : l.visible_length ≡ columns_of (line_rules skin) l = omega (arith, measured, fits, bound) in
     column_chars skin c l (subst (IsPlainPrefix skin) (sym kind) prefix) same ∙ ap (λ (x : CompositeKind). row_in_column skin c x (text_of l)) kind
 
-others_in_column : (skin : MadSkin) (c : Spacing) (k : CompositeKind) (ls : List FmtComposite) → c.width < 2 ^ 64 - 1 → IsPlainPrefix skin (follow_up k) → HaveKinds (follow_up k) (follow_up k) ls → AllByRecursion (IsMeasured skin) ls
-    → LinesFit (indent skin.list_items_indentation_mode (follow_up k)) (room_of skin k c.width) (map flagged_text (line_compounds ls)) → lines_rows skin c ls ≡ map (row_in_column skin c (follow_up k)) (map flagged_text (line_compounds ls))
+others_in_column : (skin : MadSkin) (c : Spacing) (k : CompositeKind) (ls : List FmtComposite) → c.width < 2 ^ 64 - 1 → IsPlainPrefix skin (follow_up k) → HaveKinds (follow_up k) (follow_up k) ls → AllByRecursion (IsMeasured (line_rules skin)) ls
+    → LinesFit (indent skin.list_items_indentation_mode (follow_up k)) (room_of (line_rules skin) k c.width) (map flagged_text (line_compounds ls)) → lines_rows skin c ls ≡ map (row_in_column skin c (follow_up k)) (map flagged_text (line_compounds ls))
 others_in_column skin c k [] bound prefix kinds measured fits = refl
 others_in_column skin c k (l ∷ ls) bound prefix kinds measured fits =
     let own : indent skin.list_items_indentation_mode l.kind ≡ indent skin.list_items_indentation_mode (follow_up k) = ap (indent skin.list_items_indentation_mode) kinds.0 in
@@ -61,8 +62,8 @@ others_in_column skin c k (l ∷ ls) bound prefix kinds measured fits =
     let rest = others_in_column skin c k ls bound prefix kinds.1 measured.1 fits.1 in
     ap (λ x. x ∷ lines_rows skin c ls) first ∙ ap (λ xs. row_in_column skin c (follow_up k) (text_of l) ∷ xs) rest
 
-wrap_in_column : (skin : MadSkin) (c : Spacing) (k : CompositeKind) (ls : List FmtComposite) → c.width < 2 ^ 64 - 1 → IsPlainPrefix skin k → HaveKinds k (follow_up k) ls → AllByRecursion (IsMeasured skin) ls
-    → LinesFit (indent skin.list_items_indentation_mode k) (room_of skin k c.width) (map flagged_text (line_compounds ls)) → lines_rows skin c ls ≡ rows_in_column skin c k (map flagged_text (line_compounds ls))
+wrap_in_column : (skin : MadSkin) (c : Spacing) (k : CompositeKind) (ls : List FmtComposite) → c.width < 2 ^ 64 - 1 → IsPlainPrefix skin k → HaveKinds k (follow_up k) ls → AllByRecursion (IsMeasured (line_rules skin)) ls
+    → LinesFit (indent skin.list_items_indentation_mode k) (room_of (line_rules skin) k c.width) (map flagged_text (line_compounds ls)) → lines_rows skin c ls ≡ rows_in_column skin c k (map flagged_text (line_compounds ls))
 wrap_in_column skin c k [] bound prefix kinds measured fits = refl
 wrap_in_column skin c k (l ∷ ls) bound prefix kinds measured fits =
     let own : indent skin.list_items_indentation_mode l.kind ≡ indent skin.list_items_indentation_mode k = ap (indent skin.list_items_indentation_mode) kinds.0 in
@@ -72,26 +73,26 @@ wrap_in_column skin c k (l ∷ ls) bound prefix kinds measured fits =
 
 -- the lines of a cell are rows of it
 abbrev HasRowsIn : MadSkin → Spacing → CompositeKind → List (List FlaggedChar) → List FmtComposite → Type 0
-HasRowsIn skin c k parts ls = (rows : List (List FlaggedChar)) × AreRowsOf (room_of skin k c.width) parts rows × (lines_rows skin c ls ≡ rows_in_column skin c k rows)
+HasRowsIn skin c k parts ls = (rows : List (List FlaggedChar)) × AreRowsOf (room_of (line_rules skin) k c.width) parts rows × (lines_rows skin c ls ≡ rows_in_column skin c k rows)
 
-cell_rows : (skin : MadSkin) (c : Spacing) (cell : FmtComposite) (ls : List FmtComposite) → c.width < 2 ^ 64 - 1 → IsMeasured skin cell → IsPlainText skin c.width cell.kind (map run_of cell.compounds.items)
-    → IsCellLaidOut IsCompositeWrap skin c.width cell ls → HasRowsIn skin c cell.kind (map flagged_of cell.compounds.items) ls
+cell_rows : (skin : MadSkin) (c : Spacing) (cell : FmtComposite) (ls : List FmtComposite) → c.width < 2 ^ 64 - 1 → IsMeasured (line_rules skin) cell → IsPlainText skin c.width cell.kind (map run_of cell.compounds.items)
+    → IsCellLaidOut IsCompositeWrap (line_rules skin) c.width cell ls → HasRowsIn skin c cell.kind (map flagged_of cell.compounds.items) ls
 cell_rows skin c cell ls bound measured plain (inl (fits, same)) =
-    let inside : columns_of skin cell ≤ c.width = omega (arith, measured, fits, bound) in (
+    let inside : columns_of (line_rules skin) cell ≤ c.width = omega (arith, measured, fits, bound) in (
       text_of cell ∷ [],
-      kept_rows (room_of skin cell.kind c.width) (text_of cell) (map flagged_of cell.compounds.items) (whole_parts cell.compounds.items) inside,
+      kept_rows (room_of (line_rules skin) cell.kind c.width) (text_of cell) (map flagged_of cell.compounds.items) (whole_parts cell.compounds.items) inside,
       ap (lines_rows skin c) same ∙ ap (λ x. x ∷ []) (one_in_column skin c cell.kind cell bound plain.prefix refl measured inside),
     )
 cell_rows skin c cell ls bound measured plain (inr (wide, wraps)) =
     let ps = cell.compounds.items in
-    let r : Room = room_of skin cell.kind c.width in
+    let r : Room = room_of (line_rules skin) cell.kind c.width in
     let premise = λ (t : List FlaggedChar). c.width < indent skin.list_items_indentation_mode cell.kind + width_of t → HasRoom r t in
     let room_where : premise (text_of cell) = subst premise (runs_are ps) plain.room in
     let room : HasRoom r (text_of cell) = room_where (omega (arith, measured, wide)) in
     let passes : r.width < r.first + width_of (flagged_text ps) = omega (arith, measured, wide) in
     (map flagged_text (line_compounds ls), wrapped_rows r ps (line_compounds ls) passes wraps.wrap, wrap_in_column skin c cell.kind ls bound plain.prefix wraps.kinds wraps.measured (wraps.wrap.fits room))
 
-said_cell : (skin : MadSkin) (c : Spacing) (said : StyledRuns) (cell : FmtComposite) (ls : List FmtComposite) → IsCompositeRead skin said cell → HasRowsIn skin c cell.kind (map flagged_of cell.compounds.items) ls
+said_cell : (skin : MadSkin) (c : Spacing) (said : StyledRuns) (cell : FmtComposite) (ls : List FmtComposite) → IsCompositeRead (line_rules skin) said cell → HasRowsIn skin c cell.kind (map flagged_of cell.compounds.items) ls
     → HasRowsIn skin c (kind_of said.style) (marked_parts said) ls
 said_cell skin c said cell ls read h =
     let parts : map flagged_of cell.compounds.items ≡ marked_parts said = sym (ap (map (λ (r : Run). flagged r.flags (chars r.text))) (sym read.text) ∙ parts_are cell.compounds.items) in
@@ -103,8 +104,8 @@ none_plain : (skin : MadSkin) (ws : List ℕ) → ArePlainCells skin ws []
 none_plain skin [] = tt
 none_plain skin (w ∷ ws) = tt
 
-cells_in_columns : (skin : MadSkin) (cs : List Spacing) (said : List StyledRuns) (cells : List FmtComposite) (lines : List (List FmtComposite)) → AllByRecursion (λ c. c.width < 2 ^ 64 - 1) cs → AreCompositesRead skin said cells
-    → ArePlainCells skin (widths_of cs) cells → AreCellsLaidOut IsCompositeWrap skin cs cells lines → AreInColumns skin cs said (placed_lines skin cs lines)
+cells_in_columns : (skin : MadSkin) (cs : List Spacing) (said : List StyledRuns) (cells : List FmtComposite) (lines : List (List FmtComposite)) → AllByRecursion (λ c. c.width < 2 ^ 64 - 1) cs → AreCompositesRead (line_rules skin) said cells
+    → ArePlainCells skin (widths_of cs) cells → AreCellsLaidOut IsCompositeWrap (line_rules skin) cs cells lines → AreInColumns skin cs said (placed_lines skin cs lines)
 cells_in_columns skin [] said cells lines bound read plain laid = refl
 cells_in_columns skin (c ∷ cs) said cells [] bound read plain laid = absurd laid
 cells_in_columns skin (c ∷ cs) [] (cell ∷ cells) (ls ∷ lines) bound read plain laid = absurd read
@@ -125,7 +126,7 @@ cells_in_columns skin (c ∷ cs) (s ∷ ss) (cell ∷ cells) (ls ∷ lines) boun
       cells_in_columns skin cs ss cells lines bound.1 read.1 plain.2 laid.1,
     )
 
-as_tall : (skin : MadSkin) (cs : List Spacing) (cells : List FmtComposite) (lines : List (List FmtComposite)) → AreCellsLaidOut IsCompositeWrap skin cs cells lines → most_rows (placed_lines skin cs lines) ≡ tallest lines
+as_tall : (skin : MadSkin) (cs : List Spacing) (cells : List FmtComposite) (lines : List (List FmtComposite)) → AreCellsLaidOut IsCompositeWrap (line_rules skin) cs cells lines → most_rows (placed_lines skin cs lines) ≡ tallest lines
 as_tall skin [] cells [] laid = refl
 as_tall skin [] cells (ls ∷ lines) laid = absurd laid
 as_tall skin (c ∷ cs) cells [] laid = absurd laid
@@ -134,8 +135,8 @@ as_tall skin (c ∷ cs) cells (ls ∷ lines) laid =
     let own : length (lines_rows skin c ls) ≡ length ls = length-map ls (λ l. cell_chars skin (in_column c l)) in
     omega (arith, rest, own)
 
-row_is_across : (skin : MadSkin) (area : Area) (cs : List Spacing) (said : List StyledRuns) (cells : List FmtComposite) (rows : List FmtTableRow) → AllByRecursion (λ c. c.width < 2 ^ 64 - 1) cs → AreCompositesRead skin said cells
-    → ArePlainCells skin (widths_of cs) cells → IsRowLaidOutBy IsCompositeWrap skin cs cells rows → IsRowAcross skin area cs said (map (line_chars skin area.width) (map TableRow rows))
+row_is_across : (skin : MadSkin) (area : Area) (cs : List Spacing) (said : List StyledRuns) (cells : List FmtComposite) (rows : List FmtTableRow) → AllByRecursion (λ c. c.width < 2 ^ 64 - 1) cs → AreCompositesRead (line_rules skin) said cells
+    → ArePlainCells skin (widths_of cs) cells → IsRowLaidOutBy IsCompositeWrap (line_rules skin) cs cells rows → IsRowAcross skin area cs said (map (line_chars skin area.width) (map TableRow rows))
 row_is_across skin area cs said cells rows bound read plain laid =
     let placed : List CellInColumn = placed_lines skin cs laid.lines in
     let same : most_rows placed ≡ tallest laid.lines = as_tall skin cs cells laid.lines laid.laid_out in
@@ -156,11 +157,11 @@ below-widths ws (Some aligns) = columns_with-widths ws aligns
 pub record IsLaidIn (skin : MadSkin) (width : ℕ) (ws : List ℕ) (x : LineInPart) (l : FmtLine) (own : List FmtLine) : Type 0 where
   pub widths : ws ≡ kept_widths skin width x.part
   pub table : is_table_line l ≡ true
-  pub read : IsLineRead skin x.line l
-  pub laid : IsTableLineBy IsCompositeWrap skin (columns_below ws x.aligns) x.position l own
+  pub read : IsLineRead (line_rules skin) x.line l
+  pub laid : IsTableLineBy IsCompositeWrap (line_rules skin) (columns_below ws x.aligns) x.position l own
 
 line_rows : (skin : MadSkin) (area : Area) (ws : List ℕ) (x : LineInPart) (c : LineContent) (l : FmtLine) (own : List FmtLine) → area.width < 2 ^ 64 - 1 → 1 + bordered ws ≤ area.width - 1 → ws ≡ kept_widths skin (area.width - 1) x.part
-    → TableContent skin (area.width - 1) ws l → IsLineRead skin c l → is_table_line l ≡ true → IsTableLineBy IsCompositeWrap skin (columns_below ws x.aligns) x.position l own
+    → TableContent skin (area.width - 1) ws l → IsLineRead (line_rules skin) c l → is_table_line l ≡ true → IsTableLineBy IsCompositeWrap (line_rules skin) (columns_below ws x.aligns) x.position l own
     → (0 < length own) × IsAcross skin area x c (map (line_chars skin area.width) own)
 line_rows skin area ws x (normal said) (Normal l) own bound fit is content read table laid = absurd (cc)
 line_rows skin area ws x (normal said) (TableRow row) own bound fit is content read table laid = absurd read
@@ -227,7 +228,7 @@ as_long skin [] (l ∷ ls) h = absurd h
 as_long skin (c ∷ cs) [] h = absurd h
 as_long skin (c ∷ cs) (l ∷ ls) h = let rest : length ls ≡ length cs = as_long skin cs ls h.1 in omega (arith, rest)
 
-columns_at : (skin : MadSkin) (ws : List ℕ) (above : Option (List Alignment)) (c : LineContent) (l : FmtLine) → IsLineRead skin c l → is_table_line l ≡ true → columns_from ws (columns_below ws above) l ≡ columns_below ws (aligns_at above c)
+columns_at : (skin : MadSkin) (ws : List ℕ) (above : Option (List Alignment)) (c : LineContent) (l : FmtLine) → IsLineRead (line_rules skin) c l → is_table_line l ≡ true → columns_from ws (columns_below ws above) l ≡ columns_below ws (aligns_at above c)
 columns_at skin ws above (normal said) (Normal l) read table = refl
 columns_at skin ws above (normal said) (TableRow row) read table = absurd read
 columns_at skin ws above (normal said) (TableRule rule) read table = absurd read
@@ -246,7 +247,7 @@ columns_at skin ws above horizontal_rule (TableRule rule) read table = absurd re
 columns_at skin ws above horizontal_rule HorizontalRule read table = refl
 
 laid_in : (skin : MadSkin) (width : ℕ) (ws : List ℕ) (part : List LineContent) (above : Option (List Alignment)) (first : Bool) (cs : List LineContent) (ls own : List FmtLine) → ws ≡ kept_widths skin width part → (columns_among part == 0) ≡ false
-    → AreTableRead skin cs ls → AreTableLinesBy IsCompositeWrap skin ws (columns_below ws above) first ls own → AreLaidIn skin width ws (lines_in part above first cs) ls own
+    → AreTableRead skin cs ls → AreTableLinesBy IsCompositeWrap (line_rules skin) ws (columns_below ws above) first ls own → AreLaidIn skin width ws (lines_in part above first cs) ls own
 laid_in skin width ws part above first [] [] own is some reads laid = laid
 laid_in skin width ws part above first [] (l ∷ ls) own is some reads laid = absurd reads
 laid_in skin width ws part above first (c ∷ cs) [] own is some reads laid = absurd reads
@@ -261,10 +262,10 @@ laid_in skin width ws part above first (c ∷ cs) (l ∷ ls) own is some reads (
         widths = is;
         table = reads.0.line;
         read = reads.0.read;
-        laid = subst (λ (p : RelativePosition). IsTableLineBy IsCompositeWrap skin (columns_below ws (aligns_at above c)) p l here) place
-            (subst (λ (xs : List Spacing). IsTableLineBy IsCompositeWrap skin xs (position_at first (length ls == 0)) l here) columns one);
+        laid = subst (λ (p : RelativePosition). IsTableLineBy IsCompositeWrap (line_rules skin) (columns_below ws (aligns_at above c)) p l here) place
+            (subst (λ (xs : List Spacing). IsTableLineBy IsCompositeWrap (line_rules skin) xs (position_at first (length ls == 0)) l here) columns one);
       },
-      laid_in skin width ws part (aligns_at above c) false cs ls behind is some reads.1 (subst (λ (xs : List Spacing). AreTableLinesBy IsCompositeWrap skin ws xs false ls behind) columns more),
+      laid_in skin width ws part (aligns_at above c) false cs ls behind is some reads.1 (subst (λ (xs : List Spacing). AreTableLinesBy IsCompositeWrap (line_rules skin) ws xs false ls behind) columns more),
     )
 
 -- ---- a table without columns
@@ -288,7 +289,7 @@ no_items : {A : Type 0} (xs : List A) → length xs ≡ 0 → xs ≡ []
 no_items {A} [] h = refl
 no_items {A} (x ∷ xs) h = absurd (omega (arith, h))
 
-bare_line : (skin : MadSkin) (position : RelativePosition) (c : LineContent) (l : FmtLine) → position ≡ Other → IsLineRead skin c l → is_table_line l ≡ true → columns_in l ≡ 0 → IsTableLineBy IsCompositeWrap skin [] position l (l ∷ [])
+bare_line : (skin : MadSkin) (position : RelativePosition) (c : LineContent) (l : FmtLine) → position ≡ Other → IsLineRead (line_rules skin) c l → is_table_line l ≡ true → columns_in l ≡ 0 → IsTableLineBy IsCompositeWrap (line_rules skin) [] position l (l ∷ [])
 bare_line skin position (normal said) (Normal l) other read table none = refl
 bare_line skin position (normal said) (TableRow row) other read table none = absurd read
 bare_line skin position (normal said) (TableRule rule) other read table none = absurd read
@@ -325,7 +326,7 @@ bare_in skin width part above first (c ∷ cs) (l ∷ ls) is none empty reads =
         widths = is;
         table = reads.0.line;
         read = reads.0.read;
-        laid = subst (λ (xs : List Spacing). IsTableLineBy IsCompositeWrap skin xs place l (l ∷ [])) (sym (none_below aligns)) (bare_line skin place c l other reads.0.read reads.0.line own);
+        laid = subst (λ (xs : List Spacing). IsTableLineBy IsCompositeWrap (line_rules skin) xs place l (l ∷ [])) (sym (none_below aligns)) (bare_line skin place c l other reads.0.read reads.0.line own);
       },
       bare_in skin width part aligns false cs ls is none (omega (arith, empty)) reads.1,
     )
@@ -336,7 +337,7 @@ bare_in skin width part above first (c ∷ cs) (l ∷ ls) is none empty reads =
 pub table_across_area : (skin : MadSkin) (area : Area) (n : ℕ) (part : List LineContent) (ys : List LineInPart) (read own others : List FmtLine) → area.width < 2 ^ 64 - 1 → 4 ≤ area.width
     → ((m : ℕ) → KeepsPremises skin (area.width - 1) (take m ys) → HaveFirstRows skin area m ys others)
     → KeepsPremises skin (area.width - 1) (take n (lines_in part None true part ++ ys)) → AreTableRead skin part read
-    → IsTableLaidOutBy IsCompositeWrap skin (columns_count read) (area.width - 1) read own → HaveFirstRows skin area n (lines_in part None true part ++ ys) (own ++ others)
+    → IsTableLaidOutBy IsCompositeWrap (line_rules skin) (columns_count read) (area.width - 1) read own → HaveFirstRows skin area n (lines_in part None true part ++ ys) (own ++ others)
 table_across_area skin area n part ys read own others bound wide later keeps reads (inl (inl none, stays)) =
     let empty : columns_among part ≡ 0 = sym (count_read skin part read reads) ∙ none in
     subst (λ (ls : List FmtLine). HaveFirstRows skin area n (lines_in part None true part ++ ys) (ls ++ others)) (sym stays)

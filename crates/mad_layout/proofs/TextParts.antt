@@ -8,22 +8,22 @@ use Rattle.mad_style.specs.LineStyles.{margins_at}
 use Rattle.mad_style.specs.declared.kinds.CompositeKind.{CompositeKind}
 use Rattle.mad_fit.specs.Columns.{width_of}
 use Rattle.mad_fit.specs.declared.area.Area.{Area}
-use Rattle.mad_layout.specs.CompositeWraps.{IsCompositeWrap}
+use Rattle.mad_format.specs.CompositeWraps.{IsCompositeWrap}
 use Rattle.mad_layout.specs.FlaggedLines.{is_code, is_table, text_parts, widest_in}
 use Rattle.mad_layout.specs.FlaggedTexts.{lines_in, lines_in_parts}
-use Rattle.mad_layout.specs.Indents.{indent}
-use Rattle.mad_layout.proofs.WideLayouts.{IsLayout}
-use Rattle.mad_layout.specs.Lines.{IsLineRead, IsCompositeRead}
-use Rattle.mad_layout.specs.Parts.{Part, table, block, single, is_code_kind, parts_of, widest, placed_code, ArePartsAt}
+use Rattle.mad_format.specs.Indents.{indent}
+use Rattle.mad_format.proofs.WideLayouts.{IsLayout}
+use Rattle.mad_format.specs.Lines.{IsLineRead, IsCompositeRead}
+use Rattle.mad_format.specs.Parts.{Part, table, block, single, is_code_kind, parts_of, widest, placed_code, ArePartsAt}
 use Rattle.mad_layout.specs.Premises.{KeepsPremises, inner_width, runs_text}
-use Rattle.mad_layout.specs.Styles.{line_style}
-use Rattle.mad_layout.specs.Wraps.{text_of}
+use Rattle.mad_layout.specs.Styles.{line_rules, line_style}
+use Rattle.mad_format.specs.Wraps.{text_of}
 use Rattle.mad_layout.specs.declared.skin.MadSkin.{MadSkin}
-use Rattle.mad_layout.specs.declared.composite.FmtComposite.{FmtComposite}
-use Rattle.mad_layout.specs.declared.line.FmtLine.{FmtLine}
-use Rattle.mad_layout.specs.declared.line.FmtLine.TheVariants.{Normal, TableRow, TableRule, HorizontalRule}
+use Rattle.mad_format.specs.declared.composite.FmtComposite.{FmtComposite}
+use Rattle.mad_format.specs.declared.line.FmtLine.{FmtLine}
+use Rattle.mad_format.specs.declared.line.FmtLine.TheVariants.{Normal, TableRow, TableRule, HorizontalRule}
 use Rattle.mad_layout.proofs.DrawnParts.{runs_are}
-use Rattle.mad_layout.proofs.PartLemmas.{code_is}
+use Rattle.mad_format.proofs.PartLemmas.{code_is}
 use Rattle.mad_layout.proofs.RowChars.{place_for, line_chars}
 use Rattle.mad_layout.proofs.RowsAcross.{IsReadIn, AreReadIn, HaveFirstRows, code_indent, front_across}
 use Rattle.mad_layout.proofs.ReadParts.{AreCodeRead, ArePartsRead, parts_read, all_in}
@@ -45,7 +45,7 @@ widest_same skin room [] (l ∷ ls) bound h = absurd h
 widest_same skin room (c ∷ cs) [] bound h = absurd h
 widest_same skin room (normal said ∷ cs) (l ∷ ls) bound h =
     let rest : min (widest ls) room ≡ min (widest_in cs) room = widest_same skin room cs ls bound h.1 in
-    let read : IsCompositeRead skin said l = h.0.read in
+    let read : IsCompositeRead (line_rules skin) said l = h.0.read in
     let text : width_of (runs_text said.runs) ≡ width_of (text_of l) = ap width_of (ap runs_text (sym read.text) ∙ runs_are l.compounds.items) in
     let none : indent skin.list_items_indentation_mode l.kind ≡ 0 = ap (indent skin.list_items_indentation_mode) read.kind ∙ code_indent skin (kind_of said.style) h.0.code in
     omega (arith, rest, text, none, read.measured, bound)
@@ -59,7 +59,7 @@ block_placed skin width columns part above first [] [] is most h = tt
 block_placed skin width columns part above first [] (l ∷ ls) is most h = absurd h
 block_placed skin width columns part above first (c ∷ cs) [] is most h = absurd h
 block_placed skin width columns part above first (normal said ∷ cs) (l ∷ ls) is most h =
-    let read : IsCompositeRead skin said l = h.0.read in
+    let read : IsCompositeRead (line_rules skin) said l = h.0.read in
     let width_is : columns ≡ min (widest_in part) (inner_width skin width said) = is ∙ ap (min (widest_in part)) (sym (inner_code skin width said h.0.code)) in (
       record {
         kind = read.kind;
@@ -76,7 +76,7 @@ block_placed skin width columns part above first (horizontal_rule ∷ cs) (l ∷
 
 -- ---- a part
 
-line_placed : (skin : MadSkin) (width : ℕ) (part : List LineContent) (c : LineContent) (l : FmtLine) → is_code c ≡ false → is_table c ≡ false → IsLineRead skin c l → IsReadIn skin width part c l
+line_placed : (skin : MadSkin) (width : ℕ) (part : List LineContent) (c : LineContent) (l : FmtLine) → is_code c ≡ false → is_table c ≡ false → IsLineRead (line_rules skin) c l → IsReadIn skin width part c l
 line_placed skin width part (normal said) (Normal l) other no_table read = record {
   kind = read.kind;
   text = read.text;
@@ -97,7 +97,7 @@ line_placed skin width part horizontal_rule HorizontalRule other no_table read =
 -- ---- a text
 
 parts_across : (skin : MadSkin) (area : Area) (n : ℕ) (css : List (List LineContent)) (ps : List Part) (lines : List FmtLine) → area.width < 2 ^ 64 - 1 → 4 ≤ area.width
-    → KeepsPremises skin (area.width - 1) (take n (all_in css)) → ArePartsRead skin css ps → ArePartsAt IsCompositeWrap skin (area.width - 1) (Some (area.width - 1)) ps lines
+    → KeepsPremises skin (area.width - 1) (take n (all_in css)) → ArePartsRead skin css ps → ArePartsAt IsCompositeWrap (line_rules skin) (area.width - 1) (Some (area.width - 1)) ps lines
     → HaveFirstRows skin area n (all_in css) lines
 parts_across skin area n [] [] lines bound wide keeps reads laid = ([], refl, ap (λ (ls : List FmtLine). take n (map (line_chars skin area.width) ls)) (sym laid))
 parts_across skin area n [] (p ∷ ps) lines bound wide keeps reads laid = absurd reads
@@ -122,7 +122,7 @@ parts_across skin area n ((c ∷ d ∷ cs) ∷ css) (single l ∷ ps) lines boun
 
 -- The first rows of a layout are the first rows of the text's lines, where the first lines keep the premises.
 pub text_across : (skin : MadSkin) (area : Area) (n : ℕ) (text : List LineContent) (lines : List FmtLine) → area.width < 2 ^ 64 - 1 → 4 ≤ area.width → KeepsPremises skin (area.width - 1) (take n (lines_in_parts text))
-    → IsLayout skin (area.width - 1) text lines → HaveFirstRows skin area n (lines_in_parts text) lines
+    → IsLayout (line_rules skin) (area.width - 1) text lines → HaveFirstRows skin area n (lines_in_parts text) lines
 text_across skin area n text lines bound wide keeps layout =
     parts_across skin area n (text_parts text) (parts_of layout.read) lines bound wide keeps
     (parts_read skin text layout.read layout.reads) layout.laid

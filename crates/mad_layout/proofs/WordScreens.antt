@@ -35,27 +35,27 @@ use Rattle.std.proofs.lemmas.Str.Ascii.{IsAscii-cons, IsAscii-nil}
 use Rattle.unicode_width.specs.Width.{char_width}
 use Rattle.mad_columns.specs.Columns.{char_columns}
 use Rattle.mad_draw.specs.PennedCells.{penned_cells, penned_joined}
-use Rattle.mad_layout.specs.Indents.{indent}
-use Rattle.mad_layout.specs.CompositeWraps.{IsCompositeWrap}
+use Rattle.mad_format.specs.Indents.{indent}
+use Rattle.mad_format.specs.CompositeWraps.{IsCompositeWrap}
 use Rattle.mad_layout.specs.Fronts.{IsFrontLayout}
-use Rattle.mad_layout.specs.Layouts.{AreRead}
-use Rattle.mad_layout.proofs.WideLayouts.{IsLayout}
-use Rattle.mad_layout.specs.Parts.{Part, single, is_code_kind, with_composite, parts_of, ArePartsAt}
+use Rattle.mad_format.specs.Layouts.{AreRead}
+use Rattle.mad_format.proofs.WideLayouts.{IsLayout}
+use Rattle.mad_format.specs.Parts.{Part, single, is_code_kind, with_composite, parts_of, ArePartsAt}
 use Rattle.mad_layout.specs.Premises.{runs_text}
 use Rattle.mad_layout.specs.Rows.{run_piece, line_pieces}
 use Rattle.mad_layout.specs.Shown.{text_row, AreShownIn}
 use Rattle.mad_layout.specs.Skins.{no_style_skin}
 use Rattle.mad_layout.specs.Sources.{LinesTakeColumns, ShowsSource}
 use Rattle.mad_layout.specs.declared.skin.MadSkin.{MadSkin}
-use Rattle.mad_layout.specs.Styles.{line_style}
+use Rattle.mad_layout.specs.Styles.{line_rules, line_style}
 use Rattle.mad_layout.specs.Words.{corner, words, word_area, SpacesAreNoText}
-use Rattle.mad_layout.specs.WrappedLines.{IsLaidOutBy, line_with}
-use Rattle.mad_layout.specs.Wraps.{text_of}
-use Rattle.mad_layout.specs.declared.composite.FmtComposite.{FmtComposite}
-use Rattle.mad_layout.specs.declared.line.FmtLine.{FmtLine}
-use Rattle.mad_layout.specs.declared.line.FmtLine.TheVariants.{Normal, TableRow, TableRule, HorizontalRule}
+use Rattle.mad_format.specs.WrappedLines.{IsLaidOutBy, line_with}
+use Rattle.mad_format.specs.Wraps.{text_of}
+use Rattle.mad_format.specs.declared.composite.FmtComposite.{FmtComposite}
+use Rattle.mad_format.specs.declared.line.FmtLine.{FmtLine}
+use Rattle.mad_format.specs.declared.line.FmtLine.TheVariants.{Normal, TableRow, TableRule, HorizontalRule}
 use Rattle.mad_layout.proofs.DrawnParts.{runs_are}
-use Rattle.mad_layout.proofs.HeadlineLemmas.{wrapped_at}
+use Rattle.mad_format.proofs.WrapKinds.{wrapped_at}
 use Rattle.mad_layout.proofs.PieceLemmas.{pieces_of_runs}
 use Rattle.mad_layout.proofs.WordLemmas.{one_a, one_b, one_c, one_space, spelled, one_part, words_take_columns}
 
@@ -92,7 +92,7 @@ record OneLine (lines : List FmtLine) : Type 0 where
   columns : l.visible_length ≡ 9
   spacing : l.spacing ≡ None
 
-laid : (read lines : List FmtLine) → AreRead no_style_skin (normal word_line ∷ []) read → ArePartsAt IsCompositeWrap no_style_skin 11 (Some 11) (parts_of read) lines → OneLine lines
+laid : (read lines : List FmtLine) → AreRead (line_rules no_style_skin) (normal word_line ∷ []) read → ArePartsAt IsCompositeWrap (line_rules no_style_skin) 11 (Some 11) (parts_of read) lines → OneLine lines
 laid [] lines reads parts = absurd reads
 laid (l ∷ m ∷ ms) lines reads parts = absurd reads.1
 laid (TableRow row ∷ []) lines reads parts = absurd reads.0
@@ -100,11 +100,11 @@ laid (TableRule rule ∷ []) lines reads parts = absurd reads.0
 laid (HorizontalRule ∷ []) lines reads parts = absurd reads.0
 laid (Normal l ∷ []) lines reads parts =
     let kind : l.kind ≡ Paragraph = reads.0.kind in
-    let part : ArePartsAt IsCompositeWrap no_style_skin 11 (Some 11) (single (Normal l) ∷ []) lines =
-    subst (λ (ps : List Part). ArePartsAt IsCompositeWrap no_style_skin 11 (Some 11) ps lines) (ap (λ (k : CompositeKind). with_composite (is_code_kind k) l []) kind) parts in
+    let part : ArePartsAt IsCompositeWrap (line_rules no_style_skin) 11 (Some 11) (single (Normal l) ∷ []) lines =
+    subst (λ (ps : List Part). ArePartsAt IsCompositeWrap (line_rules no_style_skin) 11 (Some 11) ps lines) (ap (λ (k : CompositeKind). with_composite (is_code_kind k) l []) kind) parts in
     let line = part.3 in
     let own : List FmtLine = line.0 in
-    let here : IsLaidOutBy IsCompositeWrap no_style_skin 11 l own = line.3 in
+    let here : IsLaidOutBy IsCompositeWrap (line_rules no_style_skin) 11 l own = line.3 in
     let no_indent : indent no_style_skin.list_items_indentation_mode l.kind ≡ 0 = ap (indent no_style_skin.list_items_indentation_mode) kind in
     let wide : width_of (text_of l) ≡ 9 = ap width_of (sym (runs_are l.compounds.items) ∙ ap runs_text reads.0.text) ∙ word_columns in
     let columns : l.visible_length ≡ 9 = omega (arith, reads.0.measured, no_indent, wide) in
@@ -170,12 +170,12 @@ pub record ShowsWords (start g : Grid) : Type 0 where
   pub inside : cell_at g 2 1 ≡ record { chars = 97 ∷ []; pen = plain_pen }
   pub outside : cell_at g 0 0 ≡ cell_at start 0 0
 
-nothing_laid : (read lines : List FmtLine) → AreRead no_style_skin [] read → ArePartsAt IsCompositeWrap no_style_skin 11 (Some 11) (parts_of read) lines → 2 ≤ length lines → ⊥
+nothing_laid : (read lines : List FmtLine) → AreRead (line_rules no_style_skin) [] read → ArePartsAt IsCompositeWrap (line_rules no_style_skin) 11 (Some 11) (parts_of read) lines → 2 ≤ length lines → ⊥
 nothing_laid [] lines reads laid some = omega (arith, some, ap length laid)
 nothing_laid (l ∷ ls) lines reads laid some = reads
 
 -- a line is all of itself, or none: and none of it has two rows
-whole_front : (front rest : List LineContent) (lines : List FmtLine) → front ++ rest ≡ normal word_line ∷ [] → IsLayout no_style_skin 11 front lines → (rest ≡ []) ⊎ (2 ≤ length lines) → front ≡ normal word_line ∷ []
+whole_front : (front rest : List LineContent) (lines : List FmtLine) → front ++ rest ≡ normal word_line ∷ [] → IsLayout (line_rules no_style_skin) 11 front lines → (rest ≡ []) ⊎ (2 ≤ length lines) → front ≡ normal word_line ∷ []
 whole_front [] rest lines joins layout (inl none) = let e : [] ≡ normal word_line ∷ [] = sym none ∙ joins in absurd (cc)
 whole_front [] rest lines joins layout (inr some) = absurd (nothing_laid layout.read lines layout.reads layout.laid some)
 whole_front (c ∷ []) rest lines joins layout enough = let e : c ≡ normal word_line = cc in ap (λ (x : LineContent). x ∷ []) e
@@ -184,9 +184,9 @@ whole_front (c ∷ d ∷ cs) rest lines joins layout enough = absurd (cc)
 shown_as_one : (lines : List FmtLine) (old new : Trace) (h : ShowsSource no_style_skin words word_area old new) → OneLine h.lines
 shown_as_one lines old new h =
     let front : IsFrontLayout no_style_skin (Some 11) 2 h.laid_out.text h.lines = h.laid_out.layout in
-    let layout : IsLayout no_style_skin 11 front.front h.lines = wrapped_at no_style_skin 11 front.front h.lines (omega arith) front.layout in
+    let layout : IsLayout (line_rules no_style_skin) 11 front.front h.lines = wrapped_at (line_rules no_style_skin) 11 front.front h.lines (omega arith) front.layout in
     let all : front.front ≡ normal word_line ∷ [] = whole_front front.front front.rest h.lines (sym front.joins ∙ words_read h.laid_out.text h.laid_out.read) layout front.enough in
-    let of_words : IsLayout no_style_skin 11 (normal word_line ∷ []) h.lines = subst (λ (xs : List LineContent). IsLayout no_style_skin 11 xs h.lines) all layout in
+    let of_words : IsLayout (line_rules no_style_skin) 11 (normal word_line ∷ []) h.lines = subst (λ (xs : List LineContent). IsLayout (line_rules no_style_skin) 11 xs h.lines) all layout in
     laid of_words.read h.lines of_words.reads of_words.laid
 
 one_value : {A : Type 0} (o : Option A) (a b : A) → o ≡ Some a → o ≡ Some b → a ≡ b

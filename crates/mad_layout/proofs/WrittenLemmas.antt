@@ -13,18 +13,19 @@ use Rattle.mad_term.proofs.Exits.{refused_exit}
 use Rattle.mad_term.proofs.Traces.{after-nil, took_both, stopped_before, stopped_in_first, stopped_in_second, cut_in_first, cut_in_second}
 use Rattle.mad_draw.proofs.PieceLemmas.{bytes_taken_of}
 use Rattle.mad_layout.specs.FlaggedLines.{is_code, is_table, stand_together, text_parts}
-use Rattle.mad_layout.specs.Laying.{AreOpenParts, IsLaidFor, ArePartsClosed}
-use Rattle.mad_layout.specs.Layouts.{IsLayoutAt}
+use Rattle.mad_format.specs.Laying.{AreOpenParts, IsLaidFor, ArePartsClosed}
+use Rattle.mad_format.specs.Layouts.{IsLayoutAt}
 use Rattle.mad_layout.specs.Texts.{line_bytes, text_bytes}
 use Rattle.mad_layout.specs.WrittenParts.{WritesParts, IsPartKind, HandsOn}
-use Rattle.mad_layout.specs.declared.laying.Laying.{Laying}
+use Rattle.mad_format.specs.declared.laying.Laying.{Laying}
 use Rattle.mad_layout.specs.declared.part_kinds.PartKind.{PartKind}
 use Rattle.mad_layout.specs.declared.part_kinds.PartKind.TheVariants.{Alone}
 use Rattle.mad_layout.specs.declared.skin.MadSkin.{MadSkin}
-use Rattle.mad_layout.specs.declared.composite.FmtComposite.{FmtComposite}
-use Rattle.mad_layout.specs.declared.line.FmtLine.{FmtLine}
+use Rattle.mad_format.specs.declared.composite.FmtComposite.{FmtComposite}
+use Rattle.mad_format.specs.declared.line.FmtLine.{FmtLine}
 use Rattle.mad_layout.proofs.LayoutJoins.{apart, apart_end, apart_front, apart_parts, layouts_joined}
-use Rattle.mad_layout.proofs.LayoutLemmas.{laid_start, laid_end, open_none}
+use Rattle.mad_format.proofs.LayoutLemmas.{laid_start, laid_end, open_none}
+use Rattle.mad_layout.specs.Styles.{line_rules}
 
 -- ---- what is written so far
 
@@ -65,9 +66,9 @@ pub record WrittenSoFar (skin : MadSkin) (width : Option ℕ) (all left : List L
   pub joins : all ≡ front ++ (since ++ left)
   pub whole : apart front (since ++ left) ≡ true
   pub ends : EndsIn last (front ++ since)
-  pub layout : IsLayoutAt skin width front done
-  pub ready : AreOpenParts skin block table
-  pub laid : (rest : List LineContent) → IsLaidFor skin width (since ++ rest) rest lines block table
+  pub layout : IsLayoutAt (line_rules skin) width front done
+  pub ready : AreOpenParts (line_rules skin) block table
+  pub laid : (rest : List LineContent) → IsLaidFor (line_rules skin) width (since ++ rest) rest lines block table
   pub bytes : text_bytes skin width done ≡ sent ++ kept
   pub went : new ≡ after old sent
 
@@ -79,7 +80,7 @@ pub record WrittenParts (skin : MadSkin) (width : Option ℕ) (all left : List L
   pub joins : all ≡ front ++ left
   pub whole : apart front left ≡ true
   pub ends : EndsIn last front
-  pub layout : IsLayoutAt skin width front (done ++ lines)
+  pub layout : IsLayoutAt (line_rules skin) width front (done ++ lines)
   pub bytes : text_bytes skin width done ≡ sent ++ kept
   pub went : new ≡ after old sent
 
@@ -94,19 +95,19 @@ written_start skin width all left lines table block last kept old none empty no_
   whole = refl;
   ends = tt;
   layout = record { read = []; reads = tt; laid = refl };
-  ready = open_none skin block table empty no_table;
-  laid = λ rest. laid_start skin width rest lines block table none empty no_table;
+  ready = open_none (line_rules skin) block table empty no_table;
+  laid = λ rest. laid_start (line_rules skin) width rest lines block table none empty no_table;
   bytes = sym nothing;
   went = sym (after-nil old);
 }
 
 -- what is open is closed, where no part goes on
 pub written_closed : (skin : MadSkin) (width : Option ℕ) (all left : List LineContent) (lines new_lines own table : List FmtLine) (block : List FmtComposite) (last : PartKind) (kept : List ℕ) (old new : Trace)
-    → WrittenSoFar skin width all left lines block table last kept old new → ((front : List LineContent) → EndsIn last front → apart front left ≡ true) → new_lines ≡ lines ++ own → ArePartsClosed skin width block table own
+    → WrittenSoFar skin width all left lines block table last kept old new → ((front : List LineContent) → EndsIn last front → apart front left ≡ true) → new_lines ≡ lines ++ own → ArePartsClosed (line_rules skin) width block table own
     → WrittenParts skin width all left new_lines last kept old new
 written_closed skin width all left lines new_lines own table block last kept old new h cut closed made =
-    let layout : IsLayoutAt skin width h.since new_lines =
-    subst (λ (l : List LineContent). IsLayoutAt skin width l new_lines) (append-nil h.since) (laid_end skin width (h.since ++ []) [] lines new_lines own table block (h.laid []) refl h.ready closed made) in
+    let layout : IsLayoutAt (line_rules skin) width h.since new_lines =
+    subst (λ (l : List LineContent). IsLayoutAt (line_rules skin) width l new_lines) (append-nil h.since) (laid_end (line_rules skin) width (h.since ++ []) [] lines new_lines own table block (h.laid []) refl h.ready closed made) in
     record {
       front = h.front ++ h.since;
       done = h.done;
@@ -114,7 +115,7 @@ written_closed skin width all left lines new_lines own table block last kept old
       joins = h.joins ∙ sym (append_assoc h.front h.since left);
       whole = cut (h.front ++ h.since) h.ends;
       ends = h.ends;
-      layout = layouts_joined skin width h.front h.since h.done new_lines (apart_front h.front h.since left h.whole) h.layout layout;
+      layout = layouts_joined (line_rules skin) width h.front h.since h.done new_lines (apart_front h.front h.since left h.whole) h.layout layout;
       bytes = h.bytes;
       went = h.went;
     }
@@ -129,7 +130,7 @@ written_on skin width all left lines none last kept new_kept sent old mid new h 
   joins = h.joins;
   whole = h.whole;
   ends = h.ends;
-  layout = subst (λ (ls : List FmtLine). IsLayoutAt skin width h.front ((h.done ++ lines) ++ ls)) (sym empty) (subst (IsLayoutAt skin width h.front) (sym (append-nil (h.done ++ lines))) h.layout);
+  layout = subst (λ (ls : List FmtLine). IsLayoutAt (line_rules skin) width h.front ((h.done ++ lines) ++ ls)) (sym empty) (subst (IsLayoutAt (line_rules skin) width h.front) (sym (append-nil (h.done ++ lines))) h.layout);
   bytes = flat_map-append (line_bytes skin width) h.done lines ∙ ap (λ (b : List ℕ). b ++ text_bytes skin width lines) h.bytes ∙ append_assoc h.sent kept (text_bytes skin width lines)
       ∙ ap (λ (b : List ℕ). h.sent ++ b) both ∙ sym (append_assoc h.sent sent new_kept);
   went = took_both old mid new h.sent sent h.went went;
@@ -146,9 +147,9 @@ written_next skin width all left lines table block last kept old new h none empt
   joins = h.joins;
   whole = h.whole;
   ends = subst (EndsIn last) (sym (append-nil h.front)) h.ends;
-  layout = subst (IsLayoutAt skin width h.front) (ap (λ (ls : List FmtLine). h.done ++ ls) none ∙ append-nil h.done) h.layout;
-  ready = open_none skin block table empty no_table;
-  laid = λ rest. laid_start skin width rest lines block table none empty no_table;
+  layout = subst (IsLayoutAt (line_rules skin) width h.front) (ap (λ (ls : List FmtLine). h.done ++ ls) none ∙ append-nil h.done) h.layout;
+  ready = open_none (line_rules skin) block table empty no_table;
+  laid = λ rest. laid_start (line_rules skin) width rest lines block table none empty no_table;
   bytes = h.bytes;
   went = h.went;
 }
@@ -156,7 +157,7 @@ written_next skin width all left lines table block last kept old new h none empt
 -- a line joins those that are being laid out
 pub written_more : (skin : MadSkin) (width : Option ℕ) (all left later : List LineContent) (c : LineContent) (lines new_lines table new_table : List FmtLine) (block new_block : List FmtComposite) (last next : PartKind) (kept : List ℕ) (old new : Trace)
     → WrittenSoFar skin width all left lines block table last kept old new → left ≡ c ∷ later → IsPartKind c next
-    → ((all rest : List LineContent) → IsLaidFor skin width all (c ∷ rest) lines block table → IsLaidFor skin width all rest new_lines new_block new_table) → AreOpenParts skin new_block new_table
+    → ((all rest : List LineContent) → IsLaidFor (line_rules skin) width all (c ∷ rest) lines block table → IsLaidFor (line_rules skin) width all rest new_lines new_block new_table) → AreOpenParts (line_rules skin) new_block new_table
     → WrittenSoFar skin width all later new_lines new_block new_table next kept old new
 written_more skin width all left later c lines new_lines table new_table block new_block last next kept old new h is kind laid ready =
     let same : h.since ++ left ≡ (h.since ++ c ∷ []) ++ later = ap (λ (l : List LineContent). h.since ++ l) is ∙ sym (append_assoc h.since (c ∷ []) later) in
@@ -170,7 +171,7 @@ written_more skin width all left later c lines new_lines table new_table block n
       ends = subst (EndsIn next) (append_assoc h.front h.since (c ∷ [])) (ends_in next (h.front ++ h.since) c kind);
       layout = h.layout;
       ready = ready;
-      laid = λ rest. subst (λ (l : List LineContent). IsLaidFor skin width l rest new_lines new_block new_table) (sym (append_assoc h.since (c ∷ []) rest)) (laid (h.since ++ (c ∷ rest)) rest (h.laid (c ∷ rest)));
+      laid = λ rest. subst (λ (l : List LineContent). IsLaidFor (line_rules skin) width l rest new_lines new_block new_table) (sym (append_assoc h.since (c ∷ []) rest)) (laid (h.since ++ (c ∷ rest)) rest (h.laid (c ∷ rest)));
       bytes = h.bytes;
       went = h.went;
     }
@@ -181,7 +182,7 @@ pub apart_before : (left later : List LineContent) (c : LineContent) (last next 
 apart_before left later c last next is kind off front ends = ap (apart front) is ∙ apart_next last next front later c ends kind off
 
 pub written_cut : (skin : MadSkin) (width : Option ℕ) (all left : List LineContent) (lines closed none own table no_table : List FmtLine) (block no_block : List FmtComposite) (last : PartKind) (kept new_kept : List ℕ) (old mid new : Trace)
-    → WrittenSoFar skin width all left lines block table last kept old mid → ((front : List LineContent) → EndsIn last front → apart front left ≡ true) → closed ≡ lines ++ own → ArePartsClosed skin width block table own
+    → WrittenSoFar skin width all left lines block table last kept old mid → ((front : List LineContent) → EndsIn last front → apart front left ≡ true) → closed ≡ lines ++ own → ArePartsClosed (line_rules skin) width block table own
     → none ≡ [] → no_block ≡ [] → no_table ≡ [] → HandsOn {T = Unit {0}} mid (kept ++ text_bytes skin width closed) (Ok (tt {0})) new new_kept → WrittenSoFar skin width all left none no_block no_table last new_kept old new
 written_cut skin width all left lines closed none own table no_table block no_block last kept new_kept old mid new h cut closes made empty empty_block empty_table (sent, both, went) =
     written_next skin width all left none no_table no_block last new_kept old new
@@ -283,7 +284,7 @@ written_whole skin width markdown all left lines last kept old mid new read h no
   parts = ap text_parts h.joins ∙ apart_parts h.front left h.whole;
   all = none;
   lines = h.done;
-  layout = subst (IsLayoutAt skin width h.front) (ap (λ (ls : List FmtLine). h.done ++ ls) empty ∙ append-nil h.done) h.layout;
+  layout = subst (IsLayoutAt (line_rules skin) width h.front) (ap (λ (ls : List FmtLine). h.done ++ ls) empty ∙ append-nil h.done) h.layout;
   drawn = took_both old mid new h.sent kept h.went went ∙ ap (after old) (sym h.bytes);
 }
 

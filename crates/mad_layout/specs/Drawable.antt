@@ -2,23 +2,23 @@
 use Rattle.std.specs.Prelude.{◌≡◌, ℕ, ◌+◌, ◌≤◌, List, Some, IfSome, map}
 use Rattle.std.specs.List.{AllByRecursion}
 use Rattle.mad_layout.specs.declared.skin.MadSkin.{MadSkin}
-use Rattle.mad_layout.specs.declared.composite.FmtComposite.{FmtComposite}
-use Rattle.mad_layout.specs.declared.line.FmtLine.{FmtLine}
-use Rattle.mad_layout.specs.declared.line.FmtLine.TheVariants.{Normal, TableRow, TableRule, HorizontalRule}
-use Rattle.mad_layout.specs.declared.table.FmtTableRule.{FmtTableRule}
-use Rattle.mad_layout.specs.Indents.{indent}
-use Rattle.mad_layout.specs.Lines.{rule_columns}
+use Rattle.mad_format.specs.declared.composite.FmtComposite.{FmtComposite}
+use Rattle.mad_format.specs.declared.line.FmtLine.{FmtLine}
+use Rattle.mad_format.specs.declared.line.FmtLine.TheVariants.{Normal, TableRow, TableRule, HorizontalRule}
+use Rattle.mad_format.specs.declared.table.FmtTableRule.{FmtTableRule}
+use Rattle.mad_format.specs.Indents.{indent}
+use Rattle.mad_format.specs.Lines.{rule_columns}
 use Rattle.mad_draw.specs.Pieces.{AreShownPieces, IsColumnPiece, char_piece, pieces_columns}
 use Rattle.mad_draw.specs.TableRules.{border_piece}
 use Rattle.mad_draw.specs.declared.table_rules.RuleChars.{RuleChars}
 use Rattle.mad_layout.specs.Rows.{prefix_pieces, compound_piece, inner_columns, row_columns, vertical_piece, rule_chars}
-use Rattle.mad_layout.specs.Styles.{line_style}
-use Rattle.mad_layout.specs.Wraps.{columns_of}
+use Rattle.mad_layout.specs.Styles.{line_rules, line_style}
+use Rattle.mad_format.specs.Wraps.{columns_of}
 
 -- A composite that fills its own place, if it has one: its cached length is right and within the place, its prefix and its compounds are
 -- shown.
 pub record FillsItsPlace (skin : MadSkin) (l : FmtComposite) : Type 0 where
-  pub measured : l.visible_length ≡ columns_of skin l
+  pub measured : l.visible_length ≡ columns_of (line_rules skin) l
   pub place : IfSome l.spacing (λ s. l.visible_length ≤ s.width)
   pub prefix : AreShownPieces (prefix_pieces skin l.kind)
   pub indent_is : pieces_columns (prefix_pieces skin l.kind) ≡ indent skin.list_items_indentation_mode l.kind

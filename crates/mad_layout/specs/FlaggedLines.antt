@@ -11,8 +11,8 @@ use Rattle.mad_style.specs.declared.kinds.CompositeKind.TheVariants.{ListItem, O
 use Rattle.mad_fit.specs.Columns.{width_of}
 use Rattle.mad_fit.specs.Completions.{left_completion}
 use Rattle.mad_fit.specs.declared.area.Area.{Area}
-use Rattle.mad_layout.specs.Indents.{indent, follow_up}
-use Rattle.mad_layout.specs.Parts.{is_code_kind}
+use Rattle.mad_format.specs.Indents.{indent, follow_up}
+use Rattle.mad_format.specs.Parts.{is_code_kind}
 use Rattle.mad_layout.specs.LineTexts.{inner_width, runs_text}
 use Rattle.mad_layout.specs.Styles.{line_style, index_suffix}
 pub use Rattle.mad_layout.specs.TextParts.{is_code, is_table, stand_together, in_front, text_parts}

@@ -12,13 +12,14 @@ use Rattle.mad_fit.specs.declared.spacing.Spacing.{Spacing}
 use Rattle.mad_draw.specs.declared.table_rules.RuleChars.{RuleChars}
 use Rattle.mad_layout.specs.FlaggedLines.{skin_char, front_of, marked_parts}
 use Rattle.mad_layout.specs.FlaggedRows.{AreRowsOf}
-use Rattle.mad_layout.specs.Indents.{indent, follow_up, room_of}
-use Rattle.mad_layout.specs.Lines.{bordered, rule_columns}
+use Rattle.mad_format.specs.Indents.{indent, follow_up, room_of}
+use Rattle.mad_format.specs.Lines.{bordered, rule_columns}
 use Rattle.mad_layout.specs.Rows.{rule_chars}
 pub use Rattle.mad_layout.specs.TableColumns.{cell_columns, cells_among, down, kept_widths, columns_below}
 pub use Rattle.mad_layout.specs.TextParts.{count_in, columns_among}
 use Rattle.mad_layout.specs.declared.skin.MadSkin.{MadSkin}
-use Rattle.mad_layout.specs.declared.table.RelativePosition.{RelativePosition}
+use Rattle.mad_format.specs.declared.table.RelativePosition.{RelativePosition}
+use Rattle.mad_layout.specs.Styles.{line_rules}
 
 -- ---- cells in their columns
 
@@ -44,7 +45,7 @@ abbrev pub AreInColumns : MadSkin → List Spacing → List StyledRuns → List 
 AreInColumns skin [] cells placed = placed ≡ []
 AreInColumns skin (c ∷ cs) [] placed = (others : List CellInColumn) × (placed ≡ record { width = c.width; rows = [] } ∷ others) × AreInColumns skin cs [] others
 AreInColumns skin (c ∷ cs) (cell ∷ cells) placed =
-    (rows : List (List FlaggedChar)) × (others : List CellInColumn) × AreRowsOf (room_of skin (kind_of cell.style) c.width) (marked_parts cell) rows
+    (rows : List (List FlaggedChar)) × (others : List CellInColumn) × AreRowsOf (room_of (line_rules skin) (kind_of cell.style) c.width) (marked_parts cell) rows
     × (placed ≡ record { width = c.width; rows = rows_in_column skin c (kind_of cell.style) rows } ∷ others) × AreInColumns skin cs cells others
 
 -- ---- across the table

@@ -1,10 +1,11 @@
 -- Layouts of the first lines of a text.
 use Rattle.std.specs.Prelude.{◌≡◌, ◌⊎◌, ℕ, ◌≤◌, List, [], ◌++◌, length, Option}
 use Rattle.mad_md.specs.Lines.{LineContent}
-use Rattle.mad_layout.specs.Layouts.{IsLayoutAt}
+use Rattle.mad_format.specs.Layouts.{IsLayoutAt}
 use Rattle.mad_layout.specs.TextParts.{text_parts}
 use Rattle.mad_layout.specs.declared.skin.MadSkin.{MadSkin}
-use Rattle.mad_layout.specs.declared.line.FmtLine.{FmtLine}
+use Rattle.mad_format.specs.declared.line.FmtLine.{FmtLine}
+use Rattle.mad_layout.specs.Styles.{line_rules}
 
 -- The lines are a layout of the first lines of a text, none of its parts cut: of all of them, or of enough to take at least this many rows.
 pub record IsFrontLayout (skin : MadSkin) (width : Option ℕ) (rows : ℕ) (text : List LineContent) (lines : List FmtLine) : Type 0 where
@@ -12,5 +13,5 @@ pub record IsFrontLayout (skin : MadSkin) (width : Option ℕ) (rows : ℕ) (tex
   pub rest : List LineContent
   pub joins : text ≡ front ++ rest
   pub parts : text_parts text ≡ text_parts front ++ text_parts rest
-  pub layout : IsLayoutAt skin width front lines
+  pub layout : IsLayoutAt (line_rules skin) width front lines
   pub enough : (rest ≡ []) ⊎ (rows ≤ length lines)

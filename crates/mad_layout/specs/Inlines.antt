@@ -12,13 +12,14 @@ use Rattle.mad_draw.specs.Pieces.{pieces_bytes}
 use Rattle.mad_layout.specs.Rows.{composite_pieces, free_pieces, margins_of}
 use Rattle.mad_md.specs.ReadInline.{IsReadInline}
 use Rattle.mad_style.specs.declared.kinds.CompositeKind.TheVariants.{Paragraph}
-use Rattle.mad_layout.specs.Lines.{IsReadAs}
+use Rattle.mad_format.specs.Lines.{IsReadAs}
 use Rattle.mad_layout.specs.declared.skin.MadSkin.{MadSkin}
-use Rattle.mad_layout.specs.declared.composite.FmtComposite.{FmtComposite}
+use Rattle.mad_format.specs.declared.composite.FmtComposite.{FmtComposite}
+use Rattle.mad_layout.specs.Styles.{line_rules}
 
 -- the line of text as a paragraph, its marks read
 abbrev pub IsInlineOf : MadSkin → List ℕ → FmtComposite → Type 0
-IsInlineOf skin src l = IsReadAs skin Paragraph (IsReadInline src) l
+IsInlineOf skin src l = IsReadAs (line_rules skin) Paragraph (IsReadInline src) l
 
 -- the bytes of a composite that stands by itself
 abbrev pub composite_bytes : MadSkin → Composite → List ℕ

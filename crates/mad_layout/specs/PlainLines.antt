@@ -7,13 +7,14 @@ use Rattle.mad_fit.specs.Completions.{left_completion}
 use Rattle.mad_term.specs.Styles.{IsPlain}
 use Rattle.mad_term.specs.Trace.{Trace}
 use Rattle.mad_term.specs.declared.errors.Error.{Error}
-use Rattle.mad_layout.specs.Layouts.{IsLayoutAt}
-use Rattle.mad_layout.specs.Parts.{wrap_width}
+use Rattle.mad_format.specs.Layouts.{IsLayoutAt}
+use Rattle.mad_format.specs.Parts.{wrap_width}
 use Rattle.mad_layout.specs.Texts.{text_bytes}
 use Rattle.mad_layout.specs.WrittenParts.{IsPartKind, HandsOn}
 use Rattle.mad_layout.specs.declared.part_kinds.PartKind.TheVariants.{Alone}
 use Rattle.mad_layout.specs.declared.skin.MadSkin.{MadSkin}
-use Rattle.mad_layout.specs.declared.line.FmtLine.{FmtLine}
+use Rattle.mad_format.specs.declared.line.FmtLine.{FmtLine}
+use Rattle.mad_layout.specs.Styles.{line_rules}
 
 -- Paragraphs of at most `most` columns are rows by themselves, which stand left, without margins, and in no style.
 pub record IsPlainWidth (skin : MadSkin) (width : Option ℕ) (most : ℕ) : Type 0 where
@@ -31,6 +32,6 @@ pub record HandsOnPlain {T : Type 0} (skin : MadSkin) (width : Option ℕ) (befo
   pub joins : before ≡ taken ++ later
   pub alone : AllByRecursion (λ l. IsPartKind l Alone) taken
   pub lines : List FmtLine
-  pub layout : IsLayoutAt skin width taken lines
+  pub layout : IsLayoutAt (line_rules skin) width taken lines
   pub handed : HandsOn old (bytes ++ text_bytes skin width lines) r new kept
   pub rest : OnOk r (left ≡ later)

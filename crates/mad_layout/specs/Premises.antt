@@ -12,14 +12,14 @@ use Rattle.mad_screen.specs.Painting.{IsPrinted}
 use Rattle.mad_style.specs.Kinds.{kind_of}
 use Rattle.mad_style.specs.StyledChars.{char_alone}
 use Rattle.mad_fit.specs.Columns.{width_of}
-use Rattle.mad_layout.specs.Indents.{indent, room_of}
+use Rattle.mad_format.specs.Indents.{indent, room_of}
 pub use Rattle.mad_layout.specs.LineTexts.{runs_text, inner_width}
 use Rattle.mad_draw.specs.declared.table_rules.RuleChars.{RuleChars}
 use Rattle.mad_layout.specs.Rows.{rule_chars}
-use Rattle.mad_layout.specs.Styles.{index_suffix}
+use Rattle.mad_layout.specs.Styles.{line_rules, index_suffix}
 use Rattle.mad_layout.specs.TableColumns.{kept_widths}
 use Rattle.mad_layout.specs.TextParts.{LineInPart}
-use Rattle.mad_layout.specs.declared.table.RelativePosition.{RelativePosition}
+use Rattle.mad_format.specs.declared.table.RelativePosition.{RelativePosition}
 use Rattle.mad_wrap.specs.WrapLines.{HasRoom}
 use Rattle.mad_layout.specs.declared.skin.MadSkin.{MadSkin}
 
@@ -56,7 +56,7 @@ IsPlainPrefix skin Quote = IsColumnChar (char_alone skin.quote_mark)
 pub record IsPlainText (skin : MadSkin) (width : ℕ) (kind : CompositeKind) (runs : List Run) : Type 0 where
   pub prefix : IsPlainPrefix skin kind
   pub plain : AllByRecursion IsPlainRun runs
-  pub room : width < indent skin.list_items_indentation_mode kind + width_of (runs_text runs) → HasRoom (room_of skin kind width) (runs_text runs)
+  pub room : width < indent skin.list_items_indentation_mode kind + width_of (runs_text runs) → HasRoom (room_of (line_rules skin) kind width) (runs_text runs)
 
 -- each character of a rule takes one column
 pub record AreRuleChars (chars : RuleChars) : Type 0 where

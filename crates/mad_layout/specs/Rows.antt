@@ -14,14 +14,14 @@ use Rattle.mad_style.specs.LineStyles.{margins_at}
 use Rattle.mad_fit.specs.declared.spacing.Spacing.{Spacing}
 use Rattle.mad_fit.specs.Completions.{left_completion}
 use Rattle.mad_layout.specs.declared.skin.MadSkin.{MadSkin}
-use Rattle.mad_layout.specs.declared.composite.FmtComposite.{FmtComposite}
-use Rattle.mad_layout.specs.declared.line.FmtLine.{FmtLine}
-use Rattle.mad_layout.specs.declared.line.FmtLine.TheVariants.{Normal, TableRow, TableRule, HorizontalRule}
-use Rattle.mad_layout.specs.declared.table.FmtTableRule.{FmtTableRule}
-use Rattle.mad_layout.specs.declared.table.RelativePosition.{RelativePosition}
-use Rattle.mad_layout.specs.declared.table.RelativePosition.TheVariants.{Top, Other, Bottom}
-use Rattle.mad_layout.specs.Indents.{later_indent, ordered_indent}
-use Rattle.mad_layout.specs.Lines.{bordered, rule_columns}
+use Rattle.mad_format.specs.declared.composite.FmtComposite.{FmtComposite}
+use Rattle.mad_format.specs.declared.line.FmtLine.{FmtLine}
+use Rattle.mad_format.specs.declared.line.FmtLine.TheVariants.{Normal, TableRow, TableRule, HorizontalRule}
+use Rattle.mad_format.specs.declared.table.FmtTableRule.{FmtTableRule}
+use Rattle.mad_format.specs.declared.table.RelativePosition.{RelativePosition}
+use Rattle.mad_format.specs.declared.table.RelativePosition.TheVariants.{Top, Other, Bottom}
+use Rattle.mad_format.specs.Indents.{later_indent, ordered_indent}
+use Rattle.mad_format.specs.Lines.{bordered, rule_columns}
 use Rattle.mad_draw.specs.Pieces.{RowPiece, char_piece, char_repeat, spaces, single_spaces}
 use Rattle.mad_draw.specs.TableRules.{border_piece, rule_pieces}
 use Rattle.mad_draw.specs.declared.table_rules.RuleChars.{RuleChars}

@@ -5,7 +5,7 @@ use Rattle.mad_draw.specs.DrawnRows.{rows_bytes, AreRowsShown}
 use Rattle.mad_draw.specs.Pieces.{RowPiece}
 use Rattle.mad_layout.specs.Rows.{row_pieces}
 use Rattle.mad_layout.specs.declared.skin.MadSkin.{MadSkin}
-use Rattle.mad_layout.specs.declared.line.FmtLine.{FmtLine}
+use Rattle.mad_format.specs.declared.line.FmtLine.{FmtLine}
 
 -- the pieces of row y: those of line `scroll + y` in a row of `width` columns; past the last line those of a blank row
 abbrev pub text_row : MadSkin → ℕ → List FmtLine → ℕ → ℕ → List RowPiece

@@ -10,7 +10,7 @@ use Rattle.mad_fit.specs.declared.area.Area.{Area}
 use Rattle.mad_layout.specs.InArea.{IsAreaFront}
 use Rattle.mad_layout.specs.Shown.{AreShownIn}
 use Rattle.mad_layout.specs.declared.skin.MadSkin.{MadSkin}
-use Rattle.mad_layout.specs.declared.line.FmtLine.{FmtLine}
+use Rattle.mad_format.specs.declared.line.FmtLine.{FmtLine}
 
 -- each character of the text takes columns: none is a control character, and none is joined to the one before it
 pub record TakesColumns (text : List ℕ) : Type 0 where

@@ -10,6 +10,7 @@ use Rattle.mad_style.specs.declared.ordered_items.OrderedItemStyle.{OrderedItemS
 use Rattle.mad_term.specs.Styles.{IsStyle}
 use Rattle.mad_style.specs.CompoundStyles.{overwritten, plain_style}
 use Rattle.mad_style.specs.StyledChars.{char_alone, styled_char}
+use Rattle.mad_format.specs.LineRules.{LineRules}
 use Rattle.mad_layout.specs.declared.skin.MadSkin.{MadSkin}
 
 -- the header of this level, which is counted from 1; the paragraph's style at a level without a header
@@ -22,6 +23,10 @@ abbrev pub line_style : MadSkin → CompositeKind → LineStyle
 line_style skin Code = skin.code_block
 line_style skin (Header level) = header_style skin level
 line_style skin _ = skin.paragraph
+
+-- what laying out lines asks of the skin
+abbrev pub line_rules : MadSkin → LineRules
+line_rules skin = record { list_items_indentation_mode = skin.list_items_indentation_mode; line_style = line_style skin }
 
 -- the bytes of the ellipsis …
 abbrev pub ellipsis_bytes : List ℕ

@@ -6,10 +6,11 @@ use Rattle.mad_term.specs.Draws.{Draws}
 use Rattle.mad_term.specs.Trace.{Trace}
 use Rattle.mad_term.specs.declared.errors.Error.{Error}
 use Rattle.mad_term.specs.declared.errors.Error.TheVariants.{Memory}
-use Rattle.mad_layout.specs.Layouts.{IsMarkdownLayout}
+use Rattle.mad_format.specs.Layouts.{IsMarkdownLayout}
 use Rattle.mad_layout.specs.Rows.{line_pieces}
 use Rattle.mad_layout.specs.declared.skin.MadSkin.{MadSkin}
-use Rattle.mad_layout.specs.declared.line.FmtLine.{FmtLine}
+use Rattle.mad_format.specs.declared.line.FmtLine.{FmtLine}
+use Rattle.mad_layout.specs.Styles.{line_rules}
 
 -- a line at an outer width, and a newline; what is right of it isn't filled up
 abbrev pub line_bytes : MadSkin → Option ℕ → FmtLine → List ℕ
@@ -23,4 +24,4 @@ text_bytes skin width lines = flat_map (line_bytes skin width) lines
 -- went out.
 abbrev pub WritesMarkdown : {T : Type 0} → MadSkin → Option ℕ → List ℕ → Trace → Result T Error → Trace → Type 0
 WritesMarkdown skin width markdown old r new =
-    ((lines : List FmtLine) × IsMarkdownLayout skin width markdown lines × Draws old (text_bytes skin width lines) r new) ⊎ (IsErrOf r Memory × (new ≡ old))
+    ((lines : List FmtLine) × IsMarkdownLayout (line_rules skin) width markdown lines × Draws old (text_bytes skin width lines) r new) ⊎ (IsErrOf r Memory × (new ≡ old))

@@ -6,12 +6,13 @@ use Rattle.mad_term.specs.Draws.{Draws, Refused}
 use Rattle.mad_term.specs.Trace.{Trace, after}
 use Rattle.mad_term.specs.declared.errors.Error.{Error}
 use Rattle.mad_layout.specs.FlaggedLines.{is_code, is_table, text_parts}
-use Rattle.mad_layout.specs.Layouts.{IsLayoutAt}
+use Rattle.mad_format.specs.Layouts.{IsLayoutAt}
 use Rattle.mad_layout.specs.Texts.{text_bytes}
 use Rattle.mad_layout.specs.declared.part_kinds.PartKind.{PartKind}
 use Rattle.mad_layout.specs.declared.part_kinds.PartKind.TheVariants.{Code, Table, Alone}
 use Rattle.mad_layout.specs.declared.skin.MadSkin.{MadSkin}
-use Rattle.mad_layout.specs.declared.line.FmtLine.{FmtLine}
+use Rattle.mad_format.specs.declared.line.FmtLine.{FmtLine}
+use Rattle.mad_layout.specs.Styles.{line_rules}
 
 -- What a call does that writes a Markdown text part by part: it draws the lines of a layout of the first parts of the text, of all of
 -- them where it succeeds.
@@ -24,7 +25,7 @@ pub record WritesParts {T : Type 0} (skin : MadSkin) (width : Option ℕ) (markd
   pub parts : text_parts text ≡ text_parts front ++ text_parts rest
   pub all : OnOk r (rest ≡ [])
   pub lines : List FmtLine
-  pub layout : IsLayoutAt skin width front lines
+  pub layout : IsLayoutAt (line_rules skin) width front lines
   pub drawn : Draws old (text_bytes skin width lines) r new
 
 -- the line is one of this kind

@@ -6,16 +6,13 @@ ghost use Rattle.mad_layout.specs.Rows.{prefix_pieces, left_of_place, right_of_p
 ghost use Rattle.mad_wrap.specs.WrapLines.{capped};
 ghost use Rattle.mad_style.specs.StyledChars.{styled_char};
 
-use crate::composite::FmtComposite;
 use crate::fmt_inline::FmtInline;
 use crate::fmt_text::FmtText;
-use crate::indents::indent_of;
-use crate::line::{FmtLine, rule_columns};
 use crate::rows::{RowPlace, inner_blanks, margins_of, outer_blanks, row_columns, rule_chars};
 use crate::skin::{MadSkin, is_bare};
-use crate::table::{FmtTableRow, FmtTableRule};
 use mad_draw::{CharRepeat, RuleAcross, SingleSpaces, Spaces};
 use mad_fit::Spacing;
+use mad_format::{FmtComposite, FmtLine, FmtTableRow, FmtTableRule, indent_of, rule_columns};
 use mad_md::{Composite, Compound};
 use mad_style::{CompositeKind, LineStyle, StyledChar};
 use mad_term::StyledNumber;

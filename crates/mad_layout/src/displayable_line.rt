@@ -5,8 +5,8 @@ ghost use Rattle.mad_draw.specs.Pieces.{pieces_bytes};
 ghost use Rattle.mad_layout.specs.Rows.{line_pieces};
 
 use crate::display::PlacedLine;
-use crate::line::FmtLine;
 use crate::skin::MadSkin;
+use mad_format::FmtLine;
 use std::fmt;
 
 /// A line, displayed at a width if there is one: what is right of it isn't filled up, and no newline ends it.

@@ -11,11 +11,11 @@ ghost use Rattle.mad_layout.specs.Shown.{area_bytes, lines_shown, AreShownIn};
 
 use crate::display::PlacedRow;
 use crate::fmt_text::FmtText;
-use crate::line::FmtLine;
 use crate::rows::{know_row, most_columns};
 use crate::skin::MadSkin;
 use mad_draw::{Rows, draw_rows};
 use mad_fit::Area;
+use mad_format::FmtLine;
 use mad_term::{Error, Out};
 use std::alloc::{AllocError, Global};
 

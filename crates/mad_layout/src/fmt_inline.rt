@@ -3,8 +3,8 @@
 ghost use Rattle.std.specs.Prelude.{◌≡◌, IfOk};
 ghost use Rattle.mad_layout.specs.Inlines.{IsInlineOf, IsDisplayedAsWritten};
 
-use crate::composite::FmtComposite;
 use crate::skin::MadSkin;
+use mad_format::FmtComposite;
 use mad_md::Composite;
 use std::alloc::{AllocError, Global};
 

@@ -5,15 +5,15 @@ ghost use Rattle.mad_md.specs.Lines.{LineContent, contents};
 ghost use Rattle.mad_md.specs.ReadRaw.{IsReadRaw};
 ghost use Rattle.mad_md.specs.Reading.{IsRead, unread_text};
 ghost use Rattle.mad_md.specs.declared.text.Text.{Text};
-ghost use Rattle.mad_layout.specs.FittingLayouts.{IsFittingLayoutAt};
+ghost use Rattle.mad_format.specs.FittingLayouts.{IsFittingLayoutAt};
+ghost use Rattle.mad_layout.specs.Styles.{line_rules};
 ghost use Rattle.mad_layout.specs.InArea.{IsAreaLayout};
-ghost use Rattle.mad_layout.specs.Layouts.{IsLayoutAt, IsMarkdownLayout};
-ghost use Rattle.mad_layout.specs.Lines.{widest_line};
+ghost use Rattle.mad_format.specs.Layouts.{IsLayoutAt, IsMarkdownLayout};
+ghost use Rattle.mad_format.specs.Lines.{widest_line};
 
-use crate::laying::Laying;
-use crate::line::FmtLine;
 use crate::skin::MadSkin;
 use mad_fit::Area;
+use mad_format::{FmtLine, Laying};
 use mad_md::{LineCursor, ParseOptions, Text};
 use std::alloc::{AllocError, Global};
 
@@ -40,10 +40,10 @@ impl<'k, 's> FmtText<'k, 's> {
     ) -> Result<Self, AllocError>
         ensures skin { IfOk result (λ laid_out. laid_out.skin.now ≡ skin.now) }
         ensures width { IfOk result (λ laid_out. laid_out.width ≡ width) }
-        ensures lines { IfOk result (λ laid_out. (text : Text) × IsReadRaw src.now text × IsLayoutAt skin.now width (contents text) laid_out.lines.items) }
+        ensures lines { IfOk result (λ laid_out. (text : Text) × IsReadRaw src.now text × IsLayoutAt (line_rules skin.now) width (contents text) laid_out.lines.items) }
 
         // So from three columns on the lines are a fitting layout, the premise of what `draw_text` shows (`shown_layout`).
-        ensures fitting { IfOk result (λ laid_out. (text : Text) × IsReadRaw src.now text × IsFittingLayoutAt skin.now width (contents text) laid_out.lines.items) }
+        ensures fitting { IfOk result (λ laid_out. (text : Text) × IsReadRaw src.now text × IsFittingLayoutAt (line_rules skin.now) width (contents text) laid_out.lines.items) }
     {
         let text = Text::raw_str(alloc, src)?;
         let lines = lay_text(alloc, skin, text, width)?;
@@ -61,10 +61,10 @@ impl<'k, 's> FmtText<'k, 's> {
     ) -> Result<Self, AllocError>
         ensures skin { IfOk result (λ laid_out. laid_out.skin.now ≡ skin.now) }
         ensures width { IfOk result (λ laid_out. laid_out.width ≡ width) }
-        ensures lines { IfOk result (λ laid_out. IsMarkdownLayout skin.now width src.now laid_out.lines.items) }
+        ensures lines { IfOk result (λ laid_out. IsMarkdownLayout (line_rules skin.now) width src.now laid_out.lines.items) }
 
         // So from three columns on the lines are a fitting layout, the premise of what `draw_text` shows (`shown_layout`).
-        ensures fitting { IfOk result (λ laid_out. (text : List LineContent) × IsRead (unread_text false src.now) text × IsFittingLayoutAt skin.now width text laid_out.lines.items) }
+        ensures fitting { IfOk result (λ laid_out. (text : List LineContent) × IsRead (unread_text false src.now) text × IsFittingLayoutAt (line_rules skin.now) width text laid_out.lines.items) }
     {
         let lines = lay_source(alloc, skin, src, width)?;
         Ok(FmtText { skin, lines, width })
@@ -81,10 +81,10 @@ impl<'k, 's> FmtText<'k, 's> {
     ) -> Result<Self, AllocError>
         ensures skin { IfOk result (λ laid_out. laid_out.skin.now ≡ skin.now) }
         ensures width { IfOk result (λ laid_out. laid_out.width ≡ width) }
-        ensures lines { IfOk result (λ laid_out. IsLayoutAt skin.now width (contents text.entry) laid_out.lines.items) }
+        ensures lines { IfOk result (λ laid_out. IsLayoutAt (line_rules skin.now) width (contents text.entry) laid_out.lines.items) }
 
         // So from three columns on the lines are a fitting layout, the premise of what `draw_text` shows (`shown_layout`).
-        ensures fitting { IfOk result (λ laid_out. IsFittingLayoutAt skin.now width (contents text.entry) laid_out.lines.items) }
+        ensures fitting { IfOk result (λ laid_out. IsFittingLayoutAt (line_rules skin.now) width (contents text.entry) laid_out.lines.items) }
     {
         let lines = lay_text(alloc, skin, text, width)?;
         Ok(FmtText { skin, lines, width })
@@ -135,7 +135,7 @@ impl MadSkin {
     ) -> Result<FmtText<'k, 's>, AllocError>
         ensures skin { IfOk result (λ text. text.skin.now ≡ self.now) }
         ensures width { IfOk result (λ text. text.width ≡ width) }
-        ensures lines { IfOk result (λ text. IsMarkdownLayout self.now width markdown.now text.lines.items) }
+        ensures lines { IfOk result (λ text. IsMarkdownLayout (line_rules self.now) width markdown.now text.lines.items) }
     {
         FmtText::from(alloc, self, markdown, width)
     }
@@ -149,7 +149,7 @@ impl MadSkin {
     ) -> Result<FmtText<'k, 's>, AllocError>
         ensures skin { IfOk result (λ text. text.skin.now ≡ self.now) }
         ensures width { IfOk result (λ text. text.width ≡ Some width) }
-        ensures lines { IfOk result (λ text. IsMarkdownLayout self.now (Some width) markdown.now text.lines.items) }
+        ensures lines { IfOk result (λ text. IsMarkdownLayout (line_rules self.now) (Some width) markdown.now text.lines.items) }
     {
         FmtText::from(alloc, self, markdown, Some(width))
     }
@@ -163,7 +163,7 @@ pub fn text<'k, 's>(
 ) -> Result<FmtText<'k, 's>, AllocError>
     ensures skin { IfOk result (λ text. text.skin.now ≡ skin.now) }
     ensures width { IfOk result (λ text. text.width ≡ None) }
-    ensures lines { IfOk result (λ text. IsMarkdownLayout skin.now None markdown.now text.lines.items) }
+    ensures lines { IfOk result (λ text. IsMarkdownLayout (line_rules skin.now) None markdown.now text.lines.items) }
 {
     skin.text(alloc, markdown, None)
 }
@@ -177,7 +177,7 @@ pub fn term_text<'k, 's>(
 ) -> Result<FmtText<'k, 's>, AllocError>
     ensures skin { IfOk result (λ text. text.skin.now ≡ skin.now) }
     ensures width { IfOk result (λ text. text.width ≡ Some width) }
-    ensures lines { IfOk result (λ text. IsMarkdownLayout skin.now (Some width) markdown.now text.lines.items) }
+    ensures lines { IfOk result (λ text. IsMarkdownLayout (line_rules skin.now) (Some width) markdown.now text.lines.items) }
 {
     skin.term_text(alloc, markdown, width)
 }
@@ -189,7 +189,7 @@ fn lay_source<'s>(
     src: &'s str,
     width: Option<usize>,
 ) -> Result<Vec<FmtLine<'s>>, AllocError>
-    ensures { IfOk result (λ lines. (text : List LineContent) × IsRead (unread_text false src.entry.now) text × IsLayoutAt skin.now width text lines.items) }
+    ensures { IfOk result (λ lines. (text : List LineContent) × IsRead (unread_text false src.entry.now) text × IsLayoutAt (line_rules skin.now) width text lines.items) }
 {
     let mut laying = Laying::new(alloc);
     let mut cursor = LineCursor::new(src, ParseOptions::default());
@@ -207,7 +207,7 @@ fn lay_text<'s>(
     text: Text<'s>,
     width: Option<usize>,
 ) -> Result<Vec<FmtLine<'s>>, AllocError>
-    ensures { IfOk result (λ lines. IsLayoutAt skin.now width (contents text.entry) lines.items) }
+    ensures { IfOk result (λ lines. IsLayoutAt (line_rules skin.now) width (contents text.entry) lines.items) }
 {
     let mut laying = Laying::new(alloc);
     for line in text.lines {

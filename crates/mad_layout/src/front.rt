@@ -7,11 +7,10 @@ ghost use Rattle.mad_layout.specs.Fronts.{IsFrontLayout};
 ghost use Rattle.mad_layout.specs.InArea.{IsAreaFront};
 
 use crate::fmt_text::FmtText;
-use crate::laying::Laying;
-use crate::line::FmtLine;
 use crate::part_kinds::{PartKind, ends, is_alone, part_kind};
 use crate::skin::MadSkin;
 use mad_fit::Area;
+use mad_format::{FmtLine, Laying};
 use mad_md::{LineCursor, ParseOptions};
 use std::alloc::{AllocError, Global};
 

@@ -1,4 +1,4 @@
-//! Laws, each the contract of a small function: what the layout of given tables is, that tables fit their place, and what is no layout. And an
+//! Laws, each the contract of a small function: texts that keep the premises of what an area shows, and that tables fit their place. And an
 //! example whose premises are proved: a text that is written in an area, and what a screen shows that reads it.
 
 ghost use Rattle.std.specs.Prelude.{◌≡◌, ◌∷◌, [], Err, IfOk, OnErr, OnOk, Some};
@@ -9,16 +9,17 @@ ghost use Rattle.mad_screen.specs.Terminal.{after_bytes};
 ghost use Rattle.mad_layout.specs.ItemCells.{ItemInACellKeepsPremises};
 ghost use Rattle.mad_layout.specs.SeveralKinds.{SeveralKindsKeepPremises};
 ghost use Rattle.mad_layout.specs.Sources.{LinesTakeColumns};
-ghost use Rattle.mad_layout.specs.TableLaws.{AreWorkedTables, AreNoTables, AreNoRules};
-ghost use Rattle.mad_layout.specs.CompositeWraps.{IsCompositeWrap};
-ghost use Rattle.mad_layout.specs.FittingLayouts.{IsFittingWrap};
-ghost use Rattle.mad_layout.specs.LayoutExamples.{LastLinesWidthIsRefused, LongLineLeftIsRefused, MarginsTestedAgainAreRefused};
-ghost use Rattle.mad_layout.specs.LayoutLaws.{PassesAreParts, PartsArePasses};
+ghost use Rattle.mad_format.specs.CompositeWraps.{IsCompositeWrap};
+ghost use Rattle.mad_format.specs.FittingLayouts.{IsFittingWrap};
 ghost use Rattle.mad_layout.specs.PlainTables.{TablesFit};
 ghost use Rattle.mad_layout.specs.Words.{corner, words, SpacesAreNoText};
 
 use crate::skin::MadSkin;
 use mad_fit::Area;
+pub use mad_format::laws::{
+    other_tables_are_refused, passes_are_parts, rules_elsewhere_are_refused, worked_tables,
+    wrong_layouts,
+};
 use mad_screen::Screen;
 use mad_term::{CutOut, Error};
 use std::alloc::Global;
@@ -42,46 +43,6 @@ pub fn an_item_in_a_cell_keeps_premises()
 /// Who fills an area with spaces has not shown `aaa bb cc` in it.
 pub fn spaces_are_no_text()
     ensures { SpacesAreNoText }
-{}
-
-/// A layout part by part is what three passes over all lines make one after the other: tables, then blocks of code, then wrapping.
-pub fn passes_are_parts()
-    // What the passes make is a layout, where each wrap has the fewest lines.
-    ensures passes { PassesAreParts IsCompositeWrap }
-
-    // Each such layout is one that they make.
-    ensures parts { PartsArePasses IsCompositeWrap }
-
-    // So it is where wraps only have to fit.
-    ensures fitting_passes { PassesAreParts IsFittingWrap }
-    ensures fitting_parts { PartsArePasses IsFittingWrap }
-{}
-
-/// None of these lines is a layout: a definition that got weaker would let one through.
-pub fn wrong_layouts()
-    ensures margins_tested_again { MarginsTestedAgainAreRefused }
-    ensures long_line_left { LongLineLeftIsRefused }
-    ensures last_lines_width { LastLinesWidthIsRefused }
-{}
-
-/// The definition of a table's layout gives worked tables their widths.
-#[tactic(auto, using(crate::proofs::WorkedTables::worked_tables))]
-pub fn worked_tables()
-    ensures { AreWorkedTables }
-{}
-
-/// Widths are not a table's where their sum is one too few, or where a column is dropped that has room. Rows are not a row's where a line
-/// is in another column, cells are missing or too many, or a cell has another place.
-#[tactic(auto, using(crate::proofs::WorkedTables::no_tables))]
-pub fn other_tables_are_refused()
-    ensures { AreNoTables }
-{}
-
-/// A first rule of a table that isn't on top, a last one that isn't at the bottom, and one between others that is on top or at the
-/// bottom, are no layout of it.
-pub fn rules_elsewhere_are_refused()
-    ensures least { AreNoRules IsCompositeWrap }
-    ensures fitting { AreNoRules IsFittingWrap }
 {}
 
 /// A table that is laid out at a width fits a row at least as wide when it is drawn.

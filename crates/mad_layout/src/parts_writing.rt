@@ -8,11 +8,10 @@ ghost use Rattle.mad_layout.specs.PlainLines.{IsPlainWidth, HandsOnPlain};
 ghost use Rattle.mad_layout.specs.Texts.{text_bytes};
 ghost use Rattle.mad_layout.specs.WrittenParts.{HandsOn, WritesParts};
 
-use crate::laying::{Laying, wrap_width};
-use crate::line::FmtLine;
 use crate::part_kinds::{PartKind, ends, is_alone, part_kind};
 use crate::row_writing::append_line;
 use crate::skin::MadSkin;
+use mad_format::{FmtLine, Laying, wrap_width};
 use mad_md::{Alignment, LineCursor, ParseOptions};
 use mad_term::{Error, Out, put_all};
 use std::alloc::Global;

@@ -5,12 +5,11 @@ ghost use Rattle.mad_draw.specs.Pieces.{pieces_bytes};
 ghost use Rattle.mad_layout.specs.Rows.{compound_piece, composite_pieces, margins_of};
 ghost use Rattle.mad_layout.specs.Texts.{line_bytes};
 
-use crate::composite::FmtComposite;
 use crate::display::{CompositeFront, PlacedCompound, PlacedLine};
-use crate::line::FmtLine;
 use crate::rows::{RowPlace, inner_blanks, margins_of, outer_blanks};
 use crate::skin::{MadSkin, is_bare};
 use mad_draw::Spaces;
+use mad_format::{FmtComposite, FmtLine};
 use mad_md::Compound;
 use mad_style::LineStyle;
 use std::alloc::AllocError;

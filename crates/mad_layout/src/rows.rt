@@ -4,19 +4,19 @@ ghost use Rattle.std.specs.Prelude.{◌≡◌, Some, true};
 ghost use Rattle.std.specs.Option.{option_copied};
 ghost use Rattle.mad_term.specs.Styles.{IsStyle};
 ghost use Rattle.mad_style.specs.StyledChars.{char_style};
-ghost use Rattle.mad_layout.specs.declared.line.FmtLine.TheVariants.{Normal, TableRow, TableRule};
+ghost use Rattle.mad_format.specs.declared.line.FmtLine.TheVariants.{Normal, TableRow, TableRule};
 ghost use Rattle.mad_draw.specs.Pieces.{AreKnown};
 ghost use Rattle.std.specs.List.{flat_map};
 ghost use Rattle.mad_layout.specs.Rows.{prefix_pieces, cell_pieces, line_pieces, row_pieces, inner_blanks, inner_columns, outer_blanks, margins_of, most_columns, row_columns, rule_chars};
 ghost use Rattle.mad_layout.specs.Styles.{AreKnownAdditions};
 ghost use Rattle.mad_wrap.specs.WrapLines.{capped};
 
-use crate::composite::FmtComposite;
-use crate::line::{FmtLine, rule_columns};
 use crate::skin::MadSkin;
-use crate::table::{FmtTableRow, FmtTableRule, RelativePosition};
 use mad_draw::RuleChars;
 use mad_fit::Spacing;
+use mad_format::{
+    FmtComposite, FmtLine, FmtTableRow, FmtTableRule, RelativePosition, rule_columns,
+};
 use mad_md::Alignment;
 use mad_style::{CompositeKind, CompoundStyle, StyledChar, TableBorderChars};
 

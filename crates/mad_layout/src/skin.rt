@@ -5,8 +5,7 @@ ghost use Rattle.mad_md.specs.Flagged.{run_of};
 ghost use Rattle.mad_layout.specs.Styles.{compound_style};
 ghost use Rattle.mad_layout.specs.SkinParts.{header_line, first_header_line, default_header_lines, default_quote, default_table};
 
-use crate::indents::indent_of;
-use mad_fit::columns;
+use mad_format::{LineSkin, composite_columns};
 use mad_md::{Alignment, Compound, MAX_HEADER_DEPTH};
 use mad_style::{
     CompositeKind, CompoundStyle, LineStyle, ListItemsIndentationMode, MAX_ORDERED_LIST_DEPTH,
@@ -138,7 +137,7 @@ fn default_quote_mark() -> StyledChar
 impl MadSkin {
     ghost use Rattle.mad_md.specs.Flagged.{flagged_text};
     ghost use Rattle.mad_fit.specs.Columns.{width_of};
-    ghost use Rattle.mad_layout.specs.Indents.{indent};
+    ghost use Rattle.mad_format.specs.Indents.{indent};
     ghost use Rattle.mad_layout.specs.Skins.{no_style_skin};
     ghost use Rattle.mad_layout.specs.Styles.{line_style, ordered_item_style};
     ghost use Rattle.mad_wrap.specs.WrapLines.{capped};
@@ -172,11 +171,7 @@ impl MadSkin {
     pub fn visible_composite_length(&self, kind: CompositeKind, compounds: &[Compound]) -> usize
         ensures { result ≡ capped (indent self.now.list_items_indentation_mode kind + width_of (flagged_text compounds.now)) }
     {
-        let mut length = indent_of(kind, self.list_items_indentation_mode);
-        for compound in compounds {
-            length = length.saturating_add(columns(compound.src));
-        }
-        length
+        composite_columns(self.list_items_indentation_mode, kind, compounds)
     }
 
     /// The style of a line of this kind: code blocks and the headers of levels 1 to 8 have their own, all else the
@@ -222,6 +217,20 @@ impl MadSkin {
             style.overwrite_with(&self.inline_code);
         }
         style
+    }
+}
+
+impl LineSkin for MadSkin {
+    ghost use Rattle.mad_layout.specs.Styles.{line_rules};
+
+    ghost rules = { λ skin. line_rules skin };
+
+    fn items_indentation(&self) -> ListItemsIndentationMode {
+        self.list_items_indentation_mode
+    }
+
+    fn style_of(&self, kind: CompositeKind) -> &LineStyle {
+        self.line_style(kind)
     }
 }
 

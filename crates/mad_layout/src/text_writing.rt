@@ -7,11 +7,10 @@ ghost use Rattle.mad_term.specs.declared.errors.Error.TheVariants.{Memory};
 ghost use Rattle.mad_layout.specs.Rows.{composite_pieces, line_pieces, margins_of};
 ghost use Rattle.mad_layout.specs.Texts.{text_bytes, WritesMarkdown};
 
-use crate::composite::FmtComposite;
 use crate::display::{PlacedComposite, PlacedLine};
 use crate::fmt_text::FmtText;
-use crate::line::FmtLine;
 use crate::skin::MadSkin;
+use mad_format::{FmtComposite, FmtLine};
 use mad_term::{Error, Out, put_all};
 use std::alloc::Global;
 

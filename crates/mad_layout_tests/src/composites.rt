@@ -1,7 +1,8 @@
 //! Composites and skins of the tests, and lines against a picture of them.
 
 ghost use Rattle.std.specs.Prelude.{IfOk};
-ghost use Rattle.mad_layout.specs.Wraps.{IsMeasured};
+ghost use Rattle.mad_format.specs.Wraps.{IsMeasured};
+ghost use Rattle.mad_layout.specs.Styles.{line_rules};
 
 use crate::shown::assert_text;
 use mad_layout::{
@@ -46,7 +47,7 @@ pub fn composite<'s>(
     style: CompositeStyle,
     skin: &MadSkin,
 ) -> Result<FmtComposite<'s>, AllocError>
-    ensures { IfOk result (IsMeasured skin.now) }
+    ensures { IfOk result (IsMeasured (line_rules skin.now)) }
 {
     let read = Composite::from_inline(alloc, text)?;
     let read = Composite {
@@ -86,7 +87,7 @@ pub fn assert_wrap(
     skin: &MadSkin,
     wanted: &str,
 ) -> Result<(), Error>
-    requires { IsMeasured skin.now composite.now }
+    requires { IsMeasured (line_rules skin.now) composite.now }
 {
     assert!(rt; composite.visible_length > width);
     let mut picture = String::new(alloc);

@@ -1,7 +1,8 @@
 //! The ends of the types: the least and the greatest widths, depths, numbers and margins, and empty texts.
 
 ghost use Rattle.std.specs.Prelude.{IfOk};
-ghost use Rattle.mad_layout.specs.Wraps.{IsMeasured};
+ghost use Rattle.mad_format.specs.Wraps.{IsMeasured};
+ghost use Rattle.mad_layout.specs.Styles.{line_rules};
 
 use crate::composites::{assert_wrap, composite, is_refused, skin_with};
 use crate::shown::{assert_count, assert_displayed, assert_text};
@@ -134,7 +135,7 @@ fn assert_wrapped(
     width: usize,
     skin: &MadSkin,
 ) -> Result<(), Error>
-    requires { IsMeasured skin.now composite.now }
+    requires { IsMeasured (line_rules skin.now) composite.now }
 {
     if width < 3 {
         assert!(rt; is_refused(wrap_bound(alloc, composite, width, skin), width));
@@ -193,7 +194,7 @@ fn assert_list_wrapped<'s>(
     width: usize,
     skin: &MadSkin,
 ) -> Result<(), Error>
-    requires { IsMeasured skin.now composite }
+    requires { IsMeasured (line_rules skin.now) composite }
 {
     let is_wider = composite.visible_length > width;
     let mut lines = Vec::new(alloc);
@@ -261,7 +262,7 @@ fn paragraph_of<'s>(
     compounds: &[Compound<'s>],
     skin: &MadSkin,
 ) -> Result<FmtComposite<'s>, AllocError>
-    ensures { IfOk result (IsMeasured skin.now) }
+    ensures { IfOk result (IsMeasured (line_rules skin.now)) }
 {
     let mut paragraph = FmtComposite::new(alloc);
     for compound in compounds {

@@ -1,7 +1,8 @@
 //! Tables: what their rows and rules become, and how wide.
 
 ghost use Rattle.std.specs.Prelude.{IfOk};
-ghost use Rattle.mad_layout.specs.WrappedLines.{AllMeasured};
+ghost use Rattle.mad_format.specs.WrappedLines.{AllMeasured};
+ghost use Rattle.mad_layout.specs.Styles.{line_rules};
 
 use crate::shown::{assert_count, assert_text};
 use mad_layout::{
@@ -173,7 +174,7 @@ fn read_lines<'s>(
     source: &'s str,
     skin: &MadSkin,
 ) -> Result<Vec<FmtLine<'s>>, AllocError>
-    ensures { IfOk result (λ lines. AllMeasured skin.now lines.items) }
+    ensures { IfOk result (λ lines. AllMeasured (line_rules skin.now) lines.items) }
 {
     let mut lines = Vec::new(alloc);
     for line in parse_text(alloc, source)?.lines {

@@ -1,5 +1,7 @@
 //! What the program answers, writes and says, byte for byte. A call is given as its words with bars between them.
 
+mod devices;
+
 use super::*;
 use std::alloc::AllocError;
 use std::process::Abort;
@@ -46,6 +48,39 @@ fn words_of(alloc: Global, call: &str) -> Result<Vec<String>, AllocError> {
     Ok(words)
 }
 
+// A run that has ended: its status, and the devices as it left them.
+#[derive(Drop)]
+struct Outcome<'a> {
+    status: u8,
+    source: ScriptSource<'a>,
+    out: CutOut,
+    err: CutOut,
+}
+
+// Runs a call on these devices.
+fn outcome_of<'a>(
+    alloc: Global,
+    call: &str,
+    source: ScriptSource<'a>,
+    out: CutOut,
+    err: CutOut,
+) -> Result<Outcome<'a>, AllocError> {
+    let words = words_of(alloc, call)?;
+    let (mut source, mut out, mut err) = (source, out, err);
+    let status = run(alloc, words.as_slice(), &mut source, &mut out, &mut err);
+    Ok(Outcome {
+        status,
+        source,
+        out,
+        err,
+    })
+}
+
+// A device with room for all.
+fn roomy(alloc: Global) -> Result<CutOut, AllocError> {
+    CutOut::new(alloc, ROOM, ROOM, false)
+}
+
 // Runs a call with room for all, its input handed out in blocks of one byte, of some and of all. Looks at everything that it
 // leaves.
 fn expect(
@@ -56,34 +91,40 @@ fn expect(
     written: &[u8],
     said: &[u8],
 ) -> Result<(), AllocError> {
+    const STEPS: &[usize] = &[1, 4, usize::MAX];
     let alloc = rt.alloc();
-    let words = words_of(alloc, call)?;
-    for step in [1, 4, usize::MAX] {
-        let mut source = ScriptSource::in_steps(input, step, false);
-        let mut out = CutOut::new(alloc, ROOM, ROOM, false)?;
-        let mut err = CutOut::new(alloc, ROOM, ROOM, false)?;
-        let answer = run(alloc, words.as_slice(), &mut source, &mut out, &mut err);
-        assert_eq!(rt; answer, status, "{call}");
-        assert!(rt; out.taken() == written, "{call}: the output");
-        assert_eq!(rt;
-            out.flushes(),
-            u64::from(status == 0),
-            "{call}: the flushes"
-        );
-        assert!(rt; err.taken() == said, "{call}: what was said");
-        let unread: &[u8] = if status == 2 || status == 4 {
-            input
-        } else {
-            b""
-        };
-        assert!(rt; source.left() == unread, "{call}: the input");
+    for &step in STEPS {
+        let source = ScriptSource::in_steps(input, step, false);
+        let outcome = outcome_of(alloc, call, source, roomy(alloc)?, roomy(alloc)?)?;
+        assert_outcome(rt, call, &outcome, status, written, said);
+        let is_unread = status == 2 || status == 4;
+        let unread = if is_unread { input } else { b"" };
+        assert!(rt; outcome.source.left() == unread, "{call}: the input");
     }
     Ok(())
 }
 
+// Looks at the status of a call and at its two outputs.
+fn assert_outcome(
+    rt: &impl Abort,
+    call: &str,
+    outcome: &Outcome,
+    status: u8,
+    written: &[u8],
+    said: &[u8],
+) {
+    assert_eq!(rt; outcome.status, status, "{call}");
+    assert!(rt; outcome.out.taken() == written, "{call}: the output");
+    assert!(rt;
+        outcome.out.flushes() == u64::from(status == 0),
+        "{call}: the flushes"
+    );
+    assert!(rt; outcome.err.taken() == said, "{call}: what was said");
+}
+
 #[test]
 fn words_that_are_no_call_are_refused_unread(rt: HostRuntime) -> Result<(), Fail> {
-    let calls = [
+    const CALLS: &[&str] = &[
         "",
         "nothing",
         "Area|0|0|12|3",
@@ -96,20 +137,25 @@ fn words_that_are_no_call_are_refused_unread(rt: HostRuntime) -> Result<(), Fail
         "text|20|default|more",
         "inline |default",
     ];
-    for call in calls {
+    for call in CALLS {
         expect(&rt, call, b"hello", 2, b"", USAGE)?;
     }
+    Ok(())
+}
+
+#[test]
+fn no_words_are_no_call(rt: HostRuntime) -> Result<(), Fail> {
     let mut source = ScriptSource::new(b"hello", false);
-    let mut out = CutOut::new(rt.alloc(), ROOM, ROOM, false)?;
-    let mut err = CutOut::new(rt.alloc(), ROOM, ROOM, false)?;
-    assert_eq!(rt; run(rt.alloc(), &[], &mut source, &mut out, &mut err), 2);
+    let (mut out, mut err) = (roomy(rt.alloc())?, roomy(rt.alloc())?);
+    let status = run(rt.alloc(), &[], &mut source, &mut out, &mut err);
+    assert_eq!(rt; status, 2);
     assert!(rt; err.taken() == USAGE);
     Ok(())
 }
 
 #[test]
-fn numbers_are_digits_of_a_value_of_at_most_65535(rt: HostRuntime) -> Result<(), Fail> {
-    let refused = [
+fn numbers_are_digits(rt: HostRuntime) -> Result<(), Fail> {
+    const NUMBERS: &[&str] = &[
         "+1",
         "65536",
         "",
@@ -121,57 +167,79 @@ fn numbers_are_digits_of_a_value_of_at_most_65535(rt: HostRuntime) -> Result<(),
         "１",
         "99999999999999999999",
     ];
-    for number in refused {
-        for call in [
-            "area|N|0|12|3",
-            "area|0|N|12|3",
-            "area|0|0|N|3",
-            "area|0|0|12|N",
-        ] {
-            let call = call.replace(rt.alloc(), 'N', number)?;
-            expect(&rt, call.as_str(), b"hello", 2, b"", USAGE)?;
-        }
+    for number in NUMBERS {
+        expect_no_number(&rt, number)?;
     }
-    for call in [
+    Ok(())
+}
+
+// Refuses this word at each place of a number.
+fn expect_no_number(rt: &(impl Abort + AllocGlobal), number: &str) -> Result<(), AllocError> {
+    const CALLS: &[&str] = &[
+        "area|N|0|12|3",
+        "area|0|N|12|3",
+        "area|0|0|N|3",
+        "area|0|0|12|N",
+    ];
+    for call in CALLS {
+        let call = call.replace(rt.alloc(), 'N', number)?;
+        expect(rt, call.as_str(), b"hello", 2, b"", USAGE)?;
+    }
+    Ok(())
+}
+
+#[test]
+fn an_area_ends_within_65535(rt: HostRuntime) -> Result<(), Fail> {
+    const CALLS: &[&str] = &[
         "area|0|0|3|3",
         "area|65532|0|4|3",
         "area|0|65535|12|1",
         "area|65535|65535|65535|65535",
-    ] {
+    ];
+    for call in CALLS {
         expect(&rt, call, b"hello", 2, b"", USAGE)?;
     }
-    for call in ["area|0|0|0012|3", "area|00000000|0|12|3"] {
-        expect(&rt, call, b"hello", 0, HELLO, b"")?;
-    }
-    for call in [
-        "area|65531|65535|4|0",
-        "area|65523|0|00000000000000000004|0",
-    ] {
-        expect(&rt, call, b"hello", 0, b"", b"")?;
+    Ok(())
+}
+
+#[test]
+fn numbers_have_any_count_of_zeros_before_them(rt: HostRuntime) -> Result<(), Fail> {
+    const ROWS: &[(&str, &[u8])] = &[
+        ("area|0|0|0012|3", HELLO),
+        ("area|00000000|0|12|3", HELLO),
+        ("area|65531|65535|4|0", b""),
+        ("area|65523|0|00000000000000000004|0", b""),
+    ];
+    for (call, written) in ROWS {
+        expect(&rt, call, b"hello", 0, written, b"")?;
     }
     Ok(())
 }
 
 #[test]
 fn a_text_is_written_in_its_area(rt: HostRuntime) -> Result<(), Fail> {
-    expect(&rt, "area|0|0|12|3", b"hello", 0, HELLO, b"")?;
-    expect(&rt, "area|0|0|12|3|default", b"hello", 0, HELLO, b"")?;
-    expect(&rt, "area|0|0|4|0", b"hello", 0, b"", b"")?;
-    expect(&rt, "area|3|2|4|1", b"", 0, b"\x1b[3;4H    ", b"")?;
-    expect(
-        &rt,
-        "area|0|0|4|1",
-        "概要".as_bytes(),
-        0,
-        "\x1b[1;1H概  ".as_bytes(),
-        b"",
-    )?;
+    const ROWS: &[(&str, &str, &[u8])] = &[
+        ("area|0|0|12|3", "hello", HELLO),
+        ("area|0|0|12|3|default", "hello", HELLO),
+        ("area|0|0|4|0", "hello", b""),
+        ("area|3|2|4|1", "", b"\x1b[3;4H    "),
+    ];
+    for (call, input, written) in ROWS {
+        expect(&rt, call, input.as_bytes(), 0, written, b"")?;
+    }
+    Ok(())
+}
+
+#[test]
+fn a_wide_character_without_room_is_on_another_row(rt: HostRuntime) -> Result<(), Fail> {
+    let row = "\x1b[1;1H概  ".as_bytes();
+    expect(&rt, "area|0|0|4|1", "概要".as_bytes(), 0, row, b"")?;
     Ok(())
 }
 
 #[test]
 fn a_text_is_laid_out_at_a_width(rt: HostRuntime) -> Result<(), Fail> {
-    let rows = [
+    const ROWS: &[(&str, &str, &str)] = &[
         ("text|10", "```\na\nbbb", "a  \nbbb\n"),
         ("text|10", "```\na  b", "a  b\n"),
         ("text|10", " 12. ab", " 12. ab\n"),
@@ -196,7 +264,7 @@ fn a_text_is_laid_out_at_a_width(rt: HostRuntime) -> Result<(), Fail> {
             "This is a \x1b[3mlong\x1b[0m line which\nneeds to be \x1b[1mbroken\x1b[0m.\nAnd the text goes on with\na list:\n\x1b[38;5;240m•\x1b[39m short item\n\x1b[38;5;240m•\x1b[39m a \x1b[3msomewhat\x1b[0m\x1b[3m \x1b[0m\x1b[3mlonger\x1b[0m\x1b[3m \x1b[0m\x1b[3mitem\x1b[0m \n  (with a part in \x1b[1mbold\x1b[0m)\n",
         ),
     ];
-    for (call, input, written) in rows {
+    for (call, input, written) in ROWS {
         expect(&rt, call, input.as_bytes(), 0, written.as_bytes(), b"")?;
     }
     Ok(())
@@ -209,13 +277,11 @@ fn written_at(
     text: &str,
 ) -> Result<CutOut, AllocError> {
     let alloc = rt.alloc();
-    let words = words_of(alloc, format!(in alloc; "text|{width}|default")?.as_str())?;
-    let mut source = ScriptSource::new(text.as_bytes(), false);
-    let mut out = CutOut::new(alloc, ROOM, ROOM, false)?;
-    let mut err = CutOut::new(alloc, ROOM, ROOM, false)?;
-    let status = run(alloc, words.as_slice(), &mut source, &mut out, &mut err);
-    assert_eq!(rt; status, 0, "{width}");
-    Ok(out)
+    let call = format!(in alloc; "text|{width}|default")?;
+    let source = ScriptSource::new(text.as_bytes(), false);
+    let outcome = outcome_of(alloc, call.as_str(), source, roomy(alloc)?, roomy(alloc)?)?;
+    assert_eq!(rt; outcome.status, 0, "{width}");
+    Ok(outcome.out)
 }
 
 // The text that is shown: what was written, without the commands.
@@ -234,17 +300,27 @@ fn shown(alloc: Global, out: &CutOut) -> Result<String, AllocError> {
 }
 
 #[test]
-fn lines_keep_to_the_width_and_lose_nothing(rt: HostRuntime) -> Result<(), Fail> {
+fn lines_keep_to_the_width(rt: HostRuntime) -> Result<(), Fail> {
     let alloc = rt.alloc();
     for width in 3..50 {
         let text = shown(alloc, &written_at(&rt, width, FOUR_LINES)?)?;
         assert!(rt; text.lines().count() >= 4, "{width}");
-        for line in text.lines() {
-            // Each character here takes one column.
-            let columns = line.chars().count();
-            assert!(rt; 0 < columns && columns <= width, "{width}: {line}");
-        }
+        assert_narrow(&rt, width, text.as_str());
     }
+    Ok(())
+}
+
+// Each character here takes one column.
+fn assert_narrow(rt: &impl Abort, width: usize, text: &str) {
+    for line in text.lines() {
+        let columns = line.chars().count();
+        assert!(rt; 0 < columns && columns <= width, "{width}: {line}");
+    }
+}
+
+#[test]
+fn lines_lose_nothing(rt: HostRuntime) -> Result<(), Fail> {
+    let alloc = rt.alloc();
     let piece = "ZA\u{360}\u{321}\u{34a}LG IS\u{36e}\u{302}\u{489} TH\u{318}<b>E\u{344} ";
     let marked = piece.repeat(alloc, 8)?;
     for width in 40..60 {
@@ -273,7 +349,7 @@ fn a_long_italic_sentence(rt: HostRuntime) -> Result<(), Fail> {
 
 #[test]
 fn a_line_loses_one_end_and_gets_a_newline(rt: HostRuntime) -> Result<(), Fail> {
-    let rows: [(&[u8], &[u8]); 8] = [
+    const ROWS: &[(&[u8], &[u8])] = &[
         (b"", b"\n"),
         (b"a", b"a\n"),
         (b"a\n", b"a\n"),
@@ -283,66 +359,74 @@ fn a_line_loses_one_end_and_gets_a_newline(rt: HostRuntime) -> Result<(), Fail> 
         (b"\r\n", b"\n"),
         (b"**some** x", b"some x\n"),
     ];
-    for (input, written) in rows {
+    for (input, written) in ROWS {
         expect(&rt, "inline", input, 0, written, b"")?;
     }
-    expect(&rt, "inline|default", b"**some** x", 0, SOME, b"")?;
-    for (call, code) in [
-        (
-            "inline|default",
-            b"\x1b[48;5;235m\x1b[38;5;249mc\x1b[49m\x1b[39m\n",
-        ),
-        (
-            "inline|dark",
-            b"\x1b[48;5;237m\x1b[38;5;252mc\x1b[49m\x1b[39m\n",
-        ),
-        (
-            "inline|light",
-            b"\x1b[48;5;252m\x1b[38;5;236mc\x1b[49m\x1b[39m\n",
-        ),
-    ] {
-        expect(&rt, call, b"`c`", 0, code, b"")?;
-    }
-    expect(
-        &rt,
-        "inline|default",
-        b"a ~~b~~",
-        0,
-        b"a \x1b[9mb\x1b[0m\n",
-        b"",
-    )?;
     Ok(())
 }
 
 #[test]
-fn other_skins_and_inputs_that_are_no_text_are_refused(rt: HostRuntime) -> Result<(), Fail> {
-    for call in [
+fn a_line_is_written_in_each_named_skin(rt: HostRuntime) -> Result<(), Fail> {
+    const ROWS: &[(&str, &[u8], &[u8])] = &[
+        ("inline|default", b"**some** x", SOME),
+        ("inline|default", b"a ~~b~~", b"a \x1b[9mb\x1b[0m\n"),
+        (
+            "inline|default",
+            b"`c`",
+            b"\x1b[48;5;235m\x1b[38;5;249mc\x1b[49m\x1b[39m\n",
+        ),
+        (
+            "inline|dark",
+            b"`c`",
+            b"\x1b[48;5;237m\x1b[38;5;252mc\x1b[49m\x1b[39m\n",
+        ),
+        (
+            "inline|light",
+            b"`c`",
+            b"\x1b[48;5;252m\x1b[38;5;236mc\x1b[49m\x1b[39m\n",
+        ),
+    ];
+    for (call, input, written) in ROWS {
+        expect(&rt, call, input, 0, written, b"")?;
+    }
+    Ok(())
+}
+
+#[test]
+fn other_skins_are_refused(rt: HostRuntime) -> Result<(), Fail> {
+    const CALLS: &[&str] = &[
         "inline|no_style",
         "inline|",
         "inline|Default",
         "area|0|0|12|3|dark ",
         "area|0|0|4|0|",
-    ] {
+    ];
+    for call in CALLS {
         expect(&rt, call, b"\xff", 4, b"", SKIN)?;
     }
-    // The arguments come before the skin.
+    Ok(())
+}
+
+#[test]
+fn an_area_is_refused_before_a_skin(rt: HostRuntime) -> Result<(), Fail> {
     expect(&rt, "area|0|0|3|3|other", b"hello", 2, b"", USAGE)?;
-    for input in [
-        b"\xff".as_slice(),
-        b"hello \xe2\x82",
-        b"\xc0\x80",
-        b"\xed\xa0\x80",
-    ] {
-        for call in ["inline", "area|0|0|12|3", "area|0|0|4|0|default"] {
-            expect(&rt, call, input, 3, b"", NOT_UTF8)?;
-        }
+    Ok(())
+}
+
+#[test]
+fn inputs_that_are_no_text_are_refused(rt: HostRuntime) -> Result<(), Fail> {
+    const INPUTS: &[&[u8]] = &[b"\xff", b"hello \xe2\x82", b"\xc0\x80", b"\xed\xa0\x80"];
+    for input in INPUTS {
+        expect(&rt, "inline", input, 3, b"", NOT_UTF8)?;
+        expect(&rt, "area|0|0|12|3", input, 3, b"", NOT_UTF8)?;
+        expect(&rt, "area|0|0|4|0|default", input, 3, b"", NOT_UTF8)?;
     }
     Ok(())
 }
 
 #[test]
 fn json_text_is_a_skin(rt: HostRuntime) -> Result<(), Fail> {
-    let rows: [(&str, &[u8], &str, &str); 11] = [
+    const ROWS: &[(&str, &[u8], &str, &str)] = &[
         (
             r#"inline|{"bold":"red"}"#,
             b"**x**",
@@ -403,7 +487,7 @@ fn json_text_is_a_skin(rt: HostRuntime) -> Result<(), Fail> {
         ),
         ("inline|{}", b"x", "x\n", ""),
     ];
-    for (call, input, written, said) in rows {
+    for (call, input, written, said) in ROWS {
         expect(&rt, call, input, 0, written.as_bytes(), said.as_bytes())?;
     }
     Ok(())
@@ -411,7 +495,7 @@ fn json_text_is_a_skin(rt: HostRuntime) -> Result<(), Fail> {
 
 #[test]
 fn other_json_text_is_refused_unread(rt: HostRuntime) -> Result<(), Fail> {
-    let skins = [
+    const SKINS: &[&str] = &[
         "1",
         "[]",
         "{",
@@ -423,7 +507,7 @@ fn other_json_text_is_refused_unread(rt: HostRuntime) -> Result<(), Fail> {
         r#"{"x":18446744073709551616}"#,
         r#"{"list_items_indentation_mode":"hanging(256)"}"#,
     ];
-    for skin in skins {
+    for skin in SKINS {
         let call = format!(in rt.alloc(); "inline|{skin}")?;
         expect(&rt, call.as_str(), b"\xff", 4, b"", SKIN)?;
     }
@@ -448,33 +532,37 @@ fn deep_and_long_json_text_is_read_or_refused(rt: HostRuntime) -> Result<(), Fai
         (digits, 4, SKIN),
     ];
     for (value, status, said) in &rows {
-        let words = words_of(
-            alloc,
-            format!(in alloc; "inline|{{\"colour\":{value}}}")?.as_str(),
-        )?;
-        let mut source = ScriptSource::new(b"x", false);
-        let mut out = CutOut::new(alloc, ROOM, ROOM, false)?;
-        let mut err = CutOut::new(alloc, ROOM, ROOM, false)?;
-        let answer = run(alloc, words.as_slice(), &mut source, &mut out, &mut err);
-        assert_eq!(rt; answer, *status, "{} bytes", value.len());
-        assert!(rt; err.taken() == *said, "{} bytes", value.len());
+        let call = format!(in alloc; "inline|{{\"colour\":{value}}}")?;
+        let source = ScriptSource::new(b"x", false);
+        let outcome = outcome_of(alloc, call.as_str(), source, roomy(alloc)?, roomy(alloc)?)?;
+        assert!(rt; outcome.status == *status, "{} bytes", value.len());
+        assert!(rt; outcome.err.taken() == *said, "{} bytes", value.len());
     }
     Ok(())
 }
 
 #[test]
 fn unknown_keys_are_said_before_the_input_is_read(rt: HostRuntime) -> Result<(), Fail> {
+    const CALL: &str = r#"inline|{"colour":1}"#;
+    const SAID: &[u8] = b"unknown key: colour\ntermimad-view: io\n";
     let alloc = rt.alloc();
-    let words = words_of(alloc, r#"inline|{"colour":1}"#)?;
-    let said = b"unknown key: colour\ntermimad-view: io\n";
-    for room in 0..said.len() {
-        let mut source = ScriptSource::new(b"", true);
-        let mut out = CutOut::new(alloc, ROOM, ROOM, false)?;
-        let mut err = CutOut::new(alloc, ROOM, room, false)?;
-        let status = run(alloc, words.as_slice(), &mut source, &mut out, &mut err);
-        assert_eq!(rt; status, 1, "at room {room}");
-        assert!(rt; err.taken() == &said[..room], "at room {room}");
+    for room in 0..SAID.len() {
+        let err = CutOut::new(alloc, ROOM, room, false)?;
+        let outcome = outcome_of(
+            alloc,
+            CALL,
+            ScriptSource::new(b"", true),
+            roomy(alloc)?,
+            err,
+        )?;
+        assert!(rt; outcome.status == 1, "at room {room}");
+        assert!(rt; outcome.err.taken() == &SAID[..room], "at room {room}");
     }
+    Ok(())
+}
+
+#[test]
+fn unknown_keys_are_said_of_an_input_that_is_no_text(rt: HostRuntime) -> Result<(), Fail> {
     expect(
         &rt,
         r#"inline|{"colour":1}"#,
@@ -486,109 +574,6 @@ fn unknown_keys_are_said_before_the_input_is_read(rt: HostRuntime) -> Result<(),
     Ok(())
 }
 
-#[test]
-fn a_failing_input_writes_nothing(rt: HostRuntime) -> Result<(), Fail> {
-    let alloc = rt.alloc();
-    for call in ["area|0|0|12|3", "inline", "area|0|0|4|0"] {
-        for count in 0..6 {
-            let words = words_of(alloc, call)?;
-            let mut source = ScriptSource::new(&b"hello"[..count], true);
-            let mut out = CutOut::new(alloc, ROOM, ROOM, false)?;
-            let mut err = CutOut::new(alloc, ROOM, ROOM, false)?;
-            let status = run(alloc, words.as_slice(), &mut source, &mut out, &mut err);
-            assert_eq!(rt; status, 1, "{call}: after {count} bytes");
-            assert!(rt; out.taken().is_empty());
-            assert!(rt; err.taken() == IO);
-            assert_eq!(rt; source.faults(), 1);
-        }
-    }
-    Ok(())
-}
-
-// Runs a call with so much room on an output that may fail at its flush.
-fn expect_front(
-    rt: &(impl Abort + AllocGlobal),
-    call: &str,
-    input: &[u8],
-    whole: &[u8],
-    room: usize,
-    flush_fails: bool,
-) -> Result<(), AllocError> {
-    let alloc = rt.alloc();
-    let words = words_of(alloc, call)?;
-    for step in [1, 7, ROOM] {
-        let mut source = ScriptSource::new(input, false);
-        let mut out = CutOut::new(alloc, step, room, flush_fails)?;
-        let mut err = CutOut::new(alloc, ROOM, ROOM, false)?;
-        let fails = flush_fails || room < whole.len();
-        let status = run(alloc, words.as_slice(), &mut source, &mut out, &mut err);
-        assert_eq!(rt; status, u8::from(fails), "{call}: at room {room}");
-        assert!(rt;
-            out.taken() == &whole[..room.min(whole.len())],
-            "{call}: at room {room}"
-        );
-        assert!(rt;
-            err.taken() == if fails { IO } else { b"" },
-            "{call}: at room {room}"
-        );
-        assert_eq!(rt; out.faults(), u64::from(fails));
-    }
-    Ok(())
-}
-
-#[test]
-fn a_failing_output_has_taken_a_beginning(rt: HostRuntime) -> Result<(), Fail> {
-    for room in 0..56 {
-        expect_front(&rt, "area|0|0|12|3", b"hello", HELLO, room, false)?;
-        expect_front(&rt, "inline|default", b"**some** x", SOME, room, false)?;
-        expect_front(&rt, "text|5", b"a\n\nb", b"a\n\nb\n", room, false)?;
-        expect_front(&rt, "text|10", b"```\na\nbbb", b"a  \nbbb\n", room, false)?;
-        expect_front(
-            &rt,
-            "text|5|default",
-            b"# t",
-            b"  \x1b[1m\x1b[4mt\x1b[0m\n",
-            room,
-            false,
-        )?;
-        expect_front(
-            &rt,
-            r#"text|8|{"list_items_indentation_mode":"hanging(2)"}"#,
-            b"* abcdefghij",
-            HANGING.as_bytes(),
-            room,
-            false,
-        )?;
-    }
-    expect_front(&rt, "area|0|0|12|3", b"hello", HELLO, ROOM, true)?;
-    expect_front(&rt, "inline|default", b"**some** x", SOME, ROOM, true)?;
-    expect_front(&rt, "area|0|0|4|0", b"hello", b"", ROOM, true)?;
-    expect_front(&rt, "text|5", b"a\n\nb", b"a\n\nb\n", ROOM, true)?;
-    Ok(())
-}
-
-#[test]
-fn a_failing_standard_error_changes_no_status(rt: HostRuntime) -> Result<(), Fail> {
-    let alloc = rt.alloc();
-    let rows: [(&str, u8, &[u8]); 3] = [
-        ("inline", 3, NOT_UTF8),
-        ("area", 2, USAGE),
-        ("inline|", 4, SKIN),
-    ];
-    for (call, status, line) in rows {
-        for room in 0..line.len() {
-            let words = words_of(alloc, call)?;
-            let mut source = ScriptSource::new(b"\xff", false);
-            let mut out = CutOut::new(alloc, ROOM, ROOM, false)?;
-            let mut err = CutOut::new(alloc, ROOM, room, false)?;
-            let answer = run(alloc, words.as_slice(), &mut source, &mut out, &mut err);
-            assert_eq!(rt; answer, status, "{call}: at room {room}");
-            assert!(rt; err.taken() == &line[..room]);
-        }
-    }
-    Ok(())
-}
-
 // Runs a call on an input of any size, with room for its row and for no byte more.
 fn expect_large(
     rt: &(impl Abort + AllocGlobal),
@@ -597,79 +582,57 @@ fn expect_large(
     written: &str,
 ) -> Result<(), AllocError> {
     let alloc = rt.alloc();
-    let words = words_of(alloc, call)?;
-    let mut source = ScriptSource::new(input.as_bytes(), false);
-    let mut out = CutOut::new(alloc, usize::MAX, written.len(), false)?;
-    let mut err = CutOut::new(alloc, ROOM, ROOM, false)?;
-    let status = run(alloc, words.as_slice(), &mut source, &mut out, &mut err);
-    assert_eq!(rt; status, 0, "{call}");
-    assert!(rt; out.taken() == written.as_bytes(), "{call}: the output");
-    assert_eq!(rt; out.flushes(), 1, "{call}");
+    let out = CutOut::new(alloc, usize::MAX, written.len(), false)?;
+    let source = ScriptSource::new(input.as_bytes(), false);
+    let outcome = outcome_of(alloc, call, source, out, roomy(alloc)?)?;
+    assert_outcome(rt, call, &outcome, 0, written.as_bytes(), b"");
     Ok(())
 }
 
 #[test]
-fn a_megabyte_and_a_line_of_many_marks(rt: HostRuntime) -> Result<(), Fail> {
+fn a_word_of_a_megabyte_on_a_line(rt: HostRuntime) -> Result<(), Fail> {
     let alloc = rt.alloc();
     let word = "a".repeat(alloc, 1_000_000)?;
-    // A text is laid out in one column less than its area has.
+    let line = format!(in alloc; "{word}\n")?;
+    expect_large(&rt, "inline", word.as_str(), line.as_str())?;
+    Ok(())
+}
+
+#[test]
+fn a_word_of_a_megabyte_in_lines(rt: HostRuntime) -> Result<(), Fail> {
+    let alloc = rt.alloc();
+    let word = "a".repeat(alloc, 1_000_000)?;
+    let line = format!(in alloc; "{}\n", "a".repeat(alloc, 80)?)?;
+    let lines = line.repeat(alloc, 12_500)?;
+    expect_large(&rt, "text|80", word.as_str(), lines.as_str())?;
+    Ok(())
+}
+
+// A text is laid out in one column less than its area has.
+#[test]
+fn a_word_of_a_megabyte_in_an_area(rt: HostRuntime) -> Result<(), Fail> {
+    let alloc = rt.alloc();
+    let word = "a".repeat(alloc, 1_000_000)?;
     let row = "a".repeat(alloc, 79)?;
-    expect_large(
-        &rt,
-        "inline",
-        word.as_str(),
-        format!(in alloc; "{word}\n")?.as_str(),
-    )?;
     let rows = format!(in alloc; "\x1b[1;1H{row} \x1b[2;1H{row} ")?;
     expect_large(&rt, "area|0|0|80|2", word.as_str(), rows.as_str())?;
-    let lines = format!(in alloc; "{row}a\n")?.repeat(alloc, 12_500)?;
-    expect_large(&rt, "text|80", word.as_str(), lines.as_str())?;
-    let marks = "*a*b".repeat(alloc, 50_000)?;
-    let unmarked = format!(in alloc; "{}\n", "ab".repeat(alloc, 50_000)?)?;
-    expect_large(&rt, "inline", marks.as_str(), unmarked.as_str())?;
+    Ok(())
+}
+
+#[test]
+fn a_row_of_the_widest_area(rt: HostRuntime) -> Result<(), Fail> {
+    let alloc = rt.alloc();
     let wide = "a".repeat(alloc, 65_534)?;
     let row = format!(in alloc; "\x1b[1;1H{wide} ")?;
     expect_large(&rt, "area|0|0|65535|1", wide.as_str(), row.as_str())?;
     Ok(())
 }
 
-// Runs a call: its row, or a beginning of it with status 5, where memory is refused. The keys are said before, or not at
-// all where there was no memory for them.
-fn expect_row(
-    rt: &(impl Abort + AllocGlobal),
-    call: &str,
-    input: &[u8],
-    whole: &[u8],
-    keys: &[u8],
-) -> Result<(), AllocError> {
-    let alloc = rt.alloc();
-    let words = words_of(alloc, call)?;
-    let mut source = ScriptSource::new(input, false);
-    let mut out = CutOut::new(alloc, ROOM, ROOM, false)?;
-    let mut err = CutOut::new(alloc, ROOM, ROOM, false)?;
-    let status = run(alloc, words.as_slice(), &mut source, &mut out, &mut err);
-    if status == 5 {
-        assert!(rt; whole.starts_with(out.taken()), "{call}");
-        let line = err.taken().strip_prefix(keys).unwrap_or(err.taken());
-        assert!(rt; line == MEMORY, "{call}");
-        return Err(AllocError);
-    }
-    assert_eq!(rt; status, 0, "{call}");
-    assert!(rt; out.taken() == whole, "{call}");
-    assert!(rt; err.taken() == keys, "{call}");
-    Ok(())
-}
-
 #[test]
-fn a_run_is_its_row_or_ends_out_of_memory(rt: HostRuntime) -> Result<(), Fail> {
-    expect_row(&rt, "area|0|0|12|3", b"hello", HELLO, b"")?;
-    expect_row(&rt, "inline|default", b"**some** x", SOME, b"")?;
-    expect_row(
-        &rt,
-        "inline|{\"bold\":\"red\",\"colour\":1}",
-        b"**x**",
-        RED,
-        COLOUR,
-    )?;
+fn a_line_of_many_marks(rt: HostRuntime) -> Result<(), Fail> {
+    let alloc = rt.alloc();
+    let marks = "*a*b".repeat(alloc, 50_000)?;
+    let unmarked = format!(in alloc; "{}\n", "ab".repeat(alloc, 50_000)?)?;
+    expect_large(&rt, "inline", marks.as_str(), unmarked.as_str())?;
     Ok(())
 }

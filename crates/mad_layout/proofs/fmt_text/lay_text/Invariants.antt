@@ -1,11 +1,12 @@
 use Rattle.std.proofs.Common.{map}
 use Rattle.std.specs.Vec.Iter.{into_iter_items}
 use Rattle.mad_md.specs.Lines.{content_of}
-use Rattle.mad_layout.specs.Laying.{AreOpenParts, IsLaidFor}
+use Rattle.mad_format.specs.Laying.{AreOpenParts, IsLaidFor}
 use Rattle.mad_layout.proofs.fmt_text.lay_text.Given as goal
+use Rattle.mad_layout.specs.Styles.{line_rules}
 
 abbrev pub invariant-loop-line : goal.invariant-loop-line
 invariant-loop-line l = record {
-  run : AreOpenParts l.skin l.laying.block.items l.laying.table.items;
-  laid : IsLaidFor l.skin l.width (map content_of l.fn.text.lines.items) (map content_of (into_iter_items l.line-iterator)) l.laying.lines.items l.laying.block.items l.laying.table.items;
+  run : AreOpenParts (line_rules l.skin) l.laying.block.items l.laying.table.items;
+  laid : IsLaidFor (line_rules l.skin) l.width (map content_of l.fn.text.lines.items) (map content_of (into_iter_items l.line-iterator)) l.laying.lines.items l.laying.block.items l.laying.table.items;
 }

@@ -1,8 +1,7 @@
-use Rattle.std.proofs.Common.{◌≡◌, [], string_bytes, refl}
+use Rattle.std.proofs.Common.{[], string_bytes, refl}
 use Rattle.std.proofs.lemmas.List.{append-nil}
 use Rattle.mad_term.proofs.Traces.{stopped_before}
 use Rattle.mad_term.specs.declared.errors.Error.TheVariants.{Memory}
-use Rattle.mad_layout.specs.Texts.{line_bytes}
 use Rattle.mad_layout.proofs.WrittenLemmas.{handed_none, row_handed, row_refused}
 use Rattle.mad_layout.proofs.parts_writing.send_lines.Goals as goal
 

@@ -2,7 +2,7 @@ use Rattle.std.proofs.Common.{Some, true, List, subst}
 use Rattle.std.specs.List.{flat_map}
 use Rattle.mad_draw.specs.Pieces.{AreKnown}
 use Rattle.mad_layout.specs.Rows.{cell_pieces}
-use Rattle.mad_layout.specs.declared.composite.FmtComposite.{FmtComposite}
+use Rattle.mad_format.specs.declared.composite.FmtComposite.{FmtComposite}
 use Rattle.mad_layout.proofs.KnownLemmas.{table_row_known}
 use Rattle.mad_layout.proofs.rows.know_table_row.Goals as goal
 

@@ -1,5 +1,5 @@
 use Rattle.std.proofs.Common.{◌≡◌, ◌+◌, ◌<◌, ◌^◌, drop, map}
-use Rattle.mad_layout.specs.Lines.{bordered}
+use Rattle.mad_format.specs.Lines.{bordered}
 use Rattle.mad_layout.specs.Rows.{inner_columns}
 use Rattle.mad_wrap.specs.WrapLines.{capped}
 use Rattle.mad_layout.proofs.rows.row_columns.Given as goal

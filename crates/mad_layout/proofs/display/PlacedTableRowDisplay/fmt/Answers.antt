@@ -2,7 +2,7 @@ use Rattle.std.proofs.Common.{◌≡◌, List, ap, ◌∙◌}
 use Rattle.std.proofs.Output.{has_written_of_eq}
 use Rattle.mad_wrap.specs.WrapLines.{capped}
 use Rattle.mad_layout.specs.Rows.{row_columns}
-use Rattle.mad_layout.specs.declared.composite.FmtComposite.{FmtComposite}
+use Rattle.mad_format.specs.declared.composite.FmtComposite.{FmtComposite}
 use Rattle.mad_layout.proofs.PieceLemmas.{row_bytes}
 use Rattle.mad_layout.proofs.display.PlacedTableRowDisplay.fmt.Goals as goal
 

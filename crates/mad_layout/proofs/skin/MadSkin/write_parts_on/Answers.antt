@@ -4,14 +4,15 @@ use Rattle.mad_md.specs.Lines.{content_of}
 use Rattle.mad_md.specs.Reading.{IsRead, unread_text}
 use Rattle.mad_md.specs.Scan.{lines_of}
 use Rattle.mad_term.specs.Trace.{after, CutShort}
-use Rattle.mad_layout.specs.Laying.{AreOpenParts}
-use Rattle.mad_layout.specs.declared.laying.Laying.{Laying}
-use Rattle.mad_layout.proofs.LayoutLemmas.{open_none}
+use Rattle.mad_format.specs.Laying.{AreOpenParts}
+use Rattle.mad_format.specs.declared.laying.Laying.{Laying}
+use Rattle.mad_format.proofs.LayoutLemmas.{open_none}
 use Rattle.mad_layout.proofs.WrittenLemmas.{WrittenSoFar, written_start, written_closed, written_on, written_more, written_cut, written_same, written_early, written_refused, written_cut_short, written_whole, apart_before, apart_last}
 use Rattle.mad_layout.proofs.PlainLineLemmas.{written_plain, written_plain_refused}
 use Rattle.mad_layout.proofs.skin.MadSkin.write_parts_on.Given.{Over}
 use Rattle.mad_layout.proofs.skin.MadSkin.write_parts_on.Goals as goal
 use Rattle.mad_layout.proofs.skin.MadSkin.write_parts_on.Goals.{Joined-ends, then-ends+in_ok-close-2+in_ok-hand_on, else-ends}
+use Rattle.mad_layout.specs.Styles.{line_rules}
 
 pub loop-laying-init : goal.loop-laying-init
 loop-laying-init g c =
@@ -89,9 +90,9 @@ returns-in_err-hand_on g c =
 
 pub push-requires-in-Some : goal.push-requires-in-Some
 push-requires-in-Some g c = record {
-  run = elim c.if-ends.branch as (λ _. AreOpenParts c.args.self.now c.if-ends.laying.block.items c.if-ends.laying.table.items) [
-    | then-ends+in_ok-close-2+in_ok-hand_on w ↦ subst (λ (s : Laying). AreOpenParts c.args.self.now s.block.items s.table.items) (sym w.laying-is) (open_none c.args.self.now w.close-then-ends.new.self.block.items w.close-then-ends.new.self.table.items w.in_ok-close-2.ensures.block w.in_ok-close-2.ensures.table)
-    | else-ends w ↦ subst (λ (s : Laying). AreOpenParts c.args.self.now s.block.items s.table.items) (sym w.laying-is) c.loop-laying.invariant.so_far.ready
+  run = elim c.if-ends.branch as (λ _. AreOpenParts (line_rules c.args.self.now) c.if-ends.laying.block.items c.if-ends.laying.table.items) [
+    | then-ends+in_ok-close-2+in_ok-hand_on w ↦ subst (λ (s : Laying). AreOpenParts (line_rules c.args.self.now) s.block.items s.table.items) (sym w.laying-is) (open_none (line_rules c.args.self.now) w.close-then-ends.new.self.block.items w.close-then-ends.new.self.table.items w.in_ok-close-2.ensures.block w.in_ok-close-2.ensures.table)
+    | else-ends w ↦ subst (λ (s : Laying). AreOpenParts (line_rules c.args.self.now) s.block.items s.table.items) (sym w.laying-is) c.loop-laying.invariant.so_far.ready
   ];
 }
 

@@ -1,0 +1,17 @@
+use Rattle.mad_md.specs.Lines.{content_of}
+use Rattle.mad_format.proofs.LayoutLemmas.{line_measured, then_ok}
+use Rattle.mad_format.proofs.ReadWraps.{table_read}
+use Rattle.mad_format.proofs.laying.Laying.push.Goals as goal
+
+pub push_table_line-requires : goal.push_table_line-requires
+push_table_line-requires g c =
+    let made = c.in_ok-line-in_default in
+    record {
+      line = table_read (g.S.LineSkin.rules c.args.skin.now) c.args.line made.line c.in_default.not-Normal (λ e. c.in_default.not-HorizontalRule e) made.ensures;
+      measured = line_measured (g.S.LineSkin.rules c.args.skin.now) (content_of c.args.line) made.line made.ensures;
+      run = c.requires.run;
+    }
+
+pub returns-in_ok-line-in_default-clause-laid : goal.returns-in_ok-line-in_default-clause-laid
+returns-in_ok-line-in_default-clause-laid g c =
+    then_ok _ _ c.push_table_line.result (λ f all rest held. f (content_of c.args.line) all rest c.in_ok-line-in_default.ensures held) c.push_table_line.ensures.laid

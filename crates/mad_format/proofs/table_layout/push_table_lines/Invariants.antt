@@ -1,0 +1,6 @@
+use Rattle.std.specs.Vec.Iter.{into_iter_items}
+use Rattle.mad_format.proofs.TableLemmas.{PartsSoFar}
+use Rattle.mad_format.proofs.table_layout.push_table_lines.Given as goal
+
+abbrev pub invariant-loop-line : goal.invariant-loop-line
+invariant-loop-line g l = PartsSoFar (g.S.LineSkin.rules l.skin) l.widths l.fn.table.items l.fn.lines.items l.columns.items l.number (into_iter_items l.line-iterator) l.lines.items

@@ -1,0 +1,26 @@
+use Rattle.std.proofs.Common.{◌<◌, ◌+◌, Some, map, ap, ◌∙◌, arith, subst}
+use Rattle.mad_style.specs.LineStyles.{margins_at}
+use Rattle.mad_md.specs.Flagged.{run_of, flagged_text}
+use Rattle.mad_fit.specs.Columns.{width_of}
+use Rattle.mad_wrap.specs.LeastWrap.{IsWrap}
+use Rattle.mad_wrap.specs.WrapLines.{compounds_of}
+use Rattle.mad_format.proofs.LayoutLemmas.{then_ok}
+use Rattle.mad_format.proofs.ReadWraps.{read_fits, read_wraps}
+use Rattle.mad_format.proofs.wrap.push_read.Goals as goal
+
+pub returns-then-width-eq18446744073709551615 : goal.returns-then-width-eq18446744073709551615
+returns-then-width-eq18446744073709551615 g c = then_ok _ _ c.push_composite.result (λ own. (c.from-composite.result, record { kind = c.from-composite.ensures.kind; text = ap (map run_of) c.from-composite.ensures.text; measured = c.from-composite.ensures.measured; spacing = c.from-composite.ensures.spacing; margins = c.from-composite.ensures.margins }, own.0, own.1, own.2)) c.push_composite.ensures
+
+pub returns-in_default : goal.returns-in_default
+returns-in_default g c =
+    let made = c.in_ok-wrap in
+    let wrap : IsWrap c.room_of-room.result c.args.composite.compounds.items (compounds_of made.wrap.items) = subst (λ ps. IsWrap c.room_of-room.result ps (compounds_of made.wrap.items)) c.deref-in_default.ensures.value made.ensures.wrapped in
+    then_ok _ _ c.push_wrapped.result (read_wraps (g.S.LineSkin.rules c.args.skin.now) c.args.width c.args.composite.style c.from-kind.result c.args.composite.compounds c.margins_in-margins.result c.room_of-room.result made.wrap.items c.args.lines.now.items c.push_wrapped.new.lines.items
+    c.from-kind.ensures (c.margins_in-margins.ensures ∙ ap (λ s. margins_at s (Some c.args.width)) c.style_of.ensures) c.room_of-room.ensures (subst (λ ps. c.room_of-room.result.width < c.room_of-room.result.first + width_of (flagged_text ps)) c.deref.ensures.value c.in_default.ensures) (omega (arith, c.if-width-eq18446744073709551615.false, c.ranges.width.fits)) wrap made.ensures.counted) c.push_wrapped.ensures
+
+pub returns : goal.returns
+returns g c =
+    let fits = c.in-Some.ensures in
+    read_fits (g.S.LineSkin.rules c.args.skin.now) c.args.width c.in-Some.columns c.args.composite.style c.from-kind.result c.args.composite.compounds c.margins_in-margins.result c.room_of-room.result c.args.lines.now.items c.push.new.self.items
+    c.from-kind.ensures (c.margins_in-margins.ensures ∙ ap (λ s. margins_at s (Some c.args.width)) c.style_of.ensures) c.room_of-room.ensures (fits.0 ∙ ap (λ ps. width_of (flagged_text ps)) c.deref.ensures.value) fits.1 c.ranges.width.fits
+    c.in_ok-push.ensures.items

@@ -1,0 +1,20 @@
+//! What laying out lines asks of a skin.
+
+ghost use Rattle.std.specs.Prelude.{◌≡◌};
+ghost use Rattle.mad_format.specs.LineRules.{LineRules};
+
+use mad_style::{CompositeKind, LineStyle, ListItemsIndentationMode};
+
+/// A skin, as far as lines are laid out by it. Its colors and characters count only where the lines are written.
+pub trait LineSkin {
+    /// How items are indented, and how each kind of line looks.
+    ghost rules: { Self → LineRules };
+
+    /// How the lines of a list's items are indented.
+    fn items_indentation(&self) -> ListItemsIndentationMode
+        ensures { result ≡ (rules self.now).list_items_indentation_mode };
+
+    /// The style of a line of this kind, which has its margins.
+    fn style_of(&self, kind: CompositeKind) -> &LineStyle
+        ensures { result.now ≡ (rules self.now).line_style kind };
+}
