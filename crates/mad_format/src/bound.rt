@@ -49,7 +49,8 @@ pub fn wrap_bound<S: LineSkin>(
     ensures bound { IfOk result (λ bound. IsBound (room_of (S.rules skin.now) composite.now.kind width) composite.now.compounds.items (length bound.starts.items)) }
     ensures starts { IfOk result (λ bound. AreStartsOf (room_of (S.rules skin.now) composite.now.kind width) composite.now.compounds.items bound.starts.items) }
     ensures fewest { HasRoom (room_of (S.rules skin.now) composite.now.kind width) (text_of composite.now)
-        → IfOk result (λ bound. AreFewest (room_of (S.rules skin.now) composite.now.kind width) composite.now.compounds.items bound.starts.items) }
+        → IfOk result (λ bound. AreFewest (room_of (S.rules skin.now) composite.now.kind width)
+        composite.now.compounds.items bound.starts.items) }
     ensures refused { width < 3 → result ≡ Err (InsufficientWidth (record { available_width = width })) }
     ensures memory { 3 ≤ width → IfErr result (λ e. e ≡ Memory) }
 {

@@ -295,7 +295,8 @@ fn push_read_at<'s, S: LineSkin>(
     skin: &S,
 ) -> Result<(), AllocError>
     ensures { OnOk result ((source : FmtComposite) × IsCompositeRead (S.rules skin.now) (styled_runs composite.entry) source
-        × (own : List FmtLine) × (lines.new.items ≡ lines.old.items ++ own) × IsLineAt IsCompositeWrap (S.rules skin.now) width (Normal source) own) }
+        × (own : List FmtLine) × (lines.new.items ≡ lines.old.items ++ own)
+        × IsLineAt IsCompositeWrap (S.rules skin.now) width (Normal source) own) }
 {
     match width {
         Some(width) => push_read(alloc, lines, composite, width, skin),

@@ -11,7 +11,8 @@
 //!    becomes, and whole tables.
 //! 7. [`code_blocks`]: finding and placing blocks of code by themselves.
 //! 8. [`laying`]: lines laid out one after another, tables and blocks of code as wholes.
-//! 9. [`laws`]: what is no layout, and that a layout part by part is what passes make.
+//! 9. [`texts`]: the lines of whole texts.
+//! 10. [`laws`]: what is no layout, and that a layout part by part is what passes make.
 #![tactic(auto)]
 
 pub mod bound;
@@ -27,6 +28,7 @@ pub mod table;
 mod table_columns;
 pub mod table_layout;
 pub mod table_rows;
+pub mod texts;
 pub mod wrap;
 
 pub use bound::{WrapBound, check_wrap_bound, wrap_bound};
@@ -40,4 +42,5 @@ pub use room::room_of;
 pub use table::{FmtTableRow, FmtTableRule, RelativePosition};
 pub use table_layout::{Table, fix_all_tables};
 pub use table_rows::lay_row;
+pub use texts::{lay_source, lay_text};
 pub use wrap::{hard_wrap_composite, hard_wrap_lines};

@@ -47,7 +47,8 @@ impl Table {
         requires measured { AllMeasured (S.rules skin.now) (take self.old.height (drop self.old.start lines.old.items)) }
         ensures lines { OnOk result ((own : List FmtLine)
             × (lines.new.items ≡ take self.old.start lines.old.items ++ (own ++ drop (self.old.start + self.old.height) lines.old.items))
-            × IsTableLaidOutBy IsCompositeWrap (S.rules skin.now) self.old.nbcols width (take self.old.height (drop self.old.start lines.old.items)) own
+            × IsTableLaidOutBy IsCompositeWrap (S.rules skin.now) self.old.nbcols width
+            (take self.old.height (drop self.old.start lines.old.items)) own
             × (self.new.height ≡ length own)) }
         ensures start { self.new.start ≡ self.old.start }
         ensures nbcols { self.new.nbcols ≡ self.old.nbcols }

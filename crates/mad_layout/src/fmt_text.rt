@@ -13,8 +13,8 @@ ghost use Rattle.mad_format.specs.Lines.{widest_line};
 
 use crate::skin::MadSkin;
 use mad_fit::Area;
-use mad_format::{FmtLine, Laying};
-use mad_md::{LineCursor, ParseOptions, Text};
+use mad_format::{FmtLine, lay_source, lay_text};
+use mad_md::Text;
 use std::alloc::{AllocError, Global};
 
 /// A text that is laid out: its lines, none wider than the width where that can be had.
@@ -180,39 +180,4 @@ pub fn term_text<'k, 's>(
     ensures lines { IfOk result (λ text. IsMarkdownLayout (line_rules skin.now) (Some width) markdown.now text.lines.items) }
 {
     skin.term_text(alloc, markdown, width)
-}
-
-// The lines of a Markdown text, read and laid out one after another.
-fn lay_source<'s>(
-    alloc: Global,
-    skin: &MadSkin,
-    src: &'s str,
-    width: Option<usize>,
-) -> Result<Vec<FmtLine<'s>>, AllocError>
-    ensures { IfOk result (λ lines. (text : List LineContent) × IsRead (unread_text false src.entry.now) text × IsLayoutAt (line_rules skin.now) width text lines.items) }
-{
-    let mut laying = Laying::new(alloc);
-    let mut cursor = LineCursor::new(src, ParseOptions::default());
-    while let Some(line) = cursor.next_line(alloc)? {
-        laying.push(alloc, line, width, skin)?;
-    }
-    laying.close(alloc, width, skin)?;
-    Ok(laying.lines)
-}
-
-// The lines of a text that was read, laid out.
-fn lay_text<'s>(
-    alloc: Global,
-    skin: &MadSkin,
-    text: Text<'s>,
-    width: Option<usize>,
-) -> Result<Vec<FmtLine<'s>>, AllocError>
-    ensures { IfOk result (λ lines. IsLayoutAt (line_rules skin.now) width (contents text.entry) lines.items) }
-{
-    let mut laying = Laying::new(alloc);
-    for line in text.lines {
-        laying.push(alloc, line, width, skin)?;
-    }
-    laying.close(alloc, width, skin)?;
-    Ok(laying.lines)
 }

@@ -6,8 +6,6 @@
 #[cfg(test)]
 mod areas;
 #[cfg(test)]
-mod bounds;
-#[cfg(test)]
 mod calls;
 #[cfg(test)]
 mod composites;
@@ -24,8 +22,4 @@ mod shown;
 #[cfg(test)]
 mod styles;
 #[cfg(test)]
-mod table_layouts;
-#[cfg(test)]
 mod tables;
-#[cfg(test)]
-mod wraps;

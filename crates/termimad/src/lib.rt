@@ -30,9 +30,9 @@ pub mod wrap {
     pub use mad_wrap::{Room, laws};
 }
 
-/// Laws of layouts: worked tables, what is no table, and texts whose premises are proved.
+/// What laying out asks of a skin. Laws of layouts: worked tables, what is no table, and texts whose premises are proved.
 pub mod layout {
-    pub use mad_layout::laws;
+    pub use mad_layout::{LineSkin, laws};
 }
 
 /// Laws of the widths of a table's columns.

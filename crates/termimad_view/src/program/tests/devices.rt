@@ -13,7 +13,7 @@ fn a_failing_input_writes_nothing(rt: HostRuntime) -> Result<(), Fail> {
     Ok(())
 }
 
-// Runs a call on an input that fails after so many bytes of `hello`, or after all.
+// Runs a call on an input that fails after `count` bytes of `hello`, or after all of them.
 fn expect_fault(
     rt: &(impl Abort + AllocGlobal),
     call: &str,

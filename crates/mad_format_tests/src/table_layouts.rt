@@ -2,12 +2,12 @@
 
 ghost use Rattle.std.specs.Prelude.{IfOk};
 ghost use Rattle.mad_format.specs.WrappedLines.{AllMeasured};
-ghost use Rattle.mad_layout.specs.Styles.{line_rules};
 
 use crate::shown::{assert_count, assert_text};
-use mad_layout::{
-    FmtComposite, FmtLine, FmtTableRule, FmtText, MadSkin, RelativePosition, Table, fix_all_tables,
-    lay_row,
+use crate::skins::plain_skin;
+use mad_format::{
+    FmtComposite, FmtLine, FmtTableRule, LineSkin, RelativePosition, Table, fix_all_tables,
+    lay_row, lay_source,
 };
 use mad_md::{Alignment, TableRule, parse_text};
 use mad_term::Error;
@@ -160,21 +160,21 @@ const TABLES: &[(&str, Option<usize>, &str)] = &[
 #[test]
 fn tables_in_texts(rt: HostRuntime) -> Result<(), Error> {
     let alloc = rt.alloc();
-    let skin = MadSkin::no_style();
+    let skin = plain_skin();
     for (source, width, wanted) in TABLES {
-        let text = FmtText::from(alloc, &skin, source, *width)?;
-        assert_pictured(&rt, alloc, &text.lines, wanted)?;
+        let lines = lay_source(alloc, &skin, source, *width)?;
+        assert_pictured(&rt, alloc, &lines, wanted)?;
     }
     Ok(())
 }
 
 // The lines of a text as they were read.
-fn read_lines<'s>(
+fn read_lines<'s, S: LineSkin>(
     alloc: Global,
     source: &'s str,
-    skin: &MadSkin,
+    skin: &S,
 ) -> Result<Vec<FmtLine<'s>>, AllocError>
-    ensures { IfOk result (λ lines. AllMeasured (line_rules skin.now) lines.items) }
+    ensures { IfOk result (λ lines. AllMeasured (S.rules skin.now) lines.items) }
 {
     let mut lines = Vec::new(alloc);
     for line in parse_text(alloc, source)?.lines {
@@ -188,7 +188,7 @@ const MIXED: &str = "text\n|aaaa bbbb|x\n|-|-\n---\n|y";
 #[test]
 fn one_table_among_lines(rt: HostRuntime) -> Result<(), Error> {
     let alloc = rt.alloc();
-    let skin = MadSkin::no_style();
+    let skin = plain_skin();
     let mut lines = read_lines(alloc, MIXED, &skin)?;
     assert_count(&rt, lines.len(), 5);
     let mut table = Table {
@@ -216,7 +216,7 @@ const OTHER_COLUMNS: &[(usize, usize, &str)] = &[
 #[test]
 fn tables_of_other_columns_than_their_lines(rt: HostRuntime) -> Result<(), Error> {
     let alloc = rt.alloc();
-    let skin = MadSkin::no_style();
+    let skin = plain_skin();
     for (nbcols, width, wanted) in OTHER_COLUMNS {
         let mut lines = read_lines(alloc, "|aaaa bbbb|x\n|-|-", &skin)?;
         let mut table = Table {
@@ -273,7 +273,7 @@ const ROWS: &[(&str, &[usize], &[Alignment], &str)] = &[
 #[test]
 fn rows_of_one_row(rt: HostRuntime) -> Result<(), Error> {
     let alloc = rt.alloc();
-    let skin = MadSkin::no_style();
+    let skin = plain_skin();
     for (source, widths, aligns, wanted) in ROWS {
         let mut read = read_lines(alloc, source, &skin)?.into_iter();
         let mut lines = Vec::new(alloc);
@@ -290,7 +290,7 @@ fn rows_of_one_row(rt: HostRuntime) -> Result<(), Error> {
 #[test]
 fn all_tables_among_lines(rt: HostRuntime) -> Result<(), Error> {
     let alloc = rt.alloc();
-    let skin = MadSkin::no_style();
+    let skin = plain_skin();
     let mut lines = read_lines(alloc, MIXED, &skin)?;
     fix_all_tables(alloc, &mut lines, 13, &skin)?;
     let wanted = "text\nrow aaaa :7c x:3c\nrow bbbb:7c :3c\nbottom 7 3\n---\nrow y:3c\n";

@@ -1,6 +1,7 @@
 //! Bounds of several lines, beside what a composite is wrapped into.
 
-use crate::composites::{Wrap, assert_checked, assert_wraps, composite, plain_skin};
+use crate::composites::{Wrap, assert_checked, assert_wraps, composite};
+use crate::skins::plain_skin;
 use mad_md::CompositeStyle;
 use mad_style::ListItemsIndentationMode;
 use mad_term::Error;

@@ -2,12 +2,13 @@
 
 use crate::composites::{
     Wrap, assert_bound, assert_checked, assert_wrap, assert_wraps, composite, is_refused,
-    plain_skin, push_picture, skin_with,
+    push_picture,
 };
 use crate::shown::{assert_count, assert_text};
+use crate::skins::{plain_skin, skin_with};
 use mad_fit::Spacing;
-use mad_layout::{
-    FmtComposite, FmtLine, MadSkin, check_wrap_bound, composite_kind_widths, hard_wrap_composite,
+use mad_format::{
+    FmtComposite, FmtLine, LineSkin, check_wrap_bound, composite_kind_widths, hard_wrap_composite,
     hard_wrap_lines, wrap_bound,
 };
 use mad_md::{Alignment, Composite, CompositeStyle, Compound, Line};
@@ -118,10 +119,10 @@ fn a_width_under_three(rt: HostRuntime) -> Result<(), Error> {
 }
 
 // Asserts the margins of lines that are wrapped in a style with these margins, and the lines.
-fn assert_margins(
+fn assert_margins<S: LineSkin>(
     rt: &impl Abort,
     alloc: Global,
-    skin: &MadSkin,
+    skin: &S,
     margins: (usize, usize),
     wanted: &str,
 ) -> Result<(), Error> {

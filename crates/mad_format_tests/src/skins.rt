@@ -1,0 +1,44 @@
+//! A skin that is no more than what laying out asks of one.
+
+use mad_format::LineSkin;
+use mad_md::Alignment;
+use mad_style::{CompositeKind, CompoundStyle, LineStyle, ListItemsIndentationMode};
+
+/// One style for all kinds of lines, and a mode of items.
+#[derive(Clone, Copy)]
+pub struct PlainSkin {
+    style: LineStyle,
+    mode: ListItemsIndentationMode,
+}
+
+impl LineSkin for PlainSkin {
+    ghost rules = { λ skin. record { list_items_indentation_mode = skin.mode; line_style = λ kind. skin.style } };
+
+    fn items_indentation(&self) -> ListItemsIndentationMode {
+        self.mode
+    }
+
+    fn style_of(&self, _kind: CompositeKind) -> &LineStyle {
+        &self.style
+    }
+}
+
+/// A skin without looks, with margins and a mode of items.
+pub fn skin_with(
+    left_margin: usize,
+    right_margin: usize,
+    mode: ListItemsIndentationMode,
+) -> PlainSkin {
+    let style = LineStyle {
+        compound_style: CompoundStyle::default(),
+        align: Alignment::Unspecified,
+        left_margin,
+        right_margin,
+    };
+    PlainSkin { style, mode }
+}
+
+/// A skin without looks and margins.
+pub fn plain_skin() -> PlainSkin {
+    skin_with(0, 0, ListItemsIndentationMode::Block)
+}
