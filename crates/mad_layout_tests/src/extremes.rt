@@ -1,12 +1,11 @@
 //! The ends of the types in texts: the least and the greatest widths, the deepest items, and empty texts.
 
 use crate::composites::{composite, skin_with};
-use crate::shown::assert_displayed;
-use mad_layout::{FmtComposite, FmtLine, FmtText, MadSkin};
+use crate::shown::{assert_displayed, assert_line_displayed, assert_source_displayed};
+use mad_layout::{FmtComposite, FmtText, MadSkin};
 use mad_md::{CompositeStyle, Compound};
 use mad_style::ListItemsIndentationMode;
-use mad_term::Error;
-use std::alloc::Global;
+use std::alloc::{AllocError, Global};
 use std::process::Abort;
 
 const MAX: usize = usize::MAX;
@@ -31,28 +30,38 @@ const UNWRAPPED: &[(&str, &str)] = &[
 
 const UNWRAPPED_WIDTHS: &[Option<usize>] = &[None, Some(0), Some(1), Some(2), Some(MAX)];
 
-#[test]
-fn texts_without_wrapping(rt: HostRuntime) -> Result<(), Error> {
-    let alloc = rt.alloc();
-    let skin = MadSkin::no_style();
-    for (source, wanted) in UNWRAPPED {
-        for width in UNWRAPPED_WIDTHS {
-            let text = FmtText::from(alloc, &skin, source, *width)?;
-            assert_displayed(&rt, alloc, &text, wanted)?;
-        }
+fn assert_raw_displayed(
+    rt: &impl Abort,
+    alloc: Global,
+    skin: &MadSkin,
+    source: &str,
+    width: Option<usize>,
+    wanted: &str,
+) -> Result<(), AllocError> {
+    let text = FmtText::raw_str(alloc, skin, source, width)?;
+    assert_displayed(rt, alloc, &text, wanted)
+}
+
+// Asserts what is displayed of a text in each of the widths, read as Markdown and as it is.
+fn assert_unwrapped(
+    rt: &impl Abort,
+    alloc: Global,
+    skin: &MadSkin,
+    source: &str,
+    wanted: &str,
+) -> Result<(), AllocError> {
+    for width in UNWRAPPED_WIDTHS {
+        assert_source_displayed(rt, alloc, skin, source, *width, wanted)?;
+        assert_raw_displayed(rt, alloc, skin, source, *width, wanted)?;
     }
     Ok(())
 }
 
 #[test]
-fn raw_texts_without_wrapping(rt: HostRuntime) -> Result<(), Error> {
-    let alloc = rt.alloc();
+fn texts_and_raw_texts_without_wrapping(rt: HostRuntime) -> Result<(), AllocError> {
     let skin = MadSkin::no_style();
     for (source, wanted) in UNWRAPPED {
-        for width in UNWRAPPED_WIDTHS {
-            let text = FmtText::raw_str(alloc, &skin, source, *width)?;
-            assert_displayed(&rt, alloc, &text, wanted)?;
-        }
+        assert_unwrapped(&rt, rt.alloc(), &skin, source, wanted)?;
     }
     Ok(())
 }
@@ -72,12 +81,10 @@ const AT_THREE_COLUMNS: &[(&str, &str)] = &[
 ];
 
 #[test]
-fn texts_at_three_columns(rt: HostRuntime) -> Result<(), Error> {
-    let alloc = rt.alloc();
+fn texts_at_three_columns(rt: HostRuntime) -> Result<(), AllocError> {
     let skin = MadSkin::no_style();
     for (source, wanted) in AT_THREE_COLUMNS {
-        let text = FmtText::from(alloc, &skin, source, Some(3))?;
-        assert_displayed(&rt, alloc, &text, wanted)?;
+        assert_source_displayed(&rt, rt.alloc(), &skin, source, Some(3), wanted)?;
     }
     Ok(())
 }
@@ -89,40 +96,39 @@ fn assert_deepest(
     style: CompositeStyle,
     indent: usize,
     wanted: &str,
-) -> Result<(), Error> {
+) -> Result<(), AllocError> {
     let skin = skin_with(0, 0, ListItemsIndentationMode::Block);
-    let mut displayed = " ".repeat(alloc, 255)?;
-    displayed.push_str(wanted)?;
-    displayed.push_str("\n")?;
-    let mut lines = Vec::new(alloc);
-    lines.push(FmtLine::Normal(composite(alloc, "ab", style, &skin)?))?;
-    let text = FmtText {
-        skin: &skin,
-        lines,
-        width: Some(indent.saturating_add(2)),
-    };
-    Ok(assert_displayed(rt, alloc, &text, displayed.as_str())?)
+    let item = composite(alloc, "ab", style, &skin)?;
+    let width = Some(indent.saturating_add(2));
+    let blanks = " ".repeat(alloc, 255)?;
+    let wanted = [blanks.as_str(), wanted, "\n"];
+    assert_line_displayed(rt, alloc, &skin, item, width, &wanted)
 }
 
 #[test]
-fn the_deepest_items(rt: HostRuntime) -> Result<(), Error> {
+fn the_deepest_items(rt: HostRuntime) -> Result<(), AllocError> {
     assert_deepest(&rt, rt.alloc(), DEEP_ITEM, 257, "• ab")?;
     assert_deepest(&rt, rt.alloc(), DEEP_NUMBER, 267, "4294967295. ab")
 }
 
+// A bold text without characters, and a plain one.
+fn empty_texts(alloc: Global) -> Result<FmtComposite<'static>, AllocError> {
+    let mut line = FmtComposite::from_compound(alloc, Compound::raw_str("").bold())?;
+    line.add_compound(Compound::raw_str(""))?;
+    Ok(line)
+}
+
 #[test]
-fn an_empty_compound_displayed(rt: HostRuntime) -> Result<(), Error> {
-    let alloc = rt.alloc();
+fn an_empty_compound_displayed(rt: HostRuntime) -> Result<(), AllocError> {
     let skin = MadSkin::default();
-    let mut paragraph = FmtComposite::from_compound(alloc, Compound::raw_str("").bold())?;
-    paragraph.add_compound(Compound::raw_str(""))?;
-    let mut lines = Vec::new(alloc);
-    lines.push(FmtLine::Normal(paragraph))?;
-    let text = FmtText {
-        skin: &skin,
-        lines,
-        width: Some(3),
-    };
+    let line = empty_texts(rt.alloc())?;
     // A text without characters has its codes still.
-    Ok(assert_displayed(&rt, alloc, &text, "\u{1b}[1m\u{1b}[0m\n")?)
+    assert_line_displayed(
+        &rt,
+        rt.alloc(),
+        &skin,
+        line,
+        Some(3),
+        &["\u{1b}[1m\u{1b}[0m\n"],
+    )
 }
