@@ -2,6 +2,7 @@
 
 use mad_columns::char_columns;
 
+// A character, and its columns.
 const COLUMNS: &[(char, usize)] = &[
     ('a', 1),
     ('\u{4e00}', 2),

@@ -1,8 +1,10 @@
 //! Worked rows, and calls at random beside a plain string with an offset.
 
+mod calls;
 mod random;
 mod rows;
 
+use crate::shown::assert_holds;
 use mad_edit::InputFieldContent;
 use mad_lines::Pos;
 use std::alloc::{AllocError, Global};
@@ -30,6 +32,6 @@ pub(crate) fn assert_content(
     text: &str,
     cursor: Pos,
 ) {
-    assert!(rt; content.is_str(text), "{text}");
-    assert!(rt; content.cursor_pos() == cursor, "{text}");
+    let is_wanted = content.is_str(text) && content.is_empty() == text.is_empty();
+    assert_holds(rt, is_wanted && content.cursor_pos() == cursor, text);
 }

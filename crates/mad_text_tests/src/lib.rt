@@ -12,6 +12,8 @@ mod fit;
 #[cfg(test)]
 mod md;
 #[cfg(test)]
+mod shown;
+#[cfg(test)]
 mod widths;
 #[cfg(test)]
 mod wrap;

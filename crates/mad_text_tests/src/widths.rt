@@ -1,10 +1,10 @@
 //! The widths of a table's columns.
 
+use crate::shown::assert_holds;
 use mad_term::Error;
-use mad_widths::TblFit;
-use std::alloc::Global;
+use mad_widths::{TblFit, TblFitResult};
+use std::alloc::{AllocError, Global};
 use std::process::Abort;
-use std::test::Fail;
 
 const MAX: usize = usize::MAX;
 
@@ -17,7 +17,7 @@ type Row = (
     Option<(bool, &'static [usize])>,
 );
 
-static ROWS: [Row; 19] = [
+const ROWS: &[Row] = &[
     (2, 13, &[(0, 3), (1, 20)], Some((true, &[3, 7]))),
     (2, 8, &[], None),
     (2, 9, &[], Some((false, &[3, 3]))),
@@ -53,42 +53,62 @@ static ROWS: [Row; 19] = [
     (MAX / 4 + 1, MAX, &[], None),
 ];
 
-fn assert_row(rt: &impl Abort, alloc: Global, row: &Row) -> Result<(), Fail> {
-    let (columns, width, cells, wanted) = *row;
-    let mut fit = match TblFit::new(alloc, columns, width) {
-        Err(Error::InsufficientWidth(e)) if wanted.is_none() => {
-            assert_eq!(rt; e.available_width, width);
-            return Ok(());
-        }
-        made => made?,
-    };
+// Whether a table that sees these cells is fitted to these widths, and so reduced.
+fn is_fitted(
+    alloc: Global,
+    mut fit: TblFit,
+    cells: &[(usize, usize)],
+    wanted: (bool, &[usize]),
+) -> Result<bool, AllocError> {
     for (column, cell) in cells {
         fit.see_cell(*column, *cell);
     }
     let result = fit.fit(alloc)?;
-    let fitted = (result.reduced, result.col_widths.as_slice());
-    assert!(rt; Some(fitted) == wanted, "{columns} columns in {width}");
+    Ok((result.reduced, result.col_widths.as_slice()) == wanted)
+}
+
+// Whether a table has no room in this width.
+fn is_refused(made: &Result<TblFit, Error>, width: usize) -> bool {
+    match made {
+        Err(Error::InsufficientWidth(error)) => error.available_width == width,
+        _ => false,
+    }
+}
+
+fn assert_row(rt: &impl Abort, alloc: Global, row: &Row) -> Result<(), Error> {
+    let (columns, width, cells, wanted) = *row;
+    let made = TblFit::new(alloc, columns, width);
+    let holds = match wanted {
+        Some(wanted) => is_fitted(alloc, made?, cells, wanted)?,
+        None => is_refused(&made, width),
+    };
+    assert!(rt; holds, "{columns} columns in {width}");
     Ok(())
 }
 
 #[test]
-fn tables_are_fitted_to_their_width(rt: HostRuntime) -> Result<(), Fail> {
-    for row in &ROWS {
+fn tables_are_fitted_to_their_width(rt: HostRuntime) -> Result<(), Error> {
+    for row in ROWS {
         assert_row(&rt, rt.alloc(), row)?;
     }
     Ok(())
 }
 
-// 4000 columns of the terminal are available, and 10000 are needed.
-#[test]
-fn a_thousand_columns_share_evenly(rt: HostRuntime) -> Result<(), Fail> {
-    let mut fit = TblFit::new(rt.alloc(), 1000, 5001)?;
+// What a thousand columns that need ten each are fitted to.
+fn fitted_thousand(alloc: Global) -> Result<TblFitResult, Error> {
+    let mut fit = TblFit::new(alloc, 1000, 5001)?;
     for column in 0..1000 {
         fit.see_cell(column, 10);
     }
-    let result = fit.fit(rt.alloc())?;
-    assert!(&rt; result.reduced);
-    assert_eq!(&rt; result.col_widths.len(), 1000);
-    assert!(&rt; result.col_widths.iter().all(|width| *width == 4));
+    Ok(fit.fit(alloc)?)
+}
+
+// 4000 columns of the terminal are available, and 10000 are needed.
+#[test]
+fn a_thousand_columns_share_evenly(rt: HostRuntime) -> Result<(), Error> {
+    let result = fitted_thousand(rt.alloc())?;
+    let is_even = result.col_widths.iter().all(|width| *width == 4);
+    let holds = result.reduced && result.col_widths.len() == 1000 && is_even;
+    assert_holds(&rt, holds, "4 columns of the terminal for each");
     Ok(())
 }

@@ -5,7 +5,6 @@ use mad_edit::InputFieldContent;
 use mad_lines::Pos;
 use std::alloc::{AllocError, Global};
 use std::process::Abort;
-use std::test::Fail;
 
 // A text with an offset.
 #[derive(Drop)]
@@ -60,28 +59,38 @@ fn draw(state: &mut u64, bound: usize) -> usize {
     if bound == 0 { 0 } else { high % bound }
 }
 
-// One call on both.
-fn step(
+// A call that puts characters in, or removes one, on both.
+fn edit(
     alloc: Global,
-    state: &mut u64,
+    call: usize,
     con: &mut InputFieldContent,
     plain: &mut Plain,
 ) -> Result<(), AllocError> {
-    let len = plain.text.len();
     let at = plain.at;
-    match draw(state, 14) {
+    match call {
         0 | 1 => {
             con.insert_char('a')?;
-            plain.replace(alloc, at, at, "a")?;
+            plain.replace(alloc, at, at, "a")
         }
         2 => {
             con.insert_new_line()?;
-            plain.replace(alloc, at, at, "\n")?;
+            plain.replace(alloc, at, at, "\n")
         }
         3 => {
             con.insert_str("b c\r\n\u{8}é")?;
-            plain.replace(alloc, at, at, "b c\né")?;
+            plain.replace(alloc, at, at, "b c\né")
         }
+        _ => {
+            con.del_char_left()?;
+            plain.replace(alloc, at.saturating_sub(1), at, "")
+        }
+    }
+}
+
+// A call that moves the cursor, on both.
+fn move_cursor(call: usize, con: &mut InputFieldContent, plain: &mut Plain) {
+    let at = plain.at;
+    match call {
         4 | 5 => {
             let moved = con.move_left();
             plain.at = at.saturating_sub(usize::from(moved));
@@ -90,45 +99,90 @@ fn step(
             let moved = con.move_right();
             plain.at = at.saturating_add(usize::from(moved));
         }
-        8 => {
-            con.del_char_left()?;
-            plain.replace(alloc, at.saturating_sub(1), at, "")?;
-        }
         9 => {
             con.move_to_line_end();
             plain.at = at.saturating_add(plain.rest_of_line());
         }
-        10 => {
-            let target = draw(state, len.saturating_add(1));
-            con.set_cursor_pos(plain.place_of(target));
-            plain.at = target;
-        }
-        11 => {
+        _ => {
             con.move_to_start();
             plain.at = 0;
         }
-        12 => {
-            let target = draw(state, len.saturating_add(1));
-            con.set_selection_tail(plain.place_of(target));
-            con.replace_selection("xy")?;
-            let (from, to) = if target == at {
-                (at, at)
-            } else {
-                (at.min(target), at.max(target).saturating_add(1))
-            };
-            con.unselect();
-            plain.replace(alloc, from, to, "xy")?;
-        }
-        _ => {
-            let target = draw(state, len.saturating_add(1));
-            con.set_selection_tail(plain.place_of(target));
-            if con.has_wide_selection() {
-                con.cut_selection()?;
-                plain.replace(alloc, at.min(target), at.max(target).saturating_add(1), "")?;
-            }
-            con.unselect();
-        }
     }
+}
+
+// Replaces what is selected up to an offset on both.
+fn replace_selected(
+    alloc: Global,
+    target: usize,
+    con: &mut InputFieldContent,
+    plain: &mut Plain,
+) -> Result<(), AllocError> {
+    let at = plain.at;
+    con.set_selection_tail(plain.place_of(target));
+    con.replace_selection("xy")?;
+    con.unselect();
+    let past = if target == at {
+        at
+    } else {
+        at.max(target).saturating_add(1)
+    };
+    plain.replace(alloc, at.min(target), past, "xy")
+}
+
+// Cuts what is selected up to an offset on both, if that is wide.
+fn cut_selected(
+    alloc: Global,
+    target: usize,
+    con: &mut InputFieldContent,
+    plain: &mut Plain,
+) -> Result<(), AllocError> {
+    let at = plain.at;
+    con.set_selection_tail(plain.place_of(target));
+    if con.has_wide_selection() {
+        con.cut_selection()?;
+        plain.replace(alloc, at.min(target), at.max(target).saturating_add(1), "")?;
+    }
+    con.unselect();
+    Ok(())
+}
+
+// One call on both.
+fn step(
+    alloc: Global,
+    state: &mut u64,
+    con: &mut InputFieldContent,
+    plain: &mut Plain,
+) -> Result<(), AllocError> {
+    let call = draw(state, 14);
+    match call {
+        0 | 1 | 2 | 3 | 8 => return edit(alloc, call, con, plain),
+        4 | 5 | 6 | 7 | 9 | 11 => {
+            move_cursor(call, con, plain);
+            return Ok(());
+        }
+        _ => (),
+    }
+    let target = draw(state, plain.text.len().saturating_add(1));
+    match call {
+        10 => {
+            con.set_cursor_pos(plain.place_of(target));
+            plain.at = target;
+            Ok(())
+        }
+        12 => replace_selected(alloc, target, con, plain),
+        _ => cut_selected(alloc, target, con, plain),
+    }
+}
+
+// Asserts that an editor has the text and the place of the plain one.
+fn assert_same(
+    rt: &impl Abort,
+    alloc: Global,
+    con: &InputFieldContent,
+    plain: &Plain,
+) -> Result<(), AllocError> {
+    let text = plain.to_text(alloc)?;
+    assert_content(rt, con, text.as_str(), plain.place_of(plain.at));
     Ok(())
 }
 
@@ -141,14 +195,12 @@ fn steps(rt: &impl Abort, alloc: Global) -> Result<(), AllocError> {
     };
     for _call in 0..4000 {
         step(alloc, &mut state, &mut con, &mut plain)?;
-        let text = plain.to_text(alloc)?;
-        assert_content(rt, &con, text.as_str(), plain.place_of(plain.at));
+        assert_same(rt, alloc, &con, &plain)?;
     }
     Ok(())
 }
 
 #[test]
-fn calls_at_random_beside_a_plain_text(rt: HostRuntime) -> Result<(), Fail> {
-    steps(&rt, rt.alloc())?;
-    Ok(())
+fn calls_at_random_beside_a_plain_text(rt: HostRuntime) -> Result<(), AllocError> {
+    steps(&rt, rt.alloc())
 }

@@ -1,12 +1,17 @@
 //! Worked rows.
 
+use crate::edit::calls::{Call, Step, assert_steps};
 use crate::edit::{assert_content, content};
+use crate::shown::{assert_holds, assert_text};
 use mad_edit::InputFieldContent;
 use mad_lines::Pos;
-use std::test::Fail;
+use std::alloc::{AllocError, Global};
+use std::process::Abort;
 
 // A text, the cursor and the tail in it, what is cut, and what is left.
-const CUTS: &[(&str, Pos, Pos, &str, &str)] = &[
+type Cut = (&'static str, Pos, Pos, &'static str, &'static str);
+
+const CUTS: &[Cut] = &[
     (
         "ab\ncd\nef",
         Pos { x: 1, y: 0 },
@@ -30,190 +35,258 @@ const CUTS: &[(&str, Pos, Pos, &str, &str)] = &[
     ),
 ];
 
+// Asserts what is selected and what is copied, which are one text.
+fn assert_selected(
+    rt: &impl Abort,
+    content: &InputFieldContent,
+    wanted: &str,
+) -> Result<(), AllocError> {
+    assert_text(rt, content.copy_selection()?.as_str(), wanted, "copied");
+    assert_text(rt, content.selection_string()?.as_str(), wanted, "selected");
+    Ok(())
+}
+
+// Cuts what is selected, asserts what is left, and inserts it again.
+fn assert_cut(
+    rt: &impl Abort,
+    content: &mut InputFieldContent,
+    row: &Cut,
+) -> Result<(), AllocError> {
+    let (text, cursor, tail, handed, left) = *row;
+    let cut = content.cut_selection()?;
+    assert_text(rt, cut.as_str(), handed, text);
+    assert_holds(rt, !content.has_selection(), text);
+    assert_content(rt, content, left, cursor.min(tail));
+    content.insert_str(cut.as_str())?;
+    assert_holds(rt, content.is_str(text), text);
+    Ok(())
+}
+
 #[test]
-fn what_is_cut_and_inserted_again(rt: HostRuntime) -> Result<(), Fail> {
-    for (text, cursor, tail, handed, left) in CUTS {
-        let mut con = content(rt.alloc(), text, *cursor, Some(*tail))?;
-        let cut = con.cut_selection()?;
-        assert!(rt; cut.as_str() == *handed && !con.has_selection());
-        assert_content(&rt, &con, left, *cursor.min(tail));
-        con.insert_str(cut.as_str())?;
-        assert!(rt; con.is_str(text));
+fn what_is_copied_cut_and_inserted_again(rt: HostRuntime) -> Result<(), AllocError> {
+    for row in CUTS {
+        let mut content = content(rt.alloc(), row.0, row.1, Some(row.2))?;
+        assert_selected(&rt, &content, row.3)?;
+        assert_cut(&rt, &mut content, row)?;
     }
     Ok(())
 }
 
+// Cuts what is between the cursor and a place.
+fn cut_up_to(content: &mut InputFieldContent, tail: Pos) -> Result<String, AllocError> {
+    content.set_selection_tail(tail);
+    content.cut_selection()
+}
+
+// Puts back two cuts, one from after the first character and then one from the start.
+fn undo(content: &mut InputFieldContent, first: &str, second: &str) -> Result<(), AllocError> {
+    content.undo_cuts(&[(Pos::new(1, 0), first), (Pos::new(0, 0), second)])
+}
+
+fn assert_undone(rt: &impl Abort, content: &mut InputFieldContent) -> Result<(), AllocError> {
+    let first = cut_up_to(content, Pos::new(2, 0))?;
+    content.move_to_start();
+    let second = cut_up_to(content, Pos::new(1, 0))?;
+    assert_content(rt, content, "", Pos::new(0, 0));
+    undo(content, first.as_str(), second.as_str())?;
+    assert_holds(rt, content.is_str("abcd"), "abcd");
+    Ok(())
+}
+
 #[test]
-fn what_is_copied(rt: HostRuntime) -> Result<(), Fail> {
-    for (text, cursor, tail, handed, _) in CUTS {
-        let con = content(rt.alloc(), text, *cursor, Some(*tail))?;
-        assert!(rt; con.copy_selection()?.as_str() == *handed);
+fn cuts_are_undone_last_first(rt: HostRuntime) -> Result<(), AllocError> {
+    let mut content = content(rt.alloc(), "abcd", Pos::new(1, 0), None)?;
+    assert_undone(&rt, &mut content)
+}
+
+// A text, the cursor's column and line in it, a tail, and steps from there.
+type Row = (&'static str, (usize, usize), Option<Pos>, &'static [Step]);
+
+const ROWS: &[Row] = &[
+    // A selection is replaced.
+    (
+        "abc",
+        (0, 0),
+        Some(Pos { x: 1, y: 0 }),
+        &[(&[Call::ReplaceSelection("X\r")], true, "Xc", (1, 0))],
+    ),
+    // Characters are put in.
+    (
+        "12345",
+        (2, 0),
+        None,
+        &[(
+            &[
+                Call::InsertChar('6'),
+                Call::InsertChar('\r'),
+                Call::InsertChar('\u{8}'),
+                Call::InsertChar('\n'),
+            ],
+            true,
+            "126\n345",
+            (0, 1),
+        )],
+    ),
+    // Characters are put at the end, and then nothing is left.
+    (
+        "12\n34",
+        (2, 1),
+        None,
+        &[
+            (
+                &[Call::PushChar('\n'), Call::PushChar('5')],
+                true,
+                "12\n34\n5",
+                (2, 1),
+            ),
+            (&[Call::SetStr("")], true, "", (0, 0)),
+        ],
+    ),
+    // Words are removed to the right, one after another.
+    (
+        "aaa bbb ccc",
+        (5, 0),
+        None,
+        &[
+            (&[Call::DelWordRight], true, "aaa bccc", (5, 0)),
+            (&[Call::DelWordRight], true, "aaa b", (4, 0)),
+            (&[Call::DelWordRight], true, "aaa ", (3, 0)),
+            (&[Call::DelWordRight], true, "aaa", (3, 0)),
+            (&[Call::DelWordRight], true, "aaa", (2, 0)),
+            (&[Call::DelWordRight], true, "aa", (1, 0)),
+            (&[Call::DelWordRight], true, "a", (0, 0)),
+            (&[Call::DelWordRight], true, "", (0, 0)),
+            (&[Call::DelWordRight], false, "", (0, 0)),
+        ],
+    ),
+    // And to the left.
+    (
+        "aaa bbb",
+        (7, 0),
+        None,
+        &[
+            (&[Call::DelWordLeft], true, "aaa ", (4, 0)),
+            (&[Call::DelWordLeft], true, "", (0, 0)),
+            (&[Call::DelWordLeft], false, "", (0, 0)),
+        ],
+    ),
+    // Columns are kept down.
+    (
+        COLUMNS,
+        (3, 0),
+        None,
+        &[
+            (&[Call::MoveDown], true, COLUMNS, (2, 1)),
+            (&[Call::MoveLinesDown(7)], true, COLUMNS, (0, 2)),
+            (&[Call::MoveDown], false, COLUMNS, (0, 2)),
+        ],
+    ),
+    // And up.
+    (
+        COLUMNS,
+        (0, 2),
+        None,
+        &[
+            (&[Call::MoveLinesUp(0)], true, COLUMNS, (0, 2)),
+            (&[Call::MoveLinesUp(2)], true, COLUMNS, (0, 0)),
+            (&[Call::MoveUp], false, COLUMNS, (0, 0)),
+        ],
+    ),
+    // Lines are moved.
+    (
+        "a b_1-c\nd",
+        (6, 0),
+        None,
+        &[
+            (&[Call::MoveCurrentLineDown], true, "d\na b_1-c", (6, 1)),
+            (&[Call::MoveWordLeft], true, "d\na b_1-c", (4, 1)),
+        ],
+    ),
+];
+
+const COLUMNS: &str = "ab\tc\n概要x\n";
+
+fn assert_row(rt: &impl Abort, alloc: Global, row: &Row) -> Result<(), AllocError> {
+    let (text, (x, y), tail, steps) = *row;
+    let mut content = content(alloc, text, Pos::new(x, y), tail)?;
+    assert_steps(rt, &mut content, steps)
+}
+
+#[test]
+fn texts_after_calls(rt: HostRuntime) -> Result<(), AllocError> {
+    for row in ROWS {
+        assert_row(&rt, rt.alloc(), row)?;
     }
     Ok(())
 }
 
+const TWO_LINES: &[Step] = &[(
+    &[
+        Call::InsertChar('1'),
+        Call::InsertChar('2'),
+        Call::InsertNewLine,
+        Call::InsertChar('3'),
+        Call::InsertChar('4'),
+    ],
+    true,
+    "12\n34",
+    (2, 1),
+)];
+
 #[test]
-fn cuts_are_undone_last_first(rt: HostRuntime) -> Result<(), Fail> {
-    let mut con = content(rt.alloc(), "abcd", Pos::new(1, 0), Some(Pos::new(2, 0)))?;
-    let first = con.cut_selection()?;
-    con.move_to_start();
-    con.set_selection_tail(Pos::new(1, 0));
-    let second = con.cut_selection()?;
-    assert!(rt; con.is_empty());
-    con.undo_cuts(&[
-        (Pos::new(1, 0), first.as_str()),
-        (Pos::new(0, 0), second.as_str()),
-    ])?;
-    assert!(rt; con.is_str("abcd"));
+fn characters_and_lines_are_put_in_a_new_editor(rt: HostRuntime) -> Result<(), AllocError> {
+    let mut content = InputFieldContent::new(rt.alloc())?;
+    assert_steps(&rt, &mut content, TWO_LINES)?;
+    let text = content.to_string(rt.alloc())?;
+    assert_text(&rt, text.as_str(), "12\n34", "written");
     Ok(())
 }
 
 #[test]
-fn a_selection_is_replaced(rt: HostRuntime) -> Result<(), Fail> {
-    let mut con = content(rt.alloc(), "abc", Pos::new(0, 0), Some(Pos::new(1, 0)))?;
-    con.replace_selection("X\r")?;
-    assert!(rt; con.is_str("Xc"));
+fn a_tail_at_the_end_is_kept_in_the_text(rt: HostRuntime) -> Result<(), AllocError> {
+    let end = Some(Pos::new(11, 0));
+    let mut content = content(rt.alloc(), "aaa bbb ccc", Pos::new(5, 0), end)?;
+    content.clear();
+    assert_holds(
+        &rt,
+        content.is_empty() && content.has_selection(),
+        "cleared",
+    );
+    content.del_selection()?;
+    assert_holds(&rt, content.is_empty(), "removed");
     Ok(())
 }
 
-#[test]
-fn characters_are_put_in(rt: HostRuntime) -> Result<(), Fail> {
-    let mut con = content(rt.alloc(), "12345", Pos::new(2, 0), None)?;
-    for c in ['6', '\r', '\u{8}', '\n'] {
-        con.insert_char(c)?;
-    }
-    assert_content(&rt, &con, "126\n345", Pos::new(0, 1));
-    Ok(())
-}
-
-#[test]
-fn characters_and_lines_are_put_in(rt: HostRuntime) -> Result<(), Fail> {
-    let mut con = InputFieldContent::new(rt.alloc())?;
-    for c in ['1', '2'] {
-        con.insert_char(c)?;
-    }
-    con.insert_new_line()?;
-    for c in ['3', '4'] {
-        con.insert_char(c)?;
-    }
-    assert!(rt; con.to_string(rt.alloc())?.as_str() == "12\n34");
-    Ok(())
-}
-
-#[test]
-fn characters_are_put_at_the_end(rt: HostRuntime) -> Result<(), Fail> {
-    let mut con = content(rt.alloc(), "12\n34", Pos::new(2, 1), None)?;
-    con.push_char('\n')?;
-    con.push_char('5')?;
-    assert_content(&rt, &con, "12\n34\n5", Pos::new(2, 1));
-    con.set_str("")?;
-    assert!(rt; con.is_empty());
-    Ok(())
-}
-
-// What is left of `aaa bbb ccc` by words removed to the right, one after another, the cursor's column, and whether one was.
-const WORDS_TO_THE_RIGHT: &[(&str, usize, bool)] = &[
-    ("aaa bccc", 5, true),
-    ("aaa b", 4, true),
-    ("aaa ", 3, true),
-    ("aaa", 3, true),
-    ("aaa", 2, true),
-    ("aa", 1, true),
-    ("a", 0, true),
-    ("", 0, true),
-    ("", 0, false),
+const CHARACTER_AND_SELECTION: &[Step] = &[
+    (&[Call::DelCharLeft], true, "aaa bb ccc", (4, 0)),
+    (&[Call::DelSelection], true, "aaa ", (4, 0)),
 ];
 
 #[test]
-fn words_are_removed_to_the_right(rt: HostRuntime) -> Result<(), Fail> {
-    let mut con = content(rt.alloc(), "aaa bbb ccc", Pos::new(5, 0), None)?;
-    for (text, x, done) in WORDS_TO_THE_RIGHT {
-        assert!(rt; con.del_word_right()? == *done, "{text}");
-        assert_content(&rt, &con, text, Pos::new(*x, 0));
-    }
-    Ok(())
-}
-
-// The same of `aaa bbb`, to the left.
-const WORDS_TO_THE_LEFT: &[(&str, usize, bool)] = &[
-    ("aaa ", 4, true),
-    ("", 0, true),
-    ("", 0, false),
-];
-
-#[test]
-fn words_are_removed_to_the_left(rt: HostRuntime) -> Result<(), Fail> {
-    let mut con = content(rt.alloc(), "aaa bbb", Pos::new(7, 0), None)?;
-    for (text, x, done) in WORDS_TO_THE_LEFT {
-        assert!(rt; con.del_word_left()? == *done, "{text}");
-        assert_content(&rt, &con, text, Pos::new(*x, 0));
-    }
-    Ok(())
-}
-
-#[test]
-fn a_tail_at_the_end_is_kept_in_the_text(rt: HostRuntime) -> Result<(), Fail> {
+fn a_character_and_then_the_selection_are_removed(rt: HostRuntime) -> Result<(), AllocError> {
     let end = Some(Pos::new(11, 0));
-    let mut con = content(rt.alloc(), "aaa bbb ccc", Pos::new(5, 0), end)?;
-    con.clear();
-    assert!(rt; con.is_empty() && con.has_selection());
-    con.del_selection()?;
-    assert!(rt; con.is_empty());
-    Ok(())
+    let content = content(rt.alloc(), "aaa bbb ccc", Pos::new(5, 0), end)?;
+    let mut copy = content.try_clone(rt.alloc())?;
+    assert_steps(&rt, &mut copy, CHARACTER_AND_SELECTION)
 }
 
-#[test]
-fn a_character_and_then_the_selection_are_removed(rt: HostRuntime) -> Result<(), Fail> {
-    let alloc = rt.alloc();
-    let end = Some(Pos::new(11, 0));
-    let mut con = content(alloc, "aaa bbb ccc", Pos::new(5, 0), end)?.try_clone(alloc)?;
-    assert!(rt; con.del_char_left()? && con.del_selection()?);
-    assert!(rt; con.is_str("aaa "));
-    Ok(())
-}
+const TEXTS: &[&str] = &["this has\nthree lines\n", "", "123", "\n\n"];
 
 #[test]
-fn a_text_is_what_was_put_in(rt: HostRuntime) -> Result<(), Fail> {
-    for text in ["this has\nthree lines\n", "", "123", "\n\n"] {
-        let con = InputFieldContent::from(rt.alloc(), text)?;
-        assert!(rt; con.is_str(text));
-        assert!(rt; !con.is_str("1234"));
+fn a_text_is_what_was_put_in(rt: HostRuntime) -> Result<(), AllocError> {
+    for text in TEXTS {
+        let content = InputFieldContent::from(rt.alloc(), text)?;
+        let is_kept = content.is_str(text) && !content.is_str("1234");
+        assert_holds(&rt, is_kept, text);
     }
     Ok(())
 }
 
 #[test]
-fn columns_are_kept_down(rt: HostRuntime) -> Result<(), Fail> {
-    let mut con = content(rt.alloc(), "ab\tc\n概要x\n", Pos::new(3, 0), None)?;
-    assert!(rt; con.move_down() && con.cursor_pos() == Pos::new(2, 1));
-    assert!(rt; con.move_lines_down(7) && con.cursor_pos() == Pos::new(0, 2));
-    assert!(rt; !con.move_down());
-    Ok(())
-}
-
-#[test]
-fn columns_are_kept_up(rt: HostRuntime) -> Result<(), Fail> {
-    let mut con = content(rt.alloc(), "ab\tc\n概要x\n", Pos::new(0, 2), None)?;
-    assert!(rt; con.move_lines_up(0) && con.move_lines_up(2));
-    assert!(rt; con.cursor_pos() == Pos::new(0, 0) && !con.move_up());
-    Ok(())
-}
-
-#[test]
-fn words_are_selected(rt: HostRuntime) -> Result<(), Fail> {
-    let mut con = content(rt.alloc(), "a b_1-c\nd", Pos::new(3, 0), None)?;
-    assert!(rt; con.select_word_around());
-    assert!(rt; con.selection_string()?.as_str() == "b_1");
-    assert!(rt; con.select_non_space_around());
-    assert!(rt; con.selection_string()?.as_str() == "b_1-c");
-    Ok(())
-}
-
-#[test]
-fn lines_are_moved(rt: HostRuntime) -> Result<(), Fail> {
-    let mut con = content(rt.alloc(), "a b_1-c\nd", Pos::new(6, 0), None)?;
-    assert!(rt; con.move_current_line_down());
-    assert_content(&rt, &con, "d\na b_1-c", Pos::new(6, 1));
-    assert!(rt; con.move_word_left() && con.cursor_pos() == Pos::new(4, 1));
-    Ok(())
+fn words_are_selected(rt: HostRuntime) -> Result<(), AllocError> {
+    let mut content = content(rt.alloc(), "a b_1-c\nd", Pos::new(3, 0), None)?;
+    assert_holds(&rt, content.select_word_around(), "a word");
+    assert_selected(&rt, &content, "b_1")?;
+    assert_holds(&rt, content.select_non_space_around(), "no space");
+    assert_selected(&rt, &content, "b_1-c")
 }

@@ -1,12 +1,13 @@
 //! The rows of the grammar's page: a text, and its lines. `tools/grammar_page` writes docs/GRAMMAR.md's tables from
 //! them, a table for each title. A line is its form and its compounds in quotes, each after its flags.
 
+use crate::shown::assert_text;
 use mad_md::{
-    Alignment, Composite, CompositeStyle, Line, ParseOptions, TableRow, TableRule, parse_text_with,
+    Alignment, Composite, CompositeStyle, Compound, Line, ParseOptions, Text, parse_text_with,
 };
-use std::alloc::Global;
+use std::alloc::{AllocError, Global};
+use std::fmt::Write;
 use std::process::Abort;
-use std::test::Fail;
 
 const ROWS: [(&str, &str); 85] = [
     // # Lines
@@ -158,105 +159,127 @@ const CONTINUED_ROWS: [(&str, &str); 14] = [
     ("# **a\nb", "Header(1) bold 'a'; Paragraph 'b'"),
 ];
 
-fn draw_flag(picture: &mut String, on: bool, name: &str) -> Result<(), Fail> {
-    if on {
-        picture.push_str(name)?;
+fn draw_style(picture: &mut String, style: CompositeStyle) -> Result<(), AllocError> {
+    match style {
+        CompositeStyle::Paragraph => picture.push_str("Paragraph"),
+        CompositeStyle::Header(level) => write!(picture, "Header({level})"),
+        CompositeStyle::ListItem(level) => write!(picture, "ListItem({level})"),
+        CompositeStyle::OrderedListItem { level, index } => {
+            write!(picture, "OrderedListItem({level}, {index})")
+        }
+        CompositeStyle::Code => picture.push_str("Code"),
+        CompositeStyle::Quote => picture.push_str("Quote"),
     }
-    Ok(())
 }
 
-fn draw_composite(picture: &mut String, composite: &Composite) -> Result<(), Fail> {
-    match composite.style {
-        CompositeStyle::Paragraph => picture.push_str("Paragraph")?,
-        CompositeStyle::Header(level) => write!(picture, "Header({level})")?,
-        CompositeStyle::ListItem(level) => write!(picture, "ListItem({level})")?,
-        CompositeStyle::OrderedListItem { level, index } => {
-            write!(picture, "OrderedListItem({level}, {index})")?;
-        }
-        CompositeStyle::Code => picture.push_str("Code")?,
-        CompositeStyle::Quote => picture.push_str("Quote")?,
-    }
+fn draw_flag(picture: &mut String, is_on: bool, name: &str) -> Result<(), AllocError> {
+    picture.push_str(if is_on { name } else { "" })
+}
+
+fn draw_compound(picture: &mut String, compound: &Compound) -> Result<(), AllocError> {
+    draw_flag(picture, compound.bold, "bold ")?;
+    draw_flag(picture, compound.italic, "italic ")?;
+    draw_flag(picture, compound.code, "code ")?;
+    draw_flag(picture, compound.strikeout, "strikeout ")?;
+    picture.push_str("'")?;
+    picture.push_str(compound.src)?;
+    picture.push_str("'")
+}
+
+/// Appends a composite as the rows write it.
+pub(crate) fn draw_composite(
+    picture: &mut String,
+    composite: &Composite,
+) -> Result<(), AllocError> {
+    draw_style(picture, composite.style)?;
     let mut between = " ";
     for compound in &composite.compounds {
         picture.push_str(between)?;
         between = ", ";
-        draw_flag(picture, compound.bold, "bold ")?;
-        draw_flag(picture, compound.italic, "italic ")?;
-        draw_flag(picture, compound.code, "code ")?;
-        draw_flag(picture, compound.strikeout, "strikeout ")?;
-        write!(picture, "'{}'", compound.src)?;
+        draw_compound(picture, compound)?;
     }
     Ok(())
 }
 
-fn draw_row(picture: &mut String, row: &TableRow) -> Result<(), Fail> {
+fn draw_row(picture: &mut String, cells: &[Composite]) -> Result<(), AllocError> {
     picture.push_str("TableRow(")?;
     let mut between = "";
-    for cell in &row.cells {
+    for cell in cells {
         picture.push_str(between)?;
         between = " | ";
         draw_composite(picture, cell)?;
     }
-    picture.push_str(")")?;
-    Ok(())
+    picture.push_str(")")
 }
 
-fn draw_rule(picture: &mut String, rule: &TableRule) -> Result<(), Fail> {
+fn name_of(alignment: Alignment) -> &'static str {
+    match alignment {
+        Alignment::Unspecified => "Unspecified",
+        Alignment::Left => "Left",
+        Alignment::Center => "Center",
+        Alignment::Right => "Right",
+    }
+}
+
+fn draw_rule(picture: &mut String, alignments: &[Alignment]) -> Result<(), AllocError> {
     picture.push_str("TableRule(")?;
     let mut between = "";
-    for alignment in &rule.cells {
+    for alignment in alignments {
         picture.push_str(between)?;
         between = ", ";
-        picture.push_str(match alignment {
-            Alignment::Unspecified => "Unspecified",
-            Alignment::Left => "Left",
-            Alignment::Center => "Center",
-            Alignment::Right => "Right",
-        })?;
+        picture.push_str(name_of(*alignment))?;
     }
-    picture.push_str(")")?;
-    Ok(())
+    picture.push_str(")")
 }
 
 /// Appends a line as the rows write it.
-pub(crate) fn draw_line(picture: &mut String, line: &Line) -> Result<(), Fail> {
+pub(crate) fn draw_line(picture: &mut String, line: &Line) -> Result<(), AllocError> {
     match line {
         Line::Normal(composite) => draw_composite(picture, composite),
-        Line::TableRow(row) => draw_row(picture, row),
-        Line::TableRule(rule) => draw_rule(picture, rule),
-        Line::HorizontalRule => {
-            picture.push_str("HorizontalRule")?;
-            Ok(())
-        }
+        Line::TableRow(row) => draw_row(picture, &row.cells),
+        Line::TableRule(rule) => draw_rule(picture, &rule.cells),
+        Line::HorizontalRule => picture.push_str("HorizontalRule"),
     }
 }
 
-fn expect_rows(
+/// Asserts that a text's lines are those of a row; the label tells the row.
+pub(crate) fn assert_lines(
+    rt: &impl Abort,
+    alloc: Global,
+    text: &Text,
+    wanted: &str,
+    label: &str,
+) -> Result<(), AllocError> {
+    let mut picture = String::new(alloc);
+    let mut between = "";
+    for line in &text.lines {
+        picture.push_str(between)?;
+        between = "; ";
+        draw_line(&mut picture, line)?;
+    }
+    assert_text(rt, picture.as_str(), wanted, label);
+    Ok(())
+}
+
+fn assert_rows(
     rt: &impl Abort,
     alloc: Global,
     rows: &[(&str, &str)],
     continue_spans: bool,
-) -> Result<(), Fail> {
+) -> Result<(), AllocError> {
     for (src, lines) in rows {
         let text = parse_text_with(alloc, src, ParseOptions { continue_spans })?;
-        let mut picture = String::new(alloc);
-        let mut between = "";
-        for line in &text.lines {
-            picture.push_str(between)?;
-            between = "; ";
-            draw_line(&mut picture, line)?;
-        }
-        assert_eq!(rt; picture.as_str(), *lines, "the lines of {src:?}");
+        assert_lines(rt, alloc, &text, lines, src)?;
     }
     Ok(())
 }
 
 #[test]
-fn rows_of_the_grammar(rt: HostRuntime) -> Result<(), Fail> {
-    expect_rows(&rt, rt.alloc(), &ROWS, false)
+fn rows_of_the_grammar(rt: HostRuntime) -> Result<(), AllocError> {
+    assert_rows(&rt, rt.alloc(), &ROWS, false)
 }
 
 #[test]
-fn rows_of_marks_that_go_on(rt: HostRuntime) -> Result<(), Fail> {
-    expect_rows(&rt, rt.alloc(), &CONTINUED_ROWS, true)
+fn rows_of_marks_that_go_on(rt: HostRuntime) -> Result<(), AllocError> {
+    assert_rows(&rt, rt.alloc(), &CONTINUED_ROWS, true)
 }
