@@ -264,6 +264,16 @@ plain_none {T} skin width before rest bytes kept r e old new is refused = record
 pub row_put : (kept text mid new row : List ℕ) → mid ≡ kept ++ text → new ≡ mid ++ 10 ∷ [] → row ≡ text ++ 10 ∷ [] → new ≡ kept ++ row
 row_put kept text mid new row first last is = last ∙ ap (λ (t : List ℕ). t ++ 10 ∷ []) first ∙ append_assoc kept text (10 ∷ []) ∙ ap (λ (t : List ℕ). kept ++ t) (sym is)
 
+-- a plain line more, whose bytes and newline were put after those that are kept
+pub plain_put : (skin : MadSkin) (width : Option ℕ) (most : ℕ) (v : Vec FmtLine Global) (text : Bor (List ℕ)) (before left later : List LineContent) (bytes kept mid new_kept : List ℕ) (old new : Trace)
+    → IsPlainWidth skin width most → length text.now ≤ most → IsUtf8 text.now → AllPlain text.now → length text.now < 2 ^ 64
+    → left ≡ plain_line text.now ∷ later → mid ≡ kept ++ text.now → new_kept ≡ mid ++ 10 ∷ []
+    → PlainSoFar skin width before left bytes kept old new → PlainSoFar skin width before later bytes new_kept old new
+plain_put skin width most v text before left later bytes kept mid new_kept old new h fits utf8 all range is first last so_far =
+    let laid = plain_layout skin width most v text.now text h fits refl utf8 all range in
+    let row = row_put kept text.now mid new_kept (line_bytes skin width (made v text.now text)) first last (plain_bytes skin width most v text.now text h refl all) in
+    plain_more skin width before left later (plain_line text.now) (made v text.now text) bytes kept new_kept old new so_far is (refl, refl) laid row
+
 -- ---- after the lines in front
 
 all_end : (taken : List LineContent) → AllAlone taken → EndsIn Alone taken

@@ -1,13 +1,11 @@
 //! Texts in areas.
 
 use crate::picture::{
-    BOLD, CODE, DOTS, ITALIC, Look, area_of, assert_areas, assert_holds, assert_screen,
-    screen_after, written_in_area,
+    DOTS, area_of, assert_rows, assert_screen, colored, pen_with, screen_after, written_in_area,
 };
-use std::alloc::Global;
-use std::process::Abort;
-use termimad::screen::Screen;
-use termimad::{Error, MadSkin};
+use std::test::Fail;
+use termimad::screen::Pen;
+use termimad::{Attribute, MadSkin};
 
 const BLANK: &str = "            ..";
 
@@ -30,99 +28,98 @@ const WITHOUT_STYLE: &[(&str, [u8; 4], &[&str])] = &[
 ];
 
 #[test]
-fn texts_without_style(rt: HostRuntime) -> Result<(), Error> {
-    assert_areas(&rt, rt.alloc(), &MadSkin::no_style(), WITHOUT_STYLE)
+fn texts_without_style(rt: HostRuntime) -> Result<(), Fail> {
+    let alloc = rt.alloc();
+    let skin = MadSkin::no_style();
+    for (text, sides, picture) in WITHOUT_STYLE {
+        let out = written_in_area(alloc, &skin, text, &area_of(*sides))?;
+        let screen = screen_after(&rt, alloc, &out)?;
+        assert_rows(&rt, alloc, &screen, picture)?;
+    }
+    Ok(())
 }
 
 #[test]
-fn one_put_for_each_row_and_no_flush(rt: HostRuntime) -> Result<(), Error> {
+fn one_put_for_each_row_and_no_flush(rt: HostRuntime) -> Result<(), Fail> {
+    let alloc = rt.alloc();
     let skin = MadSkin::no_style();
     for (text, sides, _) in WITHOUT_STYLE {
-        let out = written_in_area(rt.alloc(), &skin, text, &area_of(*sides))?;
-        let puts = u64::from(sides[3]);
-        assert_holds(&rt, text, out.puts() == puts && out.flushes() == 0);
+        let out = written_in_area(alloc, &skin, text, &area_of(*sides))?;
+        assert!(rt;
+            out.puts() == u64::from(sides[3]) && out.flushes() == 0,
+            "{text}"
+        );
     }
     Ok(())
 }
 
-// A text, the sides of its area, two rows of the screen from the second on, their letters, and the looks of these.
-const BY_DEFAULT: &[(&str, [u8; 4], [&str; 2], [&str; 2], &[Look])] = &[
-    (
-        "**a** *b* `c`",
-        [0, 1, 6, 1],
-        ["a b c ........", DOTS],
-        ["a.b.c.........", DOTS],
-        &[BOLD, ITALIC, CODE],
-    ),
-    // Widthless and wide characters.
-    (
-        "e\u{301}a **o\u{302}\u{301}概**",
-        [0, 1, 8, 1],
-        ["e\u{301}a o\u{302}\u{301}概  ......", DOTS],
-        ["...aaa........", DOTS],
-        &[BOLD],
-    ),
-    // The blank that fits at the end of the first row is italic, and those that fill the rows aren't.
-    (
-        "*aaaa bbbb*",
-        [1, 1, 6, 2],
-        [".aaaa  .......", ".bbbb  ......."],
-        [".aaaaa........", ".aaaa........."],
-        &[ITALIC],
-    ),
-    // A block of code whose widest line the area doesn't show.
-    (
-        "x\n```\na\nbbb\n```",
-        [0, 1, 8, 2],
-        ["x       ......", "a       ......"],
-        [DOTS, "aaa..........."],
-        &[CODE],
-    ),
-    (
-        "|**a**|b\n|-|-",
-        [0, 1, 12, 2],
-        ["│ a │ b │   ..", "└───┴───┘   .."],
-        ["a.b.a...a.....", "aaaaaaaaa....."],
-        &[(Some(239), None, &[]), BOLD],
-    ),
-];
-
 #[test]
-fn texts_in_the_default_skin(rt: HostRuntime) -> Result<(), Error> {
+fn texts_in_the_default_skin(rt: HostRuntime) -> Result<(), Fail> {
+    let alloc = rt.alloc();
     let skin = MadSkin::default();
-    for (text, sides, rows, letters, looks) in BY_DEFAULT {
-        let out = written_in_area(rt.alloc(), &skin, text, &area_of(*sides))?;
-        let screen = screen_after(&rt, rt.alloc(), &out)?;
-        assert_middle(&rt, rt.alloc(), &screen, *rows, *letters, looks)?;
+    let bold = pen_with(Attribute::Bold);
+    let italic = pen_with(Attribute::Italic);
+    let mut code = colored(249);
+    code.bg = colored(235).fg;
+    // The area, two rows of the screen from the second on, their looks, and the pens of these.
+    let rows: [(&str, [u8; 4], [&str; 2], [&str; 2], &[Pen]); 5] = [
+        (
+            "**a** *b* `c`",
+            [0, 1, 6, 1],
+            ["a b c ........", DOTS],
+            ["a.b.c.........", DOTS],
+            &[bold, italic, code],
+        ),
+        // Widthless and wide characters.
+        (
+            "e\u{301}a **o\u{302}\u{301}概**",
+            [0, 1, 8, 1],
+            ["e\u{301}a o\u{302}\u{301}概  ......", DOTS],
+            ["...aaa........", DOTS],
+            &[bold],
+        ),
+        // The blank that fits at the end of the first row is italic, and those that fill the rows aren't.
+        (
+            "*aaaa bbbb*",
+            [1, 1, 6, 2],
+            [".aaaa  .......", ".bbbb  ......."],
+            [".aaaaa........", ".aaaa........."],
+            &[italic],
+        ),
+        // A block of code whose widest line the area doesn't show.
+        (
+            "x\n```\na\nbbb\n```",
+            [0, 1, 8, 2],
+            ["x       ......", "a       ......"],
+            [DOTS, "aaa..........."],
+            &[code],
+        ),
+        (
+            "|**a**|b\n|-|-",
+            [0, 1, 12, 2],
+            ["│ a │ b │   ..", "└───┴───┘   .."],
+            ["a.b.a...a.....", "aaaaaaaaa....."],
+            &[colored(239), bold],
+        ),
+    ];
+    for (text, sides, [first, second], [looks, more], pens) in rows {
+        let out = written_in_area(alloc, &skin, text, &area_of(sides))?;
+        let screen = screen_after(&rt, alloc, &out)?;
+        let picture = [DOTS, first, second, DOTS];
+        let letters = [DOTS, looks, more, DOTS];
+        assert_screen(&rt, alloc, &screen, &picture, &letters, pens)?;
     }
     Ok(())
 }
 
-// Asserts the two rows in the middle of a screen, where the other two are of dots.
-fn assert_middle(
-    rt: &impl Abort,
-    alloc: Global,
-    screen: &Screen,
-    rows: [&str; 2],
-    letters: [&str; 2],
-    looks: &[Look],
-) -> Result<(), Error> {
-    let rows = [DOTS, rows[0], rows[1], DOTS];
-    let letters = [DOTS, letters[0], letters[1], DOTS];
-    assert_screen(rt, alloc, screen, &rows, &letters, looks)
-}
-
-// A block of code, and its row in the layout's ten columns, which have no room for margins of four.
-const UNMARGINED: &[(&str, [u8; 4], &[&str])] = &[(
-    "    abcdefgh",
-    [0, 0, 11, 1],
-    &["abcdefgh   ...", DOTS, DOTS, DOTS],
-)];
-
 #[test]
-fn margins_without_room_in_the_layout_are_not_drawn(rt: HostRuntime) -> Result<(), Error> {
+fn margins_without_room_in_the_layout_are_not_drawn(rt: HostRuntime) -> Result<(), Fail> {
+    let alloc = rt.alloc();
     let mut skin = MadSkin::no_style();
     skin.code_block.left_margin = 4;
     skin.code_block.right_margin = 4;
-    assert_areas(&rt, rt.alloc(), &skin, UNMARGINED)
+    let out = written_in_area(alloc, &skin, "    abcdefgh", &area_of([0, 0, 11, 1]))?;
+    let screen = screen_after(&rt, alloc, &out)?;
+    assert_rows(&rt, alloc, &screen, &["abcdefgh   ...", DOTS, DOTS, DOTS])?;
+    Ok(())
 }

@@ -1,6 +1,5 @@
 //! Rows of skins as JSON texts.
 
-use crate::picture::{assert_holds, assert_same};
 use mad_json::{ScrollBarStyleDef, SkinError, skin_from_value, skin_to_value};
 use mad_layout::MadSkin;
 use mad_md::Alignment;
@@ -32,30 +31,16 @@ fn skin_of(alloc: Global, value: &Value) -> Result<(MadSkin, Vec<String>), Fail>
     }
 }
 
-// The keys with a bar after each.
-fn joined(alloc: Global, keys: &[String]) -> Result<String, AllocError> {
-    let mut text = String::new(alloc);
-    for key in keys {
-        text.push_str(key.as_str())?;
-        text.push('|')?;
-    }
-    Ok(text)
-}
-
-// Asserts the skin and the unknown keys of a JSON text, these with a bar after each.
-fn assert_read(
-    rt: &impl Abort,
-    alloc: Global,
-    text: &str,
-    skin: &MadSkin,
-    keys: &str,
-) -> Result<(), Fail> {
+// The skin and the unknown keys of a JSON text, these with a bar after each.
+fn read(alloc: Global, text: &str) -> Result<(MadSkin, String), Fail> {
     let value = value_of(alloc, text)?;
-    let (read, unknown) = skin_of(alloc, &value)?;
-    assert_holds(rt, text, read == *skin);
-    let unknown = joined(alloc, unknown.as_slice())?;
-    assert_same(rt, unknown.as_str(), keys);
-    Ok(())
+    let (skin, unknown) = skin_of(alloc, &value)?;
+    let mut keys = String::new(alloc);
+    for key in &unknown {
+        keys.push_str(key.as_str())?;
+        keys.push('|')?;
+    }
+    Ok((skin, keys))
 }
 
 // A JSON text, and the text of its fault.
@@ -134,19 +119,14 @@ fn fault_of(alloc: Global, text: &str) -> Result<SkinError, Fail> {
     }
 }
 
-fn assert_fault(rt: &impl Abort, alloc: Global, text: &str, wanted: &str) -> Result<(), Fail> {
-    let told = fault_of(alloc, text)?.to_string(alloc)?;
-    assert_same(rt, told.as_str(), wanted);
-    Ok(())
-}
-
 #[test]
 fn faults(rt: HostRuntime) -> Result<(), Fail> {
+    let alloc = rt.alloc();
     for (text, fault) in FAULTS {
-        assert_fault(&rt, rt.alloc(), text, fault)?;
+        let told = fault_of(alloc, text)?.to_string(alloc)?;
+        assert!(rt; told.as_str() == *fault, "{text}");
     }
-    let told = SkinError::Memory.to_string(rt.alloc())?;
-    assert_same(&rt, told.as_str(), "want of memory");
+    assert!(rt; SkinError::Memory.to_string(alloc)?.as_str() == "want of memory");
     Ok(())
 }
 
@@ -163,192 +143,160 @@ const UNKNOWN: &[(&str, &str)] = &[
 
 #[test]
 fn unknown_keys_in_byte_order(rt: HostRuntime) -> Result<(), Fail> {
-    let skin = MadSkin::default();
+    let alloc = rt.alloc();
     for (text, keys) in UNKNOWN {
-        assert_read(&rt, rt.alloc(), text, &skin, keys)?;
+        let (skin, unknown) = read(alloc, text)?;
+        assert!(rt; skin == MadSkin::default(), "{text}");
+        assert!(rt; unknown.as_str() == *keys, "{text}");
     }
     Ok(())
 }
 
-// A skin of which each kind of part is told.
-const PARTS: &str = r##"{
-    "bold": "red", "inline-code": "none #fb0", "quote-mark": "> blue bold", "rule": "5",
-    "paragraph": "right 4 2", "code-block": "dim", "headers": "yellow center slow-blink italic 7",
-    "ordered-items": ["red ) bold", "blue"], "table-border-chars": "rounded",
-    "list-items-indentation-mode": "Hanging(007)", "scrollbar": {"track": "x red", "thumb": "y", "z": 1}
-}"##;
-
-fn change_styles(skin: &mut MadSkin) {
-    skin.bold = CompoundStyle::with_fg(Color::Red);
-    skin.inline_code = CompoundStyle::with_bg(rgb(255, 187, 0));
-    skin.paragraph.align = Alignment::Right;
-    skin.paragraph.left_margin = 4;
-    skin.paragraph.right_margin = 2;
-    skin.code_block = LineStyle::from(CompoundStyle::with_attr(Attribute::Dim));
-}
-
-fn change_headers(skin: &mut MadSkin) {
-    let mut header = LineStyle::from(CompoundStyle::with_fg(Color::Yellow));
-    header.align = Alignment::Center;
-    header.add_attr(Attribute::Underlined);
-    header.add_attr(Attribute::Italic);
-    skin.headers = [header; 8];
-    skin.headers[0].add_attr(Attribute::Bold);
-}
-
-fn change_items(skin: &mut MadSkin) {
-    let bold = CompoundStyle::with_attr(Attribute::Bold);
-    skin.ordered_item_styles[0] = OrderedItemStyle {
-        index_style: CompoundStyle::with_fg(Color::Red),
-        index_suffix: StyledChar::new(bold, ')'),
-    };
-    skin.ordered_item_styles[1] = OrderedItemStyle {
-        index_style: CompoundStyle::with_fg(Color::Blue),
-        index_suffix: StyledChar::nude('.'),
-    };
-    skin.list_items_indentation_mode = ListItemsIndentationMode::Hanging(7);
-}
-
-fn change_characters(skin: &mut MadSkin) {
-    let mut blue = CompoundStyle::with_fg(Color::Blue);
-    blue.add_attr(Attribute::Bold);
-    skin.quote_mark = StyledChar::new(blue, '>');
-    skin.horizontal_rule = StyledChar::nude('*');
-    skin.table_border_chars = ROUNDED_TABLE_BORDER_CHARS;
-    skin.scrollbar = ScrollBarStyle {
-        track: StyledChar::from_fg_char(Color::Red, 'x'),
-        thumb: StyledChar::nude('y'),
-    };
+fn header(fg: Option<Color>, attributes: &[Attribute], align: Alignment) -> LineStyle {
+    let mut header = LineStyle::from(CompoundStyle::default());
+    header.align = align;
+    header.compound_style.object_style.foreground_color = fg;
+    for attribute in attributes {
+        header.add_attr(*attribute);
+    }
+    header
 }
 
 #[test]
 fn parts(rt: HostRuntime) -> Result<(), Fail> {
-    let mut skin = MadSkin::default();
-    change_styles(&mut skin);
-    change_headers(&mut skin);
-    change_items(&mut skin);
-    change_characters(&mut skin);
-    assert_read(&rt, rt.alloc(), PARTS, &skin, "")
-}
-
-#[test]
-fn a_mode_of_items(rt: HostRuntime) -> Result<(), Fail> {
-    let skin = MadSkin {
-        list_items_indentation_mode: ListItemsIndentationMode::Hanging(0),
-        ..MadSkin::default()
+    let alloc = rt.alloc();
+    let (skin, unknown) = read(
+        alloc,
+        r##"{
+        "bold": "red", "inline-code": "none #fb0", "quote-mark": "> blue bold", "rule": "5",
+        "paragraph": "right 4 2", "code-block": "dim", "headers": "yellow center slow-blink italic 7",
+        "ordered-items": ["red ) bold", "blue"], "table-border-chars": "rounded",
+        "list-items-indentation-mode": "Hanging(007)", "scrollbar": {"track": "x red", "thumb": "y", "z": 1}
+    }"##,
+    )?;
+    assert!(rt; unknown.is_empty());
+    let mut expected = MadSkin::default();
+    expected.bold = CompoundStyle::with_fg(Color::Red);
+    expected.inline_code = CompoundStyle::with_bg(rgb(255, 187, 0));
+    let mut blue = CompoundStyle::with_fg(Color::Blue);
+    blue.add_attr(Attribute::Bold);
+    expected.quote_mark = StyledChar::new(blue, '>');
+    expected.horizontal_rule = StyledChar::nude('*');
+    expected.paragraph.align = Alignment::Right;
+    expected.paragraph.left_margin = 4;
+    expected.paragraph.right_margin = 2;
+    expected.code_block = LineStyle::from(CompoundStyle::with_attr(Attribute::Dim));
+    let (fg, center) = (Some(Color::Yellow), Alignment::Center);
+    let other = header(fg, &[Attribute::Underlined, Attribute::Italic], center);
+    expected.headers = [other; 8];
+    expected.headers[0].add_attr(Attribute::Bold);
+    let bold = CompoundStyle::with_attr(Attribute::Bold);
+    expected.ordered_item_styles[0] = OrderedItemStyle {
+        index_style: CompoundStyle::with_fg(Color::Red),
+        index_suffix: StyledChar::new(bold, ')'),
     };
-    let text = r#"{"list_items_indentation_mode":"hanging(0)"}"#;
-    assert_read(&rt, rt.alloc(), text, &skin, "")
-}
-
-const LEVELS: &str =
-    r#"{"headers":["red","","","","","","","","blue","none"], "scrollbar":"x red"}"#;
-
-fn change_levels(skin: &mut MadSkin) {
-    skin.headers = [LineStyle::from(CompoundStyle::default()); 8];
-    skin.headers[0].set_fg(Color::Red);
-    skin.scrollbar = ScrollBarStyle {
-        track: StyledChar::from_fg_char(Color::AnsiValue(237), 'x'),
-        thumb: StyledChar::from_fg_char(Color::Red, 'x'),
+    expected.ordered_item_styles[1] = OrderedItemStyle {
+        index_style: CompoundStyle::with_fg(Color::Blue),
+        index_suffix: StyledChar::nude('.'),
     };
+    expected.table_border_chars = ROUNDED_TABLE_BORDER_CHARS;
+    expected.list_items_indentation_mode = ListItemsIndentationMode::Hanging(7);
+    expected.scrollbar = ScrollBarStyle {
+        track: StyledChar::from_fg_char(Color::Red, 'x'),
+        thumb: StyledChar::nude('y'),
+    };
+    assert!(rt; skin == expected);
+    let (skin, _) = read(alloc, r#"{"list_items_indentation_mode":"hanging(0)"}"#)?;
+    assert!(rt; skin.list_items_indentation_mode == ListItemsIndentationMode::Hanging(0));
+    Ok(())
 }
 
 #[test]
 fn lists_replace_by_level(rt: HostRuntime) -> Result<(), Fail> {
-    let mut skin = MadSkin::default();
-    change_levels(&mut skin);
-    assert_read(&rt, rt.alloc(), LEVELS, &skin, "")?;
+    let alloc = rt.alloc();
+    let (skin, _) = read(
+        alloc,
+        r#"{"headers":["red","","","","","","","","blue","none"], "scrollbar":"x red"}"#,
+    )?;
+    let mut expected = MadSkin::default();
+    expected.headers = [LineStyle::from(CompoundStyle::default()); 8];
+    expected.headers[0].set_fg(Color::Red);
+    expected.scrollbar = ScrollBarStyle {
+        track: StyledChar::from_fg_char(Color::AnsiValue(237), 'x'),
+        thumb: StyledChar::from_fg_char(Color::Red, 'x'),
+    };
+    assert!(rt; skin == expected);
     let simple = ScrollBarStyleDef::from(&skin.scrollbar).into_scrollbar_style();
-    assert_holds(&rt, LEVELS, simple == skin.scrollbar);
+    assert!(rt; simple == skin.scrollbar);
     Ok(())
 }
-
-const DEFAULT: &str = concat!(
-    r#"{"bold":"Bold","bullet":"• ansi(240)","code_block":"ansi(249) ansi(235)","ellipsis":"","#,
-    r#""headers":["Bold Underlined center","Underlined","Underlined","Underlined","Underlined","#,
-    r#""Underlined","Underlined","Underlined"],"horizontal_rule":"― ansi(238)","#,
-    r#""inline_code":"ansi(249) ansi(235)","italic":"Italic","list_items_indentation_mode":"block","#,
-    r#""ordered_items":[". ansi(244)",". ansi(244)",". ansi(244)",". ansi(244)"],"paragraph":"","#,
-    r#""quote":"▐ ansi(244) Bold","scrollbar":"▐ ansi(253) ansi(237)","strikeout":"CrossedOut","#,
-    r#""table":"ansi(239)","table_border_chars":"standard"}"#,
-);
 
 #[test]
 fn the_default_skin_as_a_value(rt: HostRuntime) -> Result<(), Fail> {
-    let value = skin_to_value(rt.alloc(), &MadSkin::default())?;
-    let text = value.to_string(rt.alloc())?;
-    assert_same(&rt, text.as_str(), DEFAULT);
+    let alloc = rt.alloc();
+    let value = skin_to_value(alloc, &MadSkin::default())?;
+    let expected = concat!(
+        r#"{"bold":"Bold","bullet":"• ansi(240)","code_block":"ansi(249) ansi(235)","ellipsis":"","#,
+        r#""headers":["Bold Underlined center","Underlined","Underlined","Underlined","Underlined","#,
+        r#""Underlined","Underlined","Underlined"],"horizontal_rule":"― ansi(238)","#,
+        r#""inline_code":"ansi(249) ansi(235)","italic":"Italic","list_items_indentation_mode":"block","#,
+        r#""ordered_items":[". ansi(244)",". ansi(244)",". ansi(244)",". ansi(244)"],"paragraph":"","#,
+        r#""quote":"▐ ansi(244) Bold","scrollbar":"▐ ansi(253) ansi(237)","strikeout":"CrossedOut","#,
+        r#""table":"ansi(239)","table_border_chars":"standard"}"#,
+    );
+    assert!(rt; value.to_string(alloc)?.as_str() == expected);
     Ok(())
 }
 
-fn color_styles(skin: &mut MadSkin) {
+// The default skin with a part of each kind that is another.
+fn colored() -> MadSkin {
+    let mut skin = MadSkin::default();
+    skin.set_headers_fg(Color::AnsiValue(178));
+    skin.headers[2].set_fg(Color::AnsiValue(254));
     skin.bold.set_fg(Color::Yellow);
     skin.italic = CompoundStyle::with_fgbg(Color::Magenta, rgb(30, 30, 40));
     skin.italic.add_attr(Attribute::Underlined);
     skin.italic.add_attr(Attribute::OverLined);
-    skin.inline_code = CompoundStyle::with_attr(Attribute::Reverse);
-}
-
-fn color_lines(skin: &mut MadSkin) {
-    skin.set_headers_fg(Color::AnsiValue(178));
-    skin.headers[2].set_fg(Color::AnsiValue(254));
-    skin.paragraph.set_fgbg(Color::Magenta, rgb(30, 30, 40));
-    skin.paragraph.align = Alignment::Center;
-    skin.table.align = Alignment::Center;
-}
-
-fn color_characters(skin: &mut MadSkin) {
     skin.bullet = StyledChar::from_fg_char(Color::Yellow, '⟡');
     skin.quote_mark.set_fg(Color::Yellow);
     skin.scrollbar.thumb.set_fg(Color::AnsiValue(178));
     skin.table_border_chars = ROUNDED_TABLE_BORDER_CHARS;
+    skin.paragraph.set_fgbg(Color::Magenta, rgb(30, 30, 40));
+    skin.paragraph.align = Alignment::Center;
+    skin.table.align = Alignment::Center;
+    skin.inline_code = CompoundStyle::with_attr(Attribute::Reverse);
+    skin
 }
 
-// Asserts that a skin is read back from its value.
-fn assert_read_back(rt: &impl Abort, alloc: Global, skin: &MadSkin) -> Result<(), Fail> {
-    let value = skin_to_value(alloc, skin)?;
-    let (read, unknown) = skin_of(alloc, &value)?;
-    assert_holds(rt, "the skin", read == *skin && unknown.is_empty());
-    Ok(())
-}
-
-const MODES: [ListItemsIndentationMode; 3] = [
-    ListItemsIndentationMode::Block,
-    ListItemsIndentationMode::FirstLineOnly,
-    ListItemsIndentationMode::Hanging(3),
-];
-
-// Asserts it in each mode of items.
-fn assert_modes(rt: &impl Abort, alloc: Global, mut skin: MadSkin) -> Result<(), Fail> {
-    for mode in MODES {
+// Asserts that a skin is read back from its value, in each mode of items.
+fn assert_read_back(rt: &impl Abort, alloc: Global, mut skin: MadSkin) -> Result<(), Fail> {
+    for mode in [
+        skin.list_items_indentation_mode,
+        ListItemsIndentationMode::FirstLineOnly,
+        ListItemsIndentationMode::Hanging(3),
+    ] {
         skin.list_items_indentation_mode = mode;
-        assert_read_back(rt, alloc, &skin)?;
+        let value = skin_to_value(alloc, &skin)?;
+        let (read, unknown) = skin_of(alloc, &value)?;
+        assert!(rt; read == skin && unknown.is_empty());
     }
     Ok(())
 }
 
 #[test]
 fn made_skins_are_read_back(rt: HostRuntime) -> Result<(), Fail> {
-    assert_modes(&rt, rt.alloc(), MadSkin::default())?;
-    assert_modes(&rt, rt.alloc(), MadSkin::default_dark())?;
-    assert_modes(&rt, rt.alloc(), MadSkin::default_light())?;
+    assert_read_back(&rt, rt.alloc(), MadSkin::default())?;
+    assert_read_back(&rt, rt.alloc(), MadSkin::default_dark())?;
+    assert_read_back(&rt, rt.alloc(), MadSkin::default_light())?;
     let mut ascii = MadSkin::no_style();
     ascii.limit_to_ascii();
-    assert_modes(&rt, rt.alloc(), ascii)
+    assert_read_back(&rt, rt.alloc(), ascii)
 }
 
 #[test]
-fn a_skin_of_many_colors_is_read_back(rt: HostRuntime) -> Result<(), Fail> {
-    let mut skin = MadSkin::default();
-    color_styles(&mut skin);
-    color_lines(&mut skin);
-    color_characters(&mut skin);
-    assert_modes(&rt, rt.alloc(), skin)
-}
-
-#[test]
-fn a_bar_of_two_backgrounds_is_read_back(rt: HostRuntime) -> Result<(), Fail> {
-    let mut skin = MadSkin::default();
-    skin.scrollbar.set_bg(Color::Blue);
-    assert_modes(&rt, rt.alloc(), skin)
+fn changed_skins_are_read_back(rt: HostRuntime) -> Result<(), Fail> {
+    assert_read_back(&rt, rt.alloc(), colored())?;
+    let mut barred = MadSkin::default();
+    barred.scrollbar.set_bg(Color::Blue);
+    assert_read_back(&rt, rt.alloc(), barred)
 }

@@ -1,10 +1,11 @@
 //! Whole pages in the default skin, read back from the screen.
 
-use crate::picture::{CODE, ITALIC, Look, area_of, assert_screen, read_back, written_in_area};
+use crate::picture::{area_of, assert_screen, colored, pen_with, read_back, written_in_area};
 use std::alloc::Global;
 use std::process::Abort;
-use termimad::screen::Screen;
-use termimad::{Attribute, Error, MadSkin};
+use std::test::Fail;
+use termimad::screen::{Pen, Screen};
+use termimad::{Attribute, MadSkin};
 
 // The text of samples/help.md, without its section on the exit status.
 const HELP: &str = "# disk-report
@@ -27,16 +28,24 @@ Shows how full each disk is, and *who* filled it. Wide names such as 概要 take
 
 // The looks in the order in which they come: title, italic, header, code, bullet, the point after a number, a quote's mark, and
 // rule.
-const LOOKS: &[Look] = &[
-    (None, None, &[Attribute::Bold, Attribute::Underlined]),
-    ITALIC,
-    (None, None, &[Attribute::Underlined]),
-    CODE,
-    (Some(240), None, &[]),
-    (Some(244), None, &[]),
-    (Some(244), None, &[Attribute::Bold]),
-    (Some(238), None, &[]),
-];
+fn looks() -> [Pen; 8] {
+    let mut title = pen_with(Attribute::Bold);
+    title.codes.set(Attribute::Underlined);
+    let mut quote = colored(244);
+    quote.codes.set(Attribute::Bold);
+    let mut code = colored(249);
+    code.bg = colored(235).fg;
+    [
+        title,
+        pen_with(Attribute::Italic),
+        pen_with(Attribute::Underlined),
+        code,
+        colored(240),
+        colored(244),
+        quote,
+        colored(238),
+    ]
+}
 
 // Asserts that an area of this size shows the page as the picture.
 fn assert_page(
@@ -46,12 +55,17 @@ fn assert_page(
     height: u8,
     rows: &[&str],
     letters: &[&str],
-) -> Result<(), Error> {
-    let area = area_of([0, 0, width, height]);
-    let out = written_in_area(alloc, &MadSkin::default(), HELP, &area)?;
+) -> Result<(), Fail> {
+    let out = written_in_area(
+        alloc,
+        &MadSkin::default(),
+        HELP,
+        &area_of([0, 0, width, height]),
+    )?;
     let mut screen = Screen::new(alloc, width.into(), height.into())?;
     read_back(rt, &mut screen, &out)?;
-    assert_screen(rt, alloc, &screen, rows, letters, LOOKS)
+    assert_screen(rt, alloc, &screen, rows, letters, &looks())?;
+    Ok(())
 }
 
 const ROWS_AT_80: &[&str] = &[
@@ -99,7 +113,7 @@ const LETTERS_AT_80: &[&str] = &[
 ];
 
 #[test]
-fn help_page_at_80_columns(rt: HostRuntime) -> Result<(), Error> {
+fn help_page_at_80_columns(rt: HostRuntime) -> Result<(), Fail> {
     assert_page(&rt, rt.alloc(), 80, 19, ROWS_AT_80, LETTERS_AT_80)
 }
 
@@ -156,7 +170,7 @@ const LETTERS_AT_40: &[&str] = &[
 ];
 
 #[test]
-fn help_page_at_40_columns(rt: HostRuntime) -> Result<(), Error> {
+fn help_page_at_40_columns(rt: HostRuntime) -> Result<(), Fail> {
     assert_page(&rt, rt.alloc(), 40, 23, ROWS_AT_40, LETTERS_AT_40)
 }
 
@@ -233,6 +247,6 @@ const LETTERS_AT_20: &[&str] = &[
 ];
 
 #[test]
-fn help_page_at_20_columns(rt: HostRuntime) -> Result<(), Error> {
+fn help_page_at_20_columns(rt: HostRuntime) -> Result<(), Fail> {
     assert_page(&rt, rt.alloc(), 20, 33, ROWS_AT_20, LETTERS_AT_20)
 }

@@ -3,27 +3,9 @@
 ghost use Rattle.termimad.specs.Areas.{IsWithinLimits};
 
 use std::alloc::{AllocError, Global};
-use std::fmt::Display;
 use std::process::Abort;
 use termimad::screen::{NotPlain, Pen, Screen};
 use termimad::{Area, Attribute, Attributes, Color, CutOut, Error, FmtText, MadSkin, TextView};
-
-/// Asserts what holds of a row, which is told where it doesn't.
-///
-/// A test that calls this, or one of the two below, is proved faster than one with an `assert` of its own.
-pub fn assert_holds(rt: &impl Abort, row: &str, holds: bool) {
-    assert!(rt; holds, "{row}");
-}
-
-/// Asserts what holds of a number, which is told where it doesn't.
-pub fn assert_holds_at(rt: &impl Abort, number: usize, holds: bool) {
-    assert!(rt; holds, "{number}");
-}
-
-/// Asserts that a text is the wanted one.
-pub fn assert_same(rt: &impl Abort, text: &str, wanted: &str) {
-    assert_eq!(rt; text, wanted);
-}
 
 /// A row of a screen that nothing was written on.
 pub const DOTS: &str = "..............";
@@ -39,29 +21,18 @@ pub fn area_of(sides: [u8; 4]) -> Area
     Area::new(left.into(), top.into(), width.into(), height.into())
 }
 
-/// A look of a picture: a foreground and a background, each one of the 256 colors, and attributes.
-pub type Look<'a> = (Option<u8>, Option<u8>, &'a [Attribute]);
-
-/// The look of bold text.
-pub const BOLD: Look<'static> = (None, None, &[Attribute::Bold]);
-
-/// The look of text in italics.
-pub const ITALIC: Look<'static> = (None, None, &[Attribute::Italic]);
-
-/// The look of code in the default skin.
-pub const CODE: Look<'static> = (Some(249), Some(235), &[]);
-
-// The pen of a look.
-fn pen_of(look: &Look) -> Pen {
-    let (fg, bg, attributes) = *look;
-    let mut codes = Attributes::default();
-    for attribute in attributes {
-        codes.set(*attribute);
-    }
+/// The default pen with one attribute.
+pub fn pen_with(attribute: Attribute) -> Pen {
     Pen {
-        fg: fg.map(Color::AnsiValue),
-        bg: bg.map(Color::AnsiValue),
-        codes,
+        codes: Attributes::from(attribute),
+        ..Pen::default()
+    }
+}
+
+/// The default pen with one of the 256 colors.
+pub fn colored(color: u8) -> Pen {
+    Pen {
+        fg: Some(Color::AnsiValue(color)),
         ..Pen::default()
     }
 }
@@ -80,8 +51,8 @@ pub fn written_in_area(
     Ok(out)
 }
 
-// Asserts that these bytes are what is written of a text at a width, and that it is flushed once.
-fn assert_text(
+/// Asserts that these bytes are what is written of a text at a width, and that it is flushed once.
+pub fn assert_text(
     rt: &impl Abort,
     alloc: Global,
     skin: &MadSkin,
@@ -91,21 +62,10 @@ fn assert_text(
 ) -> Result<(), Error> {
     let mut out = CutOut::new(alloc, ROOM, ROOM, false)?;
     skin.write_text(alloc, &mut out, text, Some(width))?;
-    let is_written = out.taken() == wanted.as_bytes() && out.flushes() == 1;
-    assert_holds(rt, text, is_written);
-    Ok(())
-}
-
-/// Asserts what is written of texts: each row has a text, its width, and the bytes.
-pub fn assert_texts(
-    rt: &impl Abort,
-    alloc: Global,
-    skin: &MadSkin,
-    rows: &[(&str, usize, &str)],
-) -> Result<(), Error> {
-    for (text, width, wanted) in rows {
-        assert_text(rt, alloc, skin, text, *width, wanted)?;
-    }
+    assert!(rt;
+        out.taken() == wanted.as_bytes() && out.flushes() == 1,
+        "{text}"
+    );
     Ok(())
 }
 
@@ -139,11 +99,7 @@ pub fn screen_after(rt: &impl Abort, alloc: Global, out: &CutOut) -> Result<Scre
 /// Has a screen read what a device took, which leaves the pen as it was.
 pub fn read_back(rt: &impl Abort, screen: &mut Screen, out: &CutOut) -> Result<(), Error> {
     read(rt, screen, out.taken())?;
-    assert_holds(
-        rt,
-        "the pen is left as it was",
-        screen.pen() == Pen::default(),
-    );
+    assert!(rt; screen.pen() == Pen::default(), "the pen is left as it was");
     Ok(())
 }
 
@@ -152,7 +108,7 @@ fn read(rt: &impl Abort, screen: &mut Screen, bytes: &[u8]) -> Result<(), Error>
     match screen.read_bytes(bytes) {
         Err(NotPlain::Memory) => Err(Error::Memory),
         read => {
-            assert_holds(rt, "the bytes are plain", read.is_ok());
+            assert!(rt; read.is_ok(), "the bytes are plain");
             Ok(())
         }
     }
@@ -168,19 +124,6 @@ fn joined(alloc: Global, rows: &[&str]) -> Result<String, AllocError> {
     Ok(text)
 }
 
-// Asserts that what is displayed is these rows.
-fn assert_joined(
-    rt: &impl Abort,
-    alloc: Global,
-    shown: &impl Display,
-    rows: &[&str],
-) -> Result<(), AllocError> {
-    let shown = shown.to_string(alloc)?;
-    let wanted = joined(alloc, rows)?;
-    assert_same(rt, shown.as_str(), wanted.as_str());
-    Ok(())
-}
-
 /// Asserts that a screen shows these rows of text.
 pub fn assert_rows(
     rt: &impl Abort,
@@ -188,56 +131,26 @@ pub fn assert_rows(
     screen: &Screen,
     rows: &[&str],
 ) -> Result<(), Error> {
-    assert_joined(rt, alloc, screen, rows)?;
+    let shown = format!(in alloc; "{screen}")?;
+    let wanted = joined(alloc, rows)?;
+    assert_eq!(rt; shown.as_str(), wanted.as_str(), "the rows");
     Ok(())
 }
 
-// Asserts that the screen shows this picture after a text is written in an area of it.
-fn assert_area(
-    rt: &impl Abort,
-    alloc: Global,
-    skin: &MadSkin,
-    text: &str,
-    sides: [u8; 4],
-    picture: &[&str],
-) -> Result<(), Error> {
-    let out = written_in_area(alloc, skin, text, &area_of(sides))?;
-    let screen = screen_after(rt, alloc, &out)?;
-    assert_rows(rt, alloc, &screen, picture)
-}
-
-/// Asserts what texts in areas show: each row has a text, the sides of the area, and the screen's rows.
-pub fn assert_areas(
-    rt: &impl Abort,
-    alloc: Global,
-    skin: &MadSkin,
-    rows: &[(&str, [u8; 4], &[&str])],
-) -> Result<(), Error> {
-    for (text, sides, picture) in rows {
-        assert_area(rt, alloc, skin, text, *sides, picture)?;
-    }
-    Ok(())
-}
-
-/// Asserts that a screen shows these rows of text in these looks: a letter for each, in their order.
+/// Asserts that a screen shows these rows of text in these looks: a letter for each pen, in the order of `pens`.
 pub fn assert_screen(
     rt: &impl Abort,
     alloc: Global,
     screen: &Screen,
     rows: &[&str],
     letters: &[&str],
-    looks: &[Look],
+    pens: &[Pen],
 ) -> Result<(), Error> {
     assert_rows(rt, alloc, screen, rows)?;
-    let shown = screen.looks()?;
-    assert_pens(rt, shown.pens(), looks);
-    assert_joined(rt, alloc, &shown, letters)?;
+    let looks = screen.looks()?;
+    let shown = format!(in alloc; "{looks}")?;
+    let wanted = joined(alloc, letters)?;
+    assert_eq!(rt; shown.as_str(), wanted.as_str(), "the looks");
+    assert!(rt; looks.pens() == pens, "the pens");
     Ok(())
-}
-
-fn assert_pens(rt: &impl Abort, pens: &[Pen], looks: &[Look]) {
-    assert_holds(rt, "the number of looks", pens.len() == looks.len());
-    for (number, look) in looks.iter().enumerate() {
-        assert_holds_at(rt, number, pens.get(number) == Some(&pen_of(look)));
-    }
 }

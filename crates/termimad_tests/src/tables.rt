@@ -1,6 +1,9 @@
 //! Tables: in areas and in texts.
 
-use crate::picture::{DOTS, assert_areas, assert_texts};
+use crate::picture::{DOTS, area_of, assert_rows, assert_text, screen_after, written_in_area};
+use std::alloc::Global;
+use std::process::Abort;
+use std::test::Fail;
 use termimad::{Error, MadSkin};
 
 // A text, the sides of an area, and the screen's rows.
@@ -60,8 +63,25 @@ const AREAS: &[(&str, [u8; 4], &[&str])] = &[
 ];
 
 #[test]
-fn tables_in_areas(rt: HostRuntime) -> Result<(), Error> {
-    assert_areas(&rt, rt.alloc(), &MadSkin::no_style(), AREAS)
+fn tables_in_areas(rt: HostRuntime) -> Result<(), Fail> {
+    let alloc = rt.alloc();
+    for (text, sides, picture) in AREAS {
+        assert_area(&rt, alloc, text, *sides, picture)?;
+    }
+    Ok(())
+}
+
+// A screen on which the text is written in the area, without style, shows this picture.
+fn assert_area(
+    rt: &impl Abort,
+    alloc: Global,
+    text: &str,
+    sides: [u8; 4],
+    picture: &[&str],
+) -> Result<(), Error> {
+    let out = written_in_area(alloc, &MadSkin::no_style(), text, &area_of(sides))?;
+    let screen = screen_after(rt, alloc, &out)?;
+    assert_rows(rt, alloc, &screen, picture)
 }
 
 // A text, its width, and what is written of it.
@@ -77,6 +97,10 @@ const TEXTS: &[(&str, usize, &str)] = &[
 ];
 
 #[test]
-fn tables_in_texts(rt: HostRuntime) -> Result<(), Error> {
-    assert_texts(&rt, rt.alloc(), &MadSkin::no_style(), TEXTS)
+fn tables_in_texts(rt: HostRuntime) -> Result<(), Fail> {
+    let skin = MadSkin::no_style();
+    for (source, width, wanted) in TEXTS {
+        assert_text(&rt, rt.alloc(), &skin, source, *width, wanted)?;
+    }
+    Ok(())
 }

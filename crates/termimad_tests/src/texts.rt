@@ -1,9 +1,8 @@
 //! Texts of all kinds of lines, written at a width.
 
-use crate::picture::{assert_holds_at, assert_texts};
-use std::process::Abort;
+use crate::picture::assert_text;
 use std::test::Fail;
-use termimad::{Alignment, Error, FmtText, ListItemsIndentationMode, MadSkin};
+use termimad::{FmtText, ListItemsIndentationMode, MadSkin};
 
 // A text, its width, and what is written of it.
 const LINES: &[(&str, usize, &str)] = &[
@@ -21,35 +20,56 @@ const LINES: &[(&str, usize, &str)] = &[
 ];
 
 #[test]
-fn lines_of_each_kind(rt: HostRuntime) -> Result<(), Error> {
+fn lines_of_each_kind(rt: HostRuntime) -> Result<(), Fail> {
     let mut skin = MadSkin::no_style();
-    skin.headers[0].align = Alignment::Center;
-    assert_texts(&rt, rt.alloc(), &skin, LINES)
+    skin.headers[0].align = MadSkin::default().headers[0].align;
+    for (source, width, wanted) in LINES {
+        assert_text(&rt, rt.alloc(), &skin, source, *width, wanted)?;
+    }
+    Ok(())
 }
-
-const TITLE: &[(&str, usize, &str)] = &[("# t", 5, "  \u{1b}[1m\u{1b}[4mt\u{1b}[0m\n")];
 
 #[test]
-fn a_title_in_the_default_skin(rt: HostRuntime) -> Result<(), Error> {
-    assert_texts(&rt, rt.alloc(), &MadSkin::default(), TITLE)
+fn a_title_in_the_default_skin(rt: HostRuntime) -> Result<(), Fail> {
+    let title = "  \u{1b}[1m\u{1b}[4mt\u{1b}[0m\n";
+    assert_text(&rt, rt.alloc(), &MadSkin::default(), "# t", 5, title)?;
+    Ok(())
 }
 
-// Items, their width, and what is written of them.
-const BLOCKS: &[(&str, usize, &str)] = &[("* abcdefghij", 8, "• abcdef\n  ghij\n")];
-
-const HANGING: &[(&str, usize, &str)] = &[
-    ("* abcdefghij", 8, "• abcd\n    efgh\n    ij\n"),
-    ("* abcdef gh", 8, "• abcdef\n    gh\n"),
+// A mode of items, a text, and what is displayed of it at eight columns.
+const ITEMS: &[(ListItemsIndentationMode, &str, &str)] = &[
+    (
+        ListItemsIndentationMode::Hanging(2),
+        "* abcdefghij",
+        "• abcd\n    efgh\n    ij\n",
+    ),
+    (
+        ListItemsIndentationMode::Block,
+        "* abcdefghij",
+        "• abcdef\n  ghij\n",
+    ),
+    (
+        ListItemsIndentationMode::Hanging(0),
+        "* abcdefghij",
+        "• abcdef\n  ghij\n",
+    ),
+    (
+        ListItemsIndentationMode::Hanging(2),
+        "* abcdef gh",
+        "• abcdef\n    gh\n",
+    ),
 ];
 
 #[test]
-fn items_that_hang(rt: HostRuntime) -> Result<(), Error> {
+fn items_that_hang(rt: HostRuntime) -> Result<(), Fail> {
+    let alloc = rt.alloc();
     let mut skin = MadSkin::no_style();
-    assert_texts(&rt, rt.alloc(), &skin, BLOCKS)?;
-    skin.list_items_indentation_mode = ListItemsIndentationMode::Hanging(0);
-    assert_texts(&rt, rt.alloc(), &skin, BLOCKS)?;
-    skin.list_items_indentation_mode = ListItemsIndentationMode::Hanging(2);
-    assert_texts(&rt, rt.alloc(), &skin, HANGING)
+    for (mode, source, wanted) in ITEMS {
+        skin.list_items_indentation_mode = *mode;
+        let text = FmtText::from(alloc, &skin, source, Some(8))?;
+        assert!(rt; text.to_string(alloc)?.as_str() == *wanted, "{source}");
+    }
+    Ok(())
 }
 
 const LONG: &str =
@@ -62,16 +82,11 @@ const LENGTHS: &[usize] = &[25, 19, 25, 7, 12, 25, 23];
 fn lengths_at_25_columns(rt: HostRuntime) -> Result<(), Fail> {
     let skin = MadSkin::default();
     let text = skin.text(rt.alloc(), LONG, Some(25))?;
-    assert_holds_at(&rt, text.content_width(), text.content_width() == 25);
-    assert_lengths(&rt, &text, LENGTHS);
-    Ok(())
-}
-
-fn assert_lengths(rt: &impl Abort, text: &FmtText, lengths: &[usize]) {
-    assert_holds_at(rt, text.lines.len(), text.lines.len() == lengths.len());
-    for (line, length) in text.lines.iter().zip(lengths) {
-        assert_holds_at(rt, *length, line.visible_length() == *length);
+    assert!(rt; text.lines.len() == LENGTHS.len() && text.content_width() == 25);
+    for (line, length) in text.lines.iter().zip(LENGTHS) {
+        assert!(rt; line.visible_length() == *length, "{length}");
     }
+    Ok(())
 }
 
 #[test]
@@ -79,15 +94,9 @@ fn lengths_at_all_widths(rt: HostRuntime) -> Result<(), Fail> {
     let skin = MadSkin::default();
     for width in 3..50 {
         let text = skin.text(rt.alloc(), LONG, Some(width))?;
-        assert_within(&rt, &text, width);
+        for line in &text.lines {
+            assert!(rt; line.visible_length() <= width && line.visible_length() > 0);
+        }
     }
     Ok(())
-}
-
-// Asserts that each line has columns, and no more than these.
-fn assert_within(rt: &impl Abort, text: &FmtText, width: usize) {
-    for line in &text.lines {
-        let length = line.visible_length();
-        assert_holds_at(rt, width, 0 < length && length <= width);
-    }
 }

@@ -5,8 +5,7 @@
 
 ghost use Rattle.termimad.specs.Areas.{IsWithinLimits};
 
-use crate::picture::{assert_holds, assert_holds_at};
-use std::alloc::{AllocError, Global};
+use std::alloc::AllocError;
 use std::process::Abort;
 use std::test::Fail;
 use termimad::{Area, CutOut, Error, FmtText, MadSkin, TextView};
@@ -31,6 +30,8 @@ fn within_memory(done: Result<(), Error>) -> Result<Result<(), Error>, AllocErro
     }
 }
 
+const STEPS: &[usize] = &[1, 54];
+
 // Asserts what a call answered that writes `HELLO`, and what a device with this room took.
 fn assert_cut(
     rt: &impl Abort,
@@ -40,97 +41,64 @@ fn assert_cut(
 ) -> Result<(), AllocError> {
     let done = within_memory(done)?;
     let fits = room >= HELLO.len();
-    let taken = &HELLO.as_bytes()[..room.min(HELLO.len())];
-    assert_holds_at(rt, room, done.is_ok() == fits && out.taken() == taken);
-    assert_holds_at(rt, room, matches!(done, Err(Error::IO(_))) != fits);
-    Ok(())
-}
-
-// Asserts what a view of `HELLO` writes on a device with this room that takes `step` bytes at once, and when it flushes.
-fn assert_view_cut(
-    rt: &impl Abort,
-    alloc: Global,
-    view: &TextView,
-    step: usize,
-    room: usize,
-) -> Result<(), AllocError>
-    requires { IsWithinLimits view.now.area.now }
-{
-    let mut out = CutOut::new(alloc, step, room, false)?;
-    let done = view.write(alloc, &mut out);
-    assert_cut(rt, done, &out, room)?;
-    let whole = room == HELLO.len();
-    let is_counted = out.faults() == u64::from(!whole) && out.flushes() == u64::from(whole);
-    assert_holds_at(rt, room, is_counted);
+    assert!(rt; done.is_ok() == fits, "at room {room}");
+    assert!(rt; matches!(done, Err(Error::IO(_))) != fits, "at room {room}");
+    assert!(rt;
+        out.taken() == &HELLO.as_bytes()[..room.min(HELLO.len())],
+        "at room {room}"
+    );
     Ok(())
 }
 
 #[test]
 fn a_view_on_devices_of_each_room(rt: HostRuntime) -> Result<(), Fail> {
+    let alloc = rt.alloc();
     let skin = MadSkin::no_style();
-    let text = FmtText::raw_str(rt.alloc(), &skin, "hello", Some(11))?;
+    let text = FmtText::raw_str(alloc, &skin, "hello", Some(11))?;
     let area = origin_area(12, 3);
     let view = TextView::from(&area, &text);
     for room in 0..55 {
-        assert_view_cut(&rt, rt.alloc(), &view, 1, room)?;
-        assert_view_cut(&rt, rt.alloc(), &view, 54, room)?;
+        for step in STEPS {
+            let mut out = CutOut::new(alloc, *step, room, false)?;
+            let done = view.write(alloc, &mut out);
+            assert_cut(&rt, done, &out, room)?;
+            let whole = room == HELLO.len();
+            assert!(rt; out.faults() == u64::from(!whole) && out.flushes() == u64::from(whole));
+        }
     }
     Ok(())
-}
-
-// Asserts what is written of `HELLO` in an area on a device with this room that takes `step` bytes at once.
-fn assert_area_cut(
-    rt: &impl Abort,
-    alloc: Global,
-    step: usize,
-    room: usize,
-) -> Result<(), AllocError> {
-    let mut out = CutOut::new(alloc, step, room, false)?;
-    let area = origin_area(12, 3);
-    let done = MadSkin::no_style().write_in_area_on(alloc, &mut out, "hello", &area);
-    assert_cut(rt, done, &out, room)
 }
 
 #[test]
 fn an_area_on_devices_of_each_room(rt: HostRuntime) -> Result<(), Fail> {
+    let alloc = rt.alloc();
+    let skin = MadSkin::no_style();
+    let area = origin_area(12, 3);
     for room in 0..55 {
-        assert_area_cut(&rt, rt.alloc(), 1, room)?;
-        assert_area_cut(&rt, rt.alloc(), 54, room)?;
+        for step in STEPS {
+            let mut out = CutOut::new(alloc, *step, room, false)?;
+            let done = skin.write_in_area_on(alloc, &mut out, "hello", &area);
+            assert_cut(&rt, done, &out, room)?;
+        }
     }
-    Ok(())
-}
-
-fn assert_not_flushed(rt: &impl Abort, alloc: Global, view: &TextView) -> Result<(), Error>
-    requires { IsWithinLimits view.now.area.now }
-{
-    let mut out = CutOut::new(alloc, 54, 54, true)?;
-    view.write_on(alloc, &mut out)?;
-    let is_written = out.taken() == HELLO.as_bytes() && out.faults() == 0;
-    assert_holds(rt, "without a flush", is_written);
-    Ok(())
-}
-
-fn assert_flush_fails(rt: &impl Abort, alloc: Global, view: &TextView) -> Result<(), AllocError>
-    requires { IsWithinLimits view.now.area.now }
-{
-    let mut out = CutOut::new(alloc, 54, 54, true)?;
-    let done = within_memory(view.write(alloc, &mut out))?;
-    let is_told = matches!(done, Err(Error::IO(_))) && out.taken() == HELLO.as_bytes();
-    assert_holds(rt, "the fault", is_told);
-    let is_counted = out.puts() == 3 && out.faults() == 1 && out.flushes() == 0;
-    assert_holds(rt, "the counts", is_counted);
     Ok(())
 }
 
 // The two calls, on a device whose flush fails.
 #[test]
 fn a_flush_that_fails(rt: HostRuntime) -> Result<(), Fail> {
+    let alloc = rt.alloc();
     let skin = MadSkin::no_style();
-    let text = FmtText::raw_str(rt.alloc(), &skin, "hello", Some(11))?;
+    let text = FmtText::raw_str(alloc, &skin, "hello", Some(11))?;
     let area = origin_area(12, 3);
     let view = TextView::from(&area, &text);
-    assert_not_flushed(&rt, rt.alloc(), &view)?;
-    assert_flush_fails(&rt, rt.alloc(), &view)?;
+    let mut out = CutOut::new(alloc, 54, 54, true)?;
+    view.write_on(alloc, &mut out)?;
+    assert!(rt; out.taken() == HELLO.as_bytes() && out.faults() == 0);
+    let mut out = CutOut::new(alloc, 54, 54, true)?;
+    let done = within_memory(view.write(alloc, &mut out))?;
+    assert!(rt; matches!(done, Err(Error::IO(_))) && out.taken() == HELLO.as_bytes());
+    assert!(rt; (out.puts(), out.faults(), out.flushes()) == (3, 1, 0));
     Ok(())
 }
 
@@ -166,51 +134,38 @@ const SCROLLS: &[(&str, u16, usize, usize, &str)] = &[
     ("", 1, MAX, 0, "\x1b[1;1H   "),
 ];
 
-// Asserts the bytes that a view writes.
-fn assert_written(
-    rt: &impl Abort,
-    alloc: Global,
-    view: &TextView,
-    wanted: &str,
-) -> Result<(), Error>
-    requires { IsWithinLimits view.now.area.now }
-{
-    let mut out = CutOut::new(alloc, 100, 100, false)?;
-    view.write_on(alloc, &mut out)?;
-    assert_holds(rt, wanted, out.taken() == wanted.as_bytes());
-    Ok(())
-}
-
 #[test]
 fn scrolls_to_the_ends(rt: HostRuntime) -> Result<(), Fail> {
+    let alloc = rt.alloc();
     let skin = MadSkin::no_style();
     for (source, height, asked, kept, wanted) in SCROLLS {
-        let text = FmtText::raw_str(rt.alloc(), &skin, source, Some(3))?;
+        let text = FmtText::raw_str(alloc, &skin, source, Some(3))?;
         let area = origin_area(3, *height);
         let mut view = TextView::from(&area, &text);
-        let is_kept = view.set_scroll(*asked) == *kept && view.scroll == *kept;
-        assert_holds_at(&rt, *asked, is_kept);
-        assert_written(&rt, rt.alloc(), &view, wanted)?;
+        assert!(rt; view.set_scroll(*asked) == *kept && view.scroll == *kept);
+        let mut out = CutOut::new(alloc, 100, 100, false)?;
+        view.write_on(alloc, &mut out)?;
+        assert!(rt;
+            out.taken() == wanted.as_bytes(),
+            "{asked} in {height} rows"
+        );
     }
     Ok(())
 }
 
 #[test]
 fn scrolls_back_to_the_first_line(rt: HostRuntime) -> Result<(), Fail> {
+    let alloc = rt.alloc();
     let skin = MadSkin::no_style();
     for (source, height, _, _, _) in SCROLLS {
-        let text = FmtText::raw_str(rt.alloc(), &skin, source, Some(3))?;
+        let text = FmtText::raw_str(alloc, &skin, source, Some(3))?;
         let area = origin_area(3, *height);
-        assert_scrolls_back(&rt, TextView::from(&area, &text), text.lines.len());
+        let mut view = TextView::from(&area, &text);
+        assert!(rt; view.scroll == 0 && view.content_height() == text.lines.len());
+        view.scroll = MAX;
+        assert!(rt; view.set_scroll(0) == 0);
     }
     Ok(())
-}
-
-fn assert_scrolls_back(rt: &impl Abort, mut view: TextView, height: usize) {
-    let is_at_first = view.scroll == 0 && view.content_height() == height;
-    assert_holds_at(rt, height, is_at_first);
-    view.scroll = MAX;
-    assert_holds_at(rt, height, view.set_scroll(0) == 0);
 }
 
 // The columns and rows of an area, the scroll that is kept of the greatest, and of what is written of two lines the length and the front.
@@ -229,33 +184,19 @@ const ENDS: &[(u16, u16, usize, usize, &str)] = &[
     (0, 4, 0, 26, "\x1b[1;1Ha\x1b[2;1Hb\x1b[3;1H\x1b[4;1H"),
 ];
 
-// Asserts the length and the front of what a view writes.
-fn assert_front(
-    rt: &impl Abort,
-    alloc: Global,
-    view: &TextView,
-    length: usize,
-    front: &str,
-) -> Result<(), Error>
-    requires { IsWithinLimits view.now.area.now }
-{
-    let mut out = CutOut::new(alloc, 1_000_000, 1_000_000, false)?;
-    view.write(alloc, &mut out)?;
-    let taken = out.taken();
-    let is_front = taken.len() == length && taken.starts_with(front.as_bytes());
-    assert_holds(rt, front, is_front);
-    Ok(())
-}
-
 #[test]
 fn areas_at_the_ends(rt: HostRuntime) -> Result<(), Fail> {
+    let alloc = rt.alloc();
     let skin = MadSkin::no_style();
-    let text = FmtText::raw_str(rt.alloc(), &skin, "a\nb", Some(3))?;
+    let text = FmtText::raw_str(alloc, &skin, "a\nb", Some(3))?;
     for (width, height, kept, length, front) in ENDS {
         let area = origin_area(*width, *height);
         let mut view = TextView::from(&area, &text);
-        assert_holds_at(&rt, *kept, view.set_scroll(MAX) == *kept);
-        assert_front(&rt, rt.alloc(), &view, *length, front)?;
+        assert!(rt; view.set_scroll(MAX) == *kept);
+        let mut out = CutOut::new(alloc, 1_000_000, 1_000_000, false)?;
+        view.write(alloc, &mut out)?;
+        let taken = out.taken();
+        assert!(rt; taken.len() == *length && taken.starts_with(front.as_bytes()));
     }
     Ok(())
 }

@@ -1,12 +1,9 @@
-use Rattle.std.proofs.Common.{◌<◌, ◌^◌, rules, length, refl, arith}
-use Rattle.std.specs.Str.{IsUtf8}
+use Rattle.std.proofs.Common.{rules, arith}
 use Rattle.mad_md.specs.Cursor.{unread}
 use Rattle.mad_md.specs.Plain.{IsPlainStep}
-use Rattle.mad_md.specs.ReadRaw.{plain_line}
 use Rattle.mad_term.proofs.Traces.{stopped_before}
 use Rattle.mad_term.specs.declared.errors.Error.TheVariants.{Memory}
-use Rattle.mad_layout.specs.Texts.{line_bytes}
-use Rattle.mad_layout.proofs.PlainLineLemmas.{made, plain_layout, plain_bytes, plain_start, plain_more, plain_sent, plain_done, plain_refused, plain_none, row_put}
+use Rattle.mad_layout.proofs.PlainLineLemmas.{plain_start, plain_put, plain_sent, plain_done, plain_refused, plain_none}
 use Rattle.mad_layout.proofs.parts_writing.hand_on_plain.Goals as goal
 
 pub returns-in_err-hand_on-clause-handed : goal.returns-in_err-hand_on-clause-handed
@@ -33,14 +30,9 @@ loop-text-preserved g c =
     let held = c.loop-text.invariant in
     let text = c.in-Some-next_plain.text in
     let step : IsPlainStep c.in-Some.most (unread c.loop-text.cursor) text.now (unread c.next_plain.new.self) = c.in-Some-next_plain.ensures.step in
-    let utf8 : IsUtf8 text.now = search rules in
-    let range : length text.now < 2 ^ 64 = search rules in
-    let skin = c.args.skin.now in
-    let width = c.args.width in
-    let laid = plain_layout skin width c.in-Some.most c.args.lines.now text.now text c.in-Some.ensures step.short refl utf8 step.plain range in
-    let row = row_put _ text.now _ _ (line_bytes skin width (made c.args.lines.now text.now text)) c.in_ok-push_str.ensures.bytes c.in_ok-push_str-2.ensures.bytes (plain_bytes skin width c.in-Some.most c.args.lines.now text.now text c.in-Some.ensures refl step.plain) in
+    let put = plain_put c.args.skin.now c.args.width c.in-Some.most c.args.lines.now text _ _ _ _ _ _ _ _ _ c.in-Some.ensures step.short (search rules) step.plain (search rules) step.line c.in_ok-push_str.ensures.bytes c.in_ok-push_str-2.ensures.bytes held.so_far in
     record {
-      so_far = plain_sent _ _ _ _ _ _ _ _ _ _ (plain_more skin width _ _ _ (plain_line text.now) (made c.args.lines.now text.now text) _ _ _ _ _ held.so_far step.line (refl, refl) laid row) c.in_ok-send.ensures;
+      so_far = plain_sent _ _ _ _ _ _ _ _ _ _ put c.in_ok-send.ensures;
       none = held.none;
       shorter = omega (arith, step.shorter, held.shorter);
     }
@@ -50,10 +42,5 @@ returns-in_err-send-clause-handed g c =
     let held = c.loop-text.invariant in
     let text = c.in-Some-next_plain.text in
     let step : IsPlainStep c.in-Some.most (unread c.loop-text.cursor) text.now (unread c.next_plain.new.self) = c.in-Some-next_plain.ensures.step in
-    let utf8 : IsUtf8 text.now = search rules in
-    let range : length text.now < 2 ^ 64 = search rules in
-    let skin = c.args.skin.now in
-    let width = c.args.width in
-    let laid = plain_layout skin width c.in-Some.most c.args.lines.now text.now text c.in-Some.ensures step.short refl utf8 step.plain range in
-    let row = row_put _ text.now _ _ (line_bytes skin width (made c.args.lines.now text.now text)) c.in_ok-push_str.ensures.bytes c.in_ok-push_str-2.ensures.bytes (plain_bytes skin width c.in-Some.most c.args.lines.now text.now text c.in-Some.ensures refl step.plain) in
-    plain_refused _ _ _ _ _ _ _ _ _ _ _ _ _ (plain_more skin width _ _ _ (plain_line text.now) (made c.args.lines.now text.now text) _ _ _ _ _ held.so_far step.line (refl, refl) laid row) c.from_residual-in_err-send.ensures.1 c.in_err-send.ensures
+    let put = plain_put c.args.skin.now c.args.width c.in-Some.most c.args.lines.now text _ _ _ _ _ _ _ _ _ c.in-Some.ensures step.short (search rules) step.plain (search rules) step.line c.in_ok-push_str.ensures.bytes c.in_ok-push_str-2.ensures.bytes held.so_far in
+    plain_refused _ _ _ _ _ _ _ _ _ _ _ _ _ put c.from_residual-in_err-send.ensures.1 c.in_err-send.ensures
