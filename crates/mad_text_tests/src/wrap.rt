@@ -57,7 +57,7 @@ const ROWS: &[Row] = &[
     ("ab c", "", (3, 9, 5), &[(2, "a"), (1, "c")], &[0, 3]),
 ];
 
-// Whether lines have so many compounds, the first of them of this text.
+// Whether each line has this count of compounds, the first of them of this text.
 fn begin(lines: &[WrappedLine], wanted: &[(usize, &str)]) -> bool {
     for (line, (count, text)) in lines.iter().zip(wanted) {
         let first = line.compounds.first();

@@ -137,7 +137,7 @@ fn tokens_end_with_their_compounds(rt: HostRuntime) -> Result<(), AllocError> {
     Ok(())
 }
 
-// Asserts how many tokens of so many columns a megabyte of one word has.
+// Asserts how many tokens a megabyte of one word has, each of at most `max` columns.
 fn assert_megabyte(
     rt: &impl Abort,
     alloc: Global,
