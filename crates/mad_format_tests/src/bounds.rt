@@ -1,6 +1,7 @@
 //! Bounds of several lines, beside what a composite is wrapped into.
 
-use crate::composites::{Wrap, assert_all_checked, assert_wraps};
+use crate::composites::{Wrap, assert_checked, assert_wraps, composite};
+use crate::skins::plain_skin;
 use mad_md::CompositeStyle;
 use mad_style::ListItemsIndentationMode;
 use mad_term::Error;
@@ -138,5 +139,11 @@ const STARTS: &[(&[usize], bool)] = &[
 
 #[test]
 fn starts_of_three_lines_checked(rt: HostRuntime) -> Result<(), Error> {
-    assert_all_checked(&rt, rt.alloc(), WORDS, STARTS)
+    let alloc = rt.alloc();
+    let skin = plain_skin();
+    let words = composite(alloc, WORDS, CompositeStyle::Paragraph, &skin)?;
+    for (starts, wanted) in STARTS {
+        assert_checked(&rt, &words, &skin, starts.to_vec(alloc)?, *wanted)?;
+    }
+    Ok(())
 }

@@ -3,13 +3,12 @@
 ghost use Rattle.std.specs.Prelude.{IfOk};
 ghost use Rattle.mad_format.specs.Wraps.{IsMeasured};
 
-use crate::composites::{
-    assert_bound, assert_refused, assert_wrap, composite, is_refused, wrapped,
-};
+use crate::composites::{assert_wrap, composite, is_refused};
 use crate::shown::{assert_count, assert_text};
-use crate::skins::{assert_indents, plain_skin, skin_with};
+use crate::skins::{plain_skin, skin_with};
 use mad_format::{
-    FmtComposite, FmtLine, LineSkin, check_wrap_bound, hard_wrap_lines, lay_source, wrap_bound,
+    FmtComposite, FmtLine, LineSkin, check_wrap_bound, composite_kind_widths, hard_wrap_composite,
+    hard_wrap_lines, lay_source, wrap_bound,
 };
 use mad_md::{CompositeStyle, Compound};
 use mad_style::{CompositeKind, ListItemsIndentationMode};
@@ -64,45 +63,6 @@ fn push_ink(ink: &mut String, line: &FmtComposite) -> Result<(), AllocError> {
     Ok(())
 }
 
-// The ink of lines, one after another.
-fn ink_of(alloc: Global, lines: &[FmtComposite]) -> Result<String, AllocError> {
-    let mut ink = String::new(alloc);
-    for line in lines {
-        push_ink(&mut ink, line)?;
-    }
-    Ok(ink)
-}
-
-// Asserts that what a composite is wrapped into loses no character but whitespace.
-fn assert_ink<S: LineSkin>(
-    rt: &impl Abort,
-    alloc: Global,
-    composite: &FmtComposite,
-    width: usize,
-    skin: &S,
-) -> Result<(), Error>
-    requires { IsMeasured (S.rules skin.now) composite.now }
-{
-    let mut wanted = String::new(alloc);
-    push_ink(&mut wanted, composite)?;
-    let lines = wrapped(rt, alloc, composite, width, skin)?;
-    assert_text(rt, ink_of(alloc, &lines)?.as_str(), wanted.as_str());
-    Ok(())
-}
-
-// Asserts that a composite's bound passes its check, and counts its lines.
-fn bound_count<S: LineSkin>(
-    rt: &impl Abort,
-    alloc: Global,
-    composite: &FmtComposite,
-    width: usize,
-    skin: &S,
-) -> Result<usize, Error> {
-    let bound = wrap_bound(alloc, composite, width, skin)?;
-    assert!(rt; check_wrap_bound(composite, width, skin, &bound)?);
-    Ok(bound.starts.len())
-}
-
 // Wraps a composite at a width, and bounds it: a width under three is refused, and no character but whitespace goes.
 fn assert_wrapped<S: LineSkin>(
     rt: &impl Abort,
@@ -114,61 +74,45 @@ fn assert_wrapped<S: LineSkin>(
     requires { IsMeasured (S.rules skin.now) composite.now }
 {
     if width < 3 {
-        assert_refused(rt, alloc, composite, width, skin);
+        assert!(rt; is_refused(wrap_bound(alloc, composite, width, skin), width));
+        if composite.visible_length > width {
+            assert!(rt; is_refused(hard_wrap_composite(alloc, composite, width, skin), width));
+        }
         return Ok(());
     }
+    let bound = wrap_bound(alloc, composite, width, skin)?;
+    assert!(rt; check_wrap_bound(composite, width, skin, &bound)?);
     if composite.visible_length <= width {
-        return assert_bound(rt, alloc, composite, width, skin, &[0]);
+        assert!(rt; bound.starts.as_slice() == [0].as_slice());
+        return Ok(());
     }
-    bound_count(rt, alloc, composite, width, skin)?;
-    assert_ink(rt, alloc, composite, width, skin)
-}
-
-// Wraps a composite at each width.
-fn assert_at_widths<S: LineSkin>(
-    rt: &impl Abort,
-    alloc: Global,
-    composite: &FmtComposite,
-    skin: &S,
-) -> Result<(), Error>
-    requires { IsMeasured (S.rules skin.now) composite.now }
-{
-    for width in WIDTHS {
-        assert_wrapped(rt, alloc, composite, *width, skin)?;
+    let mut wanted = String::new(alloc);
+    push_ink(&mut wanted, composite)?;
+    let mut ink = String::new(alloc);
+    for line in &hard_wrap_composite(alloc, composite, width, skin)? {
+        push_ink(&mut ink, line)?;
     }
-    Ok(())
-}
-
-// Wraps a composite of each text at each width.
-fn assert_texts_wrapped<S: LineSkin>(
-    rt: &impl Abort,
-    alloc: Global,
-    style: CompositeStyle,
-    skin: &S,
-) -> Result<(), Error> {
-    for text in TEXTS {
-        let composite = composite(alloc, text, style, skin)?;
-        assert_at_widths(rt, alloc, &composite, skin)?;
-    }
+    assert_text(rt, ink.as_str(), wanted.as_str());
     Ok(())
 }
 
 // Wraps a composite of each kind and text at each width.
 fn assert_all_wrapped<S: LineSkin>(rt: &impl Abort, alloc: Global, skin: &S) -> Result<(), Error> {
     for style in STYLES {
-        assert_texts_wrapped(rt, alloc, *style, skin)?;
+        for text in TEXTS {
+            let composite = composite(alloc, text, *style, skin)?;
+            for width in WIDTHS {
+                assert_wrapped(rt, alloc, &composite, *width, skin)?;
+            }
+        }
     }
     Ok(())
 }
 
 #[test]
 fn all_kinds_at_all_widths(rt: HostRuntime) -> Result<(), Error> {
-    assert_all_wrapped(&rt, rt.alloc(), &plain_skin())
-}
-
-#[test]
-fn all_kinds_with_endless_margins(rt: HostRuntime) -> Result<(), Error> {
     let block = ListItemsIndentationMode::Block;
+    assert_all_wrapped(&rt, rt.alloc(), &skin_with(0, 0, block))?;
     assert_all_wrapped(&rt, rt.alloc(), &skin_with(MAX, MAX, block))
 }
 
@@ -201,163 +145,130 @@ fn assert_list_wrapped<'s, S: LineSkin>(
     Ok(())
 }
 
-// Wraps a list of one line at each width.
-fn assert_lists_wrapped<S: LineSkin>(
-    rt: &impl Abort,
-    alloc: Global,
-    style: CompositeStyle,
-    text: &str,
-    skin: &S,
-) -> Result<(), Error> {
-    for width in WIDTHS {
-        let composite = composite(alloc, text, style, skin)?;
-        assert_list_wrapped(rt, alloc, composite, *width, skin)?;
-    }
-    Ok(())
-}
-
 #[test]
 fn lists_of_lines_at_all_widths(rt: HostRuntime) -> Result<(), Error> {
+    let alloc = rt.alloc();
     let skin = skin_with(MAX, MAX, ListItemsIndentationMode::Block);
     for style in STYLES {
         for text in TEXTS {
-            assert_lists_wrapped(&rt, rt.alloc(), *style, text, &skin)?;
+            for width in WIDTHS {
+                let composite = composite(alloc, text, *style, &skin)?;
+                assert_list_wrapped(&rt, alloc, composite, *width, &skin)?;
+            }
         }
     }
     Ok(())
 }
 
-// The style of an item, and the columns of its indent.
-const DEEPEST: &[(CompositeStyle, usize)] = &[(DEEP_ITEM, 257), (DEEP_NUMBER, 267)];
+// Asserts the indents of the deepest items.
+fn assert_indents(rt: &impl Abort, style: CompositeStyle, indent: usize) {
+    let block = skin_with(0, 0, ListItemsIndentationMode::Block);
+    let first_only = skin_with(0, 0, ListItemsIndentationMode::FirstLineOnly);
+    let kind = CompositeKind::from(style);
+    assert!(rt; composite_kind_widths(kind, &block) == (indent, indent));
+    assert!(rt; composite_kind_widths(kind, &first_only) == (indent, 0));
+}
 
 #[test]
 fn the_indents_of_the_deepest_items(rt: HostRuntime) {
-    for (style, indent) in DEEPEST {
-        let kind = CompositeKind::from(*style);
-        let block = ListItemsIndentationMode::Block;
-        assert_indents(&rt, kind, block, (*indent, *indent));
-        let first_only = ListItemsIndentationMode::FirstLineOnly;
-        assert_indents(&rt, kind, first_only, (*indent, 0));
-    }
-}
-
-// A compound's text, after the letter of its flag, as pictures have it.
-type Part = (&'static str, &'static str);
-
-fn compound_of(part: Part) -> Compound<'static> {
-    let (flag, text) = part;
-    let compound = Compound::raw_str(text);
-    if flag == "b" {
-        compound.bold()
-    } else if flag == "c" {
-        compound.code()
-    } else {
-        compound
-    }
+    assert_indents(&rt, DEEP_ITEM, 257);
+    assert_indents(&rt, DEEP_NUMBER, 267);
 }
 
 // A paragraph of these compounds.
-fn paragraph_of<S: LineSkin>(
+fn paragraph_of<'s, S: LineSkin>(
     alloc: Global,
-    parts: &[Part],
+    compounds: &[Compound<'s>],
     skin: &S,
-) -> Result<FmtComposite<'static>, AllocError>
+) -> Result<FmtComposite<'s>, AllocError>
     ensures { IfOk result (IsMeasured (S.rules skin.now)) }
 {
     let mut paragraph = FmtComposite::new(alloc);
-    for part in parts {
-        paragraph.add_compound(compound_of(*part))?;
+    for compound in compounds {
+        paragraph.add_compound(*compound)?;
     }
     paragraph.recompute_width(skin);
     Ok(paragraph)
 }
 
-// Compounds, some of them empty, a width, and what they are wrapped into.
-const WITH_EMPTY: &[(&[Part], usize, &str)] = &[
-    // Beside a word.
-    (&[("", ""), ("", "aaaa"), ("", "")], 3, "|aaa|\n|a|\n"),
-    (&[("", ""), ("", "aaaa")], 3, "|aaa|\n|a|\n"),
-    (&[("", "aaaa"), ("", "")], 3, "|aaa|\n|a|\n"),
-    // Between words.
-    (
-        &[("", "aaaa"), ("", ""), ("b", "bbbb")],
-        5,
-        "|aaaa|\nb|bbbb|\n",
-    ),
-    (
-        &[("", "aaaa"), ("", ""), ("", ""), ("b", "bbbb")],
-        5,
-        "|aaaa|\nb|bbbb|\n",
-    ),
-];
-
 // Asserts what a paragraph of compounds, some of them empty, is wrapped into.
 fn assert_paragraph(
     rt: &impl Abort,
     alloc: Global,
-    parts: &[Part],
+    compounds: &[Compound],
     width: usize,
     wanted: &str,
 ) -> Result<(), Error> {
     let skin = plain_skin();
-    let paragraph = paragraph_of(alloc, parts, &skin)?;
+    let paragraph = paragraph_of(alloc, compounds, &skin)?;
     assert_wrap(rt, alloc, &paragraph, width, &skin, wanted)?;
     assert_wrapped(rt, alloc, &paragraph, width, &skin)
 }
 
 #[test]
-fn empty_compounds_beside_words(rt: HostRuntime) -> Result<(), Error> {
-    for (parts, width, wanted) in WITH_EMPTY {
-        assert_paragraph(&rt, rt.alloc(), parts, *width, wanted)?;
-    }
-    Ok(())
+fn empty_compounds_beside_a_word(rt: HostRuntime) -> Result<(), Error> {
+    let alloc = rt.alloc();
+    let [empty, a] = [Compound::raw_str(""), Compound::raw_str("aaaa")];
+    assert_paragraph(&rt, alloc, &[empty, a, empty], 3, "|aaa|\n|a|\n")?;
+    assert_paragraph(&rt, alloc, &[empty, a], 3, "|aaa|\n|a|\n")?;
+    assert_paragraph(&rt, alloc, &[a, empty], 3, "|aaa|\n|a|\n")
 }
 
-// Compounds without text.
-const BLANK: &[&[Part]] = &[&[], &[("", "")], &[("b", ""), ("c", ""), ("", "")]];
+#[test]
+fn empty_compounds_between_words(rt: HostRuntime) -> Result<(), Error> {
+    let alloc = rt.alloc();
+    let [empty, a] = [Compound::raw_str(""), Compound::raw_str("aaaa")];
+    let b = Compound::raw_str("bbbb").bold();
+    assert_paragraph(&rt, alloc, &[a, empty, b], 5, "|aaaa|\nb|bbbb|\n")?;
+    assert_paragraph(&rt, alloc, &[a, empty, empty, b], 5, "|aaaa|\nb|bbbb|\n")
+}
 
 // Asserts that compounds take no columns, and wraps them at each width.
-fn assert_blank(rt: &impl Abort, alloc: Global, parts: &[Part]) -> Result<(), Error> {
+fn assert_blank(rt: &impl Abort, alloc: Global, compounds: &[Compound]) -> Result<(), Error> {
     let skin = plain_skin();
-    let paragraph = paragraph_of(alloc, parts, &skin)?;
+    let paragraph = paragraph_of(alloc, compounds, &skin)?;
     assert_count(rt, paragraph.visible_length, 0);
-    assert_at_widths(rt, alloc, &paragraph, &skin)
+    for width in WIDTHS {
+        assert_wrapped(rt, alloc, &paragraph, *width, &skin)?;
+    }
+    Ok(())
 }
 
 #[test]
 fn empty_compounds_alone(rt: HostRuntime) -> Result<(), Error> {
-    for parts in BLANK {
-        assert_blank(&rt, rt.alloc(), parts)?;
-    }
-    Ok(())
+    let alloc = rt.alloc();
+    let empty = Compound::raw_str("");
+    assert_blank(&rt, alloc, &[])?;
+    assert_blank(&rt, alloc, &[empty])?;
+    assert_blank(&rt, alloc, &[empty.bold(), empty.code(), empty])
 }
 
 const MEGABYTE: usize = 1_048_576;
 
-// Asserts the lengths of the lines of a megabyte.
-fn assert_lengths(rt: &impl Abort, lines: &[FmtLine]) {
-    assert_count(rt, lines.len(), 13108);
-    for (i, line) in lines.iter().enumerate() {
-        let wanted = if i < 13107 { 80 } else { 16 };
-        assert_count(rt, line.visible_length(), wanted);
-    }
-}
-
 #[test]
 fn a_megabyte_of_one_word(rt: HostRuntime) -> Result<(), Error> {
-    let word = "x".repeat(rt.alloc(), MEGABYTE)?;
-    let lines = lay_source(rt.alloc(), &plain_skin(), word.as_str(), Some(80))?;
-    assert_lengths(&rt, &lines);
+    let alloc = rt.alloc();
+    let skin = plain_skin();
+    let word = "x".repeat(alloc, MEGABYTE)?;
+    let lines = lay_source(alloc, &skin, word.as_str(), Some(80))?;
+    assert_count(&rt, lines.len(), 13108);
+    for (i, line) in lines.iter().enumerate() {
+        let wanted = if i < 13107 { 80 } else { 16 };
+        assert_count(&rt, line.visible_length(), wanted);
+    }
     Ok(())
 }
 
 #[test]
 fn the_bound_of_a_megabyte_of_one_word(rt: HostRuntime) -> Result<(), Error> {
-    let word = "x".repeat(rt.alloc(), MEGABYTE)?;
-    let whole = FmtComposite::from_compound(rt.alloc(), Compound::raw_str(word.as_str()))?;
+    let alloc = rt.alloc();
+    let skin = plain_skin();
+    let word = "x".repeat(alloc, MEGABYTE)?;
+    let whole = FmtComposite::from_compound(alloc, Compound::raw_str(word.as_str()))?;
     assert_count(&rt, whole.visible_length, MEGABYTE);
-    let count = bound_count(&rt, rt.alloc(), &whole, 80, &plain_skin())?;
-    assert_count(&rt, count, 13108);
+    let bound = wrap_bound(alloc, &whole, 80, &skin)?;
+    assert_count(&rt, bound.starts.len(), 13108);
+    assert!(rt; check_wrap_bound(&whole, 80, &skin, &bound)?);
     Ok(())
 }
 
@@ -371,23 +282,13 @@ const WITHOUT_ROOM: &[(CompositeStyle, &str, usize, &str)] = &[
     (CompositeStyle::ListItem(1), "概要", 4, "\n|概|\n|要|\n"),
 ];
 
-fn assert_without_room(
-    rt: &impl Abort,
-    alloc: Global,
-    style: CompositeStyle,
-    text: &str,
-    width: usize,
-    wanted: &str,
-) -> Result<(), Error> {
-    let skin = plain_skin();
-    let composite = composite(alloc, text, style, &skin)?;
-    assert_wrap(rt, alloc, &composite, width, &skin, wanted)
-}
-
 #[test]
 fn pictures_of_what_has_no_room(rt: HostRuntime) -> Result<(), Error> {
+    let alloc = rt.alloc();
+    let skin = skin_with(0, 0, ListItemsIndentationMode::Block);
     for (style, text, width, wanted) in WITHOUT_ROOM {
-        assert_without_room(&rt, rt.alloc(), *style, text, *width, wanted)?;
+        let composite = composite(alloc, text, *style, &skin)?;
+        assert_wrap(&rt, alloc, &composite, *width, &skin, wanted)?;
     }
     Ok(())
 }

@@ -1,9 +1,8 @@
 //! A skin that is no more than what laying out asks of one.
 
-use mad_format::{LineSkin, composite_kind_widths};
+use mad_format::LineSkin;
 use mad_md::Alignment;
 use mad_style::{CompositeKind, CompoundStyle, LineStyle, ListItemsIndentationMode};
-use std::process::Abort;
 
 /// One style for all kinds of lines, and a mode of items.
 #[derive(Clone, Copy)]
@@ -42,15 +41,4 @@ pub fn skin_with(
 /// A skin without looks and margins.
 pub fn plain_skin() -> PlainSkin {
     skin_with(0, 0, ListItemsIndentationMode::Block)
-}
-
-/// Asserts the indents of the first line of a kind and of the others in a mode of items.
-pub fn assert_indents(
-    rt: &impl Abort,
-    kind: CompositeKind,
-    mode: ListItemsIndentationMode,
-    wanted: (usize, usize),
-) {
-    let indents = composite_kind_widths(kind, &skin_with(0, 0, mode));
-    assert!(rt; indents == wanted, "{kind:?}: {indents:?}");
 }

@@ -5,12 +5,12 @@ ghost use Rattle.mad_format.specs.WrappedLines.{AllMeasured};
 
 use crate::shown::{assert_count, assert_text};
 use crate::skins::plain_skin;
-use mad_fit::Spacing;
 use mad_format::{
-    FmtComposite, FmtLine, FmtTableRow, FmtTableRule, LineSkin, RelativePosition, Table,
-    fix_all_tables, lay_row, lay_source,
+    FmtComposite, FmtLine, FmtTableRule, LineSkin, RelativePosition, Table, fix_all_tables,
+    lay_row, lay_source,
 };
 use mad_md::{Alignment, TableRule, parse_text};
+use mad_term::Error;
 use std::alloc::{AllocError, Global};
 use std::fmt::Write;
 use std::process::Abort;
@@ -25,33 +25,28 @@ fn letter(align: Alignment) -> &'static str {
     }
 }
 
-fn push_place(picture: &mut String, place: Spacing) -> Result<(), AllocError> {
-    write!(picture, ":{}", place.width)?;
-    picture.push_str(letter(place.align))
-}
-
-// A composite as text: a star before its compounds in bold, and after it its place, if it has one.
+// A composite as text: the letters of its compounds' flags before them, and after it its place, if it has one.
 fn push_cell(picture: &mut String, cell: &FmtComposite) -> Result<(), AllocError> {
     for compound in &cell.compounds {
-        picture.push_str(if compound.bold { "*" } else { "" })?;
+        if compound.bold {
+            picture.push_str("*")?;
+        }
         picture.push_str(compound.src)?;
     }
-    match cell.spacing {
-        Some(place) => push_place(picture, place),
-        None => Ok(()),
+    if let Some(place) = cell.spacing {
+        picture.push_str(":")?;
+        write!(picture, "{}", place.width)?;
+        picture.push_str(letter(place.align))?;
     }
-}
-
-fn name_of(position: RelativePosition) -> &'static str {
-    match position {
-        RelativePosition::Top => "top",
-        RelativePosition::Other => "rule",
-        RelativePosition::Bottom => "bottom",
-    }
+    Ok(())
 }
 
 fn push_rule(picture: &mut String, rule: &FmtTableRule) -> Result<(), AllocError> {
-    picture.push_str(name_of(rule.position))?;
+    picture.push_str(match rule.position {
+        RelativePosition::Top => "top",
+        RelativePosition::Other => "rule",
+        RelativePosition::Bottom => "bottom",
+    })?;
     for (width, align) in rule.widths.iter().zip(rule.aligns.iter()) {
         write!(picture, " {width}")?;
         picture.push_str(letter(*align))?;
@@ -59,24 +54,25 @@ fn push_rule(picture: &mut String, rule: &FmtTableRule) -> Result<(), AllocError
     Ok(())
 }
 
-fn push_cells(picture: &mut String, cells: &[FmtComposite]) -> Result<(), AllocError> {
-    picture.push_str("row")?;
-    for cell in cells {
-        picture.push_str(" ")?;
-        push_cell(picture, cell)?;
+// Lines as text: of a row its cells, of a rule where it stands and its columns.
+fn picture(alloc: Global, lines: &[FmtLine]) -> Result<String, AllocError> {
+    let mut picture = String::new(alloc);
+    for line in lines {
+        match line {
+            FmtLine::Normal(composite) => push_cell(&mut picture, composite)?,
+            FmtLine::TableRow(row) => {
+                picture.push_str("row")?;
+                for cell in &row.cells {
+                    picture.push_str(" ")?;
+                    push_cell(&mut picture, cell)?;
+                }
+            }
+            FmtLine::TableRule(rule) => push_rule(&mut picture, rule)?,
+            FmtLine::HorizontalRule => picture.push_str("---")?,
+        }
+        picture.push_str("\n")?;
     }
-    Ok(())
-}
-
-// A line as text: of a row its cells, of a rule where it stands and its columns.
-fn push_line(picture: &mut String, line: &FmtLine) -> Result<(), AllocError> {
-    match line {
-        FmtLine::Normal(composite) => push_cell(picture, composite)?,
-        FmtLine::TableRow(row) => push_cells(picture, &row.cells)?,
-        FmtLine::TableRule(rule) => push_rule(picture, rule)?,
-        FmtLine::HorizontalRule => picture.push_str("---")?,
-    }
-    picture.push_str("\n")
+    Ok(picture)
 }
 
 // Asserts what lines are as text.
@@ -86,11 +82,7 @@ fn assert_pictured(
     lines: &[FmtLine],
     wanted: &str,
 ) -> Result<(), AllocError> {
-    let mut picture = String::new(alloc);
-    for line in lines {
-        push_line(&mut picture, line)?;
-    }
-    assert_text(rt, picture.as_str(), wanted);
+    assert_text(rt, picture(alloc, lines)?.as_str(), wanted);
     Ok(())
 }
 
@@ -165,21 +157,13 @@ const TABLES: &[(&str, Option<usize>, &str)] = &[
     ),
 ];
 
-fn assert_source(
-    rt: &impl Abort,
-    alloc: Global,
-    source: &str,
-    width: Option<usize>,
-    wanted: &str,
-) -> Result<(), AllocError> {
-    let lines = lay_source(alloc, &plain_skin(), source, width)?;
-    assert_pictured(rt, alloc, &lines, wanted)
-}
-
 #[test]
-fn tables_in_texts(rt: HostRuntime) -> Result<(), AllocError> {
+fn tables_in_texts(rt: HostRuntime) -> Result<(), Error> {
+    let alloc = rt.alloc();
+    let skin = plain_skin();
     for (source, width, wanted) in TABLES {
-        assert_source(&rt, rt.alloc(), source, *width, wanted)?;
+        let lines = lay_source(alloc, &skin, source, *width)?;
+        assert_pictured(&rt, alloc, &lines, wanted)?;
     }
     Ok(())
 }
@@ -202,7 +186,7 @@ fn read_lines<'s, S: LineSkin>(
 const MIXED: &str = "text\n|aaaa bbbb|x\n|-|-\n---\n|y";
 
 #[test]
-fn one_table_among_lines(rt: HostRuntime) -> Result<(), AllocError> {
+fn one_table_among_lines(rt: HostRuntime) -> Result<(), Error> {
     let alloc = rt.alloc();
     let skin = plain_skin();
     let mut lines = read_lines(alloc, MIXED, &skin)?;
@@ -215,15 +199,10 @@ fn one_table_among_lines(rt: HostRuntime) -> Result<(), AllocError> {
     if table.start + table.height <= lines.len() {
         table.fix_columns(alloc, &mut lines, 13, &skin)?;
     }
-    assert_table(&rt, &table, (1, 3, 2));
     let wanted = "text\nrow aaaa :7c x:3c\nrow bbbb:7c :3c\nbottom 7 3\n---\nrow y\n";
-    assert_pictured(&rt, alloc, &lines, wanted)
-}
-
-// Asserts a table's first line, and the counts of its lines and columns.
-fn assert_table(rt: &impl Abort, table: &Table, wanted: (usize, usize, usize)) {
-    let is_wanted = (table.start, table.height, table.nbcols) == wanted;
-    assert!(rt; is_wanted, "{table:?}");
+    assert_pictured(&rt, alloc, &lines, wanted)?;
+    assert!(&rt; (table.start, table.height, table.nbcols) == (1, 3, 2));
+    Ok(())
 }
 
 // A table's count of columns, the width, and what becomes of the table.
@@ -234,42 +213,26 @@ const OTHER_COLUMNS: &[(usize, usize, &str)] = &[
     (2, 0, "row aaaa bbbb x\nrule\n"),
 ];
 
-fn assert_other_columns(
-    rt: &impl Abort,
-    alloc: Global,
-    nbcols: usize,
-    width: usize,
-    wanted: &str,
-) -> Result<(), AllocError> {
-    let skin = plain_skin();
-    let mut lines = read_lines(alloc, "|aaaa bbbb|x\n|-|-", &skin)?;
-    let mut table = Table {
-        start: 0,
-        height: lines.len(),
-        nbcols,
-    };
-    table.fix_columns(alloc, &mut lines, width, &skin)?;
-    assert_table(rt, &table, (0, 2, nbcols));
-    assert_pictured(rt, alloc, &lines, wanted)
-}
-
 #[test]
-fn tables_of_other_columns_than_their_lines(rt: HostRuntime) -> Result<(), AllocError> {
+fn tables_of_other_columns_than_their_lines(rt: HostRuntime) -> Result<(), Error> {
+    let alloc = rt.alloc();
+    let skin = plain_skin();
     for (nbcols, width, wanted) in OTHER_COLUMNS {
-        assert_other_columns(&rt, rt.alloc(), *nbcols, *width, wanted)?;
+        let mut lines = read_lines(alloc, "|aaaa bbbb|x\n|-|-", &skin)?;
+        let mut table = Table {
+            start: 0,
+            height: lines.len(),
+            nbcols: *nbcols,
+        };
+        table.fix_columns(alloc, &mut lines, *width, &skin)?;
+        assert_pictured(&rt, alloc, &lines, wanted)?;
+        assert!(&rt; (table.start, table.height, table.nbcols) == (0, 2, *nbcols));
     }
     Ok(())
 }
 
 // A row, the widths of columns, their alignments, and its rows.
-type Row = (
-    &'static str,
-    &'static [usize],
-    &'static [Alignment],
-    &'static str,
-);
-
-const ROWS: &[Row] = &[
+const ROWS: &[(&str, &[usize], &[Alignment], &str)] = &[
     // An alignment that is missing is unspecified.
     (
         "|a|b|c",
@@ -307,63 +270,47 @@ const ROWS: &[Row] = &[
     ),
 ];
 
-fn push_rows(picture: &mut String, rows: &[FmtTableRow]) -> Result<(), AllocError> {
-    for row in rows {
-        push_cells(picture, &row.cells)?;
-        picture.push_str("\n")?;
-    }
-    Ok(())
-}
-
-fn assert_row(rt: &impl Abort, alloc: Global, row: &Row) -> Result<(), AllocError> {
-    let (source, widths, aligns, wanted) = *row;
-    let skin = plain_skin();
-    let mut picture = String::new(alloc);
-    let mut read = read_lines(alloc, source, &skin)?.into_iter();
-    if let Some(FmtLine::TableRow(row)) = read.next() {
-        let rows = lay_row(alloc, row, widths, aligns, &skin)?;
-        push_rows(&mut picture, &rows)?;
-    }
-    assert_text(rt, picture.as_str(), wanted);
-    Ok(())
-}
-
 #[test]
-fn rows_of_one_row(rt: HostRuntime) -> Result<(), AllocError> {
-    for row in ROWS {
-        assert_row(&rt, rt.alloc(), row)?;
+fn rows_of_one_row(rt: HostRuntime) -> Result<(), Error> {
+    let alloc = rt.alloc();
+    let skin = plain_skin();
+    for (source, widths, aligns, wanted) in ROWS {
+        let mut read = read_lines(alloc, source, &skin)?.into_iter();
+        let mut lines = Vec::new(alloc);
+        if let Some(FmtLine::TableRow(row)) = read.next() {
+            for row in lay_row(alloc, row, widths, aligns, &skin)? {
+                lines.push(FmtLine::TableRow(row))?;
+            }
+        }
+        assert_pictured(&rt, alloc, &lines, wanted)?;
     }
     Ok(())
 }
 
 #[test]
-fn all_tables_among_lines(rt: HostRuntime) -> Result<(), AllocError> {
+fn all_tables_among_lines(rt: HostRuntime) -> Result<(), Error> {
+    let alloc = rt.alloc();
     let skin = plain_skin();
-    let mut lines = read_lines(rt.alloc(), MIXED, &skin)?;
-    fix_all_tables(rt.alloc(), &mut lines, 13, &skin)?;
+    let mut lines = read_lines(alloc, MIXED, &skin)?;
+    fix_all_tables(alloc, &mut lines, 13, &skin)?;
     let wanted = "text\nrow aaaa :7c x:3c\nrow bbbb:7c :3c\nbottom 7 3\n---\nrow y:3c\n";
-    assert_pictured(&rt, rt.alloc(), &lines, wanted)
-}
-
-// Asserts a rule's picture with a count of columns.
-fn assert_rule(
-    rt: &impl Abort,
-    alloc: Global,
-    rule: &mut FmtTableRule,
-    nbcols: usize,
-    wanted: &str,
-) -> Result<(), AllocError> {
-    rule.set_nbcols(nbcols)?;
-    let mut picture = String::new(alloc);
-    push_rule(&mut picture, rule)?;
-    assert_text(rt, picture.as_str(), wanted);
+    assert_pictured(&rt, alloc, &lines, wanted)?;
     Ok(())
 }
 
 #[test]
-fn columns_of_a_rule(rt: HostRuntime) -> Result<(), AllocError> {
-    let cells = [Alignment::Right, Alignment::Left].to_vec(rt.alloc())?;
-    let mut rule = FmtTableRule::from(rt.alloc(), TableRule { cells });
-    assert_rule(&rt, rt.alloc(), &mut rule, 3, "rule 0r 0l 0")?;
-    assert_rule(&rt, rt.alloc(), &mut rule, 1, "rule 0r")
+fn columns_of_a_rule(rt: HostRuntime) -> Result<(), Error> {
+    let alloc = rt.alloc();
+    let mut cells = Vec::new(alloc);
+    cells.push(Alignment::Right)?;
+    cells.push(Alignment::Left)?;
+    let mut rule = FmtTableRule::from(alloc, TableRule { cells });
+    rule.set_nbcols(3)?;
+    let mut picture = String::new(alloc);
+    push_rule(&mut picture, &rule)?;
+    rule.set_nbcols(1)?;
+    picture.push_str(", ")?;
+    push_rule(&mut picture, &rule)?;
+    assert_text(&rt, picture.as_str(), "rule 0r 0l 0, rule 0r");
+    Ok(())
 }

@@ -1,13 +1,16 @@
 //! The worked rows: what composites are wrapped into, and their bounds.
 
 use crate::composites::{
-    Wrap, assert_all_checked, assert_bound, assert_refused, assert_wraps, composite, is_refused,
-    picture_of, push_picture, wrapped,
+    Wrap, assert_bound, assert_checked, assert_wrap, assert_wraps, composite, is_refused,
+    push_picture,
 };
 use crate::shown::{assert_count, assert_text};
-use crate::skins::{assert_indents, plain_skin, skin_with};
+use crate::skins::{plain_skin, skin_with};
 use mad_fit::Spacing;
-use mad_format::{FmtComposite, FmtLine, LineSkin, check_wrap_bound, hard_wrap_lines, wrap_bound};
+use mad_format::{
+    FmtComposite, FmtLine, LineSkin, check_wrap_bound, composite_kind_widths, hard_wrap_composite,
+    hard_wrap_lines, wrap_bound,
+};
 use mad_md::{Alignment, Composite, CompositeStyle, Compound, Line};
 use mad_style::{CompositeKind, ListItemsIndentationMode};
 use mad_term::Error;
@@ -34,53 +37,38 @@ fn paragraphs_in_pictures(rt: HostRuntime) -> Result<(), Error> {
     assert_wraps(&rt, rt.alloc(), CompositeStyle::Paragraph, mode, PARAGRAPHS)
 }
 
-const SENTENCE: &str =
-    "*Now I'll describe this example with more words than necessary, in order to be sure to demonstrate scrolling (and **wrapping**, too, thanks to long sentences).*";
-
-// Whether lines are two, the second of which begins with this compound.
-fn are_two(lines: &[FmtComposite], wanted: Compound) -> bool {
-    match lines {
-        [_, second] => second.compounds.first() == Some(&wanted),
-        _ => false,
-    }
-}
-
 #[test]
 fn a_long_italic_sentence(rt: HostRuntime) -> Result<(), Error> {
+    let alloc = rt.alloc();
     let skin = plain_skin();
-    let sentence = composite(rt.alloc(), SENTENCE, CompositeStyle::Paragraph, &skin)?;
-    let lines = wrapped(&rt, rt.alloc(), &sentence, 120, &skin)?;
-    let wanted = Compound::raw_str("wrapping").bold().italic();
-    assert!(rt; are_two(&lines, wanted));
+    let text =
+        "*Now I'll describe this example with more words than necessary, in order to be sure to demonstrate scrolling (and **wrapping**, too, thanks to long sentences).*";
+    let composite = composite(alloc, text, CompositeStyle::Paragraph, &skin)?;
+    assert!(rt; composite.visible_length > 120);
+    let lines = hard_wrap_composite(alloc, &composite, 120, &skin)?;
+    let [_, second] = lines.as_slice() else {
+        panic!(rt; "{} lines", lines.len());
+    };
+    let Some(first) = second.compounds.first() else {
+        panic!(rt; "an empty line");
+    };
+    assert!(rt; *first == Compound::raw_str("wrapping").bold().italic());
     Ok(())
-}
-
-fn is_line(line: &FmtComposite, kind: CompositeKind, length: usize) -> bool {
-    line.kind == kind && line.visible_length == length
-}
-
-// Whether lines are the two of an item, the second of which is indented as the first.
-fn are_item(lines: &[FmtComposite]) -> bool {
-    match lines {
-        [first, second] => {
-            is_line(first, CompositeKind::ListItem(0), 8)
-                && is_line(second, CompositeKind::ListItemFollowUp(0), 4)
-        }
-        _ => false,
-    }
 }
 
 #[test]
 fn an_item_and_its_second_line(rt: HostRuntime) -> Result<(), Error> {
+    let alloc = rt.alloc();
     let skin = plain_skin();
-    let item = composite(rt.alloc(), "abcdef gh", CompositeStyle::ListItem(0), &skin)?;
-    let lines = wrapped(&rt, rt.alloc(), &item, 8, &skin)?;
-    assert!(rt; are_item(&lines));
-    assert_text(
-        &rt,
-        picture_of(rt.alloc(), &lines)?.as_str(),
-        "|abcdef|\n|gh|\n",
-    );
+    let item = composite(alloc, "abcdef gh", CompositeStyle::ListItem(0), &skin)?;
+    assert_wrap(&rt, alloc, &item, 8, &skin, "|abcdef|\n|gh|\n")?;
+    assert!(rt; item.visible_length > 8);
+    let lines = hard_wrap_composite(alloc, &item, 8, &skin)?;
+    let [first, second] = lines.as_slice() else {
+        panic!(rt; "{} lines", lines.len());
+    };
+    assert!(rt; first.kind == CompositeKind::ListItem(0) && first.visible_length == 8);
+    assert!(rt; second.kind == CompositeKind::ListItemFollowUp(0) && second.visible_length == 4);
     Ok(())
 }
 
@@ -108,49 +96,26 @@ const STARTS: &[(&[usize], bool)] = &[
 
 #[test]
 fn starts_of_two_lines_checked(rt: HostRuntime) -> Result<(), Error> {
-    assert_all_checked(&rt, rt.alloc(), "aaa bb cc", STARTS)
-}
-
-#[test]
-fn a_line_that_fits_is_bounded(rt: HostRuntime) -> Result<(), Error> {
+    let alloc = rt.alloc();
     let skin = plain_skin();
-    let composite = composite(rt.alloc(), "aaa bb cc", CompositeStyle::Paragraph, &skin)?;
-    assert_bound(&rt, rt.alloc(), &composite, 9, &skin, &[0])
+    let composite = composite(alloc, "aaa bb cc", CompositeStyle::Paragraph, &skin)?;
+    for (starts, wanted) in STARTS {
+        assert_checked(&rt, &composite, &skin, starts.to_vec(alloc)?, *wanted)?;
+    }
+    assert_bound(&rt, alloc, &composite, 9, &skin, &[0])
 }
 
 #[test]
 fn a_width_under_three(rt: HostRuntime) -> Result<(), Error> {
+    let alloc = rt.alloc();
     let skin = plain_skin();
-    let composite = composite(rt.alloc(), "abc", CompositeStyle::Paragraph, &skin)?;
-    assert_count(&rt, composite.visible_length, 3);
-    assert_refused(&rt, rt.alloc(), &composite, 2, &skin);
-    let bound = wrap_bound(rt.alloc(), &composite, 3, &skin)?;
+    let composite = composite(alloc, "abc", CompositeStyle::Paragraph, &skin)?;
+    assert!(rt; composite.visible_length > 2);
+    assert!(rt; is_refused(hard_wrap_composite(alloc, &composite, 2, &skin), 2));
+    assert!(rt; is_refused(wrap_bound(alloc, &composite, 2, &skin), 2));
+    let bound = wrap_bound(alloc, &composite, 3, &skin)?;
     assert!(rt; is_refused(check_wrap_bound(&composite, 2, &skin, &bound), 2));
     Ok(())
-}
-
-// Appends lines without tables, and tells whether they all have these margins.
-fn push_lines(
-    picture: &mut String,
-    lines: &[FmtLine],
-    margins: (usize, usize),
-) -> Result<bool, AllocError> {
-    let mut have_margins = true;
-    for line in lines {
-        if let FmtLine::Normal(line) = line {
-            have_margins = have_margins && line.margins == Some(margins);
-            push_picture(picture, line)?;
-        }
-    }
-    Ok(have_margins)
-}
-
-// A list of one paragraph, wrapped at 12 columns.
-fn wrapped_words<S: LineSkin>(alloc: Global, skin: &S) -> Result<Vec<FmtLine<'static>>, Error> {
-    let mut lines = Vec::new(alloc);
-    let words = composite(alloc, "aaaa bbbb cccc", CompositeStyle::Paragraph, skin)?;
-    lines.push(FmtLine::Normal(words))?;
-    hard_wrap_lines(alloc, lines, 12, skin)
 }
 
 // Asserts the margins of lines that are wrapped in a style with these margins, and the lines.
@@ -161,89 +126,78 @@ fn assert_margins<S: LineSkin>(
     margins: (usize, usize),
     wanted: &str,
 ) -> Result<(), Error> {
-    let lines = wrapped_words(alloc, skin)?;
+    let composite = composite(alloc, "aaaa bbbb cccc", CompositeStyle::Paragraph, skin)?;
+    let mut lines = Vec::new(alloc);
+    lines.push(FmtLine::Normal(composite))?;
     let mut picture = String::new(alloc);
-    assert!(rt; push_lines(&mut picture, &lines, margins)?);
+    for line in &hard_wrap_lines(alloc, lines, 12, skin)? {
+        if let FmtLine::Normal(line) = line {
+            assert!(rt; line.margins == Some(margins));
+            push_picture(&mut picture, line)?;
+        }
+    }
     assert_text(rt, picture.as_str(), wanted);
     Ok(())
 }
 
 #[test]
 fn margins_of_the_style(rt: HostRuntime) -> Result<(), Error> {
-    let skin = skin_with(2, 3, ListItemsIndentationMode::Block);
+    let mode = ListItemsIndentationMode::Block;
     let wanted = "|aaaa|| |\n|bbbb|| |\n|cccc|\n";
-    assert_margins(&rt, rt.alloc(), &skin, (2, 3), wanted)
-}
-
-#[test]
-fn endless_margins_of_the_style(rt: HostRuntime) -> Result<(), Error> {
-    let skin = skin_with(usize::MAX, usize::MAX, ListItemsIndentationMode::Block);
+    assert_margins(&rt, rt.alloc(), &skin_with(2, 3, mode), (2, 3), wanted)?;
+    let endless = skin_with(usize::MAX, usize::MAX, mode);
     let wanted = "|aaaa|| ||bbbb|| |\n|cccc|\n";
-    assert_margins(&rt, rt.alloc(), &skin, (0, 0), wanted)
+    assert_margins(&rt, rt.alloc(), &endless, (0, 0), wanted)
 }
-
-const ORDERED: CompositeKind = CompositeKind::OrderedListItem {
-    level: 0,
-    index: 100,
-};
-
-// The indents of the first line of a kind and of the others.
-type Indent = (usize, usize);
-
-// A kind, and its indents: in a block, with the first line alone indented, and hanging by 2.
-const INDENTS: &[(CompositeKind, Indent, Indent, Indent)] = &[
-    (CompositeKind::Paragraph, (0, 0), (0, 0), (0, 0)),
-    (CompositeKind::Header(1), (0, 0), (0, 0), (0, 0)),
-    (CompositeKind::ListItem(3), (5, 5), (5, 0), (5, 7)),
-    (CompositeKind::ListItemFollowUp(3), (5, 5), (0, 0), (7, 7)),
-    (ORDERED, (5, 5), (5, 0), (5, 7)),
-    (CompositeKind::Quote, (2, 2), (2, 2), (2, 2)),
-    (CompositeKind::Code, (0, 0), (0, 0), (0, 0)),
-];
 
 #[test]
 fn indents_in_each_mode(rt: HostRuntime) {
-    for (kind, in_block, in_first, in_hanging) in INDENTS {
-        assert_indents(&rt, *kind, ListItemsIndentationMode::Block, *in_block);
-        assert_indents(
-            &rt,
-            *kind,
-            ListItemsIndentationMode::FirstLineOnly,
-            *in_first,
+    let ordered = CompositeKind::OrderedListItem {
+        level: 0,
+        index: 100,
+    };
+    // In a block, with the first line alone indented, and hanging by 2.
+    let rows = [
+        (CompositeKind::Paragraph, [(0, 0), (0, 0), (0, 0)]),
+        (CompositeKind::Header(1), [(0, 0), (0, 0), (0, 0)]),
+        (CompositeKind::ListItem(3), [(5, 5), (5, 0), (5, 7)]),
+        (CompositeKind::ListItemFollowUp(3), [(5, 5), (0, 0), (7, 7)]),
+        (ordered, [(5, 5), (5, 0), (5, 7)]),
+        (CompositeKind::Quote, [(2, 2), (2, 2), (2, 2)]),
+        (CompositeKind::Code, [(0, 0), (0, 0), (0, 0)]),
+    ];
+    let block = plain_skin();
+    let first_only = skin_with(0, 0, ListItemsIndentationMode::FirstLineOnly);
+    let hanging = skin_with(0, 0, ListItemsIndentationMode::Hanging(2));
+    for (kind, [in_block, in_first, in_hanging]) in rows {
+        assert!(rt; composite_kind_widths(kind, &block) == in_block, "{kind:?}");
+        assert!(rt;
+            composite_kind_widths(kind, &first_only) == in_first,
+            "{kind:?}"
         );
-        assert_indents(
-            &rt,
-            *kind,
-            ListItemsIndentationMode::Hanging(2),
-            *in_hanging,
+        assert!(rt;
+            composite_kind_widths(kind, &hanging) == in_hanging,
+            "{kind:?}"
         );
     }
 }
 
-// A line of two compounds, the second of them added.
-fn two_compounds(alloc: Global) -> Result<FmtComposite<'static>, AllocError> {
+#[test]
+fn compounds_are_added(rt: HostRuntime) -> Result<(), AllocError> {
+    let alloc = rt.alloc();
+    assert_count(&rt, FmtComposite::new(alloc).visible_length, 0);
     let mut line = FmtComposite::from_compound(alloc, Compound::raw_str("概要"))?;
     line.add_compound(Compound::raw_str("ab").bold())?;
-    Ok(line)
-}
-
-fn assert_two(rt: &impl Abort, alloc: Global, line: &FmtComposite) -> Result<(), AllocError> {
     assert!(rt; line.visible_length == 6 && line.completions() == (0, 0));
     let mut picture = String::new(alloc);
-    push_picture(&mut picture, line)?;
-    assert_text(rt, picture.as_str(), "|概要|b|ab|\n");
+    push_picture(&mut picture, &line.try_clone(alloc)?)?;
+    assert_text(&rt, picture.as_str(), "|概要|b|ab|\n");
     Ok(())
 }
 
 #[test]
-fn compounds_are_added(rt: HostRuntime) -> Result<(), AllocError> {
-    assert_count(&rt, FmtComposite::new(rt.alloc()).visible_length, 0);
-    let copy = two_compounds(rt.alloc())?.try_clone(rt.alloc())?;
-    assert_two(&rt, rt.alloc(), &copy)
-}
-
-// A quote in the center of 13 columns.
-fn centered_quote(alloc: Global) -> Result<FmtComposite<'static>, AllocError> {
+fn composites_measured_and_copied(rt: HostRuntime) -> Result<(), AllocError> {
+    let alloc = rt.alloc();
     let mut line = FmtComposite::from_compound(alloc, Compound::raw_str("概要ab"))?;
     line.kind = CompositeKind::Quote;
     line.recompute_width(&plain_skin());
@@ -251,13 +205,8 @@ fn centered_quote(alloc: Global) -> Result<FmtComposite<'static>, AllocError> {
         width: 13,
         align: Alignment::Center,
     });
-    Ok(line)
-}
-
-#[test]
-fn composites_measured_and_copied(rt: HostRuntime) -> Result<(), AllocError> {
-    let copy = centered_quote(rt.alloc())?.try_clone(rt.alloc())?;
-    assert!(rt; is_line(&copy, CompositeKind::Quote, 8));
+    let copy = line.try_clone(alloc)?;
+    assert!(rt; copy.kind == CompositeKind::Quote && copy.visible_length == 8);
     assert!(rt; copy.completions() == (2, 3));
     Ok(())
 }

@@ -3,15 +3,13 @@
 ghost use Rattle.mad_fit.specs.Areas.{IsWithinLimits};
 
 use crate::composites::skin_with;
-use crate::shown::{assert_count, assert_drawn, assert_written};
+use crate::shown::{assert_count, assert_taken};
 use mad_fit::Area;
 use mad_layout::laws::words_on_a_screen;
-use mad_layout::{FmtText, MadSkin};
+use mad_layout::{FmtText, MadSkin, draw_text};
 use mad_md::Alignment;
 use mad_style::ListItemsIndentationMode;
 use mad_term::{CutOut, Error};
-use std::alloc::Global;
-use std::process::Abort;
 
 const MAX: usize = usize::MAX;
 
@@ -36,41 +34,36 @@ const SMALL_AREAS: &[(u16, u16, &str, &str)] = &[
     (4, 1, "\u{301}\u{301}", "\u{1b}[1;1H\u{301}\u{301}    "),
 ];
 
-// Asserts what is drawn of a text that is laid out for an area.
-fn assert_area_text(
-    rt: &impl Abort,
-    alloc: Global,
-    skin: &MadSkin,
-    source: &str,
-    area: &Area,
-    wanted: &str,
-) -> Result<(), Error>
-    requires { IsWithinLimits area.now }
-{
-    let text = skin.area_text(alloc, source, area)?;
-    assert!(rt;
-        text.width == Some(usize::from(area.width).saturating_sub(1)),
-        "{wanted}"
-    );
-    assert_drawn(rt, alloc, &text, area, wanted)
+#[test]
+fn areas_of_few_columns_or_rows(rt: HostRuntime) -> Result<(), Error> {
+    let alloc = rt.alloc();
+    let skin = MadSkin::no_style();
+    for (width, height, source, wanted) in SMALL_AREAS {
+        let mut out = CutOut::new(alloc, 50, 50, false)?;
+        skin.write_in_area_on(alloc, &mut out, source, &origin_area(*width, *height))?;
+        assert_taken(&rt, &out, wanted);
+    }
+    Ok(())
 }
 
 #[test]
-fn areas_of_few_columns_or_rows(rt: HostRuntime) -> Result<(), Error> {
+fn texts_drawn_in_few_columns_or_rows(rt: HostRuntime) -> Result<(), Error> {
+    let alloc = rt.alloc();
     let skin = MadSkin::no_style();
     for (width, height, source, wanted) in SMALL_AREAS {
         let area = origin_area(*width, *height);
-        assert_written(&rt, rt.alloc(), &skin, source, &area, wanted)?;
-        assert_area_text(&rt, rt.alloc(), &skin, source, &area, wanted)?;
+        let text = skin.area_text(alloc, source, &area)?;
+        assert!(rt; text.width == Some(usize::from(*width).saturating_sub(1)));
+        let mut out = CutOut::new(alloc, 50, 50, false)?;
+        draw_text(alloc, &mut out, &text, &area, 0)?;
+        assert_taken(&rt, &out, wanted);
     }
     Ok(())
 }
 
 // The columns and rows of an area, and of what is written of `ab` there the length, the front and the end. Each row has its columns, and a
 // move of five bytes beside its number, which have 316569 digits in all.
-type LargeArea = (u16, u16, usize, &'static str, &'static str);
-
-const LARGE_AREAS: &[LargeArea] = &[
+const LARGE_AREAS: &[(u16, u16, usize, &str, &str)] = &[
     (65535, 1, 65541, "\u{1b}[1;1Hab      ", "        "),
     (
         1,
@@ -88,42 +81,27 @@ const LARGE_AREAS: &[LargeArea] = &[
     ),
 ];
 
-fn assert_large(
-    rt: &impl Abort,
-    alloc: Global,
-    skin: &MadSkin,
-    (width, height, length, front, end): &LargeArea,
-) -> Result<(), Error> {
-    let mut out = CutOut::new(alloc, 1_000_000, 1_000_000, false)?;
-    skin.write_in_area_on(alloc, &mut out, "ab", &origin_area(*width, *height))?;
-    let taken = out.taken();
-    assert_count(rt, taken.len(), *length);
-    assert!(rt; taken.starts_with(front.as_bytes()), "{length}");
-    assert!(rt; taken.ends_with(end.as_bytes()), "{length}");
-    Ok(())
-}
-
 #[test]
 fn areas_of_as_many_columns_or_rows_as_can_be(rt: HostRuntime) -> Result<(), Error> {
+    let alloc = rt.alloc();
     let skin = MadSkin::no_style();
-    for row in LARGE_AREAS {
-        assert_large(&rt, rt.alloc(), &skin, row)?;
+    for (width, height, length, front, end) in LARGE_AREAS {
+        let mut out = CutOut::new(alloc, 1_000_000, 1_000_000, false)?;
+        skin.write_in_area_on(alloc, &mut out, "ab", &origin_area(*width, *height))?;
+        let taken = out.taken();
+        assert_count(&rt, taken.len(), *length);
+        assert!(rt; taken.starts_with(front.as_bytes()) && taken.ends_with(end.as_bytes()));
     }
     Ok(())
 }
 
 #[test]
 fn the_last_columns_of_the_last_row(rt: HostRuntime) -> Result<(), Error> {
-    let skin = MadSkin::no_style();
-    let area = Area::new(65531, 65534, 4, 1);
-    assert_written(
-        &rt,
-        rt.alloc(),
-        &skin,
-        "ab",
-        &area,
-        "\u{1b}[65535;65532Hab  ",
-    )
+    let alloc = rt.alloc();
+    let mut out = CutOut::new(alloc, 50, 50, false)?;
+    MadSkin::no_style().write_in_area_on(alloc, &mut out, "ab", &Area::new(65531, 65534, 4, 1))?;
+    assert_taken(&rt, &out, "\u{1b}[65535;65532Hab  ");
+    Ok(())
 }
 
 // In an area margins without end leave less than three columns, and are none.
@@ -133,55 +111,45 @@ const UNMARGINED: &[(Alignment, &str)] = &[
     (Alignment::Right, "\u{1b}[1;1H    ab"),
 ];
 
-// A skin of paragraphs with margins without end.
-fn unending_skin(align: Alignment) -> MadSkin {
-    let mut skin = skin_with(MAX, MAX, ListItemsIndentationMode::Block);
-    skin.paragraph.align = align;
-    skin
-}
-
-// Six columns.
-const ROW: Area = Area {
-    left: 0,
-    top: 0,
-    width: 6,
-    height: 1,
-};
-
-// Asserts what is drawn of a text that is laid out without a width.
-fn assert_unwrapped_drawn(
-    rt: &impl Abort,
-    alloc: Global,
-    skin: &MadSkin,
-    wanted: &str,
-) -> Result<(), Error> {
-    let text = FmtText::from(alloc, skin, "ab", None)?;
-    assert_drawn(rt, alloc, &text, &ROW, wanted)
-}
-
 #[test]
 fn margins_without_end(rt: HostRuntime) -> Result<(), Error> {
+    let alloc = rt.alloc();
+    let area = origin_area(6, 1);
+    let mut skin = skin_with(MAX, MAX, ListItemsIndentationMode::Block);
     for (align, wanted) in UNMARGINED {
-        let skin = unending_skin(*align);
-        assert_written(&rt, rt.alloc(), &skin, "ab", &ROW, wanted)?;
-        assert_unwrapped_drawn(&rt, rt.alloc(), &skin, wanted)?;
+        skin.paragraph.align = *align;
+        let mut out = CutOut::new(alloc, 50, 50, false)?;
+        skin.write_in_area_on(alloc, &mut out, "ab", &area)?;
+        assert_taken(&rt, &out, wanted);
     }
     Ok(())
 }
 
-// Asserts that a line takes more memory than there can be, and nothing is written.
-fn assert_unending(rt: &impl Abort, alloc: Global, skin: &MadSkin) -> Result<(), Error> {
-    let mut out = CutOut::new(alloc, 50, 50, false)?;
-    let done = skin.write_inline(alloc, &mut out, "ab");
-    assert!(rt; matches!(done, Err(Error::Memory)) && out.taken().is_empty());
+#[test]
+fn margins_without_end_are_not_drawn(rt: HostRuntime) -> Result<(), Error> {
+    let alloc = rt.alloc();
+    let area = origin_area(6, 1);
+    let mut skin = skin_with(MAX, MAX, ListItemsIndentationMode::Block);
+    for (align, wanted) in UNMARGINED {
+        skin.paragraph.align = *align;
+        let text = FmtText::from(alloc, &skin, "ab", None)?;
+        let mut out = CutOut::new(alloc, 50, 50, false)?;
+        draw_text(alloc, &mut out, &text, &area, 0)?;
+        assert_taken(&rt, &out, wanted);
+    }
     Ok(())
 }
 
 // Without a width they are kept, and no memory holds them.
 #[test]
 fn margins_without_end_in_a_line(rt: HostRuntime) -> Result<(), Error> {
+    let alloc = rt.alloc();
+    let mut skin = skin_with(MAX, MAX, ListItemsIndentationMode::Block);
     for (align, _) in UNMARGINED {
-        assert_unending(&rt, rt.alloc(), &unending_skin(*align))?;
+        skin.paragraph.align = *align;
+        let mut out = CutOut::new(alloc, 50, 50, false)?;
+        let done = skin.write_inline(alloc, &mut out, "ab");
+        assert!(rt; matches!(done, Err(Error::Memory)) && out.taken().is_empty());
     }
     Ok(())
 }
@@ -194,10 +162,6 @@ const WORDS: &[(u16, u16, &[char])] = &[
     (1, 0, &[' ']),
 ];
 
-fn assert_characters(rt: &impl Abort, characters: &[char], wanted: &[char], x: u16) {
-    assert!(rt; characters == wanted, "{x}");
-}
-
 // The example is no refusal: a screen shows it.
 #[test]
 fn words_on_a_screen_are_shown(rt: HostRuntime) -> Result<(), Error> {
@@ -206,7 +170,7 @@ fn words_on_a_screen_are_shown(rt: HostRuntime) -> Result<(), Error> {
         let Some(cell) = screen.cell(*x, *y) else {
             panic!(rt; "no cell in column {x}");
         };
-        assert_characters(&rt, cell.chars.as_slice(), wanted, *x);
+        assert!(rt; cell.chars.as_slice() == *wanted, "{x}");
     }
     Ok(())
 }

@@ -5,7 +5,7 @@ use mad_fit::Area;
 use mad_layout::{FmtText, MadSkin, draw_text, inline, print_inline};
 use mad_md::Composite;
 use mad_term::{CutOut, Error};
-use std::alloc::{AllocError, Global};
+use std::alloc::Global;
 use std::process::Abort;
 
 // More than any of these calls writes.
@@ -25,7 +25,7 @@ enum Call {
     PrintComposite,
 }
 
-const CALLS: &[Call] = &[
+const CALLS: [Call; 6] = [
     Call::WriteInlineOn,
     Call::WriteInline,
     Call::PrintInline,
@@ -33,11 +33,6 @@ const CALLS: &[Call] = &[
     Call::WriteComposite,
     Call::PrintComposite,
 ];
-
-// The only one of these calls that flushes.
-fn flushes(call: Call) -> bool {
-    matches!(call, Call::WriteInline)
-}
 
 fn write_by(
     call: Call,
@@ -51,53 +46,13 @@ fn write_by(
         Call::WriteInline => skin.write_inline(alloc, out, line),
         Call::PrintInline => skin.print_inline(alloc, out, line),
         Call::FreePrintInline => print_inline(alloc, skin, out, line),
-        Call::WriteComposite => write_composite(alloc, skin, out, line),
-        Call::PrintComposite => print_composite(alloc, skin, out, line),
+        Call::WriteComposite => {
+            skin.write_composite(alloc, out, &Composite::from_inline(alloc, line)?)
+        }
+        Call::PrintComposite => {
+            skin.print_composite(alloc, out, &Composite::from_inline(alloc, line)?)
+        }
     }
-}
-
-fn write_composite(
-    alloc: Global,
-    skin: &MadSkin,
-    out: &mut CutOut,
-    line: &str,
-) -> Result<(), Error> {
-    let read = Composite::from_inline(alloc, line)?;
-    skin.write_composite(alloc, out, &read)
-}
-
-fn print_composite(
-    alloc: Global,
-    skin: &MadSkin,
-    out: &mut CutOut,
-    line: &str,
-) -> Result<(), Error> {
-    let read = Composite::from_inline(alloc, line)?;
-    skin.print_composite(alloc, out, &read)
-}
-
-fn displayed(alloc: Global, skin: &MadSkin, line: &str) -> Result<String, AllocError> {
-    skin.inline(alloc, line)?.to_string(alloc)
-}
-
-fn free_displayed(alloc: Global, skin: &MadSkin, line: &str) -> Result<String, AllocError> {
-    inline(alloc, skin, line)?.to_string(alloc)
-}
-
-fn assert_written_by(
-    rt: &impl Abort,
-    alloc: Global,
-    call: Call,
-    skin: &MadSkin,
-    line: &str,
-    wanted: &str,
-) -> Result<(), Error> {
-    let mut out = CutOut::new(alloc, 7, ROOM, false)?;
-    write_by(call, alloc, skin, &mut out, line)?;
-    assert_taken(rt, &out, wanted);
-    let is_met = out.faults() == 0 && out.flushes() == u64::from(flushes(call));
-    assert!(rt; is_met, "{line} by {call:?}");
-    Ok(())
 }
 
 fn assert_line(
@@ -107,10 +62,19 @@ fn assert_line(
     line: &str,
     wanted: &str,
 ) -> Result<(), Error> {
-    assert_text(rt, displayed(alloc, skin, line)?.as_str(), wanted);
-    assert_text(rt, free_displayed(alloc, skin, line)?.as_str(), wanted);
+    let own = skin.inline(alloc, line)?;
+    assert_text(rt, own.to_string(alloc)?.as_str(), wanted);
+    let free = inline(alloc, skin, line)?;
+    assert_text(rt, free.to_string(alloc)?.as_str(), wanted);
     for call in CALLS {
-        assert_written_by(rt, alloc, *call, skin, line, wanted)?;
+        let mut out = CutOut::new(alloc, 7, ROOM, false)?;
+        write_by(call, alloc, skin, &mut out, line)?;
+        assert_taken(rt, &out, wanted);
+        let flushes = matches!(call, Call::WriteInline);
+        assert!(rt;
+            out.faults() == 0 && out.flushes() == u64::from(flushes),
+            "{line} by {call:?}"
+        );
     }
     Ok(())
 }
@@ -140,27 +104,12 @@ fn one_line_by_each_call(rt: HostRuntime) -> Result<(), Error> {
     Ok(())
 }
 
-// A skin of paragraphs with margins of four.
-fn margined_skin() -> MadSkin {
+#[test]
+fn a_line_by_itself_has_its_left_margin_alone(rt: HostRuntime) -> Result<(), Error> {
     let mut skin = MadSkin::no_style();
     skin.paragraph.left_margin = 4;
     skin.paragraph.right_margin = 4;
-    skin
-}
-
-#[test]
-fn a_line_by_itself_has_its_left_margin_alone(rt: HostRuntime) -> Result<(), Error> {
-    assert_line(
-        &rt,
-        rt.alloc(),
-        &margined_skin(),
-        "**some** x",
-        "    some x",
-    )
-}
-
-fn device_whose_flush_fails(alloc: Global) -> Result<CutOut, AllocError> {
-    CutOut::new(alloc, ROOM, ROOM, true)
+    assert_line(&rt, rt.alloc(), &skin, "**some** x", "    some x")
 }
 
 // A device whose flush fails: all bytes went out, and a fault is answered where the call flushes, and only there.
@@ -171,34 +120,25 @@ fn assert_flush_fails(
     flushes: bool,
     wanted: &str,
 ) -> Result<(), Error> {
-    let fails = match done {
-        Ok(()) => false,
-        Err(Error::IO(_)) => true,
-        Err(other) => return Err(other),
-    };
+    if matches!(done, Err(Error::Memory)) {
+        return done;
+    }
     assert_taken(rt, out, wanted);
-    assert!(rt; fails == flushes, "{wanted}");
-    let is_met = out.faults() == u64::from(flushes) && out.flushes() == 0;
-    assert!(rt; is_met, "{wanted}");
+    assert!(rt; matches!(done, Err(Error::IO(_))) == flushes);
+    assert!(rt; done.is_ok() == !flushes);
+    assert!(rt; out.faults() == u64::from(flushes) && out.flushes() == 0);
     Ok(())
-}
-
-fn assert_line_flush_fails(
-    rt: &impl Abort,
-    alloc: Global,
-    skin: &MadSkin,
-    call: Call,
-) -> Result<(), Error> {
-    let mut out = device_whose_flush_fails(alloc)?;
-    let done = write_by(call, alloc, skin, &mut out, "**some** x");
-    assert_flush_fails(rt, done, &out, flushes(call), SOME)
 }
 
 #[test]
 fn lines_on_a_device_whose_flush_fails(rt: HostRuntime) -> Result<(), Error> {
+    let alloc = rt.alloc();
     let skin = MadSkin::default();
     for call in CALLS {
-        assert_line_flush_fails(&rt, rt.alloc(), &skin, *call)?;
+        let mut out = CutOut::new(alloc, ROOM, ROOM, true)?;
+        let done = write_by(call, alloc, &skin, &mut out, "**some** x");
+        let flushes = matches!(call, Call::WriteInline);
+        assert_flush_fails(&rt, done, &out, flushes, SOME)?;
     }
     Ok(())
 }
@@ -213,32 +153,25 @@ const AREA: Area = Area {
 
 const HELLO: &str = "\u{1b}[1;1Hhello  \u{1b}[2;1H       ";
 
-fn draw_hello(alloc: Global, out: &mut CutOut) -> Result<(), Error> {
-    let skin = MadSkin::no_style();
-    let text = FmtText::from(alloc, &skin, "hello", Some(6))?;
-    draw_text(alloc, out, &text, &AREA, 0)
-}
-
 #[test]
 fn drawing_does_not_flush(rt: HostRuntime) -> Result<(), Error> {
-    let mut out = device_whose_flush_fails(rt.alloc())?;
-    let done = draw_hello(rt.alloc(), &mut out);
-    assert_flush_fails(&rt, done, &out, false, HELLO)
-}
-
-#[test]
-fn areas_are_not_flushed_by_themselves(rt: HostRuntime) -> Result<(), Error> {
+    let alloc = rt.alloc();
     let skin = MadSkin::no_style();
-    let mut out = device_whose_flush_fails(rt.alloc())?;
-    let done = skin.write_in_area_on(rt.alloc(), &mut out, "hello", &AREA);
+    let text = FmtText::from(alloc, &skin, "hello", Some(6))?;
+    let mut out = CutOut::new(alloc, ROOM, ROOM, true)?;
+    let done = draw_text(alloc, &mut out, &text, &AREA, 0);
     assert_flush_fails(&rt, done, &out, false, HELLO)
 }
 
 #[test]
 fn areas_on_a_device_whose_flush_fails(rt: HostRuntime) -> Result<(), Error> {
+    let alloc = rt.alloc();
     let skin = MadSkin::no_style();
-    let mut out = device_whose_flush_fails(rt.alloc())?;
-    let done = skin.write_in_area(rt.alloc(), &mut out, "hello", &AREA);
+    let mut out = CutOut::new(alloc, ROOM, ROOM, true)?;
+    let done = skin.write_in_area_on(alloc, &mut out, "hello", &AREA);
+    assert_flush_fails(&rt, done, &out, false, HELLO)?;
+    let mut out = CutOut::new(alloc, ROOM, ROOM, true)?;
+    let done = skin.write_in_area(alloc, &mut out, "hello", &AREA);
     assert_flush_fails(&rt, done, &out, true, HELLO)
 }
 
@@ -246,24 +179,20 @@ fn areas_on_a_device_whose_flush_fails(rt: HostRuntime) -> Result<(), Error> {
 fn rows_go_out_one_by_one_and_are_flushed_once(rt: HostRuntime) -> Result<(), Error> {
     let alloc = rt.alloc();
     let mut out = CutOut::new(alloc, ROOM, ROOM, false)?;
-    let skin = MadSkin::no_style();
-    skin.write_in_area(alloc, &mut out, "hello", &AREA)?;
+    MadSkin::no_style().write_in_area(alloc, &mut out, "hello", &AREA)?;
     assert!(rt; out.puts() == 2 && out.flushes() == 1);
     Ok(())
 }
 
 #[test]
-fn texts_are_not_flushed_by_themselves(rt: HostRuntime) -> Result<(), Error> {
-    let skin = MadSkin::no_style();
-    let mut out = device_whose_flush_fails(rt.alloc())?;
-    let done = skin.write_text_on(rt.alloc(), &mut out, "a\n\nb", Some(5));
-    assert_flush_fails(&rt, done, &out, false, "a\n\nb\n")
-}
-
-#[test]
 fn texts_on_a_device_whose_flush_fails(rt: HostRuntime) -> Result<(), Error> {
+    let alloc = rt.alloc();
     let skin = MadSkin::no_style();
-    let mut out = device_whose_flush_fails(rt.alloc())?;
-    let done = skin.write_text(rt.alloc(), &mut out, "a\n\nb", Some(5));
-    assert_flush_fails(&rt, done, &out, true, "a\n\nb\n")
+    let mut out = CutOut::new(alloc, ROOM, ROOM, true)?;
+    let done = skin.write_text_on(alloc, &mut out, "a\n\nb", Some(5));
+    assert_flush_fails(&rt, done, &out, false, "a\n\nb\n")?;
+    let mut out = CutOut::new(alloc, ROOM, ROOM, true)?;
+    let done = skin.write_text(alloc, &mut out, "a\n\nb", Some(5));
+    assert_flush_fails(&rt, done, &out, true, "a\n\nb\n")?;
+    Ok(())
 }

@@ -1,10 +1,10 @@
-//! Composites, lines and skins of the tests.
+//! Composites and skins of the tests.
 
 ghost use Rattle.std.specs.Prelude.{IfOk};
 ghost use Rattle.mad_format.specs.Wraps.{IsMeasured};
 ghost use Rattle.mad_layout.specs.Styles.{line_rules};
 
-use mad_layout::{FmtComposite, FmtLine, MadSkin};
+use mad_layout::{FmtComposite, MadSkin};
 use mad_md::{Alignment, Composite, CompositeStyle};
 use mad_style::{CompoundStyle, LineStyle, ListItemsIndentationMode};
 use std::alloc::{AllocError, Global};
@@ -45,20 +45,4 @@ pub fn composite<'s>(
         compounds: read.compounds,
     };
     Ok(FmtComposite::from(read, skin))
-}
-
-/// The lines of a text of one.
-pub fn single<'s>(alloc: Global, line: FmtComposite<'s>) -> Result<Vec<FmtLine<'s>>, AllocError> {
-    let mut lines = Vec::new(alloc);
-    lines.push(FmtLine::Normal(line))?;
-    Ok(lines)
-}
-
-/// The parts of a text, one after the other.
-pub fn joined(alloc: Global, parts: &[&str]) -> Result<String, AllocError> {
-    let mut text = String::new(alloc);
-    for part in parts {
-        text.push_str(part)?;
-    }
-    Ok(text)
 }

@@ -1,14 +1,12 @@
 //! Texts displayed and drawn: rows of several lines, and where a line stands in a wider place.
 
-use crate::composites::{joined, single, skin_with};
-use crate::shown::{
-    assert_displayed, assert_drawn, assert_parts_displayed, assert_source_displayed, assert_written,
-};
+use crate::composites::skin_with;
+use crate::shown::{assert_displayed, assert_taken};
 use mad_fit::{Area, Spacing};
-use mad_layout::{FmtComposite, FmtLine, FmtText, MadSkin};
+use mad_layout::{FmtComposite, FmtLine, FmtText, MadSkin, draw_text};
 use mad_md::{Alignment, Compound};
 use mad_style::{CompositeKind, CompoundStyle, LineStyle, ListItemsIndentationMode};
-use mad_term::{Color, Error};
+use mad_term::{Color, CutOut, Error};
 use std::alloc::{AllocError, Global};
 use std::process::Abort;
 
@@ -21,38 +19,35 @@ const SEVERAL_LINES: &[(&str, Option<usize>, &str)] = &[
 ];
 
 #[test]
-fn texts_of_several_lines(rt: HostRuntime) -> Result<(), AllocError> {
+fn texts_of_several_lines(rt: HostRuntime) -> Result<(), Error> {
+    let alloc = rt.alloc();
     let skin = MadSkin::no_style();
     for (source, width, wanted) in SEVERAL_LINES {
-        assert_source_displayed(&rt, rt.alloc(), &skin, source, *width, wanted)?;
+        let text = FmtText::from(alloc, &skin, source, *width)?;
+        assert_displayed(&rt, alloc, &text, wanted)?;
     }
     Ok(())
 }
 
 #[test]
-fn marks_in_several_lines(rt: HostRuntime) -> Result<(), AllocError> {
-    let source = "**aa bb** `c`\n~~d~~";
+fn marks_in_several_lines(rt: HostRuntime) -> Result<(), Error> {
+    let alloc = rt.alloc();
+    let skin = MadSkin::default();
     let wanted = concat!(
         "\u{1b}[1maa\u{1b}[0m\u{1b}[1m \u{1b}[0m\n",
         "\u{1b}[1mbb\u{1b}[0m \u{1b}[48;5;235m\u{1b}[38;5;249mc\u{1b}[49m\u{1b}[39m\n",
         "\u{1b}[9md\u{1b}[0m\n"
     );
-    let skin = MadSkin::default();
-    assert_source_displayed(&rt, rt.alloc(), &skin, source, Some(4), wanted)
+    let text = FmtText::from(alloc, &skin, "**aa bb** `c`\n~~d~~", Some(4))?;
+    Ok(assert_displayed(&rt, alloc, &text, wanted)?)
 }
 
 #[test]
-fn marks_that_are_not_read(rt: HostRuntime) -> Result<(), AllocError> {
+fn marks_that_are_not_read(rt: HostRuntime) -> Result<(), Error> {
+    let alloc = rt.alloc();
     let skin = MadSkin::default();
-    let text = FmtText::raw_str(rt.alloc(), &skin, "**a** `b`\nc", Some(7))?;
-    assert_displayed(&rt, rt.alloc(), &text, "**a** \n`b`\nc\n")
-}
-
-// A skin of paragraphs with this align and these margins.
-fn aligned_skin(align: Alignment, margins: (usize, usize)) -> MadSkin {
-    let mut skin = skin_with(margins.0, margins.1, ListItemsIndentationMode::Block);
-    skin.paragraph.align = align;
-    skin
+    let text = FmtText::raw_str(alloc, &skin, "**a** `b`\nc", Some(7))?;
+    Ok(assert_displayed(&rt, alloc, &text, "**a** \n`b`\nc\n")?)
 }
 
 // A skin of red paragraphs with this align and these margins, and green code with this align.
@@ -64,136 +59,140 @@ fn colored_skin(paragraph: Alignment, margins: (usize, usize), code: Alignment) 
     skin
 }
 
-// A text of one line of this kind in a place of its own, in thirteen columns.
+// A text of one line in a place of its own.
 fn placed<'k>(
     alloc: Global,
     skin: &'k MadSkin,
     kind: CompositeKind,
     spacing: Option<Spacing>,
+    width: usize,
 ) -> Result<FmtText<'k, 'static>, AllocError> {
-    let mut line = FmtComposite::from_compound(alloc, Compound::raw_str("abcd"))?;
-    line.kind = kind;
-    line.spacing = spacing;
-    let lines = single(alloc, line)?;
-    let width = Some(13);
-    Ok(FmtText { skin, lines, width })
+    let mut composite = FmtComposite::from_compound(alloc, Compound::raw_str("abcd"))?;
+    composite.kind = kind;
+    composite.spacing = spacing;
+    let mut lines = Vec::new(alloc);
+    lines.push(FmtLine::Normal(composite))?;
+    Ok(FmtText {
+        skin,
+        lines,
+        width: Some(width),
+    })
 }
 
-// The thirteen columns.
-const ROW: Area = Area {
-    left: 0,
-    top: 0,
-    width: 13,
-    height: 1,
-};
-
-// Asserts what is drawn of a text in the thirteen columns, behind the move there.
-fn assert_row_drawn(
-    rt: &impl Abort,
-    alloc: Global,
-    text: &FmtText,
-    [shown, right]: [&str; 2],
-) -> Result<(), Error> {
-    let wanted = joined(alloc, &["\u{1b}[1;1H", shown, right])?;
-    assert_drawn(rt, alloc, text, &ROW, wanted.as_str())
-}
-
-// Asserts how a line stands in the thirteen columns: it is displayed, and drawn with its row filled up on the right.
+// The text's one line displayed, and drawn with its row filled up on the right.
 fn assert_placed(
     rt: &impl Abort,
     alloc: Global,
-    skin: &MadSkin,
-    kind: CompositeKind,
-    spacing: Option<Spacing>,
-    [shown, right]: [&str; 2],
+    text: &FmtText,
+    shown: &str,
+    right: &str,
 ) -> Result<(), Error> {
-    let text = placed(alloc, skin, kind, spacing)?;
-    assert_parts_displayed(rt, alloc, &text, &[shown, "\n"])?;
-    assert_row_drawn(rt, alloc, &text, [shown, right])
+    let mut displayed = String::from_str(alloc, shown)?;
+    displayed.push_str("\n")?;
+    assert_displayed(rt, alloc, text, displayed.as_str())?;
+    let mut drawn = String::from_str(alloc, "\u{1b}[1;1H")?;
+    drawn.push_str(shown)?;
+    drawn.push_str(right)?;
+    let mut out = CutOut::new(alloc, 200, 200, false)?;
+    draw_text(alloc, &mut out, text, &Area::new(0, 0, 13, 1), 0)?;
+    assert_taken(rt, &out, drawn.as_str());
+    Ok(())
 }
 
-// A place of nine columns, if there is one.
-fn nine_columns(align: Option<Alignment>) -> Option<Spacing> {
-    match align {
-        Some(align) => Some(Spacing { width: 9, align }),
-        None => None,
-    }
-}
-
-// How a text stands in nine columns, if it has them, and how these or the text stand in thirteen with margins. Then the line, and what is
-// right of it.
-const PLACED: &[(Option<Alignment>, Alignment, (usize, usize), [&str; 2])] = &[
-    (None, Alignment::Unspecified, (0, 0), ["abcd", "         "]),
-    (None, Alignment::Left, (0, 0), ["abcd", "         "]),
+// How a text stands in thirteen columns with margins, and what is left and right of it.
+const IN_A_WIDER_PLACE: &[(Alignment, (usize, usize), &str, &str)] = &[
+    (Alignment::Unspecified, (0, 0), "abcd", "         "),
+    (Alignment::Left, (0, 0), "abcd", "         "),
     // The odd column is right.
-    (None, Alignment::Center, (0, 0), ["    abcd", "     "]),
-    (None, Alignment::Right, (0, 0), ["         abcd", ""]),
-    (None, Alignment::Unspecified, (4, 4), ["    abcd", "     "]),
-    (None, Alignment::Center, (4, 4), ["    abcd", "     "]),
-    (None, Alignment::Right, (4, 4), ["     abcd", "    "]),
-    (None, Alignment::Center, (4, 0), ["      abcd", "   "]),
+    (Alignment::Center, (0, 0), "    abcd", "     "),
+    (Alignment::Right, (0, 0), "         abcd", ""),
+    (Alignment::Unspecified, (4, 4), "    abcd", "     "),
+    (Alignment::Center, (4, 4), "    abcd", "     "),
+    (Alignment::Right, (4, 4), "     abcd", "    "),
+    (Alignment::Center, (4, 0), "      abcd", "   "),
     // Margins that leave less than three columns are none.
-    (None, Alignment::Unspecified, (7, 4), ["abcd", "         "]),
+    (Alignment::Unspecified, (7, 4), "abcd", "         "),
     // Those that leave three are kept, and the line is too wide.
-    (None, Alignment::Right, (6, 4), ["      abcd", "    "]),
-    // In nine columns.
-    (
-        Some(Alignment::Center),
-        Alignment::Left,
-        (0, 0),
-        ["  abcd   ", "    "],
-    ),
-    (
-        Some(Alignment::Center),
-        Alignment::Center,
-        (0, 0),
-        ["    abcd   ", "  "],
-    ),
-    (
-        Some(Alignment::Center),
-        Alignment::Right,
-        (0, 0),
-        ["      abcd   ", ""],
-    ),
-    (
-        Some(Alignment::Right),
-        Alignment::Left,
-        (0, 0),
-        ["     abcd", "    "],
-    ),
-    (
-        Some(Alignment::Left),
-        Alignment::Right,
-        (0, 0),
-        ["    abcd     ", ""],
-    ),
-    (
-        Some(Alignment::Left),
-        Alignment::Left,
-        (1, 2),
-        [" abcd     ", "   "],
-    ),
-    (
-        Some(Alignment::Center),
-        Alignment::Right,
-        (1, 2),
-        ["    abcd   ", "  "],
-    ),
+    (Alignment::Right, (6, 4), "      abcd", "    "),
 ];
 
 #[test]
 fn lines_in_a_wider_place(rt: HostRuntime) -> Result<(), Error> {
-    for (inner, outer, margins, wanted) in PLACED {
-        let skin = aligned_skin(*outer, *margins);
-        let spacing = nine_columns(*inner);
-        assert_placed(
-            &rt,
-            rt.alloc(),
-            &skin,
-            CompositeKind::Paragraph,
-            spacing,
-            *wanted,
-        )?;
+    let alloc = rt.alloc();
+    for (align, margins, shown, right) in IN_A_WIDER_PLACE {
+        let mut skin = skin_with(margins.0, margins.1, ListItemsIndentationMode::Block);
+        skin.paragraph.align = *align;
+        let text = placed(alloc, &skin, CompositeKind::Paragraph, None, 13)?;
+        assert_placed(&rt, alloc, &text, shown, right)?;
+    }
+    Ok(())
+}
+
+// How a text stands in nine columns, how these stand in thirteen with margins, and what is left and right of them.
+const PLACED: &[(Alignment, Alignment, (usize, usize), &str, &str)] = &[
+    (
+        Alignment::Center,
+        Alignment::Left,
+        (0, 0),
+        "  abcd   ",
+        "    ",
+    ),
+    (
+        Alignment::Center,
+        Alignment::Center,
+        (0, 0),
+        "    abcd   ",
+        "  ",
+    ),
+    (
+        Alignment::Center,
+        Alignment::Right,
+        (0, 0),
+        "      abcd   ",
+        "",
+    ),
+    (
+        Alignment::Right,
+        Alignment::Left,
+        (0, 0),
+        "     abcd",
+        "    ",
+    ),
+    (
+        Alignment::Left,
+        Alignment::Right,
+        (0, 0),
+        "    abcd     ",
+        "",
+    ),
+    (
+        Alignment::Left,
+        Alignment::Left,
+        (1, 2),
+        " abcd     ",
+        "   ",
+    ),
+    (
+        Alignment::Center,
+        Alignment::Right,
+        (1, 2),
+        "    abcd   ",
+        "  ",
+    ),
+];
+
+#[test]
+fn lines_in_a_place_of_their_own(rt: HostRuntime) -> Result<(), Error> {
+    let alloc = rt.alloc();
+    for (inner, outer, margins, shown, right) in PLACED {
+        let mut skin = skin_with(margins.0, margins.1, ListItemsIndentationMode::Block);
+        skin.paragraph.align = *outer;
+        let spacing = Spacing {
+            width: 9,
+            align: *inner,
+        };
+        let text = placed(alloc, &skin, CompositeKind::Paragraph, Some(spacing), 13)?;
+        assert_placed(&rt, alloc, &text, shown, right)?;
     }
     Ok(())
 }
@@ -201,29 +200,27 @@ fn lines_in_a_wider_place(rt: HostRuntime) -> Result<(), Error> {
 // The place's own blanks are in the line's style, and those round it in the paragraph's.
 #[test]
 fn styles_of_the_blanks_beside_a_line(rt: HostRuntime) -> Result<(), Error> {
+    let alloc = rt.alloc();
+    let spacing = Spacing {
+        width: 9,
+        align: Alignment::Center,
+    };
+    let skin = colored_skin(Alignment::Left, (0, 0), Alignment::Center);
+    let text = placed(alloc, &skin, CompositeKind::Code, Some(spacing), 13)?;
     let shown = concat!(
         "\u{1b}[38;5;9m  \u{1b}[39m",
         "\u{1b}[38;5;10m  \u{1b}[39m\u{1b}[38;5;10mabcd\u{1b}[39m\u{1b}[38;5;10m   \u{1b}[39m"
     );
-    let wanted = [shown, "\u{1b}[38;5;9m  \u{1b}[39m"];
-    let skin = colored_skin(Alignment::Left, (0, 0), Alignment::Center);
-    let spacing = nine_columns(Some(Alignment::Center));
-    assert_placed(&rt, rt.alloc(), &skin, CompositeKind::Code, spacing, wanted)
+    assert_placed(&rt, alloc, &text, shown, "\u{1b}[38;5;9m  \u{1b}[39m")
 }
 
 #[test]
 fn a_completion_and_a_margin_are_one_piece(rt: HostRuntime) -> Result<(), Error> {
-    let shown = "\u{1b}[38;5;9m      \u{1b}[39m\u{1b}[38;5;9mabcd\u{1b}[39m";
-    let wanted = [shown, "\u{1b}[38;5;9m   \u{1b}[39m"];
+    let alloc = rt.alloc();
     let skin = colored_skin(Alignment::Right, (2, 3), Alignment::Left);
-    assert_placed(
-        &rt,
-        rt.alloc(),
-        &skin,
-        CompositeKind::Paragraph,
-        None,
-        wanted,
-    )
+    let text = placed(alloc, &skin, CompositeKind::Paragraph, None, 13)?;
+    let shown = "\u{1b}[38;5;9m      \u{1b}[39m\u{1b}[38;5;9mabcd\u{1b}[39m";
+    assert_placed(&rt, alloc, &text, shown, "\u{1b}[38;5;9m   \u{1b}[39m")
 }
 
 // The columns of an area of two rows, and what is written there of `abcdefgh` with margins of four.
@@ -239,59 +236,51 @@ const MARGINS_OF_A_LAYOUT: &[(u16, &str)] = &[
 
 #[test]
 fn margins_of_a_layout_are_kept(rt: HostRuntime) -> Result<(), Error> {
+    let alloc = rt.alloc();
     let skin = skin_with(4, 4, ListItemsIndentationMode::Block);
     for (width, wanted) in MARGINS_OF_A_LAYOUT {
         let area = Area::new(0, 0, *width, 2);
-        assert_written(&rt, rt.alloc(), &skin, "abcdefgh", &area, wanted)?;
+        let mut out = CutOut::new(alloc, 100, 100, false)?;
+        skin.write_in_area_on(alloc, &mut out, "abcdefgh", &area)?;
+        assert_taken(&rt, &out, wanted);
     }
     Ok(())
 }
 
-// A line of code in a place of three columns.
-fn code_line(alloc: Global, code: &'static str) -> Result<FmtLine<'static>, AllocError> {
-    let mut line = FmtComposite::from_compound(alloc, Compound::raw_str(code))?;
-    line.kind = CompositeKind::Code;
-    line.spacing = Some(Spacing {
-        width: 3,
-        align: Alignment::Left,
-    });
-    Ok(FmtLine::Normal(line))
-}
-
-const BLOCK: &[&str] = &["a", "bbb"];
-
-fn block(alloc: Global) -> Result<Vec<FmtLine<'static>>, AllocError> {
+// A text of two lines of code in a place of three columns.
+fn block<'k>(alloc: Global, skin: &'k MadSkin) -> Result<FmtText<'k, 'static>, AllocError> {
     let mut lines = Vec::new(alloc);
-    for code in BLOCK {
-        lines.push(code_line(alloc, code)?)?;
+    for code in ["a", "bbb"] {
+        let mut composite = FmtComposite::from_compound(alloc, Compound::raw_str(code))?;
+        composite.kind = CompositeKind::Code;
+        composite.spacing = Some(Spacing {
+            width: 3,
+            align: Alignment::Left,
+        });
+        lines.push(FmtLine::Normal(composite))?;
     }
-    Ok(lines)
-}
-
-// Asserts what is displayed of a block of code.
-fn assert_block(
-    rt: &impl Abort,
-    alloc: Global,
-    skin: &MadSkin,
-    wanted: &str,
-) -> Result<(), AllocError> {
-    let lines = block(alloc)?;
-    let width = Some(10);
-    let text = FmtText { skin, lines, width };
-    assert_displayed(rt, alloc, &text, wanted)
+    Ok(FmtText {
+        skin,
+        lines,
+        width: Some(10),
+    })
 }
 
 #[test]
 fn a_block_of_code_lines(rt: HostRuntime) -> Result<(), AllocError> {
-    assert_block(&rt, rt.alloc(), &MadSkin::no_style(), "a  \nbbb\n")
+    let alloc = rt.alloc();
+    let skin = MadSkin::no_style();
+    assert_displayed(&rt, alloc, &block(alloc, &skin)?, "a  \nbbb\n")
 }
 
 #[test]
 fn a_block_of_code_lines_in_its_style(rt: HostRuntime) -> Result<(), AllocError> {
+    let alloc = rt.alloc();
+    let skin = MadSkin::default();
     let wanted = concat!(
         "\u{1b}[48;5;235m\u{1b}[38;5;249ma\u{1b}[49m\u{1b}[39m",
         "\u{1b}[48;5;235m\u{1b}[38;5;249m  \u{1b}[49m\u{1b}[39m\n",
         "\u{1b}[48;5;235m\u{1b}[38;5;249mbbb\u{1b}[49m\u{1b}[39m\n"
     );
-    assert_block(&rt, rt.alloc(), &MadSkin::default(), wanted)
+    assert_displayed(&rt, alloc, &block(alloc, &skin)?, wanted)
 }

@@ -1,11 +1,12 @@
 //! The ends of the types in texts: the least and the greatest widths, the deepest items, and empty texts.
 
 use crate::composites::{composite, skin_with};
-use crate::shown::{assert_displayed, assert_line_displayed, assert_source_displayed};
-use mad_layout::{FmtComposite, FmtText, MadSkin};
+use crate::shown::assert_displayed;
+use mad_layout::{FmtComposite, FmtLine, FmtText, MadSkin};
 use mad_md::{CompositeStyle, Compound};
 use mad_style::ListItemsIndentationMode;
-use std::alloc::{AllocError, Global};
+use mad_term::Error;
+use std::alloc::Global;
 use std::process::Abort;
 
 const MAX: usize = usize::MAX;
@@ -30,38 +31,28 @@ const UNWRAPPED: &[(&str, &str)] = &[
 
 const UNWRAPPED_WIDTHS: &[Option<usize>] = &[None, Some(0), Some(1), Some(2), Some(MAX)];
 
-fn assert_raw_displayed(
-    rt: &impl Abort,
-    alloc: Global,
-    skin: &MadSkin,
-    source: &str,
-    width: Option<usize>,
-    wanted: &str,
-) -> Result<(), AllocError> {
-    let text = FmtText::raw_str(alloc, skin, source, width)?;
-    assert_displayed(rt, alloc, &text, wanted)
-}
-
-// Asserts what is displayed of a text in each of the widths, read as Markdown and as it is.
-fn assert_unwrapped(
-    rt: &impl Abort,
-    alloc: Global,
-    skin: &MadSkin,
-    source: &str,
-    wanted: &str,
-) -> Result<(), AllocError> {
-    for width in UNWRAPPED_WIDTHS {
-        assert_source_displayed(rt, alloc, skin, source, *width, wanted)?;
-        assert_raw_displayed(rt, alloc, skin, source, *width, wanted)?;
+#[test]
+fn texts_without_wrapping(rt: HostRuntime) -> Result<(), Error> {
+    let alloc = rt.alloc();
+    let skin = MadSkin::no_style();
+    for (source, wanted) in UNWRAPPED {
+        for width in UNWRAPPED_WIDTHS {
+            let text = FmtText::from(alloc, &skin, source, *width)?;
+            assert_displayed(&rt, alloc, &text, wanted)?;
+        }
     }
     Ok(())
 }
 
 #[test]
-fn texts_and_raw_texts_without_wrapping(rt: HostRuntime) -> Result<(), AllocError> {
+fn raw_texts_without_wrapping(rt: HostRuntime) -> Result<(), Error> {
+    let alloc = rt.alloc();
     let skin = MadSkin::no_style();
     for (source, wanted) in UNWRAPPED {
-        assert_unwrapped(&rt, rt.alloc(), &skin, source, wanted)?;
+        for width in UNWRAPPED_WIDTHS {
+            let text = FmtText::raw_str(alloc, &skin, source, *width)?;
+            assert_displayed(&rt, alloc, &text, wanted)?;
+        }
     }
     Ok(())
 }
@@ -81,10 +72,12 @@ const AT_THREE_COLUMNS: &[(&str, &str)] = &[
 ];
 
 #[test]
-fn texts_at_three_columns(rt: HostRuntime) -> Result<(), AllocError> {
+fn texts_at_three_columns(rt: HostRuntime) -> Result<(), Error> {
+    let alloc = rt.alloc();
     let skin = MadSkin::no_style();
     for (source, wanted) in AT_THREE_COLUMNS {
-        assert_source_displayed(&rt, rt.alloc(), &skin, source, Some(3), wanted)?;
+        let text = FmtText::from(alloc, &skin, source, Some(3))?;
+        assert_displayed(&rt, alloc, &text, wanted)?;
     }
     Ok(())
 }
@@ -96,39 +89,40 @@ fn assert_deepest(
     style: CompositeStyle,
     indent: usize,
     wanted: &str,
-) -> Result<(), AllocError> {
+) -> Result<(), Error> {
     let skin = skin_with(0, 0, ListItemsIndentationMode::Block);
-    let item = composite(alloc, "ab", style, &skin)?;
-    let width = Some(indent.saturating_add(2));
-    let blanks = " ".repeat(alloc, 255)?;
-    let wanted = [blanks.as_str(), wanted, "\n"];
-    assert_line_displayed(rt, alloc, &skin, item, width, &wanted)
+    let mut displayed = " ".repeat(alloc, 255)?;
+    displayed.push_str(wanted)?;
+    displayed.push_str("\n")?;
+    let mut lines = Vec::new(alloc);
+    lines.push(FmtLine::Normal(composite(alloc, "ab", style, &skin)?))?;
+    let text = FmtText {
+        skin: &skin,
+        lines,
+        width: Some(indent.saturating_add(2)),
+    };
+    Ok(assert_displayed(rt, alloc, &text, displayed.as_str())?)
 }
 
 #[test]
-fn the_deepest_items(rt: HostRuntime) -> Result<(), AllocError> {
+fn the_deepest_items(rt: HostRuntime) -> Result<(), Error> {
     assert_deepest(&rt, rt.alloc(), DEEP_ITEM, 257, "• ab")?;
     assert_deepest(&rt, rt.alloc(), DEEP_NUMBER, 267, "4294967295. ab")
 }
 
-// A bold text without characters, and a plain one.
-fn empty_texts(alloc: Global) -> Result<FmtComposite<'static>, AllocError> {
-    let mut line = FmtComposite::from_compound(alloc, Compound::raw_str("").bold())?;
-    line.add_compound(Compound::raw_str(""))?;
-    Ok(line)
-}
-
 #[test]
-fn an_empty_compound_displayed(rt: HostRuntime) -> Result<(), AllocError> {
+fn an_empty_compound_displayed(rt: HostRuntime) -> Result<(), Error> {
+    let alloc = rt.alloc();
     let skin = MadSkin::default();
-    let line = empty_texts(rt.alloc())?;
+    let mut paragraph = FmtComposite::from_compound(alloc, Compound::raw_str("").bold())?;
+    paragraph.add_compound(Compound::raw_str(""))?;
+    let mut lines = Vec::new(alloc);
+    lines.push(FmtLine::Normal(paragraph))?;
+    let text = FmtText {
+        skin: &skin,
+        lines,
+        width: Some(3),
+    };
     // A text without characters has its codes still.
-    assert_line_displayed(
-        &rt,
-        rt.alloc(),
-        &skin,
-        line,
-        Some(3),
-        &["\u{1b}[1m\u{1b}[0m\n"],
-    )
+    Ok(assert_displayed(&rt, alloc, &text, "\u{1b}[1m\u{1b}[0m\n")?)
 }

@@ -1,11 +1,9 @@
 //! Marks in front of lines: bullets, numbers, quote marks, and the blanks that stand for them in lines that follow.
 
 use crate::composites::{composite, skin_with};
-use crate::shown::{
-    assert_count, assert_displayed, assert_drawn, assert_line_displayed, assert_taken,
-};
+use crate::shown::{assert_count, assert_displayed, assert_taken};
 use mad_fit::Area;
-use mad_layout::{FmtComposite, FmtLine, FmtText, MadSkin, hard_wrap_lines};
+use mad_layout::{FmtComposite, FmtLine, FmtText, MadSkin, draw_text, hard_wrap_lines};
 use mad_md::{Composite, CompositeStyle, Compound};
 use mad_style::{
     CompositeKind, CompoundStyle, LineStyle, ListItemsIndentationMode, OrderedItemStyle,
@@ -61,9 +59,7 @@ const NESTED_TWELFTH: CompositeStyle = CompositeStyle::OrderedListItem {
 };
 
 // A text, the width that it is wrapped at, and what is displayed of it.
-type Displayed = (Look, CompositeStyle, &'static str, usize, &'static str);
-
-const DISPLAYED: &[Displayed] = &[
+const DISPLAYED: &[(Look, CompositeStyle, &str, usize, &str)] = &[
     (Look::Plain, ITEM, "abcdef gh", 8, "• abcdef\n  gh\n"),
     (Look::Plain, SECOND_ITEM, "abc def", 6, " • abc\n   def\n"),
     (Look::Plain, THIRD_ITEM, "ab", 8, "  • ab\n"),
@@ -93,7 +89,10 @@ const DISPLAYED: &[Displayed] = &[
         5,
         "abc \ndef\n",
     ),
-    // The same in the default skin.
+];
+
+// The same in the default skin.
+const DISPLAYED_BY_DEFAULT: &[(Look, CompositeStyle, &str, usize, &str)] = &[
     (
         Look::Default,
         ITEM,
@@ -164,28 +163,31 @@ fn laid_out<'k, 's>(
     })
 }
 
-fn assert_row_displayed(
+fn assert_rows_displayed(
     rt: &impl Abort,
     alloc: Global,
-    (look, style, text, width, wanted): &Displayed,
+    rows: &[(Look, CompositeStyle, &str, usize, &str)],
 ) -> Result<(), Error> {
-    let skin = skin_of(*look);
-    let text = laid_out(alloc, &skin, *style, text, *width)?;
-    Ok(assert_displayed(rt, alloc, &text, wanted)?)
-}
-
-#[test]
-fn marked_lines_displayed(rt: HostRuntime) -> Result<(), Error> {
-    for row in DISPLAYED {
-        assert_row_displayed(&rt, rt.alloc(), row)?;
+    for (look, style, text, width, wanted) in rows {
+        let skin = skin_of(*look);
+        let text = laid_out(alloc, &skin, *style, text, *width)?;
+        assert_displayed(rt, alloc, &text, wanted)?;
     }
     Ok(())
 }
 
-// A text that is wrapped at eight columns, and what is drawn of it in two rows of nine.
-type Drawn = (Look, CompositeStyle, &'static str, &'static str);
+#[test]
+fn marked_lines_displayed(rt: HostRuntime) -> Result<(), Error> {
+    assert_rows_displayed(&rt, rt.alloc(), DISPLAYED)
+}
 
-const DRAWN: &[Drawn] = &[
+#[test]
+fn marked_lines_displayed_by_default(rt: HostRuntime) -> Result<(), Error> {
+    assert_rows_displayed(&rt, rt.alloc(), DISPLAYED_BY_DEFAULT)
+}
+
+// A text that is wrapped at eight columns, and what is drawn of it in two rows of nine.
+const DRAWN: &[(Look, CompositeStyle, &str, &str)] = &[
     (
         Look::Plain,
         ITEM,
@@ -218,41 +220,32 @@ const DRAWN: &[Drawn] = &[
     ),
 ];
 
-const AREA: Area = Area {
-    left: 2,
-    top: 1,
-    width: 9,
-    height: 2,
-};
-
-fn assert_row_drawn(
-    rt: &impl Abort,
-    alloc: Global,
-    (look, style, text, wanted): &Drawn,
-) -> Result<(), Error> {
-    let skin = skin_of(*look);
-    let text = laid_out(alloc, &skin, *style, text, 8)?;
-    assert_drawn(rt, alloc, &text, &AREA, wanted)
-}
-
 #[test]
 fn marked_lines_drawn(rt: HostRuntime) -> Result<(), Error> {
-    for row in DRAWN {
-        assert_row_drawn(&rt, rt.alloc(), row)?;
+    let alloc = rt.alloc();
+    let area = Area::new(2, 1, 9, 2);
+    for (look, style, text, wanted) in DRAWN {
+        let skin = skin_of(*look);
+        let text = laid_out(alloc, &skin, *style, text, 8)?;
+        let mut out = CutOut::new(alloc, 11, 100, false)?;
+        draw_text(alloc, &mut out, &text, &area, 0)?;
+        assert_taken(&rt, &out, wanted);
     }
     Ok(())
 }
 
-fn abcd(alloc: Global, style: CompositeStyle) -> Result<Composite<'static>, AllocError> {
+fn written<'s>(
+    alloc: Global,
+    style: CompositeStyle,
+    compound: Compound<'s>,
+) -> Result<Composite<'s>, AllocError> {
     let mut compounds = Vec::new(alloc);
-    compounds.push(Compound::raw_str("abcd"))?;
+    compounds.push(compound)?;
     Ok(Composite { style, compounds })
 }
 
-// A skin, a kind of line, and what is written of `abcd` by itself.
-type ByItself = (Look, CompositeStyle, &'static str);
-
-const BY_THEMSELVES: &[ByItself] = &[
+// What is written of `abcd` by itself.
+const BY_THEMSELVES: &[(Look, CompositeStyle, &str)] = &[
     (Look::Default, ITEM, "\u{1b}[38;5;240m•\u{1b}[39m abcd"),
     (
         Look::Default,
@@ -291,34 +284,26 @@ const BY_THEMSELVES: &[ByItself] = &[
     (Look::Colored, CompositeStyle::Header(2), "abcd"),
 ];
 
-fn written(alloc: Global, skin: &MadSkin, style: CompositeStyle) -> Result<CutOut, Error> {
-    let mut out = CutOut::new(alloc, 11, 100, false)?;
-    skin.write_composite(alloc, &mut out, &abcd(alloc, style)?)?;
-    Ok(out)
-}
-
-fn printed(alloc: Global, skin: &MadSkin, style: CompositeStyle) -> Result<CutOut, Error> {
-    let mut out = CutOut::new(alloc, 11, 100, false)?;
-    skin.print_composite(alloc, &mut out, &abcd(alloc, style)?)?;
-    Ok(out)
-}
-
-// Asserts what is written of a composite, and printed.
-fn assert_by_itself(
-    rt: &impl Abort,
-    alloc: Global,
-    (look, style, wanted): &ByItself,
-) -> Result<(), Error> {
-    let skin = skin_of(*look);
-    assert_taken(rt, &written(alloc, &skin, *style)?, wanted);
-    assert_taken(rt, &printed(alloc, &skin, *style)?, wanted);
+#[test]
+fn composites_written_by_themselves(rt: HostRuntime) -> Result<(), Error> {
+    let alloc = rt.alloc();
+    for (look, style, wanted) in BY_THEMSELVES {
+        let composite = written(alloc, *style, Compound::raw_str("abcd"))?;
+        let mut out = CutOut::new(alloc, 11, 100, false)?;
+        skin_of(*look).write_composite(alloc, &mut out, &composite)?;
+        assert_taken(&rt, &out, wanted);
+    }
     Ok(())
 }
 
 #[test]
-fn composites_written_and_printed_by_themselves(rt: HostRuntime) -> Result<(), Error> {
-    for row in BY_THEMSELVES {
-        assert_by_itself(&rt, rt.alloc(), row)?;
+fn composites_printed_by_themselves(rt: HostRuntime) -> Result<(), Error> {
+    let alloc = rt.alloc();
+    for (look, style, wanted) in BY_THEMSELVES {
+        let composite = written(alloc, *style, Compound::raw_str("abcd"))?;
+        let mut out = CutOut::new(alloc, 11, 100, false)?;
+        skin_of(*look).print_composite(alloc, &mut out, &composite)?;
+        assert_taken(&rt, &out, wanted);
     }
     Ok(())
 }
@@ -330,21 +315,6 @@ const NUMBERED_FOLLOW_UP: CompositeKind = CompositeKind::OrderedListItemFollowUp
     index: 12,
 };
 
-fn follow_up(
-    alloc: Global,
-    skin: &MadSkin,
-    kind: CompositeKind,
-) -> Result<FmtComposite<'static>, AllocError> {
-    let mut line = FmtComposite::from_compound(alloc, Compound::raw_str("ab"))?;
-    line.kind = kind;
-    line.recompute_width(skin);
-    Ok(line)
-}
-
-fn assert_columns(rt: &impl Abort, line: &FmtComposite, columns: usize) {
-    assert_count(rt, line.visible_length, columns);
-}
-
 // Asserts that a line of this kind has spaces in the paragraph's red in front.
 fn assert_spaces(
     rt: &impl Abort,
@@ -353,11 +323,20 @@ fn assert_spaces(
     kind: CompositeKind,
     spaces: usize,
 ) -> Result<(), AllocError> {
-    let line = follow_up(alloc, skin, kind)?;
-    assert_columns(rt, &line, spaces.saturating_add(2));
-    let red = "\u{1b}[38;5;9m \u{1b}[39m".repeat(alloc, spaces)?;
-    let wanted = [red.as_str(), "\u{1b}[38;5;9mab\u{1b}[39m\n"];
-    assert_line_displayed(rt, alloc, skin, line, None, &wanted)
+    let mut composite = FmtComposite::from_compound(alloc, Compound::raw_str("ab"))?;
+    composite.kind = kind;
+    composite.recompute_width(skin);
+    assert_count(rt, composite.visible_length, spaces.saturating_add(2));
+    let mut lines = Vec::new(alloc);
+    lines.push(FmtLine::Normal(composite))?;
+    let text = FmtText {
+        skin,
+        lines,
+        width: None,
+    };
+    let mut wanted = "\u{1b}[38;5;9m \u{1b}[39m".repeat(alloc, spaces)?;
+    wanted.push_str("\u{1b}[38;5;9mab\u{1b}[39m\n")?;
+    assert_displayed(rt, alloc, &text, wanted.as_str())
 }
 
 #[test]
