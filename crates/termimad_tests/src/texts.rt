@@ -1,102 +1,80 @@
-//! Texts of all kinds of lines, written at a width.
+//! What is written of a text.
 
-use crate::picture::assert_text;
-use std::test::Fail;
-use termimad::{FmtText, ListItemsIndentationMode, MadSkin};
+use crate::asked::Asked;
+use crate::refusal::Refusal;
+use std::alloc::{AllocError, Global};
+use termimad::{CutOut, FmtLine, TextView};
 
-// A text, its width, and what is written of it.
-const LINES: &[(&str, usize, &str)] = &[
-    // The lines of a code block are as wide as the widest; a fence that isn't closed lasts to the end.
-    ("```\na\nbbb", 10, "a  \nbbb\n"),
-    ("```\na  b", 10, "a  b\n"),
-    ("    a\n    bbb\nc", 10, "a  \nbbb\nc\n"),
-    ("```\na\n```\n```\nbbb\n```", 10, "a  \nbbb\n"),
-    ("---", 5, "―――――\n"),
-    ("> q", 5, "▐ q\n"),
-    (" 12. ab", 10, " 12. ab\n"),
-    ("* abcdef gh", 8, "• abcdef\n  gh\n"),
-    ("abcdefgh**   **", 10, "abcdefgh\n   \n"),
-    ("# a\n\nb", 5, "  a\n\nb\n"),
-];
+// More than any row writes.
+const ROOM: usize = 2_000_000;
 
-#[test]
-fn lines_of_each_kind(rt: HostRuntime) -> Result<(), Fail> {
-    let mut skin = MadSkin::no_style();
-    skin.headers[0].align = MadSkin::default().headers[0].align;
-    for (source, width, wanted) in LINES {
-        assert_text(&rt, rt.alloc(), &skin, source, *width, wanted)?;
+/// What goes out of a text in an area, laid out at a width, or as a line with inline marks.
+pub fn written(asked: &Asked, name: &str) -> Result<String, Refusal> {
+    let (alloc, skin, text) = (asked.alloc, &asked.skin, asked.text);
+    let mut out = CutOut::new(alloc, ROOM, ROOM, false)?;
+    match name {
+        "bytes" => skin.write_in_area_on(alloc, &mut out, text, &asked.area())?,
+        "text" => skin.write_text(alloc, &mut out, text, Some(asked.numbers[0]))?,
+        "inline" => skin.write_inline(alloc, &mut out, text)?,
+        _ => return Ok(String::from_str(alloc, "no call")?),
     }
-    Ok(())
+    Ok(taken(alloc, &out)?)
 }
 
-#[test]
-fn a_title_in_the_default_skin(rt: HostRuntime) -> Result<(), Fail> {
-    let title = "  \u{1b}[1m\u{1b}[4mt\u{1b}[0m\n";
-    assert_text(&rt, rt.alloc(), &MadSkin::default(), "# t", 5, title)?;
-    Ok(())
-}
-
-// A mode of items, a text, and what is displayed of it at eight columns.
-const ITEMS: &[(ListItemsIndentationMode, &str, &str)] = &[
-    (
-        ListItemsIndentationMode::Hanging(2),
-        "* abcdefghij",
-        "• abcd\n    efgh\n    ij\n",
-    ),
-    (
-        ListItemsIndentationMode::Block,
-        "* abcdefghij",
-        "• abcdef\n  ghij\n",
-    ),
-    (
-        ListItemsIndentationMode::Hanging(0),
-        "* abcdefghij",
-        "• abcdef\n  ghij\n",
-    ),
-    (
-        ListItemsIndentationMode::Hanging(2),
-        "* abcdef gh",
-        "• abcdef\n    gh\n",
-    ),
-];
-
-#[test]
-fn items_that_hang(rt: HostRuntime) -> Result<(), Fail> {
-    let alloc = rt.alloc();
-    let mut skin = MadSkin::no_style();
-    for (mode, source, wanted) in ITEMS {
-        skin.list_items_indentation_mode = *mode;
-        let text = FmtText::from(alloc, &skin, source, Some(8))?;
-        assert!(rt; text.to_string(alloc)?.as_str() == *wanted, "{source}");
+/// What a device takes of a view that has room for so many bytes, takes them one by one, and whose flush fails.
+pub fn cut_view(asked: &Asked) -> Result<String, Refusal> {
+    let area = asked.area();
+    let text = asked.skin.area_text(asked.alloc, asked.text, &area)?;
+    let mut out = CutOut::new(asked.alloc, 1, asked.numbers[4], true)?;
+    match TextView::from(&area, &text).write(asked.alloc, &mut out) {
+        Ok(()) => Ok(String::from_str(asked.alloc, "no fault")?),
+        Err(_) => Ok(taken(asked.alloc, &out)?),
     }
-    Ok(())
 }
 
-const LONG: &str =
-    "This is a *long* line which needs to be **broken**.\nAnd the text goes on with a list:\n* short item\n* a *somewhat longer item* (with a part in **bold**)";
+fn taken(alloc: Global, out: &CutOut) -> Result<String, AllocError> {
+    String::from_str(alloc, str::from_utf8(out.taken()).unwrap_or("no text"))
+}
 
-// The columns of its lines at 25 columns.
-const LENGTHS: &[usize] = &[25, 19, 25, 7, 12, 25, 23];
+/// How many bytes and lines an answer has.
+pub fn counts(alloc: Global, answer: &str) -> Result<String, AllocError> {
+    let lines = answer.lines().count();
+    format!(in alloc; "{} bytes in {lines} lines", answer.len())
+}
 
-#[test]
-fn lengths_at_25_columns(rt: HostRuntime) -> Result<(), Fail> {
-    let skin = MadSkin::default();
-    let text = skin.text(rt.alloc(), LONG, Some(25))?;
-    assert!(rt; text.lines.len() == LENGTHS.len() && text.content_width() == 25);
-    for (line, length) in text.lines.iter().zip(LENGTHS) {
-        assert!(rt; line.visible_length() == *length, "{length}");
+/// The columns of a text's lines at a width.
+pub fn lengths(asked: &Asked, width: usize) -> Result<String, Refusal> {
+    let text = asked.skin.text(asked.alloc, asked.text, Some(width))?;
+    let mut lengths = String::new(asked.alloc);
+    for line in &text.lines {
+        push_length(asked.alloc, &mut lengths, line)?;
     }
-    Ok(())
+    Ok(lengths)
 }
 
-#[test]
-fn lengths_at_all_widths(rt: HostRuntime) -> Result<(), Fail> {
-    let skin = MadSkin::default();
-    for width in 3..50 {
-        let text = skin.text(rt.alloc(), LONG, Some(width))?;
-        for line in &text.lines {
-            assert!(rt; line.visible_length() <= width && line.visible_length() > 0);
+fn push_length(alloc: Global, lengths: &mut String, line: &FmtLine) -> Result<(), AllocError> {
+    let length = format!(in alloc; "{} ", line.visible_length())?;
+    lengths.push_str(length.as_str())
+}
+
+/// Whether at each width from one to another no line of a text is too wide or empty, else the lengths at the first where one is.
+pub fn widths(asked: &Asked) -> Result<String, Refusal> {
+    let [first, end, ..] = asked.numbers;
+    for width in first..end {
+        if !keeps_to(asked, width)? {
+            return lengths(asked, width);
         }
     }
-    Ok(())
+    Ok(String::from_str(asked.alloc, "well")?)
+}
+
+fn keeps_to(asked: &Asked, width: usize) -> Result<bool, AllocError> {
+    let text = asked.skin.text(asked.alloc, asked.text, Some(width))?;
+    for line in &text.lines {
+        let length = line.visible_length();
+        if length == 0 || length > width {
+            return Ok(false);
+        }
+    }
+    Ok(true)
 }

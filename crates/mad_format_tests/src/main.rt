@@ -1,0 +1,52 @@
+//! Answers the rows of `data/`: what lines are laid out as, where the bounds of wraps start, and what becomes of tables.
+#![tactic(auto)]
+
+mod lines;
+mod pictures;
+mod skins;
+mod tables;
+mod words;
+mod wraps;
+
+use mad_term::Error;
+use std::alloc::{AllocError, Global};
+use std::io;
+use test_rows::Calls;
+
+fn main(rt: HostRuntime) -> io::Result<()> {
+    test_rows::run(&rt, &LayoutCalls)
+}
+
+struct LayoutCalls;
+
+impl Calls for LayoutCalls {
+    fn answer(&self, alloc: Global, call: &str, text: &str) -> Result<String, AllocError> {
+        let (name, words) = call.split_once(' ').unwrap_or((call, ""));
+        let mut picture = String::new(alloc);
+        match push_answer(alloc, &mut picture, name, words, text) {
+            Ok(()) => Ok(picture),
+            Err(Error::Memory) => Err(AllocError),
+            Err(error) => format!(in alloc; "refused: {error}"),
+        }
+    }
+}
+
+fn push_answer(
+    alloc: Global,
+    picture: &mut String,
+    name: &str,
+    words: &str,
+    text: &str,
+) -> Result<(), Error> {
+    match name {
+        "wrap" => wraps::wrap(alloc, picture, words, text),
+        "check" => wraps::check(alloc, picture, words, text),
+        "margins" => lines::margins(alloc, picture, words, text),
+        "long" => lines::long(alloc, picture, words, text),
+        "lay" => tables::lay(alloc, picture, words, text),
+        "fix" => tables::fix(alloc, picture, words, text),
+        "tables" => tables::tables(alloc, picture, words, text),
+        "row" => tables::row(alloc, picture, words, text),
+        _ => Ok(picture.push_str("no such call")?),
+    }
+}

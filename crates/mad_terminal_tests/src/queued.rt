@@ -1,0 +1,119 @@
+//! What each call that writes in a style writes, and what it is refused by.
+
+use crate::devices;
+use crate::words::{number, style_of};
+use mad_style::{CompoundStyle, LineStyle, StyledChar};
+use mad_term::{ClearType, CutOut, Error};
+use std::alloc::{AllocError, Global};
+
+/// The answer of a call of this module, or of one of the next.
+pub fn answer(alloc: Global, name: &str, rest: &str, text: &str) -> Result<String, AllocError> {
+    let (first, words) = rest.split_once(' ').unwrap_or((rest, ""));
+    let style = CompoundStyle::from(style_of(words));
+    match name {
+        "write" => written(alloc, first, style, text),
+        "repeat" => repeated(alloc, first, style, text),
+        "repeated" => repeated_char(alloc, first, style),
+        "push" => pushed(alloc, first, style),
+        _ => devices::answer(alloc, name, first, text),
+    }
+}
+
+/// What a device has taken, after what the call was refused by.
+pub fn sent(alloc: Global, written: Result<(), Error>, out: &CutOut) -> Result<String, AllocError> {
+    let taken = String::from_utf8_lossy(alloc, out.taken())?;
+    match written {
+        Ok(()) => Ok(taken),
+        Err(error) => format!(in alloc; "refused: {error}\n{taken}"),
+    }
+}
+
+// A device whose flush fails: a call that flushes would be refused.
+fn device(alloc: Global) -> Result<CutOut, AllocError> {
+    CutOut::new(alloc, 7, 1000, true)
+}
+
+fn written(
+    alloc: Global,
+    call: &str,
+    style: CompoundStyle,
+    text: &str,
+) -> Result<String, AllocError> {
+    let mut out = device(alloc)?;
+    let written = write_in_style(alloc, &mut out, call, style, text);
+    sent(alloc, written, &out)
+}
+
+fn write_in_style(
+    alloc: Global,
+    out: &mut CutOut,
+    call: &str,
+    style: CompoundStyle,
+    text: &str,
+) -> Result<(), Error> {
+    match call {
+        "queue" => style.queue(alloc, out, text),
+        "queue_str" => style.queue_str(alloc, out, text),
+        "queue_fg" => style.queue_fg(alloc, out),
+        "queue_bg" => style.queue_bg(alloc, out),
+        "clear" => style.clear(alloc, out, ClearType::UntilNewLine),
+        "repeat_string" => LineStyle::from(style).repeat_string(alloc, out, text, 2),
+        "repeat_space" => LineStyle::from(style).repeat_space(alloc, out, 3),
+        _ => write_char(alloc, out, call, first_char(style, text)),
+    }
+}
+
+// The first character of a text in a style.
+fn first_char(style: CompoundStyle, text: &str) -> StyledChar {
+    style.style_char(text.chars().next().unwrap_or('?'))
+}
+
+fn write_char(
+    alloc: Global,
+    out: &mut CutOut,
+    call: &str,
+    styled: StyledChar,
+) -> Result<(), Error> {
+    match call {
+        "queue_char" => styled.queue(alloc, out),
+        "queue_repeat" => styled.queue_repeat(alloc, out, 2),
+        _ => LineStyle::from(*styled.compound_style()).repeat_char(
+            alloc,
+            out,
+            styled.get_char(),
+            2,
+        ),
+    }
+}
+
+// A text so often in a style.
+fn repeated(
+    alloc: Global,
+    count: &str,
+    style: CompoundStyle,
+    text: &str,
+) -> Result<String, AllocError> {
+    let mut out = device(alloc)?;
+    let count = number(Some(count)).unwrap_or(0);
+    let written = style.repeat_string(alloc, &mut out, text, count);
+    sent(alloc, written, &out)
+}
+
+// A bullet so often in a style, as a text of its own.
+fn repeated_char(alloc: Global, count: &str, style: CompoundStyle) -> Result<String, AllocError> {
+    let count = number(Some(count)).unwrap_or(0);
+    match style.style_char('•').repeated(alloc, count) {
+        Ok(repeated) => repeated.to_string(alloc),
+        Err(_) => String::from_str(alloc, "want of memory"),
+    }
+}
+
+// A bullet in a style, pushed once, and then so often.
+fn pushed(alloc: Global, count: &str, style: CompoundStyle) -> Result<String, AllocError> {
+    let bullet = style.style_char('•');
+    let count = number(Some(count)).unwrap_or(0);
+    let mut row = String::new(alloc);
+    bullet.push(&mut row)?;
+    bullet.push_repeated(&mut row, count)?;
+    Ok(row)
+}

@@ -1,4 +1,0 @@
-//! What a plain terminal shows.
-
-mod pictures;
-mod screens;

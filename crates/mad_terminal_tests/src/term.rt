@@ -1,8 +1,0 @@
-//! What terminals take: bytes, devices, errors.
-
-mod commands;
-mod devices;
-mod errors;
-mod queue;
-mod repeats;
-mod styles;

@@ -1,0 +1,136 @@
+//! An editor after some calls. A picture of it shows the cursor as a bar in the text, and then what is selected.
+
+use mad_edit::InputFieldContent;
+use mad_lines::Pos;
+use std::alloc::{AllocError, Global};
+use std::fmt::Write;
+
+fn draw_text(picture: &mut String, content: &InputFieldContent) -> Result<(), AllocError> {
+    let mut shown = content.try_clone(*picture.allocator())?;
+    shown.insert_char('▮')?;
+    write!(picture, "{shown}\n")
+}
+
+fn draw(picture: &mut String, content: &InputFieldContent) -> Result<(), AllocError> {
+    draw_text(picture, content)?;
+    if !content.has_selection() {
+        return Ok(());
+    }
+    let selected = content.selection_string()?;
+    write!(picture, "selected {selected}\n")
+}
+
+// Puts in two texts that were cut out of a line, the first after its first character and the second at its start.
+fn undo(content: &mut InputFieldContent, texts: &str) -> Result<(), AllocError> {
+    let (first, second) = texts.split_once(' ').unwrap_or((texts, ""));
+    content.undo_cuts(&[(Pos::new(1, 0), first), (Pos::new(0, 0), second)])
+}
+
+fn put_in(content: &mut InputFieldContent, call: &str, text: &str) -> Result<(), AllocError> {
+    match call {
+        "insert_char" => content.insert_char(text.chars().next().unwrap_or(' ')),
+        "replace_selection" => content.replace_selection(text),
+        _ => undo(content, text),
+    }
+}
+
+// Calls that need no memory. An unknown one does nothing, and none does all that it has to.
+fn moved(content: &mut InputFieldContent, call: &str) -> bool {
+    match call {
+        "move_down" => content.move_down(),
+        "move_word_left" => content.move_word_left(),
+        "move_current_line_down" => content.move_current_line_down(),
+        "select_word_around" => content.select_word_around(),
+        "select_non_space_around" => content.select_non_space_around(),
+        "clear" => {
+            content.clear();
+            true
+        }
+        _ => call.is_empty(),
+    }
+}
+
+// Applies a call, and tells whether that did something.
+fn apply(content: &mut InputFieldContent, call: &str) -> Result<bool, AllocError> {
+    match call {
+        "del_char_left" => content.del_char_left(),
+        "del_selection" => content.del_selection(),
+        "del_word_left" => content.del_word_left(),
+        "del_word_right" => content.del_word_right(),
+        "insert_new_line" => {
+            content.insert_new_line()?;
+            Ok(true)
+        }
+        _ => Ok(moved(content, call)),
+    }
+}
+
+fn draw_call(
+    picture: &mut String,
+    content: &mut InputFieldContent,
+    call: &str,
+) -> Result<(), AllocError> {
+    if let Some((call, text)) = call.split_once(' ') {
+        put_in(content, call, text)?;
+    } else if !apply(content, call)? {
+        picture.push_str("nothing: ")?;
+    }
+    draw(picture, content)
+}
+
+fn draw_calls(
+    picture: &mut String,
+    content: &mut InputFieldContent,
+    calls: &str,
+) -> Result<(), AllocError> {
+    for call in calls.split(", ") {
+        draw_call(picture, content, call)?;
+    }
+    Ok(())
+}
+
+// An editor of a text. The numbers are the cursor's column and line, and then the tail's.
+fn placed(alloc: Global, numbers: &[usize], text: &str) -> Result<InputFieldContent, AllocError> {
+    let mut content = InputFieldContent::from(alloc, text)?;
+    if let [x, y, ..] = *numbers {
+        content.set_cursor_pos(Pos::new(x, y));
+    }
+    if let [_, _, x, y] = *numbers {
+        content.set_selection_tail(Pos::new(x, y));
+    }
+    Ok(content)
+}
+
+/// An editor after each of some calls.
+pub(crate) fn edited(
+    alloc: Global,
+    numbers: &[usize],
+    calls: &str,
+    text: &str,
+) -> Result<String, AllocError> {
+    let mut content = placed(alloc, numbers, text)?;
+    let front = if content.is_str(text) {
+        ""
+    } else {
+        "another text: "
+    };
+    let mut picture = String::from_str(alloc, front)?;
+    draw_calls(&mut picture, &mut content, calls)?;
+    Ok(picture)
+}
+
+fn draw_cut(picture: &mut String, content: &mut InputFieldContent) -> Result<(), AllocError> {
+    let cut = content.cut_selection()?;
+    write!(picture, "cut: {cut}\nleft: ")?;
+    draw_text(picture, content)?;
+    content.insert_str(cut.as_str())
+}
+
+/// What is cut out of an editor, what is left, and that with the cut put in again.
+pub(crate) fn cut(alloc: Global, numbers: &[usize], text: &str) -> Result<String, AllocError> {
+    let mut picture = String::new(alloc);
+    let mut content = placed(alloc, numbers, text)?;
+    draw_cut(&mut picture, &mut content)?;
+    write!(picture, "again: {content}")?;
+    Ok(picture)
+}

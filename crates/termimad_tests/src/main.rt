@@ -1,0 +1,81 @@
+//! Rows that cross the crates: texts as pictures of what a plain terminal shows, texts as they are written, and skins as JSON texts.
+//!
+//! A call is `NAME NUMBERS SKIN`. An area's numbers are its left, top, width and height. The skin is the rest of the line: `default`,
+//! `dark`, `light`, `ascii` or JSON text, or no style where there is no rest.
+//!
+//! 1. `asked`: what a call asks for; `skins`: skins and their values; `refusal`: why a call has no answer.
+//! 2. `screens`: pictures of areas and views; `texts`: what is written.
+#![tactic(auto)]
+
+mod asked;
+mod refusal;
+mod screens;
+mod skins;
+mod texts;
+
+use asked::{Asked, numbers_of};
+use refusal::Refusal;
+use std::alloc::{AllocError, Global};
+use std::io;
+use test_rows::Calls;
+
+fn main(rt: HostRuntime) -> io::Result<()> {
+    test_rows::run(&rt, &LibraryCalls)
+}
+
+struct LibraryCalls;
+
+impl Calls for LibraryCalls {
+    fn answer(&self, alloc: Global, call: &str, text: &str) -> Result<String, AllocError> {
+        match answer_of(alloc, call, text) {
+            Ok(answer) => Ok(answer),
+            Err(refusal) => refusal.told(alloc),
+        }
+    }
+}
+
+// `large COUNT CALL` counts what the call answers of the text so many times.
+fn answer_of(alloc: Global, call: &str, text: &str) -> Result<String, Refusal> {
+    let (name, words) = call.split_once(' ').unwrap_or((call, ""));
+    match name {
+        "skin" => skins::changes(alloc, text),
+        "deep" => skins::deep_changes(alloc, numbers_of(words).0[0], text),
+        "large" => large_answer(alloc, words, text),
+        _ => answer_in_skin(alloc, name, words, text),
+    }
+}
+
+fn large_answer(alloc: Global, words: &str, text: &str) -> Result<String, Refusal> {
+    let (numbers, call) = numbers_of(words);
+    let (name, words) = call.split_once(' ').unwrap_or((call, ""));
+    let text = text.repeat(alloc, numbers[0])?;
+    let answer = answer_in_skin(alloc, name, words, text.as_str())?;
+    Ok(texts::counts(alloc, answer.as_str())?)
+}
+
+fn answer_in_skin(alloc: Global, name: &str, words: &str, text: &str) -> Result<String, Refusal> {
+    let (numbers, word) = numbers_of(words);
+    let skin = skins::skin_of(alloc, word)?;
+    let asked = Asked {
+        alloc,
+        skin,
+        numbers,
+        text,
+    };
+    answer_asked(name, &asked)
+}
+
+fn answer_asked(name: &str, asked: &Asked) -> Result<String, Refusal> {
+    match name {
+        "area" => screens::area(asked),
+        "view" => screens::view(asked, false, false),
+        "scrolled" => screens::view(asked, false, true),
+        "marks" => screens::view(asked, true, false),
+        "cut" => texts::cut_view(asked),
+        "lengths" => texts::lengths(asked, asked.numbers[0]),
+        "widths" => texts::widths(asked),
+        "value" => skins::value(asked),
+        "reads_back" => skins::reads_back(asked),
+        _ => texts::written(asked, name),
+    }
+}

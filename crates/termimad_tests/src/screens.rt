@@ -1,0 +1,98 @@
+//! Pictures of what a plain terminal shows: a line for each row of the screen. Where there are looks, lines of their letters follow, and
+//! an `x` in each look.
+
+ghost use Rattle.termimad.specs.Areas.{IsWithinLimits};
+
+use crate::asked::Asked;
+use crate::refusal::Refusal;
+use std::alloc::{AllocError, Global};
+use termimad::screen::{Pen, Screen};
+use termimad::{
+    Area, ContentStyle, CutOut, FmtText, ParseOptions, StyledContent, TextView, parse_text_with,
+};
+
+// More than any row here writes.
+const ROOM: usize = 20_000;
+
+/// The picture of a text in an area.
+pub fn area(asked: &Asked) -> Result<String, Refusal> {
+    let area = asked.area();
+    let mut out = CutOut::new(asked.alloc, ROOM, ROOM, false)?;
+    asked
+        .skin
+        .write_in_area_on(asked.alloc, &mut out, asked.text, &area)?;
+    picture(asked.alloc, &area, out.taken())
+}
+
+/// The picture of a view whose field `scroll` is the last number, or that is asked to scroll so far. Marks may go on over lines.
+pub fn view(asked: &Asked, continue_spans: bool, is_asked: bool) -> Result<String, Refusal> {
+    let area = asked.area();
+    let options = ParseOptions { continue_spans };
+    let text = parse_text_with(asked.alloc, asked.text, options)?;
+    let text = FmtText::from_text(asked.alloc, &asked.skin, text, Some(area.width.into()))?;
+    let mut view = TextView::from(&area, &text);
+    if is_asked {
+        view.set_scroll(asked.numbers[4]);
+    } else {
+        view.scroll = asked.numbers[4];
+    }
+    let mut out = CutOut::new(asked.alloc, ROOM, ROOM, false)?;
+    view.write_on(asked.alloc, &mut out)?;
+    picture(asked.alloc, &area, out.taken())
+}
+
+// The picture of a screen that has read these bytes: one of points as large as the area, of 14 columns and four rows at least.
+fn picture(alloc: Global, area: &Area, bytes: &[u8]) -> Result<String, Refusal>
+    requires { IsWithinLimits area.now }
+{
+    let mut screen = points(alloc, area.right().max(14), area.bottom().max(4))?;
+    screen.read_bytes(bytes)?;
+    let looks = looks_of(alloc, &screen)?;
+    Ok(format!(in alloc; "{screen}{looks}")?)
+}
+
+// A screen of points.
+fn points(alloc: Global, width: u16, height: u16) -> Result<Screen, Refusal> {
+    let mut screen = Screen::new(alloc, width, height)?;
+    let row = ".".repeat(alloc, width.into())?;
+    for y in 1..=height {
+        put_row(alloc, &mut screen, y, row.as_str())?;
+    }
+    Ok(screen)
+}
+
+fn put_row(alloc: Global, screen: &mut Screen, y: u16, row: &str) -> Result<(), Refusal> {
+    let row = format!(in alloc; "\x1b[{y};1H{row}")?;
+    Ok(screen.read_bytes(row.as_bytes())?)
+}
+
+// The letters of a screen's looks, and the looks themselves. The pen is the default one again after all that is written.
+fn looks_of(alloc: Global, screen: &Screen) -> Result<String, AllocError> {
+    let looks = screen.looks()?;
+    if looks.pens().is_empty() && screen.pen() == Pen::default() {
+        return Ok(String::new(alloc));
+    }
+    let mut text = format!(in alloc; "{looks}")?;
+    for pen in looks.pens() {
+        push_sample(alloc, &mut text, *pen)?;
+    }
+    Ok(text)
+}
+
+fn push_sample(alloc: Global, text: &mut String, pen: Pen) -> Result<(), AllocError> {
+    let sample = format!(in alloc; "{}\n", sample(pen))?;
+    text.push_str(sample.as_str())
+}
+
+fn sample(pen: Pen) -> StyledContent<'static> {
+    let style = ContentStyle {
+        foreground_color: pen.fg,
+        background_color: pen.bg,
+        underline_color: pen.underline,
+        attributes: pen.codes,
+    };
+    StyledContent {
+        style,
+        content: "x",
+    }
+}
