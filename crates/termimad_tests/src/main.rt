@@ -4,11 +4,12 @@
 //! `dark`, `light`, `ascii` or JSON text, or no style where there is no rest.
 //!
 //! 1. `asked`: what a call asks for; `skins`: skins and their values; `refusal`: why a call has no answer.
-//! 2. `screens`: pictures of areas and views; `texts`: what is written.
+//! 2. `screens`: pictures of areas and views; `texts`: what is written; `runs`: runs of the program.
 #![tactic(auto)]
 
 mod asked;
 mod refusal;
+mod runs;
 mod screens;
 mod skins;
 mod texts;
@@ -41,6 +42,8 @@ fn answer_of(alloc: Global, call: &str, text: &str) -> Result<String, Refusal> {
         "skin" => skins::changes(alloc, text),
         "deep" => skins::deep_changes(alloc, numbers_of(words).0[0], text),
         "large" => large_answer(alloc, words, text),
+        "run" => Ok(runs::run(alloc, runs::ROOM, words, text)?),
+        "run_in_twenty_bytes" => Ok(runs::run(alloc, 20, words, text)?),
         _ => answer_in_skin(alloc, name, words, text),
     }
 }

@@ -1,35 +1,17 @@
-//! The program `termimad-view`: connects the standard streams to [`run`](program::run).
-//!
-//! In the order of the work:
-//!
-//! 1. [`failure`]: how a run fails, and what it says then.
-//! 2. [`number`], [`skin`], [`call`]: what the arguments ask for; [`notice`]: what is said of their skin.
-//! 3. [`input`]: reading a source to its end.
-//! 4. [`writing`]: what a call writes of its text.
-//! 5. [`program`]: a run, over any devices.
+//! The program `termimad-view`: connects the standard streams to [`run`](termimad_run::run).
 #![tactic(auto)]
 
 ghost use Rattle.std.specs.Prelude.{◌≡◌, drop, IfOk, MatchResult};
 ghost use Rattle.std.specs.Vec.Iter.{into_iter_items};
-ghost use Rattle.termimad_view.specs.Failures.{status_of, line_of, SaysOnce};
-ghost use Rattle.termimad_view.specs.Runs.{HasRunOnStreams};
+ghost use Rattle.termimad_run.specs.Failures.{status_of, line_of, SaysOnce};
+ghost use Rattle.termimad_run.specs.Runs.{HasRunOnStreams};
 
-mod call;
-mod failure;
-mod input;
-mod notice;
-mod number;
-mod program;
-mod skin;
-mod writing;
-
-use failure::{Failure, refuse};
-use program::run;
 use std::alloc::{AllocError, Global};
 use std::io::{BufWriter, ErrorKind};
 use std::process::ExitCode;
 use std::{env, io};
 use termimad::{Out, Stream};
+use termimad_run::{Failure, refuse, run};
 
 fn main(rt: HostRuntime) -> ExitCode {
     let mut err = Stream::new(rt.stderr());

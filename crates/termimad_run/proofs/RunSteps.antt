@@ -1,0 +1,93 @@
+-- How a run ends at each of its steps.
+use Rattle.std.proofs.Common.{◌≡◌, ℕ, List, Result, Ok, Err, IsUtf8, refl, ap, sym, ◌∙◌, subst, inl, inr}
+use Rattle.std.specs.Result.{IsErrAnd}
+use Rattle.std.proofs.lemmas.Result.{err_from_is_err_and}
+use Rattle.mad_term.specs.Trace.{Trace, failed, flushed}
+use Rattle.mad_term.specs.declared.errors.Error.{Error}
+use Rattle.mad_term.specs.declared.errors.Error.TheVariants.{IO, InsufficientWidth, Memory as NoMemory}
+use Rattle.termimad.specs.declared.MadSkin.{MadSkin}
+use Rattle.termimad_run.specs.declared.call.Command.{Command}
+use Rattle.termimad_run.specs.declared.call.Command.TheVariants.{InArea, AtWidth, Inline}
+use Rattle.mad_term.proofs.Traces.{took_flushed}
+use Rattle.termimad.specs.Headline.{AreShownAcross}
+use Rattle.termimad.specs.Shown.{AreShownIn}
+use Rattle.termimad_run.specs.declared.failure.Failure.{Failure}
+use Rattle.termimad_run.specs.declared.failure.Failure.TheVariants.{Io, Usage, NotUtf8, Skin, Memory}
+use Rattle.termimad_run.specs.Calls.{RefusesWords}
+use Rattle.termimad_run.specs.Failures.{failure_of}
+use Rattle.termimad_run.specs.Reading.{ReadsWhole, ReadingFails}
+use Rattle.termimad_run.specs.Runs.{Devices, Starts, Started, FailsToStart, HasRead, WritesCall, ShowsCall, RunsTo}
+
+-- the call that was parsed
+abbrev pub started : (words : List (List ℕ)) (old new : Trace) (command : Command) (skin : MadSkin) (unknown : List (List ℕ)) → Starts words old command skin unknown new → Started words old new
+started words old new command skin unknown asked = record { command = command; skin = skin; unknown = unknown; asked = asked }
+
+same_devices : (old new : Devices) → new.input ≡ old.input → new.out ≡ old.out → new.err ≡ old.err → new ≡ old
+same_devices old new input out err =
+    ap (λ (i : Trace). let d : Devices = record { input = i; out = new.out; err = new.err } in d) input
+    ∙ ap (λ (o : Trace). let d : Devices = record { input = old.input; out = o; err = new.err } in d) out
+    ∙ ap (λ (e : Trace). let d : Devices = record { input = old.input; out = old.out; err = e } in d) err
+
+refused_words : (T : Type 0) (words : List (List ℕ)) (failure : Failure) (old new : Devices) → RefusesWords words failure → new ≡ old → RunsTo {T = T} words old (Err failure) new
+refused_words T words Usage old new h same = (h, same)
+refused_words T words Skin old new h same = (h, same)
+refused_words T words Memory old new h same = inl (h, same)
+refused_words T words Io old new h same = absurd h
+refused_words T words NotUtf8 old new h same = absurd h
+
+-- the exit at the words
+pub call_exit : {T : Type 0} (words : List (List ℕ)) (r : Result T Failure) (failure : Failure) (old new : Devices) → IsErrAnd r (λ e. e ≡ failure) → FailsToStart words old.err failure new.err → new.input ≡ old.input → new.out ≡ old.out → RunsTo words old r new
+call_exit {T} words r failure old new is h input out =
+    let p = err_from_is_err_and r is in
+    subst (λ (s : Result T Failure). RunsTo words old s new) (sym (p.1 ∙ ap Err p.2)) (refused_words T words failure old new h.0 (same_devices old new input out h.1))
+
+failed_to_read : (T : Type 0) (words : List (List ℕ)) (failure : Failure) (old new : Devices) → Started words old.err new.err → ReadingFails old.input failure new.input → new.out ≡ old.out → RunsTo {T = T} words old (Err failure) new
+failed_to_read T words Io old new call h out = inl (record { call = call; stopped = h; unwritten = out })
+failed_to_read T words Memory old new call h out = inr (inl (record { call = call; stopped = h; unwritten = out }))
+failed_to_read T words Usage old new call h out = absurd h
+failed_to_read T words NotUtf8 old new call h out = absurd h
+failed_to_read T words Skin old new call h out = absurd h
+
+-- what was read is a text
+pub has_read : (old new : Trace) (bytes slice text : List ℕ) → ReadsWhole old bytes new → slice ≡ bytes → text ≡ slice → IsUtf8 slice → HasRead old text new
+has_read old new bytes slice text read p q decoded = record {
+  whole = subst (λ (b : List ℕ). ReadsWhole old b new) (sym (q ∙ p)) read;
+  decoded = subst IsUtf8 (sym q) decoded;
+}
+
+-- the exit at a reading
+pub read_exit : {T : Type 0} (words : List (List ℕ)) (r : Result T Failure) (failure : Failure) (old new : Devices) → IsErrAnd r (λ e. e ≡ failure) → Started words old.err new.err → ReadingFails old.input failure new.input → new.out ≡ old.out → RunsTo words old r new
+read_exit {T} words r failure old new is call h out =
+    let p = err_from_is_err_and r is in
+    subst (λ (s : Result T Failure). RunsTo words old s new) (sym (p.1 ∙ ap Err p.2)) (failed_to_read T words failure old new call h out)
+
+failed_to_write : (T : Type 0) (words : List (List ℕ)) (e : Error) (text : List ℕ) (old new : Devices) (call : Started words old.err new.err) → HasRead old.input text new.input → WritesCall {T = Unit {0}} call.skin call.command text old.out (Err e) new.out → RunsTo {T = T} words old (Err (failure_of e)) new
+failed_to_write T words (IO x) text old new call read h = inr (inl (record { call = call; text = text; read = read; error = IO x; so = refl; wrote = h }))
+failed_to_write T words (InsufficientWidth x) text old new call read h = inr (inl (record { call = call; text = text; read = read; error = InsufficientWidth x; so = refl; wrote = h }))
+failed_to_write T words NoMemory text old new call read h = inr (inr (record { call = call; text = text; read = read; error = NoMemory; so = refl; wrote = h }))
+
+-- the exit at a writing
+pub write_exit : {T : Type 0} (words : List (List ℕ)) (r : Result T Failure) (e : Error) (text : List ℕ) (old new : Devices) (call : Started words old.err new.err) → IsErrAnd r (λ f. f ≡ failure_of e) → HasRead old.input text new.input → WritesCall {T = Unit {0}} call.skin call.command text old.out (Err e) new.out → RunsTo words old r new
+write_exit {T} words r e text old new call is read h =
+    let p = err_from_is_err_and r is in
+    subst (λ (s : Result T Failure). RunsTo words old s new) (sym (p.1 ∙ ap Err p.2)) (failed_to_write T words e text old new call read h)
+
+-- the exit at a flush
+pub flush_exit : {T : Type 0} (words : List (List ℕ)) (r : Result T Failure) (text : List ℕ) (old new : Devices) (written : Trace) (call : Started words old.err new.err) → IsErrAnd r (λ f. f ≡ Io) → HasRead old.input text new.input → WritesCall {T = Unit {0}} call.skin call.command text old.out (Ok (tt {0})) written → new.out ≡ failed written → RunsTo words old r new
+flush_exit {T} words r text old new written call is read h out =
+    let p = err_from_is_err_and r is in
+    subst (λ (s : Result T Failure). RunsTo words old s new) (sym (p.1 ∙ ap Err p.2))
+    (inr (inr (record { call = call; text = text; read = read; written = written; wrote = h; unflushed = out })))
+
+-- a flush takes nothing from what is shown
+pub still_shown : (skin : MadSkin) (command : Command) (text : List ℕ) (old written new : Trace) → ShowsCall skin command text old written → new ≡ flushed written → ShowsCall skin command text old new
+still_shown skin (InArea area) text old written new (across, h) is = (
+  (across.0, across.1, record { shown = λ premises. let rows = across.2.shown premises in (rows.0, rows.1, took_flushed old written new (AreShownAcross rows.0 area) rows.2 is) }),
+  record {
+    lines = h.lines;
+    laid_out = h.laid_out;
+    shown = λ premises. took_flushed old written new (AreShownIn skin h.lines area 0) (h.shown premises) is;
+  },
+)
+still_shown skin (AtWidth width) text old written new h is = tt
+still_shown skin Inline text old written new h is = tt

@@ -1,0 +1,64 @@
+-- The words ask for one skin at most.
+use Rattle.std.proofs.Common.{◌≡◌, ℕ, List, [], ◌∷◌, get_or, ◌⊎◌, Option, Some, None, inl, inr, Err, refl, ap, sym, ◌∙◌, subst, arith}
+use Rattle.termimad.specs.declared.MadSkin.{MadSkin}
+use Rattle.termimad_run.specs.declared.call.Command.{Command}
+use Rattle.termimad_run.specs.declared.call.Command.TheVariants.{InArea, AtWidth, Inline}
+use Rattle.termimad_run.specs.declared.failure.Failure.{Failure}
+use Rattle.termimad_run.specs.declared.failure.Failure.TheVariants.{Io, Usage, NotUtf8, Skin, Memory}
+use Rattle.mad_term.specs.Trace.{Trace}
+use Rattle.termimad_run.specs.GivenSkins.{skin_given}
+use Rattle.termimad_run.specs.Calls.{IsSkinWord, Asks, AsksRefusedSkin}
+use Rattle.termimad_run.specs.Failures.{status_of}
+use Rattle.termimad_run.specs.Runs.{Devices, Started, RunsTo}
+
+one_word : (words : List (List ℕ)) (a b : Option (List ℕ)) → IsSkinWord words a → IsSkinWord words b → a ≡ b
+one_word [] a b h k = h ∙ sym k
+one_word (given ∷ []) a b h k = h ∙ sym k
+one_word (given ∷ next ∷ more) a b h k = absurd h
+
+first_byte : (m n : ℕ) (name xs ys : List ℕ) → name ≡ m ∷ xs → name ≡ n ∷ ys → m ≡ n
+first_byte m n name xs ys h k = ap (λ (l : List ℕ). get_or l 0 0) (sym h ∙ k)
+
+asked_once : (words : List (List ℕ)) (c d : Command) (a b : Option (List ℕ)) → Asks words c a → Asks words d b → a ≡ b
+asked_once [] c d a b h k = absurd h
+asked_once (name ∷ []) (InArea x) (InArea y) a b h k = absurd h.1
+asked_once (name ∷ l ∷ []) (InArea x) (InArea y) a b h k = absurd h.1
+asked_once (name ∷ l ∷ t ∷ []) (InArea x) (InArea y) a b h k = absurd h.1
+asked_once (name ∷ l ∷ t ∷ w ∷ []) (InArea x) (InArea y) a b h k = absurd h.1
+asked_once (name ∷ l ∷ t ∷ w ∷ e ∷ rest) (InArea x) (InArea y) a b h k = one_word rest a b h.1.1 k.1.1
+asked_once (name ∷ words) (InArea x) (AtWidth n) a b h k = absurd (let e : 97 ≡ 116 = first_byte 97 116 name _ _ h.0 k.0 in omega (arith, e))
+asked_once (name ∷ words) (InArea x) Inline a b h k = absurd (let e : 97 ≡ 105 = first_byte 97 105 name _ _ h.0 k.0 in omega (arith, e))
+asked_once (name ∷ words) (AtWidth n) (InArea x) a b h k = absurd (let e : 116 ≡ 97 = first_byte 116 97 name _ _ h.0 k.0 in omega (arith, e))
+asked_once (name ∷ []) (AtWidth n) (AtWidth m) a b h k = absurd h.1
+asked_once (name ∷ w ∷ rest) (AtWidth n) (AtWidth m) a b h k = one_word rest a b h.1.1 k.1.1
+asked_once (name ∷ words) (AtWidth n) Inline a b h k = absurd (let e : 116 ≡ 105 = first_byte 116 105 name _ _ h.0 k.0 in omega (arith, e))
+asked_once (name ∷ words) Inline (InArea x) a b h k = absurd (let e : 105 ≡ 97 = first_byte 105 97 name _ _ h.0 k.0 in omega (arith, e))
+asked_once (name ∷ words) Inline (AtWidth n) a b h k = absurd (let e : 105 ≡ 116 = first_byte 105 116 name _ _ h.0 k.0 in omega (arith, e))
+asked_once (name ∷ words) Inline Inline a b h k = one_word words a b h.1 k.1
+
+known_skin : (word : Option (List ℕ)) (given : MadSkin × List (List ℕ)) → skin_given word ≡ Some given → skin_given word ≡ None → ⊥
+known_skin word given h refused = let both : Some given ≡ None = sym h ∙ refused in cc
+
+-- a run that has started was asked for no skin that is refused
+pub never : (words : List (List ℕ)) (old new : Trace) → Started words old new → AsksRefusedSkin words → ⊥
+never words old new call h =
+    let asked = call.asked.asked in
+    known_skin asked.word (call.skin, call.unknown) asked.given (subst (λ word. skin_given word ≡ None) (asked_once words h.0 call.command h.1 asked.word h.2 asked.asks) h.3)
+
+-- a failure has the status of a refused skin only where the words ask for one
+pub skin_exit : (words : List (List ℕ)) (failure : Failure) (old new : Devices) → RunsTo {T = Unit {0}} words old (Err failure) new → status_of failure ≡ 4 → AsksRefusedSkin words
+skin_exit words Usage old new h e = absurd (omega (arith, e))
+skin_exit words Skin old new h e = h.0
+skin_exit words NotUtf8 old new h e = absurd (omega (arith, e))
+skin_exit words Io old new h e = absurd (omega (arith, e))
+skin_exit words Memory old new h e = absurd (omega (arith, e))
+
+-- words that ask for such a skin end so, or out of memory
+pub refused_exit : (words : List (List ℕ)) (failure : Failure) (old new : Devices) → RunsTo {T = Unit {0}} words old (Err failure) new → AsksRefusedSkin words → (status_of failure ≡ 4) ⊎ (status_of failure ≡ 5)
+refused_exit words Usage old new h asks = absurd (h.0 asks.0 asks.1 asks.2)
+refused_exit words Skin old new h asks = inl refl
+refused_exit words NotUtf8 old new h asks = absurd (never words _ _ h.call asks)
+refused_exit words Io old new (inl h) asks = absurd (never words _ _ h.call asks)
+refused_exit words Io old new (inr (inl h)) asks = absurd (never words _ _ h.call asks)
+refused_exit words Io old new (inr (inr h)) asks = absurd (never words _ _ h.call asks)
+refused_exit words Memory old new h asks = inr refl

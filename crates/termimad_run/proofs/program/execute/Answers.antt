@@ -1,0 +1,42 @@
+use Rattle.std.proofs.Common.{refl, subst, List, ℕ, IsUtf8}
+use Rattle.termimad_run.proofs.RunSteps.{call_exit, started, has_read, read_exit, write_exit, flush_exit, still_shown}
+use Rattle.termimad_run.proofs.program.execute.Goals as goal
+
+pub returns-in_err-call : goal.returns-in_err-call
+returns-in_err-call g c = call_exit _ _ _ _ _ c.from_residual.ensures.1 c.in_err-call.ensures refl refl
+
+pub returns-in_err-bytes : goal.returns-in_err-bytes
+returns-in_err-bytes g c =
+    read_exit _ _ _ _ _ c.from_residual-in_err-bytes.ensures.1 (started _ _ _ _ _ _ c.in_ok-call.ensures) c.in_err-bytes.ensures refl
+
+pub returns-in_default : goal.returns-in_default
+returns-in_default g c = record {
+  call = started _ _ _ _ _ _ c.in_ok-call.ensures;
+  bytes = c.in_ok-bytes.bytes.items;
+  read = c.in_ok-bytes.ensures;
+  undecoded = subst (λ (bytes : List ℕ). ¬ (IsUtf8 bytes)) c.as_slice.ensures.value c.in_default.ensures.cases.0;
+  unwritten = refl;
+}
+
+pub returns-in_err-write_call : goal.returns-in_err-write_call
+returns-in_err-write_call g c =
+    write_exit _ _ _ _ _ _ (started _ _ _ _ _ _ c.in_ok-call.ensures) c.from_residual-in_err-write_call.ensures.1
+    (has_read _ _ _ _ _ c.in_ok-bytes.ensures c.as_slice.ensures.value c.in-Ok.ensures.cases.0 c.in-Ok.ensures.cases.1)
+    c.in_err-write_call.ensures.writes
+
+pub returns-in_err-flush : goal.returns-in_err-flush
+returns-in_err-flush g c =
+    flush_exit _ _ _ _ _ _ (started _ _ _ _ _ _ c.in_ok-call.ensures) c.from_residual-in_err-flush.ensures.1
+    (has_read _ _ _ _ _ c.in_ok-bytes.ensures c.as_slice.ensures.value c.in-Ok.ensures.cases.0 c.in-Ok.ensures.cases.1)
+    c.in_ok-write_call.ensures.writes c.in_err-flush.ensures
+
+pub returns : goal.returns
+returns g c = record {
+  call = started _ _ _ _ _ _ c.in_ok-call.ensures;
+  text = c.in-Ok.text.now;
+  read = has_read _ _ _ _ _ c.in_ok-bytes.ensures c.as_slice.ensures.value c.in-Ok.ensures.cases.0 c.in-Ok.ensures.cases.1;
+  written = _;
+  wrote = c.in_ok-write_call.ensures.writes;
+  flushed = c.in_ok-flush.ensures;
+  shown = still_shown _ _ _ _ _ _ c.in_ok-write_call.ensures.shown c.in_ok-flush.ensures;
+}

@@ -1,0 +1,75 @@
+-- What the words after the program's name ask for. A word is its bytes.
+use Rattle.std.specs.Prelude.{◌≡◌, ℕ, ◌≤◌, List, [], ◌∷◌, codes, Option, Some, None, ⊤}
+use Rattle.termimad.specs.Areas.{IsWithinLimits}
+use Rattle.termimad.specs.declared.Area.{Area}
+use Rattle.termimad.specs.declared.MadSkin.{MadSkin}
+use Rattle.termimad_run.specs.declared.call.Command.{Command}
+use Rattle.termimad_run.specs.declared.call.Command.TheVariants.{InArea, AtWidth, Inline}
+use Rattle.termimad_run.specs.declared.failure.Failure.{Failure}
+use Rattle.termimad_run.specs.declared.failure.Failure.TheVariants.{Io, Usage, NotUtf8, Skin, Memory}
+use Rattle.termimad_run.specs.GivenSkins.{skin_given, IsJsonText}
+use Rattle.termimad_run.specs.Numbers.{IsNumber}
+
+-- The words L, T, W and H are the numbers of this area: at least four columns, and its right and bottom at most 65535.
+pub record IsAreaOf (left top width height : List ℕ) (area : Area) : Type 0 where
+  pub left_is : IsNumber left area.left
+  pub top_is : IsNumber top area.top
+  pub width_is : IsNumber width area.width
+  pub height_is : IsNumber height area.height
+  pub wide : 4 ≤ area.width
+  pub within : IsWithinLimits area
+
+-- the words in the place of [SKIN]: none, or one
+abbrev pub IsSkinWord : List (List ℕ) → Option (List ℕ) → Type 0
+IsSkinWord [] word = word ≡ None
+IsSkinWord (given ∷ []) word = word ≡ Some given
+IsSkinWord (given ∷ next ∷ more) word = ⊥
+
+-- the words after `area`: L T W H [SKIN]
+abbrev pub AsksArea : List (List ℕ) → Area → Option (List ℕ) → Type 0
+AsksArea (left ∷ top ∷ width ∷ height ∷ rest) area word = IsAreaOf left top width height area × IsSkinWord rest word
+AsksArea _ area word = ⊥
+
+-- the words after `text`: W [SKIN]
+abbrev pub AsksWidth : List (List ℕ) → ℕ → Option (List ℕ) → Type 0
+AsksWidth [] width word = ⊥
+AsksWidth (given ∷ rest) width word = IsNumber given width × IsSkinWord rest word
+
+-- The words ask for this: area L T W H [SKIN], text W [SKIN], or inline [SKIN].
+abbrev pub Asks : List (List ℕ) → Command → Option (List ℕ) → Type 0
+Asks [] command word = ⊥
+Asks (name ∷ words) (InArea area) word = (name ≡ codes "area") × AsksArea words area word
+Asks (name ∷ words) (AtWidth width) word = (name ≡ codes "text") × AsksWidth words width word
+Asks (name ∷ words) Inline word = (name ≡ codes "inline") × IsSkinWord words word
+
+-- the command's area has four columns at least, and lies within the limits of a screen
+abbrev pub IsAllowed : Command → Type 0
+IsAllowed (InArea area) = (4 ≤ area.width) × IsWithinLimits area
+IsAllowed (AtWidth width) = ⊤
+IsAllowed Inline = ⊤
+
+-- the words ask for nothing that the program does
+abbrev pub IsNoCall : List (List ℕ) → Type 0
+IsNoCall words = (command : Command) (word : Option (List ℕ)) → ¬ (Asks words command word)
+
+-- the words ask for something that the program does, in a skin that is refused
+abbrev pub AsksRefusedSkin : List (List ℕ) → Type 0
+AsksRefusedSkin words = (command : Command) × (word : Option (List ℕ)) × Asks words command word × (skin_given word ≡ None)
+
+-- the words ask for something that the program does, in a skin that is JSON text
+abbrev pub AsksJson : List (List ℕ) → Type 0
+AsksJson words = (command : Command) × (word : Option (List ℕ)) × Asks words command word × IsJsonText word
+
+-- The words are a call: what is to be written, in which skin, and which of its keys name no part of a skin.
+pub record IsCall (words : List (List ℕ)) (command : Command) (skin : MadSkin) (unknown : List (List ℕ)) : Type 0 where
+  pub word : Option (List ℕ)
+  pub asks : Asks words command word
+  pub given : skin_given word ≡ Some (skin, unknown)
+
+-- why the words are no call; memory is wanted by JSON text alone
+abbrev pub RefusesWords : List (List ℕ) → Failure → Type 0
+RefusesWords words Usage = IsNoCall words
+RefusesWords words Skin = AsksRefusedSkin words
+RefusesWords words Memory = AsksJson words
+RefusesWords words Io = ⊥
+RefusesWords words NotUtf8 = ⊥

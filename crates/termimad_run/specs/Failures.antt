@@ -1,0 +1,53 @@
+-- How a run ends that fails: its status, and what it says.
+use Rattle.std.specs.Prelude.{◌≡◌, ◌⊎◌, ℕ, List, [], ◌∷◌, ◌++◌, codes}
+use Rattle.termimad.specs.Trace.{Trace, after, CutShort}
+use Rattle.termimad.specs.declared.Error.{Error}
+use Rattle.termimad.specs.declared.Error.TheVariants.{IO, InsufficientWidth, Memory as NoMemory}
+use Rattle.termimad.specs.declared.SkinError.{SkinError}
+use Rattle.termimad.specs.declared.SkinError.TheVariants as skin_error
+use Rattle.termimad_run.specs.declared.failure.Failure.{Failure}
+use Rattle.termimad_run.specs.declared.failure.Failure.TheVariants.{Io, Usage, NotUtf8, Skin, Memory}
+
+-- its status
+abbrev pub status_of : Failure → ℕ
+status_of Io = 1
+status_of Usage = 2
+status_of NotUtf8 = 3
+status_of Skin = 4
+status_of Memory = 5
+
+-- the line on standard error
+abbrev pub line_of : Failure → List ℕ
+line_of Io = codes "termimad-view: io\n"
+line_of Usage = codes "usage: termimad-view area L T W H [SKIN] | text W [SKIN] | inline [SKIN]\n"
+line_of NotUtf8 = codes "termimad-view: input is not UTF-8\n"
+line_of Skin = codes "termimad-view: skin\n"
+line_of Memory = codes "termimad-view: memory\n"
+
+-- what the refusal of a writing call makes of a run; none refuses by a width
+abbrev pub failure_of : Error → Failure
+failure_of (IO e) = Io
+failure_of (InsufficientWidth e) = Io
+failure_of NoMemory = Memory
+
+-- the device took the text, or a front of it and then failed once
+abbrev pub SaysOnce : Trace → List ℕ → Trace → Type 0
+SaysOnce old text new = (new ≡ after old text) ⊎ CutShort old text new
+
+-- what the refusal of a skin makes of a run
+abbrev pub skin_failure : SkinError → Failure
+skin_failure skin_error.NotObject = Skin
+skin_failure (skin_error.WrongType key) = Skin
+skin_failure (skin_error.Style key error) = Skin
+skin_failure (skin_error.TwoNames key) = Skin
+skin_failure skin_error.Memory = Memory
+
+-- what is said of the keys that name no part of a skin: a line for each, in their order
+abbrev pub key_lines : List (List ℕ) → List ℕ
+key_lines [] = []
+key_lines (key ∷ keys) = codes "unknown key: " ++ (key ++ (10 ∷ key_lines keys))
+
+-- the device took a line for each of these keys, or a front of these lines and then failed once; without keys nothing happened
+abbrev pub SaysKeys : Trace → List (List ℕ) → Trace → Type 0
+SaysKeys old [] new = new ≡ old
+SaysKeys old (key ∷ keys) new = SaysOnce old (key_lines (key ∷ keys)) new

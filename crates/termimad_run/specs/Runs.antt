@@ -1,0 +1,144 @@
+-- The headline of the program: what a run does to its devices, and how it ends.
+use Rattle.std.specs.Prelude.{◌≡◌, ◌⊎◌, ℕ, false, List, [], ◌∷◌, ◌++◌, Some, Result, Ok, Err, IsErrOf, IsUtf8, ⊤}
+use Rattle.termimad.specs.Inline.{Item, IsInlineReading}
+use Rattle.termimad.specs.Lines.{LineContent}
+use Rattle.termimad.specs.Reading.{IsRead, unread_text}
+use Rattle.termimad.specs.Draws.{Draws}
+use Rattle.termimad.specs.Trace.{Trace, failed, flushed}
+use Rattle.termimad.specs.Stream.{untold}
+use Rattle.termimad.specs.declared.Error.{Error}
+use Rattle.termimad.specs.declared.Error.TheVariants.{Memory as NoMemory}
+use Rattle.termimad.specs.Headline.{ShowsFirstRows}
+use Rattle.termimad.specs.InArea.{WritesInArea, ShowsText}
+use Rattle.termimad.specs.Inlines.{inline_bytes}
+use Rattle.termimad.specs.WrittenParts.{WritesParts}
+use Rattle.termimad.specs.declared.MadSkin.{MadSkin}
+use Rattle.termimad_run.specs.declared.call.Command.{Command}
+use Rattle.termimad_run.specs.declared.call.Command.TheVariants.{InArea, AtWidth, Inline}
+use Rattle.termimad_run.specs.declared.failure.Failure.{Failure}
+use Rattle.termimad_run.specs.declared.failure.Failure.TheVariants.{Io, Usage, NotUtf8, Skin, Memory}
+use Rattle.termimad_run.specs.Calls.{IsCall, IsNoCall, AsksRefusedSkin, AsksJson, RefusesWords}
+use Rattle.termimad_run.specs.Failures.{failure_of, status_of, line_of, SaysOnce, SaysKeys}
+use Rattle.termimad_run.specs.Reading.{ReadsWhole, ReadingFails}
+use Rattle.termimad_run.specs.Lines.{IsWithoutLineEnd}
+
+-- the input, the output and the standard error of a run
+pub record Devices : Type 0 where
+  pub input : Trace
+  pub out : Trace
+  pub err : Trace
+
+-- The words are a call, and standard error was told which keys of its skin name no part of one.
+pub record Starts (words : List (List ℕ)) (old : Trace) (command : Command) (skin : MadSkin) (unknown : List (List ℕ)) (new : Trace) : Type 0 where
+  pub asked : IsCall words command skin unknown
+  pub said : SaysKeys old unknown new
+
+-- the words are no call, or there is no memory for their skin or for the lines of its unknown keys; nothing was said
+abbrev pub FailsToStart : List (List ℕ) → Trace → Failure → Trace → Type 0
+FailsToStart words old failure new = RefusesWords words failure × (new ≡ old)
+
+-- What a run was asked for, once its skin is read and the unknown keys are said. All that comes later, the first byte of the input
+-- too, comes after it.
+pub record Started (words : List (List ℕ)) (old new : Trace) : Type 0 where
+  pub command : Command
+  pub skin : MadSkin
+  pub unknown : List (List ℕ)
+  pub asked : Starts words old command skin unknown new
+
+-- What `inline` writes of a line: the bytes of its reading, of which there is exactly one, and a newline. Or memory for it was
+-- refused, and nothing went out.
+abbrev pub WritesLine : {T : Type 0} → MadSkin → List ℕ → Trace → Result T Error → Trace → Type 0
+WritesLine skin line old r new =
+    ((items : List Item) × IsInlineReading line items × Draws old (inline_bytes skin line items ++ (10 ∷ [])) r new) ⊎ (IsErrOf r NoMemory × (new ≡ old))
+
+-- What the output is asked to take of a text. It is the text in its area, or its lines, laid out at a width part by part. Of `inline`
+-- it is the line without its end, and a newline.
+abbrev pub WritesCall : {T : Type 0} → MadSkin → Command → List ℕ → Trace → Result T Error → Trace → Type 0
+WritesCall skin (InArea area) text old r new = WritesInArea skin text area old r new
+WritesCall skin (AtWidth width) text old r new = WritesParts skin (Some width) text old r new
+WritesCall skin Inline text old r new = (line : List ℕ) × IsWithoutLineEnd text line × WritesLine skin line old r new
+
+-- What a plain terminal shows that reads what was written. It is the first rows of the text in its area, by its characters and by a
+-- layout. Of the others nothing is said.
+abbrev pub ShowsCall : MadSkin → Command → List ℕ → Trace → Trace → Type 0
+ShowsCall skin (InArea area) text old new =
+    ((lines : List LineContent) × IsRead (unread_text false text) lines × ShowsFirstRows skin lines area old new) × ShowsText skin text area old new
+ShowsCall skin (AtWidth width) text old new = ⊤
+ShowsCall skin Inline text old new = ⊤
+
+-- The input was read whole and is a text.
+pub record HasRead (old : Trace) (text : List ℕ) (new : Trace) : Type 0 where
+  pub whole : ReadsWhole old text new
+  pub decoded : IsUtf8 text
+
+-- status 0: the whole input is a text, and the output took what the call writes of it and was then flushed, once
+pub record IsDone (words : List (List ℕ)) (old new : Devices) : Type 0 where
+  pub call : Started words old.err new.err
+  pub text : List ℕ
+  pub read : HasRead old.input text new.input
+  pub written : Trace
+  pub wrote : WritesCall call.skin call.command text old.out (Ok (tt {0})) written
+  pub flushed : new.out ≡ flushed written
+  pub shown : ShowsCall call.skin call.command text old.out new.out
+
+-- the input failed, or there was no memory for it; nothing was written
+pub record FailsToRead (words : List (List ℕ)) (old : Devices) (failure : Failure) (new : Devices) : Type 0 where
+  pub call : Started words old.err new.err
+  pub stopped : ReadingFails old.input failure new.input
+  pub unwritten : new.out ≡ old.out
+
+-- the whole input was read, and writing was refused
+pub record FailsToWrite (words : List (List ℕ)) (old : Devices) (failure : Failure) (new : Devices) : Type 0 where
+  pub call : Started words old.err new.err
+  pub text : List ℕ
+  pub read : HasRead old.input text new.input
+  pub error : Error
+  pub so : failure_of error ≡ failure
+  pub wrote : WritesCall {T = Unit {0}} call.skin call.command text old.out (Err error) new.out
+
+-- the output took everything, and then its flush failed
+pub record FailsToFlush (words : List (List ℕ)) (old new : Devices) : Type 0 where
+  pub call : Started words old.err new.err
+  pub text : List ℕ
+  pub read : HasRead old.input text new.input
+  pub written : Trace
+  pub wrote : WritesCall call.skin call.command text old.out (Ok (tt {0})) written
+  pub unflushed : new.out ≡ failed written
+
+-- the whole input was read and is no text; nothing was written
+pub record IsNoText (words : List (List ℕ)) (old new : Devices) : Type 0 where
+  pub call : Started words old.err new.err
+  pub bytes : List ℕ
+  pub read : ReadsWhole old.input bytes new.input
+  pub undecoded : ¬ (IsUtf8 bytes)
+  pub unwritten : new.out ≡ old.out
+
+-- What a run has done, by how it ended, without the line of its failure. The arguments come first, then the skin and what is said
+-- of its keys, then the input, and the output last.
+abbrev pub RunsTo : {T : Type 0} → List (List ℕ) → Devices → Result T Failure → Devices → Type 0
+RunsTo words old (Ok x) new = IsDone words old new
+RunsTo words old (Err Usage) new = IsNoCall words × (new ≡ old)
+RunsTo words old (Err Skin) new = AsksRefusedSkin words × (new ≡ old)
+RunsTo words old (Err NotUtf8) new = IsNoText words old new
+RunsTo words old (Err Io) new = FailsToRead words old Io new ⊎ (FailsToWrite words old Io new ⊎ FailsToFlush words old new)
+RunsTo words old (Err Memory) new = (AsksJson words × (new ≡ old)) ⊎ (FailsToRead words old Memory new ⊎ FailsToWrite words old Memory new)
+
+-- A run ended with this status. Without a failure it is 0 and nothing more is said; a failure has its own, and its line is said once.
+abbrev pub Answers : {T : Type 0} → Result T Failure → ℕ → Trace → Trace → Type 0
+Answers (Ok x) status told new = (status ≡ 0) × (new ≡ told)
+Answers (Err failure) status told new = (status ≡ status_of failure) × SaysOnce told (line_of failure) new
+
+-- A run, whole: there is a way of ending that its devices show, and that its status and the last line on standard error tell.
+pub record HasRun (words : List (List ℕ)) (old : Devices) (status : ℕ) (new : Devices) : Type 0 where
+  pub outcome : Result (Unit {0}) Failure
+  pub told : Trace
+  pub did : RunsTo words old outcome (record { input = new.input; out = new.out; err = told })
+  pub answered : Answers outcome status told new.err
+
+-- A run on some words, on an input and an output that had done nothing yet, ended with this status. Standard error went from the
+-- one trace to the other.
+pub record HasRunOnStreams (old : Trace) (status : ℕ) (new : Trace) : Type 0 where
+  pub words : List (List ℕ)
+  pub input : Trace
+  pub out : Trace
+  pub ran : HasRun words (record { input = untold; out = untold; err = old }) status (record { input = input; out = out; err = new })

@@ -1,0 +1,124 @@
+//! What the arguments ask for.
+
+ghost use Rattle.std.specs.Prelude.{◌≡◌, ℕ, List, Option, MatchOption, MatchResult, map, option_map, string_bytes};
+ghost use Rattle.termimad.specs.declared.Area.{Area as SomeArea};
+ghost use Rattle.termimad_run.specs.Calls.{Asks, IsNoCall, IsAreaOf, IsSkinWord, AsksArea, AsksWidth, IsCall, RefusesWords};
+
+use crate::failure::Failure;
+use crate::number::parse_number;
+use crate::skin::skin_of;
+use std::alloc::Global;
+use termimad::{Area, MadSkin};
+
+/// What is to be written.
+#[derive(Clone, PartialEq, Eq, Debug, Drop)]
+pub enum Command {
+    /// `area L T W H`: the text, in that area.
+    InArea(Area),
+    /// `text W`: the text, laid out at that width, in columns.
+    AtWidth(u16),
+    /// `inline`: the text, as one line.
+    Inline,
+}
+
+/// A call of the program.
+#[derive(Drop)]
+pub struct Call {
+    /// What is to be written.
+    pub command: Command,
+    /// In which skin.
+    pub skin: MadSkin,
+    /// The keys of that skin that name no part of one, in byte order.
+    pub unknown: Vec<String>,
+}
+
+/// The call that the words after the program's name are: `area L T W H [SKIN]`, `text W [SKIN]` or `inline [SKIN]`.
+///
+/// # Errors
+///
+/// `Usage`, where they are none of these; `Skin`, where SKIN is no skin. Or out of memory, where SKIN is JSON text.
+pub fn parse_call(alloc: Global, words: &[String]) -> Result<Call, Failure>
+    ensures { MatchResult result (λ call. IsCall (map string_bytes words.now) call.command call.skin (map string_bytes call.unknown.items))
+        (λ failure. RefusesWords (map string_bytes words.now) failure) }
+{
+    let Some((command, word)) = parse_words(words) else {
+        return Err(Failure::Usage);
+    };
+    let (skin, unknown) = skin_of(alloc, word)?;
+    Ok(Call {
+        command,
+        skin,
+        unknown,
+    })
+}
+
+// What the words ask for: the command, and the word in the place of SKIN.
+fn parse_words(words: &[String]) -> Option<(Command, Option<&str>)>
+    ensures { MatchOption result (IsNoCall (map string_bytes words.now))
+        (λ asked. Asks (map string_bytes words.now) asked.0 (option_map (λ word. word.now) asked.1)) }
+{
+    let (name, words) = words.split_first()?;
+    if name.as_str() == "area" {
+        let (area, word) = parse_area_call(words)?;
+        return Some((Command::InArea(area), word));
+    }
+    if name.as_str() == "text" {
+        let (width, word) = parse_text_call(words)?;
+        return Some((Command::AtWidth(width), word));
+    }
+    if name.as_str() == "inline" {
+        return Some((Command::Inline, skin_word(words)?));
+    }
+    None
+}
+
+// What the words after `area` ask for.
+fn parse_area_call(words: &[String]) -> Option<(Area, Option<&str>)>
+    ensures { MatchOption result ((area : SomeArea) (word : Option (List ℕ)) → ¬ (AsksArea (map string_bytes words.now) area word))
+        (λ asked. AsksArea (map string_bytes words.now) asked.0 (option_map (λ word. word.now) asked.1)) }
+{
+    let [left, top, width, height, rest @ ..] = words else {
+        return None;
+    };
+    let area = parse_area(left.as_str(), top.as_str(), width.as_str(), height.as_str())?;
+    Some((area, skin_word(rest)?))
+}
+
+// What the words after `text` ask for.
+fn parse_text_call(words: &[String]) -> Option<(u16, Option<&str>)>
+    ensures { MatchOption result ((width : ℕ) (word : Option (List ℕ)) → ¬ (AsksWidth (map string_bytes words.now) width word))
+        (λ asked. AsksWidth (map string_bytes words.now) asked.0 (option_map (λ word. word.now) asked.1)) }
+{
+    let [width, rest @ ..] = words else {
+        return None;
+    };
+    let width = parse_number(width.as_str())?;
+    Some((width, skin_word(rest)?))
+}
+
+// The area that these words are: at least four columns wide, and within the limits of a screen.
+fn parse_area(left: &str, top: &str, width: &str, height: &str) -> Option<Area>
+    ensures { MatchOption result ((area : SomeArea) → ¬ (IsAreaOf left.now top.now width.now height.now area))
+        (λ area. IsAreaOf left.now top.now width.now height.now area) }
+{
+    let left = parse_number(left)?;
+    let top = parse_number(top)?;
+    let width = parse_number(width)?;
+    let height = parse_number(height)?;
+    if width < 4 || left > u16::MAX - width || top > u16::MAX - height {
+        return None;
+    }
+    Some(Area::new(left, top, width, height))
+}
+
+// The word in the place of SKIN, if there is at most one.
+fn skin_word(words: &[String]) -> Option<Option<&str>>
+    ensures { MatchOption result ((word : Option (List ℕ)) → ¬ (IsSkinWord (map string_bytes words.now) word))
+        (λ word. IsSkinWord (map string_bytes words.now) (option_map (λ word. word.now) word)) }
+{
+    match words {
+        [] => Some(None),
+        [word] => Some(Some(word.as_str())),
+        _ => None,
+    }
+}

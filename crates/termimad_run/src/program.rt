@@ -1,0 +1,72 @@
+//! A run of the program, over any devices.
+
+ghost use Rattle.std.specs.Prelude.{◌≡◌, ◌↔◌, ◌⊎◌, MatchResult, map, string_bytes};
+ghost use Rattle.termimad_run.specs.Calls.{IsNoCall, AsksRefusedSkin};
+ghost use Rattle.termimad_run.specs.Runs.{Starts, FailsToStart, RunsTo, HasRun};
+
+use crate::call::{Call, parse_call};
+use crate::failure::{Failure, refuse};
+use crate::input::read_all;
+use crate::notice::say_unknown;
+use crate::writing::write_call;
+use std::alloc::Global;
+use termimad::{Out, Source};
+
+/// Runs the program on its arguments, without its own name, and answers its status.
+///
+/// The arguments are checked first, then the skin, whose unknown keys are said on `err`. Then the input is read whole
+/// and decoded, and then the output is written and flushed. A failure is said on `err`, in one line; a fault of `err`
+/// changes no status.
+pub fn run<I: Source, O: Out, E: Out>(
+    alloc: Global,
+    args: &[String],
+    input: &mut I,
+    out: &mut O,
+    err: &mut E,
+) -> u8
+    ensures run { HasRun (map string_bytes args.now)
+        (record { input = I.seen input.old; out = O.seen out.old; err = E.seen err.old }) result
+        (record { input = I.seen input.new; out = O.seen out.new; err = E.seen err.new }) }
+    ensures usage { (result ≡ 2) ↔ IsNoCall (map string_bytes args.now) }
+    ensures skin { result ≡ 4 → AsksRefusedSkin (map string_bytes args.now) }
+    ensures refused { AsksRefusedSkin (map string_bytes args.now) → (result ≡ 4) ⊎ (result ≡ 5) }
+{
+    match execute(alloc, args, input, out, err) {
+        Ok(()) => 0,
+        Err(failure) => refuse(err, failure),
+    }
+}
+
+// Does what the arguments ask for.
+fn execute<I: Source, O: Out, E: Out>(
+    alloc: Global,
+    args: &[String],
+    input: &mut I,
+    out: &mut O,
+    err: &mut E,
+) -> Result<(), Failure>
+    ensures { RunsTo (map string_bytes args.now)
+        (record { input = I.seen input.old; out = O.seen out.old; err = E.seen err.old }) result
+        (record { input = I.seen input.new; out = O.seen out.new; err = E.seen err.new }) }
+{
+    let call = start(alloc, args, err)?;
+    let bytes = read_all(alloc, input)?;
+    let Ok(text) = str::from_utf8(bytes.as_slice()) else {
+        return Err(Failure::NotUtf8);
+    };
+    write_call(alloc, out, &call.skin, &call.command, text)?;
+    out.flush()?;
+    Ok(())
+}
+
+// What the arguments ask for. The unknown keys of its skin are said.
+fn start<E: Out>(alloc: Global, args: &[String], err: &mut E) -> Result<Call, Failure>
+    ensures { MatchResult result
+        (λ call. Starts (map string_bytes args.now) (E.seen err.old) call.command call.skin
+        (map string_bytes call.unknown.items) (E.seen err.new))
+        (λ failure. FailsToStart (map string_bytes args.now) (E.seen err.old) failure (E.seen err.new)) }
+{
+    let call = parse_call(alloc, args)?;
+    say_unknown(alloc, err, call.unknown.as_slice())?;
+    Ok(call)
+}

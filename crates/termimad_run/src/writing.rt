@@ -1,0 +1,57 @@
+//! What a call writes of its text.
+
+ghost use Rattle.std.specs.Prelude.{OnOk};
+ghost use Rattle.termimad_run.specs.Calls.{IsAllowed};
+ghost use Rattle.termimad_run.specs.Lines.{IsWithoutLineEnd};
+ghost use Rattle.termimad_run.specs.Runs.{WritesCall, ShowsCall, WritesLine};
+
+use crate::call::Command;
+use std::alloc::Global;
+use termimad::{Error, MadSkin, Out, put_all};
+
+/// Writes a text in an area, or laid out at a width, or as one line with inline marks and a newline. Nothing is flushed.
+///
+/// An area has to have four columns at least and lie within the limits of a screen: its right and bottom fit a `u16`.
+///
+/// # Errors
+///
+/// A fault of the device, or out of memory. What went out by then is a beginning of the whole; of `text W`, of the rows of the
+/// text's first parts.
+pub fn write_call<O: Out>(
+    alloc: Global,
+    out: &mut O,
+    skin: &MadSkin,
+    command: &Command,
+    text: &str,
+) -> Result<(), Error>
+    requires { IsAllowed command.now }
+    ensures writes { WritesCall skin.now command.now text.now (O.seen out.old) result (O.seen out.new) }
+    ensures shown { OnOk result (ShowsCall skin.now command.now text.now (O.seen out.old) (O.seen out.new)) }
+{
+    match command {
+        Command::InArea(area) => skin.write_in_area_on(alloc, out, text, area),
+        Command::AtWidth(width) => {
+            skin.write_parts_on(alloc, out, text, Some(usize::from(*width)))
+        }
+        Command::Inline => write_line(alloc, out, skin, line_of(text)),
+    }
+}
+
+// Writes a line with inline marks, and a newline.
+fn write_line<O: Out>(alloc: Global, out: &mut O, skin: &MadSkin, line: &str) -> Result<(), Error>
+    ensures { WritesLine skin.now line.now (O.seen out.old) result (O.seen out.new) }
+{
+    skin.write_inline_on(alloc, out, line)?;
+    put_all(out, b"\n")?;
+    Ok(())
+}
+
+// A text without its end of line: a final `\n`, and a `\r` before it.
+fn line_of(text: &str) -> &str
+    ensures { IsWithoutLineEnd text.entry.now result.now }
+{
+    let Some(line) = text.strip_suffix('\n') else {
+        return text;
+    };
+    line.strip_suffix('\r').unwrap_or(line)
+}

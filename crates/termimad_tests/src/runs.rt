@@ -1,0 +1,44 @@
+//! Runs of the program.
+
+use std::alloc::{AllocError, Global};
+use termimad::{CutOut, ScriptSource};
+
+/// What the program writes to a device with this room when it is run on words with bars between them, then its status and what it says.
+/// The input `<ff>` is a byte that no text has.
+pub fn run(alloc: Global, room: usize, words: &str, text: &str) -> Result<String, AllocError> {
+    let args = args_of(alloc, words)?;
+    let input = if text == "<ff>" {
+        b"\xff"
+    } else {
+        text.as_bytes()
+    };
+    let mut input = ScriptSource::new(input, false);
+    let mut out = CutOut::new(alloc, room, room, false)?;
+    let mut err = CutOut::new(alloc, ROOM, ROOM, false)?;
+    let status = termimad_run::run(alloc, args.as_slice(), &mut input, &mut out, &mut err);
+    if status == 5 {
+        return Err(AllocError);
+    }
+    told(alloc, status, &out, &err)
+}
+
+/// More bytes than the runs of these rows write.
+pub const ROOM: usize = 1000;
+
+fn args_of(alloc: Global, words: &str) -> Result<Vec<String>, AllocError> {
+    let mut args = Vec::new(alloc);
+    for word in words.split('|') {
+        args.push(String::from_str(alloc, word)?)?;
+    }
+    Ok(args)
+}
+
+fn told(alloc: Global, status: u8, out: &CutOut, err: &CutOut) -> Result<String, AllocError> {
+    let mut told = String::from_utf8_lossy(alloc, out.taken())?;
+    if !told.is_empty() && !told.ends_with('\n') {
+        told.push('\n')?;
+    }
+    write!(told, "status {status}\n")?;
+    told.push_str(String::from_utf8_lossy(alloc, err.taken())?.as_str())?;
+    Ok(told)
+}
