@@ -38,7 +38,7 @@ impl Calls for LayoutCalls {
     }
 }
 
-// A refusal is an answer, unless it is want of memory.
+// A refusal is an answer, unless it is out of memory.
 fn refused(alloc: Global, refusal: Error) -> Result<String, AllocError> {
     match refusal {
         Error::Memory => Err(AllocError),

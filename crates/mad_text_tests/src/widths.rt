@@ -32,7 +32,7 @@ fn refused(alloc: Global, error: Error) -> Result<String, AllocError> {
     }
 }
 
-/// What a table of so many columns is fitted to in a width.
+/// What a table of `columns` columns is fitted to in a width.
 pub(crate) fn fitted(alloc: Global, numbers: &[usize], text: &str) -> Result<String, AllocError> {
     let [columns, width] = *numbers else {
         return Ok(String::new(alloc));

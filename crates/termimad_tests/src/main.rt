@@ -35,7 +35,7 @@ impl Calls for LibraryCalls {
     }
 }
 
-// `large COUNT CALL` counts what the call answers of the text so many times.
+// `large COUNT CALL` counts what the call answers of the text repeated `COUNT` times.
 fn answer_of(alloc: Global, call: &str, text: &str) -> Result<String, Refusal> {
     let (name, words) = call.split_once(' ').unwrap_or((call, ""));
     match name {

@@ -21,7 +21,7 @@ pub fn written(asked: &Asked, name: &str) -> Result<String, Refusal> {
     Ok(taken(alloc, &out)?)
 }
 
-/// What a device takes of a view that has room for so many bytes, takes them one by one, and whose flush fails.
+/// What a device takes of a view: it has room for some bytes, takes them one by one, and its flush fails.
 pub fn cut_view(asked: &Asked) -> Result<String, Refusal> {
     let area = asked.area();
     let text = asked.skin.area_text(asked.alloc, asked.text, &area)?;
