@@ -21,7 +21,6 @@ impl MadSkin {
     /// # Errors
     ///
     /// A fault of the device; what went out by then is a beginning of the whole. Or out of memory, before the first byte.
-    #[tactic(auto, using(mad_term::proofs::QueueExits::memory_first))]
     pub fn write_fmt_composite<O: Out>(
         &self,
         alloc: Global,
@@ -36,8 +35,7 @@ impl MadSkin {
         let mut row = String::new(alloc);
         let placed = PlacedComposite::at(self, composite, width, with_right_completion);
         write!(row, "{placed}")?;
-        put_all(out, row.as_bytes())?;
-        Ok(())
+        put_text(out, &row)
     }
 
     /// Writes a line at a width, if there is one, with its margins; the columns right of it are filled up where that is asked
@@ -46,7 +44,6 @@ impl MadSkin {
     /// # Errors
     ///
     /// A fault of the device; what went out by then is a beginning of the whole. Or out of memory, before the first byte.
-    #[tactic(auto, using(mad_term::proofs::QueueExits::memory_first))]
     pub fn write_fmt_line<O: Out>(
         &self,
         alloc: Global,
@@ -66,8 +63,7 @@ impl MadSkin {
             right: with_right_completion,
         };
         write!(row, "{placed}")?;
-        put_all(out, row.as_bytes())?;
-        Ok(())
+        put_text(out, &row)
     }
 
     /// Writes a Markdown text, laid out at a width, if there is one: each line and a newline. Nothing is flushed.
@@ -148,13 +144,20 @@ pub fn print_text<O: Out>(
 }
 
 // Writes the lines of a text, each with a newline.
-#[tactic(auto, using(mad_term::proofs::QueueExits::memory_first))]
 fn write_lines<O: Out>(alloc: Global, out: &mut O, text: &FmtText) -> Result<(), Error>
     ensures writes { Draws (O.seen out.old) (text_bytes text.now.skin.now text.now.width text.now.lines.items) result (O.seen out.new) }
     ensures early { IsErrOf result Memory → O.seen out.new ≡ O.seen out.old }
 {
     let mut bytes = String::new(alloc);
     write!(bytes, "{text}")?;
-    put_all(out, bytes.as_bytes())?;
+    put_text(out, &bytes)
+}
+
+// Puts all of a text. It wants no memory.
+pub(crate) fn put_text<O: Out>(out: &mut O, text: &str) -> Result<(), Error>
+    ensures writes { Draws (O.seen out.old) text.now result (O.seen out.new) }
+    ensures without_memory { IsErrOf result Memory → ⊥ }
+{
+    put_all(out, text.as_bytes())?;
     Ok(())
 }

@@ -14,10 +14,11 @@ ghost use Rattle.mad_layout.specs.Sources.{LinesTakeColumns, ShowsSource};
 use crate::display::FreeComposite;
 use crate::drawing::draw_text;
 use crate::skin::MadSkin;
+use crate::text_writing::put_text;
 use mad_fit::Area;
 use mad_md::Composite;
 use mad_style::CompositeKind;
-use mad_term::{Error, Out, put_all};
+use mad_term::{Error, Out};
 use std::alloc::Global;
 
 impl MadSkin {
@@ -54,7 +55,6 @@ impl MadSkin {
     /// # Errors
     ///
     /// A fault of the device, at its flush too, or out of memory. What went out by then is a beginning of the whole.
-    #[tactic(auto, using(crate::proofs::HeadlineLemmas::shown_flushed, crate::proofs::HeadlineRows::reading_flushed, crate::proofs::SourceLemmas::source_flushed))]
     pub fn write_in_area<O: Out>(
         &self,
         alloc: Global,
@@ -79,7 +79,6 @@ impl MadSkin {
     /// # Errors
     ///
     /// A fault of the device; what went out by then is a beginning of the whole. Or out of memory, before the first byte.
-    #[tactic(auto, using(mad_term::proofs::QueueExits::memory_first))]
     pub fn write_composite<O: Out>(
         &self,
         alloc: Global,
@@ -99,8 +98,7 @@ impl MadSkin {
             composite,
         };
         write!(row, "{free}")?;
-        put_all(out, row.as_bytes())?;
-        Ok(())
+        put_text(out, &row)
     }
 
     /// Writes a composite, as [`MadSkin::write_composite`] does.

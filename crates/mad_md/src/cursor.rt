@@ -1,6 +1,6 @@
 //! Reading a text line by line.
 
-ghost use Rattle.std.specs.Prelude.{◌≡◌, false, IfOk, OnErr, IsTrue, None, MatchOption};
+ghost use Rattle.std.specs.Prelude.{◌≡◌, false, IfOk, OnErr, IsSome, IsTrue, None, MatchOption};
 ghost use Rattle.mad_md.specs.Cursor.{unread, IsStep};
 ghost use Rattle.mad_md.specs.Flagged.{flags_of, plain};
 ghost use Rattle.mad_md.specs.Inline.{flags_at_end};
@@ -71,6 +71,7 @@ impl<'s> LineCursor<'s> {
     /// Where there is none, or another line is next, the cursor stays where it was. No memory is needed.
     pub fn next_plain(&mut self, most: usize) -> Option<&'s str>
         ensures step { MatchOption result (self.new ≡ self.old) (λ text. IsPlainStep most (unread self.old) text.now (unread self.new)) }
+        ensures found { IsSome result → IsPlainNext most (unread self.old) }
         ensures none { result ≡ None → ¬ IsPlainNext most (unread self.old) }
     {
         if self.is_bound() {

@@ -1,8 +1,5 @@
-use Rattle.std.proofs.Common.{rules}
+use Rattle.mad_term.proofs.QueueExits.{memory_first}
 use Rattle.mad_layout.proofs.text_writing.write_lines.Goals as goal
 
-pub returns-in_err-put_all-clause-writes : goal.returns-in_err-put_all-clause-writes
-returns-in_err-put_all-clause-writes g c = search rules
-
-pub returns-clause-writes : goal.returns-clause-writes
-returns-clause-writes g c = search rules
+pub returns-in_err-write-clause-writes : goal.returns-in_err-write-clause-writes
+returns-in_err-write-clause-writes g c = memory_first c.from_residual.result _ _ c.from_residual.ensures.1

@@ -21,3 +21,11 @@ returns-clause-step c =
     let after = ap (λ x. x.src.now) c.raw_str-self.ensures ∙ c.range_from.ensures.value in
     subst (λ (f : Flags). IsPlainStep c.args.most here c.range.result.now (record { text = c.raw_str-self.result.src.now; fenced = here.fenced; carried = f; continue_spans = here.continue_spans })) (sym (ap flags_of c.raw_str-self.ensures))
     (plain_step c.args.most c.in_ok-len.len here c.range.result.now c.raw_str-self.result.src.now (c.is_bound.ensures.fence c.if-is_bound.false) (c.is_bound.ensures.flags c.if-is_bound.false) front text after)
+
+pub returns-clause-found : goal.returns-clause-found
+returns-clause-found c = λ _. record {
+  fenced = c.is_bound.ensures.fence c.if-is_bound.false;
+  carried = c.is_bound.ensures.flags c.if-is_bound.false;
+  len = c.in_ok-len.len;
+  front = subst (λ bs. IsPlainFront c.args.most bs c.in_ok-len.len) c.as_bytes.ensures.value c.in_ok-len.ensures;
+}
