@@ -2,9 +2,9 @@
 #![tactic(auto)]
 
 ghost use Rattle.std.specs.Prelude.{◌≤◌, IfOk};
-ghost use Rattle.mad_fit.specs.Areas.{IsWithinLimits};
-ghost use Rattle.mad_layout.specs.InArea.{ShowsText};
-ghost use Rattle.mad_layout.specs.Skins.{no_style_skin};
+ghost use Rattle.termimad.specs.Areas.{IsWithinLimits};
+ghost use Rattle.termimad.specs.InArea.{ShowsText};
+ghost use Rattle.termimad.specs.Skins.{no_style_skin};
 ghost use Rattle.example_custom_device.specs.Page.{page_trace, empty_page};
 
 mod page;

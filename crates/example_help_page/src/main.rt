@@ -2,7 +2,7 @@
 #![tactic(auto)]
 
 ghost use Rattle.std.specs.Prelude.{IfOk};
-ghost use Rattle.mad_fit.specs.Areas.{IsWithinLimits};
+ghost use Rattle.termimad.specs.Areas.{IsWithinLimits};
 
 use std::io::{BufWriter, Error as IoError, ErrorKind};
 use std::{env, fs, io};

@@ -1,6 +1,6 @@
 -- Characters that take one column, as pieces.
 use Rattle.std.proofs.Common.{◌≡◌, ℕ, ◌<◌, ◌≤◌, ◌&&◌, Bool, true, false, [], ◌∷◌, Option, Some, None, refl, ap, sym, ◌∙◌, subst, arith, append-nil}
-use Rattle.std.specs.Prelude.{IsSome, unwrap_or, option_map, slice_get, min, encode_utf8, false}
+use Rattle.std.specs.Prelude.{IsSome, unwrap_or, encode_utf8, false}
 use Rattle.std.specs.Char.{IsScalar}
 use Rattle.std.specs.Str.{chars}
 use Rattle.std.proofs.Math.Utf8.{scalar}
@@ -11,7 +11,6 @@ use Rattle.mad_columns.proofs.CharColumns.{char_columns-ascii}
 use Rattle.mad_screen.specs.Painting.{IsShown}
 use Rattle.mad_style.specs.StyledChars.{char_alone, styled_char}
 use Rattle.mad_style.specs.declared.compound_styles.CompoundStyle.{CompoundStyle}
-use Rattle.mad_style.specs.declared.ordered_items.OrderedItemStyle.{OrderedItemStyle}
 use Rattle.mad_style.specs.declared.styled_chars.StyledChar.{StyledChar}
 use Rattle.mad_fit.specs.Columns.{columns}
 use Rattle.mad_draw.specs.Pieces.{IsColumnPiece, char_piece}
@@ -19,7 +18,7 @@ use Rattle.mad_draw.specs.TableRules.{border_piece}
 use Rattle.mad_draw.specs.declared.table_rules.RuleChars.{RuleChars}
 use Rattle.mad_layout.specs.Drawable.{AreShownChars}
 use Rattle.mad_layout.specs.Premises.{IsColumnChar, AreRuleChars}
-use Rattle.mad_layout.specs.Styles.{index_suffix, ordered_item_style, plain_item_style}
+use Rattle.mad_layout.specs.Styles.{index_suffix, ordered_item_style}
 use Rattle.mad_layout.specs.declared.skin.MadSkin.{MadSkin}
 
 some_of : (o : Option ℕ) → unwrap_or o 0 ≡ 1 → IsSome o
@@ -61,16 +60,8 @@ column_rule skin chars h =
       right = column_border style chars.right h.right;
     }
 
-suffix_of : (o : Option OrderedItemStyle) → unwrap_or (option_map (λ s. char_alone s.index_suffix) o) 46 ≡ char_alone (unwrap_or o plain_item_style).index_suffix
-suffix_of None = refl
-suffix_of (Some s) = refl
-
--- the character after an item's number is that of its style
-pub suffix_alone : (skin : MadSkin) (level : ℕ) → index_suffix skin level ≡ char_alone (ordered_item_style skin level).index_suffix
-suffix_alone skin level = suffix_of (slice_get skin.ordered_item_styles (min level 3))
-
 pub column_suffix : (skin : MadSkin) (level : ℕ) → IsColumnChar (index_suffix skin level) → IsColumnPiece (char_piece (ordered_item_style skin level).index_suffix)
-column_suffix skin level h = column_piece (ordered_item_style skin level).index_suffix (subst IsColumnChar (suffix_alone skin level) h)
+column_suffix skin level h = column_piece (ordered_item_style skin level).index_suffix h
 
 pub ascii_column : (c : ℕ) → IsScalar c → 32 ≤ c → c < 127 → IsColumnChar c
 ascii_column c scalar low high = record { scalar = scalar; one = char_columns-ascii c low high }

@@ -10,7 +10,7 @@ use Rattle.mad_style.specs.declared.kinds.CompositeKind.{CompositeKind}
 use Rattle.mad_widths.specs.ColumnWidths.{needs_of, column_widths}
 use Rattle.mad_fit.specs.Columns.{width_of}
 use Rattle.mad_wrap.specs.WrapLines.{capped}
-use Rattle.mad_layout.specs.FlaggedLines.{is_table}
+use Rattle.mad_layout.specs.TextParts.{is_table}
 use Rattle.mad_layout.specs.FlaggedTables.{count_in, columns_among, cell_columns, cells_among, down, kept_widths}
 use Rattle.mad_format.specs.Indents.{indent}
 use Rattle.mad_format.specs.Lines.{AreCompositesRead, IsLineRead}

@@ -3,7 +3,7 @@ use Rattle.std.proofs.Common.{◌≡◌, ℕ, Bool, true, false, not, ◌&&◌, 
 use Rattle.std.proofs.lemmas.List.{append-nil}
 use Rattle.mad_md.specs.Lines.{LineContent, normal, table_row, table_rule, horizontal_rule}
 use Rattle.mad_format.specs.CompositeWraps.{IsCompositeWrap}
-use Rattle.mad_layout.specs.FlaggedLines.{is_code, is_table, stand_together, in_front, text_parts}
+use Rattle.mad_layout.specs.TextParts.{is_code, is_table, stand_together, in_front, text_parts}
 use Rattle.mad_format.specs.Layouts.{AreRead, IsLayoutAt}
 use Rattle.mad_format.specs.Lines.{IsLineRead}
 use Rattle.mad_format.specs.Parts.{Part, table, block, single, is_code_kind, is_code_line, with_table, with_code, with_composite, with_line, parts_of, table_width, wrap_width, ArePartsAt}

@@ -7,7 +7,7 @@ use Rattle.std.proofs.lemmas.List.Concat.{flat_map-append}
 use Rattle.mad_md.specs.Lines.{LineContent, normal, table_row, table_rule, horizontal_rule}
 use Rattle.mad_md.specs.declared.alignment.Alignment.{Alignment}
 use Rattle.mad_style.specs.Kinds.{kind_of}
-use Rattle.mad_layout.specs.FlaggedLines.{is_code, is_table, stand_together, in_front, text_parts}
+use Rattle.mad_layout.specs.TextParts.{is_code, is_table, stand_together, in_front, text_parts}
 use Rattle.mad_layout.specs.FlaggedTexts.{LineInPart, aligns_at, lines_in, lines_in_parts}
 use Rattle.mad_format.specs.Layouts.{AreRead}
 use Rattle.mad_format.specs.Lines.{IsLineRead}

@@ -35,7 +35,6 @@ use Rattle.mad_format.specs.Wraps.{text_of, columns_of, IsMeasured}
 use Rattle.mad_layout.specs.declared.skin.MadSkin.{MadSkin}
 use Rattle.mad_format.specs.declared.composite.FmtComposite.{FmtComposite}
 use Rattle.mad_format.specs.declared.line.FmtLine.{FmtLine}
-use Rattle.mad_layout.proofs.ColumnChars.{suffix_alone}
 use Rattle.mad_format.proofs.ReadWraps.{margins-le}
 use Rattle.mad_layout.proofs.RowLemmas.{left_completion-le}
 use Rattle.mad_layout.proofs.RowsExist.{by_bool}
@@ -118,7 +117,7 @@ front_chars skin (OrderedListItem level index) h =
     let number : chars (decimal index) ≡ decimal index = chars-IsAscii (decimal index) (IsAscii-decimal index (omega (arith, h.0))) in
     both (single_spaces blank level) (number_piece style.index_style index ∷ after)
     ∙ ap (λ l. l ++ chars_in (number_piece style.index_style index ∷ after)) (singles_chars blank level)
-    ∙ ap (λ l. replicate level 32 ++ l) (first_piece (number_piece style.index_style index) after ∙ ap (λ l. l ++ chars_in after) number ∙ ap (λ l. decimal index ++ l) (after_char skin style.index_suffix ∙ ap (λ c. skin_char c ++ 32 ∷ []) (sym (suffix_alone skin level))))
+    ∙ ap (λ l. replicate level 32 ++ l) (first_piece (number_piece style.index_style index) after ∙ ap (λ l. l ++ chars_in after) number ∙ ap (λ l. decimal index ++ l) (after_char skin style.index_suffix))
 front_chars skin (OrderedListItemFollowUp level index) h = singles_chars skin.paragraph.compound_style (later_indent skin.list_items_indentation_mode (ordered_indent level index))
 front_chars skin Code h = refl
 front_chars skin Quote h = after_char skin skin.quote_mark

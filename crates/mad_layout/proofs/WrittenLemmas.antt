@@ -12,7 +12,7 @@ use Rattle.mad_term.specs.declared.errors.Error.TheVariants.{IO, InsufficientWid
 use Rattle.mad_term.proofs.Exits.{refused_exit}
 use Rattle.mad_term.proofs.Traces.{after-nil, took_both, stopped_before, stopped_in_first, stopped_in_second, cut_in_first, cut_in_second}
 use Rattle.mad_draw.proofs.PieceLemmas.{bytes_taken_of}
-use Rattle.mad_layout.specs.FlaggedLines.{is_code, is_table, stand_together, text_parts}
+use Rattle.mad_layout.specs.TextParts.{is_code, is_table, stand_together, text_parts}
 use Rattle.mad_format.specs.Laying.{AreOpenParts, IsLaidFor, ArePartsClosed}
 use Rattle.mad_format.specs.Layouts.{IsLayoutAt}
 use Rattle.mad_layout.specs.Texts.{line_bytes, text_bytes}

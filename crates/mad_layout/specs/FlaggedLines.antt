@@ -15,7 +15,6 @@ use Rattle.mad_format.specs.Indents.{indent, follow_up}
 use Rattle.mad_format.specs.Parts.{is_code_kind}
 use Rattle.mad_layout.specs.LineTexts.{inner_width, runs_text}
 use Rattle.mad_layout.specs.Styles.{line_style, index_suffix}
-pub use Rattle.mad_layout.specs.TextParts.{is_code, is_table, stand_together, in_front, text_parts}
 use Rattle.mad_layout.specs.declared.skin.MadSkin.{MadSkin}
 
 -- a line between its marks: parts of characters with the same flags

@@ -1,5 +1,5 @@
 -- The styles of a skin's parts.
-use Rattle.std.specs.Prelude.{ℕ, zero, suc, Bool, List, [], ◌∷◌, slice_get, option_map, unwrap_or, min, if◌then◌else◌}
+use Rattle.std.specs.Prelude.{ℕ, zero, suc, Bool, List, [], ◌∷◌, slice_get, unwrap_or, min, if◌then◌else◌}
 use Rattle.std.specs.Str.{bytes_eq}
 use Rattle.mad_md.specs.Flagged.{Run}
 use Rattle.mad_style.specs.declared.compound_styles.CompoundStyle.{CompoundStyle}
@@ -55,10 +55,10 @@ pub record AreKnownAdditions (skin : MadSkin) : Type 0 where
 abbrev pub plain_item_style : OrderedItemStyle
 plain_item_style = record { index_style = plain_style; index_suffix = styled_char plain_style 46 }
 
--- the character after the number of an item of this level; levels past the last take the last
-abbrev pub index_suffix : MadSkin → ℕ → ℕ
-index_suffix skin level = unwrap_or (option_map (λ s. char_alone s.index_suffix) (slice_get skin.ordered_item_styles (min level 3))) 46
-
 -- how items of this level look; levels past the last take the last
 abbrev pub ordered_item_style : MadSkin → ℕ → OrderedItemStyle
 ordered_item_style skin level = unwrap_or (slice_get skin.ordered_item_styles (min level 3)) plain_item_style
+
+-- the character after the number of an item of this level
+abbrev pub index_suffix : MadSkin → ℕ → ℕ
+index_suffix skin level = char_alone (ordered_item_style skin level).index_suffix

@@ -5,7 +5,7 @@ use Rattle.mad_md.specs.Reading.{IsRead, unread_text}
 use Rattle.mad_term.specs.Draws.{Draws, Refused}
 use Rattle.mad_term.specs.Trace.{Trace, after}
 use Rattle.mad_term.specs.declared.errors.Error.{Error}
-use Rattle.mad_layout.specs.FlaggedLines.{is_code, is_table, text_parts}
+use Rattle.mad_layout.specs.TextParts.{is_code, is_table, text_parts}
 use Rattle.mad_format.specs.Layouts.{IsLayoutAt}
 use Rattle.mad_layout.specs.Texts.{text_bytes}
 use Rattle.mad_layout.specs.declared.part_kinds.PartKind.{PartKind}

@@ -83,6 +83,7 @@ pub use Rattle.mad_layout.specs.ItemCells
 pub use Rattle.mad_format.specs.LayoutLaws
 pub use Rattle.mad_format.specs.LayoutExamples
 pub use Rattle.mad_format.specs.Layouts
+pub use Rattle.mad_format.specs.LineRules
 pub use Rattle.mad_format.specs.Lines as LayoutLines
 pub use Rattle.mad_layout.specs.MadeSkins
 pub use Rattle.mad_format.specs.Parts as LayoutParts

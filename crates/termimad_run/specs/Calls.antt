@@ -66,7 +66,7 @@ pub record IsCall (words : List (List ℕ)) (command : Command) (skin : MadSkin)
   pub asks : Asks words command word
   pub given : skin_given word ≡ Some (skin, unknown)
 
--- why the words are no call; memory is wanted by JSON text alone
+-- why the words are no call; memory is needed by JSON text alone
 abbrev pub RefusesWords : List (List ℕ) → Failure → Type 0
 RefusesWords words Usage = IsNoCall words
 RefusesWords words Skin = AsksRefusedSkin words

@@ -1,5 +1,5 @@
 -- Scrolling leaves the view's area as it was.
-use Rattle.mad_fit.specs.Areas.{IsWithinLimits}
+use Rattle.termimad.specs.Areas.{IsWithinLimits}
 use Rattle.example_scroll.proofs.main.Given as goal
 
 abbrev pub invariant-loop-wanted : goal.invariant-loop-wanted
