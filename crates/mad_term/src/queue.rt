@@ -18,15 +18,13 @@ use std::alloc::Global;
 /// # Errors
 ///
 /// A fault of the device, or out of memory before anything went out.
-#[tactic(auto, using(crate::proofs::QueueExits::memory_first))]
 pub fn queue_move<O: Out>(alloc: Global, out: &mut O, x: u16, y: u16) -> Result<(), Error>
     ensures writes { Draws (O.seen out.old) (move_to_bytes x y) result (O.seen out.new) }
     ensures early { IsErrOf result Memory → O.seen out.new ≡ O.seen out.old }
 {
     let mut bytes = String::new(alloc);
     push_move(&mut bytes, x, y)?;
-    put_all(out, bytes.as_bytes())?;
-    Ok(())
+    put_text(out, &bytes)
 }
 
 /// Erases a part of the screen.
@@ -38,8 +36,7 @@ pub fn queue_clear<O: Out>(out: &mut O, what: ClearType) -> Result<(), Error>
     ensures writes { Draws (O.seen out.old) (clear_bytes what) result (O.seen out.new) }
     ensures without_memory { IsErrOf result Memory → ⊥ }
 {
-    put_all(out, clear_text(what).as_bytes())?;
-    Ok(())
+    put_text(out, clear_text(what))
 }
 
 /// Sets the foreground.
@@ -47,15 +44,13 @@ pub fn queue_clear<O: Out>(out: &mut O, what: ClearType) -> Result<(), Error>
 /// # Errors
 ///
 /// A fault of the device, or out of memory before anything went out.
-#[tactic(auto, using(crate::proofs::QueueExits::memory_first))]
 pub fn queue_fg<O: Out>(alloc: Global, out: &mut O, color: Color) -> Result<(), Error>
     ensures writes { Draws (O.seen out.old) (foreground_bytes color) result (O.seen out.new) }
     ensures early { IsErrOf result Memory → O.seen out.new ≡ O.seen out.old }
 {
     let mut bytes = String::new(alloc);
     push_foreground(&mut bytes, color)?;
-    put_all(out, bytes.as_bytes())?;
-    Ok(())
+    put_text(out, &bytes)
 }
 
 /// Sets the background.
@@ -63,15 +58,13 @@ pub fn queue_fg<O: Out>(alloc: Global, out: &mut O, color: Color) -> Result<(), 
 /// # Errors
 ///
 /// A fault of the device, or out of memory before anything went out.
-#[tactic(auto, using(crate::proofs::QueueExits::memory_first))]
 pub fn queue_bg<O: Out>(alloc: Global, out: &mut O, color: Color) -> Result<(), Error>
     ensures writes { Draws (O.seen out.old) (background_bytes color) result (O.seen out.new) }
     ensures early { IsErrOf result Memory → O.seen out.new ≡ O.seen out.old }
 {
     let mut bytes = String::new(alloc);
     push_background(&mut bytes, color)?;
-    put_all(out, bytes.as_bytes())?;
-    Ok(())
+    put_text(out, &bytes)
 }
 
 /// Writes a piece: a text in a style.
@@ -79,7 +72,6 @@ pub fn queue_bg<O: Out>(alloc: Global, out: &mut O, color: Color) -> Result<(), 
 /// # Errors
 ///
 /// A fault of the device, or out of memory before anything went out.
-#[tactic(auto, using(crate::proofs::Pieces::plain_piece, crate::proofs::QueueExits::memory_first))]
 pub fn queue_styled<O: Out>(
     alloc: Global,
     out: &mut O,
@@ -94,11 +86,18 @@ pub fn queue_styled<O: Out>(
 {
     // A plain text goes out as it is.
     if style.is_plain() {
-        put_all(out, text.as_bytes())?;
-        return Ok(());
+        return put_text(out, text);
     }
     let mut bytes = String::new(alloc);
     push_styled(&mut bytes, style, text)?;
-    put_all(out, bytes.as_bytes())?;
+    put_text(out, &bytes)
+}
+
+// Puts all of a text. It wants no memory.
+fn put_text<O: Out>(out: &mut O, text: &str) -> Result<(), Error>
+    ensures writes { Draws (O.seen out.old) text.now result (O.seen out.new) }
+    ensures without_memory { IsErrOf result Memory → ⊥ }
+{
+    put_all(out, text.as_bytes())?;
     Ok(())
 }

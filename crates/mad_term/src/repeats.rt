@@ -17,7 +17,6 @@ impl fmt::Display for StyledRepeat<'_> {
 
     ghost output = { λ r. Some (styled_repeat_bytes r.style r.content.now r.count) };
 
-    #[tactic(auto, using(crate::proofs::Pieces::plain_piece))]
     fn fmt<W: fmt::Write>(&self, f: &mut fmt::Formatter<W>) -> fmt::Result {
         if self.count == 0 {
             return Ok(());

@@ -102,7 +102,6 @@ impl fmt::Display for AttributeCommands {
 
     ghost output = { λ c. Some (attributes_bytes c.0) };
 
-    #[tactic(auto, using(crate::proofs::Pieces::no_attributes))]
     fn fmt<W: fmt::Write>(&self, f: &mut fmt::Formatter<W>) -> fmt::Result {
         // Most styles have none.
         if self.0.is_empty() {
@@ -176,7 +175,6 @@ impl fmt::Display for StyledContent<'_> {
 
     ghost output = { λ p. Some (piece_bytes p.style p.content.now) };
 
-    #[tactic(auto, using(crate::proofs::Pieces::plain_piece))]
     fn fmt<W: fmt::Write>(&self, f: &mut fmt::Formatter<W>) -> fmt::Result {
         // Most texts are plain, and need no commands.
         if self.style.is_plain() {
