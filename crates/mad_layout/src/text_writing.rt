@@ -11,7 +11,7 @@ use crate::display::{PlacedComposite, PlacedLine};
 use crate::fmt_text::FmtText;
 use crate::skin::MadSkin;
 use mad_format::{FmtComposite, FmtLine};
-use mad_term::{Error, Out, put_all};
+use mad_term::{Error, Out, put_text};
 use std::alloc::Global;
 
 impl MadSkin {
@@ -151,13 +151,4 @@ fn write_lines<O: Out>(alloc: Global, out: &mut O, text: &FmtText) -> Result<(),
     let mut bytes = String::new(alloc);
     write!(bytes, "{text}")?;
     put_text(out, &bytes)
-}
-
-// Puts all of a text. It wants no memory.
-pub(crate) fn put_text<O: Out>(out: &mut O, text: &str) -> Result<(), Error>
-    ensures writes { Draws (O.seen out.old) text.now result (O.seen out.new) }
-    ensures without_memory { IsErrOf result Memory → ⊥ }
-{
-    put_all(out, text.as_bytes())?;
-    Ok(())
 }

@@ -14,11 +14,10 @@ ghost use Rattle.mad_layout.specs.Sources.{LinesTakeColumns, ShowsSource};
 use crate::display::FreeComposite;
 use crate::drawing::draw_text;
 use crate::skin::MadSkin;
-use crate::text_writing::put_text;
 use mad_fit::Area;
 use mad_md::Composite;
 use mad_style::CompositeKind;
-use mad_term::{Error, Out};
+use mad_term::{Error, Out, put_text};
 use std::alloc::Global;
 
 impl MadSkin {

@@ -93,8 +93,12 @@ pub fn queue_styled<O: Out>(
     put_text(out, &bytes)
 }
 
-// Puts all of a text. It wants no memory.
-fn put_text<O: Out>(out: &mut O, text: &str) -> Result<(), Error>
+/// Puts all of a text.
+///
+/// # Errors
+///
+/// A fault of the device; a front of the text was taken before it.
+pub fn put_text<O: Out>(out: &mut O, text: &str) -> Result<(), Error>
     ensures writes { Draws (O.seen out.old) text.now result (O.seen out.new) }
     ensures without_memory { IsErrOf result Memory → ⊥ }
 {
