@@ -275,7 +275,6 @@ fn byte_of(text: &str) -> Option<u8>
 /// # Errors
 ///
 /// A fault of the device, or out of memory before anything went out.
-#[tactic(auto, using(mad_term::proofs::QueueExits::memory_first))]
 pub fn write_color<O: Out>(alloc: Global, out: &mut O, color: Color) -> Result<(), Error>
     ensures writes { Draws (O.seen out.old) (color_text color) result (O.seen out.new) }
     ensures early { IsErrOf result Memory → O.seen out.new ≡ O.seen out.old }

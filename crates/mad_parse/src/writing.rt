@@ -14,7 +14,6 @@ use std::alloc::{AllocError, Global};
 /// # Errors
 ///
 /// A fault of the device, or out of memory before anything went out.
-#[tactic(auto, using(mad_term::proofs::QueueExits::memory_first))]
 pub fn write_style_tokens<O: Out>(
     alloc: Global,
     out: &mut O,
