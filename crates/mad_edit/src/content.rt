@@ -201,7 +201,6 @@ impl InputFieldContent {
     pub(crate) fn copy_between(&self, from: Pos, to: Pos) -> Result<String, AllocError>
         requires from { IsPlaceIn self.now.text from }
         requires to { IsPlaceIn self.now.text to }
-        requires order { offset_at self.now.text from ≤ offset_at self.now.text to }
         ensures { IfOk result (λ s. string_bytes s
             ≡ encode_utf8_all (slice_range self.now.text (offset_at self.now.text from) (offset_at self.now.text to))) }
     {

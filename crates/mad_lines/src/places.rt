@@ -158,7 +158,7 @@ pub fn is_before(lines: &Vec<Line>, p: Pos, q: Pos) -> bool
     p < q
 }
 
-/// The text between two places; `from` may not be after `to`.
+/// The text between two places; empty where `to` is before `from`.
 ///
 /// # Errors
 ///
@@ -171,7 +171,6 @@ pub fn text_between(
 ) -> Result<String, AllocError>
     requires from { IsPlace (lines_of lines.now.items) from }
     requires to { IsPlace (lines_of lines.now.items) to }
-    requires order { offset_of (lines_of lines.now.items) from ≤ offset_of (lines_of lines.now.items) to }
     ensures { IfOk result (λ s. let ls = lines_of lines.now.items in
         string_bytes s ≡ encode_utf8_all (slice_range (text_of ls) (offset_of ls from) (offset_of ls to))) }
 {

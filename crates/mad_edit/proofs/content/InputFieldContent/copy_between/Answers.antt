@@ -8,8 +8,5 @@ text_between-requires-clause-from c = rw (lines_seen _ _ _ _ c.self.view_is c.se
 pub text_between-requires-clause-to : goal.text_between-requires-clause-to
 text_between-requires-clause-to c = rw (lines_seen _ _ _ _ c.self.view_is c.self.invariant) at c.requires.to
 
-pub text_between-requires-clause-order : goal.text_between-requires-clause-order
-text_between-requires-clause-order c = rw (lines_seen _ _ _ _ c.self.view_is c.self.invariant) at c.requires.order
-
 pub returns : goal.returns
 returns c = rw (lines_seen _ _ _ _ c.self.view_is c.self.invariant, ← c.self.view_is) (search rules)
