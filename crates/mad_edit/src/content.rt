@@ -181,7 +181,7 @@ impl InputFieldContent {
         ensures valid { IsEditor self.now }
     {
         match self.selection_tail {
-            Some(tail) => in_order(&self.lines, self.pos, tail),
+            Some(tail) => in_order(self.pos, tail),
             None => Range {
                 min: self.pos,
                 max: self.pos,
@@ -193,8 +193,10 @@ impl InputFieldContent {
     pub fn has_wide_selection(&self) -> bool
         ensures { IsTrue result ↔ IsWide self.now }
     {
+        // Read so that the invariant of the lines is at hand.
+        let _ = &self.lines;
         let Range { min, max } = self.selection();
-        is_before(&self.lines, min, max)
+        is_before(min, max)
     }
 
     /// The text between two places.

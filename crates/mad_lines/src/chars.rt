@@ -47,7 +47,7 @@ impl<'c> Iterator for Chars<'c> {
     ghost remaining = { item_count (λ rest. rest) };
 
     fn next(&mut self) -> Option<char> {
-        if !is_before(self.lines, self.at, self.end) {
+        if !is_before(self.at, self.end) {
             return None;
         }
         let (c, next) = char_and_next(self.lines, self.at)?;

@@ -1,7 +1,7 @@
 //! Places among lines, and the text between two of them.
 
 ghost use Rattle.std.specs.List.{swap};
-ghost use Rattle.std.specs.Prelude.{◌≡◌, ◌<◌, ◌≤◌, ◌+◌, ◌↔◌, [], ◌∷◌, IfSome, IsSome, IsTrue, Some, IfOk, length, take, drop, min, max, slice_get, slice_range, string_bytes, encode_utf8_all};
+ghost use Rattle.std.specs.Prelude.{◌≡◌, ◌<◌, ◌≤◌, ◌+◌, ◌↔◌, ℕ, List, [], ◌∷◌, IfSome, IsSome, IsTrue, Some, IfOk, length, take, drop, min, max, slice_get, slice_range, string_bytes, encode_utf8_all};
 ghost use Rattle.mad_lines.specs.TextLines.{IsPlace, lines_of, line_at, text_of, offset_of, end_of, clamp};
 
 use crate::chars::Chars;
@@ -93,15 +93,12 @@ pub fn place_before(lines: &Vec<Line>, p: Pos) -> Option<Pos>
 }
 
 /// Two places in their order.
-pub fn in_order(lines: &Vec<Line>, a: Pos, b: Pos) -> Range
-    requires a { IsPlace (lines_of lines.now.items) a }
-    requires b { IsPlace (lines_of lines.now.items) b }
-    ensures min_place { IsPlace (lines_of lines.now.items) result.min }
-    ensures max_place { IsPlace (lines_of lines.now.items) result.max }
-    ensures min { offset_of (lines_of lines.now.items) result.min
-        ≡ min (offset_of (lines_of lines.now.items) a) (offset_of (lines_of lines.now.items) b) }
-    ensures max { offset_of (lines_of lines.now.items) result.max
-        ≡ max (offset_of (lines_of lines.now.items) a) (offset_of (lines_of lines.now.items) b) }
+pub fn in_order(a: Pos, b: Pos) -> Range
+    ensures place { (ls : List (List ℕ)) → IsPlace ls a → IsPlace ls b → IsPlace ls result.min × IsPlace ls result.max }
+    ensures min { (ls : List (List ℕ)) → IsPlace ls a → IsPlace ls b
+        → offset_of ls result.min ≡ min (offset_of ls a) (offset_of ls b) }
+    ensures max { (ls : List (List ℕ)) → IsPlace ls a → IsPlace ls b
+        → offset_of ls result.max ≡ max (offset_of ls a) (offset_of ls b) }
     ensures order { result.min.y ≤ result.max.y }
 {
     if b < a {
@@ -150,10 +147,8 @@ pub fn char_and_next(lines: &Vec<Line>, p: Pos) -> Option<(char, Pos)>
 }
 
 /// Whether a place is before another.
-pub fn is_before(lines: &Vec<Line>, p: Pos, q: Pos) -> bool
-    requires p { IsPlace (lines_of lines.now.items) p }
-    requires q { IsPlace (lines_of lines.now.items) q }
-    ensures { IsTrue result ↔ (offset_of (lines_of lines.now.items) p < offset_of (lines_of lines.now.items) q) }
+pub fn is_before(p: Pos, q: Pos) -> bool
+    ensures { (ls : List (List ℕ)) → IsPlace ls p → IsPlace ls q → (IsTrue result ↔ (offset_of ls p < offset_of ls q)) }
 {
     p < q
 }
