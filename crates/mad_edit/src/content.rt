@@ -45,10 +45,7 @@ fn clamp_tail(lines: &Vec<Line>, tail: Option<Pos>) -> Option<Pos>
     ensures is { result ≡ option_map (clamp (lines_of lines.now.items)) tail }
     ensures place { ForSome result (IsPlace (lines_of lines.now.items)) }
 {
-    match tail {
-        Some(tail) => Some(valid_pos(lines, tail)),
-        None => None,
-    }
+    tail.map(|tail| valid_pos(lines, tail))
 }
 
 impl InputFieldContent {

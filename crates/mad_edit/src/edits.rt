@@ -121,7 +121,7 @@ impl InputFieldContent {
             self.remove(at, to)?;
             return Ok(true);
         }
-        if self.front_of_line().len() > 0 {
+        if !self.front_of_line().is_empty() {
             return Ok(false);
         }
         self.del_char_left()
