@@ -1,4 +1,4 @@
-//! The editor's text and its places. No other module sees how the text is kept.
+//! The editor's text and its places. Only this module and its own see how the text is kept.
 
 ghost use Rattle.std.specs.Prelude.{◌≡◌, ◌<◌, ◌≤◌, ◌+◌, ◌-◌, ◌↔◌, [], None, Some, length, chars, min, max, option_map, IfOk, IfSome, IsSome, OnOk, OnErr, IsTrue, string_bytes, encode_utf8_all, slice_range};
 ghost use Rattle.std.specs.Option.{option_or, ForSome};
