@@ -29,7 +29,7 @@ impl<'c> Model for Chars<'c> {
 }
 
 impl<'c> Chars<'c> {
-    /// The characters between two places of these lines; none where `end` is before `at`.
+    /// The characters between two places of the lines; none where `end` is before `at`. Both have to be places of the lines.
     pub fn new(lines: &'c Vec<Line>, at: Pos, end: Pos) -> Chars<'c>
         requires at { IsPlace (lines_of lines.now.items) at }
         requires end { IsPlace (lines_of lines.now.items) end }

@@ -9,7 +9,7 @@ use crate::line::Line;
 use crate::place::{Pos, Range};
 use std::alloc::{AllocError, Global};
 
-/// How many characters a line has.
+/// How many characters a line has. There has to be a line with this number.
 pub fn line_len(lines: &Vec<Line>, y: usize) -> usize
     requires { y < length (lines_of lines.now.items) }
     ensures { result ≡ length (line_at (lines_of lines.now.items) y) }
@@ -24,7 +24,7 @@ pub fn line_count(lines: &Vec<Line>) -> usize
     lines.len()
 }
 
-/// The end of the text.
+/// The end of the text. There has to be a line.
 pub fn end_place(lines: &Vec<Line>) -> Pos
     requires { 0 < length lines.now.items }
     ensures is { result ≡ end_of (lines_of lines.now.items) }
@@ -38,7 +38,7 @@ pub fn end_place(lines: &Vec<Line>) -> Pos
     }
 }
 
-/// The place itself, or the nearest one on its line, or the end.
+/// The place itself, or the nearest one on its line, or the end. There has to be a line.
 pub fn valid_pos(lines: &Vec<Line>, p: Pos) -> Pos
     requires { 0 < length lines.now.items }
     ensures is { result ≡ clamp (lines_of lines.now.items) p }
@@ -54,7 +54,7 @@ pub fn valid_pos(lines: &Vec<Line>, p: Pos) -> Pos
     }
 }
 
-/// The next place, if this is not the end.
+/// The next place, if this is not the end. It has to be a place of the lines.
 pub fn place_after(lines: &Vec<Line>, p: Pos) -> Option<Pos>
     requires { IsPlace (lines_of lines.now.items) p }
     ensures place { IfSome result (λ q. IsPlace (lines_of lines.now.items) q) }
@@ -71,7 +71,7 @@ pub fn place_after(lines: &Vec<Line>, p: Pos) -> Option<Pos>
     }
 }
 
-/// The previous place, if this is not the start.
+/// The previous place, if this is not the start. It has to be a place of the lines.
 pub fn place_before(lines: &Vec<Line>, p: Pos) -> Option<Pos>
     requires { IsPlace (lines_of lines.now.items) p }
     ensures place { IfSome result (λ q. IsPlace (lines_of lines.now.items) q) }
@@ -108,7 +108,7 @@ pub fn in_order(a: Pos, b: Pos) -> Range
     }
 }
 
-/// The place after a character: the next place, or the end.
+/// The place after a character: the next place, or the end. `p` has to be a place of the lines.
 pub fn place_past(lines: &Vec<Line>, p: Pos) -> Pos
     requires { IsPlace (lines_of lines.now.items) p }
     ensures place { IsPlace (lines_of lines.now.items) result }
@@ -119,7 +119,7 @@ pub fn place_past(lines: &Vec<Line>, p: Pos) -> Pos
     place_after(lines, p).unwrap_or(p)
 }
 
-/// The character at a place.
+/// The character at a place, if this is not the end. It has to be a place of the lines.
 pub fn char_at(lines: &Vec<Line>, p: Pos) -> Option<char>
     requires { IsPlace (lines_of lines.now.items) p }
     ensures { result ≡ slice_get (text_of (lines_of lines.now.items)) (offset_of (lines_of lines.now.items) p) }
@@ -133,7 +133,7 @@ pub fn char_at(lines: &Vec<Line>, p: Pos) -> Option<char>
     }
 }
 
-/// The character at a place, and the next place.
+/// The character at a place, and the next place, if this is not the end. It has to be a place of the lines.
 pub fn char_and_next(lines: &Vec<Line>, p: Pos) -> Option<(char, Pos)>
     requires { IsPlace (lines_of lines.now.items) p }
     ensures char { IfSome result (λ r. slice_get (text_of (lines_of lines.now.items)) (offset_of (lines_of lines.now.items) p) ≡ Some r.0) }
@@ -153,7 +153,7 @@ pub fn is_before(p: Pos, q: Pos) -> bool
     p < q
 }
 
-/// The text between two places; empty where `to` is before `from`.
+/// The text between two places; empty where `to` is before `from`. Both have to be places of the lines.
 ///
 /// # Errors
 ///
@@ -190,7 +190,7 @@ fn rest_of(line: &Line, x: usize) -> &[char]
     &line.chars.as_slice()[x..]
 }
 
-/// The characters of a place's line before the place.
+/// The characters of a place's line before the place. It has to be a place of the lines.
 pub fn front_at(lines: &Vec<Line>, p: Pos) -> &[char]
     requires { IsPlace (lines_of lines.now.items) p }
     ensures { result.now ≡ take p.x (line_at (lines_of lines.now.items) p.y) }
@@ -198,7 +198,7 @@ pub fn front_at(lines: &Vec<Line>, p: Pos) -> &[char]
     front_of(&lines[p.y], p.x)
 }
 
-/// The characters of a place's line after the place.
+/// The characters of a place's line after the place. It has to be a place of the lines.
 pub fn rest_at(lines: &Vec<Line>, p: Pos) -> &[char]
     requires { IsPlace (lines_of lines.now.items) p }
     ensures { result.now ≡ drop p.x (line_at (lines_of lines.now.items) p.y) }
@@ -221,7 +221,7 @@ pub fn clone_lines(alloc: Global, lines: &Vec<Line>) -> Result<Vec<Line>, AllocE
     Ok(copy)
 }
 
-/// Leaves one empty line.
+/// Leaves one empty line. There has to be a line before.
 pub fn clear_lines(lines: &mut Vec<Line>)
     requires { 0 < length lines.old.items }
     ensures { lines_of lines.new.items ≡ [] ∷ [] }
@@ -230,7 +230,7 @@ pub fn clear_lines(lines: &mut Vec<Line>)
     lines[0].chars.clear();
 }
 
-/// Two lines change places.
+/// Two lines change places. There have to be lines with these numbers.
 pub fn swap_lines(lines: &mut Vec<Line>, a: usize, b: usize)
     requires a { a < length lines.old.items }
     requires b { b < length lines.old.items }
@@ -239,7 +239,7 @@ pub fn swap_lines(lines: &mut Vec<Line>, a: usize, b: usize)
     lines.swap(a, b);
 }
 
-/// A line.
+/// A line. There has to be one with this number.
 pub fn line_at(lines: &Vec<Line>, y: usize) -> &Line
     requires { y < length (lines_of lines.now.items) }
     ensures { result.now.chars.items ≡ line_at (lines_of lines.now.items) y }
