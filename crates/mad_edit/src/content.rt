@@ -40,10 +40,10 @@ impl Model for InputFieldContent {
 }
 
 /// A tail at the nearest place of these lines.
-fn clamp_tail(lines: &Vec<Line>, tail: Option<Pos>) -> Option<Pos>
-    requires { 0 < length lines.now.items }
-    ensures is { result ≡ option_map (clamp (lines_of lines.now.items)) tail }
-    ensures place { ForSome result (IsPlace (lines_of lines.now.items)) }
+fn clamp_tail(lines: &[Line], tail: Option<Pos>) -> Option<Pos>
+    requires { 0 < length lines.now }
+    ensures is { result ≡ option_map (clamp (lines_of lines.now)) tail }
+    ensures place { ForSome result (IsPlace (lines_of lines.now)) }
 {
     tail.map(|tail| valid_pos(lines, tail))
 }

@@ -12,7 +12,7 @@ use std::marker::Model;
 /// The characters between two places, lines joined by newlines.
 #[derive(Drop)]
 pub struct Chars<'c> {
-    lines: &'c Vec<Line>,
+    lines: &'c [Line],
     at: Pos,
     end: Pos,
 }
@@ -23,17 +23,17 @@ impl<'c> Model for Chars<'c> {
 
     ghost Value = { List ℕ };
 
-    ghost view = { λ a. let ls = lines_of a.lines.now.items in slice_range (text_of ls) (offset_of ls a.at) (offset_of ls a.end) };
+    ghost view = { λ a. let ls = lines_of a.lines.now in slice_range (text_of ls) (offset_of ls a.at) (offset_of ls a.end) };
 
-    ghost invariant = { λ a. IsPlace (lines_of a.lines.now.items) a.at × IsPlace (lines_of a.lines.now.items) a.end };
+    ghost invariant = { λ a. IsPlace (lines_of a.lines.now) a.at × IsPlace (lines_of a.lines.now) a.end };
 }
 
 impl<'c> Chars<'c> {
     /// The characters between two places of the lines; none where `end` is before `at`. Both have to be places of the lines.
-    pub fn new(lines: &'c Vec<Line>, at: Pos, end: Pos) -> Chars<'c>
-        requires at { IsPlace (lines_of lines.now.items) at }
-        requires end { IsPlace (lines_of lines.now.items) end }
-        ensures { let ls = lines_of lines.entry.now.items in result ≡ slice_range (text_of ls) (offset_of ls at) (offset_of ls end) }
+    pub fn new(lines: &'c [Line], at: Pos, end: Pos) -> Chars<'c>
+        requires at { IsPlace (lines_of lines.now) at }
+        requires end { IsPlace (lines_of lines.now) end }
+        ensures { let ls = lines_of lines.entry.now in result ≡ slice_range (text_of ls) (offset_of ls at) (offset_of ls end) }
     {
         Chars { lines, at, end }
     }

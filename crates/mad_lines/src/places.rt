@@ -10,26 +10,26 @@ use crate::place::{Pos, Range};
 use std::alloc::{AllocError, Global};
 
 /// How many characters a line has. There has to be a line with this number.
-pub fn line_len(lines: &Vec<Line>, y: usize) -> usize
-    requires { y < length (lines_of lines.now.items) }
-    ensures { result ≡ length (line_at (lines_of lines.now.items) y) }
+pub fn line_len(lines: &[Line], y: usize) -> usize
+    requires { y < length (lines_of lines.now) }
+    ensures { result ≡ length (line_at (lines_of lines.now) y) }
 {
     lines[y].chars.len()
 }
 
 /// How many lines there are.
-pub fn line_count(lines: &Vec<Line>) -> usize
-    ensures { result ≡ length (lines_of lines.now.items) }
+pub fn line_count(lines: &[Line]) -> usize
+    ensures { result ≡ length (lines_of lines.now) }
 {
     lines.len()
 }
 
 /// The end of the text. There has to be a line.
-pub fn end_place(lines: &Vec<Line>) -> Pos
-    requires { 0 < length lines.now.items }
-    ensures is { result ≡ end_of (lines_of lines.now.items) }
-    ensures place { IsPlace (lines_of lines.now.items) result }
-    ensures last { offset_of (lines_of lines.now.items) result ≡ length (text_of (lines_of lines.now.items)) }
+pub fn end_place(lines: &[Line]) -> Pos
+    requires { 0 < length lines.now }
+    ensures is { result ≡ end_of (lines_of lines.now) }
+    ensures place { IsPlace (lines_of lines.now) result }
+    ensures last { offset_of (lines_of lines.now) result ≡ length (text_of (lines_of lines.now)) }
 {
     let y = line_count(lines) - 1;
     Pos {
@@ -39,10 +39,10 @@ pub fn end_place(lines: &Vec<Line>) -> Pos
 }
 
 /// The place itself, or the nearest one on its line, or the end. There has to be a line.
-pub fn valid_pos(lines: &Vec<Line>, p: Pos) -> Pos
-    requires { 0 < length lines.now.items }
-    ensures is { result ≡ clamp (lines_of lines.now.items) p }
-    ensures place { IsPlace (lines_of lines.now.items) result }
+pub fn valid_pos(lines: &[Line], p: Pos) -> Pos
+    requires { 0 < length lines.now }
+    ensures is { result ≡ clamp (lines_of lines.now) p }
+    ensures place { IsPlace (lines_of lines.now) result }
 {
     if p.y < lines.len() {
         Pos {
@@ -55,12 +55,12 @@ pub fn valid_pos(lines: &Vec<Line>, p: Pos) -> Pos
 }
 
 /// The next place, if this is not the end. It has to be a place of the lines.
-pub fn place_after(lines: &Vec<Line>, p: Pos) -> Option<Pos>
-    requires { IsPlace (lines_of lines.now.items) p }
-    ensures place { IfSome result (λ q. IsPlace (lines_of lines.now.items) q) }
-    ensures next { IfSome result (λ q. offset_of (lines_of lines.now.items) q ≡ offset_of (lines_of lines.now.items) p + 1) }
+pub fn place_after(lines: &[Line], p: Pos) -> Option<Pos>
+    requires { IsPlace (lines_of lines.now) p }
+    ensures place { IfSome result (λ q. IsPlace (lines_of lines.now) q) }
+    ensures next { IfSome result (λ q. offset_of (lines_of lines.now) q ≡ offset_of (lines_of lines.now) p + 1) }
     ensures order { IfSome result (λ q. p.y ≤ q.y) }
-    ensures at_end { IsSome result ↔ (offset_of (lines_of lines.now.items) p < length (text_of (lines_of lines.now.items))) }
+    ensures at_end { IsSome result ↔ (offset_of (lines_of lines.now) p < length (text_of (lines_of lines.now))) }
 {
     if p.x < line_len(lines, p.y) {
         Some(Pos { y: p.y, x: p.x + 1 })
@@ -72,12 +72,12 @@ pub fn place_after(lines: &Vec<Line>, p: Pos) -> Option<Pos>
 }
 
 /// The previous place, if this is not the start. It has to be a place of the lines.
-pub fn place_before(lines: &Vec<Line>, p: Pos) -> Option<Pos>
-    requires { IsPlace (lines_of lines.now.items) p }
-    ensures place { IfSome result (λ q. IsPlace (lines_of lines.now.items) q) }
-    ensures next { IfSome result (λ q. offset_of (lines_of lines.now.items) q + 1 ≡ offset_of (lines_of lines.now.items) p) }
+pub fn place_before(lines: &[Line], p: Pos) -> Option<Pos>
+    requires { IsPlace (lines_of lines.now) p }
+    ensures place { IfSome result (λ q. IsPlace (lines_of lines.now) q) }
+    ensures next { IfSome result (λ q. offset_of (lines_of lines.now) q + 1 ≡ offset_of (lines_of lines.now) p) }
     ensures order { IfSome result (λ q. q.y ≤ p.y) }
-    ensures at_start { IsSome result ↔ (0 < offset_of (lines_of lines.now.items) p) }
+    ensures at_start { IsSome result ↔ (0 < offset_of (lines_of lines.now) p) }
 {
     if p.x > 0 {
         Some(Pos { y: p.y, x: p.x - 1 })
@@ -109,20 +109,20 @@ pub fn in_order(a: Pos, b: Pos) -> Range
 }
 
 /// The place after a character: the next place, or the end. `p` has to be a place of the lines.
-pub fn place_past(lines: &Vec<Line>, p: Pos) -> Pos
-    requires { IsPlace (lines_of lines.now.items) p }
-    ensures place { IsPlace (lines_of lines.now.items) result }
-    ensures next { offset_of (lines_of lines.now.items) result
-        ≡ min (offset_of (lines_of lines.now.items) p + 1) (length (text_of (lines_of lines.now.items))) }
+pub fn place_past(lines: &[Line], p: Pos) -> Pos
+    requires { IsPlace (lines_of lines.now) p }
+    ensures place { IsPlace (lines_of lines.now) result }
+    ensures next { offset_of (lines_of lines.now) result
+        ≡ min (offset_of (lines_of lines.now) p + 1) (length (text_of (lines_of lines.now))) }
     ensures order { p.y ≤ result.y }
 {
     place_after(lines, p).unwrap_or(p)
 }
 
 /// The character at a place, if this is not the end. It has to be a place of the lines.
-pub fn char_at(lines: &Vec<Line>, p: Pos) -> Option<char>
-    requires { IsPlace (lines_of lines.now.items) p }
-    ensures { result ≡ slice_get (text_of (lines_of lines.now.items)) (offset_of (lines_of lines.now.items) p) }
+pub fn char_at(lines: &[Line], p: Pos) -> Option<char>
+    requires { IsPlace (lines_of lines.now) p }
+    ensures { result ≡ slice_get (text_of (lines_of lines.now)) (offset_of (lines_of lines.now) p) }
 {
     if p.x < line_len(lines, p.y) {
         Some(lines[p.y].chars[p.x])
@@ -134,12 +134,12 @@ pub fn char_at(lines: &Vec<Line>, p: Pos) -> Option<char>
 }
 
 /// The character at a place, and the next place, if this is not the end. It has to be a place of the lines.
-pub fn char_and_next(lines: &Vec<Line>, p: Pos) -> Option<(char, Pos)>
-    requires { IsPlace (lines_of lines.now.items) p }
-    ensures char { IfSome result (λ r. slice_get (text_of (lines_of lines.now.items)) (offset_of (lines_of lines.now.items) p) ≡ Some r.0) }
-    ensures place { IfSome result (λ r. IsPlace (lines_of lines.now.items) r.1) }
-    ensures next { IfSome result (λ r. offset_of (lines_of lines.now.items) r.1 ≡ offset_of (lines_of lines.now.items) p + 1) }
-    ensures at_end { IsSome result ↔ (offset_of (lines_of lines.now.items) p < length (text_of (lines_of lines.now.items))) }
+pub fn char_and_next(lines: &[Line], p: Pos) -> Option<(char, Pos)>
+    requires { IsPlace (lines_of lines.now) p }
+    ensures char { IfSome result (λ r. slice_get (text_of (lines_of lines.now)) (offset_of (lines_of lines.now) p) ≡ Some r.0) }
+    ensures place { IfSome result (λ r. IsPlace (lines_of lines.now) r.1) }
+    ensures next { IfSome result (λ r. offset_of (lines_of lines.now) r.1 ≡ offset_of (lines_of lines.now) p + 1) }
+    ensures at_end { IsSome result ↔ (offset_of (lines_of lines.now) p < length (text_of (lines_of lines.now))) }
 {
     let c = char_at(lines, p)?;
     let next = place_after(lines, p)?;
@@ -160,13 +160,13 @@ pub fn is_before(p: Pos, q: Pos) -> bool
 /// Out of memory is the only error.
 pub fn text_between(
     alloc: Global,
-    lines: &Vec<Line>,
+    lines: &[Line],
     from: Pos,
     to: Pos,
 ) -> Result<String, AllocError>
-    requires from { IsPlace (lines_of lines.now.items) from }
-    requires to { IsPlace (lines_of lines.now.items) to }
-    ensures { IfOk result (λ s. let ls = lines_of lines.now.items in
+    requires from { IsPlace (lines_of lines.now) from }
+    requires to { IsPlace (lines_of lines.now) to }
+    ensures { IfOk result (λ s. let ls = lines_of lines.now in
         string_bytes s ≡ encode_utf8_all (slice_range (text_of ls) (offset_of ls from) (offset_of ls to))) }
 {
     let mut out = String::new(alloc);
@@ -191,17 +191,17 @@ fn rest_of(line: &Line, x: usize) -> &[char]
 }
 
 /// The characters of a place's line before the place. It has to be a place of the lines.
-pub fn front_at(lines: &Vec<Line>, p: Pos) -> &[char]
-    requires { IsPlace (lines_of lines.now.items) p }
-    ensures { result.now ≡ take p.x (line_at (lines_of lines.now.items) p.y) }
+pub fn front_at(lines: &[Line], p: Pos) -> &[char]
+    requires { IsPlace (lines_of lines.now) p }
+    ensures { result.now ≡ take p.x (line_at (lines_of lines.now) p.y) }
 {
     front_of(&lines[p.y], p.x)
 }
 
 /// The characters of a place's line after the place. It has to be a place of the lines.
-pub fn rest_at(lines: &Vec<Line>, p: Pos) -> &[char]
-    requires { IsPlace (lines_of lines.now.items) p }
-    ensures { result.now ≡ drop p.x (line_at (lines_of lines.now.items) p.y) }
+pub fn rest_at(lines: &[Line], p: Pos) -> &[char]
+    requires { IsPlace (lines_of lines.now) p }
+    ensures { result.now ≡ drop p.x (line_at (lines_of lines.now) p.y) }
 {
     rest_of(&lines[p.y], p.x)
 }
@@ -211,8 +211,8 @@ pub fn rest_at(lines: &Vec<Line>, p: Pos) -> &[char]
 /// # Errors
 ///
 /// Out of memory is the only error.
-pub fn clone_lines(alloc: Global, lines: &Vec<Line>) -> Result<Vec<Line>, AllocError>
-    ensures { IfOk result (λ copy. lines_of copy.items ≡ lines_of lines.now.items) }
+pub fn clone_lines(alloc: Global, lines: &[Line]) -> Result<Vec<Line>, AllocError>
+    ensures { IfOk result (λ copy. lines_of copy.items ≡ lines_of lines.now) }
 {
     let mut copy = Vec::with_capacity(alloc, lines.len())?;
     for line in lines {
@@ -240,9 +240,9 @@ pub fn swap_lines(lines: &mut Vec<Line>, a: usize, b: usize)
 }
 
 /// A line. There has to be one with this number.
-pub fn line_at(lines: &Vec<Line>, y: usize) -> &Line
-    requires { y < length (lines_of lines.now.items) }
-    ensures { result.now.chars.items ≡ line_at (lines_of lines.now.items) y }
+pub fn line_at(lines: &[Line], y: usize) -> &Line
+    requires { y < length (lines_of lines.now) }
+    ensures { result.now.chars.items ≡ line_at (lines_of lines.now) y }
 {
     &lines[y]
 }

@@ -16,7 +16,7 @@ span_next t a b c low within at =
 
 pub returns-clause-steps : goal.returns-clause-steps
 returns-clause-steps c =
-    let ls = lines_of c.self.inside.lines.now.items in
+    let ls = lines_of c.self.inside.lines.now in
     let t = text_of ls in
     let at = offset_of ls c.self.inside.at in
     let end = offset_of ls c.self.inside.end in
