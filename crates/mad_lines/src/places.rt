@@ -158,12 +158,7 @@ pub fn is_before(p: Pos, q: Pos) -> bool
 /// # Errors
 ///
 /// Out of memory is the only error.
-pub fn text_between(
-    alloc: Global,
-    lines: &[Line],
-    from: Pos,
-    to: Pos,
-) -> Result<String, AllocError>
+pub fn text_between(alloc: Global, lines: &[Line], from: Pos, to: Pos) -> Result<String, AllocError>
     requires from { IsPlace (lines_of lines.now) from }
     requires to { IsPlace (lines_of lines.now) to }
     ensures { IfOk result (λ s. let ls = lines_of lines.now in

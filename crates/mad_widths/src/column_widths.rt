@@ -6,8 +6,8 @@ ghost use Rattle.mad_widths.specs.ColumnWidths.{natural_widths, AreReduced};
 ghost use Rattle.mad_widths.specs.TableFits.{IsFit};
 
 use crate::sharing::{
-    LEAST_COLUMN, SeenColumn, first_requests, give_up_in_turn, natural_widths, second_requests, total_width,
-    turns_of,
+    LEAST_COLUMN, SeenColumn, first_requests, give_up_in_turn, natural_widths, second_requests,
+    total_width, turns_of,
 };
 use crate::tbl_fit::TblFitResult;
 use std::alloc::{AllocError, Global};
