@@ -1,7 +1,7 @@
 //! The editor's text and its places. Only this module and its own see how the text is kept.
 
 ghost use Rattle.std.specs.Prelude.{◌≡◌, ◌<◌, ◌≤◌, ◌+◌, ◌-◌, ◌↔◌, [], None, Some, length, chars, min, max, option_map, IfOk, IfSome, IsSome, OnOk, OnErr, IsTrue, string_bytes, encode_utf8_all, slice_range};
-ghost use Rattle.std.specs.Option.{option_or, ForSome};
+ghost use Rattle.std.specs.Option.{ForSome};
 ghost use Rattle.mad_lines.specs.TextLines.{lines, lines_of, accepted, clamp, IsPlace};
 ghost use Rattle.mad_edit.specs.Editor.{IsPlaceIn, offset_at, IsAt, clamp_in, clamp_tail, replaced, cursor_line, cursor_column, front_of_line, rest_of_line, IsEditor, IsWide, IsMovedToLine, selection_start, selection_last};
 

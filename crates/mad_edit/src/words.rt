@@ -1,6 +1,6 @@
 //! How far a word goes from the cursor, in its line.
 
-ghost use Rattle.std.specs.Prelude.{◌≡◌, ◌≤◌, ◌<◌, ◌↔◌, length, IsTrue};
+ghost use Rattle.std.specs.Prelude.{◌≡◌, ◌≤◌, ◌<◌, ◌↔◌, length};
 ghost use Rattle.mad_edit.specs.Words.{word_before, word_after};
 
 use mad_lines::CharClass;

@@ -1,6 +1,6 @@
 //! The characters between two places, one after another.
 
-ghost use Rattle.std.specs.Prelude.{◌≡◌, ◌≤◌, slice_range};
+ghost use Rattle.std.specs.Prelude.{◌≡◌, slice_range};
 ghost use Rattle.std.specs.Iterator.{YieldsFirst, item_count};
 ghost use Rattle.mad_lines.specs.TextLines.{IsPlace, lines_of, text_of, offset_of};
 

@@ -1,6 +1,6 @@
 //! The widths of a table's columns, from what was seen of their cells: the three cases.
 
-ghost use Rattle.std.specs.Prelude.{◌≡◌, ℕ, ◌*◌, ◌^◌, ◌<◌, ◌≤◌, length, map, sum, IfOk, OnOk};
+ghost use Rattle.std.specs.Prelude.{◌≡◌, ◌*◌, ◌^◌, ◌<◌, ◌≤◌, length, map, sum, IfOk, OnOk};
 ghost use Rattle.mad_widths.specs.SeenCells.{needs_in};
 ghost use Rattle.mad_widths.specs.ColumnWidths.{natural_widths, AreReduced};
 ghost use Rattle.mad_widths.specs.TableFits.{IsFit};
