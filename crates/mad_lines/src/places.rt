@@ -54,7 +54,7 @@ pub fn valid_pos(lines: &[Line], p: Pos) -> Pos
     }
 }
 
-/// The next place, if this is not the end. It has to be a place of the lines.
+/// The next place, if this is not the end. `p` has to be a place of the lines.
 pub fn place_after(lines: &[Line], p: Pos) -> Option<Pos>
     requires { IsPlace (lines_of lines.now) p }
     ensures place { IfSome result (λ q. IsPlace (lines_of lines.now) q) }
@@ -71,7 +71,7 @@ pub fn place_after(lines: &[Line], p: Pos) -> Option<Pos>
     }
 }
 
-/// The previous place, if this is not the start. It has to be a place of the lines.
+/// The previous place, if this is not the start. `p` has to be a place of the lines.
 pub fn place_before(lines: &[Line], p: Pos) -> Option<Pos>
     requires { IsPlace (lines_of lines.now) p }
     ensures place { IfSome result (λ q. IsPlace (lines_of lines.now) q) }
@@ -119,7 +119,7 @@ pub fn place_past(lines: &[Line], p: Pos) -> Pos
     place_after(lines, p).unwrap_or(p)
 }
 
-/// The character at a place, if this is not the end. It has to be a place of the lines.
+/// The character at a place, if this is not the end. `p` has to be a place of the lines.
 pub fn char_at(lines: &[Line], p: Pos) -> Option<char>
     requires { IsPlace (lines_of lines.now) p }
     ensures { result ≡ slice_get (text_of (lines_of lines.now)) (offset_of (lines_of lines.now) p) }
@@ -133,7 +133,7 @@ pub fn char_at(lines: &[Line], p: Pos) -> Option<char>
     }
 }
 
-/// The character at a place, and the next place, if this is not the end. It has to be a place of the lines.
+/// The character at a place, and the next place, if this is not the end. `p` has to be a place of the lines.
 pub fn char_and_next(lines: &[Line], p: Pos) -> Option<(char, Pos)>
     requires { IsPlace (lines_of lines.now) p }
     ensures char { IfSome result (λ r. slice_get (text_of (lines_of lines.now)) (offset_of (lines_of lines.now) p) ≡ Some r.0) }
@@ -185,7 +185,7 @@ fn rest_of(line: &Line, x: usize) -> &[char]
     &line.chars.as_slice()[x..]
 }
 
-/// The characters of a place's line before the place. It has to be a place of the lines.
+/// The characters of a place's line before the place. `p` has to be a place of the lines.
 pub fn front_at(lines: &[Line], p: Pos) -> &[char]
     requires { IsPlace (lines_of lines.now) p }
     ensures { result.now ≡ take p.x (line_at (lines_of lines.now) p.y) }
@@ -193,7 +193,7 @@ pub fn front_at(lines: &[Line], p: Pos) -> &[char]
     front_of(&lines[p.y], p.x)
 }
 
-/// The characters of a place's line after the place. It has to be a place of the lines.
+/// The characters of a place's line after the place. `p` has to be a place of the lines.
 pub fn rest_at(lines: &[Line], p: Pos) -> &[char]
     requires { IsPlace (lines_of lines.now) p }
     ensures { result.now ≡ drop p.x (line_at (lines_of lines.now) p.y) }
