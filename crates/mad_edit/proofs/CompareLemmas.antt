@@ -4,10 +4,10 @@ use Rattle.std.specs.Bool.{Decides, one_answer}
 use Rattle.std.specs.Cmp.{first_so, second_so, unsigned_Decides}
 use Rattle.std.specs.Cmp.Lexicographic.{pointwise, bytes_decides}
 use Rattle.std.specs.Option.{option_eq, unwrap_or}
+use Rattle.std.proofs.lemmas.Bool.{and_from}
 use Rattle.mad_lines.specs.declared.line.Line.{Line}
 use Rattle.mad_lines.specs.declared.place.Pos.{Pos}
 use Rattle.mad_lines.specs.TextLines.{lines, chars_of, lines_of, text_of, offset_of}
-use Rattle.mad_edit.proofs.TextLemmas.{both}
 use Rattle.mad_edit.proofs.EditorLemmas.{Seen, lines_seen, line_seen, column_seen}
 use Rattle.mad_edit.specs.Editor.{Editor, IsValid, same_editor, same_place, cursor_line, cursor_column}
 
@@ -20,7 +20,7 @@ same_place_decides p q = (
       let y : p.y ≡ q.y = (unsigned_Decides p.y q.y).0 (first_so _ _ e) in
       let x : p.x ≡ q.x = (unsigned_Decides p.x q.x).0 (second_so _ _ e) in
       λ i. place (y i) (x i),
-  λ e. both _ _ ((unsigned_Decides p.y q.y).1 (ap (λ (r : Pos). r.y) e)) ((unsigned_Decides p.x q.x).1 (ap (λ (r : Pos). r.x) e)),
+  λ e. and_from _ _ ((unsigned_Decides p.y q.y).1 (ap (λ (r : Pos). r.y) e)) ((unsigned_Decides p.x q.x).1 (ap (λ (r : Pos). r.x) e)),
 )
 
 pub same_tail_decides : (s t : Option Pos) → Decides (option_eq same_place s t) (s ≡ t)
@@ -42,8 +42,8 @@ same_editor_decides a b = (
       let tail : a.tail ≡ b.tail = (same_tail_decides a.tail b.tail).0 (second_so _ _ rest) in
       λ i. record { text = text i; offset = offset i; tail = tail i },
   λ e.
-      both _ _ ((bytes_decides a.text b.text).1 (ap (λ (x : Editor). x.text) e))
-      (both _ _ ((unsigned_Decides a.offset b.offset).1 (ap (λ (x : Editor). x.offset) e)) ((same_tail_decides a.tail b.tail).1 (ap (λ (x : Editor). x.tail) e))),
+      and_from _ _ ((bytes_decides a.text b.text).1 (ap (λ (x : Editor). x.text) e))
+      (and_from _ _ ((unsigned_Decides a.offset b.offset).1 (ap (λ (x : Editor). x.offset) e)) ((same_tail_decides a.tail b.tail).1 (ap (λ (x : Editor). x.tail) e))),
 )
 
 -- lines that are compared one by one
@@ -56,7 +56,7 @@ lines_decide E d (l ∷ ls) (m ∷ ms) = (
       let head = (d l m).0 (first_so (E l m) (pointwise E ls ms) e) in
       let tail = (lines_decide E d ls ms).0 (second_so (E l m) (pointwise E ls ms) e) in
       λ i. head i ∷ tail i,
-  λ e. both (E l m) (pointwise E ls ms) ((d l m).1 (ap (λ t. get_or t 0 []) e)) ((lines_decide E d ls ms).1 (ap (drop 1) e)),
+  λ e. and_from (E l m) (pointwise E ls ms) ((d l m).1 (ap (λ t. get_or t 0 []) e)) ((lines_decide E d ls ms).1 (ap (drop 1) e)),
 )
 
 -- what is kept is the same exactly where the editors are

@@ -1,9 +1,10 @@
 -- Characters, and the bytes that spell them.
-use Rattle.std.proofs.Common.{ℕ, ◌≤◌, ◌≡◌, ◌&&◌, List, [], ◌∷◌, ◌++◌, length, take, drop, refl, ap, sym, ◌∙◌, arith, lit<, append-nil, cond, true, false, Bool}
+use Rattle.std.proofs.Common.{ℕ, ◌≤◌, ◌≡◌, List, [], ◌∷◌, ◌++◌, length, take, drop, refl, ap, sym, ◌∙◌, arith, lit<, append-nil, cond, true}
 use Rattle.std.specs.Prelude.{All, encode_utf8, encode_utf8_all, slice_range}
 use Rattle.std.specs.Char.{IsScalar}
 use Rattle.std.specs.Str.{chars}
 use Rattle.std.proofs.Math.Utf8.{scalars, scalar}
+use Rattle.std.proofs.lemmas.Bool.{and_from}
 use Rattle.std.proofs.lemmas.Str.{chars-encodes, chars-nil, encode_ascii}
 use Rattle.std.proofs.lemmas.List.{take_at, drop_at, length-take-le}
 use Rattle.std.proofs.lemmas.List.Edits.{split_between}
@@ -13,19 +14,15 @@ use Rattle.mad_lines.specs.TextLines.{accepted, IsAcceptedChar}
 pub nothing_accepted : accepted (chars []) ≡ []
 nothing_accepted = ap accepted chars-nil
 
-pub both : (a b : Bool) → a ≡ true → b ≡ true → (a && b) ≡ true
-both true b h k = k
-both false b h k = cc
-
 pub one_char : (c : ℕ) → IsScalar c → chars (encode_utf8 c) ≡ c ∷ []
-one_char c h = ap chars (sym (append-nil (encode_utf8 c))) ∙ chars-encodes (c ∷ []) (both (scalar c) true h refl)
+one_char c h = ap chars (sym (append-nil (encode_utf8 c))) ∙ chars-encodes (c ∷ []) (and_from (scalar c) true h refl)
 
 pub newline_char : chars (10 ∷ []) ≡ 10 ∷ []
 newline_char = ap chars (sym (encode_ascii 10 (lit< tt))) ∙ one_char 10 refl
 
 all_scalars : (cs : List ℕ) → All IsAcceptedChar cs → scalars cs ≡ true
 all_scalars [] h = refl
-all_scalars (c ∷ cs) h = both (scalar c) (scalars cs) (All-head IsAcceptedChar c cs h).1 (all_scalars cs (All-tail IsAcceptedChar c cs h))
+all_scalars (c ∷ cs) h = and_from (scalar c) (scalars cs) (All-head IsAcceptedChar c cs h).1 (all_scalars cs (All-tail IsAcceptedChar c cs h))
 
 pub all_accepted : (cs : List ℕ) → All IsAcceptedChar cs → accepted cs ≡ cs
 all_accepted [] h = refl

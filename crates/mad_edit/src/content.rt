@@ -1,7 +1,7 @@
-//! The editor's text and its places. No other module sees how the text is kept.
+//! The editor's text and its places. Only this module and its own see how the text is kept.
 
 ghost use Rattle.std.specs.Prelude.{◌≡◌, ◌<◌, ◌≤◌, ◌+◌, ◌-◌, ◌↔◌, [], None, Some, length, chars, min, max, option_map, IfOk, IfSome, IsSome, OnOk, OnErr, IsTrue, string_bytes, encode_utf8_all, slice_range};
-ghost use Rattle.std.specs.Option.{option_or, ForSome};
+ghost use Rattle.std.specs.Option.{ForSome};
 ghost use Rattle.mad_lines.specs.TextLines.{lines, lines_of, accepted, clamp, IsPlace};
 ghost use Rattle.mad_edit.specs.Editor.{IsPlaceIn, offset_at, IsAt, clamp_in, clamp_tail, replaced, cursor_line, cursor_column, front_of_line, rest_of_line, IsEditor, IsWide, IsMovedToLine, selection_start, selection_last};
 
@@ -40,15 +40,12 @@ impl Model for InputFieldContent {
 }
 
 /// A tail at the nearest place of these lines.
-fn clamp_tail(lines: &Vec<Line>, tail: Option<Pos>) -> Option<Pos>
-    requires { 0 < length lines.now.items }
-    ensures is { result ≡ option_map (clamp (lines_of lines.now.items)) tail }
-    ensures place { ForSome result (IsPlace (lines_of lines.now.items)) }
+fn clamp_tail(lines: &[Line], tail: Option<Pos>) -> Option<Pos>
+    requires { 0 < length lines.now }
+    ensures is { result ≡ option_map (clamp (lines_of lines.now)) tail }
+    ensures place { ForSome result (IsPlace (lines_of lines.now)) }
 {
-    match tail {
-        Some(tail) => Some(valid_pos(lines, tail)),
-        None => None,
-    }
+    tail.map(|tail| valid_pos(lines, tail))
 }
 
 impl InputFieldContent {
@@ -181,7 +178,7 @@ impl InputFieldContent {
         ensures valid { IsEditor self.now }
     {
         match self.selection_tail {
-            Some(tail) => in_order(&self.lines, self.pos, tail),
+            Some(tail) => in_order(self.pos, tail),
             None => Range {
                 min: self.pos,
                 max: self.pos,
@@ -193,15 +190,16 @@ impl InputFieldContent {
     pub fn has_wide_selection(&self) -> bool
         ensures { IsTrue result ↔ IsWide self.now }
     {
+        // Read so that the invariant of the lines is at hand.
+        let _ = &self.lines;
         let Range { min, max } = self.selection();
-        is_before(&self.lines, min, max)
+        is_before(min, max)
     }
 
     /// The text between two places.
     pub(crate) fn copy_between(&self, from: Pos, to: Pos) -> Result<String, AllocError>
         requires from { IsPlaceIn self.now.text from }
         requires to { IsPlaceIn self.now.text to }
-        requires order { offset_at self.now.text from ≤ offset_at self.now.text to }
         ensures { IfOk result (λ s. string_bytes s
             ≡ encode_utf8_all (slice_range self.now.text (offset_at self.now.text from) (offset_at self.now.text to))) }
     {

@@ -6,7 +6,7 @@ ghost use Rattle.mad_edit.specs.Editor.{IsPlaceIn, offset_at, IsReplaced, IsRemo
 ghost use Rattle.mad_edit.specs.Words.{word_before, removed_after};
 
 use crate::content::InputFieldContent;
-use crate::words::{removed_after, word_before};
+use crate::words::word_before;
 use mad_lines::{CharClass, Pos};
 use std::alloc::AllocError;
 
@@ -121,7 +121,7 @@ impl InputFieldContent {
             self.remove(at, to)?;
             return Ok(true);
         }
-        if self.front_of_line().len() > 0 {
+        if !self.front_of_line().is_empty() {
             return Ok(false);
         }
         self.del_char_left()
@@ -170,7 +170,7 @@ impl InputFieldContent {
         let word = CharClass::Alphanumeric.count_front(self.rest_of_line());
         if rest > 0 {
             let at = self.cursor_pos();
-            let count = removed_after(self.rest_of_line());
+            let count = if word < rest { word + 1 } else { rest };
             let to = self.place_ahead(count);
             self.remove(at, to)?;
         }

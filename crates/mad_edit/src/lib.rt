@@ -4,7 +4,7 @@
 //!
 //! 1. [`content`]: the editor, and what it holds.
 //! 2. [`moves`], [`words`]: moves of the cursor, by characters, lines and words. [`selections`]: what is selected.
-//! 3. [`edits`]: what is put in, cut and moved.
+//! 3. [`edits`]: what is put in and removed.
 //! 4. [`laws`]: a worked selection, and worked cuts.
 #![tactic(auto)]
 

@@ -1,7 +1,7 @@
 //! How far a word goes from the cursor, in its line.
 
-ghost use Rattle.std.specs.Prelude.{◌≡◌, ◌≤◌, ◌<◌, ◌↔◌, length, IsTrue};
-ghost use Rattle.mad_edit.specs.Words.{word_before, word_after, removed_after};
+ghost use Rattle.std.specs.Prelude.{◌≡◌, ◌≤◌, ◌<◌, ◌↔◌, length};
+ghost use Rattle.mad_edit.specs.Words.{word_before, word_after};
 
 use mad_lines::CharClass;
 
@@ -29,14 +29,4 @@ pub(crate) fn word_after(rest: &[char]) -> usize
         return 0;
     }
     1 + CharClass::Alphanumeric.count_front(&rest[len.min(2)..])
-}
-
-/// How much a removal to the right takes, of the characters after the cursor in its line.
-pub(crate) fn removed_after(rest: &[char]) -> usize
-    ensures is { result ≡ removed_after rest.now }
-    ensures within { result ≤ length rest.now }
-{
-    let len = rest.len();
-    let word = CharClass::Alphanumeric.count_front(rest);
-    if word < len { word + 1 } else { len }
 }

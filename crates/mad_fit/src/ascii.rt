@@ -41,7 +41,7 @@ pub(crate) fn plain_front(text: &str, most: usize) -> usize
 fn is_plain(byte: u8) -> bool
     ensures { IsTrue result → (31 < byte) × (byte < 127) }
 {
-    byte >= b' ' && byte < 0x7f
+    (b' '..0x7f).contains(&byte)
 }
 
 /// Whether the text ends at this byte, or has a space there that isn't code.

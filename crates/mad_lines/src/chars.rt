@@ -1,6 +1,6 @@
 //! The characters between two places, one after another.
 
-ghost use Rattle.std.specs.Prelude.{◌≡◌, ◌≤◌, slice_range};
+ghost use Rattle.std.specs.Prelude.{◌≡◌, slice_range};
 ghost use Rattle.std.specs.Iterator.{YieldsFirst, item_count};
 ghost use Rattle.mad_lines.specs.TextLines.{IsPlace, lines_of, text_of, offset_of};
 
@@ -12,7 +12,7 @@ use std::marker::Model;
 /// The characters between two places, lines joined by newlines.
 #[derive(Drop)]
 pub struct Chars<'c> {
-    lines: &'c Vec<Line>,
+    lines: &'c [Line],
     at: Pos,
     end: Pos,
 }
@@ -23,17 +23,17 @@ impl<'c> Model for Chars<'c> {
 
     ghost Value = { List ℕ };
 
-    ghost view = { λ a. let ls = lines_of a.lines.now.items in slice_range (text_of ls) (offset_of ls a.at) (offset_of ls a.end) };
+    ghost view = { λ a. let ls = lines_of a.lines.now in slice_range (text_of ls) (offset_of ls a.at) (offset_of ls a.end) };
 
-    ghost invariant = { λ a. IsPlace (lines_of a.lines.now.items) a.at × IsPlace (lines_of a.lines.now.items) a.end };
+    ghost invariant = { λ a. IsPlace (lines_of a.lines.now) a.at × IsPlace (lines_of a.lines.now) a.end };
 }
 
 impl<'c> Chars<'c> {
-    /// The characters between two places of these lines; none where `end` is before `at`.
-    pub fn new(lines: &'c Vec<Line>, at: Pos, end: Pos) -> Chars<'c>
-        requires at { IsPlace (lines_of lines.now.items) at }
-        requires end { IsPlace (lines_of lines.now.items) end }
-        ensures { let ls = lines_of lines.entry.now.items in result ≡ slice_range (text_of ls) (offset_of ls at) (offset_of ls end) }
+    /// The characters between two places of the lines; none where `end` is before `at`. Both have to be places of the lines.
+    pub fn new(lines: &'c [Line], at: Pos, end: Pos) -> Chars<'c>
+        requires at { IsPlace (lines_of lines.now) at }
+        requires end { IsPlace (lines_of lines.now) end }
+        ensures { let ls = lines_of lines.entry.now in result ≡ slice_range (text_of ls) (offset_of ls at) (offset_of ls end) }
     {
         Chars { lines, at, end }
     }
@@ -47,7 +47,7 @@ impl<'c> Iterator for Chars<'c> {
     ghost remaining = { item_count (λ rest. rest) };
 
     fn next(&mut self) -> Option<char> {
-        if !is_before(self.lines, self.at, self.end) {
+        if !is_before(self.at, self.end) {
             return None;
         }
         let (c, next) = char_and_next(self.lines, self.at)?;

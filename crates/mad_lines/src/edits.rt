@@ -9,7 +9,7 @@ use crate::places::{front_at, rest_at};
 use std::alloc::{AllocError, Global};
 use std::mem;
 
-/// Puts lines in place of those from `from` up to `to`.
+/// Puts lines in place of those from `from` up to `to`. `from` is at most `to`, and `to` at most the count of lines.
 ///
 /// # Errors
 ///

@@ -1,7 +1,7 @@
 //! Places among lines, and the text between two of them.
 
 ghost use Rattle.std.specs.List.{swap};
-ghost use Rattle.std.specs.Prelude.{◌≡◌, ◌<◌, ◌≤◌, ◌+◌, ◌↔◌, [], ◌∷◌, IfSome, IsSome, IsTrue, Some, IfOk, length, take, drop, min, max, slice_get, slice_range, string_bytes, encode_utf8_all};
+ghost use Rattle.std.specs.Prelude.{◌≡◌, ◌<◌, ◌≤◌, ◌+◌, ◌↔◌, ℕ, List, [], ◌∷◌, IfSome, IsSome, IsTrue, Some, IfOk, length, take, drop, min, max, slice_get, slice_range, string_bytes, encode_utf8_all};
 ghost use Rattle.mad_lines.specs.TextLines.{IsPlace, lines_of, line_at, text_of, offset_of, end_of, clamp};
 
 use crate::chars::Chars;
@@ -9,27 +9,27 @@ use crate::line::Line;
 use crate::place::{Pos, Range};
 use std::alloc::{AllocError, Global};
 
-/// How many characters a line has.
-pub fn line_len(lines: &Vec<Line>, y: usize) -> usize
-    requires { y < length (lines_of lines.now.items) }
-    ensures { result ≡ length (line_at (lines_of lines.now.items) y) }
+/// How many characters a line has. There has to be a line with this number.
+pub fn line_len(lines: &[Line], y: usize) -> usize
+    requires { y < length (lines_of lines.now) }
+    ensures { result ≡ length (line_at (lines_of lines.now) y) }
 {
     lines[y].chars.len()
 }
 
 /// How many lines there are.
-pub fn line_count(lines: &Vec<Line>) -> usize
-    ensures { result ≡ length (lines_of lines.now.items) }
+pub fn line_count(lines: &[Line]) -> usize
+    ensures { result ≡ length (lines_of lines.now) }
 {
     lines.len()
 }
 
-/// The end of the text.
-pub fn end_place(lines: &Vec<Line>) -> Pos
-    requires { 0 < length lines.now.items }
-    ensures is { result ≡ end_of (lines_of lines.now.items) }
-    ensures place { IsPlace (lines_of lines.now.items) result }
-    ensures last { offset_of (lines_of lines.now.items) result ≡ length (text_of (lines_of lines.now.items)) }
+/// The end of the text. There has to be a line.
+pub fn end_place(lines: &[Line]) -> Pos
+    requires { 0 < length lines.now }
+    ensures is { result ≡ end_of (lines_of lines.now) }
+    ensures place { IsPlace (lines_of lines.now) result }
+    ensures last { offset_of (lines_of lines.now) result ≡ length (text_of (lines_of lines.now)) }
 {
     let y = line_count(lines) - 1;
     Pos {
@@ -38,11 +38,11 @@ pub fn end_place(lines: &Vec<Line>) -> Pos
     }
 }
 
-/// The place itself, or the nearest one on its line, or the end.
-pub fn valid_pos(lines: &Vec<Line>, p: Pos) -> Pos
-    requires { 0 < length lines.now.items }
-    ensures is { result ≡ clamp (lines_of lines.now.items) p }
-    ensures place { IsPlace (lines_of lines.now.items) result }
+/// The place itself, or the nearest one on its line, or the end. There has to be a line.
+pub fn valid_pos(lines: &[Line], p: Pos) -> Pos
+    requires { 0 < length lines.now }
+    ensures is { result ≡ clamp (lines_of lines.now) p }
+    ensures place { IsPlace (lines_of lines.now) result }
 {
     if p.y < lines.len() {
         Pos {
@@ -54,13 +54,13 @@ pub fn valid_pos(lines: &Vec<Line>, p: Pos) -> Pos
     }
 }
 
-/// The next place, if this is not the end.
-pub fn place_after(lines: &Vec<Line>, p: Pos) -> Option<Pos>
-    requires { IsPlace (lines_of lines.now.items) p }
-    ensures place { IfSome result (λ q. IsPlace (lines_of lines.now.items) q) }
-    ensures next { IfSome result (λ q. offset_of (lines_of lines.now.items) q ≡ offset_of (lines_of lines.now.items) p + 1) }
+/// The next place, if this is not the end. `p` has to be a place of the lines.
+pub fn place_after(lines: &[Line], p: Pos) -> Option<Pos>
+    requires { IsPlace (lines_of lines.now) p }
+    ensures place { IfSome result (λ q. IsPlace (lines_of lines.now) q) }
+    ensures next { IfSome result (λ q. offset_of (lines_of lines.now) q ≡ offset_of (lines_of lines.now) p + 1) }
     ensures order { IfSome result (λ q. p.y ≤ q.y) }
-    ensures at_end { IsSome result ↔ (offset_of (lines_of lines.now.items) p < length (text_of (lines_of lines.now.items))) }
+    ensures at_end { IsSome result ↔ (offset_of (lines_of lines.now) p < length (text_of (lines_of lines.now))) }
 {
     if p.x < line_len(lines, p.y) {
         Some(Pos { y: p.y, x: p.x + 1 })
@@ -71,13 +71,13 @@ pub fn place_after(lines: &Vec<Line>, p: Pos) -> Option<Pos>
     }
 }
 
-/// The previous place, if this is not the start.
-pub fn place_before(lines: &Vec<Line>, p: Pos) -> Option<Pos>
-    requires { IsPlace (lines_of lines.now.items) p }
-    ensures place { IfSome result (λ q. IsPlace (lines_of lines.now.items) q) }
-    ensures next { IfSome result (λ q. offset_of (lines_of lines.now.items) q + 1 ≡ offset_of (lines_of lines.now.items) p) }
+/// The previous place, if this is not the start. `p` has to be a place of the lines.
+pub fn place_before(lines: &[Line], p: Pos) -> Option<Pos>
+    requires { IsPlace (lines_of lines.now) p }
+    ensures place { IfSome result (λ q. IsPlace (lines_of lines.now) q) }
+    ensures next { IfSome result (λ q. offset_of (lines_of lines.now) q + 1 ≡ offset_of (lines_of lines.now) p) }
     ensures order { IfSome result (λ q. q.y ≤ p.y) }
-    ensures at_start { IsSome result ↔ (0 < offset_of (lines_of lines.now.items) p) }
+    ensures at_start { IsSome result ↔ (0 < offset_of (lines_of lines.now) p) }
 {
     if p.x > 0 {
         Some(Pos { y: p.y, x: p.x - 1 })
@@ -93,15 +93,12 @@ pub fn place_before(lines: &Vec<Line>, p: Pos) -> Option<Pos>
 }
 
 /// Two places in their order.
-pub fn in_order(lines: &Vec<Line>, a: Pos, b: Pos) -> Range
-    requires a { IsPlace (lines_of lines.now.items) a }
-    requires b { IsPlace (lines_of lines.now.items) b }
-    ensures min_place { IsPlace (lines_of lines.now.items) result.min }
-    ensures max_place { IsPlace (lines_of lines.now.items) result.max }
-    ensures min { offset_of (lines_of lines.now.items) result.min
-        ≡ min (offset_of (lines_of lines.now.items) a) (offset_of (lines_of lines.now.items) b) }
-    ensures max { offset_of (lines_of lines.now.items) result.max
-        ≡ max (offset_of (lines_of lines.now.items) a) (offset_of (lines_of lines.now.items) b) }
+pub fn in_order(a: Pos, b: Pos) -> Range
+    ensures place { (ls : List (List ℕ)) → IsPlace ls a → IsPlace ls b → IsPlace ls result.min × IsPlace ls result.max }
+    ensures min { (ls : List (List ℕ)) → IsPlace ls a → IsPlace ls b
+        → offset_of ls result.min ≡ min (offset_of ls a) (offset_of ls b) }
+    ensures max { (ls : List (List ℕ)) → IsPlace ls a → IsPlace ls b
+        → offset_of ls result.max ≡ max (offset_of ls a) (offset_of ls b) }
     ensures order { result.min.y ≤ result.max.y }
 {
     if b < a {
@@ -111,21 +108,21 @@ pub fn in_order(lines: &Vec<Line>, a: Pos, b: Pos) -> Range
     }
 }
 
-/// The place after a character: the next place, or the end.
-pub fn place_past(lines: &Vec<Line>, p: Pos) -> Pos
-    requires { IsPlace (lines_of lines.now.items) p }
-    ensures place { IsPlace (lines_of lines.now.items) result }
-    ensures next { offset_of (lines_of lines.now.items) result
-        ≡ min (offset_of (lines_of lines.now.items) p + 1) (length (text_of (lines_of lines.now.items))) }
+/// The place after a character: the next place, or the end. `p` has to be a place of the lines.
+pub fn place_past(lines: &[Line], p: Pos) -> Pos
+    requires { IsPlace (lines_of lines.now) p }
+    ensures place { IsPlace (lines_of lines.now) result }
+    ensures next { offset_of (lines_of lines.now) result
+        ≡ min (offset_of (lines_of lines.now) p + 1) (length (text_of (lines_of lines.now))) }
     ensures order { p.y ≤ result.y }
 {
     place_after(lines, p).unwrap_or(p)
 }
 
-/// The character at a place.
-pub fn char_at(lines: &Vec<Line>, p: Pos) -> Option<char>
-    requires { IsPlace (lines_of lines.now.items) p }
-    ensures { result ≡ slice_get (text_of (lines_of lines.now.items)) (offset_of (lines_of lines.now.items) p) }
+/// The character at a place, if this is not the end. `p` has to be a place of the lines.
+pub fn char_at(lines: &[Line], p: Pos) -> Option<char>
+    requires { IsPlace (lines_of lines.now) p }
+    ensures { result ≡ slice_get (text_of (lines_of lines.now)) (offset_of (lines_of lines.now) p) }
 {
     if p.x < line_len(lines, p.y) {
         Some(lines[p.y].chars[p.x])
@@ -136,13 +133,13 @@ pub fn char_at(lines: &Vec<Line>, p: Pos) -> Option<char>
     }
 }
 
-/// The character at a place, and the next place.
-pub fn char_and_next(lines: &Vec<Line>, p: Pos) -> Option<(char, Pos)>
-    requires { IsPlace (lines_of lines.now.items) p }
-    ensures char { IfSome result (λ r. slice_get (text_of (lines_of lines.now.items)) (offset_of (lines_of lines.now.items) p) ≡ Some r.0) }
-    ensures place { IfSome result (λ r. IsPlace (lines_of lines.now.items) r.1) }
-    ensures next { IfSome result (λ r. offset_of (lines_of lines.now.items) r.1 ≡ offset_of (lines_of lines.now.items) p + 1) }
-    ensures at_end { IsSome result ↔ (offset_of (lines_of lines.now.items) p < length (text_of (lines_of lines.now.items))) }
+/// The character at a place, and the next place, if this is not the end. `p` has to be a place of the lines.
+pub fn char_and_next(lines: &[Line], p: Pos) -> Option<(char, Pos)>
+    requires { IsPlace (lines_of lines.now) p }
+    ensures char { IfSome result (λ r. slice_get (text_of (lines_of lines.now)) (offset_of (lines_of lines.now) p) ≡ Some r.0) }
+    ensures place { IfSome result (λ r. IsPlace (lines_of lines.now) r.1) }
+    ensures next { IfSome result (λ r. offset_of (lines_of lines.now) r.1 ≡ offset_of (lines_of lines.now) p + 1) }
+    ensures at_end { IsSome result ↔ (offset_of (lines_of lines.now) p < length (text_of (lines_of lines.now))) }
 {
     let c = char_at(lines, p)?;
     let next = place_after(lines, p)?;
@@ -150,29 +147,21 @@ pub fn char_and_next(lines: &Vec<Line>, p: Pos) -> Option<(char, Pos)>
 }
 
 /// Whether a place is before another.
-pub fn is_before(lines: &Vec<Line>, p: Pos, q: Pos) -> bool
-    requires p { IsPlace (lines_of lines.now.items) p }
-    requires q { IsPlace (lines_of lines.now.items) q }
-    ensures { IsTrue result ↔ (offset_of (lines_of lines.now.items) p < offset_of (lines_of lines.now.items) q) }
+pub fn is_before(p: Pos, q: Pos) -> bool
+    ensures { (ls : List (List ℕ)) → IsPlace ls p → IsPlace ls q → (IsTrue result ↔ (offset_of ls p < offset_of ls q)) }
 {
     p < q
 }
 
-/// The text between two places; `from` may not be after `to`.
+/// The text between two places; empty where `to` is before `from`. Both have to be places of the lines.
 ///
 /// # Errors
 ///
 /// Out of memory is the only error.
-pub fn text_between(
-    alloc: Global,
-    lines: &Vec<Line>,
-    from: Pos,
-    to: Pos,
-) -> Result<String, AllocError>
-    requires from { IsPlace (lines_of lines.now.items) from }
-    requires to { IsPlace (lines_of lines.now.items) to }
-    requires order { offset_of (lines_of lines.now.items) from ≤ offset_of (lines_of lines.now.items) to }
-    ensures { IfOk result (λ s. let ls = lines_of lines.now.items in
+pub fn text_between(alloc: Global, lines: &[Line], from: Pos, to: Pos) -> Result<String, AllocError>
+    requires from { IsPlace (lines_of lines.now) from }
+    requires to { IsPlace (lines_of lines.now) to }
+    ensures { IfOk result (λ s. let ls = lines_of lines.now in
         string_bytes s ≡ encode_utf8_all (slice_range (text_of ls) (offset_of ls from) (offset_of ls to))) }
 {
     let mut out = String::new(alloc);
@@ -196,18 +185,18 @@ fn rest_of(line: &Line, x: usize) -> &[char]
     &line.chars.as_slice()[x..]
 }
 
-/// The characters of a place's line before the place.
-pub fn front_at(lines: &Vec<Line>, p: Pos) -> &[char]
-    requires { IsPlace (lines_of lines.now.items) p }
-    ensures { result.now ≡ take p.x (line_at (lines_of lines.now.items) p.y) }
+/// The characters of a place's line before the place. `p` has to be a place of the lines.
+pub fn front_at(lines: &[Line], p: Pos) -> &[char]
+    requires { IsPlace (lines_of lines.now) p }
+    ensures { result.now ≡ take p.x (line_at (lines_of lines.now) p.y) }
 {
     front_of(&lines[p.y], p.x)
 }
 
-/// The characters of a place's line after the place.
-pub fn rest_at(lines: &Vec<Line>, p: Pos) -> &[char]
-    requires { IsPlace (lines_of lines.now.items) p }
-    ensures { result.now ≡ drop p.x (line_at (lines_of lines.now.items) p.y) }
+/// The characters of a place's line after the place. `p` has to be a place of the lines.
+pub fn rest_at(lines: &[Line], p: Pos) -> &[char]
+    requires { IsPlace (lines_of lines.now) p }
+    ensures { result.now ≡ drop p.x (line_at (lines_of lines.now) p.y) }
 {
     rest_of(&lines[p.y], p.x)
 }
@@ -217,8 +206,8 @@ pub fn rest_at(lines: &Vec<Line>, p: Pos) -> &[char]
 /// # Errors
 ///
 /// Out of memory is the only error.
-pub fn clone_lines(alloc: Global, lines: &Vec<Line>) -> Result<Vec<Line>, AllocError>
-    ensures { IfOk result (λ copy. lines_of copy.items ≡ lines_of lines.now.items) }
+pub fn clone_lines(alloc: Global, lines: &[Line]) -> Result<Vec<Line>, AllocError>
+    ensures { IfOk result (λ copy. lines_of copy.items ≡ lines_of lines.now) }
 {
     let mut copy = Vec::with_capacity(alloc, lines.len())?;
     for line in lines {
@@ -227,7 +216,7 @@ pub fn clone_lines(alloc: Global, lines: &Vec<Line>) -> Result<Vec<Line>, AllocE
     Ok(copy)
 }
 
-/// Leaves one empty line.
+/// Leaves one empty line. There has to be a line before.
 pub fn clear_lines(lines: &mut Vec<Line>)
     requires { 0 < length lines.old.items }
     ensures { lines_of lines.new.items ≡ [] ∷ [] }
@@ -236,7 +225,7 @@ pub fn clear_lines(lines: &mut Vec<Line>)
     lines[0].chars.clear();
 }
 
-/// Two lines change places.
+/// Two lines change places. There have to be lines with these numbers.
 pub fn swap_lines(lines: &mut Vec<Line>, a: usize, b: usize)
     requires a { a < length lines.old.items }
     requires b { b < length lines.old.items }
@@ -245,10 +234,10 @@ pub fn swap_lines(lines: &mut Vec<Line>, a: usize, b: usize)
     lines.swap(a, b);
 }
 
-/// A line.
-pub fn line_at(lines: &Vec<Line>, y: usize) -> &Line
-    requires { y < length (lines_of lines.now.items) }
-    ensures { result.now.chars.items ≡ line_at (lines_of lines.now.items) y }
+/// A line. There has to be one with this number.
+pub fn line_at(lines: &[Line], y: usize) -> &Line
+    requires { y < length (lines_of lines.now) }
+    ensures { result.now.chars.items ≡ line_at (lines_of lines.now) y }
 {
     &lines[y]
 }

@@ -8,7 +8,7 @@ ghost use Rattle.mad_term.specs.AttributeSets.{no_attributes, only};
 
 use mad_term::{Attribute, Attributes, Color, ContentStyle};
 
-/// The attributes that the text of a style has, in this order.
+/// The attributes that a style's tokens name, in this order.
 pub const ATTRIBUTES: [Attribute; 8] = [
     Attribute::Bold,
     Attribute::Dim,

@@ -186,7 +186,7 @@ impl CompoundStyle {
     ///
     /// # Errors
     ///
-    /// Out of memory.
+    /// Out of memory. What the row then ends with is open.
     #[tactic(auto, using(mad_term::proofs::Pieces::plain_piece))]
     pub fn push_repeated(
         &self,

@@ -171,7 +171,7 @@ impl StyledChar {
     ///
     /// # Errors
     ///
-    /// Out of memory.
+    /// Out of memory. What the row then ends with is open.
     pub fn push(&self, row: &mut String) -> Result<(), AllocError>
         ensures writes { OnOk result (string_bytes row.new ≡ string_bytes row.old ++ styled_char_bytes self.now) }
         ensures bytes { IsStyle (char_style self.now).object_style }
@@ -185,7 +185,7 @@ impl StyledChar {
     ///
     /// # Errors
     ///
-    /// Out of memory.
+    /// Out of memory. What the row then ends with is open.
     pub fn push_repeated(&self, row: &mut String, count: usize) -> Result<(), AllocError>
         ensures writes { OnOk result (string_bytes row.new ≡ string_bytes row.old ++ char_repeat_bytes self.now count) }
         ensures bytes { IsStyle (char_style self.now).object_style }

@@ -1,5 +1,5 @@
 -- The widths of a table's columns, from the cells that it has seen.
-use Rattle.std.proofs.Common.{◌≡◌, ℕ, zero, suc, ◌+◌, ◌-◌, ◌*◌, ◌^◌, ◌≤◌, ◌<◌, inl, inr, Bool, List, [], ◌∷◌, length, map, sum, refl, sym, ◌∙◌, arith, subst, Result, Ok, Err, IfOk}
+use Rattle.std.proofs.Common.{◌≡◌, ℕ, zero, suc, ◌+◌, ◌-◌, ◌*◌, ◌^◌, ◌≤◌, ◌<◌, inl, inr, Bool, List, [], ◌∷◌, length, map, sum, refl, sym, ◌∙◌, arith, subst}
 use Rattle.std.specs.List.{AllZip}
 use Rattle.std.proofs.lemmas.Bool.{cases_lt, cases_eq}
 use Rattle.std.proofs.lemmas.List.{length-map}
@@ -64,7 +64,3 @@ table_fit width cs cells fitted wide_enough seen h =
       least = All-from_get_or (λ w. 3 ≤ w) fitted.col_widths.items 0 columns.wide;
       within = omega (arith, columns.within, len, wide_enough);
     }
-
-pub ok_each : {T E : Type 0} (P Q : T → Type 0) → ((x : T) → P x → Q x) → (r : Result T E) → IfOk r P → IfOk r Q
-ok_each P Q f (Ok x) h = f x h
-ok_each P Q f (Err e) h = h

@@ -1,19 +1,19 @@
 //! The widths of a table's columns, from what was seen of their cells: the three cases.
 
-ghost use Rattle.std.specs.Prelude.{◌≡◌, ℕ, ◌*◌, ◌^◌, ◌<◌, ◌≤◌, length, map, sum, IfOk, OnOk};
+ghost use Rattle.std.specs.Prelude.{◌≡◌, ◌*◌, ◌^◌, ◌<◌, ◌≤◌, length, map, sum, IfOk, OnOk};
 ghost use Rattle.mad_widths.specs.SeenCells.{needs_in};
 ghost use Rattle.mad_widths.specs.ColumnWidths.{natural_widths, AreReduced};
 ghost use Rattle.mad_widths.specs.TableFits.{IsFit};
 
 use crate::sharing::{
-    SeenColumn, first_requests, give_up_in_turn, natural_widths, second_requests, total_width,
-    turns_of,
+    LEAST_COLUMN, SeenColumn, first_requests, give_up_in_turn, natural_widths, second_requests,
+    total_width, turns_of,
 };
 use crate::tbl_fit::TblFitResult;
 use std::alloc::{AllocError, Global};
 
 /// The widths of the columns, which take at most `available` together.
-pub fn fit_columns(
+pub fn fitted_widths(
     alloc: Global,
     columns: &[SeenColumn],
     available: usize,
@@ -63,7 +63,7 @@ fn reduce(
     let mut requests = first_requests(alloc, columns, excess)?;
     let left = give_up_in_turn(widths, &mut requests, &turns, excess);
     if left > 0 {
-        let kept = available - 3 * columns.len();
+        let kept = available - LEAST_COLUMN * columns.len();
         let mut requests = second_requests(alloc, widths, kept)?;
         let _ = give_up_in_turn(widths, &mut requests, &turns, left);
     }

@@ -8,6 +8,15 @@ ghost use Rattle.mad_widths.specs.SeenCells.{ColumnHasSeen, needs_in};
 use std::alloc::{AllocError, Global};
 use std::cmp::Reverse;
 
+/// The least width of a column.
+pub const LEAST_COLUMN: usize = 3;
+
+// The width down to which a column can easily give up.
+const EASY_COLUMN: usize = 4;
+
+// The most that a column can easily give up.
+const MOST_SPARE: usize = 4;
+
 /// What is kept of the cells that were seen in a column.
 #[derive(Clone, Copy, Debug)]
 pub struct SeenColumn {
@@ -46,7 +55,7 @@ impl SeenColumn {
     pub fn natural(self) -> usize
         ensures { result ≡ (needs_in self).natural }
     {
-        self.widest.max(3)
+        self.widest.max(LEAST_COLUMN)
     }
 
     // The cells' average width, rounded up; 0 where there is none.
@@ -73,8 +82,8 @@ impl SeenColumn {
         ensures bound { result ≤ 4 }
     {
         let over = self.over_average();
-        if self.natural() > 4 && over > 1 {
-            over.min(4)
+        if self.natural() > EASY_COLUMN && over > 1 {
+            over.min(MOST_SPARE)
         } else {
             0
         }
@@ -87,9 +96,9 @@ impl SeenColumn {
     {
         let natural = self.natural();
         let over = self.over_average();
-        if goal > 0 && natural > 4 && over > 0 {
+        if goal > 0 && natural > EASY_COLUMN && over > 0 {
             let share = (over as u128 * goal as u128).div_ceil(spares as u128);
-            capped(natural - 4, share)
+            capped(natural - EASY_COLUMN, share)
         } else {
             0
         }
@@ -177,7 +186,7 @@ fn above_three(widths: &[usize]) -> u128
 {
     let mut total = 0;
     for width in widths {
-        total += width.saturating_sub(3) as u128;
+        total += width.saturating_sub(LEAST_COLUMN) as u128;
     }
     total
 }
@@ -188,7 +197,7 @@ fn second_request(width: usize, kept: usize, above: u128) -> usize
     requires kept { kept ≤ above }
     ensures { result ≡ second_request (above - kept) above width }
 {
-    let own = width.saturating_sub(3);
+    let own = width.saturating_sub(LEAST_COLUMN);
     let kept = own as u128 * kept as u128 / above;
     own - kept as usize
 }

@@ -2,7 +2,7 @@
 
 ghost use Rattle.std.specs.Prelude.{◌≡◌, ℕ, ◌+◌, ◌*◌, ◌<◌, ◌≤◌, List, [], vec_len, replicate, IfOk, MatchResult};
 
-use crate::column_widths::fit_columns;
+use crate::column_widths::fitted_widths;
 use crate::sharing::SeenColumn;
 use mad_term::{Error, InsufficientWidthError};
 use std::alloc::{AllocError, Global};
@@ -71,7 +71,7 @@ impl TblFit {
     pub fn fit(&self, alloc: Global) -> Result<TblFitResult, AllocError>
         ensures { IfOk result (λ fitted. (width : ℕ) → (cells : List (List ℕ)) → TableHasSeen self.now width cells → IsTableFit width cells fitted) }
     {
-        fit_columns(
+        fitted_widths(
             alloc,
             self.columns.as_slice(),
             self.width - 1 - self.columns.len(),

@@ -1,9 +1,8 @@
 -- Starts that pass the checker bound the lines of each fitting break from below.
 use Rattle.std.proofs.Common.{◌≡◌, ℕ, ◌+◌, ◌-◌, ◌<◌, ◌≤◌, ◌==◌, ◌||◌, ◌⊎◌, not, nat_lt, take, drop, get_or, slice_range, slice_get, inl, inr, Bool, true, false, List, [], ◌∷◌, ◌++◌, length, refl, sym, ap, ◌∙◌, subst, arith}
 use Rattle.std.proofs.lemmas.List.{append_assoc, length-append}
-use Rattle.std.proofs.lemmas.Bool.{and_parts, or_cases}
+use Rattle.std.proofs.lemmas.Bool.{and_parts, eqb-true, ltb-true, or_cases}
 use Rattle.std.proofs.lemmas.Option.{slice_get-get_or}
-use Rattle.std.proofs.lemmas.Bool.Decides.{nat_tests}
 use Rattle.std.proofs.lemmas.List.{length-drop, take_more, get_or-drop, at_drop_more}
 use Rattle.std.proofs.lemmas.List.Folds.{drop_split}
 use Rattle.std.specs.List.{AllByRecursion}
@@ -42,12 +41,6 @@ later : (p : LineAndGap Token) (ps : List (LineAndGap Token)) → EndsWithLine (
 later p [] h = tt
 later p (q ∷ ps) h = h
 
-pub lt_from_test : (a b : ℕ) → nat_lt a b ≡ true → a < b
-lt_from_test a b e = grind (arith, nat_tests)
-
-pub eq_from_test : (a b : ℕ) → (a == b) ≡ true → a ≡ b
-eq_from_test a b e = grind (arith, nat_tests)
-
 not_both : (b : Bool) → b ≡ true → not b ≡ true → ⊥
 not_both true h g = absurd (cc)
 not_both false h g = absurd (cc)
@@ -71,9 +64,9 @@ at_least_from d r ts (n ∷ ns) s indent extra (p ∷ ps) some b fits end e =
     let b2 = and_parts (nat_lt n (length ts)) _ b1.1 in
     let b3 = and_parts (nat_lt r.width (indent + total_width (slice_range ts s (n + 1)))) _ b2.1 in
     let b4 = and_parts ((length ns == 0) || not (is_blank_token (slice_get ts n))) (are_starts_from r.other r ts n ns) b3.1 in
-    let rises : s < n = lt_from_test s n b1.0 in
-    let inside : n < length ts = lt_from_test n (length ts) b2.0 in
-    let too_wide : r.width < indent + total_width (slice_range ts s (n + 1)) = lt_from_test _ _ b3.0 in
+    let rises : s < n = ltb-true s n b1.0 in
+    let inside : n < length ts = ltb-true n (length ts) b2.0 in
+    let too_wide : r.width < indent + total_width (slice_range ts s (n + 1)) = ltb-true _ _ b3.0 in
     let more_slice = slice_next ts s n d rises inside in
     let wide : r.width < indent + total_width (slice_range ts s n) + t.width =
     omega (arith, too_wide, ap total_width more_slice, total_width-append (slice_range ts s n) (t ∷ [])) in
@@ -85,7 +78,7 @@ at_least_from d r ts (n ∷ ns) s indent extra (p ∷ ps) some b fits end e =
       | inl (more, f, g) ↦
           let left : 0 < length ps = some_piece p ps more (drop (n + 1) ts) t end g in
           elim (or_cases (length ns == 0) (not (is_blank_token (slice_get ts n))) b4.0) as (λ _. 1 + length (n ∷ ns) ≤ length (p ∷ ps)) [
-            | inl last ↦ omega (arith, left, eq_from_test (length ns) 0 last)
+            | inl last ↦ omega (arith, left, eqb-true (length ns) 0 last)
             | inr no_blank ↦ let solid : not t.blank ≡ true = ap (λ o. not (is_blank_token o)) (sym (slice_get-get_or ts n d inside)) ∙ no_blank in elim (ends p.gap (joined ps) more t (drop (n + 1) ts) g) as (λ _. 1 + length (n ∷ ns) ≤ length (p ∷ ps)) [
               | inr (zs, k) ↦
                   let is_blank = all_at (λ t. t.blank ≡ true) more zs t (subst (AllByRecursion (λ t. t.blank ≡ true)) k fits.1) in
@@ -100,7 +93,7 @@ at_least_from d r ts (n ∷ ns) s indent extra (p ∷ ps) some b fits end e =
 
 no_starts : (r : Room) (ns : List ℕ) (s indent : ℕ) → are_starts_from indent r [] s ns ≡ true → ns ≡ []
 no_starts r [] s indent b = refl
-no_starts r (n ∷ ns) s indent b = let parts = and_parts (nat_lt s n) _ b in let inside = and_parts (nat_lt n 0) _ parts.1 in absurd (omega (arith, lt_from_test n 0 inside.0))
+no_starts r (n ∷ ns) s indent b = let parts = and_parts (nat_lt s n) _ b in let inside = and_parts (nat_lt n 0) _ parts.1 in absurd (omega (arith, ltb-true n 0 inside.0))
 
 pub bound : (r : Room) (ts : List Token) (starts : List ℕ) → are_starts r ts starts ≡ true → (ps : List (LineAndGap Token)) → FittingBreak r ts ps → length starts ≤ length ps
 bound r ts [] b ps h = absurd (cc)
@@ -109,7 +102,7 @@ bound r [] (s ∷ ns) b ps h =
     omega (arith, h.trimming.some_line, ap length (no_starts r ns s r.first parts.1))
 bound r (d ∷ ts) (s ∷ ns) b ps h =
     let parts = and_parts (s == 0) (are_starts_from r.first r (d ∷ ts) s ns) b in
-    let zero : s ≡ 0 = eq_from_test s 0 parts.0 in
+    let zero : s ≡ 0 = eqb-true s 0 parts.0 in
     let all = h.trimming in
     let rec = at_least_from d r (d ∷ ts) ns s r.first [] ps all.some_line parts.1 all.fits h.ends (all.covers ∙ ap (λ n. drop n (d ∷ ts)) (sym zero)) in
     omega (arith, rec)

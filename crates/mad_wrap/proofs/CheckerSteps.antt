@@ -1,6 +1,7 @@
 -- Steps of the checker of starts.
-use Rattle.std.proofs.Common.{◌≡◌, ℕ, ◌<◌, ◌+◌, ◌-◌, ◌==◌, ◌&&◌, ◌||◌, not, nat_lt, Bool, true, false, Some, List, [], ◌∷◌, ◌++◌, length, take, drop, get_or, slice_range, slice_get, refl, sym, ap, ◌∙◌, arith, append_assoc, ◌⊎◌, inl, inr}
+use Rattle.std.proofs.Common.{◌≡◌, ℕ, ◌<◌, ◌+◌, ◌-◌, ◌==◌, ◌||◌, not, Bool, true, false, Some, List, [], ◌∷◌, ◌++◌, length, take, drop, get_or, slice_range, slice_get, refl, sym, ap, ◌∙◌, arith, append_assoc, ◌⊎◌, inl, inr}
 use Rattle.std.proofs.Math.Seq.{drop-append_seam, take-append-add}
+use Rattle.std.proofs.lemmas.Bool.{and_from, lt-ltb}
 use Rattle.std.proofs.lemmas.Bool.Decides.{nat_tests}
 use Rattle.std.proofs.lemmas.List.{length-append, get_or-drop}
 use Rattle.std.proofs.lemmas.Option.{slice_get-get_or}
@@ -9,13 +10,6 @@ use Rattle.mad_wrap.specs.Bounds.{is_blank_token, are_starts_from}
 use Rattle.mad_wrap.specs.Breaks.{total_width}
 use Rattle.mad_wrap.specs.declared.room.Room.{Room}
 use Rattle.mad_wrap.proofs.BoundLemmas.{total_width-append}
-
-both_true : (a b : Bool) → a ≡ true → b ≡ true → a && b ≡ true
-both_true true b h g = g
-both_true false b h g = absurd (cc)
-
-lt_test : (a b : ℕ) → a < b → nat_lt a b ≡ true
-lt_test a b h = grind (arith, nat_tests)
 
 pub none_left : (n : ℕ) (b : Bool) → n ≡ 0 → (n == 0) || b ≡ true
 none_left n b h = grind (arith, nat_tests)
@@ -28,7 +22,7 @@ not_blank n true h = absurd (cc)
 pub step_true : (i s n : ℕ) (r : Room) (ts : List Token) (ns : List ℕ) → s < n → n < length ts → r.width < i + total_width (slice_range ts s (n + 1)) → (length ns == 0) || not (is_blank_token (slice_get ts n)) ≡ true
     → are_starts_from r.other r ts n ns ≡ true → are_starts_from i r ts s (n ∷ ns) ≡ true
 step_true i s n r ts ns rises inside wide solid rest =
-    both_true _ _ (lt_test s n rises) (both_true _ _ (lt_test n (length ts) inside) (both_true _ _ (lt_test r.width (i + total_width (slice_range ts s (n + 1))) wide) (both_true _ _ solid rest)))
+    and_from _ _ (lt-ltb s n rises) (and_from _ _ (lt-ltb n (length ts) inside) (and_from _ _ (lt-ltb r.width (i + total_width (slice_range ts s (n + 1))) wide) (and_from _ _ solid rest)))
 
 -- the tokens from a start up to and with the next
 slice_at : (pre mid rest : List Token) (t : Token) → slice_range (pre ++ (mid ++ t ∷ rest)) (length pre) (length pre + length mid + 1) ≡ mid ++ t ∷ []

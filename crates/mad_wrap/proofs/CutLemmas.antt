@@ -1,6 +1,6 @@
 -- A clean cut is a wrap of its compounds.
 use Rattle.std.proofs.Common.{◌≡◌, ℕ, ◌≤◌, ◌<◌, ◌+◌, Bool, true, false, ◌&&◌, List, [], ◌∷◌, ◌++◌, map, chars, length, Option, Some, None, is_some, unwrap_or, if◌then◌else◌, Contains, refl, sym, ap, ◌∙◌, arith, subst, append-nil}
-use Rattle.std.proofs.lemmas.Bool.{and_parts}
+use Rattle.std.proofs.lemmas.Bool.{and_parts, leb-true}
 use Rattle.std.proofs.lemmas.List.Elements.{Contains-append_left}
 use Rattle.std.specs.List.{AllByRecursion, list_all}
 use Rattle.std.specs.Char.{is_whitespace}
@@ -22,7 +22,6 @@ use Rattle.mad_wrap.specs.declared.wrapped_line.WrappedLine.{WrappedLine}
 use Rattle.mad_wrap.specs.WrapLines.{compounds_of, AreCounted}
 use Rattle.mad_wrap.specs.Rooms.{token_limit}
 use Rattle.mad_wrap.proofs.BoundLemmas.{two_lines}
-use Rattle.mad_wrap.proofs.PlaceLemmas.{le_from_test}
 use Rattle.mad_wrap.proofs.WrapLemmas.{total_is, one_list}
 
 -- what a clean cut says of its compounds
@@ -52,8 +51,8 @@ cut_of_two r a b fit =
       middle = [];
       text = ap (λ l. flagged_of a ++ l) (append-nil (flagged_of b));
       white = tt;
-      fits_first = le_from_test _ _ parts.0;
-      fits_second = le_from_test _ _ parts.1;
+      fits_first = leb-true _ _ parts.0;
+      fits_second = leb-true _ _ parts.1;
       has_front = (0, omega arith, refl);
       has_back = (1, omega arith, refl);
       none_empty = λ h. (h.0, h.1.0);
@@ -68,8 +67,8 @@ cut_of_three r a m b test =
       middle = flagged_of m;
       text = ap (λ l. flagged_of a ++ (flagged_of m ++ l)) (append-nil (flagged_of b));
       white = white_flagged (flags_of m) (chars m.src.now) both.0;
-      fits_first = le_from_test _ _ parts.0;
-      fits_second = le_from_test _ _ parts.1;
+      fits_first = leb-true _ _ parts.0;
+      fits_second = leb-true _ _ parts.1;
       has_front = (0, omega arith, refl);
       has_back = (2, omega arith, refl);
       none_empty = λ h. (h.0, h.1.1.0);

@@ -1,5 +1,6 @@
 -- What holds of the lines while tokens are placed: at the start, after each token, and at the end.
 use Rattle.std.proofs.Common.{◌≡◌, ℕ, ◌≤◌, ◌<◌, ◌+◌, ◌-◌, Bool, true, false, Option, Some, None, List, [], ◌∷◌, ◌++◌, map, length, refl, sym, ap, ◌∙◌, arith, subst, append-nil, append_assoc, nat_le, ◌⊎◌, inl, inr, if◌then◌else◌}
+use Rattle.std.proofs.lemmas.Bool.{leb-true}
 use Rattle.std.proofs.lemmas.Bool.Decides.{nat_tests}
 use Rattle.std.proofs.lemmas.List.{map-append, length-append}
 use Rattle.mad_md.specs.Flagged.{Flags, run_of, flags_of}
@@ -162,14 +163,11 @@ forced_more r false left used gap t is none some here (inr h) u others e =
     let same : t ≡ u = cc in
     subst (λ (v : Token). r.width < used + v.width) same (passes_width r.width used t.width (ap (λ l. fits_in l t.width) (sym is) ∙ h))
 
-pub le_from_test : (a b : ℕ) → nat_le a b ≡ true → a ≤ b
-le_from_test a b e = grind (arith, nat_tests)
-
 pub left_of-some : (width used : ℕ) → used ≤ width → left_of width used ≡ Some (width - used)
 left_of-some width used h = let e : nat_le used width ≡ true = grind (arith, nat_tests) in ap (λ b. if b then Some (width - used) else None) e
 
 fits_room : (width used n : ℕ) (b : Bool) → nat_le used width ≡ b → fits_in (if b then Some (width - used) else None) n ≡ true → used ≤ width
-fits_room width used n true e h = le_from_test used width e
+fits_room width used n true e h = leb-true used width e
 fits_room width used n false e h = absurd (cc)
 
 -- a token that fits
@@ -177,7 +175,7 @@ pub fits_within : (width used n : ℕ) → fits_in (left_of width used) n ≡ tr
 fits_within width used n h =
     let inside : used ≤ width = fits_room width used n (nat_le used width) refl h in
     let some : left_of width used ≡ Some (width - used) = left_of-some width used inside in
-    let room : n ≤ width - used = le_from_test n (width - used) (ap (λ l. fits_in l n) (sym some) ∙ h) in
+    let room : n ≤ width - used = leb-true n (width - used) (ap (λ l. fits_in l n) (sym some) ∙ h) in
     (omega arith, ap (λ l. taken l n) some ∙ ap Some (omega arith) ∙ sym (left_of-some width (used + n) (omega arith)))
 
 -- ---- the state of placing, and a step

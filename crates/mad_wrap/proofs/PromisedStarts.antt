@@ -1,6 +1,6 @@
 -- What `wrap_starts` promises: its starts pass the checker, and are as few as the lines of some fitting break.
 use Rattle.std.proofs.Common.{◌≡◌, ℕ, zero, suc, ◌≤◌, ◌<◌, ◌+◌, ◌==◌, ◌&&◌, not, Bool, true, false, None, is_some, List, [], ◌∷◌, ◌++◌, chars, length, take, drop, slice_range, slice_get, refl, sym, ap, ◌∙◌, arith, subst, append-nil, inl, inr}
-use Rattle.std.proofs.lemmas.Bool.{and_parts}
+use Rattle.std.proofs.lemmas.Bool.{and_parts, eqb-true, leb-true}
 use Rattle.std.proofs.lemmas.List.{take-append-drop}
 use Rattle.std.specs.List.{AllByRecursion, list_all}
 use Rattle.std.specs.Char.{is_whitespace}
@@ -23,21 +23,20 @@ use Rattle.mad_wrap.specs.Placings.{IsFirstFit}
 use Rattle.mad_wrap.specs.Rooms.{most_indent, token_limit}
 use Rattle.mad_wrap.specs.WrapLines.{HasRoom}
 use Rattle.mad_wrap.specs.declared.room.Room.{Room}
-use Rattle.mad_wrap.proofs.BoundLemmas.{bound, total_width-append, eq_from_test}
+use Rattle.mad_wrap.proofs.BoundLemmas.{bound, total_width-append}
 use Rattle.mad_wrap.proofs.CutLemmas.{some_made}
 use Rattle.mad_wrap.proofs.KeepLemmas.{width_is}
 use Rattle.mad_wrap.proofs.CheckerSteps.{step_true, none_left}
 use Rattle.mad_wrap.proofs.ClosedBreaks.{ClosedBreak, closed, length-starts}
 use Rattle.mad_wrap.proofs.LeastLemmas.{TokensHaveRoom, fits_with_room}
 use Rattle.mad_wrap.proofs.PassLemmas.{starts_pass, starts_each}
-use Rattle.mad_wrap.proofs.PlaceLemmas.{le_from_test}
 use Rattle.mad_wrap.proofs.UniqueLemmas.{one_first_fit}
 use Rattle.mad_wrap.proofs.WrapLemmas.{room_for_tokens, total_is}
 
 -- a single start is 0
 one_start : (r : Room) (ts : List Token) (starts : List ℕ) → are_starts r ts starts ≡ true → length starts ≤ 1 → starts ≡ 0 ∷ []
 one_start r ts [] e h = absurd (cc)
-one_start r ts (s ∷ []) e h = ap (λ n. n ∷ []) (eq_from_test s 0 (and_parts (s == 0) (are_starts_from r.first r ts s []) e).0)
+one_start r ts (s ∷ []) e h = ap (λ n. n ∷ []) (eqb-true s 0 (and_parts (s == 0) (are_starts_from r.first r ts s []) e).0)
 one_start r ts (s ∷ n ∷ ns) e h = absurd (omega arith)
 
 -- all tokens on one line, where they fit
@@ -127,9 +126,9 @@ cut_break r (a ∷ b ∷ []) ts on off (own, others, joins, first, (own', others
           some_line = omega arith;
           covers = ap (λ l. own ++ l) (ap (λ l. own' ++ l) (sym none) ∙ sym joins') ∙ sym joins;
           fits = (
-            omega (arith, le_from_test (r.first + width_of (flagged_of a)) r.width fit.0, compound_width max a own first),
+            omega (arith, leb-true (r.first + width_of (flagged_of a)) r.width fit.0, compound_width max a own first),
             tt,
-            (omega (arith, le_from_test (r.other + width_of (flagged_of b)) r.width fit.1, compound_width max b own' second), tt, tt),
+            (omega (arith, leb-true (r.other + width_of (flagged_of b)) r.width fit.1, compound_width max b own' second), tt, tt),
           );
         };
         ends = refl;
@@ -150,9 +149,9 @@ cut_break r (a ∷ m ∷ b ∷ []) ts on off (own, others, joins, first, (own', 
           some_line = omega arith;
           covers = ap (λ l. own ++ l) (ap (λ l. own' ++ l) (ap (λ l. own'' ++ l) (sym none) ∙ sym joins'') ∙ sym joins') ∙ sym joins;
           fits = (
-            omega (arith, le_from_test (r.first + width_of (flagged_of a)) r.width fit.0, compound_width max a own first),
+            omega (arith, leb-true (r.first + width_of (flagged_of a)) r.width fit.0, compound_width max a own first),
             middle_blank max m own' middle white.0 plain,
-            (omega (arith, le_from_test (r.other + width_of (flagged_of b)) r.width fit.1, compound_width max b own'' last), tt, tt),
+            (omega (arith, leb-true (r.other + width_of (flagged_of b)) r.width fit.1, compound_width max b own'' last), tt, tt),
           );
         };
         ends = refl;

@@ -1,5 +1,5 @@
 -- Placed tokens are a wrap of their compounds.
-use Rattle.std.proofs.Common.{◌≡◌, ◌≤◌, ◌<◌, ◌+◌, List, [], ◌∷◌, map, length, None, Result, Ok, Err, IfOk, refl, sym, ap, ◌∙◌, arith, subst}
+use Rattle.std.proofs.Common.{◌≡◌, ◌≤◌, ◌<◌, ◌+◌, List, [], ◌∷◌, map, length, None, refl, sym, ap, ◌∙◌, arith, subst}
 use Rattle.std.specs.List.{AllByRecursion}
 use Rattle.mad_columns.specs.Columns.{char_columns}
 use Rattle.mad_md.specs.Flagged.{flagged_text}
@@ -83,8 +83,3 @@ placed_wrap r ps ts lines wide uncut tokens h =
       none_empty = λ _. filled_lines max h.breaks lines h.holds honest;
       least = λ us others. subst (λ x. IsLeastBreak r ps x (compounds_of lines)) (all_unique max ps ts us tokens others) (placed_least r ps ts lines h);
     }
-
--- what follows of each Ok
-pub ok_each : {T E : Type 0} (P Q : T → Type 0) → ((x : T) → P x → Q x) → (r : Result T E) → IfOk r P → IfOk r Q
-ok_each P Q f (Ok x) h = f x h
-ok_each P Q f (Err e) h = tt

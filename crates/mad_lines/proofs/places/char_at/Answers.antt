@@ -1,18 +1,18 @@
-use Rattle.std.proofs.Common.{arith, ap, sym, ◌∙◌, Some, get_or, ℕ}
-use Rattle.std.proofs.lemmas.List.{length-map}
-use Rattle.mad_lines.specs.TextLines.{lines_of}
+use Rattle.std.proofs.Common.{arith, ap, sym, ◌∙◌, Some, get_or, ℕ, []}
+use Rattle.std.proofs.lemmas.List.{get_or-map, length-map}
+use Rattle.mad_lines.specs.TextLines.{chars_of, lines_of}
 use Rattle.mad_lines.proofs.PlaceLemmas.{char_in_line, char_at_line_end, char_at_end}
-use Rattle.mad_lines.proofs.RowLemmas.{line_read}
 use Rattle.mad_lines.proofs.places.char_at.Goals as goal
 
 pub returns-then-p-line_len : goal.returns-then-p-line_len
 returns-then-p-line_len c =
-    let l = line_read c.args.lines.now.items c.args.p.y c.index.result.now (simp length-map at c.requires.0) c.index.ensures in
-    ap (λ (x : ℕ). Some x) (c.index-then-p-line_len.ensures ∙ ap (λ t. get_or t c.args.p.x c.index-then-p-line_len.result.now) l)
-    ∙ sym (char_in_line (lines_of c.args.lines.now.items) c.args.p _ c.requires (omega arith))
+    let xs = c.args.lines.now in
+    let l = sym (get_or-map chars_of xs c.args.p.y c.index-lines-p.result [] (simp length-map at c.requires.0)) in
+    ap (λ (x : ℕ). Some x) (c.index.ensures ∙ ap (λ t. get_or t c.args.p.x c.index.result.now) l)
+    ∙ sym (char_in_line (lines_of c.args.lines.now) c.args.p _ c.requires (omega arith))
 
 pub returns-then-p-line_count : goal.returns-then-p-line_count
-returns-then-p-line_count c = sym (char_at_line_end (lines_of c.args.lines.now.items) c.args.p c.requires (omega arith) (omega arith))
+returns-then-p-line_count c = sym (char_at_line_end (lines_of c.args.lines.now) c.args.p c.requires (omega arith) (omega arith))
 
 pub returns-else-p-line_count : goal.returns-else-p-line_count
-returns-else-p-line_count c = sym (char_at_end (lines_of c.args.lines.now.items) c.args.p c.requires (omega arith) (omega arith))
+returns-else-p-line_count c = sym (char_at_end (lines_of c.args.lines.now) c.args.p c.requires (omega arith) (omega arith))

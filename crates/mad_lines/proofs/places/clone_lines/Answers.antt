@@ -1,19 +1,16 @@
-use Rattle.std.proofs.Common.{◌≡◌, ◌<◌, ◌++◌, ◌∷◌, [], ap, sym, ◌∙◌, arith, length, take, get_or, List}
+use Rattle.std.proofs.Common.{◌≡◌, ◌<◌, ◌++◌, ◌∷◌, [], ap, sym, ◌∙◌, arith, length, take}
 use Rattle.std.proofs.lemmas.List.{map-append, take_more, length-map}
-use Rattle.mad_lines.specs.declared.line.Line.{Line}
 use Rattle.mad_lines.specs.TextLines.{lines_of, chars_of, line_at}
 use Rattle.mad_lines.proofs.RowLemmas.{line_read}
 use Rattle.mad_lines.proofs.places.clone_lines.Goals as goal
 
 pub loop-line-preserved : goal.loop-line-preserved
 loop-line-preserved c =
-    let xs = c.args.lines.now.items in
+    let xs = c.args.lines.now in
     let i = c.loop-line.line-index in
     let line = c.in_ok-try_clone.field-0 in
-    let same = c.deref-line-items.ensures.value in
-    let within : i < length xs = omega (arith, ap (λ (ls : List Line). length ls) same) in
-    let read : c.line-item.result ≡ get_or xs i c.line-item.result = c.line-item.is ∙ ap (λ (ls : List Line). get_or ls i c.line-item.result) same in
-    let copied : chars_of line ≡ line_at (lines_of xs) i = c.in_ok-try_clone.ensures ∙ line_read xs i c.line-item.result within read in
+    let within : i < length xs = omega arith in
+    let copied : chars_of line ≡ line_at (lines_of xs) i = c.in_ok-try_clone.ensures ∙ line_read xs i c.line-item.result within c.line-item.is in
     let rows : i < length (lines_of xs) = omega (arith, length-map xs chars_of) in
     ap lines_of c.in_ok-push.ensures.items
     ∙ map-append chars_of c.loop-line.copy.items (line ∷ [])

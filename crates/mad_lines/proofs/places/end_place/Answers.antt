@@ -6,8 +6,8 @@ use Rattle.mad_lines.proofs.places.end_place.Goals as goal
 
 pub returns-clause-last : goal.returns-clause-last
 returns-clause-last c =
-    let ls = lines_of c.args.lines.now.items in
-    let some : 0 < length ls = omega (arith, length-map c.args.lines.now.items chars_of) in
+    let ls = lines_of c.args.lines.now in
+    let some : 0 < length ls = omega (arith, length-map c.args.lines.now chars_of) in
     let e = length-text ls (record { y = c.line_count-y.result - 1; x = c.line_len.result }) (omega arith, omega arith) in
     let n = no_lines ls (suc (c.line_count-y.result - 1)) (omega arith) in
     omega (arith, e, n)

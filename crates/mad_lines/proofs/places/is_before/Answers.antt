@@ -1,14 +1,9 @@
 use Rattle.std.proofs.Common.{rules}
-use Rattle.mad_lines.specs.TextLines.{lines_of}
 use Rattle.mad_lines.proofs.PlaceLemmas.{IsEarlier, earlier_place, lesser_offset}
 use Rattle.mad_lines.proofs.places.is_before.Goals as goal
 
 pub returns : goal.returns
-returns c = (
-  λ h.
-      let earlier : IsEarlier c.args.p c.args.q = search rules in
-      earlier_place (lines_of c.args.lines.now.items) c.args.p c.args.q c.requires.p c.requires.q earlier,
-  λ h.
-      let earlier = lesser_offset (lines_of c.args.lines.now.items) c.args.p c.args.q c.requires.p c.requires.q h in
-      search rules,
+returns c ls hp hq = (
+  λ h. let earlier : IsEarlier c.args.p c.args.q = search rules in earlier_place ls c.args.p c.args.q hp hq earlier,
+  λ h. let earlier = lesser_offset ls c.args.p c.args.q hp hq h in search rules,
 )

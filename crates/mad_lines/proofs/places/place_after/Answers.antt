@@ -4,19 +4,19 @@ use Rattle.mad_lines.proofs.PlaceLemmas.{next_line, length-text, more_lines, no_
 use Rattle.mad_lines.proofs.places.place_after.Goals as goal
 
 pub returns-then-p-line_len-clause-at_end : goal.returns-then-p-line_len-clause-at_end
-returns-then-p-line_len-clause-at_end c = let e = length-text (lines_of c.args.lines.now.items) c.args.p c.requires in (λ _. omega arith, λ _. refl)
+returns-then-p-line_len-clause-at_end c = let e = length-text (lines_of c.args.lines.now) c.args.p c.requires in (λ _. omega arith, λ _. refl)
 
 pub returns-then-p-line_count-clause-next : goal.returns-then-p-line_count-clause-next
-returns-then-p-line_count-clause-next c = let e = next_line (lines_of c.args.lines.now.items) c.args.p.y (omega arith) in omega arith
+returns-then-p-line_count-clause-next c = let e = next_line (lines_of c.args.lines.now) c.args.p.y (omega arith) in omega arith
 
 pub returns-then-p-line_count-clause-at_end : goal.returns-then-p-line_count-clause-at_end
 returns-then-p-line_count-clause-at_end c =
-    let e = length-text (lines_of c.args.lines.now.items) c.args.p c.requires in
-    let m = more_lines (lines_of c.args.lines.now.items) (suc c.args.p.y) (omega arith) in
+    let e = length-text (lines_of c.args.lines.now) c.args.p c.requires in
+    let m = more_lines (lines_of c.args.lines.now) (suc c.args.p.y) (omega arith) in
     (λ _. omega arith, λ _. refl)
 
 pub returns-else-p-line_count-clause-at_end : goal.returns-else-p-line_count-clause-at_end
 returns-else-p-line_count-clause-at_end c =
-    let e = length-text (lines_of c.args.lines.now.items) c.args.p c.requires in
-    let m = no_lines (lines_of c.args.lines.now.items) (suc c.args.p.y) (omega arith) in
+    let e = length-text (lines_of c.args.lines.now) c.args.p c.requires in
+    let m = no_lines (lines_of c.args.lines.now) (suc c.args.p.y) (omega arith) in
     (λ h. cc, λ h. absurd (omega arith))

@@ -4,4 +4,4 @@ use Rattle.mad_lines.specs.TextLines.{clamp}
 use Rattle.mad_edit.proofs.content.InputFieldContent.clear.Goals as goal
 
 pub returns-clause-tail : goal.returns-clause-tail
-returns-clause-tail c = rw (← c.self.view_is) (c.clamp_tail-self-inside.ensures.is ∙ ap (λ (ls : List (List ℕ)). option_map (clamp ls) c.self.inside.selection_tail) c.clear_lines.ensures)
+returns-clause-tail c = rw (← c.self.view_is) ((rw c.deref.ensures.value at c.clamp_tail-self-inside.ensures.is) ∙ ap (λ (ls : List (List ℕ)). option_map (clamp ls) c.self.inside.selection_tail) c.clear_lines.ensures)

@@ -3,7 +3,7 @@ use Rattle.mad_edit.proofs.EditorLemmas.{lines_seen, rest_length}
 use Rattle.mad_edit.proofs.content.InputFieldContent.place_ahead.Goals as goal
 
 pub prove-unreachable-requires : goal.prove-unreachable-requires
-prove-unreachable-requires c = let n = rest_length _ _ _ _ c.self.view_is c.self.invariant in omega arith
+prove-unreachable-requires c = let room = rw c.deref.ensures.value at c.line_len.ensures in let n = rest_length _ _ _ _ c.self.view_is c.self.invariant in omega arith
 
 pub overflow_add-result : goal.overflow_add-result
 overflow_add-result c = let n = rest_length _ _ _ _ c.self.view_is c.self.invariant in omega arith

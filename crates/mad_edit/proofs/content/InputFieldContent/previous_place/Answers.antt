@@ -3,7 +3,7 @@ use Rattle.mad_edit.proofs.EditorLemmas.{lines_seen}
 use Rattle.mad_edit.proofs.content.InputFieldContent.previous_place.Goals as goal
 
 pub place_before-requires : goal.place_before-requires
-place_before-requires c = rw (lines_seen _ _ _ _ c.self.view_is c.self.invariant) at c.requires
+place_before-requires c = rw c.deref.ensures.value (rw (lines_seen _ _ _ _ c.self.view_is c.self.invariant) at c.requires)
 
 pub returns-clause-place : goal.returns-clause-place
 returns-clause-place c = rw (lines_seen _ _ _ _ c.self.view_is c.self.invariant) (search rules)

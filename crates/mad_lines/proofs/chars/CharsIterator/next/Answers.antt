@@ -16,11 +16,11 @@ span_next t a b c low within at =
 
 pub returns-clause-steps : goal.returns-clause-steps
 returns-clause-steps c =
-    let ls = lines_of c.self.inside.lines.now.items in
+    let ls = lines_of c.self.inside.lines.now in
     let t = text_of ls in
     let at = offset_of ls c.self.inside.at in
     let end = offset_of ls c.self.inside.end in
-    let before : at < end = c.is_before.ensures.0 (search rules) in
+    let before : at < end = (c.is_before.ensures ls c.self.invariant.0 c.self.invariant.1).0 (search rules) in
     let whole = length-text ls c.self.inside.end c.self.invariant.1 in
     sym c.self.view_is
     ∙ span_next t at end c.in_ok-c.c before (omega (arith, whole, before)) c.in_ok-c.ensures.char

@@ -4,7 +4,7 @@ use Rattle.std.specs.Vec.{with_items}
 use Rattle.mad_widths.specs.ColumnWidths.{natural_widths, AreReduced}
 use Rattle.mad_widths.specs.SeenCells.{needs_in}
 use Rattle.mad_widths.proofs.WidthLemmas.{fit_whole, fit_single, fit_shared}
-use Rattle.mad_widths.proofs.column_widths.fit_columns.Goals as goal
+use Rattle.mad_widths.proofs.column_widths.fitted_widths.Goals as goal
 
 pub returns-then-total-available : goal.returns-then-total-available
 returns-then-total-available c =
