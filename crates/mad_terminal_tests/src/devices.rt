@@ -19,6 +19,8 @@ pub fn answer(alloc: Global, name: &str, first: &str, text: &str) -> Result<Stri
         "stuck_writer" => stuck_writer(alloc, text),
         "sound_writer" => sound_writer(alloc, text),
         "sound_reader" => sound_reader(alloc, text),
+        "filled" => filled(alloc, text),
+        "stuck_reader" => stuck_reader(alloc),
         _ => String::from_str(alloc, "no such call"),
     }
 }
@@ -79,7 +81,7 @@ fn written_tokens(alloc: Global) -> Result<String, AllocError> {
     sent(alloc, written, &out)
 }
 
-/// A writer that takes nothing and fails at its flush.
+/// A writer that takes nothing and fails at its flush, and a reader that fails.
 #[derive(Drop)]
 struct Stuck;
 
@@ -93,9 +95,15 @@ impl io::Write for Stuck {
     }
 }
 
-fn kind_of(done: io::Result<()>) -> Option<io::ErrorKind> {
+impl io::Read for Stuck {
+    fn read(&mut self, _buffer: &mut [u8]) -> io::Result<usize> {
+        Err(io::Error::new(io::ErrorKind::TimedOut, "stuck"))
+    }
+}
+
+fn kind_of<T: Drop>(done: io::Result<T>) -> Option<io::ErrorKind> {
     match done {
-        Ok(()) => None,
+        Ok(_) => None,
         Err(error) => Some(error.kind()),
     }
 }
@@ -111,7 +119,7 @@ fn stuck_writer(alloc: Global, text: &str) -> Result<String, AllocError> {
 // How many bytes one put takes of a text a thousand times, and whether a flush is well.
 fn sound_writer(alloc: Global, text: &str) -> Result<String, AllocError> {
     let text = text.repeat(alloc, 1000)?;
-    let mut out = Stream::new(Vec::new(alloc));
+    let mut out = Stream::new(Vec::with_capacity(alloc, text.len())?);
     let put = out.put(text.as_bytes()).ok();
     let flush = out.flush().ok();
     format!(in alloc; "{put:?} {flush:?}")
@@ -129,4 +137,22 @@ fn sound_reader(alloc: Global, text: &str) -> Result<String, AllocError> {
     }
     let end = source.get().ok();
     format!(in alloc; "{count} {end:?}")
+}
+
+// What a buffer of eight bytes is filled with from a text, and the byte that comes after them.
+fn filled(alloc: Global, text: &str) -> Result<String, AllocError> {
+    let mut source = Stream::new(text.as_bytes());
+    let mut buffer = [0; 8];
+    let count = source.fill(&mut buffer).ok();
+    let next = source.get().ok();
+    let filled = String::from_utf8_lossy(alloc, &buffer)?;
+    format!(in alloc; "{count:?} {filled} {next:?}")
+}
+
+// How a reader's get fails, and how its fill does.
+fn stuck_reader(alloc: Global) -> Result<String, AllocError> {
+    let mut source = Stream::new(Stuck);
+    let get = kind_of(source.get());
+    let fill = kind_of(source.fill(&mut [0; 8]));
+    format!(in alloc; "{get:?} {fill:?}")
 }

@@ -21,11 +21,16 @@ pub fn answer(alloc: Global, name: &str, rest: &str, text: &str) -> Result<Strin
 
 /// What a device has taken, after what the call was refused by.
 pub fn sent(alloc: Global, written: Result<(), Error>, out: &CutOut) -> Result<String, AllocError> {
-    let taken = String::from_utf8_lossy(alloc, out.taken())?;
     match written {
-        Ok(()) => Ok(taken),
-        Err(error) => format!(in alloc; "refused: {error}\n{taken}"),
+        Ok(()) => String::from_utf8_lossy(alloc, out.taken()),
+        Err(Error::Memory) => Err(AllocError),
+        Err(error) => refused(alloc, error, out),
     }
+}
+
+fn refused(alloc: Global, error: Error, out: &CutOut) -> Result<String, AllocError> {
+    let taken = String::from_utf8_lossy(alloc, out.taken())?;
+    format!(in alloc; "refused: {error}\n{taken}")
 }
 
 // A device whose flush fails: a call that flushes would be refused.
@@ -86,7 +91,12 @@ fn write_char(
     }
 }
 
-// A text so often in a style.
+// Whether a text so often has more bytes than any memory holds.
+fn is_too_long(text: &str, count: usize) -> bool {
+    text.len().saturating_mul(count) > usize::MAX / 2
+}
+
+// A text so often in a style. Where that is too long, out of memory is the answer.
 fn repeated(
     alloc: Global,
     count: &str,
@@ -95,16 +105,19 @@ fn repeated(
 ) -> Result<String, AllocError> {
     let mut out = device(alloc)?;
     let count = number(Some(count)).unwrap_or(0);
-    let written = style.repeat_string(alloc, &mut out, text, count);
-    sent(alloc, written, &out)
+    match style.repeat_string(alloc, &mut out, text, count) {
+        Err(Error::Memory) if is_too_long(text, count) => refused(alloc, Error::Memory, &out),
+        written => sent(alloc, written, &out),
+    }
 }
 
-// A bullet so often in a style, as a text of its own.
+// A bullet so often in a style, as a text of its own. Where that is too long, out of memory is the answer.
 fn repeated_char(alloc: Global, count: &str, style: CompoundStyle) -> Result<String, AllocError> {
     let count = number(Some(count)).unwrap_or(0);
     match style.style_char('•').repeated(alloc, count) {
         Ok(repeated) => repeated.to_string(alloc),
-        Err(_) => String::from_str(alloc, "want of memory"),
+        Err(_) if is_too_long("•", count) => String::from_str(alloc, "want of memory"),
+        Err(error) => Err(error),
     }
 }
 

@@ -1,7 +1,7 @@
 //! What a screen shows of bytes.
 
 use crate::words::pair;
-use mad_screen::{Pen, Screen};
+use mad_screen::{NotPlain, Pen, Screen};
 use mad_term::{Attribute, Color};
 use std::alloc::{AllocError, Global};
 
@@ -42,6 +42,7 @@ fn read_line(
     let bytes = bytes_of(alloc, line)?;
     match screen.read_bytes(&bytes) {
         Ok(()) => Ok(()),
+        Err(NotPlain::Memory) => Err(AllocError),
         Err(error) => write!(refusals, "{line} is {error}\n"),
     }
 }

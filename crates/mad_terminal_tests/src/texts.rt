@@ -32,7 +32,14 @@ pub fn answer(alloc: Global, name: &str, rest: &str, text: &str) -> Result<Strin
 fn tokens(alloc: Global, text: &str) -> Result<String, AllocError> {
     match parse_style_tokens(alloc, text) {
         Ok(tokens) => listed(alloc, &tokens),
-        Err(error) => error.to_string(alloc),
+        Err(error) => refused(alloc, error),
+    }
+}
+
+fn refused(alloc: Global, error: ParseStyleTokenError) -> Result<String, AllocError> {
+    match error {
+        ParseStyleTokenError::Memory => Err(AllocError),
+        error => error.to_string(alloc),
     }
 }
 
@@ -50,7 +57,7 @@ fn count(alloc: Global, times: &str, text: &str) -> Result<String, AllocError> {
     let text = text.repeat(alloc, times.parse::<usize>().unwrap_or(0))?;
     match parse_style_tokens(alloc, text.as_str()) {
         Ok(tokens) => tokens.len().to_string(alloc),
-        Err(error) => error.to_string(alloc),
+        Err(error) => refused(alloc, error),
     }
 }
 
@@ -70,6 +77,6 @@ fn written<T: PushStyleTokens + Drop>(
 ) -> Result<String, AllocError> {
     match read {
         Ok(value) => value.to_style_tokens_string(alloc),
-        Err(error) => error.to_string(alloc),
+        Err(error) => refused(alloc, error),
     }
 }

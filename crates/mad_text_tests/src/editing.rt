@@ -16,7 +16,7 @@ fn draw(picture: &mut String, content: &InputFieldContent) -> Result<(), AllocEr
     if !content.has_selection() {
         return Ok(());
     }
-    let selected = content.selection_string()?;
+    let selected = content.copy_selection()?;
     write!(picture, "selected {selected}\n")
 }
 
@@ -26,9 +26,15 @@ fn undo(content: &mut InputFieldContent, texts: &str) -> Result<(), AllocError> 
     content.undo_cuts(&[(Pos::new(1, 0), first), (Pos::new(0, 0), second)])
 }
 
+fn first_char(text: &str) -> char {
+    text.chars().next().unwrap_or(' ')
+}
+
 fn put_in(content: &mut InputFieldContent, call: &str, text: &str) -> Result<(), AllocError> {
     match call {
-        "insert_char" => content.insert_char(text.chars().next().unwrap_or(' ')),
+        "insert_char" => content.insert_char(first_char(text)),
+        "push_char" => content.push_char(first_char(text)),
+        "set_str" => content.set_str(text),
         "replace_selection" => content.replace_selection(text),
         _ => undo(content, text),
     }

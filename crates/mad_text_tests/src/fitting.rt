@@ -3,7 +3,7 @@
 //! Each line of a text is a compound. It is bold where it begins with two stars, and code where it begins with a backquote.
 
 use crate::pictures::{draw_compound, draw_compounds, draw_numbers};
-use mad_fit::{Spacing, Token, columns, token_iter};
+use mad_fit::{Spacing, Token, columns, tokenize};
 use mad_md::{Alignment, Compound};
 use mad_wrap::{Room, WrappedLine, check_starts, fit_columns, wrap_compounds, wrap_starts};
 use std::alloc::{AllocError, Global};
@@ -42,13 +42,9 @@ fn draw_token(picture: &mut String, token: Token) -> Result<(), AllocError> {
     )
 }
 
-fn draw_tokens(
-    picture: &mut String,
-    compounds: &[Compound],
-    most: usize,
-) -> Result<(), AllocError> {
-    for token in token_iter(compounds, most) {
-        draw_token(picture, token)?;
+fn draw_tokens(picture: &mut String, tokens: &[Token]) -> Result<(), AllocError> {
+    for token in tokens {
+        draw_token(picture, *token)?;
         picture.push('\n')?;
     }
     Ok(())
@@ -58,7 +54,8 @@ fn draw_tokens(
 pub(crate) fn tokens(alloc: Global, numbers: &[usize], text: &str) -> Result<String, AllocError> {
     let mut picture = String::new(alloc);
     let most = *numbers.first().unwrap_or(&0);
-    draw_tokens(&mut picture, &compounds(alloc, text)?, most)?;
+    let compounds = compounds(alloc, text)?;
+    draw_tokens(&mut picture, &tokenize(alloc, &compounds, most)?)?;
     Ok(picture)
 }
 

@@ -88,6 +88,7 @@ fn answer_of(
         "fit" => widths::fitted(alloc, numbers, text),
         "edit" => editing::edited(alloc, numbers, after, text),
         "cut" => editing::cut(alloc, numbers, text),
+        "first" => reading::first(alloc, numbers, text),
         _ => reading::read(alloc, call, text),
     }
 }

@@ -1,7 +1,7 @@
 //! The lines of a text.
 
 use crate::pictures::draw_lines;
-use mad_md::{Composite, Line, ParseOptions, Text, parse_text, parse_text_with};
+use mad_md::{Composite, Line, ParseOptions, Text, first_lines, parse_text, parse_text_with};
 use std::alloc::{AllocError, Global};
 
 fn inline<'s>(alloc: Global, src: &'s str) -> Result<Text<'s>, AllocError> {
@@ -25,5 +25,14 @@ fn text_read<'s>(alloc: Global, call: &str, src: &'s str) -> Result<Text<'s>, Al
 pub(crate) fn read(alloc: Global, call: &str, src: &str) -> Result<String, AllocError> {
     let mut picture = String::new(alloc);
     draw_lines(&mut picture, &text_read(alloc, call, src)?.lines)?;
+    Ok(picture)
+}
+
+/// The first lines of a text, as many as the call says.
+pub(crate) fn first(alloc: Global, numbers: &[usize], src: &str) -> Result<String, AllocError> {
+    let mut picture = String::new(alloc);
+    let count = *numbers.first().unwrap_or(&0);
+    let lines = first_lines(alloc, src, ParseOptions::default(), count)?;
+    draw_lines(&mut picture, &lines)?;
     Ok(picture)
 }
