@@ -6,6 +6,7 @@ ghost use Rattle.termimad.specs.Areas.{IsWithinLimits};
 use crate::asked::Asked;
 use crate::refusal::Refusal;
 use std::alloc::{AllocError, Global};
+use termimad::layout::laws::words_on_a_screen;
 use termimad::screen::{Pen, Screen};
 use termimad::{
     Area, ContentStyle, CutOut, FmtText, ParseOptions, StyledContent, TextView, parse_text_with,
@@ -39,6 +40,12 @@ pub fn view(asked: &Asked, continue_spans: bool, is_asked: bool) -> Result<Strin
     let mut out = CutOut::new(asked.alloc, ROOM, ROOM, false)?;
     view.write_on(asked.alloc, &mut out)?;
     picture(asked.alloc, &area, out.taken())
+}
+
+/// The screen of the laws' example.
+pub fn words(alloc: Global) -> Result<String, Refusal> {
+    let screen = words_on_a_screen(alloc)?;
+    Ok(format!(in alloc; "{screen}")?)
 }
 
 // The picture of a screen that has read these bytes: one of points as large as the area, of 14 columns and four rows at least.

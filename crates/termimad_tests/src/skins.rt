@@ -15,7 +15,7 @@ pub fn skin_of(alloc: Global, word: &str) -> Result<MadSkin, Refusal> {
         "dark" => Ok(MadSkin::default_dark()),
         "light" => Ok(MadSkin::default_light()),
         "ascii" => Ok(ascii()),
-        _ => Ok(read(alloc, word)?.0),
+        _ => skin_said(alloc, word),
     }
 }
 
@@ -24,6 +24,17 @@ fn ascii() -> MadSkin {
     let mut skin = MadSkin::no_style();
     skin.limit_to_ascii();
     skin
+}
+
+// The skin that a JSON text says. After `endless` its paragraphs have margins without end.
+fn skin_said(alloc: Global, word: &str) -> Result<MadSkin, Refusal> {
+    let Some(text) = word.strip_prefix("endless ") else {
+        return Ok(read(alloc, word)?.0);
+    };
+    let mut skin = read(alloc, text)?.0;
+    skin.paragraph.left_margin = usize::MAX;
+    skin.paragraph.right_margin = usize::MAX;
+    Ok(skin)
 }
 
 // The skin that a JSON text says, and its unknown keys.
