@@ -22,30 +22,32 @@ fn push_line(asked: &Asked, line: &str, displayed: &mut String) -> Result<(), Al
     write!(displayed, "{line}\n")
 }
 
-/// Writes a line as a call of this name asks: by itself, or in a row.
+/// Writes a line of a kind by itself, or after a side and a bar `_` in a row.
 pub fn write(asked: &Asked, name: &str, out: &mut CutOut) -> Result<(), Error> {
-    if let Some(style) = style_of(name, asked.numbers) {
-        return write_composite(asked, style, out);
-    }
-    match row_of(name, asked.numbers) {
-        Some(row) => write_row(asked, row, out),
-        None => Ok(put_all(out, b"no call")?),
+    let (side, kind) = name.split_once('_').unwrap_or(("", name));
+    let Some(style) = style_of(kind, asked.numbers) else {
+        return Ok(put_all(out, b"no call")?);
+    };
+    match side {
+        "" => write_composite(asked, style, out),
+        "later" => write_row(asked, later_kind(style), None, None, out),
+        _ => write_wide_row(asked, CompositeKind::from(style), side, out),
     }
 }
 
 // What a composite is. The first numbers are its level and its index.
-fn style_of(name: &str, numbers: [usize; 5]) -> Option<CompositeStyle> {
+fn style_of(kind: &str, numbers: [usize; 5]) -> Option<CompositeStyle> {
     let level = u8::try_from(numbers[0]).unwrap_or(u8::MAX);
     let index = u32::try_from(numbers[1]).unwrap_or(u32::MAX);
-    Some(match name {
-        "paragraph" => CompositeStyle::Paragraph,
-        "header" => CompositeStyle::Header(level),
-        "item" => CompositeStyle::ListItem(level),
-        "number" => CompositeStyle::OrderedListItem { level, index },
-        "code" => CompositeStyle::Code,
-        "quote" => CompositeStyle::Quote,
-        _ => return None,
-    })
+    match kind {
+        "paragraph" => Some(CompositeStyle::Paragraph),
+        "header" => Some(CompositeStyle::Header(level)),
+        "item" => Some(CompositeStyle::ListItem(level)),
+        "number" => Some(CompositeStyle::OrderedListItem { level, index }),
+        "code" => Some(CompositeStyle::Code),
+        "quote" => Some(CompositeStyle::Quote),
+        _ => None,
+    }
 }
 
 fn write_composite(asked: &Asked, style: CompositeStyle, out: &mut CutOut) -> Result<(), Error> {
@@ -54,73 +56,59 @@ fn write_composite(asked: &Asked, style: CompositeStyle, out: &mut CutOut) -> Re
     asked.skin.print_composite(asked.alloc, out, &composite)
 }
 
-// A row that a line is in: the line's kind, its own place, if it has one, and the row's columns, if it has a width.
-#[derive(Clone, Copy)]
-struct Row {
-    kind: CompositeKind,
-    place: Option<Spacing>,
-    width: Option<usize>,
-}
-
-// A later line of an item is in a row without a width.
-fn row_of(name: &str, numbers: [usize; 5]) -> Option<Row> {
-    let Some(name) = name.strip_prefix("later_") else {
-        return wide_row_of(name, numbers);
-    };
-    let style = style_of(name, numbers)?;
-    Some(Row {
-        kind: later_kind(style)?,
-        place: None,
-        width: None,
-    })
-}
-
-fn later_kind(style: CompositeStyle) -> Option<CompositeKind> {
+// The kind of the later lines of an item.
+fn later_kind(style: CompositeStyle) -> CompositeKind {
     match style {
-        CompositeStyle::ListItem(level) => Some(CompositeKind::ListItemFollowUp(level)),
+        CompositeStyle::ListItem(level) => CompositeKind::ListItemFollowUp(level),
         CompositeStyle::OrderedListItem { level, index } => {
-            Some(CompositeKind::OrderedListItemFollowUp { level, index })
+            CompositeKind::OrderedListItemFollowUp { level, index }
         }
-        _ => None,
+        other => CompositeKind::from(other),
     }
 }
 
-// The first numbers are the row's columns and those of the line's own place.
-fn wide_row_of(name: &str, numbers: [usize; 5]) -> Option<Row> {
-    let [width, columns, ..] = numbers;
-    let (kind, align) = match name {
-        "row" => (CompositeKind::Paragraph, None),
-        "row_left" => (CompositeKind::Paragraph, Some(Alignment::Left)),
-        "row_center" => (CompositeKind::Paragraph, Some(Alignment::Center)),
-        "row_right" => (CompositeKind::Paragraph, Some(Alignment::Right)),
-        "row_code" => (CompositeKind::Code, Some(Alignment::Center)),
-        _ => return None,
+// The first numbers are the row's columns and those of the line's own place, which it has on a side.
+fn write_wide_row(
+    asked: &Asked,
+    kind: CompositeKind,
+    side: &str,
+    out: &mut CutOut,
+) -> Result<(), Error> {
+    let [row, width, ..] = asked.numbers;
+    let align = match side {
+        "left" => Alignment::Left,
+        "center" => Alignment::Center,
+        "right" => Alignment::Right,
+        _ => return write_row(asked, kind, None, Some(row), out),
     };
-    let place = align.map(|align| Spacing {
-        width: columns,
-        align,
-    });
-    Some(Row {
-        kind,
-        place,
-        width: Some(width),
-    })
+    let place = Spacing { width, align };
+    write_row(asked, kind, Some(place), Some(row), out)
 }
 
 // Writes what is displayed of a line, a bar, and the line in a row that is filled up.
-fn write_row(asked: &Asked, row: Row, out: &mut CutOut) -> Result<(), Error> {
-    let line = FmtLine::Normal(composite_of(asked, row)?);
-    write_displayed(asked, &line, row.width, out)?;
+fn write_row(
+    asked: &Asked,
+    kind: CompositeKind,
+    place: Option<Spacing>,
+    width: Option<usize>,
+    out: &mut CutOut,
+) -> Result<(), Error> {
+    let line = FmtLine::Normal(composite_of(asked, kind, place)?);
+    write_displayed(asked, &line, width, out)?;
     asked
         .skin
-        .write_fmt_line(asked.alloc, out, &line, row.width, true)
+        .write_fmt_line(asked.alloc, out, &line, width, true)
 }
 
-fn composite_of<'a>(asked: &Asked<'a>, row: Row) -> Result<FmtComposite<'a>, AllocError> {
+fn composite_of<'a>(
+    asked: &Asked<'a>,
+    kind: CompositeKind,
+    place: Option<Spacing>,
+) -> Result<FmtComposite<'a>, AllocError> {
     let composite = Composite::from_inline(asked.alloc, asked.text)?;
     let mut composite = FmtComposite::from(composite, &asked.skin);
-    composite.kind = row.kind;
-    composite.spacing = row.place;
+    composite.kind = kind;
+    composite.spacing = place;
     composite.recompute_width(&asked.skin);
     Ok(composite)
 }

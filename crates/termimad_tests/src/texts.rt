@@ -12,16 +12,13 @@ const ROOM: usize = 2_000_000;
 /// What goes out of a text in an area, laid out at a width, or as a line. `ends_of_` in front of a call tells the ends of what is long.
 pub fn written(asked: &Asked, name: &str) -> Result<String, Refusal> {
     let mut out = CutOut::new(asked.alloc, ROOM, ROOM, false)?;
-    match name.strip_prefix("ends_of_") {
-        Some(name) => {
-            write(asked, name, &mut out)?;
-            Ok(ends(asked.alloc, &out)?)
-        }
-        None => {
-            write(asked, name, &mut out)?;
-            Ok(taken(asked.alloc, &out)?)
-        }
-    }
+    let long = name.strip_prefix("ends_of_");
+    write(asked, long.unwrap_or(name), &mut out)?;
+    let told = match long {
+        Some(_) => ends(asked.alloc, &out),
+        None => taken(asked.alloc, &out),
+    };
+    Ok(told?)
 }
 
 fn write(asked: &Asked, name: &str, out: &mut CutOut) -> Result<(), Error> {

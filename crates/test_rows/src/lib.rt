@@ -25,14 +25,14 @@ pub trait Calls {
 /// A file can't be read, or a report can't be printed; out of memory.
 pub fn run<C: Calls>(rt: &HostRuntime, calls: &C) -> io::Result<()> {
     for file in env::args(rt)?.skip(1) {
-        print_report(rt, calls, file.as_str())?;
+        let rows = fs::read_to_string(rt, file.as_str())?;
+        print_report(rt, calls, file.as_str(), rows.as_str())?;
     }
     Ok(())
 }
 
-fn print_report<C: Calls>(rt: &HostRuntime, calls: &C, file: &str) -> io::Result<()> {
-    let rows = fs::read_to_string(rt, file)?;
-    let report = report(rt.alloc(), calls, rows.as_str())?;
+fn print_report<C: Calls>(rt: &HostRuntime, calls: &C, file: &str, rows: &str) -> io::Result<()> {
+    let report = report(rt.alloc(), calls, rows)?;
     print!(rt; "{file}: {report}")
 }
 
@@ -44,22 +44,13 @@ fn print_report<C: Calls>(rt: &HostRuntime, calls: &C, file: &str) -> io::Result
 pub fn report<C: Calls>(alloc: Global, calls: &C, rows: &str) -> Result<String, AllocError> {
     let rows = meant(alloc, rows)?;
     let mut report = String::new(alloc);
-    push_report(alloc, calls, rows.as_str(), &mut report)?;
-    Ok(report)
-}
-
-fn push_report<C: Calls>(
-    alloc: Global,
-    calls: &C,
-    rows: &str,
-    report: &mut String,
-) -> Result<(), AllocError> {
     let mut count: u64 = 0;
     for row in rows.split("\n$ ").skip(1) {
-        judge(alloc, calls, row, report)?;
+        judge(alloc, calls, row, &mut report)?;
         count = count.saturating_add(1);
     }
-    write!(report, "{count} rows\n")
+    report.push_str(format!(in alloc; "{count} rows\n")?.as_str())?;
+    Ok(report)
 }
 
 fn judge<C: Calls>(
@@ -69,37 +60,19 @@ fn judge<C: Calls>(
     report: &mut String,
 ) -> Result<(), AllocError> {
     let call = row.split('\n').next().unwrap_or("");
-    let answer = answered(alloc, calls, call, row)?;
-    if answer != lines_after(alloc, row, '>')? {
-        push_otherwise(alloc, call, answer.as_str(), report)?;
-    }
-    Ok(())
-}
-
-// What a call answers of its row's text: lines, each with its newline.
-fn answered<C: Calls>(
-    alloc: Global,
-    calls: &C,
-    call: &str,
-    row: &str,
-) -> Result<String, AllocError> {
     let text = lines_after(alloc, row, '<')?;
     let text = text.strip_suffix('\n').unwrap_or("");
     let mut answer = calls.answer(alloc, call, text)?;
     if !answer.is_empty() && !answer.ends_with('\n') {
         answer.push('\n')?;
     }
-    Ok(answer)
-}
-
-fn push_otherwise(
-    alloc: Global,
-    call: &str,
-    answer: &str,
-    report: &mut String,
-) -> Result<(), AllocError> {
-    let answer = seen(alloc, answer)?;
-    write!(report, "$ {call}\nanswers\n{answer}")
+    if answer != lines_after(alloc, row, '>')? {
+        report.push_str(format!(in alloc;
+            "$ {call}\nanswers\n{}",
+            seen(alloc, answer.as_str())?
+        )?.as_str())?;
+    }
+    Ok(())
 }
 
 // What is after a sign in the lines that begin with it, each with its newline.
@@ -118,36 +91,28 @@ fn lines_after(alloc: Global, row: &str, sign: char) -> Result<String, AllocErro
 fn meant(alloc: Global, text: &str) -> Result<String, AllocError> {
     let mut meant = String::new(alloc);
     for c in text.chars() {
-        meant.push(meant_by(c))?;
+        meant.push(match c {
+            '·' => ' ',
+            '␛' => '\u{1b}',
+            '␍' => '\r',
+            '␉' => '\t',
+            _ => c,
+        })?;
     }
     Ok(meant)
-}
-
-fn meant_by(sign: char) -> char {
-    match sign {
-        '·' => ' ',
-        '␛' => '\u{1b}',
-        '␍' => '\r',
-        '␉' => '\t',
-        other => other,
-    }
 }
 
 // A text with signs for the characters that can't be seen.
 fn seen(alloc: Global, text: &str) -> Result<String, AllocError> {
     let mut seen = String::new(alloc);
     for c in text.chars() {
-        seen.push(sign_of(c))?;
+        seen.push(match c {
+            ' ' => '·',
+            '\u{1b}' => '␛',
+            '\r' => '␍',
+            '\t' => '␉',
+            _ => c,
+        })?;
     }
     Ok(seen)
-}
-
-fn sign_of(c: char) -> char {
-    match c {
-        ' ' => '·',
-        '\u{1b}' => '␛',
-        '\r' => '␍',
-        '\t' => '␉',
-        other => other,
-    }
 }
