@@ -81,14 +81,9 @@ fn looks_of(alloc: Global, screen: &Screen) -> Result<String, AllocError> {
     }
     let mut text = format!(in alloc; "{looks}")?;
     for pen in looks.pens() {
-        push_sample(alloc, &mut text, *pen)?;
+        write!(text, "{}\n", sample(*pen))?;
     }
     Ok(text)
-}
-
-fn push_sample(alloc: Global, text: &mut String, pen: Pen) -> Result<(), AllocError> {
-    let sample = format!(in alloc; "{}\n", sample(pen))?;
-    text.push_str(sample.as_str())
 }
 
 fn sample(pen: Pen) -> StyledContent<'static> {

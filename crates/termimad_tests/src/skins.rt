@@ -4,7 +4,6 @@ use crate::asked::Asked;
 use crate::refusal::Refusal;
 use serde_json::Value;
 use std::alloc::{AllocError, Global};
-use std::fmt::Display;
 use termimad::{MadSkin, skin_from_value, skin_to_value};
 
 /// The skin of a word.
@@ -48,19 +47,9 @@ pub fn changes(alloc: Global, text: &str) -> Result<String, Refusal> {
     let (skin, unknown) = read(alloc, text)?;
     let mut told = changed_parts(alloc, &skin)?;
     for key in &unknown {
-        push_line(alloc, &mut told, "unknown", key)?;
+        write!(told, "unknown: {key}\n")?;
     }
     Ok(told)
-}
-
-fn push_line<T: Display>(
-    alloc: Global,
-    told: &mut String,
-    name: &str,
-    value: &T,
-) -> Result<(), AllocError> {
-    let line = format!(in alloc; "{name}: {value}\n")?;
-    told.push_str(line.as_str())
 }
 
 fn changed_parts(alloc: Global, skin: &MadSkin) -> Result<String, AllocError> {
@@ -76,7 +65,7 @@ fn changed_members(alloc: Global, old: &Value, new: &Value) -> Result<String, Al
     };
     for (key, part) in parts.iter() {
         if old.get(key.as_str()) != Some(part) {
-            push_line(alloc, &mut told, key.as_str(), part)?;
+            write!(told, "{key}: {part}\n")?;
         }
     }
     Ok(told)

@@ -4,7 +4,7 @@ use crate::asked::Asked;
 use crate::lines;
 use crate::refusal::Refusal;
 use std::alloc::{AllocError, Global};
-use termimad::{CutOut, Error, FmtLine, FmtText, TextView, print_inline, print_text};
+use termimad::{CutOut, Error, FmtText, TextView, print_inline, print_text};
 
 // More than any row writes.
 const ROOM: usize = 2_000_000;
@@ -81,13 +81,19 @@ pub fn raw(asked: &Asked) -> Result<String, Refusal> {
 
 /// What a device takes of a view: it has room for some bytes, takes them one by one, and its flush fails.
 pub fn cut_view(asked: &Asked) -> Result<String, Refusal> {
+    let mut out = CutOut::new(asked.alloc, 1, asked.numbers[4], true)?;
+    let told = match write_view(asked, &mut out) {
+        Ok(()) => String::from_str(asked.alloc, "no fault"),
+        Err(Error::Memory) => Err(AllocError),
+        Err(_) => taken(asked.alloc, &out),
+    };
+    Ok(told?)
+}
+
+fn write_view(asked: &Asked, out: &mut CutOut) -> Result<(), Error> {
     let area = asked.area();
     let text = asked.skin.area_text(asked.alloc, asked.text, &area)?;
-    let mut out = CutOut::new(asked.alloc, 1, asked.numbers[4], true)?;
-    match TextView::from(&area, &text).write(asked.alloc, &mut out) {
-        Ok(()) => Ok(String::from_str(asked.alloc, "no fault")?),
-        Err(_) => Ok(taken(asked.alloc, &out)?),
-    }
+    TextView::from(&area, &text).write(asked.alloc, out)
 }
 
 fn taken(alloc: Global, out: &CutOut) -> Result<String, AllocError> {
@@ -105,14 +111,9 @@ pub fn lengths(asked: &Asked, width: usize) -> Result<String, Refusal> {
     let text = asked.skin.text(asked.alloc, asked.text, Some(width))?;
     let mut lengths = String::new(asked.alloc);
     for line in &text.lines {
-        push_length(asked.alloc, &mut lengths, line)?;
+        write!(lengths, "{} ", line.visible_length())?;
     }
     Ok(lengths)
-}
-
-fn push_length(alloc: Global, lengths: &mut String, line: &FmtLine) -> Result<(), AllocError> {
-    let length = format!(in alloc; "{} ", line.visible_length())?;
-    lengths.push_str(length.as_str())
 }
 
 /// Whether at each width from one to another no line of a text is too wide or empty, else the lengths at the first where one is.
