@@ -45,30 +45,30 @@ fn read(alloc: Global, text: &str) -> Result<(MadSkin, Vec<String>), Refusal> {
 /// What a JSON text changes: the parts whose values aren't those of the default skin, and the unknown keys.
 pub fn changes(alloc: Global, text: &str) -> Result<String, Refusal> {
     let (skin, unknown) = read(alloc, text)?;
-    let mut told = changed_parts(alloc, &skin)?;
+    let mut told = String::new(alloc);
+    push_changed_parts(alloc, &skin, &mut told)?;
     for key in &unknown {
         write!(told, "unknown: {key}\n")?;
     }
     Ok(told)
 }
 
-fn changed_parts(alloc: Global, skin: &MadSkin) -> Result<String, AllocError> {
+fn push_changed_parts(alloc: Global, skin: &MadSkin, told: &mut String) -> Result<(), AllocError> {
     let old = skin_to_value(alloc, &MadSkin::default())?;
     let new = skin_to_value(alloc, skin)?;
-    changed_members(alloc, &old, &new)
+    push_changed_members(&old, &new, told)
 }
 
-fn changed_members(alloc: Global, old: &Value, new: &Value) -> Result<String, AllocError> {
-    let mut told = String::new(alloc);
+fn push_changed_members(old: &Value, new: &Value, told: &mut String) -> Result<(), AllocError> {
     let Some(parts) = new.as_object() else {
-        return Ok(told);
+        return Ok(());
     };
     for (key, part) in parts.iter() {
         if old.get(key.as_str()) != Some(part) {
             write!(told, "{key}: {part}\n")?;
         }
     }
-    Ok(told)
+    Ok(())
 }
 
 /// The same of a text in which an unknown key has a value of many characters: `count` times what is before a point, and what is after it.
