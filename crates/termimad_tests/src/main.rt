@@ -1,13 +1,14 @@
-//! Rows that cross the crates: texts as pictures of what a plain terminal shows, texts as they are written, and skins as JSON texts.
+//! Rows of the whole library: texts and lines as they are written, pictures of what a plain terminal shows, and skins as JSON texts.
 //!
 //! A call is `NAME NUMBERS SKIN`. An area's numbers are its left, top, width and height. The skin is the rest of the line: `default`,
-//! `dark`, `light`, `ascii` or JSON text, or no style where there is no rest.
+//! `dark`, `light`, `ascii` or JSON text, or no style where there is no rest. JSON text changes the default skin.
 //!
 //! 1. `asked`: what a call asks for; `skins`: skins and their values; `refusal`: why a call has no answer.
-//! 2. `screens`: pictures of areas and views; `texts`: what is written; `runs`: runs of the program.
+//! 2. `screens`: pictures of areas and views; `texts` and `lines`: what is written of texts and of single lines; `runs`: runs of the program.
 #![tactic(auto)]
 
 mod asked;
+mod lines;
 mod refusal;
 mod runs;
 mod screens;
@@ -43,6 +44,7 @@ fn answer_of(alloc: Global, call: &str, text: &str) -> Result<String, Refusal> {
         "deep" => skins::deep_changes(alloc, numbers_of(words).0[0], text),
         "large" => large_answer(alloc, words, text),
         "run" => Ok(runs::run(alloc, runs::ROOM, words, text)?),
+        "words_on_a_screen" => screens::words(alloc),
         "run_in_twenty_bytes" => Ok(runs::run(alloc, 20, words, text)?),
         _ => answer_in_skin(alloc, name, words, text),
     }
@@ -75,6 +77,9 @@ fn answer_asked(name: &str, asked: &Asked) -> Result<String, Refusal> {
         "scrolled" => screens::view(asked, false, true),
         "marks" => screens::view(asked, true, false),
         "cut" => texts::cut_view(asked),
+        "lines" => lines::displayed(asked),
+        "unwrapped" => texts::unwrapped(asked),
+        "raw" => texts::raw(asked),
         "lengths" => texts::lengths(asked, asked.numbers[0]),
         "widths" => texts::widths(asked),
         "value" => skins::value(asked),

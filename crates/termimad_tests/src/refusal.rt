@@ -24,7 +24,10 @@ impl Refusal {
     /// Its text. Out of memory it has none.
     pub fn told(self, alloc: Global) -> Result<String, AllocError> {
         match self {
-            Refusal::Memory => Err(AllocError),
+            Refusal::Memory
+            | Refusal::Skin(SkinError::Memory)
+            | Refusal::Writing(Error::Memory)
+            | Refusal::Screen(NotPlain::Memory) => Err(AllocError),
             Refusal::Json => String::from_str(alloc, "no JSON"),
             Refusal::Skin(error) => format!(in alloc; "{error}"),
             Refusal::Writing(error) => format!(in alloc; "{error}"),

@@ -34,11 +34,12 @@ fn args_of(alloc: Global, words: &str) -> Result<Vec<String>, AllocError> {
 }
 
 fn told(alloc: Global, status: u8, out: &CutOut, err: &CutOut) -> Result<String, AllocError> {
-    let mut told = String::from_utf8_lossy(alloc, out.taken())?;
-    if !told.is_empty() && !told.ends_with('\n') {
-        told.push('\n')?;
-    }
-    write!(told, "status {status}\n")?;
-    told.push_str(String::from_utf8_lossy(alloc, err.taken())?.as_str())?;
-    Ok(told)
+    let out = str::from_utf8(out.taken()).unwrap_or("no text");
+    let err = str::from_utf8(err.taken()).unwrap_or("no text");
+    let end = if out.is_empty() || out.ends_with('\n') {
+        ""
+    } else {
+        "\n"
+    };
+    format!(in alloc; "{out}{end}status {status}\n{err}")
 }

@@ -6,6 +6,7 @@ ghost use Rattle.termimad.specs.Areas.{IsWithinLimits};
 use crate::asked::Asked;
 use crate::refusal::Refusal;
 use std::alloc::{AllocError, Global};
+use termimad::layout::laws::words_on_a_screen;
 use termimad::screen::{Pen, Screen};
 use termimad::{
     Area, ContentStyle, CutOut, FmtText, ParseOptions, StyledContent, TextView, parse_text_with,
@@ -41,47 +42,46 @@ pub fn view(asked: &Asked, continue_spans: bool, is_asked: bool) -> Result<Strin
     picture(asked.alloc, &area, out.taken())
 }
 
+/// The screen of the laws' example.
+pub fn words(alloc: Global) -> Result<String, Refusal> {
+    let screen = words_on_a_screen(alloc)?;
+    Ok(format!(in alloc; "{screen}")?)
+}
+
 // The picture of a screen that has read these bytes: one of points as large as the area, of 14 columns and four rows at least.
 fn picture(alloc: Global, area: &Area, bytes: &[u8]) -> Result<String, Refusal>
     requires { IsWithinLimits area.now }
 {
-    let mut screen = points(alloc, area.right().max(14), area.bottom().max(4))?;
-    screen.read_bytes(bytes)?;
-    let looks = looks_of(alloc, &screen)?;
-    Ok(format!(in alloc; "{screen}{looks}")?)
-}
-
-// A screen of points.
-fn points(alloc: Global, width: u16, height: u16) -> Result<Screen, Refusal> {
+    let (width, height) = (area.right().max(14), area.bottom().max(4));
     let mut screen = Screen::new(alloc, width, height)?;
+    put_points(alloc, &mut screen, width, height)?;
+    screen.read_bytes(bytes)?;
+    let mut picture = format!(in alloc; "{screen}")?;
+    push_looks(&screen, &mut picture)?;
+    Ok(picture)
+}
+
+// Puts a row of points into each row.
+fn put_points(alloc: Global, screen: &mut Screen, width: u16, height: u16) -> Result<(), Refusal> {
     let row = ".".repeat(alloc, width.into())?;
+    let mut rows = String::new(alloc);
     for y in 1..=height {
-        put_row(alloc, &mut screen, y, row.as_str())?;
+        write!(rows, "\x1b[{y};1H{row}")?;
     }
-    Ok(screen)
+    Ok(screen.read_bytes(rows.as_bytes())?)
 }
 
-fn put_row(alloc: Global, screen: &mut Screen, y: u16, row: &str) -> Result<(), Refusal> {
-    let row = format!(in alloc; "\x1b[{y};1H{row}")?;
-    Ok(screen.read_bytes(row.as_bytes())?)
-}
-
-// The letters of a screen's looks, and the looks themselves. The pen is the default one again after all that is written.
-fn looks_of(alloc: Global, screen: &Screen) -> Result<String, AllocError> {
+// Puts the letters of a screen's looks, and the looks themselves. The pen is the default one again after all that is written.
+fn push_looks(screen: &Screen, picture: &mut String) -> Result<(), AllocError> {
     let looks = screen.looks()?;
     if looks.pens().is_empty() && screen.pen() == Pen::default() {
-        return Ok(String::new(alloc));
+        return Ok(());
     }
-    let mut text = format!(in alloc; "{looks}")?;
+    write!(picture, "{looks}")?;
     for pen in looks.pens() {
-        push_sample(alloc, &mut text, *pen)?;
+        write!(picture, "{}\n", sample(*pen))?;
     }
-    Ok(text)
-}
-
-fn push_sample(alloc: Global, text: &mut String, pen: Pen) -> Result<(), AllocError> {
-    let sample = format!(in alloc; "{}\n", sample(pen))?;
-    text.push_str(sample.as_str())
+    Ok(())
 }
 
 fn sample(pen: Pen) -> StyledContent<'static> {

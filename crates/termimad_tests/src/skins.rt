@@ -4,7 +4,6 @@ use crate::asked::Asked;
 use crate::refusal::Refusal;
 use serde_json::Value;
 use std::alloc::{AllocError, Global};
-use std::fmt::Display;
 use termimad::{MadSkin, skin_from_value, skin_to_value};
 
 /// The skin of a word.
@@ -15,7 +14,7 @@ pub fn skin_of(alloc: Global, word: &str) -> Result<MadSkin, Refusal> {
         "dark" => Ok(MadSkin::default_dark()),
         "light" => Ok(MadSkin::default_light()),
         "ascii" => Ok(ascii()),
-        _ => Ok(read(alloc, word)?.0),
+        _ => skin_said(alloc, word),
     }
 }
 
@@ -24,6 +23,17 @@ fn ascii() -> MadSkin {
     let mut skin = MadSkin::no_style();
     skin.limit_to_ascii();
     skin
+}
+
+// The skin that a JSON text says. After `endless` its paragraphs have margins without end.
+fn skin_said(alloc: Global, word: &str) -> Result<MadSkin, Refusal> {
+    let Some(text) = word.strip_prefix("endless ") else {
+        return Ok(read(alloc, word)?.0);
+    };
+    let mut skin = read(alloc, text)?.0;
+    skin.paragraph.left_margin = usize::MAX;
+    skin.paragraph.right_margin = usize::MAX;
+    Ok(skin)
 }
 
 // The skin that a JSON text says, and its unknown keys.
@@ -35,40 +45,30 @@ fn read(alloc: Global, text: &str) -> Result<(MadSkin, Vec<String>), Refusal> {
 /// What a JSON text changes: the parts whose values aren't those of the default skin, and the unknown keys.
 pub fn changes(alloc: Global, text: &str) -> Result<String, Refusal> {
     let (skin, unknown) = read(alloc, text)?;
-    let mut told = changed_parts(alloc, &skin)?;
+    let mut told = String::new(alloc);
+    push_changed_parts(alloc, &skin, &mut told)?;
     for key in &unknown {
-        push_line(alloc, &mut told, "unknown", key)?;
+        write!(told, "unknown: {key}\n")?;
     }
     Ok(told)
 }
 
-fn push_line<T: Display>(
-    alloc: Global,
-    told: &mut String,
-    name: &str,
-    value: &T,
-) -> Result<(), AllocError> {
-    let line = format!(in alloc; "{name}: {value}\n")?;
-    told.push_str(line.as_str())
-}
-
-fn changed_parts(alloc: Global, skin: &MadSkin) -> Result<String, AllocError> {
+fn push_changed_parts(alloc: Global, skin: &MadSkin, told: &mut String) -> Result<(), AllocError> {
     let old = skin_to_value(alloc, &MadSkin::default())?;
     let new = skin_to_value(alloc, skin)?;
-    changed_members(alloc, &old, &new)
+    push_changed_members(&old, &new, told)
 }
 
-fn changed_members(alloc: Global, old: &Value, new: &Value) -> Result<String, AllocError> {
-    let mut told = String::new(alloc);
+fn push_changed_members(old: &Value, new: &Value, told: &mut String) -> Result<(), AllocError> {
     let Some(parts) = new.as_object() else {
-        return Ok(told);
+        return Ok(());
     };
     for (key, part) in parts.iter() {
         if old.get(key.as_str()) != Some(part) {
-            push_line(alloc, &mut told, key.as_str(), part)?;
+            write!(told, "{key}: {part}\n")?;
         }
     }
-    Ok(told)
+    Ok(())
 }
 
 /// The same of a text in which an unknown key has a value of many characters: `count` times what is before a point, and what is after it.

@@ -45,11 +45,13 @@ pub fn report<C: Calls>(alloc: Global, calls: &C, rows: &str) -> Result<String, 
     let rows = meant(alloc, rows)?;
     let mut report = String::new(alloc);
     let mut count: u64 = 0;
-    for row in rows.split("\n$ ").skip(1) {
+    let mut rows = rows.split("\n$ ");
+    rows.next();
+    for row in rows {
         judge(alloc, calls, row, &mut report)?;
         count = count.saturating_add(1);
     }
-    report.push_str(format!(in alloc; "{count} rows\n")?.as_str())?;
+    write!(report, "{count} rows\n")?;
     Ok(report)
 }
 
@@ -67,10 +69,8 @@ fn judge<C: Calls>(
         answer.push('\n')?;
     }
     if answer != lines_after(alloc, row, '>')? {
-        report.push_str(format!(in alloc;
-            "$ {call}\nanswers\n{}",
-            seen(alloc, answer.as_str())?
-        )?.as_str())?;
+        let answer = seen(alloc, answer.as_str())?;
+        write!(report, "$ {call}\nanswers\n{answer}")?;
     }
     Ok(())
 }
