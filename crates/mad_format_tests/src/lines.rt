@@ -6,7 +6,9 @@ ghost use Rattle.mad_format.specs.WrappedLines.{AllMeasured};
 use crate::pictures::push_margins;
 use crate::skins::{plain_skin, skin_with};
 use crate::words::number;
-use mad_format::{FmtComposite, FmtLine, LineSkin, hard_wrap_lines, lay_source, wrap_bound};
+use mad_format::{
+    FmtComposite, FmtLine, LineSkin, find_blocks, hard_wrap_lines, lay_source, wrap_bound,
+};
 use mad_md::{Compound, parse_text};
 use mad_style::ListItemsIndentationMode;
 use mad_term::Error;
@@ -58,4 +60,13 @@ fn count_starts(alloc: Global, text: &str, width: usize) -> Result<usize, Error>
     let whole = FmtComposite::from_compound(alloc, Compound::raw_str(text))?;
     let bound = wrap_bound(alloc, &whole, width, &plain_skin())?;
     Ok(bound.starts.len())
+}
+
+/// The blocks of code among the lines of a text.
+pub fn blocks(alloc: Global, picture: &mut String, text: &str) -> Result<(), Error> {
+    let lines = read_lines(alloc, text, &plain_skin())?;
+    for block in &find_blocks(alloc, &lines)? {
+        write!(picture, "{block:?}\n")?;
+    }
+    Ok(())
 }

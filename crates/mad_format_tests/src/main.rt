@@ -42,10 +42,12 @@ fn push_answer(
         "wrap" => wraps::wrap(alloc, picture, words, text),
         "check" => wraps::check(alloc, picture, words, text),
         "margins" => lines::margins(alloc, picture, words, text),
+        "blocks" => lines::blocks(alloc, picture, text),
         "long" => lines::long(alloc, picture, words, text),
         "lay" => tables::lay(alloc, picture, words, text),
         "fix" => tables::fix(alloc, picture, words, text),
         "tables" => tables::tables(alloc, picture, words, text),
+        "rules" => tables::rules(alloc, picture, words, text),
         "row" => tables::row(alloc, picture, words, text),
         _ => Ok(picture.push_str("no such call")?),
     }

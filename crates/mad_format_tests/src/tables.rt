@@ -77,3 +77,15 @@ fn push_laid_row(
     }
     Ok(())
 }
+
+/// The widths and the alignments of a text's rules, each cut or filled up to a number of columns.
+pub fn rules(alloc: Global, picture: &mut String, count: &str, text: &str) -> Result<(), Error> {
+    let count = number(&mut count.split_whitespace());
+    for line in read_lines(alloc, text, &plain_skin())? {
+        if let FmtLine::TableRule(mut rule) = line {
+            rule.set_nbcols(count)?;
+            write!(picture, "{:?} {:?}\n", rule.widths, rule.aligns)?;
+        }
+    }
+    Ok(())
+}

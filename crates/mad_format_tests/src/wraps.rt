@@ -49,7 +49,7 @@ fn push_wrap<S: LineSkin>(
         return Ok(picture.push_str("fits\n")?);
     }
     for line in &hard_wrap_composite(alloc, composite, width, skin)? {
-        push_compounds(picture, line)?;
+        push_compounds(picture, &line.try_clone(alloc)?)?;
     }
     Ok(())
 }

@@ -30,7 +30,7 @@ pub fn write(asked: &Asked, name: &str, out: &mut CutOut) -> Result<(), Error> {
     };
     match side {
         "" => write_composite(asked, style, out),
-        "later" => write_row(asked, later_kind(style), None, None, out),
+        "later" => write_later(asked, later_kind(style), out),
         _ => write_wide_row(asked, CompositeKind::from(style), side, out),
     }
 }
@@ -65,6 +65,16 @@ fn later_kind(style: CompositeStyle) -> CompositeKind {
         }
         other => CompositeKind::from(other),
     }
+}
+
+// Writes what is displayed of a line without a width, a bar, and the line by the call for composites.
+fn write_later(asked: &Asked, kind: CompositeKind, out: &mut CutOut) -> Result<(), Error> {
+    let line = FmtLine::Normal(composite_of(asked, kind, None)?);
+    write_displayed(asked, &line, None, out)?;
+    let composite = composite_of(asked, kind, None)?;
+    asked
+        .skin
+        .write_fmt_composite(asked.alloc, out, &composite, None, true)
 }
 
 // The first numbers are the row's columns and those of the line's own place, which it has on a side.

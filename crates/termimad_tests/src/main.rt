@@ -42,6 +42,7 @@ fn answer_of(alloc: Global, call: &str, text: &str) -> Result<String, Refusal> {
     match name {
         "skin" => skins::changes(alloc, text),
         "deep" => skins::deep_changes(alloc, numbers_of(words).0[0], text),
+        "numbered" => skins::numbered(alloc, words.parse().unwrap_or(0)),
         "large" => large_answer(alloc, words, text),
         "run" => Ok(runs::run(alloc, runs::ROOM, words, text)?),
         "words_on_a_screen" => screens::words(alloc),

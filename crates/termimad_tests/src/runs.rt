@@ -27,6 +27,9 @@ pub const ROOM: usize = 1000;
 
 fn args_of(alloc: Global, words: &str) -> Result<Vec<String>, AllocError> {
     let mut args = Vec::new(alloc);
+    if words.is_empty() {
+        return Ok(args);
+    }
     for word in words.split('|') {
         args.push(String::from_str(alloc, word)?)?;
     }

@@ -4,7 +4,7 @@ use crate::asked::Asked;
 use crate::refusal::Refusal;
 use serde_json::Value;
 use std::alloc::{AllocError, Global};
-use termimad::{MadSkin, skin_from_value, skin_to_value};
+use termimad::{Color, MadSkin, skin_from_value, skin_to_value};
 
 /// The skin of a word.
 pub fn skin_of(alloc: Global, word: &str) -> Result<MadSkin, Refusal> {
@@ -69,6 +69,18 @@ fn push_changed_members(old: &Value, new: &Value, told: &mut String) -> Result<(
         }
     }
     Ok(())
+}
+
+/// What it changes of the default skin where the numbers of a level's items are red.
+pub fn numbered(alloc: Global, level: u8) -> Result<String, Refusal> {
+    let mut skin = MadSkin::default();
+    let Some(style) = skin.ordered_item_style_mut(level) else {
+        return Ok(String::from_str(alloc, "no such level")?);
+    };
+    style.index_style.set_fg(Color::Red);
+    let mut told = String::new(alloc);
+    push_changed_parts(alloc, &skin, &mut told)?;
+    Ok(told)
 }
 
 /// The same of a text in which an unknown key has a value of many characters: `count` times what is before a point, and what is after it.

@@ -4,7 +4,7 @@ use crate::asked::Asked;
 use crate::lines;
 use crate::refusal::Refusal;
 use std::alloc::{AllocError, Global};
-use termimad::{CutOut, Error, FmtText, TextView, print_inline, print_text};
+use termimad::{CutOut, Error, FmtText, TextView, print_inline, print_text, term_text, text};
 
 // More than any row writes.
 const ROOM: usize = 2_000_000;
@@ -68,7 +68,10 @@ pub fn unwrapped(asked: &Asked) -> Result<String, Refusal> {
 }
 
 fn displayed_at(asked: &Asked, width: Option<usize>) -> Result<String, AllocError> {
-    let text = asked.skin.text(asked.alloc, asked.text, width)?;
+    let text = match width {
+        Some(width) => term_text(asked.alloc, &asked.skin, asked.text, width)?,
+        None => text(asked.alloc, &asked.skin, asked.text)?,
+    };
     text.to_string(asked.alloc)
 }
 
