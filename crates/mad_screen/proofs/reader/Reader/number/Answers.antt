@@ -18,7 +18,7 @@ returns c =
       | else-c-ge48-via-else-c-ge48 v ↦ below_digits c.args.c v.if-c-ge48.false
     ] in
     let told : option_map resting (perform c.args.c here.numbers.items here.screen) ≡ option_map resting (perform c.args.c c.deref.result.now here.screen) =
-        ap (λ (l : List ℕ). option_map resting (perform c.args.c l here.screen)) (sym c.deref.ensures.value) in
+    ap (λ (l : List ℕ). option_map resting (perform c.args.c l here.screen)) (sym c.deref.ensures.value) in
     let fed : feed (reading_of old) c.args.c ≡ option_map resting (perform c.args.c here.numbers.items here.screen) = elim c.match-self.branch [
       | in-Some+in_ok-push-in-Some w ↦
           let more : is_some here.digits ≡ true = ap (λ (r : Reader). is_some r.digits) w.self-is ∙ ap is_some w.in-Some.is in
