@@ -53,6 +53,34 @@ pub written_all : (text : List ℕ) (first : Bool) (ts : List StyleToken) (i : �
 written_all text first ts i past held =
     sym (ap (λ us. text ++ more_text first us) (drop_all i ts past) ∙ append-nil text) ∙ held ∙ more_all ts
 
+-- the first text that is written
+pub after_first : (first : Bool) (text before made token : List ℕ) → first ≡ true → before ≡ text → made ≡ before ++ token → made ≡ text ++ after_space first token
+after_first first text before made token e same wrote = wrote ∙ ap (λ l. l ++ token) same ∙ ap (λ b. text ++ after_space b token) (sym e)
+
+-- or a later one
+pub after_other : (first : Bool) (text before made token : List ℕ) → first ≡ false → before ≡ text ++ 32 ∷ [] → made ≡ before ++ token → made ≡ text ++ after_space first token
+after_other first text before made token e space wrote =
+    wrote ∙ ap (λ l. l ++ token) space ∙ append_assoc text (32 ∷ []) token ∙ ap (λ b. text ++ after_space b token) (sym e)
+
+-- one more token, which has a text
+pub token_written : (ts : List StyleToken) (i : ℕ) (d : StyleToken) (first : Bool) (text new whole : List ℕ) → i < length ts → has_text (get_or ts i d) ≡ true
+    → text ++ more_text first (drop i ts) ≡ whole → new ≡ text ++ after_space first (token_text (get_or ts i d)) → new ++ more_text false (drop (i + 1) ts) ≡ whole
+token_written ts i d first text new whole within has held wrote =
+    let t = get_or ts i d in
+    let rest = drop (i + 1) ts in
+    ap (λ l. l ++ more_text false rest) wrote ∙ append_assoc text (after_space first (token_text t)) (more_text false rest)
+    ∙ ap (λ l. text ++ l) (sym (ap (more_text first) (drop_more ts i d within) ∙ cond-true (has_text t) (after_space first (token_text t) ++ more_text false rest) (more_text first rest) has))
+    ∙ held
+
+-- or which has none
+pub token_passed : (ts : List StyleToken) (i : ℕ) (d : StyleToken) (first : Bool) (text whole : List ℕ) → i < length ts → has_text (get_or ts i d) ≡ false
+    → text ++ more_text first (drop i ts) ≡ whole → text ++ more_text first (drop (i + 1) ts) ≡ whole
+token_passed ts i d first text whole within has held =
+    let t = get_or ts i d in
+    let rest = drop (i + 1) ts in
+    ap (λ l. text ++ l) (sym (ap (more_text first) (drop_more ts i d within) ∙ cond-false (has_text t) (after_space first (token_text t) ++ more_text false rest) (more_text first rest) has))
+    ∙ held
+
 -- ---- the attributes of a set, one by one
 
 pub attribute_pushed : (p : Attribute → Bool) (a d : Attribute) (list : List Attribute) (i : ℕ) (xs ys whole : List StyleToken) → i < length list → get_or list i d ≡ a → p a ≡ true

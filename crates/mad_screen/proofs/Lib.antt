@@ -4,6 +4,8 @@ pub mod CommandsRead
 pub mod DrawingLemmas
 pub mod Feeding
 pub mod Finding
+pub mod Letters
+pub mod Lines
 pub mod LooksLemmas
 pub mod PaintingLemmas
 pub mod Paints

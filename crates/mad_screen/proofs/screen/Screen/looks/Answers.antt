@@ -1,7 +1,7 @@
-use Rattle.std.proofs.Common.{◌≡◌, map, ap, sym, ◌∙◌, arith, vec_len}
-use Rattle.std.proofs.lemmas.List.{length-map, map-append}
+use Rattle.std.proofs.Common.{◌≡◌, [], map, ap, sym, ◌∙◌, arith, vec_len}
+use Rattle.std.proofs.lemmas.List.{length-map, map-append, take_all}
 use Rattle.mad_screen.specs.Glyph.{Glyph, look_of}
-use Rattle.mad_screen.specs.Pictures.{gets_letter, with_letter}
+use Rattle.mad_screen.specs.Pictures.{gets_letter, with_letter, lettered}
 use Rattle.mad_screen.proofs.LooksLemmas.{lettered_more, letter_given, letter_refused, gets_if_left}
 use Rattle.mad_screen.proofs.screen.Screen.looks.Goals.{then-gets_letter+in_ok-push, else-gets_letter}
 use Rattle.mad_screen.proofs.screen.Screen.looks.Goals as goal
@@ -25,3 +25,7 @@ loop-cell-preserved c =
         ap (λ pens. map look_of pens.items) w.pens-is ∙ sym (more ∙ letter_refused known pen (sym asked ∙ w.if-gets_letter.false)),
       )
     ]
+
+pub returns-clause-pens : goal.returns-clause-pens
+returns-clause-pens c =
+    c.loop-cell.invariant.1 ∙ ap (lettered []) (take_all c.loop-cell.cell-index c.cells-cell-items.result.now c.loop-cell-test.false ∙ c.cells-cell-items.ensures)
