@@ -18,7 +18,9 @@ use Rattle.mad_format.specs.Wraps.{IsMeasured}
 use Rattle.mad_format.specs.LineRules.{LineRules}
 use Rattle.mad_format.specs.declared.composite.FmtComposite.{FmtComposite}
 use Rattle.mad_format.specs.declared.line.FmtLine.{FmtLine}
+use Rattle.mad_format.specs.declared.line.FmtLine.TheVariants.{Normal, TableRow, TableRule, HorizontalRule}
 use Rattle.mad_format.specs.declared.table.FmtTableRow.{FmtTableRow}
+use Rattle.mad_format.specs.declared.table.FmtTableRule.{FmtTableRule}
 use Rattle.mad_format.specs.declared.table.RelativePosition.{RelativePosition}
 use Rattle.mad_format.specs.declared.table_rows.CellLines.{CellLines}
 
@@ -243,7 +245,24 @@ taken_more [] (suc n) x after e = absurd (cc)
 taken_more (y ∷ ys) zero x after e = (cc, cc)
 taken_more (y ∷ ys) (suc n) x after e = let rest = taken_more ys n x after e in (ap (λ zs. y ∷ zs) rest.0, rest.1)
 
+pub moved_all : (xs : List FmtLine) (n count : ℕ) → drop n xs ≡ [] → n ≤ count → (take n xs ≡ take count xs) × (drop count xs ≡ [])
+moved_all [] zero zero none less = (refl, refl)
+moved_all [] zero (suc count) none less = (refl, refl)
+moved_all [] (suc n) zero none less = (refl, refl)
+moved_all [] (suc n) (suc count) none less = (refl, refl)
+moved_all (x ∷ xs) zero count none less = absurd (cc)
+moved_all (x ∷ xs) (suc n) zero none less = absurd (omega (arith, less))
+moved_all (x ∷ xs) (suc n) (suc count) none less = let rest = moved_all xs n count none (omega (arith, less)) in (ap (λ zs. x ∷ zs) rest.0, rest.1)
+
 -- ---- a table
+
+-- a line that is no row and no rule stays
+pub other_stays : (skin : LineRules) (columns : List Spacing) (position : RelativePosition) (line : FmtLine) → ((row : FmtTableRow) → line ≡ TableRow row → ⊥) → ((rule : FmtTableRule) → line ≡ TableRule rule → ⊥)
+    → IsTableLineBy IsCompositeWrap skin columns position line (line ∷ [])
+other_stays skin columns position (Normal l) no_row no_rule = refl
+other_stays skin columns position (TableRow row) no_row no_rule = absurd (no_row row refl)
+other_stays skin columns position (TableRule rule) no_row no_rule = absurd (no_rule rule refl)
+other_stays skin columns position HorizontalRule no_row no_rule = refl
 
 -- What the lines of a table have become so far, with whatever the rest of them become, is what all of them become.
 pub record PartsSoFar (skin : LineRules) (widths : List ℕ) (all before : List FmtLine) (columns : List Spacing) (number : ℕ) (rest lines : List FmtLine) : Type 0 where
