@@ -168,14 +168,13 @@ fn push_table_lines<'s, S: LineSkin>(
     ensures { OnOk result ((own : List FmtLine) × (lines.new.items ≡ lines.old.items ++ own) × AreTableLinesBy IsCompositeWrap (S.rules skin.now) widths.now (centered widths.now) true table.entry.items own) }
 {
     let mut columns = centered(alloc, widths)?;
-    let count = table.len();
-    let mut number: usize = 0;
-    for line in table {
-        let first = number == 0;
-        number += 1;
+    let mut first = true;
+    let mut rest = table.into_iter();
+    while let Some(line) = rest.next() {
         columns = columns_from(alloc, widths, columns, &line)?;
-        let position = position_at(first, number == count);
+        let position = position_at(first, rest.len() == 0);
         push_table_line(alloc, lines, line, &columns, position, skin)?;
+        first = false;
     }
     Ok(())
 }
