@@ -1,8 +1,8 @@
 -- Tables, laid out row by row and line by line.
-use Rattle.std.proofs.Common.{◌≡◌, ℕ, zero, suc, ◌+◌, ◌<◌, ◌≤◌, set, ◌==◌, inl, inr, Bool, true, false, List, [], ◌∷◌, ◌++◌, map, length, length-append, take, drop, get_or, max, refl, Some, ap, sym, ◌∙◌, subst, arith, append_assoc}
+use Rattle.std.proofs.Common.{◌≡◌, ℕ, zero, suc, ◌+◌, ◌-◌, ◌<◌, ◌≤◌, set, ◌==◌, inl, inr, Bool, true, false, List, [], ◌∷◌, ◌++◌, map, length, length-append, take, drop, get_or, max, refl, Some, ap, sym, ◌∙◌, subst, arith, append_assoc}
 use Rattle.std.specs.Prelude.{slice_get, unwrap_or}
 use Rattle.std.specs.List.{AllByRecursion}
-use Rattle.std.proofs.lemmas.List.{append-nil, map-append, length-map, drop_more, drop_all, take_all, get_or_at, set_at}
+use Rattle.std.proofs.lemmas.List.{append-nil, map-append, length-map, drop_more, drop_all, drop-drop, take_all, get_or_at, set_at}
 use Rattle.mad_md.specs.declared.alignment.Alignment.{Alignment}
 use Rattle.mad_md.specs.declared.alignment.Alignment.TheVariants.{Unspecified}
 use Rattle.mad_fit.specs.declared.spacing.Spacing.{Spacing}
@@ -253,6 +253,27 @@ moved_all (x ∷ xs) zero count none less = absurd (cc)
 moved_all (x ∷ xs) (suc n) zero none less = absurd (omega (arith, less))
 moved_all (x ∷ xs) (suc n) (suc count) none less = let rest = moved_all xs n count none (omega (arith, less)) in (ap (λ zs. x ∷ zs) rest.0, rest.1)
 
+-- the lines of a table, behind those that were moved before
+pub moved_table : (xs : List FmtLine) (start height : ℕ) (rest behind empty table : List FmtLine) → rest ≡ xs → behind ≡ drop start rest → empty ≡ [] → table ≡ empty ++ take height behind → table ≡ take height (drop start xs)
+moved_table xs start height rest behind empty table read behind_is none table_is = table_is ∙ ap (λ ls. ls ++ take height behind) none ∙ ap (take height) (behind_is ∙ ap (drop start) read)
+
+longer_by : (front own joined : List FmtLine) (before now : ℕ) → joined ≡ front ++ own → before ≡ length front → now ≡ length joined → now - before ≡ length own
+longer_by front own joined before now joins before_is now_is = omega (arith, before_is, now_is, ap length joins, length-append front own)
+
+-- what becomes of the table, between the lines before it and those behind it
+pub table_fixed : (skin : LineRules) (n width : ℕ) (xs : List FmtLine) (start height : ℕ) (none rest front behind table after joined new : List FmtLine) (before now : ℕ) → none ≡ [] → rest ≡ xs → front ≡ none ++ take start rest
+    → behind ≡ drop start rest → table ≡ take height (drop start xs) → after ≡ drop height behind → (own : List FmtLine) × (joined ≡ front ++ own) × IsTableLaidOutBy IsCompositeWrap skin n width table own
+    → before ≡ length front → now ≡ length joined → new ≡ joined ++ after
+    → (own : List FmtLine) × (new ≡ take start xs ++ (own ++ drop (start + height) xs)) × IsTableLaidOutBy IsCompositeWrap skin n width (take height (drop start xs)) own × (now - before ≡ length own)
+table_fixed skin n width xs start height none rest front behind table after joined new before now begun read front_is behind_is table_is after_is (own, joins, laid) before_is now_is pushed =
+    let first : front ≡ take start xs = front_is ∙ ap (λ ls. ls ++ take start rest) begun ∙ ap (take start) read in
+    let last : after ≡ drop (start + height) xs = after_is ∙ ap (drop height) (behind_is ∙ ap (drop start) read) ∙ drop-drop height start xs in (
+      own,
+      pushed ∙ ap (λ ls. ls ++ after) joins ∙ append_assoc front own after ∙ ap (λ ls. ls ++ (own ++ after)) first ∙ ap (λ ls. take start xs ++ (own ++ ls)) last,
+      subst (λ (ls : List FmtLine). IsTableLaidOutBy IsCompositeWrap skin n width ls own) table_is laid,
+      longer_by front own joined before now joins before_is now_is,
+    )
+
 -- ---- a table
 
 -- a line that is no row and no rule stays
@@ -328,8 +349,11 @@ pub record TablesSoFar (skin : LineRules) (width : ℕ) (all open_table rest lin
   pub parts : AllTableLines open_table
   pub so_far : (more : List FmtLine) → AreTablesLaidOut IsCompositeWrap skin width (open_table ++ rest) more → AreTablesLaidOut IsCompositeWrap skin width all (lines ++ more)
 
-pub tables_start : (skin : LineRules) (width : ℕ) (all : List FmtLine) → AllMeasured skin all → TablesSoFar skin width all [] all []
-tables_start skin width all measured = record { table_measured = tt; measured = measured; parts = tt; so_far = λ more h. h }
+pub tables_start : (skin : LineRules) (width : ℕ) (all open_table rest lines : List FmtLine) → AllMeasured skin all → open_table ≡ [] → rest ≡ all → lines ≡ [] → TablesSoFar skin width all open_table rest lines
+tables_start skin width all open_table rest lines measured no_table same none =
+    subst (λ (ts : List FmtLine). TablesSoFar skin width all ts rest lines) (sym no_table)
+    (subst (λ (xs : List FmtLine). TablesSoFar skin width all [] xs lines) (sym same)
+    (subst (λ (ls : List FmtLine). TablesSoFar skin width all [] all ls) (sym none) (record { table_measured = tt; measured = measured; parts = tt; so_far = λ more h. h })))
 
 -- a line of a table
 pub tables_line : (skin : LineRules) (width : ℕ) (all open_table new_table rest after lines : List FmtLine) (line : FmtLine) → TablesSoFar skin width all open_table rest lines

@@ -1,20 +1,15 @@
-use Rattle.std.proofs.Common.{◌≡◌, [], false, sym, ap, ◌∙◌, arith, subst}
+use Rattle.std.proofs.Common.{◌≡◌, [], false, sym, ap, ◌∙◌, arith}
 use Rattle.std.specs.Vec.Iter.{into_iter_items}
 use Rattle.std.proofs.lemmas.Grind.{common_steps}
 use Rattle.mad_format.specs.Tables.{is_table_line}
 use Rattle.mad_format.proofs.LayoutLemmas.{then_ok}
-use Rattle.mad_format.proofs.TableLemmas.{TablesSoFar, tables_start, tables_line, tables_other, tables_all}
+use Rattle.mad_format.proofs.TableLemmas.{tables_start, tables_line, tables_other, tables_all}
 use Rattle.mad_format.proofs.table_layout.fix_all_tables.Goals as goal
 
 pub loop-line-init : goal.loop-line-init
 loop-line-init g c =
-    let skin = g.S.LineSkin.rules c.args.skin.now in
-    let all = c.args.lines.now.items in
-    let lines : c.replace-read.new.dest.items ≡ [] = ap (λ v. v.items) c.replace-read.ensures.after ∙ c.new.ensures.items in
-    let rest : into_iter_items c.into_iter-line-iterator.result ≡ all = c.into_iter-line-iterator.ensures.into_iter_gives.0 ∙ ap (λ v. v.items) c.replace-read.ensures.value in
-    subst (λ ts. TablesSoFar skin c.args.width all ts (into_iter_items c.into_iter-line-iterator.result) c.replace-read.new.dest.items) (sym c.new-table.ensures.items)
-    (subst (λ ls. TablesSoFar skin c.args.width all [] (into_iter_items c.into_iter-line-iterator.result) ls) (sym lines)
-    (subst (λ xs. TablesSoFar skin c.args.width all [] xs []) (sym rest) (tables_start skin c.args.width all c.requires)))
+    tables_start (g.S.LineSkin.rules c.args.skin.now) c.args.width c.args.lines.now.items _ _ _ c.requires c.new-table.ensures.items (c.into_iter-line-iterator.ensures.into_iter_gives.0 ∙ ap (λ v. v.items) c.replace-read.ensures.value)
+    (ap (λ v. v.items) c.replace-read.ensures.after ∙ c.new.ensures.items)
 
 pub loop-line-preserved-then-is_table_line : goal.loop-line-preserved-then-is_table_line
 loop-line-preserved-then-is_table_line g c =
