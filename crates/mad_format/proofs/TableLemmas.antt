@@ -1,9 +1,8 @@
 -- Tables, laid out row by row and line by line.
-use Rattle.std.proofs.Common.{◌≡◌, ℕ, zero, suc, ◌+◌, ◌<◌, ◌≤◌, set, ◌==◌, inl, inr, Bool, true, false, List, [], ◌∷◌, ◌++◌, map, length, length-append, take, drop, get_or, max, refl, Some, ap, sym, ◌∙◌, subst, arith, append_assoc}
+use Rattle.std.proofs.Common.{◌≡◌, ℕ, zero, suc, ◌+◌, ◌-◌, ◌<◌, ◌≤◌, set, ◌==◌, inl, inr, Bool, true, false, List, [], ◌∷◌, ◌++◌, map, length, length-append, take, drop, get_or, max, refl, Some, ap, sym, ◌∙◌, subst, arith, append_assoc}
 use Rattle.std.specs.Prelude.{slice_get, unwrap_or}
 use Rattle.std.specs.List.{AllByRecursion}
-use Rattle.std.proofs.lemmas.Bool.Decides.{nat_tests}
-use Rattle.std.proofs.lemmas.List.{append-nil, map-append, length-map, drop_more, drop_all, take_all, get_or_at, set_at}
+use Rattle.std.proofs.lemmas.List.{append-nil, map-append, length-map, drop_more, drop_all, drop-drop, take_all, get_or_at, set_at}
 use Rattle.mad_md.specs.declared.alignment.Alignment.{Alignment}
 use Rattle.mad_md.specs.declared.alignment.Alignment.TheVariants.{Unspecified}
 use Rattle.mad_fit.specs.declared.spacing.Spacing.{Spacing}
@@ -18,7 +17,9 @@ use Rattle.mad_format.specs.Wraps.{IsMeasured}
 use Rattle.mad_format.specs.LineRules.{LineRules}
 use Rattle.mad_format.specs.declared.composite.FmtComposite.{FmtComposite}
 use Rattle.mad_format.specs.declared.line.FmtLine.{FmtLine}
+use Rattle.mad_format.specs.declared.line.FmtLine.TheVariants.{Normal, TableRow, TableRule, HorizontalRule}
 use Rattle.mad_format.specs.declared.table.FmtTableRow.{FmtTableRow}
+use Rattle.mad_format.specs.declared.table.FmtTableRule.{FmtTableRule}
 use Rattle.mad_format.specs.declared.table.RelativePosition.{RelativePosition}
 use Rattle.mad_format.specs.declared.table_rows.CellLines.{CellLines}
 
@@ -243,71 +244,92 @@ taken_more [] (suc n) x after e = absurd (cc)
 taken_more (y ∷ ys) zero x after e = (cc, cc)
 taken_more (y ∷ ys) (suc n) x after e = let rest = taken_more ys n x after e in (ap (λ zs. y ∷ zs) rest.0, rest.1)
 
+pub moved_all : (xs : List FmtLine) (n count : ℕ) → drop n xs ≡ [] → n ≤ count → (take n xs ≡ take count xs) × (drop count xs ≡ [])
+moved_all [] zero zero none less = (refl, refl)
+moved_all [] zero (suc count) none less = (refl, refl)
+moved_all [] (suc n) zero none less = (refl, refl)
+moved_all [] (suc n) (suc count) none less = (refl, refl)
+moved_all (x ∷ xs) zero count none less = absurd (cc)
+moved_all (x ∷ xs) (suc n) zero none less = absurd (omega (arith, less))
+moved_all (x ∷ xs) (suc n) (suc count) none less = let rest = moved_all xs n count none (omega (arith, less)) in (ap (λ zs. x ∷ zs) rest.0, rest.1)
+
+-- the lines of a table, behind those that were moved before
+pub moved_table : (xs : List FmtLine) (start height : ℕ) (rest behind empty table : List FmtLine) → rest ≡ xs → behind ≡ drop start rest → empty ≡ [] → table ≡ empty ++ take height behind → table ≡ take height (drop start xs)
+moved_table xs start height rest behind empty table read behind_is none table_is = table_is ∙ ap (λ ls. ls ++ take height behind) none ∙ ap (take height) (behind_is ∙ ap (drop start) read)
+
+longer_by : (front own joined : List FmtLine) (before now : ℕ) → joined ≡ front ++ own → before ≡ length front → now ≡ length joined → now - before ≡ length own
+longer_by front own joined before now joins before_is now_is = omega (arith, before_is, now_is, ap length joins, length-append front own)
+
+-- what becomes of the table, between the lines before it and those behind it
+pub table_fixed : (skin : LineRules) (n width : ℕ) (xs : List FmtLine) (start height : ℕ) (none rest front behind table after joined new : List FmtLine) (before now : ℕ) → none ≡ [] → rest ≡ xs → front ≡ none ++ take start rest
+    → behind ≡ drop start rest → table ≡ take height (drop start xs) → after ≡ drop height behind → (own : List FmtLine) × (joined ≡ front ++ own) × IsTableLaidOutBy IsCompositeWrap skin n width table own
+    → before ≡ length front → now ≡ length joined → new ≡ joined ++ after
+    → (own : List FmtLine) × (new ≡ take start xs ++ (own ++ drop (start + height) xs)) × IsTableLaidOutBy IsCompositeWrap skin n width (take height (drop start xs)) own × (now - before ≡ length own)
+table_fixed skin n width xs start height none rest front behind table after joined new before now begun read front_is behind_is table_is after_is (own, joins, laid) before_is now_is pushed =
+    let first : front ≡ take start xs = front_is ∙ ap (λ ls. ls ++ take start rest) begun ∙ ap (take start) read in
+    let last : after ≡ drop (start + height) xs = after_is ∙ ap (drop height) (behind_is ∙ ap (drop start) read) ∙ drop-drop height start xs in (
+      own,
+      pushed ∙ ap (λ ls. ls ++ after) joins ∙ append_assoc front own after ∙ ap (λ ls. ls ++ (own ++ after)) first ∙ ap (λ ls. take start xs ++ (own ++ ls)) last,
+      subst (λ (ls : List FmtLine). IsTableLaidOutBy IsCompositeWrap skin n width ls own) table_is laid,
+      longer_by front own joined before now joins before_is now_is,
+    )
+
 -- ---- a table
 
+-- a line that is no row and no rule stays
+pub other_stays : (skin : LineRules) (columns : List Spacing) (position : RelativePosition) (line : FmtLine) → ((row : FmtTableRow) → line ≡ TableRow row → ⊥) → ((rule : FmtTableRule) → line ≡ TableRule rule → ⊥)
+    → IsTableLineBy IsCompositeWrap skin columns position line (line ∷ [])
+other_stays skin columns position (Normal l) no_row no_rule = refl
+other_stays skin columns position (TableRow row) no_row no_rule = absurd (no_row row refl)
+other_stays skin columns position (TableRule rule) no_row no_rule = absurd (no_rule rule refl)
+other_stays skin columns position HorizontalRule no_row no_rule = refl
+
 -- What the lines of a table have become so far, with whatever the rest of them become, is what all of them become.
-pub record PartsSoFar (skin : LineRules) (widths : List ℕ) (all before : List FmtLine) (columns : List Spacing) (number : ℕ) (rest lines : List FmtLine) : Type 0 where
+pub record PartsSoFar (skin : LineRules) (widths : List ℕ) (all before : List FmtLine) (columns : List Spacing) (first : Bool) (rest lines : List FmtLine) : Type 0 where
   pub measured : AllMeasured skin rest
-  pub count : number + length rest ≡ length all
   pub done : List FmtLine
   pub lines_are : lines ≡ before ++ done
-  pub so_far : (more : List FmtLine) → AreTableLinesBy IsCompositeWrap skin widths columns (number == 0) rest more → AreTableLinesBy IsCompositeWrap skin widths (centered widths) true all (done ++ more)
+  pub so_far : (more : List FmtLine) → AreTableLinesBy IsCompositeWrap skin widths columns first rest more → AreTableLinesBy IsCompositeWrap skin widths (centered widths) true all (done ++ more)
 
-pub parts_start : (skin : LineRules) (widths : List ℕ) (all before : List FmtLine) (columns : List Spacing) → AllMeasured skin all → columns ≡ centered widths
-    → PartsSoFar skin widths all before columns 0 all before
-parts_start skin widths all before columns measured is = record {
-  measured = measured;
-  count = omega arith;
-  done = [];
-  lines_are = sym (append-nil before);
-  so_far = λ more h. subst (λ (cs : List Spacing). AreTableLinesBy IsCompositeWrap skin widths cs true all more) is h;
-}
+pub parts_start : (skin : LineRules) (widths : List ℕ) (all before : List FmtLine) (columns : List Spacing) (rest : List FmtLine) → AllMeasured skin all → columns ≡ centered widths → rest ≡ all
+    → PartsSoFar skin widths all before columns true rest before
+parts_start skin widths all before columns rest measured is same =
+    subst (λ (ls : List FmtLine). PartsSoFar skin widths all before columns true ls before) (sym same)
+    (record {
+      measured = measured;
+      done = [];
+      lines_are = sym (append-nil before);
+      so_far = λ more h. subst (λ (cs : List Spacing). AreTableLinesBy IsCompositeWrap skin widths cs true all more) is h;
+    })
 
-last_test : (n k count : ℕ) → n + k ≡ count → (n == count) ≡ (k == 0)
-last_test n zero count e = let same : n ≡ count = omega (arith, e) in grind (arith, nat_tests)
-last_test n (suc k) count e = let differs : n < count = omega (arith, e) in grind (arith, nat_tests)
-
-not_first : (n : ℕ) → (n + 1 == 0) ≡ false
-not_first n = grind (arith, nat_tests)
-
-pub parts_more : (skin : LineRules) (widths : List ℕ) (all before : List FmtLine) (columns behind : List Spacing) (number : ℕ) (rest after lines own new : List FmtLine) (line : FmtLine) (cs : List Spacing) (position : RelativePosition) (count : ℕ)
-    → PartsSoFar skin widths all before columns number rest lines → rest ≡ line ∷ after → behind ≡ columns_from widths columns line → cs ≡ behind → count ≡ length all
-    → position ≡ position_at (number == 0) (number + 1 == count) → IsTableLineBy IsCompositeWrap skin cs position line own → new ≡ lines ++ own
-    → PartsSoFar skin widths all before behind (number + 1) after new
-parts_more skin widths all before columns behind number rest after lines own new line cs position count held next behind_is cs_are count_is position_is part_at pushed =
-    let place : position ≡ position_at (number == 0) (number + 1 == length all) = position_is ∙ ap (λ (n : ℕ). position_at (number == 0) (number + 1 == n)) count_is in
-    let part : IsTableLineBy IsCompositeWrap skin behind (position_at (number == 0) (number + 1 == length all)) line own =
-    subst (λ (p : RelativePosition). IsTableLineBy IsCompositeWrap skin behind p line own) place (subst (λ (xs : List Spacing). IsTableLineBy IsCompositeWrap skin xs position line own) cs_are part_at) in
-    let measured : AllMeasured skin (line ∷ after) = subst (AllMeasured skin) next held.measured in
-    let longer : length rest ≡ suc (length after) = ap length next in
-    let counted : number + 1 + length after ≡ length all = let before_it : number + length rest ≡ length all = held.count in omega (arith, longer, before_it) in
-    let last : (number + 1 == length all) ≡ (length after == 0) = last_test (number + 1) (length after) (length all) counted in
+pub parts_more : (skin : LineRules) (widths : List ℕ) (all before : List FmtLine) (columns behind : List Spacing) (first : Bool) (rest after lines own new : List FmtLine) (line : FmtLine) (cs : List Spacing) (position : RelativePosition) (left : ℕ)
+    → PartsSoFar skin widths all before columns first rest lines → rest ≡ line ∷ after → behind ≡ columns_from widths columns line → cs ≡ behind → left ≡ length after → position ≡ position_at first (left == 0)
+    → IsTableLineBy IsCompositeWrap skin cs position line own → new ≡ lines ++ own → PartsSoFar skin widths all before behind false after new
+parts_more skin widths all before columns behind first rest after lines own new line cs position left held next behind_is cs_are left_is position_is part_at pushed =
+    let place : position ≡ position_at first (length after == 0) = position_is ∙ ap (λ (n : ℕ). position_at first (n == 0)) left_is in
     let here : List Spacing = columns_from widths columns line in
-    let part_here : IsTableLineBy IsCompositeWrap skin here (position_at (number == 0) (length after == 0)) line own =
-    subst (λ (cs : List Spacing). IsTableLineBy IsCompositeWrap skin cs (position_at (number == 0) (length after == 0)) line own) behind_is
-    (subst (λ (b : Bool). IsTableLineBy IsCompositeWrap skin behind (position_at (number == 0) b) line own) last part) in
+    let part : IsTableLineBy IsCompositeWrap skin here (position_at first (length after == 0)) line own =
+    subst (λ (p : RelativePosition). IsTableLineBy IsCompositeWrap skin here p line own) place (subst (λ (xs : List Spacing). IsTableLineBy IsCompositeWrap skin xs position line own) (cs_are ∙ behind_is) part_at) in
+    let measured : AllMeasured skin (line ∷ after) = subst (AllMeasured skin) next held.measured in
     record {
       measured = measured.1;
-      count = counted;
       done = held.done ++ own;
       lines_are = pushed ∙ ap (λ ls. ls ++ own) held.lines_are ∙ append_assoc before held.done own;
       so_far = λ more h.
-          let rest_laid : AreTableLinesBy IsCompositeWrap skin widths here false after more =
-          subst (λ (b : Bool). AreTableLinesBy IsCompositeWrap skin widths here b after more) (not_first number)
-          (subst (λ (cs : List Spacing). AreTableLinesBy IsCompositeWrap skin widths cs (number + 1 == 0) after more) behind_is h) in
-          let both : AreTableLinesBy IsCompositeWrap skin widths columns (number == 0) (line ∷ after) (own ++ more) = (own, more, refl, part_here, rest_laid) in
+          let rest_laid : AreTableLinesBy IsCompositeWrap skin widths here false after more = subst (λ (xs : List Spacing). AreTableLinesBy IsCompositeWrap skin widths xs false after more) behind_is h in
+          let both : AreTableLinesBy IsCompositeWrap skin widths columns first (line ∷ after) (own ++ more) = (own, more, refl, part, rest_laid) in
           subst (λ (ls : List FmtLine). AreTableLinesBy IsCompositeWrap skin widths (centered widths) true all ls) (sym (append_assoc held.done own more))
-          (held.so_far (own ++ more) (subst (λ (ls : List FmtLine). AreTableLinesBy IsCompositeWrap skin widths columns (number == 0) ls (own ++ more)) (sym next) both));
+          (held.so_far (own ++ more) (subst (λ (ls : List FmtLine). AreTableLinesBy IsCompositeWrap skin widths columns first ls (own ++ more)) (sym next) both));
     }
 
-pub parts_all : (skin : LineRules) (widths : List ℕ) (all before : List FmtLine) (columns : List Spacing) (number : ℕ) (rest lines : List FmtLine) → rest ≡ []
-    → PartsSoFar skin widths all before columns number rest lines
+pub parts_all : (skin : LineRules) (widths : List ℕ) (all before : List FmtLine) (columns : List Spacing) (first : Bool) (rest lines : List FmtLine) → rest ≡ []
+    → PartsSoFar skin widths all before columns first rest lines
     → (own : List FmtLine) × (lines ≡ before ++ own) × AreTableLinesBy IsCompositeWrap skin widths (centered widths) true all own
-parts_all skin widths all before columns number rest lines none held = (
+parts_all skin widths all before columns first rest lines none held = (
   held.done,
   held.lines_are,
   subst (λ (ls : List FmtLine). AreTableLinesBy IsCompositeWrap skin widths (centered widths) true all ls) (append-nil held.done)
-      (held.so_far [] (subst (λ (ls : List FmtLine). AreTableLinesBy IsCompositeWrap skin widths columns (number == 0) ls []) (sym none) refl)),
+      (held.so_far [] (subst (λ (ls : List FmtLine). AreTableLinesBy IsCompositeWrap skin widths columns first ls []) (sym none) refl)),
 )
 
 -- ---- all tables
@@ -327,8 +349,11 @@ pub record TablesSoFar (skin : LineRules) (width : ℕ) (all open_table rest lin
   pub parts : AllTableLines open_table
   pub so_far : (more : List FmtLine) → AreTablesLaidOut IsCompositeWrap skin width (open_table ++ rest) more → AreTablesLaidOut IsCompositeWrap skin width all (lines ++ more)
 
-pub tables_start : (skin : LineRules) (width : ℕ) (all : List FmtLine) → AllMeasured skin all → TablesSoFar skin width all [] all []
-tables_start skin width all measured = record { table_measured = tt; measured = measured; parts = tt; so_far = λ more h. h }
+pub tables_start : (skin : LineRules) (width : ℕ) (all open_table rest lines : List FmtLine) → AllMeasured skin all → open_table ≡ [] → rest ≡ all → lines ≡ [] → TablesSoFar skin width all open_table rest lines
+tables_start skin width all open_table rest lines measured no_table same none =
+    subst (λ (ts : List FmtLine). TablesSoFar skin width all ts rest lines) (sym no_table)
+    (subst (λ (xs : List FmtLine). TablesSoFar skin width all [] xs lines) (sym same)
+    (subst (λ (ls : List FmtLine). TablesSoFar skin width all [] all ls) (sym none) (record { table_measured = tt; measured = measured; parts = tt; so_far = λ more h. h })))
 
 -- a line of a table
 pub tables_line : (skin : LineRules) (width : ℕ) (all open_table new_table rest after lines : List FmtLine) (line : FmtLine) → TablesSoFar skin width all open_table rest lines

@@ -14,7 +14,7 @@ ghost use Rattle.mad_format.specs.declared.line.FmtLine.{FmtLine};
 ghost use Rattle.mad_format.specs.declared.line.FmtLine.TheVariants.{Normal};
 
 use crate::composite::FmtComposite;
-use crate::line::FmtLine;
+use crate::line::{FmtLine, put_line};
 use crate::line_skin::LineSkin;
 use crate::table_layout::push_whole_table;
 use crate::wrap::{push_line, push_read};
@@ -112,8 +112,7 @@ impl<'s> Laying<'s> {
             → IsLaidFor (S.rules skin.now) width all rest self.new.lines.items self.new.block.items self.new.table.items) }
     {
         self.close_block(alloc, width, skin)?;
-        self.table.push(line)?;
-        Ok(())
+        put_line(&mut self.table, line)
     }
 
     // A rule ends both.
@@ -129,8 +128,7 @@ impl<'s> Laying<'s> {
             → IsLaidFor (S.rules skin.now) width all rest self.new.lines.items self.new.block.items self.new.table.items) }
     {
         self.close(alloc, width, skin)?;
-        self.lines.push(FmtLine::HorizontalRule)?;
-        Ok(())
+        put_line(&mut self.lines, FmtLine::HorizontalRule)
     }
 
     /// Lays out the block of code or the table that is open, if there is one. Only out of memory is an error.
@@ -282,7 +280,7 @@ fn push_at<'s, S: LineSkin>(
 {
     match width {
         Some(width) => push_line(alloc, lines, line, width, skin),
-        None => Ok(lines.push(line)?),
+        None => put_line(lines, line),
     }
 }
 
@@ -300,6 +298,6 @@ fn push_read_at<'s, S: LineSkin>(
 {
     match width {
         Some(width) => push_read(alloc, lines, composite, width, skin),
-        None => Ok(lines.push(FmtLine::Normal(FmtComposite::from(composite, skin)))?),
+        None => put_line(lines, FmtLine::Normal(FmtComposite::from(composite, skin))),
     }
 }

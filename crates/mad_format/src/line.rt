@@ -1,6 +1,6 @@
 //! Lines of a layout.
 
-ghost use Rattle.std.specs.Prelude.{◌≡◌, IfOk};
+ghost use Rattle.std.specs.Prelude.{◌≡◌, ◌++◌, ◌∷◌, [], IfOk, OnOk};
 ghost use Rattle.mad_md.specs.Lines.{content_of};
 ghost use Rattle.mad_format.specs.Lines.{IsLineRead, cells_columns, rule_columns, bordered};
 ghost use Rattle.mad_wrap.specs.WrapLines.{capped};
@@ -59,6 +59,16 @@ impl<'s> FmtLine<'s> {
             FmtLine::HorizontalRule => 0,
         }
     }
+}
+
+/// Puts a line after the others. Only out of memory is an error.
+pub(crate) fn put_line<'s>(
+    lines: &mut Vec<FmtLine<'s>>,
+    line: FmtLine<'s>,
+) -> Result<(), AllocError>
+    ensures { OnOk result (lines.new.items ≡ lines.old.items ++ line.entry ∷ []) }
+{
+    Ok(lines.push(line)?)
 }
 
 // The cached lengths of cells, added up.

@@ -9,7 +9,7 @@ ghost use Rattle.mad_format.specs.WrappedLines.{AllMeasured, IsLineMeasured};
 ghost use Rattle.mad_format.specs.declared.line.FmtLine.{FmtLine};
 ghost use Rattle.mad_format.specs.declared.line.FmtLine.TheVariants.{TableRow};
 
-use crate::line::FmtLine;
+use crate::line::{FmtLine, put_line};
 use crate::line_skin::LineSkin;
 use crate::table::{FmtTableRow, FmtTableRule, RelativePosition};
 use crate::table_columns::{centered, columns_count, columns_from, kept_widths};
@@ -60,8 +60,7 @@ impl Table {
         let before = lines.len();
         push_table(alloc, lines, table, self.nbcols, width, skin)?;
         self.height = lines.len() - before;
-        push_rest(lines, rest)?;
-        Ok(())
+        push_rest(lines, rest)
     }
 }
 
@@ -78,7 +77,7 @@ fn move_lines<'s>(
         let Some(line) = rest.next() else {
             return Ok(());
         };
-        lines.push(line)?;
+        put_line(lines, line)?;
     }
     Ok(())
 }
@@ -91,7 +90,7 @@ fn push_rest<'s>(
     ensures { OnOk result (lines.new.items ≡ lines.old.items ++ into_iter_items rest.entry) }
 {
     for line in rest {
-        lines.push(line)?;
+        put_line(lines, line)?;
     }
     Ok(())
 }
@@ -169,14 +168,13 @@ fn push_table_lines<'s, S: LineSkin>(
     ensures { OnOk result ((own : List FmtLine) × (lines.new.items ≡ lines.old.items ++ own) × AreTableLinesBy IsCompositeWrap (S.rules skin.now) widths.now (centered widths.now) true table.entry.items own) }
 {
     let mut columns = centered(alloc, widths)?;
-    let count = table.len();
-    let mut number: usize = 0;
-    for line in table {
-        let first = number == 0;
-        number += 1;
+    let mut first = true;
+    let mut rest = table.into_iter();
+    while let Some(line) = rest.next() {
         columns = columns_from(alloc, widths, columns, &line)?;
-        let position = position_at(first, number == count);
+        let position = position_at(first, rest.len() == 0);
         push_table_line(alloc, lines, line, &columns, position, skin)?;
+        first = false;
     }
     Ok(())
 }
@@ -207,23 +205,12 @@ fn push_table_line<'s, S: LineSkin>(
     ensures { OnOk result ((own : List FmtLine) × (lines.new.items ≡ lines.old.items ++ own) × IsTableLineBy IsCompositeWrap (S.rules skin.now) columns.now position line.entry own) }
 {
     match line {
-        FmtLine::TableRow(row) => {
-            let rows = lay_row_in(alloc, row, columns, skin)?;
-            push_rows(lines, rows)
-        }
+        FmtLine::TableRow(row) => push_rows(lines, lay_row_in(alloc, row, columns, skin)?),
         FmtLine::TableRule(_) => {
             let rule = rule_across(alloc, columns, position)?;
-            lines.push(FmtLine::TableRule(rule))?;
-            Ok(())
+            put_line(lines, FmtLine::TableRule(rule))
         }
-        FmtLine::Normal(composite) => {
-            lines.push(FmtLine::Normal(composite))?;
-            Ok(())
-        }
-        FmtLine::HorizontalRule => {
-            lines.push(FmtLine::HorizontalRule)?;
-            Ok(())
-        }
+        other => put_line(lines, other),
     }
 }
 
@@ -231,7 +218,7 @@ fn push_rows<'s>(lines: &mut Vec<FmtLine<'s>>, rows: Vec<FmtTableRow<'s>>) -> Re
     ensures { OnOk result (lines.new.items ≡ lines.old.items ++ map TableRow rows.entry.items) }
 {
     for row in rows {
-        lines.push(FmtLine::TableRow(row))?;
+        put_line(lines, FmtLine::TableRow(row))?;
     }
     Ok(())
 }

@@ -118,9 +118,7 @@ fn lay_cell<'s, S: LineSkin>(
     if width < cell.visible_length {
         return wrap_composite(alloc, &cell, width, skin);
     }
-    let mut lines = Vec::with_capacity(alloc, 1)?;
-    lines.push(cell)?;
-    Ok(lines)
+    Ok(vec![in alloc; cell]?)
 }
 
 // The next row, of the next line of each cell, which is taken off it.

@@ -12,7 +12,7 @@ ghost use Rattle.mad_term.specs.declared.errors.Error.TheVariants.{InsufficientW
 
 use crate::composite::FmtComposite;
 use crate::indents::follow_up;
-use crate::line::FmtLine;
+use crate::line::{FmtLine, put_line};
 use crate::line_skin::LineSkin;
 use crate::room::{Room, check_width, room_of};
 use mad_fit::Spacing;
@@ -189,7 +189,7 @@ pub(crate) fn push_line<'s, S: LineSkin>(
 {
     match line {
         FmtLine::Normal(composite) => push_composite(alloc, lines, composite, width, skin),
-        other => Ok(lines.push(other)?),
+        other => put_line(lines, other),
     }
 }
 
@@ -207,8 +207,7 @@ fn push_composite<'s, S: LineSkin>(
     let margins = skin.style_of(composite.kind).margins_in(Some(width));
     let inner = width - margins.0 - margins.1;
     if composite.visible_length <= inner {
-        lines.push(line_with(margins, composite))?;
-        return Ok(());
+        return put_line(lines, line_with(margins, composite));
     }
     let room = room_of(skin, composite.kind, inner);
     let wrap = wrap_compounds(alloc, &composite.compounds, room)?;
@@ -248,14 +247,14 @@ pub(crate) fn push_read<'s, S: LineSkin>(
         let wrap = wrap_compounds(alloc, &compounds, room)?;
         return push_wrapped(lines, wrap, kind, room, None, margins);
     };
-    lines.push(FmtLine::Normal(FmtComposite {
+    let composite = FmtComposite {
         kind,
         compounds,
         visible_length: room.first + columns,
         spacing: None,
         margins: Some(margins),
-    }))?;
-    Ok(())
+    };
+    put_line(lines, FmtLine::Normal(composite))
 }
 
 // Puts wrapped lines after the lines that are there, as composites with these margins: the first of this kind, the others of
@@ -275,7 +274,7 @@ fn push_wrapped<'s>(
     let mut indent = room.first;
     for line in wrap {
         let composite = composite_of(line, kind, indent, spacing);
-        lines.push(line_with(margins, composite))?;
+        put_line(lines, line_with(margins, composite))?;
         kind = follow_up(kind);
         indent = room.other;
     }

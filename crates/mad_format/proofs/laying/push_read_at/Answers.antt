@@ -10,12 +10,13 @@ pub returns-in-Some : goal.returns-in-Some
 returns-in-Some g c =
     then_ok _ _ c.push_read.result (λ made. (made.0, made.1, made.2, made.3, subst (λ w. IsLineAt IsCompositeWrap (g.S.LineSkin.rules c.args.skin.now) w (Normal made.0) made.2) (sym c.in-Some.is) made.4)) c.push_read.ensures
 
-pub returns-in_ok-push-in-None : goal.returns-in_ok-push-in-None
-returns-in_ok-push-in-None g c =
-    let read = c.from.ensures in (
+pub returns-in-None : goal.returns-in-None
+returns-in-None g c =
+    let read = c.from.ensures in
+    then_ok _ _ c.put_line.result (λ pushed. (
       c.from.result,
       record { kind = read.kind; text = ap (map run_of) read.text; measured = read.measured; spacing = read.spacing; margins = read.margins },
       Normal c.from.result ∷ [],
-      c.in_ok-push-in-None.ensures.items,
+      pushed,
       subst (λ w. IsLineAt IsCompositeWrap (g.S.LineSkin.rules c.args.skin.now) w (Normal c.from.result) (Normal c.from.result ∷ [])) (sym c.in-None.is) refl,
-    )
+    )) c.put_line.ensures

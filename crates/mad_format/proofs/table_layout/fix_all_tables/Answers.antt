@@ -3,8 +3,18 @@ use Rattle.std.specs.Vec.Iter.{into_iter_items}
 use Rattle.std.proofs.lemmas.Grind.{common_steps}
 use Rattle.mad_format.specs.Tables.{is_table_line}
 use Rattle.mad_format.proofs.LayoutLemmas.{then_ok}
-use Rattle.mad_format.proofs.TableLemmas.{tables_other, tables_all}
+use Rattle.mad_format.proofs.TableLemmas.{tables_start, tables_line, tables_other, tables_all}
 use Rattle.mad_format.proofs.table_layout.fix_all_tables.Goals as goal
+
+pub loop-line-init : goal.loop-line-init
+loop-line-init g c =
+    tables_start (g.S.LineSkin.rules c.args.skin.now) c.args.width c.args.lines.now.items _ _ _ c.requires c.new-table.ensures.items (c.into_iter-line-iterator.ensures.into_iter_gives.0 ∙ ap (λ v. v.items) c.replace-read.ensures.value)
+    (ap (λ v. v.items) c.replace-read.ensures.after ∙ c.new.ensures.items)
+
+pub loop-line-preserved-then-is_table_line : goal.loop-line-preserved-then-is_table_line
+loop-line-preserved-then-is_table_line g c =
+    tables_line (g.S.LineSkin.rules c.args.skin.now) c.args.width c.args.lines.now.items c.loop-line.table.items c.push.new.self.items (into_iter_items c.loop-line.line-iterator) (into_iter_items c.next.new.self)
+    c.loop-line.lines.items c.in-Some.line c.loop-line.invariant c.in-Some.ensures.steps.0 (sym c.is_table_line.ensures ∙ c.if-is_table_line.true) c.in_ok-push.ensures.items
 
 pub loop-line-preserved : goal.loop-line-preserved
 loop-line-preserved g c =

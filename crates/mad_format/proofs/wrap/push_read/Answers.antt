@@ -21,6 +21,6 @@ returns-in_default g c =
 pub returns : goal.returns
 returns g c =
     let fits = c.in-Some.ensures in
-    read_fits (g.S.LineSkin.rules c.args.skin.now) c.args.width c.in-Some.columns c.args.composite.style c.from-kind.result c.args.composite.compounds c.margins_in-margins.result c.room_of-room.result c.args.lines.now.items c.push.new.self.items
+    then_ok _ _ c.put_line.result (λ pushed. read_fits (g.S.LineSkin.rules c.args.skin.now) c.args.width c.in-Some.columns c.args.composite.style c.from-kind.result c.args.composite.compounds c.margins_in-margins.result c.room_of-room.result c.args.lines.now.items c.put_line.new.lines.items
     c.from-kind.ensures (c.margins_in-margins.ensures ∙ ap (λ s. margins_at s (Some c.args.width)) c.style_of.ensures) c.room_of-room.ensures (fits.0 ∙ ap (λ ps. width_of (flagged_text ps)) c.deref.ensures.value) fits.1 c.ranges.width.fits
-    c.in_ok-push.ensures.items
+    pushed) c.put_line.ensures

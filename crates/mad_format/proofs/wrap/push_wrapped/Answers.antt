@@ -31,7 +31,7 @@ loop-line-preserved c =
     record {
       so_far = (
         cs ++ composite ∷ [],
-        c.in_ok-push.ensures.items ∙ ap (λ l. c.loop-line.lines.items ++ l ∷ []) c.line_with.ensures ∙ ap (λ ls. ls ++ line ∷ []) held.so_far.1
+        c.in_ok-put_line.ensures ∙ ap (λ l. c.loop-line.lines.items ++ l ∷ []) c.line_with.ensures ∙ ap (λ ls. ls ++ line ∷ []) held.so_far.1
             ∙ append_assoc before (map (line_with c.args.margins) cs) (line ∷ []) ∙ ap (λ ls. before ++ ls) (sym (map-append (line_with c.args.margins) cs (composite ∷ []))),
         rw c.follow_up-kind.ensures (composed_more _ _ _ _ _ _ _ _ _ _ _ c.in-Some.line _ held.so_far.2 held.next next c.composite_of-composite.ensures refl),
       );

@@ -1,12 +1,31 @@
-use Rattle.std.proofs.Common.{rules, ◌≡◌, ◌++◌, ℕ, List, Option, map, [], arith, subst}
+use Rattle.std.proofs.Common.{rules, ◌≡◌, ◌++◌, ℕ, List, Option, map, [], refl, ap, sym, ◌∙◌, arith, subst}
+use Rattle.std.specs.List.{AllByRecursion}
 use Rattle.std.specs.Vec.Iter.{into_iter_items}
 use Rattle.std.proofs.lemmas.Grind.{common_steps}
 use Rattle.mad_format.specs.Parts.{block_width, justified, code_room, IsLineAt, AreLinesAt}
 use Rattle.mad_format.specs.CompositeWraps.{IsCompositeWrap}
+use Rattle.mad_format.specs.Wraps.{IsMeasured}
 use Rattle.mad_format.specs.declared.line.FmtLine.{FmtLine}
 use Rattle.mad_format.specs.declared.line.FmtLine.TheVariants.{Normal}
-use Rattle.mad_format.proofs.LayoutLemmas.{closed_more, closed_laid}
+use Rattle.mad_format.proofs.LayoutLemmas.{ClosedSoFar, closed_start, closed_more, closed_laid}
 use Rattle.mad_format.proofs.laying.Laying.close_block.Goals as goal
+
+pub loop-composite-init : goal.loop-composite-init
+loop-composite-init g c =
+    let skin = g.S.LineSkin.rules c.args.skin.now in
+    let lines = c.args.self.now.lines.items in
+    let rest : into_iter_items c.into_iter-composite-iterator.result ≡ c.args.self.now.block.items = c.into_iter-composite-iterator.ensures.into_iter_gives.0 ∙ ap (λ v. v.items) c.replace-block.ensures.value in
+    record {
+      closed = ap (λ v. v.items) c.replace-block.ensures.after ∙ c.new.ensures.items;
+      table = refl;
+      laid = subst (λ ls. ClosedSoFar skin c.wrap_width-wrap.result c.block_width-columns.result c.args.self.now.block.items ls lines lines) (sym rest)
+          (closed_start skin c.wrap_width-wrap.result c.block_width-columns.result c.args.self.now.block.items lines c.requires);
+    }
+
+pub push_at-requires : goal.push_at-requires
+push_at-requires g c =
+    let measured = subst (AllByRecursion (IsMeasured (g.S.LineSkin.rules c.args.skin.now))) c.in-Some.ensures.steps.0 c.loop-composite.invariant.laid.measured in
+    rw c.placed_code-placed.ensures measured.0
 
 pub loop-composite-preserved : goal.loop-composite-preserved
 loop-composite-preserved g c =

@@ -3,6 +3,18 @@ use Rattle.mad_format.proofs.LayoutLemmas.{line_measured, then_ok}
 use Rattle.mad_format.proofs.ReadWraps.{table_read}
 use Rattle.mad_format.proofs.laying.Laying.push.Goals as goal
 
+pub returns-in-Normal : goal.returns-in-Normal
+returns-in-Normal g c = record {
+  run = c.push_composite.ensures.run;
+  laid = then_ok _ _ c.push_composite.result (λ f all rest held. f all rest (rw c.in-Normal.is at held)) c.push_composite.ensures.laid;
+}
+
+pub returns-in-HorizontalRule : goal.returns-in-HorizontalRule
+returns-in-HorizontalRule g c = record {
+  run = c.push_rule.ensures.run;
+  laid = then_ok _ _ c.push_rule.result (λ f all rest held. f all rest (rw c.in-HorizontalRule.is at held)) c.push_rule.ensures.laid;
+}
+
 pub push_table_line-requires : goal.push_table_line-requires
 push_table_line-requires g c =
     let made = c.in_ok-line-in_default in

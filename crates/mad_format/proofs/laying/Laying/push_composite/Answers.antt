@@ -1,11 +1,18 @@
-use Rattle.std.proofs.Common.{◌≡◌, ◌++◌, ◌∷◌, [], false, ap, sym, ◌∙◌, refl}
+use Rattle.std.proofs.Common.{◌≡◌, ◌++◌, ◌∷◌, [], true, false, ap, sym, ◌∙◌, refl}
 use Rattle.mad_md.specs.Flagged.{run_of}
 use Rattle.std.proofs.Common.{map}
 use Rattle.mad_md.specs.Lines.{normal, styled_runs}
 use Rattle.mad_format.specs.Parts.{is_code_kind}
 use Rattle.mad_format.specs.declared.line.FmtLine.TheVariants.{Normal}
-use Rattle.mad_format.proofs.LayoutLemmas.{laid_alone, laid_code, then_ok}
+use Rattle.mad_format.proofs.LayoutLemmas.{laid_alone, laid_code, open_code, open_none, then_ok}
 use Rattle.mad_format.proofs.laying.Laying.push_composite.Goals as goal
+
+pub returns-then-is_code-clause-run : goal.returns-then-is_code-clause-run
+returns-then-is_code-clause-run g c =
+    let made = c.from-then-is_code.ensures in
+    let code : is_code_kind c.from-then-is_code.result.kind ≡ true = ap is_code_kind (made.kind ∙ sym c.from.ensures) ∙ sym c.is_code.ensures ∙ c.if-is_code.true in
+    open_code (g.S.LineSkin.rules c.args.skin.now) c.args.self.now.block.items c.push.new.self.items c.args.self.now.table.items c.close_table.new.self.table.items c.from-then-is_code.result c.requires.run made.measured code
+    (c.in_ok-push.ensures.items ∙ ap (λ ls. ls ++ c.from-then-is_code.result ∷ []) c.in_ok-close_table.ensures.block) c.in_ok-close_table.ensures.closed
 
 pub returns-then-is_code-clause-laid : goal.returns-then-is_code-clause-laid
 returns-then-is_code-clause-laid g c all rest held =
@@ -15,6 +22,9 @@ returns-then-is_code-clause-laid g c all rest held =
     c.args.self.now.block.items c.push.new.self.items c.from-then-is_code.result held c.requires.run
     (record { kind = made.kind; text = ap (map run_of) made.text; measured = made.measured; spacing = made.spacing; margins = made.margins }) own.2 own.1
     c.in_ok-close_table.ensures.closed (c.in_ok-push.ensures.items ∙ ap (λ ls. ls ++ c.from-then-is_code.result ∷ []) c.in_ok-close_table.ensures.block)
+
+pub returns-clause-run : goal.returns-clause-run
+returns-clause-run g c = then_ok _ _ c.push_read_at.result (λ _. open_none (g.S.LineSkin.rules c.args.skin.now) _ _ c.in_ok-close.ensures.block c.in_ok-close.ensures.table) c.push_read_at.ensures
 
 pub returns-clause-laid : goal.returns-clause-laid
 returns-clause-laid g c =
