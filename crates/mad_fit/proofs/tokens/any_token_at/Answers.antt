@@ -1,6 +1,5 @@
-use Rattle.std.proofs.Common.{false, ℕ, ◌≡◌, ◌++◌, ◌≤◌, ◌+◌, ◌-◌, ◌⊎◌, inl, inr, length, drop, sym, ◌∙◌, ap, arith, rules, subst}
+use Rattle.std.proofs.Common.{false, ◌≡◌, ◌++◌, ◌≤◌, ◌+◌, ◌-◌, ◌⊎◌, inl, inr, length, drop, sym, ◌∙◌, ap, arith, rules, subst}
 use Rattle.std.specs.Char.{encode_utf8, len_utf8}
-use Rattle.std.specs.Str.{IsUtf8, IsCharBoundary}
 use Rattle.std.specs.Str.Iter.{chars_rest}
 use Rattle.std.proofs.lemmas.Str.{IsCharBoundary-from_rest, IsCharBoundary-from_drop, drop_past_char, IsUtf8-drop, length-encode}
 use Rattle.std.proofs.lemmas.List.{length-drop, length-append, drop-drop, get_or-drop}
@@ -8,35 +7,34 @@ use Rattle.std.proofs.StrCases.{chars_of_empty}
 use Rattle.mad_columns.specs.Columns.{char_columns}
 use Rattle.mad_md.specs.Flagged.{flags_of}
 use Rattle.std.specs.Char.{is_ascii_graphic}
-use Rattle.mad_fit.specs.Ascii.{AreGraphic}
-use Rattle.mad_md.specs.declared.compound.Compound.{Compound}
 use Rattle.mad_fit.proofs.AsciiLemmas.{graphic_front}
 use Rattle.mad_fit.proofs.TokenLemmas.{IsFront, front_more, token_is, stops_at}
 use Rattle.mad_fit.proofs.tokens.any_token_at.Goals as goal
+use Rattle.mad_fit.proofs.tokens.any_token_at.Goals.{After-graphic_at-graphic}
 use Rattle.mad_fit.proofs.tokens.any_token_at.Goals.{else-end-start-via-then-end-start+else-not-takes_in, else-end-start-via-else-end-start}
 
 -- the graphic are a front of a token
-graphic_are : (max start n : ℕ) (p : Compound) → IsUtf8 p.src.now → IsCharBoundary p.src.now start → AreGraphic p.src.now start n → start + n ≤ length p.src.now → n ≤ max
-    → IsFront max (flags_of p) (drop start p.src.now) n false n
-graphic_are max start n p utf8 border graphic end within =
-    let bs = p.src.now in
-    graphic_front max (flags_of p) (drop start bs) n (IsUtf8-drop bs start utf8 border) (omega (arith, end, length-drop start bs)) within
-    (λ k l. ap is_ascii_graphic (get_or-drop start bs k 0) ∙ graphic k l)
+graphic_are : (c : After-graphic_at-graphic) → IsFront c.args.max (flags_of c.args.compound) (drop c.args.start c.args.compound.src.now) c.graphic_at-graphic.result false c.graphic_at-graphic.result
+graphic_are c =
+    let bs = c.args.compound.src.now in
+    graphic_front c.args.max (flags_of c.args.compound) (drop c.args.start bs) c.graphic_at-graphic.result (IsUtf8-drop bs c.args.start (search rules) c.requires.border)
+    (omega (arith, c.graphic_at-graphic.ensures.inside, length-drop c.args.start bs)) c.graphic_at-graphic.ensures.within
+    (λ k l. ap is_ascii_graphic (get_or-drop c.args.start bs k 0) ∙ c.graphic_at-graphic.ensures.graphic k l)
 
 pub range_from-requires : goal.range_from-requires
 range_from-requires c =
-    let front = graphic_are c.args.max c.args.start c.args.graphic c.args.compound (search rules) c.requires.border c.requires.graphic c.requires.end c.requires.within in
+    let front = graphic_are ((goal.at.range_from-requires c).After-graphic_at-graphic) in
     let bs = c.args.compound.src.now in
-    let n = c.args.graphic in
+    let n = c.graphic_at-graphic.result in
     λ _. IsCharBoundary-from_rest bs c.args.start n (omega (arith, c.requires.inside)) (IsCharBoundary-from_drop (drop c.args.start bs) n front.within front.rest)
 
 pub loop-c-init : goal.loop-c-init
 loop-c-init c =
     let bs = c.args.compound.src.now in
-    let n = c.args.graphic in
+    let n = c.graphic_at-graphic.result in
     let all : drop (c.args.start + n) bs ≡ chars_rest c.into_iter-c-iterator.result = rw (c.into_iter-c-iterator.ensures.into_iter_gives, c.chars-c-items.ensures.rest) (sym c.range_from.ensures.value) in
     let same : c.args.start + n - c.args.start ≡ n = omega arith in
-    let front = graphic_are c.args.max c.args.start c.args.graphic c.args.compound (search rules) c.requires.border c.requires.graphic c.requires.end c.requires.within in
+    let front = graphic_are ((goal.at.loop-c-init c).After-graphic_at-graphic) in
     record {
       forward = omega arith;
       front = rw same front;
@@ -47,7 +45,7 @@ pub takes_in-requires : goal.takes_in-requires
 takes_in-requires c =
     let held = c.loop-c.invariant in
     let parts : drop (c.loop-c.end - c.args.start) (drop c.args.start c.args.compound.src.now) ≡ encode_utf8 c.in-Some.c ++ chars_rest c.next.new.self = held.place ∙ c.in-Some.ensures.steps.0 in
-    omega (arith, c.char_columns-c_width.ensures.bytes, held.front.bound, held.front.within, c.requires.fits, length-drop c.args.start c.args.compound.src.now, length-drop (c.loop-c.end - c.args.start) (drop c.args.start c.args.compound.src.now), length-encode c.in-Some.c, (simp length-append at (ap length parts)))
+    omega (arith, c.char_columns-c_width.ensures.bytes, held.front.bound, held.front.within, c.graphic_at-graphic.ensures.fits, length-drop c.args.start c.args.compound.src.now, length-drop (c.loop-c.end - c.args.start) (drop c.args.start c.args.compound.src.now), length-encode c.in-Some.c, (simp length-append at (ap length parts)))
 
 pub returns-then-not-takes_in : goal.returns-then-not-takes_in
 returns-then-not-takes_in c =
