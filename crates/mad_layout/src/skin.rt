@@ -20,6 +20,9 @@ pub(crate) const ELLIPSIS: &str = "…";
 // What a horizontal rule is made of.
 const RULE: char = '―';
 
+/// How the numbers of items look, by the level of their list.
+pub type OrderedItemStyles = [OrderedItemStyle; MAX_ORDERED_LIST_DEPTH];
+
 /// The styles of a text's parts.
 #[derive(Clone, PartialEq, Debug, Drop)]
 pub struct MadSkin {
@@ -44,7 +47,7 @@ pub struct MadSkin {
     /// The mark of an item of a list.
     pub bullet: StyledChar,
     /// How the numbers of items look, by level.
-    pub ordered_item_styles: [OrderedItemStyle; MAX_ORDERED_LIST_DEPTH],
+    pub ordered_item_styles: OrderedItemStyles,
     /// The mark of a quote.
     pub quote_mark: StyledChar,
     /// What a rule is drawn with, over the whole width.
