@@ -1,6 +1,6 @@
 -- Rows: what is written of a line, piece by piece.
 use Rattle.std.specs.Prelude.{ℕ, ◌+◌, ◌-◌, max, Bool, true, false, List, [], ◌∷◌, ◌++◌, map, Option, Some, None, unwrap_or, if◌then◌else◌, decimal}
-use Rattle.std.specs.List.{flat_map}
+use Rattle.std.specs.List.{flat_map, sum_by}
 use Rattle.mad_md.specs.declared.alignment.Alignment.{Alignment}
 use Rattle.mad_md.specs.declared.alignment.Alignment.TheVariants.{Unspecified}
 use Rattle.mad_md.specs.Flagged.{Run, run_of}
@@ -175,10 +175,14 @@ abbrev pub row_pieces : MadSkin → ℕ → Option FmtLine → List RowPiece
 row_pieces skin width (Some line) = line_pieces skin (Some width) true line
 row_pieces skin width None = spaces skin.paragraph.compound_style width
 
--- the columns of a row and of the blanks beside its line, at most; of one without a line its width
+-- the columns of a line's own place; none where it has no place
+abbrev pub place_columns : FmtComposite → ℕ
+place_columns l = unwrap_or (place_of l.spacing) 0
+
+-- the columns that a row sets apart, however short its texts are: its width, or those of places and margins that are wider
 abbrev pub most_columns : MadSkin → ℕ → Option FmtLine → ℕ
-most_columns skin width (Some (Normal composite)) = width + (margins_of skin (Some width) composite).0 + (margins_of skin (Some width) composite).1
-most_columns skin width (Some (TableRow row)) = max width (row_columns row.cells.items)
+most_columns skin width (Some (Normal composite)) = max width (place_columns composite + (margins_of skin (Some width) composite).0 + (margins_of skin (Some width) composite).1)
+most_columns skin width (Some (TableRow row)) = max width (sum_by place_columns row.cells.items)
 most_columns skin width (Some (TableRule rule)) = max width (rule_columns rule.widths.items)
 most_columns skin width (Some HorizontalRule) = width
 most_columns skin width None = width

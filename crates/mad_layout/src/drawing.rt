@@ -82,7 +82,7 @@ impl Rows for TextRows<'_, '_> {
         let line = line_at(self.lines, y);
         // Nothing is done: this only says that the colors of the row are known.
         know_row(self.skin, line, self.width);
-        // Margins and columns that no memory has room for are refused before anything is written of the row.
+        // Margins and places that no memory has room for are refused before anything is written of the row.
         bytes.reserve(most_columns(self.skin, line, self.width))?;
         let shown = PlacedRow {
             skin: self.skin,

@@ -6,8 +6,8 @@ ghost use Rattle.mad_term.specs.Styles.{IsStyle};
 ghost use Rattle.mad_style.specs.StyledChars.{char_style};
 ghost use Rattle.mad_format.specs.declared.line.FmtLine.TheVariants.{Normal, TableRow, TableRule};
 ghost use Rattle.mad_draw.specs.Pieces.{AreKnown};
-ghost use Rattle.std.specs.List.{flat_map};
-ghost use Rattle.mad_layout.specs.Rows.{prefix_pieces, cell_pieces, line_pieces, row_pieces, inner_blanks, inner_columns, outer_blanks, margins_of, most_columns, row_columns, rule_chars};
+ghost use Rattle.std.specs.List.{flat_map, sum_by};
+ghost use Rattle.mad_layout.specs.Rows.{prefix_pieces, cell_pieces, line_pieces, row_pieces, inner_blanks, inner_columns, outer_blanks, margins_of, most_columns, place_columns, row_columns, rule_chars};
 ghost use Rattle.mad_layout.specs.Styles.{AreKnownAdditions};
 ghost use Rattle.mad_wrap.specs.WrapLines.{capped};
 
@@ -117,19 +117,43 @@ pub(crate) fn rule_chars(borders: &TableBorderChars, position: RelativePosition)
     }
 }
 
-/// The columns of a row and of the blanks beside its line, at most; of one without a line its width.
+/// The columns that a row sets apart, however short its texts are: its width, or those of places and margins that are wider.
 pub(crate) fn most_columns(skin: &MadSkin, line: Option<&FmtLine>, width: usize) -> usize
     ensures { result ≡ capped (most_columns skin.now width (option_copied line.entry)) }
 {
     match line {
         Some(FmtLine::Normal(composite)) => {
             let (left, right) = margins_of(skin, composite, Some(width));
-            width.saturating_add(left).saturating_add(right)
+            let placed = place_columns(composite)
+                .saturating_add(left)
+                .saturating_add(right);
+            width.max(placed)
         }
-        Some(FmtLine::TableRow(row)) => width.max(row_columns(&row.cells)),
+        Some(FmtLine::TableRow(row)) => width.max(places_columns(&row.cells)),
         Some(FmtLine::TableRule(rule)) => width.max(rule_columns(&rule.widths)),
         Some(FmtLine::HorizontalRule) | None => width,
     }
+}
+
+// The columns of a composite's own place; none where it has no place.
+fn place_columns(composite: &FmtComposite) -> usize
+    ensures { result ≡ place_columns composite.now }
+{
+    match &composite.spacing {
+        Some(spacing) => spacing.width,
+        None => 0,
+    }
+}
+
+// The columns of all places.
+fn places_columns(cells: &[FmtComposite]) -> usize
+    ensures { result ≡ capped (sum_by place_columns cells.now) }
+{
+    let mut columns: usize = 0;
+    for cell in cells {
+        columns = columns.saturating_add(place_columns(cell));
+    }
+    columns
 }
 
 /// What reading a row back needs to know: the numbers of its colors are bytes. Nothing is done.

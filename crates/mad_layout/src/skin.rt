@@ -24,7 +24,7 @@ const RULE: char = '―';
 pub type OrderedItemStyles = [OrderedItemStyle; MAX_ORDERED_LIST_DEPTH];
 
 /// The styles of a text's parts.
-#[derive(Clone, PartialEq, Debug, Drop)]
+#[derive(Clone, Copy, PartialEq, Debug)]
 pub struct MadSkin {
     /// The style of paragraphs, items and quotes, and of the blanks beside all lines.
     pub paragraph: LineStyle,

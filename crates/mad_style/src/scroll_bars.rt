@@ -11,7 +11,7 @@ use mad_term::Color;
 const RIGHT_HALF: char = '▐';
 
 /// How a scroll bar looks: the thumb, which is where the shown part is, and the track elsewhere.
-#[derive(Clone, Debug, Drop, PartialEq)]
+#[derive(Clone, Copy, Debug, PartialEq)]
 pub struct ScrollBarStyle {
     pub track: StyledChar,
     pub thumb: StyledChar,
