@@ -23,7 +23,7 @@ pub record IsLayoutBy (wraps : Wrap) (skin : LineRules) (tables : ℕ) (width : 
   pub laid : ArePartsAt wraps skin tables width (parts_of read) lines
 
 -- The lines are a layout of the text at a width, if there is one; each line's wrap is one with the fewest lines. At a width under three, or
--- without one, only cells of tables are wrapped.
+-- without one, nothing is wrapped.
 abbrev pub IsLayoutAt : LineRules → Option ℕ → List LineContent → List FmtLine → Type 0
 IsLayoutAt skin width text lines = IsLayoutBy IsCompositeWrap skin (table_width width) (wrap_width width) text lines
 

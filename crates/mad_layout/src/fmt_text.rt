@@ -31,7 +31,7 @@ pub struct FmtText<'k, 's> {
 impl<'k, 's> FmtText<'k, 's> {
     /// A text without a look at its marks, laid out at a width, in columns.
     ///
-    /// At a width under three, or without one, only cells of tables are wrapped. Only out of memory is an error.
+    /// At a width under three, or without one, nothing is wrapped. Only out of memory is an error.
     pub fn raw_str(
         alloc: Global,
         skin: &'k MadSkin,
@@ -52,7 +52,7 @@ impl<'k, 's> FmtText<'k, 's> {
 
     /// A Markdown text, laid out at a width, in columns.
     ///
-    /// At a width under three, or without one, only cells of tables are wrapped. Only out of memory is an error.
+    /// At a width under three, or without one, nothing is wrapped. Only out of memory is an error.
     pub fn from(
         alloc: Global,
         skin: &'k MadSkin,
@@ -72,7 +72,7 @@ impl<'k, 's> FmtText<'k, 's> {
 
     /// A text that was read, laid out at a width, in columns.
     ///
-    /// At a width under three, or without one, only cells of tables are wrapped. Only out of memory is an error.
+    /// At a width under three, or without one, nothing is wrapped. Only out of memory is an error.
     pub fn from_text(
         alloc: Global,
         skin: &'k MadSkin,

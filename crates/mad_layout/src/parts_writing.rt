@@ -20,7 +20,7 @@ use std::alloc::Global;
 const ROWS_TO_SEND: usize = 16384;
 
 impl MadSkin {
-    /// Writes a Markdown text, laid out at a width, if there is one, part by part: each line and a newline. Nothing is flushed.
+    /// Writes a Markdown text, laid out at a width, in columns, if there is one, part by part: each line and a newline. Nothing is flushed.
     ///
     /// A part is a table, a block of code, or any other line. The bytes are those of [`MadSkin::write_text_on`]. It takes memory for the
     /// lines of the largest part, and for some rows.

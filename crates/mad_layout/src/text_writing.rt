@@ -15,7 +15,7 @@ use mad_term::{Error, Out, put_text};
 use std::alloc::Global;
 
 impl MadSkin {
-    /// Writes a composite at a width, if there is one, with its margins; the columns right of it are filled up where that is
+    /// Writes a composite at a width, in columns, if there is one, with its margins; the columns right of it are filled up where that is
     /// asked for. Nothing is flushed.
     ///
     /// # Errors
@@ -38,7 +38,7 @@ impl MadSkin {
         put_text(out, &row)
     }
 
-    /// Writes a line at a width, if there is one, with its margins; the columns right of it are filled up where that is asked
+    /// Writes a line at a width, in columns, if there is one, with its margins; the columns right of it are filled up where that is asked
     /// for. Nothing is flushed.
     ///
     /// # Errors
@@ -66,7 +66,7 @@ impl MadSkin {
         put_text(out, &row)
     }
 
-    /// Writes a Markdown text, laid out at a width, if there is one: each line and a newline. Nothing is flushed.
+    /// Writes a Markdown text, laid out at a width, in columns, if there is one: each line and a newline. Nothing is flushed.
     ///
     /// # Errors
     ///

@@ -24,7 +24,7 @@ impl MadSkin {
     /// Writes a Markdown text in an area: its first rows, each filling the area's width, and below the last
     /// one spaces in the paragraph's style. Nothing is flushed.
     ///
-    /// The area's right and bottom have to fit a `u16`. What it shows is promised from four columns on: in fewer, only cells of tables are
+    /// The area's right and bottom have to fit a `u16`. What it shows is promised from four columns on. In fewer nothing is
     /// wrapped, and a line can go past the area.
     ///
     /// # Errors
@@ -49,7 +49,7 @@ impl MadSkin {
         draw_text(alloc, out, &text, area, 0)
     }
 
-    /// Writes a text in an area, as [`MadSkin::write_in_area_on`] does, and flushes.
+    /// Writes a text in an area, as [`MadSkin::write_in_area_on`] does, and flushes. The area's right and bottom have to fit a `u16`.
     ///
     /// # Errors
     ///
