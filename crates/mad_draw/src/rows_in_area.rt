@@ -9,7 +9,7 @@ ghost use Rattle.mad_draw.specs.DrawnRows.{rows_bytes, FillArea, AreRowsShown};
 ghost use Rattle.mad_draw.specs.Pieces.{RowPiece, AreKnown, pieces_bytes};
 
 use mad_fit::Area;
-use mad_term::{Error, Out, push_move, put_all};
+use mad_term::{Error, Out, push_move, put_text};
 use std::alloc::{AllocError, Global};
 
 /// Rows of pieces that an area is to show.
@@ -72,6 +72,5 @@ fn draw_row<O: Out, R: Rows>(
     bytes.clear();
     push_move(bytes, area.left, area.top + y)?;
     rows.push_row(bytes, y)?;
-    put_all(out, bytes.as_bytes())?;
-    Ok(())
+    put_text(out, bytes)
 }

@@ -295,7 +295,7 @@ apart_last left front none = ap (apart front) none ∙ apart_end front
 -- ---- rows handed on, line by line
 
 -- the rows down to a line, and its own
-rows_with : (skin : MadSkin) (width : Option ℕ) (kept : List ℕ) (lines : List FmtLine) (i : ℕ) (x : FmtLine) → i < length lines → x ≡ get_or lines i x
+pub rows_with : (skin : MadSkin) (width : Option ℕ) (kept : List ℕ) (lines : List FmtLine) (i : ℕ) (x : FmtLine) → i < length lines → x ≡ get_or lines i x
     → kept ++ text_bytes skin width (take (i + 1) lines) ≡ (kept ++ text_bytes skin width (take i lines)) ++ line_bytes skin width x
 rows_with skin width kept lines i x inside here =
     ap (λ (t : List ℕ). kept ++ t) (sym (bytes_taken_of (line_bytes skin width) lines i x inside here)) ∙ sym (append_assoc kept (text_bytes skin width (take i lines)) (line_bytes skin width x))

@@ -1,5 +1,5 @@
 -- Rows: what is written of a line, piece by piece.
-use Rattle.std.specs.Prelude.{ℕ, ◌+◌, ◌-◌, max, Bool, true, false, List, [], ◌∷◌, ◌++◌, map, Option, Some, None, unwrap_or, if◌then◌else◌, decimal}
+use Rattle.std.specs.Prelude.{ℕ, ◌+◌, ◌-◌, Bool, true, false, List, [], ◌∷◌, ◌++◌, map, Option, Some, None, unwrap_or, if◌then◌else◌, decimal}
 use Rattle.std.specs.List.{flat_map, sum_by}
 use Rattle.mad_md.specs.declared.alignment.Alignment.{Alignment}
 use Rattle.mad_md.specs.declared.alignment.Alignment.TheVariants.{Unspecified}
@@ -175,14 +175,37 @@ abbrev pub row_pieces : MadSkin → ℕ → Option FmtLine → List RowPiece
 row_pieces skin width (Some line) = line_pieces skin (Some width) true line
 row_pieces skin width None = spaces skin.paragraph.compound_style width
 
--- the columns of a line's own place; none where it has no place
-abbrev pub place_columns : FmtComposite → ℕ
-place_columns l = unwrap_or (place_of l.spacing) 0
+-- ---- the columns that no text fills
 
--- the columns that a row sets apart, however short its texts are: its width, or those of places and margins that are wider
-abbrev pub most_columns : MadSkin → ℕ → Option FmtLine → ℕ
-most_columns skin width (Some (Normal composite)) = max width (place_columns composite + (margins_of skin (Some width) composite).0 + (margins_of skin (Some width) composite).1)
-most_columns skin width (Some (TableRow row)) = max width (sum_by place_columns row.cells.items)
-most_columns skin width (Some (TableRule rule)) = max width (rule_columns rule.widths.items)
-most_columns skin width (Some HorizontalRule) = width
-most_columns skin width None = width
+-- those of a composite in its own place
+abbrev pub cell_blanks : FmtComposite → ℕ
+cell_blanks l = (inner_blanks l).0 + (inner_blanks l).1
+
+-- those of a composite, outside of its place too; those right of that only where they are asked for
+abbrev pub composite_blanks : MadSkin → Option ℕ → ℕ × ℕ → Bool → FmtComposite → ℕ
+composite_blanks skin outer margins right l =
+    let blanks = outer_blanks (line_style skin l.kind).align outer margins l in
+    cell_blanks l + (blanks.0 + (if right then blanks.1 else 0))
+
+-- those left and right of a line of a table that takes `columns`; those right of it only where they are asked for
+abbrev pub table_blanks : MadSkin → Option ℕ → Bool → ℕ → ℕ × ℕ
+table_blanks skin outer right columns = (
+  left_of_place skin.table.align columns outer,
+  if right then right_of_place skin.table.align columns outer else 0,
+)
+
+-- those of a line: its blanks, and the columns of a rule
+abbrev pub line_blanks : MadSkin → Option ℕ → Bool → FmtLine → ℕ
+line_blanks skin outer right (Normal l) = composite_blanks skin outer (margins_of skin outer l) right l
+line_blanks skin outer right (TableRow row) =
+    let beside = table_blanks skin outer right (row_columns row.cells.items) in
+    sum_by cell_blanks row.cells.items + (beside.0 + beside.1)
+line_blanks skin outer right (TableRule rule) =
+    let beside = table_blanks skin outer right (rule_columns rule.widths.items) in
+    rule_columns rule.widths.items + (beside.0 + beside.1)
+line_blanks skin outer right HorizontalRule = unwrap_or outer 0
+
+-- those of a row of `width` columns; past the last line that are all
+abbrev pub row_blanks : MadSkin → ℕ → Option FmtLine → ℕ
+row_blanks skin width (Some line) = line_blanks skin (Some width) true line
+row_blanks skin width None = width

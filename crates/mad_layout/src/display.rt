@@ -1,17 +1,18 @@
 //! Texts and inline texts as displayed values: the same bytes as the writing calls, piece by piece, without memory.
 
-ghost use Rattle.std.specs.Prelude.{◌≡◌, ℕ, Some, if◌then◌else◌};
+ghost use Rattle.std.specs.Prelude.{◌≡◌, ℕ, Some};
 ghost use Rattle.mad_draw.specs.Pieces.{pieces_bytes};
-ghost use Rattle.mad_layout.specs.Rows.{prefix_pieces, left_of_place, right_of_place};
+ghost use Rattle.mad_layout.specs.Rows.{prefix_pieces, table_blanks};
 ghost use Rattle.mad_wrap.specs.WrapLines.{capped};
 ghost use Rattle.mad_style.specs.StyledChars.{styled_char};
 
 use crate::fmt_inline::FmtInline;
 use crate::fmt_text::FmtText;
-use crate::rows::{RowPlace, inner_blanks, margins_of, outer_blanks, row_columns, rule_chars};
+use crate::rows::{
+    RowPlace, inner_blanks, margins_of, outer_blanks, row_columns, rule_chars, table_blanks,
+};
 use crate::skin::{MadSkin, is_bare};
 use mad_draw::{CharRepeat, RuleAcross, SingleSpaces, Spaces};
-use mad_fit::Spacing;
 use mad_format::{FmtComposite, FmtLine, FmtTableRow, FmtTableRule, indent_of, rule_columns};
 use mad_md::{Composite, Compound};
 use mad_style::{CompositeKind, LineStyle, StyledChar};
@@ -269,24 +270,21 @@ fn vertical(skin: &MadSkin) -> StyledChar
 
 // The blanks left and right of a line of a table by its columns, at an outer width; those on its right only where they are
 // asked for.
-fn table_blanks(
+fn spaces_beside(
     skin: &MadSkin,
     columns: usize,
     outer: Option<usize>,
     right: bool,
 ) -> (Spaces, Spaces)
-    ensures left { (n : ℕ) → columns ≡ capped n → result.0 ≡ record { style = skin.now.paragraph.compound_style; count = left_of_place skin.now.table.align n outer } }
-    ensures right { (n : ℕ) → columns ≡ capped n → result.1 ≡ record { style = skin.now.paragraph.compound_style; count = if right then right_of_place skin.now.table.align n outer else 0 } }
+    ensures left { (n : ℕ) → columns ≡ capped n → result.0 ≡ record { style = skin.now.paragraph.compound_style; count = (table_blanks skin.now outer right n).0 } }
+    ensures right { (n : ℕ) → columns ≡ capped n → result.1 ≡ record { style = skin.now.paragraph.compound_style; count = (table_blanks skin.now outer right n).1 } }
 {
     let style = skin.paragraph.compound_style;
-    let (before, after) = Spacing::optional_completions(skin.table.align, columns, outer);
-    let left = Spaces {
-        style,
-        count: before,
-    };
+    let (left, right) = table_blanks(skin, columns, outer, right);
+    let left = Spaces { style, count: left };
     let right = Spaces {
         style,
-        count: if right { after } else { 0 },
+        count: right,
     };
     (left, right)
 }
@@ -307,7 +305,7 @@ impl fmt::Display for PlacedTableRow<'_, '_> {
 
     fn fmt<W: fmt::Write>(&self, f: &mut fmt::Formatter<W>) -> fmt::Result {
         let columns = row_columns(&self.row.cells);
-        let (left, right) = table_blanks(self.skin, columns, self.outer, self.right);
+        let (left, right) = spaces_beside(self.skin, columns, self.outer, self.right);
         let cells = Cells {
             skin: self.skin,
             cells: &self.row.cells,
@@ -333,7 +331,7 @@ impl fmt::Display for PlacedTableRule<'_> {
 
     fn fmt<W: fmt::Write>(&self, f: &mut fmt::Formatter<W>) -> fmt::Result {
         let columns = rule_columns(&self.rule.widths);
-        let (left, right) = table_blanks(self.skin, columns, self.outer, self.right);
+        let (left, right) = spaces_beside(self.skin, columns, self.outer, self.right);
         let rule = RuleAcross {
             style: self.skin.table.compound_style,
             chars: rule_chars(&self.skin.table_border_chars, self.rule.position),

@@ -11,7 +11,7 @@ ghost use Rattle.mad_layout.specs.Shown.{area_bytes, lines_shown, AreShownIn};
 
 use crate::display::PlacedRow;
 use crate::fmt_text::FmtText;
-use crate::rows::{know_row, most_columns};
+use crate::rows::{know_row, row_blanks};
 use crate::skin::MadSkin;
 use mad_draw::{Rows, draw_rows};
 use mad_fit::Area;
@@ -82,8 +82,8 @@ impl Rows for TextRows<'_, '_> {
         let line = line_at(self.lines, y);
         // Nothing is done: this only says that the colors of the row are known.
         know_row(self.skin, line, self.width);
-        // Margins and places that no memory has room for are refused before anything is written of the row.
-        bytes.reserve(most_columns(self.skin, line, self.width))?;
+        // Blanks that no memory has room for are refused before anything is written of the row.
+        bytes.reserve(row_blanks(self.skin, line, self.width))?;
         let shown = PlacedRow {
             skin: self.skin,
             line,

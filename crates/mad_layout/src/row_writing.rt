@@ -3,10 +3,10 @@
 ghost use Rattle.std.specs.Prelude.{◌≡◌, ◌++◌, ◌∷◌, [], false, map, OnOk, string_bytes};
 ghost use Rattle.mad_draw.specs.Pieces.{pieces_bytes};
 ghost use Rattle.mad_layout.specs.Rows.{compound_piece, composite_pieces, margins_of};
-ghost use Rattle.mad_layout.specs.Texts.{line_bytes};
+ghost use Rattle.mad_layout.specs.Texts.{line_bytes, text_bytes};
 
 use crate::display::{CompositeFront, PlacedCompound, PlacedLine};
-use crate::rows::{RowPlace, inner_blanks, margins_of, outer_blanks};
+use crate::rows::{RowPlace, inner_blanks, line_blanks, margins_of, outer_blanks};
 use crate::skin::{MadSkin, is_bare};
 use mad_draw::Spaces;
 use mad_format::{FmtComposite, FmtLine};
@@ -14,7 +14,22 @@ use mad_md::Compound;
 use mad_style::LineStyle;
 use std::alloc::AllocError;
 
-/// Puts a line and a newline after the rows that are there.
+/// Puts lines after the rows that are there, each with a newline.
+pub(crate) fn append_lines(
+    rows: &mut String,
+    lines: &[FmtLine],
+    width: Option<usize>,
+    skin: &MadSkin,
+) -> Result<(), AllocError>
+    ensures { OnOk result (string_bytes rows.new ≡ string_bytes rows.old ++ text_bytes skin.now width lines.now) }
+{
+    for line in lines {
+        append_line(rows, line, width, skin)?;
+    }
+    Ok(())
+}
+
+/// Puts a line and a newline after the rows that are there. Blanks that no memory has room for are refused before anything is put.
 pub(crate) fn append_line(
     rows: &mut String,
     line: &FmtLine,
@@ -23,6 +38,7 @@ pub(crate) fn append_line(
 ) -> Result<(), AllocError>
     ensures { OnOk result (string_bytes rows.new ≡ string_bytes rows.old ++ line_bytes skin.now width line.now) }
 {
+    rows.reserve(line_blanks(skin, line, width, false))?;
     match line {
         FmtLine::Normal(composite) => append_composite(rows, composite, width, skin)?,
         line => {

@@ -1,13 +1,13 @@
 //! Rows: where a line stands in its row.
 
-ghost use Rattle.std.specs.Prelude.{◌≡◌, Some, true};
+ghost use Rattle.std.specs.Prelude.{◌≡◌, ◌<◌, ◌+◌, ◌^◌, ℕ, Some, true};
 ghost use Rattle.std.specs.Option.{option_copied};
 ghost use Rattle.mad_term.specs.Styles.{IsStyle};
 ghost use Rattle.mad_style.specs.StyledChars.{char_style};
 ghost use Rattle.mad_format.specs.declared.line.FmtLine.TheVariants.{Normal, TableRow, TableRule};
 ghost use Rattle.mad_draw.specs.Pieces.{AreKnown};
 ghost use Rattle.std.specs.List.{flat_map, sum_by};
-ghost use Rattle.mad_layout.specs.Rows.{prefix_pieces, cell_pieces, line_pieces, row_pieces, inner_blanks, inner_columns, outer_blanks, margins_of, most_columns, place_columns, row_columns, rule_chars};
+ghost use Rattle.mad_layout.specs.Rows.{prefix_pieces, cell_pieces, line_pieces, row_pieces, inner_blanks, inner_columns, outer_blanks, margins_of, row_blanks, line_blanks, composite_blanks, table_blanks, cell_blanks, row_columns, rule_chars};
 ghost use Rattle.mad_layout.specs.Styles.{AreKnownAdditions};
 ghost use Rattle.mad_wrap.specs.WrapLines.{capped};
 
@@ -117,41 +117,90 @@ pub(crate) fn rule_chars(borders: &TableBorderChars, position: RelativePosition)
     }
 }
 
-/// The columns that a row sets apart, however short its texts are: its width, or those of places and margins that are wider.
-pub(crate) fn most_columns(skin: &MadSkin, line: Option<&FmtLine>, width: usize) -> usize
-    ensures { result ≡ capped (most_columns skin.now width (option_copied line.entry)) }
+/// The columns of a row that no text fills, at the outer width: past the last line all, else those of the line's blanks and rules.
+pub(crate) fn row_blanks(skin: &MadSkin, line: Option<&FmtLine>, width: usize) -> usize
+    ensures { result ≡ capped (row_blanks skin.now width (option_copied line.entry)) }
 {
     match line {
-        Some(FmtLine::Normal(composite)) => {
-            let (left, right) = margins_of(skin, composite, Some(width));
-            let placed = place_columns(composite)
-                .saturating_add(left)
-                .saturating_add(right);
-            width.max(placed)
-        }
-        Some(FmtLine::TableRow(row)) => width.max(places_columns(&row.cells)),
-        Some(FmtLine::TableRule(rule)) => width.max(rule_columns(&rule.widths)),
-        Some(FmtLine::HorizontalRule) | None => width,
+        Some(line) => line_blanks(skin, line, Some(width), true),
+        None => width,
     }
 }
 
-// The columns of a composite's own place; none where it has no place.
-fn place_columns(composite: &FmtComposite) -> usize
-    ensures { result ≡ place_columns composite.now }
+/// The columns of a line that no text fills, at an outer width: those of its blanks and rules. The blanks on its right count where they
+/// are filled up.
+pub(crate) fn line_blanks(
+    skin: &MadSkin,
+    line: &FmtLine,
+    outer: Option<usize>,
+    right: bool,
+) -> usize
+    ensures { result ≡ capped (line_blanks skin.now outer right line.now) }
 {
-    match &composite.spacing {
-        Some(spacing) => spacing.width,
-        None => 0,
+    match line {
+        FmtLine::Normal(composite) => {
+            let place = RowPlace {
+                outer,
+                margins: margins_of(skin, composite, outer),
+                right,
+            };
+            composite_blanks(skin, composite, place)
+        }
+        FmtLine::TableRow(row) => {
+            let (left, right) = table_blanks(skin, row_columns(&row.cells), outer, right);
+            cells_blanks(&row.cells).saturating_add(left + right)
+        }
+        FmtLine::TableRule(rule) => {
+            let columns = rule_columns(&rule.widths);
+            let (left, right) = table_blanks(skin, columns, outer, right);
+            columns.saturating_add(left + right)
+        }
+        FmtLine::HorizontalRule => outer.unwrap_or(0),
     }
 }
 
-// The columns of all places.
-fn places_columns(cells: &[FmtComposite]) -> usize
-    ensures { result ≡ capped (sum_by place_columns cells.now) }
+/// The blank columns of a composite in a row: outside of its own place, and in it.
+pub(crate) fn composite_blanks(skin: &MadSkin, composite: &FmtComposite, place: RowPlace) -> usize
+    ensures { result ≡ capped (composite_blanks skin.now place.outer place.margins place.right composite.now) }
+{
+    let align = skin.line_style(composite.kind).align;
+    let (left, right) = outer_blanks(composite, align, place);
+    let right = if place.right { right } else { 0 };
+    cell_blanks(composite)
+        .saturating_add(left)
+        .saturating_add(right)
+}
+
+/// The blank columns left and right of a line of a table by its columns, at an outer width; those on its right only where they are asked
+/// for.
+pub(crate) fn table_blanks(
+    skin: &MadSkin,
+    columns: usize,
+    outer: Option<usize>,
+    right: bool,
+) -> (usize, usize)
+    ensures beside { (n : ℕ) → columns ≡ capped n → result ≡ table_blanks skin.now outer right n }
+    ensures fits { result.0 + result.1 < 2 ^ 64 }
+{
+    let (before, after) = Spacing::optional_completions(skin.table.align, columns, outer);
+    (before, if right { after } else { 0 })
+}
+
+// The blank columns of a composite in its own place.
+fn cell_blanks(cell: &FmtComposite) -> usize
+    ensures { result ≡ capped (cell_blanks cell.now) }
+{
+    let (left, right) = inner_blanks(cell);
+    left.saturating_add(right)
+}
+
+// The same of all cells of a row.
+fn cells_blanks(cells: &[FmtComposite]) -> usize
+    ensures { result ≡ capped (sum_by cell_blanks cells.now) }
 {
     let mut columns: usize = 0;
     for cell in cells {
-        columns = columns.saturating_add(place_columns(cell));
+        columns = columns.saturating_add(cell_blanks(cell));
     }
     columns
 }

@@ -9,6 +9,8 @@ ghost use Rattle.mad_layout.specs.Texts.{text_bytes, WritesMarkdown};
 
 use crate::display::{PlacedComposite, PlacedLine};
 use crate::fmt_text::FmtText;
+use crate::row_writing::append_lines;
+use crate::rows::{composite_blanks, line_blanks};
 use crate::skin::MadSkin;
 use mad_format::{FmtComposite, FmtLine};
 use mad_term::{Error, Out, put_text};
@@ -34,6 +36,7 @@ impl MadSkin {
     {
         let mut row = String::new(alloc);
         let placed = PlacedComposite::at(self, composite, width, with_right_completion);
+        row.reserve(composite_blanks(self, composite, placed.place))?;
         write!(row, "{placed}")?;
         put_text(out, &row)
     }
@@ -56,6 +59,7 @@ impl MadSkin {
         ensures early { IsErrOf result Memory → O.seen out.new ≡ O.seen out.old }
     {
         let mut row = String::new(alloc);
+        row.reserve(line_blanks(self, line, width, with_right_completion))?;
         let placed = PlacedLine {
             skin: self,
             line,
@@ -148,7 +152,7 @@ fn write_lines<O: Out>(alloc: Global, out: &mut O, text: &FmtText) -> Result<(),
     ensures writes { Draws (O.seen out.old) (text_bytes text.now.skin.now text.now.width text.now.lines.items) result (O.seen out.new) }
     ensures early { IsErrOf result Memory → O.seen out.new ≡ O.seen out.old }
 {
-    let mut bytes = String::new(alloc);
-    write!(bytes, "{text}")?;
-    put_text(out, &bytes)
+    let mut rows = String::new(alloc);
+    append_lines(&mut rows, text.lines.as_slice(), text.width, text.skin)?;
+    put_text(out, &rows)
 }

@@ -9,7 +9,7 @@ ghost use Rattle.mad_parse.specs.declared.errors.ParseAlignError.TheVariants.{Un
 
 use crate::errors::ParseAlignError;
 use mad_md::Alignment;
-use mad_term::{Error, Out, put_all};
+use mad_term::{Error, Out, put_text};
 
 /// The alignment of this name, without regard to ASCII case: `left`, `center` or `right`.
 ///
@@ -45,8 +45,7 @@ pub fn write_align<O: Out>(out: &mut O, align: Alignment) -> Result<(), Error>
     ensures writes { Draws (O.seen out.old) (align_text align) result (O.seen out.new) }
     ensures without_memory { IsErrOf result Memory → ⊥ }
 {
-    put_all(out, align_name(align).as_bytes())?;
-    Ok(())
+    put_text(out, align_name(align))
 }
 
 /// The name of an alignment; nothing where it isn't specified.

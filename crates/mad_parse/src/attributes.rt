@@ -8,7 +8,7 @@ ghost use Rattle.mad_parse.specs.Names.{named, of_length, attribute_names, attri
 ghost use Rattle.mad_parse.specs.declared.errors.ParseAttributeError.TheVariants.{Unrecognized};
 
 use crate::errors::ParseAttributeError;
-use mad_term::{Attribute, Error, Out, put_all};
+use mad_term::{Attribute, Error, Out, put_text};
 
 /// The attribute of this name, without regard to ASCII case. The hyphen of `crossed-out`, `under-lined`,
 /// `over-lined`, `slow-blink` and `rapid-blink` may also be an underscore, or be left out.
@@ -125,8 +125,7 @@ pub fn write_attribute<O: Out>(out: &mut O, attribute: Attribute) -> Result<(), 
     ensures writes { Draws (O.seen out.old) (attribute_text attribute) result (O.seen out.new) }
     ensures without_memory { IsErrOf result Memory → ⊥ }
 {
-    put_all(out, attribute_name(attribute).as_bytes())?;
-    Ok(())
+    put_text(out, attribute_name(attribute))
 }
 
 /// The name of an attribute; nothing for `Reset`.

@@ -11,7 +11,7 @@ ghost use Rattle.mad_parse.specs.Numbers.{number_below};
 
 use crate::errors::ParseColorError;
 use mad_style::gray;
-use mad_term::{Color, Error, Out, put_all};
+use mad_term::{Color, Error, Out, put_text};
 use std::alloc::Global;
 use std::fmt;
 
@@ -280,8 +280,7 @@ pub fn write_color<O: Out>(alloc: Global, out: &mut O, color: Color) -> Result<(
     ensures early { IsErrOf result Memory → O.seen out.new ≡ O.seen out.old }
 {
     let text = ColorText(color).to_string(alloc)?;
-    put_all(out, text.as_bytes())?;
-    Ok(())
+    put_text(out, &text)
 }
 
 /// A color as its text.

@@ -6,7 +6,7 @@ ghost use Rattle.mad_term.specs.declared.errors.Error.TheVariants.{Memory};
 ghost use Rattle.mad_parse.specs.Written.{tokens_text};
 
 use crate::tokens::StyleToken;
-use mad_term::{Error, Out, put_all};
+use mad_term::{Error, Out, put_text};
 use std::alloc::{AllocError, Global};
 
 /// Writes the tokens that have a text, with a space between two.
@@ -23,8 +23,7 @@ pub fn write_style_tokens<O: Out>(
     ensures early { IsErrOf result Memory → O.seen out.new ≡ O.seen out.old }
 {
     let text = style_tokens_to_string(alloc, tokens)?;
-    put_all(out, text.as_bytes())?;
-    Ok(())
+    put_text(out, &text)
 }
 
 /// The text of the tokens that have one, with a space between two.

@@ -11,7 +11,7 @@ ghost use Rattle.mad_term.specs.Styles.{foreground_bytes, background_bytes, pres
 use crate::compound_styles::CompoundStyle;
 use crate::styled_chars::StyledChar;
 use mad_term::{
-    ClearType, Error, Out, StyledContent, StyledRepeat, push_background, push_clear, put_all,
+    ClearType, Error, Out, StyledContent, StyledRepeat, push_background, push_clear, put_text,
     queue_styled,
 };
 use std::alloc::{AllocError, Global};
@@ -116,8 +116,7 @@ impl CompoundStyle {
             push_background(&mut bytes, color)?;
         }
         push_clear(&mut bytes, clear_type)?;
-        put_all(out, bytes.as_bytes())?;
-        Ok(())
+        put_text(out, &bytes)
     }
 
     /// Writes a text `count` times in this style, as one piece; nothing at all if `count` is 0.
@@ -139,8 +138,7 @@ impl CompoundStyle {
     {
         let mut bytes = String::new(alloc);
         self.push_repeated(&mut bytes, text, count)?;
-        put_all(out, bytes.as_bytes())?;
-        Ok(())
+        put_text(out, &bytes)
     }
 
     /// Writes a character `count` times in this style, as one piece; nothing at all if `count` is 0.
