@@ -87,8 +87,8 @@ SKINS = {
     "a skin of unknown keys": (lambda size: "{" + ",".join(f'"k{n:07}":1' for n in range(size // 13)) + "}", 0),
     "a skin that nests 126 deep": (filled('{"k":[', "[" * 125 + "]" * 125 + ",", "1]}"), 0),
     "a skin of brackets without end": (brackets, 4),
-    "a text of brackets": (filled('{"k":"', '[{\\"', '"}'), 0),
-    "escapes": (filled('{"k":"', "\\ud83d\\ude00", '"}'), 0),
+    "a skin whose one text is brackets": (filled('{"k":"', '[{\\"', '"}'), 0),
+    "a skin of escapes": (filled('{"k":"', "\\ud83d\\ude00", '"}'), 0),
 }
 
 
