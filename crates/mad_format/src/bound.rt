@@ -63,8 +63,8 @@ pub fn wrap_bound<S: LineSkin>(
 /// Whether these starts show that each fitting break of the composite, in `width` columns, has at least as many lines. Other
 /// starts may be right too, and are not shown to be by this check.
 ///
-/// They do if they begin with 0, rise, are numbers of tokens (0 always is), all but the first and the last of tokens that
-/// aren't blank, and the tokens from each start up to and with the next are wider than the line of that number. The call
+/// They do if they begin with 0, rise and are numbers of tokens (0 always is). All but the first and the last have to be of tokens that
+/// aren't blank. The tokens from each start up to and with the next have to be wider than the line of that number. The call
 /// takes no memory, and the time is linear in the text.
 ///
 /// # Errors

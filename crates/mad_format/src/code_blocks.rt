@@ -12,7 +12,7 @@ use std::alloc::{AllocError, Global};
 /// A block of code among lines: as many lines of code in a row as there are.
 #[derive(Clone, Copy, Debug, PartialEq, Eq)]
 pub struct CodeBlock {
-    /// The index of its first line.
+    /// The index of its first line, from 0.
     pub start: usize,
     /// The number of its lines.
     pub height: usize,

@@ -21,9 +21,9 @@ pub struct FmtComposite<'s> {
     pub compounds: Vec<Compound<'s>>,
     /// The columns of its indent and its text, `usize::MAX` where there are more.
     pub visible_length: usize,
-    /// The place that it is to fill, and how it stands in it.
+    /// The place that it is to fill, and how it stands in it. Without one it takes the columns of its text.
     pub spacing: Option<Spacing>,
-    /// The blank columns (left, right) that its layout left beside it.
+    /// The blank columns (left, right) that its layout left beside it. Without these it has its style's margins where it is written.
     pub margins: Option<(usize, usize)>,
 }
 

@@ -19,7 +19,7 @@ use mad_format::FmtLine;
 use mad_term::{Error, Out};
 use std::alloc::{AllocError, Global};
 
-/// Draws the rows of a text in an area, that of the line `scroll` first. Each row fills the area's width; past the last
+/// Draws the rows of a text in an area, that of the line `scroll`, counted from 0, first. Each row fills the area's width; past the last
 /// line there are spaces in the paragraph's style. Nothing is flushed.
 ///
 /// The area's right and bottom have to fit a `u16`. The lines are drawn as they are: one that is wider than the area, as

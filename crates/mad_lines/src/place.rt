@@ -12,7 +12,7 @@ pub struct Pos {
 }
 
 impl Pos {
-    /// The place before character `x` of line `y`.
+    /// The place before character `x` of line `y`, both counted from 0.
     pub fn new(x: usize, y: usize) -> Pos
         ensures { result ≡ record { y = y; x = x } }
     {

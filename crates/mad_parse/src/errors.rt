@@ -12,7 +12,7 @@ use std::fmt;
 pub enum ParseColorError {
     /// No color is written so.
     Unrecognized,
-    /// A gray has a level from 0 to 23.
+    /// A gray whose level, of at most 255, is above 23, the greatest. One with a greater number is not recognized.
     InvalidGreyLevel { level: u8 },
 }
 

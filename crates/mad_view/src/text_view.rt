@@ -42,7 +42,7 @@ impl<'a, 't> TextView<'a, 't> {
         self.text.lines.len()
     }
 
-    /// Scrolls so that the line of this number comes first. It goes no further than to the text's last line in the area's last
+    /// Scrolls so that the line of this number, counted from 0, comes first. It goes no further than to the text's last line in the area's last
     /// row, so a text that fits isn't scrolled. Answers the scroll that is set.
     pub fn set_scroll(&mut self, scroll: usize) -> usize
         ensures kept { self.new ≡ record self.old { scroll = scroll_within (vec_len self.old.text.now.lines) self.old.area.now.height scroll } }

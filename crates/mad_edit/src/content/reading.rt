@@ -9,7 +9,7 @@ use crate::content::InputFieldContent;
 use mad_lines::{Chars, Line, Pos, Range, char_width, end_place, line_at, line_count, place_past};
 
 impl InputFieldContent {
-    /// A line, if there is one with this number.
+    /// A line, if there is one with this number, counted from 0.
     pub fn line(&self, y: usize) -> Option<&Line>
         ensures { let ls = lines self.now.text in
             MatchOption result (length ls ≤ y) (λ line. (y < length ls) × (line.now.chars.items ≡ line_at ls y)) }
@@ -21,7 +21,7 @@ impl InputFieldContent {
         }
     }
 
-    /// A line, or the last one where there is none with this number.
+    /// A line, or the last one where there is none with this number, counted from 0.
     pub fn line_saturating(&self, y: usize) -> &Line
         ensures { let ls = lines self.now.text in result.now.chars.items ≡ line_at ls (min y (length ls - 1)) }
     {

@@ -58,7 +58,7 @@ impl InputFieldContent {
         self.selection_tail = clamp_tail(&self.lines, self.selection_tail);
     }
 
-    /// Two lines change places. The cursor and the tail keep their line and place numbers as far as the text goes.
+    /// Two lines, by their numbers from 0, change places. The cursor and the tail keep their line and place numbers as far as the text goes.
     /// Returns whether these are two lines of the text.
     pub fn swap_lines(&mut self, ya: usize, yb: usize) -> bool
         ensures done { IsTrue result ↔ ((ya ≢ yb) × (ya < length (lines self.old.text)) × (yb < length (lines self.old.text))) }
