@@ -181,7 +181,7 @@ row_pieces skin width None = spaces skin.paragraph.compound_style width
 abbrev pub cell_blanks : FmtComposite → ℕ
 cell_blanks l = (inner_blanks l).0 + (inner_blanks l).1
 
--- those of a composite, outside of its place too; those right of that only where they are asked for
+-- those of a composite, in its own place and beside it; those right of the place only where they are asked for
 abbrev pub composite_blanks : MadSkin → Option ℕ → ℕ × ℕ → Bool → FmtComposite → ℕ
 composite_blanks skin outer margins right l =
     let blanks = outer_blanks (line_style skin l.kind).align outer margins l in
@@ -205,7 +205,7 @@ line_blanks skin outer right (TableRule rule) =
     rule_columns rule.widths.items + (beside.0 + beside.1)
 line_blanks skin outer right HorizontalRule = unwrap_or outer 0
 
--- those of a row of `width` columns; past the last line that are all
+-- those of a row of `width` columns; past the last line, all of them
 abbrev pub row_blanks : MadSkin → ℕ → Option FmtLine → ℕ
 row_blanks skin width (Some line) = line_blanks skin (Some width) true line
 row_blanks skin width None = width

@@ -38,10 +38,10 @@ pub(crate) fn append_line(
 ) -> Result<(), AllocError>
     ensures { OnOk result (string_bytes rows.new ≡ string_bytes rows.old ++ line_bytes skin.now width line.now) }
 {
-    rows.reserve(line_blanks(skin, line, width, false))?;
     match line {
         FmtLine::Normal(composite) => append_composite(rows, composite, width, skin)?,
         line => {
+            rows.reserve(line_blanks(skin, line, width, false))?;
             let placed = PlacedLine {
                 skin,
                 line,
@@ -71,6 +71,7 @@ fn append_composite(
     };
     let (outer, _) = outer_blanks(composite, style.align, place);
     let (inner, after) = inner_blanks(composite);
+    rows.reserve(outer.saturating_add(inner).saturating_add(after))?;
     let front = CompositeFront {
         skin,
         style,

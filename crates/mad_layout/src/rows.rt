@@ -117,7 +117,7 @@ pub(crate) fn rule_chars(borders: &TableBorderChars, position: RelativePosition)
     }
 }
 
-/// The columns of a row that no text fills, at the outer width: past the last line all, else those of the line's blanks and rules.
+/// The columns of a row that no text fills: those of the line's blanks and rules; past the last line, the whole width.
 pub(crate) fn row_blanks(skin: &MadSkin, line: Option<&FmtLine>, width: usize) -> usize
     ensures { result ≡ capped (row_blanks skin.now width (option_copied line.entry)) }
 {
@@ -127,8 +127,8 @@ pub(crate) fn row_blanks(skin: &MadSkin, line: Option<&FmtLine>, width: usize) -
     }
 }
 
-/// The columns of a line that no text fills, at an outer width: those of its blanks and rules. The blanks on its right count where they
-/// are filled up.
+/// The columns of a line that no text fills, at an outer width: those of its blanks and rules. The blanks right of it count only where
+/// they are asked for.
 pub(crate) fn line_blanks(
     skin: &MadSkin,
     line: &FmtLine,
@@ -159,7 +159,7 @@ pub(crate) fn line_blanks(
     }
 }
 
-/// The blank columns of a composite in a row: outside of its own place, and in it.
+/// The blank columns of a composite in a row, in its own place and beside it.
 pub(crate) fn composite_blanks(skin: &MadSkin, composite: &FmtComposite, place: RowPlace) -> usize
     ensures { result ≡ capped (composite_blanks skin.now place.outer place.margins place.right composite.now) }
 {
