@@ -1,7 +1,9 @@
 pub mod CodeBlockLemmas
 pub mod ExampleLayouts
+pub mod LayoutJoins
 pub mod LayoutLemmas
 pub mod MeasureLemmas
+pub mod PartCursorLemmas
 pub mod PartLemmas
 pub mod PartRuns
 pub mod PassLemmas

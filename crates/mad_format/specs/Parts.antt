@@ -4,6 +4,7 @@ use Rattle.mad_md.specs.declared.alignment.Alignment.TheVariants.{Left}
 use Rattle.mad_style.specs.LineStyles.{margins_at}
 use Rattle.mad_style.specs.declared.kinds.CompositeKind.{CompositeKind}
 use Rattle.mad_style.specs.declared.kinds.CompositeKind.TheVariants.{Paragraph, Header, ListItem, ListItemFollowUp, OrderedListItem, OrderedListItemFollowUp, Code, Quote}
+use Rattle.mad_format.specs.CompositeWraps.{IsCompositeWrap}
 use Rattle.mad_format.specs.Tables.{IsTableLaidOutBy, columns_count}
 use Rattle.mad_format.specs.WrappedLines.{Wrap, IsLineLaidOutBy}
 use Rattle.mad_format.specs.LineRules.{LineRules}
@@ -135,6 +136,10 @@ IsLineAt wraps skin (Some width) l lines = IsLineLaidOutBy wraps skin width l li
 abbrev pub AreLinesAt : Wrap → LineRules → Option ℕ → List FmtLine → List FmtLine → Type 0
 AreLinesAt wraps skin width [] lines = lines ≡ []
 AreLinesAt wraps skin width (l ∷ ls) lines = (own : List FmtLine) × (others : List FmtLine) × (lines ≡ own ++ others) × IsLineAt wraps skin width l own × AreLinesAt wraps skin width ls others
+
+-- what becomes of a block of code at a width, if there is one: its lines get the block's place first
+abbrev pub IsBlockAt : LineRules → Option ℕ → List FmtComposite → List FmtLine → Type 0
+IsBlockAt skin width ls lines = AreLinesAt IsCompositeWrap skin (wrap_width width) (map Normal (justified (code_room skin (wrap_width width)) ls)) lines
 
 -- what becomes of a part where tables have this width: a table is laid out; the lines of a block get its place first
 abbrev pub IsPartAt : Wrap → LineRules → ℕ → Option ℕ → Part → List FmtLine → Type 0

@@ -10,7 +10,7 @@
 //! 6. [`table`]: lines of a table. `table_columns`, [`table_rows`], [`table_layout`]: the widths of its columns, the rows that a row
 //!    becomes, and whole tables.
 //! 7. [`code_blocks`]: finding and placing blocks of code by themselves.
-//! 8. [`laying`]: lines laid out one after another, tables and blocks of code as wholes.
+//! 8. [`laying`], [`part_cursor`]: what becomes of a line and of a block of code; the parts of a text, one after another.
 //! 9. [`texts`]: the lines of whole texts.
 //! 10. [`laws`]: what is no layout, and that a layout part by part is what passes make.
 #![tactic(auto)]
@@ -23,6 +23,7 @@ pub mod laws;
 pub mod laying;
 pub mod line;
 pub mod line_skin;
+pub mod part_cursor;
 pub mod room;
 pub mod table;
 mod table_columns;
@@ -35,12 +36,13 @@ pub use bound::{WrapBound, check_wrap_bound, wrap_bound};
 pub use code_blocks::{CodeBlock, find_blocks, justify_blocks};
 pub use composite::FmtComposite;
 pub use indents::{composite_columns, composite_kind_widths, indent_of};
-pub use laying::{Laying, is_code, wrap_width};
+pub use laying::{is_code, wrap_width};
 pub use line::{FmtLine, rule_columns};
 pub use line_skin::LineSkin;
+pub use part_cursor::PartCursor;
 pub use room::room_of;
 pub use table::{FmtTableRow, FmtTableRule, RelativePosition};
 pub use table_layout::{Table, fix_all_tables};
 pub use table_rows::lay_row;
-pub use texts::{lay_source, lay_text};
+pub use texts::{lay_front, lay_source, lay_text};
 pub use wrap::{hard_wrap_composite, hard_wrap_lines};

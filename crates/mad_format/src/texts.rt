@@ -1,13 +1,16 @@
 //! The lines of whole texts, laid out.
 
-ghost use Rattle.std.specs.Prelude.{IfOk};
-ghost use Rattle.mad_md.specs.Lines.{contents};
+ghost use Rattle.std.specs.Prelude.{false, IfOk, List};
+ghost use Rattle.mad_md.specs.Lines.{LineContent, contents};
+ghost use Rattle.mad_md.specs.Reading.{IsRead, unread_text};
+ghost use Rattle.mad_format.specs.Fronts.{IsFrontLayout};
 ghost use Rattle.mad_format.specs.Layouts.{IsLayoutAt, IsMarkdownLayout};
+ghost use Rattle.mad_format.specs.PartCursors.{lines_left};
 
-use crate::laying::Laying;
 use crate::line::FmtLine;
 use crate::line_skin::LineSkin;
-use mad_md::{LineCursor, ParseOptions, Text};
+use crate::part_cursor::PartCursor;
+use mad_md::Text;
 use std::alloc::{AllocError, Global};
 
 /// The lines of a Markdown text, read and laid out one after another at a width in columns, if there is one.
@@ -21,13 +24,36 @@ pub fn lay_source<'s, S: LineSkin>(
 ) -> Result<Vec<FmtLine<'s>>, AllocError>
     ensures { IfOk result (λ lines. IsMarkdownLayout (S.rules skin.now) width src.entry.now lines.items) }
 {
-    let mut laying = Laying::new(alloc);
-    let mut cursor = LineCursor::new(src, ParseOptions::default());
-    while let Some(line) = cursor.next_line(alloc)? {
-        laying.push(alloc, line, width, skin)?;
-    }
-    laying.close(alloc, width, skin)?;
-    Ok(laying.lines)
+    lay_parts(alloc, skin, &mut PartCursor::new(src), width)
+}
+
+/// The first lines of a Markdown text, laid out so: enough to take at least this many rows, or all of them. None of its parts is cut.
+/// Only out of memory is an error.
+pub fn lay_front<'s, S: LineSkin>(
+    alloc: Global,
+    skin: &S,
+    src: &'s str,
+    width: Option<usize>,
+    rows: usize,
+) -> Result<Vec<FmtLine<'s>>, AllocError>
+    ensures { IfOk result (λ lines. (text : List LineContent) × IsRead (unread_text false src.entry.now) text × IsFrontLayout (S.rules skin.now) width rows text lines.items) }
+{
+    lay_first_parts(alloc, skin, &mut PartCursor::new(src), width, rows)
+}
+
+// The lines of the first parts that are left, laid out: at least this many rows, or all of them.
+fn lay_first_parts<'s, S: LineSkin>(
+    alloc: Global,
+    skin: &S,
+    parts: &mut PartCursor<'s>,
+    width: Option<usize>,
+    rows: usize,
+) -> Result<Vec<FmtLine<'s>>, AllocError>
+    ensures { IfOk result (λ lines. IsFrontLayout (S.rules skin.now) width rows (lines_left parts.old) lines.items) }
+{
+    let mut lines = Vec::new(alloc);
+    while lines.len() < rows && parts.lay_next(alloc, &mut lines, width, skin)? {}
+    Ok(lines)
 }
 
 /// The lines of a text that was read, laid out so. Only out of memory is an error.
@@ -39,10 +65,19 @@ pub fn lay_text<'s, S: LineSkin>(
 ) -> Result<Vec<FmtLine<'s>>, AllocError>
     ensures { IfOk result (λ lines. IsLayoutAt (S.rules skin.now) width (contents text.entry) lines.items) }
 {
-    let mut laying = Laying::new(alloc);
-    for line in text.lines {
-        laying.push(alloc, line, width, skin)?;
-    }
-    laying.close(alloc, width, skin)?;
-    Ok(laying.lines)
+    lay_parts(alloc, skin, &mut PartCursor::of_text(text), width)
+}
+
+// The lines of all parts that are left, laid out.
+fn lay_parts<'s, S: LineSkin>(
+    alloc: Global,
+    skin: &S,
+    parts: &mut PartCursor<'s>,
+    width: Option<usize>,
+) -> Result<Vec<FmtLine<'s>>, AllocError>
+    ensures { IfOk result (λ lines. IsLayoutAt (S.rules skin.now) width (lines_left parts.old) lines.items) }
+{
+    let mut lines = Vec::new(alloc);
+    while parts.lay_next(alloc, &mut lines, width, skin)? {}
+    Ok(lines)
 }

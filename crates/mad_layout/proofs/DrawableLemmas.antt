@@ -32,7 +32,7 @@ use Rattle.mad_layout.specs.Rows.{place_of}
 use Rattle.mad_layout.specs.Styles.{line_rules, line_style}
 use Rattle.mad_format.specs.CompositeWraps.{line_compounds, HaveKinds}
 use Rattle.mad_format.specs.WrappedLines.{style_margins, line_with, IsLaidOutBy}
-use Rattle.mad_layout.specs.TextParts.{LineInPart, text_parts, aligns_at, lines_in, lines_in_parts}
+use Rattle.mad_format.specs.TextParts.{LineInPart, text_parts, aligns_at, lines_in, lines_in_parts}
 use Rattle.mad_format.specs.Wraps.{text_of, columns_of, IsMeasured}
 use Rattle.mad_layout.specs.declared.skin.MadSkin.{MadSkin}
 use Rattle.mad_format.specs.declared.composite.FmtComposite.{FmtComposite}

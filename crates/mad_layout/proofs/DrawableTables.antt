@@ -31,7 +31,7 @@ use Rattle.mad_layout.specs.Rows.{compound_piece, inner_columns, prefix_pieces, 
 use Rattle.mad_layout.specs.Styles.{line_rules, line_style}
 use Rattle.mad_format.specs.Tables.{AreKeptWidths, in_column, IsBlankIn, columns_with, centered, columns_from, columns_count, columns_in, is_table_line, position_at, IsTop, IsLineAcross, AreDown, below, IsCellLaidOut, AreCellsLaidOut, IsRuleLaidOut, IsTableLineBy, AreTableLinesBy, IsTableLaidOutBy}
 use Rattle.mad_layout.specs.TableColumns.{kept_widths}
-use Rattle.mad_layout.specs.TextParts.{LineInPart, aligns_at, lines_in}
+use Rattle.mad_format.specs.TextParts.{LineInPart, aligns_at, lines_in}
 use Rattle.mad_format.specs.Wraps.{text_of, columns_of, IsMeasured}
 use Rattle.mad_layout.specs.declared.skin.MadSkin.{MadSkin}
 use Rattle.mad_format.specs.declared.composite.FmtComposite.{FmtComposite}

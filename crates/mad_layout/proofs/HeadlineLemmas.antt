@@ -12,12 +12,12 @@ use Rattle.mad_term.proofs.Traces.{flush_failed, took_flushed}
 use Rattle.mad_fit.specs.Areas.{IsWithinLimits}
 use Rattle.mad_fit.specs.declared.area.Area.{Area}
 use Rattle.mad_layout.specs.Drawable.{AreDrawable}
-use Rattle.mad_layout.specs.Fronts.{IsFrontLayout}
+use Rattle.mad_format.specs.Fronts.{IsFrontLayout}
 use Rattle.mad_layout.specs.InArea.{IsAreaLayout, IsAreaFront, ShowsText, WritesInArea}
 use Rattle.mad_format.specs.Layouts.{IsLayoutAt, IsMarkdownLayout}
 use Rattle.mad_layout.specs.Premises.{KeepsPremises}
 use Rattle.mad_layout.specs.Shown.{lines_shown, AreShownIn}
-use Rattle.mad_layout.specs.TextParts.{LineInPart, text_parts, lines_in_parts}
+use Rattle.mad_format.specs.TextParts.{LineInPart, text_parts, lines_in_parts}
 use Rattle.mad_layout.specs.declared.skin.MadSkin.{MadSkin}
 use Rattle.mad_format.specs.declared.line.FmtLine.{FmtLine}
 use Rattle.mad_layout.specs.declared.fmt_text.FmtText.{FmtText}
@@ -58,7 +58,7 @@ text_shown {T} {E} (Ok x) skin own markdown area lines old new limits same laid_
       lines = lines;
       laid_out = laid_out;
       shown = λ premises.
-          let front : IsFrontLayout skin (Some (area.width - 1)) area.height laid_out.text lines = laid_out.layout in
+          let front : IsFrontLayout (line_rules skin) (Some (area.width - 1)) area.height laid_out.text lines = laid_out.layout in
           subst (λ (s : MadSkin). AreDrawable s area.width (lines_shown lines area 0) → TookWith old new (AreShownIn s lines area 0)) same h
           (layout_is_drawable skin (area.width - 1) area.width area.height front.front lines (omega arith) (omega (arith, limits.columns)) (front_keeps skin (area.width - 1) area.height laid_out.text front.front front.rest front.parts premises) (wrapped_at (line_rules skin) (area.width - 1) front.front lines (omega arith) front.layout));
     }

@@ -16,7 +16,7 @@ use Rattle.mad_fit.specs.declared.area.Area.{Area}
 use Rattle.mad_draw.specs.Pieces.{PennedChar, penned_chars}
 use Rattle.mad_draw.specs.PennedCells.{penned_joined, penned_cells}
 use Rattle.mad_layout.specs.FlaggedTexts.{LineInPart, lines_in_parts, AreAcross}
-use Rattle.mad_layout.specs.Fronts.{IsFrontLayout}
+use Rattle.mad_format.specs.Fronts.{IsFrontLayout}
 use Rattle.mad_layout.specs.Headline.{cell_chars, AreShownAcross, ShowsFirstRows}
 use Rattle.mad_layout.specs.InArea.{ShowsText}
 use Rattle.mad_format.proofs.WideLayouts.{IsLayout}
@@ -147,7 +147,7 @@ headline : (skin : MadSkin) (markdown : List ℕ) (area : Area) (old new : Trace
 headline skin markdown area old new limits wide h =
     let text : List LineContent = h.laid_out.text in
     let width : ℕ = area.width - 1 in
-    let front : IsFrontLayout skin (Some width) area.height text h.lines = h.laid_out.layout in
+    let front : IsFrontLayout (line_rules skin) (Some width) area.height text h.lines = h.laid_out.layout in
     let layout : IsLayout (line_rules skin) width front.front h.lines = wrapped_at (line_rules skin) width front.front h.lines (omega (arith, wide)) front.layout in
     let bound : area.width < 2 ^ 64 - 1 = omega (arith, limits.columns) in (
       text,

@@ -6,7 +6,6 @@ pub mod DrawnLayouts
 pub mod DrawnParts
 pub mod FlaggedBreaks
 pub mod FlaggedTokens
-pub mod FrontLemmas
 pub mod HeadlineLemmas
 pub mod HeadlineRows
 pub mod InlineLemmas
@@ -14,7 +13,6 @@ pub mod ItemCellLemmas
 pub mod KeptWidths
 pub mod KindLemmas
 pub mod KnownLemmas
-pub mod LayoutJoins
 pub mod LeastSizes
 pub mod PieceLemmas
 pub mod PlainLineLemmas

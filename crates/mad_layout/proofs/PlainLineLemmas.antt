@@ -7,7 +7,7 @@ use Rattle.std.specs.Result.{IsErrAnd}
 use Rattle.std.proofs.StrCases.{chars_of_empty}
 use Rattle.std.proofs.lemmas.Bool.Decides.{nat_tests}
 use Rattle.std.proofs.lemmas.Grind.{flat_map-append}
-use Rattle.std.proofs.lemmas.List.{append-nil, length-drop}
+use Rattle.std.proofs.lemmas.List.{append-nil, length-append, length-drop}
 use Rattle.mad_md.specs.Flagged.{Run, plain, flagged, flagged_text, run_of}
 use Rattle.mad_md.specs.Lines.{LineContent}
 use Rattle.mad_md.specs.Plain.{ArePlainBytes, is_plain_byte}
@@ -28,26 +28,25 @@ use Rattle.mad_term.specs.declared.errors.Error.{Error}
 use Rattle.mad_term.proofs.Traces.{took_both}
 use Rattle.mad_draw.specs.Pieces.{pieces_bytes, spaces}
 use Rattle.mad_format.specs.CompositeWraps.{IsCompositeWrap}
-use Rattle.mad_format.specs.Laying.{ArePartsClosed}
 use Rattle.mad_format.specs.Layouts.{IsLayoutAt}
 use Rattle.mad_format.specs.Lines.{IsLineRead}
 use Rattle.mad_format.specs.Parts.{wrap_width, IsLineAt}
-use Rattle.mad_layout.specs.PlainLines.{IsPlainWidth, HandsOnPlain}
+use Rattle.mad_format.specs.PartCursors.{LaidPart}
+use Rattle.mad_layout.specs.PlainLines.{IsAlone, IsPlainWidth, HandsOnPlain}
 use Rattle.mad_layout.specs.Rows.{compound_piece, left_of_place}
 use Rattle.mad_layout.specs.Styles.{line_rules, compound_style, ellipsis_bytes}
 use Rattle.mad_layout.specs.Texts.{line_bytes, text_bytes}
 use Rattle.mad_format.specs.WrappedLines.{line_with}
-use Rattle.mad_layout.specs.WrittenParts.{IsPartKind, HandsOn, WritesParts}
-use Rattle.mad_layout.specs.declared.part_kinds.PartKind.{PartKind}
-use Rattle.mad_layout.specs.declared.part_kinds.PartKind.TheVariants.{Alone}
+use Rattle.mad_layout.specs.WrittenParts.{HandsOn, WritesParts}
 use Rattle.mad_layout.specs.declared.skin.MadSkin.{MadSkin}
 use Rattle.mad_format.specs.declared.composite.FmtComposite.{FmtComposite}
 use Rattle.mad_format.specs.declared.line.FmtLine.{FmtLine}
 use Rattle.mad_format.specs.declared.line.FmtLine.TheVariants.{Normal}
 use Rattle.mad_layout.proofs.FlaggedTokens.{if_false}
-use Rattle.mad_layout.proofs.LayoutJoins.{apart, layouts_joined}
+use Rattle.mad_format.proofs.LayoutJoins.{apart, apart_front, layouts_joined}
+use Rattle.mad_format.proofs.PartCursorLemmas.{LaidSoFar, apart_after, laid_more, single_apart}
 use Rattle.mad_layout.proofs.PieceLemmas.{bare_piece}
-use Rattle.mad_layout.proofs.WrittenLemmas.{EndsIn, alone_off, ends_apart, hands_refused, WrittenSoFar, WrittenParts, written_closed, written_on, written_next, written_refused, no_whole, refused_after}
+use Rattle.mad_layout.proofs.WrittenLemmas.{hands_refused, WrittenSoFar, written_more, written_refused, no_whole, refused_after}
 
 -- ---- the line that a plain text is
 
@@ -155,7 +154,7 @@ plain_bytes skin width most v bs text h is all =
 -- ---- what is written so far
 
 abbrev pub AllAlone : List LineContent → Type 0
-AllAlone ls = AllByRecursion (λ l. IsPartKind l Alone) ls
+AllAlone ls = AllByRecursion IsAlone ls
 
 -- The first lines are rows that went out or are kept.
 pub record PlainSoFar (skin : MadSkin) (width : Option ℕ) (before left : List LineContent) (bytes kept : List ℕ) (old new : Trace) : Type 0 where
@@ -182,12 +181,11 @@ plain_start skin width before bytes kept old new (sent, both, went) = record {
 
 pub alone_apart : (front rest : List LineContent) → AllAlone front → apart front rest ≡ true
 alone_apart [] rest h = refl
-alone_apart (c ∷ []) [] h = refl
-alone_apart (c ∷ []) (d ∷ ds) h = ap not (alone_off c d h.0)
+alone_apart (c ∷ []) rest h = single_apart c rest h.0.0 h.0.1
 alone_apart (c ∷ d ∷ cs) rest h = alone_apart (d ∷ cs) rest h.1
 
 pub plain_more : (skin : MadSkin) (width : Option ℕ) (before left later : List LineContent) (c : LineContent) (l : FmtLine) (bytes kept new_kept : List ℕ) (old new : Trace)
-    → PlainSoFar skin width before left bytes kept old new → left ≡ c ∷ later → IsPartKind c Alone → IsLayoutAt (line_rules skin) width (c ∷ []) (l ∷ []) → new_kept ≡ kept ++ line_bytes skin width l
+    → PlainSoFar skin width before left bytes kept old new → left ≡ c ∷ later → IsAlone c → IsLayoutAt (line_rules skin) width (c ∷ []) (l ∷ []) → new_kept ≡ kept ++ line_bytes skin width l
     → PlainSoFar skin width before later bytes new_kept old new
 plain_more skin width before left later c l bytes kept new_kept old new h is kind laid row =
     let more : text_bytes skin width (h.lines ++ l ∷ []) ≡ text_bytes skin width h.lines ++ line_bytes skin width l =
@@ -274,56 +272,52 @@ plain_put skin width most v text before left later bytes kept mid new_kept old n
     let row = row_put kept text.now mid new_kept (line_bytes skin width (made v text.now text)) first last (plain_bytes skin width most v text.now text h refl all) in
     plain_more skin width before left later (plain_line text.now) (made v text.now text) bytes kept new_kept old new so_far is (refl, refl) laid row
 
--- ---- after the lines in front
+-- ---- after the part in front
 
-all_end : (taken : List LineContent) → AllAlone taken → EndsIn Alone taken
-all_end [] h = tt
-all_end (c ∷ []) h = h.0
-all_end (c ∷ d ∷ cs) h = all_end (d ∷ cs) h.1
+apart_both : (front taken later : List LineContent) → apart front (taken ++ later) ≡ true → AllAlone taken → apart (front ++ taken) later ≡ true
+apart_both front [] later whole alone = subst (λ (ls : List LineContent). apart ls later ≡ true) (sym (append-nil front)) whole
+apart_both front (c ∷ cs) later whole alone = apart_after front cs c later (alone_apart (c ∷ cs) later alone)
 
-ends_all : (front taken : List LineContent) → EndsIn Alone front → AllAlone taken → EndsIn Alone (front ++ taken)
-ends_all [] taken h all = all_end taken all
-ends_all (b ∷ []) [] h all = h
-ends_all (b ∷ []) (c ∷ cs) h all = all_end (c ∷ cs) all
-ends_all (b ∷ d ∷ cs) taken h all = ends_all (d ∷ cs) taken h all
-
-plain_parts : (skin : MadSkin) (width : Option ℕ) (all left taken later : List LineContent) (lines own : List FmtLine) (kept : List ℕ) (old new : Trace)
-    → WrittenParts skin width all left lines Alone kept old new → left ≡ taken ++ later → AllAlone taken → IsLayoutAt (line_rules skin) width taken own → WrittenParts skin width all later (lines ++ own) Alone kept old new
-plain_parts skin width all left taken later lines own kept old new h is alone laid =
-    let ends : EndsIn Alone (h.front ++ taken) = ends_all h.front taken h.ends alone in
+-- lines that are parts by themselves follow
+laid_alone : (skin : MadSkin) (width : Option ℕ) (all left taken later : List LineContent) (done own : List FmtLine) → LaidSoFar (line_rules skin) width all left done → left ≡ taken ++ later → AllAlone taken → IsLayoutAt (line_rules skin) width taken own
+    → LaidSoFar (line_rules skin) width all later (done ++ own)
+laid_alone skin width all left taken later done own h is alone laid =
+    let whole : apart h.front (taken ++ later) ≡ true = subst (λ (ls : List LineContent). apart h.front ls ≡ true) is h.whole in
     record {
       front = h.front ++ taken;
-      done = h.done;
-      sent = h.sent;
       joins = h.joins ∙ ap (λ (ls : List LineContent). h.front ++ ls) is ∙ sym (append_assoc h.front taken later);
-      whole = ends_apart (h.front ++ taken) later ends;
-      ends = ends;
-      layout = subst (IsLayoutAt (line_rules skin) width (h.front ++ taken)) (append_assoc h.done lines own) (layouts_joined (line_rules skin) width h.front taken (h.done ++ lines) own (ends_apart h.front taken h.ends) h.layout laid);
-      bytes = h.bytes;
-      went = h.went;
+      whole = apart_both h.front taken later whole alone;
+      layout = layouts_joined (line_rules skin) width h.front taken done own (apart_front h.front taken later whole) h.layout laid;
     }
 
-rows_both : (skin : MadSkin) (width : Option ℕ) (kept : List ℕ) (lines own : List FmtLine) → kept ++ text_bytes skin width (lines ++ own) ≡ (kept ++ text_bytes skin width lines) ++ text_bytes skin width own
-rows_both skin width kept lines own = ap (λ (t : List ℕ). kept ++ t) (flat_map-append (line_bytes skin width) lines own) ∙ sym (append_assoc kept (text_bytes skin width lines) (text_bytes skin width own))
+-- A part was laid out where no lines were, and it and the plain lines after it are more than what was laid out.
+plain_laid : {T : Type 0} (skin : MadSkin) (width : Option ℕ) (all left later rest : List LineContent) (done lines new : List FmtLine) (bytes kept : List ℕ) (r : Result T Error) (mid end : Trace) → LaidSoFar (line_rules skin) width all left done
+    → (p : LaidPart (line_rules skin) width left lines later new) → (q : HandsOnPlain skin width later bytes mid r end kept rest) → LaidSoFar (line_rules skin) width all q.later (done ++ (p.own ++ q.lines))
+plain_laid {T} skin width all left later rest done lines new bytes kept r mid end h p q =
+    subst (LaidSoFar (line_rules skin) width all q.later) (append_assoc done p.own q.lines)
+    (laid_alone skin width all later q.taken q.later (done ++ p.own) q.lines (laid_more (line_rules skin) width all left later done lines new h p) q.joins q.alone q.layout)
 
--- a line that is alone is laid out, and it and the plain lines after it are handed on
-pub written_plain : (skin : MadSkin) (width : Option ℕ) (all left later : List LineContent) (lines closed none own table no_table : List FmtLine) (block no_block : List FmtComposite) (last : PartKind) (kept new_kept : List ℕ) (old mid new : Trace)
-    → last ≡ Alone → WrittenSoFar skin width all left lines block table last kept old mid → closed ≡ lines ++ own → ArePartsClosed (line_rules skin) width block table own → none ≡ [] → no_block ≡ [] → no_table ≡ []
-    → HandsOnPlain {T = Unit {0}} skin width left (kept ++ text_bytes skin width closed) mid (Ok (tt {0})) new new_kept later → WrittenSoFar skin width all later none no_block no_table last new_kept old new
-written_plain skin width all left later lines closed none own table no_table block no_block last kept new_kept old mid new is h closes made empty empty_block empty_table p =
-    let before = subst (λ (k : PartKind). WrittenSoFar skin width all left lines block table k kept old mid) is h in
-    let parts = written_closed skin width all left lines closed own table block Alone kept old mid before (λ front ends. ends_apart front left ends) closes made in
-    let more = plain_parts skin width all left p.taken p.later closed p.lines kept old mid parts p.joins p.alone p.layout in
-    let on = written_on skin width all p.later (closed ++ p.lines) none Alone kept new_kept p.handed.0 old mid new more empty (rows_both skin width kept closed p.lines ∙ p.handed.1) p.handed.2 in
-    let next = written_next skin width all p.later none no_table no_block Alone new_kept old new on empty empty_block empty_table in
-    subst (λ (k : PartKind). WrittenSoFar skin width all later none no_block no_table k new_kept old new) (sym is)
-    (subst (λ (ls : List LineContent). WrittenSoFar skin width all ls none no_block no_table Alone new_kept old new) (sym p.rest) next)
+rows_both : (skin : MadSkin) (width : Option ℕ) (kept : List ℕ) (lines new own more : List FmtLine) → new ≡ lines ++ own → lines ≡ [] → (kept ++ text_bytes skin width new) ++ text_bytes skin width more ≡ kept ++ text_bytes skin width (own ++ more)
+rows_both skin width kept lines new own more added none =
+    ap (λ (ls : List FmtLine). (kept ++ text_bytes skin width ls) ++ text_bytes skin width more) (added ∙ ap (λ (ls : List FmtLine). ls ++ own) none)
+    ∙ append_assoc kept (text_bytes skin width own) (text_bytes skin width more) ∙ ap (λ (t : List ℕ). kept ++ t) (sym (flat_map-append (line_bytes skin width) own more))
 
-pub written_plain_refused : {T : Type 0} (skin : MadSkin) (width : Option ℕ) (markdown : List ℕ) (all left later : List LineContent) (lines closed own table : List FmtLine) (block : List FmtComposite) (last : PartKind) (kept new_kept : List ℕ) (r : Result T Error) (e : Error) (old mid new : Trace)
-    → IsRead (unread_text false markdown) all → last ≡ Alone → WrittenSoFar skin width all left lines block table last kept old mid → closed ≡ lines ++ own → ArePartsClosed (line_rules skin) width block table own
-    → HandsOnPlain {T = Unit {0}} skin width left (kept ++ text_bytes skin width closed) mid (Err e) new new_kept later → IsErrAnd r (λ d. d ≡ e) → WritesParts skin width markdown old r new
-written_plain_refused {T} skin width markdown all left later lines closed own table block last kept new_kept r e old mid new read is h closes made p error =
-    let before = subst (λ (k : PartKind). WrittenSoFar skin width all left lines block table k kept old mid) is h in
-    let parts = written_closed skin width all left lines closed own table block Alone kept old mid before (λ front ends. ends_apart front left ends) closes made in
-    let more = plain_parts skin width all left p.taken p.later closed p.lines kept old mid parts p.joins p.alone p.layout in
-    written_refused skin width markdown all p.later (closed ++ p.lines) Alone kept r e old mid new read more error (subst (λ (b : List ℕ). Refused mid b e new) (sym (rows_both skin width kept closed p.lines)) p.handed)
+-- a part and the plain lines after it are handed on
+pub written_plain : (skin : MadSkin) (width : Option ℕ) (all left later rest : List LineContent) (lines new : List FmtLine) (kept new_kept : List ℕ) (old mid end : Trace) → WrittenSoFar skin width all left kept old mid
+    → LaidPart (line_rules skin) width left lines later new → lines ≡ [] → HandsOnPlain {T = Unit {0}} skin width later (kept ++ text_bytes skin width new) mid (Ok (tt {0})) end new_kept rest → WrittenSoFar skin width all rest new_kept old end
+written_plain skin width all left later rest lines new kept new_kept old mid end h p none q =
+    let handed = q.handed in
+    subst (λ (ls : List LineContent). WrittenSoFar skin width all ls new_kept old end) (sym q.rest)
+    (written_more skin width all left q.later (p.own ++ q.lines) kept new_kept old mid end h (plain_laid skin width all left later rest h.done lines new _ new_kept (Ok (tt {0})) mid end h.laid p q)
+    (handed.0, sym (rows_both skin width kept lines new p.own q.lines p.added none) ∙ handed.1, handed.2))
+
+pub written_plain_refused : {T : Type 0} (skin : MadSkin) (width : Option ℕ) (markdown : List ℕ) (all left later rest : List LineContent) (lines new : List FmtLine) (kept new_kept : List ℕ) (r : Result T Error) (e : Error) (old mid end : Trace)
+    → IsRead (unread_text false markdown) all → WrittenSoFar skin width all left kept old mid → LaidPart (line_rules skin) width left lines later new → lines ≡ []
+    → HandsOnPlain {T = Unit {0}} skin width later (kept ++ text_bytes skin width new) mid (Err e) end new_kept rest → IsErrAnd r (λ d. d ≡ e) → WritesParts skin width markdown old r end
+written_plain_refused {T} skin width markdown all left later rest lines new kept new_kept r e old mid end read h p none q is =
+    written_refused skin width markdown all left q.later (p.own ++ q.lines) kept r e old mid end read h (plain_laid skin width all left later rest h.done lines new _ new_kept (Err e) mid end h.laid p q) is
+    (subst (λ (b : List ℕ). Refused mid b e end) (rows_both skin width kept lines new p.own q.lines p.added none) q.handed)
+
+-- no more lines are left than were
+pub plain_shorter : (skin : MadSkin) (width : Option ℕ) (before left : List LineContent) (bytes kept : List ℕ) (old new : Trace) → HandsOnPlain {T = Unit {0}} skin width before bytes old (Ok (tt {0})) new kept left → length left ≤ length before
+plain_shorter skin width before left bytes kept old new q = omega (arith, ap length q.joins, ap length q.rest, length-append q.taken q.later)

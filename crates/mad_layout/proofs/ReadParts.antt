@@ -7,7 +7,7 @@ use Rattle.std.proofs.lemmas.List.Concat.{flat_map-append}
 use Rattle.mad_md.specs.Lines.{LineContent, normal, table_row, table_rule, horizontal_rule}
 use Rattle.mad_md.specs.declared.alignment.Alignment.{Alignment}
 use Rattle.mad_style.specs.Kinds.{kind_of}
-use Rattle.mad_layout.specs.TextParts.{is_code, is_table, stand_together, in_front, text_parts}
+use Rattle.mad_format.specs.TextParts.{is_code, is_table, stand_together, in_front, text_parts}
 use Rattle.mad_layout.specs.FlaggedTexts.{LineInPart, aligns_at, lines_in, lines_in_parts}
 use Rattle.mad_format.specs.Layouts.{AreRead}
 use Rattle.mad_format.specs.Lines.{IsLineRead}
@@ -16,7 +16,7 @@ use Rattle.mad_layout.specs.declared.skin.MadSkin.{MadSkin}
 use Rattle.mad_format.specs.declared.composite.FmtComposite.{FmtComposite}
 use Rattle.mad_format.specs.declared.line.FmtLine.{FmtLine}
 use Rattle.mad_format.specs.declared.line.FmtLine.TheVariants.{Normal, TableRow, TableRule, HorizontalRule}
-use Rattle.mad_layout.proofs.RowsExist.{by_bool}
+use Rattle.mad_format.proofs.LayoutJoins.{by_bool}
 use Rattle.mad_layout.proofs.KeptWidths.{IsTableLineRead, AreTableRead}
 use Rattle.mad_format.proofs.PartLemmas.{raw_lines}
 use Rattle.mad_layout.specs.Styles.{line_rules}

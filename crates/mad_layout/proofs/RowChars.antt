@@ -37,7 +37,7 @@ use Rattle.mad_format.specs.declared.composite.FmtComposite.{FmtComposite}
 use Rattle.mad_format.specs.declared.line.FmtLine.{FmtLine}
 use Rattle.mad_format.proofs.ReadWraps.{margins-le}
 use Rattle.mad_layout.proofs.RowLemmas.{left_completion-le}
-use Rattle.mad_layout.proofs.RowsExist.{by_bool}
+use Rattle.mad_format.proofs.LayoutJoins.{by_bool}
 
 -- ---- pieces
 

@@ -27,7 +27,7 @@ use Rattle.mad_format.specs.Lines.{bordered}
 use Rattle.mad_format.specs.Parts.{is_code_kind, IsLineAt, AreLinesAt}
 use Rattle.mad_layout.specs.Premises.{IsPlainPrefix, IsPlainText, IsPlainContent, KeepsPremises, inner_width, runs_text}
 use Rattle.mad_layout.specs.Styles.{line_rules, line_style}
-use Rattle.mad_layout.specs.TextParts.{LineInPart}
+use Rattle.mad_format.specs.TextParts.{LineInPart}
 use Rattle.mad_format.specs.WrappedLines.{style_margins, line_with, IsLaidOutBy}
 use Rattle.mad_format.specs.Wraps.{text_of, columns_of, IsMeasured}
 use Rattle.mad_layout.specs.declared.skin.MadSkin.{MadSkin}
@@ -39,7 +39,8 @@ use Rattle.mad_format.proofs.ReadWraps.{margins-le}
 use Rattle.mad_layout.proofs.DrawnParts.{runs_are}
 use Rattle.mad_layout.proofs.PrefixLemmas.{follow_up_plain}
 use Rattle.mad_layout.proofs.RowChars.{place_for, line_chars, row_chars, run_chars}
-use Rattle.mad_layout.proofs.RowsExist.{by_bool, rows_of, rows_exist}
+use Rattle.mad_format.proofs.LayoutJoins.{by_bool}
+use Rattle.mad_layout.proofs.RowsExist.{rows_of, rows_exist}
 use Rattle.mad_layout.proofs.ColumnChars.{column_piece}
 use Rattle.mad_layout.proofs.WrapRows.{whole_parts, kept_rows, wrapped_rows}
 

@@ -19,6 +19,7 @@ use Rattle.mad_wrap.specs.WrapLines.{LinesFit}
 use Rattle.mad_wrap.specs.declared.room.Room.{Room}
 use Rattle.mad_layout.specs.FlaggedRows.{whole, goes_on, tokens_from, tokens_of, IsFittingBreak, AreRowsOf}
 use Rattle.mad_layout.proofs.LeastSizes.{Placing, place_by, Size, total_width, AllBlank, FitsFrom, place_all, least}
+use Rattle.mad_format.proofs.LayoutJoins.{by_bool}
 
 abbrev pub all_blank : List FlaggedChar → Bool
 all_blank t = list_all is_blank t
@@ -34,10 +35,6 @@ rows r i line false (t ∷ ts) =
 -- the rows of a line's parts
 abbrev pub rows_of : Room → List (List FlaggedChar) → List (List FlaggedChar)
 rows_of r parts = rows r r.first [] false (tokens_of r parts)
-
-pub by_bool : (P : Bool → Type 0) (b : Bool) → (b ≡ true → P true) → (b ≡ false → P false) → P b
-by_bool P true on off = on refl
-by_bool P false on off = off refl
 
 and_both : (a b : Bool) → (a && b) ≡ true → (a ≡ true) × (b ≡ true)
 and_both true true e = (refl, refl)

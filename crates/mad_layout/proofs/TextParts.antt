@@ -10,7 +10,7 @@ use Rattle.mad_fit.specs.Columns.{width_of}
 use Rattle.mad_fit.specs.declared.area.Area.{Area}
 use Rattle.mad_format.specs.CompositeWraps.{IsCompositeWrap}
 use Rattle.mad_layout.specs.FlaggedLines.{widest_in}
-use Rattle.mad_layout.specs.TextParts.{is_code, is_table, text_parts}
+use Rattle.mad_format.specs.TextParts.{is_code, is_table, text_parts}
 use Rattle.mad_layout.specs.FlaggedTexts.{lines_in, lines_in_parts}
 use Rattle.mad_format.specs.Indents.{indent}
 use Rattle.mad_format.proofs.WideLayouts.{IsLayout}

@@ -37,7 +37,7 @@ use Rattle.mad_columns.specs.Columns.{char_columns}
 use Rattle.mad_draw.specs.PennedCells.{penned_cells, penned_joined}
 use Rattle.mad_format.specs.Indents.{indent}
 use Rattle.mad_format.specs.CompositeWraps.{IsCompositeWrap}
-use Rattle.mad_layout.specs.Fronts.{IsFrontLayout}
+use Rattle.mad_format.specs.Fronts.{IsFrontLayout}
 use Rattle.mad_format.specs.Layouts.{AreRead}
 use Rattle.mad_format.proofs.WideLayouts.{IsLayout}
 use Rattle.mad_format.specs.Parts.{Part, single, is_code_kind, with_composite, parts_of, ArePartsAt}
@@ -183,7 +183,7 @@ whole_front (c ∷ d ∷ cs) rest lines joins layout enough = absurd (cc)
 
 shown_as_one : (lines : List FmtLine) (old new : Trace) (h : ShowsSource no_style_skin words word_area old new) → OneLine h.lines
 shown_as_one lines old new h =
-    let front : IsFrontLayout no_style_skin (Some 11) 2 h.laid_out.text h.lines = h.laid_out.layout in
+    let front : IsFrontLayout (line_rules no_style_skin) (Some 11) 2 h.laid_out.text h.lines = h.laid_out.layout in
     let layout : IsLayout (line_rules no_style_skin) 11 front.front h.lines = wrapped_at (line_rules no_style_skin) 11 front.front h.lines (omega arith) front.layout in
     let all : front.front ≡ normal word_line ∷ [] = whole_front front.front front.rest h.lines (sym front.joins ∙ words_read h.laid_out.text h.laid_out.read) layout front.enough in
     let of_words : IsLayout (line_rules no_style_skin) 11 (normal word_line ∷ []) h.lines = subst (λ (xs : List LineContent). IsLayout (line_rules no_style_skin) 11 xs h.lines) all layout in

@@ -7,11 +7,11 @@ use Rattle.mad_term.specs.Trace.{Trace, TookWith}
 use Rattle.mad_term.specs.declared.errors.Error.{Error}
 use Rattle.mad_term.specs.declared.errors.Error.TheVariants.{Memory}
 use Rattle.mad_fit.specs.declared.area.Area.{Area}
-use Rattle.mad_layout.specs.Fronts.{IsFrontLayout}
+use Rattle.mad_format.specs.Fronts.{IsFrontLayout}
 use Rattle.mad_format.specs.Layouts.{IsLayoutAt}
 use Rattle.mad_layout.specs.Premises.{KeepsPremises}
 use Rattle.mad_layout.specs.Shown.{area_bytes, AreShownIn}
-use Rattle.mad_layout.specs.TextParts.{lines_in_parts}
+use Rattle.mad_format.specs.TextParts.{lines_in_parts}
 use Rattle.mad_layout.specs.declared.skin.MadSkin.{MadSkin}
 use Rattle.mad_format.specs.declared.line.FmtLine.{FmtLine}
 use Rattle.mad_layout.specs.Styles.{line_rules}
@@ -27,7 +27,7 @@ pub record IsAreaLayout (skin : MadSkin) (markdown : List ℕ) (area : Area) (li
 pub record IsAreaFront (skin : MadSkin) (markdown : List ℕ) (area : Area) (lines : List FmtLine) : Type 0 where
   pub text : List LineContent
   pub read : IsRead (unread_text false markdown) text
-  pub layout : IsFrontLayout skin (Some (area.width - 1)) area.height text lines
+  pub layout : IsFrontLayout (line_rules skin) (Some (area.width - 1)) area.height text lines
 
 -- What the call does to its device: it draws such lines, from the first on; or memory for them was refused, and nothing went out.
 abbrev pub WritesInArea : {T : Type 0} → MadSkin → List ℕ → Area → Trace → Result T Error → Trace → Type 0

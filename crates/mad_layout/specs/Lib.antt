@@ -3,7 +3,6 @@ pub mod FlaggedLines
 pub mod FlaggedRows
 pub mod FlaggedTables
 pub mod FlaggedTexts
-pub mod Fronts
 pub mod Headline
 pub mod InArea
 pub mod Inlines
@@ -23,7 +22,6 @@ pub mod Skins
 pub mod Sources
 pub mod Styles
 pub mod TableColumns
-pub mod TextParts
 pub mod Texts
 pub mod Words
 pub mod WrittenParts

@@ -1,5 +1,5 @@
 -- Plain lines: paragraphs that are written as they are.
-use Rattle.std.specs.Prelude.{◌≡◌, ℕ, List, ◌++◌, Option, Some, Result, OnOk}
+use Rattle.std.specs.Prelude.{◌≡◌, ℕ, false, List, ◌++◌, Option, Some, Result, OnOk}
 use Rattle.std.specs.List.{AllByRecursion}
 use Rattle.mad_md.specs.Lines.{LineContent}
 use Rattle.mad_style.specs.LineStyles.{margins_at}
@@ -10,8 +10,8 @@ use Rattle.mad_term.specs.declared.errors.Error.{Error}
 use Rattle.mad_format.specs.Layouts.{IsLayoutAt}
 use Rattle.mad_format.specs.Parts.{wrap_width}
 use Rattle.mad_layout.specs.Texts.{text_bytes}
-use Rattle.mad_layout.specs.WrittenParts.{IsPartKind, HandsOn}
-use Rattle.mad_layout.specs.declared.part_kinds.PartKind.TheVariants.{Alone}
+use Rattle.mad_format.specs.TextParts.{is_code, is_table}
+use Rattle.mad_layout.specs.WrittenParts.{HandsOn}
 use Rattle.mad_layout.specs.declared.skin.MadSkin.{MadSkin}
 use Rattle.mad_format.specs.declared.line.FmtLine.{FmtLine}
 use Rattle.mad_layout.specs.Styles.{line_rules}
@@ -24,13 +24,17 @@ pub record IsPlainWidth (skin : MadSkin) (width : Option ℕ) (most : ℕ) : Typ
   pub right_margin : (margins_at skin.paragraph (Some most)).1 ≡ 0
   pub left : (rest : ℕ) → left_completion skin.paragraph.align rest ≡ 0
 
+-- a line that is a part by itself
+abbrev pub IsAlone : LineContent → Type 0
+IsAlone l = (is_code l ≡ false) × (is_table l ≡ false)
+
 -- These bytes were handed on, and after them the lines of a layout of the first of these lines, each a part by itself; the others are left where that
 -- succeeded.
 pub record HandsOnPlain {T : Type 0} (skin : MadSkin) (width : Option ℕ) (before : List LineContent) (bytes : List ℕ) (old : Trace) (r : Result T Error) (new : Trace) (kept : List ℕ) (left : List LineContent) : Type 0 where
   pub taken : List LineContent
   pub later : List LineContent
   pub joins : before ≡ taken ++ later
-  pub alone : AllByRecursion (λ l. IsPartKind l Alone) taken
+  pub alone : AllByRecursion IsAlone taken
   pub lines : List FmtLine
   pub layout : IsLayoutAt (line_rules skin) width taken lines
   pub handed : HandsOn old (bytes ++ text_bytes skin width lines) r new kept

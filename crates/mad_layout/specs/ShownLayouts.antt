@@ -9,7 +9,7 @@ use Rattle.mad_layout.specs.Headline.{AreShownAcross}
 use Rattle.mad_format.specs.Layouts.{IsLayoutAt}
 use Rattle.mad_layout.specs.Premises.{KeepsPremises}
 use Rattle.mad_layout.specs.Shown.{AreShownIn}
-use Rattle.mad_layout.specs.TextParts.{lines_in_parts}
+use Rattle.mad_format.specs.TextParts.{lines_in_parts}
 use Rattle.mad_layout.specs.declared.skin.MadSkin.{MadSkin}
 use Rattle.mad_format.specs.declared.line.FmtLine.{FmtLine}
 use Rattle.mad_layout.specs.Styles.{line_rules}

@@ -1,15 +1,13 @@
 -- Texts that are written part by part.
-use Rattle.std.specs.Prelude.{◌≡◌, ℕ, true, false, List, [], ◌++◌, Option, Result, OnOk, MatchResult}
+use Rattle.std.specs.Prelude.{◌≡◌, ℕ, false, List, [], ◌++◌, Option, Result, OnOk, MatchResult}
 use Rattle.mad_md.specs.Lines.{LineContent}
 use Rattle.mad_md.specs.Reading.{IsRead, unread_text}
 use Rattle.mad_term.specs.Draws.{Draws, Refused}
 use Rattle.mad_term.specs.Trace.{Trace, after}
 use Rattle.mad_term.specs.declared.errors.Error.{Error}
-use Rattle.mad_layout.specs.TextParts.{is_code, is_table, text_parts}
+use Rattle.mad_format.specs.TextParts.{text_parts}
 use Rattle.mad_format.specs.Layouts.{IsLayoutAt}
 use Rattle.mad_layout.specs.Texts.{text_bytes}
-use Rattle.mad_layout.specs.declared.part_kinds.PartKind.{PartKind}
-use Rattle.mad_layout.specs.declared.part_kinds.PartKind.TheVariants.{Code, Table, Alone}
 use Rattle.mad_layout.specs.declared.skin.MadSkin.{MadSkin}
 use Rattle.mad_format.specs.declared.line.FmtLine.{FmtLine}
 use Rattle.mad_layout.specs.Styles.{line_rules}
@@ -27,12 +25,6 @@ pub record WritesParts {T : Type 0} (skin : MadSkin) (width : Option ℕ) (markd
   pub lines : List FmtLine
   pub layout : IsLayoutAt (line_rules skin) width front lines
   pub drawn : Draws old (text_bytes skin width lines) r new
-
--- the line is one of this kind
-abbrev pub IsPartKind : LineContent → PartKind → Type 0
-IsPartKind l Code = is_code l ≡ true
-IsPartKind l Table = is_table l ≡ true
-IsPartKind l Alone = (is_code l ≡ false) × (is_table l ≡ false)
 
 -- a front of the bytes went out, and the rest is kept; or they were refused
 abbrev pub HandsOn : {T : Type 0} → Trace → List ℕ → Result T Error → Trace → List ℕ → Type 0

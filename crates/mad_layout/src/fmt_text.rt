@@ -7,13 +7,13 @@ ghost use Rattle.mad_md.specs.Reading.{IsRead, unread_text};
 ghost use Rattle.mad_md.specs.declared.text.Text.{Text};
 ghost use Rattle.mad_format.specs.FittingLayouts.{IsFittingLayoutAt};
 ghost use Rattle.mad_layout.specs.Styles.{line_rules};
-ghost use Rattle.mad_layout.specs.InArea.{IsAreaLayout};
+ghost use Rattle.mad_layout.specs.InArea.{IsAreaFront, IsAreaLayout};
 ghost use Rattle.mad_format.specs.Layouts.{IsLayoutAt, IsMarkdownLayout};
 ghost use Rattle.mad_format.specs.Lines.{widest_line};
 
 use crate::skin::MadSkin;
 use mad_fit::Area;
-use mad_format::{FmtLine, lay_source, lay_text};
+use mad_format::{FmtLine, lay_front, lay_source, lay_text};
 use mad_md::Text;
 use std::alloc::{AllocError, Global};
 
@@ -123,6 +123,27 @@ impl MadSkin {
     {
         let width = (area.width as usize).saturating_sub(1);
         FmtText::from(alloc, self, markdown, Some(width))
+    }
+
+    /// The first lines of a Markdown text, laid out for an area: enough to take at least its rows, or all of them. Only out of memory is
+    /// an error.
+    pub(crate) fn area_front<'k, 's>(
+        &'k self,
+        alloc: Global,
+        markdown: &'s str,
+        area: &Area,
+    ) -> Result<FmtText<'k, 's>, AllocError>
+        ensures skin { IfOk result (λ text. text.skin.now ≡ self.now) }
+        ensures lines { IfOk result (λ text. IsAreaFront self.now markdown.now area.now text.lines.items) }
+    {
+        let width = Some(usize::from(area.width).saturating_sub(1));
+        let rows = usize::from(area.height);
+        let lines = lay_front(alloc, self, markdown, width, rows)?;
+        Ok(FmtText {
+            skin: self,
+            lines,
+            width,
+        })
     }
 
     /// A Markdown text, laid out at a width, in columns, if there is one. Without one nothing is wrapped, and a rule across the page is an

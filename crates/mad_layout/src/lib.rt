@@ -4,8 +4,7 @@
 //!
 //! 1. [`skin`]: the styles of a text's parts. `made_skins`, `skin_setters`: skins for a background, and changes of
 //!    several parts.
-//! 2. [`fmt_text`], [`fmt_inline`]: reading a text and laying it out; reading one line. `part_kinds`: where a part of a text ends.
-//!    `front`: the first lines of a text, for an area.
+//! 2. [`fmt_text`], [`fmt_inline`]: reading a text and laying it out; reading one line.
 //! 3. `rows`: what is written of a line, piece by piece.
 //! 4. [`drawing`]: the rows of a text in an area of the screen.
 //! 5. `writing`, `text_writing`, `parts_writing`: the writing calls of a skin; `display`, [`displayable_line`]: texts and lines as displayed
@@ -20,10 +19,8 @@ pub mod displayable_line;
 pub mod drawing;
 pub mod fmt_inline;
 pub mod fmt_text;
-mod front;
 pub mod laws;
 mod made_skins;
-mod part_kinds;
 mod parts_writing;
 mod row_writing;
 mod rows;

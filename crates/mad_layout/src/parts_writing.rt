@@ -1,18 +1,16 @@
 //! Writing a text part by part: each part is laid out, written and dropped.
 
-ghost use Rattle.std.specs.Prelude.{◌≡◌, ◌≤◌, ◌++◌, [], false, ℕ, length, IfSome, IsTrue, OnOk, string_bytes};
+ghost use Rattle.std.specs.Prelude.{◌≡◌, ◌≤◌, ◌++◌, [], ℕ, length, IfSome, IsTrue, OnOk, string_bytes};
 ghost use Rattle.mad_fit.specs.Completions.{left_completion};
-ghost use Rattle.mad_md.specs.Cursor.{unread};
-ghost use Rattle.mad_md.specs.Scan.{lines_of};
+ghost use Rattle.mad_format.specs.PartCursors.{lines_left};
 ghost use Rattle.mad_layout.specs.PlainLines.{IsPlainWidth, HandsOnPlain};
 ghost use Rattle.mad_layout.specs.Texts.{text_bytes};
 ghost use Rattle.mad_layout.specs.WrittenParts.{HandsOn, WritesParts};
 
-use crate::part_kinds::{PartKind, ends, is_alone, part_kind};
 use crate::row_writing::append_line;
 use crate::skin::MadSkin;
-use mad_format::{FmtLine, Laying, wrap_width};
-use mad_md::{Alignment, LineCursor, ParseOptions};
+use mad_format::{FmtLine, PartCursor, wrap_width};
+use mad_md::Alignment;
 use mad_term::{Error, Out, put_all};
 use std::alloc::Global;
 
@@ -38,27 +36,11 @@ impl MadSkin {
         ensures writes { WritesParts self.now width markdown.now (O.seen out.old) result (O.seen out.new) }
     {
         let mut rows = String::new(alloc);
-        let mut laying = Laying::new(alloc);
-        let mut cursor = LineCursor::new(markdown, ParseOptions::default());
-        let mut last = PartKind::Alone;
-        while let Some(line) = cursor.next_line(alloc)? {
-            let kind = part_kind(&line);
-            if is_alone(kind) {
-                last = kind;
-                laying.push(alloc, line, width, self)?;
-                laying.close(alloc, width, self)?;
-                hand_on_plain(out, &mut rows, &mut laying.lines, &mut cursor, width, self)?;
-                continue;
-            }
-            if ends(last, kind) {
-                laying.close(alloc, width, self)?;
-                hand_on(out, &mut rows, &mut laying.lines, width, self)?;
-            }
-            last = kind;
-            laying.push(alloc, line, width, self)?;
+        let mut lines = Vec::new(alloc);
+        let mut parts = PartCursor::new(markdown);
+        while parts.lay_next(alloc, &mut lines, width, self)? {
+            hand_on_plain(out, &mut rows, &mut lines, &mut parts, width, self)?;
         }
-        laying.close(alloc, width, self)?;
-        hand_on(out, &mut rows, &mut laying.lines, width, self)?;
         put_all(out, rows.as_bytes())?;
         Ok(())
     }
@@ -113,19 +95,19 @@ fn hand_on_plain<O: Out>(
     out: &mut O,
     rows: &mut String,
     lines: &mut Vec<FmtLine>,
-    cursor: &mut LineCursor,
+    parts: &mut PartCursor,
     width: Option<usize>,
     skin: &MadSkin,
 ) -> Result<(), Error>
     ensures dropped { OnOk result (lines.new.items ≡ []) }
-    ensures shorter { OnOk result (length (unread cursor.new).text ≤ length (unread cursor.old).text) }
-    ensures handed { HandsOnPlain skin.now width (lines_of (unread cursor.old)) (string_bytes rows.old ++ text_bytes skin.now width lines.old.items) (O.seen out.old) result (O.seen out.new) (string_bytes rows.new) (lines_of (unread cursor.new)) }
+    ensures shorter { OnOk result (length (lines_left parts.new) ≤ length (lines_left parts.old)) }
+    ensures handed { HandsOnPlain skin.now width (lines_left parts.old) (string_bytes rows.old ++ text_bytes skin.now width lines.old.items) (O.seen out.old) result (O.seen out.new) (string_bytes rows.new) (lines_left parts.new) }
 {
     hand_on(out, rows, lines, width, skin)?;
     let Some(most) = plain_width(width, skin) else {
         return Ok(());
     };
-    while let Some(text) = cursor.next_plain(most) {
+    while let Some(text) = parts.next_plain(most) {
         rows.push_str(text)?;
         rows.push_str("\n")?;
         send(out, rows)?;

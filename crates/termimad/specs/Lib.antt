@@ -74,7 +74,7 @@ pub use Rattle.mad_layout.specs.FlaggedLines
 pub use Rattle.mad_layout.specs.FlaggedRows
 pub use Rattle.mad_layout.specs.FlaggedTables
 pub use Rattle.mad_layout.specs.FlaggedTexts
-pub use Rattle.mad_layout.specs.Fronts
+pub use Rattle.mad_format.specs.Fronts
 pub use Rattle.mad_layout.specs.Headline
 pub use Rattle.mad_layout.specs.InArea
 pub use Rattle.mad_format.specs.Indents
@@ -99,7 +99,7 @@ pub use Rattle.mad_layout.specs.Skins
 pub use Rattle.mad_layout.specs.Styles as SkinStyles
 pub use Rattle.mad_format.specs.TableLaws
 pub use Rattle.mad_format.specs.Tables
-pub use Rattle.mad_layout.specs.TextParts
+pub use Rattle.mad_format.specs.TextParts
 pub use Rattle.mad_layout.specs.Texts
 pub use Rattle.mad_format.specs.WrappedLines
 pub use Rattle.mad_format.specs.Wraps

@@ -1,6 +1,5 @@
-use Rattle.std.proofs.Common.{rules, arith}
-use Rattle.mad_md.specs.Cursor.{unread}
-use Rattle.mad_md.specs.Plain.{IsPlainStep}
+use Rattle.std.proofs.Common.{rules, length, ap, arith}
+use Rattle.mad_format.specs.PartCursors.{lines_left, IsPlainRead}
 use Rattle.mad_term.proofs.Traces.{stopped_before}
 use Rattle.mad_term.specs.declared.errors.Error.TheVariants.{Memory}
 use Rattle.mad_layout.proofs.PlainLineLemmas.{plain_start, plain_put, plain_sent, plain_done, plain_refused, plain_none}
@@ -29,18 +28,18 @@ pub loop-text-preserved : goal.loop-text-preserved
 loop-text-preserved g c =
     let held = c.loop-text.invariant in
     let text = c.in-Some-next_plain.text in
-    let step : IsPlainStep c.in-Some.most (unread c.loop-text.cursor) text.now (unread c.next_plain.new.self) = c.in-Some-next_plain.ensures.step in
+    let step : IsPlainRead c.in-Some.most (lines_left c.loop-text.parts) text.now (lines_left c.next_plain.new.self) = c.in-Some-next_plain.ensures in
     let put = plain_put c.args.skin.now c.args.width c.in-Some.most c.args.lines.now text _ _ _ _ _ _ _ _ _ c.in-Some.ensures step.short (search rules) step.plain (search rules) step.line c.in_ok-push_str.ensures.bytes c.in_ok-push_str-2.ensures.bytes held.so_far in
     record {
       so_far = plain_sent _ _ _ _ _ _ _ _ _ _ put c.in_ok-send.ensures;
       none = held.none;
-      shorter = omega (arith, step.shorter, held.shorter);
+      shorter = omega (arith, ap length step.line, held.shorter);
     }
 
 pub returns-in_err-send-clause-handed : goal.returns-in_err-send-clause-handed
 returns-in_err-send-clause-handed g c =
     let held = c.loop-text.invariant in
     let text = c.in-Some-next_plain.text in
-    let step : IsPlainStep c.in-Some.most (unread c.loop-text.cursor) text.now (unread c.next_plain.new.self) = c.in-Some-next_plain.ensures.step in
+    let step : IsPlainRead c.in-Some.most (lines_left c.loop-text.parts) text.now (lines_left c.next_plain.new.self) = c.in-Some-next_plain.ensures in
     let put = plain_put c.args.skin.now c.args.width c.in-Some.most c.args.lines.now text _ _ _ _ _ _ _ _ _ c.in-Some.ensures step.short (search rules) step.plain (search rules) step.line c.in_ok-push_str.ensures.bytes c.in_ok-push_str-2.ensures.bytes held.so_far in
     plain_refused _ _ _ _ _ _ _ _ _ _ _ _ _ put c.from_residual-in_err-send.ensures.1 c.in_err-send.ensures

@@ -3,7 +3,7 @@ use Rattle.std.proofs.Common.{◌≡◌, ℕ, Bool, true, false, not, ◌&&◌, 
 use Rattle.std.proofs.lemmas.List.{append-nil}
 use Rattle.mad_md.specs.Lines.{LineContent, normal, table_row, table_rule, horizontal_rule}
 use Rattle.mad_format.specs.CompositeWraps.{IsCompositeWrap}
-use Rattle.mad_layout.specs.TextParts.{is_code, is_table, stand_together, in_front, text_parts}
+use Rattle.mad_format.specs.TextParts.{is_code, is_table, stand_together, in_front, text_parts}
 use Rattle.mad_format.specs.Layouts.{AreRead, IsLayoutAt}
 use Rattle.mad_format.specs.Lines.{IsLineRead}
 use Rattle.mad_format.specs.Parts.{Part, table, block, single, is_code_kind, is_code_line, with_table, with_code, with_composite, with_line, parts_of, table_width, wrap_width, ArePartsAt}
@@ -14,7 +14,12 @@ use Rattle.mad_format.specs.declared.line.FmtLine.{FmtLine}
 use Rattle.mad_format.specs.declared.line.FmtLine.TheVariants.{Normal, TableRow, TableRule, HorizontalRule}
 use Rattle.mad_format.proofs.LayoutLemmas.{parts_joined}
 use Rattle.mad_format.proofs.PartRuns.{table_in_front, block_in_front, alone_first}
-use Rattle.mad_layout.proofs.RowsExist.{by_bool}
+
+-- ---- tests
+
+pub by_bool : (P : Bool → Type 0) (b : Bool) → (b ≡ true → P true) → (b ≡ false → P false) → P b
+by_bool P true on off = on refl
+by_bool P false on off = off refl
 
 -- ---- no part goes on from these lines to those
 
@@ -50,7 +55,7 @@ some_part c ((d ∷ ds) ∷ parts) =
     (λ on. (c ∷ d ∷ ds, parts, refl)) (λ off. (c ∷ [], (d ∷ ds) ∷ parts, refl))
 
 -- the parts begin with their first line
-begins : (c : LineContent) (parts : List (List LineContent)) → (cs : List LineContent) × (ps : List (List LineContent)) × (in_front c parts ≡ (c ∷ cs) ∷ ps)
+pub begins : (c : LineContent) (parts : List (List LineContent)) → (cs : List LineContent) × (ps : List (List LineContent)) × (in_front c parts ≡ (c ∷ cs) ∷ ps)
 begins c [] = ([], [], refl)
 begins c ([] ∷ parts) = ([], [] ∷ parts, refl)
 begins c ((d ∷ ds) ∷ parts) =
@@ -79,7 +84,7 @@ apart_parts (c ∷ d ∷ cs) rest h =
 
 -- ---- so it is for what was read of them
 
-is_as_read : (skin : LineRules) (c : LineContent) (l : FmtLine) → IsLineRead skin c l → (is_code_line l ≡ is_code c) × (is_table_line l ≡ is_table c)
+pub is_as_read : (skin : LineRules) (c : LineContent) (l : FmtLine) → IsLineRead skin c l → (is_code_line l ≡ is_code c) × (is_table_line l ≡ is_table c)
 is_as_read skin (normal said) (Normal l) h = (ap is_code_kind h.kind, refl)
 is_as_read skin (normal said) (TableRow row) h = absurd h
 is_as_read skin (normal said) (TableRule rule) h = absurd h
@@ -185,7 +190,7 @@ read_apart skin (c ∷ d ∷ cs) rest (l ∷ k ∷ ls) ms h f r =
     ∙ line_joined l some.0 some.1 (parts_of ms)
     ∙ ap (λ (ps : List Part). with_line l ps ++ parts_of ms) (sym some.2)
 
-both_read : (skin : LineRules) (front rest : List LineContent) (ls ms : List FmtLine) → AreRead skin front ls → AreRead skin rest ms → AreRead skin (front ++ rest) (ls ++ ms)
+pub both_read : (skin : LineRules) (front rest : List LineContent) (ls ms : List FmtLine) → AreRead skin front ls → AreRead skin rest ms → AreRead skin (front ++ rest) (ls ++ ms)
 both_read skin [] rest [] ms f r = r
 both_read skin [] rest (l ∷ ls) ms f r = absurd f
 both_read skin (c ∷ cs) rest [] ms f r = absurd f
