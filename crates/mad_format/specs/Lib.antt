@@ -1,16 +1,6 @@
-pub mod CodeBlocks
 pub mod CompositeWraps
-pub mod FittingLayouts
 pub mod Indents
-pub mod Laying
-pub mod LayoutExamples
-pub mod LayoutLaws
-pub mod Layouts
 pub mod LineRules
 pub mod Lines
-pub mod Parts
-pub mod TableLaws
-pub mod TableRows
-pub mod Tables
 pub mod WrappedLines
 pub mod Wraps

@@ -51,8 +51,10 @@ pub fn hard_wrap_composite<'s, S: LineSkin>(
     Ok(wrap_composite(alloc, composite, width, skin)?)
 }
 
-/// What a composite that is too wide is wrapped into, at any width.
-pub(crate) fn wrap_composite<'s, S: LineSkin>(
+/// Wraps a composite that is wider than `width` columns, as [`hard_wrap_composite`] does, at any width: each cell of a table has its own.
+///
+/// The cached length has to be right. Only out of memory is an error.
+pub fn wrap_composite<'s, S: LineSkin>(
     alloc: Global,
     composite: &FmtComposite<'s>,
     width: usize,
@@ -176,8 +178,10 @@ fn wrap_lines<'s, S: LineSkin>(
     Ok(wrapped)
 }
 
-/// Puts what a line becomes, at any width, after the lines that are there.
-pub(crate) fn push_line<'s, S: LineSkin>(
+/// Puts what a line becomes, at any width in columns, after the lines that are there: what [`hard_wrap_lines`] makes of it.
+///
+/// The cached length has to be right. Only out of memory is an error, and can leave some of the lines.
+pub fn push_line<'s, S: LineSkin>(
     alloc: Global,
     lines: &mut Vec<FmtLine<'s>>,
     line: FmtLine<'s>,
@@ -221,10 +225,11 @@ fn push_composite<'s, S: LineSkin>(
     )
 }
 
-/// Puts what a composite that was read becomes, at any width, after the lines that are there.
+/// Puts what a composite that was read becomes, at any width in columns, after the lines that are there: what [`push_line`] puts.
 ///
-/// Where it is wrapped, it is measured no further than to where it passes the width.
-pub(crate) fn push_read<'s, S: LineSkin>(
+/// Where it is wrapped, it is measured no further than to where it passes the width. Only out of memory is an error, and can leave some of
+/// the lines.
+pub fn push_read<'s, S: LineSkin>(
     alloc: Global,
     lines: &mut Vec<FmtLine<'s>>,
     composite: Composite<'s>,

@@ -4,19 +4,19 @@ use Rattle.std.proofs.lemmas.List.{append-nil, length-append}
 use Rattle.mad_md.specs.Lines.{LineContent}
 use Rattle.mad_format.specs.CompositeWraps.{IsCompositeWrap}
 use Rattle.mad_layout.specs.Fronts.{IsFrontLayout}
-use Rattle.mad_format.specs.Laying.{AreOpenParts, IsLaidFor, ArePartsClosed}
-use Rattle.mad_format.specs.Layouts.{IsLayoutAt}
-use Rattle.mad_format.specs.Parts.{parts_of, table_width, wrap_width, ArePartsAt}
+use Rattle.mad_blocks.specs.Laying.{AreOpenParts, IsLaidFor, ArePartsClosed}
+use Rattle.mad_blocks.specs.Layouts.{IsLayoutAt}
+use Rattle.mad_blocks.specs.Parts.{parts_of, table_width, wrap_width, ArePartsAt}
 use Rattle.mad_layout.specs.TextParts.{text_parts}
 use Rattle.mad_layout.specs.WrittenParts.{IsPartKind}
-use Rattle.mad_format.specs.declared.laying.Laying.{Laying}
+use Rattle.mad_blocks.specs.declared.laying.Laying.{Laying}
 use Rattle.mad_layout.specs.declared.part_kinds.PartKind.{PartKind}
 use Rattle.mad_layout.specs.declared.skin.MadSkin.{MadSkin}
 use Rattle.mad_format.specs.declared.composite.FmtComposite.{FmtComposite}
 use Rattle.mad_format.specs.declared.line.FmtLine.{FmtLine}
 use Rattle.mad_format.specs.declared.line.FmtLine.TheVariants.{Normal}
 use Rattle.mad_layout.proofs.LayoutJoins.{apart, apart_front, apart_parts, layouts_joined}
-use Rattle.mad_format.proofs.LayoutLemmas.{laid_start, laid_end, open_none}
+use Rattle.mad_blocks.proofs.LayoutLemmas.{laid_start, laid_end, open_none}
 use Rattle.mad_layout.proofs.WrittenLemmas.{EndsIn, ends_in}
 use Rattle.mad_layout.specs.Styles.{line_rules}
 

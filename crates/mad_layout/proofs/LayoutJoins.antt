@@ -4,16 +4,15 @@ use Rattle.std.proofs.lemmas.List.{append-nil}
 use Rattle.mad_md.specs.Lines.{LineContent, normal, table_row, table_rule, horizontal_rule}
 use Rattle.mad_format.specs.CompositeWraps.{IsCompositeWrap}
 use Rattle.mad_layout.specs.TextParts.{is_code, is_table, stand_together, in_front, text_parts}
-use Rattle.mad_format.specs.Layouts.{AreRead, IsLayoutAt}
-use Rattle.mad_format.specs.Lines.{IsLineRead}
-use Rattle.mad_format.specs.Parts.{Part, table, block, single, is_code_kind, is_code_line, with_table, with_code, with_composite, with_line, parts_of, table_width, wrap_width, ArePartsAt}
-use Rattle.mad_format.specs.Tables.{is_table_line}
+use Rattle.mad_blocks.specs.Layouts.{AreRead, IsLayoutAt}
+use Rattle.mad_format.specs.Lines.{IsLineRead, is_table_line}
+use Rattle.mad_blocks.specs.Parts.{Part, table, block, single, is_code_kind, is_code_line, with_table, with_code, with_composite, with_line, parts_of, table_width, wrap_width, ArePartsAt}
 use Rattle.mad_format.specs.LineRules.{LineRules}
 use Rattle.mad_format.specs.declared.composite.FmtComposite.{FmtComposite}
 use Rattle.mad_format.specs.declared.line.FmtLine.{FmtLine}
 use Rattle.mad_format.specs.declared.line.FmtLine.TheVariants.{Normal, TableRow, TableRule, HorizontalRule}
-use Rattle.mad_format.proofs.LayoutLemmas.{parts_joined}
-use Rattle.mad_format.proofs.PartRuns.{table_in_front, block_in_front, alone_first}
+use Rattle.mad_blocks.proofs.LayoutLemmas.{parts_joined}
+use Rattle.mad_blocks.proofs.PartRuns.{table_in_front, block_in_front, alone_first}
 use Rattle.mad_layout.proofs.RowsExist.{by_bool}
 
 -- ---- no part goes on from these lines to those

@@ -28,10 +28,10 @@ use Rattle.mad_term.specs.declared.errors.Error.{Error}
 use Rattle.mad_term.proofs.Traces.{took_both}
 use Rattle.mad_draw.specs.Pieces.{pieces_bytes, spaces}
 use Rattle.mad_format.specs.CompositeWraps.{IsCompositeWrap}
-use Rattle.mad_format.specs.Laying.{ArePartsClosed}
-use Rattle.mad_format.specs.Layouts.{IsLayoutAt}
+use Rattle.mad_blocks.specs.Laying.{ArePartsClosed}
+use Rattle.mad_blocks.specs.Layouts.{IsLayoutAt}
 use Rattle.mad_format.specs.Lines.{IsLineRead}
-use Rattle.mad_format.specs.Parts.{wrap_width, IsLineAt}
+use Rattle.mad_blocks.specs.Parts.{wrap_width, IsLineAt}
 use Rattle.mad_layout.specs.PlainLines.{IsPlainWidth, HandsOnPlain}
 use Rattle.mad_layout.specs.Rows.{compound_piece, left_of_place}
 use Rattle.mad_layout.specs.Styles.{line_rules, compound_style, ellipsis_bytes}

@@ -24,7 +24,7 @@ use Rattle.mad_layout.specs.FlaggedRows.{AreRowsOf}
 use Rattle.mad_layout.specs.FlaggedTables.{kept_widths, columns_below, rows_in_column, CellInColumn, AreInColumns, rows_down, most_rows, table_across, IsRowAcross, rule_across}
 use Rattle.mad_format.specs.Indents.{indent, follow_up, room_of}
 use Rattle.mad_format.specs.Lines.{bordered}
-use Rattle.mad_format.specs.Parts.{is_code_kind, IsLineAt, AreLinesAt}
+use Rattle.mad_blocks.specs.Parts.{is_code_kind, IsLineAt, AreLinesAt}
 use Rattle.mad_layout.specs.Premises.{IsPlainPrefix, IsPlainText, IsPlainContent, KeepsPremises, inner_width, runs_text}
 use Rattle.mad_layout.specs.Styles.{line_rules, line_style}
 use Rattle.mad_layout.specs.TextParts.{LineInPart}

@@ -13,18 +13,18 @@ use Rattle.mad_term.proofs.Exits.{refused_exit}
 use Rattle.mad_term.proofs.Traces.{after-nil, took_both, stopped_before, stopped_in_first, stopped_in_second, cut_in_first, cut_in_second}
 use Rattle.mad_draw.proofs.PieceLemmas.{bytes_taken_of}
 use Rattle.mad_layout.specs.TextParts.{is_code, is_table, stand_together, text_parts}
-use Rattle.mad_format.specs.Laying.{AreOpenParts, IsLaidFor, ArePartsClosed}
-use Rattle.mad_format.specs.Layouts.{IsLayoutAt}
+use Rattle.mad_blocks.specs.Laying.{AreOpenParts, IsLaidFor, ArePartsClosed}
+use Rattle.mad_blocks.specs.Layouts.{IsLayoutAt}
 use Rattle.mad_layout.specs.Texts.{line_bytes, text_bytes}
 use Rattle.mad_layout.specs.WrittenParts.{WritesParts, IsPartKind, HandsOn}
-use Rattle.mad_format.specs.declared.laying.Laying.{Laying}
+use Rattle.mad_blocks.specs.declared.laying.Laying.{Laying}
 use Rattle.mad_layout.specs.declared.part_kinds.PartKind.{PartKind}
 use Rattle.mad_layout.specs.declared.part_kinds.PartKind.TheVariants.{Alone}
 use Rattle.mad_layout.specs.declared.skin.MadSkin.{MadSkin}
 use Rattle.mad_format.specs.declared.composite.FmtComposite.{FmtComposite}
 use Rattle.mad_format.specs.declared.line.FmtLine.{FmtLine}
 use Rattle.mad_layout.proofs.LayoutJoins.{apart, apart_end, apart_front, apart_parts, layouts_joined}
-use Rattle.mad_format.proofs.LayoutLemmas.{laid_start, laid_end, open_none}
+use Rattle.mad_blocks.proofs.LayoutLemmas.{laid_start, laid_end, open_none}
 use Rattle.mad_layout.specs.Styles.{line_rules}
 
 -- ---- what is written so far

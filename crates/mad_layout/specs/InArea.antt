@@ -8,7 +8,7 @@ use Rattle.mad_term.specs.declared.errors.Error.{Error}
 use Rattle.mad_term.specs.declared.errors.Error.TheVariants.{Memory}
 use Rattle.mad_fit.specs.declared.area.Area.{Area}
 use Rattle.mad_layout.specs.Fronts.{IsFrontLayout}
-use Rattle.mad_format.specs.Layouts.{IsLayoutAt}
+use Rattle.mad_blocks.specs.Layouts.{IsLayoutAt}
 use Rattle.mad_layout.specs.Premises.{KeepsPremises}
 use Rattle.mad_layout.specs.Shown.{area_bytes, AreShownIn}
 use Rattle.mad_layout.specs.TextParts.{lines_in_parts}

@@ -7,8 +7,8 @@ use Rattle.mad_fit.specs.Completions.{left_completion}
 use Rattle.mad_term.specs.Styles.{IsPlain}
 use Rattle.mad_term.specs.Trace.{Trace}
 use Rattle.mad_term.specs.declared.errors.Error.{Error}
-use Rattle.mad_format.specs.Layouts.{IsLayoutAt}
-use Rattle.mad_format.specs.Parts.{wrap_width}
+use Rattle.mad_blocks.specs.Layouts.{IsLayoutAt}
+use Rattle.mad_blocks.specs.Parts.{wrap_width}
 use Rattle.mad_layout.specs.Texts.{text_bytes}
 use Rattle.mad_layout.specs.WrittenParts.{IsPartKind, HandsOn}
 use Rattle.mad_layout.specs.declared.part_kinds.PartKind.TheVariants.{Alone}

@@ -6,7 +6,7 @@ use Rattle.mad_term.specs.Draws.{Draws, Refused}
 use Rattle.mad_term.specs.Trace.{Trace, after}
 use Rattle.mad_term.specs.declared.errors.Error.{Error}
 use Rattle.mad_layout.specs.TextParts.{is_code, is_table, text_parts}
-use Rattle.mad_format.specs.Layouts.{IsLayoutAt}
+use Rattle.mad_blocks.specs.Layouts.{IsLayoutAt}
 use Rattle.mad_layout.specs.Texts.{text_bytes}
 use Rattle.mad_layout.specs.declared.part_kinds.PartKind.{PartKind}
 use Rattle.mad_layout.specs.declared.part_kinds.PartKind.TheVariants.{Code, Table, Alone}

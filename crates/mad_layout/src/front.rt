@@ -9,8 +9,9 @@ ghost use Rattle.mad_layout.specs.InArea.{IsAreaFront};
 use crate::fmt_text::FmtText;
 use crate::part_kinds::{PartKind, ends, is_alone, part_kind};
 use crate::skin::MadSkin;
+use mad_blocks::Laying;
 use mad_fit::Area;
-use mad_format::{FmtLine, Laying};
+use mad_format::FmtLine;
 use mad_md::{LineCursor, ParseOptions};
 use std::alloc::{AllocError, Global};
 

@@ -5,7 +5,7 @@ ghost use Rattle.mad_md.specs.Lines.{LineContent, content_of};
 ghost use Rattle.mad_layout.specs.TextParts.{stand_together};
 ghost use Rattle.mad_layout.specs.WrittenParts.{IsPartKind};
 
-use mad_format::is_code;
+use mad_blocks::is_code;
 use mad_md::Line;
 use mad_style::CompositeKind;
 

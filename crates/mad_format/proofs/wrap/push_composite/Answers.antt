@@ -2,7 +2,7 @@ use Rattle.std.proofs.Common.{Some, ap, ◌∙◌, arith, subst}
 use Rattle.mad_style.specs.LineStyles.{margins_at}
 use Rattle.mad_wrap.specs.LeastWrap.{IsWrap}
 use Rattle.mad_wrap.specs.WrapLines.{compounds_of}
-use Rattle.mad_format.proofs.LayoutLemmas.{then_ok}
+use Rattle.mad_format.proofs.WrapLemmas.{then_ok}
 use Rattle.mad_format.proofs.ReadWraps.{pushed_wrap}
 use Rattle.mad_format.proofs.wrap.push_composite.Goals as goal
 

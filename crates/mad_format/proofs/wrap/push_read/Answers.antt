@@ -4,7 +4,7 @@ use Rattle.mad_md.specs.Flagged.{run_of, flagged_text}
 use Rattle.mad_fit.specs.Columns.{width_of}
 use Rattle.mad_wrap.specs.LeastWrap.{IsWrap}
 use Rattle.mad_wrap.specs.WrapLines.{compounds_of}
-use Rattle.mad_format.proofs.LayoutLemmas.{then_ok}
+use Rattle.mad_format.proofs.WrapLemmas.{then_ok}
 use Rattle.mad_format.proofs.ReadWraps.{read_fits, read_wraps}
 use Rattle.mad_format.proofs.wrap.push_read.Goals as goal
 

@@ -4,9 +4,9 @@ use Rattle.mad_md.specs.Lines.{content_of}
 use Rattle.mad_md.specs.Reading.{IsRead, unread_text}
 use Rattle.mad_md.specs.Scan.{lines_of}
 use Rattle.mad_term.specs.Trace.{after, CutShort}
-use Rattle.mad_format.specs.Laying.{AreOpenParts}
-use Rattle.mad_format.specs.declared.laying.Laying.{Laying}
-use Rattle.mad_format.proofs.LayoutLemmas.{open_none}
+use Rattle.mad_blocks.specs.Laying.{AreOpenParts}
+use Rattle.mad_blocks.specs.declared.laying.Laying.{Laying}
+use Rattle.mad_blocks.proofs.LayoutLemmas.{open_none}
 use Rattle.mad_layout.proofs.WrittenLemmas.{WrittenSoFar, written_start, written_closed, written_on, written_more, written_cut, written_same, written_early, written_refused, written_cut_short, written_whole, apart_before, apart_last}
 use Rattle.mad_layout.proofs.PlainLineLemmas.{written_plain, written_plain_refused}
 use Rattle.mad_layout.proofs.skin.MadSkin.write_parts_on.Given.{Over}

@@ -1,0 +1,11 @@
+pub mod CodeBlockLemmas
+pub mod ExampleLayouts
+pub mod LayoutLemmas
+pub mod PartLemmas
+pub mod PartRuns
+pub mod PassLemmas
+pub mod TableLemmas
+pub mod TableWidths
+pub mod WideLayouts
+pub mod WorkedTables
+pub mod WrapKinds

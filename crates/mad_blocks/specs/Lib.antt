@@ -1,0 +1,10 @@
+pub mod CodeBlocks
+pub mod FittingLayouts
+pub mod Laying
+pub mod LayoutExamples
+pub mod LayoutLaws
+pub mod Layouts
+pub mod Parts
+pub mod TableLaws
+pub mod TableRows
+pub mod Tables
