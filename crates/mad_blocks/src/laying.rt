@@ -14,7 +14,7 @@ ghost use Rattle.mad_format.specs.declared.line.FmtLine.TheVariants.{Normal};
 
 use crate::table_layout::push_whole_table;
 use mad_fit::Spacing;
-use mad_format::{FmtComposite, FmtLine, LineSkin, push_line, push_read, put_line};
+use mad_format::{FmtComposite, FmtLine, LineSkin, margins_in, push_line, push_read, put_line};
 use mad_md::{Alignment, Composite, Line};
 use mad_style::{CompositeKind, LEAST_WIDTH};
 use std::alloc::{AllocError, Global};
@@ -219,9 +219,8 @@ pub fn is_code(kind: CompositeKind) -> bool
 fn room_of_code<S: LineSkin>(width: Option<usize>, skin: &S) -> Option<usize>
     ensures { result ≡ code_room (S.rules skin.now) width }
 {
-    let width = width?;
-    let (left, right) = skin.style_of(CompositeKind::Code).margins_in(Some(width));
-    Some(width - left - right)
+    let (_, inner) = margins_in(skin, CompositeKind::Code, width?);
+    Some(inner)
 }
 
 // The columns of a block of code.

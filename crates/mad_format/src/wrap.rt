@@ -14,7 +14,7 @@ use crate::composite::FmtComposite;
 use crate::indents::follow_up;
 use crate::line::{FmtLine, put_line};
 use crate::line_skin::LineSkin;
-use crate::room::{Room, check_width, room_of};
+use crate::room::{Room, check_width, margins_in, room_of};
 use mad_fit::Spacing;
 use mad_md::Composite;
 use mad_style::CompositeKind;
@@ -153,8 +153,8 @@ fn line_fits<S: LineSkin>(line: &FmtLine, width: usize, skin: &S) -> bool
 {
     match line {
         FmtLine::Normal(composite) => {
-            let margins = skin.style_of(composite.kind).margins_in(Some(width));
-            composite.visible_length <= width - margins.0 - margins.1
+            let (_, inner) = margins_in(skin, composite.kind, width);
+            composite.visible_length <= inner
         }
         _ => true,
     }
@@ -208,8 +208,7 @@ fn push_composite<'s, S: LineSkin>(
     requires { IsMeasured (S.rules skin.now) composite }
     ensures { OnOk result ((own : List FmtLine) × (lines.new.items ≡ lines.old.items ++ own) × IsWrapped (S.rules skin.now) width composite.entry own) }
 {
-    let margins = skin.style_of(composite.kind).margins_in(Some(width));
-    let inner = width - margins.0 - margins.1;
+    let (margins, inner) = margins_in(skin, composite.kind, width);
     if composite.visible_length <= inner {
         return put_line(lines, line_with(margins, composite));
     }
@@ -246,8 +245,8 @@ pub fn push_read<'s, S: LineSkin>(
     }
     let Composite { style, compounds } = composite;
     let kind = CompositeKind::from(style);
-    let margins = skin.style_of(kind).margins_in(Some(width));
-    let room = room_of(skin, kind, width - margins.0 - margins.1);
+    let (margins, inner) = margins_in(skin, kind, width);
+    let room = room_of(skin, kind, inner);
     let Some(columns) = fit_columns(&compounds, room) else {
         let wrap = wrap_compounds(alloc, &compounds, room)?;
         return push_wrapped(lines, wrap, kind, room, None, margins);
