@@ -1,6 +1,6 @@
 //! Lines of a text, laid out one after another; lines of code wait for the end of their block, and those of a table for its end.
 
-ghost use Rattle.std.specs.Prelude.{◌≡◌, ◌≤◌, ◌++◌, ◌∷◌, [], true, false, List, Option, Some, None, map, IfSome, OnOk};
+ghost use Rattle.std.specs.Prelude.{◌≡◌, ◌++◌, ◌∷◌, [], true, false, List, Option, Some, None, OnOk};
 ghost use Rattle.std.specs.List.{AllByRecursion};
 ghost use Rattle.mad_md.specs.Lines.{LineContent, content_of, normal, horizontal_rule, styled_runs};
 ghost use Rattle.mad_format.specs.CompositeWraps.{IsCompositeWrap};

@@ -51,9 +51,9 @@ pub fn hard_wrap_composite<'s, S: LineSkin>(
     Ok(wrap_composite(alloc, composite, width, skin)?)
 }
 
-/// Wraps a composite that is wider than `width` columns, as [`hard_wrap_composite`] does, at any width: each cell of a table has its own.
+/// Wraps a composite that is wider than `width` columns as [`hard_wrap_composite`] does, also at a width under 3, which a column may have.
 ///
-/// The cached length has to be right. Only out of memory is an error.
+/// Its cached length has to be right. Only out of memory is an error.
 pub fn wrap_composite<'s, S: LineSkin>(
     alloc: Global,
     composite: &FmtComposite<'s>,
@@ -180,7 +180,7 @@ fn wrap_lines<'s, S: LineSkin>(
 
 /// Puts what a line becomes, at any width in columns, after the lines that are there: what [`hard_wrap_lines`] makes of it.
 ///
-/// The cached length has to be right. Only out of memory is an error, and can leave some of the lines.
+/// Its cached lengths have to be right. Only out of memory is an error, and can leave some of the lines.
 pub fn push_line<'s, S: LineSkin>(
     alloc: Global,
     lines: &mut Vec<FmtLine<'s>>,
