@@ -1,16 +1,4 @@
-pub mod CodeBlockLemmas
-pub mod ExampleLayouts
-pub mod LayoutJoins
-pub mod LayoutLemmas
 pub mod MeasureLemmas
-pub mod PartCursorLemmas
-pub mod PartLemmas
-pub mod PartRuns
-pub mod PassLemmas
+pub mod ReadLemmas
 pub mod ReadWraps
-pub mod TableLemmas
-pub mod TableWidths
-pub mod WideLayouts
-pub mod WorkedTables
-pub mod WrapKinds
 pub mod WrapLemmas

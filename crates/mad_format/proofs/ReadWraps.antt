@@ -1,13 +1,10 @@
 -- A composite that was read and laid out at once, measured no further than to where it passes the width.
-use Rattle.std.proofs.Common.{◌≡◌, true, ℕ, ◌+◌, ◌-◌, ◌<◌, ◌≤◌, ◌^◌, inl, inr, List, [], ◌∷◌, ◌++◌, map, Option, None, Some, Vec, Global, refl, ap, ◌∙◌, arith, subst}
+use Rattle.std.proofs.Common.{◌≡◌, ℕ, ◌+◌, ◌-◌, ◌<◌, ◌≤◌, ◌^◌, inl, inr, List, [], ◌∷◌, ◌++◌, map, Option, None, Some, Vec, Global, refl, ap, ◌∙◌, arith, subst}
 use Rattle.std.proofs.lemmas.Bool.Decides.{nat_tests}
 use Rattle.mad_md.specs.declared.compound.Compound.{Compound}
 use Rattle.mad_md.specs.declared.composite.CompositeStyle.{CompositeStyle}
 use Rattle.mad_md.specs.Flagged.{run_of, flagged_text}
-use Rattle.mad_md.specs.Lines.{StyledRuns, content_of}
-use Rattle.mad_md.specs.declared.composite.Composite.{Composite}
-use Rattle.mad_md.specs.declared.line.Line.{Line}
-use Rattle.mad_md.specs.declared.line.Line.TheVariants as read
+use Rattle.mad_md.specs.Lines.{StyledRuns}
 use Rattle.mad_style.specs.Kinds.{kind_of}
 use Rattle.mad_style.specs.LineStyles.{margins_at}
 use Rattle.mad_style.specs.declared.line_styles.LineStyle.{LineStyle}
@@ -18,16 +15,14 @@ use Rattle.mad_wrap.specs.LeastWrap.{IsWrap}
 use Rattle.mad_wrap.specs.WrapLines.{capped, compounds_of, AreCounted}
 use Rattle.mad_wrap.specs.declared.room.Room.{Room}
 use Rattle.mad_wrap.specs.declared.wrapped_line.WrappedLine.{WrappedLine}
-use Rattle.mad_format.specs.CompositeWraps.{AreComposites, IsCompositeWrap}
+use Rattle.mad_format.specs.CompositeWraps.{AreComposites}
 use Rattle.mad_format.specs.Indents.{follow_up, room_of}
-use Rattle.mad_format.specs.Lines.{IsCompositeRead, IsLineRead}
-use Rattle.mad_format.specs.Parts.{IsLineAt}
-use Rattle.mad_format.specs.Tables.{is_table_line}
+use Rattle.mad_format.specs.Lines.{IsCompositeRead}
 use Rattle.mad_format.specs.WrappedLines.{IsWrapped, line_with, style_margins}
 use Rattle.mad_format.specs.LineRules.{LineRules}
 use Rattle.mad_format.specs.declared.composite.FmtComposite.{FmtComposite}
 use Rattle.mad_format.specs.declared.line.FmtLine.{FmtLine}
-use Rattle.mad_format.specs.declared.line.FmtLine.TheVariants.{Normal, TableRow, TableRule, HorizontalRule}
+use Rattle.mad_format.specs.declared.line.FmtLine.TheVariants.{Normal}
 use Rattle.mad_format.proofs.WrapLemmas.{composite_wrap}
 
 -- margins leave something of the width, or nothing
@@ -107,21 +102,3 @@ read_wraps skin width style kind compounds margins r wrapped old new kind_is mar
       pushed.1,
       pushed.2,
     )
-
--- what is read of a line that is no composite and no rule is a line of a table
-pub table_read : (skin : LineRules) (line : Line) (l : FmtLine) → ((composite : Composite) → line ≡ read.Normal composite → ⊥) → (line ≡ read.HorizontalRule → ⊥) → IsLineRead skin (content_of line) l → is_table_line l ≡ true
-table_read skin (read.Normal composite) l other rule h = absurd (other composite refl)
-table_read skin (read.TableRow row) (Normal m) other rule h = absurd h
-table_read skin (read.TableRow row) (TableRow made) other rule h = refl
-table_read skin (read.TableRow row) (TableRule made) other rule h = refl
-table_read skin (read.TableRow row) HorizontalRule other rule h = absurd h
-table_read skin (read.TableRule cells) (Normal m) other rule h = absurd h
-table_read skin (read.TableRule cells) (TableRow made) other rule h = refl
-table_read skin (read.TableRule cells) (TableRule made) other rule h = refl
-table_read skin (read.TableRule cells) HorizontalRule other rule h = absurd h
-table_read skin read.HorizontalRule l other rule h = absurd (rule refl)
-
--- a rule stays at any width
-pub rule_at : (skin : LineRules) (width : Option ℕ) → IsLineAt IsCompositeWrap skin width HorizontalRule (HorizontalRule ∷ [])
-rule_at skin None = refl
-rule_at skin (Some width) = refl

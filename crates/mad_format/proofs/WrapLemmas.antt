@@ -1,6 +1,6 @@
 -- Lines of wrapped compounds are a wrap of their composite.
-use Rattle.std.proofs.Common.{◌≡◌, ℕ, ◌+◌, ◌<◌, List, [], ◌∷◌, ◌++◌, Option, None, Result, Ok, Err, IfOk, refl, sym, ap, ◌∙◌, arith, subst, append_assoc}
-use Rattle.std.proofs.lemmas.List.{append-nil}
+use Rattle.std.proofs.Common.{◌≡◌, ℕ, ◌+◌, ◌<◌, List, [], ◌∷◌, ◌++◌, length, drop, get_or, Option, None, Result, Ok, Err, IfOk, OnOk, refl, sym, ap, ◌∙◌, arith, subst, append_assoc}
+use Rattle.std.proofs.lemmas.List.{append-nil, at_drop_more}
 use Rattle.std.specs.List.{AllByRecursion}
 use Rattle.mad_md.specs.Flagged.{flagged_text}
 use Rattle.mad_style.specs.declared.kinds.CompositeKind.{CompositeKind}
@@ -97,7 +97,17 @@ composite_wrap skin width source lines cs wrap counted h =
       margins = margins_are source.kind (follow_up source.kind) r.first r.other source.spacing lines cs h;
     }
 
+-- ---- of any list or result
+
+-- what is left of a list begins with its next element
+pub next_of : {A : Type 0} (xs : List A) (i : ℕ) (x : A) → i < length xs → x ≡ get_or xs i x → drop i xs ≡ x ∷ drop (i + 1) xs
+next_of {A} xs i x inside is = at_drop_more (λ y. y) xs i x inside ∙ ap (λ y. y ∷ drop (i + 1) xs) (sym is)
+
 -- what follows of an Ok
 pub ok_then : {T E : Type 0} (P Q : T → Type 0) → ((x : T) → P x → Q x) → (r : Result T E) → IfOk r P → IfOk r Q
 ok_then P Q f (Ok x) h = f x h
 ok_then P Q f (Err e) h = tt
+
+pub then_ok : {T E : Type 0} (P Q : Type 0) (r : Result T E) → (P → Q) → OnOk r P → OnOk r Q
+then_ok {T} {E} P Q (Ok x) f h = f h
+then_ok {T} {E} P Q (Err e) f h = tt

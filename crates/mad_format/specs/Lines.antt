@@ -1,5 +1,5 @@
 -- Lines of a layout.
-use Rattle.std.specs.Prelude.{◌≡◌, ℕ, ◌+◌, ◌-◌, max, List, [], ◌∷◌, ◌++◌, length, take, replicate, map, None}
+use Rattle.std.specs.Prelude.{◌≡◌, ℕ, ◌+◌, ◌-◌, max, Bool, true, false, List, [], ◌∷◌, ◌++◌, length, take, replicate, map, None}
 use Rattle.mad_md.specs.Flagged.{run_of}
 use Rattle.mad_md.specs.Lines.{StyledRuns, LineContent, normal, table_row, table_rule, horizontal_rule}
 use Rattle.mad_md.specs.declared.alignment.Alignment.{Alignment}
@@ -14,6 +14,13 @@ use Rattle.mad_format.specs.declared.line.FmtLine.{FmtLine}
 use Rattle.mad_format.specs.declared.line.FmtLine.TheVariants.{Normal, TableRow, TableRule, HorizontalRule}
 use Rattle.mad_format.specs.declared.table.FmtTableRule.{FmtTableRule}
 use Rattle.mad_format.specs.declared.table.RelativePosition.TheVariants.{Other}
+
+-- a line of a table
+abbrev pub is_table_line : FmtLine → Bool
+is_table_line (Normal l) = false
+is_table_line (TableRow row) = true
+is_table_line (TableRule rule) = true
+is_table_line HorizontalRule = false
 
 -- the cached lengths of cells, added up
 abbrev pub cells_columns : List FmtComposite → ℕ

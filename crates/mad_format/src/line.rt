@@ -25,8 +25,7 @@ pub enum FmtLine<'s> {
 }
 
 impl<'s> FmtLine<'s> {
-    ghost use Rattle.mad_format.specs.Lines.{columns_of_line};
-    ghost use Rattle.mad_format.specs.Tables.{is_table_line};
+    ghost use Rattle.mad_format.specs.Lines.{columns_of_line, is_table_line};
 
     /// A line as it was read, measured with the indent that it has in this skin. Only out of memory is an error.
     pub fn from<S: LineSkin>(alloc: Global, line: Line<'s>, skin: &S) -> Result<Self, AllocError>
@@ -41,7 +40,7 @@ impl<'s> FmtLine<'s> {
     }
 
     /// Whether the line is a row of a table or a rule across one.
-    pub(crate) fn is_table_line(&self) -> bool
+    pub fn is_table_line(&self) -> bool
         ensures { result ≡ is_table_line self.now }
     {
         matches!(self, FmtLine::TableRow(_) | FmtLine::TableRule(_))
@@ -62,10 +61,7 @@ impl<'s> FmtLine<'s> {
 }
 
 /// Puts a line after the others. Only out of memory is an error.
-pub(crate) fn put_line<'s>(
-    lines: &mut Vec<FmtLine<'s>>,
-    line: FmtLine<'s>,
-) -> Result<(), AllocError>
+pub fn put_line<'s>(lines: &mut Vec<FmtLine<'s>>, line: FmtLine<'s>) -> Result<(), AllocError>
     ensures { OnOk result (lines.new.items ≡ lines.old.items ++ line.entry ∷ []) }
 {
     Ok(lines.push(line)?)

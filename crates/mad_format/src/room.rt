@@ -1,6 +1,7 @@
 //! The room that a composite has in a width.
 
-ghost use Rattle.std.specs.Prelude.{◌≡◌, ◌≤◌, ◌<◌, IfOk, IfErr};
+ghost use Rattle.std.specs.Prelude.{◌≡◌, ◌≤◌, ◌<◌, ◌-◌, IfOk, IfErr, Some};
+ghost use Rattle.mad_style.specs.LineStyles.{margins_at};
 ghost use Rattle.mad_format.specs.Indents.{room_of};
 
 use crate::indents::composite_kind_widths;
@@ -19,6 +20,19 @@ pub fn room_of<S: LineSkin>(skin: &S, kind: CompositeKind, width: usize) -> Room
         other,
         width,
     }
+}
+
+/// The margins (left, right) that a line of this kind has at a width, by its style, and the columns that they leave of it.
+pub fn margins_in<S: LineSkin>(
+    skin: &S,
+    kind: CompositeKind,
+    width: usize,
+) -> ((usize, usize), usize)
+    ensures margins { result.0 ≡ margins_at ((S.rules skin.now).line_style kind) (Some width) }
+    ensures inner { result.1 ≡ width - result.0.0 - result.0.1 }
+{
+    let margins = skin.style_of(kind).margins_in(Some(width));
+    (margins, width - margins.0 - margins.1)
 }
 
 /// Refuses a width, in columns, that is too small to wrap anything in.

@@ -14,7 +14,7 @@ use crate::composite::FmtComposite;
 use crate::indents::follow_up;
 use crate::line::{FmtLine, put_line};
 use crate::line_skin::LineSkin;
-use crate::room::{Room, check_width, room_of};
+use crate::room::{Room, check_width, margins_in, room_of};
 use mad_fit::Spacing;
 use mad_md::Composite;
 use mad_style::CompositeKind;
@@ -51,8 +51,10 @@ pub fn hard_wrap_composite<'s, S: LineSkin>(
     Ok(wrap_composite(alloc, composite, width, skin)?)
 }
 
-/// What a composite that is too wide is wrapped into, at any width.
-pub(crate) fn wrap_composite<'s, S: LineSkin>(
+/// Wraps a composite that is wider than `width` columns as [`hard_wrap_composite`] does, also at a width under 3, which a column may have.
+///
+/// Its cached length has to be right. Only out of memory is an error.
+pub fn wrap_composite<'s, S: LineSkin>(
     alloc: Global,
     composite: &FmtComposite<'s>,
     width: usize,
@@ -151,8 +153,8 @@ fn line_fits<S: LineSkin>(line: &FmtLine, width: usize, skin: &S) -> bool
 {
     match line {
         FmtLine::Normal(composite) => {
-            let margins = skin.style_of(composite.kind).margins_in(Some(width));
-            composite.visible_length <= width - margins.0 - margins.1
+            let (_, inner) = margins_in(skin, composite.kind, width);
+            composite.visible_length <= inner
         }
         _ => true,
     }
@@ -176,8 +178,10 @@ fn wrap_lines<'s, S: LineSkin>(
     Ok(wrapped)
 }
 
-/// Puts what a line becomes, at any width, after the lines that are there.
-pub(crate) fn push_line<'s, S: LineSkin>(
+/// Puts what a line becomes, at any width in columns, after the lines that are there: what [`hard_wrap_lines`] makes of it.
+///
+/// Its cached lengths have to be right. Only out of memory is an error, and can leave some of the lines.
+pub fn push_line<'s, S: LineSkin>(
     alloc: Global,
     lines: &mut Vec<FmtLine<'s>>,
     line: FmtLine<'s>,
@@ -204,8 +208,7 @@ fn push_composite<'s, S: LineSkin>(
     requires { IsMeasured (S.rules skin.now) composite }
     ensures { OnOk result ((own : List FmtLine) × (lines.new.items ≡ lines.old.items ++ own) × IsWrapped (S.rules skin.now) width composite.entry own) }
 {
-    let margins = skin.style_of(composite.kind).margins_in(Some(width));
-    let inner = width - margins.0 - margins.1;
+    let (margins, inner) = margins_in(skin, composite.kind, width);
     if composite.visible_length <= inner {
         return put_line(lines, line_with(margins, composite));
     }
@@ -221,10 +224,11 @@ fn push_composite<'s, S: LineSkin>(
     )
 }
 
-/// Puts what a composite that was read becomes, at any width, after the lines that are there.
+/// Puts what a composite that was read becomes, at any width in columns, after the lines that are there: what [`push_line`] puts.
 ///
-/// Where it is wrapped, it is measured no further than to where it passes the width.
-pub(crate) fn push_read<'s, S: LineSkin>(
+/// Where it is wrapped, it is measured no further than to where it passes the width. Only out of memory is an error, and can leave some of
+/// the lines.
+pub fn push_read<'s, S: LineSkin>(
     alloc: Global,
     lines: &mut Vec<FmtLine<'s>>,
     composite: Composite<'s>,
@@ -241,8 +245,8 @@ pub(crate) fn push_read<'s, S: LineSkin>(
     }
     let Composite { style, compounds } = composite;
     let kind = CompositeKind::from(style);
-    let margins = skin.style_of(kind).margins_in(Some(width));
-    let room = room_of(skin, kind, width - margins.0 - margins.1);
+    let (margins, inner) = margins_in(skin, kind, width);
+    let room = room_of(skin, kind, inner);
     let Some(columns) = fit_columns(&compounds, room) else {
         let wrap = wrap_compounds(alloc, &compounds, room)?;
         return push_wrapped(lines, wrap, kind, room, None, margins);

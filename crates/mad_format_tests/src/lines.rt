@@ -6,9 +6,8 @@ ghost use Rattle.mad_format.specs.WrappedLines.{AllMeasured};
 use crate::pictures::push_margins;
 use crate::skins::{plain_skin, skin_with};
 use crate::words::number;
-use mad_format::{
-    FmtComposite, FmtLine, LineSkin, find_blocks, hard_wrap_lines, lay_source, wrap_bound,
-};
+use mad_blocks::{find_blocks, lay_source};
+use mad_format::{FmtComposite, FmtLine, LineSkin, hard_wrap_lines, wrap_bound};
 use mad_md::{Compound, parse_text};
 use mad_style::ListItemsIndentationMode;
 use mad_term::Error;

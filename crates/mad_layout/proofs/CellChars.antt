@@ -23,7 +23,7 @@ use Rattle.mad_format.specs.Lines.{bordered, rule_columns}
 use Rattle.mad_layout.specs.Premises.{IsPlainPrefix}
 use Rattle.mad_layout.specs.Rows.{prefix_pieces, compound_piece, composite_pieces, cell_pieces, vertical_piece, placed_pieces, row_columns, rule_chars, left_of_place, right_of_place, align_in, place_of, inner_blanks}
 use Rattle.mad_layout.specs.Styles.{line_rules, line_style}
-use Rattle.mad_format.specs.Tables.{in_column, IsBlankIn, IsTop, IsLineAcross, AreDown, below}
+use Rattle.mad_blocks.specs.Tables.{in_column, IsBlankIn, IsTop, IsLineAcross, AreDown, below}
 use Rattle.mad_format.specs.Wraps.{text_of, columns_of}
 use Rattle.mad_layout.specs.declared.skin.MadSkin.{MadSkin}
 use Rattle.mad_format.specs.declared.composite.FmtComposite.{FmtComposite}

@@ -20,19 +20,18 @@ use Rattle.mad_wrap.specs.WrapLines.{HasRoom, LinesFit, IsMadeOf}
 use Rattle.mad_wrap.specs.declared.room.Room.{Room}
 use Rattle.mad_layout.specs.Drawable.{IsDrawableLine, AreDrawable}
 use Rattle.mad_fit.specs.declared.spacing.Spacing.{Spacing}
-use Rattle.mad_format.specs.FittingLayouts.{IsFittingWrap, IsFittingLayout}
+use Rattle.mad_blocks.specs.FittingLayouts.{IsFittingWrap, IsFittingLayout}
 use Rattle.mad_format.specs.Indents.{indent, follow_up, room_of}
-use Rattle.mad_format.specs.Layouts.{AreRead}
-use Rattle.mad_format.proofs.WideLayouts.{IsLayout}
-use Rattle.mad_format.specs.Lines.{IsLineRead}
-use Rattle.mad_format.specs.Parts.{Part, table, block, single, parts_of, justified, code_room, IsLineAt, AreLinesAt, ArePartsAt}
-use Rattle.mad_format.specs.Tables.{is_table_line}
+use Rattle.mad_blocks.specs.Layouts.{AreRead}
+use Rattle.mad_blocks.proofs.WideLayouts.{IsLayout}
+use Rattle.mad_format.specs.Lines.{IsLineRead, is_table_line}
+use Rattle.mad_blocks.specs.Parts.{Part, table, block, single, parts_of, justified, code_room, IsLineAt, AreLinesAt, ArePartsAt}
 use Rattle.mad_layout.specs.Premises.{IsPlainRun, inner_width, runs_text, IsPlainPrefix, IsPlainText, IsPlainContent, KeepsPremises}
 use Rattle.mad_layout.specs.Rows.{place_of}
 use Rattle.mad_layout.specs.Styles.{line_rules, line_style}
 use Rattle.mad_format.specs.CompositeWraps.{line_compounds, HaveKinds}
 use Rattle.mad_format.specs.WrappedLines.{style_margins, line_with, IsLaidOutBy}
-use Rattle.mad_format.specs.TextParts.{LineInPart, text_parts, aligns_at, lines_in, lines_in_parts}
+use Rattle.mad_blocks.specs.TextParts.{LineInPart, text_parts, aligns_at, lines_in, lines_in_parts}
 use Rattle.mad_format.specs.Wraps.{text_of, columns_of, IsMeasured}
 use Rattle.mad_layout.specs.declared.skin.MadSkin.{MadSkin}
 use Rattle.mad_format.specs.declared.composite.FmtComposite.{FmtComposite}
@@ -41,9 +40,9 @@ use Rattle.mad_format.specs.declared.line.FmtLine.TheVariants.{Normal, TableRow,
 use Rattle.mad_layout.proofs.DrawableTables.{Later, table_drawable}
 use Rattle.mad_layout.proofs.DrawnParts.{each_of, pieces_shown, runs_are, some_joined, utf8_of}
 use Rattle.mad_layout.proofs.PrefixLemmas.{prefix_shown, prefix_columns, follow_up_plain}
-use Rattle.mad_format.proofs.PartLemmas.{IsPlacedLine, ArePlacedLines, IsPartOfKind, parts_kinds, code_placed}
+use Rattle.mad_blocks.proofs.PartLemmas.{IsPlacedLine, ArePlacedLines, IsPartOfKind, parts_kinds, code_placed}
 use Rattle.mad_layout.proofs.ReadParts.{ArePartsRead, parts_read, part_raw, all_in}
-use Rattle.mad_format.proofs.WrapKinds.{layout_fits}
+use Rattle.mad_blocks.proofs.WrapKinds.{layout_fits}
 use Rattle.mad_format.proofs.ReadWraps.{margins-le}
 use Rattle.mad_layout.proofs.ColumnChars.{column_piece}
 use Rattle.mad_layout.proofs.WholeTokens.{IsShownRun, plain_is_shown, tokens_shown}

@@ -21,17 +21,17 @@ use Rattle.mad_wrap.specs.declared.room.Room.{Room}
 use Rattle.mad_draw.specs.Pieces.{AreShownPieces, pieces_columns}
 use Rattle.mad_format.specs.CompositeWraps.{line_compounds, HaveKinds}
 use Rattle.mad_layout.specs.Drawable.{FillsItsPlace, IsDrawableRow, IsDrawableRule, IsDrawableLine, AreDrawable}
-use Rattle.mad_format.specs.FittingLayouts.{IsFittingWrap}
+use Rattle.mad_blocks.specs.FittingLayouts.{IsFittingWrap}
 use Rattle.mad_format.specs.Indents.{indent, follow_up, room_of}
-use Rattle.mad_format.specs.Layouts.{AreRead}
-use Rattle.mad_format.specs.Lines.{bordered, rule_columns, AreCompositesRead, IsLineRead}
+use Rattle.mad_blocks.specs.Layouts.{AreRead}
+use Rattle.mad_format.specs.Lines.{bordered, rule_columns, AreCompositesRead, IsLineRead, is_table_line}
 use Rattle.mad_layout.specs.PlainTables.{ArePlainCells, IsPlainTableLine}
 use Rattle.mad_layout.specs.Premises.{IsPlainRun, runs_text, IsPlainPrefix, IsPlainText, AreBordersShown, ArePlainIn, IsPlainContent, KeepsPremises}
 use Rattle.mad_layout.specs.Rows.{compound_piece, inner_columns, prefix_pieces, place_of, row_columns, rule_chars}
 use Rattle.mad_layout.specs.Styles.{line_rules, line_style}
-use Rattle.mad_format.specs.Tables.{AreKeptWidths, in_column, IsBlankIn, columns_with, centered, columns_from, columns_count, columns_in, is_table_line, position_at, IsTop, IsLineAcross, AreDown, below, IsCellLaidOut, AreCellsLaidOut, IsRuleLaidOut, IsTableLineBy, AreTableLinesBy, IsTableLaidOutBy}
+use Rattle.mad_blocks.specs.Tables.{AreKeptWidths, in_column, IsBlankIn, columns_with, centered, columns_from, columns_count, columns_in, position_at, IsTop, IsLineAcross, AreDown, below, IsCellLaidOut, AreCellsLaidOut, IsRuleLaidOut, IsTableLineBy, AreTableLinesBy, IsTableLaidOutBy}
 use Rattle.mad_layout.specs.TableColumns.{kept_widths}
-use Rattle.mad_format.specs.TextParts.{LineInPart, aligns_at, lines_in}
+use Rattle.mad_blocks.specs.TextParts.{LineInPart, aligns_at, lines_in}
 use Rattle.mad_format.specs.Wraps.{text_of, columns_of, IsMeasured}
 use Rattle.mad_layout.specs.declared.skin.MadSkin.{MadSkin}
 use Rattle.mad_format.specs.declared.composite.FmtComposite.{FmtComposite}
@@ -42,8 +42,8 @@ use Rattle.mad_format.specs.declared.table.FmtTableRule.{FmtTableRule}
 use Rattle.mad_format.specs.declared.table.RelativePosition.{RelativePosition}
 use Rattle.mad_layout.proofs.DrawnParts.{each_of, pieces_shown, runs_are, some_joined, utf8_of}
 use Rattle.mad_layout.proofs.PrefixLemmas.{prefix_shown, prefix_columns, follow_up_plain}
-use Rattle.mad_format.proofs.PartRuns.{AllTableLines}
-use Rattle.mad_format.proofs.TableLemmas.{top_spacing}
+use Rattle.mad_blocks.proofs.PartRuns.{AllTableLines}
+use Rattle.mad_blocks.proofs.TableLemmas.{top_spacing}
 use Rattle.mad_layout.proofs.KeptWidths.{AreTableRead, widths_kept}
 use Rattle.mad_layout.proofs.ReadParts.{table_raw}
 use Rattle.mad_layout.proofs.ColumnChars.{column_border, column_rule}

@@ -6,14 +6,13 @@ use Rattle.mad_fit.specs.Areas.{IsWithinLimits}
 use Rattle.mad_fit.specs.declared.area.Area.{Area}
 use Rattle.mad_layout.specs.Drawable.{AreDrawable}
 use Rattle.mad_layout.specs.Headline.{AreShownAcross}
-use Rattle.mad_format.proofs.WideLayouts.{IsLayout}
+use Rattle.mad_blocks.proofs.WideLayouts.{IsLayout}
 use Rattle.mad_layout.specs.Shown.{lines_shown, AreShownIn}
 use Rattle.mad_layout.specs.ShownLayouts.{ShowsLayout, ShowsRowsFrom}
 use Rattle.mad_layout.specs.declared.skin.MadSkin.{MadSkin}
 use Rattle.mad_format.specs.declared.line.FmtLine.{FmtLine}
 use Rattle.mad_layout.proofs.DrawableLemmas.{fitting_is_drawable, drawable_from}
-use Rattle.mad_format.proofs.WrapKinds.{layout_fits}
-use Rattle.mad_format.proofs.WrapKinds.{wrapped_at}
+use Rattle.mad_blocks.proofs.WrapKinds.{layout_fits, wrapped_at}
 use Rattle.mad_layout.proofs.HeadlineRows.{shown_across, took_more_at}
 use Rattle.mad_layout.proofs.RowChars.{line_chars}
 use Rattle.mad_layout.proofs.TextParts.{text_across}

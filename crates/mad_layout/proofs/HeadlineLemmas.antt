@@ -12,17 +12,17 @@ use Rattle.mad_term.proofs.Traces.{flush_failed, took_flushed}
 use Rattle.mad_fit.specs.Areas.{IsWithinLimits}
 use Rattle.mad_fit.specs.declared.area.Area.{Area}
 use Rattle.mad_layout.specs.Drawable.{AreDrawable}
-use Rattle.mad_format.specs.Fronts.{IsFrontLayout}
+use Rattle.mad_blocks.specs.Fronts.{IsFrontLayout}
 use Rattle.mad_layout.specs.InArea.{IsAreaLayout, IsAreaFront, ShowsText, WritesInArea}
-use Rattle.mad_format.specs.Layouts.{IsLayoutAt, IsMarkdownLayout}
+use Rattle.mad_blocks.specs.Layouts.{IsLayoutAt, IsMarkdownLayout}
 use Rattle.mad_layout.specs.Premises.{KeepsPremises}
 use Rattle.mad_layout.specs.Shown.{lines_shown, AreShownIn}
-use Rattle.mad_format.specs.TextParts.{LineInPart, text_parts, lines_in_parts}
+use Rattle.mad_blocks.specs.TextParts.{LineInPart, text_parts, lines_in_parts}
 use Rattle.mad_layout.specs.declared.skin.MadSkin.{MadSkin}
 use Rattle.mad_format.specs.declared.line.FmtLine.{FmtLine}
 use Rattle.mad_layout.specs.declared.fmt_text.FmtText.{FmtText}
 use Rattle.mad_layout.proofs.DrawableLemmas.{layout_is_drawable}
-use Rattle.mad_format.proofs.WrapKinds.{wrapped_at}
+use Rattle.mad_blocks.proofs.WrapKinds.{wrapped_at}
 use Rattle.mad_layout.proofs.ReadParts.{in_parts_both}
 use Rattle.mad_layout.specs.Styles.{line_rules}
 

@@ -16,17 +16,17 @@ use Rattle.mad_fit.specs.declared.area.Area.{Area}
 use Rattle.mad_draw.specs.Pieces.{PennedChar, penned_chars}
 use Rattle.mad_draw.specs.PennedCells.{penned_joined, penned_cells}
 use Rattle.mad_layout.specs.FlaggedTexts.{LineInPart, lines_in_parts, AreAcross}
-use Rattle.mad_format.specs.Fronts.{IsFrontLayout}
+use Rattle.mad_blocks.specs.Fronts.{IsFrontLayout}
 use Rattle.mad_layout.specs.Headline.{cell_chars, AreShownAcross, ShowsFirstRows}
 use Rattle.mad_layout.specs.InArea.{ShowsText}
-use Rattle.mad_format.proofs.WideLayouts.{IsLayout}
+use Rattle.mad_blocks.proofs.WideLayouts.{IsLayout}
 use Rattle.mad_layout.specs.Rows.{row_pieces}
 use Rattle.mad_layout.specs.Shown.{AreShownIn}
 use Rattle.mad_layout.specs.declared.skin.MadSkin.{MadSkin}
 use Rattle.mad_format.specs.declared.line.FmtLine.{FmtLine}
 use Rattle.mad_layout.proofs.ReadParts.{in_parts_both}
 use Rattle.mad_layout.proofs.HeadlineLemmas.{front_keeps}
-use Rattle.mad_format.proofs.WrapKinds.{wrapped_at}
+use Rattle.mad_blocks.proofs.WrapKinds.{wrapped_at}
 use Rattle.mad_layout.proofs.RowChars.{char_of, line_chars, spaces_chars}
 use Rattle.mad_layout.proofs.RowsAcross.{across_exist}
 use Rattle.mad_layout.proofs.TextParts.{text_across}

@@ -23,7 +23,7 @@ use Rattle.mad_layout.specs.Premises.{IsColumnChar, AreRuleChars, IsPlainText, A
 use Rattle.mad_layout.specs.Rows.{rule_chars}
 use Rattle.mad_layout.specs.Sources.{TakesColumns}
 use Rattle.mad_layout.specs.TableColumns.{cell_columns, kept_widths}
-use Rattle.mad_format.specs.TextParts.{lines_in_parts}
+use Rattle.mad_blocks.specs.TextParts.{lines_in_parts}
 use Rattle.mad_format.specs.declared.table.RelativePosition.{RelativePosition}
 use Rattle.mad_format.specs.declared.table.RelativePosition.TheVariants.{Top, Other, Bottom}
 use Rattle.mad_layout.proofs.KindLemmas.{no_newline, letter_ascii}

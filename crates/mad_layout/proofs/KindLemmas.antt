@@ -21,7 +21,7 @@ use Rattle.mad_format.specs.Indents.{indent}
 use Rattle.mad_layout.specs.Premises.{IsPlainPrefix, IsPlainText, KeepsPremises, inner_width, runs_text}
 use Rattle.mad_layout.specs.SeveralKinds.{ascii_skin, several_kinds, SeveralKindsKeepPremises}
 use Rattle.mad_layout.specs.Sources.{TakesColumns}
-use Rattle.mad_format.specs.TextParts.{lines_in_parts}
+use Rattle.mad_blocks.specs.TextParts.{lines_in_parts}
 use Rattle.mad_layout.proofs.SourceLemmas.{plain_run}
 use Rattle.mad_layout.proofs.ColumnChars.{ascii_column}
 

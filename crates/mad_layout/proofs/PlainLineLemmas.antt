@@ -1,5 +1,5 @@
 -- Plain lines, which are written as they are.
-use Rattle.std.proofs.Common.{◌≡◌, ℕ, ◌+◌, ◌-◌, ◌<◌, ◌≤◌, ◌^◌, Bool, true, false, not, List, [], ◌∷◌, ◌++◌, map, length, drop, get_or, chars, Option, None, Some, Result, Ok, Err, Vec, Global, Bor, refl, ap, sym, ◌∙◌, subst, arith, inl, append_assoc}
+use Rattle.std.proofs.Common.{◌≡◌, ℕ, ◌+◌, ◌-◌, ◌<◌, ◌≤◌, ◌^◌, Bool, true, false, List, [], ◌∷◌, ◌++◌, map, length, drop, get_or, chars, Option, None, Some, Result, Ok, Err, Vec, Global, Bor, refl, ap, sym, ◌∙◌, subst, arith, inl, append_assoc}
 use Rattle.std.specs.Prelude.{nat_eq, ◌&&◌}
 use Rattle.std.specs.List.{AllByRecursion}
 use Rattle.std.specs.Str.{IsUtf8, bytes_eq}
@@ -12,7 +12,6 @@ use Rattle.mad_md.specs.Flagged.{Run, plain, flagged, flagged_text, run_of}
 use Rattle.mad_md.specs.Lines.{LineContent}
 use Rattle.mad_md.specs.Plain.{ArePlainBytes, is_plain_byte}
 use Rattle.mad_md.specs.ReadRaw.{raw_runs, plain_line}
-use Rattle.mad_md.specs.Reading.{IsRead, unread_text}
 use Rattle.mad_md.specs.declared.compound.Compound.{Compound}
 use Rattle.mad_style.specs.LineStyles.{margins_at}
 use Rattle.mad_style.specs.declared.kinds.CompositeKind.TheVariants.{Paragraph}
@@ -28,23 +27,23 @@ use Rattle.mad_term.specs.declared.errors.Error.{Error}
 use Rattle.mad_term.proofs.Traces.{took_both}
 use Rattle.mad_draw.specs.Pieces.{pieces_bytes, spaces}
 use Rattle.mad_format.specs.CompositeWraps.{IsCompositeWrap}
-use Rattle.mad_format.specs.Layouts.{IsLayoutAt}
+use Rattle.mad_blocks.specs.Layouts.{IsLayoutAt}
 use Rattle.mad_format.specs.Lines.{IsLineRead}
-use Rattle.mad_format.specs.Parts.{wrap_width, IsLineAt}
-use Rattle.mad_format.specs.PartCursors.{LaidPart}
+use Rattle.mad_blocks.specs.Parts.{wrap_width, IsLineAt}
+use Rattle.mad_blocks.specs.PartCursors.{LaidPart}
 use Rattle.mad_layout.specs.PlainLines.{IsAlone, IsPlainWidth, HandsOnPlain}
 use Rattle.mad_layout.specs.Rows.{compound_piece, left_of_place}
 use Rattle.mad_layout.specs.Styles.{line_rules, compound_style, ellipsis_bytes}
 use Rattle.mad_layout.specs.Texts.{line_bytes, text_bytes}
 use Rattle.mad_format.specs.WrappedLines.{line_with}
-use Rattle.mad_layout.specs.WrittenParts.{HandsOn, WritesParts}
+use Rattle.mad_layout.specs.WrittenParts.{HandsOn, WritesPartsOf}
 use Rattle.mad_layout.specs.declared.skin.MadSkin.{MadSkin}
 use Rattle.mad_format.specs.declared.composite.FmtComposite.{FmtComposite}
 use Rattle.mad_format.specs.declared.line.FmtLine.{FmtLine}
 use Rattle.mad_format.specs.declared.line.FmtLine.TheVariants.{Normal}
 use Rattle.mad_layout.proofs.FlaggedTokens.{if_false}
-use Rattle.mad_format.proofs.LayoutJoins.{apart, apart_front, layouts_joined}
-use Rattle.mad_format.proofs.PartCursorLemmas.{LaidSoFar, apart_after, laid_more, single_apart}
+use Rattle.mad_blocks.proofs.LayoutJoins.{apart, apart_front, layouts_joined}
+use Rattle.mad_blocks.proofs.PartCursorLemmas.{LaidSoFar, apart_after, laid_more, single_apart}
 use Rattle.mad_layout.proofs.PieceLemmas.{bare_piece}
 use Rattle.mad_layout.proofs.WrittenLemmas.{hands_refused, WrittenSoFar, written_more, written_refused, no_whole, refused_after}
 
@@ -311,11 +310,11 @@ written_plain skin width all left later rest lines new kept new_kept old mid end
     (written_more skin width all left q.later (p.own ++ q.lines) kept new_kept old mid end h (plain_laid skin width all left later rest h.done lines new _ new_kept (Ok (tt {0})) mid end h.laid p q)
     (handed.0, sym (rows_both skin width kept lines new p.own q.lines p.added none) ∙ handed.1, handed.2))
 
-pub written_plain_refused : {T : Type 0} (skin : MadSkin) (width : Option ℕ) (markdown : List ℕ) (all left later rest : List LineContent) (lines new : List FmtLine) (kept new_kept : List ℕ) (r : Result T Error) (e : Error) (old mid end : Trace)
-    → IsRead (unread_text false markdown) all → WrittenSoFar skin width all left kept old mid → LaidPart (line_rules skin) width left lines later new → lines ≡ []
-    → HandsOnPlain {T = Unit {0}} skin width later (kept ++ text_bytes skin width new) mid (Err e) end new_kept rest → IsErrAnd r (λ d. d ≡ e) → WritesParts skin width markdown old r end
-written_plain_refused {T} skin width markdown all left later rest lines new kept new_kept r e old mid end read h p none q is =
-    written_refused skin width markdown all left q.later (p.own ++ q.lines) kept r e old mid end read h (plain_laid skin width all left later rest h.done lines new _ new_kept (Err e) mid end h.laid p q) is
+pub written_plain_refused : {T : Type 0} (skin : MadSkin) (width : Option ℕ) (all left later rest : List LineContent) (lines new : List FmtLine) (kept new_kept : List ℕ) (r : Result T Error) (e : Error) (old mid end : Trace)
+    → WrittenSoFar skin width all left kept old mid → LaidPart (line_rules skin) width left lines later new → lines ≡ []
+    → HandsOnPlain {T = Unit {0}} skin width later (kept ++ text_bytes skin width new) mid (Err e) end new_kept rest → IsErrAnd r (λ d. d ≡ e) → WritesPartsOf skin width all old r end
+written_plain_refused {T} skin width all left later rest lines new kept new_kept r e old mid end h p none q is =
+    written_refused skin width all left q.later (p.own ++ q.lines) kept r e old mid end h (plain_laid skin width all left later rest h.done lines new _ new_kept (Err e) mid end h.laid p q) is
     (subst (λ (b : List ℕ). Refused mid b e end) (rows_both skin width kept lines new p.own q.lines p.added none) q.handed)
 
 -- no more lines are left than were

@@ -7,18 +7,18 @@ use Rattle.std.proofs.lemmas.List.Concat.{flat_map-append}
 use Rattle.mad_md.specs.Lines.{LineContent, normal, table_row, table_rule, horizontal_rule}
 use Rattle.mad_md.specs.declared.alignment.Alignment.{Alignment}
 use Rattle.mad_style.specs.Kinds.{kind_of}
-use Rattle.mad_format.specs.TextParts.{is_code, is_table, stand_together, in_front, text_parts}
+use Rattle.mad_blocks.specs.TextParts.{is_code, is_table, stand_together, in_front, text_parts}
 use Rattle.mad_layout.specs.FlaggedTexts.{LineInPart, aligns_at, lines_in, lines_in_parts}
-use Rattle.mad_format.specs.Layouts.{AreRead}
+use Rattle.mad_blocks.specs.Layouts.{AreRead}
 use Rattle.mad_format.specs.Lines.{IsLineRead}
-use Rattle.mad_format.specs.Parts.{Part, table, block, single, is_code_kind, with_table, with_code, with_composite, parts_of}
+use Rattle.mad_blocks.specs.Parts.{Part, table, block, single, is_code_kind, with_table, with_code, with_composite, parts_of}
 use Rattle.mad_layout.specs.declared.skin.MadSkin.{MadSkin}
 use Rattle.mad_format.specs.declared.composite.FmtComposite.{FmtComposite}
 use Rattle.mad_format.specs.declared.line.FmtLine.{FmtLine}
 use Rattle.mad_format.specs.declared.line.FmtLine.TheVariants.{Normal, TableRow, TableRule, HorizontalRule}
-use Rattle.mad_format.proofs.LayoutJoins.{by_bool}
+use Rattle.mad_blocks.proofs.LayoutJoins.{by_bool}
 use Rattle.mad_layout.proofs.KeptWidths.{IsTableLineRead, AreTableRead}
-use Rattle.mad_format.proofs.PartLemmas.{raw_lines}
+use Rattle.mad_blocks.proofs.PartLemmas.{raw_lines}
 use Rattle.mad_layout.specs.Styles.{line_rules}
 
 -- ---- the parts of what was read are those of the text

@@ -26,7 +26,7 @@ use Rattle.mad_draw.specs.Pieces.{RowPiece, IsColumnPiece, char_piece, char_repe
 use Rattle.mad_draw.proofs.PieceLemmas.{ascii_spaces}
 use Rattle.mad_layout.specs.FlaggedLines.{widest_in, skin_char, front_of, placed_columns, row_across}
 use Rattle.mad_format.specs.Indents.{ordered_indent, later_indent}
-use Rattle.mad_format.specs.Parts.{is_code_kind}
+use Rattle.mad_blocks.specs.Parts.{is_code_kind}
 use Rattle.mad_layout.specs.Premises.{IsPlainPrefix, inner_width}
 use Rattle.mad_layout.specs.Rows.{number_piece, prefix_space, prefix_pieces, compound_piece, composite_pieces, row_pieces, left_of_place, right_of_place, align_in, place_of, inner_blanks, outer_blanks}
 use Rattle.mad_layout.specs.Styles.{line_rules, line_style, ordered_item_style}
@@ -37,7 +37,7 @@ use Rattle.mad_format.specs.declared.composite.FmtComposite.{FmtComposite}
 use Rattle.mad_format.specs.declared.line.FmtLine.{FmtLine}
 use Rattle.mad_format.proofs.ReadWraps.{margins-le}
 use Rattle.mad_layout.proofs.RowLemmas.{left_completion-le}
-use Rattle.mad_format.proofs.LayoutJoins.{by_bool}
+use Rattle.mad_blocks.proofs.LayoutJoins.{by_bool}
 
 -- ---- pieces
 

@@ -24,10 +24,10 @@ use Rattle.mad_layout.specs.FlaggedRows.{AreRowsOf}
 use Rattle.mad_layout.specs.FlaggedTables.{kept_widths, columns_below, rows_in_column, CellInColumn, AreInColumns, rows_down, most_rows, table_across, IsRowAcross, rule_across}
 use Rattle.mad_format.specs.Indents.{indent, follow_up, room_of}
 use Rattle.mad_format.specs.Lines.{bordered}
-use Rattle.mad_format.specs.Parts.{is_code_kind, IsLineAt, AreLinesAt}
+use Rattle.mad_blocks.specs.Parts.{is_code_kind, IsLineAt, AreLinesAt}
 use Rattle.mad_layout.specs.Premises.{IsPlainPrefix, IsPlainText, IsPlainContent, KeepsPremises, inner_width, runs_text}
 use Rattle.mad_layout.specs.Styles.{line_rules, line_style}
-use Rattle.mad_format.specs.TextParts.{LineInPart}
+use Rattle.mad_blocks.specs.TextParts.{LineInPart}
 use Rattle.mad_format.specs.WrappedLines.{style_margins, line_with, IsLaidOutBy}
 use Rattle.mad_format.specs.Wraps.{text_of, columns_of, IsMeasured}
 use Rattle.mad_layout.specs.declared.skin.MadSkin.{MadSkin}
@@ -39,7 +39,7 @@ use Rattle.mad_format.proofs.ReadWraps.{margins-le}
 use Rattle.mad_layout.proofs.DrawnParts.{runs_are}
 use Rattle.mad_layout.proofs.PrefixLemmas.{follow_up_plain}
 use Rattle.mad_layout.proofs.RowChars.{place_for, line_chars, row_chars, run_chars}
-use Rattle.mad_format.proofs.LayoutJoins.{by_bool}
+use Rattle.mad_blocks.proofs.LayoutJoins.{by_bool}
 use Rattle.mad_layout.proofs.RowsExist.{rows_of, rows_exist}
 use Rattle.mad_layout.proofs.ColumnChars.{column_piece}
 use Rattle.mad_layout.proofs.WrapRows.{whole_parts, kept_rows, wrapped_rows}

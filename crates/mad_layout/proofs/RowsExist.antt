@@ -19,7 +19,7 @@ use Rattle.mad_wrap.specs.WrapLines.{LinesFit}
 use Rattle.mad_wrap.specs.declared.room.Room.{Room}
 use Rattle.mad_layout.specs.FlaggedRows.{whole, goes_on, tokens_from, tokens_of, IsFittingBreak, AreRowsOf}
 use Rattle.mad_layout.proofs.LeastSizes.{Placing, place_by, Size, total_width, AllBlank, FitsFrom, place_all, least}
-use Rattle.mad_format.proofs.LayoutJoins.{by_bool}
+use Rattle.mad_blocks.proofs.LayoutJoins.{by_bool}
 
 abbrev pub all_blank : List FlaggedChar → Bool
 all_blank t = list_all is_blank t

@@ -29,7 +29,7 @@ use Rattle.mad_fit.proofs.AllLemmas.{all_front, all_back, all_each}
 use Rattle.mad_layout.specs.InArea.{ShowsText}
 use Rattle.mad_style.specs.Kinds.{kind_of}
 use Rattle.mad_layout.specs.Premises.{AreJoined, IsPlainRun, IsPlainText, IsPlainContent, KeepsPremises, inner_width, runs_text}
-use Rattle.mad_format.specs.TextParts.{LineInPart, lines_in_parts}
+use Rattle.mad_blocks.specs.TextParts.{LineInPart, lines_in_parts}
 use Rattle.mad_layout.specs.Sources.{TakesColumns, LinesTakeColumns, ShowsSource}
 use Rattle.mad_layout.specs.declared.skin.MadSkin.{MadSkin}
 use Rattle.mad_layout.proofs.ReadParts.{lines_are}

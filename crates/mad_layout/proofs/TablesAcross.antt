@@ -20,11 +20,11 @@ use Rattle.mad_layout.specs.FlaggedRows.{AreRowsOf}
 use Rattle.mad_layout.specs.FlaggedTables.{columns_among, cells_among, down, kept_widths, columns_below, row_in_column, rows_in_column, CellInColumn, AreInColumns, rows_down, most_rows, table_across, IsRowAcross, rule_across}
 use Rattle.mad_layout.specs.FlaggedTexts.{LineInPart, aligns_at, position_in, lines_in, IsAcross}
 use Rattle.mad_format.specs.Indents.{indent, follow_up, room_of}
-use Rattle.mad_format.specs.Lines.{bordered, IsCompositeRead, AreCompositesRead, IsLineRead}
+use Rattle.mad_format.specs.Lines.{bordered, IsCompositeRead, AreCompositesRead, IsLineRead, is_table_line}
 use Rattle.mad_layout.specs.PlainTables.{ArePlainCells}
 use Rattle.mad_layout.specs.Premises.{IsPlainPrefix, IsPlainText, KeepsPremises}
-use Rattle.mad_format.specs.Tables.{in_column, IsCellLaidOut, AreCellsLaidOut, below, tallest, IsRowLaidOutBy, columns_with, columns_from, columns_count, columns_in, is_table_line, position_at, IsTableLineBy, AreTableLinesBy, IsTableLaidOutBy}
-use Rattle.mad_format.specs.Tables as tables
+use Rattle.mad_blocks.specs.Tables.{in_column, IsCellLaidOut, AreCellsLaidOut, below, tallest, IsRowLaidOutBy, columns_with, columns_from, columns_count, columns_in, position_at, IsTableLineBy, AreTableLinesBy, IsTableLaidOutBy}
+use Rattle.mad_blocks.specs.Tables as tables
 use Rattle.mad_format.specs.Wraps.{text_of, columns_of, IsMeasured}
 use Rattle.mad_layout.specs.declared.skin.MadSkin.{MadSkin}
 use Rattle.mad_format.specs.declared.composite.FmtComposite.{FmtComposite}

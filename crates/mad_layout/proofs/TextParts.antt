@@ -10,12 +10,12 @@ use Rattle.mad_fit.specs.Columns.{width_of}
 use Rattle.mad_fit.specs.declared.area.Area.{Area}
 use Rattle.mad_format.specs.CompositeWraps.{IsCompositeWrap}
 use Rattle.mad_layout.specs.FlaggedLines.{widest_in}
-use Rattle.mad_format.specs.TextParts.{is_code, is_table, text_parts}
+use Rattle.mad_blocks.specs.TextParts.{is_code, is_table, text_parts}
 use Rattle.mad_layout.specs.FlaggedTexts.{lines_in, lines_in_parts}
 use Rattle.mad_format.specs.Indents.{indent}
-use Rattle.mad_format.proofs.WideLayouts.{IsLayout}
+use Rattle.mad_blocks.proofs.WideLayouts.{IsLayout}
 use Rattle.mad_format.specs.Lines.{IsLineRead, IsCompositeRead}
-use Rattle.mad_format.specs.Parts.{Part, table, block, single, is_code_kind, parts_of, widest, placed_code, ArePartsAt}
+use Rattle.mad_blocks.specs.Parts.{Part, table, block, single, is_code_kind, parts_of, widest, placed_code, ArePartsAt}
 use Rattle.mad_layout.specs.Premises.{KeepsPremises, inner_width, runs_text}
 use Rattle.mad_layout.specs.Styles.{line_rules, line_style}
 use Rattle.mad_format.specs.Wraps.{text_of}
@@ -24,7 +24,7 @@ use Rattle.mad_format.specs.declared.composite.FmtComposite.{FmtComposite}
 use Rattle.mad_format.specs.declared.line.FmtLine.{FmtLine}
 use Rattle.mad_format.specs.declared.line.FmtLine.TheVariants.{Normal, TableRow, TableRule, HorizontalRule}
 use Rattle.mad_layout.proofs.DrawnParts.{runs_are}
-use Rattle.mad_format.proofs.PartLemmas.{code_is}
+use Rattle.mad_blocks.proofs.PartLemmas.{code_is}
 use Rattle.mad_layout.proofs.RowChars.{place_for, line_chars}
 use Rattle.mad_layout.proofs.RowsAcross.{IsReadIn, AreReadIn, HaveFirstRows, code_indent, front_across}
 use Rattle.mad_layout.proofs.ReadParts.{AreCodeRead, ArePartsRead, parts_read, all_in}

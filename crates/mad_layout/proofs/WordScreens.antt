@@ -37,10 +37,10 @@ use Rattle.mad_columns.specs.Columns.{char_columns}
 use Rattle.mad_draw.specs.PennedCells.{penned_cells, penned_joined}
 use Rattle.mad_format.specs.Indents.{indent}
 use Rattle.mad_format.specs.CompositeWraps.{IsCompositeWrap}
-use Rattle.mad_format.specs.Fronts.{IsFrontLayout}
-use Rattle.mad_format.specs.Layouts.{AreRead}
-use Rattle.mad_format.proofs.WideLayouts.{IsLayout}
-use Rattle.mad_format.specs.Parts.{Part, single, is_code_kind, with_composite, parts_of, ArePartsAt}
+use Rattle.mad_blocks.specs.Fronts.{IsFrontLayout}
+use Rattle.mad_blocks.specs.Layouts.{AreRead}
+use Rattle.mad_blocks.proofs.WideLayouts.{IsLayout}
+use Rattle.mad_blocks.specs.Parts.{Part, single, is_code_kind, with_composite, parts_of, ArePartsAt}
 use Rattle.mad_layout.specs.Premises.{runs_text}
 use Rattle.mad_layout.specs.Rows.{run_piece, line_pieces}
 use Rattle.mad_layout.specs.Shown.{text_row, AreShownIn}
@@ -55,7 +55,7 @@ use Rattle.mad_format.specs.declared.composite.FmtComposite.{FmtComposite}
 use Rattle.mad_format.specs.declared.line.FmtLine.{FmtLine}
 use Rattle.mad_format.specs.declared.line.FmtLine.TheVariants.{Normal, TableRow, TableRule, HorizontalRule}
 use Rattle.mad_layout.proofs.DrawnParts.{runs_are}
-use Rattle.mad_format.proofs.WrapKinds.{wrapped_at}
+use Rattle.mad_blocks.proofs.WrapKinds.{wrapped_at}
 use Rattle.mad_layout.proofs.PieceLemmas.{pieces_of_runs}
 use Rattle.mad_layout.proofs.WordLemmas.{one_a, one_b, one_c, one_space, spelled, one_part, words_take_columns}
 

@@ -26,7 +26,7 @@ use Rattle.mad_layout.specs.Premises.{runs_text}
 use Rattle.mad_layout.proofs.DrawnParts.{runs_are}
 use Rattle.mad_layout.proofs.FlaggedBreaks.{break_lifts, flagged_piece}
 use Rattle.mad_layout.proofs.FlaggedTokens.{tokens_agree}
-use Rattle.mad_format.proofs.LayoutJoins.{by_bool}
+use Rattle.mad_blocks.proofs.LayoutJoins.{by_bool}
 use Rattle.mad_layout.proofs.RowsExist.{line_text, IsSome, WhiteGaps, whole_some, whole_tokens, whole_tokens_of}
 
 pub whole_parts : (ps : List Compound) → whole (map flagged_of ps) ≡ flagged_text ps

@@ -1,11 +1,9 @@
 -- Texts that are written part by part, line by line.
-use Rattle.std.proofs.Common.{◌≡◌, ℕ, ◌+◌, ◌<◌, List, [], ◌∷◌, ◌++◌, length, take, drop, get_or, Option, Result, Ok, Err, OnOk, refl, ap, sym, ◌∙◌, subst, append_assoc}
-use Rattle.std.specs.Prelude.{false}
+use Rattle.std.proofs.Common.{◌≡◌, ℕ, ◌+◌, ◌<◌, List, [], ◌++◌, length, take, drop, get_or, Option, Result, Ok, Err, OnOk, ap, sym, ◌∙◌, subst, append_assoc}
 use Rattle.std.specs.Result.{IsErrAnd}
 use Rattle.std.proofs.lemmas.Grind.{flat_map-append}
 use Rattle.std.proofs.lemmas.List.{append-nil, take-append-drop}
 use Rattle.mad_md.specs.Lines.{LineContent}
-use Rattle.mad_md.specs.Reading.{IsRead, unread_text}
 use Rattle.mad_term.specs.Draws.{Refused}
 use Rattle.mad_term.specs.Trace.{Trace, after}
 use Rattle.mad_term.specs.declared.errors.Error.{Error}
@@ -13,13 +11,13 @@ use Rattle.mad_term.specs.declared.errors.Error.TheVariants.{IO, InsufficientWid
 use Rattle.mad_term.proofs.Exits.{refused_exit}
 use Rattle.mad_term.proofs.Traces.{after-nil, took_both, stopped_before, stopped_in_first, stopped_in_second, cut_in_first, cut_in_second}
 use Rattle.mad_draw.proofs.PieceLemmas.{bytes_taken_of}
-use Rattle.mad_format.specs.TextParts.{text_parts}
+use Rattle.mad_blocks.specs.TextParts.{text_parts}
 use Rattle.mad_format.specs.declared.line.FmtLine.{FmtLine}
-use Rattle.mad_format.proofs.LayoutJoins.{apart_parts}
-use Rattle.mad_format.proofs.PartCursorLemmas.{LaidSoFar, laid_none}
+use Rattle.mad_blocks.proofs.LayoutJoins.{apart_parts}
+use Rattle.mad_blocks.proofs.PartCursorLemmas.{LaidSoFar, laid_none}
 use Rattle.mad_layout.specs.Styles.{line_rules}
 use Rattle.mad_layout.specs.Texts.{line_bytes, text_bytes}
-use Rattle.mad_layout.specs.WrittenParts.{WritesParts, HandsOn}
+use Rattle.mad_layout.specs.WrittenParts.{WritesPartsOf, HandsOn}
 use Rattle.mad_layout.specs.declared.skin.MadSkin.{MadSkin}
 
 -- ---- rows that are kept
@@ -83,12 +81,10 @@ no_whole {T} (Ok x) e P h = absurd h
 no_whole {T} (Err d) e P h = tt
 
 -- more lines were refused
-pub written_refused : {T : Type 0} (skin : MadSkin) (width : Option ℕ) (markdown : List ℕ) (all left later : List LineContent) (own : List FmtLine) (kept : List ℕ) (r : Result T Error) (e : Error) (old mid new : Trace)
-    → IsRead (unread_text false markdown) all → (h : WrittenSoFar skin width all left kept old mid) → LaidSoFar (line_rules skin) width all later (h.done ++ own) → IsErrAnd r (λ d. d ≡ e) → Refused mid (kept ++ text_bytes skin width own) e new
-    → WritesParts skin width markdown old r new
-written_refused {T} skin width markdown all left later own kept r e old mid new read h laid is refused = record {
-  text = all;
-  read = read;
+pub written_refused : {T : Type 0} (skin : MadSkin) (width : Option ℕ) (all left later : List LineContent) (own : List FmtLine) (kept : List ℕ) (r : Result T Error) (e : Error) (old mid new : Trace)
+    → (h : WrittenSoFar skin width all left kept old mid) → LaidSoFar (line_rules skin) width all later (h.done ++ own) → IsErrAnd r (λ d. d ≡ e) → Refused mid (kept ++ text_bytes skin width own) e new
+    → WritesPartsOf skin width all old r new
+written_refused {T} skin width all left later own kept r e old mid new h laid is refused = record {
   front = laid.front;
   rest = later;
   joins = laid.joins;
@@ -101,22 +97,20 @@ written_refused {T} skin width markdown all left later own kept r e old mid new 
 }
 
 -- a fault cut the bytes short that are kept
-pub written_cut_short : {T : Type 0} (skin : MadSkin) (width : Option ℕ) (markdown : List ℕ) (all left : List LineContent) (kept : List ℕ) (r : Result T Error) (e : Error) (old mid new : Trace)
-    → IsRead (unread_text false markdown) all → WrittenSoFar skin width all left kept old mid → IsErrAnd r (λ d. d ≡ e) → Refused mid kept e new → WritesParts skin width markdown old r new
-written_cut_short {T} skin width markdown all left kept r e old mid new read h is refused =
-    written_refused skin width markdown all left left [] kept r e old mid new read h (subst (LaidSoFar (line_rules skin) width all left) (sym (append-nil h.done)) h.laid) is (subst (λ (b : List ℕ). Refused mid b e new) (sym (append-nil kept)) refused)
+pub written_cut_short : {T : Type 0} (skin : MadSkin) (width : Option ℕ) (all left : List LineContent) (kept : List ℕ) (r : Result T Error) (e : Error) (old mid new : Trace)
+    → WrittenSoFar skin width all left kept old mid → IsErrAnd r (λ d. d ≡ e) → Refused mid kept e new → WritesPartsOf skin width all old r new
+written_cut_short {T} skin width all left kept r e old mid new h is refused =
+    written_refused skin width all left left [] kept r e old mid new h (subst (LaidSoFar (line_rules skin) width all left) (sym (append-nil h.done)) h.laid) is (subst (λ (b : List ℕ). Refused mid b e new) (sym (append-nil kept)) refused)
 
 -- out of memory, with bytes that are kept
-pub written_early : {T : Type 0} (skin : MadSkin) (width : Option ℕ) (markdown : List ℕ) (all left : List LineContent) (kept : List ℕ) (r : Result T Error) (old new : Trace)
-    → IsRead (unread_text false markdown) all → WrittenSoFar skin width all left kept old new → IsErrAnd r (λ d. d ≡ Memory) → WritesParts skin width markdown old r new
-written_early {T} skin width markdown all left kept r old new read h is = written_cut_short skin width markdown all left kept r Memory old new new read h is (stopped_before new kept)
+pub written_early : {T : Type 0} (skin : MadSkin) (width : Option ℕ) (all left : List LineContent) (kept : List ℕ) (r : Result T Error) (old new : Trace)
+    → WrittenSoFar skin width all left kept old new → IsErrAnd r (λ d. d ≡ Memory) → WritesPartsOf skin width all old r new
+written_early {T} skin width all left kept r old new h is = written_cut_short skin width all left kept r Memory old new new h is (stopped_before new kept)
 
 -- all went out
-pub written_whole : (skin : MadSkin) (width : Option ℕ) (markdown : List ℕ) (all left : List LineContent) (kept : List ℕ) (old mid new : Trace)
-    → IsRead (unread_text false markdown) all → WrittenSoFar skin width all left kept old mid → left ≡ [] → new ≡ after mid kept → WritesParts {T = Unit {0}} skin width markdown old (Ok (tt {0})) new
-written_whole skin width markdown all left kept old mid new read h none went = record {
-  text = all;
-  read = read;
+pub written_whole : (skin : MadSkin) (width : Option ℕ) (all left : List LineContent) (kept : List ℕ) (old mid new : Trace)
+    → WrittenSoFar skin width all left kept old mid → left ≡ [] → new ≡ after mid kept → WritesPartsOf {T = Unit {0}} skin width all old (Ok (tt {0})) new
+written_whole skin width all left kept old mid new h none went = record {
   front = h.laid.front;
   rest = left;
   joins = h.laid.joins;

@@ -12,7 +12,7 @@ use Rattle.mad_fit.specs.Columns.{width_of}
 use Rattle.mad_fit.specs.Completions.{left_completion}
 use Rattle.mad_fit.specs.declared.area.Area.{Area}
 use Rattle.mad_format.specs.Indents.{indent, follow_up}
-use Rattle.mad_format.specs.Parts.{is_code_kind}
+use Rattle.mad_blocks.specs.Parts.{is_code_kind}
 use Rattle.mad_layout.specs.LineTexts.{inner_width, runs_text}
 use Rattle.mad_layout.specs.Styles.{line_style, index_suffix}
 use Rattle.mad_layout.specs.declared.skin.MadSkin.{MadSkin}

@@ -16,7 +16,7 @@ use Rattle.mad_format.specs.Indents.{indent, follow_up, room_of}
 use Rattle.mad_format.specs.Lines.{bordered, rule_columns}
 use Rattle.mad_layout.specs.Rows.{rule_chars}
 pub use Rattle.mad_layout.specs.TableColumns.{cell_columns, cells_among, down, kept_widths, columns_below}
-pub use Rattle.mad_format.specs.TextParts.{count_in, columns_among}
+pub use Rattle.mad_blocks.specs.TextParts.{count_in, columns_among}
 use Rattle.mad_layout.specs.declared.skin.MadSkin.{MadSkin}
 use Rattle.mad_format.specs.declared.table.RelativePosition.{RelativePosition}
 use Rattle.mad_layout.specs.Styles.{line_rules}

@@ -11,7 +11,7 @@ use Rattle.mad_layout.specs.FlaggedRows.{AreRowsOf}
 use Rattle.mad_layout.specs.FlaggedTables.{kept_widths, columns_below, IsRowAcross, rule_across}
 use Rattle.mad_format.specs.Indents.{room_of}
 use Rattle.mad_layout.specs.LineTexts.{inner_width}
-pub use Rattle.mad_format.specs.TextParts.{LineInPart, aligns_at, position_in, lines_in, lines_in_parts}
+pub use Rattle.mad_blocks.specs.TextParts.{LineInPart, aligns_at, position_in, lines_in, lines_in_parts}
 use Rattle.mad_layout.specs.declared.skin.MadSkin.{MadSkin}
 use Rattle.mad_layout.specs.Styles.{line_rules}
 

@@ -10,7 +10,7 @@ use Rattle.mad_draw.specs.DrawnRows.{IsOnScreen}
 use Rattle.mad_draw.specs.PennedCells.{penned_cells}
 use Rattle.mad_layout.specs.FlaggedTexts.{AreAcross}
 use Rattle.mad_layout.specs.Premises.{KeepsPremises}
-use Rattle.mad_format.specs.TextParts.{lines_in_parts}
+use Rattle.mad_blocks.specs.TextParts.{lines_in_parts}
 use Rattle.mad_layout.specs.declared.skin.MadSkin.{MadSkin}
 
 -- the characters that the i-th cell of a row shows: one with those joined to it that take no column, or none in a further column of a wide one

@@ -7,11 +7,11 @@ use Rattle.mad_term.specs.Trace.{Trace, TookWith}
 use Rattle.mad_term.specs.declared.errors.Error.{Error}
 use Rattle.mad_term.specs.declared.errors.Error.TheVariants.{Memory}
 use Rattle.mad_fit.specs.declared.area.Area.{Area}
-use Rattle.mad_format.specs.Fronts.{IsFrontLayout}
-use Rattle.mad_format.specs.Layouts.{IsLayoutAt}
+use Rattle.mad_blocks.specs.Fronts.{IsFrontLayout}
+use Rattle.mad_blocks.specs.Layouts.{IsLayoutAt}
 use Rattle.mad_layout.specs.Premises.{KeepsPremises}
 use Rattle.mad_layout.specs.Shown.{area_bytes, AreShownIn}
-use Rattle.mad_format.specs.TextParts.{lines_in_parts}
+use Rattle.mad_blocks.specs.TextParts.{lines_in_parts}
 use Rattle.mad_layout.specs.declared.skin.MadSkin.{MadSkin}
 use Rattle.mad_format.specs.declared.line.FmtLine.{FmtLine}
 use Rattle.mad_layout.specs.Styles.{line_rules}

@@ -7,10 +7,10 @@ use Rattle.mad_fit.specs.Completions.{left_completion}
 use Rattle.mad_term.specs.Styles.{IsPlain}
 use Rattle.mad_term.specs.Trace.{Trace}
 use Rattle.mad_term.specs.declared.errors.Error.{Error}
-use Rattle.mad_format.specs.Layouts.{IsLayoutAt}
-use Rattle.mad_format.specs.Parts.{wrap_width}
+use Rattle.mad_blocks.specs.Layouts.{IsLayoutAt}
+use Rattle.mad_blocks.specs.Parts.{wrap_width}
 use Rattle.mad_layout.specs.Texts.{text_bytes}
-use Rattle.mad_format.specs.TextParts.{is_code, is_table}
+use Rattle.mad_blocks.specs.TextParts.{is_code, is_table}
 use Rattle.mad_layout.specs.WrittenParts.{HandsOn}
 use Rattle.mad_layout.specs.declared.skin.MadSkin.{MadSkin}
 use Rattle.mad_format.specs.declared.line.FmtLine.{FmtLine}

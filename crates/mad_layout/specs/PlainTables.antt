@@ -4,7 +4,7 @@ use Rattle.std.specs.List.{AllByRecursion}
 use Rattle.mad_md.specs.Flagged.{run_of}
 use Rattle.mad_layout.specs.Drawable.{AreDrawable}
 use Rattle.mad_layout.specs.Premises.{AreBordersShown, IsPlainText}
-use Rattle.mad_format.specs.Tables.{AreKeptWidths, IsTableLaidOutBy, columns_count}
+use Rattle.mad_blocks.specs.Tables.{AreKeptWidths, IsTableLaidOutBy, columns_count}
 use Rattle.mad_format.specs.WrappedLines.{Wrap}
 use Rattle.mad_format.specs.Wraps.{IsMeasured}
 use Rattle.mad_layout.specs.declared.skin.MadSkin.{MadSkin}

@@ -18,7 +18,7 @@ use Rattle.mad_draw.specs.declared.table_rules.RuleChars.{RuleChars}
 use Rattle.mad_layout.specs.Rows.{rule_chars}
 use Rattle.mad_layout.specs.Styles.{line_rules, index_suffix}
 use Rattle.mad_layout.specs.TableColumns.{kept_widths}
-use Rattle.mad_format.specs.TextParts.{LineInPart}
+use Rattle.mad_blocks.specs.TextParts.{LineInPart}
 use Rattle.mad_format.specs.declared.table.RelativePosition.{RelativePosition}
 use Rattle.mad_wrap.specs.WrapLines.{HasRoom}
 use Rattle.mad_layout.specs.declared.skin.MadSkin.{MadSkin}

@@ -5,7 +5,7 @@ use Rattle.mad_md.specs.Reading.{IsRead, unread_text}
 use Rattle.mad_layout.specs.MadeSkins.{limited_to_ascii}
 use Rattle.mad_layout.specs.Premises.{KeepsPremises}
 use Rattle.mad_layout.specs.Skins.{no_style_skin}
-use Rattle.mad_format.specs.TextParts.{lines_in_parts}
+use Rattle.mad_blocks.specs.TextParts.{lines_in_parts}
 use Rattle.mad_layout.specs.declared.skin.MadSkin.{MadSkin}
 
 -- `# a`, `b`, `* c`, `1. d`, `> e`, `---`, and `f` between two fences

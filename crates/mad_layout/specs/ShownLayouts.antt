@@ -3,13 +3,13 @@ use Rattle.std.specs.Prelude.{ℕ, ◌+◌, ◌-◌, ◌≤◌, List, take, drop
 use Rattle.mad_md.specs.Lines.{LineContent}
 use Rattle.mad_term.specs.Trace.{Trace, TookWith}
 use Rattle.mad_fit.specs.declared.area.Area.{Area}
-use Rattle.mad_format.specs.FittingLayouts.{IsFittingLayout}
+use Rattle.mad_blocks.specs.FittingLayouts.{IsFittingLayout}
 use Rattle.mad_layout.specs.FlaggedTexts.{AreAcross}
 use Rattle.mad_layout.specs.Headline.{AreShownAcross}
-use Rattle.mad_format.specs.Layouts.{IsLayoutAt}
+use Rattle.mad_blocks.specs.Layouts.{IsLayoutAt}
 use Rattle.mad_layout.specs.Premises.{KeepsPremises}
 use Rattle.mad_layout.specs.Shown.{AreShownIn}
-use Rattle.mad_format.specs.TextParts.{lines_in_parts}
+use Rattle.mad_blocks.specs.TextParts.{lines_in_parts}
 use Rattle.mad_layout.specs.declared.skin.MadSkin.{MadSkin}
 use Rattle.mad_format.specs.declared.line.FmtLine.{FmtLine}
 use Rattle.mad_layout.specs.Styles.{line_rules}

@@ -1,5 +1,6 @@
 -- The styles of a skin's parts.
 use Rattle.std.specs.Prelude.{ℕ, zero, suc, Bool, List, [], ◌∷◌, slice_get, unwrap_or, min, if◌then◌else◌}
+use Rattle.std.specs.List.{AllByRecursion}
 use Rattle.std.specs.Str.{bytes_eq}
 use Rattle.mad_md.specs.Flagged.{Run}
 use Rattle.mad_style.specs.declared.compound_styles.CompoundStyle.{CompoundStyle}
@@ -9,7 +10,7 @@ use Rattle.mad_style.specs.declared.line_styles.LineStyle.{LineStyle}
 use Rattle.mad_style.specs.declared.ordered_items.OrderedItemStyle.{OrderedItemStyle}
 use Rattle.mad_term.specs.Styles.{IsStyle}
 use Rattle.mad_style.specs.CompoundStyles.{overwritten, plain_style}
-use Rattle.mad_style.specs.StyledChars.{char_alone, styled_char}
+use Rattle.mad_style.specs.StyledChars.{char_alone, char_style, styled_char}
 use Rattle.mad_format.specs.LineRules.{LineRules}
 use Rattle.mad_layout.specs.declared.skin.MadSkin.{MadSkin}
 
@@ -43,13 +44,31 @@ compound_style skin style p =
     if bytes_eq p.text ellipsis_bytes then skin.ellipsis
     else overwritten_if p.flags.code skin.inline_code (overwritten_if p.flags.bold skin.bold (overwritten_if p.flags.strikeout skin.strikeout (overwritten_if p.flags.italic skin.italic style.compound_style)))
 
--- The numbers of the colors of what compounds add to their line's style are bytes, as those of every style are that a program has.
-pub record AreKnownAdditions (skin : MadSkin) : Type 0 where
+-- The numbers of the colors in a skin's styles are bytes, as those of every style are that a program has: in those of its parts alone,
+abbrev pub IsKnownLine : LineStyle → Type 0
+IsKnownLine s = IsStyle s.compound_style.object_style
+
+abbrev pub IsKnownItem : OrderedItemStyle → Type 0
+IsKnownItem s = IsStyle s.index_style.object_style × IsStyle (char_style s.index_suffix).object_style
+
+pub record AreKnownParts (skin : MadSkin) : Type 0 where
+  pub paragraph : IsKnownLine skin.paragraph
   pub bold : IsStyle skin.bold.object_style
   pub italic : IsStyle skin.italic.object_style
   pub strikeout : IsStyle skin.strikeout.object_style
   pub code : IsStyle skin.inline_code.object_style
   pub ellipsis : IsStyle skin.ellipsis.object_style
+  pub code_block : IsKnownLine skin.code_block
+  pub table : IsKnownLine skin.table
+  pub bullet : IsStyle (char_style skin.bullet).object_style
+  pub quote_mark : IsStyle (char_style skin.quote_mark).object_style
+  pub rule : IsStyle (char_style skin.horizontal_rule).object_style
+
+-- and in those of headers and items
+pub record AreKnownStyles (skin : MadSkin) : Type 0 where
+  pub parts : AreKnownParts skin
+  pub headers : AllByRecursion IsKnownLine skin.headers
+  pub items : AllByRecursion IsKnownItem skin.ordered_item_styles
 
 -- an ordered item without style: a number and a dot
 abbrev pub plain_item_style : OrderedItemStyle

@@ -10,8 +10,8 @@ use Rattle.mad_fit.specs.declared.spacing.Spacing.{Spacing}
 use Rattle.mad_wrap.specs.WrapLines.{capped}
 use Rattle.mad_format.specs.Indents.{indent}
 use Rattle.mad_layout.specs.LineTexts.{runs_text}
-use Rattle.mad_format.specs.Tables.{columns_with, centered}
-use Rattle.mad_format.specs.TextParts.{columns_among}
+use Rattle.mad_blocks.specs.Tables.{columns_with, centered}
+use Rattle.mad_blocks.specs.TextParts.{columns_among}
 use Rattle.mad_layout.specs.declared.skin.MadSkin.{MadSkin}
 
 -- the columns of a cell with those in front of it, 2^64 - 1 at most

@@ -6,7 +6,7 @@ use Rattle.mad_term.specs.Draws.{Draws}
 use Rattle.mad_term.specs.Trace.{Trace}
 use Rattle.mad_term.specs.declared.errors.Error.{Error}
 use Rattle.mad_term.specs.declared.errors.Error.TheVariants.{Memory}
-use Rattle.mad_format.specs.Layouts.{IsMarkdownLayout}
+use Rattle.mad_blocks.specs.Layouts.{IsMarkdownLayout}
 use Rattle.mad_layout.specs.Rows.{line_pieces}
 use Rattle.mad_layout.specs.declared.skin.MadSkin.{MadSkin}
 use Rattle.mad_format.specs.declared.line.FmtLine.{FmtLine}

@@ -5,15 +5,16 @@ ghost use Rattle.mad_md.specs.Lines.{LineContent, contents};
 ghost use Rattle.mad_md.specs.ReadRaw.{IsReadRaw};
 ghost use Rattle.mad_md.specs.Reading.{IsRead, unread_text};
 ghost use Rattle.mad_md.specs.declared.text.Text.{Text};
-ghost use Rattle.mad_format.specs.FittingLayouts.{IsFittingLayoutAt};
+ghost use Rattle.mad_blocks.specs.FittingLayouts.{IsFittingLayoutAt};
 ghost use Rattle.mad_layout.specs.Styles.{line_rules};
 ghost use Rattle.mad_layout.specs.InArea.{IsAreaFront, IsAreaLayout};
-ghost use Rattle.mad_format.specs.Layouts.{IsLayoutAt, IsMarkdownLayout};
+ghost use Rattle.mad_blocks.specs.Layouts.{IsLayoutAt, IsMarkdownLayout};
 ghost use Rattle.mad_format.specs.Lines.{widest_line};
 
 use crate::skin::MadSkin;
+use mad_blocks::{lay_front, lay_source, lay_text};
 use mad_fit::Area;
-use mad_format::{FmtLine, lay_front, lay_source, lay_text};
+use mad_format::FmtLine;
 use mad_md::Text;
 use std::alloc::{AllocError, Global};
 

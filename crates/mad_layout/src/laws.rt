@@ -10,16 +10,16 @@ ghost use Rattle.mad_layout.specs.ItemCells.{ItemInACellKeepsPremises};
 ghost use Rattle.mad_layout.specs.SeveralKinds.{SeveralKindsKeepPremises};
 ghost use Rattle.mad_layout.specs.Sources.{LinesTakeColumns};
 ghost use Rattle.mad_format.specs.CompositeWraps.{IsCompositeWrap};
-ghost use Rattle.mad_format.specs.FittingLayouts.{IsFittingWrap};
+ghost use Rattle.mad_blocks.specs.FittingLayouts.{IsFittingWrap};
 ghost use Rattle.mad_layout.specs.PlainTables.{TablesFit};
 ghost use Rattle.mad_layout.specs.Words.{corner, words, SpacesAreNoText};
 
 use crate::skin::MadSkin;
-use mad_fit::Area;
-pub use mad_format::laws::{
+pub use mad_blocks::laws::{
     other_tables_are_refused, passes_are_parts, rules_elsewhere_are_refused, worked_tables,
     wrong_layouts,
 };
+use mad_fit::Area;
 use mad_screen::Screen;
 use mad_term::{CutOut, Error};
 use std::alloc::Global;

@@ -11,7 +11,8 @@
 //!    values; `row_writing`: a line put after a string.
 //! 6. [`laws`]: texts that keep the premises, and an example whose premises are proved.
 //!
-//! Composites, lines, tables and blocks of code, and how they are laid out, are in `mad_format`, whose names this crate hands on.
+//! Composites, lines, tables and blocks of code, and how they are laid out, are in `mad_format` and `mad_blocks`.
+//! This crate hands their names on.
 #![tactic(auto)]
 
 mod display;
@@ -33,11 +34,14 @@ pub use displayable_line::DisplayableLine;
 pub use drawing::draw_text;
 pub use fmt_inline::{FmtInline, inline};
 pub use fmt_text::{FmtText, term_text, text};
+pub use mad_blocks::{
+    CodeBlock, Table, code_blocks, find_blocks, fix_all_tables, justify_blocks, lay_row,
+    table_layout, table_rows,
+};
 pub use mad_format::{
-    CodeBlock, FmtComposite, FmtLine, FmtTableRow, FmtTableRule, LineSkin, RelativePosition, Table,
-    WrapBound, bound, check_wrap_bound, code_blocks, composite, composite_kind_widths, find_blocks,
-    fix_all_tables, hard_wrap_composite, hard_wrap_lines, justify_blocks, lay_row, line, room,
-    room_of, table, table_layout, table_rows, wrap, wrap_bound,
+    FmtComposite, FmtLine, FmtTableRow, FmtTableRule, LineSkin, RelativePosition, WrapBound, bound,
+    check_wrap_bound, composite, composite_kind_widths, hard_wrap_composite, hard_wrap_lines, line,
+    room, room_of, table, wrap, wrap_bound,
 };
 pub use skin::MadSkin;
 pub use text_writing::print_text;

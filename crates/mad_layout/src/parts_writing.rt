@@ -2,14 +2,15 @@
 
 ghost use Rattle.std.specs.Prelude.{◌≡◌, ◌≤◌, ◌++◌, [], ℕ, length, IfSome, IsTrue, OnOk, string_bytes};
 ghost use Rattle.mad_fit.specs.Completions.{left_completion};
-ghost use Rattle.mad_format.specs.PartCursors.{lines_left};
+ghost use Rattle.mad_blocks.specs.PartCursors.{lines_left};
 ghost use Rattle.mad_layout.specs.PlainLines.{IsPlainWidth, HandsOnPlain};
 ghost use Rattle.mad_layout.specs.Texts.{text_bytes};
-ghost use Rattle.mad_layout.specs.WrittenParts.{HandsOn, WritesParts};
+ghost use Rattle.mad_layout.specs.WrittenParts.{HandsOn, WritesParts, WritesPartsOf};
 
 use crate::row_writing::append_line;
 use crate::skin::MadSkin;
-use mad_format::{FmtLine, PartCursor, wrap_width};
+use mad_blocks::{PartCursor, wrap_width};
+use mad_format::FmtLine;
 use mad_md::Alignment;
 use mad_term::{Error, Out, put_all};
 use std::alloc::Global;
@@ -35,15 +36,27 @@ impl MadSkin {
     ) -> Result<(), Error>
         ensures writes { WritesParts self.now width markdown.now (O.seen out.old) result (O.seen out.new) }
     {
-        let mut rows = String::new(alloc);
-        let mut lines = Vec::new(alloc);
-        let mut parts = PartCursor::new(markdown);
-        while parts.lay_next(alloc, &mut lines, width, self)? {
-            hand_on_plain(out, &mut rows, &mut lines, &mut parts, width, self)?;
-        }
-        put_all(out, rows.as_bytes())?;
-        Ok(())
+        write_parts(alloc, out, &mut PartCursor::new(markdown), width, self)
     }
+}
+
+// Writes the parts of a text that are left.
+fn write_parts<O: Out>(
+    alloc: Global,
+    out: &mut O,
+    parts: &mut PartCursor,
+    width: Option<usize>,
+    skin: &MadSkin,
+) -> Result<(), Error>
+    ensures { WritesPartsOf skin.now width (lines_left parts.old) (O.seen out.old) result (O.seen out.new) }
+{
+    let mut rows = String::new(alloc);
+    let mut lines = Vec::new(alloc);
+    while parts.lay_next(alloc, &mut lines, width, skin)? {
+        hand_on_plain(out, &mut rows, &mut lines, parts, width, skin)?;
+    }
+    put_all(out, rows.as_bytes())?;
+    Ok(())
 }
 
 // Writes lines as [`send_lines`] does, and drops them.

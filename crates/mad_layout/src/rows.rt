@@ -1,14 +1,11 @@
 //! Rows: where a line stands in its row.
 
-ghost use Rattle.std.specs.Prelude.{◌≡◌, ◌<◌, ◌+◌, ◌^◌, ℕ, Some, true};
+ghost use Rattle.std.specs.Prelude.{◌≡◌, ◌<◌, ◌+◌, ◌^◌, ℕ};
 ghost use Rattle.std.specs.Option.{option_copied};
-ghost use Rattle.mad_term.specs.Styles.{IsStyle};
-ghost use Rattle.mad_style.specs.StyledChars.{char_style};
-ghost use Rattle.mad_format.specs.declared.line.FmtLine.TheVariants.{Normal, TableRow, TableRule};
 ghost use Rattle.mad_draw.specs.Pieces.{AreKnown};
-ghost use Rattle.std.specs.List.{flat_map, sum_by};
-ghost use Rattle.mad_layout.specs.Rows.{prefix_pieces, cell_pieces, line_pieces, row_pieces, inner_blanks, inner_columns, outer_blanks, margins_of, row_blanks, line_blanks, composite_blanks, table_blanks, cell_blanks, row_columns, rule_chars};
-ghost use Rattle.mad_layout.specs.Styles.{AreKnownAdditions};
+ghost use Rattle.std.specs.List.{AllByRecursion, sum_by};
+ghost use Rattle.mad_layout.specs.Rows.{row_pieces, inner_blanks, inner_columns, outer_blanks, margins_of, row_blanks, line_blanks, composite_blanks, table_blanks, cell_blanks, row_columns, rule_chars};
+ghost use Rattle.mad_layout.specs.Styles.{AreKnownParts, AreKnownStyles, IsKnownItem, IsKnownLine};
 ghost use Rattle.mad_wrap.specs.WrapLines.{capped};
 
 use crate::skin::MadSkin;
@@ -18,7 +15,7 @@ use mad_format::{
     FmtComposite, FmtLine, FmtTableRow, FmtTableRule, RelativePosition, rule_columns,
 };
 use mad_md::Alignment;
-use mad_style::{CompositeKind, CompoundStyle, StyledChar, TableBorderChars};
+use mad_style::{LineStyle, OrderedItemStyle, TableBorderChars};
 
 /// Where a composite stands in a row, in columns.
 #[derive(Clone, Copy)]
@@ -206,104 +203,49 @@ fn cells_blanks(cells: &[FmtComposite]) -> usize
 }
 
 /// What reading a row back needs to know: the numbers of its colors are bytes. Nothing is done.
-#[tactic(auto, using(mad_draw::proofs::PieceLemmas::spaces_known, mad_draw::proofs::PieceLemmas::char_repeat_known))]
+#[tactic(auto, using(crate::proofs::KnownLemmas::row_known))]
 pub(crate) fn know_row(skin: &MadSkin, line: Option<&FmtLine>, width: usize)
     ensures { AreKnown (row_pieces skin.now width (option_copied line.entry)) }
 {
-    know_style(skin.paragraph.compound_style);
-    match line {
-        Some(FmtLine::Normal(composite)) => know_composite(skin, composite, width),
-        Some(FmtLine::TableRow(row)) => know_table_row(skin, row, width),
-        Some(FmtLine::TableRule(rule)) => know_table_rule(skin, rule, width),
-        Some(FmtLine::HorizontalRule) => know_char(skin.horizontal_rule),
-        None => (),
-    }
+    know_styles(skin);
 }
 
-// The numbers of a style's colors are bytes.
-fn know_style(style: CompoundStyle)
-    ensures { IsStyle style.object_style }
+// The numbers of the colors in a skin's styles are bytes.
+fn know_styles(skin: &MadSkin)
+    ensures { AreKnownStyles skin.now }
+{
+    know_parts(*skin);
+    know_headers(&skin.headers);
+    know_items(&skin.ordered_item_styles);
+}
+
+// So they are in the styles of its parts.
+fn know_parts(skin: MadSkin)
+    ensures { AreKnownParts skin }
 {}
 
-// The same of a line.
-fn know_composite(skin: &MadSkin, composite: &FmtComposite, width: usize)
-    ensures { AreKnown (line_pieces skin.now (Some width) true (Normal composite.now)) }
+// So they are in those of headers.
+fn know_headers(headers: &[LineStyle])
+    ensures { AllByRecursion IsKnownLine headers.now }
 {
-    let style = skin.line_style(composite.kind);
-    know_style(skin.paragraph.compound_style);
-    know_style(style.compound_style);
-    know_prefix(skin, composite.kind);
-    know_compounds(skin);
-}
-
-// The same of a row of a table.
-fn know_table_row(skin: &MadSkin, row: &FmtTableRow, width: usize)
-    ensures { AreKnown (line_pieces skin.now (Some width) true (TableRow row.now)) }
-{
-    know_style(skin.paragraph.compound_style);
-    know_style(skin.table.compound_style);
-    know_cells(skin, &row.cells);
-}
-
-// The same of a rule across a table.
-fn know_table_rule(skin: &MadSkin, rule: &FmtTableRule, width: usize)
-    ensures { AreKnown (line_pieces skin.now (Some width) true (TableRule rule.now)) }
-{
-    know_style(skin.paragraph.compound_style);
-    know_style(skin.table.compound_style);
-}
-
-// The same of the cells of a row.
-fn know_cells(skin: &MadSkin, cells: &[FmtComposite])
-    ensures { AreKnown (flat_map (cell_pieces skin.now) cells.now) }
-{
-    for cell in cells {
-        know_cell(skin, cell);
+    for header in headers {
+        know_line(*header);
     }
 }
 
-// The same of a cell.
-fn know_cell(skin: &MadSkin, cell: &FmtComposite)
-    ensures { AreKnown (cell_pieces skin.now cell.now) }
-{
-    let style = skin.line_style(cell.kind);
-    know_style(skin.table.compound_style);
-    know_style(skin.paragraph.compound_style);
-    know_style(style.compound_style);
-    know_prefix(skin, cell.kind);
-    know_compounds(skin);
-}
-
-// What the pieces in front of a line's text need.
-#[tactic(auto, using(crate::proofs::KnownLemmas::spaced_known, mad_draw::proofs::PieceLemmas::single_known))]
-fn know_prefix(skin: &MadSkin, kind: CompositeKind)
-    ensures { AreKnown (prefix_pieces skin.now kind) }
-{
-    know_style(skin.paragraph.compound_style);
-    match kind {
-        CompositeKind::ListItem(_) => know_char(skin.bullet),
-        CompositeKind::OrderedListItem { level, .. } => {
-            let style = skin.ordered_item_style(level);
-            know_style(style.index_style);
-            know_char(style.index_suffix);
-        }
-        CompositeKind::Quote => know_char(skin.quote_mark),
-        CompositeKind::ListItemFollowUp(_) | CompositeKind::OrderedListItemFollowUp { .. } => (),
-        CompositeKind::Paragraph | CompositeKind::Header(_) | CompositeKind::Code => (),
-    }
-}
-
-fn know_char(c: StyledChar)
-    ensures { IsStyle (char_style c).object_style }
+fn know_line(style: LineStyle)
+    ensures { IsKnownLine style }
 {}
 
-// What compounds add to their line's style.
-fn know_compounds(skin: &MadSkin)
-    ensures { AreKnownAdditions skin.now }
+// So they are in those of items.
+fn know_items(items: &[OrderedItemStyle])
+    ensures { AllByRecursion IsKnownItem items.now }
 {
-    know_style(skin.bold);
-    know_style(skin.italic);
-    know_style(skin.strikeout);
-    know_style(skin.inline_code);
-    know_style(skin.ellipsis);
+    for item in items {
+        know_item(*item);
+    }
 }
+
+fn know_item(style: OrderedItemStyle)
+    ensures { IsKnownItem style }
+{}

@@ -66,27 +66,27 @@ pub use Rattle.mad_draw.specs.DrawnRows
 pub use Rattle.mad_draw.specs.Pieces
 pub use Rattle.mad_draw.specs.PennedCells
 pub use Rattle.mad_draw.specs.TableRules
-pub use Rattle.mad_format.specs.CodeBlocks
+pub use Rattle.mad_blocks.specs.CodeBlocks
 pub use Rattle.mad_format.specs.CompositeWraps
 pub use Rattle.mad_layout.specs.Drawable
-pub use Rattle.mad_format.specs.FittingLayouts
+pub use Rattle.mad_blocks.specs.FittingLayouts
 pub use Rattle.mad_layout.specs.FlaggedLines
 pub use Rattle.mad_layout.specs.FlaggedRows
 pub use Rattle.mad_layout.specs.FlaggedTables
 pub use Rattle.mad_layout.specs.FlaggedTexts
-pub use Rattle.mad_format.specs.Fronts
+pub use Rattle.mad_blocks.specs.Fronts
 pub use Rattle.mad_layout.specs.Headline
 pub use Rattle.mad_layout.specs.InArea
 pub use Rattle.mad_format.specs.Indents
 pub use Rattle.mad_layout.specs.Inlines
 pub use Rattle.mad_layout.specs.ItemCells
-pub use Rattle.mad_format.specs.LayoutLaws
-pub use Rattle.mad_format.specs.LayoutExamples
-pub use Rattle.mad_format.specs.Layouts
+pub use Rattle.mad_blocks.specs.LayoutLaws
+pub use Rattle.mad_blocks.specs.LayoutExamples
+pub use Rattle.mad_blocks.specs.Layouts
 pub use Rattle.mad_format.specs.LineRules
 pub use Rattle.mad_format.specs.Lines as LayoutLines
 pub use Rattle.mad_layout.specs.MadeSkins
-pub use Rattle.mad_format.specs.Parts as LayoutParts
+pub use Rattle.mad_blocks.specs.Parts as LayoutParts
 pub use Rattle.mad_layout.specs.PlainTables
 pub use Rattle.mad_layout.specs.Premises
 pub use Rattle.mad_layout.specs.RecoloredSkins
@@ -97,9 +97,9 @@ pub use Rattle.mad_layout.specs.ShownLayouts
 pub use Rattle.mad_layout.specs.SkinParts
 pub use Rattle.mad_layout.specs.Skins
 pub use Rattle.mad_layout.specs.Styles as SkinStyles
-pub use Rattle.mad_format.specs.TableLaws
-pub use Rattle.mad_format.specs.Tables
-pub use Rattle.mad_format.specs.TextParts
+pub use Rattle.mad_blocks.specs.TableLaws
+pub use Rattle.mad_blocks.specs.Tables
+pub use Rattle.mad_blocks.specs.TextParts
 pub use Rattle.mad_layout.specs.Texts
 pub use Rattle.mad_format.specs.WrappedLines
 pub use Rattle.mad_format.specs.Wraps

@@ -1,12 +1,12 @@
 use Rattle.std.proofs.Common.{sym, ◌∙◌, subst, refl}
 use Rattle.std.proofs.lemmas.List.{at_drop_all}
 use Rattle.mad_format.specs.WrappedLines.{AllFit}
-use Rattle.mad_format.proofs.CodeBlockLemmas.{line_here}
+use Rattle.mad_format.proofs.WrapLemmas.{next_of}
 use Rattle.mad_format.proofs.wrap.all_fit.Goals as goal
 
 pub loop-line-preserved : goal.loop-line-preserved
 loop-line-preserved g c =
-    let next = line_here _ _ _ c.loop-line-test.true c.line-item.is in
+    let next = next_of _ _ _ c.loop-line-test.true c.line-item.is in
     let fits = c.line_fits.ensures.0 c.if-not-line_fits.false in
     record {
       from = λ rest. c.loop-line.invariant.from (subst (AllFit (g.S.LineSkin.rules c.args.skin.now) c.args.width) (sym next) (fits, rest));
@@ -20,7 +20,7 @@ returns g c =
 
 pub returns-then-not-line_fits : goal.returns-then-not-line_fits
 returns-then-not-line_fits g c =
-    let next = line_here _ _ _ c.loop-line-test.true c.line-item.is in (
+    let next = next_of _ _ _ c.loop-line-test.true c.line-item.is in (
       λ on. absurd (cc),
       λ all. sym c.if-not-line_fits.true ∙ c.line_fits.ensures.1 (subst (AllFit (g.S.LineSkin.rules c.args.skin.now) c.args.width) next (c.loop-line.invariant.to all)).0,
     )

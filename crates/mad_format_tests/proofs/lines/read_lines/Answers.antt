@@ -1,7 +1,7 @@
 use Rattle.std.proofs.Common.{sym, subst}
 use Rattle.mad_fit.proofs.AllLemmas.{all_push}
 use Rattle.mad_format.specs.WrappedLines.{AllMeasured, IsLineMeasured}
-use Rattle.mad_format.proofs.LayoutLemmas.{line_measured}
+use Rattle.mad_format.proofs.ReadLemmas.{line_measured}
 use Rattle.mad_format_tests.proofs.lines.read_lines.Goals as goal
 
 pub loop-line-preserved : goal.loop-line-preserved

@@ -1,8 +1,8 @@
 use Rattle.mad_format.specs.CompositeWraps.{IsCompositeWrap}
-use Rattle.mad_format.specs.FittingLayouts.{IsFittingWrap}
-use Rattle.mad_format.specs.Tables.{columns_count}
+use Rattle.mad_blocks.specs.FittingLayouts.{IsFittingWrap}
+use Rattle.mad_blocks.specs.Tables.{columns_count}
 use Rattle.mad_layout.proofs.DrawableTables.{tables_fitting}
-use Rattle.mad_format.proofs.WrapKinds.{table_by, wrap_fits}
+use Rattle.mad_blocks.proofs.WrapKinds.{table_by, wrap_fits}
 use Rattle.mad_layout.proofs.laws.tables_fit.Goals as goal
 use Rattle.mad_layout.specs.Styles.{line_rules}
 

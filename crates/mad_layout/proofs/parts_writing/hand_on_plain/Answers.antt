@@ -1,5 +1,5 @@
 use Rattle.std.proofs.Common.{rules, length, ap, arith}
-use Rattle.mad_format.specs.PartCursors.{lines_left, IsPlainRead}
+use Rattle.mad_blocks.specs.PartCursors.{lines_left, IsPlainRead}
 use Rattle.mad_term.proofs.Traces.{stopped_before}
 use Rattle.mad_term.specs.declared.errors.Error.TheVariants.{Memory}
 use Rattle.mad_layout.proofs.PlainLineLemmas.{plain_start, plain_put, plain_sent, plain_done, plain_refused, plain_none}

@@ -1,7 +1,7 @@
 use Rattle.std.proofs.Common.{map}
 use Rattle.std.specs.Vec.Iter.{into_iter_items}
 use Rattle.mad_md.specs.Lines.{styled_runs}
-use Rattle.mad_format.proofs.LayoutLemmas.{CellsSoFar}
+use Rattle.mad_format.proofs.ReadLemmas.{CellsSoFar}
 use Rattle.mad_format.proofs.table.FmtTableRow.from.Given as goal
 
 abbrev pub invariant-loop-cell : goal.invariant-loop-cell

@@ -1,4 +1,4 @@
-use Rattle.mad_format.proofs.WrapKinds.{layout_fitting}
+use Rattle.mad_blocks.proofs.WrapKinds.{layout_fitting}
 use Rattle.mad_layout.proofs.fmt_text.FmtText.from.Goals as goal
 
 pub returns-clause-fitting : goal.returns-clause-fitting

@@ -1,0 +1,13 @@
+pub mod CodeBlockLemmas
+pub mod ExampleLayouts
+pub mod LayoutJoins
+pub mod LayoutLemmas
+pub mod PartCursorLemmas
+pub mod PartLemmas
+pub mod PartRuns
+pub mod PassLemmas
+pub mod TableLemmas
+pub mod TableWidths
+pub mod WideLayouts
+pub mod WorkedTables
+pub mod WrapKinds

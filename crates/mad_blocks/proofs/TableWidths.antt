@@ -1,0 +1,231 @@
+-- The cells that a table's columns have seen, and the widths that it keeps.
+use Rattle.std.proofs.Common.{◌≡◌, ℕ, zero, suc, ◌+◌, ◌-◌, ◌*◌, ◌/◌, ◌^◌, ◌<◌, ◌≤◌, List, [], ◌∷◌, ◌++◌, map, length, length-append, drop, get_or, sum, replicate, refl, ap, sym, ◌∙◌, subst, arith, append_assoc, Result, Ok, Err, IfOk}
+use Rattle.std.specs.Global.{Vec}
+use Rattle.std.specs.List.{AllByRecursion}
+use Rattle.std.proofs.Math.Seq.{set-append_seam}
+use Rattle.std.proofs.lemmas.List.{append-nil, set_past, map-append}
+use Rattle.std.proofs.lemmas.List.Sums.{sum_by-cons}
+use Rattle.std.proofs.lemmas.List.Elements.{All-from_recursion, recursion_from_All}
+use Rattle.mad_widths.specs.ColumnWidths.{needs_of, natural_widths, column_widths, AreShared}
+use Rattle.mad_widths.specs.SeenCells.{cell_added, TableHasSeen}
+use Rattle.mad_widths.specs.TableFits.{IsFit, IsTableFit}
+use Rattle.mad_widths.specs.declared.tbl_fit.TblFit.{TblFit}
+use Rattle.mad_widths.specs.declared.tbl_fit.TblFitResult.{TblFitResult}
+use Rattle.mad_format.specs.Lines.{bordered}
+use Rattle.mad_blocks.specs.Tables.{below, rows_among, first_lengths, lengths_in, AreKeptWidths}
+use Rattle.mad_format.specs.declared.composite.FmtComposite.{FmtComposite}
+use Rattle.mad_format.specs.declared.line.FmtLine.{FmtLine}
+use Rattle.mad_format.specs.declared.line.FmtLine.TheVariants.{Normal, TableRow, TableRule, HorizontalRule}
+use Rattle.mad_format.specs.declared.table.FmtTableRow.{FmtTableRow}
+
+-- ---- the cells of one row
+
+-- cells that are seen one after the other, from a column on
+abbrev pub cells_seen : List (List ℕ) → ℕ → List FmtComposite → List (List ℕ)
+cells_seen seen column [] = seen
+cells_seen seen column (cell ∷ cells) = cells_seen (cell_added seen column cell.visible_length) (column + 1) cells
+
+-- the lengths in columns, with those of a row
+abbrev row_added : List (List ℕ) → List FmtComposite → List (List ℕ)
+row_added [] cells = []
+row_added (c ∷ cs) [] = c ∷ cs
+row_added (c ∷ cs) (cell ∷ cells) = (c ++ cell.visible_length ∷ []) ∷ row_added cs cells
+
+nothing_added : (cs : List (List ℕ)) → row_added cs [] ≡ cs
+nothing_added [] = refl
+nothing_added (c ∷ cs) = refl
+
+seen_past : (seen : List (List ℕ)) (column : ℕ) (cells : List FmtComposite) → length seen ≤ column → cells_seen seen column cells ≡ seen
+seen_past seen column [] past = refl
+seen_past seen column (cell ∷ cells) past =
+    let same : cell_added seen column cell.visible_length ≡ seen = set_past seen column _ past in
+    ap (λ s. cells_seen s (column + 1) cells) same ∙ seen_past seen (column + 1) cells (omega (arith, past))
+
+get_at_seam : (done : List (List ℕ)) (c : List ℕ) (cs : List (List ℕ)) (d : List ℕ) → get_or (done ++ c ∷ cs) (length done) d ≡ c
+get_at_seam [] c cs d = refl
+get_at_seam (x ∷ done) c cs d = get_at_seam done c cs d
+
+added_at_seam : (done : List (List ℕ)) (c : List ℕ) (cs : List (List ℕ)) (w : ℕ) → cell_added (done ++ c ∷ cs) (length done) w ≡ (done ++ (c ++ w ∷ []) ∷ []) ++ cs
+added_at_seam done c cs w =
+    set-append_seam done c cs (get_or (done ++ c ∷ cs) (length done) [] ++ w ∷ []) ∙ ap (λ x. done ++ (x ++ w ∷ []) ∷ cs) (get_at_seam done c cs [])
+    ∙ sym (append_assoc done ((c ++ w ∷ []) ∷ []) cs)
+
+row_seen : (done seen : List (List ℕ)) (cells : List FmtComposite) → cells_seen (done ++ seen) (length done) cells ≡ done ++ row_added seen cells
+row_seen done seen [] = ap (λ s. done ++ s) (sym (nothing_added seen))
+row_seen done [] (cell ∷ cells) =
+    let same : done ++ [] ≡ done = append-nil done in
+    let past : length (done ++ []) ≤ length done = subst (λ (s : List (List ℕ)). length s ≤ length done) (sym same) (omega arith) in
+    seen_past (done ++ []) (length done) (cell ∷ cells) past
+row_seen done (c ∷ cs) (cell ∷ cells) =
+    let w : ℕ = cell.visible_length in
+    let one : List (List ℕ) = (c ++ w ∷ []) ∷ [] in
+    let longer : length done + 1 ≡ length (done ++ one) = sym (length-append done one) in
+    ap (λ s. cells_seen s (length done + 1) cells) (added_at_seam done c cs w) ∙ ap (λ n. cells_seen ((done ++ one) ++ cs) n cells) longer
+    ∙ row_seen (done ++ one) cs cells ∙ append_assoc done one (row_added cs cells)
+
+first_more : (rows : List (List FmtComposite)) (cell : FmtComposite) (cells : List FmtComposite) → first_lengths (rows ++ (cell ∷ cells) ∷ []) ≡ first_lengths rows ++ cell.visible_length ∷ []
+first_more [] cell cells = refl
+first_more ([] ∷ rows) cell cells = first_more rows cell cells
+first_more ((x ∷ xs) ∷ rows) cell cells = ap (λ ls. x.visible_length ∷ ls) (first_more rows cell cells)
+
+first_same : (rows : List (List FmtComposite)) → first_lengths (rows ++ [] ∷ []) ≡ first_lengths rows
+first_same [] = refl
+first_same ([] ∷ rows) = first_same rows
+first_same ((x ∷ xs) ∷ rows) = ap (λ ls. x.visible_length ∷ ls) (first_same rows)
+
+lengths_more : (n : ℕ) (rows : List (List FmtComposite)) (cells : List FmtComposite) → lengths_in n (rows ++ cells ∷ []) ≡ row_added (lengths_in n rows) cells
+lengths_more zero rows cells = refl
+lengths_more (suc n) rows [] =
+    ap (λ c. c ∷ lengths_in n (map below (rows ++ [] ∷ []))) (first_same rows)
+    ∙ ap (λ rs. first_lengths rows ∷ lengths_in n rs) (map-append below rows ([] ∷ []))
+    ∙ ap (λ ls. first_lengths rows ∷ ls) (lengths_more n (map below rows) [] ∙ nothing_added (lengths_in n (map below rows)))
+lengths_more (suc n) rows (cell ∷ cells) =
+    ap (λ c. c ∷ lengths_in n (map below (rows ++ (cell ∷ cells) ∷ []))) (first_more rows cell cells)
+    ∙ ap (λ rs. (first_lengths rows ++ cell.visible_length ∷ []) ∷ lengths_in n rs) (map-append below rows ((cell ∷ cells) ∷ []))
+    ∙ ap (λ ls. (first_lengths rows ++ cell.visible_length ∷ []) ∷ ls) (lengths_more n (map below rows) cells)
+
+-- a row that is seen cell by cell
+pub row_is_seen : (n : ℕ) (rows : List (List FmtComposite)) (cells : List FmtComposite) → cells_seen (lengths_in n rows) 0 cells ≡ lengths_in n (rows ++ cells ∷ [])
+row_is_seen n rows cells = row_seen [] (lengths_in n rows) cells ∙ sym (lengths_more n rows cells)
+
+-- the cells of a row so far, with the rest of them, are all
+abbrev pub CellsSeen : TblFit → TblFit → List FmtComposite → ℕ → Type 0
+CellsSeen before fit cells column =
+    (width n : ℕ) (rows : List (List FmtComposite)) → TableHasSeen before width (lengths_in n rows)
+    → (seen : List (List ℕ)) × TableHasSeen fit width seen × (cells_seen seen column (drop column cells) ≡ cells_seen (lengths_in n rows) 0 cells)
+
+pub seen_more : (before fit after : TblFit) (cells : List FmtComposite) (column : ℕ) (cell : FmtComposite) → CellsSeen before fit cells column → drop column cells ≡ cell ∷ drop (column + 1) cells
+    → ((width : ℕ) (seen : List (List ℕ)) → TableHasSeen fit width seen → TableHasSeen after width (cell_added seen column cell.visible_length)) → CellsSeen before after cells (column + 1)
+seen_more before fit after cells column cell held next sees width n rows start =
+    let so_far = held width n rows start in (
+      cell_added so_far.0 column cell.visible_length,
+      sees width so_far.0 so_far.1,
+      sym (ap (cells_seen so_far.0 column) next) ∙ so_far.2,
+    )
+
+pub seen_all : (before fit : TblFit) (cells : List FmtComposite) (column : ℕ) → CellsSeen before fit cells column → drop column cells ≡ []
+    → (width n : ℕ) (rows : List (List FmtComposite)) → TableHasSeen before width (lengths_in n rows) → TableHasSeen fit width (lengths_in n (rows ++ cells ∷ []))
+seen_all before fit cells column held none width n rows start =
+    let so_far = held width n rows start in
+    let same : so_far.0 ≡ lengths_in n (rows ++ cells ∷ []) = sym (ap (cells_seen so_far.0 column) none) ∙ so_far.2 ∙ row_is_seen n rows cells in
+    subst (TableHasSeen fit width) same so_far.1
+
+-- ---- the rows of a table
+
+-- the rows so far, with the rest of them, are all
+abbrev pub RowsSeen : TblFit → TblFit → List FmtLine → ℕ → Type 0
+RowsSeen before fit table i =
+    (width n : ℕ) (rows : List (List FmtComposite)) → TableHasSeen before width (lengths_in n rows)
+    → (seen : List (List FmtComposite)) × TableHasSeen fit width (lengths_in n seen) × (seen ++ rows_among (drop i table) ≡ rows ++ rows_among table)
+
+pub rows_seen_start : (before : TblFit) (table : List FmtLine) → RowsSeen before before table 0
+rows_seen_start before table width n rows start = (rows, start, refl)
+
+pub rows_seen_more : (before fit after : TblFit) (table : List FmtLine) (i : ℕ) (row : FmtTableRow) → RowsSeen before fit table i → drop i table ≡ TableRow row ∷ drop (i + 1) table
+    → ((width n : ℕ) (rows : List (List FmtComposite)) → TableHasSeen fit width (lengths_in n rows) → TableHasSeen after width (lengths_in n (rows ++ row.cells.items ∷ []))) → RowsSeen before after table (i + 1)
+rows_seen_more before fit after table i row held next sees width n rows start =
+    let so_far = held width n rows start in (
+      so_far.0 ++ row.cells.items ∷ [],
+      sees width n so_far.0 so_far.1,
+      append_assoc so_far.0 (row.cells.items ∷ []) (rows_among (drop (i + 1) table)) ∙ ap (λ ls. so_far.0 ++ rows_among ls) (sym next) ∙ so_far.2,
+    )
+
+no_row : (l : FmtLine) (ls : List FmtLine) → ((row : FmtTableRow) → l ≡ TableRow row → ⊥) → rows_among (l ∷ ls) ≡ rows_among ls
+no_row (Normal l) ls h = refl
+no_row (TableRow row) ls h = absurd (h row refl)
+no_row (TableRule rule) ls h = refl
+no_row HorizontalRule ls h = refl
+
+pub rows_seen_other : (before fit : TblFit) (table : List FmtLine) (i : ℕ) (l : FmtLine) → RowsSeen before fit table i → drop i table ≡ l ∷ drop (i + 1) table → ((row : FmtTableRow) → l ≡ TableRow row → ⊥)
+    → RowsSeen before fit table (i + 1)
+rows_seen_other before fit table i l held next other width n rows start =
+    let so_far = held width n rows start in
+    (so_far.0, so_far.1, ap (λ rs. so_far.0 ++ rs) (sym (ap rows_among next ∙ no_row l (drop (i + 1) table) other)) ∙ so_far.2)
+
+pub rows_seen_all : (before fit : TblFit) (table : List FmtLine) (i : ℕ) → RowsSeen before fit table i → drop i table ≡ []
+    → (width n : ℕ) (rows : List (List FmtComposite)) → TableHasSeen before width (lengths_in n rows) → TableHasSeen fit width (lengths_in n (rows ++ rows_among table))
+rows_seen_all before fit table i held none width n rows start =
+    let so_far = held width n rows start in
+    let same : so_far.0 ≡ rows ++ rows_among table = sym (append-nil so_far.0) ∙ ap (λ ls. so_far.0 ++ rows_among ls) (sym none) ∙ so_far.2 in
+    subst (λ (rs : List (List FmtComposite)). TableHasSeen fit width (lengths_in n rs)) same so_far.1
+
+pub lengths_start : (n : ℕ) → replicate {A = List ℕ} n [] ≡ lengths_in n []
+lengths_start zero = refl
+lengths_start (suc n) = ap (λ ls. [] ∷ ls) (lengths_start n)
+
+-- ---- the kept widths
+
+length-lengths : (n : ℕ) (rows : List (List FmtComposite)) → length (lengths_in n rows) ≡ n
+length-lengths zero rows = refl
+length-lengths (suc n) rows = ap suc (length-lengths n (map below rows))
+
+first-le : (rows : List (List FmtComposite)) → length (first_lengths rows) ≤ length rows
+first-le [] = omega arith
+first-le ([] ∷ rows) = omega (arith, first-le rows)
+first-le ((x ∷ xs) ∷ rows) = omega (arith, first-le rows)
+
+length-below : (rows : List (List FmtComposite)) → length (map below rows) ≡ length rows
+length-below [] = refl
+length-below (r ∷ rows) = ap suc (length-below rows)
+
+few_each : (n : ℕ) (rows : List (List FmtComposite)) → length rows < 2 ^ 64 → AllByRecursion (λ (c : List ℕ). length c < 2 ^ 64) (lengths_in n rows)
+few_each zero rows few = tt
+few_each (suc n) rows few = (omega (arith, few, first-le rows), few_each n (map below rows) (omega (arith, few, length-below rows)))
+
+rows-le : (ls : List FmtLine) → length (rows_among ls) ≤ length ls
+rows-le [] = omega arith
+rows-le (Normal l ∷ ls) = omega (arith, rows-le ls)
+rows-le (TableRow row ∷ ls) = omega (arith, rows-le ls)
+rows-le (TableRule rule ∷ ls) = omega (arith, rows-le ls)
+rows-le (HorizontalRule ∷ ls) = omega (arith, rows-le ls)
+
+bordered_is : (ws : List ℕ) → bordered ws ≡ sum ws + length ws
+bordered_is [] = refl
+bordered_is (w ∷ ws) =
+    let rest : bordered ws ≡ sum ws + length ws = bordered_is ws in
+    let first : sum (w ∷ ws) ≡ w + sum ws = sum_by-cons (λ (x : ℕ). x) w ws in
+    omega (arith, rest, first)
+
+bordered_threes : (k : ℕ) → bordered (replicate k 3) ≡ 4 * k
+bordered_threes zero = refl
+bordered_threes (suc k) = let rest : bordered (replicate k 3) ≡ 4 * k = bordered_threes k in omega (arith, rest)
+
+all_threes : (k : ℕ) → AllByRecursion (λ (w : ℕ). 3 ≤ w) (replicate k 3)
+all_threes zero = tt
+all_threes (suc k) = (omega arith, all_threes k)
+
+pub kept_fitted : (n width : ℕ) (table : List FmtLine) (fitted : TblFitResult) → 4 * n + 1 ≤ width → length table < 2 ^ 64 → IsTableFit width (lengths_in n (rows_among table)) fitted
+    → AreKeptWidths n width table fitted.col_widths.items
+kept_fitted n width table fitted wide few fit =
+    let cells : List (List ℕ) = lengths_in n (rows_among table) in
+    let ws : List ℕ = fitted.col_widths.items in
+    let count : length cells ≡ n = length-lengths n (rows_among table) in
+    let each : IsFit (width - 1 - length cells) (map needs_of cells) fitted = fit.exact (All-from_recursion (λ c. length c < 2 ^ 64) cells (few_each n (rows_among table) (omega (arith, few, rows-le table)))) in
+    let borders : bordered ws ≡ sum ws + length ws = bordered_is ws in
+    let same_count : length ws ≡ length cells = fit.count in
+    let within : sum ws + length cells + 1 ≤ width = fit.within in
+    record {
+      least = recursion_from_All (λ w. 3 ≤ w) ws fit.least;
+      fit = omega (arith, borders, same_count, within);
+      kept = λ _. same_count ∙ count;
+      are = λ _. each.widths ∙ ap (λ k. column_widths (width - 1 - k) (map needs_of cells)) count;
+      shared = λ _. (fitted.reduced, subst (λ (k : ℕ). AreShared (width - 1 - k) (natural_widths (map needs_of cells)) fitted.reduced ws) count fit.shared);
+      narrow = λ less. absurd (omega (arith, wide, less));
+    }
+
+pub kept_narrow : (n width : ℕ) (table : List FmtLine) (ws : List ℕ) → 0 < width → (width - 1) / 4 < n → ws ≡ replicate ((width - 1) / 4) 3 → AreKeptWidths n width table ws
+kept_narrow n width table ws some few is =
+    let k : ℕ = (width - 1) / 4 in
+    let borders : bordered (replicate k 3) ≡ 4 * k = bordered_threes k in
+    subst (AreKeptWidths n width table) (sym is) (record {
+      least = all_threes k;
+      fit = omega (arith, borders, some);
+      kept = λ wide. absurd (omega (arith, few, wide, some));
+      are = λ wide. absurd (omega (arith, few, wide, some));
+      shared = λ wide. absurd (omega (arith, few, wide, some));
+      narrow = λ less. refl;
+    })
+
+pub ok_narrow : {E : Type 0} (r : Result (Vec ℕ) E) (n width : ℕ) (table : List FmtLine) → 0 < width → (width - 1) / 4 < n → IfOk r (λ ws. ws.items ≡ replicate ((width - 1) / 4) 3) → IfOk r (λ ws. AreKeptWidths n width table ws.items)
+ok_narrow {E} (Ok ws) n width table some few is = kept_narrow n width table ws.items some few is
+ok_narrow {E} (Err e) n width table some few is = tt

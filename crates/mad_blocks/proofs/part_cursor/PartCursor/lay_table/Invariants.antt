@@ -1,0 +1,12 @@
+use Rattle.std.proofs.Common.{length}
+use Rattle.mad_md.specs.Lines.{content_of}
+use Rattle.mad_blocks.specs.PartCursors.{lines_left}
+use Rattle.mad_blocks.specs.TextParts.{is_table}
+use Rattle.mad_blocks.proofs.PartCursorLemmas.{RunSoFar}
+use Rattle.mad_blocks.proofs.part_cursor.PartCursor.lay_table.Given as goal
+
+abbrev pub invariant-loop-table : goal.invariant-loop-table
+invariant-loop-table g l = RunSoFar is_table (g.S.LineSkin.rules l.skin) (content_of l.fn.first) (lines_left l.fn.self) (lines_left l.self) l.table.items
+
+abbrev pub decreases-loop-table : goal.decreases-loop-table
+decreases-loop-table g l = length (lines_left l.self)

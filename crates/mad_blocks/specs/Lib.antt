@@ -1,0 +1,12 @@
+pub mod CodeBlocks
+pub mod FittingLayouts
+pub mod Fronts
+pub mod LayoutExamples
+pub mod LayoutLaws
+pub mod Layouts
+pub mod PartCursors
+pub mod Parts
+pub mod TableLaws
+pub mod TableRows
+pub mod Tables
+pub mod TextParts

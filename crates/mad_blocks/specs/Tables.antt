@@ -1,0 +1,187 @@
+-- The layout of a table.
+use Rattle.std.specs.Prelude.{◌≡◌, ℕ, zero, suc, ◌+◌, ◌-◌, ◌*◌, ◌/◌, ◌<◌, ◌≤◌, ◌==◌, ◌⊎◌, max, Bool, true, false, List, [], ◌∷◌, ◌++◌, map, length, replicate, Some, None}
+use Rattle.std.specs.List.{AllByRecursion}
+use Rattle.mad_md.specs.declared.alignment.Alignment.{Alignment}
+use Rattle.mad_md.specs.declared.alignment.Alignment.TheVariants.{Unspecified, Center}
+use Rattle.mad_style.specs.declared.kinds.CompositeKind.TheVariants.{Paragraph}
+use Rattle.mad_widths.specs.ColumnWidths.{needs_of, natural_widths, column_widths, AreShared}
+use Rattle.mad_fit.specs.declared.spacing.Spacing.{Spacing}
+use Rattle.mad_format.specs.Lines.{bordered}
+use Rattle.mad_format.specs.WrappedLines.{Wrap}
+use Rattle.mad_format.specs.LineRules.{LineRules}
+use Rattle.mad_format.specs.declared.composite.FmtComposite.{FmtComposite}
+use Rattle.mad_format.specs.declared.line.FmtLine.{FmtLine}
+use Rattle.mad_format.specs.declared.line.FmtLine.TheVariants.{Normal, TableRow, TableRule, HorizontalRule}
+use Rattle.mad_format.specs.declared.table.FmtTableRow.{FmtTableRow}
+use Rattle.mad_format.specs.declared.table.FmtTableRule.{FmtTableRule}
+use Rattle.mad_format.specs.declared.table.RelativePosition.{RelativePosition}
+use Rattle.mad_format.specs.declared.table.RelativePosition.TheVariants.{Top, Other, Bottom}
+
+-- ---- columns: each a width, and how cells stand in it
+
+-- columns of these widths with these alignments; a column without one has none
+abbrev pub columns_with : List ℕ → List Alignment → List Spacing
+columns_with [] aligns = []
+columns_with (w ∷ ws) [] = record { width = w; align = Unspecified } ∷ columns_with ws []
+columns_with (w ∷ ws) (a ∷ aligns) = record { width = w; align = a } ∷ columns_with ws aligns
+
+-- centered ones
+abbrev pub centered : List ℕ → List Spacing
+centered ws = map (λ w. record { width = w; align = Center }) ws
+
+-- ---- one row
+
+-- a line of a cell, at its place in a column
+abbrev pub in_column : Spacing → FmtComposite → FmtComposite
+in_column column l = record l { spacing = Some column }
+
+-- an empty paragraph, at its place in a column
+pub record IsBlankIn (column : Spacing) (l : FmtComposite) : Type 0 where
+  pub kind : l.kind ≡ Paragraph
+  pub empty : l.compounds.items ≡ []
+  pub length_is : l.visible_length ≡ 0
+  pub spacing : l.spacing ≡ Some column
+  pub margins : l.margins ≡ None
+
+-- the lines of a cell in a column of this width: the cell if it fits, else what it is wrapped into
+abbrev pub IsCellLaidOut : Wrap → LineRules → ℕ → FmtComposite → List FmtComposite → Type 0
+IsCellLaidOut wraps skin width cell lines =
+    ((cell.visible_length ≤ width) × (lines ≡ cell ∷ [])) ⊎ ((width < cell.visible_length) × wraps skin width cell lines)
+
+-- the lines of the first of these cells in a column of this width; of a missing cell none
+abbrev pub IsNextLaidOut : Wrap → LineRules → ℕ → List FmtComposite → List FmtComposite → Type 0
+IsNextLaidOut wraps skin width [] lines = lines ≡ []
+IsNextLaidOut wraps skin width (cell ∷ cells) lines = IsCellLaidOut wraps skin width cell lines
+
+-- what follows the first of lines or cells
+abbrev pub below : List FmtComposite → List FmtComposite
+below [] = []
+below (l ∷ ls) = ls
+
+-- the lines of each of the cells that stand in columns, in order; cells past the last column are left out
+abbrev pub AreCellsLaidOut : Wrap → LineRules → List Spacing → List FmtComposite → List (List FmtComposite) → Type 0
+AreCellsLaidOut wraps skin [] cells [] = Unit {0}
+AreCellsLaidOut wraps skin [] cells (ls ∷ lines) = ⊥
+AreCellsLaidOut wraps skin (c ∷ columns) cells [] = ⊥
+AreCellsLaidOut wraps skin (c ∷ columns) cells (ls ∷ lines) = IsNextLaidOut wraps skin c.width cells ls × AreCellsLaidOut wraps skin columns (below cells) lines
+
+-- what stands in a column on a row: the first of a cell's lines, or where there is none an empty paragraph
+abbrev pub IsTop : Spacing → List FmtComposite → FmtComposite → Type 0
+IsTop column [] x = IsBlankIn column x
+IsTop column (l ∷ ls) x = x ≡ in_column column l
+
+-- a row across the columns
+abbrev pub IsLineAcross : List Spacing → List (List FmtComposite) → List FmtComposite → Type 0
+IsLineAcross [] [] [] = Unit {0}
+IsLineAcross [] [] (x ∷ xs) = ⊥
+IsLineAcross [] (ls ∷ lines) xs = ⊥
+IsLineAcross (c ∷ cs) [] xs = ⊥
+IsLineAcross (c ∷ cs) (ls ∷ lines) [] = ⊥
+IsLineAcross (c ∷ cs) (ls ∷ lines) (x ∷ xs) = IsTop c ls x × IsLineAcross cs lines xs
+
+-- the rows, one below the other
+abbrev pub AreDown : List Spacing → List (List FmtComposite) → List FmtTableRow → Type 0
+AreDown columns lines [] = Unit {0}
+AreDown columns lines (row ∷ rows) = IsLineAcross columns lines row.cells.items × AreDown columns (map below lines) rows
+
+-- the count of lines of the cell that has the most
+abbrev pub tallest : List (List FmtComposite) → ℕ
+tallest [] = 0
+tallest (ls ∷ lines) = max (length ls) (tallest lines)
+
+-- The rows are a row of a table, laid out in columns: each kept cell is wrapped; there are as many rows as the tallest of
+-- them has lines, and at least one; missing lines and cells are empty paragraphs.
+pub record IsRowLaidOutBy (wraps : Wrap) (skin : LineRules) (columns : List Spacing) (cells : List FmtComposite) (rows : List FmtTableRow) : Type 0 where
+  pub lines : List (List FmtComposite)
+  pub laid_out : AreCellsLaidOut wraps skin columns cells lines
+  pub count : length rows ≡ max (tallest lines) 1
+  pub rows_are : AreDown columns lines rows
+
+-- ---- the widths of columns
+
+-- the rows among lines, each by its cells
+abbrev pub rows_among : List FmtLine → List (List FmtComposite)
+rows_among [] = []
+rows_among (Normal l ∷ ls) = rows_among ls
+rows_among (TableRow row ∷ ls) = row.cells.items ∷ rows_among ls
+rows_among (TableRule rule ∷ ls) = rows_among ls
+rows_among (HorizontalRule ∷ ls) = rows_among ls
+
+-- the cached lengths of the first cells of rows; a row without cells has none
+abbrev pub first_lengths : List (List FmtComposite) → List ℕ
+first_lengths [] = []
+first_lengths ([] ∷ rows) = first_lengths rows
+first_lengths ((cell ∷ cells) ∷ rows) = cell.visible_length ∷ first_lengths rows
+
+-- those of the cells in each of n columns
+abbrev pub lengths_in : ℕ → List (List FmtComposite) → List (List ℕ)
+lengths_in zero rows = []
+lengths_in (suc n) rows = first_lengths rows ∷ lengths_in n (map below rows)
+
+-- The widths of the kept columns of a table of n columns: at least three each, and with their borders they fit. Where there is room for
+-- three in each of the n, all are kept, with the widths that their cells need, or that share what is available; else as many as
+-- have room, of three.
+pub record AreKeptWidths (n width : ℕ) (lines : List FmtLine) (widths : List ℕ) : Type 0 where
+  pub least : AllByRecursion (λ w. 3 ≤ w) widths
+  pub fit : bordered widths + 1 ≤ width
+  pub kept : 4 * n + 1 ≤ width → length widths ≡ n
+  pub are : 4 * n + 1 ≤ width → widths ≡ column_widths (width - 1 - n) (map needs_of (lengths_in n (rows_among lines)))
+  pub shared : 4 * n + 1 ≤ width → (reduced : Bool) × AreShared (width - 1 - n) (natural_widths (map needs_of (lengths_in n (rows_among lines)))) reduced widths
+  pub narrow : width < 4 * n + 1 → widths ≡ replicate ((width - 1) / 4) 3
+
+-- ---- a table
+
+-- the columns from a line on, where they were these above it: a rule says how cells stand below it
+abbrev pub columns_from : List ℕ → List Spacing → FmtLine → List Spacing
+columns_from widths columns (Normal l) = columns
+columns_from widths columns (TableRow row) = columns
+columns_from widths columns (TableRule rule) = columns_with widths rule.aligns.items
+columns_from widths columns HorizontalRule = columns
+
+-- where a rule stands that is the first line of its table or not, the last one or not
+abbrev pub position_at : Bool → Bool → RelativePosition
+position_at true last = Top
+position_at false true = Bottom
+position_at false false = Other
+
+-- a rule across columns, at its place in its table
+pub record IsRuleLaidOut (position : RelativePosition) (columns : List Spacing) (rule : FmtTableRule) : Type 0 where
+  pub position_is : rule.position ≡ position
+  pub widths_are : rule.widths.items ≡ map (λ c. c.width) columns
+  pub aligns_are : rule.aligns.items ≡ map (λ c. c.align) columns
+
+-- What a line of a table becomes in columns at its place in the table: a row its rows, a rule a rule across the columns.
+abbrev pub IsTableLineBy : Wrap → LineRules → List Spacing → RelativePosition → FmtLine → List FmtLine → Type 0
+IsTableLineBy wraps skin columns position (Normal l) lines = lines ≡ Normal l ∷ []
+IsTableLineBy wraps skin columns position (TableRow row) lines =
+    (rows : List FmtTableRow) × (lines ≡ map TableRow rows) × IsRowLaidOutBy wraps skin columns row.cells.items rows
+IsTableLineBy wraps skin columns position (TableRule source) lines =
+    (rule : FmtTableRule) × (lines ≡ TableRule rule ∷ []) × IsRuleLaidOut position columns rule
+IsTableLineBy wraps skin columns position HorizontalRule lines = lines ≡ HorizontalRule ∷ []
+
+-- What the lines of a table become, in order, at these widths, in these columns up to the first rule; `first` says whether no
+-- line stands above.
+abbrev pub AreTableLinesBy : Wrap → LineRules → List ℕ → List Spacing → Bool → List FmtLine → List FmtLine → Type 0
+AreTableLinesBy wraps skin widths columns first [] lines = lines ≡ []
+AreTableLinesBy wraps skin widths columns first (l ∷ ls) lines =
+    (own : List FmtLine) × (others : List FmtLine) × (lines ≡ own ++ others)
+    × IsTableLineBy wraps skin (columns_from widths columns l) (position_at first (length ls == 0)) l own
+    × AreTableLinesBy wraps skin widths (columns_from widths columns l) false ls others
+
+-- What a table of n columns becomes at a width; without columns or without width it stays.
+abbrev pub IsTableLaidOutBy : Wrap → LineRules → ℕ → ℕ → List FmtLine → List FmtLine → Type 0
+IsTableLaidOutBy wraps skin n width table lines =
+    (((n ≡ 0) ⊎ (width ≡ 0)) × (lines ≡ table))
+    ⊎ ((0 < n) × (0 < width) × ((widths : List ℕ) × AreKeptWidths n width table widths × AreTableLinesBy wraps skin widths (centered widths) true table lines))
+
+-- the count of cells or alignments of a line of a table
+abbrev pub columns_in : FmtLine → ℕ
+columns_in (Normal l) = 0
+columns_in (TableRow row) = length row.cells.items
+columns_in (TableRule rule) = length rule.aligns.items
+columns_in HorizontalRule = 0
+
+-- the greatest of all lines
+abbrev pub columns_count : List FmtLine → ℕ
+columns_count [] = 0
+columns_count (l ∷ ls) = max (columns_in l) (columns_count ls)

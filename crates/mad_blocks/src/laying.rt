@@ -1,0 +1,149 @@
+//! What becomes of a line, and of a block of code.
+
+ghost use Rattle.std.specs.Prelude.{◌≡◌, ◌++◌, List, OnOk};
+ghost use Rattle.std.specs.List.{AllByRecursion};
+ghost use Rattle.mad_md.specs.Lines.{styled_runs};
+ghost use Rattle.mad_format.specs.CompositeWraps.{IsCompositeWrap};
+ghost use Rattle.mad_format.specs.Lines.{IsCompositeRead};
+ghost use Rattle.mad_blocks.specs.Parts.{is_code_kind, widest, block_width, width_within, placed_code, code_room, table_width, wrap_width, IsBlockAt, IsLineAt};
+ghost use Rattle.mad_format.specs.WrappedLines.{IsLineMeasured};
+ghost use Rattle.mad_format.specs.Wraps.{IsMeasured};
+ghost use Rattle.mad_format.specs.declared.line.FmtLine.{FmtLine};
+ghost use Rattle.mad_format.specs.declared.line.FmtLine.TheVariants.{Normal};
+
+use mad_fit::Spacing;
+use mad_format::{FmtComposite, FmtLine, LineSkin, margins_in, push_line, push_read, put_line};
+use mad_md::{Alignment, Composite};
+use mad_style::{CompositeKind, LEAST_WIDTH};
+use std::alloc::{AllocError, Global};
+
+/// Puts what becomes of a block of code after the lines that are there: each line gets the block's place, and is wrapped at a width in
+/// columns, if there is one. Only out of memory is an error.
+pub(crate) fn push_block<'s, S: LineSkin>(
+    alloc: Global,
+    lines: &mut Vec<FmtLine<'s>>,
+    block: Vec<FmtComposite<'s>>,
+    width: Option<usize>,
+    skin: &S,
+) -> Result<(), AllocError>
+    requires { AllByRecursion (IsMeasured (S.rules skin.now)) block.items }
+    ensures { OnOk result ((own : List FmtLine) × (lines.new.items ≡ lines.old.items ++ own) × IsBlockAt (S.rules skin.now) width block.entry.items own) }
+{
+    let wrap = wrap_width(width);
+    let columns = block_width(&block, room_of_code(wrap, skin));
+    for composite in block {
+        let placed = placed_code(columns, composite);
+        push_at(alloc, lines, FmtLine::Normal(placed), wrap, skin)?;
+    }
+    Ok(())
+}
+
+/// The width of tables, in columns: without a width they are as wide as can be.
+pub(crate) fn table_width(width: Option<usize>) -> usize
+    ensures { result ≡ table_width width }
+{
+    width.unwrap_or(usize::MAX)
+}
+
+/// The width, in columns, that lines are wrapped at: none where it is under three.
+pub fn wrap_width(width: Option<usize>) -> Option<usize>
+    ensures { result ≡ wrap_width width }
+{
+    match width {
+        Some(width) if width >= LEAST_WIDTH => Some(width),
+        _ => None,
+    }
+}
+
+/// Whether a composite of this kind is code.
+pub fn is_code(kind: CompositeKind) -> bool
+    ensures { result ≡ is_code_kind kind }
+{
+    match kind {
+        CompositeKind::Code => true,
+        _ => false,
+    }
+}
+
+// What the margins of code leave of a width.
+fn room_of_code<S: LineSkin>(width: Option<usize>, skin: &S) -> Option<usize>
+    ensures { result ≡ code_room (S.rules skin.now) width }
+{
+    let (_, inner) = margins_in(skin, CompositeKind::Code, width?);
+    Some(inner)
+}
+
+// The columns of a block of code.
+fn block_width(block: &[FmtComposite], room: Option<usize>) -> usize
+    ensures { result ≡ block_width room block.now }
+{
+    width_within(widest(block), room)
+}
+
+/// A width, at most the room, if there is a limit.
+pub(crate) fn width_within(width: usize, room: Option<usize>) -> usize
+    ensures { result ≡ width_within room width }
+{
+    match room {
+        Some(room) => width.min(room),
+        None => width,
+    }
+}
+
+fn widest(block: &[FmtComposite]) -> usize
+    ensures { result ≡ widest block.now }
+{
+    let mut widest = 0;
+    for composite in block {
+        widest = composite.visible_length.max(widest);
+    }
+    widest
+}
+
+// A line of code in its block's place.
+fn placed_code<'s>(width: usize, composite: FmtComposite<'s>) -> FmtComposite<'s>
+    ensures { result ≡ placed_code width composite.entry }
+{
+    let mut placed = composite;
+    placed.spacing = Some(Spacing {
+        width,
+        align: Alignment::Left,
+    });
+    placed
+}
+
+// Puts what becomes of a line at a width after the lines that are there.
+fn push_at<'s, S: LineSkin>(
+    alloc: Global,
+    lines: &mut Vec<FmtLine<'s>>,
+    line: FmtLine<'s>,
+    width: Option<usize>,
+    skin: &S,
+) -> Result<(), AllocError>
+    requires { IsLineMeasured (S.rules skin.now) line }
+    ensures { OnOk result ((own : List FmtLine) × (lines.new.items ≡ lines.old.items ++ own) × IsLineAt IsCompositeWrap (S.rules skin.now) width line.entry own) }
+{
+    match width {
+        Some(width) => push_line(alloc, lines, line, width, skin),
+        None => put_line(lines, line),
+    }
+}
+
+/// Puts what becomes of a composite that was read after the lines that are there: it is wrapped at a width in columns, if there is one.
+/// Only out of memory is an error.
+pub(crate) fn push_read_at<'s, S: LineSkin>(
+    alloc: Global,
+    lines: &mut Vec<FmtLine<'s>>,
+    composite: Composite<'s>,
+    width: Option<usize>,
+    skin: &S,
+) -> Result<(), AllocError>
+    ensures { OnOk result ((source : FmtComposite) × IsCompositeRead (S.rules skin.now) (styled_runs composite.entry) source
+        × (own : List FmtLine) × (lines.new.items ≡ lines.old.items ++ own)
+        × IsLineAt IsCompositeWrap (S.rules skin.now) width (Normal source) own) }
+{
+    match width {
+        Some(width) => push_read(alloc, lines, composite, width, skin),
+        None => put_line(lines, FmtLine::Normal(FmtComposite::from(composite, skin))),
+    }
+}

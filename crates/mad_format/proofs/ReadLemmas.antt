@@ -1,0 +1,70 @@
+-- Lines as they are read: what was read is measured, and a row is read cell by cell.
+use Rattle.std.proofs.Common.{◌≡◌, true, List, [], ◌∷◌, ◌++◌, refl, ap, sym, ◌∙◌, subst, append_assoc}
+use Rattle.std.specs.List.{AllByRecursion}
+use Rattle.std.proofs.lemmas.List.{append-nil}
+use Rattle.mad_md.specs.Lines.{StyledRuns, LineContent, content_of, normal, table_row, table_rule, horizontal_rule}
+use Rattle.mad_md.specs.declared.composite.Composite.{Composite}
+use Rattle.mad_md.specs.declared.line.Line.{Line}
+use Rattle.mad_md.specs.declared.line.Line.TheVariants as read
+use Rattle.mad_format.specs.Lines.{is_table_line, IsLineRead, IsCompositeRead, AreCompositesRead}
+use Rattle.mad_format.specs.WrappedLines.{IsLineMeasured}
+use Rattle.mad_format.specs.Wraps.{IsMeasured}
+use Rattle.mad_format.specs.LineRules.{LineRules}
+use Rattle.mad_format.specs.declared.composite.FmtComposite.{FmtComposite}
+use Rattle.mad_format.specs.declared.line.FmtLine.{FmtLine}
+use Rattle.mad_format.specs.declared.line.FmtLine.TheVariants.{Normal, TableRow, TableRule, HorizontalRule}
+
+-- ---- what was read is measured
+
+cells_measured : (skin : LineRules) (cs : List StyledRuns) (ls : List FmtComposite) → AreCompositesRead skin cs ls → AllByRecursion (IsMeasured skin) ls
+cells_measured skin [] [] h = tt
+cells_measured skin [] (l ∷ ls) h = absurd h
+cells_measured skin (c ∷ cs) [] h = tt
+cells_measured skin (c ∷ cs) (l ∷ ls) h = (h.0.measured, cells_measured skin cs ls h.1)
+
+pub line_measured : (skin : LineRules) (c : LineContent) (l : FmtLine) → IsLineRead skin c l → IsLineMeasured skin l
+line_measured skin (normal said) (Normal l) h = h.measured
+line_measured skin (normal said) (TableRow row) h = absurd h
+line_measured skin (normal said) (TableRule rule) h = absurd h
+line_measured skin (normal said) HorizontalRule h = absurd h
+line_measured skin (table_row cells) (Normal l) h = absurd h
+line_measured skin (table_row cells) (TableRow row) h = cells_measured skin cells row.cells.items h
+line_measured skin (table_row cells) (TableRule rule) h = absurd h
+line_measured skin (table_row cells) HorizontalRule h = absurd h
+line_measured skin (table_rule aligns) (Normal l) h = absurd h
+line_measured skin (table_rule aligns) (TableRow row) h = absurd h
+line_measured skin (table_rule aligns) (TableRule rule) h = tt
+line_measured skin (table_rule aligns) HorizontalRule h = absurd h
+line_measured skin horizontal_rule (Normal l) h = absurd h
+line_measured skin horizontal_rule (TableRow row) h = absurd h
+line_measured skin horizontal_rule (TableRule rule) h = absurd h
+line_measured skin horizontal_rule HorizontalRule h = tt
+
+-- what is read of a line that is no composite and no rule is a line of a table
+pub table_read : (skin : LineRules) (line : Line) (l : FmtLine) → ((composite : Composite) → line ≡ read.Normal composite → ⊥) → (line ≡ read.HorizontalRule → ⊥) → IsLineRead skin (content_of line) l → is_table_line l ≡ true
+table_read skin (read.Normal composite) l other rule h = absurd (other composite refl)
+table_read skin (read.TableRow row) (Normal m) other rule h = absurd h
+table_read skin (read.TableRow row) (TableRow made) other rule h = refl
+table_read skin (read.TableRow row) (TableRule made) other rule h = refl
+table_read skin (read.TableRow row) HorizontalRule other rule h = absurd h
+table_read skin (read.TableRule cells) (Normal m) other rule h = absurd h
+table_read skin (read.TableRule cells) (TableRow made) other rule h = refl
+table_read skin (read.TableRule cells) (TableRule made) other rule h = refl
+table_read skin (read.TableRule cells) HorizontalRule other rule h = absurd h
+table_read skin read.HorizontalRule l other rule h = absurd (rule refl)
+
+-- ---- the cells of a row
+
+-- what has been read of a row, with whatever the rest of its cells is read as, is all of it
+abbrev pub CellsSoFar : LineRules → List StyledRuns → List StyledRuns → List FmtComposite → Type 0
+CellsSoFar skin all rest cells = (more : List FmtComposite) → AreCompositesRead skin rest more → AreCompositesRead skin all (cells ++ more)
+
+pub cells_more : (skin : LineRules) (all rest after : List StyledRuns) (c : StyledRuns) (cells new : List FmtComposite) (l : FmtComposite) → CellsSoFar skin all rest cells → rest ≡ c ∷ after → IsCompositeRead skin c l
+    → new ≡ cells ++ l ∷ [] → CellsSoFar skin all after new
+cells_more skin all rest after c cells new l held next is pushed more h =
+    subst (AreCompositesRead skin all) (sym (ap (λ ls. ls ++ more) pushed ∙ append_assoc cells (l ∷ []) more))
+    (held (l ∷ more) (subst (λ (cs : List StyledRuns). AreCompositesRead skin cs (l ∷ more)) (sym next) (is, h)))
+
+pub cells_all : (skin : LineRules) (all rest : List StyledRuns) (cells : List FmtComposite) → rest ≡ [] → CellsSoFar skin all rest cells → AreCompositesRead skin all cells
+cells_all skin all rest cells none held =
+    subst (AreCompositesRead skin all) (append-nil cells) (held [] (subst (λ (cs : List StyledRuns). AreCompositesRead skin cs []) (sym none) tt))

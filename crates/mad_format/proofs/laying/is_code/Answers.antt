@@ -1,5 +1,0 @@
-use Rattle.std.proofs.Common.{rules}
-use Rattle.mad_format.proofs.laying.is_code.Goals as goal
-
-pub returns-in-Code : goal.returns-in-Code
-returns-in-Code c = search rules
