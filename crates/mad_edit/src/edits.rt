@@ -170,7 +170,7 @@ impl InputFieldContent {
         let word = CharClass::Alphanumeric.count_front(self.rest_of_line());
         if rest > 0 {
             let at = self.cursor_pos();
-            let count = if word < rest { word + 1 } else { rest };
+            let count = (word + 1).min(rest);
             let to = self.place_ahead(count);
             self.remove(at, to)?;
         }

@@ -173,11 +173,10 @@ pub fn first_requests(
 {
     let spares = spares_of(columns);
     let goal = capped(spares, excess);
-    let mut requests = Vec::new(alloc);
-    for column in columns {
-        requests.push(column.first_request(spares, goal))?;
-    }
-    Ok(requests)
+    columns
+        .iter()
+        .map(|column| column.first_request(spares, goal))
+        .collect(alloc)
 }
 
 // What columns of these widths are wider than three, together.
@@ -212,11 +211,10 @@ pub fn second_requests(
     ensures { IfOk result (λ requests. requests.items ≡ second_requests (above_three widths.now - kept) widths.now) }
 {
     let above = above_three(widths);
-    let mut requests = Vec::new(alloc);
-    for width in widths {
-        requests.push(second_request(*width, kept, above))?;
-    }
-    Ok(requests)
+    widths
+        .iter()
+        .map(|width| second_request(*width, kept, above))
+        .collect(alloc)
 }
 
 // Cuts each request down to what is left of the excess at its turn, and answers what is left after the last.

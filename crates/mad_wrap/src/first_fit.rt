@@ -7,7 +7,7 @@ use crate::room::Room;
 use mad_fit::Token;
 
 /// Where first fit puts a token.
-#[derive(Clone, Copy, Debug)]
+#[derive(Clone, Copy)]
 pub(crate) enum Put {
     /// On the line, after its tokens.
     OnLine,
@@ -19,7 +19,7 @@ pub(crate) enum Put {
 
 /// First fit: a token goes on the line while it fits. A blank one that doesn't ends the line, and is dropped with the
 /// blanks after it. Any other begins the next line, whether it fits there or not.
-#[derive(Clone, Copy, Debug)]
+#[derive(Clone, Copy)]
 pub(crate) struct FirstFit {
     room: Room,
     // What is left of the line, if its tokens fit, and whether a gap has begun after it.
