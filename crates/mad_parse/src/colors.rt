@@ -7,9 +7,9 @@ ghost use Rattle.mad_parse.specs.Colors.{color_of, color_names, color_name, colo
 ghost use Rattle.mad_term.specs.Draws.{Draws};
 ghost use Rattle.mad_term.specs.declared.errors.Error.TheVariants.{Memory};
 ghost use Rattle.mad_parse.specs.Names.{named, of_length};
-ghost use Rattle.mad_parse.specs.Numbers.{number_below};
 
 use crate::errors::ParseColorError;
+use crate::numbers::parse_byte;
 use mad_style::gray;
 use mad_term::{Color, Error, Out, put_text};
 use std::alloc::Global;
@@ -202,9 +202,9 @@ fn called_color(name: &str, inside: &str) -> Result<Color, ParseColorError>
     ensures { result ≡ called_color name.now inside.now }
 {
     if name.eq_ignore_ascii_case("ansi") {
-        ansi_color(byte_of(inside))
+        ansi_color(parse_byte(inside))
     } else if is_gray(name) {
-        gray_color(byte_of(inside))
+        gray_color(parse_byte(inside))
     } else if name.eq_ignore_ascii_case("rgb") {
         rgb_parts(inside)
     } else {
@@ -257,17 +257,11 @@ fn rgb_parts(text: &str) -> Result<Color, ParseColorError>
     let Some((green, blue)) = rest.trim_start().split_once(',') else {
         return Err(ParseColorError::Unrecognized);
     };
-    rgb_color(byte_of(red), byte_of(green), byte_of(blue.trim_start()))
-}
-
-// The number that a text of digits alone says, if it is a byte.
-fn byte_of(text: &str) -> Option<u8>
-    ensures { result ≡ number_below 256 text.now }
-{
-    if text.starts_with('+') {
-        return None;
-    }
-    text.parse::<u8>().ok()
+    rgb_color(
+        parse_byte(red),
+        parse_byte(green),
+        parse_byte(blue.trim_start()),
+    )
 }
 
 /// Writes the text of a color; nothing for `Reset`.
