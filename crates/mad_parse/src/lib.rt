@@ -3,7 +3,7 @@
 //! In the order of the work:
 //!
 //! 1. [`tokens`]: what a token is, and its text. [`alignments`], [`attributes`], [`colors`]: three of its kinds.
-//!    [`numbers`]: a byte as a text.
+//!    [`names`]: values by their names. [`numbers`]: a byte as a text.
 //! 2. [`cuts`]: how a text is cut into tokens. [`parse`]: what they say. [`errors`]: why a text is refused.
 //! 3. [`reading`]: the style that tokens say.
 //! 4. [`written`]: the tokens that a style is written as. [`writing`]: the text of tokens.
@@ -16,6 +16,7 @@ mod colors;
 mod cuts;
 mod errors;
 pub mod laws;
+mod names;
 mod numbers;
 mod parse;
 mod reading;
