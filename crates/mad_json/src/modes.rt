@@ -5,10 +5,9 @@ ghost use Rattle.serde_json.specs.View.{view};
 ghost use Rattle.mad_json.specs.Faults.{TellsValue};
 ghost use Rattle.mad_json.specs.Modes.{mode_said, mode_named, hanging_front, called_mode};
 ghost use Rattle.mad_parse.specs.Colors.{without_last};
-ghost use Rattle.mad_parse.specs.Numbers.{number_below};
 
 use crate::errors::ValueError;
-use mad_parse::ParseStyleTokenError;
+use mad_parse::{ParseStyleTokenError, parse_byte};
 use mad_style::ListItemsIndentationMode;
 use serde_json::Value;
 use std::alloc::Global;
@@ -60,17 +59,7 @@ fn called_mode(name: &str, digits: &str) -> Option<ListItemsIndentationMode>
     ensures { result ≡ called_mode name.now digits.now }
 {
     if name.eq_ignore_ascii_case("hanging") && digits.len() < 4 {
-        return byte_of(digits).map(ListItemsIndentationMode::Hanging);
+        return parse_byte(digits).map(ListItemsIndentationMode::Hanging);
     }
     None
-}
-
-// The number that a text of digits alone says, if it is a byte.
-fn byte_of(text: &str) -> Option<u8>
-    ensures { result ≡ number_below 256 text.now }
-{
-    if text.starts_with('+') {
-        return None;
-    }
-    text.parse::<u8>().ok()
 }

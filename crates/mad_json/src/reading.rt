@@ -1,6 +1,6 @@
 //! The skin that an object says.
 
-ghost use Rattle.std.specs.Prelude.{◌≡◌, Ok, IfOk, IfErr, OnOk, map, string_bytes};
+ghost use Rattle.std.specs.Prelude.{◌≡◌, ◌++◌, ◌∷◌, [], Ok, IfOk, IfErr, OnOk, map, string_bytes};
 ghost use Rattle.serde_json.specs.View.{view};
 ghost use Rattle.mad_json.specs.Faults.{TellsValue, TellsSkin};
 ghost use Rattle.mad_json.specs.Reading.{nothing_found, part_said, member_read, names_again, borders_said, skin_read};
@@ -81,13 +81,21 @@ impl Reader {
             return Err(SkinError::WrongType { key: key.clone()? });
         }
         let Some(field) = field else {
-            self.unknown.push(key.clone()?).map_err(AllocError::from)?;
+            self.keep_unknown(key)?;
             return Ok(());
         };
         self.seen[field.index()] = true;
         if let Err(error) = set_part(alloc, &mut self.skin, field, value) {
             return Err(at_key(key, error));
         }
+        Ok(())
+    }
+
+    // Keeps a key that names no part.
+    fn keep_unknown(&mut self, key: &String) -> Result<(), AllocError>
+        ensures { OnOk result (found_of self.new ≡ record (found_of self.old) { unknown = (found_of self.old).unknown ++ string_bytes key.now ∷ [] }) }
+    {
+        self.unknown.push(key.clone()?)?;
         Ok(())
     }
 

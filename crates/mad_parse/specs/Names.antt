@@ -1,5 +1,5 @@
 -- Names of values, in any ASCII case.
-use Rattle.std.specs.Prelude.{ℕ, Bool, ◌==◌, List, [], ◌∷◌, ◌++◌, Option, Some, None, codes, length, filter, if◌then◌else◌}
+use Rattle.std.specs.Prelude.{ℕ, Bool, List, [], ◌∷◌, ◌++◌, Option, Some, None, codes, if◌then◌else◌}
 use Rattle.std.specs.Str.{str_eq_ignore_ascii_case}
 use Rattle.mad_md.specs.declared.alignment.Alignment.{Alignment}
 use Rattle.mad_md.specs.declared.alignment.Alignment.TheVariants.{Unspecified, Left, Center, Right}
@@ -15,10 +15,6 @@ is_named text name = str_eq_ignore_ascii_case text name
 abbrev pub named : {A : Type 0} → List (List ℕ × A) → List ℕ → Option A
 named [] text = None
 named (entry ∷ table) text = if is_named text entry.0 then Some entry.1 else named table text
-
--- the part of a table whose names have n bytes: a name of another length is another text
-abbrev pub of_length : {A : Type 0} → ℕ → List (List ℕ × A) → List (List ℕ × A)
-of_length n table = filter (λ entry. length entry.0 == n) table
 
 -- the alignments that have a name
 abbrev pub align_names : List (List ℕ × Alignment)

@@ -8,8 +8,16 @@ ghost use Rattle.mad_parse.specs.Names.{named, align_names, align_text};
 ghost use Rattle.mad_parse.specs.declared.errors.ParseAlignError.TheVariants.{Unrecognized};
 
 use crate::errors::ParseAlignError;
+use crate::names::named;
 use mad_md::Alignment;
 use mad_term::{Error, Out, put_text};
+
+// The alignments that have a name.
+const ALIGNMENTS: [(&str, Alignment); 3] = [
+    ("left", Alignment::Left),
+    ("center", Alignment::Center),
+    ("right", Alignment::Right),
+];
 
 /// The alignment of this name, without regard to ASCII case: `left`, `center` or `right`.
 ///
@@ -19,21 +27,7 @@ use mad_term::{Error, Out, put_text};
 pub fn parse_align(text: &str) -> Result<Alignment, ParseAlignError>
     ensures { result ≡ ok_or (named align_names text.now) Unrecognized }
 {
-    align_named(text).ok_or(ParseAlignError::Unrecognized)
-}
-
-fn align_named(text: &str) -> Option<Alignment>
-    ensures { result ≡ named align_names text.now }
-{
-    if text.eq_ignore_ascii_case("left") {
-        Some(Alignment::Left)
-    } else if text.eq_ignore_ascii_case("center") {
-        Some(Alignment::Center)
-    } else if text.eq_ignore_ascii_case("right") {
-        Some(Alignment::Right)
-    } else {
-        None
-    }
+    named(&ALIGNMENTS, text).ok_or(ParseAlignError::Unrecognized)
 }
 
 /// Writes the name of an alignment; nothing where it isn't specified.

@@ -6,10 +6,11 @@ ghost use Rattle.std.specs.List.{list_all};
 ghost use Rattle.mad_parse.specs.Colors.{color_of, color_names, color_name, color_text, hex_color, hex_digit, hex_twice, hex_pair, called_color, rgb_parts, ansi_color, gray_color, rgb_color, is_gray};
 ghost use Rattle.mad_term.specs.Draws.{Draws};
 ghost use Rattle.mad_term.specs.declared.errors.Error.TheVariants.{Memory};
-ghost use Rattle.mad_parse.specs.Names.{named, of_length};
-ghost use Rattle.mad_parse.specs.Numbers.{number_below};
+ghost use Rattle.mad_parse.specs.Names.{named};
 
 use crate::errors::ParseColorError;
+use crate::names::named;
+use crate::numbers::parse_byte;
 use mad_style::gray;
 use mad_term::{Color, Error, Out, put_text};
 use std::alloc::Global;
@@ -40,109 +41,30 @@ pub fn parse_color(text: &str) -> Result<Color, ParseColorError>
     called_color(name, inside)
 }
 
-// Few names have the same length, so most texts are compared with none.
+// The colors that have a name.
+const COLORS: [(&str, Color); 16] = [
+    ("black", Color::AnsiValue(16)),
+    ("white", Color::AnsiValue(231)),
+    ("red", Color::Red),
+    ("green", Color::Green),
+    ("yellow", Color::Yellow),
+    ("blue", Color::Blue),
+    ("magenta", Color::Magenta),
+    ("cyan", Color::Cyan),
+    ("grey", Color::Grey),
+    ("darkred", Color::DarkRed),
+    ("darkgreen", Color::DarkGreen),
+    ("darkyellow", Color::DarkYellow),
+    ("darkblue", Color::DarkBlue),
+    ("darkmagenta", Color::DarkMagenta),
+    ("darkcyan", Color::DarkCyan),
+    ("darkgrey", Color::DarkGrey),
+];
+
 fn named_color(text: &str) -> Option<Color>
     ensures { result ≡ named color_names text.now }
 {
-    match text.len() {
-        3 => color_of_3(text),
-        4 => color_of_4(text),
-        5 => color_of_5(text),
-        6 => color_of_6(text),
-        7 => color_of_7(text),
-        8 => color_of_8(text),
-        9 => color_of_9(text),
-        10 => color_of_10(text),
-        11 => color_of_11(text),
-        _ => None,
-    }
-}
-
-fn color_of_3(text: &str) -> Option<Color>
-    ensures { result ≡ named (of_length 3 color_names) text.now }
-{
-    text.eq_ignore_ascii_case("red").then_some(Color::Red)
-}
-
-fn color_of_4(text: &str) -> Option<Color>
-    ensures { result ≡ named (of_length 4 color_names) text.now }
-{
-    if text.eq_ignore_ascii_case("blue") {
-        Some(Color::Blue)
-    } else if text.eq_ignore_ascii_case("cyan") {
-        Some(Color::Cyan)
-    } else if text.eq_ignore_ascii_case("grey") {
-        Some(Color::Grey)
-    } else {
-        None
-    }
-}
-
-fn color_of_5(text: &str) -> Option<Color>
-    ensures { result ≡ named (of_length 5 color_names) text.now }
-{
-    if text.eq_ignore_ascii_case("black") {
-        Some(Color::AnsiValue(16))
-    } else if text.eq_ignore_ascii_case("white") {
-        Some(Color::AnsiValue(231))
-    } else if text.eq_ignore_ascii_case("green") {
-        Some(Color::Green)
-    } else {
-        None
-    }
-}
-
-fn color_of_6(text: &str) -> Option<Color>
-    ensures { result ≡ named (of_length 6 color_names) text.now }
-{
-    text.eq_ignore_ascii_case("yellow").then_some(Color::Yellow)
-}
-
-fn color_of_7(text: &str) -> Option<Color>
-    ensures { result ≡ named (of_length 7 color_names) text.now }
-{
-    if text.eq_ignore_ascii_case("magenta") {
-        Some(Color::Magenta)
-    } else if text.eq_ignore_ascii_case("darkred") {
-        Some(Color::DarkRed)
-    } else {
-        None
-    }
-}
-
-fn color_of_8(text: &str) -> Option<Color>
-    ensures { result ≡ named (of_length 8 color_names) text.now }
-{
-    if text.eq_ignore_ascii_case("darkblue") {
-        Some(Color::DarkBlue)
-    } else if text.eq_ignore_ascii_case("darkcyan") {
-        Some(Color::DarkCyan)
-    } else if text.eq_ignore_ascii_case("darkgrey") {
-        Some(Color::DarkGrey)
-    } else {
-        None
-    }
-}
-
-fn color_of_9(text: &str) -> Option<Color>
-    ensures { result ≡ named (of_length 9 color_names) text.now }
-{
-    text.eq_ignore_ascii_case("darkgreen")
-        .then_some(Color::DarkGreen)
-}
-
-fn color_of_10(text: &str) -> Option<Color>
-    ensures { result ≡ named (of_length 10 color_names) text.now }
-{
-    text.eq_ignore_ascii_case("darkyellow")
-        .then_some(Color::DarkYellow)
-}
-
-fn color_of_11(text: &str) -> Option<Color>
-    ensures { result ≡ named (of_length 11 color_names) text.now }
-{
-    text.eq_ignore_ascii_case("darkmagenta")
-        .then_some(Color::DarkMagenta)
+    named(&COLORS, text)
 }
 
 // The color of 3 to 6 hex digits.
@@ -202,9 +124,9 @@ fn called_color(name: &str, inside: &str) -> Result<Color, ParseColorError>
     ensures { result ≡ called_color name.now inside.now }
 {
     if name.eq_ignore_ascii_case("ansi") {
-        ansi_color(byte_of(inside))
+        ansi_color(parse_byte(inside))
     } else if is_gray(name) {
-        gray_color(byte_of(inside))
+        gray_color(parse_byte(inside))
     } else if name.eq_ignore_ascii_case("rgb") {
         rgb_parts(inside)
     } else {
@@ -257,17 +179,11 @@ fn rgb_parts(text: &str) -> Result<Color, ParseColorError>
     let Some((green, blue)) = rest.trim_start().split_once(',') else {
         return Err(ParseColorError::Unrecognized);
     };
-    rgb_color(byte_of(red), byte_of(green), byte_of(blue.trim_start()))
-}
-
-// The number that a text of digits alone says, if it is a byte.
-fn byte_of(text: &str) -> Option<u8>
-    ensures { result ≡ number_below 256 text.now }
-{
-    if text.starts_with('+') {
-        return None;
-    }
-    text.parse::<u8>().ok()
+    rgb_color(
+        parse_byte(red),
+        parse_byte(green),
+        parse_byte(blue.trim_start()),
+    )
 }
 
 /// Writes the text of a color; nothing for `Reset`.

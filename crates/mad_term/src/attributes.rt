@@ -11,105 +11,42 @@ use bitflags::{Flag, Flags};
 #[derive(Clone, Copy, Debug, PartialEq, Eq)]
 struct AttributeBits(u32);
 
+// An attribute's name, and the word with its bit alone.
+macro_rules! flag {
+    ($attribute:ident) => {
+        Flag {
+            name: stringify!($attribute),
+            value: AttributeBits(1 << (Attribute::$attribute as u32)),
+        }
+    };
+}
+
 impl AttributeBits {
-    // Each attribute's name, and the word with its bit alone.
     const NAMES: &'static [Flag<AttributeBits>] = &[
-        Flag {
-            name: "Reset",
-            value: AttributeBits(1 << 0),
-        },
-        Flag {
-            name: "Bold",
-            value: AttributeBits(1 << 1),
-        },
-        Flag {
-            name: "Dim",
-            value: AttributeBits(1 << 2),
-        },
-        Flag {
-            name: "Italic",
-            value: AttributeBits(1 << 3),
-        },
-        Flag {
-            name: "Underlined",
-            value: AttributeBits(1 << 4),
-        },
-        Flag {
-            name: "SlowBlink",
-            value: AttributeBits(1 << 5),
-        },
-        Flag {
-            name: "RapidBlink",
-            value: AttributeBits(1 << 6),
-        },
-        Flag {
-            name: "Reverse",
-            value: AttributeBits(1 << 7),
-        },
-        Flag {
-            name: "Hidden",
-            value: AttributeBits(1 << 8),
-        },
-        Flag {
-            name: "CrossedOut",
-            value: AttributeBits(1 << 9),
-        },
-        Flag {
-            name: "Fraktur",
-            value: AttributeBits(1 << 10),
-        },
-        Flag {
-            name: "NoBold",
-            value: AttributeBits(1 << 11),
-        },
-        Flag {
-            name: "NormalIntensity",
-            value: AttributeBits(1 << 12),
-        },
-        Flag {
-            name: "NoItalic",
-            value: AttributeBits(1 << 13),
-        },
-        Flag {
-            name: "NoUnderline",
-            value: AttributeBits(1 << 14),
-        },
-        Flag {
-            name: "NoBlink",
-            value: AttributeBits(1 << 15),
-        },
-        Flag {
-            name: "NoReverse",
-            value: AttributeBits(1 << 16),
-        },
-        Flag {
-            name: "NoHidden",
-            value: AttributeBits(1 << 17),
-        },
-        Flag {
-            name: "NotCrossedOut",
-            value: AttributeBits(1 << 18),
-        },
-        Flag {
-            name: "Framed",
-            value: AttributeBits(1 << 19),
-        },
-        Flag {
-            name: "Encircled",
-            value: AttributeBits(1 << 20),
-        },
-        Flag {
-            name: "OverLined",
-            value: AttributeBits(1 << 21),
-        },
-        Flag {
-            name: "NotFramedOrEncircled",
-            value: AttributeBits(1 << 22),
-        },
-        Flag {
-            name: "NotOverLined",
-            value: AttributeBits(1 << 23),
-        },
+        flag!(Reset),
+        flag!(Bold),
+        flag!(Dim),
+        flag!(Italic),
+        flag!(Underlined),
+        flag!(SlowBlink),
+        flag!(RapidBlink),
+        flag!(Reverse),
+        flag!(Hidden),
+        flag!(CrossedOut),
+        flag!(Fraktur),
+        flag!(NoBold),
+        flag!(NormalIntensity),
+        flag!(NoItalic),
+        flag!(NoUnderline),
+        flag!(NoBlink),
+        flag!(NoReverse),
+        flag!(NoHidden),
+        flag!(NotCrossedOut),
+        flag!(Framed),
+        flag!(Encircled),
+        flag!(OverLined),
+        flag!(NotFramedOrEncircled),
+        flag!(NotOverLined),
     ];
 }
 

@@ -84,17 +84,6 @@ fn draw_call(
     draw(picture, content)
 }
 
-fn draw_calls(
-    picture: &mut String,
-    content: &mut InputFieldContent,
-    calls: &str,
-) -> Result<(), AllocError> {
-    for call in calls.split(", ") {
-        draw_call(picture, content, call)?;
-    }
-    Ok(())
-}
-
 // An editor of a text. The numbers are the cursor's column and line, and then the tail's.
 fn placed(alloc: Global, numbers: &[usize], text: &str) -> Result<InputFieldContent, AllocError> {
     let mut content = InputFieldContent::from(alloc, text)?;
@@ -108,35 +97,32 @@ fn placed(alloc: Global, numbers: &[usize], text: &str) -> Result<InputFieldCont
 }
 
 /// An editor after each of some calls.
-pub(crate) fn edited(
-    alloc: Global,
+pub(crate) fn draw_edit(
+    picture: &mut String,
     numbers: &[usize],
     calls: &str,
     text: &str,
-) -> Result<String, AllocError> {
-    let mut content = placed(alloc, numbers, text)?;
-    let front = if content.is_str(text) {
-        ""
-    } else {
-        "another text: "
-    };
-    let mut picture = String::from_str(alloc, front)?;
-    draw_calls(&mut picture, &mut content, calls)?;
-    Ok(picture)
-}
-
-fn draw_cut(picture: &mut String, content: &mut InputFieldContent) -> Result<(), AllocError> {
-    let cut = content.cut_selection()?;
-    write!(picture, "cut: {cut}\nleft: ")?;
-    draw_text(picture, content)?;
-    content.insert_str(cut.as_str())
+) -> Result<(), AllocError> {
+    let mut content = placed(*picture.allocator(), numbers, text)?;
+    if !content.is_str(text) {
+        picture.push_str("another text: ")?;
+    }
+    for call in calls.split(", ") {
+        draw_call(picture, &mut content, call)?;
+    }
+    Ok(())
 }
 
 /// What is cut out of an editor, what is left, and that with the cut put in again.
-pub(crate) fn cut(alloc: Global, numbers: &[usize], text: &str) -> Result<String, AllocError> {
-    let mut picture = String::new(alloc);
-    let mut content = placed(alloc, numbers, text)?;
-    draw_cut(&mut picture, &mut content)?;
-    write!(picture, "again: {content}")?;
-    Ok(picture)
+pub(crate) fn draw_cut(
+    picture: &mut String,
+    numbers: &[usize],
+    text: &str,
+) -> Result<(), AllocError> {
+    let mut content = placed(*picture.allocator(), numbers, text)?;
+    let cut = content.cut_selection()?;
+    write!(picture, "cut: {cut}\nleft: ")?;
+    draw_text(picture, &content)?;
+    content.insert_str(&cut)?;
+    write!(picture, "again: {content}")
 }

@@ -24,50 +24,35 @@ fn compounds<'s>(alloc: Global, text: &'s str) -> Result<Vec<Compound<'s>>, Allo
 }
 
 /// How many columns a text takes.
-pub(crate) fn columns_of(alloc: Global, text: &str) -> Result<String, AllocError> {
-    format!(in alloc; "{}", columns(text))
+pub(crate) fn draw_columns(picture: &mut String, text: &str) -> Result<(), AllocError> {
+    write!(picture, "{}", columns(text))
 }
 
-fn draw_token(picture: &mut String, token: Token) -> Result<(), AllocError> {
+fn draw_token(picture: &mut String, token: &Token) -> Result<(), AllocError> {
     let bytes = token.start_in_compound..token.end_in_compound;
     let src = token.compound.src.get(bytes).unwrap_or("no text");
     let blank = if token.blank { "blank " } else { "" };
     write!(picture, "{} {blank}", token.width)?;
-    draw_compound(
-        picture,
-        &Compound {
-            src,
-            ..token.compound
-        },
-    )
-}
-
-fn draw_tokens(picture: &mut String, tokens: &[Token]) -> Result<(), AllocError> {
-    for token in tokens {
-        draw_token(picture, *token)?;
-        picture.push('\n')?;
-    }
-    Ok(())
+    let compound = Compound {
+        src,
+        ..token.compound
+    };
+    draw_compound(picture, &compound)?;
+    picture.push('\n')
 }
 
 /// The tokens of compounds: their columns, whether they are blank, and their texts.
-pub(crate) fn tokens(alloc: Global, numbers: &[usize], text: &str) -> Result<String, AllocError> {
-    let mut picture = String::new(alloc);
+pub(crate) fn draw_tokens(
+    picture: &mut String,
+    numbers: &[usize],
+    text: &str,
+) -> Result<(), AllocError> {
+    let alloc = *picture.allocator();
     let most = *numbers.first().unwrap_or(&0);
-    let compounds = compounds(alloc, text)?;
-    draw_tokens(&mut picture, &tokenize(alloc, &compounds, most)?)?;
-    Ok(picture)
-}
-
-fn lines_of<'s>(
-    alloc: Global,
-    compounds: &[Compound<'s>],
-    room: Room,
-) -> Result<Vec<WrappedLine<'s>>, AllocError> {
-    match fit_columns(compounds, room) {
-        Some(_) => Ok(Vec::new(alloc)),
-        None => wrap_compounds(alloc, compounds, room),
+    for token in &tokenize(alloc, &compounds(alloc, text)?, most)? {
+        draw_token(picture, token)?;
     }
+    Ok(())
 }
 
 fn draw_lines(picture: &mut String, lines: &[WrappedLine]) -> Result<(), AllocError> {
@@ -75,39 +60,54 @@ fn draw_lines(picture: &mut String, lines: &[WrappedLine]) -> Result<(), AllocEr
         draw_compounds(picture, "", &line.compounds)?;
         picture.push('\n')?;
     }
-    picture.push_str("starts")
+    Ok(())
 }
 
-fn draw_wrap(picture: &mut String, compounds: &[Compound], room: Room) -> Result<(), AllocError> {
+fn draw_wrapped(
+    picture: &mut String,
+    compounds: &[Compound],
+    room: Room,
+) -> Result<(), AllocError> {
     let alloc = *picture.allocator();
-    draw_lines(picture, &lines_of(alloc, compounds, room)?)?;
+    if fit_columns(compounds, room).is_none() {
+        draw_lines(picture, &wrap_compounds(alloc, compounds, room)?)?;
+    }
+    picture.push_str("starts")?;
     draw_numbers(picture, &wrap_starts(alloc, compounds, room)?)
 }
 
 /// The lines of compounds that are too wide, and the starts of these.
-pub(crate) fn wrapped(alloc: Global, numbers: &[usize], text: &str) -> Result<String, AllocError> {
-    let mut picture = String::new(alloc);
-    if let [first, other, width] = *numbers {
-        let room = Room {
-            first,
-            other,
-            width,
-        };
-        draw_wrap(&mut picture, &compounds(alloc, text)?, room)?;
-    }
-    Ok(picture)
+pub(crate) fn draw_wrap(
+    picture: &mut String,
+    numbers: &[usize],
+    text: &str,
+) -> Result<(), AllocError> {
+    let [first, other, width] = *numbers else {
+        return Ok(());
+    };
+    let room = Room {
+        first,
+        other,
+        width,
+    };
+    let compounds = compounds(*picture.allocator(), text)?;
+    draw_wrapped(picture, &compounds, room)
 }
 
 /// Whether starts pass the check.
-pub(crate) fn checked(alloc: Global, numbers: &[usize], text: &str) -> Result<String, AllocError> {
-    let compounds = compounds(alloc, text)?;
+pub(crate) fn draw_check(
+    picture: &mut String,
+    numbers: &[usize],
+    text: &str,
+) -> Result<(), AllocError> {
+    let compounds = compounds(*picture.allocator(), text)?;
     let (width, starts) = numbers.split_first().unwrap_or((&0, numbers));
     let room = Room {
         first: 0,
         other: 0,
         width: *width,
     };
-    format!(in alloc; "{}", check_starts(&compounds, room, starts))
+    write!(picture, "{}", check_starts(&compounds, room, starts))
 }
 
 fn alignment(name: &str) -> Alignment {
@@ -120,14 +120,14 @@ fn alignment(name: &str) -> Alignment {
 }
 
 /// The blank columns left and right of a text in a wider place.
-pub(crate) fn completions(
-    alloc: Global,
+pub(crate) fn draw_completions(
+    picture: &mut String,
     numbers: &[usize],
     align: &str,
-) -> Result<String, AllocError> {
+) -> Result<(), AllocError> {
     let [inner, width] = *numbers else {
-        return Ok(String::new(alloc));
+        return Ok(());
     };
     let (left, right) = Spacing::completions(alignment(align), inner, width);
-    format!(in alloc; "{left} {right}")
+    write!(picture, "{left} {right}")
 }

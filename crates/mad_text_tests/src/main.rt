@@ -23,10 +23,12 @@ struct TextCalls;
 impl Calls for TextCalls {
     fn answer(&self, alloc: Global, call: &str, text: &str) -> Result<String, AllocError> {
         let text: String = text.chars().filter_map(meant).collect(alloc)?;
+        let mut picture = String::new(alloc);
         match call.strip_prefix("many ") {
-            Some(call) => many(alloc, call, text.as_str()),
-            None => once(alloc, call, text.as_str()),
+            Some(call) => draw_many(&mut picture, call, &text)?,
+            None => draw_call(&mut picture, call, &text)?,
         }
+        Ok(picture)
     }
 }
 
@@ -43,53 +45,49 @@ fn meant(c: char) -> Option<char> {
 
 // A text many times. Where it has several lines, the first stands in front, once.
 fn repeated(alloc: Global, text: &str, count: usize) -> Result<String, AllocError> {
-    let mut long = String::new(alloc);
-    let mut piece = text;
-    if let Some((front, rest)) = text.split_once('\n') {
-        long.push_str(front)?;
-        piece = rest;
-    }
-    for _ in 0..count {
-        long.push_str(piece)?;
-    }
-    Ok(long)
+    let (front, piece) = text.split_once('\n').unwrap_or(("", text));
+    let pieces = piece.repeat(alloc, count)?;
+    format!(in alloc; "{front}{pieces}")
 }
 
 // How many lines a call answers of a text that is repeated.
-fn many(alloc: Global, call: &str, text: &str) -> Result<String, AllocError> {
+fn draw_many(picture: &mut String, call: &str, text: &str) -> Result<(), AllocError> {
     let (count, call) = call.split_once(' ').unwrap_or((call, ""));
+    let alloc = *picture.allocator();
     let long = repeated(alloc, text, count.parse().unwrap_or(0))?;
-    let answer = once(alloc, call, long.as_str())?;
-    format!(in alloc; "{} lines", answer.lines().count())
+    let mut answer = String::new(alloc);
+    draw_call(&mut answer, call, &long)?;
+    write!(picture, "{} lines", answer.lines().count())
 }
 
-fn once(alloc: Global, call: &str, text: &str) -> Result<String, AllocError> {
+fn draw_call(picture: &mut String, call: &str, text: &str) -> Result<(), AllocError> {
     let (call, after) = call.split_once(": ").unwrap_or((call, ""));
     let numbers: Vec<usize> = call
         .split(' ')
         .filter_map(|word| word.parse().ok())
-        .collect(alloc)?;
-    answer_of(alloc, call, &numbers, after, text)
+        .collect(*picture.allocator())?;
+    draw_answer(picture, call, &numbers, after, text)
 }
 
-fn answer_of(
-    alloc: Global,
+fn draw_answer(
+    picture: &mut String,
     call: &str,
     numbers: &[usize],
     after: &str,
     text: &str,
-) -> Result<String, AllocError> {
+) -> Result<(), AllocError> {
     match call.split(' ').next().unwrap_or("") {
-        "columns" => fitting::columns_of(alloc, text),
-        "tokens" => fitting::tokens(alloc, numbers, text),
-        "wrap" => fitting::wrapped(alloc, numbers, text),
-        "starts" => fitting::checked(alloc, numbers, text),
-        "completions" => fitting::completions(alloc, numbers, after),
-        "fit" => widths::fitted(alloc, numbers, text),
-        "edit" => editing::edited(alloc, numbers, after, text),
-        "cut" => editing::cut(alloc, numbers, text),
-        "first" => reading::first(alloc, numbers, text),
-        _ => reading::read(alloc, call, text),
+        "columns" => fitting::draw_columns(picture, text),
+        "tokens" => fitting::draw_tokens(picture, numbers, text),
+        "wrap" => fitting::draw_wrap(picture, numbers, text),
+        "starts" => fitting::draw_check(picture, numbers, text),
+        "completions" => fitting::draw_completions(picture, numbers, after),
+        "fit" => widths::draw_fit(picture, numbers, text),
+        "edit" => editing::draw_edit(picture, numbers, after, text),
+        "cut" => editing::draw_cut(picture, numbers, text),
+        "first" => reading::draw_first(picture, numbers, text),
+        "inline" => reading::draw_inline(picture, text),
+        _ => reading::draw_read(picture, call, text),
     }
 }
 

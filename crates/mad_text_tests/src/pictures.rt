@@ -42,7 +42,11 @@ pub(crate) fn draw_compounds(
     Ok(())
 }
 
-fn draw_composite(picture: &mut String, composite: &Composite) -> Result<(), AllocError> {
+/// Appends a composite: its form, and then its compounds.
+pub(crate) fn draw_composite(
+    picture: &mut String,
+    composite: &Composite,
+) -> Result<(), AllocError> {
     draw_style(picture, composite.style)?;
     draw_compounds(picture, " ", &composite.compounds)
 }

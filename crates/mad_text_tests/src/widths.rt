@@ -3,7 +3,7 @@
 use crate::pictures::draw_numbers;
 use mad_term::Error;
 use mad_widths::{TblFit, TblFitResult};
-use std::alloc::{AllocError, Global};
+use std::alloc::AllocError;
 
 // Each line is a column, with the widths of its cells.
 fn see_cells(fit: &mut TblFit, text: &str) {
@@ -14,34 +14,37 @@ fn see_cells(fit: &mut TblFit, text: &str) {
     }
 }
 
-fn drawn(alloc: Global, widths: &TblFitResult) -> Result<String, AllocError> {
-    let front = if widths.reduced {
+fn draw_widths(picture: &mut String, widths: &TblFitResult) -> Result<(), AllocError> {
+    picture.push_str(if widths.reduced {
         "reduced:"
     } else {
         "not reduced:"
-    };
-    let mut picture = String::from_str(alloc, front)?;
-    draw_numbers(&mut picture, &widths.col_widths)?;
-    Ok(picture)
+    })?;
+    draw_numbers(picture, &widths.col_widths)
 }
 
-fn refused(alloc: Global, error: Error) -> Result<String, AllocError> {
+fn draw_refusal(picture: &mut String, error: Error) -> Result<(), AllocError> {
     match error {
         Error::Memory => Err(AllocError),
-        error => format!(in alloc; "refused: {error}"),
+        error => write!(picture, "refused: {error}"),
     }
 }
 
 /// What a table of `columns` columns is fitted to in a width.
-pub(crate) fn fitted(alloc: Global, numbers: &[usize], text: &str) -> Result<String, AllocError> {
+pub(crate) fn draw_fit(
+    picture: &mut String,
+    numbers: &[usize],
+    text: &str,
+) -> Result<(), AllocError> {
     let [columns, width] = *numbers else {
-        return Ok(String::new(alloc));
+        return Ok(());
     };
+    let alloc = *picture.allocator();
     match TblFit::new(alloc, columns, width) {
         Ok(mut fit) => {
             see_cells(&mut fit, text);
-            drawn(alloc, &fit.fit(alloc)?)
+            draw_widths(picture, &fit.fit(alloc)?)
         }
-        Err(error) => refused(alloc, error),
+        Err(error) => draw_refusal(picture, error),
     }
 }

@@ -42,7 +42,7 @@ fn print_report<C: Calls>(rt: &HostRuntime, calls: &C, file: &str, rows: &str) -
 ///
 /// Out of memory.
 pub fn report<C: Calls>(alloc: Global, calls: &C, rows: &str) -> Result<String, AllocError> {
-    let rows = meant(alloc, rows)?;
+    let rows: String = rows.chars().map(meant).collect(alloc)?;
     let mut report = String::new(alloc);
     let mut count: u64 = 0;
     let mut rows = rows.split("\n$ ");
@@ -62,17 +62,28 @@ fn judge<C: Calls>(
     report: &mut String,
 ) -> Result<(), AllocError> {
     let call = row.split('\n').next().unwrap_or("");
+    let answer = answer_of(alloc, calls, call, row)?;
+    if answer != lines_after(alloc, row, '>')? {
+        let answer: String = answer.chars().map(sign_of).collect(alloc)?;
+        write!(report, "$ {call}\nanswers\n{answer}")?;
+    }
+    Ok(())
+}
+
+// What a row's call answers, each line with its newline.
+fn answer_of<C: Calls>(
+    alloc: Global,
+    calls: &C,
+    call: &str,
+    row: &str,
+) -> Result<String, AllocError> {
     let text = lines_after(alloc, row, '<')?;
     let text = text.strip_suffix('\n').unwrap_or("");
     let mut answer = calls.answer(alloc, call, text)?;
     if !answer.is_empty() && !answer.ends_with('\n') {
         answer.push('\n')?;
     }
-    if answer != lines_after(alloc, row, '>')? {
-        let answer = seen(alloc, answer.as_str())?;
-        write!(report, "$ {call}\nanswers\n{answer}")?;
-    }
-    Ok(())
+    Ok(answer)
 }
 
 // What is after a sign in the lines that begin with it, each with its newline.
@@ -87,32 +98,24 @@ fn lines_after(alloc: Global, row: &str, sign: char) -> Result<String, AllocErro
     Ok(lines)
 }
 
-// A text with the characters that its signs stand for.
-fn meant(alloc: Global, text: &str) -> Result<String, AllocError> {
-    let mut meant = String::new(alloc);
-    for c in text.chars() {
-        meant.push(match c {
-            '·' => ' ',
-            '␛' => '\u{1b}',
-            '␍' => '\r',
-            '␉' => '\t',
-            _ => c,
-        })?;
+// The character that a sign stands for.
+fn meant(sign: char) -> char {
+    match sign {
+        '·' => ' ',
+        '␛' => '\u{1b}',
+        '␍' => '\r',
+        '␉' => '\t',
+        _ => sign,
     }
-    Ok(meant)
 }
 
-// A text with signs for the characters that can't be seen.
-fn seen(alloc: Global, text: &str) -> Result<String, AllocError> {
-    let mut seen = String::new(alloc);
-    for c in text.chars() {
-        seen.push(match c {
-            ' ' => '·',
-            '\u{1b}' => '␛',
-            '\r' => '␍',
-            '\t' => '␉',
-            _ => c,
-        })?;
+// The sign of a character that can't be seen.
+fn sign_of(c: char) -> char {
+    match c {
+        ' ' => '·',
+        '\u{1b}' => '␛',
+        '\r' => '␍',
+        '\t' => '␉',
+        _ => c,
     }
-    Ok(seen)
 }
