@@ -3,9 +3,10 @@ use Rattle.std.specs.Prelude.{◌≡◌, ℕ, ◌≤◌, Bool, true, false, List
 use Rattle.std.specs.Vec.Iter.{into_iter_items}
 use Rattle.mad_md.specs.Cursor.{unread}
 use Rattle.mad_md.specs.Lines.{LineContent, content_of}
-use Rattle.mad_md.specs.Plain.{ArePlainBytes}
+use Rattle.mad_md.specs.Plain.{ArePlainBytes, IsPlainNext}
 use Rattle.mad_md.specs.ReadRaw.{plain_line}
 use Rattle.mad_md.specs.Scan.{lines_of}
+use Rattle.mad_md.specs.declared.cursor.LineCursor.{LineCursor}
 use Rattle.mad_md.specs.declared.line.Line.{Line}
 use Rattle.mad_blocks.specs.Layouts.{IsLayoutAt}
 use Rattle.mad_format.specs.LineRules.{LineRules}
@@ -58,6 +59,13 @@ pub record LaidPart (skin : LineRules) (width : Option ℕ) (before : List LineC
 abbrev pub LaysPart : LineRules → Option ℕ → List LineContent → List FmtLine → Bool → List LineContent → List FmtLine → Type 0
 LaysPart skin width before lines true after new = LaidPart skin width before lines after new
 LaysPart skin width before lines false after new = (before ≡ []) × (after ≡ []) × (new ≡ lines)
+
+-- The text is read on the way, no line waits, and the next one is plain and of at most `most` bytes.
+pub record HasPlainNext (most : ℕ) (parts : PartCursor) : Type 0 where
+  pub cursor : LineCursor
+  pub lines : parts.lines ≡ Unread cursor
+  pub none_waits : parts.waiting ≡ None
+  pub plain : IsPlainNext most (unread cursor)
 
 -- The first of the lines that were left is plain, and of at most `most` bytes; it was read.
 pub record IsPlainRead (most : ℕ) (before : List LineContent) (text : List ℕ) (after : List LineContent) : Type 0 where

@@ -1,11 +1,11 @@
 //! The parts of a text, read and laid out one after another: tables, blocks of code, and any other line by itself.
 
-ghost use Rattle.std.specs.Prelude.{◌≡◌, ◌++◌, ◌∷◌, [], true, false, None, IfOk, OnOk, MatchOption};
+ghost use Rattle.std.specs.Prelude.{◌≡◌, ◌++◌, ◌∷◌, [], true, false, None, IfOk, IsSome, OnOk, MatchOption};
 ghost use Rattle.mad_md.specs.Lines.{content_of, contents, normal, styled_runs};
 ghost use Rattle.mad_md.specs.Reading.{IsRead, unread_text};
 ghost use Rattle.mad_md.specs.Scan.{lines_of};
 ghost use Rattle.mad_format.specs.Lines.{IsLineRead};
-ghost use Rattle.mad_blocks.specs.PartCursors.{lines_left, IsNextLine, IsNextWhere, LaidPart, LaysPart, IsPlainRead};
+ghost use Rattle.mad_blocks.specs.PartCursors.{lines_left, HasPlainNext, IsNextLine, IsNextWhere, LaidPart, LaysPart, IsPlainRead};
 ghost use Rattle.mad_blocks.specs.TextParts.{is_code, is_table};
 ghost use Rattle.mad_format.specs.declared.line.FmtLine.{FmtLine};
 
@@ -80,7 +80,9 @@ impl<'s> PartCursor<'s> {
     /// Reads the next line where it is a part by itself and plain, and of at most `most` bytes: see [`LineCursor::next_plain`]. Where it
     /// isn't, nothing is read. No memory is needed.
     pub fn next_plain(&mut self, most: usize) -> Option<&'s str>
-        ensures { MatchOption result (self.new ≡ self.old) (λ text. IsPlainRead most (lines_left self.old) text.now (lines_left self.new)) }
+        ensures read { MatchOption result (self.new ≡ self.old) (λ text. IsPlainRead most (lines_left self.old) text.now (lines_left self.new)) }
+        ensures found { IsSome result → HasPlainNext most self.old }
+        ensures none { result ≡ None → ¬ HasPlainNext most self.old }
     {
         if self.waiting.is_some() {
             return None;

@@ -1,6 +1,6 @@
 -- Lines of wrapped compounds are a wrap of their composite.
-use Rattle.std.proofs.Common.{◌≡◌, ℕ, ◌+◌, ◌<◌, List, [], ◌∷◌, ◌++◌, length, drop, get_or, Option, None, Result, Ok, Err, IfOk, OnOk, refl, sym, ap, ◌∙◌, arith, subst, append_assoc}
-use Rattle.std.proofs.lemmas.List.{append-nil, at_drop_more}
+use Rattle.std.proofs.Common.{◌≡◌, ℕ, ◌+◌, ◌<◌, List, [], ◌∷◌, length, drop, get_or, Option, None, Result, Ok, Err, IfOk, OnOk, refl, sym, ap, ◌∙◌, arith, subst}
+use Rattle.std.proofs.lemmas.List.{at_drop_more}
 use Rattle.std.specs.List.{AllByRecursion}
 use Rattle.mad_md.specs.Flagged.{flagged_text}
 use Rattle.mad_style.specs.declared.kinds.CompositeKind.{CompositeKind}
@@ -33,24 +33,11 @@ too_wide skin width source wide measured = omega (arith, wide, measured)
 
 -- ---- lines as composites
 
--- What the composites so far are of the lines before the rest, with whatever the rest becomes, all are of all lines.
-abbrev pub ComposedSoFar : CompositeKind → ℕ → ℕ → Option Spacing → List WrappedLine → CompositeKind → ℕ → List WrappedLine → List FmtComposite → Type 0
-ComposedSoFar first_kind first other spacing all kind indent rest cs =
-    (more : List FmtComposite) → AreComposites kind (follow_up first_kind) indent other spacing rest more → AreComposites first_kind (follow_up first_kind) first other spacing all (cs ++ more)
-
-pub composed_more : (first_kind : CompositeKind) (first other : ℕ) (spacing : Option Spacing) (all : List WrappedLine) (kind : CompositeKind) (indent : ℕ) (rest after : List WrappedLine) (cs new : List FmtComposite) (l : WrappedLine) (c : FmtComposite)
-    → ComposedSoFar first_kind first other spacing all kind indent rest cs → follow_up kind ≡ follow_up first_kind → rest ≡ l ∷ after
-    → c ≡ composite_of kind indent spacing l → new ≡ cs ++ c ∷ []
-    → ComposedSoFar first_kind first other spacing all (follow_up kind) other after new
-composed_more first_kind first other spacing all kind indent rest after cs new l c held same next is pushed more h =
-    let now : AreComposites (follow_up first_kind) (follow_up first_kind) other other spacing after more = subst (λ k. AreComposites k (follow_up first_kind) other other spacing after more) same h in
-    let here : AreComposites kind (follow_up first_kind) indent other spacing rest (c ∷ more) = subst (λ ls. AreComposites kind (follow_up first_kind) indent other spacing ls (c ∷ more)) (sym next) (is, now) in
-    subst (AreComposites first_kind (follow_up first_kind) first other spacing all) (sym (ap (λ ls. ls ++ more) pushed ∙ append_assoc cs (c ∷ []) more)) (held (c ∷ more) here)
-
-pub composed_all : (first_kind : CompositeKind) (first other : ℕ) (spacing : Option Spacing) (all : List WrappedLine) (kind : CompositeKind) (indent : ℕ) (rest : List WrappedLine) (cs : List FmtComposite)
-    → ComposedSoFar first_kind first other spacing all kind indent rest cs → rest ≡ [] → AreComposites first_kind (follow_up first_kind) first other spacing all cs
-composed_all first_kind first other spacing all kind indent rest cs held none =
-    subst (AreComposites first_kind (follow_up first_kind) first other spacing all) (append-nil cs) (held [] (subst (λ ls. AreComposites kind (follow_up first_kind) indent other spacing ls []) (sym none) refl))
+-- the first of the lines as a composite, and what the others become
+pub composed_first : (kind : CompositeKind) (indent other : ℕ) (spacing : Option Spacing) (all after : List WrappedLine) (l : WrappedLine) (c : FmtComposite) (cs : List FmtComposite) → all ≡ l ∷ after → c ≡ composite_of kind indent spacing l
+    → AreComposites (follow_up kind) (follow_up (follow_up kind)) other other spacing after cs → AreComposites kind (follow_up kind) indent other spacing all (c ∷ cs)
+composed_first kind indent other spacing all after l c cs next is h =
+    subst (λ ls. AreComposites kind (follow_up kind) indent other spacing ls (c ∷ cs)) (sym next) (is, subst (λ k. AreComposites (follow_up kind) k other other spacing after cs) (follow_up_stays kind) h)
 
 -- ---- what they say
 

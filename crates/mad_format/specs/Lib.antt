@@ -2,5 +2,6 @@ pub mod CompositeWraps
 pub mod Indents
 pub mod LineRules
 pub mod Lines
+pub mod LinesLeft
 pub mod WrappedLines
 pub mod Wraps

@@ -1,8 +1,10 @@
 //! Wrapping composites and lines in a skin.
 
-ghost use Rattle.std.specs.Prelude.{◌≡◌, ◌≤◌, ◌<◌, ◌⊎◌, ◌++◌, ◌↔◌, List, map, IfOk, IfErr, OnOk, IsTrue};
+ghost use Rattle.std.specs.Prelude.{◌≡◌, ◌≤◌, ◌<◌, ◌⊎◌, ◌++◌, ◌∷◌, ◌↔◌, [], List, length, map, IfOk, IfErr, OnOk, IsSome, IsTrue, MatchOption};
+ghost use Rattle.std.specs.Vec.Iter.{into_iter_items};
 ghost use Rattle.mad_md.specs.Lines.{styled_runs};
 ghost use Rattle.mad_format.specs.CompositeWraps.{AreComposites, IsCompositeWrap, composite_of};
+ghost use Rattle.mad_format.specs.LinesLeft.{AreLeft};
 ghost use Rattle.mad_format.specs.Indents.{follow_up};
 ghost use Rattle.mad_format.specs.Lines.{IsCompositeRead};
 ghost use Rattle.mad_format.specs.WrappedLines.{AllMeasured, AllFit, AreLinesWrapped, IsLineMeasured, IsLineWrapped, IsWrapped, LineFits, line_with};
@@ -21,6 +23,7 @@ use mad_style::CompositeKind;
 use mad_term::Error;
 use mad_wrap::{WrappedLine, fit_columns, wrap_compounds};
 use std::alloc::{AllocError, Global};
+use std::vec::IntoIter;
 
 /// Wraps a composite that is wider than `width` columns, in the fewest lines.
 ///
@@ -80,14 +83,53 @@ fn composites<'s>(
     ensures { IfOk result (λ composites. AreComposites kind (follow_up kind) room.first room.other spacing lines.entry.items composites.items) }
 {
     let mut composites = Vec::with_capacity(alloc, lines.len())?;
-    let mut kind = kind;
-    let mut indent = room.first;
-    for line in lines {
-        composites.push(composite_of(line, kind, indent, spacing))?;
-        kind = follow_up(kind);
-        indent = room.other;
+    let mut left = LinesLeft::of(lines, kind, room, spacing);
+    while let Some(composite) = left.next() {
+        composites.push(composite)?;
     }
     Ok(composites)
+}
+
+// Wrapped lines that are yet to become composites, one after another.
+#[derive(Drop)]
+struct LinesLeft<'s> {
+    lines: IntoIter<WrappedLine<'s>>,
+    kind: CompositeKind,
+    indent: usize,
+    later_indent: usize,
+    spacing: Option<Spacing>,
+}
+
+impl<'s> LinesLeft<'s> {
+    // The first of this kind, the others of the kind that follows it.
+    fn of(
+        lines: Vec<WrappedLine<'s>>,
+        kind: CompositeKind,
+        room: Room,
+        spacing: Option<Spacing>,
+    ) -> Self
+        ensures { (cs : List FmtComposite) → AreLeft result cs → AreComposites kind (follow_up kind) room.first room.other spacing lines.entry.items cs }
+    {
+        LinesLeft {
+            lines: lines.into_iter(),
+            kind,
+            indent: room.first,
+            later_indent: room.other,
+            spacing,
+        }
+    }
+
+    // The next one, if there is one more.
+    fn next(&mut self) -> Option<FmtComposite<'s>>
+        ensures next { MatchOption result (AreLeft self.old []) (λ c. (cs : List FmtComposite) → AreLeft self.new cs → AreLeft self.old (c ∷ cs)) }
+        ensures shorter { IsSome result → length (into_iter_items self.new.lines) < length (into_iter_items self.old.lines) }
+    {
+        let line = self.lines.next()?;
+        let composite = composite_of(line, self.kind, self.indent, self.spacing);
+        self.kind = follow_up(self.kind);
+        self.indent = self.later_indent;
+        Some(composite)
+    }
 }
 
 // A wrapped line as a composite of this kind, with the columns in front of it.
@@ -274,13 +316,9 @@ fn push_wrapped<'s>(
     ensures { OnOk result ((composites : List FmtComposite) × (lines.new.items ≡ lines.old.items ++ map (line_with margins) composites)
         × AreComposites kind (follow_up kind) room.first room.other spacing wrap.entry.items composites) }
 {
-    let mut kind = kind;
-    let mut indent = room.first;
-    for line in wrap {
-        let composite = composite_of(line, kind, indent, spacing);
+    let mut left = LinesLeft::of(wrap, kind, room, spacing);
+    while let Some(composite) = left.next() {
         put_line(lines, line_with(margins, composite))?;
-        kind = follow_up(kind);
-        indent = room.other;
     }
     Ok(())
 }

@@ -28,7 +28,7 @@ pub loop-text-preserved : goal.loop-text-preserved
 loop-text-preserved g c =
     let held = c.loop-text.invariant in
     let text = c.in-Some-next_plain.text in
-    let step : IsPlainRead c.in-Some.most (lines_left c.loop-text.parts) text.now (lines_left c.next_plain.new.self) = c.in-Some-next_plain.ensures in
+    let step : IsPlainRead c.in-Some.most (lines_left c.loop-text.parts) text.now (lines_left c.next_plain.new.self) = c.in-Some-next_plain.ensures.read in
     let put = plain_put c.args.skin.now c.args.width c.in-Some.most c.args.lines.now text _ _ _ _ _ _ _ _ _ c.in-Some.ensures step.short (search rules) step.plain (search rules) step.line c.in_ok-push_str.ensures.bytes c.in_ok-push_str-2.ensures.bytes held.so_far in
     record {
       so_far = plain_sent _ _ _ _ _ _ _ _ _ _ put c.in_ok-send.ensures;
@@ -40,6 +40,6 @@ pub returns-in_err-send-clause-handed : goal.returns-in_err-send-clause-handed
 returns-in_err-send-clause-handed g c =
     let held = c.loop-text.invariant in
     let text = c.in-Some-next_plain.text in
-    let step : IsPlainRead c.in-Some.most (lines_left c.loop-text.parts) text.now (lines_left c.next_plain.new.self) = c.in-Some-next_plain.ensures in
+    let step : IsPlainRead c.in-Some.most (lines_left c.loop-text.parts) text.now (lines_left c.next_plain.new.self) = c.in-Some-next_plain.ensures.read in
     let put = plain_put c.args.skin.now c.args.width c.in-Some.most c.args.lines.now text _ _ _ _ _ _ _ _ _ c.in-Some.ensures step.short (search rules) step.plain (search rules) step.line c.in_ok-push_str.ensures.bytes c.in_ok-push_str-2.ensures.bytes held.so_far in
     plain_refused _ _ _ _ _ _ _ _ _ _ _ _ _ put c.from_residual-in_err-send.ensures.1 c.in_err-send.ensures
