@@ -21,11 +21,11 @@ use Rattle.mad_layout.specs.FlaggedLines.{skin_char, front_of}
 use Rattle.mad_layout.specs.FlaggedTables.{row_in_column, CellInColumn, first_row, first_rows, rows_down, rule_row, table_across, rule_across}
 use Rattle.mad_format.specs.Lines.{bordered, rule_columns}
 use Rattle.mad_layout.specs.Premises.{IsPlainPrefix}
-use Rattle.mad_layout.specs.Rows.{prefix_pieces, compound_piece, composite_pieces, cell_pieces, vertical_piece, placed_pieces, row_columns, rule_chars, left_of_place, right_of_place, align_in, place_of, inner_blanks}
-use Rattle.mad_layout.specs.Styles.{line_rules, line_style}
+use Rattle.mad_rows.specs.Rows.{prefix_pieces, compound_piece, composite_pieces, cell_pieces, vertical_piece, placed_pieces, row_columns, rule_chars, left_of_place, right_of_place, align_in, place_of, inner_blanks}
+use Rattle.mad_rows.specs.Styles.{line_rules, line_style}
 use Rattle.mad_blocks.specs.Tables.{in_column, IsBlankIn, IsTop, IsLineAcross, AreDown, below}
 use Rattle.mad_format.specs.Wraps.{text_of, columns_of}
-use Rattle.mad_layout.specs.declared.skin.MadSkin.{MadSkin}
+use Rattle.mad_rows.specs.declared.row_skin.RowSkin.{RowSkin}
 use Rattle.mad_format.specs.declared.composite.FmtComposite.{FmtComposite}
 use Rattle.mad_format.specs.declared.line.FmtLine.TheVariants.{TableRow, TableRule}
 use Rattle.mad_format.specs.declared.table.FmtTableRow.{FmtTableRow}
@@ -38,10 +38,10 @@ use Rattle.mad_layout.proofs.RowLemmas.{left_completion-le}
 -- ---- a row of a cell
 
 -- what is written of a cell in its place
-abbrev pub cell_chars : MadSkin → FmtComposite → List ℕ
+abbrev pub cell_chars : RowSkin → FmtComposite → List ℕ
 cell_chars skin x = chars_in (composite_pieces skin None (0, 0) false x)
 
-between_blanks : (skin : MadSkin) (l : FmtComposite) → IsPlainPrefix skin l.kind
+between_blanks : (skin : RowSkin) (l : FmtComposite) → IsPlainPrefix skin l.kind
     → cell_chars skin l ≡ replicate (inner_blanks l).0 32 ++ (front_of skin l.kind ++ (map (λ (x : FlaggedChar). x.char) (text_of l) ++ replicate (inner_blanks l).1 32))
 between_blanks skin l prefix =
     let style : LineStyle = line_style skin l.kind in
@@ -57,14 +57,14 @@ between_blanks skin l prefix =
     both (spaces own (inner_blanks l).0) tail1 ∙ ap (λ x. x ++ chars_in tail1) (spaces_chars own (inner_blanks l).0) ∙ ap (λ x. replicate (inner_blanks l).0 32 ++ x) e1
 
 -- a line of a cell is a row in its column
-pub column_chars : (skin : MadSkin) (c : Spacing) (l : FmtComposite) → IsPlainPrefix skin l.kind → l.visible_length ≡ columns_of (line_rules skin) l → cell_chars skin (in_column c l) ≡ row_in_column skin c l.kind (text_of l)
+pub column_chars : (skin : RowSkin) (c : Spacing) (l : FmtComposite) → IsPlainPrefix skin l.kind → l.visible_length ≡ columns_of (line_rules skin) l → cell_chars skin (in_column c l) ≡ row_in_column skin c l.kind (text_of l)
 column_chars skin c l prefix same =
     let text : List ℕ = map (λ (x : FlaggedChar). x.char) (text_of l) in
     between_blanks skin (in_column c l) prefix
     ∙ ap (λ n. replicate (left_completion c.align (c.width - n)) 32 ++ (front_of skin l.kind ++ (text ++ replicate ((c.width - n) - left_completion c.align (c.width - n)) 32))) same
 
 -- an empty paragraph is spaces
-blank_chars : (skin : MadSkin) (c : Spacing) (x : FmtComposite) → IsBlankIn c x → cell_chars skin x ≡ replicate c.width 32
+blank_chars : (skin : RowSkin) (c : Spacing) (x : FmtComposite) → IsBlankIn c x → cell_chars skin x ≡ replicate c.width 32
 blank_chars skin c x h =
     let shape : CompositeKind → List Compound → ℕ → Option Spacing → List ℕ = λ k ps n s.
     replicate (left_of_place (align_in s) n (place_of s)) 32 ++ (front_of skin k ++ (map (λ (y : FlaggedChar). y.char) (flagged_text ps) ++ replicate (right_of_place (align_in s) n (place_of s)) 32)) in
@@ -78,23 +78,23 @@ blank_chars skin c x h =
 -- ---- a row of a table
 
 -- the lines of a cell as rows in its column
-abbrev pub lines_rows : MadSkin → Spacing → List FmtComposite → List (List ℕ)
+abbrev pub lines_rows : RowSkin → Spacing → List FmtComposite → List (List ℕ)
 lines_rows skin c ls = map (λ l. cell_chars skin (in_column c l)) ls
 
 -- the lines of each cell so
-abbrev pub placed_lines : MadSkin → List Spacing → List (List FmtComposite) → List CellInColumn
+abbrev pub placed_lines : RowSkin → List Spacing → List (List FmtComposite) → List CellInColumn
 placed_lines skin [] lines = []
 placed_lines skin (c ∷ cs) [] = []
 placed_lines skin (c ∷ cs) (ls ∷ lines) = record { width = c.width; rows = lines_rows skin c ls } ∷ placed_lines skin cs lines
 
-top_chars : (skin : MadSkin) (c : Spacing) (ls : List FmtComposite) (x : FmtComposite) → IsTop c ls x → cell_chars skin x ≡ unwrap_or (slice_get (lines_rows skin c ls) 0) (replicate c.width 32)
+top_chars : (skin : RowSkin) (c : Spacing) (ls : List FmtComposite) (x : FmtComposite) → IsTop c ls x → cell_chars skin x ≡ unwrap_or (slice_get (lines_rows skin c ls) 0) (replicate c.width 32)
 top_chars skin c [] x top = blank_chars skin c x top
 top_chars skin c (l ∷ ls) x top = ap (cell_chars skin) top
 
 one_char : (p : RowPiece) → chars_in (p ∷ []) ≡ chars p.text
 one_char p = first_piece p [] ∙ append-nil (chars p.text)
 
-across_chars : (skin : MadSkin) (cs : List Spacing) (lines : List (List FmtComposite)) (xs : List FmtComposite) → IsLineAcross cs lines xs
+across_chars : (skin : RowSkin) (cs : List Spacing) (lines : List (List FmtComposite)) (xs : List FmtComposite) → IsLineAcross cs lines xs
     → chars_in (flat_map (cell_pieces skin) xs ++ vertical_piece skin ∷ []) ≡ first_rows skin (placed_lines skin cs lines)
 across_chars skin [] [] [] across = one_char (vertical_piece skin)
 across_chars skin [] [] (x ∷ xs) across = absurd across
@@ -112,14 +112,14 @@ across_chars skin (c ∷ cs) (ls ∷ lines) (x ∷ xs) across =
     ∙ ap (λ t. first_row skin cell ++ t) (across_chars skin cs lines xs across.1)
     ∙ sym (append_assoc (first_row skin cell) (flat_map (first_row skin) rest) border)
 
-below_placed : (skin : MadSkin) (cs : List Spacing) (lines : List (List FmtComposite)) → placed_lines skin cs (map below lines) ≡ map (λ (cell : CellInColumn). record cell { rows = drop 1 cell.rows }) (placed_lines skin cs lines)
+below_placed : (skin : RowSkin) (cs : List Spacing) (lines : List (List FmtComposite)) → placed_lines skin cs (map below lines) ≡ map (λ (cell : CellInColumn). record cell { rows = drop 1 cell.rows }) (placed_lines skin cs lines)
 below_placed skin [] lines = refl
 below_placed skin (c ∷ cs) [] = refl
 below_placed skin (c ∷ cs) ([] ∷ lines) = ap (λ (cells : List CellInColumn). record { width = c.width; rows = [] } ∷ cells) (below_placed skin cs lines)
 below_placed skin (c ∷ cs) ((l ∷ ls) ∷ lines) = ap (λ (cells : List CellInColumn). record { width = c.width; rows = lines_rows skin c ls } ∷ cells) (below_placed skin cs lines)
 
 -- pieces in the place of a table
-placed_chars : (skin : MadSkin) (area : Area) (columns : ℕ) (ps : List RowPiece) → chars_in (placed_pieces skin (Some area.width) true columns ps) ≡ table_across skin area columns (chars_in ps)
+placed_chars : (skin : RowSkin) (area : Area) (columns : ℕ) (ps : List RowPiece) → chars_in (placed_pieces skin (Some area.width) true columns ps) ≡ table_across skin area columns (chars_in ps)
 placed_chars skin area columns ps =
     let blank : CompoundStyle = skin.paragraph.compound_style in
     let rest : ℕ = area.width - columns in
@@ -127,7 +127,7 @@ placed_chars skin area columns ps =
     both (spaces blank left) (ps ++ spaces blank (rest - left)) ∙ ap (λ t. t ++ chars_in (ps ++ spaces blank (rest - left))) (spaces_chars blank left)
     ∙ ap (λ t. replicate left 32 ++ t) (both ps (spaces blank (rest - left)) ∙ ap (λ t. chars_in ps ++ t) (spaces_chars blank (rest - left)))
 
-pub down_chars : (skin : MadSkin) (area : Area) (cs : List Spacing) (lines : List (List FmtComposite)) (rows : List FmtTableRow) → AreDown cs lines rows
+pub down_chars : (skin : RowSkin) (area : Area) (cs : List Spacing) (lines : List (List FmtComposite)) (rows : List FmtTableRow) → AreDown cs lines rows
     → map (line_chars skin area.width) (map TableRow rows) ≡ map (table_across skin area (1 + bordered (widths_of cs))) (rows_down skin (length rows) (placed_lines skin cs lines))
 down_chars skin area cs lines [] down = refl
 down_chars skin area cs lines (row ∷ rows) down =
@@ -153,7 +153,7 @@ junctions_chars style b (w ∷ ws) across =
     ∙ ap (λ t. column w ++ t) (junctions_chars style b ws across)
     ∙ sym (append_assoc (column w) (flat_map column ws) (skin_char b.right))
 
-rule_pieces_chars : (skin : MadSkin) (b : RuleChars) (ws : List ℕ) → AreShownChars skin b → chars_in (rule_pieces skin.table.compound_style b ws) ≡ rule_row b ws
+rule_pieces_chars : (skin : RowSkin) (b : RuleChars) (ws : List ℕ) → AreShownChars skin b → chars_in (rule_pieces skin.table.compound_style b ws) ≡ rule_row b ws
 rule_pieces_chars skin b [] shown =
     let style : CompoundStyle = skin.table.compound_style in
     first_piece (border_piece style b.left) (border_piece style b.right ∷ []) ∙ ap (λ t. skin_char b.left ++ t) (one_char (border_piece style b.right))
@@ -164,7 +164,7 @@ rule_pieces_chars skin b (w ∷ ws) shown =
     first_piece (border_piece style b.left) (horizontals style b w ++ rest)
     ∙ ap (λ t. skin_char b.left ++ t) (both (horizontals style b w) rest ∙ ap (λ t. t ++ chars_in rest) (across w) ∙ ap (λ t. repeat w (skin_char b.horizontal) ++ t) (junctions_chars style b ws across))
 
-pub rule_line_chars : (skin : MadSkin) (area : Area) (position : RelativePosition) (ws : List ℕ) (rule : FmtTableRule) → AreShownChars skin (rule_chars skin.table_border_chars position) → rule.position ≡ position → rule.widths.items ≡ ws
+pub rule_line_chars : (skin : RowSkin) (area : Area) (position : RelativePosition) (ws : List ℕ) (rule : FmtTableRule) → AreShownChars skin (rule_chars skin.table_border_chars position) → rule.position ≡ position → rule.widths.items ≡ ws
     → line_chars skin area.width (TableRule rule) ≡ rule_across skin area position ws
 rule_line_chars skin area position ws rule shown place widths =
     let pieces : RelativePosition → List ℕ → List RowPiece = λ p vs. rule_pieces skin.table.compound_style (rule_chars skin.table_border_chars p) vs in

@@ -18,8 +18,8 @@ use Rattle.mad_draw.specs.TableRules.{border_piece}
 use Rattle.mad_draw.specs.declared.table_rules.RuleChars.{RuleChars}
 use Rattle.mad_layout.specs.Drawable.{AreShownChars}
 use Rattle.mad_layout.specs.Premises.{IsColumnChar, AreRuleChars}
-use Rattle.mad_layout.specs.Styles.{index_suffix, ordered_item_style}
-use Rattle.mad_layout.specs.declared.skin.MadSkin.{MadSkin}
+use Rattle.mad_rows.specs.Styles.{index_suffix, ordered_item_style}
+use Rattle.mad_rows.specs.declared.row_skin.RowSkin.{RowSkin}
 
 some_of : (o : Option ℕ) → unwrap_or o 0 ≡ 1 → IsSome o
 some_of None h = absurd (omega (arith, h))
@@ -51,7 +51,7 @@ column_piece c h =
 pub column_border : (style : CompoundStyle) (c : ℕ) → IsColumnChar c → IsColumnPiece (border_piece style c)
 column_border style c h = column_piece (styled_char style c) h
 
-pub column_rule : (skin : MadSkin) (chars : RuleChars) → AreRuleChars chars → AreShownChars skin chars
+pub column_rule : (skin : RowSkin) (chars : RuleChars) → AreRuleChars chars → AreShownChars skin chars
 column_rule skin chars h =
     let style : CompoundStyle = skin.table.compound_style in record {
       left = column_border style chars.left h.left;
@@ -60,7 +60,7 @@ column_rule skin chars h =
       right = column_border style chars.right h.right;
     }
 
-pub column_suffix : (skin : MadSkin) (level : ℕ) → IsColumnChar (index_suffix skin level) → IsColumnPiece (char_piece (ordered_item_style skin level).index_suffix)
+pub column_suffix : (skin : RowSkin) (level : ℕ) → IsColumnChar (index_suffix skin level) → IsColumnPiece (char_piece (ordered_item_style skin level).index_suffix)
 column_suffix skin level h = column_piece (ordered_item_style skin level).index_suffix h
 
 pub ascii_column : (c : ℕ) → IsScalar c → 32 ≤ c → c < 127 → IsColumnChar c

@@ -27,13 +27,13 @@ use Rattle.mad_blocks.proofs.WideLayouts.{IsLayout}
 use Rattle.mad_format.specs.Lines.{IsLineRead, is_table_line}
 use Rattle.mad_blocks.specs.Parts.{Part, table, block, single, parts_of, justified, code_room, IsLineAt, AreLinesAt, ArePartsAt}
 use Rattle.mad_layout.specs.Premises.{IsPlainRun, inner_width, runs_text, IsPlainPrefix, IsPlainText, IsPlainContent, KeepsPremises}
-use Rattle.mad_layout.specs.Rows.{place_of}
-use Rattle.mad_layout.specs.Styles.{line_rules, line_style}
+use Rattle.mad_rows.specs.Rows.{place_of}
+use Rattle.mad_rows.specs.Styles.{line_rules, line_style}
 use Rattle.mad_format.specs.CompositeWraps.{line_compounds, HaveKinds}
 use Rattle.mad_format.specs.WrappedLines.{style_margins, line_with, IsLaidOutBy}
 use Rattle.mad_blocks.specs.TextParts.{LineInPart, text_parts, aligns_at, lines_in, lines_in_parts}
 use Rattle.mad_format.specs.Wraps.{text_of, columns_of, IsMeasured}
-use Rattle.mad_layout.specs.declared.skin.MadSkin.{MadSkin}
+use Rattle.mad_rows.specs.declared.row_skin.RowSkin.{RowSkin}
 use Rattle.mad_format.specs.declared.composite.FmtComposite.{FmtComposite}
 use Rattle.mad_format.specs.declared.line.FmtLine.{FmtLine}
 use Rattle.mad_format.specs.declared.line.FmtLine.TheVariants.{Normal, TableRow, TableRule, HorizontalRule}
@@ -63,7 +63,7 @@ place_inside None length columns margins drawn same fits h = omega (arith, same,
 place_inside (Some s) length columns margins drawn same fits h = h.1
 
 -- a line that fits with these margins
-drawable : (skin : MadSkin) (drawn : ℕ) (margins : ℕ × ℕ) (l : FmtComposite) → drawn < 2 ^ 64 - 1 → IsPlainPrefix skin l.kind → IsMeasured (line_rules skin) l
+drawable : (skin : RowSkin) (drawn : ℕ) (margins : ℕ × ℕ) (l : FmtComposite) → drawn < 2 ^ 64 - 1 → IsPlainPrefix skin l.kind → IsMeasured (line_rules skin) l
     → margins.0 + columns_of (line_rules skin) l + margins.1 ≤ drawn → FitsPlace l.spacing (columns_of (line_rules skin) l) margins drawn → AllByRecursion IsShownRun (map run_of l.compounds.items) → IsDrawableLine skin drawn (line_with margins l)
 drawable skin drawn margins l bound prefix measured fits place shown =
     let same : l.visible_length ≡ columns_of (line_rules skin) l = omega (arith, measured, fits, bound) in
@@ -85,7 +85,7 @@ narrower_fits None columns wider margins drawn less h = tt
 narrower_fits (Some s) columns wider margins drawn less h = (omega (arith, less, h.0), h.1)
 
 -- the lines of a composite that is wrapped in what its margins leave
-wrapped_drawable : (skin : MadSkin) (drawn first : ℕ) (margins : ℕ × ℕ) (kind other : CompositeKind) (place : Option Spacing) (r : Room) (ps : List Compound) (ts : List Token) (wrap : List FmtComposite) → drawn < 2 ^ 64 - 1
+wrapped_drawable : (skin : RowSkin) (drawn first : ℕ) (margins : ℕ × ℕ) (kind other : CompositeKind) (place : Option Spacing) (r : Room) (ps : List Compound) (ts : List Token) (wrap : List FmtComposite) → drawn < 2 ^ 64 - 1
     → margins.0 + r.width + margins.1 ≤ drawn → FitsPlace place r.width margins drawn → first ≡ indent skin.list_items_indentation_mode kind → r.other ≡ indent skin.list_items_indentation_mode other
     → IsPlainPrefix skin kind → IsPlainPrefix skin other → AllByRecursion IsShownRun (map run_of ps ++ map token_run ts) → HaveKinds kind other wrap → AllByRecursion (λ l. l.spacing ≡ place) wrap
     → AllByRecursion (IsMeasured (line_rules skin)) wrap → LinesFit first r (map flagged_text (line_compounds wrap)) → AllByRecursion (IsMadeOf ps ts) (line_compounds wrap) → AreDrawable skin drawn (map (line_with margins) wrap)
@@ -104,19 +104,19 @@ wrapped_drawable skin drawn first margins kind other place r ps ts (l ∷ ls) bo
 -- ---- a composite as it was read
 
 -- what the margins of a composite's kind leave of a width
-abbrev pub inner_of : MadSkin → ℕ → FmtComposite → ℕ
+abbrev pub inner_of : RowSkin → ℕ → FmtComposite → ℕ
 inner_of skin width l = width - (style_margins (line_rules skin) width l).0 - (style_margins (line_rules skin) width l).1
 
 -- The composite says what was read, and has no place of its own, or one that is no wider than what its margins leave, and as wide as the
 -- composite or as that.
-pub record IsPlacedFor (skin : MadSkin) (width : ℕ) (line : StyledRuns) (l : FmtComposite) : Type 0 where
+pub record IsPlacedFor (skin : RowSkin) (width : ℕ) (line : StyledRuns) (l : FmtComposite) : Type 0 where
   pub kind : l.kind ≡ kind_of line.style
   pub text : map run_of l.compounds.items ≡ line.runs
   pub measured : IsMeasured (line_rules skin) l
   pub place : IfSome l.spacing (λ s. (s.width ≤ inner_of skin width l) × (min l.visible_length (inner_of skin width l) ≤ s.width))
 
 -- where the composite doesn't fit, its characters have room
-pub has_room : (skin : MadSkin) (width : ℕ) (line : StyledRuns) (source : FmtComposite) → IsPlainText skin (inner_width skin width line) (kind_of line.style) line.runs → IsPlacedFor skin width line source
+pub has_room : (skin : RowSkin) (width : ℕ) (line : StyledRuns) (source : FmtComposite) → IsPlainText skin (inner_width skin width line) (kind_of line.style) line.runs → IsPlacedFor skin width line source
     → width < source.visible_length + (style_margins (line_rules skin) width source).0 + (style_margins (line_rules skin) width source).1 → HasRoom (room_of (line_rules skin) source.kind (inner_of skin width source)) (text_of source)
 has_room skin width line source plain read wide =
     let left = λ (k : CompositeKind). width - (margins_at (line_style skin k) (Some width)).0 - (margins_at (line_style skin k) (Some width)).1 in
@@ -135,7 +135,7 @@ wrapped_place : (place : Option Spacing) (length inner : ℕ) (margins : ℕ × 
 wrapped_place None length inner margins drawn wide inside h = tt
 wrapped_place (Some s) length inner margins drawn wide inside h = (omega (arith, wide, h.1), omega (arith, inside, h.0))
 
-read_drawable : (skin : MadSkin) (width drawn : ℕ) (line : StyledRuns) (source : FmtComposite) (lines : List FmtLine) → width ≤ drawn → drawn < 2 ^ 64 - 1
+read_drawable : (skin : RowSkin) (width drawn : ℕ) (line : StyledRuns) (source : FmtComposite) (lines : List FmtLine) → width ≤ drawn → drawn < 2 ^ 64 - 1
     → IsPlainText skin (inner_width skin width line) (kind_of line.style) line.runs → IsPlacedFor skin width line source → IsLaidOutBy IsFittingWrap (line_rules skin) width source lines → AreDrawable skin drawn lines
 read_drawable skin width drawn line source lines narrower bound plain read (inl (fits, same)) =
     let margins : ℕ × ℕ = style_margins (line_rules skin) width source in
@@ -170,7 +170,7 @@ read_drawable skin width drawn line source lines narrower bound plain read (inr 
 -- ---- a text
 
 -- so it has a line at least
-read_some : (skin : MadSkin) (width : ℕ) (line : StyledRuns) (source : FmtComposite) (lines : List FmtLine) → IsPlainText skin (inner_width skin width line) (kind_of line.style) line.runs → IsPlacedFor skin width line source
+read_some : (skin : RowSkin) (width : ℕ) (line : StyledRuns) (source : FmtComposite) (lines : List FmtLine) → IsPlainText skin (inner_width skin width line) (kind_of line.style) line.runs → IsPlacedFor skin width line source
     → IsLaidOutBy IsFittingWrap (line_rules skin) width source lines → 0 < length lines
 read_some skin width line source lines plain read (inl (fits, same)) = let one : length lines ≡ 1 = ap length same in omega (arith, one)
 read_some skin width line source lines plain read (inr (wide, ([], wraps, same))) =
@@ -181,7 +181,7 @@ read_some skin width line source lines plain read (inr (wide, (w ∷ ws, wraps, 
     let more : length lines ≡ suc (length (map (line_with (style_margins (line_rules skin) width source)) ws)) = ap length same in omega (arith, more)
 
 -- what becomes of one line of a text
-content_drawable : (skin : MadSkin) (width drawn : ℕ) (part : List LineContent) (content : LineContent) (l m : FmtLine) (own : List FmtLine) → width ≤ drawn → drawn < 2 ^ 64 - 1 → IsPlainContent skin width part content → IsLineRead (line_rules skin) content l → is_table_line l ≡ false
+content_drawable : (skin : RowSkin) (width drawn : ℕ) (part : List LineContent) (content : LineContent) (l m : FmtLine) (own : List FmtLine) → width ≤ drawn → drawn < 2 ^ 64 - 1 → IsPlainContent skin width part content → IsLineRead (line_rules skin) content l → is_table_line l ≡ false
     → IsPlacedLine (line_rules skin) width l m → IsLineAt IsFittingWrap (line_rules skin) (Some width) m own → (0 < length own) × AreDrawable skin drawn own
 content_drawable skin width drawn part (table_row cells) (Normal l) m own narrower bound plain read alone placed here = absurd read
 content_drawable skin width drawn part (table_row cells) (TableRow row) m own narrower bound plain read alone placed here = absurd (cc)
@@ -218,7 +218,7 @@ content_drawable skin width drawn part horizontal_rule HorizontalRule m own narr
 content_drawable skin width drawn part horizontal_rule HorizontalRule m own narrower bound plain read alone (inr placed) here = absurd placed
 
 -- the lines of a part, where those of the parts after it are drawn exactly
-lines_drawable : (skin : MadSkin) (width drawn n : ℕ) (part : List LineContent) (above : Option (List Alignment)) (begins : Bool) (text : List LineContent) (xs : List LineInPart) (read placed own others : List FmtLine) → width ≤ drawn → drawn < 2 ^ 64 - 1 → Later skin width drawn xs others
+lines_drawable : (skin : RowSkin) (width drawn n : ℕ) (part : List LineContent) (above : Option (List Alignment)) (begins : Bool) (text : List LineContent) (xs : List LineInPart) (read placed own others : List FmtLine) → width ≤ drawn → drawn < 2 ^ 64 - 1 → Later skin width drawn xs others
     → KeepsPremises skin width (take n (lines_in part above begins text ++ xs)) → AreRead (line_rules skin) text read → AllByRecursion (λ l. is_table_line l ≡ false) read → ArePlacedLines (line_rules skin) width read placed → AreLinesAt IsFittingWrap (line_rules skin) (Some width) placed own
     → AreDrawable skin drawn (take n (own ++ others))
 lines_drawable skin width drawn zero part above begins text xs read placed own others narrower bound later keeps reads alone places becomes = tt
@@ -238,7 +238,7 @@ no_table_lines [] = tt
 no_table_lines (l ∷ ls) = (refl, no_table_lines ls)
 
 -- the parts of a text, one after the other
-parts_drawable : (skin : MadSkin) (width drawn n : ℕ) (css : List (List LineContent)) (ps : List Part) (lines : List FmtLine) → width ≤ drawn → drawn < 2 ^ 64 - 1 → AllByRecursion IsPartOfKind ps
+parts_drawable : (skin : RowSkin) (width drawn n : ℕ) (css : List (List LineContent)) (ps : List Part) (lines : List FmtLine) → width ≤ drawn → drawn < 2 ^ 64 - 1 → AllByRecursion IsPartOfKind ps
     → KeepsPremises skin width (take n (all_in css)) → ArePartsRead skin css ps → ArePartsAt IsFittingWrap (line_rules skin) width (Some width) ps lines → AreDrawable skin drawn (take n lines)
 parts_drawable skin width drawn zero css ps lines narrower bound kinds keeps reads becomes = tt
 parts_drawable skin width drawn (suc n) [] [] lines narrower bound kinds keeps reads becomes = subst (λ (ls : List FmtLine). AreDrawable skin drawn (take (suc n) ls)) (sym becomes) tt
@@ -260,25 +260,25 @@ parts_drawable skin width drawn (suc n) ((c ∷ cs) ∷ css) (single l ∷ ps) l
 
 -- Where the first lines of a text keep the premises, the first lines of its layout are drawn exactly in a row at least as wide, however
 -- many lines it has.
-pub fitting_is_drawable : (skin : MadSkin) (width drawn n : ℕ) (text : List LineContent) (lines : List FmtLine) → width ≤ drawn → drawn < 2 ^ 64 - 1
+pub fitting_is_drawable : (skin : RowSkin) (width drawn n : ℕ) (text : List LineContent) (lines : List FmtLine) → width ≤ drawn → drawn < 2 ^ 64 - 1
     → KeepsPremises skin width (take n (lines_in_parts text)) → IsFittingLayout (line_rules skin) width text lines → AreDrawable skin drawn (take n lines)
 fitting_is_drawable skin width drawn n text lines narrower bound keeps layout =
     parts_drawable skin width drawn n (text_parts text) (parts_of layout.read) lines narrower bound (parts_kinds layout.read) keeps (parts_read skin text layout.read layout.reads) layout.laid
 
 -- ---- a layout with the fewest lines
 
-pub layout_is_drawable : (skin : MadSkin) (width drawn n : ℕ) (text : List LineContent) (lines : List FmtLine) → width ≤ drawn → drawn < 2 ^ 64 - 1
+pub layout_is_drawable : (skin : RowSkin) (width drawn n : ℕ) (text : List LineContent) (lines : List FmtLine) → width ≤ drawn → drawn < 2 ^ 64 - 1
     → KeepsPremises skin width (take n (lines_in_parts text)) → IsLayout (line_rules skin) width text lines → AreDrawable skin drawn (take n lines)
 layout_is_drawable skin width drawn n text lines narrower bound keeps layout = fitting_is_drawable skin width drawn n text lines narrower bound keeps (layout_fits (line_rules skin) width text lines layout)
 
 -- ---- the lines that have a row
 
-none_drawable : (skin : MadSkin) (width n : ℕ) → AreDrawable skin width (take n [])
+none_drawable : (skin : RowSkin) (width n : ℕ) → AreDrawable skin width (take n [])
 none_drawable skin width zero = tt
 none_drawable skin width (suc n) = tt
 
 -- of the first lines, those from one on
-pub drawable_from : (skin : MadSkin) (width : ℕ) (lines : List FmtLine) (scroll count n : ℕ) → n ≡ scroll + count → AreDrawable skin width (take n lines) → AreDrawable skin width (take count (drop scroll lines))
+pub drawable_from : (skin : RowSkin) (width : ℕ) (lines : List FmtLine) (scroll count n : ℕ) → n ≡ scroll + count → AreDrawable skin width (take n lines) → AreDrawable skin width (take count (drop scroll lines))
 drawable_from skin width lines zero count n e h = let same : n ≡ count = omega (arith, e) in subst (λ (m : ℕ). AreDrawable skin width (take m lines)) same h
 drawable_from skin width [] (suc scroll) count n e h = none_drawable skin width count
 drawable_from skin width (l ∷ lines) (suc scroll) count zero e h = absurd (omega (arith, e))

@@ -27,13 +27,13 @@ use Rattle.mad_blocks.specs.Layouts.{AreRead}
 use Rattle.mad_format.specs.Lines.{bordered, rule_columns, AreCompositesRead, IsLineRead, is_table_line}
 use Rattle.mad_layout.specs.PlainTables.{ArePlainCells, IsPlainTableLine}
 use Rattle.mad_layout.specs.Premises.{IsPlainRun, runs_text, IsPlainPrefix, IsPlainText, AreBordersShown, ArePlainIn, IsPlainContent, KeepsPremises}
-use Rattle.mad_layout.specs.Rows.{compound_piece, inner_columns, prefix_pieces, place_of, row_columns, rule_chars}
-use Rattle.mad_layout.specs.Styles.{line_rules, line_style}
+use Rattle.mad_rows.specs.Rows.{compound_piece, inner_columns, prefix_pieces, place_of, row_columns, rule_chars}
+use Rattle.mad_rows.specs.Styles.{line_rules, line_style}
 use Rattle.mad_blocks.specs.Tables.{AreKeptWidths, in_column, IsBlankIn, columns_with, centered, columns_from, columns_count, columns_in, position_at, IsTop, IsLineAcross, AreDown, below, IsCellLaidOut, AreCellsLaidOut, IsRuleLaidOut, IsTableLineBy, AreTableLinesBy, IsTableLaidOutBy}
 use Rattle.mad_layout.specs.TableColumns.{kept_widths}
 use Rattle.mad_blocks.specs.TextParts.{LineInPart, aligns_at, lines_in}
 use Rattle.mad_format.specs.Wraps.{text_of, columns_of, IsMeasured}
-use Rattle.mad_layout.specs.declared.skin.MadSkin.{MadSkin}
+use Rattle.mad_rows.specs.declared.row_skin.RowSkin.{RowSkin}
 use Rattle.mad_format.specs.declared.composite.FmtComposite.{FmtComposite}
 use Rattle.mad_format.specs.declared.line.FmtLine.{FmtLine}
 use Rattle.mad_format.specs.declared.line.FmtLine.TheVariants.{Normal, TableRow, TableRule, HorizontalRule}
@@ -52,10 +52,10 @@ use Rattle.mad_layout.proofs.WholeTokens.{IsShownRun, plain_is_shown, tokens_sho
 -- ---- a line of a cell
 
 -- lines of a cell, each of which fills its place in a column
-abbrev FillColumn : MadSkin → Spacing → List FmtComposite → Type 0
+abbrev FillColumn : RowSkin → Spacing → List FmtComposite → Type 0
 FillColumn skin c ls = AllByRecursion (λ l. FillsItsPlace skin (in_column c l)) ls
 
-fills_column : (skin : MadSkin) (c : Spacing) (l : FmtComposite) → c.width < 2 ^ 64 - 1 → IsPlainPrefix skin l.kind → IsMeasured (line_rules skin) l → columns_of (line_rules skin) l ≤ c.width
+fills_column : (skin : RowSkin) (c : Spacing) (l : FmtComposite) → c.width < 2 ^ 64 - 1 → IsPlainPrefix skin l.kind → IsMeasured (line_rules skin) l → columns_of (line_rules skin) l ≤ c.width
     → AllByRecursion IsShownRun (map run_of l.compounds.items) → FillsItsPlace skin (in_column c l)
 fills_column skin c l bound prefix measured fits shown =
     let same : l.visible_length ≡ columns_of (line_rules skin) l = omega (arith, measured, fits, bound) in
@@ -67,7 +67,7 @@ fills_column skin c l bound prefix measured fits shown =
       text = pieces_shown skin (line_style skin l.kind) l.compounds.items shown;
     }
 
-wrapped_fill : (skin : MadSkin) (c : Spacing) (first : ℕ) (kind other : CompositeKind) (r : Room) (ps : List Compound) (ts : List Token) (wrap : List FmtComposite) → c.width < 2 ^ 64 - 1 → r.width ≡ c.width
+wrapped_fill : (skin : RowSkin) (c : Spacing) (first : ℕ) (kind other : CompositeKind) (r : Room) (ps : List Compound) (ts : List Token) (wrap : List FmtComposite) → c.width < 2 ^ 64 - 1 → r.width ≡ c.width
     → first ≡ indent skin.list_items_indentation_mode kind → r.other ≡ indent skin.list_items_indentation_mode other → IsPlainPrefix skin kind → IsPlainPrefix skin other
     → AllByRecursion IsShownRun (map run_of ps ++ map token_run ts) → HaveKinds kind other wrap → AllByRecursion (IsMeasured (line_rules skin)) wrap → LinesFit first r (map flagged_text (line_compounds wrap))
     → AllByRecursion (IsMadeOf ps ts) (line_compounds wrap) → FillColumn skin c wrap
@@ -81,7 +81,7 @@ wrapped_fill skin c first kind other r ps ts (l ∷ ls) bound width first_is oth
       wrapped_fill skin c r.other other other r ps ts ls bound width other_is other_is follow follow shown kinds.1 measured.1 fits.1 parts.1,
     )
 
-cell_fills : (skin : MadSkin) (c : Spacing) (cell : FmtComposite) (ls : List FmtComposite) → c.width < 2 ^ 64 - 1 → IsMeasured (line_rules skin) cell → IsPlainText skin c.width cell.kind (map run_of cell.compounds.items)
+cell_fills : (skin : RowSkin) (c : Spacing) (cell : FmtComposite) (ls : List FmtComposite) → c.width < 2 ^ 64 - 1 → IsMeasured (line_rules skin) cell → IsPlainText skin c.width cell.kind (map run_of cell.compounds.items)
     → IsCellLaidOut IsFittingWrap (line_rules skin) c.width cell ls → FillColumn skin c ls
 cell_fills skin c cell ls bound measured plain (inl (fits, same)) =
     let columns : columns_of (line_rules skin) cell ≤ c.width = omega (arith, measured, fits, bound) in
@@ -109,16 +109,16 @@ abbrev pub widths_of : List Spacing → List ℕ
 widths_of cs = map (λ c. c.width) cs
 
 -- the lines of each cell fill their places in its column
-abbrev FillColumns : MadSkin → List Spacing → List (List FmtComposite) → Type 0
+abbrev FillColumns : RowSkin → List Spacing → List (List FmtComposite) → Type 0
 FillColumns skin [] lines = Unit {0}
 FillColumns skin (c ∷ cs) [] = Unit {0}
 FillColumns skin (c ∷ cs) (ls ∷ lines) = FillColumn skin c ls × FillColumns skin cs lines
 
-no_cells : (skin : MadSkin) (ws : List ℕ) → ArePlainCells skin ws []
+no_cells : (skin : RowSkin) (ws : List ℕ) → ArePlainCells skin ws []
 no_cells skin [] = tt
 no_cells skin (w ∷ ws) = tt
 
-cells_fill : (skin : MadSkin) (cs : List Spacing) (cells : List FmtComposite) (lines : List (List FmtComposite)) → AllByRecursion (λ c. c.width < 2 ^ 64 - 1) cs → ArePlainCells skin (widths_of cs) cells
+cells_fill : (skin : RowSkin) (cs : List Spacing) (cells : List FmtComposite) (lines : List (List FmtComposite)) → AllByRecursion (λ c. c.width < 2 ^ 64 - 1) cs → ArePlainCells skin (widths_of cs) cells
     → AreCellsLaidOut IsFittingWrap (line_rules skin) cs cells lines → FillColumns skin cs lines
 cells_fill skin [] cells lines bound plain laid = tt
 cells_fill skin (c ∷ cs) cells [] bound plain laid = tt
@@ -126,7 +126,7 @@ cells_fill skin (c ∷ cs) [] (ls ∷ lines) bound plain laid = (subst (FillColu
 cells_fill skin (c ∷ cs) (cell ∷ cells) (ls ∷ lines) bound plain laid = (cell_fills skin c cell ls bound.0 plain.0 plain.1 laid.0, cells_fill skin cs cells lines bound.1 plain.2 laid.1)
 
 -- an empty paragraph fills its place
-blank_fills : (skin : MadSkin) (c : Spacing) (x : FmtComposite) → IsBlankIn c x → FillsItsPlace skin x
+blank_fills : (skin : RowSkin) (c : Spacing) (x : FmtComposite) → IsBlankIn c x → FillsItsPlace skin x
 blank_fills skin c x h =
     let none : indent skin.list_items_indentation_mode x.kind ≡ 0 = ap (indent skin.list_items_indentation_mode) h.kind in
     let text : width_of (text_of x) ≡ 0 = ap (λ (ps : List Compound). width_of (flagged_text ps)) h.empty in
@@ -139,11 +139,11 @@ blank_fills skin c x h =
       text = subst (λ (ps : List Compound). AreShownPieces (map (compound_piece skin (line_style skin x.kind)) ps)) (sym h.empty) tt;
     }
 
-top_fills : (skin : MadSkin) (c : Spacing) (ls : List FmtComposite) (x : FmtComposite) → FillColumn skin c ls → IsTop c ls x → FillsItsPlace skin x
+top_fills : (skin : RowSkin) (c : Spacing) (ls : List FmtComposite) (x : FmtComposite) → FillColumn skin c ls → IsTop c ls x → FillsItsPlace skin x
 top_fills skin c [] x h top = blank_fills skin c x top
 top_fills skin c (l ∷ ls) x h top = subst (FillsItsPlace skin) (sym top) h.0
 
-across_fill : (skin : MadSkin) (cs : List Spacing) (lines : List (List FmtComposite)) (xs : List FmtComposite) → FillColumns skin cs lines → IsLineAcross cs lines xs → AllByRecursion (FillsItsPlace skin) xs
+across_fill : (skin : RowSkin) (cs : List Spacing) (lines : List (List FmtComposite)) (xs : List FmtComposite) → FillColumns skin cs lines → IsLineAcross cs lines xs → AllByRecursion (FillsItsPlace skin) xs
 across_fill skin [] [] [] h across = tt
 across_fill skin [] [] (x ∷ xs) h across = absurd across
 across_fill skin [] (ls ∷ lines) xs h across = absurd across
@@ -162,13 +162,13 @@ across_columns (c ∷ cs) (ls ∷ lines) (x ∷ xs) across =
     let own : inner_columns x ≡ c.width = ap (λ s. unwrap_or (place_of s) x.visible_length) (top_spacing c ls x across.0) in
     omega (arith, rest, own)
 
-below_fill : (skin : MadSkin) (cs : List Spacing) (lines : List (List FmtComposite)) → FillColumns skin cs lines → FillColumns skin cs (map below lines)
+below_fill : (skin : RowSkin) (cs : List Spacing) (lines : List (List FmtComposite)) → FillColumns skin cs lines → FillColumns skin cs (map below lines)
 below_fill skin [] lines h = tt
 below_fill skin (c ∷ cs) [] h = tt
 below_fill skin (c ∷ cs) ([] ∷ lines) h = (tt, below_fill skin cs lines h.1)
 below_fill skin (c ∷ cs) ((l ∷ ls) ∷ lines) h = (h.0.1, below_fill skin cs lines h.1)
 
-rows_drawable : (skin : MadSkin) (drawn : ℕ) (cs : List Spacing) (lines : List (List FmtComposite)) (rows : List FmtTableRow) → 1 + bordered (widths_of cs) ≤ drawn → AreBordersShown skin
+rows_drawable : (skin : RowSkin) (drawn : ℕ) (cs : List Spacing) (lines : List (List FmtComposite)) (rows : List FmtTableRow) → 1 + bordered (widths_of cs) ≤ drawn → AreBordersShown skin
     → FillColumns skin cs lines → AreDown cs lines rows → AreDrawable skin drawn (map TableRow rows)
 rows_drawable skin drawn cs lines [] fit borders h down = tt
 rows_drawable skin drawn cs lines (row ∷ rows) fit borders h down = (
@@ -186,7 +186,7 @@ rule_fits : (ws : List ℕ) (drawn : ℕ) → 2 ≤ drawn → 1 + bordered ws �
 rule_fits [] drawn two fit = two
 rule_fits (w ∷ ws) drawn two fit = fit
 
-rule_drawable : (skin : MadSkin) (drawn : ℕ) (position : RelativePosition) (cs : List Spacing) (rule : FmtTableRule) → 2 ≤ drawn → 1 + bordered (widths_of cs) ≤ drawn
+rule_drawable : (skin : RowSkin) (drawn : ℕ) (position : RelativePosition) (cs : List Spacing) (rule : FmtTableRule) → 2 ≤ drawn → 1 + bordered (widths_of cs) ≤ drawn
     → AreBordersShown skin → IsRuleLaidOut position cs rule → IsDrawableRule skin drawn rule
 rule_drawable skin drawn position cs rule two fit borders h = record {
   fits = subst (λ ws. rule_columns ws ≤ drawn) (sym h.widths_are) (rule_fits (widths_of cs) drawn two fit);
@@ -228,7 +228,7 @@ pub map_some : (rows : List FmtTableRow) → 0 < length rows → 0 < length (map
 map_some [] h = absurd (omega (arith, h))
 map_some (row ∷ rows) h = omega arith
 
-table_line_drawable : (skin : MadSkin) (drawn : ℕ) (ws : List ℕ) (cs : List Spacing) (position : RelativePosition) (l : FmtLine) (own : List FmtLine) → FitColumns drawn ws cs
+table_line_drawable : (skin : RowSkin) (drawn : ℕ) (ws : List ℕ) (cs : List Spacing) (position : RelativePosition) (l : FmtLine) (own : List FmtLine) → FitColumns drawn ws cs
     → AreBordersShown skin → IsPlainTableLine skin ws l → IsTableLineBy IsFittingWrap (line_rules skin) cs position l own → (0 < length own) × AreDrawable skin drawn own
 table_line_drawable skin drawn ws cs position (Normal l) own fit borders plain here = absurd plain
 table_line_drawable skin drawn ws cs position (TableRow row) own fit borders plain (rows, is, laid) =
@@ -249,7 +249,7 @@ no_row [] h = refl
 no_row (cell ∷ cells) h = absurd (omega (arith, h))
 
 -- a line of a table without columns stays, and is drawn exactly
-bare_drawable : (skin : MadSkin) (drawn : ℕ) (l : FmtLine) → 2 ≤ drawn → AreBordersShown skin → IsPlainTableLine skin [] l → columns_in l ≡ 0 → IsDrawableLine skin drawn l
+bare_drawable : (skin : RowSkin) (drawn : ℕ) (l : FmtLine) → 2 ≤ drawn → AreBordersShown skin → IsPlainTableLine skin [] l → columns_in l ≡ 0 → IsDrawableLine skin drawn l
 bare_drawable skin drawn (Normal l) two borders plain none = absurd plain
 bare_drawable skin drawn (TableRow row) two borders plain none =
     subst (IsDrawableRow skin drawn) (sym (no_row row.cells.items none)) (record { fits = omega (arith, two); each = tt; border = column_border skin.table.compound_style skin.table_border_chars.vertical borders.vertical })
@@ -258,7 +258,7 @@ bare_drawable skin drawn HorizontalRule two borders plain none = absurd plain
 
 -- ---- lines of a text
 
-cells_plain : (skin : MadSkin) (ws : List ℕ) (said : List StyledRuns) (cells : List FmtComposite) → ArePlainIn skin ws said → AreCompositesRead (line_rules skin) said cells → ArePlainCells skin ws cells
+cells_plain : (skin : RowSkin) (ws : List ℕ) (said : List StyledRuns) (cells : List FmtComposite) → ArePlainIn skin ws said → AreCompositesRead (line_rules skin) said cells → ArePlainCells skin ws cells
 cells_plain skin [] said cells plain read = tt
 cells_plain skin (w ∷ ws) [] [] plain read = tt
 cells_plain skin (w ∷ ws) [] (l ∷ ls) plain read = absurd read
@@ -270,19 +270,19 @@ cells_plain skin (w ∷ ws) (s ∷ ss) (l ∷ ls) plain read = (
 )
 
 -- what a line of a table says that keeps the premises
-pub record TableContent (skin : MadSkin) (width : ℕ) (ws : List ℕ) (l : FmtLine) : Type 0 where
+pub record TableContent (skin : RowSkin) (width : ℕ) (ws : List ℕ) (l : FmtLine) : Type 0 where
   pub two : 2 ≤ width
   pub borders : AreBordersShown skin
   pub plain : IsPlainTableLine skin ws l
 
 -- cells that keep the premises of a part are plain in these columns
-abbrev pub ArePartColumns : MadSkin → ℕ → List LineContent → List ℕ → Type 0
+abbrev pub ArePartColumns : RowSkin → ℕ → List LineContent → List ℕ → Type 0
 ArePartColumns skin width part ws = (cells : List StyledRuns) → ArePlainIn skin (kept_widths skin width part) cells → ArePlainIn skin ws cells
 
-pub kept_columns : (skin : MadSkin) (width : ℕ) (part : List LineContent) (ws : List ℕ) → ws ≡ kept_widths skin width part → ArePartColumns skin width part ws
+pub kept_columns : (skin : RowSkin) (width : ℕ) (part : List LineContent) (ws : List ℕ) → ws ≡ kept_widths skin width part → ArePartColumns skin width part ws
 kept_columns skin width part ws is cells given = subst (λ vs. ArePlainIn skin vs cells) (sym is) given
 
-pub content_plain : (skin : MadSkin) (width : ℕ) (part : List LineContent) (ws : List ℕ) (c : LineContent) (l : FmtLine) → ArePartColumns skin width part ws → IsPlainContent skin width part c → IsLineRead (line_rules skin) c l → is_table_line l ≡ true
+pub content_plain : (skin : RowSkin) (width : ℕ) (part : List LineContent) (ws : List ℕ) (c : LineContent) (l : FmtLine) → ArePartColumns skin width part ws → IsPlainContent skin width part c → IsLineRead (line_rules skin) c l → is_table_line l ≡ true
     → TableContent skin width ws l
 content_plain skin width part ws (normal said) (Normal l) columns plain read is = absurd (cc)
 content_plain skin width part ws (normal said) (TableRow row) columns plain read is = absurd read
@@ -302,10 +302,10 @@ content_plain skin width part ws horizontal_rule (TableRule rule) columns plain 
 content_plain skin width part ws horizontal_rule HorizontalRule columns plain read is = absurd (cc)
 
 -- of lines of a text that come after a part, those that are drawn are drawn exactly
-abbrev pub Later : MadSkin → ℕ → ℕ → List LineInPart → List FmtLine → Type 0
+abbrev pub Later : RowSkin → ℕ → ℕ → List LineInPart → List FmtLine → Type 0
 Later skin width drawn xs others = (m : ℕ) → KeepsPremises skin width (take m xs) → AreDrawable skin drawn (take m others)
 
-laid_drawable : (skin : MadSkin) (width drawn n : ℕ) (part : List LineContent) (above : Option (List Alignment)) (text : List LineContent) (xs : List LineInPart) (ws : List ℕ) (cs : List Spacing) (first : Bool) (table own others : List FmtLine) → 1 + bordered ws ≤ width → width ≤ drawn → drawn < 2 ^ 64 - 1
+laid_drawable : (skin : RowSkin) (width drawn n : ℕ) (part : List LineContent) (above : Option (List Alignment)) (text : List LineContent) (xs : List LineInPart) (ws : List ℕ) (cs : List Spacing) (first : Bool) (table own others : List FmtLine) → 1 + bordered ws ≤ width → width ≤ drawn → drawn < 2 ^ 64 - 1
     → widths_of cs ≡ ws → ArePartColumns skin width part ws → Later skin width drawn xs others → KeepsPremises skin width (take n (lines_in part above first text ++ xs)) → AreRead (line_rules skin) text table → AllTableLines table
     → AreTableLinesBy IsFittingWrap (line_rules skin) ws cs first table own → AreDrawable skin drawn (take n (own ++ others))
 laid_drawable skin width drawn zero part above text xs ws cs first table own others fit narrower bound are columns later keeps reads lines laid = tt
@@ -322,7 +322,7 @@ laid_drawable skin width drawn (suc n) part above (c ∷ text) xs ws cs first (l
     (some_joined skin drawn front (more ++ others) n one.0 one.1
     (laid_drawable skin width drawn n part (aligns_at above c) text xs ws (columns_from ws cs l) false ls more others fit narrower bound (from-widths ws cs l are) columns later keeps.1 reads.1 lines.1 below_it))
 
-bare_lines : (skin : MadSkin) (width drawn n : ℕ) (part : List LineContent) (above : Option (List Alignment)) (first : Bool) (text : List LineContent) (xs : List LineInPart) (table others : List FmtLine) → width ≤ drawn → columns_count table ≡ 0 → Later skin width drawn xs others
+bare_lines : (skin : RowSkin) (width drawn n : ℕ) (part : List LineContent) (above : Option (List Alignment)) (first : Bool) (text : List LineContent) (xs : List LineInPart) (table others : List FmtLine) → width ≤ drawn → columns_count table ≡ 0 → Later skin width drawn xs others
     → KeepsPremises skin width (take n (lines_in part above first text ++ xs)) → AreRead (line_rules skin) text table → AllTableLines table → AreDrawable skin drawn (take n (table ++ others))
 bare_lines skin width drawn zero part above first text xs table others narrower none later keeps reads lines = tt
 bare_lines skin width drawn (suc n) part above first [] xs [] others narrower none later keeps reads lines = later (suc n) keeps
@@ -335,7 +335,7 @@ bare_lines skin width drawn (suc n) part above first (c ∷ text) xs (l ∷ ls) 
     (bare_drawable skin drawn l (omega (arith, two, narrower)) content.borders content.plain own, bare_lines skin width drawn n part (aligns_at above c) false text xs ls others narrower (omega (arith, none)) later keeps.1 reads.1 lines.1)
 
 -- The lines of a table, which is a part of a text, and those after it.
-pub table_drawable : (skin : MadSkin) (width drawn n : ℕ) (c : LineContent) (text : List LineContent) (xs : List LineInPart) (l : FmtLine) (ls own others : List FmtLine) → width ≤ drawn → drawn < 2 ^ 64 - 1 → Later skin width drawn xs others
+pub table_drawable : (skin : RowSkin) (width drawn n : ℕ) (c : LineContent) (text : List LineContent) (xs : List LineInPart) (l : FmtLine) (ls own others : List FmtLine) → width ≤ drawn → drawn < 2 ^ 64 - 1 → Later skin width drawn xs others
     → KeepsPremises skin width (take (suc n) (lines_in (c ∷ text) None true (c ∷ text) ++ xs)) → AreTableRead skin (c ∷ text) (l ∷ ls) → AllTableLines (l ∷ ls)
     → IsTableLaidOutBy IsFittingWrap (line_rules skin) (columns_count (l ∷ ls)) width (l ∷ ls) own → AreDrawable skin drawn (take (suc n) (own ++ others))
 table_drawable skin width drawn n c text xs l ls own others narrower bound later keeps reads lines (inl (inl none, stays)) =
@@ -350,7 +350,7 @@ table_drawable skin width drawn n c text xs l ls own others narrower bound later
 
 -- ---- a table by itself
 
-alone_drawable : (skin : MadSkin) (drawn : ℕ) (ws : List ℕ) (cs : List Spacing) (first : Bool) (table own : List FmtLine) → FitColumns drawn ws cs → AreBordersShown skin
+alone_drawable : (skin : RowSkin) (drawn : ℕ) (ws : List ℕ) (cs : List Spacing) (first : Bool) (table own : List FmtLine) → FitColumns drawn ws cs → AreBordersShown skin
     → AllByRecursion (IsPlainTableLine skin ws) table → AreTableLinesBy IsFittingWrap (line_rules skin) ws cs first table own → AreDrawable skin drawn own
 alone_drawable skin drawn ws cs first [] own fit borders plain laid = subst (AreDrawable skin drawn) (sym laid) tt
 alone_drawable skin drawn ws cs first (l ∷ ls) own fit borders plain (front, more, joins, here, below_it) =
@@ -358,13 +358,13 @@ alone_drawable skin drawn ws cs first (l ∷ ls) own fit borders plain (front, m
     let one = table_line_drawable skin drawn ws (columns_from ws cs l) (position_at first (length ls == 0)) l front below_fit borders plain.0 here in
     subst (AreDrawable skin drawn) (sym joins) (all_joined (IsDrawableLine skin drawn) front more one.1 (alone_drawable skin drawn ws (columns_from ws cs l) false ls more below_fit borders plain.1 below_it))
 
-bare_alone : (skin : MadSkin) (drawn : ℕ) (table : List FmtLine) → 2 ≤ drawn → AreBordersShown skin → columns_count table ≡ 0 → AllByRecursion (IsPlainTableLine skin []) table → AreDrawable skin drawn table
+bare_alone : (skin : RowSkin) (drawn : ℕ) (table : List FmtLine) → 2 ≤ drawn → AreBordersShown skin → columns_count table ≡ 0 → AllByRecursion (IsPlainTableLine skin []) table → AreDrawable skin drawn table
 bare_alone skin drawn [] two borders none plain = tt
 bare_alone skin drawn (l ∷ ls) two borders none plain =
     let own : columns_in l ≡ 0 = omega (arith, none) in (bare_drawable skin drawn l two borders plain.0 own, bare_alone skin drawn ls two borders (omega (arith, none)) plain.1)
 
 -- A table's lines fit where its columns do with their borders.
-pub tables_fitting : (skin : MadSkin) (width drawn : ℕ) (table lines : List FmtLine) → 2 ≤ width → width ≤ drawn → drawn < 2 ^ 64 - 1 → AreBordersShown skin
+pub tables_fitting : (skin : RowSkin) (width drawn : ℕ) (table lines : List FmtLine) → 2 ≤ width → width ≤ drawn → drawn < 2 ^ 64 - 1 → AreBordersShown skin
     → AllByRecursion (IsPlainTableLine skin []) table → ((ws : List ℕ) → AreKeptWidths (columns_count table) width table ws → AllByRecursion (IsPlainTableLine skin ws) table)
     → IsTableLaidOutBy IsFittingWrap (line_rules skin) (columns_count table) width table lines → AreDrawable skin drawn lines
 tables_fitting skin width drawn table lines two narrower bound borders bare plain (inl (inl none, stays)) =

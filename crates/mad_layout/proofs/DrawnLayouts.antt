@@ -9,17 +9,17 @@ use Rattle.mad_layout.specs.Headline.{AreShownAcross}
 use Rattle.mad_blocks.proofs.WideLayouts.{IsLayout}
 use Rattle.mad_layout.specs.Shown.{lines_shown, AreShownIn}
 use Rattle.mad_layout.specs.ShownLayouts.{ShowsLayout, ShowsRowsFrom}
-use Rattle.mad_layout.specs.declared.skin.MadSkin.{MadSkin}
+use Rattle.mad_rows.specs.declared.row_skin.RowSkin.{RowSkin}
 use Rattle.mad_format.specs.declared.line.FmtLine.{FmtLine}
 use Rattle.mad_layout.proofs.DrawableLemmas.{fitting_is_drawable, drawable_from}
 use Rattle.mad_blocks.proofs.WrapKinds.{layout_fits, wrapped_at}
 use Rattle.mad_layout.proofs.HeadlineRows.{shown_across, took_more_at}
 use Rattle.mad_layout.proofs.RowChars.{line_chars}
 use Rattle.mad_layout.proofs.TextParts.{text_across}
-use Rattle.mad_layout.specs.Styles.{line_rules}
+use Rattle.mad_rows.specs.Styles.{line_rules}
 
 -- of drawable lines, so of a layout
-pub layout_shown : {T E : Type 0} (r : Result T E) (skin : MadSkin) (lines : List FmtLine) (area : Area) (scroll : ℕ) (old new : Trace) → IsWithinLimits area
+pub layout_shown : {T E : Type 0} (r : Result T E) (skin : RowSkin) (lines : List FmtLine) (area : Area) (scroll : ℕ) (old new : Trace) → IsWithinLimits area
     → OnOk r (AreDrawable skin area.width (lines_shown lines area scroll) → TookWith old new (AreShownIn skin lines area scroll))
     → OnOk r (ShowsLayout skin lines area scroll old new)
 layout_shown {T} {E} (Ok x) skin lines area scroll old new limits h =
@@ -39,13 +39,13 @@ same_from (suc s) h (suc n) [] (y ∷ ys) is e = absurd (cc)
 same_from (suc s) h (suc n) (x ∷ xs) [] is e = absurd (cc)
 same_from (suc s) h (suc n) (x ∷ xs) (y ∷ ys) is e = let tail : take n xs ≡ take n ys = cc in same_from s h n xs ys (omega (arith, is)) tail
 
-lines_from : (skin : MadSkin) (width s : ℕ) (lines : List FmtLine) → drop s (map (line_chars skin width) lines) ≡ map (line_chars skin width) (drop s lines)
+lines_from : (skin : RowSkin) (width s : ℕ) (lines : List FmtLine) → drop s (map (line_chars skin width) lines) ≡ map (line_chars skin width) (drop s lines)
 lines_from skin width zero lines = refl
 lines_from skin width (suc s) [] = refl
 lines_from skin width (suc s) (l ∷ ls) = lines_from skin width s ls
 
 -- what an area shows of a layout, it shows of the rows of its text
-pub rows_shown : {T E : Type 0} (r : Result T E) (skin : MadSkin) (lines : List FmtLine) (area : Area) (scroll : ℕ) (old new : Trace) → IsWithinLimits area
+pub rows_shown : {T E : Type 0} (r : Result T E) (skin : RowSkin) (lines : List FmtLine) (area : Area) (scroll : ℕ) (old new : Trace) → IsWithinLimits area
     → OnOk r (ShowsLayout skin lines area scroll old new) → OnOk r (ShowsRowsFrom skin lines area scroll old new)
 rows_shown {T} {E} (Ok x) skin lines area scroll old new limits h =
     λ text wide keeps laid.
@@ -64,6 +64,6 @@ rows_shown {T} {E} (Ok x) skin lines area scroll old new limits h =
 rows_shown {T} {E} (Err x) skin lines area scroll old new limits h = tt
 
 -- a flush takes nothing from it
-pub rows_flushed : (skin : MadSkin) (lines : List FmtLine) (area : Area) (scroll : ℕ) (old mid new : Trace) → ShowsRowsFrom skin lines area scroll old mid → new ≡ flushed mid → ShowsRowsFrom skin lines area scroll old new
+pub rows_flushed : (skin : RowSkin) (lines : List FmtLine) (area : Area) (scroll : ℕ) (old mid new : Trace) → ShowsRowsFrom skin lines area scroll old mid → new ≡ flushed mid → ShowsRowsFrom skin lines area scroll old new
 rows_flushed skin lines area scroll old mid new h e =
     λ text wide keeps laid. let rows = h text wide keeps laid in (rows.0, rows.1, took_flushed old mid new (AreShownAcross (drop scroll rows.0) area) rows.2 e)

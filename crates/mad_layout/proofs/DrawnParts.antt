@@ -8,8 +8,8 @@ use Rattle.mad_style.specs.declared.line_styles.LineStyle.{LineStyle}
 use Rattle.mad_draw.specs.Pieces.{AreShownPieces}
 use Rattle.mad_layout.specs.Drawable.{AreDrawable}
 use Rattle.mad_layout.specs.Premises.{IsPlainRun, runs_text}
-use Rattle.mad_layout.specs.Rows.{compound_piece}
-use Rattle.mad_layout.specs.declared.skin.MadSkin.{MadSkin}
+use Rattle.mad_rows.specs.Rows.{compound_piece}
+use Rattle.mad_rows.specs.declared.row_skin.RowSkin.{RowSkin}
 use Rattle.mad_format.specs.declared.line.FmtLine.{FmtLine}
 use Rattle.mad_layout.proofs.WholeTokens.{IsShownRun}
 
@@ -19,7 +19,7 @@ each_of P [] x h (k, inside, e) = absurd (omega (arith, inside))
 each_of P (y ∷ ys) x h (zero, inside, e) = subst P e h.0
 each_of P (y ∷ ys) x h (suc k, inside, e) = each_of P ys x h.1 (k, omega (arith, inside), e)
 
-pub pieces_shown : (skin : MadSkin) (style : LineStyle) (ps : List Compound) → AllByRecursion IsShownRun (map run_of ps) → AreShownPieces (map (compound_piece skin style) ps)
+pub pieces_shown : (skin : RowSkin) (style : LineStyle) (ps : List Compound) → AllByRecursion IsShownRun (map run_of ps) → AreShownPieces (map (compound_piece skin style) ps)
 pieces_shown skin style [] h = tt
 pieces_shown skin style (p ∷ ps) h = (record { utf8 = h.0.utf8; shown = h.0.shown }, pieces_shown skin style ps h.1)
 
@@ -33,16 +33,16 @@ utf8_of (p ∷ ps) h = (h.0.utf8, utf8_of ps h.1)
 
 -- ---- the first lines of joined ones
 
-one_less : (skin : MadSkin) (drawn : ℕ) (lines : List FmtLine) (n : ℕ) → AreDrawable skin drawn (take (suc n) lines) → AreDrawable skin drawn (take n lines)
+one_less : (skin : RowSkin) (drawn : ℕ) (lines : List FmtLine) (n : ℕ) → AreDrawable skin drawn (take (suc n) lines) → AreDrawable skin drawn (take n lines)
 one_less skin drawn lines zero h = tt
 one_less skin drawn [] (suc n) h = tt
 one_less skin drawn (l ∷ ls) (suc n) h = (h.0, one_less skin drawn ls n h.1)
 
-first_joined : (skin : MadSkin) (drawn : ℕ) (own others : List FmtLine) (n : ℕ) → AreDrawable skin drawn own → AreDrawable skin drawn (take n others) → AreDrawable skin drawn (take n (own ++ others))
+first_joined : (skin : RowSkin) (drawn : ℕ) (own others : List FmtLine) (n : ℕ) → AreDrawable skin drawn own → AreDrawable skin drawn (take n others) → AreDrawable skin drawn (take n (own ++ others))
 first_joined skin drawn own others zero h k = tt
 first_joined skin drawn [] others (suc n) h k = k
 first_joined skin drawn (l ∷ own) others (suc n) h k = (h.0, first_joined skin drawn own others n h.1 (one_less skin drawn others n k))
 
-pub some_joined : (skin : MadSkin) (drawn : ℕ) (own others : List FmtLine) (n : ℕ) → 0 < length own → AreDrawable skin drawn own → AreDrawable skin drawn (take n others) → AreDrawable skin drawn (take (suc n) (own ++ others))
+pub some_joined : (skin : RowSkin) (drawn : ℕ) (own others : List FmtLine) (n : ℕ) → 0 < length own → AreDrawable skin drawn own → AreDrawable skin drawn (take n others) → AreDrawable skin drawn (take (suc n) (own ++ others))
 some_joined skin drawn [] others n some h k = absurd (omega (arith, some))
 some_joined skin drawn (l ∷ own) others n some h k = (h.0, first_joined skin drawn own others n h.1 k)

@@ -18,16 +18,16 @@ use Rattle.mad_blocks.specs.Layouts.{IsLayoutAt, IsMarkdownLayout}
 use Rattle.mad_layout.specs.Premises.{KeepsPremises}
 use Rattle.mad_layout.specs.Shown.{lines_shown, AreShownIn}
 use Rattle.mad_blocks.specs.TextParts.{LineInPart, text_parts, lines_in_parts}
-use Rattle.mad_layout.specs.declared.skin.MadSkin.{MadSkin}
+use Rattle.mad_rows.specs.declared.row_skin.RowSkin.{RowSkin}
 use Rattle.mad_format.specs.declared.line.FmtLine.{FmtLine}
 use Rattle.mad_layout.specs.declared.fmt_text.FmtText.{FmtText}
 use Rattle.mad_layout.proofs.DrawableLemmas.{layout_is_drawable}
 use Rattle.mad_blocks.proofs.WrapKinds.{wrapped_at}
 use Rattle.mad_layout.proofs.ReadParts.{in_parts_both}
-use Rattle.mad_layout.specs.Styles.{line_rules}
+use Rattle.mad_rows.specs.Styles.{line_rules}
 
 -- a text that was laid out for an area
-pub area_layout : {E : Type 0} (r : Result FmtText E) (skin : MadSkin) (markdown : List ℕ) (area : Area) (width : ℕ) → width ≡ area.width - 1
+pub area_layout : {E : Type 0} (r : Result FmtText E) (skin : RowSkin) (markdown : List ℕ) (area : Area) (width : ℕ) → width ≡ area.width - 1
     → IfOk r (λ laid_out. IsMarkdownLayout (line_rules skin) (Some width) markdown laid_out.lines.items)
     → IfOk r (λ laid_out. IsAreaLayout skin markdown area laid_out.lines.items)
 area_layout {E} (Ok laid_out) skin markdown area width e h = record {
@@ -38,19 +38,19 @@ area_layout {E} (Ok laid_out) skin markdown area width e h = record {
 area_layout {E} (Err x) skin markdown area width e h = tt
 
 -- the first lines of some are first lines of all
-first_keep : (skin : MadSkin) (width n : ℕ) (front rest : List LineInPart) → KeepsPremises skin width (take n (front ++ rest)) → KeepsPremises skin width (take n front)
+first_keep : (skin : RowSkin) (width n : ℕ) (front rest : List LineInPart) → KeepsPremises skin width (take n (front ++ rest)) → KeepsPremises skin width (take n front)
 first_keep skin width zero front rest h = tt
 first_keep skin width (suc n) [] rest h = tt
 first_keep skin width (suc n) (c ∷ cs) rest h = (h.0, first_keep skin width n cs rest h.1)
 
-pub front_keeps : (skin : MadSkin) (width n : ℕ) (text front rest : List LineContent) → text_parts text ≡ text_parts front ++ text_parts rest → KeepsPremises skin width (take n (lines_in_parts text))
+pub front_keeps : (skin : RowSkin) (width n : ℕ) (text front rest : List LineContent) → text_parts text ≡ text_parts front ++ text_parts rest → KeepsPremises skin width (take n (lines_in_parts text))
     → KeepsPremises skin width (take n (lines_in_parts front))
 front_keeps skin width n text front rest parts h =
     first_keep skin width n (lines_in_parts front) (lines_in_parts rest)
     (subst (λ (xs : List LineInPart). KeepsPremises skin width (take n xs)) (in_parts_both text front rest parts) h)
 
 -- what an area shows of such a text
-pub text_shown : {T E : Type 0} (r : Result T E) (skin own : MadSkin) (markdown : List ℕ) (area : Area) (lines : List FmtLine) (old new : Trace) → IsWithinLimits area → own ≡ skin → IsAreaFront skin markdown area lines
+pub text_shown : {T E : Type 0} (r : Result T E) (skin own : RowSkin) (markdown : List ℕ) (area : Area) (lines : List FmtLine) (old new : Trace) → IsWithinLimits area → own ≡ skin → IsAreaFront skin markdown area lines
     → OnOk r (AreDrawable own area.width (lines_shown lines area 0) → TookWith old new (AreShownIn own lines area 0))
     → OnOk r (4 ≤ area.width → ShowsText skin markdown area old new)
 text_shown {T} {E} (Ok x) skin own markdown area lines old new limits same laid_out h =
@@ -59,20 +59,20 @@ text_shown {T} {E} (Ok x) skin own markdown area lines old new limits same laid_
       laid_out = laid_out;
       shown = λ premises.
           let front : IsFrontLayout (line_rules skin) (Some (area.width - 1)) area.height laid_out.text lines = laid_out.layout in
-          subst (λ (s : MadSkin). AreDrawable s area.width (lines_shown lines area 0) → TookWith old new (AreShownIn s lines area 0)) same h
+          subst (λ (s : RowSkin). AreDrawable s area.width (lines_shown lines area 0) → TookWith old new (AreShownIn s lines area 0)) same h
           (layout_is_drawable skin (area.width - 1) area.width area.height front.front lines (omega arith) (omega (arith, limits.columns)) (front_keeps skin (area.width - 1) area.height laid_out.text front.front front.rest front.parts premises) (wrapped_at (line_rules skin) (area.width - 1) front.front lines (omega arith) front.layout));
     }
 text_shown {T} {E} (Err x) skin own markdown area lines old new limits same laid_out h = tt
 
 -- the flush failed behind a text
-pub area_not_flushed : {T U : Type 0} (r : Result T Error) (done : U) (e : io.Error) (skin : MadSkin) (markdown : List ℕ) (area : Area) (old mid new : Trace) → WritesInArea {T = U} skin markdown area old (Ok done) mid → new ≡ failed mid
+pub area_not_flushed : {T U : Type 0} (r : Result T Error) (done : U) (e : io.Error) (skin : RowSkin) (markdown : List ℕ) (area : Area) (old mid new : Trace) → WritesInArea {T = U} skin markdown area old (Ok done) mid → new ≡ failed mid
     → IsErrAnd r (λ x. x ≡ IO e) → AndFlushes {T = T} (WritesInArea {T = T} skin markdown area) old r new
 area_not_flushed {T} {U} r done e skin markdown area old mid new (inl h) fault is =
     flushing_refused {T = T} (WritesInArea {T = T} skin markdown area) r (IO e) old new is (inl (h.0, h.1, flush_failed old mid new _ h.2 fault))
 area_not_flushed {T} {U} r done e skin markdown area old mid new (inr h) fault is = absurd (cc)
 
 -- a flush takes nothing from what a text shows
-pub shown_flushed : (skin : MadSkin) (markdown : List ℕ) (area : Area) (old mid new : Trace) → ShowsText skin markdown area old mid → new ≡ flushed mid → ShowsText skin markdown area old new
+pub shown_flushed : (skin : RowSkin) (markdown : List ℕ) (area : Area) (old mid new : Trace) → ShowsText skin markdown area old mid → new ≡ flushed mid → ShowsText skin markdown area old new
 shown_flushed skin markdown area old mid new h e = record {
   lines = h.lines;
   laid_out = h.laid_out;

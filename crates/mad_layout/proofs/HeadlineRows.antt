@@ -20,9 +20,9 @@ use Rattle.mad_blocks.specs.Fronts.{IsFrontLayout}
 use Rattle.mad_layout.specs.Headline.{cell_chars, AreShownAcross, ShowsFirstRows}
 use Rattle.mad_layout.specs.InArea.{ShowsText}
 use Rattle.mad_blocks.proofs.WideLayouts.{IsLayout}
-use Rattle.mad_layout.specs.Rows.{row_pieces}
+use Rattle.mad_rows.specs.Rows.{row_pieces}
 use Rattle.mad_layout.specs.Shown.{AreShownIn}
-use Rattle.mad_layout.specs.declared.skin.MadSkin.{MadSkin}
+use Rattle.mad_rows.specs.declared.row_skin.RowSkin.{RowSkin}
 use Rattle.mad_format.specs.declared.line.FmtLine.{FmtLine}
 use Rattle.mad_layout.proofs.ReadParts.{in_parts_both}
 use Rattle.mad_layout.proofs.HeadlineLemmas.{front_keeps}
@@ -30,7 +30,7 @@ use Rattle.mad_blocks.proofs.WrapKinds.{wrapped_at}
 use Rattle.mad_layout.proofs.RowChars.{char_of, line_chars, spaces_chars}
 use Rattle.mad_layout.proofs.RowsAcross.{across_exist}
 use Rattle.mad_layout.proofs.TextParts.{text_across}
-use Rattle.mad_layout.specs.Styles.{line_rules}
+use Rattle.mad_rows.specs.Styles.{line_rules}
 
 -- ---- the characters of cells don't depend on pens
 
@@ -69,7 +69,7 @@ cells_same cs i =
 
 -- ---- the rows of the area
 
-row_at : (skin : MadSkin) (width : ℕ) (lines : List FmtLine) (j : ℕ) → map char_of (penned_chars (row_pieces skin width (slice_get lines j))) ≡ unwrap_or (slice_get (map (line_chars skin width) lines) j) (replicate width 32)
+row_at : (skin : RowSkin) (width : ℕ) (lines : List FmtLine) (j : ℕ) → map char_of (penned_chars (row_pieces skin width (slice_get lines j))) ≡ unwrap_or (slice_get (map (line_chars skin width) lines) j) (replicate width 32)
 row_at skin width [] j = spaces_chars skin.paragraph.compound_style width
 row_at skin width (l ∷ ls) zero = refl
 row_at skin width (l ∷ ls) (suc j) = row_at skin width ls j
@@ -82,7 +82,7 @@ same_at (suc n) (x ∷ xs) [] e j inside = absurd (cc)
 same_at (suc n) (x ∷ xs) (y ∷ ys) e zero inside = let head : x ≡ y = cc in ap Some head
 same_at (suc n) (x ∷ xs) (y ∷ ys) e (suc j) inside = let tail : take n xs ≡ take n ys = cc in same_at n xs ys tail j (omega (arith, inside))
 
-pub shown_across : (skin : MadSkin) (lines : List FmtLine) (area : Area) (across : List (List ℕ)) → take area.height across ≡ take area.height (map (line_chars skin area.width) lines)
+pub shown_across : (skin : RowSkin) (lines : List FmtLine) (area : Area) (across : List (List ℕ)) → take area.height across ≡ take area.height (map (line_chars skin area.width) lines)
     → (bytes : List ℕ) → AreShownIn skin lines area 0 bytes → AreShownAcross across area bytes
 shown_across skin lines area across same bytes h = λ g on_screen.
     let done = h g on_screen in (
@@ -121,13 +121,13 @@ as_long (suc n) xs [] e h = absurd (omega (arith, h))
 as_long (suc n) [] (y ∷ ys) e h = absurd (cc)
 as_long (suc n) (x ∷ xs) (y ∷ ys) e h = let tail : take n xs ≡ take n ys = cc in let more : n ≤ length xs = as_long n xs ys tail (omega (arith, h)) in omega (arith, more)
 
-across_both : (skin : MadSkin) (area : Area) (xs ys : List LineInPart) (own others : List (List ℕ)) → AreAcross skin area xs own → AreAcross skin area ys others → AreAcross skin area (xs ++ ys) (own ++ others)
+across_both : (skin : RowSkin) (area : Area) (xs ys : List LineInPart) (own others : List (List ℕ)) → AreAcross skin area xs own → AreAcross skin area ys others → AreAcross skin area (xs ++ ys) (own ++ others)
 across_both skin area [] ys own others h more = subst (λ (l : List (List ℕ)). AreAcross skin area ys (l ++ others)) (sym h) more
 across_both skin area (x ∷ xs) ys own others (first, rest, joins, here, h) more =
     (first, rest ++ others, ap (λ (l : List (List ℕ)). l ++ others) joins ∙ append_assoc first rest others, here, across_both skin area xs ys rest others h more)
 
 -- The rows of a text's first lines are the first rows of the whole text, if they are enough: the rest has rows.
-pub front_is_enough : (skin : MadSkin) (area : Area) (xs ys : List LineInPart) (own lines : List (List ℕ)) → AreAcross skin area xs own → take area.height own ≡ take area.height lines → (ys ≡ []) ⊎ (area.height ≤ length lines)
+pub front_is_enough : (skin : RowSkin) (area : Area) (xs ys : List LineInPart) (own lines : List (List ℕ)) → AreAcross skin area xs own → take area.height own ≡ take area.height lines → (ys ≡ []) ⊎ (area.height ≤ length lines)
     → (across : List (List ℕ)) × AreAcross skin area (xs ++ ys) across × (take area.height across ≡ take area.height lines)
 front_is_enough skin area xs ys own lines h same (inl none) =
     (own, subst (λ (l : List LineInPart). AreAcross skin area l own) (sym (ap (λ (l : List LineInPart). xs ++ l) none ∙ append-nil xs)) h, same)
@@ -135,15 +135,15 @@ front_is_enough skin area xs ys own lines h same (inr some) =
     let more = across_exist skin area ys in
     (own ++ more.0, across_both skin area xs ys own more.0 h more.1, enough_rows area.height own more.0 (as_long area.height own lines same some) ∙ same)
 
-rest_or_enough : (skin : MadSkin) (width : ℕ) (height : ℕ) (rest : List LineContent) (lines : List FmtLine) → (rest ≡ []) ⊎ (height ≤ length lines) → (lines_in_parts rest ≡ []) ⊎ (height ≤ length (map (line_chars skin width) lines))
+rest_or_enough : (skin : RowSkin) (width : ℕ) (height : ℕ) (rest : List LineContent) (lines : List FmtLine) → (rest ≡ []) ⊎ (height ≤ length lines) → (lines_in_parts rest ≡ []) ⊎ (height ≤ length (map (line_chars skin width) lines))
 rest_or_enough skin width height rest lines (inl none) = inl (ap lines_in_parts none)
 rest_or_enough skin width height rest lines (inr some) = inr (omega (arith, some, length-map lines (line_chars skin width)))
 
 -- the text is read as lines, and the area shows the first of their rows
-abbrev ShowsReading : MadSkin → List ℕ → Area → Trace → Trace → Type 0
+abbrev ShowsReading : RowSkin → List ℕ → Area → Trace → Trace → Type 0
 ShowsReading skin markdown area old new = (lines : List LineContent) × IsRead (unread_text false markdown) lines × ShowsFirstRows skin lines area old new
 
-headline : (skin : MadSkin) (markdown : List ℕ) (area : Area) (old new : Trace) → IsWithinLimits area → 4 ≤ area.width → ShowsText skin markdown area old new → ShowsReading skin markdown area old new
+headline : (skin : RowSkin) (markdown : List ℕ) (area : Area) (old new : Trace) → IsWithinLimits area → 4 ≤ area.width → ShowsText skin markdown area old new → ShowsReading skin markdown area old new
 headline skin markdown area old new limits wide h =
     let text : List LineContent = h.laid_out.text in
     let width : ℕ = area.width - 1 in
@@ -165,14 +165,14 @@ headline skin markdown area old new limits wide h =
       },
     )
 
-pub headline_shown : {T E : Type 0} (r : Result T E) (skin : MadSkin) (markdown : List ℕ) (area : Area) (old new : Trace) → IsWithinLimits area
+pub headline_shown : {T E : Type 0} (r : Result T E) (skin : RowSkin) (markdown : List ℕ) (area : Area) (old new : Trace) → IsWithinLimits area
     → OnOk r (4 ≤ area.width → ShowsText skin markdown area old new) → OnOk r (4 ≤ area.width → ShowsReading skin markdown area old new)
 headline_shown {T} {E} (Ok x) skin markdown area old new limits h = λ wide. headline skin markdown area old new limits wide (h wide)
 headline_shown {T} {E} (Err e) skin markdown area old new limits h = tt
 
 -- a flush takes nothing from it
-pub headline_flushed : (skin : MadSkin) (lines : List LineContent) (area : Area) (old mid new : Trace) → ShowsFirstRows skin lines area old mid → new ≡ flushed mid → ShowsFirstRows skin lines area old new
+pub headline_flushed : (skin : RowSkin) (lines : List LineContent) (area : Area) (old mid new : Trace) → ShowsFirstRows skin lines area old mid → new ≡ flushed mid → ShowsFirstRows skin lines area old new
 headline_flushed skin lines area old mid new h e = record { shown = λ premises. let rows = h.shown premises in (rows.0, rows.1, took_flushed old mid new (AreShownAcross rows.0 area) rows.2 e) }
 
-pub reading_flushed : (skin : MadSkin) (markdown : List ℕ) (area : Area) (old mid new : Trace) → ShowsReading skin markdown area old mid → new ≡ flushed mid → ShowsReading skin markdown area old new
+pub reading_flushed : (skin : RowSkin) (markdown : List ℕ) (area : Area) (old mid new : Trace) → ShowsReading skin markdown area old mid → new ≡ flushed mid → ShowsReading skin markdown area old new
 reading_flushed skin markdown area old mid new h e = (h.0, h.1, headline_flushed skin h.0 area old mid new h.2 e)

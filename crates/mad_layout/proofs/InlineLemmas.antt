@@ -14,15 +14,15 @@ use Rattle.mad_style.specs.declared.line_styles.LineStyle.{LineStyle}
 use Rattle.mad_style.specs.declared.kinds.CompositeKind.TheVariants.{Paragraph}
 use Rattle.mad_style.specs.Kinds.{kind_of}
 use Rattle.mad_style.specs.LineStyles.{margins_at}
-use Rattle.mad_layout.specs.Inlines.{IsInlineOf, IsDisplayedAsWritten, WritesInline, composite_bytes}
+use Rattle.mad_layout.specs.Inlines.{IsInlineOf, IsDisplayedAsWritten, WritesInline}
 use Rattle.mad_draw.specs.Pieces.{RowPiece, pieces_bytes, spaces}
-use Rattle.mad_layout.specs.Rows.{align_in, place_of, left_of_place, right_of_place, inner_blanks, margins_of, prefix_pieces, compound_piece, composite_pieces, free_pieces}
-use Rattle.mad_layout.specs.Styles.{line_style}
-use Rattle.mad_layout.specs.declared.skin.MadSkin.{MadSkin}
+use Rattle.mad_rows.specs.Rows.{align_in, place_of, left_of_place, right_of_place, inner_blanks, margins_of, prefix_pieces, compound_piece, composite_pieces, free_pieces, composite_bytes}
+use Rattle.mad_rows.specs.Styles.{line_style}
+use Rattle.mad_rows.specs.declared.row_skin.RowSkin.{RowSkin}
 use Rattle.mad_format.specs.declared.composite.FmtComposite.{FmtComposite}
-use Rattle.mad_layout.proofs.PieceLemmas.{pieces_of_runs}
+use Rattle.mad_rows.proofs.PieceLemmas.{pieces_of_runs}
 
-free_is : (skin : MadSkin) (l : FmtComposite) → l.spacing ≡ None → l.margins ≡ None → composite_pieces skin None (margins_of skin None l) false l ≡ free_pieces skin l.kind (map run_of l.compounds.items)
+free_is : (skin : RowSkin) (l : FmtComposite) → l.spacing ≡ None → l.margins ≡ None → composite_pieces skin None (margins_of skin None l) false l ≡ free_pieces skin l.kind (map run_of l.compounds.items)
 free_is skin l spacing margins =
     let style : LineStyle = line_style skin l.kind in
     let blank : CompoundStyle = skin.paragraph.compound_style in
@@ -36,13 +36,13 @@ free_is skin l spacing margins =
     ∙ ap (λ n. spaces blank style.left_margin ++ (prefix_pieces skin l.kind ++ (text ++ (spaces style.compound_style n ++ [])))) inner_right
     ∙ ap (λ ps. spaces blank style.left_margin ++ (prefix_pieces skin l.kind ++ ps)) (append-nil text ∙ pieces_of_runs skin style l.compounds.items)
 
-pub displayed : (skin : MadSkin) (src : List ℕ) (l : FmtComposite) → IsInlineOf skin src l → IsDisplayedAsWritten skin src l
+pub displayed : (skin : RowSkin) (src : List ℕ) (l : FmtComposite) → IsInlineOf skin src l → IsDisplayedAsWritten skin src l
 displayed skin src l h items reading =
     ap pieces_bytes (free_is skin l h.spacing h.margins ∙ ap (λ kind. free_pieces skin kind (map run_of l.compounds.items)) h.kind
     ∙ ap (free_pieces skin Paragraph) (h.text.1.each items reading))
 
 -- a paragraph that is a line's reading is drawn as the line
-pub written : {T : Type 0} (skin : MadSkin) (src : List ℕ) (read : Composite) (old : Trace) (r : Result T Error) (new : Trace) → read.style ≡ Plain → IsReadInline src read.compounds.items
+pub written : {T : Type 0} (skin : RowSkin) (src : List ℕ) (read : Composite) (old : Trace) (r : Result T Error) (new : Trace) → read.style ≡ Plain → IsReadInline src read.compounds.items
     → Draws old (composite_bytes skin read) r new → WritesInline skin src old r new
 written skin src read old r new style reads drawn =
     let bytes = ap (λ s. pieces_bytes (free_pieces skin (kind_of s) (map run_of read.compounds.items))) style ∙ ap (λ runs. pieces_bytes (free_pieces skin Paragraph runs)) (reads.1.each reads.1.reading reads.1.reads) in

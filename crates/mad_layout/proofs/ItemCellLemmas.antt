@@ -20,7 +20,7 @@ use Rattle.mad_widths.specs.ColumnWidths.{needs_of, column_widths}
 use Rattle.mad_fit.specs.Columns.{width_of}
 use Rattle.mad_layout.specs.ItemCells.{item_in_a_cell, hanging_skin, ItemInACellKeepsPremises}
 use Rattle.mad_layout.specs.Premises.{IsColumnChar, AreRuleChars, IsPlainText, AreBordersShown, ArePlainIn, KeepsPremises, runs_text}
-use Rattle.mad_layout.specs.Rows.{rule_chars}
+use Rattle.mad_rows.specs.Rows.{rule_chars}
 use Rattle.mad_layout.specs.Sources.{TakesColumns}
 use Rattle.mad_layout.specs.TableColumns.{cell_columns, kept_widths}
 use Rattle.mad_blocks.specs.TextParts.{lines_in_parts}

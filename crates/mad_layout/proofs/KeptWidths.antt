@@ -17,22 +17,22 @@ use Rattle.mad_format.specs.Lines.{AreCompositesRead, IsLineRead, is_table_line}
 use Rattle.mad_layout.specs.Premises.{runs_text}
 use Rattle.mad_blocks.specs.Tables.{below, rows_among, first_lengths, lengths_in, AreKeptWidths, columns_count, columns_in}
 use Rattle.mad_format.specs.Wraps.{text_of}
-use Rattle.mad_layout.specs.declared.skin.MadSkin.{MadSkin}
+use Rattle.mad_rows.specs.declared.row_skin.RowSkin.{RowSkin}
 use Rattle.mad_format.specs.declared.composite.FmtComposite.{FmtComposite}
 use Rattle.mad_format.specs.declared.line.FmtLine.{FmtLine}
 use Rattle.mad_format.specs.declared.line.FmtLine.TheVariants.{Normal, TableRow, TableRule, HorizontalRule}
 use Rattle.mad_layout.proofs.DrawnParts.{runs_are}
 use Rattle.mad_blocks.proofs.LayoutJoins.{by_bool}
-use Rattle.mad_layout.specs.Styles.{line_rules}
+use Rattle.mad_rows.specs.Styles.{line_rules}
 
 -- ---- what was read of a table
 
-pub record IsTableLineRead (skin : MadSkin) (c : LineContent) (l : FmtLine) : Type 0 where
+pub record IsTableLineRead (skin : RowSkin) (c : LineContent) (l : FmtLine) : Type 0 where
   pub table : is_table c ≡ true
   pub line : is_table_line l ≡ true
   pub read : IsLineRead (line_rules skin) c l
 
-abbrev pub AreTableRead : MadSkin → List LineContent → List FmtLine → Type 0
+abbrev pub AreTableRead : RowSkin → List LineContent → List FmtLine → Type 0
 AreTableRead skin [] [] = Unit {0}
 AreTableRead skin [] (l ∷ ls) = ⊥
 AreTableRead skin (c ∷ cs) [] = ⊥
@@ -40,13 +40,13 @@ AreTableRead skin (c ∷ cs) (l ∷ ls) = IsTableLineRead skin c l × AreTableRe
 
 -- ---- the widths
 
-counts_read : (skin : MadSkin) (said : List StyledRuns) (cells : List FmtComposite) → AreCompositesRead (line_rules skin) said cells → length cells ≡ length said
+counts_read : (skin : RowSkin) (said : List StyledRuns) (cells : List FmtComposite) → AreCompositesRead (line_rules skin) said cells → length cells ≡ length said
 counts_read skin [] [] h = refl
 counts_read skin [] (l ∷ ls) h = absurd h
 counts_read skin (s ∷ ss) [] h = absurd h
 counts_read skin (s ∷ ss) (l ∷ ls) h = let rest : length ls ≡ length ss = counts_read skin ss ls h.1 in omega (arith, rest)
 
-lengths_read : (skin : MadSkin) (said : List StyledRuns) (cells : List FmtComposite) → AreCompositesRead (line_rules skin) said cells → map (λ (l : FmtComposite). l.visible_length) cells ≡ map (cell_columns skin) said
+lengths_read : (skin : RowSkin) (said : List StyledRuns) (cells : List FmtComposite) → AreCompositesRead (line_rules skin) said cells → map (λ (l : FmtComposite). l.visible_length) cells ≡ map (cell_columns skin) said
 lengths_read skin [] [] h = refl
 lengths_read skin [] (l ∷ ls) h = absurd h
 lengths_read skin (s ∷ ss) [] h = absurd h
@@ -56,7 +56,7 @@ lengths_read skin (s ∷ ss) (l ∷ ls) h =
     h.0.measured ∙ ap (λ (k : CompositeKind). capped (indent skin.list_items_indentation_mode k + width_of (text_of l))) h.0.kind ∙ ap (λ (t : List FlaggedChar). capped (indent skin.list_items_indentation_mode (kind_of s.style) + width_of t)) text in
     ap (λ n. n ∷ map (λ (l : FmtComposite). l.visible_length) ls) own ∙ ap (λ ns. cell_columns skin s ∷ ns) (lengths_read skin ss ls h.1)
 
-line_count : (skin : MadSkin) (c : LineContent) (l : FmtLine) → IsLineRead (line_rules skin) c l → columns_in l ≡ count_in c
+line_count : (skin : RowSkin) (c : LineContent) (l : FmtLine) → IsLineRead (line_rules skin) c l → columns_in l ≡ count_in c
 line_count skin (normal said) (Normal l) read = refl
 line_count skin (normal said) (TableRow row) read = absurd read
 line_count skin (normal said) (TableRule rule) read = absurd read
@@ -74,7 +74,7 @@ line_count skin horizontal_rule (TableRow row) read = absurd read
 line_count skin horizontal_rule (TableRule rule) read = absurd read
 line_count skin horizontal_rule HorizontalRule read = refl
 
-pub count_read : (skin : MadSkin) (cs : List LineContent) (ls : List FmtLine) → AreTableRead skin cs ls → columns_count ls ≡ columns_among cs
+pub count_read : (skin : RowSkin) (cs : List LineContent) (ls : List FmtLine) → AreTableRead skin cs ls → columns_count ls ≡ columns_among cs
 count_read skin [] [] h = refl
 count_read skin [] (l ∷ ls) h = absurd h
 count_read skin (c ∷ cs) [] h = absurd h
@@ -86,7 +86,7 @@ count_read skin (c ∷ cs) (l ∷ ls) h =
 abbrev row_lengths : List (List FmtComposite) → List (List ℕ)
 row_lengths rows = map (λ cells. map (λ (l : FmtComposite). l.visible_length) cells) rows
 
-cells_read : (skin : MadSkin) (cs : List LineContent) (ls : List FmtLine) → AreTableRead skin cs ls → row_lengths (rows_among ls) ≡ cells_among skin cs
+cells_read : (skin : RowSkin) (cs : List LineContent) (ls : List FmtLine) → AreTableRead skin cs ls → row_lengths (rows_among ls) ≡ cells_among skin cs
 cells_read skin [] [] h = refl
 cells_read skin [] (l ∷ ls) h = absurd h
 cells_read skin (c ∷ cs) [] h = absurd h
@@ -123,7 +123,7 @@ lengths_are zero rows = refl
 lengths_are (suc n) rows =
     ap (λ (ns : List ℕ). ns ∷ lengths_in n (map below rows)) (firsts_are rows) ∙ ap (λ (rest : List (List ℕ)). flat_map (take 1) (row_lengths rows) ∷ rest) (lengths_are n (map below rows) ∙ ap (down n) (belows_are rows))
 
-pub widths_kept : (skin : MadSkin) (width : ℕ) (cs : List LineContent) (ls : List FmtLine) (ws : List ℕ) → AreTableRead skin cs ls → AreKeptWidths (columns_count ls) width ls ws → ws ≡ kept_widths skin width cs
+pub widths_kept : (skin : RowSkin) (width : ℕ) (cs : List LineContent) (ls : List FmtLine) (ws : List ℕ) → AreTableRead skin cs ls → AreKeptWidths (columns_count ls) width ls ws → ws ≡ kept_widths skin width cs
 widths_kept skin width cs ls ws reads kept =
     let n : ℕ = columns_among cs in
     let count : columns_count ls ≡ n = count_read skin cs ls reads in

@@ -12,9 +12,7 @@ pub mod InlineLemmas
 pub mod ItemCellLemmas
 pub mod KeptWidths
 pub mod KindLemmas
-pub mod KnownLemmas
 pub mod LeastSizes
-pub mod PieceLemmas
 pub mod PlainLineLemmas
 pub mod PrefixLemmas
 pub mod ReadParts

@@ -32,19 +32,18 @@ use Rattle.mad_format.specs.Lines.{IsLineRead}
 use Rattle.mad_blocks.specs.Parts.{wrap_width, IsLineAt}
 use Rattle.mad_blocks.specs.PartCursors.{LaidPart}
 use Rattle.mad_layout.specs.PlainLines.{IsAlone, IsPlainWidth, HandsOnPlain}
-use Rattle.mad_layout.specs.Rows.{compound_piece, left_of_place}
-use Rattle.mad_layout.specs.Styles.{line_rules, compound_style, ellipsis_bytes}
-use Rattle.mad_layout.specs.Texts.{line_bytes, text_bytes}
+use Rattle.mad_rows.specs.Rows.{compound_piece, left_of_place, line_bytes, text_bytes}
+use Rattle.mad_rows.specs.Styles.{line_rules, compound_style, ellipsis_bytes}
 use Rattle.mad_format.specs.WrappedLines.{line_with}
 use Rattle.mad_layout.specs.WrittenParts.{HandsOn, WritesPartsOf}
-use Rattle.mad_layout.specs.declared.skin.MadSkin.{MadSkin}
+use Rattle.mad_rows.specs.declared.row_skin.RowSkin.{RowSkin}
 use Rattle.mad_format.specs.declared.composite.FmtComposite.{FmtComposite}
 use Rattle.mad_format.specs.declared.line.FmtLine.{FmtLine}
 use Rattle.mad_format.specs.declared.line.FmtLine.TheVariants.{Normal}
 use Rattle.mad_layout.proofs.FlaggedTokens.{if_false}
 use Rattle.mad_blocks.proofs.LayoutJoins.{apart, apart_front, layouts_joined}
 use Rattle.mad_blocks.proofs.PartCursorLemmas.{LaidSoFar, apart_after, laid_more, single_apart}
-use Rattle.mad_layout.proofs.PieceLemmas.{bare_piece}
+use Rattle.mad_rows.proofs.PieceLemmas.{bare_piece}
 use Rattle.mad_layout.proofs.WrittenLemmas.{hands_refused, WrittenSoFar, written_more, written_refused, no_whole, refused_after}
 
 -- ---- the line that a plain text is
@@ -90,7 +89,7 @@ plain_columns bs utf8 h =
 
 -- ---- its layout
 
-read_plain : (skin : MadSkin) (v : Vec FmtLine Global) (bs : List ℕ) (text : Bor (List ℕ)) → text.now ≡ bs → IsUtf8 bs → AllPlain bs → length bs < 2 ^ 64 → IsLineRead (line_rules skin) (plain_line bs) (Normal (source v bs text))
+read_plain : (skin : RowSkin) (v : Vec FmtLine Global) (bs : List ℕ) (text : Bor (List ℕ)) → text.now ≡ bs → IsUtf8 bs → AllPlain bs → length bs < 2 ^ 64 → IsLineRead (line_rules skin) (plain_line bs) (Normal (source v bs text))
 read_plain skin v bs text is utf8 h range = record {
   kind = refl;
   text = holding_says v bs text is;
@@ -102,7 +101,7 @@ read_plain skin v bs text is utf8 h range = record {
 both : (m : ℕ × ℕ) → m.0 ≡ 0 → m.1 ≡ 0 → m ≡ (0, 0)
 both (a, b) h k = ap (λ (n : ℕ). (n, b)) h ∙ ap (λ (n : ℕ). (0, n)) k
 
-stays_plain : (skin : MadSkin) (width : Option ℕ) (most : ℕ) (v : Vec FmtLine Global) (bs : List ℕ) (text : Bor (List ℕ)) → IsPlainWidth skin width most → length bs ≤ most
+stays_plain : (skin : RowSkin) (width : Option ℕ) (most : ℕ) (v : Vec FmtLine Global) (bs : List ℕ) (text : Bor (List ℕ)) → IsPlainWidth skin width most → length bs ≤ most
     → IsLineAt IsCompositeWrap (line_rules skin) (wrap_width width) (Normal (source v bs text)) (made v bs text ∷ [])
 stays_plain skin width most v bs text h fits =
     let left = h.left_margin in
@@ -111,7 +110,7 @@ stays_plain skin width most v bs text h fits =
     subst (λ (w : Option ℕ). IsLineAt IsCompositeWrap (line_rules skin) w (Normal (source v bs text)) (made v bs text ∷ [])) (sym h.wraps)
     (inl (omega (arith, fits, left, right), ap (λ (m : ℕ × ℕ). line_with m (source v bs text) ∷ []) (sym margins)))
 
-pub plain_layout : (skin : MadSkin) (width : Option ℕ) (most : ℕ) (v : Vec FmtLine Global) (bs : List ℕ) (text : Bor (List ℕ)) → IsPlainWidth skin width most → length bs ≤ most → text.now ≡ bs → IsUtf8 bs → AllPlain bs → length bs < 2 ^ 64
+pub plain_layout : (skin : RowSkin) (width : Option ℕ) (most : ℕ) (v : Vec FmtLine Global) (bs : List ℕ) (text : Bor (List ℕ)) → IsPlainWidth skin width most → length bs ≤ most → text.now ≡ bs → IsUtf8 bs → AllPlain bs → length bs < 2 ^ 64
     → IsLayoutAt (line_rules skin) width (plain_line bs ∷ []) (made v bs text ∷ [])
 plain_layout skin width most v bs text h fits is utf8 all range = record {
   read = Normal (source v bs text) ∷ [];
@@ -121,7 +120,7 @@ plain_layout skin width most v bs text h fits is utf8 all range = record {
 
 -- ---- its bytes
 
-no_left : (skin : MadSkin) (width : Option ℕ) (n : ℕ) → ((rest : ℕ) → left_completion skin.paragraph.align rest ≡ 0) → left_of_place skin.paragraph.align n width ≡ 0
+no_left : (skin : RowSkin) (width : Option ℕ) (n : ℕ) → ((rest : ℕ) → left_completion skin.paragraph.align rest ≡ 0) → left_of_place skin.paragraph.align n width ≡ 0
 no_left skin None n h = refl
 no_left skin (Some outer) n h = h (outer - n)
 
@@ -133,7 +132,7 @@ other_text b bs text is h =
     let other : nat_eq b 226 ≡ false = grind (arith, nat_tests) in
     ap (λ t. bytes_eq t ellipsis_bytes) is ∙ and_not _ _ other
 
-text_piece : (skin : MadSkin) (v : Vec FmtLine Global) (bs : List ℕ) (text : Bor (List ℕ)) → IsPlain skin.paragraph.compound_style.object_style → text.now ≡ bs → AllPlain bs
+text_piece : (skin : RowSkin) (v : Vec FmtLine Global) (bs : List ℕ) (text : Bor (List ℕ)) → IsPlain skin.paragraph.compound_style.object_style → text.now ≡ bs → AllPlain bs
     → pieces_bytes (map (compound_piece skin skin.paragraph) (holding v bs text).items) ≡ bs
 text_piece skin v [] text plain is h = refl
 text_piece skin v (b ∷ bs) text plain is h =
@@ -141,7 +140,7 @@ text_piece skin v (b ∷ bs) text plain is h =
     let same : compound_style skin skin.paragraph (run_of p) ≡ skin.paragraph.compound_style = if_false _ _ _ (other_text b bs text.now is (h 0 (omega arith))) in
     append-nil _ ∙ sym (bare_piece skin skin.paragraph p plain same) ∙ is
 
-pub plain_bytes : (skin : MadSkin) (width : Option ℕ) (most : ℕ) (v : Vec FmtLine Global) (bs : List ℕ) (text : Bor (List ℕ)) → IsPlainWidth skin width most → text.now ≡ bs → AllPlain bs
+pub plain_bytes : (skin : RowSkin) (width : Option ℕ) (most : ℕ) (v : Vec FmtLine Global) (bs : List ℕ) (text : Bor (List ℕ)) → IsPlainWidth skin width most → text.now ≡ bs → AllPlain bs
     → line_bytes skin width (made v bs text) ≡ bs ++ 10 ∷ []
 plain_bytes skin width most v bs text h is all =
     let ps = map (compound_piece skin skin.paragraph) (holding v bs text).items in
@@ -156,7 +155,7 @@ abbrev pub AllAlone : List LineContent → Type 0
 AllAlone ls = AllByRecursion IsAlone ls
 
 -- The first lines are rows that went out or are kept.
-pub record PlainSoFar (skin : MadSkin) (width : Option ℕ) (before left : List LineContent) (bytes kept : List ℕ) (old new : Trace) : Type 0 where
+pub record PlainSoFar (skin : RowSkin) (width : Option ℕ) (before left : List LineContent) (bytes kept : List ℕ) (old new : Trace) : Type 0 where
   pub taken : List LineContent
   pub lines : List FmtLine
   pub sent : List ℕ
@@ -166,7 +165,7 @@ pub record PlainSoFar (skin : MadSkin) (width : Option ℕ) (before left : List 
   pub both : bytes ++ text_bytes skin width lines ≡ sent ++ kept
   pub went : new ≡ after old sent
 
-pub plain_start : (skin : MadSkin) (width : Option ℕ) (before : List LineContent) (bytes kept : List ℕ) (old new : Trace) → HandsOn {T = Unit {0}} old bytes (Ok (tt {0})) new kept → PlainSoFar skin width before before bytes kept old new
+pub plain_start : (skin : RowSkin) (width : Option ℕ) (before : List LineContent) (bytes kept : List ℕ) (old new : Trace) → HandsOn {T = Unit {0}} old bytes (Ok (tt {0})) new kept → PlainSoFar skin width before before bytes kept old new
 plain_start skin width before bytes kept old new (sent, both, went) = record {
   taken = [];
   lines = [];
@@ -183,7 +182,7 @@ alone_apart [] rest h = refl
 alone_apart (c ∷ []) rest h = single_apart c rest h.0.0 h.0.1
 alone_apart (c ∷ d ∷ cs) rest h = alone_apart (d ∷ cs) rest h.1
 
-pub plain_more : (skin : MadSkin) (width : Option ℕ) (before left later : List LineContent) (c : LineContent) (l : FmtLine) (bytes kept new_kept : List ℕ) (old new : Trace)
+pub plain_more : (skin : RowSkin) (width : Option ℕ) (before left later : List LineContent) (c : LineContent) (l : FmtLine) (bytes kept new_kept : List ℕ) (old new : Trace)
     → PlainSoFar skin width before left bytes kept old new → left ≡ c ∷ later → IsAlone c → IsLayoutAt (line_rules skin) width (c ∷ []) (l ∷ []) → new_kept ≡ kept ++ line_bytes skin width l
     → PlainSoFar skin width before later bytes new_kept old new
 plain_more skin width before left later c l bytes kept new_kept old new h is kind laid row =
@@ -201,7 +200,7 @@ plain_more skin width before left later c l bytes kept new_kept old new h is kin
       went = h.went;
     }
 
-pub plain_sent : (skin : MadSkin) (width : Option ℕ) (before left : List LineContent) (bytes kept new_kept : List ℕ) (old mid new : Trace)
+pub plain_sent : (skin : RowSkin) (width : Option ℕ) (before left : List LineContent) (bytes kept new_kept : List ℕ) (old mid new : Trace)
     → PlainSoFar skin width before left bytes kept old mid → HandsOn {T = Unit {0}} mid kept (Ok (tt {0})) new new_kept → PlainSoFar skin width before left bytes new_kept old new
 plain_sent skin width before left bytes kept new_kept old mid new h (sent, both, went) = record {
   taken = h.taken;
@@ -216,7 +215,7 @@ plain_sent skin width before left bytes kept new_kept old mid new h (sent, both,
 
 -- ---- exits
 
-pub plain_done : (skin : MadSkin) (width : Option ℕ) (before left : List LineContent) (bytes kept : List ℕ) (old new : Trace) → PlainSoFar skin width before left bytes kept old new
+pub plain_done : (skin : RowSkin) (width : Option ℕ) (before left : List LineContent) (bytes kept : List ℕ) (old new : Trace) → PlainSoFar skin width before left bytes kept old new
     → HandsOnPlain {T = Unit {0}} skin width before bytes old (Ok (tt {0})) new kept left
 plain_done skin width before left bytes kept old new h = record {
   taken = h.taken;
@@ -230,7 +229,7 @@ plain_done skin width before left bytes kept old new h = record {
 }
 
 -- the bytes that are kept were refused
-pub plain_refused : {T : Type 0} (skin : MadSkin) (width : Option ℕ) (before left rest : List LineContent) (bytes kept new_kept : List ℕ) (r : Result T Error) (e : Error) (old mid new : Trace) → PlainSoFar skin width before left bytes kept old mid
+pub plain_refused : {T : Type 0} (skin : RowSkin) (width : Option ℕ) (before left rest : List LineContent) (bytes kept new_kept : List ℕ) (r : Result T Error) (e : Error) (old mid new : Trace) → PlainSoFar skin width before left bytes kept old mid
     → IsErrAnd r (λ d. d ≡ e) → Refused mid kept e new → HandsOnPlain skin width before bytes old r new new_kept rest
 plain_refused {T} skin width before left rest bytes kept new_kept r e old mid new h is refused = record {
   taken = h.taken;
@@ -244,7 +243,7 @@ plain_refused {T} skin width before left rest bytes kept new_kept r e old mid ne
 }
 
 -- the lines in front were refused
-pub plain_none : {T : Type 0} (skin : MadSkin) (width : Option ℕ) (before rest : List LineContent) (bytes kept : List ℕ) (r : Result T Error) (e : Error) (old new : Trace) → IsErrAnd r (λ d. d ≡ e) → Refused old bytes e new
+pub plain_none : {T : Type 0} (skin : RowSkin) (width : Option ℕ) (before rest : List LineContent) (bytes kept : List ℕ) (r : Result T Error) (e : Error) (old new : Trace) → IsErrAnd r (λ d. d ≡ e) → Refused old bytes e new
     → HandsOnPlain skin width before bytes old r new kept rest
 plain_none {T} skin width before rest bytes kept r e old new is refused = record {
   taken = [];
@@ -262,7 +261,7 @@ pub row_put : (kept text mid new row : List ℕ) → mid ≡ kept ++ text → ne
 row_put kept text mid new row first last is = last ∙ ap (λ (t : List ℕ). t ++ 10 ∷ []) first ∙ append_assoc kept text (10 ∷ []) ∙ ap (λ (t : List ℕ). kept ++ t) (sym is)
 
 -- a plain line more, whose bytes and newline were put after those that are kept
-pub plain_put : (skin : MadSkin) (width : Option ℕ) (most : ℕ) (v : Vec FmtLine Global) (text : Bor (List ℕ)) (before left later : List LineContent) (bytes kept mid new_kept : List ℕ) (old new : Trace)
+pub plain_put : (skin : RowSkin) (width : Option ℕ) (most : ℕ) (v : Vec FmtLine Global) (text : Bor (List ℕ)) (before left later : List LineContent) (bytes kept mid new_kept : List ℕ) (old new : Trace)
     → IsPlainWidth skin width most → length text.now ≤ most → IsUtf8 text.now → AllPlain text.now → length text.now < 2 ^ 64
     → left ≡ plain_line text.now ∷ later → mid ≡ kept ++ text.now → new_kept ≡ mid ++ 10 ∷ []
     → PlainSoFar skin width before left bytes kept old new → PlainSoFar skin width before later bytes new_kept old new
@@ -278,7 +277,7 @@ apart_both front [] later whole alone = subst (λ (ls : List LineContent). apart
 apart_both front (c ∷ cs) later whole alone = apart_after front cs c later (alone_apart (c ∷ cs) later alone)
 
 -- lines that are parts by themselves follow
-laid_alone : (skin : MadSkin) (width : Option ℕ) (all left taken later : List LineContent) (done own : List FmtLine) → LaidSoFar (line_rules skin) width all left done → left ≡ taken ++ later → AllAlone taken → IsLayoutAt (line_rules skin) width taken own
+laid_alone : (skin : RowSkin) (width : Option ℕ) (all left taken later : List LineContent) (done own : List FmtLine) → LaidSoFar (line_rules skin) width all left done → left ≡ taken ++ later → AllAlone taken → IsLayoutAt (line_rules skin) width taken own
     → LaidSoFar (line_rules skin) width all later (done ++ own)
 laid_alone skin width all left taken later done own h is alone laid =
     let whole : apart h.front (taken ++ later) ≡ true = subst (λ (ls : List LineContent). apart h.front ls ≡ true) is h.whole in
@@ -290,19 +289,19 @@ laid_alone skin width all left taken later done own h is alone laid =
     }
 
 -- A part was laid out where no lines were, and it and the plain lines after it are more than what was laid out.
-plain_laid : {T : Type 0} (skin : MadSkin) (width : Option ℕ) (all left later rest : List LineContent) (done lines new : List FmtLine) (bytes kept : List ℕ) (r : Result T Error) (mid end : Trace) → LaidSoFar (line_rules skin) width all left done
+plain_laid : {T : Type 0} (skin : RowSkin) (width : Option ℕ) (all left later rest : List LineContent) (done lines new : List FmtLine) (bytes kept : List ℕ) (r : Result T Error) (mid end : Trace) → LaidSoFar (line_rules skin) width all left done
     → (p : LaidPart (line_rules skin) width left lines later new) → (q : HandsOnPlain skin width later bytes mid r end kept rest) → LaidSoFar (line_rules skin) width all q.later (done ++ (p.own ++ q.lines))
 plain_laid {T} skin width all left later rest done lines new bytes kept r mid end h p q =
     subst (LaidSoFar (line_rules skin) width all q.later) (append_assoc done p.own q.lines)
     (laid_alone skin width all later q.taken q.later (done ++ p.own) q.lines (laid_more (line_rules skin) width all left later done lines new h p) q.joins q.alone q.layout)
 
-rows_both : (skin : MadSkin) (width : Option ℕ) (kept : List ℕ) (lines new own more : List FmtLine) → new ≡ lines ++ own → lines ≡ [] → (kept ++ text_bytes skin width new) ++ text_bytes skin width more ≡ kept ++ text_bytes skin width (own ++ more)
+rows_both : (skin : RowSkin) (width : Option ℕ) (kept : List ℕ) (lines new own more : List FmtLine) → new ≡ lines ++ own → lines ≡ [] → (kept ++ text_bytes skin width new) ++ text_bytes skin width more ≡ kept ++ text_bytes skin width (own ++ more)
 rows_both skin width kept lines new own more added none =
     ap (λ (ls : List FmtLine). (kept ++ text_bytes skin width ls) ++ text_bytes skin width more) (added ∙ ap (λ (ls : List FmtLine). ls ++ own) none)
     ∙ append_assoc kept (text_bytes skin width own) (text_bytes skin width more) ∙ ap (λ (t : List ℕ). kept ++ t) (sym (flat_map-append (line_bytes skin width) own more))
 
 -- a part and the plain lines after it are handed on
-pub written_plain : (skin : MadSkin) (width : Option ℕ) (all left later rest : List LineContent) (lines new : List FmtLine) (kept new_kept : List ℕ) (old mid end : Trace) → WrittenSoFar skin width all left kept old mid
+pub written_plain : (skin : RowSkin) (width : Option ℕ) (all left later rest : List LineContent) (lines new : List FmtLine) (kept new_kept : List ℕ) (old mid end : Trace) → WrittenSoFar skin width all left kept old mid
     → LaidPart (line_rules skin) width left lines later new → lines ≡ [] → HandsOnPlain {T = Unit {0}} skin width later (kept ++ text_bytes skin width new) mid (Ok (tt {0})) end new_kept rest → WrittenSoFar skin width all rest new_kept old end
 written_plain skin width all left later rest lines new kept new_kept old mid end h p none q =
     let handed = q.handed in
@@ -310,7 +309,7 @@ written_plain skin width all left later rest lines new kept new_kept old mid end
     (written_more skin width all left q.later (p.own ++ q.lines) kept new_kept old mid end h (plain_laid skin width all left later rest h.done lines new _ new_kept (Ok (tt {0})) mid end h.laid p q)
     (handed.0, sym (rows_both skin width kept lines new p.own q.lines p.added none) ∙ handed.1, handed.2))
 
-pub written_plain_refused : {T : Type 0} (skin : MadSkin) (width : Option ℕ) (all left later rest : List LineContent) (lines new : List FmtLine) (kept new_kept : List ℕ) (r : Result T Error) (e : Error) (old mid end : Trace)
+pub written_plain_refused : {T : Type 0} (skin : RowSkin) (width : Option ℕ) (all left later rest : List LineContent) (lines new : List FmtLine) (kept new_kept : List ℕ) (r : Result T Error) (e : Error) (old mid end : Trace)
     → WrittenSoFar skin width all left kept old mid → LaidPart (line_rules skin) width left lines later new → lines ≡ []
     → HandsOnPlain {T = Unit {0}} skin width later (kept ++ text_bytes skin width new) mid (Err e) end new_kept rest → IsErrAnd r (λ d. d ≡ e) → WritesPartsOf skin width all old r end
 written_plain_refused {T} skin width all left later rest lines new kept new_kept r e old mid end h p none q is =
@@ -318,5 +317,5 @@ written_plain_refused {T} skin width all left later rest lines new kept new_kept
     (subst (λ (b : List ℕ). Refused mid b e end) (rows_both skin width kept lines new p.own q.lines p.added none) q.handed)
 
 -- no more lines are left than were
-pub plain_shorter : (skin : MadSkin) (width : Option ℕ) (before left : List LineContent) (bytes kept : List ℕ) (old new : Trace) → HandsOnPlain {T = Unit {0}} skin width before bytes old (Ok (tt {0})) new kept left → length left ≤ length before
+pub plain_shorter : (skin : RowSkin) (width : Option ℕ) (before left : List LineContent) (bytes kept : List ℕ) (old new : Trace) → HandsOnPlain {T = Unit {0}} skin width before bytes old (Ok (tt {0})) new kept left → length left ≤ length before
 plain_shorter skin width before left bytes kept old new q = omega (arith, ap length q.joins, ap length q.rest, length-append q.taken q.later)

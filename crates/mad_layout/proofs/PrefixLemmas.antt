@@ -18,9 +18,9 @@ use Rattle.mad_draw.specs.Pieces.{RowPiece, IsShownPiece, AreShownPieces, char_p
 use Rattle.mad_draw.proofs.PieceLemmas.{columns-both, spaces_columns, shown_spaces}
 use Rattle.mad_format.specs.Indents.{follow_up, indent, later_indent, ordered_indent}
 use Rattle.mad_layout.specs.Premises.{IsPlainPrefix}
-use Rattle.mad_layout.specs.Rows.{number_piece, prefix_space, prefix_pieces}
-use Rattle.mad_layout.specs.Styles.{ordered_item_style}
-use Rattle.mad_layout.specs.declared.skin.MadSkin.{MadSkin}
+use Rattle.mad_rows.specs.Rows.{number_piece, prefix_space, prefix_pieces}
+use Rattle.mad_rows.specs.Styles.{ordered_item_style}
+use Rattle.mad_rows.specs.declared.row_skin.RowSkin.{RowSkin}
 use Rattle.mad_layout.proofs.ColumnChars.{printed_char, column_piece, column_suffix}
 
 -- ---- digits
@@ -80,7 +80,7 @@ singles_columns style (suc n) =
 
 -- ---- in front of a line
 
-pub prefix_shown : (skin : MadSkin) (kind : CompositeKind) → IsPlainPrefix skin kind → AreShownPieces (prefix_pieces skin kind)
+pub prefix_shown : (skin : RowSkin) (kind : CompositeKind) → IsPlainPrefix skin kind → AreShownPieces (prefix_pieces skin kind)
 prefix_shown skin Paragraph h = tt
 prefix_shown skin (Header level) h = tt
 prefix_shown skin (ListItem depth) h = all_joined IsShownPiece (single_spaces skin.paragraph.compound_style depth) _ (singles_shown skin.paragraph.compound_style depth) ((column_piece skin.bullet h).shown, ((shown_spaces skin.paragraph.compound_style 1).0, tt))
@@ -92,7 +92,7 @@ prefix_shown skin (OrderedListItemFollowUp level index) h = singles_shown skin.p
 prefix_shown skin Code h = tt
 prefix_shown skin Quote h = ((column_piece skin.quote_mark h).shown, ((shown_spaces skin.paragraph.compound_style 1).0, tt))
 
-pub prefix_columns : (skin : MadSkin) (kind : CompositeKind) → IsPlainPrefix skin kind → pieces_columns (prefix_pieces skin kind) ≡ indent skin.list_items_indentation_mode kind
+pub prefix_columns : (skin : RowSkin) (kind : CompositeKind) → IsPlainPrefix skin kind → pieces_columns (prefix_pieces skin kind) ≡ indent skin.list_items_indentation_mode kind
 prefix_columns skin Paragraph h = refl
 prefix_columns skin (Header level) h = refl
 prefix_columns skin (ListItem depth) h =
@@ -116,7 +116,7 @@ prefix_columns skin Code h = refl
 prefix_columns skin Quote h = let one : columns (chars (32 ∷ [])) + 0 ≡ 1 = spaces_columns skin.paragraph.compound_style 1 in omega (arith, one, (column_piece skin.quote_mark h).one)
 
 -- the lines that follow have a plain prefix too
-pub follow_up_plain : (skin : MadSkin) (kind : CompositeKind) → IsPlainPrefix skin kind → IsPlainPrefix skin (follow_up kind)
+pub follow_up_plain : (skin : RowSkin) (kind : CompositeKind) → IsPlainPrefix skin kind → IsPlainPrefix skin (follow_up kind)
 follow_up_plain skin Paragraph h = tt
 follow_up_plain skin (Header level) h = tt
 follow_up_plain skin (ListItem depth) h = tt

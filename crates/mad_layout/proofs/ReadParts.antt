@@ -12,28 +12,28 @@ use Rattle.mad_layout.specs.FlaggedTexts.{LineInPart, aligns_at, lines_in, lines
 use Rattle.mad_blocks.specs.Layouts.{AreRead}
 use Rattle.mad_format.specs.Lines.{IsLineRead}
 use Rattle.mad_blocks.specs.Parts.{Part, table, block, single, is_code_kind, with_table, with_code, with_composite, parts_of}
-use Rattle.mad_layout.specs.declared.skin.MadSkin.{MadSkin}
+use Rattle.mad_rows.specs.declared.row_skin.RowSkin.{RowSkin}
 use Rattle.mad_format.specs.declared.composite.FmtComposite.{FmtComposite}
 use Rattle.mad_format.specs.declared.line.FmtLine.{FmtLine}
 use Rattle.mad_format.specs.declared.line.FmtLine.TheVariants.{Normal, TableRow, TableRule, HorizontalRule}
 use Rattle.mad_blocks.proofs.LayoutJoins.{by_bool}
 use Rattle.mad_layout.proofs.KeptWidths.{IsTableLineRead, AreTableRead}
 use Rattle.mad_blocks.proofs.PartLemmas.{raw_lines}
-use Rattle.mad_layout.specs.Styles.{line_rules}
+use Rattle.mad_rows.specs.Styles.{line_rules}
 
 -- ---- the parts of what was read are those of the text
 
-pub record IsCodeRead (skin : MadSkin) (c : LineContent) (l : FmtComposite) : Type 0 where
+pub record IsCodeRead (skin : RowSkin) (c : LineContent) (l : FmtComposite) : Type 0 where
   pub code : is_code c ≡ true
   pub read : IsLineRead (line_rules skin) c (Normal l)
 
-abbrev pub AreCodeRead : MadSkin → List LineContent → List FmtComposite → Type 0
+abbrev pub AreCodeRead : RowSkin → List LineContent → List FmtComposite → Type 0
 AreCodeRead skin [] [] = Unit {0}
 AreCodeRead skin [] (l ∷ ls) = ⊥
 AreCodeRead skin (c ∷ cs) [] = ⊥
 AreCodeRead skin (c ∷ cs) (l ∷ ls) = IsCodeRead skin c l × AreCodeRead skin cs ls
 
-abbrev pub IsPartRead : MadSkin → List LineContent → Part → Type 0
+abbrev pub IsPartRead : RowSkin → List LineContent → Part → Type 0
 IsPartRead skin [] p = ⊥
 IsPartRead skin (c ∷ cs) (table ls) = AreTableRead skin (c ∷ cs) ls
 IsPartRead skin (c ∷ cs) (block []) = ⊥
@@ -41,7 +41,7 @@ IsPartRead skin (c ∷ cs) (block (l ∷ ls)) = IsCodeRead skin c l × AreCodeRe
 IsPartRead skin (c ∷ []) (single l) = (is_code c ≡ false) × (is_table c ≡ false) × IsLineRead (line_rules skin) c l
 IsPartRead skin (c ∷ d ∷ cs) (single l) = ⊥
 
-abbrev pub ArePartsRead : MadSkin → List (List LineContent) → List Part → Type 0
+abbrev pub ArePartsRead : RowSkin → List (List LineContent) → List Part → Type 0
 ArePartsRead skin [] [] = Unit {0}
 ArePartsRead skin [] (p ∷ ps) = ⊥
 ArePartsRead skin (cs ∷ css) [] = ⊥
@@ -84,10 +84,10 @@ table_no_code (table_rule aligns) e = refl
 table_no_code horizontal_rule e = refl
 
 -- what a line in front of parts makes of them, by whether it stands with the first line
-abbrev ReadWith : MadSkin → Bool → LineContent → LineContent → List LineContent → List (List LineContent) → List Part → Type 0
+abbrev ReadWith : RowSkin → Bool → LineContent → LineContent → List LineContent → List (List LineContent) → List Part → Type 0
 ReadWith skin b c d ds css ps = ArePartsRead skin (if b then (c ∷ d ∷ ds) ∷ css else (c ∷ []) ∷ (d ∷ ds) ∷ css) ps
 
-code_joins : (skin : MadSkin) (c : LineContent) (l : FmtComposite) (css : List (List LineContent)) (ps : List Part) → IsCodeRead skin c l → ArePartsRead skin css ps → ArePartsRead skin (in_front c css) (with_code l ps)
+code_joins : (skin : RowSkin) (c : LineContent) (l : FmtComposite) (css : List (List LineContent)) (ps : List Part) → IsCodeRead skin c l → ArePartsRead skin css ps → ArePartsRead skin (in_front c css) (with_code l ps)
 code_joins skin c l [] [] h parts = ((h, tt), tt)
 code_joins skin c l [] (p ∷ ps) h parts = absurd parts
 code_joins skin c l (cs ∷ css) [] h parts = absurd parts
@@ -102,7 +102,7 @@ code_joins skin c l ((d ∷ []) ∷ css) (single m ∷ ps) h parts =
     subst (λ (b : Bool). ReadWith skin b c d [] css (block (l ∷ []) ∷ single m ∷ ps)) (sym (apart (is_code c) (is_code d) (is_table c) (is_table d) (inr parts.0.0) (inr parts.0.1))) ((h, tt), parts)
 code_joins skin c l ((d ∷ e ∷ ds) ∷ css) (single m ∷ ps) h parts = absurd parts.0
 
-table_joins : (skin : MadSkin) (c : LineContent) (l : FmtLine) (css : List (List LineContent)) (ps : List Part) → IsTableLineRead skin c l → ArePartsRead skin css ps → ArePartsRead skin (in_front c css) (with_table l ps)
+table_joins : (skin : RowSkin) (c : LineContent) (l : FmtLine) (css : List (List LineContent)) (ps : List Part) → IsTableLineRead skin c l → ArePartsRead skin css ps → ArePartsRead skin (in_front c css) (with_table l ps)
 table_joins skin c l [] [] h parts = ((h, tt), tt)
 table_joins skin c l [] (p ∷ ps) h parts = absurd parts
 table_joins skin c l (cs ∷ css) [] h parts = absurd parts
@@ -117,7 +117,7 @@ table_joins skin c l ((d ∷ []) ∷ css) (single m ∷ ps) h parts =
     subst (λ (b : Bool). ReadWith skin b c d [] css (table (l ∷ []) ∷ single m ∷ ps)) (sym (apart (is_code c) (is_code d) (is_table c) (is_table d) (inr parts.0.0) (inr parts.0.1))) ((h, tt), parts)
 table_joins skin c l ((d ∷ e ∷ ds) ∷ css) (single m ∷ ps) h parts = absurd parts.0
 
-stands_alone : (skin : MadSkin) (c : LineContent) (l : FmtLine) (css : List (List LineContent)) (ps : List Part) → is_code c ≡ false → is_table c ≡ false → IsLineRead (line_rules skin) c l → ArePartsRead skin css ps
+stands_alone : (skin : RowSkin) (c : LineContent) (l : FmtLine) (css : List (List LineContent)) (ps : List Part) → is_code c ≡ false → is_table c ≡ false → IsLineRead (line_rules skin) c l → ArePartsRead skin css ps
     → ArePartsRead skin (in_front c css) (single l ∷ ps)
 stands_alone skin c l [] [] no_code no_table h parts = ((no_code, no_table, h), tt)
 stands_alone skin c l [] (p ∷ ps) no_code no_table h parts = absurd parts
@@ -126,7 +126,7 @@ stands_alone skin c l ([] ∷ css) (p ∷ ps) no_code no_table h parts = absurd 
 stands_alone skin c l ((d ∷ ds) ∷ css) (p ∷ ps) no_code no_table h parts =
     subst (λ (b : Bool). ReadWith skin b c d ds css (single l ∷ p ∷ ps)) (sym (apart (is_code c) (is_code d) (is_table c) (is_table d) (inl no_code) (inl no_table))) ((no_code, no_table, h), parts)
 
-pub parts_read : (skin : MadSkin) (text : List LineContent) (read : List FmtLine) → AreRead (line_rules skin) text read → ArePartsRead skin (text_parts text) (parts_of read)
+pub parts_read : (skin : RowSkin) (text : List LineContent) (read : List FmtLine) → AreRead (line_rules skin) text read → ArePartsRead skin (text_parts text) (parts_of read)
 parts_read skin [] [] h = tt
 parts_read skin [] (l ∷ ls) h = absurd h
 parts_read skin (c ∷ cs) [] h = absurd h
@@ -153,19 +153,19 @@ parts_read skin (horizontal_rule ∷ cs) (TableRule rule ∷ ls) h = absurd h.0
 parts_read skin (horizontal_rule ∷ cs) (HorizontalRule ∷ ls) h = stands_alone skin horizontal_rule HorizontalRule (text_parts cs) (parts_of ls) refl refl h.0 (parts_read skin cs ls h.1)
 
 -- the lines of a part are what is read from those of the text's part
-code_raw : (skin : MadSkin) (cs : List LineContent) (ls : List FmtComposite) → AreCodeRead skin cs ls → AreRead (line_rules skin) cs (map Normal ls)
+code_raw : (skin : RowSkin) (cs : List LineContent) (ls : List FmtComposite) → AreCodeRead skin cs ls → AreRead (line_rules skin) cs (map Normal ls)
 code_raw skin [] [] h = tt
 code_raw skin [] (l ∷ ls) h = absurd h
 code_raw skin (c ∷ cs) [] h = absurd h
 code_raw skin (c ∷ cs) (l ∷ ls) h = (h.0.read, code_raw skin cs ls h.1)
 
-pub table_raw : (skin : MadSkin) (cs : List LineContent) (ls : List FmtLine) → AreTableRead skin cs ls → AreRead (line_rules skin) cs ls
+pub table_raw : (skin : RowSkin) (cs : List LineContent) (ls : List FmtLine) → AreTableRead skin cs ls → AreRead (line_rules skin) cs ls
 table_raw skin [] [] h = tt
 table_raw skin [] (l ∷ ls) h = absurd h
 table_raw skin (c ∷ cs) [] h = absurd h
 table_raw skin (c ∷ cs) (l ∷ ls) h = (h.0.read, table_raw skin cs ls h.1)
 
-pub part_raw : (skin : MadSkin) (cs : List LineContent) (p : Part) → IsPartRead skin cs p → AreRead (line_rules skin) cs (raw_lines p)
+pub part_raw : (skin : RowSkin) (cs : List LineContent) (p : Part) → IsPartRead skin cs p → AreRead (line_rules skin) cs (raw_lines p)
 part_raw skin [] p h = absurd h
 part_raw skin (c ∷ cs) (table ls) h = table_raw skin (c ∷ cs) ls h
 part_raw skin (c ∷ cs) (block []) h = absurd h

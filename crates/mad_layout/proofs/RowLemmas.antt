@@ -16,16 +16,16 @@ use Rattle.mad_fit.proofs.AllLemmas.{all_joined}
 use Rattle.mad_fit.proofs.FlaggedLemmas.{width_of-append, width_of-flagged}
 use Rattle.mad_draw.specs.Pieces.{RowPiece, IsShownPiece, AreShownPieces, pieces_columns, spaces}
 use Rattle.mad_draw.proofs.PieceLemmas.{columns-both, spaces_columns, shown_spaces}
-use Rattle.mad_layout.specs.declared.skin.MadSkin.{MadSkin}
+use Rattle.mad_rows.specs.declared.row_skin.RowSkin.{RowSkin}
 use Rattle.mad_format.specs.declared.composite.FmtComposite.{FmtComposite}
 use Rattle.mad_format.specs.declared.line.FmtLine.TheVariants.{Normal}
 use Rattle.mad_layout.specs.Drawable.{FillsItsPlace, IsDrawable}
-use Rattle.mad_layout.specs.Rows.{compound_piece, prefix_pieces, left_of_place, right_of_place, align_in, place_of, inner_columns, inner_blanks, outer_blanks, margins_of, composite_pieces, line_pieces}
-use Rattle.mad_layout.specs.Styles.{line_style}
+use Rattle.mad_rows.specs.Rows.{compound_piece, prefix_pieces, left_of_place, right_of_place, align_in, place_of, inner_columns, inner_blanks, outer_blanks, margins_of, composite_pieces, line_pieces}
+use Rattle.mad_rows.specs.Styles.{line_style}
 
 -- ---- compounds
 
-pub compounds_columns : (skin : MadSkin) (style : LineStyle) (ps : List Compound) → pieces_columns (map (compound_piece skin style) ps) ≡ width_of (flagged_text ps)
+pub compounds_columns : (skin : RowSkin) (style : LineStyle) (ps : List Compound) → pieces_columns (map (compound_piece skin style) ps) ≡ width_of (flagged_text ps)
 compounds_columns skin style [] = refl
 compounds_columns skin style (p ∷ ps) =
     let rest : pieces_columns (map (compound_piece skin style) ps) ≡ width_of (flagged_text ps) = compounds_columns skin style ps in
@@ -48,7 +48,7 @@ own_place None n h = omega arith
 own_place (Some s) n h = let half : left_completion s.align (s.width - n) ≤ s.width - n = left_completion-le s.align (s.width - n) in omega (arith, h, half)
 
 -- A composite fills its own place, beside it are the blanks of a wider one, those on its right only where they are asked for.
-composite_columns : (skin : MadSkin) (outer : Option ℕ) (margins : ℕ × ℕ) (right : Bool) (l : FmtComposite) → FillsItsPlace skin l
+composite_columns : (skin : RowSkin) (outer : Option ℕ) (margins : ℕ × ℕ) (right : Bool) (l : FmtComposite) → FillsItsPlace skin l
     → pieces_columns (composite_pieces skin outer margins right l)
     ≡ (outer_blanks (line_style skin l.kind).align outer margins l).0 + inner_columns l + pieces_columns (if right then spaces skin.paragraph.compound_style (outer_blanks (line_style skin l.kind).align outer margins l).1 else [])
 composite_columns skin outer margins right l h =
@@ -76,7 +76,7 @@ shown_if : (right : Bool) (style : CompoundStyle) (n : ℕ) → AreShownPieces (
 shown_if true style n = shown_spaces style n
 shown_if false style n = tt
 
-composite_shown : (skin : MadSkin) (outer : Option ℕ) (margins : ℕ × ℕ) (right : Bool) (l : FmtComposite) → FillsItsPlace skin l → AreShownPieces (composite_pieces skin outer margins right l)
+composite_shown : (skin : RowSkin) (outer : Option ℕ) (margins : ℕ × ℕ) (right : Bool) (l : FmtComposite) → FillsItsPlace skin l → AreShownPieces (composite_pieces skin outer margins right l)
 composite_shown skin outer margins right l h =
     let style : LineStyle = line_style skin l.kind in
     let blank : CompoundStyle = skin.paragraph.compound_style in
@@ -88,7 +88,7 @@ composite_shown skin outer margins right l h =
     (all_joined IsShownPiece (spaces style.compound_style (inner_blanks l).1) _ (shown_spaces style.compound_style (inner_blanks l).1)
     (shown_if right blank blanks.1)))))
 
-pub line_columns : (skin : MadSkin) (width : ℕ) (l : FmtComposite) → IsDrawable skin width l → pieces_columns (line_pieces skin (Some width) true (Normal l)) ≡ width
+pub line_columns : (skin : RowSkin) (width : ℕ) (l : FmtComposite) → IsDrawable skin width l → pieces_columns (line_pieces skin (Some width) true (Normal l)) ≡ width
 line_columns skin width l h =
     let style : LineStyle = line_style skin l.kind in
     let blank : CompoundStyle = skin.paragraph.compound_style in
@@ -103,13 +103,13 @@ line_columns skin width l h =
     let last : pieces_columns (spaces blank blanks.1) ≡ blanks.1 = spaces_columns blank blanks.1 in
     omega (arith, h.fits, m0, m1, half, all, last)
 
-pub line_shown : (skin : MadSkin) (width : ℕ) (l : FmtComposite) → IsDrawable skin width l → AreShownPieces (line_pieces skin (Some width) true (Normal l))
+pub line_shown : (skin : RowSkin) (width : ℕ) (l : FmtComposite) → IsDrawable skin width l → AreShownPieces (line_pieces skin (Some width) true (Normal l))
 line_shown skin width l h = composite_shown skin (Some width) (margins_of skin (Some width) l) true l h.fills
 
 -- ---- a cell
 
-pub cell_columns : (skin : MadSkin) (l : FmtComposite) → FillsItsPlace skin l → pieces_columns (composite_pieces skin None (0, 0) false l) ≡ inner_columns l
+pub cell_columns : (skin : RowSkin) (l : FmtComposite) → FillsItsPlace skin l → pieces_columns (composite_pieces skin None (0, 0) false l) ≡ inner_columns l
 cell_columns skin l h = let all : pieces_columns (composite_pieces skin None (0, 0) false l) ≡ 0 + 0 + inner_columns l + 0 = composite_columns skin None (0, 0) false l h in omega (arith, all)
 
-pub cell_shown : (skin : MadSkin) (l : FmtComposite) → FillsItsPlace skin l → AreShownPieces (composite_pieces skin None (0, 0) false l)
+pub cell_shown : (skin : RowSkin) (l : FmtComposite) → FillsItsPlace skin l → AreShownPieces (composite_pieces skin None (0, 0) false l)
 cell_shown skin l h = composite_shown skin None (0, 0) false l h

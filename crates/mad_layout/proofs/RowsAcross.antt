@@ -26,11 +26,11 @@ use Rattle.mad_format.specs.Indents.{indent, follow_up, room_of}
 use Rattle.mad_format.specs.Lines.{bordered}
 use Rattle.mad_blocks.specs.Parts.{is_code_kind, IsLineAt, AreLinesAt}
 use Rattle.mad_layout.specs.Premises.{IsPlainPrefix, IsPlainText, IsPlainContent, KeepsPremises, inner_width, runs_text}
-use Rattle.mad_layout.specs.Styles.{line_rules, line_style}
+use Rattle.mad_rows.specs.Styles.{line_rules, line_style}
 use Rattle.mad_blocks.specs.TextParts.{LineInPart}
 use Rattle.mad_format.specs.WrappedLines.{style_margins, line_with, IsLaidOutBy}
 use Rattle.mad_format.specs.Wraps.{text_of, columns_of, IsMeasured}
-use Rattle.mad_layout.specs.declared.skin.MadSkin.{MadSkin}
+use Rattle.mad_rows.specs.declared.row_skin.RowSkin.{RowSkin}
 use Rattle.mad_format.specs.declared.composite.FmtComposite.{FmtComposite}
 use Rattle.mad_format.specs.declared.line.FmtLine.{FmtLine}
 use Rattle.mad_format.specs.declared.line.FmtLine.TheVariants.{Normal, TableRow, TableRule, HorizontalRule}
@@ -47,7 +47,7 @@ use Rattle.mad_layout.proofs.WrapRows.{whole_parts, kept_rows, wrapped_rows}
 -- ---- a line in its place
 
 -- The composite is what was read of a line, in the place of its block, if it is one of code.
-pub record IsPlacedIn (skin : MadSkin) (width : ℕ) (part : List LineContent) (said : StyledRuns) (l : FmtComposite) : Type 0 where
+pub record IsPlacedIn (skin : RowSkin) (width : ℕ) (part : List LineContent) (said : StyledRuns) (l : FmtComposite) : Type 0 where
   pub kind : l.kind ≡ kind_of said.style
   pub text : map run_of l.compounds.items ≡ said.runs
   pub measured : IsMeasured (line_rules skin) l
@@ -67,7 +67,7 @@ code_follows (OrderedListItemFollowUp level index) = refl
 code_follows Code = refl
 code_follows Quote = refl
 
-style_follows : (skin : MadSkin) (k : CompositeKind) → line_style skin (follow_up k) ≡ line_style skin k
+style_follows : (skin : RowSkin) (k : CompositeKind) → line_style skin (follow_up k) ≡ line_style skin k
 style_follows skin Paragraph = refl
 style_follows skin (Header level) = refl
 style_follows skin (ListItem depth) = refl
@@ -77,7 +77,7 @@ style_follows skin (OrderedListItemFollowUp level index) = refl
 style_follows skin Code = refl
 style_follows skin Quote = refl
 
-pub code_indent : (skin : MadSkin) (k : CompositeKind) → is_code_kind k ≡ true → indent skin.list_items_indentation_mode k ≡ 0
+pub code_indent : (skin : RowSkin) (k : CompositeKind) → is_code_kind k ≡ true → indent skin.list_items_indentation_mode k ≡ 0
 code_indent skin Paragraph e = refl
 code_indent skin (Header level) e = refl
 code_indent skin (ListItem depth) e = absurd (cc)
@@ -94,13 +94,13 @@ parts_are (p ∷ ps) = ap (λ l. flagged_of p ∷ l) (parts_are ps)
 -- ---- the rows of one line
 
 -- what is known of a line of a layout that is a row of what was read
-record IsRowLine (skin : MadSkin) (width : ℕ) (part : List LineContent) (said : StyledRuns) (l : FmtComposite) : Type 0 where
+record IsRowLine (skin : RowSkin) (width : ℕ) (part : List LineContent) (said : StyledRuns) (l : FmtComposite) : Type 0 where
   measured : IsMeasured (line_rules skin) l
   spacing : l.spacing ≡ place_for (is_code_kind (kind_of said.style)) (min (widest_in part) (inner_width skin width said))
   inside : columns_of (line_rules skin) l ≤ inner_width skin width said
   holds : is_code_kind (kind_of said.style) ≡ true → columns_of (line_rules skin) l ≤ widest_in part
 
-one_row : (skin : MadSkin) (area : Area) (part : List LineContent) (said : StyledRuns) (k : CompositeKind) (l : FmtComposite) → area.width < 2 ^ 64 - 1 → l.kind ≡ k → IsPlainPrefix skin k
+one_row : (skin : RowSkin) (area : Area) (part : List LineContent) (said : StyledRuns) (k : CompositeKind) (l : FmtComposite) → area.width < 2 ^ 64 - 1 → l.kind ≡ k → IsPlainPrefix skin k
     → is_code_kind k ≡ is_code_kind (kind_of said.style) → line_style skin k ≡ line_style skin (kind_of said.style) → IsRowLine skin (area.width - 1) part said l
     → line_chars skin area.width (line_with (margins_at (line_style skin (kind_of said.style)) (Some (area.width - 1))) l) ≡ row_across skin area part said k (text_of l)
 one_row skin area part said k l bound kind prefix code style facts =
@@ -112,7 +112,7 @@ one_row skin area part said k l bound kind prefix code style facts =
     ∙ row_chars skin area part said (record l { kind = k }) bound prefix f.measured (f.spacing ∙ ap (λ b. place_for b place) (sym code)) inner f.inside (λ on. f.holds (sym code ∙ on))) facts
 
 -- of the lines of a wrap, those after the first
-others_across : (skin : MadSkin) (area : Area) (part : List LineContent) (said : StyledRuns) (wrap : List FmtComposite) → area.width < 2 ^ 64 - 1 → IsPlainPrefix skin (kind_of said.style)
+others_across : (skin : RowSkin) (area : Area) (part : List LineContent) (said : StyledRuns) (wrap : List FmtComposite) → area.width < 2 ^ 64 - 1 → IsPlainPrefix skin (kind_of said.style)
     → (is_code_kind (kind_of said.style) ≡ true → inner_width skin (area.width - 1) said ≤ widest_in part) → HaveKinds (follow_up (kind_of said.style)) (follow_up (kind_of said.style)) wrap
     → AllByRecursion (λ (l : FmtComposite). l.spacing ≡ place_for (is_code_kind (kind_of said.style)) (min (widest_in part) (inner_width skin (area.width - 1) said))) wrap → AllByRecursion (IsMeasured (line_rules skin)) wrap
     → LinesFit (indent skin.list_items_indentation_mode (follow_up (kind_of said.style))) (room_of (line_rules skin) (kind_of said.style) (inner_width skin (area.width - 1) said)) (map flagged_text (line_compounds wrap))
@@ -128,7 +128,7 @@ others_across skin area part said (l ∷ ls) bound prefix most kinds spacing mea
     let rest = others_across skin area part said ls bound prefix most kinds.1 spacing.1 measured.1 fits.1 in
     ap (λ x. x ∷ map (line_chars skin area.width) (map (line_with (margins_at (line_style skin k) (Some (area.width - 1)))) ls)) first ∙ ap (λ xs. row_across skin area part said (follow_up k) (text_of l) ∷ xs) rest
 
-wrap_across : (skin : MadSkin) (area : Area) (part : List LineContent) (said : StyledRuns) (wrap : List FmtComposite) → area.width < 2 ^ 64 - 1 → IsPlainPrefix skin (kind_of said.style)
+wrap_across : (skin : RowSkin) (area : Area) (part : List LineContent) (said : StyledRuns) (wrap : List FmtComposite) → area.width < 2 ^ 64 - 1 → IsPlainPrefix skin (kind_of said.style)
     → (is_code_kind (kind_of said.style) ≡ true → inner_width skin (area.width - 1) said ≤ widest_in part) → HaveKinds (kind_of said.style) (follow_up (kind_of said.style)) wrap
     → AllByRecursion (λ (l : FmtComposite). l.spacing ≡ place_for (is_code_kind (kind_of said.style)) (min (widest_in part) (inner_width skin (area.width - 1) said))) wrap → AllByRecursion (IsMeasured (line_rules skin)) wrap
     → LinesFit (indent skin.list_items_indentation_mode (kind_of said.style)) (room_of (line_rules skin) (kind_of said.style) (inner_width skin (area.width - 1) said)) (map flagged_text (line_compounds wrap))
@@ -144,7 +144,7 @@ wrap_across skin area part said (l ∷ ls) bound prefix most kinds spacing measu
     ap (λ x. x ∷ map (line_chars skin area.width) (map (line_with (margins_at (line_style skin k) (Some (area.width - 1)))) ls)) first ∙ ap (λ xs. row_across skin area part said k (text_of l) ∷ xs) rest
 
 -- the composite is placed as a line that was read
-placed_for : (skin : MadSkin) (width : ℕ) (part : List LineContent) (said : StyledRuns) (l : FmtComposite) → IsPlacedIn skin width part said (record l { kind = kind_of said.style })
+placed_for : (skin : RowSkin) (width : ℕ) (part : List LineContent) (said : StyledRuns) (l : FmtComposite) → IsPlacedIn skin width part said (record l { kind = kind_of said.style })
     → IsPlacedFor skin width said (record l { kind = kind_of said.style })
 placed_for skin width part said l read =
     let k : CompositeKind = kind_of said.style in
@@ -155,7 +155,7 @@ placed_for skin width part said l read =
     (λ on e. (omega arith, omega (arith, read.measured, text, read.widest on, code_indent skin k on))) (λ off e. tt) refl in
     record { kind = refl; text = read.text; measured = read.measured; place = subst (λ (o : Option Spacing). IfSome o (λ s. (s.width ≤ inner) × (min l.visible_length inner ≤ s.width))) (sym read.spacing) place }
 
-abbrev AreRowsIn : MadSkin → Area → List LineContent → StyledRuns → List FmtLine → Type 0
+abbrev AreRowsIn : RowSkin → Area → List LineContent → StyledRuns → List FmtLine → Type 0
 AreRowsIn skin area part said own =
     (0 < length own) × ((rows : List (List FlaggedChar)) × AreRowsOf (room_of (line_rules skin) (kind_of said.style) (inner_width skin (area.width - 1) said)) (marked_parts said) rows
     × (map (line_chars skin area.width) own ≡ rows_across skin area part said rows))
@@ -164,7 +164,7 @@ not_none : (ws : List FmtComposite) → (ws ≡ [] → ⊥) → 0 < length ws
 not_none [] h = absurd (h refl)
 not_none (w ∷ ws) h = omega arith
 
-kind_rows : (skin : MadSkin) (area : Area) (part : List LineContent) (said : StyledRuns) (l : FmtComposite) (own : List FmtLine) → area.width < 2 ^ 64 - 1 → IsPlainText skin (inner_width skin (area.width - 1) said) (kind_of said.style) said.runs
+kind_rows : (skin : RowSkin) (area : Area) (part : List LineContent) (said : StyledRuns) (l : FmtComposite) (own : List FmtLine) → area.width < 2 ^ 64 - 1 → IsPlainText skin (inner_width skin (area.width - 1) said) (kind_of said.style) said.runs
     → IsPlacedIn skin (area.width - 1) part said (record l { kind = kind_of said.style }) → IsLaidOutBy IsCompositeWrap (line_rules skin) (area.width - 1) (record l { kind = kind_of said.style }) own → AreRowsIn skin area part said own
 kind_rows skin area part said l own bound plain read (inl (fits, same)) =
     let k : CompositeKind = kind_of said.style in
@@ -209,7 +209,7 @@ kind_rows skin area part said l own bound plain read (inr (wide, (wrap, wraps, s
       ),
     )
 
-pub said_rows : (skin : MadSkin) (area : Area) (part : List LineContent) (said : StyledRuns) (l : FmtComposite) (own : List FmtLine) → area.width < 2 ^ 64 - 1 → IsPlainText skin (inner_width skin (area.width - 1) said) (kind_of said.style) said.runs
+pub said_rows : (skin : RowSkin) (area : Area) (part : List LineContent) (said : StyledRuns) (l : FmtComposite) (own : List FmtLine) → area.width < 2 ^ 64 - 1 → IsPlainText skin (inner_width skin (area.width - 1) said) (kind_of said.style) said.runs
     → IsPlacedIn skin (area.width - 1) part said l → IsLaidOutBy IsCompositeWrap (line_rules skin) (area.width - 1) l own → AreRowsIn skin area part said own
 said_rows skin area part said l own bound plain read laid =
     let same : l ≡ record l { kind = kind_of said.style } = as_kind l (kind_of said.style) read.kind in
@@ -218,7 +218,7 @@ said_rows skin area part said l own bound plain read laid =
 -- ---- the rows of all lines
 
 -- the line of a layout is what was read, in its place, and none of a table
-abbrev pub IsReadIn : MadSkin → ℕ → List LineContent → LineContent → FmtLine → Type 0
+abbrev pub IsReadIn : RowSkin → ℕ → List LineContent → LineContent → FmtLine → Type 0
 IsReadIn skin width part (normal said) (Normal l) = IsPlacedIn skin width part said l
 IsReadIn skin width part (normal said) (TableRow row) = ⊥
 IsReadIn skin width part (normal said) (TableRule rule) = ⊥
@@ -230,13 +230,13 @@ IsReadIn skin width part horizontal_rule (TableRow row) = ⊥
 IsReadIn skin width part horizontal_rule (TableRule rule) = ⊥
 IsReadIn skin width part horizontal_rule HorizontalRule = Unit {0}
 
-abbrev pub AreReadIn : MadSkin → ℕ → List LineInPart → List FmtLine → Type 0
+abbrev pub AreReadIn : RowSkin → ℕ → List LineInPart → List FmtLine → Type 0
 AreReadIn skin width [] [] = Unit {0}
 AreReadIn skin width [] (l ∷ ls) = ⊥
 AreReadIn skin width (x ∷ xs) [] = ⊥
 AreReadIn skin width (x ∷ xs) (l ∷ ls) = IsReadIn skin width x.part x.line l × AreReadIn skin width xs ls
 
-content_rows : (skin : MadSkin) (area : Area) (x : LineInPart) (line : LineContent) (l : FmtLine) (own : List FmtLine) → area.width < 2 ^ 64 - 1 → IsPlainContent skin (area.width - 1) x.part line
+content_rows : (skin : RowSkin) (area : Area) (x : LineInPart) (line : LineContent) (l : FmtLine) (own : List FmtLine) → area.width < 2 ^ 64 - 1 → IsPlainContent skin (area.width - 1) x.part line
     → IsReadIn skin (area.width - 1) x.part line l → IsLineAt IsCompositeWrap (line_rules skin) (Some (area.width - 1)) l own → (0 < length own) × IsAcross skin area x line (map (line_chars skin area.width) own)
 content_rows skin area x (normal said) (Normal l) own bound plain read laid = said_rows skin area x.part said l own bound plain read laid
 content_rows skin area x (normal said) (TableRow row) own bound plain read laid = absurd read
@@ -252,7 +252,7 @@ content_rows skin area x horizontal_rule HorizontalRule own bound plain read lai
     (omega (arith, one), ap (map (line_chars skin area.width)) laid ∙ ap (λ (t : List ℕ). t ∷ []) (run_chars skin.horizontal_rule area.width (column_piece skin.horizontal_rule plain)))
 
 -- cells have rows in any columns
-cells_exist : (skin : MadSkin) (cs : List Spacing) (cells : List StyledRuns) → (placed : List CellInColumn) × AreInColumns skin cs cells placed
+cells_exist : (skin : RowSkin) (cs : List Spacing) (cells : List StyledRuns) → (placed : List CellInColumn) × AreInColumns skin cs cells placed
 cells_exist skin [] cells = ([], refl)
 cells_exist skin (c ∷ cs) [] = let more = cells_exist skin cs [] in (record { width = c.width; rows = [] } ∷ more.0, (more.0, refl, more.1))
 cells_exist skin (c ∷ cs) (cell ∷ cells) =
@@ -262,12 +262,12 @@ cells_exist skin (c ∷ cs) (cell ∷ cells) =
     let rows : List (List FlaggedChar) = rows_of r (marked_parts cell) in
     (record { width = c.width; rows = rows_in_column skin c k rows } ∷ more.0, (rows, more.0, rows_exist r (marked_parts cell), refl, more.1))
 
-row_exists : (skin : MadSkin) (area : Area) (cs : List Spacing) (cells : List StyledRuns) → (across : List (List ℕ)) × IsRowAcross skin area cs cells across
+row_exists : (skin : RowSkin) (area : Area) (cs : List Spacing) (cells : List StyledRuns) → (across : List (List ℕ)) × IsRowAcross skin area cs cells across
 row_exists skin area cs cells =
     let placed = cells_exist skin cs cells in
     (map (table_across skin area (1 + bordered (map (λ (c : Spacing). c.width) cs))) (rows_down skin (max (most_rows placed.0) 1) placed.0), (placed.0, placed.1, refl))
 
-line_across : (skin : MadSkin) (area : Area) (x : LineInPart) (line : LineContent) → (across : List (List ℕ)) × IsAcross skin area x line across
+line_across : (skin : RowSkin) (area : Area) (x : LineInPart) (line : LineContent) → (across : List (List ℕ)) × IsAcross skin area x line across
 line_across skin area x (normal said) =
     let r : Room = room_of (line_rules skin) (kind_of said.style) (inner_width skin (area.width - 1) said) in
     (rows_across skin area x.part said (rows_of r (marked_parts said)), (rows_of r (marked_parts said), rows_exist r (marked_parts said), refl))
@@ -276,7 +276,7 @@ line_across skin area x (table_rule aligns) = (rule_across skin area x.position 
 line_across skin area x horizontal_rule = (repeat area.width (skin_char (char_alone skin.horizontal_rule)) ∷ [], refl)
 
 -- every line has rows across an area
-pub across_exist : (skin : MadSkin) (area : Area) (xs : List LineInPart) → (across : List (List ℕ)) × AreAcross skin area xs across
+pub across_exist : (skin : RowSkin) (area : Area) (xs : List LineInPart) → (across : List (List ℕ)) × AreAcross skin area xs across
 across_exist skin area [] = ([], refl)
 across_exist skin area (x ∷ xs) =
     let own = line_across skin area x x.line in
@@ -284,7 +284,7 @@ across_exist skin area (x ∷ xs) =
     (own.0 ++ more.0, (own.0, more.0, refl, own.1, more.1))
 
 -- The lines have rows across the area, and the first of these are those of the layout's lines.
-abbrev pub HaveFirstRows : MadSkin → Area → ℕ → List LineInPart → List FmtLine → Type 0
+abbrev pub HaveFirstRows : RowSkin → Area → ℕ → List LineInPart → List FmtLine → Type 0
 HaveFirstRows skin area n xs lines = (across : List (List ℕ)) × AreAcross skin area xs across × (take n across ≡ take n (map (line_chars skin area.width) lines))
 
 -- lists that are the same so far
@@ -306,7 +306,7 @@ some_same [] xs ys n some e = absurd (omega (arith, some))
 some_same (o ∷ own) xs ys n some e = ap (λ (l : List (List ℕ)). o ∷ l) (first_same own xs ys n e)
 
 -- The first rows of these lines and of those after them, whose rows are there for any number of lines that keep the premises.
-pub front_across : (skin : MadSkin) (area : Area) (n : ℕ) (xs ys : List LineInPart) (placed own others : List FmtLine) → area.width < 2 ^ 64 - 1
+pub front_across : (skin : RowSkin) (area : Area) (n : ℕ) (xs ys : List LineInPart) (placed own others : List FmtLine) → area.width < 2 ^ 64 - 1
     → ((m : ℕ) → KeepsPremises skin (area.width - 1) (take m ys) → HaveFirstRows skin area m ys others)
     → KeepsPremises skin (area.width - 1) (take n (xs ++ ys)) → AreReadIn skin (area.width - 1) xs placed → AreLinesAt IsCompositeWrap (line_rules skin) (Some (area.width - 1)) placed own
     → HaveFirstRows skin area n (xs ++ ys) (own ++ others)

@@ -31,7 +31,7 @@ use Rattle.mad_style.specs.Kinds.{kind_of}
 use Rattle.mad_layout.specs.Premises.{AreJoined, IsPlainRun, IsPlainText, IsPlainContent, KeepsPremises, inner_width, runs_text}
 use Rattle.mad_blocks.specs.TextParts.{LineInPart, lines_in_parts}
 use Rattle.mad_layout.specs.Sources.{TakesColumns, LinesTakeColumns, ShowsSource}
-use Rattle.mad_layout.specs.declared.skin.MadSkin.{MadSkin}
+use Rattle.mad_rows.specs.declared.row_skin.RowSkin.{RowSkin}
 use Rattle.mad_layout.proofs.ReadParts.{lines_are}
 
 -- ---- a run
@@ -80,7 +80,7 @@ every P f (x ∷ xs) = (f x, every P f xs)
 pub three-le : (style : LineStyle) (width : ℕ) → 3 ≤ width → 3 ≤ width - (margins_at style (Some width)).0 - (margins_at style (Some width)).1
 three-le style width wide = grind (arith, nat_tests)
 
-plain_line : (skin : MadSkin) (width : ℕ) (text : List ℕ) (reading : List Item) → 3 ≤ width → TakesColumns text → IsInlineReading text reading
+plain_line : (skin : RowSkin) (width : ℕ) (text : List ℕ) (reading : List Item) → 3 ≤ width → TakesColumns text → IsInlineReading text reading
     → IsPlainText skin (inner_width skin width (record { style = Paragraph; runs = map (run_at text) (runs reading) })) (kind_of Paragraph) (map (run_at text) (runs reading))
 plain_line skin width text reading wide h reads =
     let inner : 3 ≤ inner_width skin width (record { style = Paragraph; runs = map (run_at text) (runs reading) }) = three-le skin.paragraph width wide in
@@ -96,10 +96,10 @@ plain_line skin width text reading wide h reads =
 -- ---- a text
 
 -- the line keeps the premises in any part
-abbrev IsPlainAnywhere : MadSkin → ℕ → LineContent → Type 0
+abbrev IsPlainAnywhere : RowSkin → ℕ → LineContent → Type 0
 IsPlainAnywhere skin width line = (part : List LineContent) → IsPlainContent skin width part line
 
-lines_keep : (skin : MadSkin) (width : ℕ) (source : List ℕ) (places : List LinePlace) (lines : List LineContent) → 3 ≤ width
+lines_keep : (skin : RowSkin) (width : ℕ) (source : List ℕ) (places : List LinePlace) (lines : List LineContent) → 3 ≤ width
     → AllByRecursion (λ place. TakesColumns (line_text source place)) places → AreInlineLines source places lines → AllByRecursion (IsPlainAnywhere skin width) lines
 lines_keep skin width source [] [] wide h reads = tt
 lines_keep skin width source [] (l ∷ ls) wide h reads = absurd reads
@@ -108,7 +108,7 @@ lines_keep skin width source (p ∷ ps) (l ∷ ls) wide h reads =
     subst (λ (line : LineContent). AllByRecursion (IsPlainAnywhere skin width) (line ∷ ls)) (sym reads.0.says)
     (λ part. plain_line skin width _ reads.0.reading wide h.0 reads.0.reads, lines_keep skin width source ps ls wide h.1 reads.1)
 
-first_keep : (skin : MadSkin) (width n : ℕ) (xs : List LineInPart) → AllByRecursion (IsPlainAnywhere skin width) (map (λ (x : LineInPart). x.line) xs) → KeepsPremises skin width (take n xs)
+first_keep : (skin : RowSkin) (width n : ℕ) (xs : List LineInPart) → AllByRecursion (IsPlainAnywhere skin width) (map (λ (x : LineInPart). x.line) xs) → KeepsPremises skin width (take n xs)
 first_keep skin width zero xs h = tt
 first_keep skin width (suc n) [] h = tt
 first_keep skin width (suc n) (x ∷ xs) h = (h.0 x.part, first_keep skin width n xs h.1)
@@ -122,7 +122,7 @@ source_read source text h read =
     (all_each (λ (p : LinePlace). TakesColumns (line_text source p) × IsParagraphText (line_text source p)) (λ (p : LinePlace). IsUtf8 (line_text source p)) (λ p x. x.0.utf8) places given)
     (all_each (λ (p : LinePlace). TakesColumns (line_text source p) × IsParagraphText (line_text source p)) (λ (p : LinePlace). IsParagraphText (line_text source p)) (λ p x. x.1) places given)
 
-pub source_keeps : (skin : MadSkin) (width n : ℕ) (source : List ℕ) (text : List LineContent) → 3 ≤ width → LinesTakeColumns source → IsRead (unread_text false source) text → KeepsPremises skin width (take n (lines_in_parts text))
+pub source_keeps : (skin : RowSkin) (width n : ℕ) (source : List ℕ) (text : List LineContent) → 3 ≤ width → LinesTakeColumns source → IsRead (unread_text false source) text → KeepsPremises skin width (take n (lines_in_parts text))
 source_keeps skin width n source text wide h read =
     let places : List LinePlace = line_places read.reads.parts in
     first_keep skin width n (lines_in_parts text)
@@ -131,7 +131,7 @@ source_keeps skin width n source text wide h read =
     (source_read source text h read)))
 
 -- what an area shows of such a source
-pub source_shown : {T E : Type 0} (r : Result T E) (skin : MadSkin) (markdown : List ℕ) (area : Area) (old new : Trace) → OnOk r (4 ≤ area.width → ShowsText skin markdown area old new)
+pub source_shown : {T E : Type 0} (r : Result T E) (skin : RowSkin) (markdown : List ℕ) (area : Area) (old new : Trace) → OnOk r (4 ≤ area.width → ShowsText skin markdown area old new)
     → OnOk r (4 ≤ area.width → LinesTakeColumns markdown → ShowsSource skin markdown area old new)
 source_shown {T} {E} (Ok x) skin markdown area old new h = λ wide columns.
     let text : ShowsText skin markdown area old new = h wide in
@@ -143,7 +143,7 @@ source_shown {T} {E} (Ok x) skin markdown area old new h = λ wide columns.
 source_shown {T} {E} (Err e) skin markdown area old new h = tt
 
 -- a flush takes nothing from it
-pub source_flushed : (skin : MadSkin) (markdown : List ℕ) (area : Area) (old mid new : Trace) → ShowsSource skin markdown area old mid → new ≡ flushed mid → ShowsSource skin markdown area old new
+pub source_flushed : (skin : RowSkin) (markdown : List ℕ) (area : Area) (old mid new : Trace) → ShowsSource skin markdown area old mid → new ≡ flushed mid → ShowsSource skin markdown area old new
 source_flushed skin markdown area old mid new h e = record {
   lines = h.lines;
   laid_out = h.laid_out;

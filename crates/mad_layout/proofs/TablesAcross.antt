@@ -26,7 +26,7 @@ use Rattle.mad_layout.specs.Premises.{IsPlainPrefix, IsPlainText, KeepsPremises}
 use Rattle.mad_blocks.specs.Tables.{in_column, IsCellLaidOut, AreCellsLaidOut, below, tallest, IsRowLaidOutBy, columns_with, columns_from, columns_count, columns_in, position_at, IsTableLineBy, AreTableLinesBy, IsTableLaidOutBy}
 use Rattle.mad_blocks.specs.Tables as tables
 use Rattle.mad_format.specs.Wraps.{text_of, columns_of, IsMeasured}
-use Rattle.mad_layout.specs.declared.skin.MadSkin.{MadSkin}
+use Rattle.mad_rows.specs.declared.row_skin.RowSkin.{RowSkin}
 use Rattle.mad_format.specs.declared.composite.FmtComposite.{FmtComposite}
 use Rattle.mad_format.specs.declared.line.FmtLine.{FmtLine}
 use Rattle.mad_format.specs.declared.line.FmtLine.TheVariants.{Normal, TableRow, TableRule, HorizontalRule}
@@ -41,19 +41,19 @@ use Rattle.mad_layout.proofs.PrefixLemmas.{follow_up_plain}
 use Rattle.mad_layout.proofs.RowChars.{line_chars}
 use Rattle.mad_layout.proofs.RowsAcross.{parts_are, HaveFirstRows, across_exist, some_same}
 use Rattle.mad_layout.proofs.ColumnChars.{column_rule}
-use Rattle.mad_layout.specs.Rows.{rule_chars}
+use Rattle.mad_rows.specs.Rows.{rule_chars}
 use Rattle.mad_layout.proofs.WrapRows.{whole_parts, kept_rows, wrapped_rows}
-use Rattle.mad_layout.specs.Styles.{line_rules}
+use Rattle.mad_rows.specs.Styles.{line_rules}
 
 -- ---- a cell in its column
 
-one_in_column : (skin : MadSkin) (c : Spacing) (k : CompositeKind) (l : FmtComposite) → c.width < 2 ^ 64 - 1 → IsPlainPrefix skin k → l.kind ≡ k → IsMeasured (line_rules skin) l → columns_of (line_rules skin) l ≤ c.width
+one_in_column : (skin : RowSkin) (c : Spacing) (k : CompositeKind) (l : FmtComposite) → c.width < 2 ^ 64 - 1 → IsPlainPrefix skin k → l.kind ≡ k → IsMeasured (line_rules skin) l → columns_of (line_rules skin) l ≤ c.width
     → cell_chars skin (in_column c l) ≡ row_in_column skin c k (text_of l)
 one_in_column skin c k l bound prefix kind measured fits =
     let same : l.visible_length ≡ columns_of (line_rules skin) l = omega (arith, measured, fits, bound) in
     column_chars skin c l (subst (IsPlainPrefix skin) (sym kind) prefix) same ∙ ap (λ (x : CompositeKind). row_in_column skin c x (text_of l)) kind
 
-others_in_column : (skin : MadSkin) (c : Spacing) (k : CompositeKind) (ls : List FmtComposite) → c.width < 2 ^ 64 - 1 → IsPlainPrefix skin (follow_up k) → HaveKinds (follow_up k) (follow_up k) ls → AllByRecursion (IsMeasured (line_rules skin)) ls
+others_in_column : (skin : RowSkin) (c : Spacing) (k : CompositeKind) (ls : List FmtComposite) → c.width < 2 ^ 64 - 1 → IsPlainPrefix skin (follow_up k) → HaveKinds (follow_up k) (follow_up k) ls → AllByRecursion (IsMeasured (line_rules skin)) ls
     → LinesFit (indent skin.list_items_indentation_mode (follow_up k)) (room_of (line_rules skin) k c.width) (map flagged_text (line_compounds ls)) → lines_rows skin c ls ≡ map (row_in_column skin c (follow_up k)) (map flagged_text (line_compounds ls))
 others_in_column skin c k [] bound prefix kinds measured fits = refl
 others_in_column skin c k (l ∷ ls) bound prefix kinds measured fits =
@@ -62,7 +62,7 @@ others_in_column skin c k (l ∷ ls) bound prefix kinds measured fits =
     let rest = others_in_column skin c k ls bound prefix kinds.1 measured.1 fits.1 in
     ap (λ x. x ∷ lines_rows skin c ls) first ∙ ap (λ xs. row_in_column skin c (follow_up k) (text_of l) ∷ xs) rest
 
-wrap_in_column : (skin : MadSkin) (c : Spacing) (k : CompositeKind) (ls : List FmtComposite) → c.width < 2 ^ 64 - 1 → IsPlainPrefix skin k → HaveKinds k (follow_up k) ls → AllByRecursion (IsMeasured (line_rules skin)) ls
+wrap_in_column : (skin : RowSkin) (c : Spacing) (k : CompositeKind) (ls : List FmtComposite) → c.width < 2 ^ 64 - 1 → IsPlainPrefix skin k → HaveKinds k (follow_up k) ls → AllByRecursion (IsMeasured (line_rules skin)) ls
     → LinesFit (indent skin.list_items_indentation_mode k) (room_of (line_rules skin) k c.width) (map flagged_text (line_compounds ls)) → lines_rows skin c ls ≡ rows_in_column skin c k (map flagged_text (line_compounds ls))
 wrap_in_column skin c k [] bound prefix kinds measured fits = refl
 wrap_in_column skin c k (l ∷ ls) bound prefix kinds measured fits =
@@ -72,10 +72,10 @@ wrap_in_column skin c k (l ∷ ls) bound prefix kinds measured fits =
     ap (λ x. x ∷ lines_rows skin c ls) first ∙ ap (λ xs. row_in_column skin c k (text_of l) ∷ xs) rest
 
 -- the lines of a cell are rows of it
-abbrev HasRowsIn : MadSkin → Spacing → CompositeKind → List (List FlaggedChar) → List FmtComposite → Type 0
+abbrev HasRowsIn : RowSkin → Spacing → CompositeKind → List (List FlaggedChar) → List FmtComposite → Type 0
 HasRowsIn skin c k parts ls = (rows : List (List FlaggedChar)) × AreRowsOf (room_of (line_rules skin) k c.width) parts rows × (lines_rows skin c ls ≡ rows_in_column skin c k rows)
 
-cell_rows : (skin : MadSkin) (c : Spacing) (cell : FmtComposite) (ls : List FmtComposite) → c.width < 2 ^ 64 - 1 → IsMeasured (line_rules skin) cell → IsPlainText skin c.width cell.kind (map run_of cell.compounds.items)
+cell_rows : (skin : RowSkin) (c : Spacing) (cell : FmtComposite) (ls : List FmtComposite) → c.width < 2 ^ 64 - 1 → IsMeasured (line_rules skin) cell → IsPlainText skin c.width cell.kind (map run_of cell.compounds.items)
     → IsCellLaidOut IsCompositeWrap (line_rules skin) c.width cell ls → HasRowsIn skin c cell.kind (map flagged_of cell.compounds.items) ls
 cell_rows skin c cell ls bound measured plain (inl (fits, same)) =
     let inside : columns_of (line_rules skin) cell ≤ c.width = omega (arith, measured, fits, bound) in (
@@ -92,7 +92,7 @@ cell_rows skin c cell ls bound measured plain (inr (wide, wraps)) =
     let passes : r.width < r.first + width_of (flagged_text ps) = omega (arith, measured, wide) in
     (map flagged_text (line_compounds ls), wrapped_rows r ps (line_compounds ls) passes wraps.wrap, wrap_in_column skin c cell.kind ls bound plain.prefix wraps.kinds wraps.measured (wraps.wrap.fits room))
 
-said_cell : (skin : MadSkin) (c : Spacing) (said : StyledRuns) (cell : FmtComposite) (ls : List FmtComposite) → IsCompositeRead (line_rules skin) said cell → HasRowsIn skin c cell.kind (map flagged_of cell.compounds.items) ls
+said_cell : (skin : RowSkin) (c : Spacing) (said : StyledRuns) (cell : FmtComposite) (ls : List FmtComposite) → IsCompositeRead (line_rules skin) said cell → HasRowsIn skin c cell.kind (map flagged_of cell.compounds.items) ls
     → HasRowsIn skin c (kind_of said.style) (marked_parts said) ls
 said_cell skin c said cell ls read h =
     let parts : map flagged_of cell.compounds.items ≡ marked_parts said = sym (ap (map (λ (r : Run). flagged r.flags (chars r.text))) (sym read.text) ∙ parts_are cell.compounds.items) in
@@ -100,11 +100,11 @@ said_cell skin c said cell ls read h =
 
 -- ---- a row
 
-none_plain : (skin : MadSkin) (ws : List ℕ) → ArePlainCells skin ws []
+none_plain : (skin : RowSkin) (ws : List ℕ) → ArePlainCells skin ws []
 none_plain skin [] = tt
 none_plain skin (w ∷ ws) = tt
 
-cells_in_columns : (skin : MadSkin) (cs : List Spacing) (said : List StyledRuns) (cells : List FmtComposite) (lines : List (List FmtComposite)) → AllByRecursion (λ c. c.width < 2 ^ 64 - 1) cs → AreCompositesRead (line_rules skin) said cells
+cells_in_columns : (skin : RowSkin) (cs : List Spacing) (said : List StyledRuns) (cells : List FmtComposite) (lines : List (List FmtComposite)) → AllByRecursion (λ c. c.width < 2 ^ 64 - 1) cs → AreCompositesRead (line_rules skin) said cells
     → ArePlainCells skin (widths_of cs) cells → AreCellsLaidOut IsCompositeWrap (line_rules skin) cs cells lines → AreInColumns skin cs said (placed_lines skin cs lines)
 cells_in_columns skin [] said cells lines bound read plain laid = refl
 cells_in_columns skin (c ∷ cs) said cells [] bound read plain laid = absurd laid
@@ -126,7 +126,7 @@ cells_in_columns skin (c ∷ cs) (s ∷ ss) (cell ∷ cells) (ls ∷ lines) boun
       cells_in_columns skin cs ss cells lines bound.1 read.1 plain.2 laid.1,
     )
 
-as_tall : (skin : MadSkin) (cs : List Spacing) (cells : List FmtComposite) (lines : List (List FmtComposite)) → AreCellsLaidOut IsCompositeWrap (line_rules skin) cs cells lines → most_rows (placed_lines skin cs lines) ≡ tallest lines
+as_tall : (skin : RowSkin) (cs : List Spacing) (cells : List FmtComposite) (lines : List (List FmtComposite)) → AreCellsLaidOut IsCompositeWrap (line_rules skin) cs cells lines → most_rows (placed_lines skin cs lines) ≡ tallest lines
 as_tall skin [] cells [] laid = refl
 as_tall skin [] cells (ls ∷ lines) laid = absurd laid
 as_tall skin (c ∷ cs) cells [] laid = absurd laid
@@ -135,7 +135,7 @@ as_tall skin (c ∷ cs) cells (ls ∷ lines) laid =
     let own : length (lines_rows skin c ls) ≡ length ls = length-map ls (λ l. cell_chars skin (in_column c l)) in
     omega (arith, rest, own)
 
-row_is_across : (skin : MadSkin) (area : Area) (cs : List Spacing) (said : List StyledRuns) (cells : List FmtComposite) (rows : List FmtTableRow) → AllByRecursion (λ c. c.width < 2 ^ 64 - 1) cs → AreCompositesRead (line_rules skin) said cells
+row_is_across : (skin : RowSkin) (area : Area) (cs : List Spacing) (said : List StyledRuns) (cells : List FmtComposite) (rows : List FmtTableRow) → AllByRecursion (λ c. c.width < 2 ^ 64 - 1) cs → AreCompositesRead (line_rules skin) said cells
     → ArePlainCells skin (widths_of cs) cells → IsRowLaidOutBy IsCompositeWrap (line_rules skin) cs cells rows → IsRowAcross skin area cs said (map (line_chars skin area.width) (map TableRow rows))
 row_is_across skin area cs said cells rows bound read plain laid =
     let placed : List CellInColumn = placed_lines skin cs laid.lines in
@@ -154,13 +154,13 @@ below-widths ws None = centered-widths ws
 below-widths ws (Some aligns) = columns_with-widths ws aligns
 
 -- a line of a table that was laid out in its part, in columns of these widths
-pub record IsLaidIn (skin : MadSkin) (width : ℕ) (ws : List ℕ) (x : LineInPart) (l : FmtLine) (own : List FmtLine) : Type 0 where
+pub record IsLaidIn (skin : RowSkin) (width : ℕ) (ws : List ℕ) (x : LineInPart) (l : FmtLine) (own : List FmtLine) : Type 0 where
   pub widths : ws ≡ kept_widths skin width x.part
   pub table : is_table_line l ≡ true
   pub read : IsLineRead (line_rules skin) x.line l
   pub laid : IsTableLineBy IsCompositeWrap (line_rules skin) (columns_below ws x.aligns) x.position l own
 
-line_rows : (skin : MadSkin) (area : Area) (ws : List ℕ) (x : LineInPart) (c : LineContent) (l : FmtLine) (own : List FmtLine) → area.width < 2 ^ 64 - 1 → 1 + bordered ws ≤ area.width - 1 → ws ≡ kept_widths skin (area.width - 1) x.part
+line_rows : (skin : RowSkin) (area : Area) (ws : List ℕ) (x : LineInPart) (c : LineContent) (l : FmtLine) (own : List FmtLine) → area.width < 2 ^ 64 - 1 → 1 + bordered ws ≤ area.width - 1 → ws ≡ kept_widths skin (area.width - 1) x.part
     → TableContent skin (area.width - 1) ws l → IsLineRead (line_rules skin) c l → is_table_line l ≡ true → IsTableLineBy IsCompositeWrap (line_rules skin) (columns_below ws x.aligns) x.position l own
     → (0 < length own) × IsAcross skin area x c (map (line_chars skin area.width) own)
 line_rows skin area ws x (normal said) (Normal l) own bound fit is content read table laid = absurd (cc)
@@ -194,14 +194,14 @@ line_rows skin area ws x horizontal_rule HorizontalRule own bound fit is content
 
 -- ---- the lines of a table
 
-abbrev pub AreLaidIn : MadSkin → ℕ → List ℕ → List LineInPart → List FmtLine → List FmtLine → Type 0
+abbrev pub AreLaidIn : RowSkin → ℕ → List ℕ → List LineInPart → List FmtLine → List FmtLine → Type 0
 AreLaidIn skin width ws [] [] lines = lines ≡ []
 AreLaidIn skin width ws [] (l ∷ ls) lines = ⊥
 AreLaidIn skin width ws (x ∷ xs) [] lines = ⊥
 AreLaidIn skin width ws (x ∷ xs) (l ∷ ls) lines = (own : List FmtLine) × (others : List FmtLine) × (lines ≡ own ++ others) × IsLaidIn skin width ws x l own × AreLaidIn skin width ws xs ls others
 
 -- The first rows of these lines and of those after them, whose rows are there for any number of lines that keep the premises.
-pub table_front : (skin : MadSkin) (area : Area) (n : ℕ) (ws : List ℕ) (xs ys : List LineInPart) (read own others : List FmtLine) → area.width < 2 ^ 64 - 1 → 1 + bordered ws ≤ area.width - 1
+pub table_front : (skin : RowSkin) (area : Area) (n : ℕ) (ws : List ℕ) (xs ys : List LineInPart) (read own others : List FmtLine) → area.width < 2 ^ 64 - 1 → 1 + bordered ws ≤ area.width - 1
     → ((m : ℕ) → KeepsPremises skin (area.width - 1) (take m ys) → HaveFirstRows skin area m ys others)
     → KeepsPremises skin (area.width - 1) (take n (xs ++ ys)) → AreLaidIn skin (area.width - 1) ws xs read own → HaveFirstRows skin area n (xs ++ ys) (own ++ others)
 table_front skin area zero ws xs ys read own others bound fit later keeps laid = let all = across_exist skin area (xs ++ ys) in (all.0, all.1, refl)
@@ -222,13 +222,13 @@ table_front skin area (suc n) ws (x ∷ xs) ys (l ∷ ls) own others bound fit l
 
 -- ---- lines of a table in their part
 
-as_long : (skin : MadSkin) (cs : List LineContent) (ls : List FmtLine) → AreTableRead skin cs ls → length ls ≡ length cs
+as_long : (skin : RowSkin) (cs : List LineContent) (ls : List FmtLine) → AreTableRead skin cs ls → length ls ≡ length cs
 as_long skin [] [] h = refl
 as_long skin [] (l ∷ ls) h = absurd h
 as_long skin (c ∷ cs) [] h = absurd h
 as_long skin (c ∷ cs) (l ∷ ls) h = let rest : length ls ≡ length cs = as_long skin cs ls h.1 in omega (arith, rest)
 
-columns_at : (skin : MadSkin) (ws : List ℕ) (above : Option (List Alignment)) (c : LineContent) (l : FmtLine) → IsLineRead (line_rules skin) c l → is_table_line l ≡ true → columns_from ws (columns_below ws above) l ≡ columns_below ws (aligns_at above c)
+columns_at : (skin : RowSkin) (ws : List ℕ) (above : Option (List Alignment)) (c : LineContent) (l : FmtLine) → IsLineRead (line_rules skin) c l → is_table_line l ≡ true → columns_from ws (columns_below ws above) l ≡ columns_below ws (aligns_at above c)
 columns_at skin ws above (normal said) (Normal l) read table = refl
 columns_at skin ws above (normal said) (TableRow row) read table = absurd read
 columns_at skin ws above (normal said) (TableRule rule) read table = absurd read
@@ -246,7 +246,7 @@ columns_at skin ws above horizontal_rule (TableRow row) read table = absurd read
 columns_at skin ws above horizontal_rule (TableRule rule) read table = absurd read
 columns_at skin ws above horizontal_rule HorizontalRule read table = refl
 
-laid_in : (skin : MadSkin) (width : ℕ) (ws : List ℕ) (part : List LineContent) (above : Option (List Alignment)) (first : Bool) (cs : List LineContent) (ls own : List FmtLine) → ws ≡ kept_widths skin width part → (columns_among part == 0) ≡ false
+laid_in : (skin : RowSkin) (width : ℕ) (ws : List ℕ) (part : List LineContent) (above : Option (List Alignment)) (first : Bool) (cs : List LineContent) (ls own : List FmtLine) → ws ≡ kept_widths skin width part → (columns_among part == 0) ≡ false
     → AreTableRead skin cs ls → AreTableLinesBy IsCompositeWrap (line_rules skin) ws (columns_below ws above) first ls own → AreLaidIn skin width ws (lines_in part above first cs) ls own
 laid_in skin width ws part above first [] [] own is some reads laid = laid
 laid_in skin width ws part above first [] (l ∷ ls) own is some reads laid = absurd reads
@@ -274,7 +274,7 @@ no_columns : (available : ℕ) → column_widths available [] ≡ []
 unfolding column_widths
 no_columns available = let test : nat_le 0 available ≡ true = grind (arith, nat_tests) in ap (λ (b : Bool). if b then [] else after_second available []) test
 
-no_widths : (skin : MadSkin) (width : ℕ) (part : List LineContent) → 0 < width → columns_among part ≡ 0 → [] ≡ kept_widths skin width part
+no_widths : (skin : RowSkin) (width : ℕ) (part : List LineContent) → 0 < width → columns_among part ≡ 0 → [] ≡ kept_widths skin width part
 no_widths skin width part some none =
     let test : nat_le (4 * columns_among part + 1) width ≡ true = grind (arith, nat_tests) in
     sym (ap (λ n. if nat_le (4 * n + 1) width then column_widths (width - 1 - n) (map needs_of (down n (cells_among skin part))) else replicate ((width - 1) / 4) 3) none
@@ -289,7 +289,7 @@ no_items : {A : Type 0} (xs : List A) → length xs ≡ 0 → xs ≡ []
 no_items {A} [] h = refl
 no_items {A} (x ∷ xs) h = absurd (omega (arith, h))
 
-bare_line : (skin : MadSkin) (position : RelativePosition) (c : LineContent) (l : FmtLine) → position ≡ Other → IsLineRead (line_rules skin) c l → is_table_line l ≡ true → columns_in l ≡ 0 → IsTableLineBy IsCompositeWrap (line_rules skin) [] position l (l ∷ [])
+bare_line : (skin : RowSkin) (position : RelativePosition) (c : LineContent) (l : FmtLine) → position ≡ Other → IsLineRead (line_rules skin) c l → is_table_line l ≡ true → columns_in l ≡ 0 → IsTableLineBy IsCompositeWrap (line_rules skin) [] position l (l ∷ [])
 bare_line skin position (normal said) (Normal l) other read table none = refl
 bare_line skin position (normal said) (TableRow row) other read table none = absurd read
 bare_line skin position (normal said) (TableRule rule) other read table none = absurd read
@@ -309,7 +309,7 @@ bare_line skin position horizontal_rule (TableRow row) other read table none = a
 bare_line skin position horizontal_rule (TableRule rule) other read table none = absurd read
 bare_line skin position horizontal_rule HorizontalRule other read table none = refl
 
-bare_in : (skin : MadSkin) (width : ℕ) (part : List LineContent) (above : Option (List Alignment)) (first : Bool) (cs : List LineContent) (ls : List FmtLine) → [] ≡ kept_widths skin width part → columns_among part ≡ 0 → columns_count ls ≡ 0
+bare_in : (skin : RowSkin) (width : ℕ) (part : List LineContent) (above : Option (List Alignment)) (first : Bool) (cs : List LineContent) (ls : List FmtLine) → [] ≡ kept_widths skin width part → columns_among part ≡ 0 → columns_count ls ≡ 0
     → AreTableRead skin cs ls → AreLaidIn skin width [] (lines_in part above first cs) ls ls
 bare_in skin width part above first [] [] is none empty reads = refl
 bare_in skin width part above first [] (l ∷ ls) is none empty reads = absurd reads
@@ -334,7 +334,7 @@ bare_in skin width part above first (c ∷ cs) (l ∷ ls) is none empty reads =
 -- ---- a table
 
 -- The first rows of a table and of the lines after it.
-pub table_across_area : (skin : MadSkin) (area : Area) (n : ℕ) (part : List LineContent) (ys : List LineInPart) (read own others : List FmtLine) → area.width < 2 ^ 64 - 1 → 4 ≤ area.width
+pub table_across_area : (skin : RowSkin) (area : Area) (n : ℕ) (part : List LineContent) (ys : List LineInPart) (read own others : List FmtLine) → area.width < 2 ^ 64 - 1 → 4 ≤ area.width
     → ((m : ℕ) → KeepsPremises skin (area.width - 1) (take m ys) → HaveFirstRows skin area m ys others)
     → KeepsPremises skin (area.width - 1) (take n (lines_in part None true part ++ ys)) → AreTableRead skin part read
     → IsTableLaidOutBy IsCompositeWrap (line_rules skin) (columns_count read) (area.width - 1) read own → HaveFirstRows skin area n (lines_in part None true part ++ ys) (own ++ others)

@@ -17,9 +17,9 @@ use Rattle.mad_blocks.proofs.WideLayouts.{IsLayout}
 use Rattle.mad_format.specs.Lines.{IsLineRead, IsCompositeRead}
 use Rattle.mad_blocks.specs.Parts.{Part, table, block, single, is_code_kind, parts_of, widest, placed_code, ArePartsAt}
 use Rattle.mad_layout.specs.Premises.{KeepsPremises, inner_width, runs_text}
-use Rattle.mad_layout.specs.Styles.{line_rules, line_style}
+use Rattle.mad_rows.specs.Styles.{line_rules, line_style}
 use Rattle.mad_format.specs.Wraps.{text_of}
-use Rattle.mad_layout.specs.declared.skin.MadSkin.{MadSkin}
+use Rattle.mad_rows.specs.declared.row_skin.RowSkin.{RowSkin}
 use Rattle.mad_format.specs.declared.composite.FmtComposite.{FmtComposite}
 use Rattle.mad_format.specs.declared.line.FmtLine.{FmtLine}
 use Rattle.mad_format.specs.declared.line.FmtLine.TheVariants.{Normal, TableRow, TableRule, HorizontalRule}
@@ -33,14 +33,14 @@ use Rattle.mad_layout.proofs.TablesAcross.{table_across_area}
 -- ---- a block of code
 
 -- the columns that the margins of code leave
-abbrev code_left : MadSkin → ℕ → ℕ
+abbrev code_left : RowSkin → ℕ → ℕ
 code_left skin width = let margins = margins_at skin.code_block (Some width) in width - margins.0 - margins.1
 
-inner_code : (skin : MadSkin) (width : ℕ) (said : StyledRuns) → is_code_kind (kind_of said.style) ≡ true → inner_width skin width said ≡ code_left skin width
+inner_code : (skin : RowSkin) (width : ℕ) (said : StyledRuns) → is_code_kind (kind_of said.style) ≡ true → inner_width skin width said ≡ code_left skin width
 inner_code skin width said on =
     ap (λ (k : CompositeKind). width - (margins_at (line_style skin k) (Some width)).0 - (margins_at (line_style skin k) (Some width)).1) (code_is (kind_of said.style) on)
 
-widest_same : (skin : MadSkin) (room : ℕ) (cs : List LineContent) (ls : List FmtComposite) → room < 2 ^ 64 - 1 → AreCodeRead skin cs ls → min (widest ls) room ≡ min (widest_in cs) room
+widest_same : (skin : RowSkin) (room : ℕ) (cs : List LineContent) (ls : List FmtComposite) → room < 2 ^ 64 - 1 → AreCodeRead skin cs ls → min (widest ls) room ≡ min (widest_in cs) room
 widest_same skin room [] [] bound h = refl
 widest_same skin room [] (l ∷ ls) bound h = absurd h
 widest_same skin room (c ∷ cs) [] bound h = absurd h
@@ -54,7 +54,7 @@ widest_same skin room (table_row cells ∷ cs) (l ∷ ls) bound h = absurd h.0.r
 widest_same skin room (table_rule aligns ∷ cs) (l ∷ ls) bound h = absurd h.0.read
 widest_same skin room (horizontal_rule ∷ cs) (l ∷ ls) bound h = absurd h.0.read
 
-block_placed : (skin : MadSkin) (width columns : ℕ) (part : List LineContent) (above : Option (List Alignment)) (first : Bool) (cs : List LineContent) (ls : List FmtComposite) → columns ≡ min (widest_in part) (code_left skin width) → widest_in cs ≤ widest_in part
+block_placed : (skin : RowSkin) (width columns : ℕ) (part : List LineContent) (above : Option (List Alignment)) (first : Bool) (cs : List LineContent) (ls : List FmtComposite) → columns ≡ min (widest_in part) (code_left skin width) → widest_in cs ≤ widest_in part
     → AreCodeRead skin cs ls → AreReadIn skin width (lines_in part above first cs) (map Normal (map (placed_code columns) ls))
 block_placed skin width columns part above first [] [] is most h = tt
 block_placed skin width columns part above first [] (l ∷ ls) is most h = absurd h
@@ -77,7 +77,7 @@ block_placed skin width columns part above first (horizontal_rule ∷ cs) (l ∷
 
 -- ---- a part
 
-line_placed : (skin : MadSkin) (width : ℕ) (part : List LineContent) (c : LineContent) (l : FmtLine) → is_code c ≡ false → is_table c ≡ false → IsLineRead (line_rules skin) c l → IsReadIn skin width part c l
+line_placed : (skin : RowSkin) (width : ℕ) (part : List LineContent) (c : LineContent) (l : FmtLine) → is_code c ≡ false → is_table c ≡ false → IsLineRead (line_rules skin) c l → IsReadIn skin width part c l
 line_placed skin width part (normal said) (Normal l) other no_table read = record {
   kind = read.kind;
   text = read.text;
@@ -97,7 +97,7 @@ line_placed skin width part horizontal_rule HorizontalRule other no_table read =
 
 -- ---- a text
 
-parts_across : (skin : MadSkin) (area : Area) (n : ℕ) (css : List (List LineContent)) (ps : List Part) (lines : List FmtLine) → area.width < 2 ^ 64 - 1 → 4 ≤ area.width
+parts_across : (skin : RowSkin) (area : Area) (n : ℕ) (css : List (List LineContent)) (ps : List Part) (lines : List FmtLine) → area.width < 2 ^ 64 - 1 → 4 ≤ area.width
     → KeepsPremises skin (area.width - 1) (take n (all_in css)) → ArePartsRead skin css ps → ArePartsAt IsCompositeWrap (line_rules skin) (area.width - 1) (Some (area.width - 1)) ps lines
     → HaveFirstRows skin area n (all_in css) lines
 parts_across skin area n [] [] lines bound wide keeps reads laid = ([], refl, ap (λ (ls : List FmtLine). take n (map (line_chars skin area.width) ls)) (sym laid))
@@ -122,7 +122,7 @@ parts_across skin area n ((c ∷ []) ∷ css) (single l ∷ ps) lines bound wide
 parts_across skin area n ((c ∷ d ∷ cs) ∷ css) (single l ∷ ps) lines bound wide keeps reads laid = absurd reads.0
 
 -- The first rows of a layout are the first rows of the text's lines, where the first lines keep the premises.
-pub text_across : (skin : MadSkin) (area : Area) (n : ℕ) (text : List LineContent) (lines : List FmtLine) → area.width < 2 ^ 64 - 1 → 4 ≤ area.width → KeepsPremises skin (area.width - 1) (take n (lines_in_parts text))
+pub text_across : (skin : RowSkin) (area : Area) (n : ℕ) (text : List LineContent) (lines : List FmtLine) → area.width < 2 ^ 64 - 1 → 4 ≤ area.width → KeepsPremises skin (area.width - 1) (take n (lines_in_parts text))
     → IsLayout (line_rules skin) (area.width - 1) text lines → HaveFirstRows skin area n (lines_in_parts text) lines
 text_across skin area n text lines bound wide keeps layout =
     parts_across skin area n (text_parts text) (parts_of layout.read) lines bound wide keeps

@@ -42,13 +42,14 @@ use Rattle.mad_blocks.specs.Layouts.{AreRead}
 use Rattle.mad_blocks.proofs.WideLayouts.{IsLayout}
 use Rattle.mad_blocks.specs.Parts.{Part, single, is_code_kind, with_composite, parts_of, ArePartsAt}
 use Rattle.mad_layout.specs.Premises.{runs_text}
-use Rattle.mad_layout.specs.Rows.{run_piece, line_pieces}
+use Rattle.mad_rows.specs.Rows.{run_piece, line_pieces}
 use Rattle.mad_layout.specs.Shown.{text_row, AreShownIn}
 use Rattle.mad_layout.specs.Skins.{no_style_skin}
-use Rattle.mad_layout.specs.Sources.{LinesTakeColumns, ShowsSource}
 use Rattle.mad_layout.specs.declared.skin.MadSkin.{MadSkin}
-use Rattle.mad_layout.specs.Styles.{line_rules, line_style}
-use Rattle.mad_layout.specs.Words.{corner, words, word_area, SpacesAreNoText}
+use Rattle.mad_layout.specs.RowSkins.{row_skin}
+use Rattle.mad_layout.specs.Sources.{LinesTakeColumns, ShowsSource}
+use Rattle.mad_rows.specs.Styles.{line_rules, line_style}
+use Rattle.mad_layout.specs.Words.{corner, words, word_area, SpacesAreNoText, word_skin}
 use Rattle.mad_format.specs.WrappedLines.{IsLaidOutBy, line_with}
 use Rattle.mad_format.specs.Wraps.{text_of}
 use Rattle.mad_format.specs.declared.composite.FmtComposite.{FmtComposite}
@@ -56,7 +57,7 @@ use Rattle.mad_format.specs.declared.line.FmtLine.{FmtLine}
 use Rattle.mad_format.specs.declared.line.FmtLine.TheVariants.{Normal, TableRow, TableRule, HorizontalRule}
 use Rattle.mad_layout.proofs.DrawnParts.{runs_are}
 use Rattle.mad_blocks.proofs.WrapKinds.{wrapped_at}
-use Rattle.mad_layout.proofs.PieceLemmas.{pieces_of_runs}
+use Rattle.mad_rows.proofs.PieceLemmas.{pieces_of_runs}
 use Rattle.mad_layout.proofs.WordLemmas.{one_a, one_b, one_c, one_space, spelled, one_part, words_take_columns}
 
 -- ---- how it is read
@@ -92,7 +93,7 @@ record OneLine (lines : List FmtLine) : Type 0 where
   columns : l.visible_length ≡ 9
   spacing : l.spacing ≡ None
 
-laid : (read lines : List FmtLine) → AreRead (line_rules no_style_skin) (normal word_line ∷ []) read → ArePartsAt IsCompositeWrap (line_rules no_style_skin) 11 (Some 11) (parts_of read) lines → OneLine lines
+laid : (read lines : List FmtLine) → AreRead (line_rules word_skin) (normal word_line ∷ []) read → ArePartsAt IsCompositeWrap (line_rules word_skin) 11 (Some 11) (parts_of read) lines → OneLine lines
 laid [] lines reads parts = absurd reads
 laid (l ∷ m ∷ ms) lines reads parts = absurd reads.1
 laid (TableRow row ∷ []) lines reads parts = absurd reads.0
@@ -100,17 +101,17 @@ laid (TableRule rule ∷ []) lines reads parts = absurd reads.0
 laid (HorizontalRule ∷ []) lines reads parts = absurd reads.0
 laid (Normal l ∷ []) lines reads parts =
     let kind : l.kind ≡ Paragraph = reads.0.kind in
-    let part : ArePartsAt IsCompositeWrap (line_rules no_style_skin) 11 (Some 11) (single (Normal l) ∷ []) lines =
-    subst (λ (ps : List Part). ArePartsAt IsCompositeWrap (line_rules no_style_skin) 11 (Some 11) ps lines) (ap (λ (k : CompositeKind). with_composite (is_code_kind k) l []) kind) parts in
+    let part : ArePartsAt IsCompositeWrap (line_rules word_skin) 11 (Some 11) (single (Normal l) ∷ []) lines =
+    subst (λ (ps : List Part). ArePartsAt IsCompositeWrap (line_rules word_skin) 11 (Some 11) ps lines) (ap (λ (k : CompositeKind). with_composite (is_code_kind k) l []) kind) parts in
     let line = part.3 in
     let own : List FmtLine = line.0 in
-    let here : IsLaidOutBy IsCompositeWrap (line_rules no_style_skin) 11 l own = line.3 in
-    let no_indent : indent no_style_skin.list_items_indentation_mode l.kind ≡ 0 = ap (indent no_style_skin.list_items_indentation_mode) kind in
+    let here : IsLaidOutBy IsCompositeWrap (line_rules word_skin) 11 l own = line.3 in
+    let no_indent : indent word_skin.list_items_indentation_mode l.kind ≡ 0 = ap (indent word_skin.list_items_indentation_mode) kind in
     let wide : width_of (text_of l) ≡ 9 = ap width_of (sym (runs_are l.compounds.items) ∙ ap runs_text reads.0.text) ∙ word_columns in
     let columns : l.visible_length ≡ 9 = omega (arith, reads.0.measured, no_indent, wide) in
-    let margins : margins_at (line_style no_style_skin l.kind) (Some 11) ≡ (0, 0) = ap (λ k. margins_at (line_style no_style_skin k) (Some 11)) kind in
-    let left : (margins_at (line_style no_style_skin l.kind) (Some 11)).0 ≡ 0 = ap (λ (m : ℕ × ℕ). m.0) margins in
-    let right : (margins_at (line_style no_style_skin l.kind) (Some 11)).1 ≡ 0 = ap (λ (m : ℕ × ℕ). m.1) margins in
+    let margins : margins_at (line_style word_skin l.kind) (Some 11) ≡ (0, 0) = ap (λ k. margins_at (line_style word_skin k) (Some 11)) kind in
+    let left : (margins_at (line_style word_skin l.kind) (Some 11)).0 ≡ 0 = ap (λ (m : ℕ × ℕ). m.0) margins in
+    let right : (margins_at (line_style word_skin l.kind) (Some 11)).1 ≡ 0 = ap (λ (m : ℕ × ℕ). m.1) margins in
     let own_is : own ≡ line_with (0, 0) l ∷ [] = elim here [
       | inl kept ↦ kept.1 ∙ ap (λ (m : ℕ × ℕ). line_with m l ∷ []) margins
       | inr broken ↦ absurd (omega (arith, broken.0, columns, left, right))
@@ -126,9 +127,9 @@ laid (Normal l ∷ []) lines reads parts =
 
 -- ---- the first cell of its row
 
-first_cell : (tail : List RowPiece) → get_or (penned_cells (penned_chars (run_piece no_style_skin (line_style no_style_skin Paragraph) word_run ∷ tail))) 0 blank ≡ record { chars = 97 ∷ []; pen = plain_pen }
+first_cell : (tail : List RowPiece) → get_or (penned_cells (penned_chars (run_piece word_skin (line_style word_skin Paragraph) word_run ∷ tail))) 0 blank ≡ record { chars = 97 ∷ []; pen = plain_pen }
 first_cell tail =
-    let pen : Look = look_of_style (run_piece no_style_skin (line_style no_style_skin Paragraph) word_run).style in
+    let pen : Look = look_of_style (run_piece word_skin (line_style word_skin Paragraph) word_run).style in
     let rest : List PennedChar = map (λ c. record { char = c; pen = pen }) (97 ∷ 32 ∷ 98 ∷ 98 ∷ 32 ∷ 99 ∷ 99 ∷ []) ++ penned_chars tail in
     ap (λ (cs : List ℕ). get_or (penned_cells (map (λ c. record { char = c; pen = pen }) cs ++ penned_chars tail)) 0 blank) spelled
     ∙ ap (λ (n : ℕ). get_or (attach (Some n) pen 97 (attach (Some n) pen 97 (penned_joined rest))).1 0 blank) one_a
@@ -142,16 +143,16 @@ same_line l kind columns spacing =
     ∙ ap (λ n. Normal (record { kind = Paragraph; compounds = l.compounds; visible_length = n; spacing = l.spacing; margins = Some (0, 0) })) columns
     ∙ ap (λ s. Normal (record { kind = Paragraph; compounds = l.compounds; visible_length = 9; spacing = s; margins = Some (0, 0) })) spacing
 
-first_of_line : (l : FmtComposite) → map run_of l.compounds.items ≡ word_run ∷ [] → get_or (penned_cells (penned_chars (line_pieces no_style_skin (Some 12) true (Normal (laid_line l))))) 0 blank ≡ record { chars = 97 ∷ []; pen = plain_pen }
+first_of_line : (l : FmtComposite) → map run_of l.compounds.items ≡ word_run ∷ [] → get_or (penned_cells (penned_chars (line_pieces word_skin (Some 12) true (Normal (laid_line l))))) 0 blank ≡ record { chars = 97 ∷ []; pen = plain_pen }
 first_of_line l runs =
-    let style = line_style no_style_skin Paragraph in
-    let tail : List RowPiece = record { style = no_style_skin.paragraph.compound_style.object_style; text = 32 ∷ 32 ∷ 32 ∷ [] } ∷ [] in
-    ap (λ (ps : List RowPiece). get_or (penned_cells (penned_chars (ps ++ tail))) 0 blank) (pieces_of_runs no_style_skin style l.compounds.items ∙ ap (map (run_piece no_style_skin style)) runs)
+    let style = line_style word_skin Paragraph in
+    let tail : List RowPiece = record { style = word_skin.paragraph.compound_style.object_style; text = 32 ∷ 32 ∷ 32 ∷ [] } ∷ [] in
+    ap (λ (ps : List RowPiece). get_or (penned_cells (penned_chars (ps ++ tail))) 0 blank) (pieces_of_runs word_skin style l.compounds.items ∙ ap (map (run_piece word_skin style)) runs)
     ∙ first_cell tail
 
-words_first : (lines : List FmtLine) → OneLine lines → get_or (penned_cells (penned_chars (text_row no_style_skin 12 lines 0 0))) 0 blank ≡ record { chars = 97 ∷ []; pen = plain_pen }
+words_first : (lines : List FmtLine) → OneLine lines → get_or (penned_cells (penned_chars (text_row word_skin 12 lines 0 0))) 0 blank ≡ record { chars = 97 ∷ []; pen = plain_pen }
 words_first lines one =
-    ap (λ (ls : List FmtLine). get_or (penned_cells (penned_chars (text_row no_style_skin 12 ls 0 0))) 0 blank) (one.is ∙ ap (λ (line : FmtLine). line ∷ []) (same_line one.l one.kind one.columns one.spacing))
+    ap (λ (ls : List FmtLine). get_or (penned_cells (penned_chars (text_row word_skin 12 ls 0 0))) 0 blank) (one.is ∙ ap (λ (line : FmtLine). line ∷ []) (same_line one.l one.kind one.columns one.spacing))
     ∙ first_of_line one.l one.runs
 
 -- ---- the screen
@@ -170,34 +171,34 @@ pub record ShowsWords (start g : Grid) : Type 0 where
   pub inside : cell_at g 2 1 ≡ record { chars = 97 ∷ []; pen = plain_pen }
   pub outside : cell_at g 0 0 ≡ cell_at start 0 0
 
-nothing_laid : (read lines : List FmtLine) → AreRead (line_rules no_style_skin) [] read → ArePartsAt IsCompositeWrap (line_rules no_style_skin) 11 (Some 11) (parts_of read) lines → 2 ≤ length lines → ⊥
+nothing_laid : (read lines : List FmtLine) → AreRead (line_rules word_skin) [] read → ArePartsAt IsCompositeWrap (line_rules word_skin) 11 (Some 11) (parts_of read) lines → 2 ≤ length lines → ⊥
 nothing_laid [] lines reads laid some = omega (arith, some, ap length laid)
 nothing_laid (l ∷ ls) lines reads laid some = reads
 
 -- a line is all of itself, or none: and none of it has two rows
-whole_front : (front rest : List LineContent) (lines : List FmtLine) → front ++ rest ≡ normal word_line ∷ [] → IsLayout (line_rules no_style_skin) 11 front lines → (rest ≡ []) ⊎ (2 ≤ length lines) → front ≡ normal word_line ∷ []
+whole_front : (front rest : List LineContent) (lines : List FmtLine) → front ++ rest ≡ normal word_line ∷ [] → IsLayout (line_rules word_skin) 11 front lines → (rest ≡ []) ⊎ (2 ≤ length lines) → front ≡ normal word_line ∷ []
 whole_front [] rest lines joins layout (inl none) = let e : [] ≡ normal word_line ∷ [] = sym none ∙ joins in absurd (cc)
 whole_front [] rest lines joins layout (inr some) = absurd (nothing_laid layout.read lines layout.reads layout.laid some)
 whole_front (c ∷ []) rest lines joins layout enough = let e : c ≡ normal word_line = cc in ap (λ (x : LineContent). x ∷ []) e
 whole_front (c ∷ d ∷ cs) rest lines joins layout enough = absurd (cc)
 
-shown_as_one : (lines : List FmtLine) (old new : Trace) (h : ShowsSource no_style_skin words word_area old new) → OneLine h.lines
+shown_as_one : (lines : List FmtLine) (old new : Trace) (h : ShowsSource word_skin words word_area old new) → OneLine h.lines
 shown_as_one lines old new h =
-    let front : IsFrontLayout (line_rules no_style_skin) (Some 11) 2 h.laid_out.text h.lines = h.laid_out.layout in
-    let layout : IsLayout (line_rules no_style_skin) 11 front.front h.lines = wrapped_at (line_rules no_style_skin) 11 front.front h.lines (omega arith) front.layout in
+    let front : IsFrontLayout (line_rules word_skin) (Some 11) 2 h.laid_out.text h.lines = h.laid_out.layout in
+    let layout : IsLayout (line_rules word_skin) 11 front.front h.lines = wrapped_at (line_rules word_skin) 11 front.front h.lines (omega arith) front.layout in
     let all : front.front ≡ normal word_line ∷ [] = whole_front front.front front.rest h.lines (sym front.joins ∙ words_read h.laid_out.text h.laid_out.read) layout front.enough in
-    let of_words : IsLayout (line_rules no_style_skin) 11 (normal word_line ∷ []) h.lines = subst (λ (xs : List LineContent). IsLayout (line_rules no_style_skin) 11 xs h.lines) all layout in
+    let of_words : IsLayout (line_rules word_skin) 11 (normal word_line ∷ []) h.lines = subst (λ (xs : List LineContent). IsLayout (line_rules word_skin) 11 xs h.lines) all layout in
     laid of_words.read h.lines of_words.reads of_words.laid
 
 one_value : {A : Type 0} (o : Option A) (a b : A) → o ≡ Some a → o ≡ Some b → a ≡ b
 one_value {A} o a b e f = let both : Some a ≡ Some b = sym e ∙ f in cc
 
-pub words_shown : (old new : Trace) (taken : List ℕ) (start g : Grid) → old.bytes ≡ Some [] → new.bytes ≡ Some taken → ShowsSource no_style_skin words word_area old new
+pub words_shown : (old new : Trace) (taken : List ℕ) (start g : Grid) → old.bytes ≡ Some [] → new.bytes ≡ Some taken → ShowsSource word_skin words word_area old new
     → IsOnScreen word_area start → after_bytes start taken ≡ Some g → ShowsWords start g
 words_shown old new taken start g none all h begun read =
     let one : OneLine h.lines = shown_as_one h.lines old new h in
-    let took : (text : List ℕ) × (new.bytes ≡ Some ([] ++ text)) × AreShownIn no_style_skin h.lines word_area 0 text =
-    subst (λ (o : Option (List ℕ)). IfSome o (λ before. (text : List ℕ) × (new.bytes ≡ Some (before ++ text)) × AreShownIn no_style_skin h.lines word_area 0 text)) none h.shown in
+    let took : (text : List ℕ) × (new.bytes ≡ Some ([] ++ text)) × AreShownIn word_skin h.lines word_area 0 text =
+    subst (λ (o : Option (List ℕ)). IfSome o (λ before. (text : List ℕ) × (new.bytes ≡ Some (before ++ text)) × AreShownIn word_skin h.lines word_area 0 text)) none h.shown in
     let same : took.0 ≡ taken = one_value new.bytes took.0 taken took.1 all in
     let shown = took.2 start begun in
     let is : shown.0 ≡ g = one_value (after_bytes start took.0) shown.0 g shown.1 (ap (after_bytes start) same ∙ read) in
@@ -208,12 +209,12 @@ words_shown old new taken start g none all h begun read =
 
 -- the same in a skin and an area that are these
 words_shown_by : (old new : Trace) (taken : List ℕ) (start g : Grid) (skin : MadSkin) (area : Area) → skin ≡ no_style_skin → area ≡ word_area → old.bytes ≡ Some [] → new.bytes ≡ Some taken
-    → (4 ≤ area.width → LinesTakeColumns words → ShowsSource skin words area old new) → IsOnScreen word_area start → after_bytes start taken ≡ Some g → ShowsWords start g
+    → (4 ≤ area.width → LinesTakeColumns words → ShowsSource (row_skin skin) words area old new) → IsOnScreen word_area start → after_bytes start taken ≡ Some g → ShowsWords start g
 words_shown_by old new taken start g skin area skin_is area_is none all h begun read =
-    let by_skin : 4 ≤ area.width → LinesTakeColumns words → ShowsSource no_style_skin words area old new =
-    subst (λ (s : MadSkin). 4 ≤ area.width → LinesTakeColumns words → ShowsSource s words area old new) skin_is h in
-    let here : 4 ≤ 12 → LinesTakeColumns words → ShowsSource no_style_skin words word_area old new =
-    subst (λ (a : Area). 4 ≤ a.width → LinesTakeColumns words → ShowsSource no_style_skin words a old new) area_is by_skin in
+    let by_skin : 4 ≤ area.width → LinesTakeColumns words → ShowsSource word_skin words area old new =
+    subst (λ (s : MadSkin). 4 ≤ area.width → LinesTakeColumns words → ShowsSource (row_skin s) words area old new) skin_is h in
+    let here : 4 ≤ 12 → LinesTakeColumns words → ShowsSource word_skin words word_area old new =
+    subst (λ (a : Area). 4 ≤ a.width → LinesTakeColumns words → ShowsSource word_skin words a old new) area_is by_skin in
     words_shown old new taken start g none all (here (omega arith) words_take_columns) begun read
 
 -- ---- the screen with a letter in its corner
@@ -269,7 +270,7 @@ pub record ShowsWordsAndCorner (g : Grid) : Type 0 where
   pub outside : cell_at g 0 0 ≡ corner
 
 pub corner_stays : (old new : Trace) (taken : List ℕ) (empty start g : Grid) (skin : MadSkin) (area : Area) → skin ≡ no_style_skin → area ≡ word_area → old.bytes ≡ Some [] → new.bytes ≡ Some taken
-    → (4 ≤ area.width → LinesTakeColumns words → ShowsSource skin words area old new) → empty ≡ empty_grid 16 4 → after_bytes empty (122 ∷ []) ≡ Some start → after_bytes start taken ≡ Some g → ShowsWordsAndCorner g
+    → (4 ≤ area.width → LinesTakeColumns words → ShowsSource (row_skin skin) words area old new) → empty ≡ empty_grid 16 4 → after_bytes empty (122 ∷ []) ≡ Some start → after_bytes start taken ≡ Some g → ShowsWordsAndCorner g
 corner_stays old new taken empty start g skin area skin_is area_is none all h begun cornered read =
     let is : corner_grid ≡ start = ap (λ (o : Option Grid). unwrap_or o start) (sym corner_read ∙ ap (λ e. after_bytes e (122 ∷ [])) (sym begun) ∙ cornered) in
     let shows = words_shown_by old new taken start g skin area skin_is area_is none all h (subst (IsOnScreen word_area) is corner_on_screen) read in
@@ -297,10 +298,10 @@ spaces_are_no_text old new none all h =
     let known : AreKnown (spaces plain_style 12) = spaces_known plain_style 12 (record { foreground = tt; background = tt; underline = tt }) in
     let drawn = area_shown row word_area (omega arith) (omega arith) (known_rows row 0 2 (λ k. known)) (λ y inside. record { shown = shown_spaces plain_style 12; columns = spaces_columns plain_style 12 })
     (empty_grid 16 4) on_screen in
-    let source : ShowsSource no_style_skin words word_area old new = record {
+    let source : ShowsSource word_skin words word_area old new = record {
       lines = h.lines;
       laid_out = h.laid_out;
-      shown = h.shown (source_keeps no_style_skin 11 2 words h.laid_out.text (omega arith) words_take_columns h.laid_out.read);
+      shown = h.shown (source_keeps word_skin 11 2 words h.laid_out.text (omega arith) words_take_columns h.laid_out.read);
     } in
     let shows : ShowsWords (empty_grid 16 4) drawn.0 = words_shown old new (rows_bytes row word_area) (empty_grid 16 4) drawn.0 none all source on_screen drawn.1 in
     let letter : blank ≡ record { chars = 97 ∷ []; pen = plain_pen } = sym (drawn.4.inside 0 0 (omega arith) (omega arith) ∙ blank_cell) ∙ shows.inside in

@@ -10,15 +10,15 @@ use Rattle.mad_term.specs.declared.errors.Error.{Error}
 use Rattle.mad_term.specs.declared.errors.Error.TheVariants.{IO, InsufficientWidth, Memory}
 use Rattle.mad_term.proofs.Exits.{refused_exit}
 use Rattle.mad_term.proofs.Traces.{after-nil, took_both, stopped_before, stopped_in_first, stopped_in_second, cut_in_first, cut_in_second}
-use Rattle.mad_draw.proofs.PieceLemmas.{bytes_taken_of}
 use Rattle.mad_blocks.specs.TextParts.{text_parts}
 use Rattle.mad_format.specs.declared.line.FmtLine.{FmtLine}
 use Rattle.mad_blocks.proofs.LayoutJoins.{apart_parts}
 use Rattle.mad_blocks.proofs.PartCursorLemmas.{LaidSoFar, laid_none}
-use Rattle.mad_layout.specs.Styles.{line_rules}
-use Rattle.mad_layout.specs.Texts.{line_bytes, text_bytes}
+use Rattle.mad_rows.specs.Styles.{line_rules}
+use Rattle.mad_rows.specs.Rows.{line_bytes, text_bytes}
+use Rattle.mad_rows.proofs.PieceLemmas.{rows_with}
 use Rattle.mad_layout.specs.WrittenParts.{WritesPartsOf, HandsOn}
-use Rattle.mad_layout.specs.declared.skin.MadSkin.{MadSkin}
+use Rattle.mad_rows.specs.declared.row_skin.RowSkin.{RowSkin}
 
 -- ---- rows that are kept
 
@@ -37,22 +37,22 @@ handed_none old = sym (after-nil old)
 -- ---- what is written so far
 
 -- The parts so far are laid out, and their bytes went out or are kept.
-pub record WrittenSoFar (skin : MadSkin) (width : Option ℕ) (all left : List LineContent) (kept : List ℕ) (old new : Trace) : Type 0 where
+pub record WrittenSoFar (skin : RowSkin) (width : Option ℕ) (all left : List LineContent) (kept : List ℕ) (old new : Trace) : Type 0 where
   pub done : List FmtLine
   pub laid : LaidSoFar (line_rules skin) width all left done
   pub sent : List ℕ
   pub bytes : text_bytes skin width done ≡ sent ++ kept
   pub went : new ≡ after old sent
 
-pub written_start : (skin : MadSkin) (width : Option ℕ) (all : List LineContent) (kept : List ℕ) (old : Trace) → kept ≡ [] → WrittenSoFar skin width all all kept old old
+pub written_start : (skin : RowSkin) (width : Option ℕ) (all : List LineContent) (kept : List ℕ) (old : Trace) → kept ≡ [] → WrittenSoFar skin width all all kept old old
 written_start skin width all kept old nothing = record { done = []; laid = laid_none (line_rules skin) width all; sent = []; bytes = sym nothing; went = handed_none old }
 
-more_bytes : (skin : MadSkin) (width : Option ℕ) (done own : List FmtLine) (sent kept : List ℕ) → text_bytes skin width done ≡ sent ++ kept → text_bytes skin width (done ++ own) ≡ sent ++ (kept ++ text_bytes skin width own)
+more_bytes : (skin : RowSkin) (width : Option ℕ) (done own : List FmtLine) (sent kept : List ℕ) → text_bytes skin width done ≡ sent ++ kept → text_bytes skin width (done ++ own) ≡ sent ++ (kept ++ text_bytes skin width own)
 more_bytes skin width done own sent kept h =
     flat_map-append (line_bytes skin width) done own ∙ ap (λ (b : List ℕ). b ++ text_bytes skin width own) h ∙ append_assoc sent kept (text_bytes skin width own)
 
 -- more lines are handed on
-pub written_more : (skin : MadSkin) (width : Option ℕ) (all left later : List LineContent) (own : List FmtLine) (kept new_kept : List ℕ) (old mid new : Trace) → (h : WrittenSoFar skin width all left kept old mid)
+pub written_more : (skin : RowSkin) (width : Option ℕ) (all left later : List LineContent) (own : List FmtLine) (kept new_kept : List ℕ) (old mid new : Trace) → (h : WrittenSoFar skin width all left kept old mid)
     → LaidSoFar (line_rules skin) width all later (h.done ++ own) → HandsOn {T = Unit {0}} mid (kept ++ text_bytes skin width own) (Ok (tt {0})) new new_kept → WrittenSoFar skin width all later new_kept old new
 written_more skin width all left later own kept new_kept old mid new h laid (sent, both, went) = record {
   done = h.done ++ own;
@@ -81,7 +81,7 @@ no_whole {T} (Ok x) e P h = absurd h
 no_whole {T} (Err d) e P h = tt
 
 -- more lines were refused
-pub written_refused : {T : Type 0} (skin : MadSkin) (width : Option ℕ) (all left later : List LineContent) (own : List FmtLine) (kept : List ℕ) (r : Result T Error) (e : Error) (old mid new : Trace)
+pub written_refused : {T : Type 0} (skin : RowSkin) (width : Option ℕ) (all left later : List LineContent) (own : List FmtLine) (kept : List ℕ) (r : Result T Error) (e : Error) (old mid new : Trace)
     → (h : WrittenSoFar skin width all left kept old mid) → LaidSoFar (line_rules skin) width all later (h.done ++ own) → IsErrAnd r (λ d. d ≡ e) → Refused mid (kept ++ text_bytes skin width own) e new
     → WritesPartsOf skin width all old r new
 written_refused {T} skin width all left later own kept r e old mid new h laid is refused = record {
@@ -97,18 +97,18 @@ written_refused {T} skin width all left later own kept r e old mid new h laid is
 }
 
 -- a fault cut the bytes short that are kept
-pub written_cut_short : {T : Type 0} (skin : MadSkin) (width : Option ℕ) (all left : List LineContent) (kept : List ℕ) (r : Result T Error) (e : Error) (old mid new : Trace)
+pub written_cut_short : {T : Type 0} (skin : RowSkin) (width : Option ℕ) (all left : List LineContent) (kept : List ℕ) (r : Result T Error) (e : Error) (old mid new : Trace)
     → WrittenSoFar skin width all left kept old mid → IsErrAnd r (λ d. d ≡ e) → Refused mid kept e new → WritesPartsOf skin width all old r new
 written_cut_short {T} skin width all left kept r e old mid new h is refused =
     written_refused skin width all left left [] kept r e old mid new h (subst (LaidSoFar (line_rules skin) width all left) (sym (append-nil h.done)) h.laid) is (subst (λ (b : List ℕ). Refused mid b e new) (sym (append-nil kept)) refused)
 
 -- out of memory, with bytes that are kept
-pub written_early : {T : Type 0} (skin : MadSkin) (width : Option ℕ) (all left : List LineContent) (kept : List ℕ) (r : Result T Error) (old new : Trace)
+pub written_early : {T : Type 0} (skin : RowSkin) (width : Option ℕ) (all left : List LineContent) (kept : List ℕ) (r : Result T Error) (old new : Trace)
     → WrittenSoFar skin width all left kept old new → IsErrAnd r (λ d. d ≡ Memory) → WritesPartsOf skin width all old r new
 written_early {T} skin width all left kept r old new h is = written_cut_short skin width all left kept r Memory old new new h is (stopped_before new kept)
 
 -- all went out
-pub written_whole : (skin : MadSkin) (width : Option ℕ) (all left : List LineContent) (kept : List ℕ) (old mid new : Trace)
+pub written_whole : (skin : RowSkin) (width : Option ℕ) (all left : List LineContent) (kept : List ℕ) (old mid new : Trace)
     → WrittenSoFar skin width all left kept old mid → left ≡ [] → new ≡ after mid kept → WritesPartsOf {T = Unit {0}} skin width all old (Ok (tt {0})) new
 written_whole skin width all left kept old mid new h none went = record {
   front = h.laid.front;
@@ -123,14 +123,8 @@ written_whole skin width all left kept old mid new h none went = record {
 
 -- ---- rows handed on, line by line
 
--- the rows down to a line, and its own
-pub rows_with : (skin : MadSkin) (width : Option ℕ) (kept : List ℕ) (lines : List FmtLine) (i : ℕ) (x : FmtLine) → i < length lines → x ≡ get_or lines i x
-    → kept ++ text_bytes skin width (take (i + 1) lines) ≡ (kept ++ text_bytes skin width (take i lines)) ++ line_bytes skin width x
-rows_with skin width kept lines i x inside here =
-    ap (λ (t : List ℕ). kept ++ t) (sym (bytes_taken_of (line_bytes skin width) lines i x inside here)) ∙ sym (append_assoc kept (text_bytes skin width (take i lines)) (line_bytes skin width x))
-
 -- all rows: those down to a line, its own, and those after it
-rows_around : (skin : MadSkin) (width : Option ℕ) (kept : List ℕ) (lines : List FmtLine) (i : ℕ) (x : FmtLine) → i < length lines → x ≡ get_or lines i x
+rows_around : (skin : RowSkin) (width : Option ℕ) (kept : List ℕ) (lines : List FmtLine) (i : ℕ) (x : FmtLine) → i < length lines → x ≡ get_or lines i x
     → kept ++ text_bytes skin width lines ≡ ((kept ++ text_bytes skin width (take i lines)) ++ line_bytes skin width x) ++ text_bytes skin width (drop (i + 1) lines)
 rows_around skin width kept lines i x inside here =
     ap (λ (ls : List FmtLine). kept ++ text_bytes skin width ls) (sym (take-append-drop (i + 1) lines))
@@ -139,7 +133,7 @@ rows_around skin width kept lines i x inside here =
     ∙ ap (λ (t : List ℕ). t ++ text_bytes skin width (drop (i + 1) lines)) (rows_with skin width kept lines i x inside here)
 
 -- the rows down to a line were handed on, and so is its own
-pub row_handed : (skin : MadSkin) (width : Option ℕ) (lines : List FmtLine) (i : ℕ) (x : FmtLine) (first kept put new_kept : List ℕ) (old mid new : Trace) → i < length lines → x ≡ get_or lines i x
+pub row_handed : (skin : RowSkin) (width : Option ℕ) (lines : List FmtLine) (i : ℕ) (x : FmtLine) (first kept put new_kept : List ℕ) (old mid new : Trace) → i < length lines → x ≡ get_or lines i x
     → HandsOn {T = Unit {0}} old (first ++ text_bytes skin width (take i lines)) (Ok (tt {0})) mid kept → put ≡ kept ++ line_bytes skin width x
     → HandsOn {T = Unit {0}} mid put (Ok (tt {0})) new new_kept → HandsOn {T = Unit {0}} old (first ++ text_bytes skin width (take (i + 1) lines)) (Ok (tt {0})) new new_kept
 row_handed skin width lines i x first kept put new_kept old mid new inside here (sent, is, went) row (more, both, goes) = (
@@ -150,7 +144,7 @@ row_handed skin width lines i x first kept put new_kept old mid new inside here 
 )
 
 -- a row was refused, or there was no memory for it
-pub row_refused : {T : Type 0} (skin : MadSkin) (width : Option ℕ) (lines : List FmtLine) (i : ℕ) (x : FmtLine) (first kept put any : List ℕ) (r : Result T Error) (e : Error) (old mid new : Trace) → i < length lines → x ≡ get_or lines i x
+pub row_refused : {T : Type 0} (skin : RowSkin) (width : Option ℕ) (lines : List FmtLine) (i : ℕ) (x : FmtLine) (first kept put any : List ℕ) (r : Result T Error) (e : Error) (old mid new : Trace) → i < length lines → x ≡ get_or lines i x
     → HandsOn {T = Unit {0}} old (first ++ text_bytes skin width (take i lines)) (Ok (tt {0})) mid kept → put ≡ kept ++ line_bytes skin width x
     → IsErrAnd r (λ f. f ≡ e) → Refused mid put e new → HandsOn old (first ++ text_bytes skin width lines) r new any
 row_refused {T} skin width lines i x first kept put any r e old mid new inside here (sent, is, went) row error refused =

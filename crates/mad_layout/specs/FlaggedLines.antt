@@ -14,8 +14,8 @@ use Rattle.mad_fit.specs.declared.area.Area.{Area}
 use Rattle.mad_format.specs.Indents.{indent, follow_up}
 use Rattle.mad_blocks.specs.Parts.{is_code_kind}
 use Rattle.mad_layout.specs.LineTexts.{inner_width, runs_text}
-use Rattle.mad_layout.specs.Styles.{line_style, index_suffix}
-use Rattle.mad_layout.specs.declared.skin.MadSkin.{MadSkin}
+use Rattle.mad_rows.specs.Styles.{line_style, index_suffix}
+use Rattle.mad_rows.specs.declared.row_skin.RowSkin.{RowSkin}
 
 -- a line between its marks: parts of characters with the same flags
 abbrev pub marked_parts : StyledRuns → List (List FlaggedChar)
@@ -33,32 +33,32 @@ skin_char c = chars (encode_utf8 c)
 
 -- the characters in front of a row of this kind: an item's bullet or number after the spaces of its depth, a quote's mark; on the rows
 -- that follow an item's first one, the spaces of its indent
-abbrev pub front_of : MadSkin → CompositeKind → List ℕ
+abbrev pub front_of : RowSkin → CompositeKind → List ℕ
 front_of skin (ListItem depth) = replicate depth 32 ++ (skin_char (char_alone skin.bullet) ++ 32 ∷ [])
 front_of skin (OrderedListItem level index) = replicate level 32 ++ (decimal index ++ (skin_char (index_suffix skin level) ++ 32 ∷ []))
 front_of skin Quote = skin_char (char_alone skin.quote_mark) ++ 32 ∷ []
 front_of skin kind = replicate (indent skin.list_items_indentation_mode kind) 32
 
 -- the columns of a row with those in front of it, or of its block, if it is one of code
-abbrev pub placed_columns : MadSkin → Area → List LineContent → StyledRuns → CompositeKind → List FlaggedChar → ℕ
+abbrev pub placed_columns : RowSkin → Area → List LineContent → StyledRuns → CompositeKind → List FlaggedChar → ℕ
 placed_columns skin area part line kind row =
     if is_code_kind kind then min (widest_in part) (inner_width skin (area.width - 1) line) else indent skin.list_items_indentation_mode kind + width_of row
 
 -- the columns left of it: its margin, and what its alignment leaves there
-abbrev pub left_columns : MadSkin → Area → CompositeKind → ℕ → ℕ
+abbrev pub left_columns : RowSkin → Area → CompositeKind → ℕ → ℕ
 left_columns skin area kind columns =
     let style = line_style skin kind in
     let margins = margins_at style (Some (area.width - 1)) in
     left_completion style.align (area.width - (columns + margins.0 + margins.1)) + margins.0
 
 -- a row's characters across an area, after those in front of it and filled up with spaces
-abbrev pub row_across : MadSkin → Area → List LineContent → StyledRuns → CompositeKind → List FlaggedChar → List ℕ
+abbrev pub row_across : RowSkin → Area → List LineContent → StyledRuns → CompositeKind → List FlaggedChar → List ℕ
 row_across skin area part line kind row =
     let left = left_columns skin area kind (placed_columns skin area part line kind row) in
     replicate left 32 ++ (front_of skin kind ++ (map (λ x. x.char) row ++ replicate (area.width - left - (indent skin.list_items_indentation_mode kind + width_of row)) 32))
 
 -- the rows of a line across an area; those after the first are of the kind that follows
-abbrev pub rows_across : MadSkin → Area → List LineContent → StyledRuns → List (List FlaggedChar) → List (List ℕ)
+abbrev pub rows_across : RowSkin → Area → List LineContent → StyledRuns → List (List FlaggedChar) → List (List ℕ)
 rows_across skin area part line [] = []
 rows_across skin area part line (row ∷ rows) =
     row_across skin area part line (kind_of line.style) row ∷ map (row_across skin area part line (follow_up (kind_of line.style))) rows

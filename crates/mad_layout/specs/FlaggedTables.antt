@@ -14,24 +14,24 @@ use Rattle.mad_layout.specs.FlaggedLines.{skin_char, front_of, marked_parts}
 use Rattle.mad_layout.specs.FlaggedRows.{AreRowsOf}
 use Rattle.mad_format.specs.Indents.{indent, follow_up, room_of}
 use Rattle.mad_format.specs.Lines.{bordered, rule_columns}
-use Rattle.mad_layout.specs.Rows.{rule_chars}
+use Rattle.mad_rows.specs.Rows.{rule_chars}
 pub use Rattle.mad_layout.specs.TableColumns.{cell_columns, cells_among, down, kept_widths, columns_below}
 pub use Rattle.mad_blocks.specs.TextParts.{count_in, columns_among}
-use Rattle.mad_layout.specs.declared.skin.MadSkin.{MadSkin}
+use Rattle.mad_rows.specs.declared.row_skin.RowSkin.{RowSkin}
 use Rattle.mad_format.specs.declared.table.RelativePosition.{RelativePosition}
-use Rattle.mad_layout.specs.Styles.{line_rules}
+use Rattle.mad_rows.specs.Styles.{line_rules}
 
 -- ---- cells in their columns
 
 -- a row of a cell, between what its column's alignment leaves left and right of it
-abbrev pub row_in_column : MadSkin → Spacing → CompositeKind → List FlaggedChar → List ℕ
+abbrev pub row_in_column : RowSkin → Spacing → CompositeKind → List FlaggedChar → List ℕ
 row_in_column skin column kind row =
     let rest = column.width - (indent skin.list_items_indentation_mode kind + width_of row) in
     let left = left_completion column.align rest in
     replicate left 32 ++ (front_of skin kind ++ (map (λ x. x.char) row ++ replicate (rest - left) 32))
 
 -- the rows of a cell; those after the first are of the kind that follows
-abbrev pub rows_in_column : MadSkin → Spacing → CompositeKind → List (List FlaggedChar) → List (List ℕ)
+abbrev pub rows_in_column : RowSkin → Spacing → CompositeKind → List (List FlaggedChar) → List (List ℕ)
 rows_in_column skin column kind [] = []
 rows_in_column skin column kind (row ∷ rows) = row_in_column skin column kind row ∷ map (row_in_column skin column (follow_up kind)) rows
 
@@ -41,7 +41,7 @@ pub record CellInColumn : Type 0 where
   pub rows : List (List ℕ)
 
 -- The cells of a row in its columns: a kept cell has its rows, a missing one none; cells past the last column are left out.
-abbrev pub AreInColumns : MadSkin → List Spacing → List StyledRuns → List CellInColumn → Type 0
+abbrev pub AreInColumns : RowSkin → List Spacing → List StyledRuns → List CellInColumn → Type 0
 AreInColumns skin [] cells placed = placed ≡ []
 AreInColumns skin (c ∷ cs) [] placed = (others : List CellInColumn) × (placed ≡ record { width = c.width; rows = [] } ∷ others) × AreInColumns skin cs [] others
 AreInColumns skin (c ∷ cs) (cell ∷ cells) placed =
@@ -51,15 +51,15 @@ AreInColumns skin (c ∷ cs) (cell ∷ cells) placed =
 -- ---- across the table
 
 -- a border, and the first row of a cell: spaces where it has none
-abbrev pub first_row : MadSkin → CellInColumn → List ℕ
+abbrev pub first_row : RowSkin → CellInColumn → List ℕ
 first_row skin cell = skin_char skin.table_border_chars.vertical ++ unwrap_or (slice_get cell.rows 0) (replicate cell.width 32)
 
 -- the first row of each cell, and a last border
-abbrev pub first_rows : MadSkin → List CellInColumn → List ℕ
+abbrev pub first_rows : RowSkin → List CellInColumn → List ℕ
 first_rows skin cells = flat_map (first_row skin) cells ++ skin_char skin.table_border_chars.vertical
 
 -- the first n rows, one below the other
-abbrev pub rows_down : MadSkin → ℕ → List CellInColumn → List (List ℕ)
+abbrev pub rows_down : RowSkin → ℕ → List CellInColumn → List (List ℕ)
 rows_down skin zero cells = []
 rows_down skin (suc n) cells = first_rows skin cells ∷ rows_down skin n (map (λ (cell : CellInColumn). record cell { rows = drop 1 cell.rows }) cells)
 
@@ -77,18 +77,18 @@ rule_row b (w ∷ ws) =
 -- ---- across an area
 
 -- a row of a table, as wide as `columns`, where the table's alignment puts it
-abbrev pub table_across : MadSkin → Area → ℕ → List ℕ → List ℕ
+abbrev pub table_across : RowSkin → Area → ℕ → List ℕ → List ℕ
 table_across skin area columns row =
     let rest = area.width - columns in
     let left = left_completion skin.table.align rest in
     replicate left 32 ++ (row ++ replicate (rest - left) 32)
 
 -- The rows of a table's row: as many as the cell has that has the most, and at least one.
-abbrev pub IsRowAcross : MadSkin → Area → List Spacing → List StyledRuns → List (List ℕ) → Type 0
+abbrev pub IsRowAcross : RowSkin → Area → List Spacing → List StyledRuns → List (List ℕ) → Type 0
 IsRowAcross skin area columns cells across =
     (placed : List CellInColumn) × AreInColumns skin columns cells placed
     × (across ≡ map (table_across skin area (1 + bordered (map (λ c. c.width) columns))) (rows_down skin (max (most_rows placed) 1) placed))
 
 -- a rule's row, at its place in its table
-abbrev pub rule_across : MadSkin → Area → RelativePosition → List ℕ → List ℕ
+abbrev pub rule_across : RowSkin → Area → RelativePosition → List ℕ → List ℕ
 rule_across skin area position widths = table_across skin area (rule_columns widths) (rule_row (rule_chars skin.table_border_chars position) widths)

@@ -12,11 +12,11 @@ use Rattle.mad_layout.specs.FlaggedTables.{kept_widths, columns_below, IsRowAcro
 use Rattle.mad_format.specs.Indents.{room_of}
 use Rattle.mad_layout.specs.LineTexts.{inner_width}
 pub use Rattle.mad_blocks.specs.TextParts.{LineInPart, aligns_at, position_in, lines_in, lines_in_parts}
-use Rattle.mad_layout.specs.declared.skin.MadSkin.{MadSkin}
-use Rattle.mad_layout.specs.Styles.{line_rules}
+use Rattle.mad_rows.specs.declared.row_skin.RowSkin.{RowSkin}
+use Rattle.mad_rows.specs.Styles.{line_rules}
 
 -- These are the rows of a line across an area.
-abbrev pub IsAcross : MadSkin → Area → LineInPart → LineContent → List (List ℕ) → Type 0
+abbrev pub IsAcross : RowSkin → Area → LineInPart → LineContent → List (List ℕ) → Type 0
 IsAcross skin area x (normal line) across =
     (rows : List (List FlaggedChar)) × AreRowsOf (room_of (line_rules skin) (kind_of line.style) (inner_width skin (area.width - 1) line)) (marked_parts line) rows × (across ≡ rows_across skin area x.part line rows)
 IsAcross skin area x (table_row cells) across = IsRowAcross skin area (columns_below (kept_widths skin (area.width - 1) x.part) x.aligns) cells across
@@ -24,7 +24,7 @@ IsAcross skin area x (table_rule aligns) across = across ≡ rule_across skin ar
 IsAcross skin area x horizontal_rule across = across ≡ repeat area.width (skin_char (char_alone skin.horizontal_rule)) ∷ []
 
 -- the rows of lines, in order, across an area
-abbrev pub AreAcross : MadSkin → Area → List LineInPart → List (List ℕ) → Type 0
+abbrev pub AreAcross : RowSkin → Area → List LineInPart → List (List ℕ) → Type 0
 AreAcross skin area [] across = across ≡ []
 AreAcross skin area (x ∷ xs) across =
     (own : List (List ℕ)) × (others : List (List ℕ)) × (across ≡ own ++ others) × IsAcross skin area x x.line own × AreAcross skin area xs others

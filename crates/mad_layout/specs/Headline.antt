@@ -11,7 +11,7 @@ use Rattle.mad_draw.specs.PennedCells.{penned_cells}
 use Rattle.mad_layout.specs.FlaggedTexts.{AreAcross}
 use Rattle.mad_layout.specs.Premises.{KeepsPremises}
 use Rattle.mad_blocks.specs.TextParts.{lines_in_parts}
-use Rattle.mad_layout.specs.declared.skin.MadSkin.{MadSkin}
+use Rattle.mad_rows.specs.declared.row_skin.RowSkin.{RowSkin}
 
 -- the characters that the i-th cell of a row shows: one with those joined to it that take no column, or none in a further column of a wide one
 abbrev pub cell_chars : List ℕ → ℕ → List ℕ
@@ -32,6 +32,6 @@ AreShownAcross across area bytes =
 
 -- The headline of a text's lines: where as many of them as the area has rows keep the premises, they have rows, and the area shows the first
 -- of these.
-pub record ShowsFirstRows (skin : MadSkin) (lines : List LineContent) (area : Area) (old new : Trace) : Type 0 where
+pub record ShowsFirstRows (skin : RowSkin) (lines : List LineContent) (area : Area) (old new : Trace) : Type 0 where
   pub shown : KeepsPremises skin (area.width - 1) (take area.height (lines_in_parts lines))
       → (across : List (List ℕ)) × AreAcross skin area (lines_in_parts lines) across × TookWith old new (AreShownAcross across area)

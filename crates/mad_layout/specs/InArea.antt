@@ -12,31 +12,31 @@ use Rattle.mad_blocks.specs.Layouts.{IsLayoutAt}
 use Rattle.mad_layout.specs.Premises.{KeepsPremises}
 use Rattle.mad_layout.specs.Shown.{area_bytes, AreShownIn}
 use Rattle.mad_blocks.specs.TextParts.{lines_in_parts}
-use Rattle.mad_layout.specs.declared.skin.MadSkin.{MadSkin}
+use Rattle.mad_rows.specs.declared.row_skin.RowSkin.{RowSkin}
 use Rattle.mad_format.specs.declared.line.FmtLine.{FmtLine}
-use Rattle.mad_layout.specs.Styles.{line_rules}
+use Rattle.mad_rows.specs.Styles.{line_rules}
 
 -- The lines are a layout of the text for an area, one column narrower than the area. Each line's wrap is a least one.
-pub record IsAreaLayout (skin : MadSkin) (markdown : List ℕ) (area : Area) (lines : List FmtLine) : Type 0 where
+pub record IsAreaLayout (skin : RowSkin) (markdown : List ℕ) (area : Area) (lines : List FmtLine) : Type 0 where
   pub text : List LineContent
   pub read : IsRead (unread_text false markdown) text
   pub layout : IsLayoutAt (line_rules skin) (Some (area.width - 1)) text lines
 
 -- The lines are a layout of the text's first lines, one column narrower than the area: of all of them, or of enough to take at least the
 -- area's rows.
-pub record IsAreaFront (skin : MadSkin) (markdown : List ℕ) (area : Area) (lines : List FmtLine) : Type 0 where
+pub record IsAreaFront (skin : RowSkin) (markdown : List ℕ) (area : Area) (lines : List FmtLine) : Type 0 where
   pub text : List LineContent
   pub read : IsRead (unread_text false markdown) text
   pub layout : IsFrontLayout (line_rules skin) (Some (area.width - 1)) area.height text lines
 
 -- What the call does to its device: it draws such lines, from the first on; or memory for them was refused, and nothing went out.
-abbrev pub WritesInArea : {T : Type 0} → MadSkin → List ℕ → Area → Trace → Result T Error → Trace → Type 0
+abbrev pub WritesInArea : {T : Type 0} → RowSkin → List ℕ → Area → Trace → Result T Error → Trace → Type 0
 WritesInArea skin markdown area old r new =
     ((lines : List FmtLine) × IsAreaFront skin markdown area lines × Draws old (area_bytes skin lines area 0) r new) ⊎ (IsErrOf r Memory × (new ≡ old))
 
 -- What a plain terminal shows that reads what was written, where as many lines of the text as the area has rows keep the premises: the
 -- first rows of the layout in the area, every other cell as before, and the plain pen again.
-pub record ShowsText (skin : MadSkin) (markdown : List ℕ) (area : Area) (old new : Trace) : Type 0 where
+pub record ShowsText (skin : RowSkin) (markdown : List ℕ) (area : Area) (old new : Trace) : Type 0 where
   pub lines : List FmtLine
   pub laid_out : IsAreaFront skin markdown area lines
   pub shown : KeepsPremises skin (area.width - 1) (take area.height (lines_in_parts laid_out.text)) → TookWith old new (AreShownIn skin lines area 0)

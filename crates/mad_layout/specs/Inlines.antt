@@ -1,40 +1,34 @@
 -- Inline texts and composites that stand by themselves.
 use Rattle.std.specs.Prelude.{◌≡◌, ◌⊎◌, ℕ, List, None, false, Result, IsErrOf, map}
-use Rattle.mad_md.specs.Flagged.{run_of, run_at}
+use Rattle.mad_md.specs.Flagged.{run_at}
 use Rattle.mad_md.specs.Inline.{Item, IsInlineReading, runs}
-use Rattle.mad_md.specs.declared.composite.Composite.{Composite}
 use Rattle.mad_term.specs.Draws.{Draws}
 use Rattle.mad_term.specs.Trace.{Trace}
 use Rattle.mad_term.specs.declared.errors.Error.{Error}
 use Rattle.mad_term.specs.declared.errors.Error.TheVariants.{Memory}
-use Rattle.mad_style.specs.Kinds.{kind_of}
 use Rattle.mad_draw.specs.Pieces.{pieces_bytes}
-use Rattle.mad_layout.specs.Rows.{composite_pieces, free_pieces, margins_of}
+use Rattle.mad_rows.specs.Rows.{composite_pieces, free_pieces, margins_of}
 use Rattle.mad_md.specs.ReadInline.{IsReadInline}
 use Rattle.mad_style.specs.declared.kinds.CompositeKind.TheVariants.{Paragraph}
 use Rattle.mad_format.specs.Lines.{IsReadAs}
-use Rattle.mad_layout.specs.declared.skin.MadSkin.{MadSkin}
+use Rattle.mad_rows.specs.declared.row_skin.RowSkin.{RowSkin}
 use Rattle.mad_format.specs.declared.composite.FmtComposite.{FmtComposite}
-use Rattle.mad_layout.specs.Styles.{line_rules}
+use Rattle.mad_rows.specs.Styles.{line_rules}
 
 -- the line of text as a paragraph, its marks read
-abbrev pub IsInlineOf : MadSkin → List ℕ → FmtComposite → Type 0
+abbrev pub IsInlineOf : RowSkin → List ℕ → FmtComposite → Type 0
 IsInlineOf skin src l = IsReadAs (line_rules skin) Paragraph (IsReadInline src) l
 
--- the bytes of a composite that stands by itself
-abbrev pub composite_bytes : MadSkin → Composite → List ℕ
-composite_bytes skin composite = pieces_bytes (free_pieces skin (kind_of composite.style) (map run_of composite.compounds.items))
-
 -- the bytes of a line of text, by a reading of its marks
-abbrev pub inline_bytes : MadSkin → List ℕ → List Item → List ℕ
+abbrev pub inline_bytes : RowSkin → List ℕ → List Item → List ℕ
 inline_bytes skin src items = pieces_bytes (free_pieces skin Paragraph (map (run_at src) (runs items)))
 
 -- What a call does that writes a line of text: it draws the bytes of the line's reading, of which there is exactly one; or memory
 -- for it was refused, and nothing went out.
-abbrev pub WritesInline : {T : Type 0} → MadSkin → List ℕ → Trace → Result T Error → Trace → Type 0
+abbrev pub WritesInline : {T : Type 0} → RowSkin → List ℕ → Trace → Result T Error → Trace → Type 0
 WritesInline skin src old r new =
     ((items : List Item) × IsInlineReading src items × Draws old (inline_bytes skin src items) r new) ⊎ (IsErrOf r Memory × (new ≡ old))
 
 -- the line is displayed by the bytes that are written of it
-abbrev pub IsDisplayedAsWritten : MadSkin → List ℕ → FmtComposite → Type 0
+abbrev pub IsDisplayedAsWritten : RowSkin → List ℕ → FmtComposite → Type 0
 IsDisplayedAsWritten skin src l = (items : List Item) → IsInlineReading src items → pieces_bytes (composite_pieces skin None (margins_of skin None l) false l) ≡ inline_bytes skin src items

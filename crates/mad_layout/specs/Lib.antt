@@ -13,14 +13,13 @@ pub mod PlainLines
 pub mod PlainTables
 pub mod Premises
 pub mod RecoloredSkins
-pub mod Rows
+pub mod RowSkins
 pub mod SeveralKinds
 pub mod Shown
 pub mod ShownLayouts
 pub mod SkinParts
 pub mod Skins
 pub mod Sources
-pub mod Styles
 pub mod TableColumns
 pub mod Texts
 pub mod Words

@@ -6,14 +6,14 @@ use Rattle.mad_md.specs.Flagged.{FlaggedChar, Run, flagged}
 use Rattle.mad_md.specs.Lines.{StyledRuns}
 use Rattle.mad_style.specs.Kinds.{kind_of}
 use Rattle.mad_style.specs.LineStyles.{margins_at}
-use Rattle.mad_layout.specs.Styles.{line_style}
-use Rattle.mad_layout.specs.declared.skin.MadSkin.{MadSkin}
+use Rattle.mad_rows.specs.Styles.{line_style}
+use Rattle.mad_rows.specs.declared.row_skin.RowSkin.{RowSkin}
 
 -- the flagged text of runs
 abbrev pub runs_text : List Run → List FlaggedChar
 runs_text rs = flat_map (λ r. flagged r.flags (chars r.text)) rs
 
 -- what a line's margins leave of a width
-abbrev pub inner_width : MadSkin → ℕ → StyledRuns → ℕ
+abbrev pub inner_width : RowSkin → ℕ → StyledRuns → ℕ
 inner_width skin width line =
     let margins = margins_at (line_style skin (kind_of line.style)) (Some width) in width - margins.0 - margins.1

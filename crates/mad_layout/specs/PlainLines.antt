@@ -9,15 +9,15 @@ use Rattle.mad_term.specs.Trace.{Trace}
 use Rattle.mad_term.specs.declared.errors.Error.{Error}
 use Rattle.mad_blocks.specs.Layouts.{IsLayoutAt}
 use Rattle.mad_blocks.specs.Parts.{wrap_width}
-use Rattle.mad_layout.specs.Texts.{text_bytes}
+use Rattle.mad_rows.specs.Rows.{text_bytes}
 use Rattle.mad_blocks.specs.TextParts.{is_code, is_table}
 use Rattle.mad_layout.specs.WrittenParts.{HandsOn}
-use Rattle.mad_layout.specs.declared.skin.MadSkin.{MadSkin}
+use Rattle.mad_rows.specs.declared.row_skin.RowSkin.{RowSkin}
 use Rattle.mad_format.specs.declared.line.FmtLine.{FmtLine}
-use Rattle.mad_layout.specs.Styles.{line_rules}
+use Rattle.mad_rows.specs.Styles.{line_rules}
 
 -- Paragraphs of at most `most` columns are rows by themselves, which stand left, without margins, and in no style.
-pub record IsPlainWidth (skin : MadSkin) (width : Option ℕ) (most : ℕ) : Type 0 where
+pub record IsPlainWidth (skin : RowSkin) (width : Option ℕ) (most : ℕ) : Type 0 where
   pub wraps : wrap_width width ≡ Some most
   pub style : IsPlain skin.paragraph.compound_style.object_style
   pub left_margin : (margins_at skin.paragraph (Some most)).0 ≡ 0
@@ -30,7 +30,7 @@ IsAlone l = (is_code l ≡ false) × (is_table l ≡ false)
 
 -- These bytes were handed on, and after them the lines of a layout of the first of these lines, each a part by itself; the others are left where that
 -- succeeded.
-pub record HandsOnPlain {T : Type 0} (skin : MadSkin) (width : Option ℕ) (before : List LineContent) (bytes : List ℕ) (old : Trace) (r : Result T Error) (new : Trace) (kept : List ℕ) (left : List LineContent) : Type 0 where
+pub record HandsOnPlain {T : Type 0} (skin : RowSkin) (width : Option ℕ) (before : List LineContent) (bytes : List ℕ) (old : Trace) (r : Result T Error) (new : Trace) (kept : List ℕ) (left : List LineContent) : Type 0 where
   pub taken : List LineContent
   pub later : List LineContent
   pub joins : before ≡ taken ++ later

@@ -15,13 +15,13 @@ use Rattle.mad_fit.specs.Columns.{width_of}
 use Rattle.mad_format.specs.Indents.{indent, room_of}
 pub use Rattle.mad_layout.specs.LineTexts.{runs_text, inner_width}
 use Rattle.mad_draw.specs.declared.table_rules.RuleChars.{RuleChars}
-use Rattle.mad_layout.specs.Rows.{rule_chars}
-use Rattle.mad_layout.specs.Styles.{line_rules, index_suffix}
+use Rattle.mad_rows.specs.Rows.{rule_chars}
+use Rattle.mad_rows.specs.Styles.{line_rules, index_suffix}
 use Rattle.mad_layout.specs.TableColumns.{kept_widths}
 use Rattle.mad_blocks.specs.TextParts.{LineInPart}
 use Rattle.mad_format.specs.declared.table.RelativePosition.{RelativePosition}
 use Rattle.mad_wrap.specs.WrapLines.{HasRoom}
-use Rattle.mad_layout.specs.declared.skin.MadSkin.{MadSkin}
+use Rattle.mad_rows.specs.declared.row_skin.RowSkin.{RowSkin}
 
 -- Each widthless character is no whitespace and comes right after one that isn't blank; `after` says whether what comes before
 -- all of them is such a one.
@@ -42,7 +42,7 @@ pub record IsColumnChar (c : ℕ) : Type 0 where
 
 -- The character in front of a line of this kind, if there is one, takes one column: an item's bullet, the mark after its number, a quote's.
 -- (A number that is read has nine digits at most.)
-abbrev pub IsPlainPrefix : MadSkin → CompositeKind → Type 0
+abbrev pub IsPlainPrefix : RowSkin → CompositeKind → Type 0
 IsPlainPrefix skin Paragraph = Unit {0}
 IsPlainPrefix skin (Header level) = Unit {0}
 IsPlainPrefix skin (ListItem depth) = IsColumnChar (char_alone skin.bullet)
@@ -53,7 +53,7 @@ IsPlainPrefix skin Code = Unit {0}
 IsPlainPrefix skin Quote = IsColumnChar (char_alone skin.quote_mark)
 
 -- A line or a cell of this kind, its text plain, with a plain prefix, and that has room in `width` columns where it doesn't fit.
-pub record IsPlainText (skin : MadSkin) (width : ℕ) (kind : CompositeKind) (runs : List Run) : Type 0 where
+pub record IsPlainText (skin : RowSkin) (width : ℕ) (kind : CompositeKind) (runs : List Run) : Type 0 where
   pub prefix : IsPlainPrefix skin kind
   pub plain : AllByRecursion IsPlainRun runs
   pub room : width < indent skin.list_items_indentation_mode kind + width_of (runs_text runs) → HasRoom (room_of (line_rules skin) kind width) (runs_text runs)
@@ -66,24 +66,24 @@ pub record AreRuleChars (chars : RuleChars) : Type 0 where
   pub right : IsColumnChar chars.right
 
 -- the characters of a table's borders take one column each, wherever a rule stands in its table
-pub record AreBordersShown (skin : MadSkin) : Type 0 where
+pub record AreBordersShown (skin : RowSkin) : Type 0 where
   pub vertical : IsColumnChar skin.table_border_chars.vertical
   pub rules : (position : RelativePosition) → AreRuleChars (rule_chars skin.table_border_chars position)
 
 -- so are cells, each in its column of these widths; nothing is asked of cells past the last column
-abbrev pub ArePlainIn : MadSkin → List ℕ → List StyledRuns → Type 0
+abbrev pub ArePlainIn : RowSkin → List ℕ → List StyledRuns → Type 0
 ArePlainIn skin [] cells = Unit {0}
 ArePlainIn skin (w ∷ ws) [] = Unit {0}
 ArePlainIn skin (w ∷ ws) (cell ∷ cells) = IsPlainText skin w (kind_of cell.style) cell.runs × ArePlainIn skin ws cells
 
 -- A line of any kind, in its part of a text. Of a line of a table: there is place for the ends of a rule, and each kept cell is plain in
 -- the column that it gets.
-abbrev pub IsPlainContent : MadSkin → ℕ → List LineContent → LineContent → Type 0
+abbrev pub IsPlainContent : RowSkin → ℕ → List LineContent → LineContent → Type 0
 IsPlainContent skin width part (normal line) = IsPlainText skin (inner_width skin width line) (kind_of line.style) line.runs
 IsPlainContent skin width part (table_row cells) = (2 ≤ width) × AreBordersShown skin × ArePlainIn skin (kept_widths skin width part) cells
 IsPlainContent skin width part (table_rule aligns) = (2 ≤ width) × AreBordersShown skin
 IsPlainContent skin width part horizontal_rule = IsColumnChar (char_alone skin.horizontal_rule)
 
 -- so is each of these lines of a text, at a layout's width
-abbrev pub KeepsPremises : MadSkin → ℕ → List LineInPart → Type 0
+abbrev pub KeepsPremises : RowSkin → ℕ → List LineInPart → Type 0
 KeepsPremises skin width lines = AllByRecursion (λ l. IsPlainContent skin width l.part l.line) lines

@@ -6,7 +6,8 @@ use Rattle.mad_layout.specs.MadeSkins.{limited_to_ascii}
 use Rattle.mad_layout.specs.Premises.{KeepsPremises}
 use Rattle.mad_layout.specs.Skins.{no_style_skin}
 use Rattle.mad_blocks.specs.TextParts.{lines_in_parts}
-use Rattle.mad_layout.specs.declared.skin.MadSkin.{MadSkin}
+use Rattle.mad_layout.specs.RowSkins.{row_skin}
+use Rattle.mad_rows.specs.declared.row_skin.RowSkin.{RowSkin}
 
 -- `# a`, `b`, `* c`, `1. d`, `> e`, `---`, and `f` between two fences
 abbrev pub several_kinds : List ℕ
@@ -15,8 +16,8 @@ several_kinds =
     ++ (45 ∷ 45 ∷ 45 ∷ 10 ∷ []) ++ (96 ∷ 96 ∷ 96 ∷ 10 ∷ []) ++ (102 ∷ 10 ∷ []) ++ (96 ∷ 96 ∷ 96 ∷ [])
 
 -- a skin without style whose characters are ASCII
-abbrev pub ascii_skin : MadSkin
-ascii_skin = limited_to_ascii no_style_skin
+abbrev pub ascii_skin : RowSkin
+ascii_skin = row_skin (limited_to_ascii no_style_skin)
 
 -- Whatever this text is read as keeps the premises of the headline at a width of eleven columns.
 abbrev pub SeveralKindsKeepPremises : Type 0

@@ -10,21 +10,21 @@ use Rattle.mad_blocks.specs.Layouts.{IsLayoutAt}
 use Rattle.mad_layout.specs.Premises.{KeepsPremises}
 use Rattle.mad_layout.specs.Shown.{AreShownIn}
 use Rattle.mad_blocks.specs.TextParts.{lines_in_parts}
-use Rattle.mad_layout.specs.declared.skin.MadSkin.{MadSkin}
+use Rattle.mad_rows.specs.declared.row_skin.RowSkin.{RowSkin}
 use Rattle.mad_format.specs.declared.line.FmtLine.{FmtLine}
-use Rattle.mad_layout.specs.Styles.{line_rules}
+use Rattle.mad_rows.specs.Styles.{line_rules}
 
 -- What a plain terminal shows that reads what was written, where the lines are a layout of a text, at a width that isn't more than the
 -- area's, and as many lines of the text as the area reaches keep the premises (a line has one row at least): the lines in the area from
 -- `scroll` on, every other cell as before, and the plain pen again.
-abbrev pub ShowsLayout : MadSkin → List FmtLine → Area → ℕ → Trace → Trace → Type 0
+abbrev pub ShowsLayout : RowSkin → List FmtLine → Area → ℕ → Trace → Trace → Type 0
 ShowsLayout skin lines area scroll old new =
     (source : List LineContent) (width : ℕ) → width ≤ area.width → KeepsPremises skin width (take (scroll + area.height) (lines_in_parts source)) → IsFittingLayout (line_rules skin) width source lines
     → TookWith old new (AreShownIn skin lines area scroll)
 
 -- The headline of a layout: where the lines are one of a text, a column narrower than the area, and as many lines of the text as the area
 -- reaches keep the premises, the text's lines have rows, and the area shows these from row `scroll` on.
-abbrev pub ShowsRowsFrom : MadSkin → List FmtLine → Area → ℕ → Trace → Trace → Type 0
+abbrev pub ShowsRowsFrom : RowSkin → List FmtLine → Area → ℕ → Trace → Trace → Type 0
 ShowsRowsFrom skin lines area scroll old new =
     (text : List LineContent) → 4 ≤ area.width → KeepsPremises skin (area.width - 1) (take (scroll + area.height) (lines_in_parts text)) → IsLayoutAt (line_rules skin) (Some (area.width - 1)) text lines
     → (across : List (List ℕ)) × AreAcross skin area (lines_in_parts text) across × TookWith old new (AreShownAcross (drop scroll across) area)

@@ -9,7 +9,7 @@ use Rattle.mad_term.specs.Trace.{Trace, TookWith}
 use Rattle.mad_fit.specs.declared.area.Area.{Area}
 use Rattle.mad_layout.specs.InArea.{IsAreaFront}
 use Rattle.mad_layout.specs.Shown.{AreShownIn}
-use Rattle.mad_layout.specs.declared.skin.MadSkin.{MadSkin}
+use Rattle.mad_rows.specs.declared.row_skin.RowSkin.{RowSkin}
 use Rattle.mad_format.specs.declared.line.FmtLine.{FmtLine}
 
 -- each character of the text takes columns: none is a control character, and none is joined to the one before it
@@ -24,7 +24,7 @@ LinesTakeColumns source =
 
 -- What a plain terminal shows that reads what was written: the first rows of a layout of the text in the area, every other cell as
 -- before, and the plain pen again.
-pub record ShowsSource (skin : MadSkin) (markdown : List ℕ) (area : Area) (old new : Trace) : Type 0 where
+pub record ShowsSource (skin : RowSkin) (markdown : List ℕ) (area : Area) (old new : Trace) : Type 0 where
   pub lines : List FmtLine
   pub laid_out : IsAreaFront skin markdown area lines
   pub shown : TookWith old new (AreShownIn skin lines area 0)

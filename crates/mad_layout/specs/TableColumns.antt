@@ -12,14 +12,14 @@ use Rattle.mad_format.specs.Indents.{indent}
 use Rattle.mad_layout.specs.LineTexts.{runs_text}
 use Rattle.mad_blocks.specs.Tables.{columns_with, centered}
 use Rattle.mad_blocks.specs.TextParts.{columns_among}
-use Rattle.mad_layout.specs.declared.skin.MadSkin.{MadSkin}
+use Rattle.mad_rows.specs.declared.row_skin.RowSkin.{RowSkin}
 
 -- the columns of a cell with those in front of it, 2^64 - 1 at most
-abbrev pub cell_columns : MadSkin → StyledRuns → ℕ
+abbrev pub cell_columns : RowSkin → StyledRuns → ℕ
 cell_columns skin cell = capped (indent skin.list_items_indentation_mode (kind_of cell.style) + width_of (runs_text cell.runs))
 
 -- those of the cells of each row
-abbrev pub cells_among : MadSkin → List LineContent → List (List ℕ)
+abbrev pub cells_among : RowSkin → List LineContent → List (List ℕ)
 cells_among skin [] = []
 cells_among skin (normal line ∷ ls) = cells_among skin ls
 cells_among skin (table_row cells ∷ ls) = map (cell_columns skin) cells ∷ cells_among skin ls
@@ -33,7 +33,7 @@ down (suc n) rows = flat_map (take 1) rows ∷ down n (map (drop 1) rows)
 
 -- The widths of a table's kept columns: where there is room for three in each, what their cells need or their share of it; else as many
 -- columns are kept as have room, of three.
-abbrev pub kept_widths : MadSkin → ℕ → List LineContent → List ℕ
+abbrev pub kept_widths : RowSkin → ℕ → List LineContent → List ℕ
 kept_widths skin width table =
     let n = columns_among table in
     if nat_le (4 * n + 1) width then column_widths (width - 1 - n) (map needs_of (down n (cells_among skin table))) else replicate ((width - 1) / 4) 3

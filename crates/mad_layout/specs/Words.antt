@@ -8,11 +8,17 @@ use Rattle.mad_fit.specs.declared.area.Area.{Area}
 use Rattle.mad_draw.specs.DrawnRows.{rows_bytes}
 use Rattle.mad_draw.specs.Pieces.{spaces}
 use Rattle.mad_layout.specs.InArea.{ShowsText}
+use Rattle.mad_layout.specs.RowSkins.{row_skin}
 use Rattle.mad_layout.specs.Skins.{no_style_skin}
+use Rattle.mad_rows.specs.declared.row_skin.RowSkin.{RowSkin}
 
 -- `aaa bb cc`
 abbrev pub words : List ℕ
 words = 97 ∷ 97 ∷ 97 ∷ 32 ∷ 98 ∷ 98 ∷ 32 ∷ 99 ∷ 99 ∷ []
+
+-- what rows show of the skin without style
+abbrev pub word_skin : RowSkin
+word_skin = row_skin no_style_skin
 
 -- an area of twelve columns and two rows, away from the screen's corner
 abbrev pub word_area : Area
@@ -24,4 +30,4 @@ corner = record { chars = 122 ∷ []; pen = plain_pen }
 
 -- Who fills the area with spaces has not shown the text.
 abbrev pub SpacesAreNoText : Type 0
-SpacesAreNoText = (old new : Trace) → old.bytes ≡ Some [] → new.bytes ≡ Some (rows_bytes (λ y. spaces plain_style 12) word_area) → ¬ (ShowsText no_style_skin words word_area old new)
+SpacesAreNoText = (old new : Trace) → old.bytes ≡ Some [] → new.bytes ≡ Some (rows_bytes (λ y. spaces plain_style 12) word_area) → ¬ (ShowsText word_skin words word_area old new)

@@ -7,14 +7,14 @@ use Rattle.mad_term.specs.Trace.{Trace, after}
 use Rattle.mad_term.specs.declared.errors.Error.{Error}
 use Rattle.mad_blocks.specs.TextParts.{text_parts}
 use Rattle.mad_blocks.specs.Layouts.{IsLayoutAt}
-use Rattle.mad_layout.specs.Texts.{text_bytes}
-use Rattle.mad_layout.specs.declared.skin.MadSkin.{MadSkin}
+use Rattle.mad_rows.specs.Rows.{text_bytes}
+use Rattle.mad_rows.specs.declared.row_skin.RowSkin.{RowSkin}
 use Rattle.mad_format.specs.declared.line.FmtLine.{FmtLine}
-use Rattle.mad_layout.specs.Styles.{line_rules}
+use Rattle.mad_rows.specs.Styles.{line_rules}
 
 -- What a call does that writes a text part by part: it draws the lines of a layout of the text's first parts, of all of them where it
 -- succeeds.
-pub record WritesPartsOf {T : Type 0} (skin : MadSkin) (width : Option ℕ) (text : List LineContent) (old : Trace) (r : Result T Error) (new : Trace) : Type 0 where
+pub record WritesPartsOf {T : Type 0} (skin : RowSkin) (width : Option ℕ) (text : List LineContent) (old : Trace) (r : Result T Error) (new : Trace) : Type 0 where
   pub front : List LineContent
   pub rest : List LineContent
   pub joins : text ≡ front ++ rest
@@ -25,7 +25,7 @@ pub record WritesPartsOf {T : Type 0} (skin : MadSkin) (width : Option ℕ) (tex
   pub drawn : Draws old (text_bytes skin width lines) r new
 
 -- so it writes a Markdown text
-abbrev pub WritesParts : {T : Type 0} → MadSkin → Option ℕ → List ℕ → Trace → Result T Error → Trace → Type 0
+abbrev pub WritesParts : {T : Type 0} → RowSkin → Option ℕ → List ℕ → Trace → Result T Error → Trace → Type 0
 WritesParts skin width markdown old r new = (text : List LineContent) × IsRead (unread_text false markdown) text × WritesPartsOf skin width text old r new
 
 -- a front of the bytes went out, and the rest is kept; or they were refused

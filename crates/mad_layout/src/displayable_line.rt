@@ -2,11 +2,12 @@
 
 ghost use Rattle.std.specs.Prelude.{◌≡◌, Some, false};
 ghost use Rattle.mad_draw.specs.Pieces.{pieces_bytes};
-ghost use Rattle.mad_layout.specs.Rows.{line_pieces};
+ghost use Rattle.mad_rows.specs.Rows.{line_pieces};
+ghost use Rattle.mad_layout.specs.RowSkins.{row_skin};
 
-use crate::display::PlacedLine;
 use crate::skin::MadSkin;
 use mad_format::FmtLine;
+use mad_rows::PlacedLine;
 use std::fmt;
 
 /// A line, displayed at a width if there is one: what is right of it isn't filled up, and no newline ends it.
@@ -30,11 +31,11 @@ impl<'a, 's> DisplayableLine<'a, 's> {
 }
 
 impl fmt::Display for DisplayableLine<'_, '_> {
-    ghost output = { λ l. Some (pieces_bytes (line_pieces l.skin.now l.width false l.line.now)) };
+    ghost output = { λ l. Some (pieces_bytes (line_pieces (row_skin l.skin.now) l.width false l.line.now)) };
 
     fn fmt<W: fmt::Write>(&self, f: &mut fmt::Formatter<W>) -> fmt::Result {
         let placed = PlacedLine {
-            skin: self.skin,
+            skin: &self.skin.row_skin(),
             line: self.line,
             outer: self.width,
             right: false,

@@ -8,14 +8,13 @@ ghost use Rattle.mad_fit.specs.Areas.{IsWithinLimits};
 ghost use Rattle.mad_layout.specs.Drawable.{AreDrawable};
 ghost use Rattle.mad_layout.specs.ShownLayouts.{ShowsLayout, ShowsRowsFrom};
 ghost use Rattle.mad_layout.specs.Shown.{area_bytes, lines_shown, AreShownIn};
+ghost use Rattle.mad_layout.specs.RowSkins.{row_skin};
 
-use crate::display::PlacedRow;
 use crate::fmt_text::FmtText;
-use crate::rows::{know_row, row_blanks};
-use crate::skin::MadSkin;
 use mad_draw::{Rows, draw_rows};
 use mad_fit::Area;
 use mad_format::FmtLine;
+use mad_rows::{PlacedRow, RowSkin, know_row, row_blanks};
 use mad_term::{Error, Out};
 use std::alloc::{AllocError, Global};
 
@@ -36,22 +35,22 @@ pub fn draw_text<O: Out>(
     scroll: usize,
 ) -> Result<(), Error>
     requires { IsWithinLimits area.now }
-    ensures writes { Draws (O.seen out.old) (area_bytes text.now.skin.now text.now.lines.items area.now scroll) result (O.seen out.new) }
+    ensures writes { Draws (O.seen out.old) (area_bytes (row_skin text.now.skin.now) text.now.lines.items area.now scroll) result (O.seen out.new) }
 
     // What a plain terminal shows that reads it. Asked is of each line that has a row, as a layout left it: with its margins it fits the
     // area. No piece of it holds a control character or begins with a widthless one. Each character of a prefix, a rule and a border
     // takes one column.
-    ensures shown { OnOk result (AreDrawable text.now.skin.now area.now.width (lines_shown text.now.lines.items area.now scroll)
-        → TookWith (O.seen out.old) (O.seen out.new) (AreShownIn text.now.skin.now text.now.lines.items area.now scroll)) }
+    ensures shown { OnOk result (AreDrawable (row_skin text.now.skin.now) area.now.width (lines_shown text.now.lines.items area.now scroll)
+        → TookWith (O.seen out.old) (O.seen out.new) (AreShownIn (row_skin text.now.skin.now) text.now.lines.items area.now scroll)) }
 
     // The same where the lines are a layout, at no more than the area's width, of a text that keeps the premises.
-    ensures shown_layout { OnOk result (ShowsLayout text.now.skin.now text.now.lines.items area.now scroll (O.seen out.old) (O.seen out.new)) }
+    ensures shown_layout { OnOk result (ShowsLayout (row_skin text.now.skin.now) text.now.lines.items area.now scroll (O.seen out.old) (O.seen out.new)) }
 
     // The same in the text's own characters, where the layout is a column narrower than the area.
-    ensures headline { OnOk result (ShowsRowsFrom text.now.skin.now text.now.lines.items area.now scroll (O.seen out.old) (O.seen out.new)) }
+    ensures headline { OnOk result (ShowsRowsFrom (row_skin text.now.skin.now) text.now.lines.items area.now scroll (O.seen out.old) (O.seen out.new)) }
 {
     let rows = TextRows {
-        skin: text.skin,
+        skin: &text.skin.row_skin(),
         lines: lines_from(text.lines.as_slice(), scroll),
         width: usize::from(area.width),
     };
@@ -68,13 +67,13 @@ fn lines_from<'a, 's>(lines: &'a [FmtLine<'s>], scroll: usize) -> &'a [FmtLine<'
 // The rows of lines in a place of `width` columns.
 #[derive(Clone, Copy)]
 struct TextRows<'a, 's> {
-    skin: &'a MadSkin,
+    skin: &'a RowSkin,
     lines: &'a [FmtLine<'s>],
     width: usize,
 }
 
 impl Rows for TextRows<'_, '_> {
-    ghost use Rattle.mad_layout.specs.Rows.{row_pieces};
+    ghost use Rattle.mad_rows.specs.Rows.{row_pieces};
 
     ghost pieces = { λ rows y. row_pieces rows.skin.now rows.width (slice_get rows.lines.now y) };
 

@@ -1,12 +1,16 @@
 //! Inline texts: one line, without a width.
 
-ghost use Rattle.std.specs.Prelude.{◌≡◌, IfOk};
+ghost use Rattle.std.specs.Prelude.{◌≡◌, IfOk, Some};
+ghost use Rattle.mad_draw.specs.Pieces.{pieces_bytes};
 ghost use Rattle.mad_layout.specs.Inlines.{IsInlineOf, IsDisplayedAsWritten};
+ghost use Rattle.mad_layout.specs.RowSkins.{row_skin};
 
 use crate::skin::MadSkin;
 use mad_format::FmtComposite;
 use mad_md::Composite;
+use mad_rows::PlacedComposite;
 use std::alloc::{AllocError, Global};
+use std::fmt::{self, Display};
 
 /// One line of text with inline marks, measured.
 #[derive(Debug, Drop)]
@@ -17,19 +21,29 @@ pub struct FmtInline<'k, 's> {
     pub composite: FmtComposite<'s>,
 }
 
+impl fmt::Display for FmtInline<'_, '_> {
+    ghost use Rattle.std.specs.Prelude.{None, false};
+    ghost use Rattle.mad_rows.specs.Rows.{composite_pieces, margins_of};
+
+    ghost output = { λ i. Some (pieces_bytes (composite_pieces (row_skin i.skin.now) None (margins_of (row_skin i.skin.now) None i.composite) false i.composite)) };
+
+    fn fmt<W: fmt::Write>(&self, f: &mut fmt::Formatter<W>) -> fmt::Result {
+        PlacedComposite::at(&self.skin.row_skin(), &self.composite, None, false).fmt(f)
+    }
+}
+
 impl MadSkin {
     /// A line of text, its inline marks read. Only out of memory is an error.
-    #[tactic(auto, using(crate::proofs::InlineLemmas::displayed))]
     pub fn inline<'k, 's>(
         &'k self,
         alloc: Global,
         src: &'s str,
     ) -> Result<FmtInline<'k, 's>, AllocError>
         ensures skin { IfOk result (λ inline. inline.skin.now ≡ self.now) }
-        ensures composite { IfOk result (λ inline. IsInlineOf self.now src.now inline.composite) }
+        ensures composite { IfOk result (λ inline. IsInlineOf (row_skin self.now) src.now inline.composite) }
 
         // It is displayed by the bytes that are written of it.
-        ensures displayed { IfOk result (λ inline. IsDisplayedAsWritten self.now src.now inline.composite) }
+        ensures displayed { IfOk result (λ inline. IsDisplayedAsWritten (row_skin self.now) src.now inline.composite) }
     {
         let composite = Composite::from_inline(alloc, src)?;
         Ok(FmtInline {
@@ -46,8 +60,8 @@ pub fn inline<'k, 's>(
     src: &'s str,
 ) -> Result<FmtInline<'k, 's>, AllocError>
     ensures skin { IfOk result (λ inline. inline.skin.now ≡ skin.now) }
-    ensures composite { IfOk result (λ inline. IsInlineOf skin.now src.now inline.composite) }
-    ensures displayed { IfOk result (λ inline. IsDisplayedAsWritten skin.now src.now inline.composite) }
+    ensures composite { IfOk result (λ inline. IsInlineOf (row_skin skin.now) src.now inline.composite) }
+    ensures displayed { IfOk result (λ inline. IsDisplayedAsWritten (row_skin skin.now) src.now inline.composite) }
 {
     skin.inline(alloc, src)
 }

@@ -6,17 +6,20 @@ ghost use Rattle.mad_md.specs.ReadRaw.{IsReadRaw};
 ghost use Rattle.mad_md.specs.Reading.{IsRead, unread_text};
 ghost use Rattle.mad_md.specs.declared.text.Text.{Text};
 ghost use Rattle.mad_blocks.specs.FittingLayouts.{IsFittingLayoutAt};
-ghost use Rattle.mad_layout.specs.Styles.{line_rules};
+ghost use Rattle.mad_rows.specs.Styles.{line_rules};
 ghost use Rattle.mad_layout.specs.InArea.{IsAreaFront, IsAreaLayout};
 ghost use Rattle.mad_blocks.specs.Layouts.{IsLayoutAt, IsMarkdownLayout};
 ghost use Rattle.mad_format.specs.Lines.{widest_line};
+ghost use Rattle.mad_layout.specs.RowSkins.{row_skin};
 
 use crate::skin::MadSkin;
 use mad_blocks::{lay_front, lay_source, lay_text};
 use mad_fit::Area;
 use mad_format::FmtLine;
 use mad_md::Text;
+use mad_rows::PlacedLines;
 use std::alloc::{AllocError, Global};
+use std::fmt::{self, Display};
 
 /// A text that is laid out: its lines, none wider than the width where that can be had.
 #[derive(Debug, Drop)]
@@ -41,10 +44,10 @@ impl<'k, 's> FmtText<'k, 's> {
     ) -> Result<Self, AllocError>
         ensures skin { IfOk result (λ laid_out. laid_out.skin.now ≡ skin.now) }
         ensures width { IfOk result (λ laid_out. laid_out.width ≡ width) }
-        ensures lines { IfOk result (λ laid_out. (text : Text) × IsReadRaw src.now text × IsLayoutAt (line_rules skin.now) width (contents text) laid_out.lines.items) }
+        ensures lines { IfOk result (λ laid_out. (text : Text) × IsReadRaw src.now text × IsLayoutAt (line_rules (row_skin skin.now)) width (contents text) laid_out.lines.items) }
 
         // So from three columns on the lines are a fitting layout, the premise of what `draw_text` shows (`shown_layout`).
-        ensures fitting { IfOk result (λ laid_out. (text : Text) × IsReadRaw src.now text × IsFittingLayoutAt (line_rules skin.now) width (contents text) laid_out.lines.items) }
+        ensures fitting { IfOk result (λ laid_out. (text : Text) × IsReadRaw src.now text × IsFittingLayoutAt (line_rules (row_skin skin.now)) width (contents text) laid_out.lines.items) }
     {
         let text = Text::raw_str(alloc, src)?;
         let lines = lay_text(alloc, skin, text, width)?;
@@ -62,10 +65,10 @@ impl<'k, 's> FmtText<'k, 's> {
     ) -> Result<Self, AllocError>
         ensures skin { IfOk result (λ laid_out. laid_out.skin.now ≡ skin.now) }
         ensures width { IfOk result (λ laid_out. laid_out.width ≡ width) }
-        ensures lines { IfOk result (λ laid_out. IsMarkdownLayout (line_rules skin.now) width src.now laid_out.lines.items) }
+        ensures lines { IfOk result (λ laid_out. IsMarkdownLayout (line_rules (row_skin skin.now)) width src.now laid_out.lines.items) }
 
         // So from three columns on the lines are a fitting layout, the premise of what `draw_text` shows (`shown_layout`).
-        ensures fitting { IfOk result (λ laid_out. (text : List LineContent) × IsRead (unread_text false src.now) text × IsFittingLayoutAt (line_rules skin.now) width text laid_out.lines.items) }
+        ensures fitting { IfOk result (λ laid_out. (text : List LineContent) × IsRead (unread_text false src.now) text × IsFittingLayoutAt (line_rules (row_skin skin.now)) width text laid_out.lines.items) }
     {
         let lines = lay_source(alloc, skin, src, width)?;
         Ok(FmtText { skin, lines, width })
@@ -82,10 +85,10 @@ impl<'k, 's> FmtText<'k, 's> {
     ) -> Result<Self, AllocError>
         ensures skin { IfOk result (λ laid_out. laid_out.skin.now ≡ skin.now) }
         ensures width { IfOk result (λ laid_out. laid_out.width ≡ width) }
-        ensures lines { IfOk result (λ laid_out. IsLayoutAt (line_rules skin.now) width (contents text.entry) laid_out.lines.items) }
+        ensures lines { IfOk result (λ laid_out. IsLayoutAt (line_rules (row_skin skin.now)) width (contents text.entry) laid_out.lines.items) }
 
         // So from three columns on the lines are a fitting layout, the premise of what `draw_text` shows (`shown_layout`).
-        ensures fitting { IfOk result (λ laid_out. IsFittingLayoutAt (line_rules skin.now) width (contents text.entry) laid_out.lines.items) }
+        ensures fitting { IfOk result (λ laid_out. IsFittingLayoutAt (line_rules (row_skin skin.now)) width (contents text.entry) laid_out.lines.items) }
     {
         let lines = lay_text(alloc, skin, text, width)?;
         Ok(FmtText { skin, lines, width })
@@ -110,6 +113,21 @@ impl<'k, 's> FmtText<'k, 's> {
     }
 }
 
+impl fmt::Display for FmtText<'_, '_> {
+    ghost use Rattle.mad_rows.specs.Rows.{text_bytes};
+
+    ghost output = { λ t. Some (text_bytes (row_skin t.skin.now) t.width t.lines.items) };
+
+    fn fmt<W: fmt::Write>(&self, f: &mut fmt::Formatter<W>) -> fmt::Result {
+        let lines = PlacedLines {
+            skin: &self.skin.row_skin(),
+            lines: self.lines.as_slice(),
+            outer: self.width,
+        };
+        lines.fmt(f)
+    }
+}
+
 impl MadSkin {
     /// A Markdown text, laid out for an area: at a width one column less than the area's. Only out of memory is an error.
     pub fn area_text<'k, 's>(
@@ -120,7 +138,7 @@ impl MadSkin {
     ) -> Result<FmtText<'k, 's>, AllocError>
         ensures skin { IfOk result (λ text. text.skin.now ≡ self.now) }
         ensures width { IfOk result (λ text. text.width ≡ Some (area.now.width - 1)) }
-        ensures lines { IfOk result (λ text. IsAreaLayout self.now markdown.now area.now text.lines.items) }
+        ensures lines { IfOk result (λ text. IsAreaLayout (row_skin self.now) markdown.now area.now text.lines.items) }
     {
         let width = (area.width as usize).saturating_sub(1);
         FmtText::from(alloc, self, markdown, Some(width))
@@ -135,7 +153,7 @@ impl MadSkin {
         area: &Area,
     ) -> Result<FmtText<'k, 's>, AllocError>
         ensures skin { IfOk result (λ text. text.skin.now ≡ self.now) }
-        ensures lines { IfOk result (λ text. IsAreaFront self.now markdown.now area.now text.lines.items) }
+        ensures lines { IfOk result (λ text. IsAreaFront (row_skin self.now) markdown.now area.now text.lines.items) }
     {
         let width = Some(usize::from(area.width).saturating_sub(1));
         let rows = usize::from(area.height);
@@ -157,7 +175,7 @@ impl MadSkin {
     ) -> Result<FmtText<'k, 's>, AllocError>
         ensures skin { IfOk result (λ text. text.skin.now ≡ self.now) }
         ensures width { IfOk result (λ text. text.width ≡ width) }
-        ensures lines { IfOk result (λ text. IsMarkdownLayout (line_rules self.now) width markdown.now text.lines.items) }
+        ensures lines { IfOk result (λ text. IsMarkdownLayout (line_rules (row_skin self.now)) width markdown.now text.lines.items) }
     {
         FmtText::from(alloc, self, markdown, width)
     }
@@ -171,7 +189,7 @@ impl MadSkin {
     ) -> Result<FmtText<'k, 's>, AllocError>
         ensures skin { IfOk result (λ text. text.skin.now ≡ self.now) }
         ensures width { IfOk result (λ text. text.width ≡ Some width) }
-        ensures lines { IfOk result (λ text. IsMarkdownLayout (line_rules self.now) (Some width) markdown.now text.lines.items) }
+        ensures lines { IfOk result (λ text. IsMarkdownLayout (line_rules (row_skin self.now)) (Some width) markdown.now text.lines.items) }
     {
         FmtText::from(alloc, self, markdown, Some(width))
     }
@@ -185,7 +203,7 @@ pub fn text<'k, 's>(
 ) -> Result<FmtText<'k, 's>, AllocError>
     ensures skin { IfOk result (λ text. text.skin.now ≡ skin.now) }
     ensures width { IfOk result (λ text. text.width ≡ None) }
-    ensures lines { IfOk result (λ text. IsMarkdownLayout (line_rules skin.now) None markdown.now text.lines.items) }
+    ensures lines { IfOk result (λ text. IsMarkdownLayout (line_rules (row_skin skin.now)) None markdown.now text.lines.items) }
 {
     skin.text(alloc, markdown, None)
 }
@@ -199,7 +217,7 @@ pub fn term_text<'k, 's>(
 ) -> Result<FmtText<'k, 's>, AllocError>
     ensures skin { IfOk result (λ text. text.skin.now ≡ skin.now) }
     ensures width { IfOk result (λ text. text.width ≡ Some width) }
-    ensures lines { IfOk result (λ text. IsMarkdownLayout (line_rules skin.now) (Some width) markdown.now text.lines.items) }
+    ensures lines { IfOk result (λ text. IsMarkdownLayout (line_rules (row_skin skin.now)) (Some width) markdown.now text.lines.items) }
 {
     skin.term_text(alloc, markdown, width)
 }

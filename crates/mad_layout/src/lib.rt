@@ -5,17 +5,14 @@
 //! 1. [`skin`]: the styles of a text's parts. `made_skins`, `skin_setters`: skins for a background, and changes of
 //!    several parts.
 //! 2. [`fmt_text`], [`fmt_inline`]: reading a text and laying it out; reading one line.
-//! 3. `rows`: what is written of a line, piece by piece.
-//! 4. [`drawing`]: the rows of a text in an area of the screen.
-//! 5. `writing`, `text_writing`, `parts_writing`: the writing calls of a skin; `display`, [`displayable_line`]: texts and lines as displayed
-//!    values; `row_writing`: a line put after a string.
-//! 6. [`laws`]: texts that keep the premises, and an example whose premises are proved.
+//! 3. [`drawing`]: the rows of a text in an area of the screen.
+//! 4. `writing`, `text_writing`, `parts_writing`: the writing calls of a skin; [`displayable_line`]: a line as a displayed value.
+//! 5. [`laws`]: texts that keep the premises, and an example whose premises are proved.
 //!
-//! Composites, lines, tables and blocks of code, and how they are laid out, are in `mad_format` and `mad_blocks`.
-//! This crate hands their names on.
+//! Composites, lines, tables and blocks of code, and how they are laid out, are in `mad_format` and `mad_blocks`; what is written of a line
+//! is in `mad_rows`. This crate hands their names on.
 #![tactic(auto)]
 
-mod display;
 pub mod displayable_line;
 pub mod drawing;
 pub mod fmt_inline;
@@ -23,8 +20,6 @@ pub mod fmt_text;
 pub mod laws;
 mod made_skins;
 mod parts_writing;
-mod row_writing;
-mod rows;
 pub mod skin;
 mod skin_setters;
 mod text_writing;
@@ -43,6 +38,7 @@ pub use mad_format::{
     check_wrap_bound, composite, composite_kind_widths, hard_wrap_composite, hard_wrap_lines, line,
     room, room_of, table, wrap, wrap_bound,
 };
+pub use mad_rows::RowSkin;
 pub use skin::MadSkin;
 pub use text_writing::print_text;
 pub use writing::print_inline;

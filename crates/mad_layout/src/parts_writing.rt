@@ -4,14 +4,15 @@ ghost use Rattle.std.specs.Prelude.{◌≡◌, ◌≤◌, ◌++◌, [], ℕ, len
 ghost use Rattle.mad_fit.specs.Completions.{left_completion};
 ghost use Rattle.mad_blocks.specs.PartCursors.{lines_left};
 ghost use Rattle.mad_layout.specs.PlainLines.{IsPlainWidth, HandsOnPlain};
-ghost use Rattle.mad_layout.specs.Texts.{text_bytes};
+ghost use Rattle.mad_rows.specs.Rows.{text_bytes};
 ghost use Rattle.mad_layout.specs.WrittenParts.{HandsOn, WritesParts, WritesPartsOf};
+ghost use Rattle.mad_layout.specs.RowSkins.{row_skin};
 
-use crate::row_writing::append_line;
 use crate::skin::MadSkin;
 use mad_blocks::{PartCursor, wrap_width};
 use mad_format::FmtLine;
 use mad_md::Alignment;
+use mad_rows::{RowSkin, append_line};
 use mad_term::{Error, Out, put_all};
 use std::alloc::Global;
 
@@ -34,9 +35,10 @@ impl MadSkin {
         markdown: &str,
         width: Option<usize>,
     ) -> Result<(), Error>
-        ensures writes { WritesParts self.now width markdown.now (O.seen out.old) result (O.seen out.new) }
+        ensures writes { WritesParts (row_skin self.now) width markdown.now (O.seen out.old) result (O.seen out.new) }
     {
-        write_parts(alloc, out, &mut PartCursor::new(markdown), width, self)
+        let skin = self.row_skin();
+        write_parts(alloc, out, &mut PartCursor::new(markdown), width, &skin)
     }
 }
 
@@ -46,7 +48,7 @@ fn write_parts<O: Out>(
     out: &mut O,
     parts: &mut PartCursor,
     width: Option<usize>,
-    skin: &MadSkin,
+    skin: &RowSkin,
 ) -> Result<(), Error>
     ensures { WritesPartsOf skin.now width (lines_left parts.old) (O.seen out.old) result (O.seen out.new) }
 {
@@ -65,7 +67,7 @@ fn hand_on<O: Out>(
     rows: &mut String,
     lines: &mut Vec<FmtLine>,
     width: Option<usize>,
-    skin: &MadSkin,
+    skin: &RowSkin,
 ) -> Result<(), Error>
     ensures dropped { OnOk result (lines.new.items ≡ []) }
     ensures handed { HandsOn (O.seen out.old) (string_bytes rows.old ++ text_bytes skin.now width lines.old.items) result (O.seen out.new) (string_bytes rows.new) }
@@ -81,7 +83,7 @@ fn send_lines<O: Out>(
     rows: &mut String,
     lines: &[FmtLine],
     width: Option<usize>,
-    skin: &MadSkin,
+    skin: &RowSkin,
 ) -> Result<(), Error>
     ensures { HandsOn (O.seen out.old) (string_bytes rows.old ++ text_bytes skin.now width lines.now) result (O.seen out.new) (string_bytes rows.new) }
 {
@@ -110,7 +112,7 @@ fn hand_on_plain<O: Out>(
     lines: &mut Vec<FmtLine>,
     parts: &mut PartCursor,
     width: Option<usize>,
-    skin: &MadSkin,
+    skin: &RowSkin,
 ) -> Result<(), Error>
     ensures dropped { OnOk result (lines.new.items ≡ []) }
     ensures shorter { OnOk result (length (lines_left parts.new) ≤ length (lines_left parts.old)) }
@@ -129,7 +131,7 @@ fn hand_on_plain<O: Out>(
 }
 
 // The columns that a plain line may have to be a row as it is; none where paragraphs have a style or margins, or don't stand left.
-fn plain_width(width: Option<usize>, skin: &MadSkin) -> Option<usize>
+fn plain_width(width: Option<usize>, skin: &RowSkin) -> Option<usize>
     ensures { IfSome result (IsPlainWidth skin.now width) }
 {
     let width = wrap_width(width)?;

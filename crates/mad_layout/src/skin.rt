@@ -1,12 +1,15 @@
 //! The styles of a text's parts.
 
-ghost use Rattle.std.specs.Prelude.{◌≡◌, ◌+◌, IsTrue};
+ghost use Rattle.std.specs.Prelude.{◌≡◌, ◌+◌};
 ghost use Rattle.mad_md.specs.Flagged.{run_of};
-ghost use Rattle.mad_layout.specs.Styles.{compound_style};
+ghost use Rattle.mad_rows.specs.Styles.{compound_style};
+ghost use Rattle.mad_layout.specs.RowSkins.{row_skin};
 ghost use Rattle.mad_layout.specs.SkinParts.{header_line, first_header_line, default_header_lines, default_quote, default_table};
 
 use mad_format::{LineSkin, composite_columns};
 use mad_md::{Alignment, Compound, MAX_HEADER_DEPTH};
+pub use mad_rows::OrderedItemStyles;
+use mad_rows::{HeaderStyles, RowSkin, item_style_at, style_of_kind};
 use mad_style::{
     CompositeKind, CompoundStyle, LineStyle, ListItemsIndentationMode, MAX_ORDERED_LIST_DEPTH,
     OrderedItemStyle, STANDARD_TABLE_BORDER_CHARS, ScrollBarStyle, StyledChar, TableBorderChars,
@@ -14,14 +17,8 @@ use mad_style::{
 };
 use mad_term::Attribute;
 
-/// The text that stands for what was left out.
-pub(crate) const ELLIPSIS: &str = "…";
-
 // What a horizontal rule is made of.
 const RULE: char = '―';
-
-/// How the numbers of items look, by the level of their list.
-pub type OrderedItemStyles = [OrderedItemStyle; MAX_ORDERED_LIST_DEPTH];
 
 /// The styles of a text's parts.
 #[derive(Clone, Copy, PartialEq, Debug)]
@@ -39,7 +36,7 @@ pub struct MadSkin {
     /// The style of code blocks.
     pub code_block: LineStyle,
     /// The styles of headers, those of the first level first.
-    pub headers: [LineStyle; MAX_HEADER_DEPTH],
+    pub headers: HeaderStyles,
     /// How scroll bars look.
     pub scrollbar: ScrollBarStyle,
     /// The style of a table's borders, and on which side a table is.
@@ -91,7 +88,7 @@ impl Default for MadSkin {
 }
 
 // Headers are underlined, and the first is bold and centered too.
-fn default_headers() -> [LineStyle; MAX_HEADER_DEPTH]
+fn default_headers() -> HeaderStyles
     ensures { result ≡ default_header_lines }
 {
     let header = default_header();
@@ -139,7 +136,7 @@ impl MadSkin {
     ghost use Rattle.mad_fit.specs.Columns.{width_of};
     ghost use Rattle.mad_format.specs.Indents.{indent};
     ghost use Rattle.mad_layout.specs.Skins.{no_style_skin};
-    ghost use Rattle.mad_layout.specs.Styles.{line_style, ordered_item_style};
+    ghost use Rattle.mad_rows.specs.Styles.{line_style, ordered_item_style};
     ghost use Rattle.mad_wrap.specs.WrapLines.{capped};
 
     /// The characters of the default skin, without style; only the scroll bar looks as the default one.
@@ -177,53 +174,53 @@ impl MadSkin {
     /// The style of a line of this kind: code blocks and the headers of levels 1 to 8 have their own, all else the
     /// paragraph's.
     pub fn line_style(&self, kind: CompositeKind) -> &LineStyle
-        ensures { result.now ≡ line_style self.now kind }
+        ensures { result.now ≡ line_style (row_skin self.now) kind }
     {
-        match kind {
-            CompositeKind::Code => &self.code_block,
-            CompositeKind::Header(level @ 1..=8) => &self.headers[level as usize - 1],
-            _ => &self.paragraph,
-        }
+        style_of_kind(&self.paragraph, &self.headers, &self.code_block, kind)
     }
 
     /// How the items of an ordered list look at a level, counted from 0; levels past the last take the last.
     pub fn ordered_item_style(&self, level: u8) -> &OrderedItemStyle
-        ensures { result.now ≡ ordered_item_style self.now level }
+        ensures { result.now ≡ ordered_item_style (row_skin self.now) level }
     {
-        &self.ordered_item_styles[usize::from(level).min(MAX_ORDERED_LIST_DEPTH - 1)]
+        item_style_at(&self.ordered_item_styles, level)
     }
 
-    /// The style of a compound in a line of that style.
-    ///
-    /// An ellipsis has its own; any other has its line's, overwritten with those of its flags: italic first, then
-    /// strikeout, bold and code.
+    /// The style of a compound in a line of that style, as [`RowSkin::compound_style`] takes it.
     pub fn compound_style(&self, line_style: &LineStyle, compound: &Compound) -> CompoundStyle
-        ensures { result ≡ compound_style self.now line_style.now (run_of compound.now) }
+        ensures { result ≡ compound_style (row_skin self.now) line_style.now (run_of compound.now) }
     {
-        if compound.src == ELLIPSIS {
-            return self.ellipsis;
+        self.row_skin().compound_style(line_style, compound)
+    }
+
+    /// What rows show of the skin: all but its scroll bar.
+    pub fn row_skin(&self) -> RowSkin
+        ensures { result ≡ row_skin self.now }
+    {
+        RowSkin {
+            paragraph: self.paragraph,
+            bold: self.bold,
+            italic: self.italic,
+            strikeout: self.strikeout,
+            inline_code: self.inline_code,
+            code_block: self.code_block,
+            headers: self.headers,
+            table: self.table,
+            bullet: self.bullet,
+            ordered_item_styles: self.ordered_item_styles,
+            quote_mark: self.quote_mark,
+            horizontal_rule: self.horizontal_rule,
+            ellipsis: self.ellipsis,
+            table_border_chars: self.table_border_chars,
+            list_items_indentation_mode: self.list_items_indentation_mode,
         }
-        let mut style = line_style.compound_style;
-        if compound.italic {
-            style.overwrite_with(&self.italic);
-        }
-        if compound.strikeout {
-            style.overwrite_with(&self.strikeout);
-        }
-        if compound.bold {
-            style.overwrite_with(&self.bold);
-        }
-        if compound.code {
-            style.overwrite_with(&self.inline_code);
-        }
-        style
     }
 }
 
 impl LineSkin for MadSkin {
-    ghost use Rattle.mad_layout.specs.Styles.{line_rules};
+    ghost use Rattle.mad_rows.specs.Styles.{line_rules};
 
-    ghost rules = { λ skin. line_rules skin };
+    ghost rules = { λ skin. line_rules (row_skin skin) };
 
     fn items_indentation(&self) -> ListItemsIndentationMode {
         self.list_items_indentation_mode
@@ -232,12 +229,4 @@ impl LineSkin for MadSkin {
     fn style_of(&self, kind: CompositeKind) -> &LineStyle {
         self.line_style(kind)
     }
-}
-
-/// Whether a compound looks as its line does: it has no flag, and isn't an ellipsis.
-pub(crate) fn is_bare(compound: &Compound) -> bool
-    ensures { IsTrue result → (skin : MadSkin) (line : LineStyle) → compound_style skin line (run_of compound.now) ≡ line.compound_style }
-{
-    let flagged = compound.bold || compound.italic || compound.code || compound.strikeout;
-    !flagged && (compound.src.len() != ELLIPSIS.len() || compound.src != ELLIPSIS)
 }

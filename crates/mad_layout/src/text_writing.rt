@@ -4,15 +4,14 @@ ghost use Rattle.std.specs.Prelude.{◌≡◌, IsErrOf};
 ghost use Rattle.mad_draw.specs.Pieces.{pieces_bytes};
 ghost use Rattle.mad_term.specs.Draws.{Draws, AndFlushes};
 ghost use Rattle.mad_term.specs.declared.errors.Error.TheVariants.{Memory};
-ghost use Rattle.mad_layout.specs.Rows.{composite_pieces, line_pieces, margins_of};
-ghost use Rattle.mad_layout.specs.Texts.{text_bytes, WritesMarkdown};
+ghost use Rattle.mad_layout.specs.Texts.{WritesMarkdown};
+ghost use Rattle.mad_rows.specs.Rows.{composite_pieces, line_pieces, margins_of, text_bytes};
+ghost use Rattle.mad_layout.specs.RowSkins.{row_skin};
 
-use crate::display::{PlacedComposite, PlacedLine};
 use crate::fmt_text::FmtText;
-use crate::row_writing::append_lines;
-use crate::rows::{composite_blanks, line_blanks};
 use crate::skin::MadSkin;
 use mad_format::{FmtComposite, FmtLine};
+use mad_rows::{PlacedComposite, PlacedLine, append_lines, composite_blanks, line_blanks};
 use mad_term::{Error, Out, put_text};
 use std::alloc::Global;
 
@@ -31,12 +30,13 @@ impl MadSkin {
         width: Option<usize>,
         with_right_completion: bool,
     ) -> Result<(), Error>
-        ensures writes { Draws (O.seen out.old) (pieces_bytes (composite_pieces self.now width (margins_of self.now width composite.now) with_right_completion composite.now)) result (O.seen out.new) }
+        ensures writes { Draws (O.seen out.old) (pieces_bytes (composite_pieces (row_skin self.now) width (margins_of (row_skin self.now) width composite.now) with_right_completion composite.now)) result (O.seen out.new) }
         ensures early { IsErrOf result Memory → O.seen out.new ≡ O.seen out.old }
     {
+        let skin = &self.row_skin();
         let mut row = String::new(alloc);
-        let placed = PlacedComposite::at(self, composite, width, with_right_completion);
-        row.reserve(composite_blanks(self, composite, placed.place))?;
+        let placed = PlacedComposite::at(skin, composite, width, with_right_completion);
+        row.reserve(composite_blanks(skin, composite, placed.place))?;
         write!(row, "{placed}")?;
         put_text(out, &row)
     }
@@ -55,13 +55,14 @@ impl MadSkin {
         width: Option<usize>,
         with_right_completion: bool,
     ) -> Result<(), Error>
-        ensures writes { Draws (O.seen out.old) (pieces_bytes (line_pieces self.now width with_right_completion line.now)) result (O.seen out.new) }
+        ensures writes { Draws (O.seen out.old) (pieces_bytes (line_pieces (row_skin self.now) width with_right_completion line.now)) result (O.seen out.new) }
         ensures early { IsErrOf result Memory → O.seen out.new ≡ O.seen out.old }
     {
+        let skin = &self.row_skin();
         let mut row = String::new(alloc);
-        row.reserve(line_blanks(self, line, width, with_right_completion))?;
+        row.reserve(line_blanks(skin, line, width, with_right_completion))?;
         let placed = PlacedLine {
-            skin: self,
+            skin,
             line,
             outer: width,
             right: with_right_completion,
@@ -82,7 +83,7 @@ impl MadSkin {
         markdown: &str,
         width: Option<usize>,
     ) -> Result<(), Error>
-        ensures writes { WritesMarkdown self.now width markdown.now (O.seen out.old) result (O.seen out.new) }
+        ensures writes { WritesMarkdown (row_skin self.now) width markdown.now (O.seen out.old) result (O.seen out.new) }
         ensures early { IsErrOf result Memory → O.seen out.new ≡ O.seen out.old }
     {
         let text = self.text(alloc, markdown, width)?;
@@ -101,7 +102,7 @@ impl MadSkin {
         markdown: &str,
         width: Option<usize>,
     ) -> Result<(), Error>
-        ensures writes { WritesMarkdown self.now width markdown.now (O.seen out.old) result (O.seen out.new) }
+        ensures writes { WritesMarkdown (row_skin self.now) width markdown.now (O.seen out.old) result (O.seen out.new) }
         ensures early { IsErrOf result Memory → O.seen out.new ≡ O.seen out.old }
     {
         self.write_text_on(alloc, out, markdown, width)
@@ -120,7 +121,7 @@ impl MadSkin {
         markdown: &str,
         width: Option<usize>,
     ) -> Result<(), Error>
-        ensures writes { AndFlushes (WritesMarkdown self.now width markdown.now) (O.seen out.old) result (O.seen out.new) }
+        ensures writes { AndFlushes (WritesMarkdown (row_skin self.now) width markdown.now) (O.seen out.old) result (O.seen out.new) }
         ensures early { IsErrOf result Memory → O.seen out.new ≡ O.seen out.old }
     {
         self.write_text_on(alloc, out, markdown, width)?;
@@ -141,7 +142,7 @@ pub fn print_text<O: Out>(
     markdown: &str,
     width: Option<usize>,
 ) -> Result<(), Error>
-    ensures writes { WritesMarkdown skin.now width markdown.now (O.seen out.old) result (O.seen out.new) }
+    ensures writes { WritesMarkdown (row_skin skin.now) width markdown.now (O.seen out.old) result (O.seen out.new) }
     ensures early { IsErrOf result Memory → O.seen out.new ≡ O.seen out.old }
 {
     skin.print_text(alloc, out, markdown, width)
@@ -149,10 +150,11 @@ pub fn print_text<O: Out>(
 
 // Writes the lines of a text, each with a newline.
 fn write_lines<O: Out>(alloc: Global, out: &mut O, text: &FmtText) -> Result<(), Error>
-    ensures writes { Draws (O.seen out.old) (text_bytes text.now.skin.now text.now.width text.now.lines.items) result (O.seen out.new) }
+    ensures writes { Draws (O.seen out.old) (text_bytes (row_skin text.now.skin.now) text.now.width text.now.lines.items) result (O.seen out.new) }
     ensures early { IsErrOf result Memory → O.seen out.new ≡ O.seen out.old }
 {
     let mut rows = String::new(alloc);
-    append_lines(&mut rows, text.lines.as_slice(), text.width, text.skin)?;
+    let skin = text.skin.row_skin();
+    append_lines(&mut rows, text.lines.as_slice(), text.width, &skin)?;
     put_text(out, &rows)
 }

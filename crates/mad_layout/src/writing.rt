@@ -8,14 +8,16 @@ ghost use Rattle.mad_term.specs.declared.errors.Error.TheVariants.{Memory};
 ghost use Rattle.mad_fit.specs.Areas.{IsWithinLimits};
 ghost use Rattle.mad_layout.specs.Headline.{ShowsFirstRows};
 ghost use Rattle.mad_layout.specs.InArea.{WritesInArea, ShowsText};
-ghost use Rattle.mad_layout.specs.Inlines.{WritesInline, composite_bytes};
+ghost use Rattle.mad_layout.specs.Inlines.{WritesInline};
+ghost use Rattle.mad_rows.specs.Rows.{composite_bytes};
 ghost use Rattle.mad_layout.specs.Sources.{LinesTakeColumns, ShowsSource};
+ghost use Rattle.mad_layout.specs.RowSkins.{row_skin};
 
-use crate::display::FreeComposite;
 use crate::drawing::draw_text;
 use crate::skin::MadSkin;
 use mad_fit::Area;
 use mad_md::Composite;
+use mad_rows::FreeComposite;
 use mad_style::CompositeKind;
 use mad_term::{Error, Out, put_text};
 use std::alloc::Global;
@@ -38,12 +40,12 @@ impl MadSkin {
         area: &Area,
     ) -> Result<(), Error>
         requires { IsWithinLimits area.now }
-        ensures writes { WritesInArea self.now markdown.now area.now (O.seen out.old) result (O.seen out.new) }
-        ensures shown { OnOk result (4 ≤ area.now.width → ShowsText self.now markdown.now area.now (O.seen out.old) (O.seen out.new)) }
-        ensures headline { OnOk result (4 ≤ area.now.width → (lines : List LineContent) × IsRead (unread_text false markdown.now) lines × ShowsFirstRows self.now lines area.now (O.seen out.old) (O.seen out.new)) }
+        ensures writes { WritesInArea (row_skin self.now) markdown.now area.now (O.seen out.old) result (O.seen out.new) }
+        ensures shown { OnOk result (4 ≤ area.now.width → ShowsText (row_skin self.now) markdown.now area.now (O.seen out.old) (O.seen out.new)) }
+        ensures headline { OnOk result (4 ≤ area.now.width → (lines : List LineContent) × IsRead (unread_text false markdown.now) lines × ShowsFirstRows (row_skin self.now) lines area.now (O.seen out.old) (O.seen out.new)) }
 
         // The same with no premise but on the source: its lines begin as paragraphs, and each of its characters takes columns, line ends apart.
-        ensures shown_source { OnOk result (4 ≤ area.now.width → LinesTakeColumns markdown.now → ShowsSource self.now markdown.now area.now (O.seen out.old) (O.seen out.new)) }
+        ensures shown_source { OnOk result (4 ≤ area.now.width → LinesTakeColumns markdown.now → ShowsSource (row_skin self.now) markdown.now area.now (O.seen out.old) (O.seen out.new)) }
     {
         let text = self.area_front(alloc, markdown, area)?;
         draw_text(alloc, out, &text, area, 0)
@@ -62,10 +64,10 @@ impl MadSkin {
         area: &Area,
     ) -> Result<(), Error>
         requires { IsWithinLimits area.now }
-        ensures writes { AndFlushes (WritesInArea self.now markdown.now area.now) (O.seen out.old) result (O.seen out.new) }
-        ensures shown { OnOk result (4 ≤ area.now.width → ShowsText self.now markdown.now area.now (O.seen out.old) (O.seen out.new)) }
-        ensures headline { OnOk result (4 ≤ area.now.width → (lines : List LineContent) × IsRead (unread_text false markdown.now) lines × ShowsFirstRows self.now lines area.now (O.seen out.old) (O.seen out.new)) }
-        ensures shown_source { OnOk result (4 ≤ area.now.width → LinesTakeColumns markdown.now → ShowsSource self.now markdown.now area.now (O.seen out.old) (O.seen out.new)) }
+        ensures writes { AndFlushes (WritesInArea (row_skin self.now) markdown.now area.now) (O.seen out.old) result (O.seen out.new) }
+        ensures shown { OnOk result (4 ≤ area.now.width → ShowsText (row_skin self.now) markdown.now area.now (O.seen out.old) (O.seen out.new)) }
+        ensures headline { OnOk result (4 ≤ area.now.width → (lines : List LineContent) × IsRead (unread_text false markdown.now) lines × ShowsFirstRows (row_skin self.now) lines area.now (O.seen out.old) (O.seen out.new)) }
+        ensures shown_source { OnOk result (4 ≤ area.now.width → LinesTakeColumns markdown.now → ShowsSource (row_skin self.now) markdown.now area.now (O.seen out.old) (O.seen out.new)) }
     {
         self.write_in_area_on(alloc, out, markdown, area)?;
         out.flush()?;
@@ -84,7 +86,7 @@ impl MadSkin {
         out: &mut O,
         composite: &Composite,
     ) -> Result<(), Error>
-        ensures writes { Draws (O.seen out.old) (composite_bytes self.now composite.now) result (O.seen out.new) }
+        ensures writes { Draws (O.seen out.old) (composite_bytes (row_skin self.now) composite.now) result (O.seen out.new) }
         ensures early { IsErrOf result Memory → O.seen out.new ≡ O.seen out.old }
     {
         let mut row = String::new(alloc);
@@ -93,7 +95,7 @@ impl MadSkin {
             .left_margin;
         row.reserve(margin)?;
         let free = FreeComposite {
-            skin: self,
+            skin: &self.row_skin(),
             composite,
         };
         write!(row, "{free}")?;
@@ -111,7 +113,7 @@ impl MadSkin {
         out: &mut O,
         composite: &Composite,
     ) -> Result<(), Error>
-        ensures writes { Draws (O.seen out.old) (composite_bytes self.now composite.now) result (O.seen out.new) }
+        ensures writes { Draws (O.seen out.old) (composite_bytes (row_skin self.now) composite.now) result (O.seen out.new) }
         ensures early { IsErrOf result Memory → O.seen out.new ≡ O.seen out.old }
     {
         self.write_composite(alloc, out, composite)
@@ -129,7 +131,7 @@ impl MadSkin {
         out: &mut O,
         src: &str,
     ) -> Result<(), Error>
-        ensures writes { WritesInline self.now src.now (O.seen out.old) result (O.seen out.new) }
+        ensures writes { WritesInline (row_skin self.now) src.now (O.seen out.old) result (O.seen out.new) }
         ensures early { IsErrOf result Memory → O.seen out.new ≡ O.seen out.old }
     {
         let composite = Composite::from_inline(alloc, src)?;
@@ -142,7 +144,7 @@ impl MadSkin {
     ///
     /// A fault of the device; what went out by then is a beginning of the whole. Or out of memory, before the first byte.
     pub fn print_inline<O: Out>(&self, alloc: Global, out: &mut O, src: &str) -> Result<(), Error>
-        ensures writes { WritesInline self.now src.now (O.seen out.old) result (O.seen out.new) }
+        ensures writes { WritesInline (row_skin self.now) src.now (O.seen out.old) result (O.seen out.new) }
         ensures early { IsErrOf result Memory → O.seen out.new ≡ O.seen out.old }
     {
         self.write_inline_on(alloc, out, src)
@@ -155,7 +157,7 @@ impl MadSkin {
     /// A fault of the device, at its flush too; what went out by then is a beginning of the whole. Or out of memory, before
     /// the first byte.
     pub fn write_inline<O: Out>(&self, alloc: Global, out: &mut O, src: &str) -> Result<(), Error>
-        ensures writes { AndFlushes (WritesInline self.now src.now) (O.seen out.old) result (O.seen out.new) }
+        ensures writes { AndFlushes (WritesInline (row_skin self.now) src.now) (O.seen out.old) result (O.seen out.new) }
         ensures early { IsErrOf result Memory → O.seen out.new ≡ O.seen out.old }
     {
         self.write_inline_on(alloc, out, src)?;
@@ -175,7 +177,7 @@ pub fn print_inline<O: Out>(
     out: &mut O,
     src: &str,
 ) -> Result<(), Error>
-    ensures writes { WritesInline skin.now src.now (O.seen out.old) result (O.seen out.new) }
+    ensures writes { WritesInline (row_skin skin.now) src.now (O.seen out.old) result (O.seen out.new) }
     ensures early { IsErrOf result Memory → O.seen out.new ≡ O.seen out.old }
 {
     skin.print_inline(alloc, out, src)

@@ -5,6 +5,7 @@ ghost use Rattle.mad_term.specs.Draws.{Draws, DrawsAndFlushes};
 ghost use Rattle.mad_term.specs.Trace.{TookWith};
 ghost use Rattle.mad_fit.specs.Areas.{IsWithinLimits};
 ghost use Rattle.mad_layout.specs.Drawable.{AreDrawable};
+ghost use Rattle.mad_layout.specs.RowSkins.{row_skin};
 ghost use Rattle.mad_layout.specs.Shown.{area_bytes, lines_shown, AreShownIn};
 ghost use Rattle.mad_layout.specs.ShownLayouts.{ShowsLayout, ShowsRowsFrom};
 ghost use Rattle.mad_view.specs.Scrolls.{scroll_within};
@@ -65,19 +66,19 @@ impl<'a, 't> TextView<'a, 't> {
     /// A fault of the device, or out of memory. What went out by then is a beginning of the whole.
     pub fn write_on<O: Out>(&self, alloc: Global, out: &mut O) -> Result<(), Error>
         requires { IsWithinLimits self.now.area.now }
-        ensures writes { let text = self.now.text.now in Draws (O.seen out.old) (area_bytes text.skin.now text.lines.items self.now.area.now self.now.scroll) result (O.seen out.new) }
+        ensures writes { let text = self.now.text.now in Draws (O.seen out.old) (area_bytes (row_skin text.skin.now) text.lines.items self.now.area.now self.now.scroll) result (O.seen out.new) }
 
         // What a plain terminal shows that reads it, where each line that has a row keeps these. As a layout left it, it fits the
         // area with its margins. No piece of it holds a control character or begins with a widthless one. Each character of a
         // prefix, a rule and a border takes one column.
-        ensures shown { let text = self.now.text.now in OnOk result (AreDrawable text.skin.now self.now.area.now.width (lines_shown text.lines.items self.now.area.now self.now.scroll)
-            → TookWith (O.seen out.old) (O.seen out.new) (AreShownIn text.skin.now text.lines.items self.now.area.now self.now.scroll)) }
+        ensures shown { let text = self.now.text.now in OnOk result (AreDrawable (row_skin text.skin.now) self.now.area.now.width (lines_shown text.lines.items self.now.area.now self.now.scroll)
+            → TookWith (O.seen out.old) (O.seen out.new) (AreShownIn (row_skin text.skin.now) text.lines.items self.now.area.now self.now.scroll)) }
 
         // The same where the lines are a layout of a text that keeps the premises, at most as wide as the area.
-        ensures shown_layout { let text = self.now.text.now in OnOk result (ShowsLayout text.skin.now text.lines.items self.now.area.now self.now.scroll (O.seen out.old) (O.seen out.new)) }
+        ensures shown_layout { let text = self.now.text.now in OnOk result (ShowsLayout (row_skin text.skin.now) text.lines.items self.now.area.now self.now.scroll (O.seen out.old) (O.seen out.new)) }
 
         // The same in the text's own characters, where the layout is a column narrower than the area.
-        ensures headline { let text = self.now.text.now in OnOk result (ShowsRowsFrom text.skin.now text.lines.items self.now.area.now self.now.scroll (O.seen out.old) (O.seen out.new)) }
+        ensures headline { let text = self.now.text.now in OnOk result (ShowsRowsFrom (row_skin text.skin.now) text.lines.items self.now.area.now self.now.scroll (O.seen out.old) (O.seen out.new)) }
     {
         draw_text(alloc, out, self.text, self.area, self.scroll)
     }
@@ -92,11 +93,11 @@ impl<'a, 't> TextView<'a, 't> {
     #[tactic(auto, using(mad_term::proofs::Traces::took_flushed))]
     pub fn write<O: Out>(&self, alloc: Global, out: &mut O) -> Result<(), Error>
         requires { IsWithinLimits self.now.area.now }
-        ensures writes { let text = self.now.text.now in DrawsAndFlushes (O.seen out.old) (area_bytes text.skin.now text.lines.items self.now.area.now self.now.scroll) result (O.seen out.new) }
-        ensures shown { let text = self.now.text.now in OnOk result (AreDrawable text.skin.now self.now.area.now.width (lines_shown text.lines.items self.now.area.now self.now.scroll)
-            → TookWith (O.seen out.old) (O.seen out.new) (AreShownIn text.skin.now text.lines.items self.now.area.now self.now.scroll)) }
-        ensures shown_layout { let text = self.now.text.now in OnOk result (ShowsLayout text.skin.now text.lines.items self.now.area.now self.now.scroll (O.seen out.old) (O.seen out.new)) }
-        ensures headline { let text = self.now.text.now in OnOk result (ShowsRowsFrom text.skin.now text.lines.items self.now.area.now self.now.scroll (O.seen out.old) (O.seen out.new)) }
+        ensures writes { let text = self.now.text.now in DrawsAndFlushes (O.seen out.old) (area_bytes (row_skin text.skin.now) text.lines.items self.now.area.now self.now.scroll) result (O.seen out.new) }
+        ensures shown { let text = self.now.text.now in OnOk result (AreDrawable (row_skin text.skin.now) self.now.area.now.width (lines_shown text.lines.items self.now.area.now self.now.scroll)
+            → TookWith (O.seen out.old) (O.seen out.new) (AreShownIn (row_skin text.skin.now) text.lines.items self.now.area.now self.now.scroll)) }
+        ensures shown_layout { let text = self.now.text.now in OnOk result (ShowsLayout (row_skin text.skin.now) text.lines.items self.now.area.now self.now.scroll (O.seen out.old) (O.seen out.new)) }
+        ensures headline { let text = self.now.text.now in OnOk result (ShowsRowsFrom (row_skin text.skin.now) text.lines.items self.now.area.now self.now.scroll (O.seen out.old) (O.seen out.new)) }
     {
         self.write_on(alloc, out)?;
         out.flush()?;

@@ -90,13 +90,14 @@ pub use Rattle.mad_blocks.specs.Parts as LayoutParts
 pub use Rattle.mad_layout.specs.PlainTables
 pub use Rattle.mad_layout.specs.Premises
 pub use Rattle.mad_layout.specs.RecoloredSkins
-pub use Rattle.mad_layout.specs.Rows
+pub use Rattle.mad_rows.specs.Rows
+pub use Rattle.mad_layout.specs.RowSkins
 pub use Rattle.mad_layout.specs.SeveralKinds
 pub use Rattle.mad_layout.specs.Shown
 pub use Rattle.mad_layout.specs.ShownLayouts
 pub use Rattle.mad_layout.specs.SkinParts
 pub use Rattle.mad_layout.specs.Skins
-pub use Rattle.mad_layout.specs.Styles as SkinStyles
+pub use Rattle.mad_rows.specs.Styles as SkinStyles
 pub use Rattle.mad_blocks.specs.TableLaws
 pub use Rattle.mad_blocks.specs.Tables
 pub use Rattle.mad_blocks.specs.TextParts

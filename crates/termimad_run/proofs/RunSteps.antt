@@ -10,6 +10,7 @@ use Rattle.termimad_run.specs.declared.call.Command.{Command}
 use Rattle.termimad_run.specs.declared.call.Command.TheVariants.{InArea, AtWidth, Inline}
 use Rattle.mad_term.proofs.Traces.{took_flushed}
 use Rattle.termimad.specs.Headline.{AreShownAcross}
+use Rattle.termimad.specs.RowSkins.{row_skin}
 use Rattle.termimad.specs.Shown.{AreShownIn}
 use Rattle.termimad_run.specs.declared.failure.Failure.{Failure}
 use Rattle.termimad_run.specs.declared.failure.Failure.TheVariants.{Io, Usage, NotUtf8, Skin, Memory}
@@ -86,7 +87,7 @@ still_shown skin (InArea area) text old written new (across, h) is = (
   record {
     lines = h.lines;
     laid_out = h.laid_out;
-    shown = λ premises. took_flushed old written new (AreShownIn skin h.lines area 0) (h.shown premises) is;
+    shown = λ premises. took_flushed old written new (AreShownIn (row_skin skin) h.lines area 0) (h.shown premises) is;
   },
 )
 still_shown skin (AtWidth width) text old written new h is = tt

@@ -7,6 +7,7 @@ use Rattle.mad_term.specs.declared.errors.Error.TheVariants.{IO, InsufficientWid
 use Rattle.mad_term.specs.Trace.{Trace, after}
 use Rattle.mad_term.specs.Draws.{Refused}
 use Rattle.termimad.specs.Inlines.{WritesInline}
+use Rattle.termimad.specs.RowSkins.{row_skin}
 use Rattle.termimad.specs.declared.MadSkin.{MadSkin}
 use Rattle.termimad_run.specs.Lines.{IsWithoutLineEnd}
 use Rattle.termimad_run.specs.Runs.{WritesLine}
@@ -26,7 +27,7 @@ refused_second (InsufficientWidth x) old mid new a b p h = absurd h
 refused_second Memory old mid new a b p h = stopped_in_second old mid new a b p h
 
 -- the line was refused, and its newline was not reached
-pub line_refused : {T : Type 0} (skin : MadSkin) (line : List ℕ) (old : Trace) (r : Result T Error) (e : Error) (new : Trace) → IsErrAnd r (λ d. d ≡ e) → WritesInline {T = Unit {0}} skin line old (Err e) new → WritesLine skin line old r new
+pub line_refused : {T : Type 0} (skin : MadSkin) (line : List ℕ) (old : Trace) (r : Result T Error) (e : Error) (new : Trace) → IsErrAnd r (λ d. d ≡ e) → WritesInline {T = Unit {0}} (row_skin skin) line old (Err e) new → WritesLine skin line old r new
 line_refused skin line old r e new is (inl (items, reads, drawn)) = inl (items, reads, refused_exit r e old new _ is (refused_first e old new _ _ drawn))
 line_refused skin line old r e new is (inr (memory, kept)) =
     let p = err_from_is_err_and r is in
@@ -34,12 +35,12 @@ line_refused skin line old r e new is (inr (memory, kept)) =
     inr (p.1 ∙ ap Err (p.2 ∙ wanted), kept)
 
 -- the line went out, and then its newline was refused
-pub line_cut : {T : Type 0} (skin : MadSkin) (line : List ℕ) (old mid : Trace) (r : Result T Error) (e : Error) (new : Trace) → IsErrAnd r (λ d. d ≡ e) → WritesInline {T = Unit {0}} skin line old (Ok (tt {0})) mid → Refused mid (10 ∷ []) e new → WritesLine skin line old r new
+pub line_cut : {T : Type 0} (skin : MadSkin) (line : List ℕ) (old mid : Trace) (r : Result T Error) (e : Error) (new : Trace) → IsErrAnd r (λ d. d ≡ e) → WritesInline {T = Unit {0}} (row_skin skin) line old (Ok (tt {0})) mid → Refused mid (10 ∷ []) e new → WritesLine skin line old r new
 line_cut skin line old mid r e new is (inl (items, reads, drawn)) cut = inl (items, reads, refused_exit r e old new _ is (refused_second e old mid new _ (10 ∷ []) drawn cut))
 line_cut skin line old mid r e new is (inr (memory, kept)) cut = absurd (cc)
 
 -- both went out
-pub line_whole : (skin : MadSkin) (line : List ℕ) (old mid new : Trace) → WritesInline {T = Unit {0}} skin line old (Ok (tt {0})) mid → new ≡ after mid (10 ∷ []) → WritesLine {T = Unit {0}} skin line old (Ok (tt {0})) new
+pub line_whole : (skin : MadSkin) (line : List ℕ) (old mid new : Trace) → WritesInline {T = Unit {0}} (row_skin skin) line old (Ok (tt {0})) mid → new ≡ after mid (10 ∷ []) → WritesLine {T = Unit {0}} skin line old (Ok (tt {0})) new
 line_whole skin line old mid new (inl (items, reads, drawn)) whole = inl (items, reads, took_both old mid new _ (10 ∷ []) drawn whole)
 line_whole skin line old mid new (inr (memory, kept)) whole = absurd (cc)
 

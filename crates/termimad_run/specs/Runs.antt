@@ -11,6 +11,7 @@ use Rattle.termimad.specs.declared.Error.TheVariants.{Memory as NoMemory}
 use Rattle.termimad.specs.Headline.{ShowsFirstRows}
 use Rattle.termimad.specs.InArea.{WritesInArea, ShowsText}
 use Rattle.termimad.specs.Inlines.{inline_bytes}
+use Rattle.termimad.specs.RowSkins.{row_skin}
 use Rattle.termimad.specs.WrittenParts.{WritesParts}
 use Rattle.termimad.specs.declared.MadSkin.{MadSkin}
 use Rattle.termimad_run.specs.declared.call.Command.{Command}
@@ -49,20 +50,20 @@ pub record Started (words : List (List ℕ)) (old new : Trace) : Type 0 where
 -- refused, and nothing went out.
 abbrev pub WritesLine : {T : Type 0} → MadSkin → List ℕ → Trace → Result T Error → Trace → Type 0
 WritesLine skin line old r new =
-    ((items : List Item) × IsInlineReading line items × Draws old (inline_bytes skin line items ++ (10 ∷ [])) r new) ⊎ (IsErrOf r NoMemory × (new ≡ old))
+    ((items : List Item) × IsInlineReading line items × Draws old (inline_bytes (row_skin skin) line items ++ (10 ∷ [])) r new) ⊎ (IsErrOf r NoMemory × (new ≡ old))
 
 -- What the output is asked to take of a text. It is the text in its area, or its lines, laid out at a width part by part. Of `inline`
 -- it is the line without its end, and a newline.
 abbrev pub WritesCall : {T : Type 0} → MadSkin → Command → List ℕ → Trace → Result T Error → Trace → Type 0
-WritesCall skin (InArea area) text old r new = WritesInArea skin text area old r new
-WritesCall skin (AtWidth width) text old r new = WritesParts skin (Some width) text old r new
+WritesCall skin (InArea area) text old r new = WritesInArea (row_skin skin) text area old r new
+WritesCall skin (AtWidth width) text old r new = WritesParts (row_skin skin) (Some width) text old r new
 WritesCall skin Inline text old r new = (line : List ℕ) × IsWithoutLineEnd text line × WritesLine skin line old r new
 
 -- What a plain terminal shows that reads what was written. It is the first rows of the text in its area, by its characters and by a
 -- layout. Of the others nothing is said.
 abbrev pub ShowsCall : MadSkin → Command → List ℕ → Trace → Trace → Type 0
 ShowsCall skin (InArea area) text old new =
-    ((lines : List LineContent) × IsRead (unread_text false text) lines × ShowsFirstRows skin lines area old new) × ShowsText skin text area old new
+    ((lines : List LineContent) × IsRead (unread_text false text) lines × ShowsFirstRows (row_skin skin) lines area old new) × ShowsText (row_skin skin) text area old new
 ShowsCall skin (AtWidth width) text old new = ⊤
 ShowsCall skin Inline text old new = ⊤
 

@@ -1,6 +1,6 @@
 use Rattle.std.proofs.Common.{◌≡◌, ◌≤◌, ◌++◌, [], length, string_bytes}
 use Rattle.mad_blocks.specs.PartCursors.{lines_left}
-use Rattle.mad_layout.specs.Texts.{text_bytes}
+use Rattle.mad_rows.specs.Rows.{text_bytes}
 use Rattle.mad_layout.proofs.PlainLineLemmas.{PlainSoFar}
 use Rattle.mad_layout.proofs.parts_writing.hand_on_plain.Given as goal
 

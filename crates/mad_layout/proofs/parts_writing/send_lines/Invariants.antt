@@ -1,5 +1,5 @@
 use Rattle.std.proofs.Common.{◌++◌, Ok, string_bytes, take}
-use Rattle.mad_layout.specs.Texts.{text_bytes}
+use Rattle.mad_rows.specs.Rows.{text_bytes}
 use Rattle.mad_layout.specs.WrittenParts.{HandsOn}
 use Rattle.mad_layout.proofs.parts_writing.send_lines.Given as goal
 

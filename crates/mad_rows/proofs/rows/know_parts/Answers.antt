@@ -1,0 +1,17 @@
+use Rattle.std.proofs.Common.{rules}
+use Rattle.mad_rows.proofs.rows.know_parts.Goals as goal
+
+pub returns : goal.returns
+returns c = record {
+  paragraph = search rules;
+  bold = search rules;
+  italic = search rules;
+  strikeout = search rules;
+  code = search rules;
+  ellipsis = search rules;
+  code_block = search rules;
+  table = search rules;
+  bullet = search rules;
+  quote_mark = search rules;
+  rule = search rules;
+}

@@ -1,0 +1,91 @@
+-- The styles of a skin's parts.
+use Rattle.std.specs.Prelude.{ℕ, zero, suc, Bool, List, [], ◌∷◌, slice_get, unwrap_or, min, if◌then◌else◌}
+use Rattle.std.specs.List.{AllByRecursion}
+use Rattle.std.specs.Str.{bytes_eq}
+use Rattle.mad_md.specs.Flagged.{Run}
+use Rattle.mad_style.specs.declared.compound_styles.CompoundStyle.{CompoundStyle}
+use Rattle.mad_style.specs.declared.kinds.CompositeKind.{CompositeKind}
+use Rattle.mad_style.specs.declared.kinds.CompositeKind.TheVariants.{Header, Code}
+use Rattle.mad_style.specs.declared.line_styles.LineStyle.{LineStyle}
+use Rattle.mad_style.specs.declared.ordered_items.OrderedItemStyle.{OrderedItemStyle}
+use Rattle.mad_term.specs.Styles.{IsStyle}
+use Rattle.mad_style.specs.CompoundStyles.{overwritten, plain_style}
+use Rattle.mad_style.specs.StyledChars.{char_alone, char_style, styled_char}
+use Rattle.mad_format.specs.LineRules.{LineRules}
+use Rattle.mad_rows.specs.declared.row_skin.RowSkin.{RowSkin}
+
+-- the style of the header of this level, which is counted from 1, among these; the paragraph's at a level without a header
+abbrev pub header_style : LineStyle → List LineStyle → ℕ → LineStyle
+header_style paragraph headers zero = paragraph
+header_style paragraph headers (suc n) = unwrap_or (slice_get headers n) paragraph
+
+-- code blocks and headers have styles of their own, all else the paragraph's
+abbrev pub style_of_kind : LineStyle → List LineStyle → LineStyle → CompositeKind → LineStyle
+style_of_kind paragraph headers code Code = code
+style_of_kind paragraph headers code (Header level) = header_style paragraph headers level
+style_of_kind paragraph headers code _ = paragraph
+
+-- the style of a line of this kind
+abbrev pub line_style : RowSkin → CompositeKind → LineStyle
+line_style skin kind = style_of_kind skin.paragraph skin.headers skin.code_block kind
+
+-- what laying out lines asks of the skin
+abbrev pub line_rules : RowSkin → LineRules
+line_rules skin = record { list_items_indentation_mode = skin.list_items_indentation_mode; line_style = line_style skin }
+
+-- the bytes of the ellipsis …
+abbrev pub ellipsis_bytes : List ℕ
+ellipsis_bytes = 226 ∷ 128 ∷ 166 ∷ []
+
+-- a style overwritten with another where a flag is on
+abbrev pub overwritten_if : Bool → CompoundStyle → CompoundStyle → CompoundStyle
+overwritten_if flag other style = if flag then overwritten style other else style
+
+-- The style of a compound: the ellipsis has its own; else its line's, overwritten with those of its flags, italic first,
+-- then strikeout, bold and code.
+abbrev pub compound_style : RowSkin → LineStyle → Run → CompoundStyle
+compound_style skin style p =
+    if bytes_eq p.text ellipsis_bytes then skin.ellipsis
+    else overwritten_if p.flags.code skin.inline_code (overwritten_if p.flags.bold skin.bold (overwritten_if p.flags.strikeout skin.strikeout (overwritten_if p.flags.italic skin.italic style.compound_style)))
+
+-- the numbers of a line's colors, and of an item's, are bytes, as those of every style are that a program has
+abbrev pub IsKnownLine : LineStyle → Type 0
+IsKnownLine s = IsStyle s.compound_style.object_style
+
+abbrev pub IsKnownItem : OrderedItemStyle → Type 0
+IsKnownItem s = IsStyle s.index_style.object_style × IsStyle (char_style s.index_suffix).object_style
+
+-- So are those of a skin's parts that stand alone,
+pub record AreKnownParts (skin : RowSkin) : Type 0 where
+  pub paragraph : IsKnownLine skin.paragraph
+  pub bold : IsStyle skin.bold.object_style
+  pub italic : IsStyle skin.italic.object_style
+  pub strikeout : IsStyle skin.strikeout.object_style
+  pub code : IsStyle skin.inline_code.object_style
+  pub ellipsis : IsStyle skin.ellipsis.object_style
+  pub code_block : IsKnownLine skin.code_block
+  pub table : IsKnownLine skin.table
+  pub bullet : IsStyle (char_style skin.bullet).object_style
+  pub quote_mark : IsStyle (char_style skin.quote_mark).object_style
+  pub rule : IsStyle (char_style skin.horizontal_rule).object_style
+
+-- and those of headers and items.
+pub record AreKnownStyles (skin : RowSkin) : Type 0 where
+  pub parts : AreKnownParts skin
+  pub headers : AllByRecursion IsKnownLine skin.headers
+  pub items : AllByRecursion IsKnownItem skin.ordered_item_styles
+
+-- an ordered item without style: a number and a dot
+abbrev pub plain_item_style : OrderedItemStyle
+plain_item_style = record { index_style = plain_style; index_suffix = styled_char plain_style 46 }
+
+-- how items of this level look among these; levels past the last take the last
+abbrev pub item_style_at : List OrderedItemStyle → ℕ → OrderedItemStyle
+item_style_at styles level = unwrap_or (slice_get styles (min level 3)) plain_item_style
+
+abbrev pub ordered_item_style : RowSkin → ℕ → OrderedItemStyle
+ordered_item_style skin level = item_style_at skin.ordered_item_styles level
+
+-- the character after the number of an item of this level
+abbrev pub index_suffix : RowSkin → ℕ → ℕ
+index_suffix skin level = char_alone (ordered_item_style skin level).index_suffix

@@ -1,0 +1,18 @@
+//! Rows: what is written of the lines of a text, piece by piece.
+//!
+//! In the order of the work:
+//!
+//! 1. [`row_skin`]: what rows are drawn in, the part of a skin that they show.
+//! 2. [`rows`]: where a line stands in its row, and the columns that no text fills.
+//! 3. [`display`]: composites, lines and rows as displayed values. [`row_writing`]: lines put after a string.
+#![tactic(auto)]
+
+pub mod display;
+pub mod row_skin;
+pub mod row_writing;
+pub mod rows;
+
+pub use display::{FreeComposite, PlacedComposite, PlacedLine, PlacedLines, PlacedRow};
+pub use row_skin::{HeaderStyles, OrderedItemStyles, RowSkin, item_style_at, style_of_kind};
+pub use row_writing::{append_line, append_lines};
+pub use rows::{RowPlace, composite_blanks, know_row, line_blanks, row_blanks};

@@ -1,0 +1,143 @@
+//! What rows are drawn in: the part of a skin that they show.
+
+ghost use Rattle.std.specs.Prelude.{◌≡◌, IsTrue};
+ghost use Rattle.mad_md.specs.Flagged.{run_of};
+ghost use Rattle.mad_rows.specs.Styles.{compound_style, item_style_at, line_style, ordered_item_style, style_of_kind};
+
+use mad_format::LineSkin;
+use mad_md::{Compound, MAX_HEADER_DEPTH};
+use mad_style::{
+    CompositeKind, CompoundStyle, LineStyle, ListItemsIndentationMode, MAX_ORDERED_LIST_DEPTH,
+    OrderedItemStyle, StyledChar, TableBorderChars,
+};
+
+// The text that stands for what was left out.
+const ELLIPSIS: &str = "…";
+
+/// How headers look, those of the first level first.
+pub type HeaderStyles = [LineStyle; MAX_HEADER_DEPTH];
+
+/// How the numbers of items look, by the level of their list.
+pub type OrderedItemStyles = [OrderedItemStyle; MAX_ORDERED_LIST_DEPTH];
+
+/// The styles and the characters of a text's parts: all of a skin that a row can show.
+#[derive(Clone, Copy, PartialEq, Debug)]
+pub struct RowSkin {
+    /// The style of paragraphs, items and quotes, and of the blanks beside all lines.
+    pub paragraph: LineStyle,
+    /// What bold text adds to its line's style.
+    pub bold: CompoundStyle,
+    /// What italic text adds to its line's style.
+    pub italic: CompoundStyle,
+    /// What struck out text adds to its line's style.
+    pub strikeout: CompoundStyle,
+    /// What code adds to its line's style.
+    pub inline_code: CompoundStyle,
+    /// The style of code blocks.
+    pub code_block: LineStyle,
+    /// The styles of headers.
+    pub headers: HeaderStyles,
+    /// The style of a table's borders, and on which side a table is.
+    pub table: LineStyle,
+    /// The mark of an item of a list.
+    pub bullet: StyledChar,
+    /// How the numbers of items look.
+    pub ordered_item_styles: OrderedItemStyles,
+    /// The mark of a quote.
+    pub quote_mark: StyledChar,
+    /// What a rule is drawn with, over the whole width.
+    pub horizontal_rule: StyledChar,
+    /// The style of an ellipsis.
+    pub ellipsis: CompoundStyle,
+    /// The characters of a table's borders.
+    pub table_border_chars: TableBorderChars,
+    /// How the lines of an item after its first are indented.
+    pub list_items_indentation_mode: ListItemsIndentationMode,
+}
+
+impl RowSkin {
+    /// The style of a line of this kind, as [`style_of_kind`] takes it.
+    pub fn line_style(&self, kind: CompositeKind) -> &LineStyle
+        ensures { result.now ≡ line_style self.now kind }
+    {
+        style_of_kind(&self.paragraph, &self.headers, &self.code_block, kind)
+    }
+
+    /// How the items of an ordered list look at a level, as [`item_style_at`] takes it.
+    pub fn ordered_item_style(&self, level: u8) -> &OrderedItemStyle
+        ensures { result.now ≡ ordered_item_style self.now level }
+    {
+        item_style_at(&self.ordered_item_styles, level)
+    }
+
+    /// The style of a compound in a line of that style.
+    ///
+    /// An ellipsis has its own; any other has its line's, overwritten with those of its flags: italic first, then
+    /// strikeout, bold and code.
+    pub fn compound_style(&self, line_style: &LineStyle, compound: &Compound) -> CompoundStyle
+        ensures { result ≡ compound_style self.now line_style.now (run_of compound.now) }
+    {
+        if compound.src == ELLIPSIS {
+            return self.ellipsis;
+        }
+        let mut style = line_style.compound_style;
+        if compound.italic {
+            style.overwrite_with(&self.italic);
+        }
+        if compound.strikeout {
+            style.overwrite_with(&self.strikeout);
+        }
+        if compound.bold {
+            style.overwrite_with(&self.bold);
+        }
+        if compound.code {
+            style.overwrite_with(&self.inline_code);
+        }
+        style
+    }
+}
+
+impl LineSkin for RowSkin {
+    ghost use Rattle.mad_rows.specs.Styles.{line_rules};
+
+    ghost rules = { λ skin. line_rules skin };
+
+    fn items_indentation(&self) -> ListItemsIndentationMode {
+        self.list_items_indentation_mode
+    }
+
+    fn style_of(&self, kind: CompositeKind) -> &LineStyle {
+        self.line_style(kind)
+    }
+}
+
+/// The style of a line of this kind among these: code blocks and the headers of levels 1 to 8 have their own, all else the paragraph's.
+pub fn style_of_kind<'k>(
+    paragraph: &'k LineStyle,
+    headers: &'k HeaderStyles,
+    code_block: &'k LineStyle,
+    kind: CompositeKind,
+) -> &'k LineStyle
+    ensures { result.now ≡ style_of_kind paragraph.entry.now headers.entry.now code_block.entry.now kind }
+{
+    match kind {
+        CompositeKind::Code => code_block,
+        CompositeKind::Header(level @ 1..=8) => &headers[level as usize - 1],
+        _ => paragraph,
+    }
+}
+
+/// How the items of an ordered list look at a level, counted from 0; levels past the last take the last.
+pub fn item_style_at(styles: &OrderedItemStyles, level: u8) -> &OrderedItemStyle
+    ensures { result.now ≡ item_style_at styles.now level }
+{
+    &styles[usize::from(level).min(MAX_ORDERED_LIST_DEPTH - 1)]
+}
+
+/// Whether a compound looks as its line does: it has no flag, and isn't an ellipsis.
+pub(crate) fn is_bare(compound: &Compound) -> bool
+    ensures { IsTrue result → (skin : RowSkin) (line : LineStyle) → compound_style skin line (run_of compound.now) ≡ line.compound_style }
+{
+    let flagged = compound.bold || compound.italic || compound.code || compound.strikeout;
+    !flagged && (compound.src.len() != ELLIPSIS.len() || compound.src != ELLIPSIS)
+}

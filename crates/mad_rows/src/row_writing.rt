@@ -1,0 +1,114 @@
+//! Lines as text at the end of a string: the same bytes as their displayed values, with the bare compounds put there at once.
+
+ghost use Rattle.std.specs.Prelude.{◌≡◌, ◌++◌, ◌∷◌, [], false, map, OnOk, string_bytes};
+ghost use Rattle.mad_draw.specs.Pieces.{pieces_bytes};
+ghost use Rattle.mad_rows.specs.Rows.{compound_piece, composite_pieces, line_bytes, margins_of, text_bytes};
+
+use crate::display::{CompositeFront, PlacedCompound, PlacedLine};
+use crate::rows::{RowPlace, inner_blanks, line_blanks, margins_of, outer_blanks};
+use crate::row_skin::{RowSkin, is_bare};
+use mad_draw::Spaces;
+use mad_format::{FmtComposite, FmtLine};
+use mad_md::Compound;
+use mad_style::LineStyle;
+use std::alloc::AllocError;
+
+/// Puts lines after the rows that are there, each with a newline.
+pub fn append_lines(
+    rows: &mut String,
+    lines: &[FmtLine],
+    width: Option<usize>,
+    skin: &RowSkin,
+) -> Result<(), AllocError>
+    ensures { OnOk result (string_bytes rows.new ≡ string_bytes rows.old ++ text_bytes skin.now width lines.now) }
+{
+    for line in lines {
+        append_line(rows, line, width, skin)?;
+    }
+    Ok(())
+}
+
+/// Puts a line and a newline after the rows that are there. Blanks that no memory has room for are refused before anything is put.
+pub fn append_line(
+    rows: &mut String,
+    line: &FmtLine,
+    width: Option<usize>,
+    skin: &RowSkin,
+) -> Result<(), AllocError>
+    ensures { OnOk result (string_bytes rows.new ≡ string_bytes rows.old ++ line_bytes skin.now width line.now) }
+{
+    match line {
+        FmtLine::Normal(composite) => append_composite(rows, composite, width, skin)?,
+        line => {
+            rows.reserve(line_blanks(skin, line, width, false))?;
+            let placed = PlacedLine {
+                skin,
+                line,
+                outer: width,
+                right: false,
+            };
+            write!(rows, "{placed}")?;
+        }
+    }
+    rows.push_str("\n")
+}
+
+// A composite at its place, without the blanks on its right.
+fn append_composite(
+    rows: &mut String,
+    composite: &FmtComposite,
+    width: Option<usize>,
+    skin: &RowSkin,
+) -> Result<(), AllocError>
+    ensures { OnOk result (string_bytes rows.new ≡ string_bytes rows.old ++ pieces_bytes (composite_pieces skin.now width (margins_of skin.now width composite.now) false composite.now)) }
+{
+    let style = skin.line_style(composite.kind);
+    let place = RowPlace {
+        outer: width,
+        margins: margins_of(skin, composite, width),
+        right: false,
+    };
+    let (outer, _) = outer_blanks(composite, style.align, place);
+    let (inner, after) = inner_blanks(composite);
+    rows.reserve(outer.saturating_add(inner).saturating_add(after))?;
+    let front = CompositeFront {
+        skin,
+        style,
+        kind: composite.kind,
+        outer,
+        inner,
+    };
+    write!(rows, "{front}")?;
+    append_compounds(rows, &composite.compounds, style, skin)?;
+    let after = Spaces {
+        style: style.compound_style,
+        count: after,
+    };
+    write!(rows, "{after}")
+}
+
+// The compounds of a line of that style.
+fn append_compounds(
+    rows: &mut String,
+    compounds: &[Compound],
+    style: &LineStyle,
+    skin: &RowSkin,
+) -> Result<(), AllocError>
+    ensures { OnOk result (string_bytes rows.new ≡ string_bytes rows.old ++ pieces_bytes (map (compound_piece skin.now style.now) compounds.now)) }
+{
+    // Most compounds are plain, and need no commands.
+    let plain = style.compound_style.object_style.is_plain();
+    for compound in compounds {
+        if plain && is_bare(compound) {
+            rows.push_str(compound.src)?;
+            continue;
+        }
+        let placed = PlacedCompound {
+            skin,
+            style,
+            compound,
+        };
+        write!(rows, "{placed}")?;
+    }
+    Ok(())
+}
