@@ -1,6 +1,6 @@
 //! The value that a skin is written as.
 
-ghost use Rattle.std.specs.Prelude.{◌≡◌, ◌++◌, ℕ, List, Option, Ok, IfOk, OnOk, map, string_bytes};
+ghost use Rattle.std.specs.Prelude.{◌≡◌, ℕ, List, Option, Ok, IfOk, OnOk, map, string_bytes};
 ghost use Rattle.std.specs.List.{All};
 ghost use Rattle.serde_json.specs.Data.{put, string, array, object};
 ghost use Rattle.serde_json.specs.View.{view, items_of, members_view};

@@ -1,6 +1,6 @@
 //! Cutting a part of a table into cells, and reading them.
 
-ghost use Rattle.std.specs.Prelude.{◌≡◌, ◌≢◌, ◌≤◌, ◌<◌, ◌-◌, ◌==◌, ◌&&◌, ◌^◌, [], ◌∷◌, ◌++◌, not, false, length, map, take, get_or, IfOk, OnOk};
+ghost use Rattle.std.specs.Prelude.{◌≡◌, ◌≤◌, ◌<◌, ◌-◌, ◌==◌, ◌&&◌, ◌^◌, [], ◌∷◌, ◌++◌, not, false, length, map, take, get_or, IfOk, OnOk};
 ghost use Rattle.mad_md.specs.Cells.{odd_with, cell_style, cell_rest, begins_with_colon, without_first_colon, ends_with_colon, without_last_colon, are_hyphens, alignment_by, alignment_of, alignments};
 ghost use Rattle.mad_md.specs.Flagged.{run_of};
 ghost use Rattle.mad_md.specs.Lines.{table_row, content_of, styled_runs};

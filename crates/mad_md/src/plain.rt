@@ -2,7 +2,7 @@
 
 ghost use Rattle.std.specs.Prelude.{ℕ, ◌≡◌, ◌<◌, ◌⊎◌, length, get_or, true, false, IsTrue, MatchOption};
 ghost use Rattle.std.specs.Char.{is_ascii_alphabetic};
-ghost use Rattle.mad_md.specs.Plain.{IsPlainFront, ArePlainBytes, is_plain_byte};
+ghost use Rattle.mad_md.specs.Plain.{IsPlainFront, is_plain_byte};
 
 /// How many bytes come before the first newline, where these are a plain line of at most `most` bytes.
 pub(crate) fn plain_len(rest: &[u8], most: usize) -> Option<usize>

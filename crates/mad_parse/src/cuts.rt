@@ -3,7 +3,7 @@
 ghost use Rattle.std.specs.Prelude.{◌≡◌, ◌<◌, ◌++◌, take, length};
 ghost use Rattle.std.specs.List.{prefix_len};
 ghost use Rattle.std.specs.Str.{chars, IsCharBoundary};
-ghost use Rattle.mad_parse.specs.Cuts.{is_word_char, is_inside_char, is_in, bracket_len, token_len};
+ghost use Rattle.mad_parse.specs.Cuts.{is_in, bracket_len, token_len};
 
 // A kind of characters.
 #[derive(Clone, Copy)]

@@ -1,6 +1,6 @@
 //! Style tokens, and their texts.
 
-ghost use Rattle.std.specs.Prelude.{◌≡◌, Some, false};
+ghost use Rattle.std.specs.Prelude.{◌≡◌, Some};
 ghost use Rattle.mad_parse.specs.Written.{token_text, has_text};
 
 use crate::alignments::align_name;

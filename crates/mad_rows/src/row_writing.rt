@@ -1,12 +1,12 @@
 //! Lines as text at the end of a string: the same bytes as their displayed values, with the bare compounds put there at once.
 
-ghost use Rattle.std.specs.Prelude.{◌≡◌, ◌++◌, ◌∷◌, [], false, map, OnOk, string_bytes};
+ghost use Rattle.std.specs.Prelude.{◌≡◌, ◌++◌, false, map, OnOk, string_bytes};
 ghost use Rattle.mad_draw.specs.Pieces.{pieces_bytes};
 ghost use Rattle.mad_rows.specs.Rows.{compound_piece, composite_pieces, line_bytes, margins_of, text_bytes};
 
 use crate::display::{CompositeFront, PlacedCompound, PlacedLine};
-use crate::rows::{RowPlace, inner_blanks, line_blanks, margins_of, outer_blanks};
 use crate::row_skin::{RowSkin, is_bare};
+use crate::rows::{RowPlace, inner_blanks, line_blanks, margins_of, outer_blanks};
 use mad_draw::Spaces;
 use mad_format::{FmtComposite, FmtLine};
 use mad_md::Compound;

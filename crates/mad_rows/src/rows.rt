@@ -11,9 +11,7 @@ ghost use Rattle.mad_wrap.specs.WrapLines.{capped};
 use crate::row_skin::RowSkin;
 use mad_draw::RuleChars;
 use mad_fit::Spacing;
-use mad_format::{
-    FmtComposite, FmtLine, FmtTableRow, FmtTableRule, RelativePosition, rule_columns,
-};
+use mad_format::{FmtComposite, FmtLine, RelativePosition, rule_columns};
 use mad_md::Alignment;
 use mad_style::{LineStyle, OrderedItemStyle, TableBorderChars};
 
@@ -126,12 +124,7 @@ pub fn row_blanks(skin: &RowSkin, line: Option<&FmtLine>, width: usize) -> usize
 
 /// The columns of a line that no text fills, at an outer width: those of its blanks and rules. The blanks right of it count only where
 /// they are asked for.
-pub fn line_blanks(
-    skin: &RowSkin,
-    line: &FmtLine,
-    outer: Option<usize>,
-    right: bool,
-) -> usize
+pub fn line_blanks(skin: &RowSkin, line: &FmtLine, outer: Option<usize>, right: bool) -> usize
     ensures { result ≡ capped (line_blanks skin.now outer right line.now) }
 {
     match line {

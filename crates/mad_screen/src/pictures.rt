@@ -2,7 +2,7 @@
 
 ghost use Rattle.std.specs.Prelude.{◌≡◌, ◌<◌, ◌≤◌, [], IfOk, map, vec_len};
 ghost use Rattle.mad_screen.specs.Glyph.{look_of};
-ghost use Rattle.mad_screen.specs.Pictures.{gets_letter, is_plain, letter_of, lettered, row_cells};
+ghost use Rattle.mad_screen.specs.Pictures.{gets_letter, is_plain, letter_of, lettered};
 
 use crate::cell::Cell;
 use crate::pen::Pen;

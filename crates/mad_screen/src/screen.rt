@@ -1,6 +1,6 @@
 //! The plain terminal: a screen that reads bytes.
 
-ghost use Rattle.std.specs.Prelude.{◌≡◌, ◌<◌, ◌≤◌, ◌+◌, ◌*◌, ◌^◌, None, Some, suc, IfOk, OnOk, OnErr, IsErrOf, MatchBool, length, vec_len, replicate};
+ghost use Rattle.std.specs.Prelude.{◌≡◌, ◌<◌, ◌+◌, ◌*◌, None, Some, suc, IfOk, OnOk, OnErr, IsErrOf, MatchBool};
 ghost use Rattle.std.specs.Option.{option_copied};
 ghost use Rattle.mad_screen.specs.Glyph.{look_of};
 ghost use Rattle.mad_screen.specs.Grid.{IsGrid, cell_on_screen, empty_grid};

@@ -1,6 +1,5 @@
 //! What takes bytes, and what gives them. A contract sees of a device one value, its *trace*.
 
-ghost use Rattle.std.specs.Prelude.{◌≡◌};
 ghost use Rattle.mad_term.specs.Trace.{Trace, Writes, Puts, Flushes, Gets, Fills};
 
 use std::io;

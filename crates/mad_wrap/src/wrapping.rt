@@ -1,6 +1,6 @@
 //! Wrapping compounds.
 
-ghost use Rattle.std.specs.Prelude.{◌≡◌, ◌<◌, ◌+◌, IfOk};
+ghost use Rattle.std.specs.Prelude.{◌<◌, ◌+◌, IfOk};
 ghost use Rattle.mad_md.specs.Flagged.{flagged_text};
 ghost use Rattle.mad_fit.specs.Columns.{width_of};
 ghost use Rattle.mad_wrap.specs.LeastWrap.{IsWrap};

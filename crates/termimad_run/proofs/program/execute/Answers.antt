@@ -38,5 +38,5 @@ returns g c = record {
   written = _;
   wrote = c.in_ok-write_call.ensures.writes;
   flushed = c.in_ok-flush.ensures;
-  shown = still_shown _ _ _ _ _ _ c.in_ok-write_call.ensures.shown c.in_ok-flush.ensures;
+  shown = still_shown c.in_ok-call.call.skin _ _ _ _ _ c.in_ok-write_call.ensures.shown c.in_ok-flush.ensures;
 }
