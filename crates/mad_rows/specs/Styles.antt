@@ -55,7 +55,7 @@ IsKnownLine s = IsStyle s.compound_style.object_style
 abbrev pub IsKnownItem : OrderedItemStyle → Type 0
 IsKnownItem s = IsStyle s.index_style.object_style × IsStyle (char_style s.index_suffix).object_style
 
--- So are those of a skin's parts that stand alone,
+-- so are those of the parts of a skin, but for headers and items
 pub record AreKnownParts (skin : RowSkin) : Type 0 where
   pub paragraph : IsKnownLine skin.paragraph
   pub bold : IsStyle skin.bold.object_style
@@ -69,7 +69,7 @@ pub record AreKnownParts (skin : RowSkin) : Type 0 where
   pub quote_mark : IsStyle (char_style skin.quote_mark).object_style
   pub rule : IsStyle (char_style skin.horizontal_rule).object_style
 
--- and those of headers and items.
+-- so are those of all its parts
 pub record AreKnownStyles (skin : RowSkin) : Type 0 where
   pub parts : AreKnownParts skin
   pub headers : AllByRecursion IsKnownLine skin.headers
