@@ -5,7 +5,7 @@ use Rattle.std.proofs.lemmas.List.{at_drop_more, at_drop_all, map-append, drop-d
 use Rattle.std.proofs.Math.Seq.{take-suc, take-append_seam, drop-append_seam}
 use Rattle.mad_fit.proofs.AllLemmas.{all_push}
 use Rattle.mad_blocks.specs.CodeBlocks.{blocks_among, placed_line, with_block_placed, part_placed, blocks_placed, width_within, code_columns, NoCodeFirst, IsClosedBlock}
-use Rattle.mad_blocks.specs.Parts.{Part, table, block, single, with_table, is_code_kind, is_code_line, widest, block_width, placed_code, justified, with_code, with_composite, parts_of}
+use Rattle.mad_blocks.specs.LayoutParts.{Part, table, block, single, with_table, is_code_kind, is_code_line, widest, block_width, placed_code, justified, with_code, with_composite, parts_of}
 use Rattle.mad_blocks.specs.declared.code_blocks.CodeBlock.{CodeBlock}
 use Rattle.mad_format.specs.declared.composite.FmtComposite.{FmtComposite}
 use Rattle.mad_format.specs.declared.line.FmtLine.{FmtLine}

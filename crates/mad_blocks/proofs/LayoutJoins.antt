@@ -5,8 +5,8 @@ use Rattle.mad_md.specs.Lines.{LineContent, normal, table_row, table_rule, horiz
 use Rattle.mad_format.specs.CompositeWraps.{IsCompositeWrap}
 use Rattle.mad_blocks.specs.TextParts.{is_code, is_table, stand_together, in_front, text_parts}
 use Rattle.mad_blocks.specs.Layouts.{AreRead, IsLayoutAt}
-use Rattle.mad_format.specs.Lines.{IsLineRead, is_table_line}
-use Rattle.mad_blocks.specs.Parts.{Part, table, block, single, is_code_kind, is_code_line, with_table, with_code, with_composite, with_line, parts_of, table_width, wrap_width, ArePartsAt}
+use Rattle.mad_format.specs.FmtLines.{IsLineRead, is_table_line}
+use Rattle.mad_blocks.specs.LayoutParts.{Part, table, block, single, is_code_kind, is_code_line, with_table, with_code, with_composite, with_line, parts_of, table_width, wrap_width, ArePartsAt}
 use Rattle.mad_format.specs.LineRules.{LineRules}
 use Rattle.mad_format.specs.declared.composite.FmtComposite.{FmtComposite}
 use Rattle.mad_format.specs.declared.line.FmtLine.{FmtLine}

@@ -3,7 +3,7 @@ use Rattle.std.proofs.Common.{◌≡◌, ℕ, ◌<◌, inl, inr, List, [], ◌�
 use Rattle.std.specs.List.{AllByRecursion}
 use Rattle.std.proofs.lemmas.List.{append-nil}
 use Rattle.mad_format.specs.CompositeWraps.{IsCompositeWrap}
-use Rattle.mad_blocks.specs.Parts.{Part, placed_code, block_width, justified, code_room, IsLineAt, AreLinesAt, ArePartsAt}
+use Rattle.mad_blocks.specs.LayoutParts.{Part, placed_code, block_width, justified, code_room, IsLineAt, AreLinesAt, ArePartsAt}
 use Rattle.mad_blocks.specs.Tables.{IsTableLaidOutBy, columns_count}
 use Rattle.mad_format.specs.WrappedLines.{Wrap}
 use Rattle.mad_format.specs.Wraps.{IsMeasured}

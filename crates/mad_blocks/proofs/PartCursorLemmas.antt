@@ -7,9 +7,9 @@ use Rattle.mad_fit.proofs.AllLemmas.{all_push}
 use Rattle.mad_format.specs.CompositeWraps.{IsCompositeWrap}
 use Rattle.mad_blocks.specs.Fronts.{IsFrontLayout}
 use Rattle.mad_blocks.specs.Layouts.{AreRead, IsLayoutAt}
-use Rattle.mad_format.specs.Lines.{IsLineRead}
+use Rattle.mad_format.specs.FmtLines.{IsLineRead}
 use Rattle.mad_blocks.specs.PartCursors.{NoneNext, LaidPart}
-use Rattle.mad_blocks.specs.Parts.{Part, parts_of, table_width, wrap_width, IsBlockAt, IsLineAt, ArePartsAt}
+use Rattle.mad_blocks.specs.LayoutParts.{Part, parts_of, table_width, wrap_width, IsBlockAt, IsLineAt, ArePartsAt}
 use Rattle.mad_blocks.specs.Tables.{IsTableLaidOutBy, columns_count}
 use Rattle.mad_blocks.specs.TextParts.{is_code, is_table, stand_together, in_front, text_parts}
 use Rattle.mad_format.specs.WrappedLines.{AllMeasured}

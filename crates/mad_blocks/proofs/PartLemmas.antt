@@ -6,8 +6,8 @@ use Rattle.mad_style.specs.declared.kinds.CompositeKind.{CompositeKind}
 use Rattle.mad_style.specs.declared.kinds.CompositeKind.TheVariants.{Paragraph, Header, ListItem, ListItemFollowUp, OrderedListItem, OrderedListItemFollowUp, Code, Quote}
 use Rattle.mad_style.specs.LineStyles.{margins_at}
 use Rattle.mad_fit.specs.declared.spacing.Spacing.{Spacing}
-use Rattle.mad_blocks.specs.Parts.{Part, table, block, single, is_code_kind, with_table, with_code, with_composite, parts_of, widest, placed_code, justified, code_room}
-use Rattle.mad_format.specs.Lines.{is_table_line}
+use Rattle.mad_blocks.specs.LayoutParts.{Part, table, block, single, is_code_kind, with_table, with_code, with_composite, parts_of, widest, placed_code, justified, code_room}
+use Rattle.mad_format.specs.FmtLines.{is_table_line}
 use Rattle.mad_format.specs.WrappedLines.{style_margins}
 use Rattle.mad_format.specs.LineRules.{LineRules}
 use Rattle.mad_format.specs.declared.composite.FmtComposite.{FmtComposite}
@@ -35,14 +35,14 @@ IsPlacedCodeLine skin width (TableRule rule) m = ⊥
 IsPlacedCodeLine skin width HorizontalRule m = ⊥
 
 -- the line stays, or is placed so
-abbrev pub IsPlacedLine : LineRules → ℕ → FmtLine → FmtLine → Type 0
-IsPlacedLine skin width l m = (m ≡ l) ⊎ IsPlacedCodeLine skin width l m
+abbrev pub IsPlacedOrKept : LineRules → ℕ → FmtLine → FmtLine → Type 0
+IsPlacedOrKept skin width l m = (m ≡ l) ⊎ IsPlacedCodeLine skin width l m
 
-abbrev pub ArePlacedLines : LineRules → ℕ → List FmtLine → List FmtLine → Type 0
-ArePlacedLines skin width [] [] = Unit {0}
-ArePlacedLines skin width [] (m ∷ ms) = ⊥
-ArePlacedLines skin width (l ∷ ls) [] = ⊥
-ArePlacedLines skin width (l ∷ ls) (m ∷ ms) = IsPlacedLine skin width l m × ArePlacedLines skin width ls ms
+abbrev pub ArePlacedOrKept : LineRules → ℕ → List FmtLine → List FmtLine → Type 0
+ArePlacedOrKept skin width [] [] = Unit {0}
+ArePlacedOrKept skin width [] (m ∷ ms) = ⊥
+ArePlacedOrKept skin width (l ∷ ls) [] = ⊥
+ArePlacedOrKept skin width (l ∷ ls) (m ∷ ms) = IsPlacedOrKept skin width l m × ArePlacedOrKept skin width ls ms
 
 -- the lines of a part as they are
 abbrev pub raw_lines : Part → List FmtLine
@@ -94,7 +94,7 @@ abbrev left_of_code : LineRules → ℕ → ℕ
 left_of_code skin width = let margins = margins_at (skin.line_style Code) (Some width) in width - margins.0 - margins.1
 
 block_placed : (skin : LineRules) (width most : ℕ) (ls : List FmtComposite) → AllCode ls → widest ls ≤ most
-    → ArePlacedLines skin width (map Normal ls) (map Normal (map (placed_code (min most (left_of_code skin width))) ls))
+    → ArePlacedOrKept skin width (map Normal ls) (map Normal (map (placed_code (min most (left_of_code skin width))) ls))
 block_placed skin width most [] code wide = tt
 block_placed skin width most (l ∷ ls) code wide =
     let inner : inner_left skin width l ≡ left_of_code skin width =
@@ -109,5 +109,5 @@ block_placed skin width most (l ∷ ls) code wide =
     )
 
 -- the lines of a block, each in its place
-pub code_placed : (skin : LineRules) (width : ℕ) (ls : List FmtComposite) → AllCode ls → ArePlacedLines skin width (map Normal ls) (map Normal (justified (code_room skin (Some width)) ls))
+pub code_placed : (skin : LineRules) (width : ℕ) (ls : List FmtComposite) → AllCode ls → ArePlacedOrKept skin width (map Normal ls) (map Normal (justified (code_room skin (Some width)) ls))
 code_placed skin width ls code = block_placed skin width (widest ls) ls code (omega arith)

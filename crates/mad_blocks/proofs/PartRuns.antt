@@ -2,8 +2,8 @@
 use Rattle.std.proofs.Common.{◌≡◌, ℕ, Bool, true, false, List, [], ◌∷◌, ◌++◌, map, refl, ap, sym, ◌∙◌}
 use Rattle.std.specs.List.{AllByRecursion}
 use Rattle.mad_blocks.specs.CodeBlocks.{NoCodeFirst}
-use Rattle.mad_blocks.specs.Parts.{Part, table, block, single, is_code_kind, is_code_line, with_table, with_code, with_composite, with_line, parts_of, ArePartsBy, IsTableFixedBy, AreTablesLaidOut}
-use Rattle.mad_format.specs.Lines.{is_table_line}
+use Rattle.mad_blocks.specs.LayoutParts.{Part, table, block, single, is_code_kind, is_code_line, with_table, with_code, with_composite, with_line, parts_of, ArePartsBy, IsTableFixedBy, AreTablesLaidOut}
+use Rattle.mad_format.specs.FmtLines.{is_table_line}
 use Rattle.mad_format.specs.WrappedLines.{Wrap}
 use Rattle.mad_format.specs.LineRules.{LineRules}
 use Rattle.mad_format.specs.declared.composite.FmtComposite.{FmtComposite}

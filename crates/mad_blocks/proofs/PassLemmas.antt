@@ -6,8 +6,8 @@ use Rattle.mad_fit.specs.declared.spacing.Spacing.{Spacing}
 use Rattle.mad_fit.proofs.AllLemmas.{all_joined}
 use Rattle.mad_blocks.specs.CodeBlocks.{NoCodeFirst, part_placed, blocks_placed}
 use Rattle.mad_blocks.specs.LayoutLaws.{PassesAreParts, PartsArePasses}
-use Rattle.mad_blocks.specs.Parts.{Part, table, block, single, is_code_kind, is_code_line, with_table, with_code, with_composite, parts_of, ArePartsBy, IsTableFixedBy, justified, code_room, IsLineAt, AreLinesAt, ArePartsAt}
-use Rattle.mad_format.specs.Lines.{is_table_line}
+use Rattle.mad_blocks.specs.LayoutParts.{Part, table, block, single, is_code_kind, is_code_line, with_table, with_code, with_composite, parts_of, ArePartsBy, IsTableFixedBy, justified, code_room, IsLineAt, AreLinesAt, ArePartsAt}
+use Rattle.mad_format.specs.FmtLines.{is_table_line}
 use Rattle.mad_blocks.specs.Tables.{columns_count, columns_from, position_at, IsTableLineBy, AreTableLinesBy, IsTableLaidOutBy}
 use Rattle.mad_format.specs.WrappedLines.{Wrap}
 use Rattle.mad_format.specs.LineRules.{LineRules}

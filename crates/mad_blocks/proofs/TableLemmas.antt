@@ -8,11 +8,11 @@ use Rattle.mad_md.specs.declared.alignment.Alignment.TheVariants.{Unspecified}
 use Rattle.mad_fit.specs.declared.spacing.Spacing.{Spacing}
 use Rattle.mad_fit.proofs.AllLemmas.{all_push}
 use Rattle.mad_format.specs.CompositeWraps.{IsCompositeWrap}
-use Rattle.mad_blocks.specs.Parts.{Part, ArePartsBy, IsTableFixedBy, AreTablesLaidOut}
+use Rattle.mad_blocks.specs.LayoutParts.{Part, ArePartsBy, IsTableFixedBy, AreTablesLaidOut}
 use Rattle.mad_blocks.proofs.PartRuns.{AllTableLines, NoTableFirst, one_table, line_stays}
 use Rattle.mad_blocks.specs.Tables.{columns_with, centered, columns_from, below, tallest, IsTop, IsNextLaidOut, AreCellsLaidOut, IsLineAcross, AreDown, IsRowLaidOutBy, position_at, IsTableLineBy, AreTableLinesBy, IsTableLaidOutBy, columns_count}
-use Rattle.mad_format.specs.Lines.{is_table_line}
-use Rattle.mad_blocks.specs.TableRows.{lines_to_come, columns_left, lines_left, AreCellsLeft, TakesRow}
+use Rattle.mad_format.specs.FmtLines.{is_table_line}
+use Rattle.mad_blocks.specs.TableRows.{lines_to_come, columns_left, cell_lines_left, AreCellsLeft, TakesRow}
 use Rattle.mad_format.specs.WrappedLines.{AllMeasured, IsLineMeasured}
 use Rattle.mad_format.specs.Wraps.{IsMeasured}
 use Rattle.mad_format.specs.LineRules.{LineRules}
@@ -38,8 +38,8 @@ more_mapped {A} {B} f xs i d done all inside held =
 pub record CellsSoFar (skin : LineRules) (columns : List Spacing) (cells : List FmtComposite) (i : ℕ) (rest : List FmtComposite) (parts : List CellLines) (height : ℕ) : Type 0 where
   pub measured : AllByRecursion (IsMeasured skin) rest
   pub columns_are : columns_left parts ++ drop i columns ≡ columns
-  pub so_far : (more : List (List FmtComposite)) → AreCellsLaidOut IsCompositeWrap skin (drop i columns) rest more → AreCellsLaidOut IsCompositeWrap skin columns cells (lines_left parts ++ more)
-  pub height_is : height ≡ max (tallest (lines_left parts)) 1
+  pub so_far : (more : List (List FmtComposite)) → AreCellsLaidOut IsCompositeWrap skin (drop i columns) rest more → AreCellsLaidOut IsCompositeWrap skin columns cells (cell_lines_left parts ++ more)
+  pub height_is : height ≡ max (tallest (cell_lines_left parts)) 1
 
 pub cells_start : (skin : LineRules) (columns : List Spacing) (cells : List FmtComposite) → AllByRecursion (IsMeasured skin) cells → CellsSoFar skin columns cells 0 cells [] 1
 cells_start skin columns cells measured = record {
@@ -64,9 +64,9 @@ cells_more skin columns cells i d rest after parts new p lines height taller ins
     let laid : IsNextLaidOut IsCompositeWrap skin (get_or columns i d).width rest (lines_to_come p) = subst (λ (ls : List FmtComposite). IsNextLaidOut IsCompositeWrap skin (get_or columns i d).width rest ls) (sym lines_are) laid_lines in
     let taller_is : taller ≡ max (length (lines_to_come p)) height = longer ∙ ap (λ (ls : List FmtComposite). max (length ls) height) (sym lines_are) in
     let here : drop i columns ≡ get_or columns i d ∷ drop (i + 1) columns = drop_more columns i d inside in
-    let lines_pushed : lines_left new ≡ lines_left parts ++ lines_to_come p ∷ [] = ap lines_left pushed ∙ map-append lines_to_come parts (p ∷ []) in
+    let lines_pushed : cell_lines_left new ≡ cell_lines_left parts ++ lines_to_come p ∷ [] = ap cell_lines_left pushed ∙ map-append lines_to_come parts (p ∷ []) in
     let columns_pushed : columns_left new ≡ columns_left parts ++ p.column ∷ [] = ap columns_left pushed ∙ map-append (λ (q : CellLines). q.column) parts (p ∷ []) in
-    let most : tallest (lines_left new) ≡ max (length (lines_to_come p)) (tallest (lines_left parts)) = ap tallest lines_pushed ∙ tallest_more (lines_left parts) (lines_to_come p) in
+    let most : tallest (cell_lines_left new) ≡ max (length (lines_to_come p)) (tallest (cell_lines_left parts)) = ap tallest lines_pushed ∙ tallest_more (cell_lines_left parts) (lines_to_come p) in
     record {
       measured = subst (AllByRecursion (IsMeasured skin)) (sym next) (below_measured skin rest held.measured);
       columns_are =
@@ -75,16 +75,16 @@ cells_more skin columns cells i d rest after parts new p lines height taller ins
       so_far = λ more h.
           let rest_laid : AreCellsLaidOut IsCompositeWrap skin (drop (i + 1) columns) (below rest) more = subst (λ (ls : List FmtComposite). AreCellsLaidOut IsCompositeWrap skin (drop (i + 1) columns) ls more) next h in
           let all_laid : AreCellsLaidOut IsCompositeWrap skin (drop i columns) rest (lines_to_come p ∷ more) = subst (λ (cs : List Spacing). AreCellsLaidOut IsCompositeWrap skin cs rest (lines_to_come p ∷ more)) (sym here) (laid, rest_laid) in
-          subst (λ (ls : List (List FmtComposite)). AreCellsLaidOut IsCompositeWrap skin columns cells ls) (sym (append_assoc (lines_left parts) (lines_to_come p ∷ []) more) ∙ ap (λ ls. ls ++ more) (sym lines_pushed))
+          subst (λ (ls : List (List FmtComposite)). AreCellsLaidOut IsCompositeWrap skin columns cells ls) (sym (append_assoc (cell_lines_left parts) (lines_to_come p ∷ []) more) ∙ ap (λ ls. ls ++ more) (sym lines_pushed))
           (held.so_far (lines_to_come p ∷ more) all_laid);
-      height_is = let before : height ≡ max (tallest (lines_left parts)) 1 = held.height_is in omega (arith, before, most, taller_is);
+      height_is = let before : height ≡ max (tallest (cell_lines_left parts)) 1 = held.height_is in omega (arith, before, most, taller_is);
     }
 
 pub cells_all : (skin : LineRules) (columns : List Spacing) (cells : List FmtComposite) (i : ℕ) (rest : List FmtComposite) (parts : List CellLines) (height : ℕ)
     → drop i columns ≡ [] → CellsSoFar skin columns cells i rest parts height → AreCellsLeft skin columns cells parts
 cells_all skin columns cells i rest parts height none held = record {
   columns_are = sym (append-nil (columns_left parts)) ∙ ap (λ cs. columns_left parts ++ cs) (sym none) ∙ held.columns_are;
-  laid_out = subst (λ (ls : List (List FmtComposite)). AreCellsLaidOut IsCompositeWrap skin columns cells ls) (append-nil (lines_left parts))
+  laid_out = subst (λ (ls : List (List FmtComposite)). AreCellsLaidOut IsCompositeWrap skin columns cells ls) (append-nil (cell_lines_left parts))
       (held.so_far [] (subst (λ (cs : List Spacing). AreCellsLaidOut IsCompositeWrap skin cs rest []) (sym none) tt));
 }
 
@@ -146,7 +146,7 @@ taken_all all cells i row past held =
 
 -- ---- the rows
 
-takes_across : (ps : List CellLines) (xs : List FmtComposite) (qs : List CellLines) → TakesRow ps xs qs → IsLineAcross (columns_left ps) (lines_left ps) xs
+takes_across : (ps : List CellLines) (xs : List FmtComposite) (qs : List CellLines) → TakesRow ps xs qs → IsLineAcross (columns_left ps) (cell_lines_left ps) xs
 takes_across [] [] [] h = tt
 takes_across [] [] (q ∷ qs) h = absurd h
 takes_across [] (x ∷ xs) qs h = absurd h
@@ -168,19 +168,19 @@ taken_back ps xs qs n h long =
     let same : length qs ≡ length ps = sym (length-map qs (λ q. q.column)) ∙ ap length (takes_columns ps xs qs h) ∙ length-map ps (λ p. p.column) in
     ap (λ (rest : List CellLines). take n (qs ++ rest)) (drop_all (length qs) ps (omega (arith, same))) ∙ ap (take n) (append-nil qs) ∙ take_all n qs (omega (arith, same, long))
 
-takes_below : (ps : List CellLines) (xs : List FmtComposite) (qs : List CellLines) → TakesRow ps xs qs → lines_left qs ≡ map below (lines_left ps)
+takes_below : (ps : List CellLines) (xs : List FmtComposite) (qs : List CellLines) → TakesRow ps xs qs → cell_lines_left qs ≡ map below (cell_lines_left ps)
 takes_below [] [] [] h = refl
 takes_below [] [] (q ∷ qs) h = absurd h
 takes_below [] (x ∷ xs) qs h = absurd h
 takes_below (p ∷ ps) [] qs h = absurd h
 takes_below (p ∷ ps) (x ∷ xs) [] h = absurd h
-takes_below (p ∷ ps) (x ∷ xs) (q ∷ qs) h = ap (λ ls. ls ∷ lines_left qs) h.2 ∙ ap (λ ls. below (lines_to_come p) ∷ ls) (takes_below ps xs qs h.3)
+takes_below (p ∷ ps) (x ∷ xs) (q ∷ qs) h = ap (λ ls. ls ∷ cell_lines_left qs) h.2 ∙ ap (λ ls. below (lines_to_come p) ∷ ls) (takes_below ps xs qs h.3)
 
 -- The rows so far, with whatever rows the lines that are left become, are the rows of all lines.
 pub record RowsSoFar (columns : List Spacing) (all parts : List CellLines) (rows : List FmtTableRow) (n : ℕ) : Type 0 where
   pub columns_are : columns_left parts ≡ columns
   pub count : length rows ≡ n
-  pub so_far : (more : List FmtTableRow) → AreDown columns (lines_left parts) more → AreDown columns (lines_left all) (rows ++ more)
+  pub so_far : (more : List FmtTableRow) → AreDown columns (cell_lines_left parts) more → AreDown columns (cell_lines_left all) (rows ++ more)
 
 pub rows_start : (columns : List Spacing) (all : List CellLines) → columns_left all ≡ columns → RowsSoFar columns all all [] 0
 rows_start columns all columns_are = record { columns_are = columns_are; count = refl; so_far = λ more h. h }
@@ -188,25 +188,25 @@ rows_start columns all columns_are = record { columns_are = columns_are; count =
 pub rows_more : (columns : List Spacing) (all parts rest : List CellLines) (rows new : List FmtTableRow) (n : ℕ) (row : FmtTableRow) → RowsSoFar columns all parts rows n
     → TakesRow parts row.cells.items rest → new ≡ rows ++ row ∷ [] → RowsSoFar columns all rest new (n + 1)
 rows_more columns all parts rest rows new n row held taken pushed =
-    let across : IsLineAcross columns (lines_left parts) row.cells.items =
-    subst (λ (cs : List Spacing). IsLineAcross cs (lines_left parts) row.cells.items) held.columns_are (takes_across parts row.cells.items rest taken) in
+    let across : IsLineAcross columns (cell_lines_left parts) row.cells.items =
+    subst (λ (cs : List Spacing). IsLineAcross cs (cell_lines_left parts) row.cells.items) held.columns_are (takes_across parts row.cells.items rest taken) in
     let longer : length new ≡ length rows + 1 = ap length pushed ∙ length-append rows (row ∷ []) in
     record {
       columns_are = takes_columns parts row.cells.items rest taken ∙ held.columns_are;
       count = let before : length rows ≡ n = held.count in omega (arith, longer, before);
       so_far = λ more h.
-          let down : AreDown columns (map below (lines_left parts)) more = subst (λ (ls : List (List FmtComposite)). AreDown columns ls more) (takes_below parts row.cells.items rest taken) h in
-          subst (λ (rs : List FmtTableRow). AreDown columns (lines_left all) rs) (sym (append_assoc rows (row ∷ []) more) ∙ ap (λ rs. rs ++ more) (sym pushed))
+          let down : AreDown columns (map below (cell_lines_left parts)) more = subst (λ (ls : List (List FmtComposite)). AreDown columns ls more) (takes_below parts row.cells.items rest taken) h in
+          subst (λ (rs : List FmtTableRow). AreDown columns (cell_lines_left all) rs) (sym (append_assoc rows (row ∷ []) more) ∙ ap (λ rs. rs ++ more) (sym pushed))
           (held.so_far (row ∷ more) (across, down));
     }
 
 pub rows_all : (skin : LineRules) (columns : List Spacing) (cells : List FmtComposite) (all parts : List CellLines) (rows : List FmtTableRow) (n : ℕ)
-    → AreCellsLeft skin columns cells all → n ≡ max (tallest (lines_left all)) 1 → RowsSoFar columns all parts rows n → IsRowLaidOutBy IsCompositeWrap skin columns cells rows
+    → AreCellsLeft skin columns cells all → n ≡ max (tallest (cell_lines_left all)) 1 → RowsSoFar columns all parts rows n → IsRowLaidOutBy IsCompositeWrap skin columns cells rows
 rows_all skin columns cells all parts rows n laid height held = record {
-  lines = lines_left all;
+  lines = cell_lines_left all;
   laid_out = laid.laid_out;
   count = held.count ∙ height;
-  rows_are = subst (λ (rs : List FmtTableRow). AreDown columns (lines_left all) rs) (append-nil rows) (held.so_far [] tt);
+  rows_are = subst (λ (rs : List FmtTableRow). AreDown columns (cell_lines_left all) rs) (append-nil rows) (held.so_far [] tt);
 }
 
 -- ---- columns

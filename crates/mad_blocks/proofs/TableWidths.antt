@@ -11,7 +11,7 @@ use Rattle.mad_widths.specs.SeenCells.{cell_added, TableHasSeen}
 use Rattle.mad_widths.specs.TableFits.{IsFit, IsTableFit}
 use Rattle.mad_widths.specs.declared.tbl_fit.TblFit.{TblFit}
 use Rattle.mad_widths.specs.declared.tbl_fit.TblFitResult.{TblFitResult}
-use Rattle.mad_format.specs.Lines.{bordered}
+use Rattle.mad_format.specs.FmtLines.{bordered}
 use Rattle.mad_blocks.specs.Tables.{below, rows_among, first_lengths, lengths_in, AreKeptWidths}
 use Rattle.mad_format.specs.declared.composite.FmtComposite.{FmtComposite}
 use Rattle.mad_format.specs.declared.line.FmtLine.{FmtLine}

@@ -7,7 +7,7 @@ use Rattle.mad_fit.specs.declared.spacing.Spacing.{Spacing}
 use Rattle.mad_format.specs.CompositeWraps.{IsCompositeWrap}
 use Rattle.mad_blocks.specs.FittingLayouts.{IsFittingWrap, IsFittingLayout, IsFittingLayoutAt}
 use Rattle.mad_blocks.specs.Layouts.{IsLayoutAt, IsLayoutBy}
-use Rattle.mad_blocks.specs.Parts.{Part, table, block, single, parts_of, justified, code_room, IsLineAt, AreLinesAt, IsPartAt, ArePartsAt}
+use Rattle.mad_blocks.specs.LayoutParts.{Part, table, block, single, parts_of, justified, code_room, IsLineAt, AreLinesAt, IsPartAt, ArePartsAt}
 use Rattle.mad_blocks.specs.Tables.{IsNextLaidOut, AreCellsLaidOut, below, IsRowLaidOutBy, columns_from, position_at, IsTableLineBy, AreTableLinesBy, IsTableLaidOutBy, centered}
 use Rattle.mad_format.specs.WrappedLines.{Wrap, style_margins}
 use Rattle.mad_format.specs.LineRules.{LineRules}

@@ -1,8 +1,8 @@
 -- Blocks of code among lines.
 use Rattle.std.specs.Prelude.{◌≡◌, ℕ, ◌+◌, true, false, List, [], ◌∷◌, ◌++◌, map, length, take, drop, Option, Some, None, if◌then◌else◌}
 use Rattle.std.specs.List.{AllByRecursion, flat_map}
-use Rattle.mad_blocks.specs.Parts.{Part, table, block, single, is_code_kind, is_code_line, widest, placed_code, justified, parts_of}
-pub use Rattle.mad_blocks.specs.Parts.{width_within}
+use Rattle.mad_blocks.specs.LayoutParts.{Part, table, block, single, is_code_kind, is_code_line, widest, placed_code, justified, parts_of}
+pub use Rattle.mad_blocks.specs.LayoutParts.{width_within}
 use Rattle.mad_blocks.specs.declared.code_blocks.CodeBlock.{CodeBlock}
 use Rattle.mad_format.specs.declared.composite.FmtComposite.{FmtComposite}
 use Rattle.mad_format.specs.declared.line.FmtLine.{FmtLine}

@@ -2,7 +2,7 @@
 use Rattle.std.specs.Prelude.{◌≡◌, ℕ, ◌-◌, ◌<◌, [], ◌∷◌, map, None}
 use Rattle.mad_wrap.specs.WrapLines.{HasRoom}
 use Rattle.mad_format.specs.Indents.{room_of}
-use Rattle.mad_blocks.specs.Parts.{justified, placed_code}
+use Rattle.mad_blocks.specs.LayoutParts.{justified, placed_code}
 use Rattle.mad_format.specs.WrappedLines.{IsLineWrapped, line_with, style_margins}
 use Rattle.mad_format.specs.Wraps.{text_of}
 use Rattle.mad_format.specs.LineRules.{LineRules}

@@ -1,7 +1,7 @@
 -- Laws of layouts: part by part is pass by pass.
 use Rattle.std.specs.Prelude.{ℕ, List, Option}
 use Rattle.mad_blocks.specs.CodeBlocks.{blocks_placed}
-use Rattle.mad_blocks.specs.Parts.{parts_of, AreTablesLaidOut, code_room, AreLinesAt, ArePartsAt}
+use Rattle.mad_blocks.specs.LayoutParts.{parts_of, AreTablesLaidOut, code_room, AreLinesAt, ArePartsAt}
 use Rattle.mad_format.specs.WrappedLines.{Wrap}
 use Rattle.mad_format.specs.LineRules.{LineRules}
 use Rattle.mad_format.specs.declared.line.FmtLine.{FmtLine}

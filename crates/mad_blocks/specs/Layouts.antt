@@ -3,8 +3,8 @@ use Rattle.std.specs.Prelude.{ℕ, false, List, [], ◌∷◌, Option}
 use Rattle.mad_md.specs.Lines.{LineContent}
 use Rattle.mad_md.specs.Reading.{IsRead, unread_text}
 use Rattle.mad_format.specs.CompositeWraps.{IsCompositeWrap}
-use Rattle.mad_format.specs.Lines.{IsLineRead}
-use Rattle.mad_blocks.specs.Parts.{parts_of, table_width, wrap_width, ArePartsAt}
+use Rattle.mad_format.specs.FmtLines.{IsLineRead}
+use Rattle.mad_blocks.specs.LayoutParts.{parts_of, table_width, wrap_width, ArePartsAt}
 use Rattle.mad_format.specs.WrappedLines.{Wrap}
 use Rattle.mad_format.specs.LineRules.{LineRules}
 use Rattle.mad_format.specs.declared.line.FmtLine.{FmtLine}

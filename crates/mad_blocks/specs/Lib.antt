@@ -5,7 +5,7 @@ pub mod LayoutExamples
 pub mod LayoutLaws
 pub mod Layouts
 pub mod PartCursors
-pub mod Parts
+pub mod LayoutParts
 pub mod TableLaws
 pub mod TableRows
 pub mod Tables

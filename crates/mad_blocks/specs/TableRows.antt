@@ -16,13 +16,13 @@ lines_to_come p = into_iter_items p.lines
 abbrev pub columns_left : List CellLines → List Spacing
 columns_left parts = map (λ p. p.column) parts
 
-abbrev pub lines_left : List CellLines → List (List FmtComposite)
-lines_left parts = map lines_to_come parts
+abbrev pub cell_lines_left : List CellLines → List (List FmtComposite)
+cell_lines_left parts = map lines_to_come parts
 
 -- the cells are laid out, and nothing is on a row yet
 pub record AreCellsLeft (skin : LineRules) (columns : List Spacing) (cells : List FmtComposite) (parts : List CellLines) : Type 0 where
   pub columns_are : columns_left parts ≡ columns
-  pub laid_out : AreCellsLaidOut IsCompositeWrap skin columns cells (lines_left parts)
+  pub laid_out : AreCellsLaidOut IsCompositeWrap skin columns cells (cell_lines_left parts)
 
 -- the next row is taken off the cells
 abbrev pub TakesRow : List CellLines → List FmtComposite → List CellLines → Type 0

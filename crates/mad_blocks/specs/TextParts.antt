@@ -4,7 +4,7 @@ use Rattle.std.specs.List.{flat_map}
 use Rattle.mad_md.specs.Lines.{LineContent, normal, table_row, table_rule, horizontal_rule}
 use Rattle.mad_md.specs.declared.alignment.Alignment.{Alignment}
 use Rattle.mad_style.specs.Kinds.{kind_of}
-use Rattle.mad_blocks.specs.Parts.{is_code_kind}
+use Rattle.mad_blocks.specs.LayoutParts.{is_code_kind}
 use Rattle.mad_blocks.specs.Tables.{position_at}
 use Rattle.mad_format.specs.declared.table.RelativePosition.{RelativePosition}
 use Rattle.mad_format.specs.declared.table.RelativePosition.TheVariants.{Other}

@@ -4,15 +4,15 @@ ghost use Rattle.std.specs.Prelude.{◌≡◌, ◌++◌, List, OnOk};
 ghost use Rattle.std.specs.List.{AllByRecursion};
 ghost use Rattle.mad_md.specs.Lines.{styled_runs};
 ghost use Rattle.mad_format.specs.CompositeWraps.{IsCompositeWrap};
-ghost use Rattle.mad_format.specs.Lines.{IsCompositeRead};
-ghost use Rattle.mad_blocks.specs.Parts.{is_code_kind, widest, block_width, width_within, placed_code, code_room, table_width, wrap_width, IsBlockAt, IsLineAt};
+ghost use Rattle.mad_format.specs.FmtLines.{IsCompositeRead};
+ghost use Rattle.mad_blocks.specs.LayoutParts.{is_code_kind, widest, block_width, width_within, placed_code, code_room, table_width, wrap_width, IsBlockAt, IsLineAt};
 ghost use Rattle.mad_format.specs.WrappedLines.{IsLineMeasured};
 ghost use Rattle.mad_format.specs.Wraps.{IsMeasured};
 ghost use Rattle.mad_format.specs.declared.line.FmtLine.{FmtLine};
 ghost use Rattle.mad_format.specs.declared.line.FmtLine.TheVariants.{Normal};
 
 use mad_fit::Spacing;
-use mad_format::{FmtComposite, FmtLine, LineSkin, margins_in, push_line, push_read, put_line};
+use mad_format::{FmtComposite, FmtLine, LineSkin, margins_and_rest, push_line, push_read, put_line};
 use mad_md::{Alignment, Composite};
 use mad_style::{CompositeKind, LEAST_WIDTH};
 use std::alloc::{AllocError, Global};
@@ -69,7 +69,7 @@ pub fn is_code(kind: CompositeKind) -> bool
 fn room_of_code<S: LineSkin>(width: Option<usize>, skin: &S) -> Option<usize>
     ensures { result ≡ code_room (S.rules skin.now) width }
 {
-    let (_, inner) = margins_in(skin, CompositeKind::Code, width?);
+    let (_, inner) = margins_and_rest(skin, CompositeKind::Code, width?);
     Some(inner)
 }
 

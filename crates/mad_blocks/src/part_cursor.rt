@@ -4,7 +4,7 @@ ghost use Rattle.std.specs.Prelude.{◌≡◌, ◌++◌, ◌∷◌, [], true, fa
 ghost use Rattle.mad_md.specs.Lines.{content_of, contents, normal, styled_runs};
 ghost use Rattle.mad_md.specs.Reading.{IsRead, unread_text};
 ghost use Rattle.mad_md.specs.Scan.{lines_of};
-ghost use Rattle.mad_format.specs.Lines.{IsLineRead};
+ghost use Rattle.mad_format.specs.FmtLines.{IsLineRead};
 ghost use Rattle.mad_blocks.specs.PartCursors.{lines_left, HasPlainNext, IsNextLine, IsNextWhere, LaidPart, LaysPart, IsPlainRead};
 ghost use Rattle.mad_blocks.specs.TextParts.{is_code, is_table};
 ghost use Rattle.mad_format.specs.declared.line.FmtLine.{FmtLine};

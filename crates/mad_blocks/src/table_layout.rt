@@ -3,7 +3,7 @@
 ghost use Rattle.std.specs.Prelude.{◌≡◌, ◌≤◌, ◌<◌, ◌+◌, ◌++◌, true, List, map, length, take, drop, IfOk, OnOk};
 ghost use Rattle.std.specs.Vec.Iter.{into_iter_items};
 ghost use Rattle.mad_format.specs.CompositeWraps.{IsCompositeWrap};
-ghost use Rattle.mad_blocks.specs.Parts.{AreTablesLaidOut};
+ghost use Rattle.mad_blocks.specs.LayoutParts.{AreTablesLaidOut};
 ghost use Rattle.mad_blocks.specs.Tables.{centered, columns_count, position_at, IsRuleLaidOut, IsTableLineBy, AreTableLinesBy, IsTableLaidOutBy};
 ghost use Rattle.mad_format.specs.WrappedLines.{AllMeasured, IsLineMeasured};
 ghost use Rattle.mad_format.specs.declared.line.FmtLine.{FmtLine};

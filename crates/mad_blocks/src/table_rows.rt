@@ -5,7 +5,7 @@ ghost use Rattle.std.specs.List.{AllByRecursion};
 ghost use Rattle.std.specs.Vec.Iter.{into_iter_items};
 ghost use Rattle.mad_format.specs.CompositeWraps.{IsCompositeWrap};
 ghost use Rattle.mad_blocks.specs.Tables.{columns_with, in_column, below, IsTop, IsCellLaidOut, IsNextLaidOut, IsRowLaidOutBy, tallest};
-ghost use Rattle.mad_blocks.specs.TableRows.{TakesRow, AreCellsLeft, lines_left};
+ghost use Rattle.mad_blocks.specs.TableRows.{TakesRow, AreCellsLeft, cell_lines_left};
 ghost use Rattle.mad_format.specs.Wraps.{IsMeasured};
 
 use crate::table_columns::columns_with;
@@ -69,7 +69,7 @@ fn lay_cells<'s, S: LineSkin>(
 ) -> Result<(Vec<CellLines<'s>>, usize), AllocError>
     requires { AllByRecursion (IsMeasured (S.rules skin.now)) cells.items }
     ensures laid_out { IfOk result (λ laid. AreCellsLeft (S.rules skin.now) columns.now cells.entry.items laid.0.items) }
-    ensures height { IfOk result (λ laid. laid.1 ≡ max (tallest (lines_left laid.0.items)) 1) }
+    ensures height { IfOk result (λ laid. laid.1 ≡ max (tallest (cell_lines_left laid.0.items)) 1) }
 {
     let mut parts = Vec::with_capacity(alloc, columns.len())?;
     let mut height: usize = 1;

@@ -20,7 +20,7 @@ use Rattle.mad_style.specs.declared.styled_chars.StyledChar.{StyledChar}
 use Rattle.mad_style.specs.Repeats.{repeat_bytes}
 use Rattle.mad_style.specs.StyledChars.{char_style, char_alone}
 use Rattle.std.specs.Prelude.{encode_utf8}
-use Rattle.mad_fit.specs.Columns.{columns}
+use Rattle.mad_fit.specs.TextColumns.{columns}
 use Rattle.mad_draw.specs.Pieces.{RowPiece, pieces_bytes, spaces, single_spaces, char_repeat, AreKnown, AreShownPieces, pieces_columns}
 
 -- ---- bytes

@@ -7,10 +7,10 @@ use Rattle.mad_draw.specs.Pieces.{PennedChar}
 
 -- What characters show, found from the end: the widthless ones that they begin with, and the cells of what follows these.
 -- A widthless character is joined to the one before it.
-abbrev pub penned_joined : List PennedChar → List ℕ × List Glyph
-penned_joined [] = ([], [])
-penned_joined (c ∷ cs) = attach (Some (char_columns c.char)) c.pen c.char (penned_joined cs)
+abbrev pub penned_attached : List PennedChar → List ℕ × List Glyph
+penned_attached [] = ([], [])
+penned_attached (c ∷ cs) = attach (Some (char_columns c.char)) c.pen c.char (penned_attached cs)
 
 -- the cells of characters
 abbrev pub penned_cells : List PennedChar → List Glyph
-penned_cells cs = (penned_joined cs).1
+penned_cells cs = (penned_attached cs).1

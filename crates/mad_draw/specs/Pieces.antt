@@ -9,7 +9,7 @@ use Rattle.mad_screen.specs.Painting.{IsShown, look_of_style}
 use Rattle.mad_style.specs.declared.compound_styles.CompoundStyle.{CompoundStyle}
 use Rattle.mad_style.specs.declared.styled_chars.StyledChar.{StyledChar}
 use Rattle.mad_style.specs.StyledChars.{char_style, char_alone}
-use Rattle.mad_fit.specs.Columns.{columns}
+use Rattle.mad_fit.specs.TextColumns.{columns}
 
 -- a text, in bytes, in one style
 pub record RowPiece : Type 0 where

@@ -6,7 +6,7 @@ use Rattle.std.specs.Char.{encode_utf8}
 use Rattle.std.specs.Str.{IsUtf8, IsCharBoundary}
 use Rattle.mad_columns.proofs.CharColumns.{char_columns-ascii}
 use Rattle.mad_fit.specs.Ascii.{ArePlain}
-use Rattle.mad_fit.specs.Columns.{columns}
+use Rattle.mad_fit.specs.TextColumns.{columns}
 
 -- a front of `n` bytes takes `n` columns
 pub record IsPlainFront (bs : List ℕ) (n : ℕ) : Type 0 where

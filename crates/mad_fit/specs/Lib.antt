@@ -1,6 +1,6 @@
 pub mod Areas
 pub mod Ascii
-pub mod Columns
+pub mod TextColumns
 pub mod Completions
 pub mod TokenPlaces
 pub mod Tokens

@@ -2,7 +2,7 @@
 
 ghost use Rattle.std.specs.Prelude.{◌≡◌, List, IfOk};
 ghost use Rattle.mad_fit.specs.Tokens.{AreTokensOf};
-ghost use Rattle.mad_fit.specs.TokensLeft.{AreLeft};
+ghost use Rattle.mad_fit.specs.TokensLeft.{AreTokensLeft};
 ghost use Rattle.mad_fit.specs.declared.tokens.Token.{Token};
 
 use crate::token_cursor::Tokens;
@@ -16,8 +16,8 @@ use std::alloc::{AllocError, Global};
 /// `max` columns. A character that is itself wider than `max` is a token. An empty compound has none. Neither this call nor the iterator takes
 /// memory.
 pub fn token_iter<'c, 's>(compounds: &'c [Compound<'s>], max: usize) -> Tokens<'c, 's>
-    ensures tokens { (ts : List Token) → AreLeft result ts → AreTokensOf max compounds.now ts }
-    ensures all { (ts : List Token) → AreTokensOf max compounds.now ts → AreLeft result ts }
+    ensures tokens { (ts : List Token) → AreTokensLeft result ts → AreTokensOf max compounds.now ts }
+    ensures all { (ts : List Token) → AreTokensOf max compounds.now ts → AreTokensLeft result ts }
 {
     Tokens::new(compounds, max)
 }

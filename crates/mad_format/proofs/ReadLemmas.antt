@@ -6,7 +6,7 @@ use Rattle.mad_md.specs.Lines.{StyledRuns, LineContent, content_of, normal, tabl
 use Rattle.mad_md.specs.declared.composite.Composite.{Composite}
 use Rattle.mad_md.specs.declared.line.Line.{Line}
 use Rattle.mad_md.specs.declared.line.Line.TheVariants as read
-use Rattle.mad_format.specs.Lines.{is_table_line, IsLineRead, IsCompositeRead, AreCompositesRead}
+use Rattle.mad_format.specs.FmtLines.{is_table_line, IsLineRead, IsCompositeRead, AreCompositesRead}
 use Rattle.mad_format.specs.WrappedLines.{IsLineMeasured}
 use Rattle.mad_format.specs.Wraps.{IsMeasured}
 use Rattle.mad_format.specs.LineRules.{LineRules}

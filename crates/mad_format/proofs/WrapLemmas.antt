@@ -5,7 +5,7 @@ use Rattle.std.specs.List.{AllByRecursion}
 use Rattle.mad_md.specs.Flagged.{flagged_text}
 use Rattle.mad_style.specs.declared.kinds.CompositeKind.{CompositeKind}
 use Rattle.mad_style.specs.declared.kinds.CompositeKind.TheVariants.{Paragraph, Header, ListItem, ListItemFollowUp, OrderedListItem, OrderedListItemFollowUp, Code, Quote}
-use Rattle.mad_fit.specs.Columns.{width_of}
+use Rattle.mad_fit.specs.TextColumns.{width_of}
 use Rattle.mad_fit.specs.declared.spacing.Spacing.{Spacing}
 use Rattle.mad_wrap.specs.LeastWrap.{IsWrap}
 use Rattle.mad_wrap.specs.WrapLines.{capped, compounds_of, AreCounted}

@@ -1,7 +1,7 @@
 pub mod CompositeWraps
 pub mod Indents
 pub mod LineRules
-pub mod Lines
+pub mod FmtLines
 pub mod LinesLeft
 pub mod WrappedLines
 pub mod Wraps

@@ -7,5 +7,5 @@ use Rattle.mad_format.specs.declared.composite.FmtComposite.{FmtComposite}
 use Rattle.mad_format.specs.declared.wrap.LinesLeft.{LinesLeft}
 
 -- the composites are the lines that are left, in order
-abbrev pub AreLeft : LinesLeft → List FmtComposite → Type 0
-AreLeft left cs = AreComposites left.kind (follow_up left.kind) left.indent left.later_indent left.spacing (into_iter_items left.lines) cs
+abbrev pub AreCompositesLeft : LinesLeft → List FmtComposite → Type 0
+AreCompositesLeft left cs = AreComposites left.kind (follow_up left.kind) left.indent left.later_indent left.spacing (into_iter_items left.lines) cs

@@ -1,7 +1,7 @@
 //! Composites with their measured length.
 
 ghost use Rattle.std.specs.Prelude.{◌≡◌, ◌+◌, ◌++◌, ◌∷◌, [], IfOk, OnOk, OnErr, MatchOption};
-ghost use Rattle.mad_fit.specs.Columns.{width_of};
+ghost use Rattle.mad_fit.specs.TextColumns.{width_of};
 ghost use Rattle.mad_fit.specs.Completions.{Completes};
 ghost use Rattle.mad_md.specs.Flagged.{flagged_of};
 

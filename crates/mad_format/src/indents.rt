@@ -2,7 +2,7 @@
 
 ghost use Rattle.std.specs.Prelude.{◌≡◌, ◌+◌, ◌<◌, ◌^◌};
 ghost use Rattle.mad_md.specs.Flagged.{flagged_text};
-ghost use Rattle.mad_fit.specs.Columns.{width_of};
+ghost use Rattle.mad_fit.specs.TextColumns.{width_of};
 ghost use Rattle.mad_wrap.specs.WrapLines.{capped};
 ghost use Rattle.mad_format.specs.Indents.{follow_up, indent, later_indent};
 

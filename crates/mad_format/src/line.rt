@@ -2,7 +2,7 @@
 
 ghost use Rattle.std.specs.Prelude.{◌≡◌, ◌++◌, ◌∷◌, [], IfOk, OnOk};
 ghost use Rattle.mad_md.specs.Lines.{content_of};
-ghost use Rattle.mad_format.specs.Lines.{IsLineRead, cells_columns, rule_columns, bordered};
+ghost use Rattle.mad_format.specs.FmtLines.{IsLineRead, cells_columns, rule_columns, bordered};
 ghost use Rattle.mad_wrap.specs.WrapLines.{capped};
 
 use crate::composite::FmtComposite;
@@ -25,7 +25,7 @@ pub enum FmtLine<'s> {
 }
 
 impl<'s> FmtLine<'s> {
-    ghost use Rattle.mad_format.specs.Lines.{columns_of_line, is_table_line};
+    ghost use Rattle.mad_format.specs.FmtLines.{columns_of_line, is_table_line};
 
     /// A line as it was read, measured with the indent that it has in this skin. Only out of memory is an error.
     pub fn from<S: LineSkin>(alloc: Global, line: Line<'s>, skin: &S) -> Result<Self, AllocError>

@@ -23,7 +23,7 @@ pub fn room_of<S: LineSkin>(skin: &S, kind: CompositeKind, width: usize) -> Room
 }
 
 /// The margins (left, right) that a line of this kind has at a width, by its style, and the columns that they leave of it.
-pub fn margins_in<S: LineSkin>(
+pub fn margins_and_rest<S: LineSkin>(
     skin: &S,
     kind: CompositeKind,
     width: usize,
@@ -31,7 +31,7 @@ pub fn margins_in<S: LineSkin>(
     ensures margins { result.0 ≡ margins_at ((S.rules skin.now).line_style kind) (Some width) }
     ensures inner { result.1 ≡ width - result.0.0 - result.0.1 }
 {
-    let margins = skin.style_of(kind).margins_in(Some(width));
+    let margins = skin.style_of(kind).margins_and_rest(Some(width));
     (margins, width - margins.0 - margins.1)
 }
 

@@ -2,7 +2,7 @@
 
 ghost use Rattle.std.specs.Prelude.{◌≡◌, [], IfOk, map};
 ghost use Rattle.mad_md.specs.Lines.{styled_runs};
-ghost use Rattle.mad_format.specs.Lines.{AreCompositesRead};
+ghost use Rattle.mad_format.specs.FmtLines.{AreCompositesRead};
 
 use crate::composite::FmtComposite;
 use crate::line_skin::LineSkin;
@@ -54,7 +54,7 @@ pub struct FmtTableRule {
 impl FmtTableRule {
     ghost use Rattle.std.specs.Prelude.{OnOk};
     ghost use Rattle.mad_md.specs.declared.alignment.Alignment.TheVariants.{Unspecified};
-    ghost use Rattle.mad_format.specs.Lines.{resized};
+    ghost use Rattle.mad_format.specs.FmtLines.{resized};
 
     /// A rule as it was read, without widths.
     pub fn from(alloc: Global, rule: TableRule) -> Self

@@ -4,9 +4,9 @@ ghost use Rattle.std.specs.Prelude.{◌≡◌, ◌≤◌, ◌<◌, ◌⊎◌, �
 ghost use Rattle.std.specs.Vec.Iter.{into_iter_items};
 ghost use Rattle.mad_md.specs.Lines.{styled_runs};
 ghost use Rattle.mad_format.specs.CompositeWraps.{AreComposites, IsCompositeWrap, composite_of};
-ghost use Rattle.mad_format.specs.LinesLeft.{AreLeft};
+ghost use Rattle.mad_format.specs.LinesLeft.{AreCompositesLeft};
 ghost use Rattle.mad_format.specs.Indents.{follow_up};
-ghost use Rattle.mad_format.specs.Lines.{IsCompositeRead};
+ghost use Rattle.mad_format.specs.FmtLines.{IsCompositeRead};
 ghost use Rattle.mad_format.specs.WrappedLines.{AllMeasured, AllFit, AreLinesWrapped, IsLineMeasured, IsLineWrapped, IsWrapped, LineFits, line_with};
 ghost use Rattle.mad_format.specs.Wraps.{IsMeasured};
 ghost use Rattle.mad_format.specs.declared.line.FmtLine.{FmtLine};
@@ -16,7 +16,7 @@ use crate::composite::FmtComposite;
 use crate::indents::follow_up;
 use crate::line::{FmtLine, put_line};
 use crate::line_skin::LineSkin;
-use crate::room::{Room, check_width, margins_in, room_of};
+use crate::room::{Room, check_width, margins_and_rest, room_of};
 use mad_fit::Spacing;
 use mad_md::Composite;
 use mad_style::CompositeKind;
@@ -108,7 +108,7 @@ impl<'s> LinesLeft<'s> {
         room: Room,
         spacing: Option<Spacing>,
     ) -> Self
-        ensures { (cs : List FmtComposite) → AreLeft result cs → AreComposites kind (follow_up kind) room.first room.other spacing lines.entry.items cs }
+        ensures { (cs : List FmtComposite) → AreCompositesLeft result cs → AreComposites kind (follow_up kind) room.first room.other spacing lines.entry.items cs }
     {
         LinesLeft {
             lines: lines.into_iter(),
@@ -121,7 +121,7 @@ impl<'s> LinesLeft<'s> {
 
     // The next one, if there is one more.
     fn next(&mut self) -> Option<FmtComposite<'s>>
-        ensures next { MatchOption result (AreLeft self.old []) (λ c. (cs : List FmtComposite) → AreLeft self.new cs → AreLeft self.old (c ∷ cs)) }
+        ensures next { MatchOption result (AreCompositesLeft self.old []) (λ c. (cs : List FmtComposite) → AreCompositesLeft self.new cs → AreCompositesLeft self.old (c ∷ cs)) }
         ensures shorter { IsSome result → length (into_iter_items self.new.lines) < length (into_iter_items self.old.lines) }
     {
         let line = self.lines.next()?;
@@ -195,7 +195,7 @@ fn line_fits<S: LineSkin>(line: &FmtLine, width: usize, skin: &S) -> bool
 {
     match line {
         FmtLine::Normal(composite) => {
-            let (_, inner) = margins_in(skin, composite.kind, width);
+            let (_, inner) = margins_and_rest(skin, composite.kind, width);
             composite.visible_length <= inner
         }
         _ => true,
@@ -250,7 +250,7 @@ fn push_composite<'s, S: LineSkin>(
     requires { IsMeasured (S.rules skin.now) composite }
     ensures { OnOk result ((own : List FmtLine) × (lines.new.items ≡ lines.old.items ++ own) × IsWrapped (S.rules skin.now) width composite.entry own) }
 {
-    let (margins, inner) = margins_in(skin, composite.kind, width);
+    let (margins, inner) = margins_and_rest(skin, composite.kind, width);
     if composite.visible_length <= inner {
         return put_line(lines, line_with(margins, composite));
     }
@@ -287,7 +287,7 @@ pub fn push_read<'s, S: LineSkin>(
     }
     let Composite { style, compounds } = composite;
     let kind = CompositeKind::from(style);
-    let (margins, inner) = margins_in(skin, kind, width);
+    let (margins, inner) = margins_and_rest(skin, kind, width);
     let room = room_of(skin, kind, inner);
     let Some(columns) = fit_columns(&compounds, room) else {
         let wrap = wrap_compounds(alloc, &compounds, room)?;

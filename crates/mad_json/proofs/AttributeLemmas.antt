@@ -5,7 +5,7 @@ use Rattle.std.proofs.lemmas.List.{drop_more}
 use Rattle.mad_term.specs.declared.attribute.Attribute.{Attribute}
 use Rattle.mad_style.specs.declared.compound_styles.CompoundStyle.{CompoundStyle}
 use Rattle.mad_style.specs.CompoundStyles.{attribute_added}
-use Rattle.mad_parse.specs.Styles.{all_added}
+use Rattle.mad_parse.specs.TokenStyles.{all_added}
 
 pub attribute_in : (p : Attribute → Bool) (a d : Attribute) (list : List Attribute) (i : ℕ) (s t whole : CompoundStyle) → i < length list → get_or list i d ≡ a → p a ≡ true
     → all_added s (filter p (drop i list)) ≡ whole → t ≡ attribute_added s a → all_added t (filter p (drop (i + 1) list)) ≡ whole

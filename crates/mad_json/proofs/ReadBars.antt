@@ -13,7 +13,7 @@ use Rattle.mad_style.specs.declared.scroll_bars.ScrollBarStyle.{ScrollBarStyle}
 use Rattle.mad_style.specs.declared.styled_chars.StyledChar.{StyledChar}
 use Rattle.mad_parse.specs.ReadsBack.{IsReadBackChar}
 use Rattle.mad_parse.specs.Reading.{said, tokens_of}
-use Rattle.mad_parse.specs.Styles.{styled_char_of}
+use Rattle.mad_parse.specs.TokenStyles.{styled_char_of}
 use Rattle.mad_parse.specs.Written.{tokens_text, styled_char_tokens}
 use Rattle.mad_json.specs.ReadsBack.{IsOnlyColored, IsReadBackBar, ReadsBackChar, ReadsBackBar}
 use Rattle.mad_json.specs.ScrollBars.{bar_of_char, is_simple, simple_char, def_of, scrollbar_said}

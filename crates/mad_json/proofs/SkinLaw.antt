@@ -12,7 +12,7 @@ use Rattle.mad_style.specs.declared.line_styles.LineStyle.{LineStyle}
 use Rattle.mad_style.specs.declared.ordered_items.OrderedItemStyle.{OrderedItemStyle}
 use Rattle.mad_style.specs.declared.styled_chars.StyledChar.{StyledChar}
 use Rattle.mad_parse.specs.ReadsBack.{IsReadBackStyle, IsReadBackLine, IsReadBackChar, IsReadBackItem}
-use Rattle.mad_parse.specs.Styles.{style_of, line_style_of, styled_char_of, item_style_of}
+use Rattle.mad_parse.specs.TokenStyles.{style_of, line_style_of, styled_char_of, item_style_of}
 use Rattle.mad_parse.specs.Written.{tokens_text, line_style_tokens, item_tokens}
 use Rattle.mad_layout.specs.Skins.{default_skin}
 use Rattle.mad_layout.specs.declared.skin.MadSkin.{MadSkin}

@@ -7,7 +7,7 @@ use Rattle.mad_term.specs.Attributes.{has_attribute}
 use Rattle.mad_style.specs.declared.compound_styles.CompoundStyle.{CompoundStyle}
 use Rattle.mad_style.specs.declared.line_styles.LineStyle.{LineStyle}
 use Rattle.mad_style.specs.declared.ordered_items.OrderedItemStyle.{OrderedItemStyle}
-use Rattle.mad_parse.specs.Styles.{all_added, line_style_of, item_style_of}
+use Rattle.mad_parse.specs.TokenStyles.{all_added, line_style_of, item_style_of}
 use Rattle.mad_parse.specs.Written.{written_attributes}
 use Rattle.mad_parse.specs.declared.tokens.StyleToken.{StyleToken}
 use Rattle.serde_json.specs.Data.{Data, Items, no_items, item}

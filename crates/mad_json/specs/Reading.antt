@@ -2,7 +2,7 @@
 use Rattle.std.specs.Prelude.{ℕ, Bool, true, false, List, [], ◌∷◌, ◌++◌, replicate, slice_index_or, slice_set, Option, Some, None, Result, Ok, Err, if◌then◌else◌}
 use Rattle.mad_style.specs.declared.borders.TableBorderChars.{TableBorderChars}
 use Rattle.mad_style.specs.Borders.{borders_named}
-use Rattle.mad_parse.specs.Styles.{style_of, line_style_of, styled_char_of}
+use Rattle.mad_parse.specs.TokenStyles.{style_of, line_style_of, styled_char_of}
 use Rattle.mad_layout.specs.Skins.{default_skin}
 use Rattle.mad_layout.specs.declared.skin.MadSkin.{MadSkin}
 use Rattle.serde_json.specs.Data.{Data, Members, no_members, member}

@@ -7,7 +7,7 @@ use Rattle.mad_style.specs.CompoundStyles.{text_style}
 use Rattle.mad_style.specs.StyledChars.{styled_char, colored_char, char_alone, char_style}
 use Rattle.mad_style.specs.declared.scroll_bars.ScrollBarStyle.{ScrollBarStyle}
 use Rattle.mad_style.specs.declared.styled_chars.StyledChar.{StyledChar}
-use Rattle.mad_parse.specs.Styles.{styled_char_of}
+use Rattle.mad_parse.specs.TokenStyles.{styled_char_of}
 use Rattle.serde_json.specs.Data.{Data}
 use Rattle.serde_json.specs.Find.{as_str, get}
 use Rattle.mad_json.specs.Faults.{ValueFault, wrong_kind}

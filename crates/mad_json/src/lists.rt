@@ -2,7 +2,7 @@
 
 ghost use Rattle.std.specs.Prelude.{◌≡◌, Ok, IfOk, IfErr, OnOk, [], map};
 ghost use Rattle.serde_json.specs.View.{view, items_view};
-ghost use Rattle.mad_parse.specs.Styles.{line_style_of, item_style_of};
+ghost use Rattle.mad_parse.specs.TokenStyles.{line_style_of, item_style_of};
 ghost use Rattle.mad_json.specs.Faults.{TellsValue};
 ghost use Rattle.mad_json.specs.Lists.{items_said, replaced, compound_with, header_with, headers_said, ordered_items_said};
 

@@ -1,7 +1,7 @@
 //! What a text among the values says.
 
 ghost use Rattle.std.specs.Prelude.{◌≡◌, Ok, IfOk, IfErr, Some, None, MatchResult};
-ghost use Rattle.mad_parse.specs.Styles.{style_of, line_style_of, styled_char_of, item_style_of};
+ghost use Rattle.mad_parse.specs.TokenStyles.{style_of, line_style_of, styled_char_of, item_style_of};
 ghost use Rattle.serde_json.specs.Find.{as_str};
 ghost use Rattle.serde_json.specs.View.{view};
 ghost use Rattle.mad_json.specs.Faults.{TellsValue};

@@ -19,10 +19,10 @@ use Rattle.mad_draw.specs.declared.table_rules.RuleChars.{RuleChars}
 use Rattle.mad_layout.specs.Drawable.{AreShownChars}
 use Rattle.mad_layout.specs.FlaggedLines.{skin_char, front_of}
 use Rattle.mad_layout.specs.FlaggedTables.{row_in_column, CellInColumn, first_row, first_rows, rows_down, rule_row, table_across, rule_across}
-use Rattle.mad_format.specs.Lines.{bordered, rule_columns}
+use Rattle.mad_format.specs.FmtLines.{bordered, rule_columns}
 use Rattle.mad_layout.specs.Premises.{IsPlainPrefix}
 use Rattle.mad_rows.specs.Rows.{prefix_pieces, compound_piece, composite_pieces, cell_pieces, vertical_piece, placed_pieces, row_columns, rule_chars, left_of_place, right_of_place, align_in, place_of, inner_blanks}
-use Rattle.mad_rows.specs.Styles.{line_rules, line_style}
+use Rattle.mad_rows.specs.RowStyles.{line_rules, line_style}
 use Rattle.mad_blocks.specs.Tables.{in_column, IsBlankIn, IsTop, IsLineAcross, AreDown, below}
 use Rattle.mad_format.specs.Wraps.{text_of, columns_of}
 use Rattle.mad_rows.specs.declared.row_skin.RowSkin.{RowSkin}

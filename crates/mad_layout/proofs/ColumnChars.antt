@@ -12,13 +12,13 @@ use Rattle.mad_screen.specs.Painting.{IsShown}
 use Rattle.mad_style.specs.StyledChars.{char_alone, styled_char}
 use Rattle.mad_style.specs.declared.compound_styles.CompoundStyle.{CompoundStyle}
 use Rattle.mad_style.specs.declared.styled_chars.StyledChar.{StyledChar}
-use Rattle.mad_fit.specs.Columns.{columns}
+use Rattle.mad_fit.specs.TextColumns.{columns}
 use Rattle.mad_draw.specs.Pieces.{IsColumnPiece, char_piece}
 use Rattle.mad_draw.specs.TableRules.{border_piece}
 use Rattle.mad_draw.specs.declared.table_rules.RuleChars.{RuleChars}
 use Rattle.mad_layout.specs.Drawable.{AreShownChars}
 use Rattle.mad_layout.specs.Premises.{IsColumnChar, AreRuleChars}
-use Rattle.mad_rows.specs.Styles.{index_suffix, ordered_item_style}
+use Rattle.mad_rows.specs.RowStyles.{index_suffix, ordered_item_style}
 use Rattle.mad_rows.specs.declared.row_skin.RowSkin.{RowSkin}
 
 some_of : (o : Option ℕ) → unwrap_or o 0 ≡ 1 → IsSome o

@@ -10,7 +10,7 @@ use Rattle.mad_md.specs.declared.compound.Compound.{Compound}
 use Rattle.mad_style.specs.Kinds.{kind_of}
 use Rattle.mad_style.specs.LineStyles.{margins_at}
 use Rattle.mad_style.specs.declared.kinds.CompositeKind.{CompositeKind}
-use Rattle.mad_fit.specs.Columns.{width_of}
+use Rattle.mad_fit.specs.TextColumns.{width_of}
 use Rattle.mad_fit.specs.Tokens.{token_run}
 use Rattle.mad_fit.specs.declared.tokens.Token.{Token}
 use Rattle.mad_fit.proofs.AllLemmas.{all_joined, all_each}
@@ -24,11 +24,11 @@ use Rattle.mad_blocks.specs.FittingLayouts.{IsFittingWrap, IsFittingLayout}
 use Rattle.mad_format.specs.Indents.{indent, follow_up, room_of}
 use Rattle.mad_blocks.specs.Layouts.{AreRead}
 use Rattle.mad_blocks.proofs.WideLayouts.{IsLayout}
-use Rattle.mad_format.specs.Lines.{IsLineRead, is_table_line}
-use Rattle.mad_blocks.specs.Parts.{Part, table, block, single, parts_of, justified, code_room, IsLineAt, AreLinesAt, ArePartsAt}
+use Rattle.mad_format.specs.FmtLines.{IsLineRead, is_table_line}
+use Rattle.mad_blocks.specs.LayoutParts.{Part, table, block, single, parts_of, justified, code_room, IsLineAt, AreLinesAt, ArePartsAt}
 use Rattle.mad_layout.specs.Premises.{IsPlainRun, inner_width, runs_text, IsPlainPrefix, IsPlainText, IsPlainContent, KeepsPremises}
 use Rattle.mad_rows.specs.Rows.{place_of}
-use Rattle.mad_rows.specs.Styles.{line_rules, line_style}
+use Rattle.mad_rows.specs.RowStyles.{line_rules, line_style}
 use Rattle.mad_format.specs.CompositeWraps.{line_compounds, HaveKinds}
 use Rattle.mad_format.specs.WrappedLines.{style_margins, line_with, IsLaidOutBy}
 use Rattle.mad_blocks.specs.TextParts.{LineInPart, text_parts, aligns_at, lines_in, lines_in_parts}
@@ -40,7 +40,7 @@ use Rattle.mad_format.specs.declared.line.FmtLine.TheVariants.{Normal, TableRow,
 use Rattle.mad_layout.proofs.DrawableTables.{Later, table_drawable}
 use Rattle.mad_layout.proofs.DrawnParts.{each_of, pieces_shown, runs_are, some_joined, utf8_of}
 use Rattle.mad_layout.proofs.PrefixLemmas.{prefix_shown, prefix_columns, follow_up_plain}
-use Rattle.mad_blocks.proofs.PartLemmas.{IsPlacedLine, ArePlacedLines, IsPartOfKind, parts_kinds, code_placed}
+use Rattle.mad_blocks.proofs.PartLemmas.{IsPlacedOrKept, ArePlacedOrKept, IsPartOfKind, parts_kinds, code_placed}
 use Rattle.mad_layout.proofs.ReadParts.{ArePartsRead, parts_read, part_raw, all_in}
 use Rattle.mad_blocks.proofs.WrapKinds.{layout_fits}
 use Rattle.mad_format.proofs.ReadWraps.{margins-le}
@@ -182,7 +182,7 @@ read_some skin width line source lines plain read (inr (wide, (w ∷ ws, wraps, 
 
 -- what becomes of one line of a text
 content_drawable : (skin : RowSkin) (width drawn : ℕ) (part : List LineContent) (content : LineContent) (l m : FmtLine) (own : List FmtLine) → width ≤ drawn → drawn < 2 ^ 64 - 1 → IsPlainContent skin width part content → IsLineRead (line_rules skin) content l → is_table_line l ≡ false
-    → IsPlacedLine (line_rules skin) width l m → IsLineAt IsFittingWrap (line_rules skin) (Some width) m own → (0 < length own) × AreDrawable skin drawn own
+    → IsPlacedOrKept (line_rules skin) width l m → IsLineAt IsFittingWrap (line_rules skin) (Some width) m own → (0 < length own) × AreDrawable skin drawn own
 content_drawable skin width drawn part (table_row cells) (Normal l) m own narrower bound plain read alone placed here = absurd read
 content_drawable skin width drawn part (table_row cells) (TableRow row) m own narrower bound plain read alone placed here = absurd (cc)
 content_drawable skin width drawn part (table_row cells) (TableRule rule) m own narrower bound plain read alone placed here = absurd read
@@ -219,7 +219,7 @@ content_drawable skin width drawn part horizontal_rule HorizontalRule m own narr
 
 -- the lines of a part, where those of the parts after it are drawn exactly
 lines_drawable : (skin : RowSkin) (width drawn n : ℕ) (part : List LineContent) (above : Option (List Alignment)) (begins : Bool) (text : List LineContent) (xs : List LineInPart) (read placed own others : List FmtLine) → width ≤ drawn → drawn < 2 ^ 64 - 1 → Later skin width drawn xs others
-    → KeepsPremises skin width (take n (lines_in part above begins text ++ xs)) → AreRead (line_rules skin) text read → AllByRecursion (λ l. is_table_line l ≡ false) read → ArePlacedLines (line_rules skin) width read placed → AreLinesAt IsFittingWrap (line_rules skin) (Some width) placed own
+    → KeepsPremises skin width (take n (lines_in part above begins text ++ xs)) → AreRead (line_rules skin) text read → AllByRecursion (λ l. is_table_line l ≡ false) read → ArePlacedOrKept (line_rules skin) width read placed → AreLinesAt IsFittingWrap (line_rules skin) (Some width) placed own
     → AreDrawable skin drawn (take n (own ++ others))
 lines_drawable skin width drawn zero part above begins text xs read placed own others narrower bound later keeps reads alone places becomes = tt
 lines_drawable skin width drawn (suc n) part above begins text xs [] (m ∷ ms) own others narrower bound later keeps reads alone places becomes = absurd places

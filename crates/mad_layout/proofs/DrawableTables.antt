@@ -9,7 +9,7 @@ use Rattle.mad_md.specs.declared.alignment.Alignment.{Alignment}
 use Rattle.mad_md.specs.declared.compound.Compound.{Compound}
 use Rattle.mad_style.specs.Kinds.{kind_of}
 use Rattle.mad_style.specs.declared.kinds.CompositeKind.{CompositeKind}
-use Rattle.mad_fit.specs.Columns.{width_of}
+use Rattle.mad_fit.specs.TextColumns.{width_of}
 use Rattle.mad_fit.specs.Tokens.{token_run}
 use Rattle.mad_fit.specs.declared.spacing.Spacing.{Spacing}
 use Rattle.mad_fit.specs.declared.tokens.Token.{Token}
@@ -24,11 +24,11 @@ use Rattle.mad_layout.specs.Drawable.{FillsItsPlace, IsDrawableRow, IsDrawableRu
 use Rattle.mad_blocks.specs.FittingLayouts.{IsFittingWrap}
 use Rattle.mad_format.specs.Indents.{indent, follow_up, room_of}
 use Rattle.mad_blocks.specs.Layouts.{AreRead}
-use Rattle.mad_format.specs.Lines.{bordered, rule_columns, AreCompositesRead, IsLineRead, is_table_line}
+use Rattle.mad_format.specs.FmtLines.{bordered, rule_columns, AreCompositesRead, IsLineRead, is_table_line}
 use Rattle.mad_layout.specs.PlainTables.{ArePlainCells, IsPlainTableLine}
 use Rattle.mad_layout.specs.Premises.{IsPlainRun, runs_text, IsPlainPrefix, IsPlainText, AreBordersShown, ArePlainIn, IsPlainContent, KeepsPremises}
 use Rattle.mad_rows.specs.Rows.{compound_piece, inner_columns, prefix_pieces, place_of, row_columns, rule_chars}
-use Rattle.mad_rows.specs.Styles.{line_rules, line_style}
+use Rattle.mad_rows.specs.RowStyles.{line_rules, line_style}
 use Rattle.mad_blocks.specs.Tables.{AreKeptWidths, in_column, IsBlankIn, columns_with, centered, columns_from, columns_count, columns_in, position_at, IsTop, IsLineAcross, AreDown, below, IsCellLaidOut, AreCellsLaidOut, IsRuleLaidOut, IsTableLineBy, AreTableLinesBy, IsTableLaidOutBy}
 use Rattle.mad_layout.specs.TableColumns.{kept_widths}
 use Rattle.mad_blocks.specs.TextParts.{LineInPart, aligns_at, lines_in}

@@ -16,7 +16,7 @@ use Rattle.mad_blocks.proofs.WrapKinds.{layout_fits, wrapped_at}
 use Rattle.mad_layout.proofs.HeadlineRows.{shown_across, took_more_at}
 use Rattle.mad_layout.proofs.RowChars.{line_chars}
 use Rattle.mad_layout.proofs.TextParts.{text_across}
-use Rattle.mad_rows.specs.Styles.{line_rules}
+use Rattle.mad_rows.specs.RowStyles.{line_rules}
 
 -- of drawable lines, so of a layout
 pub layout_shown : {T E : Type 0} (r : Result T E) (skin : RowSkin) (lines : List FmtLine) (area : Area) (scroll : ℕ) (old new : Trace) → IsWithinLimits area

@@ -4,13 +4,13 @@ use Rattle.std.specs.List.{AllByRecursion}
 use Rattle.std.proofs.lemmas.List.{length-map}
 use Rattle.mad_md.specs.Flagged.{FlaggedChar, flagged_of, is_blank}
 use Rattle.mad_md.specs.declared.compound.Compound.{Compound}
-use Rattle.mad_fit.specs.Columns.{width_of}
+use Rattle.mad_fit.specs.TextColumns.{width_of}
 use Rattle.mad_fit.specs.Tokens.{AreTokensOf, flagged_token}
 use Rattle.mad_fit.specs.declared.tokens.Token.{Token}
 use Rattle.mad_fit.proofs.AllLemmas.{all_front, all_back}
 use Rattle.mad_fit.proofs.FlaggedLemmas.{width_of-append}
 use Rattle.mad_fit.proofs.TokenTexts.{IsHonest, all_honest, some_flagged}
-use Rattle.mad_wrap.specs.Breaks.{LineAndGap, joined, total_width, AllBlank, FitsFrom, FittingBreak, EndsWithLine}
+use Rattle.mad_wrap.specs.Breaks.{LineAndGap, lines_and_gaps, total_width, AllBlank, FitsFrom, FittingBreak, EndsWithLine}
 use Rattle.mad_wrap.specs.Rooms.{token_limit}
 use Rattle.mad_layout.specs.FlaggedRows.{whole, IsFittingBreak}
 use Rattle.mad_wrap.specs.WrapLines.{LinesFit}
@@ -33,12 +33,12 @@ flagged_piece q = record { line = map flagged_token q.line; gap = map flagged_to
 same_piece : (p q : LineAndGap (List FlaggedChar)) → p.line ≡ q.line → p.gap ≡ q.gap → p ≡ q
 same_piece p q line gap = ap (λ l. record { line = l; gap = p.gap }) line ∙ ap (λ g. record { line = q.line; gap = g }) gap
 
-lift : (ps : List (LineAndGap (List FlaggedChar))) (ts : List Token) → map flagged_token ts ≡ joined ps → (qs : List (LineAndGap Token)) × (joined qs ≡ ts) × (map flagged_piece qs ≡ ps)
+lift : (ps : List (LineAndGap (List FlaggedChar))) (ts : List Token) → map flagged_token ts ≡ lines_and_gaps ps → (qs : List (LineAndGap Token)) × (lines_and_gaps qs ≡ ts) × (map flagged_piece qs ≡ ps)
 lift [] [] e = ([], refl, refl)
 lift [] (t ∷ ts) e = absurd (cc)
 lift (p ∷ ps) ts e =
-    let line = cut_first flagged_token p.line (p.gap ++ joined ps) ts e in
-    let gap = cut_first flagged_token p.gap (joined ps) line.1 line.4 in
+    let line = cut_first flagged_token p.line (p.gap ++ lines_and_gaps ps) ts e in
+    let gap = cut_first flagged_token p.gap (lines_and_gaps ps) line.1 line.4 in
     let more = lift ps gap.1 gap.4 in
     let q : LineAndGap Token = record { line = line.0; gap = gap.0 } in (
       q ∷ more.0,
@@ -63,14 +63,14 @@ blank_tokens max (t ∷ ts) h on =
     let rest : List FlaggedChar = whole (map flagged_token ts) in
     (blank_one t.blank (flagged_token t) (some_flagged t h.0.place) (all_front is (flagged_token t) rest on) h.0.alike.alike, blank_tokens max ts h.1 (all_back is (flagged_token t) rest on))
 
-fits_back : (max indent : ℕ) (r : Room) (qs : List (LineAndGap Token)) → AllByRecursion (IsHonest max) (joined qs) → LinesFit indent r (map (λ p. whole p.line) (map flagged_piece qs))
+fits_back : (max indent : ℕ) (r : Room) (qs : List (LineAndGap Token)) → AllByRecursion (IsHonest max) (lines_and_gaps qs) → LinesFit indent r (map (λ p. whole p.line) (map flagged_piece qs))
     → AllByRecursion (λ p. AllByRecursion (λ x. is_blank x ≡ true) (whole p.gap)) (map flagged_piece qs) → FitsFrom indent r qs
 fits_back max indent r [] honest fits dropped = tt
 fits_back max indent r (q ∷ qs) honest fits dropped =
     let is = IsHonest max in
-    let line = all_front is q.line (q.gap ++ joined qs) honest in
-    let behind = all_back is q.line (q.gap ++ joined qs) honest in
-    (omega (arith, fits.0, width_of-tokens max q.line line), blank_tokens max q.gap (all_front is q.gap (joined qs) behind) dropped.0, fits_back max r.other r qs (all_back is q.gap (joined qs) behind) fits.1 dropped.1)
+    let line = all_front is q.line (q.gap ++ lines_and_gaps qs) honest in
+    let behind = all_back is q.line (q.gap ++ lines_and_gaps qs) honest in
+    (omega (arith, fits.0, width_of-tokens max q.line line), blank_tokens max q.gap (all_front is q.gap (lines_and_gaps qs) behind) dropped.0, fits_back max r.other r qs (all_back is q.gap (lines_and_gaps qs) behind) fits.1 dropped.1)
 
 no_tokens : (ts : List Token) → map flagged_token ts ≡ [] → ts ≡ []
 no_tokens [] e = refl

@@ -8,7 +8,7 @@ use Rattle.std.proofs.lemmas.Str.{chars-nil}
 use Rattle.mad_columns.specs.Columns.{char_columns}
 use Rattle.mad_md.specs.Flagged.{FlaggedChar, flagged, flags_of, flagged_of, is_blank}
 use Rattle.mad_md.specs.declared.compound.Compound.{Compound}
-use Rattle.mad_fit.specs.Columns.{width_of}
+use Rattle.mad_fit.specs.TextColumns.{width_of}
 use Rattle.mad_fit.specs.Tokens.{StopsBefore, AreTokensFrom, AreTokensOf, flagged_token}
 use Rattle.mad_fit.specs.declared.tokens.Token.{Token}
 use Rattle.mad_fit.proofs.AllLemmas.{all_front, all_back}

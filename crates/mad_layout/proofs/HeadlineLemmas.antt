@@ -24,7 +24,7 @@ use Rattle.mad_layout.specs.declared.fmt_text.FmtText.{FmtText}
 use Rattle.mad_layout.proofs.DrawableLemmas.{layout_is_drawable}
 use Rattle.mad_blocks.proofs.WrapKinds.{wrapped_at}
 use Rattle.mad_layout.proofs.ReadParts.{in_parts_both}
-use Rattle.mad_rows.specs.Styles.{line_rules}
+use Rattle.mad_rows.specs.RowStyles.{line_rules}
 
 -- a text that was laid out for an area
 pub area_layout : {E : Type 0} (r : Result FmtText E) (skin : RowSkin) (markdown : List ℕ) (area : Area) (width : ℕ) → width ≡ area.width - 1

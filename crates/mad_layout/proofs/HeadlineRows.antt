@@ -14,7 +14,7 @@ use Rattle.mad_md.specs.Reading.{IsRead, unread_text}
 use Rattle.mad_fit.specs.Areas.{IsWithinLimits}
 use Rattle.mad_fit.specs.declared.area.Area.{Area}
 use Rattle.mad_draw.specs.Pieces.{PennedChar, penned_chars}
-use Rattle.mad_draw.specs.PennedCells.{penned_joined, penned_cells}
+use Rattle.mad_draw.specs.PennedCells.{penned_attached, penned_cells}
 use Rattle.mad_layout.specs.FlaggedTexts.{LineInPart, lines_in_parts, AreAcross}
 use Rattle.mad_blocks.specs.Fronts.{IsFrontLayout}
 use Rattle.mad_layout.specs.Headline.{cell_chars, AreShownAcross, ShowsFirstRows}
@@ -30,7 +30,7 @@ use Rattle.mad_blocks.proofs.WrapKinds.{wrapped_at}
 use Rattle.mad_layout.proofs.RowChars.{char_of, line_chars, spaces_chars}
 use Rattle.mad_layout.proofs.RowsAcross.{across_exist}
 use Rattle.mad_layout.proofs.TextParts.{text_across}
-use Rattle.mad_rows.specs.Styles.{line_rules}
+use Rattle.mad_rows.specs.RowStyles.{line_rules}
 
 -- ---- the characters of cells don't depend on pens
 
@@ -58,9 +58,9 @@ attach_same (suc k) pen other c a b h = (
       ∙ sym (map-append chars_of (glyphs (c ∷ b.0) k other) b.1),
 )
 
-joined_same : (cs : List PennedChar) → SameChars (penned_joined cs) (penned_joined (map plainly (map char_of cs)))
+joined_same : (cs : List PennedChar) → SameChars (penned_attached cs) (penned_attached (map plainly (map char_of cs)))
 joined_same [] = (refl, refl)
-joined_same (c ∷ cs) = attach_same (char_columns c.char) c.pen plain_pen c.char (penned_joined cs) (penned_joined (map plainly (map char_of cs))) (joined_same cs)
+joined_same (c ∷ cs) = attach_same (char_columns c.char) c.pen plain_pen c.char (penned_attached cs) (penned_attached (map plainly (map char_of cs))) (joined_same cs)
 
 cells_same : (cs : List PennedChar) (i : ℕ) → (get_or (penned_cells cs) i blank).chars ≡ cell_chars (map char_of cs) i
 cells_same cs i =

@@ -17,7 +17,7 @@ use Rattle.mad_style.specs.LineStyles.{margins_at}
 use Rattle.mad_layout.specs.Inlines.{IsInlineOf, IsDisplayedAsWritten, WritesInline}
 use Rattle.mad_draw.specs.Pieces.{RowPiece, pieces_bytes, spaces}
 use Rattle.mad_rows.specs.Rows.{align_in, place_of, left_of_place, right_of_place, inner_blanks, margins_of, prefix_pieces, compound_piece, composite_pieces, free_pieces, composite_bytes}
-use Rattle.mad_rows.specs.Styles.{line_style}
+use Rattle.mad_rows.specs.RowStyles.{line_style}
 use Rattle.mad_rows.specs.declared.row_skin.RowSkin.{RowSkin}
 use Rattle.mad_format.specs.declared.composite.FmtComposite.{FmtComposite}
 use Rattle.mad_rows.proofs.PieceLemmas.{pieces_of_runs}

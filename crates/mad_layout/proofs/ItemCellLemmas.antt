@@ -12,12 +12,12 @@ use Rattle.mad_md.specs.Lines.{StyledRuns, LineContent, table_row}
 use Rattle.mad_md.specs.Cells.{AreCells, IsCell, part_says}
 use Rattle.mad_md.specs.Inline.{byte}
 use Rattle.mad_md.specs.Parts.{HasNoNewline}
-use Rattle.mad_md.specs.Places.{StyledPlaces, PlacedLine, table_row_at, content_at}
+use Rattle.mad_md.specs.Places.{StyledPlaces, LinePlaces, table_row_at, content_at}
 use Rattle.mad_md.specs.Reading.{IsReading, IsRead, unread_text}
 use Rattle.mad_md.specs.declared.composite.CompositeStyle.TheVariants.{ListItem}
 use Rattle.mad_style.specs.Kinds.{kind_of}
 use Rattle.mad_widths.specs.ColumnWidths.{needs_of, column_widths}
-use Rattle.mad_fit.specs.Columns.{width_of}
+use Rattle.mad_fit.specs.TextColumns.{width_of}
 use Rattle.mad_layout.specs.ItemCells.{item_in_a_cell, hanging_skin, ItemInACellKeepsPremises}
 use Rattle.mad_layout.specs.Premises.{IsColumnChar, AreRuleChars, IsPlainText, AreBordersShown, ArePlainIn, KeepsPremises, runs_text}
 use Rattle.mad_rows.specs.Rows.{rule_chars}
@@ -45,7 +45,7 @@ item_read = table_row (item ∷ []) ∷ []
 abbrev item_place : StyledPlaces
 item_place = record { style = ListItem 0; places = record { flags = plain; start = 3; end = 7 } ∷ [] }
 
-abbrev item_placed : List PlacedLine
+abbrev item_placed : List LinePlaces
 item_placed = table_row_at (item_place ∷ []) ∷ []
 
 abbrev cell_text : List ℕ

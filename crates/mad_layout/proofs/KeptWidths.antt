@@ -8,12 +8,12 @@ use Rattle.mad_md.specs.Lines.{StyledRuns, LineContent, normal, table_row, table
 use Rattle.mad_style.specs.Kinds.{kind_of}
 use Rattle.mad_style.specs.declared.kinds.CompositeKind.{CompositeKind}
 use Rattle.mad_widths.specs.ColumnWidths.{needs_of, column_widths}
-use Rattle.mad_fit.specs.Columns.{width_of}
+use Rattle.mad_fit.specs.TextColumns.{width_of}
 use Rattle.mad_wrap.specs.WrapLines.{capped}
 use Rattle.mad_blocks.specs.TextParts.{is_table}
 use Rattle.mad_layout.specs.FlaggedTables.{count_in, columns_among, cell_columns, cells_among, down, kept_widths}
 use Rattle.mad_format.specs.Indents.{indent}
-use Rattle.mad_format.specs.Lines.{AreCompositesRead, IsLineRead, is_table_line}
+use Rattle.mad_format.specs.FmtLines.{AreCompositesRead, IsLineRead, is_table_line}
 use Rattle.mad_layout.specs.Premises.{runs_text}
 use Rattle.mad_blocks.specs.Tables.{below, rows_among, first_lengths, lengths_in, AreKeptWidths, columns_count, columns_in}
 use Rattle.mad_format.specs.Wraps.{text_of}
@@ -23,7 +23,7 @@ use Rattle.mad_format.specs.declared.line.FmtLine.{FmtLine}
 use Rattle.mad_format.specs.declared.line.FmtLine.TheVariants.{Normal, TableRow, TableRule, HorizontalRule}
 use Rattle.mad_layout.proofs.DrawnParts.{runs_are}
 use Rattle.mad_blocks.proofs.LayoutJoins.{by_bool}
-use Rattle.mad_rows.specs.Styles.{line_rules}
+use Rattle.mad_rows.specs.RowStyles.{line_rules}
 
 -- ---- what was read of a table
 

@@ -9,14 +9,14 @@ use Rattle.mad_columns.specs.Columns.{char_columns}
 use Rattle.mad_columns.proofs.CharColumns.{char_columns-ascii}
 use Rattle.mad_md.specs.Flagged.{plain, flagged}
 use Rattle.mad_md.specs.Lines.{StyledRuns, LineContent, normal, horizontal_rule}
-use Rattle.mad_md.specs.Places.{PlacedLine, normal_at, horizontal_rule_at, content_at}
+use Rattle.mad_md.specs.Places.{LinePlaces, normal_at, horizontal_rule_at, content_at}
 use Rattle.mad_md.specs.Reading.{IsReading, AreLines, unread_text}
 use Rattle.mad_md.specs.Inline.{byte}
 use Rattle.mad_md.specs.Parts.{AreParts, HasNoNewline, line_places}
 use Rattle.mad_md.specs.declared.composite.CompositeStyle.{CompositeStyle}
 use Rattle.mad_md.specs.declared.composite.CompositeStyle.TheVariants.{Header, Paragraph, ListItem, OrderedListItem, Code, Quote}
 use Rattle.mad_style.specs.Kinds.{kind_of}
-use Rattle.mad_fit.specs.Columns.{width_of}
+use Rattle.mad_fit.specs.TextColumns.{width_of}
 use Rattle.mad_format.specs.Indents.{indent}
 use Rattle.mad_layout.specs.Premises.{IsPlainPrefix, IsPlainText, KeepsPremises, inner_width, runs_text}
 use Rattle.mad_layout.specs.SeveralKinds.{ascii_skin, several_kinds, SeveralKindsKeepPremises}
@@ -35,29 +35,29 @@ kinds_read =
     ∷ normal (letter_line Quote 101) ∷ horizontal_rule ∷ normal (letter_line Code 102) ∷ []
 
 -- where they are
-abbrev at_place : CompositeStyle → ℕ → ℕ → PlacedLine
+abbrev at_place : CompositeStyle → ℕ → ℕ → LinePlaces
 at_place style start end = normal_at (record { style = style; places = record { flags = plain; start = start; end = end } ∷ [] })
 
 -- from each line on
-abbrev from_code : List PlacedLine
+abbrev from_code : List LinePlaces
 from_code = at_place Code 27 28 ∷ []
 
-abbrev from_rule : List PlacedLine
+abbrev from_rule : List LinePlaces
 from_rule = horizontal_rule_at ∷ from_code
 
-abbrev from_quote : List PlacedLine
+abbrev from_quote : List LinePlaces
 from_quote = at_place Quote 17 18 ∷ from_rule
 
-abbrev from_number : List PlacedLine
+abbrev from_number : List LinePlaces
 from_number = at_place (OrderedListItem 0 1) 13 14 ∷ from_quote
 
-abbrev from_item : List PlacedLine
+abbrev from_item : List LinePlaces
 from_item = at_place (ListItem 0) 8 9 ∷ from_number
 
-abbrev from_paragraph : List PlacedLine
+abbrev from_paragraph : List LinePlaces
 from_paragraph = at_place Paragraph 4 5 ∷ from_item
 
-abbrev kinds_placed : List PlacedLine
+abbrev kinds_placed : List LinePlaces
 kinds_placed = at_place (Header 1) 2 3 ∷ from_paragraph
 
 abbrev fence : List ℕ

@@ -2,7 +2,7 @@
 use Rattle.std.proofs.Common.{◌≡◌, ℕ, ◌+◌, ◌-◌, ◌<◌, ◌≤◌, ◌⊎◌, inl, inr, Bool, true, false, List, [], ◌∷◌, ◌++◌, length, Option, Some, None, if◌then◌else◌, nat_le, nat_lt, refl, ap, ◌∙◌, subst, arith}
 use Rattle.std.specs.List.{AllByRecursion}
 use Rattle.std.proofs.lemmas.Bool.Decides.{nat_tests}
-use Rattle.mad_wrap.specs.Breaks.{LineAndGap, joined}
+use Rattle.mad_wrap.specs.Breaks.{LineAndGap, lines_and_gaps}
 use Rattle.mad_wrap.specs.LineRoom.{left_of, fits_in, taken}
 use Rattle.mad_wrap.specs.declared.room.Room.{Room}
 
@@ -46,7 +46,7 @@ FitsFrom indent r (p ∷ ps) = (indent + total_width p.line ≤ r.width) × AllB
 
 pub record FittingBreak (r : Room) (ts : List Size) (ps : List (LineAndGap Size)) : Type 0 where
   pub some_line : 0 < length ps
-  pub covers : joined ps ≡ ts
+  pub covers : lines_and_gaps ps ≡ ts
   pub fits : FitsFrom r.first r ps
 
 abbrev pub place : Room → Placing → Size → Placing
@@ -138,12 +138,12 @@ piece_keeps r p rest s k n fits blank h =
     )
 
 break_keeps : (r : Room) (ps : List (LineAndGap Size)) (p : LineAndGap Size) (indent k : ℕ) (s : Placing) → FitsFrom indent r (p ∷ ps) → Ahead r s k (r.width - indent)
-    → (place_all r s (joined (p ∷ ps))).lines + 1 ≤ k + length (p ∷ ps)
+    → (place_all r s (lines_and_gaps (p ∷ ps))).lines + 1 ≤ k + length (p ∷ ps)
 break_keeps r [] p indent k s fits h =
     let done = piece_keeps r p [] s k (r.width - indent) (omega arith) fits.1 h in
     omega (arith, ap (λ (t : Placing). t.lines) done.1, done.2)
 break_keeps r (q ∷ ps) p indent k s fits h =
-    let done = piece_keeps r p (joined (q ∷ ps)) s k (r.width - indent) (omega arith) fits.1 h in
+    let done = piece_keeps r p (lines_and_gaps (q ∷ ps)) s k (r.width - indent) (omega arith) fits.1 h in
     let more = break_keeps r ps q r.other (k + 1) done.0 fits.2 (inl (omega (arith, done.2), omega (arith, fits.2.0))) in
     omega (arith, ap (λ (t : Placing). t.lines) done.1, more)
 

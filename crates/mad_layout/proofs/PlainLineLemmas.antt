@@ -15,7 +15,7 @@ use Rattle.mad_md.specs.ReadRaw.{raw_runs, plain_line}
 use Rattle.mad_md.specs.declared.compound.Compound.{Compound}
 use Rattle.mad_style.specs.LineStyles.{margins_at}
 use Rattle.mad_style.specs.declared.kinds.CompositeKind.TheVariants.{Paragraph}
-use Rattle.mad_fit.specs.Columns.{columns, width_of}
+use Rattle.mad_fit.specs.TextColumns.{columns, width_of}
 use Rattle.mad_fit.specs.Completions.{left_completion}
 use Rattle.mad_fit.proofs.AllLemmas.{all_push}
 use Rattle.mad_fit.proofs.FlaggedLemmas.{width_of-flagged}
@@ -28,12 +28,12 @@ use Rattle.mad_term.proofs.Traces.{took_both}
 use Rattle.mad_draw.specs.Pieces.{pieces_bytes, spaces}
 use Rattle.mad_format.specs.CompositeWraps.{IsCompositeWrap}
 use Rattle.mad_blocks.specs.Layouts.{IsLayoutAt}
-use Rattle.mad_format.specs.Lines.{IsLineRead}
-use Rattle.mad_blocks.specs.Parts.{wrap_width, IsLineAt}
+use Rattle.mad_format.specs.FmtLines.{IsLineRead}
+use Rattle.mad_blocks.specs.LayoutParts.{wrap_width, IsLineAt}
 use Rattle.mad_blocks.specs.PartCursors.{LaidPart}
 use Rattle.mad_layout.specs.PlainLines.{IsAlone, IsPlainWidth, HandsOnPlain}
 use Rattle.mad_rows.specs.Rows.{compound_piece, left_of_place, line_bytes, text_bytes}
-use Rattle.mad_rows.specs.Styles.{line_rules, compound_style, ellipsis_bytes}
+use Rattle.mad_rows.specs.RowStyles.{line_rules, compound_style, ellipsis_bytes}
 use Rattle.mad_format.specs.WrappedLines.{line_with}
 use Rattle.mad_layout.specs.WrittenParts.{HandsOn, WritesPartsOf}
 use Rattle.mad_rows.specs.declared.row_skin.RowSkin.{RowSkin}

@@ -12,14 +12,14 @@ use Rattle.mad_screen.specs.Painting.{IsPrinted, IsWhole, IsShown}
 use Rattle.mad_style.specs.declared.compound_styles.CompoundStyle.{CompoundStyle}
 use Rattle.mad_style.specs.declared.kinds.CompositeKind.{CompositeKind}
 use Rattle.mad_style.specs.declared.kinds.CompositeKind.TheVariants.{Paragraph, Header, ListItem, ListItemFollowUp, OrderedListItem, OrderedListItemFollowUp, Code, Quote}
-use Rattle.mad_fit.specs.Columns.{columns}
+use Rattle.mad_fit.specs.TextColumns.{columns}
 use Rattle.mad_fit.proofs.AllLemmas.{all_push, all_joined}
 use Rattle.mad_draw.specs.Pieces.{RowPiece, IsShownPiece, AreShownPieces, char_piece, pieces_columns, single_spaces}
 use Rattle.mad_draw.proofs.PieceLemmas.{columns-both, spaces_columns, shown_spaces}
 use Rattle.mad_format.specs.Indents.{follow_up, indent, later_indent, ordered_indent}
 use Rattle.mad_layout.specs.Premises.{IsPlainPrefix}
 use Rattle.mad_rows.specs.Rows.{number_piece, prefix_space, prefix_pieces}
-use Rattle.mad_rows.specs.Styles.{ordered_item_style}
+use Rattle.mad_rows.specs.RowStyles.{ordered_item_style}
 use Rattle.mad_rows.specs.declared.row_skin.RowSkin.{RowSkin}
 use Rattle.mad_layout.proofs.ColumnChars.{printed_char, column_piece, column_suffix}
 

@@ -10,8 +10,8 @@ use Rattle.mad_style.specs.Kinds.{kind_of}
 use Rattle.mad_blocks.specs.TextParts.{is_code, is_table, stand_together, in_front, text_parts}
 use Rattle.mad_layout.specs.FlaggedTexts.{LineInPart, aligns_at, lines_in, lines_in_parts}
 use Rattle.mad_blocks.specs.Layouts.{AreRead}
-use Rattle.mad_format.specs.Lines.{IsLineRead}
-use Rattle.mad_blocks.specs.Parts.{Part, table, block, single, is_code_kind, with_table, with_code, with_composite, parts_of}
+use Rattle.mad_format.specs.FmtLines.{IsLineRead}
+use Rattle.mad_blocks.specs.LayoutParts.{Part, table, block, single, is_code_kind, with_table, with_code, with_composite, parts_of}
 use Rattle.mad_rows.specs.declared.row_skin.RowSkin.{RowSkin}
 use Rattle.mad_format.specs.declared.composite.FmtComposite.{FmtComposite}
 use Rattle.mad_format.specs.declared.line.FmtLine.{FmtLine}
@@ -19,7 +19,7 @@ use Rattle.mad_format.specs.declared.line.FmtLine.TheVariants.{Normal, TableRow,
 use Rattle.mad_blocks.proofs.LayoutJoins.{by_bool}
 use Rattle.mad_layout.proofs.KeptWidths.{IsTableLineRead, AreTableRead}
 use Rattle.mad_blocks.proofs.PartLemmas.{raw_lines}
-use Rattle.mad_rows.specs.Styles.{line_rules}
+use Rattle.mad_rows.specs.RowStyles.{line_rules}
 
 -- ---- the parts of what was read are those of the text
 

@@ -26,10 +26,10 @@ use Rattle.mad_draw.specs.Pieces.{RowPiece, IsColumnPiece, char_piece, char_repe
 use Rattle.mad_draw.proofs.PieceLemmas.{ascii_spaces}
 use Rattle.mad_layout.specs.FlaggedLines.{widest_in, skin_char, front_of, placed_columns, row_across}
 use Rattle.mad_format.specs.Indents.{ordered_indent, later_indent}
-use Rattle.mad_blocks.specs.Parts.{is_code_kind}
+use Rattle.mad_blocks.specs.LayoutParts.{is_code_kind}
 use Rattle.mad_layout.specs.Premises.{IsPlainPrefix, inner_width}
 use Rattle.mad_rows.specs.Rows.{number_piece, prefix_space, prefix_pieces, compound_piece, composite_pieces, row_pieces, left_of_place, right_of_place, align_in, place_of, inner_blanks, outer_blanks}
-use Rattle.mad_rows.specs.Styles.{line_rules, line_style, ordered_item_style}
+use Rattle.mad_rows.specs.RowStyles.{line_rules, line_style, ordered_item_style}
 use Rattle.mad_format.specs.WrappedLines.{line_with}
 use Rattle.mad_format.specs.Wraps.{text_of, columns_of, IsMeasured}
 use Rattle.mad_rows.specs.declared.row_skin.RowSkin.{RowSkin}

@@ -9,7 +9,7 @@ use Rattle.mad_md.specs.Flagged.{flagged_text, flagged_of, flags_of}
 use Rattle.mad_style.specs.declared.compound_styles.CompoundStyle.{CompoundStyle}
 use Rattle.mad_style.specs.declared.line_styles.LineStyle.{LineStyle}
 use Rattle.mad_style.specs.LineStyles.{margins_at}
-use Rattle.mad_fit.specs.Columns.{columns, width_of}
+use Rattle.mad_fit.specs.TextColumns.{columns, width_of}
 use Rattle.mad_fit.specs.Completions.{left_completion}
 use Rattle.mad_fit.specs.declared.spacing.Spacing.{Spacing}
 use Rattle.mad_fit.proofs.AllLemmas.{all_joined}
@@ -21,7 +21,7 @@ use Rattle.mad_format.specs.declared.composite.FmtComposite.{FmtComposite}
 use Rattle.mad_format.specs.declared.line.FmtLine.TheVariants.{Normal}
 use Rattle.mad_layout.specs.Drawable.{FillsItsPlace, IsDrawable}
 use Rattle.mad_rows.specs.Rows.{compound_piece, prefix_pieces, left_of_place, right_of_place, align_in, place_of, inner_columns, inner_blanks, outer_blanks, margins_of, composite_pieces, line_pieces}
-use Rattle.mad_rows.specs.Styles.{line_style}
+use Rattle.mad_rows.specs.RowStyles.{line_style}
 
 -- ---- compounds
 

@@ -10,7 +10,7 @@ use Rattle.mad_style.specs.Kinds.{kind_of}
 use Rattle.mad_style.specs.LineStyles.{margins_at}
 use Rattle.mad_style.specs.declared.kinds.CompositeKind.{CompositeKind}
 use Rattle.mad_style.specs.declared.kinds.CompositeKind.TheVariants.{Paragraph, Header, ListItem, ListItemFollowUp, OrderedListItem, OrderedListItemFollowUp, Code, Quote}
-use Rattle.mad_fit.specs.Columns.{width_of}
+use Rattle.mad_fit.specs.TextColumns.{width_of}
 use Rattle.mad_fit.specs.declared.area.Area.{Area}
 use Rattle.mad_fit.specs.declared.spacing.Spacing.{Spacing}
 use Rattle.mad_wrap.specs.Keeps.{Keeps}
@@ -23,10 +23,10 @@ use Rattle.mad_layout.specs.FlaggedTexts.{IsAcross, AreAcross}
 use Rattle.mad_layout.specs.FlaggedRows.{AreRowsOf}
 use Rattle.mad_layout.specs.FlaggedTables.{kept_widths, columns_below, rows_in_column, CellInColumn, AreInColumns, rows_down, most_rows, table_across, IsRowAcross, rule_across}
 use Rattle.mad_format.specs.Indents.{indent, follow_up, room_of}
-use Rattle.mad_format.specs.Lines.{bordered}
-use Rattle.mad_blocks.specs.Parts.{is_code_kind, IsLineAt, AreLinesAt}
+use Rattle.mad_format.specs.FmtLines.{bordered}
+use Rattle.mad_blocks.specs.LayoutParts.{is_code_kind, IsLineAt, AreLinesAt}
 use Rattle.mad_layout.specs.Premises.{IsPlainPrefix, IsPlainText, IsPlainContent, KeepsPremises, inner_width, runs_text}
-use Rattle.mad_rows.specs.Styles.{line_rules, line_style}
+use Rattle.mad_rows.specs.RowStyles.{line_rules, line_style}
 use Rattle.mad_blocks.specs.TextParts.{LineInPart}
 use Rattle.mad_format.specs.WrappedLines.{style_margins, line_with, IsLaidOutBy}
 use Rattle.mad_format.specs.Wraps.{text_of, columns_of, IsMeasured}

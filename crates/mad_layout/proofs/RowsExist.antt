@@ -8,10 +8,10 @@ use Rattle.std.proofs.lemmas.List.{append-nil, length-map, map-append}
 use Rattle.std.proofs.lemmas.List.Concat.{flat_map-append}
 use Rattle.mad_columns.specs.Columns.{char_columns}
 use Rattle.mad_md.specs.Flagged.{FlaggedChar, is_blank}
-use Rattle.mad_fit.specs.Columns.{width_of}
+use Rattle.mad_fit.specs.TextColumns.{width_of}
 use Rattle.mad_fit.proofs.AllLemmas.{all_front, all_back, all_joined}
 use Rattle.mad_fit.proofs.FlaggedLemmas.{width_of-append}
-use Rattle.mad_wrap.specs.Breaks.{LineAndGap, joined}
+use Rattle.mad_wrap.specs.Breaks.{LineAndGap, lines_and_gaps}
 use Rattle.mad_wrap.specs.Keeps.{Keeps, AllWhite}
 use Rattle.mad_wrap.specs.LineRoom.{left_of, fits_in, taken}
 use Rattle.mad_wrap.specs.Rooms.{most_indent, token_limit}
@@ -92,7 +92,7 @@ abbrev pub WhiteGaps : List (LineAndGap (List FlaggedChar)) → Type 0
 WhiteGaps ps = AllByRecursion (λ p. AllWhite (whole p.gap)) ps
 
 abbrev Broken : List (List FlaggedChar) → List (List FlaggedChar) → Type 0
-Broken ts rs = (ps : List (LineAndGap (List FlaggedChar))) × (joined ps ≡ ts) × (map line_text ps ≡ rs) × WhiteGaps ps
+Broken ts rs = (ps : List (LineAndGap (List FlaggedChar))) × (lines_and_gaps ps ≡ ts) × (map line_text ps ≡ rs) × WhiteGaps ps
 
 whole_more : (ts : List (List FlaggedChar)) (t : List FlaggedChar) → whole (ts ++ t ∷ []) ≡ whole ts ++ t
 whole_more ts t = flat_map-append (λ (t : List FlaggedChar). t) ts (t ∷ []) ∙ ap (λ l. whole ts ++ l) (append-nil t)
@@ -198,10 +198,10 @@ rows_count r k i line false (t ∷ ts) =
 abbrev size_piece : LineAndGap (List FlaggedChar) → LineAndGap Size
 size_piece p = record { line = map size p.line; gap = map size p.gap }
 
-sizes_joined : (ps : List (LineAndGap (List FlaggedChar))) → joined (map size_piece ps) ≡ map size (joined ps)
+sizes_joined : (ps : List (LineAndGap (List FlaggedChar))) → lines_and_gaps (map size_piece ps) ≡ map size (lines_and_gaps ps)
 sizes_joined [] = refl
 sizes_joined (p ∷ ps) =
-    sym (map-append size p.line (p.gap ++ joined ps) ∙ ap (λ l. map size p.line ++ l) (map-append size p.gap (joined ps)) ∙ ap (λ l. map size p.line ++ (map size p.gap ++ l)) (sym (sizes_joined ps)))
+    sym (map-append size p.line (p.gap ++ lines_and_gaps ps) ∙ ap (λ l. map size p.line ++ l) (map-append size p.gap (lines_and_gaps ps)) ∙ ap (λ l. map size p.line ++ (map size p.gap ++ l)) (sym (sizes_joined ps)))
 
 sizes_wide : (ts : List (List FlaggedChar)) → total_width (map size ts) ≡ width_of (whole ts)
 sizes_wide [] = refl

@@ -6,7 +6,7 @@ use Rattle.std.specs.Str.{chars}
 use Rattle.mad_md.specs.declared.alignment.Alignment.{Alignment}
 use Rattle.mad_style.specs.StyledChars.{styled_char}
 use Rattle.mad_style.specs.declared.compound_styles.CompoundStyle.{CompoundStyle}
-use Rattle.mad_fit.specs.Columns.{columns}
+use Rattle.mad_fit.specs.TextColumns.{columns}
 use Rattle.mad_fit.specs.Completions.{left_completion}
 use Rattle.mad_fit.proofs.AllLemmas.{all_joined}
 use Rattle.mad_draw.specs.Pieces.{RowPiece, AreShownPieces, IsColumnPiece, IsShownPiece, pieces_columns, spaces}
@@ -19,7 +19,7 @@ use Rattle.mad_format.specs.declared.composite.FmtComposite.{FmtComposite}
 use Rattle.mad_format.specs.declared.line.FmtLine.{FmtLine}
 use Rattle.mad_format.specs.declared.line.FmtLine.TheVariants.{Normal, TableRow, TableRule, HorizontalRule}
 use Rattle.mad_layout.specs.Drawable.{AreShownChars, FillsItsPlace, IsDrawableLine}
-use Rattle.mad_format.specs.Lines.{bordered, rule_columns}
+use Rattle.mad_format.specs.FmtLines.{bordered, rule_columns}
 use Rattle.mad_rows.specs.Rows.{cell_pieces, composite_pieces, inner_columns, left_of_place, line_pieces, placed_pieces, right_of_place, row_columns, rule_chars, vertical_piece}
 use Rattle.mad_layout.proofs.RowLemmas.{cell_columns, cell_shown, left_completion-le, line_columns, line_shown}
 

@@ -6,7 +6,7 @@ use Rattle.mad_md.specs.declared.alignment.Alignment.{Alignment}
 use Rattle.mad_style.specs.Kinds.{kind_of}
 use Rattle.mad_style.specs.LineStyles.{margins_at}
 use Rattle.mad_style.specs.declared.kinds.CompositeKind.{CompositeKind}
-use Rattle.mad_fit.specs.Columns.{width_of}
+use Rattle.mad_fit.specs.TextColumns.{width_of}
 use Rattle.mad_fit.specs.declared.area.Area.{Area}
 use Rattle.mad_format.specs.CompositeWraps.{IsCompositeWrap}
 use Rattle.mad_layout.specs.FlaggedLines.{widest_in}
@@ -14,10 +14,10 @@ use Rattle.mad_blocks.specs.TextParts.{is_code, is_table, text_parts}
 use Rattle.mad_layout.specs.FlaggedTexts.{lines_in, lines_in_parts}
 use Rattle.mad_format.specs.Indents.{indent}
 use Rattle.mad_blocks.proofs.WideLayouts.{IsLayout}
-use Rattle.mad_format.specs.Lines.{IsLineRead, IsCompositeRead}
-use Rattle.mad_blocks.specs.Parts.{Part, table, block, single, is_code_kind, parts_of, widest, placed_code, ArePartsAt}
+use Rattle.mad_format.specs.FmtLines.{IsLineRead, IsCompositeRead}
+use Rattle.mad_blocks.specs.LayoutParts.{Part, table, block, single, is_code_kind, parts_of, widest, placed_code, ArePartsAt}
 use Rattle.mad_layout.specs.Premises.{KeepsPremises, inner_width, runs_text}
-use Rattle.mad_rows.specs.Styles.{line_rules, line_style}
+use Rattle.mad_rows.specs.RowStyles.{line_rules, line_style}
 use Rattle.mad_format.specs.Wraps.{text_of}
 use Rattle.mad_rows.specs.declared.row_skin.RowSkin.{RowSkin}
 use Rattle.mad_format.specs.declared.composite.FmtComposite.{FmtComposite}

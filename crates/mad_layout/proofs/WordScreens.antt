@@ -17,7 +17,7 @@ use Rattle.mad_screen.specs.Terminal.{after_bytes}
 use Rattle.mad_style.specs.declared.kinds.CompositeKind.{CompositeKind}
 use Rattle.mad_style.specs.declared.kinds.CompositeKind.TheVariants.{Paragraph}
 use Rattle.mad_style.specs.LineStyles.{margins_at}
-use Rattle.mad_fit.specs.Columns.{width_of}
+use Rattle.mad_fit.specs.TextColumns.{width_of}
 use Rattle.mad_fit.specs.declared.area.Area.{Area}
 use Rattle.mad_draw.specs.DrawnRows.{IsOnScreen, rows_bytes, rows_from}
 use Rattle.mad_draw.specs.Pieces.{RowPiece, PennedChar, AreKnown, penned_chars, spaces}
@@ -34,13 +34,13 @@ use Rattle.std.proofs.lemmas.Str.{chars-IsAscii, IsUtf8-from_ascii}
 use Rattle.std.proofs.lemmas.Str.Ascii.{IsAscii-cons, IsAscii-nil}
 use Rattle.unicode_width.specs.Width.{char_width}
 use Rattle.mad_columns.specs.Columns.{char_columns}
-use Rattle.mad_draw.specs.PennedCells.{penned_cells, penned_joined}
+use Rattle.mad_draw.specs.PennedCells.{penned_cells, penned_attached}
 use Rattle.mad_format.specs.Indents.{indent}
 use Rattle.mad_format.specs.CompositeWraps.{IsCompositeWrap}
 use Rattle.mad_blocks.specs.Fronts.{IsFrontLayout}
 use Rattle.mad_blocks.specs.Layouts.{AreRead}
 use Rattle.mad_blocks.proofs.WideLayouts.{IsLayout}
-use Rattle.mad_blocks.specs.Parts.{Part, single, is_code_kind, with_composite, parts_of, ArePartsAt}
+use Rattle.mad_blocks.specs.LayoutParts.{Part, single, is_code_kind, with_composite, parts_of, ArePartsAt}
 use Rattle.mad_layout.specs.Premises.{runs_text}
 use Rattle.mad_rows.specs.Rows.{run_piece, line_pieces}
 use Rattle.mad_layout.specs.Shown.{text_row, AreShownIn}
@@ -48,7 +48,7 @@ use Rattle.mad_layout.specs.Skins.{no_style_skin}
 use Rattle.mad_layout.specs.declared.skin.MadSkin.{MadSkin}
 use Rattle.mad_layout.specs.RowSkins.{row_skin}
 use Rattle.mad_layout.specs.Sources.{LinesTakeColumns, ShowsSource}
-use Rattle.mad_rows.specs.Styles.{line_rules, line_style}
+use Rattle.mad_rows.specs.RowStyles.{line_rules, line_style}
 use Rattle.mad_layout.specs.Words.{corner, words, word_area, SpacesAreNoText, word_skin}
 use Rattle.mad_format.specs.WrappedLines.{IsLaidOutBy, line_with}
 use Rattle.mad_format.specs.Wraps.{text_of}
@@ -132,7 +132,7 @@ first_cell tail =
     let pen : Look = look_of_style (run_piece word_skin (line_style word_skin Paragraph) word_run).style in
     let rest : List PennedChar = map (λ c. record { char = c; pen = pen }) (97 ∷ 32 ∷ 98 ∷ 98 ∷ 32 ∷ 99 ∷ 99 ∷ []) ++ penned_chars tail in
     ap (λ (cs : List ℕ). get_or (penned_cells (map (λ c. record { char = c; pen = pen }) cs ++ penned_chars tail)) 0 blank) spelled
-    ∙ ap (λ (n : ℕ). get_or (attach (Some n) pen 97 (attach (Some n) pen 97 (penned_joined rest))).1 0 blank) one_a
+    ∙ ap (λ (n : ℕ). get_or (attach (Some n) pen 97 (attach (Some n) pen 97 (penned_attached rest))).1 0 blank) one_a
 
 abbrev laid_line : FmtComposite → FmtComposite
 laid_line l = record { kind = Paragraph; compounds = l.compounds; visible_length = 9; spacing = None; margins = Some (0, 0) }

@@ -8,12 +8,12 @@ use Rattle.std.proofs.lemmas.List.{append-nil, map-append, length-map}
 use Rattle.std.proofs.lemmas.Str.{chars-nil}
 use Rattle.mad_md.specs.Flagged.{FlaggedChar, Flags, is_blank, flagged, run_of, flags_of, flagged_of, flagged_text}
 use Rattle.mad_md.specs.declared.compound.Compound.{Compound}
-use Rattle.mad_fit.specs.Columns.{width_of}
+use Rattle.mad_fit.specs.TextColumns.{width_of}
 use Rattle.mad_fit.specs.Tokens.{flagged_token, tokens_text, AreTokensOf}
 use Rattle.mad_fit.specs.declared.tokens.Token.{Token}
 use Rattle.mad_fit.proofs.AllLemmas.{all_front, all_back, all_joined}
 use Rattle.mad_fit.proofs.TokenTexts.{IsHonest, all_honest}
-use Rattle.mad_wrap.specs.Breaks.{LineAndGap, joined, AllBlank}
+use Rattle.mad_wrap.specs.Breaks.{LineAndGap, lines_and_gaps, AllBlank}
 use Rattle.mad_wrap.specs.CleanCut.{clean_cut, drops_middle, is_white, both_fit}
 use Rattle.mad_wrap.specs.Keeps.{Keeps, AllWhite}
 use Rattle.mad_wrap.specs.LeastWrap.{IsWrap}
@@ -36,10 +36,10 @@ whole_parts (p ∷ ps) = ap (λ l. flagged_of p ++ l) (whole_parts ps)
 -- ---- where they break
 
 -- the tokens of a break as flagged text
-flagged_joined : (qs : List (LineAndGap Token)) → joined (map flagged_piece qs) ≡ map flagged_token (joined qs)
+flagged_joined : (qs : List (LineAndGap Token)) → lines_and_gaps (map flagged_piece qs) ≡ map flagged_token (lines_and_gaps qs)
 flagged_joined [] = refl
 flagged_joined (q ∷ qs) =
-    sym (map-append flagged_token q.line (q.gap ++ joined qs) ∙ ap (λ l. map flagged_token q.line ++ l) (map-append flagged_token q.gap (joined qs))
+    sym (map-append flagged_token q.line (q.gap ++ lines_and_gaps qs) ∙ ap (λ l. map flagged_token q.line ++ l) (map-append flagged_token q.gap (lines_and_gaps qs))
     ∙ ap (λ l. map flagged_token q.line ++ (map flagged_token q.gap ++ l)) (sym (flagged_joined qs)))
 
 tokens_whole : (ts : List Token) → whole (map flagged_token ts) ≡ tokens_text ts
@@ -62,11 +62,11 @@ white_tokens max [] honest blank = tt
 white_tokens max (t ∷ ts) honest blank =
     all_joined (λ (x : FlaggedChar). is_whitespace x.char ≡ true) (flagged_token t) (whole (map flagged_token ts)) (white_chars t.blank (flagged_token t) honest.0.alike.alike blank.0) (white_tokens max ts honest.1 blank.1)
 
-white_gaps : (max indent : ℕ) (r : Room) (qs : List (LineAndGap Token)) → AllByRecursion (IsHonest max) (joined qs) → GapsForced indent r qs → WhiteGaps (map flagged_piece qs)
+white_gaps : (max indent : ℕ) (r : Room) (qs : List (LineAndGap Token)) → AllByRecursion (IsHonest max) (lines_and_gaps qs) → GapsForced indent r qs → WhiteGaps (map flagged_piece qs)
 white_gaps max indent r [] honest gaps = tt
 white_gaps max indent r (q ∷ qs) honest gaps =
-    let behind = all_back (IsHonest max) q.line (q.gap ++ joined qs) honest in
-    (white_tokens max q.gap (all_front (IsHonest max) q.gap (joined qs) behind) gaps.0, white_gaps max r.other r qs (all_back (IsHonest max) q.gap (joined qs) behind) gaps.2)
+    let behind = all_back (IsHonest max) q.line (q.gap ++ lines_and_gaps qs) honest in
+    (white_tokens max q.gap (all_front (IsHonest max) q.gap (lines_and_gaps qs) behind) gaps.0, white_gaps max r.other r qs (all_back (IsHonest max) q.gap (lines_and_gaps qs) behind) gaps.2)
 
 -- a placing is broken at tokens
 placed_broken : (r : Room) (ps : List Compound) (ts : List Token) (rows : List (List FlaggedChar)) → AreTokensOf (token_limit r) ps ts → ArePlaced r ts rows → AreBroken r (map flagged_of ps) rows

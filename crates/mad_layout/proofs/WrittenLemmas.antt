@@ -14,7 +14,7 @@ use Rattle.mad_blocks.specs.TextParts.{text_parts}
 use Rattle.mad_format.specs.declared.line.FmtLine.{FmtLine}
 use Rattle.mad_blocks.proofs.LayoutJoins.{apart_parts}
 use Rattle.mad_blocks.proofs.PartCursorLemmas.{LaidSoFar, laid_none}
-use Rattle.mad_rows.specs.Styles.{line_rules}
+use Rattle.mad_rows.specs.RowStyles.{line_rules}
 use Rattle.mad_rows.specs.Rows.{line_bytes, text_bytes}
 use Rattle.mad_rows.proofs.PieceLemmas.{rows_with}
 use Rattle.mad_layout.specs.WrittenParts.{WritesPartsOf, HandsOn}

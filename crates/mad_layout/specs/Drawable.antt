@@ -7,12 +7,12 @@ use Rattle.mad_format.specs.declared.line.FmtLine.{FmtLine}
 use Rattle.mad_format.specs.declared.line.FmtLine.TheVariants.{Normal, TableRow, TableRule, HorizontalRule}
 use Rattle.mad_format.specs.declared.table.FmtTableRule.{FmtTableRule}
 use Rattle.mad_format.specs.Indents.{indent}
-use Rattle.mad_format.specs.Lines.{rule_columns}
+use Rattle.mad_format.specs.FmtLines.{rule_columns}
 use Rattle.mad_draw.specs.Pieces.{AreShownPieces, IsColumnPiece, char_piece, pieces_columns}
 use Rattle.mad_draw.specs.TableRules.{border_piece}
 use Rattle.mad_draw.specs.declared.table_rules.RuleChars.{RuleChars}
 use Rattle.mad_rows.specs.Rows.{prefix_pieces, compound_piece, inner_columns, row_columns, vertical_piece, rule_chars}
-use Rattle.mad_rows.specs.Styles.{line_rules, line_style}
+use Rattle.mad_rows.specs.RowStyles.{line_rules, line_style}
 use Rattle.mad_format.specs.Wraps.{columns_of}
 
 -- A composite that fills its own place, if it has one: its cached length is right and within the place, its prefix and its compounds are

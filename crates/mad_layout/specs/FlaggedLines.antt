@@ -8,13 +8,13 @@ use Rattle.mad_style.specs.LineStyles.{margins_at}
 use Rattle.mad_style.specs.StyledChars.{char_alone}
 use Rattle.mad_style.specs.declared.kinds.CompositeKind.{CompositeKind}
 use Rattle.mad_style.specs.declared.kinds.CompositeKind.TheVariants.{ListItem, OrderedListItem, Quote}
-use Rattle.mad_fit.specs.Columns.{width_of}
+use Rattle.mad_fit.specs.TextColumns.{width_of}
 use Rattle.mad_fit.specs.Completions.{left_completion}
 use Rattle.mad_fit.specs.declared.area.Area.{Area}
 use Rattle.mad_format.specs.Indents.{indent, follow_up}
-use Rattle.mad_blocks.specs.Parts.{is_code_kind}
+use Rattle.mad_blocks.specs.LayoutParts.{is_code_kind}
 use Rattle.mad_layout.specs.LineTexts.{inner_width, runs_text}
-use Rattle.mad_rows.specs.Styles.{line_style, index_suffix}
+use Rattle.mad_rows.specs.RowStyles.{line_style, index_suffix}
 use Rattle.mad_rows.specs.declared.row_skin.RowSkin.{RowSkin}
 
 -- a line between its marks: parts of characters with the same flags

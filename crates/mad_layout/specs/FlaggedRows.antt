@@ -3,8 +3,8 @@ use Rattle.std.specs.Prelude.{◌≡◌, ℕ, ◌+◌, ◌<◌, ◌≤◌, Bool,
 use Rattle.std.specs.List.{AllByRecursion, flat_map}
 use Rattle.mad_columns.specs.Columns.{char_columns}
 use Rattle.mad_md.specs.Flagged.{FlaggedChar, is_blank}
-use Rattle.mad_fit.specs.Columns.{width_of}
-use Rattle.mad_wrap.specs.Breaks.{LineAndGap, EndsWithLine, joined}
+use Rattle.mad_fit.specs.TextColumns.{width_of}
+use Rattle.mad_wrap.specs.Breaks.{LineAndGap, EndsWithLine, lines_and_gaps}
 use Rattle.mad_wrap.specs.Keeps.{Keeps, AllWhite}
 use Rattle.mad_wrap.specs.Rooms.{token_limit}
 use Rattle.mad_wrap.specs.WrapLines.{HasRoom, LinesFit}
@@ -32,7 +32,7 @@ tokens_of r parts = flat_map (tokens_from (token_limit r) []) parts
 -- A fitting break of a line: its tokens in order on lines that fit, with only blanks dropped, and these between two lines.
 pub record IsFittingBreak (r : Room) (parts : List (List FlaggedChar)) (breaks : List (LineAndGap (List FlaggedChar))) : Type 0 where
   pub some : 0 < length breaks
-  pub covers : joined breaks ≡ tokens_of r parts
+  pub covers : lines_and_gaps breaks ≡ tokens_of r parts
   pub fits : LinesFit r.first r (map (λ p. whole p.line) breaks)
   pub dropped : AllByRecursion (λ p. AllByRecursion (λ x. is_blank x ≡ true) (whole p.gap)) breaks
   pub ends : EndsWithLine breaks
@@ -41,7 +41,7 @@ pub record IsFittingBreak (r : Room) (parts : List (List FlaggedChar)) (breaks :
 pub record AreBroken (r : Room) (parts rows : List (List FlaggedChar)) : Type 0 where
   pub breaks : List (LineAndGap (List FlaggedChar))
   pub some : 0 < length breaks
-  pub covers : joined breaks ≡ tokens_of r parts
+  pub covers : lines_and_gaps breaks ≡ tokens_of r parts
   pub rows_are : map (λ p. whole p.line) breaks ≡ rows
   pub dropped : AllByRecursion (λ p. AllWhite (whole p.gap)) breaks
 

@@ -5,7 +5,7 @@ use Rattle.mad_md.specs.Flagged.{FlaggedChar}
 use Rattle.mad_md.specs.Lines.{StyledRuns}
 use Rattle.mad_style.specs.Kinds.{kind_of}
 use Rattle.mad_style.specs.declared.kinds.CompositeKind.{CompositeKind}
-use Rattle.mad_fit.specs.Columns.{width_of}
+use Rattle.mad_fit.specs.TextColumns.{width_of}
 use Rattle.mad_fit.specs.Completions.{left_completion}
 use Rattle.mad_fit.specs.declared.area.Area.{Area}
 use Rattle.mad_fit.specs.declared.spacing.Spacing.{Spacing}
@@ -13,13 +13,13 @@ use Rattle.mad_draw.specs.declared.table_rules.RuleChars.{RuleChars}
 use Rattle.mad_layout.specs.FlaggedLines.{skin_char, front_of, marked_parts}
 use Rattle.mad_layout.specs.FlaggedRows.{AreRowsOf}
 use Rattle.mad_format.specs.Indents.{indent, follow_up, room_of}
-use Rattle.mad_format.specs.Lines.{bordered, rule_columns}
+use Rattle.mad_format.specs.FmtLines.{bordered, rule_columns}
 use Rattle.mad_rows.specs.Rows.{rule_chars}
 pub use Rattle.mad_layout.specs.TableColumns.{cell_columns, cells_among, down, kept_widths, columns_below}
 pub use Rattle.mad_blocks.specs.TextParts.{count_in, columns_among}
 use Rattle.mad_rows.specs.declared.row_skin.RowSkin.{RowSkin}
 use Rattle.mad_format.specs.declared.table.RelativePosition.{RelativePosition}
-use Rattle.mad_rows.specs.Styles.{line_rules}
+use Rattle.mad_rows.specs.RowStyles.{line_rules}
 
 -- ---- cells in their columns
 

@@ -13,7 +13,7 @@ use Rattle.mad_format.specs.Indents.{room_of}
 use Rattle.mad_layout.specs.LineTexts.{inner_width}
 pub use Rattle.mad_blocks.specs.TextParts.{LineInPart, aligns_at, position_in, lines_in, lines_in_parts}
 use Rattle.mad_rows.specs.declared.row_skin.RowSkin.{RowSkin}
-use Rattle.mad_rows.specs.Styles.{line_rules}
+use Rattle.mad_rows.specs.RowStyles.{line_rules}
 
 -- These are the rows of a line across an area.
 abbrev pub IsAcross : RowSkin → Area → LineInPart → LineContent → List (List ℕ) → Type 0

@@ -14,7 +14,7 @@ use Rattle.mad_layout.specs.Shown.{area_bytes, AreShownIn}
 use Rattle.mad_blocks.specs.TextParts.{lines_in_parts}
 use Rattle.mad_rows.specs.declared.row_skin.RowSkin.{RowSkin}
 use Rattle.mad_format.specs.declared.line.FmtLine.{FmtLine}
-use Rattle.mad_rows.specs.Styles.{line_rules}
+use Rattle.mad_rows.specs.RowStyles.{line_rules}
 
 -- The lines are a layout of the text for an area, one column narrower than the area. Each line's wrap is a least one.
 pub record IsAreaLayout (skin : RowSkin) (markdown : List ℕ) (area : Area) (lines : List FmtLine) : Type 0 where

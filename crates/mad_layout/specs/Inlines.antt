@@ -10,10 +10,10 @@ use Rattle.mad_draw.specs.Pieces.{pieces_bytes}
 use Rattle.mad_rows.specs.Rows.{composite_pieces, free_pieces, margins_of}
 use Rattle.mad_md.specs.ReadInline.{IsReadInline}
 use Rattle.mad_style.specs.declared.kinds.CompositeKind.TheVariants.{Paragraph}
-use Rattle.mad_format.specs.Lines.{IsReadAs}
+use Rattle.mad_format.specs.FmtLines.{IsReadAs}
 use Rattle.mad_rows.specs.declared.row_skin.RowSkin.{RowSkin}
 use Rattle.mad_format.specs.declared.composite.FmtComposite.{FmtComposite}
-use Rattle.mad_rows.specs.Styles.{line_rules}
+use Rattle.mad_rows.specs.RowStyles.{line_rules}
 
 -- the line of text as a paragraph, its marks read
 abbrev pub IsInlineOf : RowSkin → List ℕ → FmtComposite → Type 0

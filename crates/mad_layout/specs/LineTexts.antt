@@ -6,7 +6,7 @@ use Rattle.mad_md.specs.Flagged.{FlaggedChar, Run, flagged}
 use Rattle.mad_md.specs.Lines.{StyledRuns}
 use Rattle.mad_style.specs.Kinds.{kind_of}
 use Rattle.mad_style.specs.LineStyles.{margins_at}
-use Rattle.mad_rows.specs.Styles.{line_style}
+use Rattle.mad_rows.specs.RowStyles.{line_style}
 use Rattle.mad_rows.specs.declared.row_skin.RowSkin.{RowSkin}
 
 -- the flagged text of runs

@@ -8,13 +8,13 @@ use Rattle.mad_term.specs.Styles.{IsPlain}
 use Rattle.mad_term.specs.Trace.{Trace}
 use Rattle.mad_term.specs.declared.errors.Error.{Error}
 use Rattle.mad_blocks.specs.Layouts.{IsLayoutAt}
-use Rattle.mad_blocks.specs.Parts.{wrap_width}
+use Rattle.mad_blocks.specs.LayoutParts.{wrap_width}
 use Rattle.mad_rows.specs.Rows.{text_bytes}
 use Rattle.mad_blocks.specs.TextParts.{is_code, is_table}
 use Rattle.mad_layout.specs.WrittenParts.{HandsOn}
 use Rattle.mad_rows.specs.declared.row_skin.RowSkin.{RowSkin}
 use Rattle.mad_format.specs.declared.line.FmtLine.{FmtLine}
-use Rattle.mad_rows.specs.Styles.{line_rules}
+use Rattle.mad_rows.specs.RowStyles.{line_rules}
 
 -- Paragraphs of at most `most` columns are rows by themselves, which stand left, without margins, and in no style.
 pub record IsPlainWidth (skin : RowSkin) (width : Option ℕ) (most : ℕ) : Type 0 where

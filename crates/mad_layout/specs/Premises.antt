@@ -11,12 +11,12 @@ use Rattle.mad_columns.specs.Columns.{char_columns}
 use Rattle.mad_screen.specs.Painting.{IsPrinted}
 use Rattle.mad_style.specs.Kinds.{kind_of}
 use Rattle.mad_style.specs.StyledChars.{char_alone}
-use Rattle.mad_fit.specs.Columns.{width_of}
+use Rattle.mad_fit.specs.TextColumns.{width_of}
 use Rattle.mad_format.specs.Indents.{indent, room_of}
 pub use Rattle.mad_layout.specs.LineTexts.{runs_text, inner_width}
 use Rattle.mad_draw.specs.declared.table_rules.RuleChars.{RuleChars}
 use Rattle.mad_rows.specs.Rows.{rule_chars}
-use Rattle.mad_rows.specs.Styles.{line_rules, index_suffix}
+use Rattle.mad_rows.specs.RowStyles.{line_rules, index_suffix}
 use Rattle.mad_layout.specs.TableColumns.{kept_widths}
 use Rattle.mad_blocks.specs.TextParts.{LineInPart}
 use Rattle.mad_format.specs.declared.table.RelativePosition.{RelativePosition}

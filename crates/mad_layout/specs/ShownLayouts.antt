@@ -12,7 +12,7 @@ use Rattle.mad_layout.specs.Shown.{AreShownIn}
 use Rattle.mad_blocks.specs.TextParts.{lines_in_parts}
 use Rattle.mad_rows.specs.declared.row_skin.RowSkin.{RowSkin}
 use Rattle.mad_format.specs.declared.line.FmtLine.{FmtLine}
-use Rattle.mad_rows.specs.Styles.{line_rules}
+use Rattle.mad_rows.specs.RowStyles.{line_rules}
 
 -- What a plain terminal shows that reads what was written, where the lines are a layout of a text, at a width that isn't more than the
 -- area's, and as many lines of the text as the area reaches keep the premises (a line has one row at least): the lines in the area from

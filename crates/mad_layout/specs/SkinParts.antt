@@ -13,8 +13,8 @@ use Rattle.mad_style.specs.LineStyles.{unmargined}
 use Rattle.mad_style.specs.StyledChars.{styled_char, colored_char}
 
 -- a line without style
-abbrev pub plain_line : LineStyle
-plain_line = unmargined plain_style Unspecified
+abbrev pub unstyled_line : LineStyle
+unstyled_line = unmargined plain_style Unspecified
 
 -- light gray (17 of 23) on dark gray (3): gray n is the palette's 232 + n
 abbrev pub code_style : CompoundStyle
@@ -22,7 +22,7 @@ code_style = text_style (Some (AnsiValue 249)) (Some (AnsiValue 235)) no_attribu
 
 -- headers are underlined
 abbrev pub header_line : LineStyle
-header_line = record plain_line { compound_style = attribute_added plain_style attribute.Underlined }
+header_line = record unstyled_line { compound_style = attribute_added plain_style attribute.Underlined }
 
 -- the first header is bold and centered too
 abbrev pub first_header_line : LineStyle

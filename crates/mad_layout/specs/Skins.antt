@@ -9,7 +9,7 @@ use Rattle.mad_style.specs.Borders.{standard_borders}
 use Rattle.mad_style.specs.CompoundStyles.{text_style, plain_style}
 use Rattle.mad_style.specs.LineStyles.{unmargined}
 use Rattle.mad_style.specs.StyledChars.{styled_char, colored_char}
-use Rattle.mad_layout.specs.SkinParts.{plain_line, code_style, default_header_lines, default_quote, default_table, default_scrollbar}
+use Rattle.mad_layout.specs.SkinParts.{unstyled_line, code_style, default_header_lines, default_quote, default_table, default_scrollbar}
 use Rattle.mad_layout.specs.declared.skin.MadSkin.{MadSkin}
 
 -- The default skin: bold, italic and struck out text as such, code light on dark, headers underlined and the first one bold
@@ -17,7 +17,7 @@ use Rattle.mad_layout.specs.declared.skin.MadSkin.{MadSkin}
 abbrev pub default_skin : MadSkin
 default_skin =
     record {
-      paragraph = plain_line;
+      paragraph = unstyled_line;
       bold = text_style None None (only attribute.Bold);
       italic = text_style None None (only attribute.Italic);
       strikeout = text_style None None (only attribute.CrossedOut);
@@ -39,15 +39,15 @@ default_skin =
 abbrev pub no_style_skin : MadSkin
 no_style_skin =
     record {
-      paragraph = plain_line;
+      paragraph = unstyled_line;
       bold = plain_style;
       italic = plain_style;
       strikeout = plain_style;
       inline_code = plain_style;
-      code_block = plain_line;
-      headers = replicate 8 plain_line;
+      code_block = unstyled_line;
+      headers = replicate 8 unstyled_line;
       scrollbar = default_scrollbar;
-      table = plain_line;
+      table = unstyled_line;
       bullet = styled_char plain_style 0x2022;
       ordered_item_styles = replicate 4 (record { index_style = plain_style; index_suffix = styled_char plain_style 46 });
       quote_mark = styled_char plain_style 0x2590;

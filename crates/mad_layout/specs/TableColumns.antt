@@ -5,7 +5,7 @@ use Rattle.mad_md.specs.Lines.{StyledRuns, LineContent, normal, table_row, table
 use Rattle.mad_md.specs.declared.alignment.Alignment.{Alignment}
 use Rattle.mad_style.specs.Kinds.{kind_of}
 use Rattle.mad_widths.specs.ColumnWidths.{needs_of, column_widths}
-use Rattle.mad_fit.specs.Columns.{width_of}
+use Rattle.mad_fit.specs.TextColumns.{width_of}
 use Rattle.mad_fit.specs.declared.spacing.Spacing.{Spacing}
 use Rattle.mad_wrap.specs.WrapLines.{capped}
 use Rattle.mad_format.specs.Indents.{indent}

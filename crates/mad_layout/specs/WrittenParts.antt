@@ -10,7 +10,7 @@ use Rattle.mad_blocks.specs.Layouts.{IsLayoutAt}
 use Rattle.mad_rows.specs.Rows.{text_bytes}
 use Rattle.mad_rows.specs.declared.row_skin.RowSkin.{RowSkin}
 use Rattle.mad_format.specs.declared.line.FmtLine.{FmtLine}
-use Rattle.mad_rows.specs.Styles.{line_rules}
+use Rattle.mad_rows.specs.RowStyles.{line_rules}
 
 -- What a call does that writes a text part by part: it draws the lines of a layout of the text's first parts, of all of them where it
 -- succeeds.

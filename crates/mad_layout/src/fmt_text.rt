@@ -6,10 +6,10 @@ ghost use Rattle.mad_md.specs.ReadRaw.{IsReadRaw};
 ghost use Rattle.mad_md.specs.Reading.{IsRead, unread_text};
 ghost use Rattle.mad_md.specs.declared.text.Text.{Text};
 ghost use Rattle.mad_blocks.specs.FittingLayouts.{IsFittingLayoutAt};
-ghost use Rattle.mad_rows.specs.Styles.{line_rules};
+ghost use Rattle.mad_rows.specs.RowStyles.{line_rules};
 ghost use Rattle.mad_layout.specs.InArea.{IsAreaFront, IsAreaLayout};
 ghost use Rattle.mad_blocks.specs.Layouts.{IsLayoutAt, IsMarkdownLayout};
-ghost use Rattle.mad_format.specs.Lines.{widest_line};
+ghost use Rattle.mad_format.specs.FmtLines.{widest_line};
 ghost use Rattle.mad_layout.specs.RowSkins.{row_skin};
 
 use crate::skin::MadSkin;

@@ -2,7 +2,7 @@
 
 ghost use Rattle.std.specs.Prelude.{◌≡◌, ◌+◌};
 ghost use Rattle.mad_md.specs.Flagged.{run_of};
-ghost use Rattle.mad_rows.specs.Styles.{compound_style};
+ghost use Rattle.mad_rows.specs.RowStyles.{compound_style};
 ghost use Rattle.mad_layout.specs.RowSkins.{row_skin};
 ghost use Rattle.mad_layout.specs.SkinParts.{header_line, first_header_line, default_header_lines, default_quote, default_table};
 
@@ -133,10 +133,10 @@ fn default_quote_mark() -> StyledChar
 
 impl MadSkin {
     ghost use Rattle.mad_md.specs.Flagged.{flagged_text};
-    ghost use Rattle.mad_fit.specs.Columns.{width_of};
+    ghost use Rattle.mad_fit.specs.TextColumns.{width_of};
     ghost use Rattle.mad_format.specs.Indents.{indent};
     ghost use Rattle.mad_layout.specs.Skins.{no_style_skin};
-    ghost use Rattle.mad_rows.specs.Styles.{line_style, ordered_item_style};
+    ghost use Rattle.mad_rows.specs.RowStyles.{line_style, ordered_item_style};
     ghost use Rattle.mad_wrap.specs.WrapLines.{capped};
 
     /// The characters of the default skin, without style; only the scroll bar looks as the default one.
@@ -218,7 +218,7 @@ impl MadSkin {
 }
 
 impl LineSkin for MadSkin {
-    ghost use Rattle.mad_rows.specs.Styles.{line_rules};
+    ghost use Rattle.mad_rows.specs.RowStyles.{line_rules};
 
     ghost rules = { λ skin. line_rules (row_skin skin) };
 

@@ -10,7 +10,7 @@ use Rattle.mad_md.specs.Flagged.{Flags, plain, run_at}
 use Rattle.mad_md.specs.Inline.{Item, IsInlineReading, runs}
 use Rattle.mad_md.specs.Lines.{LineContent, normal}
 use Rattle.mad_md.specs.Parts.{AreParts, LinePlace, without_last_empty, places_from, line_places, line_text}
-use Rattle.mad_md.specs.Places.{PlacedLine, content_at}
+use Rattle.mad_md.specs.Places.{LinePlaces, content_at}
 use Rattle.mad_md.specs.ReadByMarks.{IsParagraphText}
 use Rattle.mad_md.specs.Reading.{IsLine, AreLines, carried_on, unread_text, IsRead}
 use Rattle.mad_md.specs.Scan.{items_of, line_of, line_of_form}
@@ -41,14 +41,14 @@ paragraph_said text (fence, inl start) =
 paragraph_said text (fence, inr start) =
     record { reading = items_of plain text; reads = items_read plain text; says = ap (λ (s : LineStart). line_of_form s.form plain (drop s.len text)) start }
 
-lines_are : (source : List ℕ) (places : List LinePlace) (lines : List PlacedLine) → AllByRecursion (IsWholeLine source) places → AllByRecursion (λ p. IsParagraphText (line_text source p)) places
+lines_are : (source : List ℕ) (places : List LinePlace) (lines : List LinePlaces) → AllByRecursion (IsWholeLine source) places → AllByRecursion (λ p. IsParagraphText (line_text source p)) places
     → AreLines source false false plain places lines → AreInlineLines source places (map (content_at source) lines)
-lines_are source [] lines whole begin are = subst (λ (ls : List PlacedLine). AreInlineLines source [] (map (content_at source) ls)) (sym are) tt
+lines_are source [] lines whole begin are = subst (λ (ls : List LinePlaces). AreInlineLines source [] (map (content_at source) ls)) (sym are) tt
 lines_are source (p ∷ ps) lines whole begin are =
-    let next : (line : PlacedLine) × (after : Flags) × (more : List PlacedLine) × (lines ≡ line ∷ more) × IsLine source false plain p line after × AreLines source false false (carried_on false after) ps more =
-    subst (λ (b : Bool). MatchBool b (AreLines source false true plain ps lines) ((line : PlacedLine) × (after : Flags) × (more : List PlacedLine) × (lines ≡ line ∷ more) × IsLine source false plain p line after × AreLines source false false (carried_on false after) ps more)) begin.0.0 are in
+    let next : (line : LinePlaces) × (after : Flags) × (more : List LinePlaces) × (lines ≡ line ∷ more) × IsLine source false plain p line after × AreLines source false false (carried_on false after) ps more =
+    subst (λ (b : Bool). MatchBool b (AreLines source false true plain ps lines) ((line : LinePlaces) × (after : Flags) × (more : List LinePlaces) × (lines ≡ line ∷ more) × IsLine source false plain p line after × AreLines source false false (carried_on false after) ps more)) begin.0.0 are in
     let said : content_at source next.0 ≡ line_of false plain (line_text source p) = ap (content_at source) (line_is source false plain p next.0 next.1 next.4).0 ∙ line_said source false plain p whole.0 in
-    subst (λ (ls : List PlacedLine). AreInlineLines source (p ∷ ps) (map (content_at source) ls)) (sym next.3)
+    subst (λ (ls : List LinePlaces). AreInlineLines source (p ∷ ps) (map (content_at source) ls)) (sym next.3)
     (subst (IsInlineLine (line_text source p)) (sym said) (paragraph_said (line_text source p) begin.0), lines_are source ps next.2 whole.1 begin.1 next.5)
 
 -- ---- the lines are in the source

@@ -7,7 +7,7 @@ use Rattle.mad_md.specs.Cells.{cell_style, cell_rest, cell_places, IsCell, AreRe
 use Rattle.mad_md.specs.Flagged.{Flags, plain}
 use Rattle.mad_md.specs.Inline.{Item, runs_with, flags_at_end}
 use Rattle.mad_md.specs.Parts.{LinePlace, line_places, line_text}
-use Rattle.mad_md.specs.Places.{StyledPlaces, PlacedLine, normal_at, horizontal_rule_at}
+use Rattle.mad_md.specs.Places.{StyledPlaces, LinePlaces, normal_at, horizontal_rule_at}
 use Rattle.mad_md.specs.Reading.{code_at, IsMarked, IsOfForm, rest_place, IsLine, carried_on, AreLines, Unread, IsReading}
 use Rattle.mad_md.specs.Scan.{items_of, cut_cells, flags_of_form}
 use Rattle.mad_md.specs.Starts.{is_fence, line_start}
@@ -30,7 +30,7 @@ abbrev pub placed_cells : List ℕ → ℕ → List (List ℕ) → List StyledPl
 placed_cells source at [] = []
 placed_cells source at (text ∷ texts) = placed_cell source at text ∷ placed_cells source (at + length text + 1) texts
 
-abbrev pub placed_part : List ℕ → LinePlace → PlacedLine
+abbrev pub placed_part : List ℕ → LinePlace → LinePlaces
 placed_part source place = part_says (cut_cells false (line_text source place)) (placed_cells source place.start (cut_cells false (line_text source place)))
 
 cell_is : (source : List ℕ) (at : ℕ) (text : List ℕ) (cell : StyledPlaces) → IsCell source at text cell → cell ≡ placed_cell source at text
@@ -53,7 +53,7 @@ are_cells : (source : List ℕ) (at : ℕ) (texts : List (List ℕ)) → AreRead
 are_cells source at [] = tt
 are_cells source at (text ∷ texts) = (is_cell source at text, are_cells source (at + length text + 1) texts)
 
-part_is : (source : List ℕ) (place : LinePlace) (line : PlacedLine) → IsTablePart source place line → line ≡ placed_part source place
+part_is : (source : List ℕ) (place : LinePlace) (line : LinePlaces) → IsTablePart source place line → line ≡ placed_part source place
 part_is source place line h =
     h.says ∙ ap (part_says h.texts) (cells_are source place.start h.texts h.cells h.read)
     ∙ ap (λ ts. part_says ts (placed_cells source place.start ts)) (cells_unique (line_text source place) h.texts h.cut)
@@ -65,17 +65,17 @@ is_part source place =
 
 -- ---- a line
 
-abbrev pub placed_marked : List ℕ → Flags → CompositeStyle → LinePlace → PlacedLine
+abbrev pub placed_marked : List ℕ → Flags → CompositeStyle → LinePlace → LinePlaces
 placed_marked source carried style place = normal_at (record { style = style; places = runs_with carried place.start (items_of carried (line_text source place)) })
 
-abbrev pub placed_form : List ℕ → Form → Flags → LinePlace → PlacedLine
+abbrev pub placed_form : List ℕ → Form → Flags → LinePlace → LinePlaces
 placed_form source TablePart carried rest = placed_part source rest
 placed_form source Code carried rest = code_at rest
 placed_form source Rule carried rest = horizontal_rule_at
 placed_form source (Continuing style) carried rest = placed_marked source carried style rest
 placed_form source (Separate style) carried rest = placed_marked source plain style rest
 
-abbrev pub placed_line : List ℕ → Bool → Flags → LinePlace → PlacedLine
+abbrev pub placed_line : List ℕ → Bool → Flags → LinePlace → LinePlaces
 placed_line source true carried place = code_at place
 placed_line source false carried place = placed_form source (line_start (line_text source place)).form carried (rest_place source place)
 
@@ -84,7 +84,7 @@ abbrev pub flags_at : List ℕ → Bool → Flags → LinePlace → Flags
 flags_at source true carried place = plain
 flags_at source false carried place = flags_of_form (line_start (line_text source place)).form carried (line_text source (rest_place source place))
 
-marked_is : (source : List ℕ) (carried : Flags) (style : CompositeStyle) (place : LinePlace) (line : PlacedLine) (after : Flags) → IsMarked source carried style place line after
+marked_is : (source : List ℕ) (carried : Flags) (style : CompositeStyle) (place : LinePlace) (line : LinePlaces) (after : Flags) → IsMarked source carried style place line after
     → (line ≡ placed_marked source carried style place) × (after ≡ flags_at_end carried (items_of carried (line_text source place)))
 marked_is source carried style place line after h =
     let text = line_text source place in
@@ -95,7 +95,7 @@ is_marked : (source : List ℕ) (carried : Flags) (style : CompositeStyle) (plac
     → IsMarked source carried style place (placed_marked source carried style place) (flags_at_end carried (items_of carried (line_text source place)))
 is_marked source carried style place = record { reading = items_of carried (line_text source place); reads = items_read carried (line_text source place); says = refl; ends = refl }
 
-form_is : (source : List ℕ) (form : Form) (carried : Flags) (rest : LinePlace) (line : PlacedLine) (after : Flags) → IsOfForm source form carried rest line after
+form_is : (source : List ℕ) (form : Form) (carried : Flags) (rest : LinePlace) (line : LinePlaces) (after : Flags) → IsOfForm source form carried rest line after
     → (line ≡ placed_form source form carried rest) × (after ≡ flags_of_form form carried (line_text source rest))
 form_is source TablePart carried rest line after h = (part_is source rest line h.0, h.1)
 form_is source Code carried rest line after h = h
@@ -110,7 +110,7 @@ is_form source Rule carried rest = (refl, refl)
 is_form source (Continuing style) carried rest = is_marked source carried style rest
 is_form source (Separate style) carried rest = (flags_at_end plain (items_of plain (line_text source rest)), is_marked source plain style rest, refl)
 
-pub line_is : (source : List ℕ) (fenced : Bool) (carried : Flags) (place : LinePlace) (line : PlacedLine) (after : Flags) → IsLine source fenced carried place line after
+pub line_is : (source : List ℕ) (fenced : Bool) (carried : Flags) (place : LinePlace) (line : LinePlaces) (after : Flags) → IsLine source fenced carried place line after
     → (line ≡ placed_line source fenced carried place) × (after ≡ flags_at source fenced carried place)
 line_is source true carried place line after h = h
 line_is source false carried place line after h = form_is source (line_start (line_text source place)).form carried (rest_place source place) line after h
@@ -121,15 +121,15 @@ is_line source false carried place = is_form source (line_start (line_text sourc
 
 -- ---- lines in a row
 
-abbrev pub placed_lines : List ℕ → Bool → Bool → Flags → List LinePlace → List PlacedLine
+abbrev pub placed_lines : List ℕ → Bool → Bool → Flags → List LinePlace → List LinePlaces
 placed_lines source on fenced carried [] = []
 placed_lines source on fenced carried (place ∷ places) =
     if is_fence (line_text source place) then placed_lines source on (not fenced) plain places
     else placed_line source fenced carried place ∷ placed_lines source on fenced (carried_on on (flags_at source fenced carried place)) places
 
-lines_with : (source : List ℕ) (on fenced : Bool) (carried : Flags) (place : LinePlace) (places : List LinePlace) (lines : List PlacedLine) (t : Bool)
-    → ((f : Bool) (k : Flags) (ls : List PlacedLine) → AreLines source on f k places ls → ls ≡ placed_lines source on f k places)
-    → MatchBool t (AreLines source on (not fenced) plain places lines) ((line : PlacedLine) × (after : Flags) × (more : List PlacedLine) × (lines ≡ line ∷ more) × IsLine source fenced carried place line after × AreLines source on fenced (carried_on on after) places more)
+lines_with : (source : List ℕ) (on fenced : Bool) (carried : Flags) (place : LinePlace) (places : List LinePlace) (lines : List LinePlaces) (t : Bool)
+    → ((f : Bool) (k : Flags) (ls : List LinePlaces) → AreLines source on f k places ls → ls ≡ placed_lines source on f k places)
+    → MatchBool t (AreLines source on (not fenced) plain places lines) ((line : LinePlaces) × (after : Flags) × (more : List LinePlaces) × (lines ≡ line ∷ more) × IsLine source fenced carried place line after × AreLines source on fenced (carried_on on after) places more)
     → lines ≡ (if t then placed_lines source on (not fenced) plain places else placed_line source fenced carried place ∷ placed_lines source on fenced (carried_on on (flags_at source fenced carried place)) places)
 lines_with source on fenced carried place places lines true rest h = rest (not fenced) plain lines h
 lines_with source on fenced carried place places lines false rest h =
@@ -137,7 +137,7 @@ lines_with source on fenced carried place places lines false rest h =
     h.3 ∙ ap (λ l. l ∷ h.2) said.0
     ∙ ap (λ m. placed_line source fenced carried place ∷ m) (rest fenced (carried_on on h.1) h.2 h.5 ∙ ap (λ a. placed_lines source on fenced (carried_on on a) places) said.1)
 
-lines_are : (source : List ℕ) (on fenced : Bool) (carried : Flags) (places : List LinePlace) (lines : List PlacedLine) → AreLines source on fenced carried places lines → lines ≡ placed_lines source on fenced carried places
+lines_are : (source : List ℕ) (on fenced : Bool) (carried : Flags) (places : List LinePlace) (lines : List LinePlaces) → AreLines source on fenced carried places lines → lines ≡ placed_lines source on fenced carried places
 lines_are source on fenced carried [] lines h = h
 lines_are source on fenced carried (place ∷ places) lines h =
     lines_with source on fenced carried place places lines (is_fence (line_text source place)) (λ f k ls g. lines_are source on f k places ls g) h
@@ -145,7 +145,7 @@ lines_are source on fenced carried (place ∷ places) lines h =
 with_lines : (source : List ℕ) (on fenced : Bool) (carried : Flags) (place : LinePlace) (places : List LinePlace) (t : Bool)
     → ((f : Bool) (k : Flags) → AreLines source on f k places (placed_lines source on f k places))
     → let lines = if t then placed_lines source on (not fenced) plain places else placed_line source fenced carried place ∷ placed_lines source on fenced (carried_on on (flags_at source fenced carried place)) places in
-    MatchBool t (AreLines source on (not fenced) plain places lines) ((line : PlacedLine) × (after : Flags) × (more : List PlacedLine) × (lines ≡ line ∷ more) × IsLine source fenced carried place line after × AreLines source on fenced (carried_on on after) places more)
+    MatchBool t (AreLines source on (not fenced) plain places lines) ((line : LinePlaces) × (after : Flags) × (more : List LinePlaces) × (lines ≡ line ∷ more) × IsLine source fenced carried place line after × AreLines source on fenced (carried_on on after) places more)
 with_lines source on fenced carried place places true rest = rest (not fenced) plain
 with_lines source on fenced carried place places false rest = (
   placed_line source fenced carried place,
@@ -163,7 +163,7 @@ are_lines source on fenced carried (place ∷ places) = with_lines source on fen
 -- ---- a text
 
 -- the lines by the newlines of what is left
-abbrev pub placed_of : Unread → List PlacedLine
+abbrev pub placed_of : Unread → List LinePlaces
 placed_of unread = placed_lines unread.text unread.continue_spans unread.fenced unread.carried (line_places (slice_split is_newline unread.text))
 
 pub is_reading : (unread : Unread) → IsReading unread (placed_of unread)
@@ -173,7 +173,7 @@ is_reading unread = record {
   are = are_lines unread.text unread.continue_spans unread.fenced unread.carried (line_places (slice_split is_newline unread.text));
 }
 
-pub reading_is : (unread : Unread) (lines : List PlacedLine) → IsReading unread lines → lines ≡ placed_of unread
+pub reading_is : (unread : Unread) (lines : List LinePlaces) → IsReading unread lines → lines ≡ placed_of unread
 reading_is unread lines h =
     lines_are unread.text unread.continue_spans unread.fenced unread.carried (line_places h.parts) lines h.are
     ∙ ap (λ ps. placed_lines unread.text unread.continue_spans unread.fenced unread.carried (line_places ps)) (parts_unique unread.text h.parts h.cut)

@@ -5,7 +5,7 @@ use Rattle.std.specs.Str.{trim, trim_start, trim_end}
 use Rattle.mad_md.specs.Flagged.{RunPlace, plain}
 use Rattle.mad_md.specs.Inline.{Item, IsInlineReading, runs_with}
 use Rattle.mad_md.specs.Parts.{LinePlace, line_text, without_last_if}
-use Rattle.mad_md.specs.Places.{StyledPlaces, PlacedLine, table_row_at, table_rule_at}
+use Rattle.mad_md.specs.Places.{StyledPlaces, LinePlaces, table_row_at, table_rule_at}
 use Rattle.mad_md.specs.Starts.{begins, run_len}
 use Rattle.mad_md.specs.declared.alignment.Alignment.{Alignment}
 use Rattle.mad_md.specs.declared.alignment.Alignment.TheVariants.{Unspecified, Left, Center, Right}
@@ -151,17 +151,17 @@ alignments [] = Some []
 alignments (text ∷ texts) = with_alignment (alignment_of text) (alignments texts)
 
 -- a rule where there are alignments, and else a row
-abbrev pub rule_or_row : Option (List Alignment) → List StyledPlaces → PlacedLine
+abbrev pub rule_or_row : Option (List Alignment) → List StyledPlaces → LinePlaces
 rule_or_row (Some (alignment ∷ others)) cells = table_rule_at (alignment ∷ others)
 rule_or_row (Some []) cells = table_row_at cells
 rule_or_row None cells = table_row_at cells
 
 -- What the texts of cells and the cells say. A last cell without compounds is dropped, and of those that are left each has an alignment in a rule.
-abbrev pub part_says : List (List ℕ) → List StyledPlaces → PlacedLine
+abbrev pub part_says : List (List ℕ) → List StyledPlaces → LinePlaces
 part_says texts cells = rule_or_row (alignments (take (length (without_last_empty_cell cells)) texts)) (without_last_empty_cell cells)
 
 -- The line is the table part at this place, after its first bar.
-pub record IsTablePart (source : List ℕ) (place : LinePlace) (line : PlacedLine) : Type 0 where
+pub record IsTablePart (source : List ℕ) (place : LinePlace) (line : LinePlaces) : Type 0 where
   pub texts : List (List ℕ)
   pub cut : AreCells (line_text source place) texts
   pub cells : List StyledPlaces

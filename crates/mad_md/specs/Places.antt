@@ -11,18 +11,18 @@ pub record StyledPlaces : Type 0 where
   pub places : List RunPlace
 
 -- a line, each of its compounds by its place
-pub data PlacedLine : Type 0 where
-  normal_at : StyledPlaces → PlacedLine
-  table_row_at : List StyledPlaces → PlacedLine
-  table_rule_at : List Alignment → PlacedLine
-  horizontal_rule_at : PlacedLine
+pub data LinePlaces : Type 0 where
+  normal_at : StyledPlaces → LinePlaces
+  table_row_at : List StyledPlaces → LinePlaces
+  table_rule_at : List Alignment → LinePlaces
+  horizontal_rule_at : LinePlaces
 
 -- what a composite says: each compound is the slice of the source at its place
 abbrev pub styled_at : List ℕ → StyledPlaces → StyledRuns
 styled_at source composite = record { style = composite.style; runs = map (run_at source) composite.places }
 
 -- what a line says
-abbrev pub content_at : List ℕ → PlacedLine → LineContent
+abbrev pub content_at : List ℕ → LinePlaces → LineContent
 content_at source (normal_at composite) = normal (styled_at source composite)
 content_at source (table_row_at cells) = table_row (map (styled_at source) cells)
 content_at source (table_rule_at alignments) = table_rule alignments

@@ -2,7 +2,7 @@
 use Rattle.std.specs.Prelude.{◌≡◌, ℕ, Bool, true, List, [], ◌∷◌}
 use Rattle.mad_md.specs.Flagged.{Run, plain}
 use Rattle.mad_md.specs.Lines.{StyledRuns, LineContent, normal, table_row}
-use Rattle.mad_md.specs.Places.{PlacedLine, table_row_at}
+use Rattle.mad_md.specs.Places.{LinePlaces, table_row_at}
 use Rattle.mad_md.specs.Reading.{unread_text, IsReading, IsRead}
 use Rattle.mad_md.specs.declared.composite.CompositeStyle.TheVariants.{ListItem}
 
@@ -39,5 +39,5 @@ item_of_a_star = 124 ∷ 42 ∷ 32 ∷ 42 ∷ []
 -- The first star is the item's prefix, and the compound is the second one: it is at the fourth byte.
 abbrev pub PlacesTheSecondStar : Type 0
 PlacesTheSecondStar =
-    (continue_spans : Bool) (lines : List PlacedLine) → IsReading (unread_text continue_spans item_of_a_star) lines
+    (continue_spans : Bool) (lines : List LinePlaces) → IsReading (unread_text continue_spans item_of_a_star) lines
     → lines ≡ table_row_at (record { style = ListItem 0; places = record { flags = plain; start = 3; end = 4 } ∷ [] } ∷ []) ∷ []

@@ -18,7 +18,7 @@ use std::alloc::{AllocError, Global};
 pub(crate) fn read_table_part<'s>(alloc: Global, part: &'s str) -> Result<Line<'s>, AllocError>
     ensures { IfOk result (λ line. content_of line ≡ part_of part.entry.now) }
 {
-    let columns = rule_columns(alloc, part)?;
+    let columns = ruled_columns(alloc, part)?;
     if columns == 0 {
         return read_row(alloc, part);
     }
@@ -39,7 +39,7 @@ fn read_row<'s>(alloc: Global, part: &'s str) -> Result<Line<'s>, AllocError>
 // How many columns the part rules, or none where it is a row.
 //
 // Of its cells at most the last one is read, and that only where it alone has no alignment.
-fn rule_columns(alloc: Global, part: &str) -> Result<usize, AllocError>
+fn ruled_columns(alloc: Global, part: &str) -> Result<usize, AllocError>
     ensures { IfOk result (λ columns. columns ≡ columns_of part.now) }
 {
     let mut columns = 0;

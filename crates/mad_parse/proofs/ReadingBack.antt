@@ -19,7 +19,7 @@ use Rattle.mad_style.specs.declared.styled_chars.StyledChar.{StyledChar}
 use Rattle.mad_style.specs.StyledChars.{char_alone, char_style, styled_char}
 use Rattle.mad_parse.specs.Reading.{tokens_of, said}
 use Rattle.mad_parse.specs.ReadsBack.{IsReadBackStyle, IsReadBackLine, IsReadBackChar, IsReadBackItem, StyleReadsBack, LineReadsBack, CharReadsBack, ItemReadsBack}
-use Rattle.mad_parse.specs.Styles.{first_or, last_or, colors_of, attributes_of, aligns_of, numbers_of, style_of, line_style_of, styled_char_of, item_style_of, char_index}
+use Rattle.mad_parse.specs.TokenStyles.{first_or, last_or, colors_of, attributes_of, aligns_of, numbers_of, style_of, line_style_of, styled_char_of, item_style_of, char_index}
 use Rattle.mad_parse.specs.Written.{written_attributes, style_tokens, align_tokens, margin_tokens, line_style_tokens, styled_char_tokens, item_tokens, tokens_text}
 use Rattle.mad_parse.specs.declared.tokens.StyleToken.{StyleToken}
 use Rattle.mad_parse.specs.declared.tokens.StyleToken.TheVariants as token

@@ -12,7 +12,7 @@ use Rattle.mad_term.specs.declared.color.Color.TheVariants as color
 use Rattle.mad_style.specs.declared.compound_styles.CompoundStyle.{CompoundStyle}
 use Rattle.mad_style.specs.CompoundStyles.{text_style}
 use Rattle.mad_parse.specs.ReadsBack.{is_written, IsReadBackColor, IsReadBackOrNone, IsReadBackStyle}
-use Rattle.mad_parse.specs.Styles.{first_or, colors_of, attributes_of, last_color, all_added, style_of}
+use Rattle.mad_parse.specs.TokenStyles.{first_or, colors_of, attributes_of, last_color, all_added, style_of}
 use Rattle.mad_parse.specs.Written.{written_attributes, foreground_tokens, background_tokens, attribute_tokens, style_tokens}
 use Rattle.mad_parse.specs.declared.tokens.StyleToken.{StyleToken}
 use Rattle.mad_parse.specs.declared.tokens.StyleToken.TheVariants as token

@@ -8,7 +8,7 @@ use Rattle.mad_style.specs.declared.compound_styles.CompoundStyle.{CompoundStyle
 use Rattle.mad_style.specs.declared.line_styles.LineStyle.{LineStyle}
 use Rattle.mad_style.specs.CompoundStyles.{plain_style, foreground_set, background_set, attribute_added}
 use Rattle.mad_style.specs.LineStyles.{unmargined}
-use Rattle.mad_parse.specs.Styles.{first_or, last_or, colors_of, attributes_of, aligns_of, numbers_of, last_color, all_added, style_of, line_style_of}
+use Rattle.mad_parse.specs.TokenStyles.{first_or, last_or, colors_of, attributes_of, aligns_of, numbers_of, last_color, all_added, style_of, line_style_of}
 use Rattle.mad_parse.specs.declared.tokens.StyleToken.{StyleToken}
 use Rattle.mad_parse.specs.declared.tokens.StyleToken.TheVariants as token
 

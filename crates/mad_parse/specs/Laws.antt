@@ -5,7 +5,7 @@ use Rattle.mad_term.specs.declared.color.Color.{Color}
 use Rattle.mad_term.specs.declared.color.Color.TheVariants.{Blue, Red}
 use Rattle.mad_style.specs.CompoundStyles.{text_style}
 use Rattle.mad_parse.specs.Reading.{tokens_of}
-use Rattle.mad_parse.specs.Styles.{style_of}
+use Rattle.mad_parse.specs.TokenStyles.{style_of}
 use Rattle.mad_parse.specs.StyleTokens.{unrecognized}
 use Rattle.mad_parse.specs.Written.{style_tokens, tokens_text}
 use Rattle.mad_parse.specs.declared.tokens.StyleToken.{StyleToken}

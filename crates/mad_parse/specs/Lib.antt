@@ -7,5 +7,5 @@ pub mod Numbers
 pub mod Reading
 pub mod ReadsBack
 pub mod StyleTokens
-pub mod Styles
+pub mod TokenStyles
 pub mod Written

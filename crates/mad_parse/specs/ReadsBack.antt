@@ -12,7 +12,7 @@ use Rattle.mad_style.specs.declared.ordered_items.OrderedItemStyle.{OrderedItemS
 use Rattle.mad_style.specs.declared.styled_chars.StyledChar.{StyledChar}
 use Rattle.mad_style.specs.StyledChars.{char_alone, char_style}
 use Rattle.mad_parse.specs.Reading.{tokens_of, said}
-use Rattle.mad_parse.specs.Styles.{style_of, line_style_of, styled_char_of, item_style_of}
+use Rattle.mad_parse.specs.TokenStyles.{style_of, line_style_of, styled_char_of, item_style_of}
 
 -- whether an attribute is written
 abbrev pub is_written : Attribute → Bool

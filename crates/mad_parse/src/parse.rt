@@ -6,7 +6,7 @@ ghost use Rattle.mad_parse.specs.Names.{is_named};
 ghost use Rattle.mad_parse.specs.Numbers.{signed_number_below};
 ghost use Rattle.mad_parse.specs.StyleTokens.{token_of, only};
 ghost use Rattle.mad_parse.specs.Reading.{tokens_of, said, Tells};
-ghost use Rattle.mad_parse.specs.Styles.{style_of, line_style_of, styled_char_of, item_style_of};
+ghost use Rattle.mad_parse.specs.TokenStyles.{style_of, line_style_of, styled_char_of, item_style_of};
 
 use crate::alignments::parse_align;
 use crate::attributes::parse_attribute;

@@ -1,7 +1,7 @@
 //! The styles that tokens say.
 
 ghost use Rattle.std.specs.Prelude.{◌≡◌, ◌≤◌, length};
-ghost use Rattle.mad_parse.specs.Styles.{style_of, line_style_of, styled_char_of, item_style_of, first_or, chars_of, char_index};
+ghost use Rattle.mad_parse.specs.TokenStyles.{style_of, line_style_of, styled_char_of, item_style_of, first_or, chars_of, char_index};
 
 use crate::tokens::StyleToken;
 use mad_md::Alignment;

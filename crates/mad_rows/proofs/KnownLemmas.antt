@@ -16,7 +16,7 @@ use Rattle.mad_style.specs.declared.compound_styles.CompoundStyle.{CompoundStyle
 use Rattle.mad_style.specs.declared.kinds.CompositeKind.{CompositeKind}
 use Rattle.mad_style.specs.declared.kinds.CompositeKind.TheVariants.{Paragraph, Header, ListItem, ListItemFollowUp, OrderedListItem, OrderedListItemFollowUp, Code, Quote}
 use Rattle.mad_style.specs.declared.line_styles.LineStyle.{LineStyle}
-use Rattle.mad_format.specs.Lines.{rule_columns}
+use Rattle.mad_format.specs.FmtLines.{rule_columns}
 use Rattle.mad_format.specs.declared.composite.FmtComposite.{FmtComposite}
 use Rattle.mad_format.specs.declared.line.FmtLine.{FmtLine}
 use Rattle.mad_format.specs.declared.line.FmtLine.TheVariants.{Normal, TableRow, TableRule, HorizontalRule}
@@ -26,7 +26,7 @@ use Rattle.mad_draw.specs.declared.table_rules.RuleChars.{RuleChars}
 use Rattle.mad_draw.proofs.PieceLemmas.{known_both, char_repeat_known, spaces_known, single_known}
 use Rattle.mad_draw.proofs.RuleLemmas.{rule_known}
 use Rattle.mad_rows.specs.Rows.{compound_piece, prefix_pieces, inner_blanks, outer_blanks, composite_pieces, cell_pieces, line_pieces, row_pieces, margins_of, left_of_place, right_of_place, placed_pieces, row_columns, rule_chars, vertical_piece}
-use Rattle.mad_rows.specs.Styles.{AreKnownStyles, IsKnownItem, IsKnownLine, compound_style, ellipsis_bytes, line_style, ordered_item_style, overwritten_if, plain_item_style}
+use Rattle.mad_rows.specs.RowStyles.{AreKnownStyles, IsKnownItem, IsKnownLine, compound_style, ellipsis_bytes, line_style, ordered_item_style, overwritten_if, plain_item_style}
 use Rattle.mad_rows.specs.declared.row_skin.RowSkin.{RowSkin}
 
 or_known : (a b : Option Color) → IsColorOrNone a → IsColorOrNone b → IsColorOrNone (option_or a b)

@@ -19,8 +19,8 @@ use Rattle.mad_rows.specs.declared.row_skin.RowSkin.{RowSkin}
 use Rattle.mad_format.specs.declared.composite.FmtComposite.{FmtComposite}
 use Rattle.mad_format.specs.declared.line.FmtLine.{FmtLine}
 use Rattle.mad_format.specs.declared.table.FmtTableRule.{FmtTableRule}
-use Rattle.mad_format.specs.Lines.{rule_columns}
-use Rattle.mad_rows.specs.Styles.{line_style, compound_style}
+use Rattle.mad_format.specs.FmtLines.{rule_columns}
+use Rattle.mad_rows.specs.RowStyles.{line_style, compound_style}
 use Rattle.mad_rows.specs.Rows.{compound_piece, run_piece, prefix_pieces, free_pieces, left_of_place, right_of_place, placed_pieces, vertical_piece, cell_pieces, row_columns, rule_chars, table_row_pieces, table_rule_pieces, line_bytes, text_bytes}
 
 -- the pieces of compounds are those of what they say

@@ -23,11 +23,11 @@ use Rattle.mad_format.specs.declared.table.FmtTableRule.{FmtTableRule}
 use Rattle.mad_format.specs.declared.table.RelativePosition.{RelativePosition}
 use Rattle.mad_format.specs.declared.table.RelativePosition.TheVariants.{Top, Other, Bottom}
 use Rattle.mad_format.specs.Indents.{later_indent, ordered_indent}
-use Rattle.mad_format.specs.Lines.{bordered, rule_columns}
+use Rattle.mad_format.specs.FmtLines.{bordered, rule_columns}
 use Rattle.mad_draw.specs.Pieces.{RowPiece, pieces_bytes, char_piece, char_repeat, spaces, single_spaces}
 use Rattle.mad_draw.specs.TableRules.{border_piece, rule_pieces}
 use Rattle.mad_draw.specs.declared.table_rules.RuleChars.{RuleChars}
-use Rattle.mad_rows.specs.Styles.{line_style, compound_style, ordered_item_style}
+use Rattle.mad_rows.specs.RowStyles.{line_style, compound_style, ordered_item_style}
 
 -- ---- in front of a line's text
 

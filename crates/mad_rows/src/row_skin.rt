@@ -2,7 +2,7 @@
 
 ghost use Rattle.std.specs.Prelude.{◌≡◌, IsTrue};
 ghost use Rattle.mad_md.specs.Flagged.{run_of};
-ghost use Rattle.mad_rows.specs.Styles.{compound_style, item_style_at, line_style, ordered_item_style, style_of_kind};
+ghost use Rattle.mad_rows.specs.RowStyles.{compound_style, item_style_at, line_style, ordered_item_style, style_of_kind};
 
 use mad_format::LineSkin;
 use mad_md::{Compound, MAX_HEADER_DEPTH};
@@ -98,7 +98,7 @@ impl RowSkin {
 }
 
 impl LineSkin for RowSkin {
-    ghost use Rattle.mad_rows.specs.Styles.{line_rules};
+    ghost use Rattle.mad_rows.specs.RowStyles.{line_rules};
 
     ghost rules = { λ skin. line_rules skin };
 

@@ -5,7 +5,7 @@ ghost use Rattle.std.specs.Option.{option_copied};
 ghost use Rattle.mad_draw.specs.Pieces.{AreKnown};
 ghost use Rattle.std.specs.List.{AllByRecursion, sum_by};
 ghost use Rattle.mad_rows.specs.Rows.{row_pieces, inner_blanks, inner_columns, outer_blanks, margins_of, row_blanks, line_blanks, composite_blanks, table_blanks, cell_blanks, row_columns, rule_chars};
-ghost use Rattle.mad_rows.specs.Styles.{AreKnownParts, AreKnownStyles, IsKnownItem, IsKnownLine};
+ghost use Rattle.mad_rows.specs.RowStyles.{AreKnownParts, AreKnownStyles, IsKnownItem, IsKnownLine};
 ghost use Rattle.mad_wrap.specs.WrapLines.{capped};
 
 use crate::row_skin::RowSkin;

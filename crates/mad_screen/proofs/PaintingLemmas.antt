@@ -12,7 +12,7 @@ use Rattle.mad_columns.specs.Columns.{char_columns}
 use Rattle.mad_screen.specs.Glyph.{Glyph, Look}
 use Rattle.mad_screen.specs.Grid.{Grid, IsGrid, put_list, painted, glyphs, blank, is_tail}
 use Rattle.mad_screen.specs.Terminal.{Escape, put, put_wide, join_at, joined_glyph, head_before, feed, Leads, resting}
-use Rattle.mad_screen.specs.Painting.{attach, joined, cells_of, IsPrinted, IsShown, HasColumns}
+use Rattle.mad_screen.specs.Painting.{attach, attached, cells_of, IsPrinted, IsShown, HasColumns}
 use Rattle.mad_screen.proofs.PutList.{put_list-append, put_list-same, set-put_list, length-put_list}
 use Rattle.mad_screen.proofs.Reading.{nothing_leads, next_leads}
 
@@ -147,18 +147,18 @@ length-glyphs chars k pen = ap suc (length-replicate k (record { chars = []; pen
 
 -- the statement of `rest_leads` at a text
 abbrev RestLeads : List ℕ → Type 0
-RestLeads cs = (g : Grid) (c : ℕ) (done : List ℕ) (k : ℕ) → HasColumns g (suc k + length (joined g.pen cs).1) → Leads (resting (painted g (glyphs (c ∷ done) k g.pen))) cs (resting (painted g (glyphs (c ∷ (done ++ (joined g.pen cs).0)) k g.pen ++ (joined g.pen cs).1)))
+RestLeads cs = (g : Grid) (c : ℕ) (done : List ℕ) (k : ℕ) → HasColumns g (suc k + length (attached g.pen cs).1) → Leads (resting (painted g (glyphs (c ∷ done) k g.pen))) cs (resting (painted g (glyphs (c ∷ (done ++ (attached g.pen cs).0)) k g.pen ++ (attached g.pen cs).1)))
 
-rest_step : (o : Option ℕ) (d : ℕ) (cs : List ℕ) → char_width false d ≡ o → IsSome o → RestLeads cs → (g : Grid) (c : ℕ) (done : List ℕ) (k : ℕ) → HasColumns g (suc k + length (attach o g.pen d (joined g.pen cs)).1) → Leads (resting (painted g (glyphs (c ∷ done) k g.pen))) (d ∷ cs) (resting (painted g (glyphs (c ∷ (done ++ (attach o g.pen d (joined g.pen cs)).0)) k g.pen ++ (attach o g.pen d (joined g.pen cs)).1)))
+rest_step : (o : Option ℕ) (d : ℕ) (cs : List ℕ) → char_width false d ≡ o → IsSome o → RestLeads cs → (g : Grid) (c : ℕ) (done : List ℕ) (k : ℕ) → HasColumns g (suc k + length (attach o g.pen d (attached g.pen cs)).1) → Leads (resting (painted g (glyphs (c ∷ done) k g.pen))) (d ∷ cs) (resting (painted g (glyphs (c ∷ (done ++ (attach o g.pen d (attached g.pen cs)).0)) k g.pen ++ (attach o g.pen d (attached g.pen cs)).1)))
 unfolding painted
 rest_step None d cs e some ih g c done k h = absurd (false≢true some)
 rest_step (Some zero) d cs e some ih g c done k h =
-    let j : List ℕ × List Glyph = joined g.pen cs in
+    let j : List ℕ × List Glyph = attached g.pen cs in
     next_leads _ _ _ _ _ (widthless_feeds g c d k done (fewer_columns g (suc k + length j.1) (suc k) h (omega arith)) e)
     (subst (λ (l : List ℕ). Leads (resting (painted g (glyphs (c ∷ (done ++ d ∷ [])) k g.pen))) cs (resting (painted g (glyphs (c ∷ l) k g.pen ++ j.1)))) (append_assoc done (d ∷ []) j.0)
     (ih g c (done ++ d ∷ []) k h))
 rest_step (Some (suc n)) d cs e some ih g c done k h =
-    let j : List ℕ × List Glyph = joined g.pen cs in
+    let j : List ℕ × List Glyph = attached g.pen cs in
     let a : List Glyph = glyphs (c ∷ done) k g.pen in
     let b : List Glyph = glyphs (d ∷ j.0) n g.pen ++ j.1 in
     let length_a : length a ≡ suc k = length-glyphs (c ∷ done) k g.pen in
@@ -179,11 +179,11 @@ rest_leads [] printed g c done k h =
 rest_leads (d ∷ cs) printed g c done k h =
     rest_step (char_width false d) d cs refl printed.0 (rest_leads cs printed.1) g c done k h
 
-text_step : (o : Option ℕ) (d : ℕ) (cs : List ℕ) → char_width false d ≡ o → IsSome o → RestLeads cs → (g : Grid) → 0 < unwrap_or o 0 → HasColumns g (length (attach o g.pen d (joined g.pen cs)).1) → Leads (resting g) (d ∷ cs) (resting (painted g (attach o g.pen d (joined g.pen cs)).1))
+text_step : (o : Option ℕ) (d : ℕ) (cs : List ℕ) → char_width false d ≡ o → IsSome o → RestLeads cs → (g : Grid) → 0 < unwrap_or o 0 → HasColumns g (length (attach o g.pen d (attached g.pen cs)).1) → Leads (resting g) (d ∷ cs) (resting (painted g (attach o g.pen d (attached g.pen cs)).1))
 text_step None d cs e some ih g whole h = absurd (false≢true some)
 text_step (Some zero) d cs e some ih g whole h = absurd (omega arith)
 text_step (Some (suc n)) d cs e some ih g whole h =
-    let j : List ℕ × List Glyph = joined g.pen cs in
+    let j : List ℕ × List Glyph = attached g.pen cs in
     let b : List Glyph = glyphs (d ∷ j.0) n g.pen ++ j.1 in
     let length_b : length b ≡ suc n + length j.1 = length-append (glyphs (d ∷ j.0) n g.pen) j.1 ∙ ap (λ m. m + length j.1) (length-glyphs (d ∷ j.0) n g.pen) in
     next_leads _ _ _ _ _ (wide_feeds g d n e (fewer_columns g (length b) (suc n) h (omega arith))) (ih g d [] n (fewer_columns g (length b) (suc n + length j.1) h (omega arith)))
@@ -206,4 +206,4 @@ pub length-cells_of : (pen : Look) (cs : List ℕ) → length (cells_of pen cs) 
 unfolding char_columns
 length-cells_of pen [] = refl
 length-cells_of pen (c ∷ cs) =
-    columns_step (char_width false c) pen c (joined pen cs) ∙ ap (λ n. char_columns c + n) (length-cells_of pen cs) ∙ sym (sum_by-cons char_columns c cs)
+    columns_step (char_width false c) pen c (attached pen cs) ∙ ap (λ n. char_columns c + n) (length-cells_of pen cs) ∙ sym (sum_by-cons char_columns c cs)

@@ -11,7 +11,7 @@ use Rattle.mad_term.specs.Styles.{opening_bytes, closing_bytes, piece_bytes, IsS
 use Rattle.mad_screen.specs.Glyph.{Glyph, Look}
 use Rattle.mad_screen.specs.Grid.{Grid, plain_pen, painted, glyphs}
 use Rattle.mad_screen.specs.Terminal.{Leads, resting, feed_all, settled, after_bytes}
-use Rattle.mad_screen.specs.Painting.{attach, joined, cells_of, IsPrinted, IsWhole, IsShown, HasColumns, CharsPaint, Paints, piece_cells}
+use Rattle.mad_screen.specs.Painting.{attach, attached, cells_of, IsPrinted, IsWhole, IsShown, HasColumns, CharsPaint, Paints, piece_cells}
 use Rattle.mad_screen.proofs.AsciiCommands.{ascii_opening, ascii_closing}
 use Rattle.mad_screen.proofs.Reading.{then_leads, nothing_leads}
 use Rattle.mad_screen.proofs.PaintingLemmas.{text_leads, painted-append, painted-nil, painted_columns, fewer_columns}
@@ -87,19 +87,19 @@ no_widthless_by (Some zero) pen c r h = absurd (omega arith)
 no_widthless_by (Some (suc k)) pen c r h = refl
 
 -- a text that begins with a character of columns has no widthless ones in front
-no_widthless : (pen : Look) (cs : List ℕ) → IsWhole cs → (joined pen cs).0 ≡ []
+no_widthless : (pen : Look) (cs : List ℕ) → IsWhole cs → (attached pen cs).0 ≡ []
 unfolding char_columns
 no_widthless pen [] h = refl
-no_widthless pen (c ∷ cs) h = no_widthless_by (char_width false c) pen c (joined pen cs) h
+no_widthless pen (c ∷ cs) h = no_widthless_by (char_width false c) pen c (attached pen cs) h
 
 attach_more : (o : Option ℕ) (pen : Look) (c : ℕ) (r : List ℕ × List Glyph) (gs : List Glyph) → attach o pen c (r.0, r.1 ++ gs) ≡ ((attach o pen c r).0, (attach o pen c r).1 ++ gs)
 attach_more None pen c r gs = refl
 attach_more (Some zero) pen c r gs = refl
 attach_more (Some (suc k)) pen c r gs = ap (λ (l : List Glyph). let p : List ℕ × List Glyph = ([], l) in p) (sym (append_assoc (glyphs (c ∷ r.0) k pen) r.1 gs))
 
-joined_both : (pen : Look) (a b : List ℕ) → (joined pen b).0 ≡ [] → joined pen (a ++ b) ≡ ((joined pen a).0, (joined pen a).1 ++ (joined pen b).1)
-joined_both pen [] b h = ap (λ (l : List ℕ). let p : List ℕ × List Glyph = (l, (joined pen b).1) in p) h
-joined_both pen (c ∷ a) b h = ap (attach (char_width false c) pen c) (joined_both pen a b h) ∙ attach_more (char_width false c) pen c (joined pen a) (joined pen b).1
+joined_both : (pen : Look) (a b : List ℕ) → (attached pen b).0 ≡ [] → attached pen (a ++ b) ≡ ((attached pen a).0, (attached pen a).1 ++ (attached pen b).1)
+joined_both pen [] b h = ap (λ (l : List ℕ). let p : List ℕ × List Glyph = (l, (attached pen b).1) in p) h
+joined_both pen (c ∷ a) b h = ap (attach (char_width false c) pen c) (joined_both pen a b h) ∙ attach_more (char_width false c) pen c (attached pen a) (attached pen b).1
 
 -- the cells of one text and then another, which begins with a character that takes columns
 pub cells_both : (pen : Look) (a b : List ℕ) → IsWhole b → cells_of pen (a ++ b) ≡ cells_of pen a ++ cells_of pen b
@@ -147,7 +147,7 @@ spaces_shown n = record { printed = spaces_printed n; whole = spaces_whole n }
 pub spaces_cells : (pen : Look) (n : ℕ) → cells_of pen (replicate n 32) ≡ replicate n (record { chars = 32 ∷ []; pen = pen })
 spaces_cells pen zero = refl
 spaces_cells pen (suc n) =
-    let rest : List ℕ × List Glyph = joined pen (replicate n 32) in
+    let rest : List ℕ × List Glyph = attached pen (replicate n 32) in
     ap (λ (o : Option ℕ). (attach o pen 32 rest).1) space_width
     ∙ ap (λ (l : List ℕ). glyphs (32 ∷ l) 0 pen ++ rest.1) (no_widthless pen (replicate n 32) (spaces_whole n))
     ∙ ap (λ (l : List Glyph). record { chars = 32 ∷ []; pen = pen } ∷ l) (spaces_cells pen n)

@@ -23,13 +23,13 @@ attach (Some zero) pen c r = (c ∷ r.0, r.1)
 attach (Some (suc k)) pen c r = ([], glyphs (c ∷ r.0) k pen ++ r.1)
 
 -- the same of a whole text in one pen: each character is attached, from the end of the text to its front
-abbrev pub joined : Look → List ℕ → List ℕ × List Glyph
-joined pen [] = ([], [])
-joined pen (c ∷ cs) = attach (char_width false c) pen c (joined pen cs)
+abbrev pub attached : Look → List ℕ → List ℕ × List Glyph
+attached pen [] = ([], [])
+attached pen (c ∷ cs) = attach (char_width false c) pen c (attached pen cs)
 
 -- the cells that characters show in a pen: each with the widthless ones after it, and its tails
 abbrev pub cells_of : Look → List ℕ → List Glyph
-cells_of pen cs = (joined pen cs).1
+cells_of pen cs = (attached pen cs).1
 
 -- none is a control character
 abbrev pub IsPrinted : List ℕ → Type 0

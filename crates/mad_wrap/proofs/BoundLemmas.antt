@@ -9,7 +9,7 @@ use Rattle.std.specs.List.{AllByRecursion}
 use Rattle.mad_wrap.specs.Bounds.{is_blank_token, are_starts_from, are_starts}
 use Rattle.mad_fit.specs.declared.tokens.Token.{Token}
 use Rattle.mad_wrap.specs.declared.room.Room.{Room}
-use Rattle.mad_wrap.specs.Breaks.{LineAndGap, joined, total_width, FitsFrom, FittingBreak, EndsWithLine}
+use Rattle.mad_wrap.specs.Breaks.{LineAndGap, lines_and_gaps, total_width, FitsFrom, FittingBreak, EndsWithLine}
 
 pub total_width-append : (xs ys : List Token) → total_width (xs ++ ys) ≡ total_width xs + total_width ys
 total_width-append [] ys = omega arith
@@ -33,7 +33,7 @@ all_at P [] zs t h = h.0
 all_at P (x ∷ xs) zs t h = all_at P xs zs t h.1
 
 -- one more piece is there where tokens are left
-some_piece : (p : LineAndGap Token) (ps : List (LineAndGap Token)) (more after : List Token) (t : Token) → EndsWithLine (p ∷ ps) → p.gap ++ joined ps ≡ more ++ t ∷ after → 0 < length ps
+some_piece : (p : LineAndGap Token) (ps : List (LineAndGap Token)) (more after : List Token) (t : Token) → EndsWithLine (p ∷ ps) → p.gap ++ lines_and_gaps ps ≡ more ++ t ∷ after → 0 < length ps
 some_piece p [] more after t h e = absurd (omega (arith, ap length (sym e ∙ ap (λ g. g ++ []) h), length-append more (t ∷ after)))
 some_piece p (q ∷ ps) more after t h e = omega arith
 
@@ -55,7 +55,7 @@ slice_next ts s n d o l =
 
 -- the break's line began at the start s or before it, with the tokens extra
 pub at_least_from : (d : Token) (r : Room) (ts : List Token) (ns : List ℕ) (s indent : ℕ) (extra : List Token) (ps : List (LineAndGap Token)) → 0 < length ps → are_starts_from indent r ts s ns ≡ true → FitsFrom indent r ps → EndsWithLine ps
-    → joined ps ≡ extra ++ drop s ts → 1 + length ns ≤ length ps
+    → lines_and_gaps ps ≡ extra ++ drop s ts → 1 + length ns ≤ length ps
 at_least_from d r ts [] s indent extra ps some b fits end e = omega arith
 at_least_from d r ts (n ∷ ns) s indent extra [] some b fits end e = absurd (omega arith)
 at_least_from d r ts (n ∷ ns) s indent extra (p ∷ ps) some b fits end e =
@@ -71,20 +71,20 @@ at_least_from d r ts (n ∷ ns) s indent extra (p ∷ ps) some b fits end e =
     let wide : r.width < indent + total_width (slice_range ts s n) + t.width =
     omega (arith, too_wide, ap total_width more_slice, total_width-append (slice_range ts s n) (t ∷ [])) in
     let next : drop n ts ≡ t ∷ drop (n + 1) ts = at_drop_more (λ l. l) ts n d inside in
-    let tokens : p.line ++ (p.gap ++ joined ps) ≡ (extra ++ slice_range ts s n) ++ t ∷ drop (n + 1) ts =
+    let tokens : p.line ++ (p.gap ++ lines_and_gaps ps) ≡ (extra ++ slice_range ts s n) ++ t ∷ drop (n + 1) ts =
     e ∙ ap (λ l. extra ++ l) (drop_split ts s n (omega arith)) ∙ sym (append_assoc extra (slice_range ts s n) (drop n ts)) ∙ ap (λ l. (extra ++ slice_range ts s n) ++ l) next in
-    elim (ends p.line (p.gap ++ joined ps) (extra ++ slice_range ts s n) t (drop (n + 1) ts) tokens) as (λ _. 1 + length (n ∷ ns) ≤ length (p ∷ ps)) [
+    elim (ends p.line (p.gap ++ lines_and_gaps ps) (extra ++ slice_range ts s n) t (drop (n + 1) ts) tokens) as (λ _. 1 + length (n ∷ ns) ≤ length (p ∷ ps)) [
       | inr (zs, f) ↦ absurd (omega (arith, fits.0, wide, ap total_width f, total_width-append (extra ++ slice_range ts s n) (t ∷ zs), total_width-append extra (slice_range ts s n)))
       | inl (more, f, g) ↦
           let left : 0 < length ps = some_piece p ps more (drop (n + 1) ts) t end g in
           elim (or_cases (length ns == 0) (not (is_blank_token (slice_get ts n))) b4.0) as (λ _. 1 + length (n ∷ ns) ≤ length (p ∷ ps)) [
             | inl last ↦ omega (arith, left, eqb-true (length ns) 0 last)
-            | inr no_blank ↦ let solid : not t.blank ≡ true = ap (λ o. not (is_blank_token o)) (sym (slice_get-get_or ts n d inside)) ∙ no_blank in elim (ends p.gap (joined ps) more t (drop (n + 1) ts) g) as (λ _. 1 + length (n ∷ ns) ≤ length (p ∷ ps)) [
+            | inr no_blank ↦ let solid : not t.blank ≡ true = ap (λ o. not (is_blank_token o)) (sym (slice_get-get_or ts n d inside)) ∙ no_blank in elim (ends p.gap (lines_and_gaps ps) more t (drop (n + 1) ts) g) as (λ _. 1 + length (n ∷ ns) ≤ length (p ∷ ps)) [
               | inr (zs, k) ↦
                   let is_blank = all_at (λ t. t.blank ≡ true) more zs t (subst (AllByRecursion (λ t. t.blank ≡ true)) k fits.1) in
                   absurd (not_both t.blank is_blank solid)
               | inl (extra', k, l) ↦
-                  let again : joined ps ≡ extra' ++ drop n ts = l ∙ ap (λ l. extra' ++ l) (sym next) in
+                  let again : lines_and_gaps ps ≡ extra' ++ drop n ts = l ∙ ap (λ l. extra' ++ l) (sym next) in
                   let rec = at_least_from d r ts ns n r.other extra' ps left b4.1 fits.2 (later p ps end) again in
                   omega (arith, rec)
             ]

@@ -5,7 +5,7 @@ use Rattle.std.proofs.lemmas.List.{length-append}
 use Rattle.std.specs.List.{AllByRecursion}
 use Rattle.mad_fit.specs.declared.tokens.Token.{Token}
 use Rattle.mad_fit.proofs.AllLemmas.{all_front, all_back}
-use Rattle.mad_wrap.specs.Breaks.{LineAndGap, joined, total_width, AllBlank, FitsFrom, EndsWithLine}
+use Rattle.mad_wrap.specs.Breaks.{LineAndGap, lines_and_gaps, total_width, AllBlank, FitsFrom, EndsWithLine}
 use Rattle.mad_wrap.specs.LineStarts.{starts_from, dropped_from}
 use Rattle.mad_wrap.specs.declared.room.Room.{Room}
 use Rattle.mad_wrap.proofs.KeepLemmas.{rest_of}
@@ -26,7 +26,7 @@ split_last x (y ∷ ys) = let more = split_last y ys in (x ∷ more.0, more.1, a
 pub record ClosedBreak (i : ℕ) (r : Room) (ps : List (LineAndGap Token)) : Type 0 where
   pub breaks : List (LineAndGap Token)
   pub some_line : 0 < length breaks
-  pub covers : joined breaks ≡ joined ps
+  pub covers : lines_and_gaps breaks ≡ lines_and_gaps ps
   pub fits : FitsFrom i r breaks
   pub ends : EndsWithLine breaks
   pub count : length breaks ≡ length ps + dropped_at_end ps
@@ -61,7 +61,7 @@ ends_cons : (p : LineAndGap Token) (ps : List (LineAndGap Token)) → 0 < length
 ends_cons p [] some h = absurd (omega arith)
 ends_cons p (q ∷ qs) some h = h
 
-close_from : (i : ℕ) (r : Room) (p : LineAndGap Token) (ps : List (LineAndGap Token)) → FitsFrom i r (p ∷ ps) → AllByRecursion (λ t. r.other + t.width ≤ r.width) (joined (p ∷ ps)) → ClosedBreak i r (p ∷ ps)
+close_from : (i : ℕ) (r : Room) (p : LineAndGap Token) (ps : List (LineAndGap Token)) → FitsFrom i r (p ∷ ps) → AllByRecursion (λ t. r.other + t.width ≤ r.width) (lines_and_gaps (p ∷ ps)) → ClosedBreak i r (p ∷ ps)
 close_from i r p [] fits room =
     close_last i r p.line p.gap fits.0 fits.1 (all_front (λ t. r.other + t.width ≤ r.width) p.gap [] (all_back (λ t. r.other + t.width ≤ r.width) p.line (p.gap ++ []) room))
 close_from i r p (q ∷ qs) fits room =
@@ -75,7 +75,7 @@ close_from i r p (q ∷ qs) fits room =
       count = omega (arith, more.count);
     }
 
-pub closed : (i : ℕ) (r : Room) (ps : List (LineAndGap Token)) → 0 < length ps → FitsFrom i r ps → AllByRecursion (λ t. r.other + t.width ≤ r.width) (joined ps) → ClosedBreak i r ps
+pub closed : (i : ℕ) (r : Room) (ps : List (LineAndGap Token)) → 0 < length ps → FitsFrom i r ps → AllByRecursion (λ t. r.other + t.width ≤ r.width) (lines_and_gaps ps) → ClosedBreak i r ps
 closed i r [] some fits room = absurd (omega arith)
 closed i r (p ∷ ps) some fits room = close_from i r p ps fits room
 

@@ -8,13 +8,13 @@ use Rattle.std.specs.Char.{is_whitespace}
 use Rattle.mad_columns.specs.Columns.{char_columns}
 use Rattle.mad_md.specs.Flagged.{FlaggedChar, Run, flagged, flagged_text, run_of, is_blank}
 use Rattle.mad_md.specs.declared.compound.Compound.{Compound}
-use Rattle.mad_fit.specs.Columns.{width_of}
+use Rattle.mad_fit.specs.TextColumns.{width_of}
 use Rattle.mad_fit.specs.Tokens.{IsAlike, flagged_token, tokens_text, token_run}
 use Rattle.mad_fit.specs.declared.tokens.Token.{Token}
 use Rattle.mad_fit.proofs.AllLemmas.{all_joined, all_front, all_back, all_each}
 use Rattle.mad_fit.proofs.FlaggedLemmas.{width_of-append}
 use Rattle.mad_fit.proofs.TokenTexts.{IsHonest, tokens_text-append, some_flagged, length-token_text}
-use Rattle.mad_wrap.specs.Breaks.{LineAndGap, joined, total_width, AllBlank, FitsFrom}
+use Rattle.mad_wrap.specs.Breaks.{LineAndGap, lines_and_gaps, total_width, AllBlank, FitsFrom}
 use Rattle.mad_wrap.specs.Keeps.{AllWhite, Keeps}
 use Rattle.mad_wrap.specs.PlacedLines.{HoldBreak}
 use Rattle.mad_wrap.specs.Placings.{GapsForced}
@@ -59,15 +59,15 @@ gap_is_white max (t ∷ ts) h g =
     (all_each (λ x. is_blank x ≡ t.blank) (λ x. is_whitespace x.char ≡ true) (λ x e. blank_is_white x (e ∙ h.0)) (flagged_token t) g.0.alike.alike)
     (gap_is_white max ts h.1 g.1)
 
-pub keeps_break : (max indent : ℕ) (r : Room) (ps : List (LineAndGap Token)) → GapsForced indent r ps → AllByRecursion (IsHonest max) (joined ps) → Keeps (tokens_text (joined ps)) (map (λ p. tokens_text p.line) ps)
+pub keeps_break : (max indent : ℕ) (r : Room) (ps : List (LineAndGap Token)) → GapsForced indent r ps → AllByRecursion (IsHonest max) (lines_and_gaps ps) → Keeps (tokens_text (lines_and_gaps ps)) (map (λ p. tokens_text p.line) ps)
 keeps_break max indent r [] h g = refl
 keeps_break max indent r (p ∷ ps) h g =
-    let after = all_back (IsHonest max) p.line (p.gap ++ joined ps) g in (
+    let after = all_back (IsHonest max) p.line (p.gap ++ lines_and_gaps ps) g in (
       tokens_text p.gap,
-      tokens_text (joined ps),
-      tokens_text-append p.line (p.gap ++ joined ps) ∙ ap (λ l. tokens_text p.line ++ l) (tokens_text-append p.gap (joined ps)),
-      gap_is_white max p.gap h.0 (all_front (IsHonest max) p.gap (joined ps) after),
-      keeps_break max r.other r ps h.2 (all_back (IsHonest max) p.gap (joined ps) after),
+      tokens_text (lines_and_gaps ps),
+      tokens_text-append p.line (p.gap ++ lines_and_gaps ps) ∙ ap (λ l. tokens_text p.line ++ l) (tokens_text-append p.gap (lines_and_gaps ps)),
+      gap_is_white max p.gap h.0 (all_front (IsHonest max) p.gap (lines_and_gaps ps) after),
+      keeps_break max r.other r ps h.2 (all_back (IsHonest max) p.gap (lines_and_gaps ps) after),
     )
 
 -- ---- fits
@@ -91,13 +91,13 @@ width_is max [] h = refl
 width_is max (t ∷ ts) h = omega (arith, h.0.alike.counts, width_is max ts h.1, width_of-append (flagged_token t) (tokens_text ts))
 
 -- what holds of the tokens of a line, and of those after it and its gap
-pub line_of : (P : Token → Type 0) (p : LineAndGap Token) (ps : List (LineAndGap Token)) → AllByRecursion P (joined (p ∷ ps)) → AllByRecursion P p.line
-line_of P p ps h = all_front P p.line (p.gap ++ joined ps) h
+pub line_of : (P : Token → Type 0) (p : LineAndGap Token) (ps : List (LineAndGap Token)) → AllByRecursion P (lines_and_gaps (p ∷ ps)) → AllByRecursion P p.line
+line_of P p ps h = all_front P p.line (p.gap ++ lines_and_gaps ps) h
 
-pub rest_of : (P : Token → Type 0) (p : LineAndGap Token) (ps : List (LineAndGap Token)) → AllByRecursion P (joined (p ∷ ps)) → AllByRecursion P (joined ps)
-rest_of P p ps h = all_back P p.gap (joined ps) (all_back P p.line (p.gap ++ joined ps) h)
+pub rest_of : (P : Token → Type 0) (p : LineAndGap Token) (ps : List (LineAndGap Token)) → AllByRecursion P (lines_and_gaps (p ∷ ps)) → AllByRecursion P (lines_and_gaps ps)
+rest_of P p ps h = all_back P p.gap (lines_and_gaps ps) (all_back P p.line (p.gap ++ lines_and_gaps ps) h)
 
-pub fit_break : (max indent : ℕ) (r : Room) (ps : List (LineAndGap Token)) → AllByRecursion (IsHonest max) (joined ps) → FitsFrom indent r ps → LinesFit indent r (map (λ p. tokens_text p.line) ps)
+pub fit_break : (max indent : ℕ) (r : Room) (ps : List (LineAndGap Token)) → AllByRecursion (IsHonest max) (lines_and_gaps ps) → FitsFrom indent r ps → LinesFit indent r (map (λ p. tokens_text p.line) ps)
 fit_break max indent r [] h fit = tt
 fit_break max indent r (p ∷ ps) h fit = (
   omega (arith, fit.0, width_is max p.line (line_of (IsHonest max) p ps h)),
@@ -114,7 +114,7 @@ some_text : (max : ℕ) (ts : List Token) → 0 < length ts → AllByRecursion (
 some_text max [] some h = absurd (omega arith)
 some_text max (t ∷ ts) some h = omega (arith, some_flagged t h.0.place, length-append (flagged_token t) (tokens_text ts))
 
-pub some_lines : (max : ℕ) (ps : List (LineAndGap Token)) (ls : List WrappedLine) → HoldBreak ps ls → AllByRecursion (IsHonest max) (joined ps) → SomeOnEach ps
+pub some_lines : (max : ℕ) (ps : List (LineAndGap Token)) (ls : List WrappedLine) → HoldBreak ps ls → AllByRecursion (IsHonest max) (lines_and_gaps ps) → SomeOnEach ps
     → AllByRecursion (λ l. 0 < length (flagged_text l)) (compounds_of ls)
 some_lines max [] [] h g some = tt
 some_lines max [] (l ∷ ls) h g some = absurd h
@@ -132,7 +132,7 @@ runs_are [] (l ∷ ls) h = absurd h
 runs_are (p ∷ ps) [] h = absurd h
 runs_are (p ∷ ps) (l ∷ ls) h = ap (λ x. x ∷ map runs_of (compounds_of ls)) h.0.runs_are ∙ ap (λ x. map token_run p.line ∷ x) (runs_are ps ls h.1)
 
-pub counted_are : (max : ℕ) (ps : List (LineAndGap Token)) (ls : List WrappedLine) → HoldBreak ps ls → AllByRecursion (IsHonest max) (joined ps) → AreCounted ls
+pub counted_are : (max : ℕ) (ps : List (LineAndGap Token)) (ls : List WrappedLine) → HoldBreak ps ls → AllByRecursion (IsHonest max) (lines_and_gaps ps) → AreCounted ls
 counted_are max [] [] h g = tt
 counted_are max [] (l ∷ ls) h g = absurd h
 counted_are max (p ∷ ps) [] h g = absurd h
@@ -162,14 +162,14 @@ made_of cs all pre post ts l same joins =
     (λ x h. Contains-append_right (map run_of cs) (map token_run pre ++ (map token_run ts ++ map token_run post)) x h) (map token_run ts) (contained (map token_run pre) (map token_run ts) (map token_run post)) in
     subst (AllByRecursion (Contains (map run_of cs ++ map token_run all))) (sym same) (subst (λ x. AllByRecursion (Contains (map run_of cs ++ x)) (map token_run ts)) (sym runs) held)
 
-pub parts_are : (cs : List Compound) (all pre : List Token) (ps : List (LineAndGap Token)) (ls : List WrappedLine) → HoldBreak ps ls → pre ++ joined ps ≡ all
+pub parts_are : (cs : List Compound) (all pre : List Token) (ps : List (LineAndGap Token)) (ls : List WrappedLine) → HoldBreak ps ls → pre ++ lines_and_gaps ps ≡ all
     → AllByRecursion (IsMadeOf cs all) (compounds_of ls)
 parts_are cs all pre [] [] h e = tt
 parts_are cs all pre [] (l ∷ ls) h e = absurd h
 parts_are cs all pre (p ∷ ps) [] h e = absurd h
 parts_are cs all pre (p ∷ ps) (l ∷ ls) h e = (
-  made_of cs all pre (p.gap ++ joined ps) p.line l.compounds.items h.0.runs_are e,
-  parts_are cs all (pre ++ (p.line ++ p.gap)) ps ls h.1 (append_assoc pre (p.line ++ p.gap) (joined ps) ∙ ap (λ x. pre ++ x) (append_assoc p.line p.gap (joined ps)) ∙ e),
+  made_of cs all pre (p.gap ++ lines_and_gaps ps) p.line l.compounds.items h.0.runs_are e,
+  parts_are cs all (pre ++ (p.line ++ p.gap)) ps ls h.1 (append_assoc pre (p.line ++ p.gap) (lines_and_gaps ps) ∙ ap (λ x. pre ++ x) (append_assoc p.line p.gap (lines_and_gaps ps)) ∙ e),
 )
 
 -- ---- no compound is empty
@@ -182,7 +182,7 @@ filled max (c ∷ cs) (t ∷ ts) h g =
     let tail : map run_of cs ≡ map token_run ts = cc in
     (omega (arith, ap (λ (x : Run). length x.text) head, length-token_text t g.0.place, g.0.place.some), filled max cs ts tail g.1)
 
-pub filled_lines : (max : ℕ) (ps : List (LineAndGap Token)) (ls : List WrappedLine) → HoldBreak ps ls → AllByRecursion (IsHonest max) (joined ps)
+pub filled_lines : (max : ℕ) (ps : List (LineAndGap Token)) (ls : List WrappedLine) → HoldBreak ps ls → AllByRecursion (IsHonest max) (lines_and_gaps ps)
     → AllByRecursion NoneEmpty (compounds_of ls)
 filled_lines max [] [] h g = tt
 filled_lines max [] (l ∷ ls) h g = absurd h

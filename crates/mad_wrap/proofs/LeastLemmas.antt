@@ -3,7 +3,7 @@ use Rattle.std.proofs.Common.{◌≡◌, ℕ, ◌+◌, ◌<◌, ◌≤◌, true,
 use Rattle.std.proofs.lemmas.List.{length-append}
 use Rattle.std.specs.List.{AllByRecursion}
 use Rattle.mad_fit.specs.declared.tokens.Token.{Token}
-use Rattle.mad_wrap.specs.Breaks.{LineAndGap, joined, total_width, AllBlank, FitsFrom, TrimmingBreak}
+use Rattle.mad_wrap.specs.Breaks.{LineAndGap, lines_and_gaps, total_width, AllBlank, FitsFrom, TrimmingBreak}
 use Rattle.mad_wrap.specs.Placings.{GapsForced, LinesForced, LinesWithin, IsFirstFit}
 use Rattle.mad_wrap.specs.Rooms.{most_indent}
 use Rattle.mad_wrap.specs.declared.room.Room.{Room}
@@ -12,7 +12,7 @@ use Rattle.mad_wrap.proofs.KeepLemmas.{SomeOnEach, line_of, rest_of}
 
 -- ---- the fewest lines
 
-some_left : (qs : List (LineAndGap Token)) (xs after : List Token) (t : Token) → joined qs ≡ xs ++ t ∷ after → 0 < length qs
+some_left : (qs : List (LineAndGap Token)) (xs after : List Token) (t : Token) → lines_and_gaps qs ≡ xs ++ t ∷ after → 0 < length qs
 some_left [] xs after t e = absurd (omega (arith, ap length e, length-append xs (t ∷ after)))
 some_left (q ∷ qs) xs after t e = omega arith
 
@@ -20,22 +20,22 @@ blank_and_solid : (t : Token) → t.blank ≡ true → t.blank ≡ false → ⊥
 blank_and_solid t on off = let both : true ≡ false = sym on ∙ off in cc
 
 -- the break's line began where the placed one did, or before it, with the tokens extra
-least_from : (i : ℕ) (r : Room) (extra : List Token) (ps qs : List (LineAndGap Token)) → 0 < length qs → LinesForced i r ps → FitsFrom i r qs → joined qs ≡ extra ++ joined ps → length ps ≤ length qs
+least_from : (i : ℕ) (r : Room) (extra : List Token) (ps qs : List (LineAndGap Token)) → 0 < length qs → LinesForced i r ps → FitsFrom i r qs → lines_and_gaps qs ≡ extra ++ lines_and_gaps ps → length ps ≤ length qs
 least_from i r extra [] qs some forced fits e = omega arith
 least_from i r extra (p ∷ []) qs some forced fits e = omega arith
 least_from i r extra (p ∷ p' ∷ ps) [] some forced fits e = absurd (omega arith)
 least_from i r extra (p ∷ p' ∷ ps) (q ∷ qs) some (b, forced) fits e =
     let before = extra ++ (p.line ++ p.gap) in
-    let after = b.others ++ (p'.gap ++ joined ps) in
-    let begins : joined (p' ∷ ps) ≡ b.first ∷ after = ap (λ l. l ++ (p'.gap ++ joined ps)) b.begins in
-    let tokens : q.line ++ (q.gap ++ joined qs) ≡ before ++ b.first ∷ after =
-    e ∙ ap (λ l. extra ++ l) (sym (append_assoc p.line p.gap (joined (p' ∷ ps)))) ∙ sym (append_assoc extra (p.line ++ p.gap) (joined (p' ∷ ps))) ∙ ap (λ l. before ++ l) begins in
-    elim (ends q.line (q.gap ++ joined qs) before b.first after tokens) as (λ _. length (p ∷ p' ∷ ps) ≤ length (q ∷ qs)) [
+    let after = b.others ++ (p'.gap ++ lines_and_gaps ps) in
+    let begins : lines_and_gaps (p' ∷ ps) ≡ b.first ∷ after = ap (λ l. l ++ (p'.gap ++ lines_and_gaps ps)) b.begins in
+    let tokens : q.line ++ (q.gap ++ lines_and_gaps qs) ≡ before ++ b.first ∷ after =
+    e ∙ ap (λ l. extra ++ l) (sym (append_assoc p.line p.gap (lines_and_gaps (p' ∷ ps)))) ∙ sym (append_assoc extra (p.line ++ p.gap) (lines_and_gaps (p' ∷ ps))) ∙ ap (λ l. before ++ l) begins in
+    elim (ends q.line (q.gap ++ lines_and_gaps qs) before b.first after tokens) as (λ _. length (p ∷ p' ∷ ps) ≤ length (q ∷ qs)) [
       | inr (zs, longer) ↦ absurd (omega (arith, fits.0, b.passes, ap total_width longer, total_width-append before (b.first ∷ zs), total_width-append extra (p.line ++ p.gap), total_width-append p.line p.gap))
-      | inl (more, shorter, next) ↦ elim (ends q.gap (joined qs) more b.first after next) as (λ _. length (p ∷ p' ∷ ps) ≤ length (q ∷ qs)) [
+      | inl (more, shorter, next) ↦ elim (ends q.gap (lines_and_gaps qs) more b.first after next) as (λ _. length (p ∷ p' ∷ ps) ≤ length (q ∷ qs)) [
         | inr (zs, over) ↦ absurd (blank_and_solid b.first (all_at (λ t. t.blank ≡ true) more zs b.first (subst AllBlank over fits.1)) b.solid)
         | inl (extra', gone, rest) ↦
-            let again : joined qs ≡ extra' ++ joined (p' ∷ ps) = rest ∙ ap (λ l. extra' ++ l) (sym begins) in
+            let again : lines_and_gaps qs ≡ extra' ++ lines_and_gaps (p' ∷ ps) = rest ∙ ap (λ l. extra' ++ l) (sym begins) in
             omega (arith, least_from r.other r extra' (p' ∷ ps) qs (some_left qs extra' after b.first rest) forced fits.2 again)
       ]
     ]
@@ -55,7 +55,7 @@ one_fits i r [] l indent room more = omega arith
 one_fits i r (t ∷ []) l indent room more = omega (arith, room.0)
 one_fits i r (t ∷ u ∷ ts) l indent room more = more (omega arith)
 
-others_fit : (r : Room) (ps : List (LineAndGap Token)) → most_indent r ≤ r.width → AllByRecursion (λ t. most_indent r + t.width ≤ r.width) (joined ps) → GapsForced r.other r ps → LinesWithin 1 r.other r ps → FitsFrom r.other r ps
+others_fit : (r : Room) (ps : List (LineAndGap Token)) → most_indent r ≤ r.width → AllByRecursion (λ t. most_indent r + t.width ≤ r.width) (lines_and_gaps ps) → GapsForced r.other r ps → LinesWithin 1 r.other r ps → FitsFrom r.other r ps
 others_fit r [] indent room gaps within = tt
 others_fit r (p ∷ ps) indent room gaps within = (
   one_fits r.other r p.line (omega arith) indent (line_of (λ t. most_indent r + t.width ≤ r.width) p ps room) within.0,
@@ -63,7 +63,7 @@ others_fit r (p ∷ ps) indent room gaps within = (
   others_fit r ps indent (rest_of (λ t. most_indent r + t.width ≤ r.width) p ps room) gaps.2 within.1,
 )
 
-all_fit : (r : Room) (ps : List (LineAndGap Token)) → most_indent r ≤ r.width → AllByRecursion (λ t. most_indent r + t.width ≤ r.width) (joined ps) → GapsForced r.first r ps → LinesWithin 0 r.first r ps → FitsFrom r.first r ps
+all_fit : (r : Room) (ps : List (LineAndGap Token)) → most_indent r ≤ r.width → AllByRecursion (λ t. most_indent r + t.width ≤ r.width) (lines_and_gaps ps) → GapsForced r.first r ps → LinesWithin 0 r.first r ps → FitsFrom r.first r ps
 all_fit r [] indent room gaps within = tt
 all_fit r (p ∷ ps) indent room gaps within = (
   one_fits r.first r p.line (omega arith) indent (line_of (λ t. most_indent r + t.width ≤ r.width) p ps room) (λ l. within.0 (omega arith)),
@@ -72,7 +72,7 @@ all_fit r (p ∷ ps) indent room gaps within = (
 )
 
 -- room for the tokens of a break
-pub room_of_break : (r : Room) (ts : List Token) (ps : List (LineAndGap Token)) → IsFirstFit r ts ps → TokensHaveRoom r ts → AllByRecursion (λ t. most_indent r + t.width ≤ r.width) (joined ps)
+pub room_of_break : (r : Room) (ts : List Token) (ps : List (LineAndGap Token)) → IsFirstFit r ts ps → TokensHaveRoom r ts → AllByRecursion (λ t. most_indent r + t.width ≤ r.width) (lines_and_gaps ps)
 room_of_break r ts ps h room = subst (AllByRecursion (λ t. most_indent r + t.width ≤ r.width)) (sym h.placing.covers) room.each
 
 pub fits_with_room : (r : Room) (ts : List Token) (ps : List (LineAndGap Token)) → IsFirstFit r ts ps → TokensHaveRoom r ts → FitsFrom r.first r ps
@@ -82,7 +82,7 @@ fits_with_room r ts ps h room = all_fit r ps room.indent (room_of_break r ts ps 
 
 -- a first line without one would have no room for what comes next
 pub first_some : (r : Room) (line gap : List Token) (ps : List (LineAndGap Token)) → GapsForced r.first r (record { line = line; gap = gap } ∷ ps) → LinesForced r.first r (record { line = line; gap = gap } ∷ ps)
-    → AllByRecursion (λ t. most_indent r + t.width ≤ r.width) (joined (record { line = line; gap = gap } ∷ ps)) → 0 < length (joined (record { line = line; gap = gap } ∷ ps)) → 0 < length line
+    → AllByRecursion (λ t. most_indent r + t.width ≤ r.width) (lines_and_gaps (record { line = line; gap = gap } ∷ ps)) → 0 < length (lines_and_gaps (record { line = line; gap = gap } ∷ ps)) → 0 < length line
 first_some r (x ∷ line) gap ps gaps forced room some = omega arith
 first_some r [] (g ∷ gs) ps gaps forced room some = absurd (omega (arith, gaps.1 g gs refl, room.0))
 first_some r [] [] [] gaps forced room some = absurd (omega arith)

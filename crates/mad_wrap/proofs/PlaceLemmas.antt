@@ -8,7 +8,7 @@ use Rattle.mad_md.specs.declared.compound.Compound.{Compound}
 use Rattle.mad_fit.specs.declared.tokens.Token.{Token}
 use Rattle.mad_fit.specs.Tokens.{token_run, token_text}
 use Rattle.mad_fit.proofs.AllLemmas.{all_push}
-use Rattle.mad_wrap.specs.Breaks.{LineAndGap, joined, total_width, AllBlank}
+use Rattle.mad_wrap.specs.Breaks.{LineAndGap, lines_and_gaps, total_width, AllBlank}
 use Rattle.mad_wrap.specs.LineRoom.{left_of, fits_in, taken}
 use Rattle.mad_wrap.specs.PlacedLines.{HoldsTokens, HoldBreak, ArePlacedLines}
 use Rattle.mad_wrap.specs.Placings.{GapsForced, BeginsAfter, LinesForced, LinesWithin, IsFirstFit}
@@ -31,7 +31,7 @@ pub record Shape (r : Room) (ts : List Token) (left : Option ℕ) (ended : Bool)
   pub breaks : List (LineAndGap Token)
   pub tokens : List Token
   pub gap : List Token
-  pub covers : joined breaks ++ (tokens ++ gap) ≡ ts
+  pub covers : lines_and_gaps breaks ++ (tokens ++ gap) ≡ ts
   pub gaps : GapsForced r.first r breaks
   pub gap_blank : AllBlank gap
   pub no_gap : ended ≡ false → gap ≡ []
@@ -54,9 +54,9 @@ pub total_width-push : (ts : List Token) (t : Token) → total_width (ts ++ t �
 total_width-push [] t = omega arith
 total_width-push (x ∷ ts) t = omega (arith, total_width-push ts t)
 
-pub joined-push : {A : Type 0} (ps : List (LineAndGap A)) (p : LineAndGap A) → joined (ps ++ p ∷ []) ≡ joined ps ++ (p.line ++ p.gap)
-joined-push [] p = ap (λ g. p.line ++ g) (append-nil p.gap)
-joined-push (q ∷ ps) p = ap (λ g. q.line ++ (q.gap ++ g)) (joined-push ps p) ∙ ap (λ g. q.line ++ g) (sym (append_assoc q.gap (joined ps) (p.line ++ p.gap))) ∙ sym (append_assoc q.line (q.gap ++ joined ps) (p.line ++ p.gap))
+pub lines_and_gaps-push : {A : Type 0} (ps : List (LineAndGap A)) (p : LineAndGap A) → lines_and_gaps (ps ++ p ∷ []) ≡ lines_and_gaps ps ++ (p.line ++ p.gap)
+lines_and_gaps-push [] p = ap (λ g. p.line ++ g) (append-nil p.gap)
+lines_and_gaps-push (q ∷ ps) p = ap (λ g. q.line ++ (q.gap ++ g)) (lines_and_gaps-push ps p) ∙ ap (λ g. q.line ++ g) (sym (append_assoc q.gap (lines_and_gaps ps) (p.line ++ p.gap))) ∙ sym (append_assoc q.line (q.gap ++ lines_and_gaps ps) (p.line ++ p.gap))
 
 within_from_other : (r : Room) (ps : List (LineAndGap Token)) (p : LineAndGap Token) → LinesWithin 1 r.other r ps → (1 < length p.line → r.other + total_width p.line ≤ r.width) → LinesWithin 1 r.other r (ps ++ p ∷ [])
 within_from_other r [] p h l = (l, tt)
@@ -214,8 +214,8 @@ shape_fits r ts t left h fits =
       tokens = h.tokens ++ t ∷ [];
       gap = [];
       covers =
-          let all : joined h.breaks ++ h.tokens ≡ ts = ap (λ g. joined h.breaks ++ g) (sym (append-nil h.tokens)) ∙ ap (λ g. joined h.breaks ++ (h.tokens ++ g)) (sym (h.no_gap refl)) ∙ h.covers in
-          ap (λ g. joined h.breaks ++ g) (append-nil (h.tokens ++ t ∷ [])) ∙ sym (append_assoc (joined h.breaks) h.tokens (t ∷ [])) ∙ ap (λ g. g ++ t ∷ []) all;
+          let all : lines_and_gaps h.breaks ++ h.tokens ≡ ts = ap (λ g. lines_and_gaps h.breaks ++ g) (sym (append-nil h.tokens)) ∙ ap (λ g. lines_and_gaps h.breaks ++ (h.tokens ++ g)) (sym (h.no_gap refl)) ∙ h.covers in
+          ap (λ g. lines_and_gaps h.breaks ++ g) (append-nil (h.tokens ++ t ∷ [])) ∙ sym (append_assoc (lines_and_gaps h.breaks) h.tokens (t ∷ [])) ∙ ap (λ g. g ++ t ∷ []) all;
       gaps = h.gaps;
       gap_blank = tt;
       no_gap = λ _. refl;
@@ -232,7 +232,7 @@ shape_ends r ts t left ended h blank why = record {
   breaks = h.breaks;
   tokens = h.tokens;
   gap = h.gap ++ t ∷ [];
-  covers = ap (λ g. joined h.breaks ++ g) (sym (append_assoc h.tokens h.gap (t ∷ []))) ∙ sym (append_assoc (joined h.breaks) (h.tokens ++ h.gap) (t ∷ [])) ∙ ap (λ g. g ++ t ∷ []) h.covers;
+  covers = ap (λ g. lines_and_gaps h.breaks ++ g) (sym (append_assoc h.tokens h.gap (t ∷ []))) ∙ sym (append_assoc (lines_and_gaps h.breaks) (h.tokens ++ h.gap) (t ∷ [])) ∙ ap (λ g. g ++ t ∷ []) h.covers;
   gaps = h.gaps;
   gap_blank = all_push (λ t. t.blank ≡ true) h.gap t h.gap_blank blank;
   no_gap = λ e. absurd (cc);
@@ -254,7 +254,7 @@ shape_begins r ts t left ended h solid why =
       breaks = h.breaks ++ p ∷ [];
       tokens = t ∷ [];
       gap = [];
-      covers = ap (λ g. g ++ t ∷ []) (joined-push h.breaks p ∙ h.covers);
+      covers = ap (λ g. g ++ t ∷ []) (lines_and_gaps-push h.breaks p ∙ h.covers);
       gaps = forced_push r h.breaks p h.gaps h.gap_blank h.forced_here;
       gap_blank = tt;
       no_gap = λ _. refl;
@@ -305,7 +305,7 @@ whole_fit r ts left ended s =
     record {
       placing = record {
         some_line = omega (arith, length-append s.breaks (p ∷ []));
-        covers = joined-push s.breaks p ∙ s.covers;
+        covers = lines_and_gaps-push s.breaks p ∙ s.covers;
         gaps = forced_push r s.breaks p s.gaps s.gap_blank s.forced_here;
       };
       forced = s.forced;

@@ -6,14 +6,14 @@ use Rattle.std.specs.List.{AllByRecursion, list_all}
 use Rattle.std.specs.Char.{is_whitespace}
 use Rattle.mad_md.specs.Flagged.{Flags, FlaggedChar, flagged, flags_of, flagged_of, flagged_text, is_blank}
 use Rattle.mad_md.specs.declared.compound.Compound.{Compound}
-use Rattle.mad_fit.specs.Columns.{width_of}
+use Rattle.mad_fit.specs.TextColumns.{width_of}
 use Rattle.mad_fit.specs.Tokens.{AreTokensFrom, flagged_token, tokens_text}
 use Rattle.mad_fit.specs.declared.tokens.Token.{Token}
 use Rattle.mad_fit.proofs.AllLemmas.{all_each, all_front, all_back}
 use Rattle.mad_fit.proofs.TokenTexts.{IsHonest, tokens_honest, text_from, some_flagged}
 use Rattle.mad_fit.proofs.UniqueLemmas.{all_unique}
 use Rattle.mad_wrap.specs.Bounds.{is_blank_token, are_starts_from, are_starts}
-use Rattle.mad_wrap.specs.Breaks.{LineAndGap, joined, total_width, AllBlank, FittingBreak}
+use Rattle.mad_wrap.specs.Breaks.{LineAndGap, lines_and_gaps, total_width, AllBlank, FittingBreak}
 use Rattle.mad_wrap.specs.CleanCut.{fits_after, both_fit, is_white, clean_cut, is_cut_clean}
 use Rattle.mad_wrap.specs.LeastBound.{IsBound, AreChecked, drops_code, AreStartsOf, AreFewest, AreCutStarts, IsFirstPast}
 use Rattle.mad_wrap.specs.LeastWrap.{AreTokensIn}
@@ -54,7 +54,7 @@ closed_break : (r : Room) (ts : List Token) (ps : List (LineAndGap Token)) → I
 closed_break r ts ps h room =
     closed r.first r ps h.placing.some_line (fits_with_room r ts ps h room) (subst (AllByRecursion (λ t. r.other + t.width ≤ r.width)) (sym h.placing.covers) (other_room r ts room))
 
-fitting_of : (r : Room) (ts : List Token) (ps : List (LineAndGap Token)) → joined ps ≡ ts → (c : ClosedBreak r.first r ps) → FittingBreak r ts c.breaks
+fitting_of : (r : Room) (ts : List Token) (ps : List (LineAndGap Token)) → lines_and_gaps ps ≡ ts → (c : ClosedBreak r.first r ps) → FittingBreak r ts c.breaks
 fitting_of r ts ps covers c = record { trimming = record { some_line = c.some_line; covers = c.covers ∙ covers; fits = c.fits }; ends = c.ends }
 
 -- the one placing

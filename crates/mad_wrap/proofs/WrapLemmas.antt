@@ -4,12 +4,12 @@ use Rattle.std.specs.List.{AllByRecursion}
 use Rattle.mad_columns.specs.Columns.{char_columns}
 use Rattle.mad_md.specs.Flagged.{flagged_text}
 use Rattle.mad_md.specs.declared.compound.Compound.{Compound}
-use Rattle.mad_fit.specs.Columns.{width_of}
+use Rattle.mad_fit.specs.TextColumns.{width_of}
 use Rattle.mad_fit.specs.Tokens.{tokens_text}
 use Rattle.mad_fit.specs.declared.tokens.Token.{Token}
 use Rattle.mad_fit.proofs.TokenTexts.{IsHonest, text_of_all, all_honest}
 use Rattle.mad_fit.proofs.UniqueLemmas.{all_unique}
-use Rattle.mad_wrap.specs.Breaks.{joined, total_width}
+use Rattle.mad_wrap.specs.Breaks.{lines_and_gaps, total_width}
 use Rattle.mad_wrap.specs.CleanCut.{clean_cut}
 use Rattle.mad_wrap.specs.Keeps.{Keeps}
 use Rattle.mad_wrap.specs.LeastWrap.{AreTokensIn, AreTokenized, IsLeastBreak, IsWrap}
@@ -73,7 +73,7 @@ placed_wrap r ps ts lines wide uncut tokens h =
     let text = ap tokens_text placing.covers ∙ text_of_all max ps ts tokens in
     let texts = texts_are h.breaks lines h.holds in
     record {
-      keeps = subst (λ x. Keeps x (map flagged_text (compounds_of lines))) text (subst (Keeps (tokens_text (joined h.breaks))) texts (keeps_break max r.first r h.breaks placing.gaps honest));
+      keeps = subst (λ x. Keeps x (map flagged_text (compounds_of lines))) text (subst (Keeps (tokens_text (lines_and_gaps h.breaks))) texts (keeps_break max r.first r h.breaks placing.gaps honest));
       fits = λ room. subst (LinesFit r.first r) texts (fit_break max r.first r h.breaks honest (fits_with_room r ts h.breaks h.first_fit (room_for_tokens r ps ts tokens room)));
       some = λ room _.
           let there = some_tokens r ts (omega (arith, wide, total_is r ps ts tokens)) room.indent in

@@ -10,9 +10,9 @@ pub record LineAndGap (A : Type 0) : Type 0 where
   pub gap : List A
 
 -- line, gap, line, gap, ..
-abbrev pub joined : {A : Type 0} → List (LineAndGap A) → List A
-joined [] = []
-joined (p ∷ ps) = p.line ++ (p.gap ++ joined ps)
+abbrev pub lines_and_gaps : {A : Type 0} → List (LineAndGap A) → List A
+lines_and_gaps [] = []
+lines_and_gaps (p ∷ ps) = p.line ++ (p.gap ++ lines_and_gaps ps)
 
 -- the columns that tokens take
 abbrev pub total_width : List Token → ℕ
@@ -38,7 +38,7 @@ EndsWithLine (p ∷ q ∷ ps) = EndsWithLine (q ∷ ps)
 -- and may be dropped after the last.
 pub record TrimmingBreak (r : Room) (ts : List Token) (breaks : List (LineAndGap Token)) : Type 0 where
   pub some_line : 0 < length breaks
-  pub covers : joined breaks ≡ ts
+  pub covers : lines_and_gaps breaks ≡ ts
   pub fits : FitsFrom r.first r breaks
 
 -- A fitting break: the same, but blanks are dropped between lines only.

@@ -3,7 +3,7 @@ use Rattle.std.specs.Prelude.{◌≡◌, ℕ, ◌+◌, ◌<◌, ◌≤◌, false
 use Rattle.mad_md.specs.Flagged.{FlaggedChar, Run}
 use Rattle.mad_fit.specs.Tokens.{token_run, tokens_text}
 use Rattle.mad_fit.specs.declared.tokens.Token.{Token}
-use Rattle.mad_wrap.specs.Breaks.{LineAndGap, joined, total_width, AllBlank}
+use Rattle.mad_wrap.specs.Breaks.{LineAndGap, lines_and_gaps, total_width, AllBlank}
 use Rattle.mad_wrap.specs.declared.room.Room.{Room}
 
 -- each gap is blank, and one that isn't empty begins with a token that doesn't fit after its line
@@ -14,7 +14,7 @@ GapsForced indent r (p ∷ ps) = AllBlank p.gap × ((t : Token) (others : List T
 -- The tokens are placed in order, at least on one line. Only blanks are dropped, and these only after a line that is full.
 pub record IsPlacing (r : Room) (ts : List Token) (breaks : List (LineAndGap Token)) : Type 0 where
   pub some_line : 0 < length breaks
-  pub covers : joined breaks ≡ ts
+  pub covers : lines_and_gaps breaks ≡ ts
   pub gaps : GapsForced r.first r breaks
 
 -- a line begins with a token that isn't blank, and that doesn't fit after the line before it with what is dropped between them

@@ -2,7 +2,7 @@
 
 ghost use Rattle.std.specs.Prelude.{◌≡◌, ◌≢◌, ℕ, ◌<◌, ◌≤◌, ◌^◌, ◌⊎◌, ◌==◌, ◌&&◌, List, ◌∷◌, length, IsTrue, IfSome, IfNone};
 ghost use Rattle.mad_fit.specs.declared.tokens.Token.{Token};
-ghost use Rattle.mad_fit.specs.TokensLeft.{AreLeft};
+ghost use Rattle.mad_fit.specs.TokensLeft.{AreTokensLeft};
 ghost use Rattle.mad_wrap.specs.Bounds.{are_starts, are_starts_from};
 ghost use Rattle.mad_wrap.specs.LeastBound.{IsBound};
 ghost use Rattle.mad_wrap.specs.LineRoom.{is_right};
@@ -46,7 +46,7 @@ fn first_and_others(starts: &[usize]) -> (bool, &[usize])
 
 // Checks the starts as the tokens come.
 fn check(tokens: Tokens, room: Room, starts: &[usize]) -> bool
-    ensures { (ts : List Token) × AreLeft tokens.entry ts × (result ≡ are_starts room ts starts.now) }
+    ensures { (ts : List Token) × AreTokensLeft tokens.entry ts × (result ≡ are_starts room ts starts.now) }
 {
     // The starts that haven't been met, and the one before them.
     let (mut holds, mut others) = first_and_others(starts);

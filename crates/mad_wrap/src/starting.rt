@@ -3,7 +3,7 @@
 ghost use Rattle.std.specs.Prelude.{◌≡◌, ◌≤◌, ◌<◌, ◌+◌, ◌∷◌, ◌++◌, [], OnOk, List, length, IfOk, MatchOption};
 ghost use Rattle.mad_wrap.specs.Breaks.{total_width};
 ghost use Rattle.mad_md.specs.Flagged.{flagged_text};
-ghost use Rattle.mad_fit.specs.TokensLeft.{AreLeft};
+ghost use Rattle.mad_fit.specs.TokensLeft.{AreTokensLeft};
 ghost use Rattle.mad_fit.specs.declared.tokens.Token.{Token};
 ghost use Rattle.mad_wrap.specs.LeastWrap.{AreTokenized};
 ghost use Rattle.mad_wrap.specs.LeastBound.{IsBound, AreChecked, AreStartsOf, AreFewest, AreCutStarts, IsFirstPast};
@@ -45,7 +45,7 @@ pub fn wrap_starts(
 
 // The starts of a clean cut: 0, and the first token with which the tokens pass the first line.
 fn cut_starts(alloc: Global, tokens: Tokens, room: Room) -> Result<Vec<usize>, AllocError>
-    ensures { IfOk result (λ starts. room.first ≤ room.width → (ts : List Token) × AreLeft tokens.entry ts × AreCutStarts room ts starts.items) }
+    ensures { IfOk result (λ starts. room.first ≤ room.width → (ts : List Token) × AreTokensLeft tokens.entry ts × AreCutStarts room ts starts.items) }
 {
     let mut starts = Vec::new(alloc);
     starts.push(0)?;
@@ -57,7 +57,7 @@ fn cut_starts(alloc: Global, tokens: Tokens, room: Room) -> Result<Vec<usize>, A
 
 // The tokens that begin the lines, and the first of the blanks that are dropped at the end.
 fn line_starts(alloc: Global, tokens: Tokens, room: Room) -> Result<Vec<usize>, AllocError>
-    ensures { IfOk result (λ starts. (ts : List Token) × AreLeft tokens.entry ts × ArePlacedStarts room ts starts.items) }
+    ensures { IfOk result (λ starts. (ts : List Token) × AreTokensLeft tokens.entry ts × ArePlacedStarts room ts starts.items) }
 {
     let mut starts = Vec::new(alloc);
     starts.push(0)?;
@@ -85,7 +85,7 @@ fn line_starts(alloc: Global, tokens: Tokens, room: Room) -> Result<Vec<usize>, 
 
 // The first token with which the tokens from the first on pass the first line.
 fn first_past(tokens: Tokens, room: Room) -> Result<Option<usize>, AllocError>
-    ensures { IfOk result (λ past. (ts : List Token) × AreLeft tokens.entry ts
+    ensures { IfOk result (λ past. (ts : List Token) × AreTokensLeft tokens.entry ts
         × MatchOption past (room.first ≤ room.width → room.first + total_width ts ≤ room.width) (IsFirstPast room ts)) }
 {
     let mut past = None;

@@ -2,7 +2,7 @@
 
 ghost use Rattle.std.specs.Prelude.{◌<◌, ◌+◌, IfOk};
 ghost use Rattle.mad_md.specs.Flagged.{flagged_text};
-ghost use Rattle.mad_fit.specs.Columns.{width_of};
+ghost use Rattle.mad_fit.specs.TextColumns.{width_of};
 ghost use Rattle.mad_wrap.specs.LeastWrap.{IsWrap};
 ghost use Rattle.mad_wrap.specs.WrapLines.{compounds_of, AreCounted};
 ghost use Rattle.mad_wrap.specs.PlacedLines.{AreTwoLines};

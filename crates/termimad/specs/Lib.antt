@@ -48,7 +48,7 @@ pub use Rattle.mad_parse.specs.Names
 pub use Rattle.mad_parse.specs.Numbers
 pub use Rattle.mad_parse.specs.Reading as ParseReading
 pub use Rattle.mad_parse.specs.ReadsBack
-pub use Rattle.mad_parse.specs.Styles as ParseStyles
+pub use Rattle.mad_parse.specs.TokenStyles
 pub use Rattle.mad_parse.specs.StyleTokens
 pub use Rattle.mad_parse.specs.Written
 pub use Rattle.mad_widths.specs.ColumnWidths
@@ -57,7 +57,7 @@ pub use Rattle.mad_widths.specs.TableFits
 pub use Rattle.mad_widths.specs.Turns
 pub use Rattle.mad_widths.specs.WorkedWidths
 pub use Rattle.mad_fit.specs.Areas
-pub use Rattle.mad_fit.specs.Columns as TextColumns
+pub use Rattle.mad_fit.specs.TextColumns
 pub use Rattle.mad_fit.specs.Completions
 pub use Rattle.mad_fit.specs.TokenPlaces
 pub use Rattle.mad_fit.specs.Tokens
@@ -84,9 +84,9 @@ pub use Rattle.mad_blocks.specs.LayoutLaws
 pub use Rattle.mad_blocks.specs.LayoutExamples
 pub use Rattle.mad_blocks.specs.Layouts
 pub use Rattle.mad_format.specs.LineRules
-pub use Rattle.mad_format.specs.Lines as LayoutLines
+pub use Rattle.mad_format.specs.FmtLines
 pub use Rattle.mad_layout.specs.MadeSkins
-pub use Rattle.mad_blocks.specs.Parts as LayoutParts
+pub use Rattle.mad_blocks.specs.LayoutParts
 pub use Rattle.mad_layout.specs.PlainTables
 pub use Rattle.mad_layout.specs.Premises
 pub use Rattle.mad_layout.specs.RecoloredSkins
@@ -97,7 +97,7 @@ pub use Rattle.mad_layout.specs.Shown
 pub use Rattle.mad_layout.specs.ShownLayouts
 pub use Rattle.mad_layout.specs.SkinParts
 pub use Rattle.mad_layout.specs.Skins
-pub use Rattle.mad_rows.specs.Styles as SkinStyles
+pub use Rattle.mad_rows.specs.RowStyles
 pub use Rattle.mad_blocks.specs.TableLaws
 pub use Rattle.mad_blocks.specs.Tables
 pub use Rattle.mad_blocks.specs.TextParts

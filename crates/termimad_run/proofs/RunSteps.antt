@@ -17,7 +17,7 @@ use Rattle.termimad_run.specs.declared.failure.Failure.TheVariants.{Io, Usage, N
 use Rattle.termimad_run.specs.Calls.{RefusesWords}
 use Rattle.termimad_run.specs.Failures.{failure_of}
 use Rattle.termimad_run.specs.Reading.{ReadsWhole, ReadingFails}
-use Rattle.termimad_run.specs.Runs.{Devices, Starts, Started, FailsToStart, HasRead, WritesCall, ShowsCall, RunsTo}
+use Rattle.termimad_run.specs.ProgramRuns.{Devices, Starts, Started, FailsToStart, HasRead, WritesCall, ShowsCall, RunsTo}
 
 -- the call that was parsed
 abbrev pub started : (words : List (List ℕ)) (old new : Trace) (command : Command) (skin : MadSkin) (unknown : List (List ℕ)) → Starts words old command skin unknown new → Started words old new

@@ -9,7 +9,7 @@ use Rattle.mad_term.specs.Trace.{Trace}
 use Rattle.termimad_run.specs.GivenSkins.{skin_given}
 use Rattle.termimad_run.specs.Calls.{IsSkinWord, Asks, AsksRefusedSkin}
 use Rattle.termimad_run.specs.Failures.{status_of}
-use Rattle.termimad_run.specs.Runs.{Devices, Started, RunsTo}
+use Rattle.termimad_run.specs.ProgramRuns.{Devices, Started, RunsTo}
 
 one_word : (words : List (List ℕ)) (a b : Option (List ℕ)) → IsSkinWord words a → IsSkinWord words b → a ≡ b
 one_word [] a b h k = h ∙ sym k

@@ -9,8 +9,8 @@ use Rattle.mad_term.specs.Draws.{Refused}
 use Rattle.termimad.specs.Inlines.{WritesInline}
 use Rattle.termimad.specs.RowSkins.{row_skin}
 use Rattle.termimad.specs.declared.MadSkin.{MadSkin}
-use Rattle.termimad_run.specs.Lines.{IsWithoutLineEnd}
-use Rattle.termimad_run.specs.Runs.{WritesLine}
+use Rattle.termimad_run.specs.LineEnds.{IsWithoutLineEnd}
+use Rattle.termimad_run.specs.ProgramRuns.{WritesLine}
 use Rattle.mad_term.proofs.Exits.{refused_exit}
 use Rattle.mad_term.proofs.Traces.{cut_in_first, cut_in_second, stopped_in_first, stopped_in_second, took_both}
 

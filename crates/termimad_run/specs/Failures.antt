@@ -17,12 +17,12 @@ status_of Skin = 4
 status_of Memory = 5
 
 -- the line on standard error
-abbrev pub line_of : Failure → List ℕ
-line_of Io = codes "termimad-view: io\n"
-line_of Usage = codes "usage: termimad-view area L T W H [SKIN] | text W [SKIN] | inline [SKIN]\n"
-line_of NotUtf8 = codes "termimad-view: input is not UTF-8\n"
-line_of Skin = codes "termimad-view: skin\n"
-line_of Memory = codes "termimad-view: memory\n"
+abbrev pub failure_line : Failure → List ℕ
+failure_line Io = codes "termimad-view: io\n"
+failure_line Usage = codes "usage: termimad-view area L T W H [SKIN] | text W [SKIN] | inline [SKIN]\n"
+failure_line NotUtf8 = codes "termimad-view: input is not UTF-8\n"
+failure_line Skin = codes "termimad-view: skin\n"
+failure_line Memory = codes "termimad-view: memory\n"
 
 -- what the refusal of a writing call makes of a run; none refuses by a width
 abbrev pub failure_of : Error → Failure

@@ -1,7 +1,7 @@
 pub mod Calls
 pub mod Failures
 pub mod GivenSkins
-pub mod Lines
+pub mod LineEnds
 pub mod Numbers
 pub mod Reading
-pub mod Runs
+pub mod ProgramRuns

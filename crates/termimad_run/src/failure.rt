@@ -2,7 +2,7 @@
 
 ghost use Rattle.std.specs.Prelude.{◌≡◌};
 ghost use Rattle.serde_json.specs.Errors.{IsMemory};
-ghost use Rattle.termimad_run.specs.Failures.{status_of, line_of, failure_of, skin_failure, SaysOnce};
+ghost use Rattle.termimad_run.specs.Failures.{status_of, failure_line, failure_of, skin_failure, SaysOnce};
 
 use std::alloc::{AllocError, AllocFailed};
 use std::io;
@@ -39,7 +39,7 @@ impl Failure {
 
     /// What standard error gets: one line.
     pub fn line(self) -> &'static [u8]
-        ensures { result.now ≡ line_of self }
+        ensures { result.now ≡ failure_line self }
     {
         match self {
             Failure::Io => b"termimad-view: io\n",
@@ -122,7 +122,7 @@ impl From<SkinError> for Failure {
 /// Says a failure on a device, once, and answers its status. A fault of the device changes nothing.
 pub fn refuse<E: Out>(err: &mut E, failure: Failure) -> u8
     ensures status { result ≡ status_of failure }
-    ensures said { SaysOnce (E.seen err.old) (line_of failure) (E.seen err.new) }
+    ensures said { SaysOnce (E.seen err.old) (failure_line failure) (E.seen err.new) }
 {
     let _ = put_all(err, failure.line());
     failure.status()

@@ -2,7 +2,7 @@
 
 ghost use Rattle.std.specs.Prelude.{◌≡◌, ◌↔◌, ◌⊎◌, MatchResult, map, string_bytes};
 ghost use Rattle.termimad_run.specs.Calls.{IsNoCall, AsksRefusedSkin};
-ghost use Rattle.termimad_run.specs.Runs.{Starts, FailsToStart, RunsTo, HasRun};
+ghost use Rattle.termimad_run.specs.ProgramRuns.{Starts, FailsToStart, RunsTo, HasRun};
 
 use crate::call::{Call, parse_call};
 use crate::failure::{Failure, refuse};

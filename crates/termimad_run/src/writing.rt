@@ -2,8 +2,8 @@
 
 ghost use Rattle.std.specs.Prelude.{OnOk};
 ghost use Rattle.termimad_run.specs.Calls.{IsAllowed};
-ghost use Rattle.termimad_run.specs.Lines.{IsWithoutLineEnd};
-ghost use Rattle.termimad_run.specs.Runs.{WritesCall, ShowsCall, WritesLine};
+ghost use Rattle.termimad_run.specs.LineEnds.{IsWithoutLineEnd};
+ghost use Rattle.termimad_run.specs.ProgramRuns.{WritesCall, ShowsCall, WritesLine};
 
 use crate::call::Command;
 use std::alloc::Global;
@@ -33,7 +33,7 @@ pub fn write_call<O: Out>(
         Command::AtWidth(width) => {
             skin.write_parts_on(alloc, out, text, Some(usize::from(*width)))
         }
-        Command::Inline => write_line(alloc, out, skin, line_of(text)),
+        Command::Inline => write_line(alloc, out, skin, without_line_end(text)),
     }
 }
 
@@ -47,7 +47,7 @@ fn write_line<O: Out>(alloc: Global, out: &mut O, skin: &MadSkin, line: &str) ->
 }
 
 // A text without its end of line: a final `\n`, and a `\r` before it.
-fn line_of(text: &str) -> &str
+fn without_line_end(text: &str) -> &str
     ensures { IsWithoutLineEnd text.entry.now result.now }
 {
     let Some(line) = text.strip_suffix('\n') else {

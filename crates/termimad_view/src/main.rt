@@ -3,8 +3,8 @@
 
 ghost use Rattle.std.specs.Prelude.{◌≡◌, drop, IfOk, MatchResult};
 ghost use Rattle.std.specs.Vec.Iter.{into_iter_items};
-ghost use Rattle.termimad_run.specs.Failures.{status_of, line_of, SaysOnce};
-ghost use Rattle.termimad_run.specs.Runs.{HasRunOnStreams};
+ghost use Rattle.termimad_run.specs.Failures.{status_of, failure_line, SaysOnce};
+ghost use Rattle.termimad_run.specs.ProgramRuns.{HasRunOnStreams};
 
 use std::alloc::{AllocError, Global};
 use std::io::{BufWriter, ErrorKind};
@@ -22,7 +22,7 @@ fn main(rt: HostRuntime) -> ExitCode {
 // The status of a run; that of a failure which came before it, and is said.
 fn status_after<E: Out>(ran: Result<u8, Failure>, err: &mut E) -> u8
     ensures { MatchResult ran (λ status. (result ≡ status) × (E.seen err.new ≡ E.seen err.old))
-        (λ failure. (result ≡ status_of failure) × SaysOnce (E.seen err.old) (line_of failure) (E.seen err.new)) }
+        (λ failure. (result ≡ status_of failure) × SaysOnce (E.seen err.old) (failure_line failure) (E.seen err.new)) }
 {
     match ran {
         Ok(status) => status,

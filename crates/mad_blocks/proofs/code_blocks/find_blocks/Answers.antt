@@ -1,7 +1,7 @@
 use Rattle.std.proofs.Common.{◌≡◌, List, [], ◌∷◌, ◌++◌, ◌+◌, ap, sym, ◌∙◌, arith, drop, append_assoc, append-nil}
 use Rattle.std.proofs.lemmas.List.{drop_all}
 use Rattle.mad_blocks.specs.CodeBlocks.{blocks_among}
-use Rattle.mad_blocks.specs.Parts.{parts_of}
+use Rattle.mad_blocks.specs.LayoutParts.{parts_of}
 use Rattle.mad_format.specs.declared.line.FmtLine.{FmtLine}
 use Rattle.mad_blocks.proofs.CodeBlockLemmas.{found_none, found_some, within_lines}
 use Rattle.mad_blocks.proofs.code_blocks.find_blocks.Goals as goal

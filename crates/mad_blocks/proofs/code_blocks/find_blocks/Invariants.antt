@@ -1,6 +1,6 @@
 use Rattle.std.proofs.Common.{◌≡◌, ◌≤◌, ◌++◌, ◌-◌, length, drop}
 use Rattle.mad_blocks.specs.CodeBlocks.{blocks_among, code_blocks}
-use Rattle.mad_blocks.specs.Parts.{parts_of}
+use Rattle.mad_blocks.specs.LayoutParts.{parts_of}
 use Rattle.mad_blocks.proofs.code_blocks.find_blocks.Given as goal
 
 abbrev pub invariant-loop-start : goal.invariant-loop-start

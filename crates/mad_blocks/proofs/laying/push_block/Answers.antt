@@ -2,7 +2,7 @@ use Rattle.std.proofs.Common.{rules, ◌≡◌, ◌++◌, ℕ, List, Option, map
 use Rattle.std.specs.List.{AllByRecursion}
 use Rattle.std.specs.Vec.Iter.{into_iter_items}
 use Rattle.std.proofs.lemmas.Grind.{common_steps}
-use Rattle.mad_blocks.specs.Parts.{block_width, justified, code_room, IsLineAt, AreLinesAt}
+use Rattle.mad_blocks.specs.LayoutParts.{block_width, justified, code_room, IsLineAt, AreLinesAt}
 use Rattle.mad_format.specs.CompositeWraps.{IsCompositeWrap}
 use Rattle.mad_format.specs.Wraps.{IsMeasured}
 use Rattle.mad_format.specs.declared.line.FmtLine.{FmtLine}

@@ -1,7 +1,7 @@
 use Rattle.std.proofs.Common.{◌∷◌, [], map, ap, refl, subst, sym}
 use Rattle.mad_md.specs.Flagged.{run_of}
 use Rattle.mad_format.specs.CompositeWraps.{IsCompositeWrap}
-use Rattle.mad_blocks.specs.Parts.{IsLineAt}
+use Rattle.mad_blocks.specs.LayoutParts.{IsLineAt}
 use Rattle.mad_format.specs.declared.line.FmtLine.TheVariants.{Normal}
 use Rattle.mad_format.proofs.WrapLemmas.{then_ok}
 use Rattle.mad_blocks.proofs.laying.push_read_at.Goals as goal

@@ -1,5 +1,5 @@
 use Rattle.std.proofs.Common.{◌≡◌, max, drop}
-use Rattle.mad_blocks.specs.Parts.{widest}
+use Rattle.mad_blocks.specs.LayoutParts.{widest}
 use Rattle.mad_blocks.proofs.laying.widest.Given as goal
 
 abbrev pub invariant-loop-composite : goal.invariant-loop-composite

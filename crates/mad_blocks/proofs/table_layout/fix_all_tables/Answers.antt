@@ -1,7 +1,7 @@
 use Rattle.std.proofs.Common.{◌≡◌, [], false, sym, ap, ◌∙◌, arith}
 use Rattle.std.specs.Vec.Iter.{into_iter_items}
 use Rattle.std.proofs.lemmas.Grind.{common_steps}
-use Rattle.mad_format.specs.Lines.{is_table_line}
+use Rattle.mad_format.specs.FmtLines.{is_table_line}
 use Rattle.mad_format.proofs.WrapLemmas.{then_ok}
 use Rattle.mad_blocks.proofs.TableLemmas.{tables_start, tables_line, tables_other, tables_all}
 use Rattle.mad_blocks.proofs.table_layout.fix_all_tables.Goals as goal

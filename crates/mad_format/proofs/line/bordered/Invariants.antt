@@ -1,5 +1,5 @@
 use Rattle.std.proofs.Common.{◌≡◌, ◌+◌, ◌<◌, ◌^◌, drop}
-use Rattle.mad_format.specs.Lines.{bordered}
+use Rattle.mad_format.specs.FmtLines.{bordered}
 use Rattle.mad_wrap.specs.WrapLines.{capped}
 use Rattle.mad_format.proofs.line.bordered.Given as goal
 

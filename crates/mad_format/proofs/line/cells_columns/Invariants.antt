@@ -1,5 +1,5 @@
 use Rattle.std.proofs.Common.{◌≡◌, ◌+◌, ◌<◌, ◌^◌, drop}
-use Rattle.mad_format.specs.Lines.{cells_columns}
+use Rattle.mad_format.specs.FmtLines.{cells_columns}
 use Rattle.mad_wrap.specs.WrapLines.{capped}
 use Rattle.mad_format.proofs.line.cells_columns.Given as goal
 

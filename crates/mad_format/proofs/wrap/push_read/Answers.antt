@@ -1,6 +1,6 @@
 use Rattle.std.proofs.Common.{◌<◌, ◌+◌, map, ap, ◌∙◌, arith, subst}
 use Rattle.mad_md.specs.Flagged.{run_of, flagged_text}
-use Rattle.mad_fit.specs.Columns.{width_of}
+use Rattle.mad_fit.specs.TextColumns.{width_of}
 use Rattle.mad_wrap.specs.LeastWrap.{IsWrap}
 use Rattle.mad_wrap.specs.WrapLines.{compounds_of}
 use Rattle.mad_format.specs.Indents.{room_of}
@@ -15,12 +15,12 @@ pub returns-in_default : goal.returns-in_default
 returns-in_default g c =
     let made = c.in_ok-wrap in
     let wrap : IsWrap c.room_of-room.result c.args.composite.compounds.items (compounds_of made.wrap.items) = subst (λ ps. IsWrap c.room_of-room.result ps (compounds_of made.wrap.items)) c.deref-in_default.ensures.value made.ensures.wrapped in
-    then_ok _ _ c.push_wrapped.result (read_wraps (g.S.LineSkin.rules c.args.skin.now) c.args.width c.args.composite.style c.from-kind.result c.args.composite.compounds c.margins_in-inner.result.0 c.room_of-room.result made.wrap.items c.args.lines.now.items c.push_wrapped.new.lines.items
-    c.from-kind.ensures c.margins_in-inner.ensures.margins (c.room_of-room.ensures ∙ ap (room_of (g.S.LineSkin.rules c.args.skin.now) c.from-kind.result) c.margins_in-inner.ensures.inner) (subst (λ ps. c.room_of-room.result.width < c.room_of-room.result.first + width_of (flagged_text ps)) c.deref.ensures.value c.in_default.ensures) (omega (arith, c.if-width-eq18446744073709551615.false, c.ranges.width.fits)) wrap made.ensures.counted) c.push_wrapped.ensures
+    then_ok _ _ c.push_wrapped.result (read_wraps (g.S.LineSkin.rules c.args.skin.now) c.args.width c.args.composite.style c.from-kind.result c.args.composite.compounds c.margins_and_rest-inner.result.0 c.room_of-room.result made.wrap.items c.args.lines.now.items c.push_wrapped.new.lines.items
+    c.from-kind.ensures c.margins_and_rest-inner.ensures.margins (c.room_of-room.ensures ∙ ap (room_of (g.S.LineSkin.rules c.args.skin.now) c.from-kind.result) c.margins_and_rest-inner.ensures.inner) (subst (λ ps. c.room_of-room.result.width < c.room_of-room.result.first + width_of (flagged_text ps)) c.deref.ensures.value c.in_default.ensures) (omega (arith, c.if-width-eq18446744073709551615.false, c.ranges.width.fits)) wrap made.ensures.counted) c.push_wrapped.ensures
 
 pub returns : goal.returns
 returns g c =
     let fits = c.in-Some.ensures in
-    then_ok _ _ c.put_line.result (λ pushed. read_fits (g.S.LineSkin.rules c.args.skin.now) c.args.width c.in-Some.columns c.args.composite.style c.from-kind.result c.args.composite.compounds c.margins_in-inner.result.0 c.room_of-room.result c.args.lines.now.items c.put_line.new.lines.items
-    c.from-kind.ensures c.margins_in-inner.ensures.margins (c.room_of-room.ensures ∙ ap (room_of (g.S.LineSkin.rules c.args.skin.now) c.from-kind.result) c.margins_in-inner.ensures.inner) (fits.0 ∙ ap (λ ps. width_of (flagged_text ps)) c.deref.ensures.value) fits.1 c.ranges.width.fits
+    then_ok _ _ c.put_line.result (λ pushed. read_fits (g.S.LineSkin.rules c.args.skin.now) c.args.width c.in-Some.columns c.args.composite.style c.from-kind.result c.args.composite.compounds c.margins_and_rest-inner.result.0 c.room_of-room.result c.args.lines.now.items c.put_line.new.lines.items
+    c.from-kind.ensures c.margins_and_rest-inner.ensures.margins (c.room_of-room.ensures ∙ ap (room_of (g.S.LineSkin.rules c.args.skin.now) c.from-kind.result) c.margins_and_rest-inner.ensures.inner) (fits.0 ∙ ap (λ ps. width_of (flagged_text ps)) c.deref.ensures.value) fits.1 c.ranges.width.fits
     pushed) c.put_line.ensures

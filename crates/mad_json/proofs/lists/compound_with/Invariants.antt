@@ -1,6 +1,6 @@
 use Rattle.std.proofs.Common.{◌≡◌, filter, drop}
 use Rattle.mad_term.specs.Attributes.{has_attribute}
-use Rattle.mad_parse.specs.Styles.{all_added}
+use Rattle.mad_parse.specs.TokenStyles.{all_added}
 use Rattle.mad_parse.specs.Written.{written_attributes}
 use Rattle.mad_json.specs.Lists.{compound_with}
 use Rattle.mad_json.proofs.lists.compound_with.Given as goal

@@ -1,6 +1,6 @@
 use Rattle.std.proofs.Common.{◌≡◌, [], drop}
 use Rattle.serde_json.specs.View.{items_view}
-use Rattle.mad_parse.specs.Styles.{item_style_of}
+use Rattle.mad_parse.specs.TokenStyles.{item_style_of}
 use Rattle.mad_json.specs.Lists.{items_said}
 use Rattle.mad_json.proofs.lists.item_styles_of.Given as goal
 

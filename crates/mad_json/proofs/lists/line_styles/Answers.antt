@@ -1,7 +1,7 @@
 use Rattle.std.proofs.Common.{◌≡◌, [], ◌∷◌, ◌++◌, ap, arith, rules}
 use Rattle.std.proofs.lemmas.Grind.{common_steps}
 use Rattle.serde_json.specs.View.{items_view}
-use Rattle.mad_parse.specs.Styles.{line_style_of}
+use Rattle.mad_parse.specs.TokenStyles.{line_style_of}
 use Rattle.mad_json.specs.Faults.{TellsValue}
 use Rattle.mad_json.specs.Lists.{items_said}
 use Rattle.mad_json.proofs.ItemLemmas.{items_more, items_refused, items_all}

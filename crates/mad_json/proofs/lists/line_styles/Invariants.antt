@@ -1,6 +1,6 @@
 use Rattle.std.proofs.Common.{◌≡◌, [], drop}
 use Rattle.serde_json.specs.View.{items_view}
-use Rattle.mad_parse.specs.Styles.{line_style_of}
+use Rattle.mad_parse.specs.TokenStyles.{line_style_of}
 use Rattle.mad_json.specs.Lists.{items_said}
 use Rattle.mad_json.proofs.lists.line_styles.Given as goal
 

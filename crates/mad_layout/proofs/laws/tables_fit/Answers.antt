@@ -4,7 +4,7 @@ use Rattle.mad_blocks.specs.Tables.{columns_count}
 use Rattle.mad_layout.proofs.DrawableTables.{tables_fitting}
 use Rattle.mad_blocks.proofs.WrapKinds.{table_by, wrap_fits}
 use Rattle.mad_layout.proofs.laws.tables_fit.Goals as goal
-use Rattle.mad_rows.specs.Styles.{line_rules}
+use Rattle.mad_rows.specs.RowStyles.{line_rules}
 
 pub returns-clause-fitting : goal.returns-clause-fitting
 returns-clause-fitting c = tables_fitting

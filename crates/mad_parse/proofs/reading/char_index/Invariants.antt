@@ -1,5 +1,5 @@
 use Rattle.std.proofs.Common.{◌≡◌, ◌+◌, drop}
-use Rattle.mad_parse.specs.Styles.{char_index}
+use Rattle.mad_parse.specs.TokenStyles.{char_index}
 use Rattle.mad_parse.proofs.reading.char_index.Given as goal
 
 abbrev pub invariant-loop-token : goal.invariant-loop-token

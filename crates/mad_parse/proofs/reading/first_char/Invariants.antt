@@ -1,5 +1,5 @@
 use Rattle.std.proofs.Common.{◌≡◌, drop}
-use Rattle.mad_parse.specs.Styles.{first_or, chars_of}
+use Rattle.mad_parse.specs.TokenStyles.{first_or, chars_of}
 use Rattle.mad_parse.proofs.reading.first_char.Given as goal
 
 abbrev pub invariant-loop-token : goal.invariant-loop-token

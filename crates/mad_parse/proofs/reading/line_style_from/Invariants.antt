@@ -1,7 +1,7 @@
 use Rattle.std.proofs.Common.{◌≡◌, false, drop}
 use Rattle.mad_md.specs.declared.alignment.Alignment.TheVariants.{Unspecified}
 use Rattle.mad_style.specs.LineStyles.{unmargined}
-use Rattle.mad_parse.specs.Styles.{style_of}
+use Rattle.mad_parse.specs.TokenStyles.{style_of}
 use Rattle.mad_parse.proofs.StyleLemmas.{placed_after}
 use Rattle.mad_parse.proofs.reading.line_style_from.Given as goal
 

@@ -1,5 +1,5 @@
 use Rattle.std.proofs.Common.{◌≡◌, ◌+◌, ◌<◌, ◌^◌, drop, map}
-use Rattle.mad_format.specs.Lines.{bordered}
+use Rattle.mad_format.specs.FmtLines.{bordered}
 use Rattle.mad_rows.specs.Rows.{inner_columns}
 use Rattle.mad_wrap.specs.WrapLines.{capped}
 use Rattle.mad_rows.proofs.rows.row_columns.Given as goal

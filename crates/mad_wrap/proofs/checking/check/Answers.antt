@@ -1,5 +1,5 @@
 use Rattle.std.proofs.Common.{sym, ◌∙◌, arith, subst}
-use Rattle.mad_fit.specs.TokensLeft.{AreLeft}
+use Rattle.mad_fit.specs.TokensLeft.{AreTokensLeft}
 use Rattle.mad_fit.proofs.CursorLemmas.{all_read}
 use Rattle.mad_wrap.proofs.CheckLemmas.{check_begins, check_misses, check_meets, check_ends}
 use Rattle.mad_wrap.proofs.checking.check.Goals as goal
@@ -20,6 +20,6 @@ pub returns : goal.returns
 returns c =
     let left = all_read c.loop-token.yielded _ _ c.loop-token.yielded_by c.in-None.ensures.steps.0 in (
       c.loop-token.yielded,
-      subst (λ s. AreLeft s c.loop-token.yielded) c.into_iter-token-iterator.ensures.into_iter_gives left,
+      subst (λ s. AreTokensLeft s c.loop-token.yielded) c.into_iter-token-iterator.ensures.into_iter_gives left,
       c.is_done.ensures ∙ check_ends _ _ _ _ _ _ _ _ _ c.loop-token.invariant ∙ sym (c.first_and_others-holds.ensures c.args.room c.loop-token.yielded),
     )

@@ -1,5 +1,5 @@
 use Rattle.std.proofs.Common.{◌+◌, ◌++◌, ◌∷◌, [], refl, sym, ap, ◌∙◌, subst}
-use Rattle.mad_fit.specs.TokensLeft.{AreLeft}
+use Rattle.mad_fit.specs.TokensLeft.{AreTokensLeft}
 use Rattle.mad_fit.proofs.CursorLemmas.{all_read}
 use Rattle.mad_wrap.specs.WrapLines.{capped}
 use Rattle.mad_wrap.specs.declared.wrapped_line.WrappedLine.{WrappedLine}
@@ -44,6 +44,6 @@ returns c =
     let held = c.loop-token.invariant.so_far in
     let left = all_read c.loop-token.yielded _ _ c.loop-token.yielded_by c.in-None.ensures.steps.0 in (
       c.loop-token.yielded,
-      subst (λ s. AreLeft s c.loop-token.yielded) c.into_iter-token-iterator.ensures.into_iter_gives left,
+      subst (λ s. AreTokensLeft s c.loop-token.yielded) c.into_iter-token-iterator.ensures.into_iter_gives left,
       placed_all _ _ _ _ _ _ _ held.placed c.in_ok-push.ensures.items,
     )

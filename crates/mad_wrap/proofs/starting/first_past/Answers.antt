@@ -1,6 +1,6 @@
 use Rattle.std.proofs.Common.{subst, arith, ap, ◌∙◌}
 use Rattle.std.specs.Option.{option_or}
-use Rattle.mad_fit.specs.TokensLeft.{AreLeft}
+use Rattle.mad_fit.specs.TokensLeft.{AreTokensLeft}
 use Rattle.mad_fit.proofs.CursorLemmas.{all_read}
 use Rattle.mad_wrap.proofs.PastLemmas.{past_begins, past_more}
 use Rattle.mad_wrap.proofs.starting.first_past.Goals as goal
@@ -14,4 +14,4 @@ loop-token-preserved c = past_more _ _ c.in-Some.token _ _ _ _ _ _ c.loop-token.
 pub returns : goal.returns
 returns c =
     let left = all_read c.loop-token.yielded _ _ c.loop-token.yielded_by c.in-None.ensures.steps.0 in
-    (c.loop-token.yielded, subst (λ s. AreLeft s c.loop-token.yielded) c.into_iter-token-iterator.ensures.into_iter_gives left, c.loop-token.invariant.past_is)
+    (c.loop-token.yielded, subst (λ s. AreTokensLeft s c.loop-token.yielded) c.into_iter-token-iterator.ensures.into_iter_gives left, c.loop-token.invariant.past_is)

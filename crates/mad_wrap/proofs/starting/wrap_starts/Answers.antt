@@ -1,7 +1,7 @@
 use Rattle.std.proofs.Common.{◌≡◌, ℕ, List, is_some, sym, ap, ◌∙◌, subst}
 use Rattle.std.proofs.lemmas.Result.{IfOk-weaker}
 use Rattle.mad_fit.specs.Tokens.{AreTokensOf}
-use Rattle.mad_fit.specs.TokensLeft.{AreLeft}
+use Rattle.mad_fit.specs.TokensLeft.{AreTokensLeft}
 use Rattle.mad_fit.specs.declared.tokens.Token.{Token}
 use Rattle.mad_fit.specs.declared.token_cursor.Tokens.{Tokens}
 use Rattle.mad_md.specs.declared.compound.Compound.{Compound}
@@ -14,7 +14,7 @@ use Rattle.mad_wrap.proofs.WrapLemmas.{one_list}
 use Rattle.mad_wrap.proofs.starting.wrap_starts.Goals as goal
 
 -- what is left of an iterator that was made of the compounds are their tokens
-read : (r : Room) (ps : List Compound) (s : Tokens) (max : ℕ) → max ≡ token_limit r → ((ts : List Token) → AreLeft s ts → AreTokensOf max ps ts) → (ts : List Token) → AreLeft s ts → AreTokensIn r ps ts
+read : (r : Room) (ps : List Compound) (s : Tokens) (max : ℕ) → max ≡ token_limit r → ((ts : List Token) → AreTokensLeft s ts → AreTokensOf max ps ts) → (ts : List Token) → AreTokensLeft s ts → AreTokensIn r ps ts
 read r ps s max limit made ts left = subst (λ n. AreTokensOf n ps ts) limit (made ts left)
 
 pub returns-in-Some-clause-tokenized : goal.returns-in-Some-clause-tokenized

@@ -1,7 +1,7 @@
 use Rattle.std.proofs.Common.{List, sym, ◌∙◌, subst}
 use Rattle.std.proofs.lemmas.Result.{IfOk-weaker}
 use Rattle.mad_fit.specs.Tokens.{AreTokensOf}
-use Rattle.mad_fit.specs.TokensLeft.{AreLeft}
+use Rattle.mad_fit.specs.TokensLeft.{AreTokensLeft}
 use Rattle.mad_fit.specs.declared.tokens.Token.{Token}
 use Rattle.mad_wrap.proofs.CutLemmas.{cut_wrap, cut_counted}
 use Rattle.mad_wrap.proofs.WrapLemmas.{placed_wrap, placed_counted}
@@ -16,10 +16,10 @@ returns-in-Some-clause-counted c = IfOk-weaker c.cut_lines.result _ _ (λ lines 
 
 pub returns-in-None-clause-wrapped : goal.returns-in-None-clause-wrapped
 returns-in-None-clause-wrapped c =
-    let tokens = λ (ts : List Token) (left : AreLeft c.token_iter.result ts). subst (λ n. AreTokensOf n c.args.compounds.now ts) c.token_limit.ensures (c.token_iter.ensures.tokens ts left) in
+    let tokens = λ (ts : List Token) (left : AreTokensLeft c.token_iter.result ts). subst (λ n. AreTokensOf n c.args.compounds.now ts) c.token_limit.ensures (c.token_iter.ensures.tokens ts left) in
     IfOk-weaker c.place.result _ _ (λ lines h. placed_wrap c.args.room c.args.compounds.now h.0 lines.items c.requires.wider (sym c.clean_cut.ensures.value ∙ c.in-None.is) (tokens h.0 h.1) h.2) c.place.ensures
 
 pub returns-in-None-clause-counted : goal.returns-in-None-clause-counted
 returns-in-None-clause-counted c =
-    let tokens = λ (ts : List Token) (left : AreLeft c.token_iter.result ts). subst (λ n. AreTokensOf n c.args.compounds.now ts) c.token_limit.ensures (c.token_iter.ensures.tokens ts left) in
+    let tokens = λ (ts : List Token) (left : AreTokensLeft c.token_iter.result ts). subst (λ n. AreTokensOf n c.args.compounds.now ts) c.token_limit.ensures (c.token_iter.ensures.tokens ts left) in
     IfOk-weaker c.place.result _ _ (λ lines h. placed_counted c.args.room c.args.compounds.now h.0 lines.items (tokens h.0 h.1) h.2) c.place.ensures

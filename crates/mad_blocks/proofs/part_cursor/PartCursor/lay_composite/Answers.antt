@@ -1,6 +1,6 @@
 use Rattle.std.proofs.Common.{◌≡◌, false, refl, ap, sym, ◌∙◌}
 use Rattle.mad_md.specs.Lines.{normal, styled_runs}
-use Rattle.mad_blocks.specs.Parts.{is_code_kind}
+use Rattle.mad_blocks.specs.LayoutParts.{is_code_kind}
 use Rattle.mad_blocks.specs.PartCursors.{lines_left}
 use Rattle.mad_blocks.specs.TextParts.{is_code}
 use Rattle.mad_format.specs.declared.line.FmtLine.TheVariants.{Normal}

@@ -1,6 +1,6 @@
 use Rattle.std.proofs.Common.{◌∷◌, [], refl}
 use Rattle.mad_md.specs.Lines.{horizontal_rule}
-use Rattle.mad_blocks.specs.Parts.{wrap_width}
+use Rattle.mad_blocks.specs.LayoutParts.{wrap_width}
 use Rattle.mad_blocks.specs.PartCursors.{lines_left}
 use Rattle.mad_format.specs.declared.line.FmtLine.TheVariants.{HorizontalRule}
 use Rattle.mad_format.proofs.WrapLemmas.{then_ok}

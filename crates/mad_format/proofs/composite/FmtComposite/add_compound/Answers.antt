@@ -1,6 +1,6 @@
 use Rattle.std.proofs.Common.{◌≡◌, chars, sym, ◌∙◌, arith}
 use Rattle.mad_md.specs.Flagged.{flags_of, flagged_of}
-use Rattle.mad_fit.specs.Columns.{width_of}
+use Rattle.mad_fit.specs.TextColumns.{width_of}
 use Rattle.mad_fit.proofs.FlaggedLemmas.{width_of-flagged}
 use Rattle.mad_format.proofs.composite.FmtComposite.add_compound.Goals as goal
 

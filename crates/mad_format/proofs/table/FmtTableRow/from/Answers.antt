@@ -3,7 +3,7 @@ use Rattle.std.specs.Vec.Iter.{into_iter_items}
 use Rattle.std.proofs.lemmas.Grind.{common_steps}
 use Rattle.mad_md.specs.Flagged.{run_of}
 use Rattle.mad_md.specs.Lines.{styled_runs}
-use Rattle.mad_format.specs.Lines.{AreCompositesRead}
+use Rattle.mad_format.specs.FmtLines.{AreCompositesRead}
 use Rattle.mad_format.proofs.ReadLemmas.{cells_more, cells_all}
 use Rattle.mad_format.proofs.table.FmtTableRow.from.Goals as goal
 

@@ -1,5 +1,5 @@
 use Rattle.std.proofs.Common.{◌≡◌, max, drop}
-use Rattle.mad_format.specs.Lines.{widest_line}
+use Rattle.mad_format.specs.FmtLines.{widest_line}
 use Rattle.mad_layout.proofs.fmt_text.FmtText.content_width.Given as goal
 
 abbrev pub invariant-loop-line : goal.invariant-loop-line

@@ -19,9 +19,9 @@ use Rattle.termimad_run.specs.declared.call.Command.TheVariants.{InArea, AtWidth
 use Rattle.termimad_run.specs.declared.failure.Failure.{Failure}
 use Rattle.termimad_run.specs.declared.failure.Failure.TheVariants.{Io, Usage, NotUtf8, Skin, Memory}
 use Rattle.termimad_run.specs.Calls.{IsCall, IsNoCall, AsksRefusedSkin, AsksJson, RefusesWords}
-use Rattle.termimad_run.specs.Failures.{failure_of, status_of, line_of, SaysOnce, SaysKeys}
+use Rattle.termimad_run.specs.Failures.{failure_of, status_of, failure_line, SaysOnce, SaysKeys}
 use Rattle.termimad_run.specs.Reading.{ReadsWhole, ReadingFails}
-use Rattle.termimad_run.specs.Lines.{IsWithoutLineEnd}
+use Rattle.termimad_run.specs.LineEnds.{IsWithoutLineEnd}
 
 -- the input, the output and the standard error of a run
 pub record Devices : Type 0 where
@@ -127,7 +127,7 @@ RunsTo words old (Err Memory) new = (AsksJson words × (new ≡ old)) ⊎ (Fails
 -- A run ended with this status. Without a failure it is 0 and nothing more is said; a failure has its own, and its line is said once.
 abbrev pub Answers : {T : Type 0} → Result T Failure → ℕ → Trace → Trace → Type 0
 Answers (Ok x) status told new = (status ≡ 0) × (new ≡ told)
-Answers (Err failure) status told new = (status ≡ status_of failure) × SaysOnce told (line_of failure) new
+Answers (Err failure) status told new = (status ≡ status_of failure) × SaysOnce told (failure_line failure) new
 
 -- A run, whole: there is a way of ending that its devices show, and that its status and the last line on standard error tell.
 pub record HasRun (words : List (List ℕ)) (old : Devices) (status : ℕ) (new : Devices) : Type 0 where

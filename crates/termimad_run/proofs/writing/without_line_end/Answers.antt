@@ -1,7 +1,7 @@
 use Rattle.std.proofs.Common.{refl, inr, Some, None, arith}
 use Rattle.std.proofs.lemmas.Str.Pattern.{strip_suffix_char}
 use Rattle.termimad_run.proofs.Writings.{line_found}
-use Rattle.termimad_run.proofs.writing.line_of.Goals as goal
+use Rattle.termimad_run.proofs.writing.without_line_end.Goals as goal
 
 pub returns-in_default : goal.returns-in_default
 returns-in_default c =
