@@ -18,7 +18,7 @@ use Rattle.mad_format.specs.declared.table.FmtTableRow.{FmtTableRow}
 use Rattle.mad_format.specs.declared.table.RelativePosition.{RelativePosition}
 use Rattle.mad_blocks.proofs.PartRuns.{AllTableLines, AllCode, NoTableFirst, table_not_code, one_table, block_in_front, alone_first}
 
--- ---- parts that stand apart
+-- ---- parts that are apart
 
 abbrev pub NoTableNext : List Part → Type 0
 NoTableNext [] = Unit {0}
@@ -32,7 +32,7 @@ NoBlockNext (table ls ∷ ps) = Unit {0}
 NoBlockNext (block ls ∷ ps) = ⊥
 NoBlockNext (single l ∷ ps) = Unit {0}
 
--- no part is empty, each has lines of its kind, and no two tables stand side by side, nor two blocks
+-- no part is empty, each has lines of its kind, and no two tables are side by side, nor two blocks
 abbrev pub StandApart : List Part → Type 0
 StandApart [] = Unit {0}
 StandApart (table ls ∷ ps) = (0 < length ls) × AllTableLines ls × NoTableNext ps × StandApart ps

@@ -254,14 +254,14 @@ moved_all (x ∷ xs) zero count none less = absurd (cc)
 moved_all (x ∷ xs) (suc n) zero none less = absurd (omega (arith, less))
 moved_all (x ∷ xs) (suc n) (suc count) none less = let rest = moved_all xs n count none (omega (arith, less)) in (ap (λ zs. x ∷ zs) rest.0, rest.1)
 
--- the lines of a table, behind those that were moved before
+-- the lines of a table, after those that were moved before
 pub moved_table : (xs : List FmtLine) (start height : ℕ) (rest behind empty table : List FmtLine) → rest ≡ xs → behind ≡ drop start rest → empty ≡ [] → table ≡ empty ++ take height behind → table ≡ take height (drop start xs)
 moved_table xs start height rest behind empty table read behind_is none table_is = table_is ∙ ap (λ ls. ls ++ take height behind) none ∙ ap (take height) (behind_is ∙ ap (drop start) read)
 
 longer_by : (front own joined : List FmtLine) (before now : ℕ) → joined ≡ front ++ own → before ≡ length front → now ≡ length joined → now - before ≡ length own
 longer_by front own joined before now joins before_is now_is = omega (arith, before_is, now_is, ap length joins, length-append front own)
 
--- what becomes of the table, between the lines before it and those behind it
+-- what becomes of the table, between the lines before it and those after it
 pub table_fixed : (skin : LineRules) (n width : ℕ) (xs : List FmtLine) (start height : ℕ) (none rest front behind table after joined new : List FmtLine) (before now : ℕ) → none ≡ [] → rest ≡ xs → front ≡ none ++ take start rest
     → behind ≡ drop start rest → table ≡ take height (drop start xs) → after ≡ drop height behind → (own : List FmtLine) × (joined ≡ front ++ own) × IsTableLaidOutBy IsCompositeWrap skin n width table own
     → before ≡ length front → now ≡ length joined → new ≡ joined ++ after
@@ -343,7 +343,7 @@ table_laid skin width [] rest own others parts first (inr some) h = absurd (let 
 table_laid skin width (l ∷ ls) rest own others parts first laid h =
     subst (λ (ps : List Part). ArePartsBy (IsTableFixedBy IsCompositeWrap skin width) ps (own ++ others)) (sym (one_table l ls rest parts first)) (own, others, refl, laid, h)
 
--- What the lines have become so far, with whatever the lines of the table that stands open and the rest of them become.
+-- What the lines have become so far, with whatever the lines of the table that is open and the rest of them become.
 pub record TablesSoFar (skin : LineRules) (width : ℕ) (all open_table rest lines : List FmtLine) : Type 0 where
   pub table_measured : AllMeasured skin open_table
   pub measured : AllMeasured skin rest
@@ -370,7 +370,7 @@ tables_line skin width all open_table new_table rest after lines line held next 
           held.so_far more (subst (λ (ls : List FmtLine). AreTablesLaidOut IsCompositeWrap skin width ls more) joined h);
     }
 
--- any other line, behind the table that stood open
+-- any other line, after the table that was open
 tables_behind : (skin : LineRules) (width : ℕ) (all open_table rest after lines own between new : List FmtLine) (line : FmtLine) → TablesSoFar skin width all open_table rest lines
     → rest ≡ line ∷ after → is_table_line line ≡ false → IsTableLaidOutBy IsCompositeWrap skin (columns_count open_table) width open_table own
     → between ≡ lines ++ own → new ≡ between ++ line ∷ [] → TablesSoFar skin width all [] after new
@@ -405,7 +405,7 @@ tables_all skin width all open_table rest lines own new none held laid pushed =
     subst (λ (ls : List FmtLine). AreTablesLaidOut IsCompositeWrap skin width all ls) lines_are
     (held.so_far (own ++ []) (subst (λ (ls : List FmtLine). AreTablesLaidOut IsCompositeWrap skin width (open_table ++ ls) (own ++ [])) (sym none) both))
 
--- what stands in a column is in its place
+-- what is in a column is in its place
 pub top_spacing : (c : Spacing) (ls : List FmtComposite) (x : FmtComposite) → IsTop c ls x → x.spacing ≡ Some c
 top_spacing c [] x top = top.spacing
 top_spacing c (l ∷ ls) x top = ap (λ (y : FmtComposite). y.spacing) top

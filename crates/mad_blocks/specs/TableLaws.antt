@@ -23,8 +23,8 @@ pub record AreWorkedTables : Type 0 where
   pub narrow : (lines : List FmtLine) (widths : List ℕ) → AreKeptWidths 9 11 lines widths → widths ≡ 3 ∷ 3 ∷ []
 
 -- What is no layout of a table: widths whose sum is one too few; widths for fewer columns than have room; a row in which the second line of
--- the second cell stands in the first column, whose cell has one line; a row that has another count of cells than there are columns;
--- a row whose first cell stands in another place than its column.
+-- the second cell is in the first column, whose cell has one line; a row that has another count of cells than there are columns;
+-- a row whose first cell is in another place than its column.
 pub record AreNoTables : Type 0 where
   pub one_too_few : (lines : List FmtLine) → HaveLengths lines ((3 ∷ []) ∷ (20 ∷ []) ∷ []) → ¬ (AreKeptWidths 2 13 lines (3 ∷ 6 ∷ []))
   pub column_dropped : (n width : ℕ) (lines : List FmtLine) (widths : List ℕ) → 4 * n + 1 ≤ width → length widths < n → ¬ (AreKeptWidths n width lines widths)

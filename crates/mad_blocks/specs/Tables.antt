@@ -17,7 +17,7 @@ use Rattle.mad_format.specs.declared.table.FmtTableRule.{FmtTableRule}
 use Rattle.mad_format.specs.declared.table.RelativePosition.{RelativePosition}
 use Rattle.mad_format.specs.declared.table.RelativePosition.TheVariants.{Top, Other, Bottom}
 
--- ---- columns: each a width, and how cells stand in it
+-- ---- columns: each a width, and how cells are aligned in it
 
 -- columns of these widths with these alignments; a column without one has none
 abbrev pub columns_with : List ℕ → List Alignment → List Spacing
@@ -58,14 +58,14 @@ abbrev pub below : List FmtComposite → List FmtComposite
 below [] = []
 below (l ∷ ls) = ls
 
--- the lines of each of the cells that stand in columns, in order; cells past the last column are left out
+-- the lines of each of the cells that are in columns, in order; cells past the last column are left out
 abbrev pub AreCellsLaidOut : Wrap → LineRules → List Spacing → List FmtComposite → List (List FmtComposite) → Type 0
 AreCellsLaidOut wraps skin [] cells [] = Unit {0}
 AreCellsLaidOut wraps skin [] cells (ls ∷ lines) = ⊥
 AreCellsLaidOut wraps skin (c ∷ columns) cells [] = ⊥
 AreCellsLaidOut wraps skin (c ∷ columns) cells (ls ∷ lines) = IsNextLaidOut wraps skin c.width cells ls × AreCellsLaidOut wraps skin columns (below cells) lines
 
--- what stands in a column on a row: the first of a cell's lines, or where there is none an empty paragraph
+-- what is in a column on a row: the first of a cell's lines, or where there is none an empty paragraph
 abbrev pub IsTop : Spacing → List FmtComposite → FmtComposite → Type 0
 IsTop column [] x = IsBlankIn column x
 IsTop column (l ∷ ls) x = x ≡ in_column column l
@@ -131,14 +131,14 @@ pub record AreKeptWidths (n width : ℕ) (lines : List FmtLine) (widths : List �
 
 -- ---- a table
 
--- the columns from a line on, where they were these above it: a rule says how cells stand below it
+-- the columns from a line on, where they were these above it: a rule says how cells are aligned below it
 abbrev pub columns_from : List ℕ → List Spacing → FmtLine → List Spacing
 columns_from widths columns (Normal l) = columns
 columns_from widths columns (TableRow row) = columns
 columns_from widths columns (TableRule rule) = columns_with widths rule.aligns.items
 columns_from widths columns HorizontalRule = columns
 
--- where a rule stands that is the first line of its table or not, the last one or not
+-- where a rule is that is the first line of its table or not, the last one or not
 abbrev pub position_at : Bool → Bool → RelativePosition
 position_at true last = Top
 position_at false true = Bottom
@@ -160,7 +160,7 @@ IsTableLineBy wraps skin columns position (TableRule source) lines =
 IsTableLineBy wraps skin columns position HorizontalRule lines = lines ≡ HorizontalRule ∷ []
 
 -- What the lines of a table become, in order, at these widths, in these columns up to the first rule; `first` says whether no
--- line stands above.
+-- line is above.
 abbrev pub AreTableLinesBy : Wrap → LineRules → List ℕ → List Spacing → Bool → List FmtLine → List FmtLine → Type 0
 AreTableLinesBy wraps skin widths columns first [] lines = lines ≡ []
 AreTableLinesBy wraps skin widths columns first (l ∷ ls) lines =

@@ -47,7 +47,7 @@ abbrev pub columns_among : List LineContent → ℕ
 columns_among [] = 0
 columns_among (l ∷ ls) = max (count_in l) (columns_among ls)
 
--- A line, and the part in which it stands: the alignments of the part's last rule down to the line, and the line's position in its part.
+-- A line, and the part in which it is: the alignments of the part's last rule down to the line, and the line's position in its part.
 pub record LineInPart : Type 0 where
   pub part : List LineContent
   pub line : LineContent
@@ -61,11 +61,11 @@ aligns_at above (table_row cells) = above
 aligns_at above (table_rule aligns) = Some aligns
 aligns_at above horizontal_rule = above
 
--- where a line stands in a part; in a table without columns nothing tells its ends
+-- where a line is in a part; in a table without columns nothing tells its ends
 abbrev pub position_in : List LineContent → Bool → Bool → RelativePosition
 position_in part first last = if columns_among part == 0 then Other else position_at first last
 
--- the lines of a part from one on, below these alignments; `first` says whether no line stands above
+-- the lines of a part from one on, below these alignments; `first` says whether no line is above
 abbrev pub lines_in : List LineContent → Option (List Alignment) → Bool → List LineContent → List LineInPart
 lines_in part above first [] = []
 lines_in part above first (l ∷ ls) =

@@ -3,10 +3,8 @@
 ghost use Rattle.std.specs.Prelude.{◌≡◌, ◌≤◌, ◌<◌, ◌+◌, length, IfOk};
 ghost use Rattle.mad_blocks.specs.CodeBlocks.{IsClosedBlock, blocks_placed, code_blocks, code_columns, placed_line};
 
-use crate::laying::{is_code, width_within};
-use mad_fit::Spacing;
+use crate::laying::{code_place, is_code, width_within};
 use mad_format::FmtLine;
-use mad_md::Alignment;
 use std::alloc::{AllocError, Global};
 
 /// A block of code among lines: as many lines of code in a row as there are.
@@ -36,7 +34,7 @@ impl CodeBlock {
         let mut index = self.start;
         let end = self.start + self.height;
         while index < end {
-            place(&mut lines[index], self.width);
+            justify_line(&mut lines[index], self.width);
             index += 1;
         }
     }
@@ -113,13 +111,11 @@ fn code_columns(line: &FmtLine) -> Option<usize>
     }
 }
 
-fn place(line: &mut FmtLine, width: usize)
+// Puts a line in a place of this many columns; a rule and a line of a table stay.
+fn justify_line(line: &mut FmtLine, width: usize)
     ensures { line.new ≡ placed_line width line.old }
 {
     if let FmtLine::Normal(composite) = line {
-        composite.spacing = Some(Spacing {
-            width,
-            align: Alignment::Left,
-        });
+        composite.spacing = Some(code_place(width));
     }
 }

@@ -1,18 +1,18 @@
 //! What becomes of a line, and of a block of code.
 
 ghost use Rattle.std.specs.Prelude.{◌≡◌, ◌++◌, List, OnOk};
+ghost use Rattle.mad_md.specs.declared.alignment.Alignment.TheVariants.{Left};
 ghost use Rattle.std.specs.List.{AllByRecursion};
 ghost use Rattle.mad_md.specs.Lines.{styled_runs};
 ghost use Rattle.mad_format.specs.CompositeWraps.{IsCompositeWrap};
 ghost use Rattle.mad_format.specs.FmtLines.{IsCompositeRead};
-ghost use Rattle.mad_blocks.specs.LayoutParts.{is_code_kind, widest, block_width, width_within, placed_code, code_room, table_width, wrap_width, IsBlockAt, IsLineAt};
-ghost use Rattle.mad_format.specs.WrappedLines.{IsLineMeasured};
+ghost use Rattle.mad_blocks.specs.LayoutParts.{is_code_kind, widest, block_width, width_within, code_room, table_width, wrap_width, IsBlockAt, IsLineAt};
 ghost use Rattle.mad_format.specs.Wraps.{IsMeasured};
 ghost use Rattle.mad_format.specs.declared.line.FmtLine.{FmtLine};
 ghost use Rattle.mad_format.specs.declared.line.FmtLine.TheVariants.{Normal};
 
 use mad_fit::Spacing;
-use mad_format::{FmtComposite, FmtLine, LineSkin, margins_and_rest, push_line, push_read, put_line};
+use mad_format::{FmtComposite, FmtLine, LineSkin, margins_and_rest, push_composite, push_read, put_line};
 use mad_md::{Alignment, Composite};
 use mad_style::{CompositeKind, LEAST_WIDTH};
 use std::alloc::{AllocError, Global};
@@ -32,8 +32,8 @@ pub(crate) fn push_block<'s, S: LineSkin>(
     let wrap = wrap_width(width);
     let columns = block_width(&block, room_of_code(wrap, skin));
     for composite in block {
-        let placed = placed_code(columns, composite);
-        push_at(alloc, lines, FmtLine::Normal(placed), wrap, skin)?;
+        let placed = composite.in_place(code_place(columns));
+        push_at(alloc, lines, placed, wrap, skin)?;
     }
     Ok(())
 }
@@ -100,32 +100,30 @@ fn widest(block: &[FmtComposite]) -> usize
     widest
 }
 
-// A line of code in its block's place.
-fn placed_code<'s>(width: usize, composite: FmtComposite<'s>) -> FmtComposite<'s>
-    ensures { result ≡ placed_code width composite.entry }
+/// The place of a line of code whose block is `width` columns wide.
+pub(crate) fn code_place(width: usize) -> Spacing
+    ensures { result ≡ record { width = width; align = Left } }
 {
-    let mut placed = composite;
-    placed.spacing = Some(Spacing {
+    Spacing {
         width,
         align: Alignment::Left,
-    });
-    placed
+    }
 }
 
-// Puts what becomes of a line at a width after the lines that are there.
+// Puts what becomes of a composite at a width after the lines that are there.
 fn push_at<'s, S: LineSkin>(
     alloc: Global,
     lines: &mut Vec<FmtLine<'s>>,
-    line: FmtLine<'s>,
+    composite: FmtComposite<'s>,
     width: Option<usize>,
     skin: &S,
 ) -> Result<(), AllocError>
-    requires { IsLineMeasured (S.rules skin.now) line }
-    ensures { OnOk result ((own : List FmtLine) × (lines.new.items ≡ lines.old.items ++ own) × IsLineAt IsCompositeWrap (S.rules skin.now) width line.entry own) }
+    requires { IsMeasured (S.rules skin.now) composite }
+    ensures { OnOk result ((own : List FmtLine) × (lines.new.items ≡ lines.old.items ++ own) × IsLineAt IsCompositeWrap (S.rules skin.now) width (Normal composite.entry) own) }
 {
     match width {
-        Some(width) => push_line(alloc, lines, line, width, skin),
-        None => put_line(lines, line),
+        Some(width) => push_composite(alloc, lines, composite, width, skin),
+        None => put_line(lines, FmtLine::Normal(composite)),
     }
 }
 

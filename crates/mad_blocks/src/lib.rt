@@ -2,7 +2,7 @@
 //!
 //! In the order of the work:
 //!
-//! 1. `table_columns`: the widths of a table's columns, and how cells stand in them.
+//! 1. `table_columns`: the widths of a table's columns, and how cells are aligned in them.
 //! 2. [`table_rows`]: the rows that a row of a table becomes.
 //! 3. [`table_layout`]: whole tables.
 //! 4. [`code_blocks`]: finding and placing blocks of code by themselves.

@@ -1,4 +1,4 @@
-//! Columns of a table: their widths, and how cells stand in them.
+//! Columns of a table: their widths, and how cells are aligned in them.
 
 ghost use Rattle.std.specs.Prelude.{◌≡◌, ◌<◌, ◌*◌, ◌+◌, ◌++◌, [], ◌∷◌, ℕ, List, IfOk, slice_get, unwrap_or};
 ghost use Rattle.mad_md.specs.declared.alignment.Alignment.TheVariants.{Unspecified};

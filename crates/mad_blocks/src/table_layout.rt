@@ -177,7 +177,7 @@ fn push_table_lines<'s, S: LineSkin>(
     Ok(())
 }
 
-// Where a line of a table stands.
+// Where a line of a table is.
 fn position_at(first: bool, last: bool) -> RelativePosition
     ensures { result ≡ position_at first last }
 {
@@ -190,7 +190,7 @@ fn position_at(first: bool, last: bool) -> RelativePosition
     }
 }
 
-// Puts what a line of a table becomes in these columns, where it stands at this place.
+// Puts what a line of a table becomes in these columns, which is at this place.
 fn push_table_line<'s, S: LineSkin>(
     alloc: Global,
     lines: &mut Vec<FmtLine<'s>>,

@@ -53,7 +53,7 @@ pub(crate) fn lay_row_in<'s, S: LineSkin>(
     Ok(rows)
 }
 
-// The lines of a kept cell that don't stand on a row yet, and its column.
+// The lines of a kept cell that aren't on a row yet, and its column.
 #[derive(Drop)]
 struct CellLines<'s> {
     lines: IntoIter<FmtComposite<'s>>,
@@ -139,16 +139,7 @@ fn next_cell<'s>(
     ensures rest { into_iter_items lines.new ≡ below (into_iter_items lines.old) }
 {
     match lines.next() {
-        Some(line) => in_column(line, column),
-        None => in_column(FmtComposite::new(alloc), column),
+        Some(line) => line.in_place(column),
+        None => FmtComposite::new(alloc).in_place(column),
     }
-}
-
-// A line of a cell, at its place in a column.
-fn in_column<'s>(line: FmtComposite<'s>, column: Spacing) -> FmtComposite<'s>
-    ensures { result ≡ in_column column line.entry }
-{
-    let mut cell = line;
-    cell.spacing = Some(column);
-    cell
 }

@@ -21,7 +21,7 @@ pub struct FmtComposite<'s> {
     pub compounds: Vec<Compound<'s>>,
     /// The columns of its indent and its text, `usize::MAX` where there are more.
     pub visible_length: usize,
-    /// The place that it is to fill, and how it stands in it. Without one it takes the columns of its text.
+    /// The place that it is to fill, and how it is aligned in it. Without one it takes the columns of its text.
     pub spacing: Option<Spacing>,
     /// The blank columns (left, right) that its layout left beside it. Without these it has its style's margins where it is written.
     pub margins: Option<(usize, usize)>,
@@ -107,6 +107,15 @@ impl<'s> FmtComposite<'s> {
             Some(place) => place.completions_for(self.visible_length),
             None => (0, 0),
         }
+    }
+
+    /// The composite in this place, whatever place it had.
+    pub fn in_place(self, place: Spacing) -> Self
+        ensures { result ≡ record self.entry { spacing = Some place } }
+    {
+        let mut placed = self;
+        placed.spacing = Some(place);
+        placed
     }
 
     /// Measures it again, with the indent that it has in this skin.

@@ -27,4 +27,4 @@ pub use line::{FmtLine, put_line, rule_columns};
 pub use line_skin::LineSkin;
 pub use room::{margins_and_rest, room_of};
 pub use table::{FmtTableRow, FmtTableRule, RelativePosition};
-pub use wrap::{hard_wrap_composite, hard_wrap_lines, push_line, push_read, wrap_composite};
+pub use wrap::{hard_wrap_composite, hard_wrap_lines, push_composite, push_read, wrap_composite};

@@ -220,10 +220,8 @@ fn wrap_lines<'s, S: LineSkin>(
     Ok(wrapped)
 }
 
-/// Puts what a line becomes, at any width in columns, after the lines that are there: what [`hard_wrap_lines`] makes of it.
-///
-/// Its cached lengths have to be right. Only out of memory is an error, and can leave some of the lines.
-pub fn push_line<'s, S: LineSkin>(
+// Puts what a line becomes, at any width, after the lines that are there.
+fn push_line<'s, S: LineSkin>(
     alloc: Global,
     lines: &mut Vec<FmtLine<'s>>,
     line: FmtLine<'s>,
@@ -239,8 +237,10 @@ pub fn push_line<'s, S: LineSkin>(
     }
 }
 
-// Puts what a composite becomes, at any width, after the lines that are there.
-fn push_composite<'s, S: LineSkin>(
+/// Puts what a composite becomes, at any width in columns, after the lines that are there: what [`hard_wrap_lines`] makes of it.
+///
+/// Its cached length has to be right. Only out of memory is an error, and can leave some of the lines.
+pub fn push_composite<'s, S: LineSkin>(
     alloc: Global,
     lines: &mut Vec<FmtLine<'s>>,
     composite: FmtComposite<'s>,
@@ -266,7 +266,7 @@ fn push_composite<'s, S: LineSkin>(
     )
 }
 
-/// Puts what a composite that was read becomes, at any width in columns, after the lines that are there: what [`push_line`] puts.
+/// Puts what a composite that was read becomes, at any width in columns, after the lines that are there: what [`push_composite`] puts of it.
 ///
 /// Where it is wrapped, it is measured no further than to where it passes the width. Only out of memory is an error, and can leave some of
 /// the lines.

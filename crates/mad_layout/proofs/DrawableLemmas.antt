@@ -49,7 +49,7 @@ use Rattle.mad_layout.proofs.WholeTokens.{IsShownRun, plain_is_shown, tokens_sho
 
 -- ---- one line
 
--- a line of so many columns within its own place, if it has one, which fits with these margins
+-- a line of this many columns within its own place, if it has one, which fits with these margins
 abbrev FitsPlace : Option Spacing → ℕ → ℕ × ℕ → ℕ → Type 0
 FitsPlace place columns margins drawn = IfSome place (λ s. (columns ≤ s.width) × (margins.0 + s.width + margins.1 ≤ drawn))
 

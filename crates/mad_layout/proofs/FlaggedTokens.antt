@@ -30,7 +30,7 @@ other_test true false c ea eb = refl
 other_test false true c ea eb = refl
 other_test false false c ea eb = absurd (eb ea)
 
--- the next character of a token goes on with what stands before it
+-- the next character of a token goes on with what is before it
 goes : (limit : ℕ) (blank : Bool) (u : List FlaggedChar) (y : FlaggedChar) → AllByRecursion (λ x. is_blank x ≡ blank) u → is_blank y ≡ blank → (0 < length u → width_of u + char_columns y.char ≤ limit) → goes_on limit u y ≡ true
 goes limit blank [] y alike same within = refl
 goes limit blank (x ∷ xs) y alike same within =

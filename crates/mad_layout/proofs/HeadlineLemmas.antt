@@ -64,7 +64,7 @@ text_shown {T} {E} (Ok x) skin own markdown area lines old new limits same laid_
     }
 text_shown {T} {E} (Err x) skin own markdown area lines old new limits same laid_out h = tt
 
--- the flush failed behind a text
+-- the flush failed after a text
 pub area_not_flushed : {T U : Type 0} (r : Result T Error) (done : U) (e : io.Error) (skin : RowSkin) (markdown : List ℕ) (area : Area) (old mid new : Trace) → WritesInArea {T = U} skin markdown area old (Ok done) mid → new ≡ failed mid
     → IsErrAnd r (λ x. x ≡ IO e) → AndFlushes {T = T} (WritesInArea {T = T} skin markdown area) old r new
 area_not_flushed {T} {U} r done e skin markdown area old mid new (inl h) fault is =

@@ -83,7 +83,7 @@ table_no_code (table_row cells) e = refl
 table_no_code (table_rule aligns) e = refl
 table_no_code horizontal_rule e = refl
 
--- what a line in front of parts makes of them, by whether it stands with the first line
+-- what a line in front of parts makes of them, by whether it goes with the first line
 abbrev ReadWith : RowSkin → Bool → LineContent → LineContent → List LineContent → List (List LineContent) → List Part → Type 0
 ReadWith skin b c d ds css ps = ArePartsRead skin (if b then (c ∷ d ∷ ds) ∷ css else (c ∷ []) ∷ (d ∷ ds) ∷ css) ps
 

@@ -170,7 +170,7 @@ place_facts false s n own width e same fits = subst (λ (o : Option Spacing). Pl
 abbrev pub line_chars : RowSkin → ℕ → FmtLine → List ℕ
 line_chars skin width line = chars_in (row_pieces skin width (Some line))
 
--- a line that stands so is a row across the area
+-- a line that is placed so is a row across the area
 pub row_chars : (skin : RowSkin) (area : Area) (part : List LineContent) (said : StyledRuns) (l : FmtComposite) → area.width < 2 ^ 64 - 1 → IsPlainPrefix skin l.kind → IsMeasured (line_rules skin) l
     → l.spacing ≡ place_for (is_code_kind l.kind) (min (widest_in part) (inner_width skin (area.width - 1) said))
     → inner_width skin (area.width - 1) said ≡ area.width - 1 - (margins_at (line_style skin l.kind) (Some (area.width - 1))).0 - (margins_at (line_style skin l.kind) (Some (area.width - 1))).1

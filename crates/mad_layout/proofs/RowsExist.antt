@@ -24,7 +24,7 @@ use Rattle.mad_blocks.proofs.LayoutJoins.{by_bool}
 abbrev pub all_blank : List FlaggedChar → Bool
 all_blank t = list_all is_blank t
 
--- the rows of tokens, of which the first stands behind an indent and has begun; it has ended where a blank didn't fit
+-- the rows of tokens, of which the first is after an indent and has begun; it has ended where a blank didn't fit
 abbrev pub rows : Room → ℕ → List FlaggedChar → Bool → List (List FlaggedChar) → List (List FlaggedChar)
 rows r i line ended [] = line ∷ []
 rows r i line true (t ∷ ts) = if all_blank t then rows r i line true ts else line ∷ rows r r.other t false ts

@@ -42,7 +42,7 @@ positive (suc n) h = omega arith
 
 -- ---- a text that is cut into tokens
 
--- whether a character that isn't blank stands in front of what follows these
+-- whether a character that isn't blank is in front of what follows these
 abbrev behind : Bool → List FlaggedChar → Bool
 behind b [] = b
 behind b (x ∷ xs) = behind (not (is_blank x)) xs
@@ -68,7 +68,7 @@ not_blank : (blank : Bool) → not blank ≡ true → blank ≡ false
 not_blank false h = refl
 not_blank true h = absurd (false≢true h)
 
--- a widthless character behind a token would be part of it
+-- a widthless character after a token would be part of it
 none_widthless : (max w : ℕ) (blank : Bool) (xs ys : List FlaggedChar) (y : FlaggedChar) → 0 < length xs → IsAlike max blank w xs → AllByRecursion (λ x. char_columns x.char ≤ max) xs
     → StopsBefore max blank w (y ∷ ys) → char_columns y.char ≡ 0 → is_whitespace y.char ≡ false → not blank ≡ true → ⊥
 none_widthless max w blank [] ys y some alike narrow stops none black after = absurd (omega arith)

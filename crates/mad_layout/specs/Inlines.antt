@@ -1,4 +1,4 @@
--- Inline texts and composites that stand by themselves.
+-- Inline texts and composites that are by themselves.
 use Rattle.std.specs.Prelude.{◌≡◌, ◌⊎◌, ℕ, List, None, false, Result, IsErrOf, map}
 use Rattle.mad_md.specs.Flagged.{run_at}
 use Rattle.mad_md.specs.Inline.{Item, IsInlineReading, runs}

@@ -14,7 +14,7 @@ use Rattle.mad_rows.specs.declared.row_skin.RowSkin.{RowSkin}
 abbrev pub item_in_a_cell : List ℕ
 item_in_a_cell = 124 ∷ 42 ∷ 32 ∷ 97 ∷ 98 ∷ 99 ∷ 100 ∷ []
 
--- a skin of ASCII characters without style, in which the further rows of an item stand two columns right of its text
+-- a skin of ASCII characters without style, in which the further rows of an item are two columns right of its text
 abbrev pub hanging_skin : RowSkin
 hanging_skin = record (row_skin (limited_to_ascii no_style_skin)) { list_items_indentation_mode = Hanging 2 }
 

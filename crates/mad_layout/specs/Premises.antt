@@ -65,7 +65,7 @@ pub record AreRuleChars (chars : RuleChars) : Type 0 where
   pub between : IsColumnChar chars.between
   pub right : IsColumnChar chars.right
 
--- the characters of a table's borders take one column each, wherever a rule stands in its table
+-- the characters of a table's borders take one column each, wherever a rule is in its table
 pub record AreBordersShown (skin : RowSkin) : Type 0 where
   pub vertical : IsColumnChar skin.table_border_chars.vertical
   pub rules : (position : RelativePosition) → AreRuleChars (rule_chars skin.table_border_chars position)

@@ -38,7 +38,7 @@ kept_widths skin width table =
     let n = columns_among table in
     if nat_le (4 * n + 1) width then column_widths (width - 1 - n) (map needs_of (down n (cells_among skin table))) else replicate ((width - 1) / 4) 3
 
--- columns of these widths below a rule with these alignments; centered ones where no rule stands above
+-- columns of these widths below a rule with these alignments; centered ones where no rule is above
 abbrev pub columns_below : List ℕ → Option (List Alignment) → List Spacing
 columns_below widths None = centered widths
 columns_below widths (Some aligns) = columns_with widths aligns

@@ -38,7 +38,7 @@ impl fmt::Display for DisplayableLine<'_, '_> {
             skin: &self.skin.row_skin(),
             line: self.line,
             outer: self.width,
-            right: false,
+            filled: false,
         };
         write!(f, "{placed}")
     }

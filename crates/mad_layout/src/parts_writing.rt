@@ -130,7 +130,7 @@ fn hand_on_plain<O: Out>(
     Ok(())
 }
 
-// The columns that a plain line may have to be a row as it is; none where paragraphs have a style or margins, or don't stand left.
+// The columns that a plain line may have to be a row as it is; none where paragraphs have a style or margins, or aren't aligned left.
 fn plain_width(width: Option<usize>, skin: &RowSkin) -> Option<usize>
     ensures { IfSome result (IsPlainWidth skin.now width) }
 {

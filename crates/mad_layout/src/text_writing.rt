@@ -65,7 +65,7 @@ impl MadSkin {
             skin,
             line,
             outer: width,
-            right: with_right_completion,
+            filled: with_right_completion,
         };
         write!(row, "{placed}")?;
         put_text(out, &row)

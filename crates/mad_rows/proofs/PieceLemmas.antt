@@ -1,4 +1,4 @@
--- The bytes of composites that stand by themselves, of lines of tables, and of lines one after another.
+-- The bytes of composites that are by themselves, of lines of tables, and of lines one after another.
 use Rattle.std.proofs.Common.{◌≡◌, ℕ, ◌+◌, ◌<◌, Bool, true, false, List, [], ◌∷◌, ◌++◌, map, length, take, get_or, Option, refl, ap, sym, ◌∙◌, append_assoc}
 use Rattle.std.specs.Prelude.{if◌then◌else◌}
 use Rattle.std.specs.List.{flat_map}
@@ -21,7 +21,7 @@ use Rattle.mad_format.specs.declared.line.FmtLine.{FmtLine}
 use Rattle.mad_format.specs.declared.table.FmtTableRule.{FmtTableRule}
 use Rattle.mad_format.specs.FmtLines.{rule_columns}
 use Rattle.mad_rows.specs.RowStyles.{line_style, compound_style}
-use Rattle.mad_rows.specs.Rows.{compound_piece, run_piece, prefix_pieces, free_pieces, left_of_place, right_of_place, placed_pieces, vertical_piece, cell_pieces, row_columns, rule_chars, table_row_pieces, table_rule_pieces, line_bytes, text_bytes}
+use Rattle.mad_rows.specs.Rows.{compound_piece, run_piece, prefix_pieces, free_pieces, left_of_place, right_of_place, inner_blanks, outer_blanks, composite_pieces, placed_pieces, vertical_piece, cell_pieces, row_columns, rule_chars, table_row_pieces, table_rule_pieces, line_bytes, text_bytes}
 
 -- the pieces of compounds are those of what they say
 pub pieces_of_runs : (skin : RowSkin) (style : LineStyle) (ps : List Compound) → map (compound_piece skin style) ps ≡ map (run_piece skin style) (map run_of ps)
@@ -43,7 +43,7 @@ bare_taken skin line ps i d inside plain same =
 pub put_after : (base so_far kept piece next new : List ℕ) → new ≡ kept ++ piece → kept ≡ base ++ so_far → so_far ++ piece ≡ next → new ≡ base ++ next
 put_after base so_far kept piece next new put held more = put ∙ ap (λ (bs : List ℕ). bs ++ piece) held ∙ append_assoc base so_far piece ∙ ap (λ (bs : List ℕ). base ++ bs) more
 
--- the bytes of a composite that stands by itself, part by part
+-- the bytes of a composite that is by itself, part by part
 pub free_bytes : (skin : RowSkin) (kind k : CompositeKind) (style : LineStyle) (ps items : List Compound) → kind ≡ k → style ≡ line_style skin kind → ps ≡ items
     → pieces_bytes (spaces skin.paragraph.compound_style style.left_margin) ++ (pieces_bytes (prefix_pieces skin kind) ++ pieces_bytes (map (compound_piece skin style) ps)) ≡ pieces_bytes (free_pieces skin k (map run_of items))
 free_bytes skin kind k style ps items kind_is style_is items_are =
@@ -63,6 +63,33 @@ free_bytes skin kind k style ps items kind_is style_is items_are =
 asked_bytes : (right : Bool) (style : CompoundStyle) (n : ℕ) → pieces_bytes (spaces style (if right then n else 0)) ≡ pieces_bytes (if right then spaces style n else [])
 asked_bytes true style n = refl
 asked_bytes false style n = refl
+
+-- the bytes of a composite in its row: what is in front of its compounds, they, and what is after them
+placed_bytes_joined : (skin : RowSkin) (outer : Option ℕ) (margins : ℕ × ℕ) (filled : Bool) (l : FmtComposite) → let style = line_style skin l.kind in
+    (pieces_bytes (spaces skin.paragraph.compound_style (outer_blanks style.align outer margins l).0 ++ (spaces style.compound_style (inner_blanks l).0 ++ prefix_pieces skin l.kind)) ++ pieces_bytes (map (compound_piece skin style) l.compounds.items))
+    ++ pieces_bytes (spaces style.compound_style (inner_blanks l).1 ++ spaces skin.paragraph.compound_style (if filled then (outer_blanks style.align outer margins l).1 else 0)) ≡ pieces_bytes (composite_pieces skin outer margins filled l)
+placed_bytes_joined skin outer margins filled l =
+    let style : LineStyle = line_style skin l.kind in
+    let blank : CompoundStyle = skin.paragraph.compound_style in
+    let blanks : ℕ × ℕ = outer_blanks style.align outer margins l in
+    let before : List RowPiece = spaces blank blanks.0 in
+    let inner : List RowPiece = spaces style.compound_style (inner_blanks l).0 in
+    let prefix : List RowPiece = prefix_pieces skin l.kind in
+    let text : List RowPiece = map (compound_piece skin style) l.compounds.items in
+    let after : List RowPiece = spaces style.compound_style (inner_blanks l).1 in
+    let filling : List RowPiece = spaces blank (if filled then blanks.1 else 0) in
+    let last : List RowPiece = if filled then spaces blank blanks.1 else [] in
+    let front : List RowPiece = before ++ (inner ++ prefix) in
+    let rest : List RowPiece = text ++ (after ++ last) in
+    ap (λ bs. (pieces_bytes front ++ pieces_bytes text) ++ bs) (bytes_both after filling ∙ ap (λ bs. pieces_bytes after ++ bs) (asked_bytes filled blank blanks.1) ∙ sym (bytes_both after last))
+    ∙ append_assoc (pieces_bytes front) (pieces_bytes text) (pieces_bytes (after ++ last)) ∙ ap (λ bs. pieces_bytes front ++ bs) (sym (bytes_both text (after ++ last))) ∙ sym (bytes_both front rest)
+    ∙ ap pieces_bytes (append_assoc before (inner ++ prefix) rest ∙ ap (λ qs. before ++ qs) (append_assoc inner prefix rest))
+
+-- the same by the line's style and the compounds that were found
+pub composite_joined : (skin : RowSkin) (outer : Option ℕ) (margins : ℕ × ℕ) (filled : Bool) (l : FmtComposite) (style : LineStyle) (ps : List Compound) → style ≡ line_style skin l.kind → ps ≡ l.compounds.items
+    → (pieces_bytes (spaces skin.paragraph.compound_style (outer_blanks style.align outer margins l).0 ++ (spaces style.compound_style (inner_blanks l).0 ++ prefix_pieces skin l.kind)) ++ pieces_bytes (map (compound_piece skin style) ps))
+    ++ pieces_bytes (spaces style.compound_style (inner_blanks l).1 ++ spaces skin.paragraph.compound_style (if filled then (outer_blanks style.align outer margins l).1 else 0)) ≡ pieces_bytes (composite_pieces skin outer margins filled l)
+composite_joined skin outer margins filled l style ps style_is ps_are = rw style_is (rw ps_are (placed_bytes_joined skin outer margins filled l))
 
 -- the bytes of spaces
 abbrev spaces_bytes : Spaces → List ℕ

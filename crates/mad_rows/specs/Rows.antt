@@ -39,8 +39,8 @@ number_piece style n = record { style = style.object_style; text = decimal n }
 abbrev pub prefix_space : RowSkin → RowPiece
 prefix_space skin = record { style = skin.paragraph.compound_style.object_style; text = 32 ∷ [] }
 
--- the prefix of a line: an item's bullet or number after the spaces of its depth, or as many spaces on a line that follows
--- one and is indented as it is; a quote's mark
+-- the prefix of a line: an item's bullet or number after the spaces of its depth; on the item's further lines, the spaces of their
+-- indent; a quote's bar
 abbrev pub prefix_pieces : RowSkin → CompositeKind → List RowPiece
 prefix_pieces skin Paragraph = []
 prefix_pieces skin (Header level) = []
@@ -74,7 +74,7 @@ abbrev pub right_of_place : Alignment → ℕ → Option ℕ → ℕ
 right_of_place align inner None = 0
 right_of_place align inner (Some outer) = (outer - inner) - left_completion align (outer - inner)
 
--- a line's own place, and how it stands in it
+-- a line's own place, and how it is aligned in it
 abbrev pub place_of : Option Spacing → Option ℕ
 place_of None = None
 place_of (Some s) = Some s.width
@@ -107,11 +107,10 @@ margins_of skin outer l = unwrap_or l.margins (margins_at (line_style skin l.kin
 
 -- ---- a line
 
--- The pieces of a composite at an outer width with these margins: the blanks left of it in the paragraph's style, those of
--- its own place in its own style, its prefix, its compounds, and the blanks right of it; those in the paragraph's style only
--- where they are asked for.
+-- The pieces of a composite at an outer width with these margins. From left to right: blanks in the paragraph's style, blanks of its own
+-- place in its style, its prefix, its compounds, blanks of its place. Last come blanks in the paragraph's style, where the row is filled up.
 abbrev pub composite_pieces : RowSkin → Option ℕ → ℕ × ℕ → Bool → FmtComposite → List RowPiece
-composite_pieces skin outer margins right l =
+composite_pieces skin outer margins filled l =
     let style = line_style skin l.kind in
     let blanks = outer_blanks style.align outer margins l in
     spaces skin.paragraph.compound_style blanks.0
@@ -119,9 +118,9 @@ composite_pieces skin outer margins right l =
     ++ (prefix_pieces skin l.kind
     ++ (map (compound_piece skin style) l.compounds.items
     ++ (spaces style.compound_style (inner_blanks l).1
-    ++ (if right then spaces skin.paragraph.compound_style blanks.1 else [])))))
+    ++ (if filled then spaces skin.paragraph.compound_style blanks.1 else [])))))
 
--- the pieces of a composite that stands by itself: its style's left margin, its prefix, and what its compounds say
+-- the pieces of a composite by itself: its style's left margin, its prefix, and what its compounds say
 abbrev pub free_pieces : RowSkin → CompositeKind → List Run → List RowPiece
 free_pieces skin kind runs =
     spaces skin.paragraph.compound_style (line_style skin kind).left_margin ++ (prefix_pieces skin kind ++ map (run_piece skin (line_style skin kind)) runs)
@@ -129,11 +128,11 @@ free_pieces skin kind runs =
 -- ---- a line of a table
 
 -- pieces that take `columns`, between the blanks that the table's alignment gives them in a wider place; those right of them only where
--- they are asked for
+-- the row is filled up
 abbrev pub placed_pieces : RowSkin → Option ℕ → Bool → ℕ → List RowPiece → List RowPiece
-placed_pieces skin outer right columns ps =
+placed_pieces skin outer filled columns ps =
     spaces skin.paragraph.compound_style (left_of_place skin.table.align columns outer)
-    ++ (ps ++ (if right then spaces skin.paragraph.compound_style (right_of_place skin.table.align columns outer) else []))
+    ++ (ps ++ (if filled then spaces skin.paragraph.compound_style (right_of_place skin.table.align columns outer) else []))
 
 -- a vertical border, in the table's style
 abbrev pub vertical_piece : RowSkin → RowPiece
@@ -149,7 +148,7 @@ row_columns cells = 1 + bordered (map inner_columns cells)
 
 -- a row of a table: its cells, and a last border
 abbrev pub table_row_pieces : RowSkin → Option ℕ → Bool → List FmtComposite → List RowPiece
-table_row_pieces skin outer right cells = placed_pieces skin outer right (row_columns cells) (flat_map (cell_pieces skin) cells ++ vertical_piece skin ∷ [])
+table_row_pieces skin outer filled cells = placed_pieces skin outer filled (row_columns cells) (flat_map (cell_pieces skin) cells ++ vertical_piece skin ∷ [])
 
 -- the characters of a rule, by its place in its table: corners or junctions at its ends, a junction or a cross between two columns
 abbrev pub rule_chars : TableBorderChars → RelativePosition → RuleChars
@@ -159,17 +158,17 @@ rule_chars b Bottom = record { left = b.bottom_left_corner; horizontal = b.horiz
 
 -- a rule across a table
 abbrev pub table_rule_pieces : RowSkin → Option ℕ → Bool → FmtTableRule → List RowPiece
-table_rule_pieces skin outer right rule =
-    placed_pieces skin outer right (rule_columns rule.widths.items) (rule_pieces skin.table.compound_style (rule_chars skin.table_border_chars rule.position) rule.widths.items)
+table_rule_pieces skin outer filled rule =
+    placed_pieces skin outer filled (rule_columns rule.widths.items) (rule_pieces skin.table.compound_style (rule_chars skin.table_border_chars rule.position) rule.widths.items)
 
 -- ---- any line
 
 -- The pieces of a line at an outer width, with its margins. A rule across the place fills it.
 abbrev pub line_pieces : RowSkin → Option ℕ → Bool → FmtLine → List RowPiece
-line_pieces skin outer right (Normal l) = composite_pieces skin outer (margins_of skin outer l) right l
-line_pieces skin outer right (TableRow row) = table_row_pieces skin outer right row.cells.items
-line_pieces skin outer right (TableRule rule) = table_rule_pieces skin outer right rule
-line_pieces skin outer right HorizontalRule = char_repeat skin.horizontal_rule (unwrap_or outer 0)
+line_pieces skin outer filled (Normal l) = composite_pieces skin outer (margins_of skin outer l) filled l
+line_pieces skin outer filled (TableRow row) = table_row_pieces skin outer filled row.cells.items
+line_pieces skin outer filled (TableRule rule) = table_rule_pieces skin outer filled rule
+line_pieces skin outer filled HorizontalRule = char_repeat skin.horizontal_rule (unwrap_or outer 0)
 
 -- what a place of `width` columns shows: a line, filled up on its right; or, past the last line, spaces in the
 -- paragraph's style
@@ -183,29 +182,29 @@ row_pieces skin width None = spaces skin.paragraph.compound_style width
 abbrev pub cell_blanks : FmtComposite → ℕ
 cell_blanks l = (inner_blanks l).0 + (inner_blanks l).1
 
--- those of a composite, in its own place and beside it; those right of the place only where they are asked for
+-- those of a composite, in its own place and beside it; those right of the place only where the row is filled up
 abbrev pub composite_blanks : RowSkin → Option ℕ → ℕ × ℕ → Bool → FmtComposite → ℕ
-composite_blanks skin outer margins right l =
+composite_blanks skin outer margins filled l =
     let blanks = outer_blanks (line_style skin l.kind).align outer margins l in
-    cell_blanks l + (blanks.0 + (if right then blanks.1 else 0))
+    cell_blanks l + (blanks.0 + (if filled then blanks.1 else 0))
 
--- those left and right of a line of a table that takes `columns`; those right of it only where they are asked for
+-- those left and right of a line of a table that takes `columns`; those right of it only where the row is filled up
 abbrev pub table_blanks : RowSkin → Option ℕ → Bool → ℕ → ℕ × ℕ
-table_blanks skin outer right columns = (
+table_blanks skin outer filled columns = (
   left_of_place skin.table.align columns outer,
-  if right then right_of_place skin.table.align columns outer else 0,
+  if filled then right_of_place skin.table.align columns outer else 0,
 )
 
 -- those of a line: its blanks, and the columns of a rule
 abbrev pub line_blanks : RowSkin → Option ℕ → Bool → FmtLine → ℕ
-line_blanks skin outer right (Normal l) = composite_blanks skin outer (margins_of skin outer l) right l
-line_blanks skin outer right (TableRow row) =
-    let beside = table_blanks skin outer right (row_columns row.cells.items) in
+line_blanks skin outer filled (Normal l) = composite_blanks skin outer (margins_of skin outer l) filled l
+line_blanks skin outer filled (TableRow row) =
+    let beside = table_blanks skin outer filled (row_columns row.cells.items) in
     sum_by cell_blanks row.cells.items + (beside.0 + beside.1)
-line_blanks skin outer right (TableRule rule) =
-    let beside = table_blanks skin outer right (rule_columns rule.widths.items) in
+line_blanks skin outer filled (TableRule rule) =
+    let beside = table_blanks skin outer filled (rule_columns rule.widths.items) in
     rule_columns rule.widths.items + (beside.0 + beside.1)
-line_blanks skin outer right HorizontalRule = unwrap_or outer 0
+line_blanks skin outer filled HorizontalRule = unwrap_or outer 0
 
 -- those of a row of `width` columns; past the last line, all of them
 abbrev pub row_blanks : RowSkin → ℕ → Option FmtLine → ℕ
@@ -222,6 +221,6 @@ line_bytes skin width line = pieces_bytes (line_pieces skin width false line) ++
 abbrev pub text_bytes : RowSkin → Option ℕ → List FmtLine → List ℕ
 text_bytes skin width lines = flat_map (line_bytes skin width) lines
 
--- a composite that stands by itself
+-- a composite by itself
 abbrev pub composite_bytes : RowSkin → Composite → List ℕ
 composite_bytes skin composite = pieces_bytes (free_pieces skin (kind_of composite.style) (map run_of composite.compounds.items))

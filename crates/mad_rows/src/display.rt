@@ -1,6 +1,6 @@
-//! Lines and what they are made of as displayed values: the same bytes as where they are written, piece by piece, without memory.
+//! Composites, lines and rows as displayed values: piece by piece, without memory.
 
-ghost use Rattle.std.specs.Prelude.{◌≡◌, ℕ, Some};
+ghost use Rattle.std.specs.Prelude.{◌≡◌, ◌+◌, ℕ, Some};
 ghost use Rattle.mad_draw.specs.Pieces.{pieces_bytes};
 ghost use Rattle.mad_rows.specs.Rows.{prefix_pieces, table_blanks};
 ghost use Rattle.mad_wrap.specs.WrapLines.{capped};
@@ -17,7 +17,7 @@ use mad_style::{CompositeKind, LineStyle, StyledChar};
 use mad_term::StyledNumber;
 use std::fmt::{self, Display};
 
-// What stands in front of a line's text.
+// What is in front of a line's text.
 #[derive(Clone, Copy)]
 struct Prefix<'a> {
     skin: &'a RowSkin,
@@ -70,14 +70,23 @@ impl fmt::Display for Prefix<'_> {
     }
 }
 
-/// What stands in front of a composite's text: blanks outside of its place and in it, and its prefix.
+/// What is in front of a composite's compounds in its row: blanks outside of its place and in it, and its prefix.
 #[derive(Clone, Copy)]
 pub(crate) struct CompositeFront<'a> {
-    pub skin: &'a RowSkin,
-    pub style: &'a LineStyle,
-    pub kind: CompositeKind,
-    pub outer: usize,
-    pub inner: usize,
+    skin: &'a RowSkin,
+    style: &'a LineStyle,
+    kind: CompositeKind,
+    outer: usize,
+    inner: usize,
+}
+
+impl CompositeFront<'_> {
+    /// The columns of its blanks.
+    pub(crate) fn columns(&self) -> usize
+        ensures { result ≡ capped (self.now.outer + self.now.inner) }
+    {
+        self.outer.saturating_add(self.inner)
+    }
 }
 
 impl fmt::Display for CompositeFront<'_> {
@@ -87,10 +96,7 @@ impl fmt::Display for CompositeFront<'_> {
     ghost output = { λ c. Some (pieces_bytes (spaces c.skin.now.paragraph.compound_style c.outer ++ (spaces c.style.now.compound_style c.inner ++ prefix_pieces c.skin.now c.kind))) };
 
     fn fmt<W: fmt::Write>(&self, f: &mut fmt::Formatter<W>) -> fmt::Result {
-        let outer = Spaces {
-            style: self.skin.paragraph.compound_style,
-            count: self.outer,
-        };
+        let outer = self.skin.blanks(self.outer);
         let inner = Spaces {
             style: self.style.compound_style,
             count: self.inner,
@@ -102,6 +108,41 @@ impl fmt::Display for CompositeFront<'_> {
         outer.fmt(f)?;
         inner.fmt(f)?;
         prefix.fmt(f)
+    }
+}
+
+/// What is after a composite's compounds in its row: blanks in its place, and outside of it.
+#[derive(Clone, Copy)]
+pub(crate) struct CompositeEnd<'a> {
+    skin: &'a RowSkin,
+    style: &'a LineStyle,
+    inner: usize,
+    outer: usize,
+}
+
+impl CompositeEnd<'_> {
+    /// The columns of its blanks.
+    pub(crate) fn columns(&self) -> usize
+        ensures { result ≡ capped (self.now.inner + self.now.outer) }
+    {
+        self.inner.saturating_add(self.outer)
+    }
+}
+
+impl fmt::Display for CompositeEnd<'_> {
+    ghost use Rattle.std.specs.Prelude.{◌++◌};
+    ghost use Rattle.mad_draw.specs.Pieces.{spaces};
+
+    ghost output = { λ c. Some (pieces_bytes (spaces c.style.now.compound_style c.inner ++ spaces c.skin.now.paragraph.compound_style c.outer)) };
+
+    fn fmt<W: fmt::Write>(&self, f: &mut fmt::Formatter<W>) -> fmt::Result {
+        let inner = Spaces {
+            style: self.style.compound_style,
+            count: self.inner,
+        };
+        let outer = self.skin.blanks(self.outer);
+        inner.fmt(f)?;
+        outer.fmt(f)
     }
 }
 
@@ -162,25 +203,26 @@ impl fmt::Display for Compounds<'_, '_> {
 /// A composite at its place in a row.
 #[derive(Clone, Copy)]
 pub struct PlacedComposite<'a, 's> {
-    /// What it is drawn in.
+    /// The skin that it is drawn in.
     pub skin: &'a RowSkin,
     /// The composite.
     pub composite: &'a FmtComposite<'s>,
-    /// Where it stands in the row.
+    /// Where it is in the row.
     pub place: RowPlace,
 }
 
 impl<'a, 's> PlacedComposite<'a, 's> {
-    ghost use Rattle.mad_rows.specs.Rows.{margins_of};
+    ghost use Rattle.std.specs.Prelude.{if◌then◌else◌};
+    ghost use Rattle.mad_rows.specs.Rows.{inner_blanks, margins_of, outer_blanks};
 
-    /// A composite at an outer width, with its margins there; where `right` is set, the columns right of it are filled up.
+    /// A composite at an outer width, with its margins there; where `filled` is set, the columns right of it are filled up.
     pub fn at(
         skin: &'a RowSkin,
         composite: &'a FmtComposite<'s>,
         outer: Option<usize>,
-        right: bool,
+        filled: bool,
     ) -> Self
-        ensures { result ≡ record { skin = skin.entry; composite = composite.entry; place = record { outer = outer; margins = margins_of skin.now outer composite.now; right = right } } }
+        ensures { result ≡ record { skin = skin.entry; composite = composite.entry; place = record { outer = outer; margins = margins_of skin.now outer composite.now; filled = filled } } }
     {
         let margins = margins_of(skin, composite, outer);
         PlacedComposite {
@@ -189,45 +231,56 @@ impl<'a, 's> PlacedComposite<'a, 's> {
             place: RowPlace {
                 outer,
                 margins,
-                right,
+                filled,
             },
         }
+    }
+
+    /// What is in front of its compounds, and what is after them. Its line's style is given.
+    pub(crate) fn ends(&self, style: &'a LineStyle) -> (CompositeFront<'a>, CompositeEnd<'a>)
+        ensures front { result.0 ≡ record { skin = self.now.skin; style = style.entry; kind = self.now.composite.now.kind; outer = (outer_blanks style.now.align self.now.place.outer self.now.place.margins self.now.composite.now).0; inner = (inner_blanks self.now.composite.now).0 } }
+        ensures end { result.1 ≡ record { skin = self.now.skin; style = style.entry; inner = (inner_blanks self.now.composite.now).1; outer = if self.now.place.filled then (outer_blanks style.now.align self.now.place.outer self.now.place.margins self.now.composite.now).1 else 0 } }
+    {
+        let PlacedComposite {
+            skin,
+            composite,
+            place,
+        } = *self;
+        let (left, right) = outer_blanks(composite, style.align, place);
+        let (inner_left, inner_right) = inner_blanks(composite);
+        let front = CompositeFront {
+            skin,
+            style,
+            kind: composite.kind,
+            outer: left,
+            inner: inner_left,
+        };
+        let end = CompositeEnd {
+            skin,
+            style,
+            inner: inner_right,
+            outer: if place.filled { right } else { 0 },
+        };
+        (front, end)
     }
 }
 
 impl fmt::Display for PlacedComposite<'_, '_> {
     ghost use Rattle.mad_rows.specs.Rows.{composite_pieces};
 
-    ghost output = { λ c. Some (pieces_bytes (composite_pieces c.skin.now c.place.outer c.place.margins c.place.right c.composite.now)) };
+    ghost output = { λ c. Some (pieces_bytes (composite_pieces c.skin.now c.place.outer c.place.margins c.place.filled c.composite.now)) };
 
     fn fmt<W: fmt::Write>(&self, f: &mut fmt::Formatter<W>) -> fmt::Result {
         let style = self.skin.line_style(self.composite.kind);
-        let (left, right) = outer_blanks(self.composite, style.align, self.place);
-        let (inner_left, inner_right) = inner_blanks(self.composite);
-        let front = CompositeFront {
-            skin: self.skin,
-            style,
-            kind: self.composite.kind,
-            outer: left,
-            inner: inner_left,
-        };
+        let (front, end) = self.ends(style);
         let compounds = Compounds {
             skin: self.skin,
             style,
             compounds: &self.composite.compounds,
         };
-        let inner_right = Spaces {
-            style: style.compound_style,
-            count: inner_right,
-        };
-        let right = Spaces {
-            style: self.skin.paragraph.compound_style,
-            count: if self.place.right { right } else { 0 },
-        };
         front.fmt(f)?;
         compounds.fmt(f)?;
-        inner_right.fmt(f)?;
-        right.fmt(f)
+        end.fmt(f)
     }
 }
 
@@ -253,7 +306,7 @@ impl fmt::Display for Cells<'_, '_> {
                 place: RowPlace {
                     outer: None,
                     margins: (0, 0),
-                    right: false,
+                    filled: false,
                 },
             };
             write!(f, "{border}{placed}")?;
@@ -275,19 +328,13 @@ fn spaces_beside(
     skin: &RowSkin,
     columns: usize,
     outer: Option<usize>,
-    right: bool,
+    filled: bool,
 ) -> (Spaces, Spaces)
-    ensures left { (n : ℕ) → columns ≡ capped n → result.0 ≡ record { style = skin.now.paragraph.compound_style; count = (table_blanks skin.now outer right n).0 } }
-    ensures right { (n : ℕ) → columns ≡ capped n → result.1 ≡ record { style = skin.now.paragraph.compound_style; count = (table_blanks skin.now outer right n).1 } }
+    ensures left { (n : ℕ) → columns ≡ capped n → result.0 ≡ record { style = skin.now.paragraph.compound_style; count = (table_blanks skin.now outer filled n).0 } }
+    ensures right { (n : ℕ) → columns ≡ capped n → result.1 ≡ record { style = skin.now.paragraph.compound_style; count = (table_blanks skin.now outer filled n).1 } }
 {
-    let style = skin.paragraph.compound_style;
-    let (left, right) = table_blanks(skin, columns, outer, right);
-    let left = Spaces { style, count: left };
-    let right = Spaces {
-        style,
-        count: right,
-    };
-    (left, right)
+    let (left, right) = table_blanks(skin, columns, outer, filled);
+    (skin.blanks(left), skin.blanks(right))
 }
 
 // A row of a table at an outer width.
@@ -296,17 +343,17 @@ struct PlacedTableRow<'a, 's> {
     skin: &'a RowSkin,
     row: &'a FmtTableRow<'s>,
     outer: Option<usize>,
-    right: bool,
+    filled: bool,
 }
 
 impl fmt::Display for PlacedTableRow<'_, '_> {
     ghost use Rattle.mad_rows.specs.Rows.{table_row_pieces};
 
-    ghost output = { λ r. Some (pieces_bytes (table_row_pieces r.skin.now r.outer r.right r.row.now.cells.items)) };
+    ghost output = { λ r. Some (pieces_bytes (table_row_pieces r.skin.now r.outer r.filled r.row.now.cells.items)) };
 
     fn fmt<W: fmt::Write>(&self, f: &mut fmt::Formatter<W>) -> fmt::Result {
         let columns = row_columns(&self.row.cells);
-        let (left, right) = spaces_beside(self.skin, columns, self.outer, self.right);
+        let (left, right) = spaces_beside(self.skin, columns, self.outer, self.filled);
         let cells = Cells {
             skin: self.skin,
             cells: &self.row.cells,
@@ -322,17 +369,17 @@ struct PlacedTableRule<'a> {
     skin: &'a RowSkin,
     rule: &'a FmtTableRule,
     outer: Option<usize>,
-    right: bool,
+    filled: bool,
 }
 
 impl fmt::Display for PlacedTableRule<'_> {
     ghost use Rattle.mad_rows.specs.Rows.{table_rule_pieces};
 
-    ghost output = { λ r. Some (pieces_bytes (table_rule_pieces r.skin.now r.outer r.right r.rule.now)) };
+    ghost output = { λ r. Some (pieces_bytes (table_rule_pieces r.skin.now r.outer r.filled r.rule.now)) };
 
     fn fmt<W: fmt::Write>(&self, f: &mut fmt::Formatter<W>) -> fmt::Result {
         let columns = rule_columns(&self.rule.widths);
-        let (left, right) = spaces_beside(self.skin, columns, self.outer, self.right);
+        let (left, right) = spaces_beside(self.skin, columns, self.outer, self.filled);
         let rule = RuleAcross {
             style: self.skin.table.compound_style,
             chars: rule_chars(&self.skin.table_border_chars, self.rule.position),
@@ -345,32 +392,32 @@ impl fmt::Display for PlacedTableRule<'_> {
 /// A line at an outer width, with its margins.
 #[derive(Clone, Copy)]
 pub struct PlacedLine<'a, 's> {
-    /// What it is drawn in.
+    /// The skin that it is drawn in.
     pub skin: &'a RowSkin,
     /// The line.
     pub line: &'a FmtLine<'s>,
     /// The columns that it has, if there is a width.
     pub outer: Option<usize>,
     /// Whether the columns right of it are filled up.
-    pub right: bool,
+    pub filled: bool,
 }
 
 impl fmt::Display for PlacedLine<'_, '_> {
     ghost use Rattle.mad_rows.specs.Rows.{line_pieces};
 
-    ghost output = { λ l. Some (pieces_bytes (line_pieces l.skin.now l.outer l.right l.line.now)) };
+    ghost output = { λ l. Some (pieces_bytes (line_pieces l.skin.now l.outer l.filled l.line.now)) };
 
     fn fmt<W: fmt::Write>(&self, f: &mut fmt::Formatter<W>) -> fmt::Result {
         match self.line {
             FmtLine::Normal(composite) => {
-                PlacedComposite::at(self.skin, composite, self.outer, self.right).fmt(f)
+                PlacedComposite::at(self.skin, composite, self.outer, self.filled).fmt(f)
             }
             FmtLine::TableRow(row) => {
                 let placed = PlacedTableRow {
                     skin: self.skin,
                     row,
                     outer: self.outer,
-                    right: self.right,
+                    filled: self.filled,
                 };
                 placed.fmt(f)
             }
@@ -379,7 +426,7 @@ impl fmt::Display for PlacedLine<'_, '_> {
                     skin: self.skin,
                     rule,
                     outer: self.outer,
-                    right: self.right,
+                    filled: self.filled,
                 };
                 placed.fmt(f)
             }
@@ -397,7 +444,7 @@ impl fmt::Display for PlacedLine<'_, '_> {
 /// What a row of `width` columns shows: a line, or past the last line spaces in the paragraph's style.
 #[derive(Clone, Copy)]
 pub struct PlacedRow<'a, 's> {
-    /// What it is drawn in.
+    /// The skin that it is drawn in.
     pub skin: &'a RowSkin,
     /// The line.
     pub line: Option<&'a FmtLine<'s>>,
@@ -418,25 +465,22 @@ impl fmt::Display for PlacedRow<'_, '_> {
                     skin: self.skin,
                     line,
                     outer: Some(self.width),
-                    right: true,
+                    filled: true,
                 };
                 placed.fmt(f)
             }
             None => {
-                let spaces = Spaces {
-                    style: self.skin.paragraph.compound_style,
-                    count: self.width,
-                };
-                spaces.fmt(f)
+                let blanks = self.skin.blanks(self.width);
+                blanks.fmt(f)
             }
         }
     }
 }
 
-/// A composite that stands by itself: its style's left margin, its prefix and its compounds.
+/// A composite that is by itself: its style's left margin, its prefix and its compounds.
 #[derive(Clone, Copy)]
 pub struct FreeComposite<'a, 's> {
-    /// What it is drawn in.
+    /// The skin that it is drawn in.
     pub skin: &'a RowSkin,
     /// The composite.
     pub composite: &'a Composite<'s>,
@@ -450,10 +494,7 @@ impl fmt::Display for FreeComposite<'_, '_> {
     fn fmt<W: fmt::Write>(&self, f: &mut fmt::Formatter<W>) -> fmt::Result {
         let kind = CompositeKind::from(self.composite.style);
         let style = self.skin.line_style(kind);
-        let margin = Spaces {
-            style: self.skin.paragraph.compound_style,
-            count: style.left_margin,
-        };
+        let margin = self.skin.blanks(style.left_margin);
         let prefix = Prefix {
             skin: self.skin,
             kind,
@@ -470,11 +511,11 @@ impl fmt::Display for FreeComposite<'_, '_> {
 /// Lines at an outer width, each ended by a newline.
 #[derive(Clone, Copy)]
 pub struct PlacedLines<'a, 's> {
-    /// What it is drawn in.
+    /// The skin that it is drawn in.
     pub skin: &'a RowSkin,
     /// The lines.
     pub lines: &'a [FmtLine<'s>],
-    /// The columns that it has, if there is a width.
+    /// The columns of each line, if there is a width.
     pub outer: Option<usize>,
 }
 
@@ -489,7 +530,7 @@ impl fmt::Display for PlacedLines<'_, '_> {
                 skin: self.skin,
                 line,
                 outer: self.outer,
-                right: false,
+                filled: false,
             };
             write!(f, "{placed}\n")?;
         }

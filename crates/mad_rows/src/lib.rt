@@ -3,7 +3,7 @@
 //! In the order of the work:
 //!
 //! 1. [`row_skin`]: what rows are drawn in, the part of a skin that they show.
-//! 2. [`rows`]: where a line stands in its row, and the columns that no text fills.
+//! 2. [`rows`]: where a line is in its row, and the columns that no text fills.
 //! 3. [`display`]: composites, lines and rows as displayed values. [`row_writing`]: lines put after a string.
 #![tactic(auto)]
 

@@ -4,6 +4,7 @@ ghost use Rattle.std.specs.Prelude.{◌≡◌, IsTrue};
 ghost use Rattle.mad_md.specs.Flagged.{run_of};
 ghost use Rattle.mad_rows.specs.RowStyles.{compound_style, item_style_at, line_style, ordered_item_style, style_of_kind};
 
+use mad_draw::Spaces;
 use mad_format::LineSkin;
 use mad_md::{Compound, MAX_HEADER_DEPTH};
 use mad_style::{
@@ -11,7 +12,7 @@ use mad_style::{
     OrderedItemStyle, StyledChar, TableBorderChars,
 };
 
-// The text that stands for what was left out.
+// The text in place of what was left out.
 const ELLIPSIS: &str = "…";
 
 /// How headers look, those of the first level first.
@@ -39,11 +40,11 @@ pub struct RowSkin {
     pub headers: HeaderStyles,
     /// The style of a table's borders, and on which side a table is.
     pub table: LineStyle,
-    /// The mark of an item of a list.
+    /// What is in front of an item of a list.
     pub bullet: StyledChar,
     /// How the numbers of items look.
     pub ordered_item_styles: OrderedItemStyles,
-    /// The mark of a quote.
+    /// What is in front of a quote.
     pub quote_mark: StyledChar,
     /// What a rule is drawn with, over the whole width.
     pub horizontal_rule: StyledChar,
@@ -56,18 +57,28 @@ pub struct RowSkin {
 }
 
 impl RowSkin {
-    /// The style of a line of this kind, as [`style_of_kind`] takes it.
+    /// The style of a line of this kind, which [`style_of_kind`] picks.
     pub fn line_style(&self, kind: CompositeKind) -> &LineStyle
         ensures { result.now ≡ line_style self.now kind }
     {
         style_of_kind(&self.paragraph, &self.headers, &self.code_block, kind)
     }
 
-    /// How the items of an ordered list look at a level, as [`item_style_at`] takes it.
+    /// How the items of an ordered list look at a level, which [`item_style_at`] picks.
     pub fn ordered_item_style(&self, level: u8) -> &OrderedItemStyle
         ensures { result.now ≡ ordered_item_style self.now level }
     {
         item_style_at(&self.ordered_item_styles, level)
+    }
+
+    /// `count` blanks beside a line, in the paragraph's style.
+    pub(crate) fn blanks(&self, count: usize) -> Spaces
+        ensures { result ≡ record { style = self.now.paragraph.compound_style; count = count } }
+    {
+        Spaces {
+            style: self.paragraph.compound_style,
+            count,
+        }
     }
 
     /// The style of a compound in a line of that style.

@@ -4,10 +4,9 @@ ghost use Rattle.std.specs.Prelude.{◌≡◌, ◌++◌, false, map, OnOk, strin
 ghost use Rattle.mad_draw.specs.Pieces.{pieces_bytes};
 ghost use Rattle.mad_rows.specs.Rows.{compound_piece, composite_pieces, line_bytes, margins_of, text_bytes};
 
-use crate::display::{CompositeFront, PlacedCompound, PlacedLine};
+use crate::display::{PlacedComposite, PlacedCompound, PlacedLine};
 use crate::row_skin::{RowSkin, is_bare};
-use crate::rows::{RowPlace, inner_blanks, line_blanks, margins_of, outer_blanks};
-use mad_draw::Spaces;
+use crate::rows::line_blanks;
 use mad_format::{FmtComposite, FmtLine};
 use mad_md::Compound;
 use mad_style::LineStyle;
@@ -45,7 +44,7 @@ pub fn append_line(
                 skin,
                 line,
                 outer: width,
-                right: false,
+                filled: false,
             };
             write!(rows, "{placed}")?;
         }
@@ -62,29 +61,13 @@ fn append_composite(
 ) -> Result<(), AllocError>
     ensures { OnOk result (string_bytes rows.new ≡ string_bytes rows.old ++ pieces_bytes (composite_pieces skin.now width (margins_of skin.now width composite.now) false composite.now)) }
 {
+    let placed = PlacedComposite::at(skin, composite, width, false);
     let style = skin.line_style(composite.kind);
-    let place = RowPlace {
-        outer: width,
-        margins: margins_of(skin, composite, width),
-        right: false,
-    };
-    let (outer, _) = outer_blanks(composite, style.align, place);
-    let (inner, after) = inner_blanks(composite);
-    rows.reserve(outer.saturating_add(inner).saturating_add(after))?;
-    let front = CompositeFront {
-        skin,
-        style,
-        kind: composite.kind,
-        outer,
-        inner,
-    };
+    let (front, end) = placed.ends(style);
+    rows.reserve(front.columns().saturating_add(end.columns()))?;
     write!(rows, "{front}")?;
     append_compounds(rows, &composite.compounds, style, skin)?;
-    let after = Spaces {
-        style: style.compound_style,
-        count: after,
-    };
-    write!(rows, "{after}")
+    write!(rows, "{end}")
 }
 
 // The compounds of a line of that style.

@@ -1,4 +1,4 @@
-//! Rows: where a line stands in its row.
+//! Rows: where a line is in its row, the columns that no text fills, and that a row's colors are bytes.
 
 ghost use Rattle.std.specs.Prelude.{◌≡◌, ◌<◌, ◌+◌, ◌^◌, ℕ};
 ghost use Rattle.std.specs.Option.{option_copied};
@@ -15,7 +15,7 @@ use mad_format::{FmtComposite, FmtLine, RelativePosition, rule_columns};
 use mad_md::Alignment;
 use mad_style::{LineStyle, OrderedItemStyle, TableBorderChars};
 
-/// Where a composite stands in a row, in columns.
+/// Where a composite is in a row, in columns.
 #[derive(Clone, Copy)]
 pub struct RowPlace {
     /// The columns of the row, if it has a width.
@@ -23,7 +23,7 @@ pub struct RowPlace {
     /// The margins left and right.
     pub margins: (usize, usize),
     /// Whether the columns on the right are filled up.
-    pub right: bool,
+    pub filled: bool,
 }
 
 /// The blank columns left and right of a composite in its own place.
@@ -124,25 +124,25 @@ pub fn row_blanks(skin: &RowSkin, line: Option<&FmtLine>, width: usize) -> usize
 
 /// The columns of a line that no text fills, at an outer width: those of its blanks and rules. The blanks right of it count only where
 /// they are asked for.
-pub fn line_blanks(skin: &RowSkin, line: &FmtLine, outer: Option<usize>, right: bool) -> usize
-    ensures { result ≡ capped (line_blanks skin.now outer right line.now) }
+pub fn line_blanks(skin: &RowSkin, line: &FmtLine, outer: Option<usize>, filled: bool) -> usize
+    ensures { result ≡ capped (line_blanks skin.now outer filled line.now) }
 {
     match line {
         FmtLine::Normal(composite) => {
             let place = RowPlace {
                 outer,
                 margins: margins_of(skin, composite, outer),
-                right,
+                filled,
             };
             composite_blanks(skin, composite, place)
         }
         FmtLine::TableRow(row) => {
-            let (left, right) = table_blanks(skin, row_columns(&row.cells), outer, right);
+            let (left, right) = table_blanks(skin, row_columns(&row.cells), outer, filled);
             cells_blanks(&row.cells).saturating_add(left + right)
         }
         FmtLine::TableRule(rule) => {
             let columns = rule_columns(&rule.widths);
-            let (left, right) = table_blanks(skin, columns, outer, right);
+            let (left, right) = table_blanks(skin, columns, outer, filled);
             columns.saturating_add(left + right)
         }
         FmtLine::HorizontalRule => outer.unwrap_or(0),
@@ -151,11 +151,11 @@ pub fn line_blanks(skin: &RowSkin, line: &FmtLine, outer: Option<usize>, right: 
 
 /// The blank columns of a composite in a row, in its own place and beside it.
 pub fn composite_blanks(skin: &RowSkin, composite: &FmtComposite, place: RowPlace) -> usize
-    ensures { result ≡ capped (composite_blanks skin.now place.outer place.margins place.right composite.now) }
+    ensures { result ≡ capped (composite_blanks skin.now place.outer place.margins place.filled composite.now) }
 {
     let align = skin.line_style(composite.kind).align;
     let (left, right) = outer_blanks(composite, align, place);
-    let right = if place.right { right } else { 0 };
+    let right = if place.filled { right } else { 0 };
     cell_blanks(composite)
         .saturating_add(left)
         .saturating_add(right)
@@ -167,13 +167,13 @@ pub(crate) fn table_blanks(
     skin: &RowSkin,
     columns: usize,
     outer: Option<usize>,
-    right: bool,
+    filled: bool,
 ) -> (usize, usize)
-    ensures beside { (n : ℕ) → columns ≡ capped n → result ≡ table_blanks skin.now outer right n }
+    ensures beside { (n : ℕ) → columns ≡ capped n → result ≡ table_blanks skin.now outer filled n }
     ensures fits { result.0 + result.1 < 2 ^ 64 }
 {
     let (before, after) = Spacing::optional_completions(skin.table.align, columns, outer);
-    (before, if right { after } else { 0 })
+    (before, if filled { after } else { 0 })
 }
 
 // The blank columns of a composite in its own place.

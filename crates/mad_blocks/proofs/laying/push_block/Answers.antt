@@ -1,8 +1,9 @@
-use Rattle.std.proofs.Common.{rules, ◌≡◌, ◌++◌, ℕ, List, Option, map, [], arith, subst, sym}
+use Rattle.std.proofs.Common.{rules, ◌≡◌, ◌++◌, ◌∙◌, ℕ, List, Option, Some, map, [], arith, ap, subst, sym}
 use Rattle.std.specs.List.{AllByRecursion}
 use Rattle.std.specs.Vec.Iter.{into_iter_items}
 use Rattle.std.proofs.lemmas.Grind.{common_steps}
-use Rattle.mad_blocks.specs.LayoutParts.{block_width, justified, code_room, IsLineAt, AreLinesAt}
+use Rattle.mad_blocks.specs.LayoutParts.{block_width, placed_code, justified, code_room, IsLineAt, AreLinesAt}
+use Rattle.mad_fit.specs.declared.spacing.Spacing.{Spacing}
 use Rattle.mad_format.specs.CompositeWraps.{IsCompositeWrap}
 use Rattle.mad_format.specs.Wraps.{IsMeasured}
 use Rattle.mad_format.specs.declared.line.FmtLine.{FmtLine}
@@ -21,14 +22,15 @@ loop-composite-init g c =
 pub push_at-requires : goal.push_at-requires
 push_at-requires g c =
     let measured = subst (AllByRecursion (IsMeasured (g.S.LineSkin.rules c.args.skin.now))) c.in-Some.ensures.steps.0 c.loop-composite.invariant.measured in
-    rw c.placed_code-placed.ensures measured.0
+    rw c.in_place-placed.ensures measured.0
 
 pub loop-composite-preserved : goal.loop-composite-preserved
 loop-composite-preserved g c =
     let own = c.in_ok-push_at.ensures in
+    let placed : c.in_place-placed.result ≡ placed_code c.block_width-columns.result c.in-Some.composite = c.in_place-placed.ensures ∙ ap (λ (p : Spacing). record c.in-Some.composite { spacing = Some p }) c.code_place.ensures in
     closed_more (g.S.LineSkin.rules c.args.skin.now) c.wrap_width-wrap.result c.block_width-columns.result c.args.block.items (into_iter_items c.loop-composite.composite-iterator) (into_iter_items c.next.new.self) c.args.lines.now.items
     c.loop-composite.lines.items own.0 c.push_at.new.lines.items c.in-Some.composite c.loop-composite.invariant c.in-Some.ensures.steps.0
-    (subst (λ l. IsLineAt IsCompositeWrap (g.S.LineSkin.rules c.args.skin.now) c.wrap_width-wrap.result (Normal l) own.0) c.placed_code-placed.ensures own.2) own.1
+    (subst (λ l. IsLineAt IsCompositeWrap (g.S.LineSkin.rules c.args.skin.now) c.wrap_width-wrap.result (Normal l) own.0) placed own.2) own.1
 
 pub returns : goal.returns
 returns g c =

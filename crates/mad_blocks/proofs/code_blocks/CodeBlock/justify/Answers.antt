@@ -10,5 +10,5 @@ loop-index-preserved c =
     record {
       from = omega (arith, held.from);
       to = omega (arith, c.loop-index-test.true);
-      so_far = placed_step own.width own.start c.loop-index.index c.args.lines.now c.loop-index.lines c.index-lines-index.result c.place.new.line held.from (omega (arith, c.loop-index-test.true, c.requires (omega (arith, c.if-self-eq0.false)))) held.so_far c.index-lines-index.is (c.place.ensures ∙ ap (placed_line own.width) (sym c.index-lines-index.is));
+      so_far = placed_step own.width own.start c.loop-index.index c.args.lines.now c.loop-index.lines c.index-lines-index.result c.justify_line.new.line held.from (omega (arith, c.loop-index-test.true, c.requires (omega (arith, c.if-self-eq0.false)))) held.so_far c.index-lines-index.is (c.justify_line.ensures ∙ ap (placed_line own.width) (sym c.index-lines-index.is));
     }

@@ -12,5 +12,5 @@ returns-clause-writes g c = λ p ok.
     let n = rule_columns rule.widths.items in
     let columns : c.rule_columns-columns.result ≡ capped n = c.rule_columns-columns.ensures ∙ ap (λ (ws : List ℕ). capped (rule_columns ws)) c.deref.ensures.value in
     has_written_of_eq _ _ _ _ _
-    (table_rule_bytes placed.skin.now placed.outer placed.right c.spaces_beside.result.0 c.spaces_beside.result.1 rule c.rule_chars.result c.deref-2.result.now c.deref-2.ensures.value c.rule_chars.ensures
+    (table_rule_bytes placed.skin.now placed.outer placed.filled c.spaces_beside.result.0 c.spaces_beside.result.1 rule c.rule_chars.result c.deref-2.result.now c.deref-2.ensures.value c.rule_chars.ensures
     (c.spaces_beside.ensures.left n columns) (c.spaces_beside.ensures.right n columns)) (c.write.ensures.writes p ok)
