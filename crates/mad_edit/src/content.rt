@@ -39,7 +39,7 @@ impl Model for InputFieldContent {
     ghost invariant = { λ a. IsValid (lines_of a.lines.items) a.pos a.selection_tail };
 }
 
-/// A tail at the nearest place of these lines.
+// A tail at the nearest place of these lines.
 fn clamp_tail(lines: &[Line], tail: Option<Pos>) -> Option<Pos>
     requires { 0 < length lines.now }
     ensures is { result ≡ option_map (clamp (lines_of lines.now)) tail }
@@ -79,58 +79,58 @@ impl InputFieldContent {
     }
 
     /// Puts a text in place of what is between two places, and the cursor after it.
-    pub(crate) fn edit(&mut self, from: Pos, to: Pos, s: &str) -> Result<(), AllocError>
+    pub(crate) fn edit(&mut self, from: Pos, to: Pos, text: &str) -> Result<(), AllocError>
         requires from { IsPlaceIn self.old.text from }
         requires to { IsPlaceIn self.old.text to }
         requires order { offset_at self.old.text from ≤ offset_at self.old.text to }
         ensures text { OnOk result (self.new.text
-            ≡ replaced self.old.text (offset_at self.old.text from) (offset_at self.old.text to) (chars s.now)) }
-        ensures cursor { OnOk result (self.new.offset ≡ offset_at self.old.text from + length (accepted (chars s.now))) }
+            ≡ replaced self.old.text (offset_at self.old.text from) (offset_at self.old.text to) (chars text.now)) }
+        ensures cursor { OnOk result (self.new.offset ≡ offset_at self.old.text from + length (accepted (chars text.now))) }
         ensures tail { OnOk result (self.new.tail ≡ clamp_tail self.new.text self.old.tail) }
         ensures err { OnErr result (self.new ≡ self.old) }
     {
-        let pos = edit_lines(&mut self.lines, from, to, s)?;
+        let pos = edit_lines(&mut self.lines, from, to, text)?;
         self.pos = pos;
         self.selection_tail = clamp_tail(&self.lines, self.selection_tail);
         Ok(())
     }
 
     /// Puts the cursor at a place of the text.
-    pub(crate) fn put_cursor(&mut self, p: Pos)
-        requires { IsPlaceIn self.old.text p }
-        ensures { self.new ≡ record self.old { offset = offset_at self.old.text p } }
+    pub(crate) fn put_cursor(&mut self, place: Pos)
+        requires { IsPlaceIn self.old.text place }
+        ensures { self.new ≡ record self.old { offset = offset_at self.old.text place } }
     {
         // Read so that the invariant of the lines is at hand.
         let _ = &self.lines;
-        self.pos = p;
+        self.pos = place;
     }
 
     /// The next place, if a place is not the end.
-    pub(crate) fn next_place(&self, p: Pos) -> Option<Pos>
-        requires { IsPlaceIn self.now.text p }
+    pub(crate) fn next_place(&self, place: Pos) -> Option<Pos>
+        requires { IsPlaceIn self.now.text place }
         ensures place { IfSome result (λ q. IsPlaceIn self.now.text q) }
-        ensures next { IfSome result (λ q. offset_at self.now.text q ≡ offset_at self.now.text p + 1) }
-        ensures at_end { IsSome result ↔ (offset_at self.now.text p < length self.now.text) }
+        ensures next { IfSome result (λ q. offset_at self.now.text q ≡ offset_at self.now.text place + 1) }
+        ensures at_end { IsSome result ↔ (offset_at self.now.text place < length self.now.text) }
     {
-        place_after(&self.lines, p)
+        place_after(&self.lines, place)
     }
 
     /// The previous place, if a place is not the start.
-    pub(crate) fn previous_place(&self, p: Pos) -> Option<Pos>
-        requires { IsPlaceIn self.now.text p }
+    pub(crate) fn previous_place(&self, place: Pos) -> Option<Pos>
+        requires { IsPlaceIn self.now.text place }
         ensures place { IfSome result (λ q. IsPlaceIn self.now.text q) }
-        ensures next { IfSome result (λ q. offset_at self.now.text q + 1 ≡ offset_at self.now.text p) }
-        ensures at_start { IsSome result ↔ (0 < offset_at self.now.text p) }
+        ensures next { IfSome result (λ q. offset_at self.now.text q + 1 ≡ offset_at self.now.text place) }
+        ensures at_start { IsSome result ↔ (0 < offset_at self.now.text place) }
     {
-        place_before(&self.lines, p)
+        place_before(&self.lines, place)
     }
 
     /// The place after the character at a place, or the end.
-    pub(crate) fn place_past_char(&self, p: Pos) -> Pos
-        requires { IsPlaceIn self.now.text p }
-        ensures next { IsAt self.now.text (min (offset_at self.now.text p + 1) (length self.now.text)) result }
+    pub(crate) fn place_past_char(&self, place: Pos) -> Pos
+        requires { IsPlaceIn self.now.text place }
+        ensures next { IsAt self.now.text (min (offset_at self.now.text place + 1) (length self.now.text)) result }
     {
-        place_past(&self.lines, p)
+        place_past(&self.lines, place)
     }
 
     /// The characters of the cursor's line before the cursor.
@@ -284,20 +284,20 @@ impl InputFieldContent {
     }
 
     /// Puts the tail at the nearest place of the text.
-    pub fn set_selection_tail(&mut self, sel_tail: Pos)
-        ensures { self.new ≡ record self.old { tail = Some (clamp_in self.old.text sel_tail) } }
+    pub fn set_selection_tail(&mut self, tail: Pos)
+        ensures { self.new ≡ record self.old { tail = Some (clamp_in self.old.text tail) } }
     {
-        self.selection_tail = Some(valid_pos(&self.lines, sel_tail));
+        self.selection_tail = Some(valid_pos(&self.lines, tail));
     }
 
     /// Puts the tail at a place of the text.
-    pub(crate) fn put_tail(&mut self, p: Pos)
-        requires { IsPlaceIn self.old.text p }
-        ensures { self.new ≡ record self.old { tail = Some p } }
+    pub(crate) fn put_tail(&mut self, place: Pos)
+        requires { IsPlaceIn self.old.text place }
+        ensures { self.new ≡ record self.old { tail = Some place } }
     {
         // Read so that the invariant of the lines is at hand.
         let _ = &self.lines;
-        self.selection_tail = Some(p);
+        self.selection_tail = Some(place);
     }
 
     /// Whether there is a tail.

@@ -16,12 +16,12 @@ impl InputFieldContent {
     /// # Errors
     ///
     /// Out of memory is the only error, and leaves the editor unchanged.
-    pub fn insert_str(&mut self, s: &str) -> Result<(), AllocError>
-        ensures ok { OnOk result (IsReplaced self.old self.new self.old.offset self.old.offset (chars s.now)) }
+    pub fn insert_str(&mut self, text: &str) -> Result<(), AllocError>
+        ensures ok { OnOk result (IsReplaced self.old self.new self.old.offset self.old.offset (chars text.now)) }
         ensures err { OnErr result (self.new ≡ self.old) }
     {
         let at = self.cursor_pos();
-        self.edit(at, at, s)
+        self.edit(at, at, text)
     }
 
     /// Puts a character in at the cursor, and the cursor after it. A carriage return or a backspace is left out.
@@ -34,8 +34,8 @@ impl InputFieldContent {
         ensures err { OnErr result (self.new ≡ self.old) }
     {
         let mut buffer = [0; 4];
-        let s = c.encode_utf8(&mut buffer);
-        self.insert_str(s)
+        let text = c.encode_utf8(&mut buffer);
+        self.insert_str(text)
     }
 
     /// Puts a newline in at the cursor, and the cursor after it.
@@ -65,8 +65,8 @@ impl InputFieldContent {
         let at = self.cursor_pos();
         let last = self.end();
         let mut buffer = [0; 4];
-        let s = c.encode_utf8(&mut buffer);
-        self.edit(last, last, s)?;
+        let text = c.encode_utf8(&mut buffer);
+        self.edit(last, last, text)?;
         self.put_cursor(at);
         Ok(())
     }

@@ -15,8 +15,8 @@ impl InputFieldContent {
     pub fn set_cursor_pos(&mut self, new_pos: Pos)
         ensures { self.new ≡ record self.old { offset = offset_at self.old.text (clamp_in self.old.text new_pos) } }
     {
-        let p = self.make_valid_pos(new_pos);
-        self.put_cursor(p);
+        let place = self.make_valid_pos(new_pos);
+        self.put_cursor(place);
     }
 
     /// Whether there is a character after the cursor.
@@ -43,8 +43,8 @@ impl InputFieldContent {
     {
         let at = self.cursor_pos();
         match self.next_place(at) {
-            Some(p) => {
-                self.put_cursor(p);
+            Some(place) => {
+                self.put_cursor(place);
                 true
             }
             None => false,
@@ -58,8 +58,8 @@ impl InputFieldContent {
     {
         let at = self.cursor_pos();
         match self.previous_place(at) {
-            Some(p) => {
-                self.put_cursor(p);
+            Some(place) => {
+                self.put_cursor(place);
                 true
             }
             None => false,
@@ -94,8 +94,8 @@ impl InputFieldContent {
         ensures moved { self.new ≡ record self.old { offset = self.old.offset + length (rest_of_line self.old) } }
     {
         let count = self.rest_of_line().len();
-        let p = self.place_ahead(count);
-        self.put_cursor(p);
+        let place = self.place_ahead(count);
+        self.put_cursor(place);
         count > 0
     }
 
@@ -105,8 +105,8 @@ impl InputFieldContent {
         ensures moved { self.new ≡ record self.old { offset = self.old.offset - length (front_of_line self.old) } }
     {
         let count = self.front_of_line().len();
-        let p = self.place_back(count);
-        self.put_cursor(p);
+        let place = self.place_back(count);
+        self.put_cursor(place);
         count > 0
     }
 
@@ -117,8 +117,8 @@ impl InputFieldContent {
         ensures moved { self.new ≡ record self.old { offset = self.old.offset - word_before (front_of_line self.old) } }
     {
         let count = word_before(self.front_of_line());
-        let p = self.place_back(count);
-        self.put_cursor(p);
+        let place = self.place_back(count);
+        self.put_cursor(place);
         count > 0
     }
 
@@ -129,8 +129,8 @@ impl InputFieldContent {
         ensures moved { self.new ≡ record self.old { offset = self.old.offset + word_after (rest_of_line self.old) } }
     {
         let count = word_after(self.rest_of_line());
-        let p = self.place_ahead(count);
-        self.put_cursor(p);
+        let place = self.place_ahead(count);
+        self.put_cursor(place);
         count > 0
     }
 

@@ -36,7 +36,7 @@ impl InputFieldContent {
         self.selection_string()
     }
 
-    /// Removes the selected characters, and puts the cursor there.
+    // Removes the selected characters, and puts the cursor there.
     fn remove_selected(&mut self) -> Result<(), AllocError>
         ensures ok { OnOk result (IsCut self.old self.new) }
         ensures err { OnErr result (self.new ≡ self.old) }
@@ -97,25 +97,25 @@ impl InputFieldContent {
     /// # Errors
     ///
     /// Out of memory is the only error, and leaves the editor unchanged.
-    pub fn replace_selection(&mut self, s: &str) -> Result<(), AllocError>
+    pub fn replace_selection(&mut self, text: &str) -> Result<(), AllocError>
         ensures wide { OnOk result (IsWide self.old → (self.new.text
-            ≡ replaced self.old.text (selection_start self.old) (selection_end self.old) (chars s.now))
-            × (self.new.offset ≡ selection_start self.old + length (accepted (chars s.now))) × (self.new.tail ≡ None)) }
+            ≡ replaced self.old.text (selection_start self.old) (selection_end self.old) (chars text.now))
+            × (self.new.offset ≡ selection_start self.old + length (accepted (chars text.now))) × (self.new.tail ≡ None)) }
         ensures narrow { OnOk result (selection_last self.old ≤ selection_start self.old
-            → IsReplaced self.old self.new self.old.offset self.old.offset (chars s.now)) }
+            → IsReplaced self.old self.new self.old.offset self.old.offset (chars text.now)) }
         ensures err { OnErr result (self.new ≡ self.old) }
     {
         if !self.has_wide_selection() {
-            return self.insert_str(s);
+            return self.insert_str(text);
         }
         let Range { min, max } = self.selection();
         let end = self.place_past_char(max);
-        self.edit(min, end, s)?;
+        self.edit(min, end, text)?;
         self.unselect();
         Ok(())
     }
 
-    /// Selects the characters of a class around the cursor: the tail at the first, the cursor at the last.
+    // Selects the characters of a class around the cursor: the tail at the first, the cursor at the last.
     fn select_around(&mut self, class: CharClass) -> bool
         ensures { SelectsAround class self.old self.new result }
     {

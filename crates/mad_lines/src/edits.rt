@@ -9,7 +9,7 @@ use crate::places::{front_at, rest_at};
 use std::alloc::{AllocError, Global};
 use std::mem;
 
-/// Puts lines in place of those from `from` up to `to`. `from` is at most `to`, and `to` at most the count of lines.
+/// Puts lines in place of those from `from` up to `to`, counted from 0. `from` is at most `to`, and `to` at most the count of lines.
 ///
 /// # Errors
 ///
@@ -29,7 +29,7 @@ pub fn replace_lines(
     Ok(())
 }
 
-/// One character more, at the end of the line that is being made. A newline ends that line.
+// One character more, at the end of the line that is being made. A newline ends that line.
 fn add_char(
     alloc: Global,
     lines: &mut Vec<Line>,
@@ -50,14 +50,14 @@ fn add_char(
     Ok(())
 }
 
-/// Lines that were made of a text, and the place after the text.
+// Lines that were made of a text, and the place after the text.
 #[derive(Drop)]
 struct NewLines {
     lines: Vec<Line>,
     end: Pos,
 }
 
-/// The lines of a text between the front and the back of a line.
+// The lines of a text between the front and the back of a line.
 fn lines_with_text(
     alloc: Global,
     front: &[char],
@@ -115,7 +115,7 @@ pub fn edit_lines(lines: &mut Vec<Line>, from: Pos, to: Pos, text: &str) -> Resu
     })
 }
 
-/// The lines that replace those from `from`'s to `to`'s, once the text is in place of what is between.
+// The lines that replace those from `from`'s to `to`'s, once the text is in place of what is between.
 fn lines_made(lines: &Vec<Line>, from: Pos, to: Pos, text: &str) -> Result<NewLines, AllocError>
     requires from { IsPlace (lines_of lines.now.items) from }
     requires to { IsPlace (lines_of lines.now.items) to }

@@ -10,6 +10,7 @@ use std::fmt;
 /// A line of a text, without its newline.
 #[derive(Debug, PartialEq, Eq, Drop)]
 pub struct Line {
+    /// Its characters, from left to right.
     pub chars: Vec<char>,
 }
 
@@ -31,7 +32,7 @@ pub fn columns(chars: &[char]) -> usize
     total
 }
 
-/// The first character that starts at a column or after it, else the count of characters.
+/// The first character that starts at a column or after it, else the count of characters. Both are counted from 0.
 pub fn index_at_column(chars: &[char], column: usize) -> usize
     ensures { IsIndexAtColumn chars.now column result }
 {
@@ -68,11 +69,11 @@ impl Line {
     }
 
     /// The first character that starts at a column or after it, if there is one.
-    pub fn col_to_char_idx(&self, col: usize) -> Option<usize>
+    pub fn col_to_char_idx(&self, column: usize) -> Option<usize>
         ensures { let l = self.now.chars.items in
-            MatchOption result (IsIndexAtColumn l col (length l)) (λ index. (index < length l) × IsIndexAtColumn l col index) }
+            MatchOption result (IsIndexAtColumn l column (length l)) (λ index. (index < length l) × IsIndexAtColumn l column index) }
     {
-        let index = index_at_column(self.chars.as_slice(), col);
+        let index = index_at_column(self.chars.as_slice(), column);
         if index < self.chars.len() {
             Some(index)
         } else {
@@ -80,12 +81,12 @@ impl Line {
         }
     }
 
-    /// The columns of the first `idx` characters, at most `usize::MAX`. The line has to have these many.
-    pub fn char_idx_to_col(&self, idx: usize) -> usize
-        requires { idx ≤ length self.now.chars.items }
-        ensures { result ≡ columns (take idx self.now.chars.items) }
+    /// The columns of the first `count` characters, at most `usize::MAX`. The line has to have at least `count`.
+    pub fn char_idx_to_col(&self, count: usize) -> usize
+        requires { count ≤ length self.now.chars.items }
+        ensures { result ≡ columns (take count self.now.chars.items) }
     {
-        columns(&self.chars.as_slice()[..idx])
+        columns(&self.chars.as_slice()[..count])
     }
 
     /// The columns of the line, at most `usize::MAX`.

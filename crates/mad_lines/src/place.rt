@@ -3,11 +3,12 @@
 ghost use Rattle.std.specs.Prelude.{◌≡◌, ◌↔◌, IsTrue};
 ghost use Rattle.mad_lines.specs.PlaceOrder.{IsNotAfter};
 
-/// A place in a text: a line, and how many characters of the line are before it.
-/// Places are ordered by line, then by character.
+/// A place in a text, before a character or at a line's end. Places are ordered by line, then by character.
 #[derive(Clone, Copy, Debug, PartialEq, Eq, PartialOrd, Ord, Default)]
 pub struct Pos {
+    /// Its line, counted from 0 at the top.
     pub y: usize,
+    /// How many characters of the line are before it.
     pub x: usize,
 }
 
@@ -23,7 +24,9 @@ impl Pos {
 /// A range of places; both ends are in it.
 #[derive(Clone, Copy, Debug)]
 pub struct Range {
+    /// Its first place.
     pub min: Pos,
+    /// Its last place.
     pub max: Pos,
 }
 

@@ -9,7 +9,7 @@ use crate::line::Line;
 use crate::place::{Pos, Range};
 use std::alloc::{AllocError, Global};
 
-/// How many characters a line has. There has to be a line with this number.
+/// How many characters a line has. There has to be a line with this number, counted from 0.
 pub fn line_len(lines: &[Line], y: usize) -> usize
     requires { y < length (lines_of lines.now) }
     ensures { result ≡ length (line_at (lines_of lines.now) y) }
@@ -38,51 +38,60 @@ pub fn end_place(lines: &[Line]) -> Pos
     }
 }
 
-/// The place itself, or the nearest one on its line, or the end. There has to be a line.
-pub fn valid_pos(lines: &[Line], p: Pos) -> Pos
+/// The place itself, or the nearest one on its line, or the end of the text. There has to be a line.
+pub fn valid_pos(lines: &[Line], place: Pos) -> Pos
     requires { 0 < length lines.now }
-    ensures is { result ≡ clamp (lines_of lines.now) p }
+    ensures is { result ≡ clamp (lines_of lines.now) place }
     ensures place { IsPlace (lines_of lines.now) result }
 {
-    if p.y < lines.len() {
+    if place.y < lines.len() {
         Pos {
-            y: p.y,
-            x: p.x.min(lines[p.y].chars.len()),
+            y: place.y,
+            x: place.x.min(lines[place.y].chars.len()),
         }
     } else {
         end_place(lines)
     }
 }
 
-/// The next place, if this is not the end. `p` has to be a place of the lines.
-pub fn place_after(lines: &[Line], p: Pos) -> Option<Pos>
-    requires { IsPlace (lines_of lines.now) p }
+/// The next place, if this is not the end. `place` has to be a place of the lines.
+pub fn place_after(lines: &[Line], place: Pos) -> Option<Pos>
+    requires { IsPlace (lines_of lines.now) place }
     ensures place { IfSome result (λ q. IsPlace (lines_of lines.now) q) }
-    ensures next { IfSome result (λ q. offset_of (lines_of lines.now) q ≡ offset_of (lines_of lines.now) p + 1) }
-    ensures order { IfSome result (λ q. p.y ≤ q.y) }
-    ensures at_end { IsSome result ↔ (offset_of (lines_of lines.now) p < length (text_of (lines_of lines.now))) }
+    ensures next { IfSome result (λ q. offset_of (lines_of lines.now) q ≡ offset_of (lines_of lines.now) place + 1) }
+    ensures order { IfSome result (λ q. place.y ≤ q.y) }
+    ensures at_end { IsSome result ↔ (offset_of (lines_of lines.now) place < length (text_of (lines_of lines.now))) }
 {
-    if p.x < line_len(lines, p.y) {
-        Some(Pos { y: p.y, x: p.x + 1 })
-    } else if p.y < line_count(lines) - 1 {
-        Some(Pos { y: p.y + 1, x: 0 })
+    if place.x < line_len(lines, place.y) {
+        Some(Pos {
+            y: place.y,
+            x: place.x + 1,
+        })
+    } else if place.y < line_count(lines) - 1 {
+        Some(Pos {
+            y: place.y + 1,
+            x: 0,
+        })
     } else {
         None
     }
 }
 
-/// The previous place, if this is not the start. `p` has to be a place of the lines.
-pub fn place_before(lines: &[Line], p: Pos) -> Option<Pos>
-    requires { IsPlace (lines_of lines.now) p }
+/// The previous place, if this is not the start. `place` has to be a place of the lines.
+pub fn place_before(lines: &[Line], place: Pos) -> Option<Pos>
+    requires { IsPlace (lines_of lines.now) place }
     ensures place { IfSome result (λ q. IsPlace (lines_of lines.now) q) }
-    ensures next { IfSome result (λ q. offset_of (lines_of lines.now) q + 1 ≡ offset_of (lines_of lines.now) p) }
-    ensures order { IfSome result (λ q. q.y ≤ p.y) }
-    ensures at_start { IsSome result ↔ (0 < offset_of (lines_of lines.now) p) }
+    ensures next { IfSome result (λ q. offset_of (lines_of lines.now) q + 1 ≡ offset_of (lines_of lines.now) place) }
+    ensures order { IfSome result (λ q. q.y ≤ place.y) }
+    ensures at_start { IsSome result ↔ (0 < offset_of (lines_of lines.now) place) }
 {
-    if p.x > 0 {
-        Some(Pos { y: p.y, x: p.x - 1 })
-    } else if p.y > 0 {
-        let y = p.y - 1;
+    if place.x > 0 {
+        Some(Pos {
+            y: place.y,
+            x: place.x - 1,
+        })
+    } else if place.y > 0 {
+        let y = place.y - 1;
         Some(Pos {
             y,
             x: line_len(lines, y),
@@ -93,64 +102,70 @@ pub fn place_before(lines: &[Line], p: Pos) -> Option<Pos>
 }
 
 /// Two places in their order.
-pub fn in_order(a: Pos, b: Pos) -> Range
-    ensures place { (ls : List (List ℕ)) → IsPlace ls a → IsPlace ls b → IsPlace ls result.min × IsPlace ls result.max }
-    ensures min { (ls : List (List ℕ)) → IsPlace ls a → IsPlace ls b
-        → offset_of ls result.min ≡ min (offset_of ls a) (offset_of ls b) }
-    ensures max { (ls : List (List ℕ)) → IsPlace ls a → IsPlace ls b
-        → offset_of ls result.max ≡ max (offset_of ls a) (offset_of ls b) }
+pub fn in_order(one: Pos, other: Pos) -> Range
+    ensures place { (ls : List (List ℕ)) → IsPlace ls one → IsPlace ls other → IsPlace ls result.min × IsPlace ls result.max }
+    ensures min { (ls : List (List ℕ)) → IsPlace ls one → IsPlace ls other
+        → offset_of ls result.min ≡ min (offset_of ls one) (offset_of ls other) }
+    ensures max { (ls : List (List ℕ)) → IsPlace ls one → IsPlace ls other
+        → offset_of ls result.max ≡ max (offset_of ls one) (offset_of ls other) }
     ensures order { result.min.y ≤ result.max.y }
 {
-    if b < a {
-        Range { min: b, max: a }
+    if other < one {
+        Range {
+            min: other,
+            max: one,
+        }
     } else {
-        Range { min: a, max: b }
+        Range {
+            min: one,
+            max: other,
+        }
     }
 }
 
-/// The place after a character: the next place, or the end. `p` has to be a place of the lines.
-pub fn place_past(lines: &[Line], p: Pos) -> Pos
-    requires { IsPlace (lines_of lines.now) p }
+/// The place after a character: the next place, or the end. `place` has to be a place of the lines.
+pub fn place_past(lines: &[Line], place: Pos) -> Pos
+    requires { IsPlace (lines_of lines.now) place }
     ensures place { IsPlace (lines_of lines.now) result }
     ensures next { offset_of (lines_of lines.now) result
-        ≡ min (offset_of (lines_of lines.now) p + 1) (length (text_of (lines_of lines.now))) }
-    ensures order { p.y ≤ result.y }
+        ≡ min (offset_of (lines_of lines.now) place + 1) (length (text_of (lines_of lines.now))) }
+    ensures order { place.y ≤ result.y }
 {
-    place_after(lines, p).unwrap_or(p)
+    place_after(lines, place).unwrap_or(place)
 }
 
-/// The character at a place, if this is not the end. `p` has to be a place of the lines.
-pub fn char_at(lines: &[Line], p: Pos) -> Option<char>
-    requires { IsPlace (lines_of lines.now) p }
-    ensures { result ≡ slice_get (text_of (lines_of lines.now)) (offset_of (lines_of lines.now) p) }
+/// The character at a place, if this is not the end. `place` has to be a place of the lines.
+pub fn char_at(lines: &[Line], place: Pos) -> Option<char>
+    requires { IsPlace (lines_of lines.now) place }
+    ensures { result ≡ slice_get (text_of (lines_of lines.now)) (offset_of (lines_of lines.now) place) }
 {
-    if p.x < line_len(lines, p.y) {
-        Some(lines[p.y].chars[p.x])
-    } else if p.y < line_count(lines) - 1 {
+    if place.x < line_len(lines, place.y) {
+        Some(lines[place.y].chars[place.x])
+    } else if place.y < line_count(lines) - 1 {
         Some('\n')
     } else {
         None
     }
 }
 
-/// The character at a place, and the next place, if this is not the end. `p` has to be a place of the lines.
-pub fn char_and_next(lines: &[Line], p: Pos) -> Option<(char, Pos)>
-    requires { IsPlace (lines_of lines.now) p }
-    ensures char { IfSome result (λ r. slice_get (text_of (lines_of lines.now)) (offset_of (lines_of lines.now) p) ≡ Some r.0) }
+/// The character at a place, and the next place, if this is not the end. `place` has to be a place of the lines.
+pub fn char_and_next(lines: &[Line], place: Pos) -> Option<(char, Pos)>
+    requires { IsPlace (lines_of lines.now) place }
+    ensures char { IfSome result (λ r. slice_get (text_of (lines_of lines.now)) (offset_of (lines_of lines.now) place) ≡ Some r.0) }
     ensures place { IfSome result (λ r. IsPlace (lines_of lines.now) r.1) }
-    ensures next { IfSome result (λ r. offset_of (lines_of lines.now) r.1 ≡ offset_of (lines_of lines.now) p + 1) }
-    ensures at_end { IsSome result ↔ (offset_of (lines_of lines.now) p < length (text_of (lines_of lines.now))) }
+    ensures next { IfSome result (λ r. offset_of (lines_of lines.now) r.1 ≡ offset_of (lines_of lines.now) place + 1) }
+    ensures at_end { IsSome result ↔ (offset_of (lines_of lines.now) place < length (text_of (lines_of lines.now))) }
 {
-    let c = char_at(lines, p)?;
-    let next = place_after(lines, p)?;
+    let c = char_at(lines, place)?;
+    let next = place_after(lines, place)?;
     Some((c, next))
 }
 
 /// Whether a place is before another.
-pub fn is_before(p: Pos, q: Pos) -> bool
-    ensures { (ls : List (List ℕ)) → IsPlace ls p → IsPlace ls q → (IsTrue result ↔ (offset_of ls p < offset_of ls q)) }
+pub fn is_before(place: Pos, other: Pos) -> bool
+    ensures { (ls : List (List ℕ)) → IsPlace ls place → IsPlace ls other → (IsTrue result ↔ (offset_of ls place < offset_of ls other)) }
 {
-    p < q
+    place < other
 }
 
 /// The text between two places; empty where `to` is before `from`. Both have to be places of the lines.
@@ -185,20 +200,20 @@ fn rest_of(line: &Line, x: usize) -> &[char]
     &line.chars.as_slice()[x..]
 }
 
-/// The characters of a place's line before the place. `p` has to be a place of the lines.
-pub fn front_at(lines: &[Line], p: Pos) -> &[char]
-    requires { IsPlace (lines_of lines.now) p }
-    ensures { result.now ≡ take p.x (line_at (lines_of lines.now) p.y) }
+/// The characters of a place's line before the place. `place` has to be a place of the lines.
+pub fn front_at(lines: &[Line], place: Pos) -> &[char]
+    requires { IsPlace (lines_of lines.now) place }
+    ensures { result.now ≡ take place.x (line_at (lines_of lines.now) place.y) }
 {
-    front_of(&lines[p.y], p.x)
+    front_of(&lines[place.y], place.x)
 }
 
-/// The characters of a place's line after the place. `p` has to be a place of the lines.
-pub fn rest_at(lines: &[Line], p: Pos) -> &[char]
-    requires { IsPlace (lines_of lines.now) p }
-    ensures { result.now ≡ drop p.x (line_at (lines_of lines.now) p.y) }
+/// The characters of a place's line after the place. `place` has to be a place of the lines.
+pub fn rest_at(lines: &[Line], place: Pos) -> &[char]
+    requires { IsPlace (lines_of lines.now) place }
+    ensures { result.now ≡ drop place.x (line_at (lines_of lines.now) place.y) }
 {
-    rest_of(&lines[p.y], p.x)
+    rest_of(&lines[place.y], place.x)
 }
 
 /// A copy of lines.
@@ -225,16 +240,16 @@ pub fn clear_lines(lines: &mut Vec<Line>)
     lines[0].chars.clear();
 }
 
-/// Two lines change places. There have to be lines with these numbers.
-pub fn swap_lines(lines: &mut Vec<Line>, a: usize, b: usize)
-    requires a { a < length lines.old.items }
-    requires b { b < length lines.old.items }
-    ensures { lines_of lines.new.items ≡ swap (lines_of lines.old.items) a b }
+/// Two lines change places. There have to be lines with these numbers, counted from 0.
+pub fn swap_lines(lines: &mut Vec<Line>, one: usize, other: usize)
+    requires one { one < length lines.old.items }
+    requires other { other < length lines.old.items }
+    ensures { lines_of lines.new.items ≡ swap (lines_of lines.old.items) one other }
 {
-    lines.swap(a, b);
+    lines.swap(one, other);
 }
 
-/// A line. There has to be one with this number.
+/// A line. There has to be one with this number, counted from 0.
 pub fn line_at(lines: &[Line], y: usize) -> &Line
     requires { y < length (lines_of lines.now) }
     ensures { result.now.chars.items ≡ line_at (lines_of lines.now) y }

@@ -124,7 +124,7 @@ reads_within (suc n) before (b ∷ bs) l =
 pub items_read : (flags : Flags) (line : List ℕ) → IsInlineReadingWith flags line (items_of flags line)
 items_read flags line = let read = reads_within (length line) (marks_of flags) line (omega arith) in record { spells = read.0; marked = read.1 }
 
--- ---- marks that stand for flags
+-- ---- the marks of flags
 
 marked_flags : (b i c s : Bool) → flags_after (marks_of (record { bold = b; italic = i; code = c; strikeout = s })) ≡ record { bold = b; italic = i; code = c; strikeout = s }
 marked_flags true true true true = refl

@@ -25,8 +25,8 @@ use Rattle.mad_md.proofs.ReadingLemmas.{step_line, step_shorter, first_text}
 
 -- ---- what its bytes are
 
-low : (b : ℕ) → is_plain_byte b ≡ true → 31 < b
-low b h = grind (arith, nat_tests)
+pub plain_low : (b : ℕ) → is_plain_byte b ≡ true → 31 < b
+plain_low b h = grind (arith, nat_tests)
 
 no_begin : (b : ℕ) → is_plain_byte b ≡ true → may_begin false b ≡ false
 no_begin b h = grind (arith, nat_tests)
@@ -90,10 +90,10 @@ IsLetter b = is_ascii_alphabetic b ≡ true
 not_this : (b x : ℕ) → IsLetter b → (x < 65) ⊎ (122 < x) → nat_eq x b ≡ false
 not_this b x h apart = grind (arith, nat_tests)
 
-if_not : {A : Type 0} (t : Bool) (a b : A) → t ≡ false → (if t then a else b) ≡ b
+pub if_not : {A : Type 0} (t : Bool) (a b : A) → t ≡ false → (if t then a else b) ≡ b
 if_not t a b h = ap (λ s. if s then a else b) h
 
-and_not : (a b : Bool) → a ≡ false → (a && b) ≡ false
+pub and_not : (a b : Bool) → a ≡ false → (a && b) ≡ false
 and_not a b h = ap (λ t. t && b) h
 
 begins_else : (b x : ℕ) (bs xs : List ℕ) → nat_eq x b ≡ false → begins (b ∷ bs) (x ∷ xs) ≡ false
@@ -150,13 +150,13 @@ carried_plain false = refl
 
 newline_at : (most n : ℕ) (bs : List ℕ) → IsPlainFront most bs n → position_or_len is_newline bs ≡ n
 newline_at most n bs h =
-    position_or_len_is is_newline bs n 0 (omega (arith, h.inside)) (λ k below. test_false (get_or bs k 0) 10 (omega (arith, low (get_or bs k 0) (h.plain k below)))) (λ inside. test_true (get_or bs n 0) 10 h.ends)
+    position_or_len_is is_newline bs n 0 (omega (arith, h.inside)) (λ k below. test_false (get_or bs k 0) 10 (omega (arith, plain_low (get_or bs k 0) (h.plain k below)))) (λ inside. test_true (get_or bs n 0) 10 h.ends)
 
 no_return : (text : List ℕ) → AllPlain text → text ≡ strip_carriage_return text
 no_return [] h = refl
 no_return (b ∷ bs) h =
     let last : is_plain_byte (get_or (b ∷ bs) (length (b ∷ bs) - 1) 0) ≡ true = h (length (b ∷ bs) - 1) (omega arith) in
-    sym (if_not _ _ _ (test_false (get_or (b ∷ bs) (length (b ∷ bs) - 1) 0) 13 (omega (arith, low (get_or (b ∷ bs) (length (b ∷ bs) - 1) 0) last))))
+    sym (if_not _ _ _ (test_false (get_or (b ∷ bs) (length (b ∷ bs) - 1) 0) 13 (omega (arith, plain_low (get_or (b ∷ bs) (length (b ∷ bs) - 1) 0) last))))
 
 -- the first byte of the text, if it has one
 letter_first : (n : ℕ) (text bs : List ℕ) → text ≡ take n bs → n ≤ length bs → IsLetter (get_or bs 0 0) → (text ≡ []) ⊎ IsLetter (get_or text 0 0)

@@ -9,7 +9,7 @@ use Rattle.std.specs.Str.{IsUtf8, IsCharBoundary}
 use Rattle.std.proofs.lemmas.List.{length-drop, drop-drop}
 use Rattle.std.proofs.lemmas.Str.{IsCharBoundary-start}
 use Rattle.mad_md.proofs.InlineLemmas.{front_is, ascii_end}
-use Rattle.mad_md.specs.Starts.{begins, indent, item_after, item_start, ordered_after, header_of, header_start, run_len, is_rule, plain_start, line_start}
+use Rattle.mad_md.specs.Starts.{begins, indent, item_after, item_start, ordered_after, header_of, header_start, count_in_front, is_rule, plain_start, line_start}
 use Rattle.mad_md.specs.declared.starts.LineStart.{LineStart}
 
 pub if_cases : {A : Type 0} (P : A → Type 0) (t : Bool) (a b : A) → (t ≡ true → P a) → (t ≡ false → P b) → P (if t then a else b)
@@ -79,7 +79,7 @@ start_ends line u =
     if_cases (Ends line) (begins line (9 ∷ [])) _ _ (λ b. border_one line 0 9 u b (lit< tt)) (λ e.
     unwrap_cases (Ends line) (item_start line) _ (item_ends line (indent line) u) (
     if_cases (Ends line) (begins line (62 ∷ 32 ∷ [])) _ _ (λ b. border_two line 0 62 32 u b (lit< tt)) (λ e.
-    unwrap_cases (Ends line) (header_start line) _ (header_ends line (run_len 35 line) u) (plain_ends line u)))))))
+    unwrap_cases (Ends line) (header_start line) _ (header_ends line (count_in_front 35 line) u) (plain_ends line u)))))))
 
 -- ---- digits
 

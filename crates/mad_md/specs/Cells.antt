@@ -6,7 +6,7 @@ use Rattle.mad_md.specs.Flagged.{RunPlace, plain}
 use Rattle.mad_md.specs.Inline.{Item, IsInlineReading, runs_with}
 use Rattle.mad_md.specs.Parts.{LinePlace, line_text, without_last_if}
 use Rattle.mad_md.specs.Places.{StyledPlaces, LinePlaces, table_row_at, table_rule_at}
-use Rattle.mad_md.specs.Starts.{begins, run_len}
+use Rattle.mad_md.specs.Starts.{begins, count_in_front}
 use Rattle.mad_md.specs.declared.alignment.Alignment.{Alignment}
 use Rattle.mad_md.specs.declared.alignment.Alignment.TheVariants.{Unspecified, Left, Center, Right}
 use Rattle.mad_md.specs.declared.composite.CompositeStyle.{CompositeStyle}
@@ -121,7 +121,7 @@ without_last_colon text = if ends_with_colon text then take (length text - 1) te
 
 -- hyphens, one at least
 abbrev pub are_hyphens : List ℕ → Bool
-are_hyphens text = not (length text == 0) && (run_len 45 text == length text)
+are_hyphens text = not (length text == 0) && (count_in_front 45 text == length text)
 
 -- the alignment that colons before and after the hyphens say
 abbrev pub alignment_by : Bool → Bool → Alignment

@@ -10,11 +10,11 @@ use Rattle.mad_md.specs.declared.starts.Form.{Form}
 
 -- whether a line begins with these bytes
 abbrev pub begins : List ℕ → List ℕ → Bool
-begins line front = starts_with nat_eq line front
+begins line prefix = starts_with nat_eq line prefix
 
 -- how often a byte is repeated in front
-abbrev pub run_len : ℕ → List ℕ → ℕ
-run_len byte line = prefix_len (λ b. b == byte) line
+abbrev pub count_in_front : ℕ → List ℕ → ℕ
+count_in_front byte line = prefix_len (λ b. b == byte) line
 
 -- a form, and how many bytes at the front only say so
 abbrev pub starts : Form → ℕ → LineStart
@@ -52,11 +52,11 @@ header_of level line =
 
 -- a header, by how many signs # are in front
 abbrev pub header_start : List ℕ → Option LineStart
-header_start line = header_of (run_len 35 line) line
+header_start line = header_of (count_in_front 35 line) line
 
 -- three hyphens or more, and nothing else
 abbrev pub is_rule : List ℕ → Bool
-is_rule line = begins line (45 ∷ 45 ∷ 45 ∷ []) && (run_len 45 line == length line)
+is_rule line = begins line (45 ∷ 45 ∷ 45 ∷ []) && (count_in_front 45 line == length line)
 
 -- what a line is that is no item, quote or header
 abbrev pub plain_start : List ℕ → LineStart

@@ -40,7 +40,7 @@ pub made_by : {A : Type 0} (b : Bool) (x y : A) → (if b then Some x else None)
 made_by true x y e = (refl, cc)
 made_by false x y e = absurd (cc)
 
-white_flagged : (f : Flags) (cs : List ℕ) → list_all is_whitespace cs ≡ true → AllWhite (flagged f cs)
+pub white_flagged : (f : Flags) (cs : List ℕ) → list_all is_whitespace cs ≡ true → AllWhite (flagged f cs)
 white_flagged f [] h = tt
 white_flagged f (c ∷ cs) h = let parts = and_parts (is_whitespace c) (list_all is_whitespace cs) h in (parts.0, white_flagged f cs parts.1)
 

@@ -92,11 +92,12 @@ white_blank f [] h off = tt
 white_blank f (c ∷ cs) h off = let parts = and_parts (is_whitespace c) (list_all is_whitespace cs) h in (ap (λ (w : Bool). w && not f.code) parts.0 ∙ ap not off, white_blank f cs parts.1 off)
 
 -- a token of blank characters is blank
-blank_token : (b : Bool) (xs : List FlaggedChar) → 0 < length xs → AllByRecursion (λ x. is_blank x ≡ b) xs → AllByRecursion (λ x. is_blank x ≡ true) xs → b ≡ true
+pub blank_token : (b : Bool) (xs : List FlaggedChar) → 0 < length xs → AllByRecursion (λ x. is_blank x ≡ b) xs → AllByRecursion (λ x. is_blank x ≡ true) xs → b ≡ true
 blank_token b [] some h g = absurd (omega arith)
 blank_token b (x ∷ xs) some h g = sym h.0 ∙ g.0
 
-blank_tokens : (max : ℕ) (ts : List Token) → AllByRecursion (IsHonest max) ts → AllByRecursion (λ x. is_blank x ≡ true) (tokens_text ts) → AllBlank ts
+-- blank text is that of blank tokens
+pub blank_tokens : (max : ℕ) (ts : List Token) → AllByRecursion (IsHonest max) ts → AllByRecursion (λ x. is_blank x ≡ true) (tokens_text ts) → AllBlank ts
 blank_tokens max [] h g = tt
 blank_tokens max (t ∷ ts) h g = (
   blank_token t.blank (flagged_token t) (some_flagged t h.0.place) h.0.alike.alike (all_front (λ x. is_blank x ≡ true) (flagged_token t) (tokens_text ts) g),

@@ -9,14 +9,14 @@ use Rattle.mad_wrap.specs.declared.room.Room.{Room}
 
 -- at the beginning of the first line
 abbrev pub at_first : Room → FirstFit
-at_first r = record { room = r; left = left_of r.width r.first; ended = false }
+at_first r = record { room = r; room_left = left_of r.width r.first; ended = false }
 
 -- the line has ended, or the token doesn't fit on it
 abbrev pub IsFullFor : FirstFit → Token → Type 0
-IsFullFor s t = (s.ended ≡ true) ⊎ (fits_in s.left t.width ≡ false)
+IsFullFor s t = (s.ended ≡ true) ⊎ (fits_in s.room_left t.width ≡ false)
 
 -- the token is put there, and that leaves this
 abbrev pub Puts : FirstFit → Token → Put → FirstFit → Type 0
-Puts s t OnLine n = (s.ended ≡ false) × (fits_in s.left t.width ≡ true) × (n ≡ record s { left = taken s.left t.width })
-Puts s t OnNext n = (t.blank ≡ false) × IsFullFor s t × (n ≡ record { room = s.room; left = left_of s.room.width (s.room.other + t.width); ended = false })
+Puts s t OnLine n = (s.ended ≡ false) × (fits_in s.room_left t.width ≡ true) × (n ≡ record s { room_left = taken s.room_left t.width })
+Puts s t OnNext n = (t.blank ≡ false) × IsFullFor s t × (n ≡ record { room = s.room; room_left = left_of s.room.width (s.room.other + t.width); ended = false })
 Puts s t InGap n = (t.blank ≡ true) × IsFullFor s t × (n ≡ record s { ended = true })

@@ -52,17 +52,17 @@ fn check(tokens: Tokens, room: Room, starts: &[usize]) -> bool
     let (mut holds, mut others) = first_and_others(starts);
     let mut start = 0;
     let mut number: usize = 0;
-    let mut left = left_of(room.width, room.first);
+    let mut room_left = left_of(room.width, room.first);
     for token in tokens {
         let here = number;
         number = number.saturating_add(1);
-        let after = left_after(left, token.width);
+        let after = left_after(room_left, token.width);
         let Some(rest) = met(others, here, start) else {
-            left = after;
+            room_left = after;
             continue;
         };
         holds = is_right(holds, after, rest, token.blank);
-        left = left_of_next(room, token.width);
+        room_left = left_of_next(room, token.width);
         start = here;
         others = rest;
     }

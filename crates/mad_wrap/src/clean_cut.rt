@@ -50,7 +50,7 @@ fn fits_after(indent: usize, width: usize, compound: &Compound) -> bool
     ensures text { IsTrue result → IsUtf8 compound.now.src.now }
 {
     match width.checked_sub(indent) {
-        Some(left) => columns_within(compound.src, left).is_some(),
+        Some(room_left) => columns_within(compound.src, room_left).is_some(),
         None => false,
     }
 }

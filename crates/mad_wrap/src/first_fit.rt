@@ -22,8 +22,9 @@ pub(crate) enum Put {
 #[derive(Clone, Copy)]
 pub(crate) struct FirstFit {
     room: Room,
-    // What is left of the line, if its tokens fit, and whether a gap has begun after it.
-    left: Option<usize>,
+    // The columns left on the line; none where its tokens don't fit.
+    room_left: Option<usize>,
+    // Whether a gap has begun after the line.
     ended: bool,
 }
 
@@ -36,7 +37,7 @@ impl FirstFit {
     {
         FirstFit {
             room,
-            left: left_of(room.width, room.first),
+            room_left: left_of(room.width, room.first),
             ended: false,
         }
     }
@@ -45,29 +46,29 @@ impl FirstFit {
     pub(crate) fn put(&mut self, token: Token) -> Put
         ensures { Puts self.old token.entry result self.new }
     {
-        if let Some(after) = left_with(self.left, self.ended, token.width) {
-            self.left = Some(after);
+        if let Some(after) = left_with(self.room_left, self.ended, token.width) {
+            self.room_left = Some(after);
             return Put::OnLine;
         }
         if token.blank {
             self.ended = true;
             return Put::InGap;
         }
-        self.left = left_of_next(self.room, token.width);
+        self.room_left = left_of_next(self.room, token.width);
         self.ended = false;
         Put::OnNext
     }
 }
 
 // What is left of a line's columns with a token on it, if the line hasn't ended and the token fits.
-fn left_with(left: Option<usize>, ended: bool, width: usize) -> Option<usize>
-    ensures some { IfSome result (λ after. (ended ≡ false) × (fits_in left width ≡ true) × (taken left width ≡ Some after)) }
-    ensures none { IfNone result ((ended ≡ true) ⊎ (fits_in left width ≡ false)) }
+fn left_with(room_left: Option<usize>, ended: bool, width: usize) -> Option<usize>
+    ensures some { IfSome result (λ after. (ended ≡ false) × (fits_in room_left width ≡ true) × (taken room_left width ≡ Some after)) }
+    ensures none { IfNone result ((ended ≡ true) ⊎ (fits_in room_left width ≡ false)) }
 {
     if ended {
         None
     } else {
-        left?.checked_sub(width)
+        room_left?.checked_sub(width)
     }
 }
 
@@ -86,8 +87,8 @@ pub(crate) fn left_of(width: usize, used: usize) -> Option<usize>
 }
 
 /// What is left after `width` more columns, if they fit in what was left.
-pub(crate) fn left_after(left: Option<usize>, width: usize) -> Option<usize>
-    ensures { result ≡ left_after left width }
+pub(crate) fn left_after(room_left: Option<usize>, width: usize) -> Option<usize>
+    ensures { result ≡ left_after room_left width }
 {
-    left_of(left?, width)
+    left_of(room_left?, width)
 }

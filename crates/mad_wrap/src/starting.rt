@@ -89,13 +89,13 @@ fn first_past(tokens: Tokens, room: Room) -> Result<Option<usize>, AllocError>
         × MatchOption past (room.first ≤ room.width → room.first + total_width ts ≤ room.width) (IsFirstPast room ts)) }
 {
     let mut past = None;
-    let mut left = left_of(room.width, room.first);
+    let mut room_left = left_of(room.width, room.first);
     let mut i: usize = 0;
     for token in tokens {
         let number = i;
         i = number_after(i)?;
-        left = left_after(left, token.width);
-        past = past.or(past_here(left, number));
+        room_left = left_after(room_left, token.width);
+        past = past.or(past_here(room_left, number));
     }
     Ok(past)
 }
@@ -108,10 +108,10 @@ fn number_after(number: usize) -> Result<usize, AllocError>
 }
 
 // This number where nothing is left.
-fn past_here(left: Option<usize>, number: usize) -> Option<usize>
-    ensures { result ≡ past_here left number }
+fn past_here(room_left: Option<usize>, number: usize) -> Option<usize>
+    ensures { result ≡ past_here room_left number }
 {
-    match left {
+    match room_left {
         None => Some(number),
         Some(_) => None,
     }

@@ -69,15 +69,15 @@ impl InputFieldContent {
     }
 
     /// Whether the text is this one.
-    pub fn is_str(&self, s: &str) -> bool
-        ensures { IsTrue result ↔ (self.now.text ≡ chars s.now) }
+    pub fn is_str(&self, text: &str) -> bool
+        ensures { IsTrue result ↔ (self.now.text ≡ chars text.now) }
     {
         let mut own = self.chars();
-        for c in s.chars() {
-            let Some(d) = own.next() else {
+        for c in text.chars() {
+            let Some(own_char) = own.next() else {
                 return false;
             };
-            if d != c {
+            if own_char != c {
                 return false;
             }
         }

@@ -16,13 +16,13 @@ impl InputFieldContent {
     /// # Errors
     ///
     /// Out of memory is the only error.
-    pub fn from(alloc: Global, s: &str) -> Result<InputFieldContent, AllocError>
-        ensures text { IfOk result (λ e. e.text ≡ accepted (chars s.now)) }
-        ensures cursor { IfOk result (λ e. e.offset ≡ length (accepted (chars s.now))) }
+    pub fn from(alloc: Global, text: &str) -> Result<InputFieldContent, AllocError>
+        ensures text { IfOk result (λ e. e.text ≡ accepted (chars text.now)) }
+        ensures cursor { IfOk result (λ e. e.offset ≡ length (accepted (chars text.now))) }
         ensures tail { IfOk result (λ e. e.tail ≡ None) }
     {
         let mut content = InputFieldContent::new(alloc)?;
-        content.insert_str(s)?;
+        content.insert_str(text)?;
         Ok(content)
     }
 
@@ -31,18 +31,18 @@ impl InputFieldContent {
     /// # Errors
     ///
     /// Out of memory is the only error, and leaves the editor unchanged.
-    pub fn set_str(&mut self, s: &str) -> Result<(), AllocError>
-        ensures same { OnOk result (self.old.text ≡ chars s.now → self.new ≡ self.old) }
-        ensures text { OnOk result (self.old.text ≢ chars s.now → self.new.text ≡ accepted (chars s.now)) }
-        ensures cursor { OnOk result (self.old.text ≢ chars s.now → self.new.offset ≡ length (accepted (chars s.now))) }
-        ensures tail { OnOk result (self.old.text ≢ chars s.now → self.new.tail ≡ None) }
+    pub fn set_str(&mut self, text: &str) -> Result<(), AllocError>
+        ensures same { OnOk result (self.old.text ≡ chars text.now → self.new ≡ self.old) }
+        ensures text { OnOk result (self.old.text ≢ chars text.now → self.new.text ≡ accepted (chars text.now)) }
+        ensures cursor { OnOk result (self.old.text ≢ chars text.now → self.new.offset ≡ length (accepted (chars text.now))) }
+        ensures tail { OnOk result (self.old.text ≢ chars text.now → self.new.tail ≡ None) }
         ensures err { OnErr result (self.new ≡ self.old) }
     {
-        if self.is_str(s) {
+        if self.is_str(text) {
             return Ok(());
         }
         let alloc = *self.lines.allocator();
-        let content = InputFieldContent::from(alloc, s)?;
+        let content = InputFieldContent::from(alloc, text)?;
         *self = content;
         Ok(())
     }
@@ -60,19 +60,19 @@ impl InputFieldContent {
 
     /// Two lines, by their numbers from 0, change places. The cursor and the tail keep their line and place numbers as far as the text goes.
     /// Returns whether these are two lines of the text.
-    pub fn swap_lines(&mut self, ya: usize, yb: usize) -> bool
-        ensures done { IsTrue result ↔ ((ya ≢ yb) × (ya < length (lines self.old.text)) × (yb < length (lines self.old.text))) }
-        ensures text { OnTrue result (self.new.text ≡ text_of (swap (lines self.old.text) ya yb)) }
+    pub fn swap_lines(&mut self, one: usize, other: usize) -> bool
+        ensures done { IsTrue result ↔ ((one ≢ other) × (one < length (lines self.old.text)) × (other < length (lines self.old.text))) }
+        ensures text { OnTrue result (self.new.text ≡ text_of (swap (lines self.old.text) one other)) }
         ensures cursor { OnTrue result (self.new.offset
             ≡ offset_at self.new.text (clamp_in self.new.text (record { y = cursor_line self.old; x = cursor_column self.old }))) }
         ensures tail { OnTrue result (self.new.tail ≡ clamp_tail self.new.text self.old.tail) }
         ensures none { OnFalse result (self.new ≡ self.old) }
     {
         let count = line_count(&self.lines);
-        if ya == yb || ya >= count || yb >= count {
+        if one == other || one >= count || other >= count {
             return false;
         }
-        swap_lines(&mut self.lines, ya, yb);
+        swap_lines(&mut self.lines, one, other);
         self.pos = valid_pos(&self.lines, self.pos);
         self.selection_tail = clamp_tail(&self.lines, self.selection_tail);
         true

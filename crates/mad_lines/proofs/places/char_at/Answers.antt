@@ -4,15 +4,15 @@ use Rattle.mad_lines.specs.TextLines.{chars_of, lines_of}
 use Rattle.mad_lines.proofs.PlaceLemmas.{char_in_line, char_at_line_end, char_at_end}
 use Rattle.mad_lines.proofs.places.char_at.Goals as goal
 
-pub returns-then-p-line_len : goal.returns-then-p-line_len
-returns-then-p-line_len c =
+pub returns-then-place-line_len : goal.returns-then-place-line_len
+returns-then-place-line_len c =
     let xs = c.args.lines.now in
-    let l = sym (get_or-map chars_of xs c.args.p.y c.index-lines-p.result [] (simp length-map at c.requires.0)) in
-    ap (λ (x : ℕ). Some x) (c.index.ensures ∙ ap (λ t. get_or t c.args.p.x c.index.result.now) l)
-    ∙ sym (char_in_line (lines_of c.args.lines.now) c.args.p _ c.requires (omega arith))
+    let l = sym (get_or-map chars_of xs c.args.place.y c.index-lines-place.result [] (simp length-map at c.requires.0)) in
+    ap (λ (x : ℕ). Some x) (c.index.ensures ∙ ap (λ t. get_or t c.args.place.x c.index.result.now) l)
+    ∙ sym (char_in_line (lines_of c.args.lines.now) c.args.place _ c.requires (omega arith))
 
-pub returns-then-p-line_count : goal.returns-then-p-line_count
-returns-then-p-line_count c = sym (char_at_line_end (lines_of c.args.lines.now) c.args.p c.requires (omega arith) (omega arith))
+pub returns-then-place-line_count : goal.returns-then-place-line_count
+returns-then-place-line_count c = sym (char_at_line_end (lines_of c.args.lines.now) c.args.place c.requires (omega arith) (omega arith))
 
-pub returns-else-p-line_count : goal.returns-else-p-line_count
-returns-else-p-line_count c = sym (char_at_end (lines_of c.args.lines.now) c.args.p c.requires (omega arith) (omega arith))
+pub returns-else-place-line_count : goal.returns-else-place-line_count
+returns-else-place-line_count c = sym (char_at_end (lines_of c.args.lines.now) c.args.place c.requires (omega arith) (omega arith))

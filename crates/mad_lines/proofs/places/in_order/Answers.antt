@@ -4,15 +4,15 @@ use Rattle.mad_lines.specs.TextLines.{IsPlace, offset_of}
 use Rattle.mad_lines.proofs.PlaceLemmas.{IsEarlier, earlier_place, lesser_offset}
 use Rattle.mad_lines.proofs.places.in_order.Goals as goal
 
-sooner : (c : goal.Then-lt) (ls : List (List ℕ)) → IsPlace ls c.args.a → IsPlace ls c.args.b → offset_of ls c.args.b < offset_of ls c.args.a
+sooner : (c : goal.Then-lt) (ls : List (List ℕ)) → IsPlace ls c.args.one → IsPlace ls c.args.other → offset_of ls c.args.other < offset_of ls c.args.one
 sooner c ls ha hb =
-    let earlier : IsEarlier c.args.b c.args.a = search rules in
-    earlier_place ls c.args.b c.args.a hb ha earlier
+    let earlier : IsEarlier c.args.other c.args.one = search rules in
+    earlier_place ls c.args.other c.args.one hb ha earlier
 
-later : (c : goal.Else-lt) (ls : List (List ℕ)) → IsPlace ls c.args.a → IsPlace ls c.args.b → offset_of ls c.args.a ≤ offset_of ls c.args.b
-later c ls ha hb = elim (cases_lt (offset_of ls c.args.b) (offset_of ls c.args.a)) [
+later : (c : goal.Else-lt) (ls : List (List ℕ)) → IsPlace ls c.args.one → IsPlace ls c.args.other → offset_of ls c.args.one ≤ offset_of ls c.args.other
+later c ls ha hb = elim (cases_lt (offset_of ls c.args.other) (offset_of ls c.args.one)) [
   | inl less ↦
-      let earlier = lesser_offset ls c.args.b c.args.a hb ha less in
+      let earlier = lesser_offset ls c.args.other c.args.one hb ha less in
       let is : c.lt.result ≡ true = search rules in
       let not : c.lt.result ≡ false = search rules in
       cc

@@ -4,6 +4,6 @@ use Rattle.mad_lines.proofs.places.is_before.Goals as goal
 
 pub returns : goal.returns
 returns c ls hp hq = (
-  λ h. let earlier : IsEarlier c.args.p c.args.q = search rules in earlier_place ls c.args.p c.args.q hp hq earlier,
-  λ h. let earlier = lesser_offset ls c.args.p c.args.q hp hq h in search rules,
+  λ h. let earlier : IsEarlier c.args.place c.args.other = search rules in earlier_place ls c.args.place c.args.other hp hq earlier,
+  λ h. let earlier = lesser_offset ls c.args.place c.args.other hp hq h in search rules,
 )

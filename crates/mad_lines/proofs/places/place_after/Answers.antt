@@ -3,20 +3,20 @@ use Rattle.mad_lines.specs.TextLines.{lines_of}
 use Rattle.mad_lines.proofs.PlaceLemmas.{next_line, length-text, more_lines, no_lines}
 use Rattle.mad_lines.proofs.places.place_after.Goals as goal
 
-pub returns-then-p-line_len-clause-at_end : goal.returns-then-p-line_len-clause-at_end
-returns-then-p-line_len-clause-at_end c = let e = length-text (lines_of c.args.lines.now) c.args.p c.requires in (λ _. omega arith, λ _. refl)
+pub returns-then-place-line_len-clause-at_end : goal.returns-then-place-line_len-clause-at_end
+returns-then-place-line_len-clause-at_end c = let e = length-text (lines_of c.args.lines.now) c.args.place c.requires in (λ _. omega arith, λ _. refl)
 
-pub returns-then-p-line_count-clause-next : goal.returns-then-p-line_count-clause-next
-returns-then-p-line_count-clause-next c = let e = next_line (lines_of c.args.lines.now) c.args.p.y (omega arith) in omega arith
+pub returns-then-place-line_count-clause-next : goal.returns-then-place-line_count-clause-next
+returns-then-place-line_count-clause-next c = let e = next_line (lines_of c.args.lines.now) c.args.place.y (omega arith) in omega arith
 
-pub returns-then-p-line_count-clause-at_end : goal.returns-then-p-line_count-clause-at_end
-returns-then-p-line_count-clause-at_end c =
-    let e = length-text (lines_of c.args.lines.now) c.args.p c.requires in
-    let m = more_lines (lines_of c.args.lines.now) (suc c.args.p.y) (omega arith) in
+pub returns-then-place-line_count-clause-at_end : goal.returns-then-place-line_count-clause-at_end
+returns-then-place-line_count-clause-at_end c =
+    let e = length-text (lines_of c.args.lines.now) c.args.place c.requires in
+    let m = more_lines (lines_of c.args.lines.now) (suc c.args.place.y) (omega arith) in
     (λ _. omega arith, λ _. refl)
 
-pub returns-else-p-line_count-clause-at_end : goal.returns-else-p-line_count-clause-at_end
-returns-else-p-line_count-clause-at_end c =
-    let e = length-text (lines_of c.args.lines.now) c.args.p c.requires in
-    let m = no_lines (lines_of c.args.lines.now) (suc c.args.p.y) (omega arith) in
+pub returns-else-place-line_count-clause-at_end : goal.returns-else-place-line_count-clause-at_end
+returns-else-place-line_count-clause-at_end c =
+    let e = length-text (lines_of c.args.lines.now) c.args.place c.requires in
+    let m = no_lines (lines_of c.args.lines.now) (suc c.args.place.y) (omega arith) in
     (λ h. cc, λ h. absurd (omega arith))

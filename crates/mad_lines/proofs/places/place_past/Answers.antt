@@ -16,4 +16,4 @@ past ls p None h next at_end = elim (cases_lt (offset_of ls p) (length (text_of 
 ]
 
 pub returns-clause-next : goal.returns-clause-next
-returns-clause-next c = ap (offset_of (lines_of c.args.lines.now)) c.unwrap_or.ensures ∙ past (lines_of c.args.lines.now) c.args.p c.place_after.result c.requires c.place_after.ensures.next c.place_after.ensures.at_end
+returns-clause-next c = ap (offset_of (lines_of c.args.lines.now)) c.unwrap_or.ensures ∙ past (lines_of c.args.lines.now) c.args.place c.place_after.result c.requires c.place_after.ensures.next c.place_after.ensures.at_end

@@ -20,4 +20,4 @@ lines_swapped (d ∷ rest) a b ha hb =
     ∙ swap_is (lines_of ls) a b [] (omega (arith, length-map ls chars_of)) (omega (arith, length-map ls chars_of))
 
 pub returns : goal.returns
-returns c = ap lines_of c.swap.ensures.items ∙ lines_swapped c.args.lines.now.items c.args.a c.args.b c.requires.a c.requires.b
+returns c = ap lines_of c.swap.ensures.items ∙ lines_swapped c.args.lines.now.items c.args.one c.args.other c.requires.one c.requires.other

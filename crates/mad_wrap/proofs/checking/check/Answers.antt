@@ -5,12 +5,12 @@ use Rattle.mad_wrap.proofs.CheckLemmas.{check_begins, check_misses, check_meets,
 use Rattle.mad_wrap.proofs.checking.check.Goals as goal
 
 pub loop-token-init : goal.loop-token-init
-loop-token-init c = rw c.left_of-left.ensures (check_begins c.args.room _ _)
+loop-token-init c = rw c.left_of-room_left.ensures (check_begins c.args.room _ _)
 
 pub loop-token-preserved : goal.loop-token-preserved
 loop-token-preserved c =
     let met = c.in-Some-met.ensures.some in
-    check_meets _ _ _ _ _ _ _ _ _ _ _ _ _ _ c.in-Some.token c.loop-token.invariant (omega (arith, c.saturating_add-number.ensures)) c.left_after-after.ensures met.0 met.1 c.is_right-holds.ensures c.left_of_next-left.ensures
+    check_meets _ _ _ _ _ _ _ _ _ _ _ _ _ _ c.in-Some.token c.loop-token.invariant (omega (arith, c.saturating_add-number.ensures)) c.left_after-after.ensures met.0 met.1 c.is_right-holds.ensures c.left_of_next-room_left.ensures
 
 pub loop-token-preserved-in_default : goal.loop-token-preserved-in_default
 loop-token-preserved-in_default c =

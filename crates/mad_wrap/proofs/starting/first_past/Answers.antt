@@ -6,10 +6,10 @@ use Rattle.mad_wrap.proofs.PastLemmas.{past_begins, past_more}
 use Rattle.mad_wrap.proofs.starting.first_past.Goals as goal
 
 pub loop-token-init : goal.loop-token-init
-loop-token-init c = rw c.left_of-left.ensures (past_begins c.args.room)
+loop-token-init c = rw c.left_of-room_left.ensures (past_begins c.args.room)
 
 pub loop-token-preserved : goal.loop-token-preserved
-loop-token-preserved c = past_more _ _ c.in-Some.token _ _ _ _ _ _ c.loop-token.invariant (omega (arith, c.in_ok-i.ensures)) c.left_after-left.ensures (c.or-past.ensures ∙ ap (option_or c.loop-token.past) c.past_here.ensures)
+loop-token-preserved c = past_more _ _ c.in-Some.token _ _ _ _ _ _ c.loop-token.invariant (omega (arith, c.in_ok-i.ensures)) c.left_after-room_left.ensures (c.or-past.ensures ∙ ap (option_or c.loop-token.past) c.past_here.ensures)
 
 pub returns : goal.returns
 returns c =

@@ -8,7 +8,7 @@ pub invariant_of-self : goal.invariant_of-self
 invariant_of-self c = record {
   cursor = c.self.invariant.cursor;
   selected = λ x same.
-      let e : c.args.p ≡ x = cc in
+      let e : c.args.place ≡ x = cc in
       subst (λ (v : Pos). IsPlace (lines_of c.self.inside.lines.items) v) e (rw (lines_seen _ _ _ _ c.self.view_is c.self.invariant) at c.requires);
   plain = c.self.invariant.plain;
 }
