@@ -31,7 +31,8 @@ pub use devices::{Out, Source, put_all};
 pub use errors::{Error, InsufficientWidthError};
 pub use mad_columns::char_columns;
 pub use queue::{
-    put_displayed, put_text, queue_bg, queue_clear, queue_fg, queue_move, queue_styled,
+    put_displayed, put_text, queue_bg, queue_clear, queue_fg, queue_move, queue_repeated,
+    queue_styled,
 };
 pub use repeats::StyledRepeat;
 pub use scripted::{CutOut, ScriptSource};

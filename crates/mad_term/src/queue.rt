@@ -4,12 +4,13 @@ ghost use Rattle.std.specs.Prelude.{◌≡◌, IfSome, IsErrOf};
 ghost use Rattle.mad_term.specs.Commands.{move_to_bytes, clear_bytes};
 ghost use Rattle.mad_term.specs.Draws.{Draws};
 ghost use Rattle.mad_term.specs.declared.errors.Error.TheVariants.{Memory};
-ghost use Rattle.mad_term.specs.Styles.{foreground_bytes, background_bytes, piece_bytes, IsStyle};
+ghost use Rattle.mad_term.specs.Styles.{foreground_bytes, background_bytes, piece_bytes, styled_repeat_bytes, IsStyle};
 
 use crate::color::Color;
 use crate::commands::{ClearType, MoveTo, clear_text};
 use crate::devices::{Out, put_all};
 use crate::errors::Error;
+use crate::repeats::StyledRepeat;
 use crate::styles::{ColorCommand, ContentStyle, StyledContent};
 use std::alloc::Global;
 use std::fmt::Display;
@@ -88,6 +89,32 @@ pub fn queue_styled<O: Out>(
         content: text,
     };
     put_displayed(alloc, out, 0, &piece)
+}
+
+/// Writes a text `count` times in a style, as one piece; nothing at all if `count` is 0.
+///
+/// # Errors
+///
+/// A fault of the device, or out of memory before anything went out.
+pub fn queue_repeated<O: Out>(
+    alloc: Global,
+    out: &mut O,
+    style: ContentStyle,
+    text: &str,
+    count: usize,
+) -> Result<(), Error>
+    ensures writes { Draws (O.seen out.old) (styled_repeat_bytes style text.now count) result (O.seen out.new) }
+    ensures early { IsErrOf result Memory → O.seen out.new ≡ O.seen out.old }
+    ensures bytes { IsStyle style }
+{
+    let repeated = StyledRepeat {
+        style,
+        content: text,
+        count,
+    };
+    // Where the text's bytes are more than a `usize` counts, the reserving of room for them is refused.
+    let room = text.len().saturating_mul(count);
+    put_displayed(alloc, out, room, &repeated)
 }
 
 /// Puts all of a text.
