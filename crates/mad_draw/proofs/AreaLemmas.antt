@@ -9,22 +9,13 @@ use Rattle.mad_term.specs.declared.errors.Error.{Error}
 use Rattle.mad_term.proofs.Exits.{refused_between}
 use Rattle.mad_term.proofs.Traces.{after-nil, took_both, took_with}
 use Rattle.mad_screen.specs.Drawing.{drawing}
+use Rattle.mad_screen.proofs.RowLoops.{drawing-append}
 use Rattle.mad_fit.specs.Areas.{IsWithinLimits}
 use Rattle.mad_fit.specs.declared.area.Area.{Area}
 use Rattle.mad_fit.proofs.AllLemmas.{all_push}
 use Rattle.mad_draw.specs.Pieces.{RowPiece, AreKnown, pieces_bytes}
 use Rattle.mad_draw.specs.DrawnRows.{rows_from, rows_bytes, FillArea, AreRowsShown}
 use Rattle.mad_draw.proofs.ShownLemmas.{area_shown}
-
--- rows behind rows
-drawing-append : (left top : ℕ) (ts us : List (List ℕ)) → drawing left top (ts ++ us) ≡ drawing left top ts ++ drawing left (top + length ts) us
-drawing-append left top [] us = let e : top ≡ top + 0 = omega arith in ap (λ y. drawing left y us) e
-drawing-append left top (t ∷ ts) us =
-    let e : suc top + length ts ≡ top + suc (length ts) = omega arith in
-    let rest : List ℕ = drawing left (suc top) ts in
-    let more : List ℕ = drawing left (top + suc (length ts)) us in
-    ap (λ r. move_to_bytes left top ++ (t ++ r)) (drawing-append left (suc top) ts us ∙ ap (λ y. rest ++ drawing left y us) e)
-    ∙ ap (λ r. move_to_bytes left top ++ r) (sym (append_assoc t rest more)) ∙ sym (append_assoc (move_to_bytes left top) (t ++ rest) more)
 
 -- The area's rows above number y went out, and these are known.
 pub record DrawnSoFar (row : ℕ → List RowPiece) (area : Area) (y : ℕ) (old new : Trace) : Type 0 where
@@ -78,15 +69,15 @@ refused_row row area y e old mid new inside h refused =
     let count : length (map pieces_bytes h.done) ≡ y = length-map h.done pieces_bytes ∙ h.count in
     let before : List ℕ = drawing area.left area.top (map pieces_bytes h.done) in
     let move : List ℕ = move_to_bytes area.left (area.top + y) in
-    let behind : List ℕ = drawing area.left (suc (area.top + y)) (map pieces_bytes rest) in
+    let later : List ℕ = drawing area.left (suc (area.top + y)) (map pieces_bytes rest) in
     let rows_are : h.done ++ row y ∷ rest ≡ rows_from row 0 area.height = ap (λ rs. h.done ++ rs) (sym (left_is row area y inside)) ∙ h.whole in
-    let bytes : before ++ ((move ++ pieces_bytes (row y)) ++ behind) ≡ rows_bytes row area =
-    ap (λ r. before ++ r) (append_assoc move (pieces_bytes (row y)) behind)
+    let bytes : before ++ ((move ++ pieces_bytes (row y)) ++ later) ≡ rows_bytes row area =
+    ap (λ r. before ++ r) (append_assoc move (pieces_bytes (row y)) later)
     ∙ sym (ap (λ k. before ++ (move_to_bytes area.left (area.top + k) ++ (pieces_bytes (row y) ++ drawing area.left (suc (area.top + k)) (map pieces_bytes rest)))) count)
     ∙ sym (drawing-append area.left area.top (map pieces_bytes h.done) (pieces_bytes (row y) ∷ map pieces_bytes rest))
     ∙ sym (ap (drawing area.left area.top) (map-append pieces_bytes h.done (row y ∷ rest)))
     ∙ ap (λ rs. drawing area.left area.top (map pieces_bytes rs)) rows_are in
-    subst (λ (t : List ℕ). Refused old t e new) bytes (refused_between e old mid new before (move ++ pieces_bytes (row y)) behind h.went refused)
+    subst (λ (t : List ℕ). Refused old t e new) bytes (refused_between e old mid new before (move ++ pieces_bytes (row y)) later h.went refused)
 
 -- all rows went out
 done_all : (row : ℕ → List RowPiece) (area : Area) (y : ℕ) (old new : Trace) → area.height ≤ y → (h : DrawnSoFar row area y old new) → h.done ≡ rows_from row 0 area.height

@@ -1,11 +1,11 @@
 -- The cells of a row's characters are those that its pieces show.
-use Rattle.std.proofs.Common.{◌≡◌, ℕ, zero, suc, ◌<◌, List, [], ◌∷◌, ◌++◌, map, Option, Some, None, refl, ap, sym, ◌∙◌, arith, append_assoc}
+use Rattle.std.proofs.Common.{◌≡◌, ℕ, zero, suc, ◌<◌, List, [], ◌∷◌, ◌++◌, map, Option, Some, None, refl, ap, sym, ◌∙◌, arith}
 use Rattle.std.specs.Prelude.{IsSome, unwrap_or}
 use Rattle.std.specs.Str.{chars}
 use Rattle.mad_columns.specs.Columns.{char_columns}
 use Rattle.mad_screen.specs.Glyph.{Glyph, Look}
-use Rattle.mad_screen.specs.Grid.{glyphs}
 use Rattle.mad_screen.specs.Painting.{attach, attached, IsPrinted, IsShown, look_of_style}
+use Rattle.mad_screen.proofs.Paints.{attach_more}
 use Rattle.mad_draw.specs.Pieces.{RowPiece, PennedChar, AreShownPieces, penned_chars}
 use Rattle.mad_draw.specs.PennedCells.{penned_attached, penned_cells}
 use Rattle.mad_draw.proofs.PieceLemmas.{pieces_cells}
@@ -18,16 +18,12 @@ joined_by_columns : (pen : Look) (c : ℕ) (cs : List ℕ) → IsPrinted (c ∷ 
 unfolding char_columns
 joined_by_columns pen c cs h = some_columns _ pen c (attached pen cs) h.0
 
-attach-append : (n : ℕ) (pen : Look) (c : ℕ) (r : List ℕ × List Glyph) (rest : List Glyph) → attach (Some n) pen c (r.0, r.1 ++ rest) ≡ ((attach (Some n) pen c r).0, (attach (Some n) pen c r).1 ++ rest)
-attach-append zero pen c r rest = refl
-attach-append (suc k) pen c r rest = ap (λ gs. ([], gs)) (sym (append_assoc (glyphs (c ∷ r.0) k pen) r.1 rest))
-
 joined_piece : (pen : Look) (cs : List ℕ) (rest : List PennedChar) → IsPrinted cs → (penned_attached rest).0 ≡ []
     → penned_attached (map (λ c. record { char = c; pen = pen }) cs ++ rest) ≡ ((attached pen cs).0, (attached pen cs).1 ++ (penned_attached rest).1)
 joined_piece pen [] rest printed none = ap (λ marks. (marks, (penned_attached rest).1)) none
 joined_piece pen (c ∷ cs) rest printed none =
     ap (attach (Some (char_columns c)) pen c) (joined_piece pen cs rest printed.1 none)
-    ∙ attach-append (char_columns c) pen c (attached pen cs) (penned_attached rest).1
+    ∙ attach_more (Some (char_columns c)) pen c (attached pen cs) (penned_attached rest).1
     ∙ sym (ap (λ (r : List ℕ × List Glyph). (r.0, r.1 ++ (penned_attached rest).1)) (joined_by_columns pen c cs printed))
 
 whole_attach : (n : ℕ) (pen : Look) (c : ℕ) (r : List ℕ × List Glyph) → 0 < n → (attach (Some n) pen c r).0 ≡ []

@@ -5,7 +5,7 @@ use Rattle.std.specs.List.{AllByRecursion, flat_map, repeat, sum_by}
 use Rattle.std.specs.Str.{chars, IsAscii}
 use Rattle.std.proofs.lemmas.Str.Ascii.{IsAscii-cons, IsAscii-nil}
 use Rattle.std.proofs.lemmas.Str.{IsUtf8-from_ascii, chars-IsAscii}
-use Rattle.std.proofs.lemmas.List.{append-nil, flat_map_more, length-replicate, map-append, take_more}
+use Rattle.std.proofs.lemmas.List.{append-nil, length-replicate, map-append, take_more}
 use Rattle.std.proofs.lemmas.List.Concat.{flat_map-append}
 use Rattle.std.proofs.lemmas.List.Sums.{sum_by-cons}
 use Rattle.mad_columns.specs.Columns.{char_columns}
@@ -13,6 +13,7 @@ use Rattle.mad_term.specs.Styles.{IsStyle, piece_bytes, styled_repeat_bytes}
 use Rattle.mad_screen.specs.Glyph.{Glyph}
 use Rattle.mad_screen.specs.Grid.{plain_pen}
 use Rattle.mad_screen.specs.Painting.{Paints, piece_cells, IsShown, look_of_style}
+use Rattle.mad_screen.proofs.Lines.{piece_more}
 use Rattle.mad_screen.proofs.Paints.{paints_row, paints_piece, spaces_shown, spaces_cells}
 use Rattle.mad_screen.proofs.PaintingLemmas.{length-cells_of}
 use Rattle.mad_style.specs.declared.compound_styles.CompoundStyle.{CompoundStyle}
@@ -25,7 +26,7 @@ use Rattle.mad_draw.specs.Pieces.{RowPiece, pieces_bytes, spaces, single_spaces,
 
 -- ---- bytes
 
--- a text of one byte so many times
+-- a text of one byte `count` times
 pub repeat-one : (n b : ℕ) → repeat n (b ∷ []) ≡ replicate n b
 repeat-one zero b = refl
 repeat-one (suc n) b = ap (λ xs. b ∷ xs) (repeat-one n b)
@@ -68,19 +69,9 @@ pieces_taken {X} f xs i d inside =
     ∙ ap pieces_bytes (sym (map-append f (take i xs) (get_or xs i d ∷ [])))
     ∙ ap (λ ys. pieces_bytes (map f ys)) (sym (take_more xs i d inside))
 
--- the bytes of one element more
-pub bytes_taken : {X : Type 0} (f : X → List ℕ) (xs : List X) (i : ℕ) (d : X) → i < length xs → flat_map f (take i xs) ++ f (get_or xs i d) ≡ flat_map f (take (i + 1) xs)
-bytes_taken {X} f xs i d inside = flat_map_more f [] (take i xs) (get_or xs i d) ∙ ap (flat_map f) (sym (take_more xs i d inside))
-
-pub bytes_taken_of : {X : Type 0} (f : X → List ℕ) (xs : List X) (i : ℕ) (x : X) → i < length xs → x ≡ get_or xs i x → flat_map f (take i xs) ++ f x ≡ flat_map f (take (i + 1) xs)
-bytes_taken_of {X} f xs i x inside is = ap (λ y. flat_map f (take i xs) ++ f y) is ∙ bytes_taken f xs i x inside
-
--- the pieces of one element more
-pub pieces_taken_at : {X : Type 0} (f : X → List RowPiece) (xs : List X) (i : ℕ) (d : X) → i < length xs → flat_map f (take i xs) ++ f (get_or xs i d) ≡ flat_map f (take (i + 1) xs)
-pieces_taken_at {X} f xs i d inside = flat_map_more f [] (take i xs) (get_or xs i d) ∙ ap (flat_map f) (sym (take_more xs i d inside))
-
-pub pieces_taken_of : {X : Type 0} (f : X → List RowPiece) (xs : List X) (i : ℕ) (x : X) → i < length xs → x ≡ get_or xs i x → flat_map f (take i xs) ++ f x ≡ flat_map f (take (i + 1) xs)
-pieces_taken_of {X} f xs i x inside is = ap (λ y. flat_map f (take i xs) ++ f y) is ∙ pieces_taken_at f xs i x inside
+-- the bytes, or the pieces, of one element more
+pub bytes_taken_of : {X Y : Type 0} (f : X → List Y) (xs : List X) (i : ℕ) (x : X) → i < length xs → x ≡ get_or xs i x → flat_map f (take i xs) ++ f x ≡ flat_map f (take (i + 1) xs)
+bytes_taken_of f xs i x inside is = ap (λ y. flat_map f (take i xs) ++ f y) is ∙ piece_more f xs i x inside
 
 pub bytes_both : (ps qs : List RowPiece) → pieces_bytes (ps ++ qs) ≡ pieces_bytes ps ++ pieces_bytes qs
 bytes_both ps qs = flat_map-append (λ (p : RowPiece). piece_bytes p.style p.text) ps qs
@@ -103,7 +94,7 @@ pub char_repeat_known : (c : StyledChar) (n : ℕ) → IsStyle (char_style c).ob
 char_repeat_known c zero known = tt
 char_repeat_known c (suc n) known = (known, tt)
 
--- pieces behind pieces
+-- pieces after pieces
 pub known_both : (ps qs : List RowPiece) → AreKnown ps → AreKnown qs → AreKnown (ps ++ qs)
 known_both [] qs h k = k
 known_both (p ∷ ps) qs h k = (h.0, known_both ps qs h.1 k)

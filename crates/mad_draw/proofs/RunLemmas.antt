@@ -5,6 +5,7 @@ use Rattle.std.specs.Str.{chars, IsUtf8}
 use Rattle.std.specs.Prelude.{encode_utf8}
 use Rattle.std.proofs.lemmas.Str.{chars-append, chars-nil, IsUtf8-nil, IsUtf8-append}
 use Rattle.mad_screen.specs.Painting.{IsPrinted, IsWhole}
+use Rattle.mad_screen.proofs.Paints.{printed_both}
 use Rattle.mad_style.specs.declared.styled_chars.StyledChar.{StyledChar}
 use Rattle.mad_style.specs.StyledChars.{char_alone}
 use Rattle.mad_fit.specs.TextColumns.{columns}
@@ -13,10 +14,6 @@ use Rattle.mad_draw.specs.Pieces.{char_piece, char_repeat, AreShownPieces, IsCol
 columns-append : (cs ds : List ℕ) → columns (cs ++ ds) ≡ columns cs + columns ds
 columns-append [] ds = omega arith
 columns-append (c ∷ cs) ds = let rest : columns (cs ++ ds) ≡ columns cs + columns ds = columns-append cs ds in omega (arith, rest)
-
-printed-append : (cs ds : List ℕ) → IsPrinted cs → IsPrinted ds → IsPrinted (cs ++ ds)
-printed-append [] ds h g = g
-printed-append (c ∷ cs) ds h g = (h.0, printed-append cs ds h.1 g)
 
 repeat_utf8 : (n : ℕ) (t : List ℕ) → IsUtf8 t → IsUtf8 (repeat n t)
 repeat_utf8 zero t h = IsUtf8-nil
@@ -31,7 +28,7 @@ repeat_columns (suc n) t utf8 one =
 
 repeat_printed : (n : ℕ) (t : List ℕ) → IsUtf8 t → IsPrinted (chars t) → IsPrinted (chars (repeat n t))
 repeat_printed zero t utf8 h = subst IsPrinted (sym chars-nil) tt
-repeat_printed (suc n) t utf8 h = subst IsPrinted (sym (chars-append t (repeat n t) utf8)) (printed-append (chars t) (chars (repeat n t)) h (repeat_printed n t utf8 h))
+repeat_printed (suc n) t utf8 h = subst IsPrinted (sym (chars-append t (repeat n t) utf8)) (printed_both (chars t) (chars (repeat n t)) h (repeat_printed n t utf8 h))
 
 whole-append : (cs ds : List ℕ) → columns cs ≡ 1 → IsWhole cs → IsWhole (cs ++ ds)
 whole-append [] ds one h = absurd (omega (arith, one))

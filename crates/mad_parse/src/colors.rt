@@ -12,7 +12,7 @@ use crate::errors::ParseColorError;
 use crate::names::named;
 use crate::numbers::parse_byte;
 use mad_style::gray;
-use mad_term::{Color, Error, Out, put_text};
+use mad_term::{Color, Error, Out, put_displayed};
 use std::alloc::Global;
 use std::fmt;
 
@@ -195,8 +195,7 @@ pub fn write_color<O: Out>(alloc: Global, out: &mut O, color: Color) -> Result<(
     ensures writes { Draws (O.seen out.old) (color_text color) result (O.seen out.new) }
     ensures early { IsErrOf result Memory → O.seen out.new ≡ O.seen out.old }
 {
-    let text = ColorText(color).to_string(alloc)?;
-    put_text(out, &text)
+    put_displayed(alloc, out, 0, &ColorText(color))
 }
 
 /// A color as its text.

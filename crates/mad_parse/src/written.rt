@@ -88,7 +88,7 @@ fn push_attributes(attributes: Attributes, tokens: &mut Vec<StyleToken>) -> Resu
     Ok(())
 }
 
-fn push_line(style: LineStyle, tokens: &mut Vec<StyleToken>) -> Result<(), AllocError>
+fn push_line_tokens(style: LineStyle, tokens: &mut Vec<StyleToken>) -> Result<(), AllocError>
     ensures tokens { OnOk result (tokens.new.items ≡ tokens.old.items ++ line_style_tokens style) }
     ensures bytes { IsStyle style.compound_style.object_style }
 {
@@ -163,7 +163,7 @@ impl PushStyleTokens for LineStyle {
     ghost tokens_of_value = { line_style_tokens };
 
     fn push_style_tokens(&self, tokens: &mut Vec<StyleToken>) -> Result<(), AllocError> {
-        push_line(*self, tokens)
+        push_line_tokens(*self, tokens)
     }
 
     fn to_style_tokens_string(&self, alloc: Global) -> Result<String, AllocError>
@@ -171,7 +171,7 @@ impl PushStyleTokens for LineStyle {
         ensures reads_back { IfOk result (λ text. LineReadsBack self.now (string_bytes text)) }
     {
         let mut tokens = Vec::new(alloc);
-        push_line(*self, &mut tokens)?;
+        push_line_tokens(*self, &mut tokens)?;
         style_tokens_to_string(alloc, &tokens)
     }
 }

@@ -92,7 +92,8 @@ unfolding char_columns
 no_widthless pen [] h = refl
 no_widthless pen (c ∷ cs) h = no_widthless_by (char_width false c) pen c (attached pen cs) h
 
-attach_more : (o : Option ℕ) (pen : Look) (c : ℕ) (r : List ℕ × List Glyph) (gs : List Glyph) → attach o pen c (r.0, r.1 ++ gs) ≡ ((attach o pen c r).0, (attach o pen c r).1 ++ gs)
+-- what follows the cells of a text stays after them
+pub attach_more : (o : Option ℕ) (pen : Look) (c : ℕ) (r : List ℕ × List Glyph) (gs : List Glyph) → attach o pen c (r.0, r.1 ++ gs) ≡ ((attach o pen c r).0, (attach o pen c r).1 ++ gs)
 attach_more None pen c r gs = refl
 attach_more (Some zero) pen c r gs = refl
 attach_more (Some (suc k)) pen c r gs = ap (λ (l : List Glyph). let p : List ℕ × List Glyph = ([], l) in p) (sym (append_assoc (glyphs (c ∷ r.0) k pen) r.1 gs))

@@ -77,20 +77,20 @@ impl Cell {
     }
 }
 
-/// Writes a character over `k + 1` cells, as itself and `k` tails.
+// Writes a character over `tails + 1` cells, as itself and `tails` tails.
 pub(crate) fn lay(
     cells: &mut Vec<Cell>,
     at: usize,
     c: char,
-    k: usize,
+    tails: usize,
     pen: Pen,
 ) -> Result<(), AllocError>
-    requires { at + k < vec_len cells.old }
-    ensures laid { OnOk result (cells.new.items ≡ put_list cells.old.items at (glyphs (c ∷ []) k (look_of pen))) }
+    requires { at + tails < vec_len cells.old }
+    ensures laid { OnOk result (cells.new.items ≡ put_list cells.old.items at (glyphs (c ∷ []) tails (look_of pen))) }
     ensures same { length cells.new.items ≡ length cells.old.items }
 {
     cells[at].set(c, pen)?;
-    for i in 0..k {
+    for i in 0..tails {
         cells[at + 1 + i].set_tail(pen);
     }
     Ok(())

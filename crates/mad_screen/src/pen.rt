@@ -114,7 +114,7 @@ impl Pen {
     }
 }
 
-/// The attribute of a code.
+// The attribute of a code.
 fn attribute_of(code: u32) -> Option<Attribute>
     ensures { result ≡ attribute_of code }
 {

@@ -65,7 +65,7 @@ impl From<AllocError> for NotPlain {
     }
 }
 
-/// The number with one more digit.
+// The number with one more digit.
 fn with_digit(now: Option<u32>, digit: u32) -> Option<u32>
     requires { digit < 10 }
     ensures { result ≡ with_digit now digit }
@@ -90,7 +90,7 @@ impl Reader {
         }
     }
 
-    /// A character among numbers. It answers whether it may come there.
+    // A character among numbers. It answers whether it may come there.
     fn number(&mut self, c: char) -> Result<bool, AllocError>
         requires { self.old.mode ≡ Mode.Numbers }
         ensures { IfOk result (λ done. MatchBool done (feed (reading_of self.old) c ≡ Some (reading_of self.new)) (feed (reading_of self.old) c ≡ None)) }
@@ -112,7 +112,7 @@ impl Reader {
         self.screen.perform(c, &self.numbers)
     }
 
-    /// The next character. It answers whether the terminal knows what to do with it.
+    // The next character. It answers whether the terminal knows what to do with it.
     fn feed(&mut self, c: char) -> Result<bool, AllocError>
         ensures { IfOk result (λ done. MatchBool done (feed (reading_of self.old) c ≡ Some (reading_of self.new)) (feed (reading_of self.old) c ≡ None)) }
     {

@@ -160,28 +160,28 @@ impl Screen {
         Ok(())
     }
 
-    /// Where the cursor's row begins among the cells.
+    // Where the cursor's row begins among the cells.
     fn row_start(&self) -> usize
         ensures { result ≡ self.now.y * self.now.width }
     {
         usize::from(self.y) * usize::from(self.width)
     }
 
-    /// A character of `k + 1` columns. It answers whether there is room.
-    fn print(&mut self, c: char, k: usize) -> Result<bool, AllocError>
+    // A character of `tails + 1` columns. It answers whether there is room.
+    fn print(&mut self, c: char, tails: usize) -> Result<bool, AllocError>
         requires { self.old.y < self.old.height }
-        ensures { IfOk result (λ done. MatchBool done (put_wide (Some (suc k)) self.old c ≡ Some self.new) (put_wide (Some (suc k)) self.old c ≡ None)) }
+        ensures { IfOk result (λ done. MatchBool done (put_wide (Some (suc tails)) self.old c ≡ Some self.new) (put_wide (Some (suc tails)) self.old c ≡ None)) }
     {
-        if k >= usize::from(self.width - self.x) {
+        if tails >= usize::from(self.width - self.x) {
             return Ok(false);
         }
         let at = self.row_start() + usize::from(self.x);
-        lay(&mut self.cells, at, c, k, self.pen)?;
-        self.x += k as u16 + 1;
+        lay(&mut self.cells, at, c, tails, self.pen)?;
+        self.x += tails as u16 + 1;
         Ok(true)
     }
 
-    /// A character without width. It answers whether there is one that it can join.
+    // A character without width. It answers whether there is one that it can join.
     fn join(&mut self, c: char) -> Result<bool, AllocError>
         requires { self.old.y < self.old.height }
         ensures { IfOk result (λ done. MatchBool done (put_wide (Some 0) self.old c ≡ Some self.new) (put_wide (Some 0) self.old c ≡ None)) }
@@ -211,7 +211,7 @@ impl Screen {
         }
     }
 
-    /// Row and column, both counted from one. It answers whether they are on the screen.
+    // Row and column, both counted from one. It answers whether they are on the screen.
     fn go_to(&mut self, numbers: &[u32]) -> bool
         ensures { MatchBool result (go_to numbers.now self.old ≡ Some self.new) (go_to numbers.now self.old ≡ None) }
     {
@@ -229,7 +229,7 @@ impl Screen {
         }
     }
 
-    /// The pen. It answers whether the code is known.
+    // The pen. It answers whether the code is known.
     fn restyle(&mut self, numbers: &[u32]) -> bool
         ensures { MatchBool result (perform 109 numbers.now self.old ≡ Some self.new) (perform 109 numbers.now self.old ≡ None) }
     {
@@ -242,14 +242,14 @@ impl Screen {
         }
     }
 
-    /// Leaves spaces of the pen's background in the cells between two positions.
+    // Leaves spaces of the pen's background in the cells between two positions.
     fn erase(&mut self, from: usize, to: usize) -> Result<(), AllocError>
         ensures { OnOk result (self.new ≡ erased from to self.old) }
     {
         erase(&mut self.cells, from, to, self.pen)
     }
 
-    /// Erasing of rows. It answers whether the numbers are known.
+    // Erasing of rows. It answers whether the numbers are known.
     fn erase_screen(&mut self, numbers: &[u32]) -> Result<bool, AllocError>
         ensures { IfOk result (λ done. MatchBool done (erase_screen numbers.now self.old ≡ Some self.new) (erase_screen numbers.now self.old ≡ None)) }
     {
@@ -266,7 +266,7 @@ impl Screen {
         Ok(true)
     }
 
-    /// Erasing in the cursor's row. It answers whether the numbers are known.
+    // Erasing in the cursor's row. It answers whether the numbers are known.
     fn erase_row(&mut self, numbers: &[u32]) -> Result<bool, AllocError>
         ensures { IfOk result (λ done. MatchBool done (erase_row numbers.now self.old ≡ Some self.new) (erase_row numbers.now self.old ≡ None)) }
     {
@@ -293,7 +293,7 @@ impl Screen {
         }
     }
 
-    /// A copy of the screen.
+    // A copy of the screen.
     fn copy(&self) -> Result<Self, AllocError>
         ensures { IfOk result (λ screen. screen ≡ self.now) }
     {

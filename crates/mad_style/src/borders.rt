@@ -5,16 +5,27 @@ ghost use Rattle.std.specs.Prelude.{◌≡◌, ◌≢◌, ℕ, List, Some, IfSom
 /// The characters that a table's borders are drawn with.
 #[derive(Clone, Copy, Debug, PartialEq)]
 pub struct TableBorderChars {
+    /// A rule between two columns' borders.
     pub horizontal: char,
+    /// A border between two cells of a row, and at its ends.
     pub vertical: char,
+    /// Where the top rule meets the left border.
     pub top_left_corner: char,
+    /// Where the top rule meets the right border.
     pub top_right_corner: char,
+    /// Where the bottom rule meets the right border.
     pub bottom_right_corner: char,
+    /// Where the bottom rule meets the left border.
     pub bottom_left_corner: char,
+    /// Where the top rule meets a border between two columns.
     pub top_junction: char,
+    /// Where a rule inside the table meets the right border.
     pub right_junction: char,
+    /// Where the bottom rule meets a border between two columns.
     pub bottom_junction: char,
+    /// Where a rule inside the table meets the left border.
     pub left_junction: char,
+    /// Where a rule inside the table meets a border between two columns.
     pub cross: char,
 }
 

@@ -23,6 +23,7 @@ pub const ATTRIBUTES: [Attribute; 8] = [
 /// How the text of a compound looks: its colors and its attributes.
 #[derive(Clone, Copy, Debug, PartialEq)]
 pub struct CompoundStyle {
+    /// The colors and attributes that its pieces are written in.
     pub object_style: ContentStyle,
 }
 

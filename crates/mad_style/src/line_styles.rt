@@ -17,9 +17,13 @@ pub const LEAST_WIDTH: usize = 3;
 /// and on its right.
 #[derive(Clone, Copy, Debug, PartialEq)]
 pub struct LineStyle {
+    /// How its text looks.
     pub compound_style: CompoundStyle,
+    /// On which side its text is.
     pub align: Alignment,
+    /// The columns that stay free left of it.
     pub left_margin: usize,
+    /// The columns that stay free right of it.
     pub right_margin: usize,
 }
 

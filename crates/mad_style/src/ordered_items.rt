@@ -13,7 +13,9 @@ pub const MAX_ORDERED_LIST_DEPTH: usize = 4;
 /// How the number of an item of an ordered list looks, and the character after it.
 #[derive(Clone, Copy, Debug, PartialEq)]
 pub struct OrderedItemStyle {
+    /// How the number looks.
     pub index_style: CompoundStyle,
+    /// The character after the number.
     pub index_suffix: StyledChar,
 }
 

@@ -1,8 +1,6 @@
-//! The writing of texts in a compound's style, to a device or at the end of a row that is being built.
-//! What goes to a device is made whole first, and then put.
+//! The writing of texts in a compound's style, to a device. What goes out is made whole first, and then put.
 
-ghost use Rattle.std.specs.Prelude.{◌≡◌, ◌∷◌, [], ◌++◌, IsErrOf, OnOk, encode_utf8, string_bytes};
-ghost use Rattle.std.specs.List.{repeat};
+ghost use Rattle.std.specs.Prelude.{◌≡◌, ◌∷◌, [], ◌++◌, IsErrOf, encode_utf8};
 ghost use Rattle.mad_term.specs.Commands.{clear_bytes};
 ghost use Rattle.mad_term.specs.Draws.{Draws};
 ghost use Rattle.mad_term.specs.declared.errors.Error.TheVariants.{Memory};
@@ -11,10 +9,10 @@ ghost use Rattle.mad_term.specs.Styles.{foreground_bytes, background_bytes, pres
 use crate::compound_styles::CompoundStyle;
 use crate::styled_chars::StyledChar;
 use mad_term::{
-    ClearType, Error, Out, StyledContent, StyledRepeat, push_background, push_clear, put_text,
+    ClearType, Error, Out, StyledContent, push_background, push_clear, put_text, queue_repeated,
     queue_styled,
 };
-use std::alloc::{AllocError, Global};
+use std::alloc::Global;
 
 impl CompoundStyle {
     ghost use Rattle.mad_style.specs.Repeats.{repeat_bytes};
@@ -124,7 +122,6 @@ impl CompoundStyle {
     /// # Errors
     ///
     /// A fault of the device, or out of memory before anything went out.
-    #[tactic(auto, using(mad_term::proofs::QueueExits::memory_first))]
     pub fn repeat_string<O: Out>(
         &self,
         alloc: Global,
@@ -136,9 +133,7 @@ impl CompoundStyle {
         ensures early { IsErrOf result Memory → O.seen out.new ≡ O.seen out.old }
         ensures bytes { IsStyle self.now.object_style }
     {
-        let mut bytes = String::new(alloc);
-        self.push_repeated(&mut bytes, text, count)?;
-        put_text(out, &bytes)
+        queue_repeated(alloc, out, self.object_style, text, count)
     }
 
     /// Writes a character `count` times in this style, as one piece; nothing at all if `count` is 0.
@@ -178,52 +173,4 @@ impl CompoundStyle {
     {
         self.repeat_string(alloc, out, " ", count)
     }
-
-    /// Appends a text `count` times in this style, as one piece; nothing at all if `count` is 0. These are the
-    /// bytes that [`CompoundStyle::repeat_string`] writes.
-    ///
-    /// # Errors
-    ///
-    /// Out of memory. What the row then ends with is open.
-    #[tactic(auto, using(mad_term::proofs::Pieces::plain_piece))]
-    pub fn push_repeated(
-        &self,
-        row: &mut String,
-        text: &str,
-        count: usize,
-    ) -> Result<(), AllocError>
-        ensures writes { OnOk result (string_bytes row.new ≡ string_bytes row.old ++ repeat_bytes self.now text.now count) }
-        ensures bytes { IsStyle self.now.object_style }
-    {
-        // Most are plain spaces, and need no formatting.
-        if self.object_style.is_plain() {
-            return push_copies(row, text, count);
-        }
-        if count == 0 {
-            return Ok(());
-        }
-        // One growth for the text; where its bytes are more than a `usize` counts, it is refused.
-        row.reserve(text.len().saturating_mul(count))?;
-        let repeated = StyledRepeat {
-            style: self.object_style,
-            content: text,
-            count,
-        };
-        write!(row, "{repeated}")
-    }
-}
-
-// Appends a text `count` times.
-fn push_copies(row: &mut String, text: &str, count: usize) -> Result<(), AllocError>
-    ensures { OnOk result (string_bytes row.new ≡ string_bytes row.old ++ repeat count text.now) }
-{
-    if text.is_empty() {
-        return Ok(());
-    }
-    // One growth; where the bytes are more than a `usize` counts, it is refused.
-    row.reserve(text.len().saturating_mul(count))?;
-    for _ in 0..count {
-        row.push_str(text)?;
-    }
-    Ok(())
 }

@@ -13,7 +13,9 @@ const RIGHT_HALF: char = '▐';
 /// How a scroll bar looks: the thumb, which is where the shown part is, and the track elsewhere.
 #[derive(Clone, Copy, Debug, PartialEq)]
 pub struct ScrollBarStyle {
+    /// The character of a row where the shown part is not.
     pub track: StyledChar,
+    /// The character of a row where the shown part is.
     pub thumb: StyledChar,
 }
 

@@ -1,6 +1,6 @@
 //! A character in a style.
 
-ghost use Rattle.std.specs.Prelude.{◌≡◌, ◌++◌, IfOk, IsErrOf, OnOk, encode_utf8, string_bytes};
+ghost use Rattle.std.specs.Prelude.{◌≡◌, IfOk, IsErrOf, encode_utf8, string_bytes};
 ghost use Rattle.std.specs.List.{repeat};
 ghost use Rattle.mad_term.specs.Draws.{Draws};
 ghost use Rattle.mad_term.specs.declared.errors.Error.TheVariants.{Memory};
@@ -8,7 +8,7 @@ ghost use Rattle.mad_term.specs.Styles.{IsStyle};
 
 use crate::compound_styles::CompoundStyle;
 use crate::styled_texts::StyledText;
-use mad_term::{Color, Error, Out, push_styled};
+use mad_term::{Color, Error, Out};
 use std::alloc::{AllocError, Global};
 use std::fmt;
 
@@ -165,34 +165,6 @@ impl StyledChar {
         let mut buffer = [0; 4];
         self.compound_style
             .queue(alloc, out, self.nude_char.encode_utf8(&mut buffer))
-    }
-
-    /// Appends the character in its style, as one piece.
-    ///
-    /// # Errors
-    ///
-    /// Out of memory. What the row then ends with is open.
-    pub fn push(&self, row: &mut String) -> Result<(), AllocError>
-        ensures writes { OnOk result (string_bytes row.new ≡ string_bytes row.old ++ styled_char_bytes self.now) }
-        ensures bytes { IsStyle (char_style self.now).object_style }
-    {
-        let mut buffer = [0; 4];
-        let text = self.nude_char.encode_utf8(&mut buffer);
-        push_styled(row, self.compound_style.object_style, text)
-    }
-
-    /// Appends the character `count` times in its style, as one piece; nothing at all if `count` is 0.
-    ///
-    /// # Errors
-    ///
-    /// Out of memory. What the row then ends with is open.
-    pub fn push_repeated(&self, row: &mut String, count: usize) -> Result<(), AllocError>
-        ensures writes { OnOk result (string_bytes row.new ≡ string_bytes row.old ++ char_repeat_bytes self.now count) }
-        ensures bytes { IsStyle (char_style self.now).object_style }
-    {
-        let mut buffer = [0; 4];
-        let text = self.nude_char.encode_utf8(&mut buffer);
-        self.compound_style.push_repeated(row, text, count)
     }
 }
 

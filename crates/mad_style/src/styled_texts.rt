@@ -8,7 +8,9 @@ use std::fmt;
 /// A text in a style, as [`StyledContent`], that owns its characters.
 #[derive(Debug, Drop, PartialEq)]
 pub struct StyledText {
+    /// How the text looks.
     pub style: ContentStyle,
+    /// The text.
     pub content: String,
 }
 

@@ -1,5 +1,5 @@
 -- The exits of a call that makes its bytes before it puts any.
-use Rattle.std.proofs.Common.{◌≡◌, ℕ, List, [], ◌++◌, Result, ap, ◌∙◌, subst}
+use Rattle.std.proofs.Common.{◌≡◌, ℕ, List, [], ◌++◌, Option, Some, None, IfSome, Result, ap, ◌∙◌, subst}
 use Rattle.std.specs.Result.{IsErrAnd}
 use Rattle.mad_term.specs.declared.errors.Error.{Error}
 use Rattle.mad_term.specs.declared.errors.Error.TheVariants.{Memory}
@@ -16,3 +16,8 @@ memory_first r old text h = refused_exit r Memory old old text h (stopped_before
 pub made_first : {T : Type 0} (r : Result T Error) (old new : Trace) (start made put text : List ℕ) → start ≡ [] → made ≡ start ++ text → put ≡ made → Draws old put r new → Draws old text r new
 made_first {T} r old new start made put text empty adds same h =
     subst (λ (s : List ℕ). Draws old s r new) (same ∙ adds ∙ ap (λ (s : List ℕ). s ++ text) empty) h
+
+-- the same of the bytes that a value displays, where they are known
+pub memory_before_displayed : {T : Type 0} (o : Option (List ℕ)) (r : Result T Error) (old : Trace) → IsErrAnd r (λ e. e ≡ Memory) → IfSome o (λ text. Draws old text r old)
+memory_before_displayed None r old h = tt
+memory_before_displayed (Some text) r old h = memory_first r old text h

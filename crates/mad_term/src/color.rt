@@ -26,7 +26,9 @@ pub enum Color {
     DarkCyan,
     White,
     Grey,
+    /// Amounts of red, green and blue, each from 0 to 255.
     Rgb { r: u8, g: u8, b: u8 },
+    /// A number of the palette.
     AnsiValue(u8),
 }
 

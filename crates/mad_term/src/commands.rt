@@ -2,6 +2,7 @@
 //! project's profile has of them.
 
 ghost use Rattle.std.specs.Prelude.{◌≡◌, ◌++◌, Some, OnOk, string_bytes};
+ghost use Rattle.mad_term.specs.Commands.{move_to_bytes, clear_bytes};
 
 use std::alloc::AllocError;
 use std::fmt;
@@ -11,8 +12,6 @@ use std::fmt;
 pub struct MoveTo(pub u16, pub u16);
 
 impl fmt::Display for MoveTo {
-    ghost use Rattle.mad_term.specs.Commands.{move_to_bytes};
-
     ghost output = { λ m. Some (move_to_bytes m.0 m.1) };
 
     fn fmt<W: fmt::Write>(&self, f: &mut fmt::Formatter<W>) -> fmt::Result {
@@ -42,16 +41,12 @@ pub enum ClearType {
 pub struct Clear(pub ClearType);
 
 impl fmt::Display for Clear {
-    ghost use Rattle.mad_term.specs.Commands.{clear_bytes};
-
     ghost output = { λ c. Some (clear_bytes c.0) };
 
     fn fmt<W: fmt::Write>(&self, f: &mut fmt::Formatter<W>) -> fmt::Result {
         f.write_str(clear_text(self.0))
     }
 }
-
-ghost use Rattle.mad_term.specs.Commands.{move_to_bytes, clear_bytes};
 
 /// Appends the command that moves the cursor to column `x` of row `y`, both counted from 0.
 ///

@@ -30,7 +30,10 @@ pub use commands::{Clear, ClearType, MoveTo, push_clear, push_move};
 pub use devices::{Out, Source, put_all};
 pub use errors::{Error, InsufficientWidthError};
 pub use mad_columns::char_columns;
-pub use queue::{put_text, queue_bg, queue_clear, queue_fg, queue_move, queue_styled};
+pub use queue::{
+    put_displayed, put_text, queue_bg, queue_clear, queue_fg, queue_move, queue_repeated,
+    queue_styled,
+};
 pub use repeats::StyledRepeat;
 pub use scripted::{CutOut, ScriptSource};
 pub use streams::Stream;

@@ -6,8 +6,11 @@ use std::fmt::{self, Display};
 /// A text `count` times in a style, as one piece; nothing at all if `count` is 0.
 #[derive(Clone, Copy, Debug, PartialEq, Eq)]
 pub struct StyledRepeat<'a> {
+    /// How the text looks.
     pub style: ContentStyle,
+    /// The text that is repeated.
     pub content: &'a str,
+    /// How many times it is written.
     pub count: usize,
 }
 

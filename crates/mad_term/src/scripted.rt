@@ -74,7 +74,7 @@ impl CutOut {
         self.puts
     }
 
-    /// Counts a fault and answers it.
+    // Counts a fault and answers it.
     #[tactic(auto, unfolding(crate::specs::Trace::failed))]
     fn fail(&mut self) -> io::Error
         ensures counted { cut_trace self.new ≡ failed (cut_trace self.old) }
@@ -177,7 +177,7 @@ impl<'s> ScriptSource<'s> {
 impl ScriptSource<'_> {
     ghost use Rattle.mad_term.specs.Scripted.{script_trace, IsSameSource};
 
-    /// Counts a fault and answers it.
+    // Counts a fault and answers it.
     #[tactic(auto, unfolding(crate::specs::Trace::failed))]
     fn fail(&mut self) -> io::Error
         ensures counted { script_trace self.new ≡ failed (script_trace self.old) }

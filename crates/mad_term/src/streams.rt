@@ -31,7 +31,7 @@ impl<S> Stream<S> {
         }
     }
 
-    /// Counts a fault. The count stays at its greatest value.
+    // Counts a fault. The count stays at its greatest value.
     #[tactic(auto, unfolding(crate::specs::Trace::failed))]
     fn count_fault(&mut self)
         ensures inner { stream_inner self.new ≡ stream_inner self.old }

@@ -16,9 +16,13 @@ use std::fmt;
 /// they are.
 #[derive(Clone, Copy, Debug, PartialEq, Eq)]
 pub struct ContentStyle {
+    /// The color of the characters.
     pub foreground_color: Option<Color>,
+    /// The color of their cells.
     pub background_color: Option<Color>,
+    /// The color of the line below them, where an attribute draws one.
     pub underline_color: Option<Color>,
+    /// The attributes that are set.
     pub attributes: Attributes,
 }
 
@@ -63,9 +67,33 @@ const UNDERLINE: u8 = 58;
 
 // The command that sets a color, or nothing where there is none.
 #[derive(Clone, Copy)]
-struct ColorCommand {
+pub(crate) struct ColorCommand {
     kind: u8,
     color: Option<Color>,
+}
+
+impl ColorCommand {
+    ghost use Rattle.std.specs.Prelude.{Some};
+
+    /// The command that sets the foreground.
+    pub(crate) fn foreground(color: Color) -> ColorCommand
+        ensures { result ≡ record { kind = 38; color = Some color } }
+    {
+        ColorCommand {
+            kind: FOREGROUND,
+            color: Some(color),
+        }
+    }
+
+    /// The command that sets the background.
+    pub(crate) fn background(color: Color) -> ColorCommand
+        ensures { result ≡ record { kind = 48; color = Some color } }
+    {
+        ColorCommand {
+            kind: BACKGROUND,
+            color: Some(color),
+        }
+    }
 }
 
 impl fmt::Display for ColorCommand {
@@ -165,7 +193,9 @@ pub(crate) fn closing_text(style: ContentStyle) -> &'static str
 /// pen plain again.
 #[derive(Clone, Copy, Debug, PartialEq, Eq)]
 pub struct StyledContent<'a> {
+    /// How the text looks.
     pub style: ContentStyle,
+    /// The text.
     pub content: &'a str,
 }
 
@@ -190,7 +220,9 @@ impl fmt::Display for StyledContent<'_> {
 /// A number in a style, in decimal, as one piece.
 #[derive(Clone, Copy, Debug, PartialEq, Eq)]
 pub struct StyledNumber {
+    /// How the number looks.
     pub style: ContentStyle,
+    /// The number.
     pub number: u32,
 }
 
@@ -216,10 +248,7 @@ impl fmt::Display for StyledNumber {
 pub fn push_foreground(row: &mut String, color: Color) -> Result<(), AllocError>
     ensures { OnOk result (string_bytes row.new ≡ string_bytes row.old ++ foreground_bytes color) }
 {
-    let command = ColorCommand {
-        kind: FOREGROUND,
-        color: Some(color),
-    };
+    let command = ColorCommand::foreground(color);
     write!(row, "{command}")
 }
 
@@ -231,10 +260,7 @@ pub fn push_foreground(row: &mut String, color: Color) -> Result<(), AllocError>
 pub fn push_background(row: &mut String, color: Color) -> Result<(), AllocError>
     ensures { OnOk result (string_bytes row.new ≡ string_bytes row.old ++ background_bytes color) }
 {
-    let command = ColorCommand {
-        kind: BACKGROUND,
-        color: Some(color),
-    };
+    let command = ColorCommand::background(color);
     write!(row, "{command}")
 }
 

@@ -14,7 +14,7 @@ pub fn answer(alloc: Global, name: &str, rest: &str, text: &str) -> Result<Strin
         "write" => written(alloc, first, style, text),
         "repeat" => repeated(alloc, first, style, text),
         "repeated" => repeated_char(alloc, first, style),
-        "push" => pushed(alloc, first, style),
+        "display" => first_char(style, first).to_string(alloc),
         _ => devices::answer(alloc, name, first, text),
     }
 }
@@ -91,12 +91,12 @@ fn write_char(
     }
 }
 
-// Whether a text so often has more bytes than any memory holds.
+// Whether a text `count` times has more bytes than any memory holds.
 fn is_too_long(text: &str, count: usize) -> bool {
     text.len().saturating_mul(count) > usize::MAX / 2
 }
 
-// A text so often in a style. Where that is too long, out of memory is the answer.
+// A text `count` times in a style. Where that is too long, out of memory is the answer.
 fn repeated(
     alloc: Global,
     count: &str,
@@ -111,7 +111,7 @@ fn repeated(
     }
 }
 
-// A bullet so often in a style, as a text of its own. Where that is too long, out of memory is the answer.
+// A bullet `count` times in a style, as a text of its own. Where that is too long, out of memory is the answer.
 fn repeated_char(alloc: Global, count: &str, style: CompoundStyle) -> Result<String, AllocError> {
     let count = number(Some(count)).unwrap_or(0);
     match style.style_char('•').repeated(alloc, count) {
@@ -119,14 +119,4 @@ fn repeated_char(alloc: Global, count: &str, style: CompoundStyle) -> Result<Str
         Err(_) if is_too_long("•", count) => String::from_str(alloc, "want of memory"),
         Err(error) => Err(error),
     }
-}
-
-// A bullet in a style, pushed once, and then so often.
-fn pushed(alloc: Global, count: &str, style: CompoundStyle) -> Result<String, AllocError> {
-    let bullet = style.style_char('•');
-    let count = number(Some(count)).unwrap_or(0);
-    let mut row = String::new(alloc);
-    bullet.push(&mut row)?;
-    bullet.push_repeated(&mut row, count)?;
-    Ok(row)
 }

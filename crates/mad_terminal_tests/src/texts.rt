@@ -52,7 +52,7 @@ fn listed(alloc: Global, tokens: &[StyleToken]) -> Result<String, AllocError> {
     Ok(answer)
 }
 
-// How many tokens a text has, repeated so often.
+// How many tokens a text has, repeated `count` times.
 fn count(alloc: Global, times: &str, text: &str) -> Result<String, AllocError> {
     let text = text.repeat(alloc, times.parse::<usize>().unwrap_or(0))?;
     match parse_style_tokens(alloc, text.as_str()) {

@@ -22,4 +22,4 @@ pub returns : goal.returns
 returns c =
     let start : c.row_start.result ≡ c.self.inside.y * c.self.inside.width = c.row_start.ensures ∙ ap (λ (g : Grid). g.y * g.width) (sym c.self.view_is) in
     let place : c.row_start.result + c.from-2.result ≡ c.self.inside.y * c.self.inside.width + c.self.inside.x = omega arith in
-    rw (← c.self.view_is) (print_is _ _ _ _ (omega arith) (c.in_ok-lay.ensures.laid ∙ ap (λ (i : ℕ). put_list c.self.inside.cells.items i (glyphs (c.args.c ∷ []) c.args.k (look_of c.self.inside.pen))) place))
+    rw (← c.self.view_is) (print_is _ _ _ _ (omega arith) (c.in_ok-lay.ensures.laid ∙ ap (λ (i : ℕ). put_list c.self.inside.cells.items i (glyphs (c.args.c ∷ []) c.args.tails (look_of c.self.inside.pen))) place))
