@@ -12,7 +12,7 @@ use crate::fmt_text::FmtText;
 use crate::skin::MadSkin;
 use mad_format::{FmtComposite, FmtLine};
 use mad_rows::{PlacedComposite, PlacedLine, append_lines, composite_blanks, line_blanks};
-use mad_term::{Error, Out, put_text};
+use mad_term::{Error, Out, put_displayed, put_text};
 use std::alloc::Global;
 
 impl MadSkin {
@@ -34,11 +34,9 @@ impl MadSkin {
         ensures early { IsErrOf result Memory → O.seen out.new ≡ O.seen out.old }
     {
         let skin = &self.row_skin();
-        let mut row = String::new(alloc);
         let placed = PlacedComposite::at(skin, composite, width, with_right_completion);
-        row.reserve(composite_blanks(skin, composite, placed.place))?;
-        write!(row, "{placed}")?;
-        put_text(out, &row)
+        let blanks = composite_blanks(skin, composite, placed.place);
+        put_displayed(alloc, out, blanks, &placed)
     }
 
     /// Writes a line at a width, in columns, if there is one, with its margins; the columns right of it are filled up where that is asked
@@ -59,16 +57,14 @@ impl MadSkin {
         ensures early { IsErrOf result Memory → O.seen out.new ≡ O.seen out.old }
     {
         let skin = &self.row_skin();
-        let mut row = String::new(alloc);
-        row.reserve(line_blanks(skin, line, width, with_right_completion))?;
+        let blanks = line_blanks(skin, line, width, with_right_completion);
         let placed = PlacedLine {
             skin,
             line,
             outer: width,
             filled: with_right_completion,
         };
-        write!(row, "{placed}")?;
-        put_text(out, &row)
+        put_displayed(alloc, out, blanks, &placed)
     }
 
     /// Writes a Markdown text, laid out at a width, in columns, if there is one: each line and a newline. Nothing is flushed.

@@ -19,7 +19,7 @@ use mad_fit::Area;
 use mad_md::Composite;
 use mad_rows::FreeComposite;
 use mad_style::CompositeKind;
-use mad_term::{Error, Out, put_text};
+use mad_term::{Error, Out, put_displayed};
 use std::alloc::Global;
 
 impl MadSkin {
@@ -89,17 +89,12 @@ impl MadSkin {
         ensures writes { Draws (O.seen out.old) (composite_bytes (row_skin self.now) composite.now) result (O.seen out.new) }
         ensures early { IsErrOf result Memory → O.seen out.new ≡ O.seen out.old }
     {
-        let mut row = String::new(alloc);
-        let margin = self
-            .line_style(CompositeKind::from(composite.style))
-            .left_margin;
-        row.reserve(margin)?;
+        let style = self.line_style(CompositeKind::from(composite.style));
         let free = FreeComposite {
             skin: &self.row_skin(),
             composite,
         };
-        write!(row, "{free}")?;
-        put_text(out, &row)
+        put_displayed(alloc, out, style.left_margin, &free)
     }
 
     /// Writes a composite, as [`MadSkin::write_composite`] does.
