@@ -30,13 +30,13 @@ record TellsParts (test : LineContent → Bool) : Type 0 where
   both : (c d : LineContent) → test c ≡ true → test d ≡ true → stand_together c d ≡ true
   other : (c d : LineContent) → test c ≡ true → test d ≡ false → stand_together c d ≡ false
 
-code_no_table : (c : LineContent) → is_code c ≡ true → is_table c ≡ false
+pub code_no_table : (c : LineContent) → is_code c ≡ true → is_table c ≡ false
 code_no_table (normal said) h = refl
 code_no_table (table_row cells) h = absurd (cc)
 code_no_table (table_rule aligns) h = absurd (cc)
 code_no_table horizontal_rule h = absurd (cc)
 
-table_no_code : (c : LineContent) → is_table c ≡ true → is_code c ≡ false
+pub table_no_code : (c : LineContent) → is_table c ≡ true → is_code c ≡ false
 table_no_code (normal said) h = absurd (cc)
 table_no_code (table_row cells) h = refl
 table_no_code (table_rule aligns) h = refl

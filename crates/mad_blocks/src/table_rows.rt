@@ -4,7 +4,7 @@ ghost use Rattle.std.specs.Prelude.{◌≡◌, max, IfOk, OnOk};
 ghost use Rattle.std.specs.List.{AllByRecursion};
 ghost use Rattle.std.specs.Vec.Iter.{into_iter_items};
 ghost use Rattle.mad_format.specs.CompositeWraps.{IsCompositeWrap};
-ghost use Rattle.mad_blocks.specs.Tables.{columns_with, in_column, below, IsTop, IsCellLaidOut, IsNextLaidOut, IsRowLaidOutBy, tallest};
+ghost use Rattle.mad_blocks.specs.Tables.{columns_with, below, IsTop, IsCellLaidOut, IsNextLaidOut, IsRowLaidOutBy, tallest};
 ghost use Rattle.mad_blocks.specs.TableRows.{TakesRow, AreCellsLeft, cell_lines_left};
 ghost use Rattle.mad_format.specs.Wraps.{IsMeasured};
 

@@ -2,6 +2,7 @@
 use Rattle.std.proofs.Common.{◌≡◌, ℕ, ◌+◌, ◌<◌, Bool, true, List, [], ◌∷◌, ◌++◌, map, length, refl, sym, ap, ◌∙◌, subst, arith}
 use Rattle.std.specs.List.{AllByRecursion}
 use Rattle.std.proofs.lemmas.List.{length-map}
+use Rattle.mad_wrap.proofs.PromisedStarts.{blank_token}
 use Rattle.mad_md.specs.Flagged.{FlaggedChar, flagged_of, is_blank}
 use Rattle.mad_md.specs.declared.compound.Compound.{Compound}
 use Rattle.mad_fit.specs.TextColumns.{width_of}
@@ -52,16 +53,12 @@ width_of-tokens max (t ∷ ts) h =
     width_of-append (flagged_token t) (whole (map flagged_token ts)) ∙ ap (λ n. n + width_of (whole (map flagged_token ts))) (sym h.0.alike.counts)
     ∙ ap (λ n. t.width + n) (width_of-tokens max ts h.1)
 
-blank_one : (b : Bool) (xs : List FlaggedChar) → 0 < length xs → AllByRecursion (λ x. is_blank x ≡ true) xs → AllByRecursion (λ x. is_blank x ≡ b) xs → b ≡ true
-blank_one b [] some on alike = absurd (omega (arith, some))
-blank_one b (x ∷ xs) some on alike = sym alike.0 ∙ on.0
-
 blank_tokens : (max : ℕ) (ts : List Token) → AllByRecursion (IsHonest max) ts → AllByRecursion (λ x. is_blank x ≡ true) (whole (map flagged_token ts)) → AllBlank ts
 blank_tokens max [] h on = tt
 blank_tokens max (t ∷ ts) h on =
     let is : FlaggedChar → Type 0 = λ x. is_blank x ≡ true in
     let rest : List FlaggedChar = whole (map flagged_token ts) in
-    (blank_one t.blank (flagged_token t) (some_flagged t h.0.place) (all_front is (flagged_token t) rest on) h.0.alike.alike, blank_tokens max ts h.1 (all_back is (flagged_token t) rest on))
+    (blank_token t.blank (flagged_token t) (some_flagged t h.0.place) h.0.alike.alike (all_front is (flagged_token t) rest on), blank_tokens max ts h.1 (all_back is (flagged_token t) rest on))
 
 fits_back : (max indent : ℕ) (r : Room) (qs : List (LineAndGap Token)) → AllByRecursion (IsHonest max) (lines_and_gaps qs) → LinesFit indent r (map (λ p. whole p.line) (map flagged_piece qs))
     → AllByRecursion (λ p. AllByRecursion (λ x. is_blank x ≡ true) (whole p.gap)) (map flagged_piece qs) → FitsFrom indent r qs

@@ -8,6 +8,7 @@ use Rattle.std.proofs.StrCases.{chars_of_empty}
 use Rattle.std.proofs.lemmas.Bool.Decides.{nat_tests}
 use Rattle.std.proofs.lemmas.Grind.{flat_map-append}
 use Rattle.std.proofs.lemmas.List.{append-nil, length-append, length-drop}
+use Rattle.mad_md.proofs.PlainLemmas.{and_not}
 use Rattle.mad_md.specs.Flagged.{Run, plain, flagged, flagged_text, run_of}
 use Rattle.mad_md.specs.Lines.{LineContent}
 use Rattle.mad_md.specs.Plain.{ArePlainBytes, is_plain_byte}
@@ -24,6 +25,7 @@ use Rattle.mad_term.specs.Styles.{IsPlain}
 use Rattle.mad_term.specs.Draws.{Refused}
 use Rattle.mad_term.specs.Trace.{Trace, after}
 use Rattle.mad_term.specs.declared.errors.Error.{Error}
+use Rattle.mad_term.proofs.Exits.{refused_in_second}
 use Rattle.mad_term.proofs.Traces.{took_both}
 use Rattle.mad_draw.specs.Pieces.{pieces_bytes, spaces}
 use Rattle.mad_format.specs.CompositeWraps.{IsCompositeWrap}
@@ -44,7 +46,7 @@ use Rattle.mad_layout.proofs.FlaggedTokens.{if_false}
 use Rattle.mad_blocks.proofs.LayoutJoins.{apart, apart_front, layouts_joined}
 use Rattle.mad_blocks.proofs.PartCursorLemmas.{LaidSoFar, apart_after, laid_more, single_apart}
 use Rattle.mad_rows.proofs.PieceLemmas.{bare_piece}
-use Rattle.mad_layout.proofs.WrittenLemmas.{hands_refused, WrittenSoFar, written_more, written_refused, no_whole, refused_after}
+use Rattle.mad_layout.proofs.WrittenLemmas.{hands_refused, WrittenSoFar, written_more, written_refused, no_whole}
 
 -- ---- the line that a plain text is
 
@@ -123,9 +125,6 @@ plain_layout skin width most v bs text h fits is utf8 all range = record {
 no_left : (skin : RowSkin) (width : Option ℕ) (n : ℕ) → ((rest : ℕ) → left_completion skin.paragraph.align rest ≡ 0) → left_of_place skin.paragraph.align n width ≡ 0
 no_left skin None n h = refl
 no_left skin (Some outer) n h = h (outer - n)
-
-and_not : (a b : Bool) → a ≡ false → (a && b) ≡ false
-and_not a b h = ap (λ t. t && b) h
 
 other_text : (b : ℕ) (bs text : List ℕ) → text ≡ b ∷ bs → is_plain_byte b ≡ true → bytes_eq text ellipsis_bytes ≡ false
 other_text b bs text is h =
@@ -238,7 +237,7 @@ plain_refused {T} skin width before left rest bytes kept new_kept r e old mid ne
   alone = h.alone;
   lines = h.lines;
   layout = h.layout;
-  handed = hands_refused r e old new (bytes ++ text_bytes skin width h.lines) new_kept is (subst (λ (b : List ℕ). Refused old b e new) (sym h.both) (refused_after e old mid new h.sent kept h.went refused));
+  handed = hands_refused r e old new (bytes ++ text_bytes skin width h.lines) new_kept is (subst (λ (b : List ℕ). Refused old b e new) (sym h.both) (refused_in_second e old mid new h.sent kept h.went refused));
   rest = no_whole r e (rest ≡ left) is;
 }
 

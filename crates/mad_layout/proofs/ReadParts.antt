@@ -18,6 +18,7 @@ use Rattle.mad_format.specs.declared.line.FmtLine.{FmtLine}
 use Rattle.mad_format.specs.declared.line.FmtLine.TheVariants.{Normal, TableRow, TableRule, HorizontalRule}
 use Rattle.mad_blocks.proofs.LayoutJoins.{by_bool}
 use Rattle.mad_layout.proofs.KeptWidths.{IsTableLineRead, AreTableRead}
+use Rattle.mad_blocks.proofs.PartCursorLemmas.{code_no_table, table_no_code}
 use Rattle.mad_blocks.proofs.PartLemmas.{raw_lines}
 use Rattle.mad_rows.specs.RowStyles.{line_rules}
 
@@ -70,18 +71,6 @@ apart true false true true e (inl f) = absurd (cc)
 apart true false true true e (inr f) = absurd (cc)
 apart true true c d (inl e) f = absurd (cc)
 apart true true c d (inr e) f = absurd (cc)
-
-code_no_table : (c : LineContent) → is_code c ≡ true → is_table c ≡ false
-code_no_table (normal said) e = refl
-code_no_table (table_row cells) e = absurd (cc)
-code_no_table (table_rule aligns) e = absurd (cc)
-code_no_table horizontal_rule e = refl
-
-table_no_code : (c : LineContent) → is_table c ≡ true → is_code c ≡ false
-table_no_code (normal said) e = absurd (cc)
-table_no_code (table_row cells) e = refl
-table_no_code (table_rule aligns) e = refl
-table_no_code horizontal_rule e = refl
 
 -- what a line in front of parts makes of them, by whether it goes with the first line
 abbrev ReadWith : RowSkin → Bool → LineContent → LineContent → List LineContent → List (List LineContent) → List Part → Type 0

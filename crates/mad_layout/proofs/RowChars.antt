@@ -6,6 +6,7 @@ use Rattle.std.specs.Str.{IsUtf8}
 use Rattle.std.proofs.lemmas.Fmt.{IsAscii-decimal}
 use Rattle.std.proofs.lemmas.List.{append-nil, map-append}
 use Rattle.std.proofs.lemmas.Str.{chars-IsAscii, chars-append, chars-nil}
+use Rattle.mad_fit.proofs.UniqueLemmas.{chars_of_flagged}
 use Rattle.mad_screen.specs.Glyph.{Look}
 use Rattle.mad_screen.specs.Painting.{look_of_style}
 use Rattle.mad_md.specs.declared.alignment.Alignment.TheVariants.{Left}
@@ -72,17 +73,13 @@ singles_chars style (suc n) =
     first_piece (record { style = style.object_style; text = 32 ∷ [] }) (single_spaces style n)
     ∙ ap (λ l. l ++ chars_in (single_spaces style n)) (chars-IsAscii (32 ∷ []) (ascii_spaces 1)) ∙ ap (λ l. 32 ∷ l) (singles_chars style n)
 
-flagged_chars : (f : Flags) (cs : List ℕ) → map (λ (x : FlaggedChar). x.char) (flagged f cs) ≡ cs
-flagged_chars f [] = refl
-flagged_chars f (c ∷ cs) = ap (λ l. c ∷ l) (flagged_chars f cs)
-
 pub compounds_chars : (skin : RowSkin) (style : LineStyle) (ps : List Compound) → chars_in (map (compound_piece skin style) ps) ≡ map (λ (x : FlaggedChar). x.char) (flagged_text ps)
 compounds_chars skin style [] = refl
 compounds_chars skin style (p ∷ ps) =
     let char : FlaggedChar → ℕ = λ x. x.char in
     first_piece (compound_piece skin style p) (map (compound_piece skin style) ps)
     ∙ ap (λ l. chars p.src.now ++ l) (compounds_chars skin style ps)
-    ∙ sym (map-append char (flagged_of p) (flagged_text ps) ∙ ap (λ l. l ++ map char (flagged_text ps)) (flagged_chars (flags_of p) (chars p.src.now)))
+    ∙ sym (map-append char (flagged_of p) (flagged_text ps) ∙ ap (λ l. l ++ map char (flagged_text ps)) (chars_of_flagged (flags_of p) (chars p.src.now)))
 
 repeat_chars : (n : ℕ) (t : List ℕ) → IsUtf8 t → chars (repeat n t) ≡ repeat n (chars t)
 repeat_chars zero t utf8 = chars-nil

@@ -1,12 +1,11 @@
 -- The text `aaa bb cc`: how it is read, and laid out in a wider place.
-use Rattle.std.proofs.Common.{◌≡◌, ◌≢◌, ℕ, ◌<◌, inl, false, List, [], ◌∷◌, ◌++◌, chars, Option, Some, refl, ap, sym, subst, arith, lit<}
-use Rattle.std.specs.Prelude.{unwrap_or}
+use Rattle.std.proofs.Common.{◌≡◌, ◌≢◌, ℕ, ◌<◌, inl, false, List, [], ◌∷◌, ◌++◌, chars, refl, ap, sym, subst, arith, lit<, lit≤}
 use Rattle.std.specs.List.{AllByRecursion, join_with_byte}
 use Rattle.std.specs.Str.{IsAscii}
 use Rattle.std.proofs.lemmas.Str.{IsUtf8-from_ascii, chars-IsAscii}
 use Rattle.std.proofs.lemmas.Str.Ascii.{IsAscii-cons, IsAscii-nil}
-use Rattle.unicode_width.specs.Width.{char_width}
 use Rattle.mad_columns.specs.Columns.{char_columns}
+use Rattle.mad_columns.proofs.CharColumns.{char_columns-ascii}
 use Rattle.mad_md.specs.Parts.{AreParts, HasNoNewline, line_places, line_text}
 use Rattle.mad_md.specs.ReadByMarks.{IsParagraphText}
 use Rattle.mad_fit.proofs.AllLemmas.{all_back}
@@ -15,37 +14,17 @@ use Rattle.mad_layout.specs.Words.{words}
 
 -- ---- its characters
 
-width_a : char_width false 97 ≡ Some 1
-unfolding char_width
-width_a = refl
-
-width_b : char_width false 98 ≡ Some 1
-unfolding char_width
-width_b = refl
-
-width_c : char_width false 99 ≡ Some 1
-unfolding char_width
-width_c = refl
-
-width_space : char_width false 32 ≡ Some 1
-unfolding char_width
-width_space = refl
-
-one_column : (c : ℕ) → char_width false c ≡ Some 1 → char_columns c ≡ 1
-unfolding char_columns
-one_column c e = ap (λ (o : Option ℕ). unwrap_or o 0) e
-
 pub one_a : char_columns 97 ≡ 1
-one_a = one_column 97 width_a
+one_a = char_columns-ascii 97 (lit≤ tt) (lit< tt)
 
 pub one_b : char_columns 98 ≡ 1
-one_b = one_column 98 width_b
+one_b = char_columns-ascii 98 (lit≤ tt) (lit< tt)
 
 pub one_c : char_columns 99 ≡ 1
-one_c = one_column 99 width_c
+one_c = char_columns-ascii 99 (lit≤ tt) (lit< tt)
 
 pub one_space : char_columns 32 ≡ 1
-one_space = one_column 32 width_space
+one_space = char_columns-ascii 32 (lit≤ tt) (lit< tt)
 
 letters : IsAscii words
 letters =

@@ -6,6 +6,7 @@ use Rattle.std.specs.Char.{is_whitespace}
 use Rattle.std.proofs.lemmas.Bool.{and_parts}
 use Rattle.std.proofs.lemmas.List.{append-nil, map-append, length-map}
 use Rattle.std.proofs.lemmas.Str.{chars-nil}
+use Rattle.mad_wrap.proofs.CutLemmas.{white_flagged}
 use Rattle.mad_md.specs.Flagged.{FlaggedChar, Flags, is_blank, flagged, run_of, flags_of, flagged_of, flagged_text}
 use Rattle.mad_md.specs.declared.compound.Compound.{Compound}
 use Rattle.mad_fit.specs.TextColumns.{width_of}
@@ -98,10 +99,6 @@ two_broken r front middle back lines white two =
       dropped = (subst AllWhite (sym (whole_tokens limit [] (flagged_of middle))) white, (tt, tt));
     }
 
-white_middle : (f : Flags) (cs : List ℕ) → list_all is_whitespace cs ≡ true → AllWhite (flagged f cs)
-white_middle f [] e = tt
-white_middle f (c ∷ cs) e = let both = and_parts (is_whitespace c) (list_all is_whitespace cs) e in (both.0, white_middle f cs both.1)
-
 abbrev chosen : Bool → Compound → Compound → Option (Compound × Compound)
 chosen b front back = if b then Some (front, back) else None
 
@@ -114,7 +111,7 @@ cut_broken r (p ∷ q ∷ []) lines clean two = absurd (cc)
 cut_broken r (front ∷ middle ∷ back ∷ []) lines clean two =
     by_bool (λ b. (is_white middle && both_fit r front back) ≡ b → is_some (chosen b front back) ≡ true → ((f k : Compound) → chosen b front back ≡ Some (f, k) → map runs_of lines ≡ (run_of f ∷ []) ∷ (run_of k ∷ []) ∷ [])
     → AreBroken r (map flagged_of (front ∷ middle ∷ back ∷ [])) (map flagged_text lines)) (is_white middle && both_fit r front back)
-    (λ on e c two. two_broken r front middle back lines (white_middle (flags_of middle) (chars middle.src.now) (and_parts (is_white middle) (both_fit r front back) on).0) (two front back refl))
+    (λ on e c two. two_broken r front middle back lines (white_flagged (flags_of middle) (chars middle.src.now) (and_parts (is_white middle) (both_fit r front back) on).0) (two front back refl))
     (λ off e c two. absurd (cc)) refl clean two
 cut_broken r (p ∷ q ∷ s ∷ t ∷ ps) lines clean two = absurd (cc)
 

@@ -7,9 +7,9 @@ use Rattle.mad_md.specs.Lines.{LineContent}
 use Rattle.mad_term.specs.Draws.{Refused}
 use Rattle.mad_term.specs.Trace.{Trace, after}
 use Rattle.mad_term.specs.declared.errors.Error.{Error}
-use Rattle.mad_term.specs.declared.errors.Error.TheVariants.{IO, InsufficientWidth, Memory}
-use Rattle.mad_term.proofs.Exits.{refused_exit}
-use Rattle.mad_term.proofs.Traces.{after-nil, took_both, stopped_before, stopped_in_first, stopped_in_second, cut_in_first, cut_in_second}
+use Rattle.mad_term.specs.declared.errors.Error.TheVariants.{Memory}
+use Rattle.mad_term.proofs.Exits.{refused_exit, refused_in_first, refused_in_second}
+use Rattle.mad_term.proofs.Traces.{took_none, took_both, stopped_before}
 use Rattle.mad_blocks.specs.TextParts.{text_parts}
 use Rattle.mad_format.specs.declared.line.FmtLine.{FmtLine}
 use Rattle.mad_blocks.proofs.LayoutJoins.{apart_parts}
@@ -31,9 +31,6 @@ pub hands_refused : {T : Type 0} (r : Result T Error) (e : Error) (old new : Tra
 hands_refused {T} (Ok x) e old new bytes kept is h = absurd is
 hands_refused {T} (Err d) e old new bytes kept is h = subst (λ (f : Error). Refused old bytes f new) (sym is) h
 
-pub handed_none : (old : Trace) → old ≡ after old []
-handed_none old = sym (after-nil old)
-
 -- ---- what is written so far
 
 -- The parts so far are laid out, and their bytes went out or are kept.
@@ -45,7 +42,7 @@ pub record WrittenSoFar (skin : RowSkin) (width : Option ℕ) (all left : List L
   pub went : new ≡ after old sent
 
 pub written_start : (skin : RowSkin) (width : Option ℕ) (all : List LineContent) (kept : List ℕ) (old : Trace) → kept ≡ [] → WrittenSoFar skin width all all kept old old
-written_start skin width all kept old nothing = record { done = []; laid = laid_none (line_rules skin) width all; sent = []; bytes = sym nothing; went = handed_none old }
+written_start skin width all kept old nothing = record { done = []; laid = laid_none (line_rules skin) width all; sent = []; bytes = sym nothing; went = took_none old }
 
 more_bytes : (skin : RowSkin) (width : Option ℕ) (done own : List FmtLine) (sent kept : List ℕ) → text_bytes skin width done ≡ sent ++ kept → text_bytes skin width (done ++ own) ≡ sent ++ (kept ++ text_bytes skin width own)
 more_bytes skin width done own sent kept h =
@@ -63,17 +60,6 @@ written_more skin width all left later own kept new_kept old mid new h laid (sen
 }
 
 -- ---- exits
-
-pub refused_after : (e : Error) (old mid new : Trace) (a b : List ℕ) → mid ≡ after old a → Refused mid b e new → Refused old (a ++ b) e new
-refused_after (IO x) old mid new a b p h = cut_in_second old mid new a b p h
-refused_after (InsufficientWidth x) old mid new a b p h = absurd h
-refused_after Memory old mid new a b p h = stopped_in_second old mid new a b p h
-
--- more bytes were to come after those that were refused
-refused_before : (e : Error) (old new : Trace) (a b : List ℕ) → Refused old a e new → Refused old (a ++ b) e new
-refused_before (IO x) old new a b h = cut_in_first old new a b h
-refused_before (InsufficientWidth x) old new a b h = absurd h
-refused_before Memory old new a b h = stopped_in_first old new a b h
 
 -- a refusal owes no whole
 pub no_whole : {T : Type 0} (r : Result T Error) (e : Error) (P : Type 0) → IsErrAnd r (λ d. d ≡ e) → OnOk r P
@@ -93,7 +79,7 @@ written_refused {T} skin width all left later own kept r e old mid new h laid is
   lines = h.done ++ own;
   layout = laid.layout;
   drawn = refused_exit r e old new (text_bytes skin width (h.done ++ own)) is
-      (subst (λ (b : List ℕ). Refused old b e new) (sym (more_bytes skin width h.done own h.sent kept h.bytes)) (refused_after e old mid new h.sent (kept ++ text_bytes skin width own) h.went refused));
+      (subst (λ (b : List ℕ). Refused old b e new) (sym (more_bytes skin width h.done own h.sent kept h.bytes)) (refused_in_second e old mid new h.sent (kept ++ text_bytes skin width own) h.went refused));
 }
 
 -- a fault cut the bytes short that are kept
@@ -153,4 +139,4 @@ row_refused {T} skin width lines i x first kept put any r e old mid new inside h
     let whole : first ++ text_bytes skin width lines ≡ (sent ++ put) ++ tail =
     rows_around skin width first lines i x inside here ∙ ap (λ (t : List ℕ). (t ++ own) ++ tail) is ∙ ap (λ (t : List ℕ). t ++ tail) (append_assoc sent kept own ∙ ap (λ (t : List ℕ). sent ++ t) (sym row)) in
     hands_refused r e old new (first ++ text_bytes skin width lines) any error
-    (subst (λ (b : List ℕ). Refused old b e new) (sym whole) (refused_before e old new (sent ++ put) tail (refused_after e old mid new sent put went refused)))
+    (subst (λ (b : List ℕ). Refused old b e new) (sym whole) (refused_in_first e old new (sent ++ put) tail (refused_in_second e old mid new sent put went refused)))

@@ -25,3 +25,15 @@ pub flushing_refused : {T : Type 0} (writes : Trace → Result T Error → Trace
 flushing_refused {T} writes r e old new is h =
     let p = err_from_is_err_and r is in
     subst (λ (s : Result T Error). AndFlushes writes old s new) (sym (p.1 ∙ ap Err p.2)) h
+
+-- what was refused in the first of two texts
+pub refused_in_first : (e : Error) (old new : Trace) (a b : List ℕ) → Refused old a e new → Refused old (a ++ b) e new
+refused_in_first (IO x) old new a b h = cut_in_first old new a b h
+refused_in_first (InsufficientWidth x) old new a b h = absurd h
+refused_in_first Memory old new a b h = stopped_in_first old new a b h
+
+-- what was refused in the second
+pub refused_in_second : (e : Error) (old mid new : Trace) (a b : List ℕ) → mid ≡ after old a → Refused mid b e new → Refused old (a ++ b) e new
+refused_in_second (IO x) old mid new a b p h = cut_in_second old mid new a b p h
+refused_in_second (InsufficientWidth x) old mid new a b p h = absurd h
+refused_in_second Memory old mid new a b p h = stopped_in_second old mid new a b p h

@@ -2,11 +2,12 @@ use Rattle.std.proofs.Common.{[], string_bytes, refl}
 use Rattle.std.proofs.lemmas.List.{append-nil}
 use Rattle.mad_term.proofs.Traces.{stopped_before}
 use Rattle.mad_term.specs.declared.errors.Error.TheVariants.{Memory}
-use Rattle.mad_layout.proofs.WrittenLemmas.{handed_none, row_handed, row_refused}
+use Rattle.mad_term.proofs.Traces.{took_none}
+use Rattle.mad_layout.proofs.WrittenLemmas.{row_handed, row_refused}
 use Rattle.mad_layout.proofs.parts_writing.send_lines.Goals as goal
 
 pub loop-line-init : goal.loop-line-init
-loop-line-init g c = ([], append-nil (string_bytes c.args.rows.now), handed_none _)
+loop-line-init g c = ([], append-nil (string_bytes c.args.rows.now), took_none _)
 
 pub loop-line-preserved : goal.loop-line-preserved
 loop-line-preserved g c =
