@@ -77,7 +77,7 @@ impl Cell {
     }
 }
 
-// Writes a character over `tails + 1` cells, as itself and `tails` tails.
+/// Writes a character over `tails + 1` cells, as itself and `tails` tails.
 pub(crate) fn lay(
     cells: &mut Vec<Cell>,
     at: usize,

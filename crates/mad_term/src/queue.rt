@@ -132,8 +132,8 @@ pub fn put_text<O: Out>(out: &mut O, text: &str) -> Result<(), Error>
 
 /// Puts all that a value displays. It is made whole first, and then put.
 ///
-/// `room` is how many bytes are reserved before any is made, 0 where the caller knows none: a value that is mostly spaces
-/// then grows once, and a count of them past all memory is refused at once.
+/// `room` is how many bytes are reserved first, 0 where the caller knows none. A value that is mostly spaces then grows
+/// once, and a count of spaces past all memory is refused at once.
 ///
 /// # Errors
 ///
