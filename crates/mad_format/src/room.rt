@@ -31,7 +31,7 @@ pub fn margins_and_rest<S: LineSkin>(
     ensures margins { result.0 ≡ margins_at ((S.rules skin.now).line_style kind) (Some width) }
     ensures inner { result.1 ≡ width - result.0.0 - result.0.1 }
 {
-    let margins = skin.style_of(kind).margins_and_rest(Some(width));
+    let margins = skin.style_of(kind).margins_in(Some(width));
     (margins, width - margins.0 - margins.1)
 }
 
