@@ -7,7 +7,7 @@ use std::fmt;
 use termimad::Attribute;
 use termimad::screen::{Cell, Pen, Screen};
 
-// The size of a cell, the space around all cells, how far below its top a cell's text stands, in the image's units.
+// The size of a cell, the space around all cells, how far below its top a cell's text is, in the image's units.
 const CELL_WIDTH: u32 = 9;
 
 const CELL_HEIGHT: u32 = 18;

@@ -32,15 +32,15 @@ pub fn push_margins(picture: &mut String, line: &FmtLine) -> Result<(), AllocErr
     Ok(())
 }
 
-/// Puts lines: of a row its cells, of a rule where it stands and its columns.
+/// Puts lines: of a row its cells, of a rule its place and its columns.
 pub fn push_lines(picture: &mut String, lines: &[FmtLine]) -> Result<(), AllocError> {
     for line in lines {
-        push_line(picture, line)?;
+        draw_line(picture, line)?;
     }
     Ok(())
 }
 
-fn push_line(picture: &mut String, line: &FmtLine) -> Result<(), AllocError> {
+fn draw_line(picture: &mut String, line: &FmtLine) -> Result<(), AllocError> {
     match line {
         FmtLine::Normal(composite) => push_cell(picture, composite)?,
         FmtLine::TableRow(row) => return push_row(picture, row),

@@ -7,7 +7,7 @@ ghost use Rattle.mad_json.specs.Reading.{found_part};
 ghost use Rattle.mad_json.specs.Errors.{skin_error_text};
 
 use mad_parse::ParseStyleTokenError;
-use std::alloc::AllocError;
+use std::alloc::{AllocError, AllocFailed};
 use std::error::Error;
 use std::fmt;
 
@@ -59,10 +59,12 @@ impl From<AllocError> for SkinError {
     }
 }
 
-// Why the value of a key says no part of a skin.
+/// Why the value of a key says no part of a skin.
 #[derive(Debug, Drop)]
 pub enum ValueError {
+    /// The value is of another kind than its part.
     WrongType,
+    /// A text in it has a word that is no style token, or says no indentation mode; or out of memory.
     Style(ParseStyleTokenError),
 }
 
@@ -83,6 +85,17 @@ impl From<AllocError> for ValueError {
     ghost from_gives = { λ _ e. e ≡ Style Memory };
 
     fn from(_: AllocError) -> Self {
+        ValueError::Style(ParseStyleTokenError::Memory)
+    }
+}
+
+impl<T: Drop> From<AllocFailed<T>> for ValueError {
+    ghost use Rattle.mad_json.specs.declared.errors.ValueError.TheVariants.{Style};
+    ghost use Rattle.mad_parse.specs.declared.errors.ParseStyleTokenError.TheVariants.{Memory};
+
+    ghost from_gives = { λ _ e. e ≡ Style Memory };
+
+    fn from(_: AllocFailed<T>) -> Self {
         ValueError::Style(ParseStyleTokenError::Memory)
     }
 }

@@ -41,14 +41,14 @@ impl Field {
 pub fn field_of(key: &str) -> Option<Field>
     ensures { result ≡ field_named key.now }
 {
-    addition_of(key)
-        .or(char_of(key))
-        .or(line_of(key))
-        .or(form_of(key))
+    addition_field(key)
+        .or(char_field(key))
+        .or(line_field(key))
+        .or(form_field(key))
 }
 
 // What text adds to its line.
-fn addition_of(key: &str) -> Option<Field>
+fn addition_field(key: &str) -> Option<Field>
     ensures { result ≡ addition_named key.now }
 {
     match key {
@@ -62,7 +62,7 @@ fn addition_of(key: &str) -> Option<Field>
 }
 
 // Characters that are drawn.
-fn char_of(key: &str) -> Option<Field>
+fn char_field(key: &str) -> Option<Field>
     ensures { result ≡ char_named key.now }
 {
     match key {
@@ -74,7 +74,8 @@ fn char_of(key: &str) -> Option<Field>
     }
 }
 
-fn line_of(key: &str) -> Option<Field>
+// Lines.
+fn line_field(key: &str) -> Option<Field>
     ensures { result ≡ line_named key.now }
 {
     match key {
@@ -87,7 +88,7 @@ fn line_of(key: &str) -> Option<Field>
 }
 
 // Items of lists, and the borders of tables.
-fn form_of(key: &str) -> Option<Field>
+fn form_field(key: &str) -> Option<Field>
     ensures { result ≡ form_named key.now }
 {
     match key {

@@ -2,17 +2,15 @@
 
 ghost use Rattle.std.specs.Prelude.{◌≡◌, Ok, IfOk, IfErr, OnOk, [], map};
 ghost use Rattle.serde_json.specs.View.{view, items_view};
-ghost use Rattle.mad_parse.specs.TokenStyles.{line_style_of, item_style_of};
 ghost use Rattle.mad_json.specs.Faults.{TellsValue};
 ghost use Rattle.mad_json.specs.Lists.{items_said, replaced, compound_with, header_with, headers_said, ordered_items_said};
 
 use crate::errors::ValueError;
-use crate::texts;
+use crate::texts::{FromTokens, read_style};
 use mad_md::Alignment;
-use mad_parse::parse_line_style;
 use mad_style::{ATTRIBUTES, CompoundStyle, LineStyle, OrderedItemStyle};
 use serde_json::Value;
-use std::alloc::{AllocError, Global};
+use std::alloc::Global;
 
 /// Sets the headers as a value says. A text sets in each the colors, the attributes that are written (not slow-blink and
 /// rapid-blink) and the align that it has. A list replaces them by level. After a refusal they are as they were.
@@ -25,14 +23,14 @@ pub fn set_headers(
     ensures err { IfErr result (λ e. TellsValue e (headers_said (view value.now) headers.old)) }
 {
     if let Some(text) = value.as_str() {
-        let line = parse_line_style(alloc, text)?;
+        let line = LineStyle::parse(alloc, text)?;
         set_each(headers, &line);
         return Ok(());
     }
     let Some(items) = value.as_array() else {
         return Err(ValueError::WrongType);
     };
-    let styles = line_styles(alloc, items)?;
+    let styles = read_styles(alloc, items)?;
     replace_front(headers, styles.as_slice());
     Ok(())
 }
@@ -49,31 +47,20 @@ pub fn set_ordered_items(
     let Some(items) = value.as_array() else {
         return Err(ValueError::WrongType);
     };
-    let styles = item_styles_of(alloc, items)?;
+    let styles = read_styles(alloc, items)?;
     replace_front(item_styles, styles.as_slice());
     Ok(())
 }
 
-fn line_styles(alloc: Global, items: &Vec<Value>) -> Result<Vec<LineStyle>, ValueError>
-    ensures ok { IfOk result (λ styles. items_said line_style_of (items_view items.now.items) [] ≡ Ok styles.items) }
-    ensures err { IfErr result (λ e. TellsValue e (items_said line_style_of (items_view items.now.items) [])) }
+// The styles that the values of a list say.
+fn read_styles<S: FromTokens>(alloc: Global, items: &Vec<Value>) -> Result<Vec<S>, ValueError>
+    ensures ok { IfOk result (λ styles. items_said S.of_tokens (items_view items.now.items) [] ≡ Ok styles.items) }
+    ensures err { IfErr result (λ e. TellsValue e (items_said S.of_tokens (items_view items.now.items) [])) }
 {
     let mut styles = Vec::new(alloc);
     for item in items {
-        let style = texts::line_style_of(alloc, item)?;
-        styles.push(style).map_err(AllocError::from)?;
-    }
-    Ok(styles)
-}
-
-fn item_styles_of(alloc: Global, items: &Vec<Value>) -> Result<Vec<OrderedItemStyle>, ValueError>
-    ensures ok { IfOk result (λ styles. items_said (item_style_of 46) (items_view items.now.items) [] ≡ Ok styles.items) }
-    ensures err { IfErr result (λ e. TellsValue e (items_said (item_style_of 46) (items_view items.now.items) [])) }
-{
-    let mut styles = Vec::new(alloc);
-    for item in items {
-        let style = texts::item_style_of(alloc, item)?;
-        styles.push(style).map_err(AllocError::from)?;
+        let style: S = read_style(alloc, item)?;
+        styles.push(style)?;
     }
     Ok(styles)
 }

@@ -12,7 +12,7 @@ use crate::floats::holds_float;
 use crate::lists::{set_headers, set_ordered_items};
 use crate::modes::mode_of;
 use crate::scroll_bars::scrollbar_of;
-use crate::texts::{compound_style_of, line_style_of, styled_char_of};
+use crate::texts::read_style;
 use mad_layout::MadSkin;
 use mad_style::TableBorderChars;
 use serde_json::Value;
@@ -120,18 +120,18 @@ fn set_part(
     ensures err { IfErr result (λ e. TellsValue e (part_said field (view value.now) skin.old)) }
 {
     match field {
-        Field::Bold => skin.bold = compound_style_of(alloc, value)?,
-        Field::Italic => skin.italic = compound_style_of(alloc, value)?,
-        Field::Strikeout => skin.strikeout = compound_style_of(alloc, value)?,
-        Field::InlineCode => skin.inline_code = compound_style_of(alloc, value)?,
-        Field::Ellipsis => skin.ellipsis = compound_style_of(alloc, value)?,
-        Field::Bullet => skin.bullet = styled_char_of(alloc, value)?,
-        Field::QuoteMark => skin.quote_mark = styled_char_of(alloc, value)?,
-        Field::HorizontalRule => skin.horizontal_rule = styled_char_of(alloc, value)?,
+        Field::Bold => skin.bold = read_style(alloc, value)?,
+        Field::Italic => skin.italic = read_style(alloc, value)?,
+        Field::Strikeout => skin.strikeout = read_style(alloc, value)?,
+        Field::InlineCode => skin.inline_code = read_style(alloc, value)?,
+        Field::Ellipsis => skin.ellipsis = read_style(alloc, value)?,
+        Field::Bullet => skin.bullet = read_style(alloc, value)?,
+        Field::QuoteMark => skin.quote_mark = read_style(alloc, value)?,
+        Field::HorizontalRule => skin.horizontal_rule = read_style(alloc, value)?,
         Field::ScrollBar => skin.scrollbar = scrollbar_of(alloc, value)?,
-        Field::Paragraph => skin.paragraph = line_style_of(alloc, value)?,
-        Field::CodeBlock => skin.code_block = line_style_of(alloc, value)?,
-        Field::Table => skin.table = line_style_of(alloc, value)?,
+        Field::Paragraph => skin.paragraph = read_style(alloc, value)?,
+        Field::CodeBlock => skin.code_block = read_style(alloc, value)?,
+        Field::Table => skin.table = read_style(alloc, value)?,
         Field::Headers => set_headers(alloc, &mut skin.headers, value)?,
         Field::OrderedItems => set_ordered_items(alloc, &mut skin.ordered_item_styles, value)?,
         Field::TableBorders => skin.table_border_chars = borders_of(

@@ -6,8 +6,7 @@ ghost use Rattle.mad_json.specs.Faults.{TellsValue};
 ghost use Rattle.mad_json.specs.ScrollBars.{scrollbar_said, text_member};
 
 use crate::errors::ValueError;
-use crate::texts::DRAWN_CHAR;
-use mad_parse::parse_styled_char;
+use crate::texts::FromTokens;
 use mad_style::{CompoundStyle, ScrollBarStyle, StyledChar};
 use mad_term::Attributes;
 use serde_json::Value;
@@ -67,7 +66,7 @@ pub fn scrollbar_of(alloc: Global, value: &Value) -> Result<ScrollBarStyle, Valu
     ensures err { IfErr result (λ e. TellsValue e (scrollbar_said (view value.now))) }
 {
     if let Some(text) = value.as_str() {
-        let styled_char = parse_styled_char(alloc, text, DRAWN_CHAR)?;
+        let styled_char = StyledChar::parse(alloc, text)?;
         return Ok(ScrollBarStyleDef::Simple(styled_char).into_scrollbar_style());
     }
     let Some(thumb) = text_member(value, "thumb") else {
@@ -76,8 +75,8 @@ pub fn scrollbar_of(alloc: Global, value: &Value) -> Result<ScrollBarStyle, Valu
     let Some(track) = text_member(value, "track") else {
         return Err(ValueError::WrongType);
     };
-    let thumb = parse_styled_char(alloc, thumb, DRAWN_CHAR)?;
-    let track = parse_styled_char(alloc, track, DRAWN_CHAR)?;
+    let thumb = StyledChar::parse(alloc, thumb)?;
+    let track = StyledChar::parse(alloc, track)?;
     Ok(ScrollBarStyle { track, thumb })
 }
 

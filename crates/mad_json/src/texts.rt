@@ -1,7 +1,9 @@
 //! What a text among the values says.
 
-ghost use Rattle.std.specs.Prelude.{◌≡◌, Ok, IfOk, IfErr, Some, None, MatchResult};
+ghost use Rattle.std.specs.Prelude.{◌≡◌, List, Ok, IfOk, IfErr, Some, None, MatchResult};
+ghost use Rattle.mad_parse.specs.Reading.{tokens_of, said, Tells};
 ghost use Rattle.mad_parse.specs.TokenStyles.{style_of, line_style_of, styled_char_of, item_style_of};
+ghost use Rattle.mad_parse.specs.declared.tokens.StyleToken.{StyleToken};
 ghost use Rattle.serde_json.specs.Find.{as_str};
 ghost use Rattle.serde_json.specs.View.{view};
 ghost use Rattle.mad_json.specs.Faults.{TellsValue};
@@ -10,52 +12,70 @@ ghost use Rattle.mad_json.specs.declared.errors.ValueError.TheVariants.{WrongTyp
 
 use crate::errors::ValueError;
 use mad_parse::{
-    parse_compound_style, parse_line_style, parse_ordered_item_style, parse_styled_char,
+    ParseStyleTokenError, parse_compound_style, parse_line_style, parse_ordered_item_style,
+    parse_styled_char,
 };
 use mad_style::{CompoundStyle, LineStyle, OrderedItemStyle, StyledChar};
 use serde_json::Value;
 use std::alloc::Global;
 
-/// A drawn character that isn't told.
-pub(crate) const DRAWN_CHAR: char = '*';
+// A drawn character that isn't told.
+const DRAWN_CHAR: char = '*';
 
 // The character after an item's number that isn't told.
 const SUFFIX: char = '.';
 
-/// The style of text that a value says.
-pub(crate) fn compound_style_of(alloc: Global, value: &Value) -> Result<CompoundStyle, ValueError>
-    ensures ok { IfOk result (λ style. value_said style_of (view value.now) ≡ Ok style) }
-    ensures err { IfErr result (λ e. TellsValue e (value_said style_of (view value.now))) }
-{
-    let text = text_of(value)?;
-    Ok(parse_compound_style(alloc, text)?)
+/// A style that the tokens of a text say.
+pub(crate) trait FromTokens: Copy {
+    ghost of_tokens: { List StyleToken → Self };
+
+    /// The style that a text says.
+    fn parse(alloc: Global, text: &str) -> Result<Self, ParseStyleTokenError>
+        ensures ok { IfOk result (λ style. said of_tokens (tokens_of text.now) ≡ Ok style) }
+        ensures err { IfErr result (λ e. Tells e (tokens_of text.now)) };
 }
 
-/// The style of a line that a value says.
-pub(crate) fn line_style_of(alloc: Global, value: &Value) -> Result<LineStyle, ValueError>
-    ensures ok { IfOk result (λ style. value_said line_style_of (view value.now) ≡ Ok style) }
-    ensures err { IfErr result (λ e. TellsValue e (value_said line_style_of (view value.now))) }
-{
-    let text = text_of(value)?;
-    Ok(parse_line_style(alloc, text)?)
+impl FromTokens for CompoundStyle {
+    ghost of_tokens = { style_of };
+
+    fn parse(alloc: Global, text: &str) -> Result<Self, ParseStyleTokenError> {
+        parse_compound_style(alloc, text)
+    }
 }
 
-/// The drawn character that a value says, `*` where it tells none.
-pub(crate) fn styled_char_of(alloc: Global, value: &Value) -> Result<StyledChar, ValueError>
-    ensures ok { IfOk result (λ drawn. value_said (styled_char_of 42) (view value.now) ≡ Ok drawn) }
-    ensures err { IfErr result (λ e. TellsValue e (value_said (styled_char_of 42) (view value.now))) }
-{
-    let text = text_of(value)?;
-    Ok(parse_styled_char(alloc, text, DRAWN_CHAR)?)
+impl FromTokens for LineStyle {
+    ghost of_tokens = { line_style_of };
+
+    fn parse(alloc: Global, text: &str) -> Result<Self, ParseStyleTokenError> {
+        parse_line_style(alloc, text)
+    }
 }
 
-/// The style of an ordered item that a value says, with a dot where it tells no other character.
-pub(crate) fn item_style_of(alloc: Global, value: &Value) -> Result<OrderedItemStyle, ValueError>
-    ensures ok { IfOk result (λ style. value_said (item_style_of 46) (view value.now) ≡ Ok style) }
-    ensures err { IfErr result (λ e. TellsValue e (value_said (item_style_of 46) (view value.now))) }
+impl FromTokens for StyledChar {
+    ghost of_tokens = { styled_char_of 42 };
+
+    /// The drawn character that a text says, `*` where it tells none.
+    fn parse(alloc: Global, text: &str) -> Result<Self, ParseStyleTokenError> {
+        parse_styled_char(alloc, text, DRAWN_CHAR)
+    }
+}
+
+impl FromTokens for OrderedItemStyle {
+    ghost of_tokens = { item_style_of 46 };
+
+    /// The style of an ordered item that a text says, with a dot where it tells no other character.
+    fn parse(alloc: Global, text: &str) -> Result<Self, ParseStyleTokenError> {
+        parse_ordered_item_style(alloc, text, SUFFIX)
+    }
+}
+
+/// The style that a value says, which has to be a text.
+pub(crate) fn read_style<S: FromTokens>(alloc: Global, value: &Value) -> Result<S, ValueError>
+    ensures ok { IfOk result (λ style. value_said S.of_tokens (view value.now) ≡ Ok style) }
+    ensures err { IfErr result (λ e. TellsValue e (value_said S.of_tokens (view value.now))) }
 {
     let text = text_of(value)?;
-    Ok(parse_ordered_item_style(alloc, text, SUFFIX)?)
+    Ok(S::parse(alloc, text)?)
 }
 
 fn text_of(value: &Value) -> Result<&str, ValueError>

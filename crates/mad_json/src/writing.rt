@@ -2,7 +2,7 @@
 
 ghost use Rattle.std.specs.Prelude.{◌≡◌, ℕ, List, Option, Ok, IfOk, OnOk, map, string_bytes};
 ghost use Rattle.std.specs.List.{All};
-ghost use Rattle.serde_json.specs.Data.{put, string, array, object};
+ghost use Rattle.serde_json.specs.Data.{Data, put, string, array, object};
 ghost use Rattle.serde_json.specs.View.{view, items_of, members_view};
 ghost use Rattle.mad_json.specs.Modes.{mode_said};
 ghost use Rattle.mad_json.specs.ReadsBack.{ReadsBackStyle, ReadsBackLine, ReadsBackChar, ReadsBackItem, ReadsBackBar, ReadBackAdditions, ReadBackChars, ReadBackLines, ReadBackItems, SkinReadsBack};
@@ -48,11 +48,11 @@ fn put_additions(
     ensures value { OnOk result (members_view members.new.entries ≡ with_additions skin.now (members_view members.old.entries)) }
     ensures reads_back { OnOk result (ReadBackAdditions skin.now) }
 {
-    put_style(alloc, members, "bold", &skin.bold)?;
-    put_style(alloc, members, "italic", &skin.italic)?;
-    put_style(alloc, members, "strikeout", &skin.strikeout)?;
-    put_style(alloc, members, "inline_code", &skin.inline_code)?;
-    put_style(alloc, members, "ellipsis", &skin.ellipsis)?;
+    put_part(alloc, members, "bold", &skin.bold)?;
+    put_part(alloc, members, "italic", &skin.italic)?;
+    put_part(alloc, members, "strikeout", &skin.strikeout)?;
+    put_part(alloc, members, "inline_code", &skin.inline_code)?;
+    put_part(alloc, members, "ellipsis", &skin.ellipsis)?;
     Ok(())
 }
 
@@ -64,9 +64,9 @@ fn put_chars(
     ensures value { OnOk result (members_view members.new.entries ≡ with_chars skin.now (members_view members.old.entries)) }
     ensures reads_back { OnOk result (ReadBackChars skin.now) }
 {
-    put_char(alloc, members, "bullet", &skin.bullet)?;
-    put_char(alloc, members, "quote", &skin.quote_mark)?;
-    put_char(alloc, members, "horizontal_rule", &skin.horizontal_rule)?;
+    put_part(alloc, members, "bullet", &skin.bullet)?;
+    put_part(alloc, members, "quote", &skin.quote_mark)?;
+    put_part(alloc, members, "horizontal_rule", &skin.horizontal_rule)?;
     put(
         members,
         alloc,
@@ -84,15 +84,10 @@ fn put_lines(
     ensures value { OnOk result (members_view members.new.entries ≡ with_lines skin.now (members_view members.old.entries)) }
     ensures reads_back { OnOk result (ReadBackLines skin.now) }
 {
-    put_line(alloc, members, "paragraph", &skin.paragraph)?;
-    put_line(alloc, members, "code_block", &skin.code_block)?;
-    put_line(alloc, members, "table", &skin.table)?;
-    put(
-        members,
-        alloc,
-        "headers",
-        line_values(alloc, &skin.headers)?,
-    )?;
+    put_part(alloc, members, "paragraph", &skin.paragraph)?;
+    put_part(alloc, members, "code_block", &skin.code_block)?;
+    put_part(alloc, members, "table", &skin.table)?;
+    put(members, alloc, "headers", values_of(alloc, &skin.headers)?)?;
     Ok(())
 }
 
@@ -108,7 +103,7 @@ fn put_items(
         members,
         alloc,
         "ordered_items",
-        item_values(alloc, &skin.ordered_item_styles)?,
+        values_of(alloc, &skin.ordered_item_styles)?,
     )?;
     let mode = mode_to_string(alloc, skin.list_items_indentation_mode)?;
     put(
@@ -134,17 +129,69 @@ fn put_borders(
     Ok(())
 }
 
-fn put_style(
+// A part of a skin that is written as a text.
+trait TextPart {
+    // What it is written as.
+    ghost data_of: { Self → Data };
+
+    // It is read back from that.
+    ghost is_back: { Self → Type 0 };
+
+    fn to_value(&self, alloc: Global) -> Result<Value, AllocError>
+        ensures value { IfOk result (λ value. view value ≡ data_of self.now) }
+        ensures reads_back { IfOk result (λ _. is_back self.now) };
+}
+
+impl TextPart for CompoundStyle {
+    ghost data_of = { style_data };
+
+    ghost is_back = { ReadsBackStyle };
+
+    fn to_value(&self, alloc: Global) -> Result<Value, AllocError> {
+        Ok(Value::String(self.to_style_tokens_string(alloc)?))
+    }
+}
+
+impl TextPart for LineStyle {
+    ghost data_of = { line_data };
+
+    ghost is_back = { ReadsBackLine };
+
+    fn to_value(&self, alloc: Global) -> Result<Value, AllocError> {
+        Ok(Value::String(self.to_style_tokens_string(alloc)?))
+    }
+}
+
+impl TextPart for StyledChar {
+    ghost data_of = { char_data };
+
+    ghost is_back = { ReadsBackChar };
+
+    fn to_value(&self, alloc: Global) -> Result<Value, AllocError> {
+        Ok(Value::String(self.to_style_tokens_string(alloc)?))
+    }
+}
+
+impl TextPart for OrderedItemStyle {
+    ghost data_of = { item_data };
+
+    ghost is_back = { ReadsBackItem };
+
+    fn to_value(&self, alloc: Global) -> Result<Value, AllocError> {
+        Ok(Value::String(self.to_style_tokens_string(alloc)?))
+    }
+}
+
+fn put_part<P: TextPart>(
     alloc: Global,
     members: &mut Map<String, Value>,
     key: &str,
-    style: &CompoundStyle,
+    part: &P,
 ) -> Result<(), AllocError>
-    ensures value { OnOk result (members_view members.new.entries ≡ put key.now (style_data style.now) (members_view members.old.entries)) }
-    ensures reads_back { OnOk result (ReadsBackStyle style.now) }
+    ensures value { OnOk result (members_view members.new.entries ≡ put key.now (P.data_of part.now) (members_view members.old.entries)) }
+    ensures reads_back { OnOk result (P.is_back part.now) }
 {
-    let text = style.to_style_tokens_string(alloc)?;
-    put_text(alloc, members, key, text)
+    put(members, alloc, key, part.to_value(alloc)?)
 }
 
 fn put_text(
@@ -170,71 +217,15 @@ fn array_of(values: Vec<Value>) -> Value
     Value::Array(values)
 }
 
-fn put_char(
-    alloc: Global,
-    members: &mut Map<String, Value>,
-    key: &str,
-    styled_char: &StyledChar,
-) -> Result<(), AllocError>
-    ensures value { OnOk result (members_view members.new.entries ≡ put key.now (char_data styled_char.now) (members_view members.old.entries)) }
-    ensures reads_back { OnOk result (ReadsBackChar styled_char.now) }
-{
-    put(members, alloc, key, char_value(alloc, styled_char)?)
-}
-
-fn put_line(
-    alloc: Global,
-    members: &mut Map<String, Value>,
-    key: &str,
-    line: &LineStyle,
-) -> Result<(), AllocError>
-    ensures value { OnOk result (members_view members.new.entries ≡ put key.now (line_data line.now) (members_view members.old.entries)) }
-    ensures reads_back { OnOk result (ReadsBackLine line.now) }
-{
-    put(members, alloc, key, line_value(alloc, line)?)
-}
-
-fn line_value(alloc: Global, line: &LineStyle) -> Result<Value, AllocError>
-    ensures value { IfOk result (λ value. view value ≡ line_data line.now) }
-    ensures reads_back { IfOk result (λ _. ReadsBackLine line.now) }
-{
-    Ok(Value::String(line.to_style_tokens_string(alloc)?))
-}
-
-fn char_value(alloc: Global, styled_char: &StyledChar) -> Result<Value, AllocError>
-    ensures value { IfOk result (λ value. view value ≡ char_data styled_char.now) }
-    ensures reads_back { IfOk result (λ _. ReadsBackChar styled_char.now) }
-{
-    Ok(Value::String(styled_char.to_style_tokens_string(alloc)?))
-}
-
-fn item_value(alloc: Global, style: &OrderedItemStyle) -> Result<Value, AllocError>
-    ensures value { IfOk result (λ value. view value ≡ item_data style.now) }
-    ensures reads_back { IfOk result (λ _. ReadsBackItem style.now) }
-{
-    Ok(Value::String(style.to_style_tokens_string(alloc)?))
-}
-
-fn line_values(alloc: Global, lines: &[LineStyle]) -> Result<Value, AllocError>
-    ensures value { IfOk result (λ value. view value ≡ array (items_of (map line_data lines.now))) }
-    ensures reads_back { IfOk result (λ _. All ReadsBackLine lines.now) }
+// The list of what parts are written as.
+fn values_of<P: TextPart>(alloc: Global, parts: &[P]) -> Result<Value, AllocError>
+    ensures value { IfOk result (λ value. view value ≡ array (items_of (map P.data_of parts.now))) }
+    ensures reads_back { IfOk result (λ _. All P.is_back parts.now) }
 {
     let mut values = Vec::new(alloc);
-    for line in lines {
-        let value = line_value(alloc, line)?;
-        values.push(value).map_err(AllocError::from)?;
-    }
-    Ok(array_of(values))
-}
-
-fn item_values(alloc: Global, styles: &[OrderedItemStyle]) -> Result<Value, AllocError>
-    ensures value { IfOk result (λ value. view value ≡ array (items_of (map item_data styles.now))) }
-    ensures reads_back { IfOk result (λ _. All ReadsBackItem styles.now) }
-{
-    let mut values = Vec::new(alloc);
-    for style in styles {
-        let value = item_value(alloc, style)?;
-        values.push(value).map_err(AllocError::from)?;
+    for part in parts {
+        let value = part.to_value(alloc)?;
+        values.push(value)?;
     }
     Ok(array_of(values))
 }
@@ -244,11 +235,11 @@ fn bar_value(alloc: Global, bar: &ScrollBarStyle) -> Result<Value, AllocError>
     ensures reads_back { IfOk result (λ _. ReadsBackBar bar.now) }
 {
     match ScrollBarStyleDef::from(bar) {
-        ScrollBarStyleDef::Simple(styled_char) => char_value(alloc, &styled_char),
+        ScrollBarStyleDef::Simple(styled_char) => styled_char.to_value(alloc),
         ScrollBarStyleDef::Rich { track, thumb } => {
             let mut members = Map::new(alloc);
-            put_char(alloc, &mut members, "thumb", &thumb)?;
-            put_char(alloc, &mut members, "track", &track)?;
+            put_part(alloc, &mut members, "thumb", &thumb)?;
+            put_part(alloc, &mut members, "track", &track)?;
             Ok(object_of(members))
         }
     }

@@ -32,7 +32,7 @@ impl Calls for TextCalls {
     }
 }
 
-// The control character that a sign stands for. A dotted circle only carries a mark that combines.
+// The control character that a sign means. A dotted circle only carries a mark that combines.
 fn meant(c: char) -> Option<char> {
     match c {
         '␀' => Some('\0'),
@@ -43,7 +43,7 @@ fn meant(c: char) -> Option<char> {
     }
 }
 
-// A text many times. Where it has several lines, the first stands in front, once.
+// A text many times. Where it has several lines, the first is in front, once.
 fn repeated(alloc: Global, text: &str, count: usize) -> Result<String, AllocError> {
     let (front, piece) = text.split_once('\n').unwrap_or(("", text));
     let pieces = piece.repeat(alloc, count)?;

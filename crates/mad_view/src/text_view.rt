@@ -43,8 +43,8 @@ impl<'a, 't> TextView<'a, 't> {
         self.text.lines.len()
     }
 
-    /// Scrolls so that the line of this number, counted from 0, comes first. It goes no further than to the text's last line in the area's last
-    /// row, so a text that fits isn't scrolled. Answers the scroll that is set.
+    /// Scrolls so that the line of this number, counted from 0, comes first. It goes no further than to the text's last line in
+    /// the area's last row, so a text that fits isn't scrolled. Answers the scroll that is set.
     pub fn set_scroll(&mut self, scroll: usize) -> usize
         ensures kept { self.new ≡ record self.old { scroll = scroll_within (vec_len self.old.text.now.lines) self.old.area.now.height scroll } }
         ensures answer { result ≡ self.new.scroll }
@@ -72,7 +72,8 @@ impl<'a, 't> TextView<'a, 't> {
         // area with its margins. No piece of it holds a control character or begins with a widthless one. Each character of a
         // prefix, a rule and a border takes one column.
         ensures shown { let text = self.now.text.now in OnOk result (AreDrawable (row_skin text.skin.now) self.now.area.now.width (lines_shown text.lines.items self.now.area.now self.now.scroll)
-            → TookWith (O.seen out.old) (O.seen out.new) (AreShownIn (row_skin text.skin.now) text.lines.items self.now.area.now self.now.scroll)) }
+            → TookWith (O.seen out.old) (O.seen out.new)
+            (AreShownIn (row_skin text.skin.now) text.lines.items self.now.area.now self.now.scroll)) }
 
         // The same where the lines are a layout of a text that keeps the premises, at most as wide as the area.
         ensures shown_layout { let text = self.now.text.now in OnOk result (ShowsLayout (row_skin text.skin.now) text.lines.items self.now.area.now self.now.scroll (O.seen out.old) (O.seen out.new)) }
@@ -95,7 +96,8 @@ impl<'a, 't> TextView<'a, 't> {
         requires { IsWithinLimits self.now.area.now }
         ensures writes { let text = self.now.text.now in DrawsAndFlushes (O.seen out.old) (area_bytes (row_skin text.skin.now) text.lines.items self.now.area.now self.now.scroll) result (O.seen out.new) }
         ensures shown { let text = self.now.text.now in OnOk result (AreDrawable (row_skin text.skin.now) self.now.area.now.width (lines_shown text.lines.items self.now.area.now self.now.scroll)
-            → TookWith (O.seen out.old) (O.seen out.new) (AreShownIn (row_skin text.skin.now) text.lines.items self.now.area.now self.now.scroll)) }
+            → TookWith (O.seen out.old) (O.seen out.new)
+            (AreShownIn (row_skin text.skin.now) text.lines.items self.now.area.now self.now.scroll)) }
         ensures shown_layout { let text = self.now.text.now in OnOk result (ShowsLayout (row_skin text.skin.now) text.lines.items self.now.area.now self.now.scroll (O.seen out.old) (O.seen out.new)) }
         ensures headline { let text = self.now.text.now in OnOk result (ShowsRowsFrom (row_skin text.skin.now) text.lines.items self.now.area.now self.now.scroll (O.seen out.old) (O.seen out.new)) }
     {

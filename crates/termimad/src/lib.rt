@@ -61,8 +61,9 @@ pub use mad_fit::{Area, Spacing, Token, Tokens, token_iter, tokenize};
 pub use mad_json::{ScrollBarStyleDef, SkinError, skin_from_value, skin_to_value};
 pub use mad_layout::{
     CodeBlock, DisplayableLine, FmtComposite, FmtInline, FmtLine, FmtTableRow, FmtTableRule,
-    FmtText, MadSkin, RelativePosition, Table, composite_kind_widths, draw_text, find_blocks,
-    fix_all_tables, inline, justify_blocks, lay_row, print_inline, print_text, term_text, text,
+    FmtText, MadSkin, RelativePosition, RowSkin, Table, composite_kind_widths, draw_text,
+    find_blocks, fix_all_tables, inline, justify_blocks, lay_row, print_inline, print_text,
+    term_text, text,
 };
 pub use mad_md as md;
 pub use mad_md::{

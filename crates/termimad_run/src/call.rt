@@ -10,6 +10,9 @@ use crate::skin::skin_of;
 use std::alloc::Global;
 use termimad::{Area, MadSkin};
 
+// The least width of an area, in columns. Its text is laid out one column narrower, and at less than three nothing is wrapped.
+const LEAST_AREA_WIDTH: u16 = 4;
+
 /// What is to be written.
 #[derive(Clone, PartialEq, Eq, Debug, Drop)]
 pub enum Command {
@@ -105,7 +108,7 @@ fn parse_area(left: &str, top: &str, width: &str, height: &str) -> Option<Area>
     let top = parse_number(top)?;
     let width = parse_number(width)?;
     let height = parse_number(height)?;
-    if width < 4 || left > u16::MAX - width || top > u16::MAX - height {
+    if width < LEAST_AREA_WIDTH || left > u16::MAX - width || top > u16::MAX - height {
         return None;
     }
     Some(Area::new(left, top, width, height))

@@ -12,12 +12,12 @@ use termimad::{
 pub fn displayed(asked: &Asked) -> Result<String, Refusal> {
     let mut displayed = String::new(asked.alloc);
     for line in asked.text.split('\n') {
-        push_line(asked, line, &mut displayed)?;
+        draw_line(asked, line, &mut displayed)?;
     }
     Ok(displayed)
 }
 
-fn push_line(asked: &Asked, line: &str, displayed: &mut String) -> Result<(), AllocError> {
+fn draw_line(asked: &Asked, line: &str, displayed: &mut String) -> Result<(), AllocError> {
     let line = inline(asked.alloc, &asked.skin, line)?;
     write!(displayed, "{line}\n")
 }

@@ -3,7 +3,7 @@
 use std::alloc::{AllocError, Global};
 use termimad::{CutOut, ScriptSource};
 
-/// What the program writes to a device with this room when it is run on words with bars between them, then its status and what it says.
+/// What the program writes to a device with this room, run on words with bars between them; then its status and what it says.
 /// The input `<ff>` is a byte that no text has.
 pub fn run(alloc: Global, room: usize, words: &str, text: &str) -> Result<String, AllocError> {
     let args = args_of(alloc, words)?;

@@ -119,7 +119,7 @@ pub fn lengths(asked: &Asked, width: usize) -> Result<String, Refusal> {
     Ok(lengths)
 }
 
-/// Whether at each width from one to another no line of a text is too wide or empty, else the lengths at the first where one is.
+/// Whether at each width from one to another no line of a text is too wide or empty. Else the lengths at the first where one is.
 pub fn widths(asked: &Asked) -> Result<String, Refusal> {
     let [first, end, ..] = asked.numbers;
     for width in first..end {

@@ -35,6 +35,8 @@ fn run_on_standard_streams<E: Out>(rt: &HostRuntime, err: &mut E) -> Result<u8, 
     ensures { MatchResult result (λ status. HasRunOnStreams (E.seen err.old) status (E.seen err.new)) (λ _. E.seen err.new ≡ E.seen err.old) }
 {
     let args = arguments(rt)?;
+
+    // Out of memory is its only error, but `?` would make it a fault of the output.
     let writer = BufWriter::new(rt.alloc(), io::writer(rt)).map_err(|_| Failure::Memory)?;
     let mut input = Stream::new(rt.reader());
     let mut out = Stream::new(writer);

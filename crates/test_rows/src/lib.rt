@@ -1,8 +1,8 @@
 //! Rows of tests as texts for people to read, and a report of the rows that are answered otherwise than wanted.
 //!
-//! A row begins with a line `$ CALL`. The lines after it that begin with `<` are the text that the call is given, and those that begin with
-//! `>` are what it has to answer, after a blank each. All other lines, those before the first row too, are for the reader. What can't be seen
-//! has signs: `·` is a blank, `␛` an escape, `␍` a carriage return, `␉` a tab.
+//! A row begins with a line `$ CALL`. Lines after it that begin with `<` are the text that the call is given. Those that begin with
+//! `>` are what it has to answer. A blank comes after `<` and `>`. All other lines, those before the first row too, are for the reader.
+//! What can't be seen has signs: `·` is a blank, `␛` an escape, `␍` a carriage return, `␉` a tab.
 #![tactic(auto)]
 
 use std::alloc::{AllocError, Global};
@@ -98,7 +98,7 @@ fn lines_after(alloc: Global, row: &str, sign: char) -> Result<String, AllocErro
     Ok(lines)
 }
 
-// The character that a sign stands for.
+// The character that a sign means.
 fn meant(sign: char) -> char {
     match sign {
         '·' => ' ',

@@ -4,9 +4,9 @@ use Rattle.mad_json.proofs.writing.bar_value.Goals as goal
 
 pub returns-in-Simple-clause-reads_back : goal.returns-in-Simple-clause-reads_back
 returns-in-Simple-clause-reads_back c =
-    if_made c.char_value.result _ _ (simple_read c.args.bar.now c.in-Simple.styled_char (sym c.from.ensures ∙ c.in-Simple.is)) c.char_value.ensures.reads_back
+    if_made c.to_value.result _ _ (simple_read c.args.bar.now c.in-Simple.styled_char (sym c.from.ensures ∙ c.in-Simple.is)) c.to_value.ensures.reads_back
 
-pub returns-in_ok-put_char-in-Rich-2-clause-reads_back :
-    goal.returns-in_ok-put_char-in-Rich-2-clause-reads_back
-returns-in_ok-put_char-in-Rich-2-clause-reads_back c =
-    rich_read c.args.bar.now c.in-Rich.track c.in-Rich.thumb (sym c.from.ensures ∙ c.in-Rich.is) c.in_ok-put_char-in-Rich-2.ensures.reads_back c.in_ok-put_char-in-Rich.ensures.reads_back
+pub returns-in_ok-put_part-in-Rich-2-clause-reads_back :
+    goal.returns-in_ok-put_part-in-Rich-2-clause-reads_back
+returns-in_ok-put_part-in-Rich-2-clause-reads_back c =
+    rich_read c.args.bar.now c.in-Rich.track c.in-Rich.thumb (sym c.from.ensures ∙ c.in-Rich.is) c.in_ok-put_part-in-Rich-2.ensures.reads_back c.in_ok-put_part-in-Rich.ensures.reads_back
