@@ -8,7 +8,7 @@ use Rattle.std.proofs.StrCases.{chars_of_empty}
 use Rattle.std.proofs.lemmas.Bool.Decides.{nat_tests}
 use Rattle.std.proofs.lemmas.Grind.{flat_map-append}
 use Rattle.std.proofs.lemmas.List.{append-nil, length-append, length-drop}
-use Rattle.mad_md.proofs.PlainLemmas.{and_not}
+use Rattle.mad_md.proofs.PlainLemmas.{and_not, plain_low}
 use Rattle.mad_md.specs.Flagged.{Run, plain, flagged, flagged_text, run_of}
 use Rattle.mad_md.specs.Lines.{LineContent}
 use Rattle.mad_md.specs.Plain.{ArePlainBytes, is_plain_byte}
@@ -77,15 +77,12 @@ holding_width v [] text is = ap columns (sym (chars_of_empty [] refl))
 holding_width v (b ∷ bs) text is =
     ap width_of (append-nil (flagged plain (chars text.now))) ∙ width_of-flagged plain (chars text.now) ∙ ap (λ t. columns (chars t)) is
 
-low : (b : ℕ) → is_plain_byte b ≡ true → 31 < b
-low b h = grind (arith, nat_tests)
-
 high : (b : ℕ) → is_plain_byte b ≡ true → b < 127
 high b h = grind (arith, nat_tests)
 
 plain_columns : (bs : List ℕ) → IsUtf8 bs → AllPlain bs → columns (chars bs) ≡ length bs
 plain_columns bs utf8 h =
-    let front = plain_is bs (length bs) utf8 (omega arith) (λ k below. (low (get_or bs k 0) (h k below), high (get_or bs k 0) (h k below))) in
+    let front = plain_is bs (length bs) utf8 (omega arith) (λ k below. (plain_low (get_or bs k 0) (h k below), high (get_or bs k 0) (h k below))) in
     let none : columns (chars (drop (length bs) bs)) ≡ 0 = ap columns (chars_of_empty (drop (length bs) bs) (omega (arith, length-drop (length bs) bs))) in
     omega (arith, front.columns_are, none)
 

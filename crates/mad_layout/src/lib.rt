@@ -35,8 +35,8 @@ pub use mad_blocks::{
 };
 pub use mad_format::{
     FmtComposite, FmtLine, FmtTableRow, FmtTableRule, LineSkin, RelativePosition, WrapBound, bound,
-    check_wrap_bound, composite, composite_kind_widths, hard_wrap_composite, hard_wrap_lines, line,
-    room, room_of, table, wrap, wrap_bound,
+    check_wrap_bound, composite, composite_kind_widths, hard_wrap_composite, hard_wrap_lines,
+    indents, line, room, room_of, table, wrap, wrap_bound,
 };
 pub use mad_rows::RowSkin;
 pub use skin::MadSkin;

@@ -13,7 +13,8 @@ pub mod term {
         Attribute, Attributes, Clear, ClearType, Color, ContentStyle, CutOut, Error,
         InsufficientWidthError, MoveTo, Out, ScriptSource, Source, Stream, StyledContent,
         StyledNumber, StyledRepeat, push_background, push_clear, push_foreground, push_move,
-        push_styled, put_all, put_text, queue_bg, queue_clear, queue_fg, queue_move, queue_styled,
+        push_styled, put_all, put_displayed, put_text, queue_bg, queue_clear, queue_fg, queue_move,
+        queue_repeated, queue_styled,
     };
 }
 
@@ -79,8 +80,8 @@ pub use mad_style::{
 pub use mad_term::{
     Attribute, Attributes, Clear, ClearType, Color, ContentStyle, CutOut, Error,
     InsufficientWidthError, MoveTo, Out, ScriptSource, Source, Stream, StyledContent, StyledNumber,
-    StyledRepeat, char_columns, put_all, put_text, queue_bg, queue_clear, queue_fg, queue_move,
-    queue_styled,
+    StyledRepeat, char_columns, put_all, put_displayed, put_text, queue_bg, queue_clear, queue_fg,
+    queue_move, queue_repeated, queue_styled,
 };
 pub use mad_view::TextView;
 pub use mad_widths::{TblFit, TblFitResult};

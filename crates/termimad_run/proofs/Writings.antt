@@ -3,7 +3,7 @@ use Rattle.std.proofs.Common.{◌≡◌, ◌≢◌, ℕ, List, [], ◌∷◌, �
 use Rattle.std.specs.Result.{IsErrAnd}
 use Rattle.std.proofs.lemmas.Result.{err_from_is_err_and}
 use Rattle.mad_term.specs.declared.errors.Error.{Error}
-use Rattle.mad_term.specs.declared.errors.Error.TheVariants.{IO, InsufficientWidth, Memory}
+use Rattle.mad_term.specs.declared.errors.Error.TheVariants.{Memory}
 use Rattle.mad_term.specs.Trace.{Trace, after}
 use Rattle.mad_term.specs.Draws.{Refused}
 use Rattle.termimad.specs.Inlines.{WritesInline}
@@ -11,24 +11,12 @@ use Rattle.termimad.specs.RowSkins.{row_skin}
 use Rattle.termimad.specs.declared.MadSkin.{MadSkin}
 use Rattle.termimad_run.specs.LineEnds.{IsWithoutLineEnd}
 use Rattle.termimad_run.specs.ProgramRuns.{WritesLine}
-use Rattle.mad_term.proofs.Exits.{refused_exit}
-use Rattle.mad_term.proofs.Traces.{cut_in_first, cut_in_second, stopped_in_first, stopped_in_second, took_both}
-
--- what was refused in the first of two texts
-pub refused_first : (e : Error) (old new : Trace) (a b : List ℕ) → Refused old a e new → Refused old (a ++ b) e new
-refused_first (IO x) old new a b h = cut_in_first old new a b h
-refused_first (InsufficientWidth x) old new a b h = absurd h
-refused_first Memory old new a b h = stopped_in_first old new a b h
-
--- what was refused in the second
-refused_second : (e : Error) (old mid new : Trace) (a b : List ℕ) → mid ≡ after old a → Refused mid b e new → Refused old (a ++ b) e new
-refused_second (IO x) old mid new a b p h = cut_in_second old mid new a b p h
-refused_second (InsufficientWidth x) old mid new a b p h = absurd h
-refused_second Memory old mid new a b p h = stopped_in_second old mid new a b p h
+use Rattle.mad_term.proofs.Exits.{refused_exit, refused_in_first, refused_in_second}
+use Rattle.mad_term.proofs.Traces.{took_both}
 
 -- the line was refused, and its newline was not reached
 pub line_refused : {T : Type 0} (skin : MadSkin) (line : List ℕ) (old : Trace) (r : Result T Error) (e : Error) (new : Trace) → IsErrAnd r (λ d. d ≡ e) → WritesInline {T = Unit {0}} (row_skin skin) line old (Err e) new → WritesLine skin line old r new
-line_refused skin line old r e new is (inl (items, reads, drawn)) = inl (items, reads, refused_exit r e old new _ is (refused_first e old new _ _ drawn))
+line_refused skin line old r e new is (inl (items, reads, drawn)) = inl (items, reads, refused_exit r e old new _ is (refused_in_first e old new _ _ drawn))
 line_refused skin line old r e new is (inr (memory, kept)) =
     let p = err_from_is_err_and r is in
     let wanted : e ≡ Memory = cc in
@@ -36,7 +24,7 @@ line_refused skin line old r e new is (inr (memory, kept)) =
 
 -- the line went out, and then its newline was refused
 pub line_cut : {T : Type 0} (skin : MadSkin) (line : List ℕ) (old mid : Trace) (r : Result T Error) (e : Error) (new : Trace) → IsErrAnd r (λ d. d ≡ e) → WritesInline {T = Unit {0}} (row_skin skin) line old (Ok (tt {0})) mid → Refused mid (10 ∷ []) e new → WritesLine skin line old r new
-line_cut skin line old mid r e new is (inl (items, reads, drawn)) cut = inl (items, reads, refused_exit r e old new _ is (refused_second e old mid new _ (10 ∷ []) drawn cut))
+line_cut skin line old mid r e new is (inl (items, reads, drawn)) cut = inl (items, reads, refused_exit r e old new _ is (refused_in_second e old mid new _ (10 ∷ []) drawn cut))
 line_cut skin line old mid r e new is (inr (memory, kept)) cut = absurd (cc)
 
 -- both went out
