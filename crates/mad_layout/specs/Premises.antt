@@ -40,7 +40,7 @@ pub record IsColumnChar (c : ℕ) : Type 0 where
   pub scalar : IsScalar c
   pub one : char_columns c ≡ 1
 
--- The character in front of a line of this kind, if there is one, takes one column: an item's bullet, the mark after its number, a quote's.
+-- The character in front of a line of this kind, if there is one, takes one column: an item's bullet, the character after its number, a quote's.
 -- (A number that is read has nine digits at most.)
 abbrev pub IsPlainPrefix : RowSkin → CompositeKind → Type 0
 IsPlainPrefix skin Paragraph = Unit {0}

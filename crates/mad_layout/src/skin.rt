@@ -41,11 +41,11 @@ pub struct MadSkin {
     pub scrollbar: ScrollBarStyle,
     /// The style of a table's borders, and on which side a table is.
     pub table: LineStyle,
-    /// The mark of an item of a list.
+    /// What is in front of an item of a list.
     pub bullet: StyledChar,
     /// How the numbers of items look, by level.
     pub ordered_item_styles: OrderedItemStyles,
-    /// The mark of a quote.
+    /// What is in front of a quote.
     pub quote_mark: StyledChar,
     /// What a rule is drawn with, over the whole width.
     pub horizontal_rule: StyledChar,
@@ -186,7 +186,7 @@ impl MadSkin {
         item_style_at(&self.ordered_item_styles, level)
     }
 
-    /// The style of a compound in a line of that style, as [`RowSkin::compound_style`] takes it.
+    /// The style of a compound in a line of that style, as [`RowSkin::compound_style`] makes it.
     pub fn compound_style(&self, line_style: &LineStyle, compound: &Compound) -> CompoundStyle
         ensures { result ≡ compound_style (row_skin self.now) line_style.now (run_of compound.now) }
     {
