@@ -4,7 +4,7 @@ use Rattle.std.specs.Result.{IsErrAnd}
 use Rattle.mad_term.specs.declared.errors.Error.{Error}
 use Rattle.mad_term.specs.declared.errors.Error.TheVariants.{Memory}
 use Rattle.mad_term.specs.Trace.{Trace}
-use Rattle.mad_term.specs.Draws.{Draws}
+use Rattle.mad_term.specs.Draws.{Draws, DrawsDisplayed}
 use Rattle.mad_term.proofs.Exits.{refused_exit}
 use Rattle.mad_term.proofs.Traces.{stopped_before}
 
@@ -17,7 +17,7 @@ pub made_first : {T : Type 0} (r : Result T Error) (old new : Trace) (start made
 made_first {T} r old new start made put text empty adds same h =
     subst (λ (s : List ℕ). Draws old s r new) (same ∙ adds ∙ ap (λ (s : List ℕ). s ++ text) empty) h
 
--- the same of the bytes that a value displays, where they are known
-pub memory_before_displayed : {T : Type 0} (o : Option (List ℕ)) (r : Result T Error) (old : Trace) → IsErrAnd r (λ e. e ≡ Memory) → IfSome o (λ text. Draws old text r old)
-memory_before_displayed None r old h = tt
+-- memory was wanted before the first byte of what a value displays
+pub memory_before_displayed : {T : Type 0} (told : Option (List ℕ)) (r : Result T Error) (old : Trace) → IsErrAnd r (λ e. e ≡ Memory) → DrawsDisplayed old told r old
+memory_before_displayed None r old h = ([], memory_first r old [] h)
 memory_before_displayed (Some text) r old h = memory_first r old text h

@@ -1,5 +1,5 @@
 -- What a writing call does: the one word by which every writing call of the library says it.
-use Rattle.std.specs.Prelude.{◌≡◌, ℕ, List, Result, Ok, Err, MatchResult}
+use Rattle.std.specs.Prelude.{◌≡◌, ℕ, List, Option, MatchOption, Result, Ok, Err, MatchResult}
 use Rattle.mad_term.specs.declared.errors.Error.{Error}
 use Rattle.mad_term.specs.declared.errors.Error.TheVariants.{IO, InsufficientWidth, Memory}
 use Rattle.mad_term.specs.Trace.{Trace, after, flushed, CutShort, Stopped}
@@ -14,6 +14,10 @@ Refused old text Memory new = Stopped old text new
 -- what a writing call does: its text goes out whole and nothing is flushed, or it was refused
 abbrev pub Draws : {T : Type 0} → Trace → List ℕ → Result T Error → Trace → Type 0
 Draws old text r new = MatchResult r (λ _. new ≡ after old text) (λ e. Refused old text e new)
+
+-- what a writing call does with a displayed value: the text that its type tells goes out, or some text where it tells none
+abbrev pub DrawsDisplayed : {T : Type 0} → Trace → Option (List ℕ) → Result T Error → Trace → Type 0
+DrawsDisplayed old told r new = MatchOption told ((text : List ℕ) × Draws old text r new) (λ text. Draws old text r new)
 
 -- What a call does that writes and then flushes: its text goes out whole, and then there is one flush. Or it was refused as
 -- the writing alone is. A fault of the flush counts as one that came after the whole text.

@@ -1,8 +1,8 @@
 //! Commands and pieces, written to a device. What is written is made whole first, and then put.
 
-ghost use Rattle.std.specs.Prelude.{◌≡◌, IfSome, IsErrOf};
+ghost use Rattle.std.specs.Prelude.{◌≡◌, IsErrOf};
 ghost use Rattle.mad_term.specs.Commands.{move_to_bytes, clear_bytes};
-ghost use Rattle.mad_term.specs.Draws.{Draws};
+ghost use Rattle.mad_term.specs.Draws.{Draws, DrawsDisplayed};
 ghost use Rattle.mad_term.specs.declared.errors.Error.TheVariants.{Memory};
 ghost use Rattle.mad_term.specs.Styles.{foreground_bytes, background_bytes, piece_bytes, styled_repeat_bytes, IsStyle};
 
@@ -144,8 +144,7 @@ pub fn put_displayed<O: Out, D: Display>(
     room: usize,
     value: &D,
 ) -> Result<(), Error>
-    // Where the bytes that the value displays are known.
-    ensures writes { IfSome (D.output value.now) (λ bytes. Draws (O.seen out.old) bytes result (O.seen out.new)) }
+    ensures writes { DrawsDisplayed (O.seen out.old) (D.output value.now) result (O.seen out.new) }
     ensures early { IsErrOf result Memory → O.seen out.new ≡ O.seen out.old }
 {
     let mut bytes = String::new(alloc);
