@@ -16,16 +16,12 @@ use Rattle.mad_format.proofs.WrapLemmas.{next_of}
 
 -- no block comes first
 abbrev NoBlockFirst : List Part → Type 0
-NoBlockFirst [] = Unit {0}
-NoBlockFirst (table ls ∷ ps) = Unit {0}
 NoBlockFirst (block ls ∷ ps) = ⊥
-NoBlockFirst (single l ∷ ps) = Unit {0}
+NoBlockFirst _ = Unit {0}
 
 code_before : (l : FmtComposite) (ps : List Part) → NoBlockFirst ps → with_code l ps ≡ block (l ∷ []) ∷ ps
-code_before l [] h = refl
-code_before l (table ls ∷ ps) h = refl
 code_before l (block ls ∷ ps) h = absurd h
-code_before l (single m ∷ ps) h = refl
+code_before l _ h = refl
 
 no_block_table : (l : FmtLine) (ps : List Part) → NoBlockFirst (with_table l ps)
 no_block_table l [] = tt
@@ -54,10 +50,8 @@ among_with at true l ps h = absurd (cc)
 among_with at false l ps h = refl
 
 among_table : (at : ℕ) (l : FmtLine) (ps : List Part) → blocks_among at (with_table l ps) ≡ blocks_among (at + 1) ps
-among_table at l [] = refl
 among_table at l (table ls ∷ ps) = let more : at + suc (length ls) ≡ at + 1 + length ls = omega arith in ap (λ (n : ℕ). blocks_among n ps) more
-among_table at l (block ls ∷ ps) = refl
-among_table at l (single m ∷ ps) = refl
+among_table at l _ = refl
 
 skip_among : (at : ℕ) (l : FmtLine) (ls : List FmtLine) → is_code_line l ≡ false → blocks_among at (parts_of (l ∷ ls)) ≡ blocks_among (at + 1) (parts_of ls)
 skip_among at (Normal l) ls h = among_with at (is_code_kind l.kind) l (parts_of ls) h
@@ -121,9 +115,7 @@ columns_none false l h = refl
 
 pub code_none : (l : FmtLine) → code_columns l ≡ None → is_code_line l ≡ false
 code_none (Normal l) h = columns_none (is_code_kind l.kind) l h
-code_none (TableRow row) h = refl
-code_none (TableRule rule) h = refl
-code_none HorizontalRule h = refl
+code_none _ h = refl
 
 -- the line is one of code, of this many columns
 pub record IsCodeLine (l : FmtLine) (columns : ℕ) : Type 0 where
@@ -134,9 +126,7 @@ pub record IsCodeLine (l : FmtLine) (columns : ℕ) : Type 0 where
 
 pub code_some : (l : FmtLine) (n : ℕ) → code_columns l ≡ Some n → IsCodeLine l n
 code_some (Normal l) n h = let is = columns_if (is_code_kind l.kind) l n h in record { own = l; is = refl; code = is.0; columns_are = is.1 }
-code_some (TableRow row) n h = absurd (cc)
-code_some (TableRule rule) n h = absurd (cc)
-code_some HorizontalRule n h = absurd (cc)
+code_some _ n h = absurd (cc)
 
 widest_push : (ls : List FmtComposite) (l : FmtComposite) → widest (ls ++ l ∷ []) ≡ max l.visible_length (widest ls)
 widest_push [] l = refl

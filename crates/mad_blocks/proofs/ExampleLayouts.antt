@@ -22,11 +22,8 @@ left_margin_of None = 0
 left_margin_of (Some m) = m.0
 
 abbrev first_left : List FmtLine → ℕ
-first_left [] = 0
 first_left (Normal l ∷ ls) = left_margin_of l.margins
-first_left (TableRow row ∷ ls) = 0
-first_left (TableRule rule ∷ ls) = 0
-first_left (HorizontalRule ∷ ls) = 0
+first_left _ = 0
 
 no_left : (margins : ℕ × ℕ) (wrap : List FmtComposite) → margins.0 ≡ 0 → first_left (map (line_with margins) wrap) ≡ 0
 no_left margins [] none = refl
@@ -46,18 +43,15 @@ margins_tested_again skin l code left right laid =
 
 -- the cached length of the first line
 abbrev first_length : List FmtLine → ℕ
-first_length [] = 0
 first_length (Normal l ∷ ls) = l.visible_length
-first_length (TableRow row ∷ ls) = 0
-first_length (TableRule rule ∷ ls) = 0
-first_length (HorizontalRule ∷ ls) = 0
+first_length _ = 0
 
 first_fits : (skin : LineRules) (width : ℕ) (l : FmtComposite) (wrap : List FmtComposite) (n : ℕ) (margins : ℕ × ℕ) → HasRoom (room_of skin l.kind width) (text_of l) → IsCompositeWrap skin width l wrap → n ≡ first_length (map (line_with margins) wrap) → n ≤ width
 first_fits skin width l [] n margins room wraps is = omega (arith, is)
 first_fits skin width l (x ∷ xs) n margins room wraps is =
     let fits = (wraps.wrap.fits room).0 in
-    let kind = ap (indent skin.list_items_indentation_mode) wraps.kinds.0 in
-    omega (arith, is, wraps.measured.0, fits, kind)
+    let kind = ap (indent skin.list_items_indentation_mode) wraps.made.kinds.0 in
+    omega (arith, is, wraps.made.measured.0, fits, kind)
 
 left : (skin : LineRules) (width : ℕ) (l : FmtComposite) (margins : ℕ × ℕ) → width < l.visible_length → HasRoom (room_of skin l.kind (width - (style_margins skin width l).0 - (style_margins skin width l).1)) (text_of l) → IsWrapped skin width l (line_with margins l ∷ []) → ⊥
 left skin width l margins wide room (inl (fits, is)) = absurd (omega (arith, wide, fits))

@@ -85,21 +85,10 @@ apart_parts (c ∷ d ∷ cs) rest h =
 
 pub is_as_read : (skin : LineRules) (c : LineContent) (l : FmtLine) → IsLineRead skin c l → (is_code_line l ≡ is_code c) × (is_table_line l ≡ is_table c)
 is_as_read skin (normal said) (Normal l) h = (ap is_code_kind h.kind, refl)
-is_as_read skin (normal said) (TableRow row) h = absurd h
-is_as_read skin (normal said) (TableRule rule) h = absurd h
-is_as_read skin (normal said) HorizontalRule h = absurd h
-is_as_read skin (table_row cells) (Normal l) h = absurd h
 is_as_read skin (table_row cells) (TableRow row) h = (refl, refl)
-is_as_read skin (table_row cells) (TableRule rule) h = absurd h
-is_as_read skin (table_row cells) HorizontalRule h = absurd h
-is_as_read skin (table_rule aligns) (Normal l) h = absurd h
-is_as_read skin (table_rule aligns) (TableRow row) h = absurd h
 is_as_read skin (table_rule aligns) (TableRule rule) h = (refl, refl)
-is_as_read skin (table_rule aligns) HorizontalRule h = absurd h
-is_as_read skin horizontal_rule (Normal l) h = absurd h
-is_as_read skin horizontal_rule (TableRow row) h = absurd h
-is_as_read skin horizontal_rule (TableRule rule) h = absurd h
 is_as_read skin horizontal_rule HorizontalRule h = (refl, refl)
+is_as_read skin _ _ h = absurd h
 
 code_joined : (l : FmtComposite) (p : Part) (ps qs : List Part) → with_code l ((p ∷ ps) ++ qs) ≡ with_code l (p ∷ ps) ++ qs
 code_joined l (table ls) ps qs = refl
@@ -169,8 +158,6 @@ lines_apart HorizontalRule m ms h = refl
 
 read_apart : (skin : LineRules) (front rest : List LineContent) (ls ms : List FmtLine) → apart front rest ≡ true → AreRead skin front ls → AreRead skin rest ms → parts_of (ls ++ ms) ≡ parts_of ls ++ parts_of ms
 read_apart skin [] rest [] ms h f r = refl
-read_apart skin [] rest (l ∷ ls) ms h f r = absurd f
-read_apart skin (c ∷ front) rest [] ms h f r = absurd f
 read_apart skin (c ∷ []) rest (l ∷ k ∷ ls) ms h f r = absurd f.1
 read_apart skin (c ∷ []) [] (l ∷ []) [] h f r = sym (append-nil (parts_of (l ∷ [])))
 read_apart skin (c ∷ []) [] (l ∷ []) (m ∷ ms) h f r = absurd r
@@ -188,12 +175,12 @@ read_apart skin (c ∷ d ∷ cs) rest (l ∷ k ∷ ls) ms h f r =
     ∙ ap (λ (ps : List Part). with_line l (ps ++ parts_of ms)) some.2
     ∙ line_joined l some.0 some.1 (parts_of ms)
     ∙ ap (λ (ps : List Part). with_line l ps ++ parts_of ms) (sym some.2)
+read_apart skin _ _ _ _ h f r = absurd f
 
 pub both_read : (skin : LineRules) (front rest : List LineContent) (ls ms : List FmtLine) → AreRead skin front ls → AreRead skin rest ms → AreRead skin (front ++ rest) (ls ++ ms)
 both_read skin [] rest [] ms f r = r
-both_read skin [] rest (l ∷ ls) ms f r = absurd f
-both_read skin (c ∷ cs) rest [] ms f r = absurd f
 both_read skin (c ∷ cs) rest (l ∷ ls) ms f r = (f.0, both_read skin cs rest ls ms f.1 r)
+both_read skin _ rest _ ms f r = absurd f
 
 -- layouts join where no part is cut
 pub layouts_joined : (skin : LineRules) (width : Option ℕ) (front rest : List LineContent) (done lines : List FmtLine) → apart front rest ≡ true → IsLayoutAt skin width front done → IsLayoutAt skin width rest lines

@@ -32,9 +32,7 @@ record TellsParts (test : LineContent → Bool) : Type 0 where
 
 pub code_no_table : (c : LineContent) → is_code c ≡ true → is_table c ≡ false
 code_no_table (normal said) h = refl
-code_no_table (table_row cells) h = absurd (cc)
-code_no_table (table_rule aligns) h = absurd (cc)
-code_no_table horizontal_rule h = absurd (cc)
+code_no_table _ h = absurd (cc)
 
 pub table_no_code : (c : LineContent) → is_table c ≡ true → is_code c ≡ false
 table_no_code (normal said) h = absurd (cc)
@@ -126,27 +124,23 @@ run_more test skin first before left after c l read new h next on is pushed = re
 
 pub measured_read : (skin : LineRules) (cs : List LineContent) (ls : List FmtLine) → AreRead skin cs ls → AllMeasured skin ls
 measured_read skin [] [] h = tt
-measured_read skin [] (l ∷ ls) h = absurd h
-measured_read skin (c ∷ cs) [] h = absurd h
 measured_read skin (c ∷ cs) (l ∷ ls) h = (line_measured skin c l h.0, measured_read skin cs ls h.1)
+measured_read skin _ _ h = absurd h
 
 pub block_measured : (skin : LineRules) (cs : List LineContent) (ls : List FmtComposite) → AreRead skin cs (map Normal ls) → AllByRecursion (IsMeasured skin) ls
 block_measured skin [] [] h = tt
-block_measured skin [] (l ∷ ls) h = absurd h
-block_measured skin (c ∷ cs) [] h = absurd h
 block_measured skin (c ∷ cs) (l ∷ ls) h = (line_measured skin c (Normal l) h.0, block_measured skin cs ls h.1)
+block_measured skin _ _ h = absurd h
 
 tables_read : (skin : LineRules) (cs : List LineContent) (ls : List FmtLine) → AllTold is_table cs → AreRead skin cs ls → AllTableLines ls
 tables_read skin [] [] all h = tt
-tables_read skin [] (l ∷ ls) all h = absurd h
-tables_read skin (c ∷ cs) [] all h = absurd h
 tables_read skin (c ∷ cs) (l ∷ ls) all h = ((is_as_read skin c l h.0).1 ∙ all.0, tables_read skin cs ls all.1 h.1)
+tables_read skin _ _ all h = absurd h
 
 code_read : (skin : LineRules) (cs : List LineContent) (ls : List FmtComposite) → AllTold is_code cs → AreRead skin cs (map Normal ls) → AllCode ls
 code_read skin [] [] all h = tt
-code_read skin [] (l ∷ ls) all h = absurd h
-code_read skin (c ∷ cs) [] all h = absurd h
 code_read skin (c ∷ cs) (l ∷ ls) all h = ((is_as_read skin c (Normal l) h.0).0 ∙ all.0, code_read skin cs ls all.1 h.1)
+code_read skin _ _ all h = absurd h
 
 pub block_part : (skin : LineRules) (width : Option ℕ) (first : LineContent) (before left : List LineContent) (block : List FmtComposite) (lines new own : List FmtLine) → is_code first ≡ true → RunSoFar is_code skin first before left (map Normal block)
     → NoneNext is_code left → new ≡ lines ++ own → IsBlockAt skin width block own → LaidPart skin width (first ∷ before) lines left new

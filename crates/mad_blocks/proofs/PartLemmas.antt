@@ -30,9 +30,7 @@ pub record IsPlacedCode (skin : LineRules) (width : ℕ) (l : FmtComposite) (m :
 
 abbrev IsPlacedCodeLine : LineRules → ℕ → FmtLine → FmtLine → Type 0
 IsPlacedCodeLine skin width (Normal l) m = IsPlacedCode skin width l m
-IsPlacedCodeLine skin width (TableRow row) m = ⊥
-IsPlacedCodeLine skin width (TableRule rule) m = ⊥
-IsPlacedCodeLine skin width HorizontalRule m = ⊥
+IsPlacedCodeLine skin width _ m = ⊥
 
 -- the line stays, or is placed so
 abbrev pub IsPlacedOrKept : LineRules → ℕ → FmtLine → FmtLine → Type 0
@@ -40,9 +38,8 @@ IsPlacedOrKept skin width l m = (m ≡ l) ⊎ IsPlacedCodeLine skin width l m
 
 abbrev pub ArePlacedOrKept : LineRules → ℕ → List FmtLine → List FmtLine → Type 0
 ArePlacedOrKept skin width [] [] = Unit {0}
-ArePlacedOrKept skin width [] (m ∷ ms) = ⊥
-ArePlacedOrKept skin width (l ∷ ls) [] = ⊥
 ArePlacedOrKept skin width (l ∷ ls) (m ∷ ms) = IsPlacedOrKept skin width l m × ArePlacedOrKept skin width ls ms
+ArePlacedOrKept skin width _ _ = ⊥
 
 -- the lines of a part as they are
 abbrev pub raw_lines : Part → List FmtLine
@@ -80,14 +77,8 @@ parts_kinds (TableRule rule ∷ ls) = with_table_kinds (TableRule rule) (parts_o
 parts_kinds (HorizontalRule ∷ ls) = (refl, parts_kinds ls)
 
 pub code_is : (k : CompositeKind) → is_code_kind k ≡ true → k ≡ Code
-code_is Paragraph h = absurd (cc)
-code_is (Header level) h = absurd (cc)
-code_is (ListItem depth) h = absurd (cc)
-code_is (ListItemFollowUp depth) h = absurd (cc)
-code_is (OrderedListItem level index) h = absurd (cc)
-code_is (OrderedListItemFollowUp level index) h = absurd (cc)
 code_is Code h = refl
-code_is Quote h = absurd (cc)
+code_is _ h = absurd (cc)
 
 -- the columns that the margins of code leave
 abbrev left_of_code : LineRules → ℕ → ℕ

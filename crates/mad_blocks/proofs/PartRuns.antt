@@ -111,12 +111,9 @@ alone_first HorizontalRule ls h k = refl
 -- a line that is not of a table stays where tables are laid out, whatever part it is of
 stays_in_front : (wraps : Wrap) (skin : LineRules) (width : ℕ) (b : Bool) (l : FmtComposite) (ps : List Part) (lines : List FmtLine) → ArePartsBy (IsTableFixedBy wraps skin width) ps lines
     → ArePartsBy (IsTableFixedBy wraps skin width) (with_composite b l ps) (Normal l ∷ lines)
-stays_in_front wraps skin width false l ps lines h = (Normal l ∷ [], lines, refl, refl, h)
-stays_in_front wraps skin width true l [] lines h = (Normal l ∷ [], lines, refl, refl, h)
-stays_in_front wraps skin width true l (table ls ∷ ps) lines h = (Normal l ∷ [], lines, refl, refl, h)
-stays_in_front wraps skin width true l (single m ∷ ps) lines h = (Normal l ∷ [], lines, refl, refl, h)
 stays_in_front wraps skin width true l (block ls ∷ ps) lines (own, others, joins, is, more) =
     (Normal l ∷ own, others, ap (λ xs. Normal l ∷ xs) joins, ap (λ xs. Normal l ∷ xs) is, more)
+stays_in_front wraps skin width _ l _ lines h = (Normal l ∷ [], lines, refl, refl, h)
 
 pub line_stays : (wraps : Wrap) (skin : LineRules) (width : ℕ) (l : FmtLine) (rest lines : List FmtLine) → is_table_line l ≡ false
     → AreTablesLaidOut wraps skin width rest lines → AreTablesLaidOut wraps skin width (l ∷ rest) (l ∷ lines)

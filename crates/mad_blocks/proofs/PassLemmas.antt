@@ -21,16 +21,12 @@ use Rattle.mad_blocks.proofs.PartRuns.{AllTableLines, AllCode, NoTableFirst, tab
 -- ---- parts that are apart
 
 abbrev pub NoTableNext : List Part → Type 0
-NoTableNext [] = Unit {0}
 NoTableNext (table ls ∷ ps) = ⊥
-NoTableNext (block ls ∷ ps) = Unit {0}
-NoTableNext (single l ∷ ps) = Unit {0}
+NoTableNext _ = Unit {0}
 
 abbrev pub NoBlockNext : List Part → Type 0
-NoBlockNext [] = Unit {0}
-NoBlockNext (table ls ∷ ps) = Unit {0}
 NoBlockNext (block ls ∷ ps) = ⊥
-NoBlockNext (single l ∷ ps) = Unit {0}
+NoBlockNext _ = Unit {0}
 
 -- no part is empty, each has lines of its kind, and no two tables are side by side, nor two blocks
 abbrev pub StandApart : List Part → Type 0
@@ -147,11 +143,9 @@ lines_joined wraps skin width (x ∷ xs) ys own others (first, rest, joins, here
 
 -- a table's lines stay
 table_line_stays : (wraps : Wrap) (skin : LineRules) (width : Option ℕ) (l : FmtLine) (lines : List FmtLine) → is_table_line l ≡ true → IsLineAt wraps skin width l lines → lines ≡ l ∷ []
-table_line_stays wraps skin None l lines is h = h
 table_line_stays wraps skin (Some width) (Normal l) lines is h = absurd (cc)
-table_line_stays wraps skin (Some width) (TableRow row) lines is h = h
-table_line_stays wraps skin (Some width) (TableRule rule) lines is h = h
 table_line_stays wraps skin (Some width) HorizontalRule lines is h = absurd (cc)
+table_line_stays wraps skin _ _ lines is h = h
 
 table_stays : (wraps : Wrap) (skin : LineRules) (width : Option ℕ) (run lines : List FmtLine) → AllTableLines run → AreLinesAt wraps skin width run lines → lines ≡ run
 table_stays wraps skin width [] lines are h = h
@@ -159,11 +153,9 @@ table_stays wraps skin width (l ∷ ls) lines are (own, others, joins, here, mor
     joins ∙ ap (λ xs. xs ++ others) (table_line_stays wraps skin width l own are.0 here) ∙ ap (λ xs. l ∷ xs) (table_stays wraps skin width ls others are.1 more)
 
 table_line_at : (wraps : Wrap) (skin : LineRules) (width : Option ℕ) (l : FmtLine) → is_table_line l ≡ true → IsLineAt wraps skin width l (l ∷ [])
-table_line_at wraps skin None l is = refl
 table_line_at wraps skin (Some width) (Normal l) is = absurd (cc)
-table_line_at wraps skin (Some width) (TableRow row) is = refl
-table_line_at wraps skin (Some width) (TableRule rule) is = refl
 table_line_at wraps skin (Some width) HorizontalRule is = absurd (cc)
+table_line_at wraps skin _ _ is = refl
 
 table_as_it_is : (wraps : Wrap) (skin : LineRules) (width : Option ℕ) (run : List FmtLine) → AllTableLines run → AreLinesAt wraps skin width run run
 table_as_it_is wraps skin width [] are = refl

@@ -148,19 +148,13 @@ taken_all all cells i row past held =
 
 takes_across : (ps : List CellLines) (xs : List FmtComposite) (qs : List CellLines) → TakesRow ps xs qs → IsLineAcross (columns_left ps) (cell_lines_left ps) xs
 takes_across [] [] [] h = tt
-takes_across [] [] (q ∷ qs) h = absurd h
-takes_across [] (x ∷ xs) qs h = absurd h
-takes_across (p ∷ ps) [] qs h = absurd h
-takes_across (p ∷ ps) (x ∷ xs) [] h = absurd h
 takes_across (p ∷ ps) (x ∷ xs) (q ∷ qs) h = (h.0, takes_across ps xs qs h.3)
+takes_across _ _ _ h = absurd h
 
 takes_columns : (ps : List CellLines) (xs : List FmtComposite) (qs : List CellLines) → TakesRow ps xs qs → columns_left qs ≡ columns_left ps
 takes_columns [] [] [] h = refl
-takes_columns [] [] (q ∷ qs) h = absurd h
-takes_columns [] (x ∷ xs) qs h = absurd h
-takes_columns (p ∷ ps) [] qs h = absurd h
-takes_columns (p ∷ ps) (x ∷ xs) [] h = absurd h
 takes_columns (p ∷ ps) (x ∷ xs) (q ∷ qs) h = ap (λ c. c ∷ columns_left qs) h.1 ∙ ap (λ cs. p.column ∷ cs) (takes_columns ps xs qs h.3)
+takes_columns _ _ _ h = absurd h
 
 -- the cells, back from the slice that they were
 pub taken_back : (ps : List CellLines) (xs : List FmtComposite) (qs : List CellLines) (n : ℕ) → TakesRow ps xs qs → length ps ≡ n → take n (qs ++ drop (length qs) ps) ≡ qs
@@ -170,11 +164,8 @@ taken_back ps xs qs n h long =
 
 takes_below : (ps : List CellLines) (xs : List FmtComposite) (qs : List CellLines) → TakesRow ps xs qs → cell_lines_left qs ≡ map below (cell_lines_left ps)
 takes_below [] [] [] h = refl
-takes_below [] [] (q ∷ qs) h = absurd h
-takes_below [] (x ∷ xs) qs h = absurd h
-takes_below (p ∷ ps) [] qs h = absurd h
-takes_below (p ∷ ps) (x ∷ xs) [] h = absurd h
 takes_below (p ∷ ps) (x ∷ xs) (q ∷ qs) h = ap (λ ls. ls ∷ cell_lines_left qs) h.2 ∙ ap (λ ls. below (lines_to_come p) ∷ ls) (takes_below ps xs qs h.3)
+takes_below _ _ _ h = absurd h
 
 -- The rows so far, with whatever rows the lines that are left become, are the rows of all lines.
 pub record RowsSoFar (columns : List Spacing) (all parts : List CellLines) (rows : List FmtTableRow) (n : ℕ) : Type 0 where

@@ -131,10 +131,8 @@ rows_seen_more before fit after table i row held next sees width n rows start =
     )
 
 no_row : (l : FmtLine) (ls : List FmtLine) → ((row : FmtTableRow) → l ≡ TableRow row → ⊥) → rows_among (l ∷ ls) ≡ rows_among ls
-no_row (Normal l) ls h = refl
 no_row (TableRow row) ls h = absurd (h row refl)
-no_row (TableRule rule) ls h = refl
-no_row HorizontalRule ls h = refl
+no_row _ ls h = refl
 
 pub rows_seen_other : (before fit : TblFit) (table : List FmtLine) (i : ℕ) (l : FmtLine) → RowsSeen before fit table i → drop i table ≡ l ∷ drop (i + 1) table → ((row : FmtTableRow) → l ≡ TableRow row → ⊥)
     → RowsSeen before fit table (i + 1)

@@ -31,11 +31,8 @@ too_few lines lengths kept =
 
 across_count : (columns : List Spacing) (lines : List (List FmtComposite)) (cells : List FmtComposite) → IsLineAcross columns lines cells → length cells ≡ length columns
 across_count [] [] [] h = refl
-across_count [] [] (x ∷ xs) h = absurd h
-across_count [] (l ∷ lines) cells h = absurd h
-across_count (c ∷ cs) [] cells h = absurd h
-across_count (c ∷ cs) (l ∷ lines) [] h = absurd h
 across_count (c ∷ cs) (l ∷ lines) (x ∷ xs) h = ap suc (across_count cs lines xs h.1)
+across_count _ _ _ h = absurd h
 
 across_place : (column : Spacing) (columns : List Spacing) (lines : List (List FmtComposite)) (x : FmtComposite) (xs : List FmtComposite) → IsLineAcross (column ∷ columns) lines (x ∷ xs) → x.spacing ≡ Some column
 across_place column columns [] x xs h = absurd h

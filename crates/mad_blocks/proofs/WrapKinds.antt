@@ -45,10 +45,8 @@ row_by wraps others each skin columns cells rows h = record {
 
 table_line_by : (wraps others : Wrap) → Implies wraps others → (skin : LineRules) (columns : List Spacing) (position : RelativePosition) (l : FmtLine) (lines : List FmtLine) → IsTableLineBy wraps skin columns position l lines
     → IsTableLineBy others skin columns position l lines
-table_line_by wraps others each skin columns position (Normal l) lines h = h
 table_line_by wraps others each skin columns position (TableRow row) lines (rows, same, laid) = (rows, same, row_by wraps others each skin columns row.cells.items rows laid)
-table_line_by wraps others each skin columns position (TableRule rule) lines h = h
-table_line_by wraps others each skin columns position HorizontalRule lines h = h
+table_line_by wraps others each skin columns position _ lines h = h
 
 table_lines_by : (wraps others : Wrap) → Implies wraps others → (skin : LineRules) (widths : List ℕ) (columns : List Spacing) (first : Bool) (ls lines : List FmtLine) → AreTableLinesBy wraps skin widths columns first ls lines
     → AreTableLinesBy others skin widths columns first ls lines
@@ -73,19 +71,14 @@ wrap_fits skin width source lines wrap = record {
   keeps = wrap.wrap.keeps;
   fits = wrap.wrap.fits;
   parts = λ ts tokens. (wrap.wrap.least ts tokens).parts;
-  kinds = wrap.kinds;
-  measured = wrap.measured;
-  spacing = wrap.spacing;
-  margins = wrap.margins;
+  made = wrap.made;
 }
 
 line_fits : (skin : LineRules) (width : ℕ) (l : FmtLine) (own : List FmtLine) → IsLineAt IsCompositeWrap skin (Some width) l own → IsLineAt IsFittingWrap skin (Some width) l own
 line_fits skin width (Normal l) own (inl here) = inl here
 line_fits skin width (Normal l) own (inr (wide, (wrap, wraps, same))) =
     let margins = style_margins skin width l in inr (wide, (wrap, wrap_fits skin (width - margins.0 - margins.1) l wrap wraps, same))
-line_fits skin width (TableRow row) own here = here
-line_fits skin width (TableRule rule) own here = here
-line_fits skin width HorizontalRule own here = here
+line_fits skin width _ own here = here
 
 lines_fit : (skin : LineRules) (width : ℕ) (read lines : List FmtLine) → AreLinesAt IsCompositeWrap skin (Some width) read lines → AreLinesAt IsFittingWrap skin (Some width) read lines
 lines_fit skin width [] lines h = h

@@ -43,9 +43,7 @@ blocks_placed room ls = flat_map (part_placed room) (parts_of ls)
 -- the columns of a line of code, by its cached length; none of any other line
 abbrev pub code_columns : FmtLine → Option ℕ
 code_columns (Normal l) = if is_code_kind l.kind then Some l.visible_length else None
-code_columns (TableRow row) = None
-code_columns (TableRule rule) = None
-code_columns HorizontalRule = None
+code_columns _ = None
 
 -- no line of code comes first
 abbrev pub NoCodeFirst : List FmtLine → Type 0

@@ -1,5 +1,5 @@
 -- Layouts, the count of their lines apart.
-use Rattle.std.specs.Prelude.{◌≡◌, ℕ, ◌≤◌, List, map, Option, Some, None, ⊤}
+use Rattle.std.specs.Prelude.{ℕ, ◌≤◌, List, map, Option, Some, None, ⊤}
 use Rattle.std.specs.List.{AllByRecursion}
 use Rattle.mad_md.specs.Flagged.{flagged_text}
 use Rattle.mad_md.specs.Lines.{LineContent}
@@ -7,10 +7,10 @@ use Rattle.mad_fit.specs.declared.tokens.Token.{Token}
 use Rattle.mad_wrap.specs.Keeps.{Keeps}
 use Rattle.mad_wrap.specs.LeastWrap.{AreTokensIn}
 use Rattle.mad_wrap.specs.WrapLines.{HasRoom, LinesFit, IsMadeOf}
-use Rattle.mad_format.specs.CompositeWraps.{line_compounds, HaveKinds}
-use Rattle.mad_format.specs.Indents.{follow_up, room_of}
+use Rattle.mad_format.specs.CompositeWraps.{line_compounds, AreLinesOf}
+use Rattle.mad_format.specs.Indents.{room_of}
 use Rattle.mad_blocks.specs.Layouts.{IsLayoutBy}
-use Rattle.mad_format.specs.Wraps.{text_of, IsMeasured}
+use Rattle.mad_format.specs.Wraps.{text_of}
 use Rattle.mad_format.specs.LineRules.{LineRules}
 use Rattle.mad_format.specs.declared.composite.FmtComposite.{FmtComposite}
 use Rattle.mad_format.specs.declared.line.FmtLine.{FmtLine}
@@ -21,10 +21,7 @@ pub record IsFittingWrap (skin : LineRules) (width : ℕ) (source : FmtComposite
   pub keeps : Keeps (text_of source) (map flagged_text (line_compounds lines))
   pub fits : HasRoom (room_of skin source.kind width) (text_of source) → LinesFit (room_of skin source.kind width).first (room_of skin source.kind width) (map flagged_text (line_compounds lines))
   pub parts : (ts : List Token) → AreTokensIn (room_of skin source.kind width) source.compounds.items ts → AllByRecursion (IsMadeOf source.compounds.items ts) (line_compounds lines)
-  pub kinds : HaveKinds source.kind (follow_up source.kind) lines
-  pub measured : AllByRecursion (IsMeasured skin) lines
-  pub spacing : AllByRecursion (λ l. l.spacing ≡ source.spacing) lines
-  pub margins : AllByRecursion (λ l. l.margins ≡ None) lines
+  pub made : AreLinesOf skin source lines
 
 -- the lines are a layout of the text at a width, the count of lines apart: each composite is kept or wrapped so
 abbrev pub IsFittingLayout : LineRules → ℕ → List LineContent → List FmtLine → Type 0

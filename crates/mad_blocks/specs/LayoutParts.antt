@@ -22,21 +22,13 @@ pub data Part : Type 0 where
 
 -- a line of code
 abbrev pub is_code_kind : CompositeKind → Bool
-is_code_kind Paragraph = false
-is_code_kind (Header level) = false
-is_code_kind (ListItem depth) = false
-is_code_kind (ListItemFollowUp depth) = false
-is_code_kind (OrderedListItem level index) = false
-is_code_kind (OrderedListItemFollowUp level index) = false
 is_code_kind Code = true
-is_code_kind Quote = false
+is_code_kind _ = false
 
 -- the line is one of code
 abbrev pub is_code_line : FmtLine → Bool
 is_code_line (Normal l) = is_code_kind l.kind
-is_code_line (TableRow row) = false
-is_code_line (TableRule rule) = false
-is_code_line HorizontalRule = false
+is_code_line _ = false
 
 -- a line of a table in front of parts: it joins a table that begins them
 abbrev pub with_table : FmtLine → List Part → List Part

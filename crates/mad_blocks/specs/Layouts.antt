@@ -12,9 +12,8 @@ use Rattle.mad_format.specs.declared.line.FmtLine.{FmtLine}
 -- the lines are those of a text, measured, and not yet laid out
 abbrev pub AreRead : LineRules → List LineContent → List FmtLine → Type 0
 AreRead skin [] [] = Unit {0}
-AreRead skin [] (l ∷ ls) = ⊥
-AreRead skin (c ∷ cs) [] = ⊥
 AreRead skin (c ∷ cs) (l ∷ ls) = IsLineRead skin c l × AreRead skin cs ls
+AreRead skin _ _ = ⊥
 
 -- The lines are a layout of the text by some kind of wrap, part by part, where tables have this width, and other lines that one, if any.
 pub record IsLayoutBy (wraps : Wrap) (skin : LineRules) (tables : ℕ) (width : Option ℕ) (text : List LineContent) (lines : List FmtLine) : Type 0 where

@@ -27,8 +27,5 @@ pub record AreCellsLeft (skin : LineRules) (columns : List Spacing) (cells : Lis
 -- the next row is taken off the cells
 abbrev pub TakesRow : List CellLines → List FmtComposite → List CellLines → Type 0
 TakesRow [] [] [] = Unit {0}
-TakesRow [] [] (q ∷ qs) = ⊥
-TakesRow [] (x ∷ xs) rest = ⊥
-TakesRow (p ∷ ps) [] rest = ⊥
-TakesRow (p ∷ ps) (x ∷ xs) [] = ⊥
 TakesRow (p ∷ ps) (x ∷ xs) (q ∷ qs) = IsTop p.column (lines_to_come p) x × (q.column ≡ p.column) × (lines_to_come q ≡ below (lines_to_come p)) × TakesRow ps xs qs
+TakesRow _ _ _ = ⊥

@@ -61,9 +61,8 @@ below (l ∷ ls) = ls
 -- the lines of each of the cells that are in columns, in order; cells past the last column are left out
 abbrev pub AreCellsLaidOut : Wrap → LineRules → List Spacing → List FmtComposite → List (List FmtComposite) → Type 0
 AreCellsLaidOut wraps skin [] cells [] = Unit {0}
-AreCellsLaidOut wraps skin [] cells (ls ∷ lines) = ⊥
-AreCellsLaidOut wraps skin (c ∷ columns) cells [] = ⊥
 AreCellsLaidOut wraps skin (c ∷ columns) cells (ls ∷ lines) = IsNextLaidOut wraps skin c.width cells ls × AreCellsLaidOut wraps skin columns (below cells) lines
+AreCellsLaidOut wraps skin _ cells _ = ⊥
 
 -- what is in a column on a row: the first of a cell's lines, or where there is none an empty paragraph
 abbrev pub IsTop : Spacing → List FmtComposite → FmtComposite → Type 0
@@ -73,11 +72,8 @@ IsTop column (l ∷ ls) x = x ≡ in_column column l
 -- a row across the columns
 abbrev pub IsLineAcross : List Spacing → List (List FmtComposite) → List FmtComposite → Type 0
 IsLineAcross [] [] [] = Unit {0}
-IsLineAcross [] [] (x ∷ xs) = ⊥
-IsLineAcross [] (ls ∷ lines) xs = ⊥
-IsLineAcross (c ∷ cs) [] xs = ⊥
-IsLineAcross (c ∷ cs) (ls ∷ lines) [] = ⊥
 IsLineAcross (c ∷ cs) (ls ∷ lines) (x ∷ xs) = IsTop c ls x × IsLineAcross cs lines xs
+IsLineAcross _ _ _ = ⊥
 
 -- the rows, one below the other
 abbrev pub AreDown : List Spacing → List (List FmtComposite) → List FmtTableRow → Type 0
@@ -133,10 +129,8 @@ pub record AreKeptWidths (n width : ℕ) (lines : List FmtLine) (widths : List �
 
 -- the columns from a line on, where they were these above it: a rule says how cells are aligned below it
 abbrev pub columns_from : List ℕ → List Spacing → FmtLine → List Spacing
-columns_from widths columns (Normal l) = columns
-columns_from widths columns (TableRow row) = columns
 columns_from widths columns (TableRule rule) = columns_with widths rule.aligns.items
-columns_from widths columns HorizontalRule = columns
+columns_from widths columns _ = columns
 
 -- where a rule is that is the first line of its table or not, the last one or not
 abbrev pub position_at : Bool → Bool → RelativePosition

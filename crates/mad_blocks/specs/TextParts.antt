@@ -56,10 +56,8 @@ pub record LineInPart : Type 0 where
 
 -- the alignments of the last rule down to a line, where they were these above it
 abbrev pub aligns_at : Option (List Alignment) → LineContent → Option (List Alignment)
-aligns_at above (normal line) = above
-aligns_at above (table_row cells) = above
 aligns_at above (table_rule aligns) = Some aligns
-aligns_at above horizontal_rule = above
+aligns_at above _ = above
 
 -- where a line is in a part; in a table without columns nothing tells its ends
 abbrev pub position_in : List LineContent → Bool → Bool → RelativePosition

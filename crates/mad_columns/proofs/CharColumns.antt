@@ -19,18 +19,8 @@ single-le : (c : ℕ) → 127 ≤ c → (single false c).0 ≤ len_utf8 c
 single-le c h = grind (arith, nat_tests)
 
 of_kind-le : (c : ℕ) (k : Kind) → 127 < c → (of_kind false c k).0 ≤ len_utf8 c
-of_kind-le c kinds.Zero h = grind (arith, nat_tests)
-of_kind-le c kinds.Narrow h = grind (arith, nat_tests)
-of_kind-le c kinds.Wide h = grind (arith, nat_tests)
-of_kind-le c kinds.Ambiguous h = grind (arith, nat_tests)
-of_kind-le c kinds.Alef h = grind (arith, nat_tests)
-of_kind-le c kinds.KhmerLetter h = grind (arith, nat_tests)
-of_kind-le c kinds.TifinaghConsonant h = grind (arith, nat_tests)
-of_kind-le c kinds.LisuTone h = grind (arith, nat_tests)
-of_kind-le c kinds.RegionalIndicator h = grind (arith, nat_tests)
-of_kind-le c kinds.EmojiModifier h = grind (arith, nat_tests)
-of_kind-le c kinds.Emoji h = grind (arith, nat_tests)
 of_kind-le c kinds.Single h = single-le c (omega arith)
+of_kind-le c _ h = grind (arith, nat_tests)
 
 -- by whether the character is printable ASCII
 low : (c : ℕ) → unwrap_or (if nat_le 0x20 c then Some 1 else None) 0 ≤ len_utf8 c
@@ -53,18 +43,8 @@ single-three : (c : ℕ) → (single false c).0 ≤ 3
 single-three c = grind (arith, nat_tests)
 
 of_kind-three : (c : ℕ) (k : Kind) → (of_kind false c k).0 ≤ 3
-of_kind-three c kinds.Zero = omega arith
-of_kind-three c kinds.Narrow = omega arith
-of_kind-three c kinds.Wide = omega arith
-of_kind-three c kinds.Ambiguous = omega arith
-of_kind-three c kinds.Alef = omega arith
-of_kind-three c kinds.KhmerLetter = omega arith
-of_kind-three c kinds.TifinaghConsonant = omega arith
-of_kind-three c kinds.LisuTone = omega arith
-of_kind-three c kinds.RegionalIndicator = omega arith
-of_kind-three c kinds.EmojiModifier = omega arith
-of_kind-three c kinds.Emoji = omega arith
 of_kind-three c kinds.Single = single-three c
+of_kind-three c _ = omega arith
 
 pub char_columns-three : (c : ℕ) → char_columns c ≤ 3
 unfolding char_columns char_width alone

@@ -24,34 +24,20 @@ cells_measured skin (c ∷ cs) (l ∷ ls) h = (h.0.measured, cells_measured skin
 
 pub line_measured : (skin : LineRules) (c : LineContent) (l : FmtLine) → IsLineRead skin c l → IsLineMeasured skin l
 line_measured skin (normal said) (Normal l) h = h.measured
-line_measured skin (normal said) (TableRow row) h = absurd h
-line_measured skin (normal said) (TableRule rule) h = absurd h
-line_measured skin (normal said) HorizontalRule h = absurd h
-line_measured skin (table_row cells) (Normal l) h = absurd h
 line_measured skin (table_row cells) (TableRow row) h = cells_measured skin cells row.cells.items h
-line_measured skin (table_row cells) (TableRule rule) h = absurd h
-line_measured skin (table_row cells) HorizontalRule h = absurd h
-line_measured skin (table_rule aligns) (Normal l) h = absurd h
-line_measured skin (table_rule aligns) (TableRow row) h = absurd h
 line_measured skin (table_rule aligns) (TableRule rule) h = tt
-line_measured skin (table_rule aligns) HorizontalRule h = absurd h
-line_measured skin horizontal_rule (Normal l) h = absurd h
-line_measured skin horizontal_rule (TableRow row) h = absurd h
-line_measured skin horizontal_rule (TableRule rule) h = absurd h
 line_measured skin horizontal_rule HorizontalRule h = tt
+line_measured skin _ _ h = absurd h
 
 -- what is read of a line that is no composite and no rule is a line of a table
 pub table_read : (skin : LineRules) (line : Line) (l : FmtLine) → ((composite : Composite) → line ≡ read.Normal composite → ⊥) → (line ≡ read.HorizontalRule → ⊥) → IsLineRead skin (content_of line) l → is_table_line l ≡ true
 table_read skin (read.Normal composite) l other rule h = absurd (other composite refl)
-table_read skin (read.TableRow row) (Normal m) other rule h = absurd h
 table_read skin (read.TableRow row) (TableRow made) other rule h = refl
 table_read skin (read.TableRow row) (TableRule made) other rule h = refl
-table_read skin (read.TableRow row) HorizontalRule other rule h = absurd h
-table_read skin (read.TableRule cells) (Normal m) other rule h = absurd h
 table_read skin (read.TableRule cells) (TableRow made) other rule h = refl
 table_read skin (read.TableRule cells) (TableRule made) other rule h = refl
-table_read skin (read.TableRule cells) HorizontalRule other rule h = absurd h
 table_read skin read.HorizontalRule l other rule h = absurd (rule refl)
+table_read skin _ _ other rule h = absurd h
 
 -- ---- the cells of a row
 

@@ -78,10 +78,12 @@ composite_wrap skin width source lines cs wrap counted h =
     let r = room_of skin source.kind width in
     record {
       wrap = subst (IsWrap r source.compounds.items) (sym (same_compounds source.kind (follow_up source.kind) r.first r.other source.spacing lines cs h)) wrap;
-      kinds = kinds_are source.kind (follow_up source.kind) r.first r.other source.spacing lines cs h;
-      measured = measured_are skin source.kind (follow_up source.kind) r.first r.other source.spacing lines cs refl refl counted h;
-      spacing = spacing_is source.kind (follow_up source.kind) r.first r.other source.spacing lines cs h;
-      margins = margins_are source.kind (follow_up source.kind) r.first r.other source.spacing lines cs h;
+      made = record {
+        kinds = kinds_are source.kind (follow_up source.kind) r.first r.other source.spacing lines cs h;
+        measured = measured_are skin source.kind (follow_up source.kind) r.first r.other source.spacing lines cs refl refl counted h;
+        spacing = spacing_is source.kind (follow_up source.kind) r.first r.other source.spacing lines cs h;
+        margins = margins_are source.kind (follow_up source.kind) r.first r.other source.spacing lines cs h;
+      };
     }
 
 -- ---- of any list or result

@@ -21,13 +21,18 @@ abbrev pub HaveKinds : CompositeKind → CompositeKind → List FmtComposite →
 HaveKinds first other [] = Unit {0}
 HaveKinds first other (l ∷ ls) = (l.kind ≡ first) × HaveKinds other other ls
 
--- The lines are the composite wrapped at a width: its compounds are wrapped in the room of its kind, and each line is measured.
-pub record IsCompositeWrap (skin : LineRules) (width : ℕ) (source : FmtComposite) (lines : List FmtComposite) : Type 0 where
-  pub wrap : IsWrap (room_of skin source.kind width) source.compounds.items (line_compounds lines)
+-- What the lines of a wrapped composite have beside their compounds: their kinds, their cached lengths, the source's spacing, and no
+-- margins.
+pub record AreLinesOf (skin : LineRules) (source : FmtComposite) (lines : List FmtComposite) : Type 0 where
   pub kinds : HaveKinds source.kind (follow_up source.kind) lines
   pub measured : AllByRecursion (IsMeasured skin) lines
   pub spacing : AllByRecursion (λ l. l.spacing ≡ source.spacing) lines
   pub margins : AllByRecursion (λ l. l.margins ≡ None) lines
+
+-- The lines are the composite wrapped at a width: its compounds are wrapped in the room of its kind.
+pub record IsCompositeWrap (skin : LineRules) (width : ℕ) (source : FmtComposite) (lines : List FmtComposite) : Type 0 where
+  pub wrap : IsWrap (room_of skin source.kind width) source.compounds.items (line_compounds lines)
+  pub made : AreLinesOf skin source lines
 
 -- a wrapped line as a composite of this kind, with the columns in front of it
 abbrev pub composite_of : CompositeKind → ℕ → Option Spacing → WrappedLine → FmtComposite

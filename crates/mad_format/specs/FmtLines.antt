@@ -66,9 +66,8 @@ IsCompositeRead skin said l = IsReadAs skin (kind_of said.style) (λ ps. map run
 -- so are composites, in order
 abbrev pub AreCompositesRead : LineRules → List StyledRuns → List FmtComposite → Type 0
 AreCompositesRead skin [] [] = Unit {0}
-AreCompositesRead skin [] (l ∷ ls) = ⊥
-AreCompositesRead skin (said ∷ more) [] = ⊥
 AreCompositesRead skin (said ∷ more) (l ∷ ls) = IsCompositeRead skin said l × AreCompositesRead skin more ls
+AreCompositesRead skin _ _ = ⊥
 
 -- a rule across a table as it was read, which has no widths yet
 pub record IsRuleRead (aligns : List Alignment) (rule : FmtTableRule) : Type 0 where
@@ -79,21 +78,10 @@ pub record IsRuleRead (aligns : List Alignment) (rule : FmtTableRule) : Type 0 w
 -- the line is what was read
 abbrev pub IsLineRead : LineRules → LineContent → FmtLine → Type 0
 IsLineRead skin (normal said) (Normal l) = IsCompositeRead skin said l
-IsLineRead skin (normal said) (TableRow row) = ⊥
-IsLineRead skin (normal said) (TableRule rule) = ⊥
-IsLineRead skin (normal said) HorizontalRule = ⊥
-IsLineRead skin (table_row cells) (Normal l) = ⊥
 IsLineRead skin (table_row cells) (TableRow row) = AreCompositesRead skin cells row.cells.items
-IsLineRead skin (table_row cells) (TableRule rule) = ⊥
-IsLineRead skin (table_row cells) HorizontalRule = ⊥
-IsLineRead skin (table_rule aligns) (Normal l) = ⊥
-IsLineRead skin (table_rule aligns) (TableRow row) = ⊥
 IsLineRead skin (table_rule aligns) (TableRule rule) = IsRuleRead aligns rule
-IsLineRead skin (table_rule aligns) HorizontalRule = ⊥
-IsLineRead skin horizontal_rule (Normal l) = ⊥
-IsLineRead skin horizontal_rule (TableRow row) = ⊥
-IsLineRead skin horizontal_rule (TableRule rule) = ⊥
 IsLineRead skin horizontal_rule HorizontalRule = Unit {0}
+IsLineRead skin _ _ = ⊥
 
 -- elements cut to n, or filled up with one
 abbrev pub resized : {A : Type 0} → ℕ → A → List A → List A

@@ -9,14 +9,9 @@ use Rattle.mad_format.specs.LineRules.{LineRules}
 
 -- the kind of the lines after the first: an item's own follow-up, any other kind stays
 abbrev pub follow_up : CompositeKind → CompositeKind
-follow_up Paragraph = Paragraph
-follow_up (Header level) = Header level
 follow_up (ListItem depth) = ListItemFollowUp depth
-follow_up (ListItemFollowUp depth) = ListItemFollowUp depth
 follow_up (OrderedListItem level index) = OrderedListItemFollowUp level index
-follow_up (OrderedListItemFollowUp level index) = OrderedListItemFollowUp level index
-follow_up Code = Code
-follow_up Quote = Quote
+follow_up kind = kind
 
 -- what a mode makes of an item's indent on the lines that follow
 abbrev pub later_indent : ListItemsIndentationMode → ℕ → ℕ
@@ -24,20 +19,18 @@ later_indent FirstLineOnly n = 0
 later_indent Block n = n
 later_indent (Hanging extra) n = n + extra
 
--- the columns in front of an ordered item: those of its level, of its number, and of the mark and the space after that
+-- the columns in front of an ordered item: those of its level, of its number, and of the mark and the space after the number
 abbrev pub ordered_indent : ℕ → ℕ → ℕ
 ordered_indent level index = length (decimal index) + 2 + level
 
 -- the columns in front of a line of this kind: a bullet and a space after an item's depth, a quote mark and a space
 abbrev pub indent : ListItemsIndentationMode → CompositeKind → ℕ
-indent mode Paragraph = 0
-indent mode (Header level) = 0
 indent mode (ListItem depth) = 2 + depth
 indent mode (ListItemFollowUp depth) = later_indent mode (2 + depth)
 indent mode (OrderedListItem level index) = ordered_indent level index
 indent mode (OrderedListItemFollowUp level index) = later_indent mode (ordered_indent level index)
-indent mode Code = 0
 indent mode Quote = 2
+indent mode _ = 0
 
 -- the room of a composite of this kind: the columns in front of its first line, those in front of its others, and the lines' width
 abbrev pub room_of : LineRules → CompositeKind → ℕ → Room

@@ -65,9 +65,7 @@ IsLineMeasured skin HorizontalRule = Unit {0}
 -- the line fits with its margins, by that length; rules and lines of tables always do
 abbrev pub LineFits : LineRules → ℕ → FmtLine → Type 0
 LineFits skin width (Normal l) = FitsWithMargins skin width l
-LineFits skin width (TableRow row) = Unit {0}
-LineFits skin width (TableRule rule) = Unit {0}
-LineFits skin width HorizontalRule = Unit {0}
+LineFits skin width _ = Unit {0}
 
 -- all of them
 abbrev pub AllMeasured : LineRules → List FmtLine → Type 0

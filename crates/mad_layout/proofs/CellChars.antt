@@ -97,10 +97,6 @@ one_char p = first_piece p [] ∙ append-nil (chars p.text)
 across_chars : (skin : RowSkin) (cs : List Spacing) (lines : List (List FmtComposite)) (xs : List FmtComposite) → IsLineAcross cs lines xs
     → chars_in (flat_map (cell_pieces skin) xs ++ vertical_piece skin ∷ []) ≡ first_rows skin (placed_lines skin cs lines)
 across_chars skin [] [] [] across = one_char (vertical_piece skin)
-across_chars skin [] [] (x ∷ xs) across = absurd across
-across_chars skin [] (ls ∷ lines) xs across = absurd across
-across_chars skin (c ∷ cs) [] xs across = absurd across
-across_chars skin (c ∷ cs) (ls ∷ lines) [] across = absurd across
 across_chars skin (c ∷ cs) (ls ∷ lines) (x ∷ xs) across =
     let last : List RowPiece = vertical_piece skin ∷ [] in
     let border : List ℕ = skin_char skin.table_border_chars.vertical in
@@ -111,6 +107,7 @@ across_chars skin (c ∷ cs) (ls ∷ lines) (x ∷ xs) across =
     ∙ ap (λ t. t ++ chars_in (flat_map (cell_pieces skin) xs ++ last)) (first_piece (vertical_piece skin) (composite_pieces skin None (0, 0) false x) ∙ ap (λ t. border ++ t) (top_chars skin c ls x across.0))
     ∙ ap (λ t. first_row skin cell ++ t) (across_chars skin cs lines xs across.1)
     ∙ sym (append_assoc (first_row skin cell) (flat_map (first_row skin) rest) border)
+across_chars skin _ _ _ across = absurd across
 
 below_placed : (skin : RowSkin) (cs : List Spacing) (lines : List (List FmtComposite)) → placed_lines skin cs (map below lines) ≡ map (λ (cell : CellInColumn). record cell { rows = drop 1 cell.rows }) (placed_lines skin cs lines)
 below_placed skin [] lines = refl

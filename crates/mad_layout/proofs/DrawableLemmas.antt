@@ -165,7 +165,7 @@ read_drawable skin width drawn line source lines narrower bound plain read (inr 
     wrapped_place source.spacing source.visible_length (inner_of skin width source) margins drawn (omega (arith, wide, margins-le (line_style skin source.kind) width)) inside read.place in
     subst (AreDrawable skin drawn) (sym same)
     (wrapped_drawable skin drawn r.first margins source.kind (follow_up source.kind) source.spacing r ps tokens.0 wrap bound inside place refl refl prefix (follow_up_plain skin source.kind prefix) shown
-    wraps.kinds wraps.spacing wraps.measured (wraps.fits room) (wraps.parts tokens.0 tokens.1))
+    wraps.made.kinds wraps.made.spacing wraps.made.measured (wraps.fits room) (wraps.parts tokens.0 tokens.1))
 
 -- ---- a text
 
@@ -183,20 +183,8 @@ read_some skin width line source lines plain read (inr (wide, (w ∷ ws, wraps, 
 -- what becomes of one line of a text
 content_drawable : (skin : RowSkin) (width drawn : ℕ) (part : List LineContent) (content : LineContent) (l m : FmtLine) (own : List FmtLine) → width ≤ drawn → drawn < 2 ^ 64 - 1 → IsPlainContent skin width part content → IsLineRead (line_rules skin) content l → is_table_line l ≡ false
     → IsPlacedOrKept (line_rules skin) width l m → IsLineAt IsFittingWrap (line_rules skin) (Some width) m own → (0 < length own) × AreDrawable skin drawn own
-content_drawable skin width drawn part (table_row cells) (Normal l) m own narrower bound plain read alone placed here = absurd read
 content_drawable skin width drawn part (table_row cells) (TableRow row) m own narrower bound plain read alone placed here = absurd (cc)
-content_drawable skin width drawn part (table_row cells) (TableRule rule) m own narrower bound plain read alone placed here = absurd read
-content_drawable skin width drawn part (table_row cells) HorizontalRule m own narrower bound plain read alone placed here = absurd read
-content_drawable skin width drawn part (table_rule aligns) (Normal l) m own narrower bound plain read alone placed here = absurd read
-content_drawable skin width drawn part (table_rule aligns) (TableRow row) m own narrower bound plain read alone placed here = absurd read
 content_drawable skin width drawn part (table_rule aligns) (TableRule rule) m own narrower bound plain read alone placed here = absurd (cc)
-content_drawable skin width drawn part (table_rule aligns) HorizontalRule m own narrower bound plain read alone placed here = absurd read
-content_drawable skin width drawn part (normal said) (TableRow row) m own narrower bound plain read alone placed here = absurd read
-content_drawable skin width drawn part (normal said) (TableRule rule) m own narrower bound plain read alone placed here = absurd read
-content_drawable skin width drawn part (normal said) HorizontalRule m own narrower bound plain read alone placed here = absurd read
-content_drawable skin width drawn part horizontal_rule (Normal l) m own narrower bound plain read alone placed here = absurd read
-content_drawable skin width drawn part horizontal_rule (TableRow row) m own narrower bound plain read alone placed here = absurd read
-content_drawable skin width drawn part horizontal_rule (TableRule rule) m own narrower bound plain read alone placed here = absurd read
 content_drawable skin width drawn part (normal said) (Normal l) m own narrower bound plain read alone (inl same) here =
     let becomes : IsLaidOutBy IsFittingWrap (line_rules skin) width l own = subst (λ (x : FmtLine). IsLineAt IsFittingWrap (line_rules skin) (Some width) x own) same here in
     let is : IsPlacedFor skin width said l = record {
@@ -216,22 +204,22 @@ content_drawable skin width drawn part horizontal_rule HorizontalRule m own narr
     let one : length own ≡ 1 = ap length becomes in
     (omega (arith, one), subst (AreDrawable skin drawn) (sym becomes) (column_piece skin.horizontal_rule plain, tt))
 content_drawable skin width drawn part horizontal_rule HorizontalRule m own narrower bound plain read alone (inr placed) here = absurd placed
+content_drawable skin width drawn part _ _ m own narrower bound plain read alone _ here = absurd read
 
 -- the lines of a part, where those of the parts after it are drawn exactly
 lines_drawable : (skin : RowSkin) (width drawn n : ℕ) (part : List LineContent) (above : Option (List Alignment)) (begins : Bool) (text : List LineContent) (xs : List LineInPart) (read placed own others : List FmtLine) → width ≤ drawn → drawn < 2 ^ 64 - 1 → Later skin width drawn xs others
     → KeepsPremises skin width (take n (lines_in part above begins text ++ xs)) → AreRead (line_rules skin) text read → AllByRecursion (λ l. is_table_line l ≡ false) read → ArePlacedOrKept (line_rules skin) width read placed → AreLinesAt IsFittingWrap (line_rules skin) (Some width) placed own
     → AreDrawable skin drawn (take n (own ++ others))
 lines_drawable skin width drawn zero part above begins text xs read placed own others narrower bound later keeps reads alone places becomes = tt
-lines_drawable skin width drawn (suc n) part above begins text xs [] (m ∷ ms) own others narrower bound later keeps reads alone places becomes = absurd places
 lines_drawable skin width drawn (suc n) part above begins [] xs [] [] own others narrower bound later keeps reads alone places becomes =
     subst (λ (ls : List FmtLine). AreDrawable skin drawn (take (suc n) (ls ++ others))) (sym becomes) (later (suc n) keeps)
 lines_drawable skin width drawn (suc n) part above begins (c ∷ cs) xs [] [] own others narrower bound later keeps reads alone places becomes = absurd reads
 lines_drawable skin width drawn (suc n) part above begins [] xs (l ∷ ls) placed own others narrower bound later keeps reads alone places becomes = absurd reads
-lines_drawable skin width drawn (suc n) part above begins (c ∷ cs) xs (l ∷ ls) [] own others narrower bound later keeps reads alone places becomes = absurd places
 lines_drawable skin width drawn (suc n) part above begins (c ∷ cs) xs (l ∷ ls) (m ∷ ms) own others narrower bound later keeps reads alone places (first, more, joins, here, below) =
     let one = content_drawable skin width drawn part c l m first narrower bound keeps.0 reads.0 alone.0 places.0 here in
     subst (λ (xs : List FmtLine). AreDrawable skin drawn (take (suc n) xs)) (sym (ap (λ xs. xs ++ others) joins ∙ append_assoc first more others))
     (some_joined skin drawn first (more ++ others) n one.0 one.1 (lines_drawable skin width drawn n part (aligns_at above c) false cs xs ls ms more others narrower bound later keeps.1 reads.1 alone.1 places.1 below))
+lines_drawable skin width drawn _ part above begins _ xs _ _ own others narrower bound later keeps reads alone places _ = absurd places
 
 no_table_lines : (ls : List FmtComposite) → AllByRecursion (λ l. is_table_line l ≡ false) (map Normal ls)
 no_table_lines [] = tt
@@ -242,8 +230,6 @@ parts_drawable : (skin : RowSkin) (width drawn n : ℕ) (css : List (List LineCo
     → KeepsPremises skin width (take n (all_in css)) → ArePartsRead skin css ps → ArePartsAt IsFittingWrap (line_rules skin) width (Some width) ps lines → AreDrawable skin drawn (take n lines)
 parts_drawable skin width drawn zero css ps lines narrower bound kinds keeps reads becomes = tt
 parts_drawable skin width drawn (suc n) [] [] lines narrower bound kinds keeps reads becomes = subst (λ (ls : List FmtLine). AreDrawable skin drawn (take (suc n) ls)) (sym becomes) tt
-parts_drawable skin width drawn (suc n) [] (p ∷ ps) lines narrower bound kinds keeps reads becomes = absurd reads
-parts_drawable skin width drawn (suc n) (cs ∷ css) [] lines narrower bound kinds keeps reads becomes = absurd reads
 parts_drawable skin width drawn (suc n) ([] ∷ css) (p ∷ ps) lines narrower bound kinds keeps reads becomes = absurd reads.0
 parts_drawable skin width drawn (suc n) ((c ∷ cs) ∷ css) (table [] ∷ ps) lines narrower bound kinds keeps reads becomes = absurd reads.0
 parts_drawable skin width drawn (suc n) ((c ∷ cs) ∷ css) (table (l ∷ ls) ∷ ps) lines narrower bound kinds keeps reads (own, others, joins, here, more) =
@@ -257,6 +243,7 @@ parts_drawable skin width drawn (suc n) ((c ∷ cs) ∷ css) (single l ∷ ps) l
     subst (λ (xs : List FmtLine). AreDrawable skin drawn (take (suc n) xs)) (sym joins)
     (lines_drawable skin width drawn (suc n) (c ∷ cs) None true (c ∷ cs) (all_in css) (l ∷ []) (l ∷ []) own others narrower bound
     (λ m k. parts_drawable skin width drawn m css ps others narrower bound kinds.1 k reads.1 more) keeps (part_raw skin (c ∷ cs) (single l) reads.0) (kinds.0, tt) (inl refl, tt) here)
+parts_drawable skin width drawn _ _ _ lines narrower bound kinds keeps reads _ = absurd reads
 
 -- Where the first lines of a text keep the premises, the first lines of its layout are drawn exactly in a row at least as wide, however
 -- many lines it has.

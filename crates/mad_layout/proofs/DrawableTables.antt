@@ -99,7 +99,7 @@ cell_fills skin c cell ls bound measured plain (inr (wide, wraps)) =
     let tokens = tokens_of_all (token_limit r) ps (utf8_of ps plain.plain) in
     let shown = all_joined IsShownRun (map run_of ps) (map token_run tokens.0) (all_each IsPlainRun IsShownRun plain_is_shown (map run_of ps) plain.plain)
     (tokens_shown (token_limit r) ps tokens.0 plain.plain narrow tokens.1) in
-    wrapped_fill skin c r.first cell.kind (follow_up cell.kind) r ps tokens.0 ls bound refl refl refl plain.prefix (follow_up_plain skin cell.kind plain.prefix) shown wraps.kinds wraps.measured (wraps.fits room)
+    wrapped_fill skin c r.first cell.kind (follow_up cell.kind) r ps tokens.0 ls bound refl refl refl plain.prefix (follow_up_plain skin cell.kind plain.prefix) shown wraps.made.kinds wraps.made.measured (wraps.fits room)
     (wraps.parts tokens.0 tokens.1)
 
 -- ---- a row
@@ -145,22 +145,16 @@ top_fills skin c (l ∷ ls) x h top = subst (FillsItsPlace skin) (sym top) h.0
 
 across_fill : (skin : RowSkin) (cs : List Spacing) (lines : List (List FmtComposite)) (xs : List FmtComposite) → FillColumns skin cs lines → IsLineAcross cs lines xs → AllByRecursion (FillsItsPlace skin) xs
 across_fill skin [] [] [] h across = tt
-across_fill skin [] [] (x ∷ xs) h across = absurd across
-across_fill skin [] (ls ∷ lines) xs h across = absurd across
-across_fill skin (c ∷ cs) [] xs h across = absurd across
-across_fill skin (c ∷ cs) (ls ∷ lines) [] h across = absurd across
 across_fill skin (c ∷ cs) (ls ∷ lines) (x ∷ xs) h across = (top_fills skin c ls x h.0 across.0, across_fill skin cs lines xs h.1 across.1)
+across_fill skin _ _ _ h across = absurd across
 
 pub across_columns : (cs : List Spacing) (lines : List (List FmtComposite)) (xs : List FmtComposite) → IsLineAcross cs lines xs → row_columns xs ≡ 1 + bordered (widths_of cs)
 across_columns [] [] [] across = refl
-across_columns [] [] (x ∷ xs) across = absurd across
-across_columns [] (ls ∷ lines) xs across = absurd across
-across_columns (c ∷ cs) [] xs across = absurd across
-across_columns (c ∷ cs) (ls ∷ lines) [] across = absurd across
 across_columns (c ∷ cs) (ls ∷ lines) (x ∷ xs) across =
     let rest : row_columns xs ≡ 1 + bordered (widths_of cs) = across_columns cs lines xs across.1 in
     let own : inner_columns x ≡ c.width = ap (λ s. unwrap_or (place_of s) x.visible_length) (top_spacing c ls x across.0) in
     omega (arith, rest, own)
+across_columns _ _ _ across = absurd across
 
 below_fill : (skin : RowSkin) (cs : List Spacing) (lines : List (List FmtComposite)) → FillColumns skin cs lines → FillColumns skin cs (map below lines)
 below_fill skin [] lines h = tt
@@ -212,10 +206,8 @@ centered-widths [] = refl
 centered-widths (w ∷ ws) = ap (λ vs. w ∷ vs) (centered-widths ws)
 
 from-widths : (ws : List ℕ) (cs : List Spacing) (l : FmtLine) → widths_of cs ≡ ws → widths_of (columns_from ws cs l) ≡ ws
-from-widths ws cs (Normal l) h = h
-from-widths ws cs (TableRow row) h = h
 from-widths ws cs (TableRule rule) h = columns_with-widths ws rule.aligns.items
-from-widths ws cs HorizontalRule h = h
+from-widths ws cs _ h = h
 
 fit_from : (drawn : ℕ) (ws : List ℕ) (cs : List Spacing) (l : FmtLine) → FitColumns drawn ws cs → FitColumns drawn ws (columns_from ws cs l)
 fit_from drawn ws cs l h = record { two = h.two; bound = h.bound; fit = h.fit; are = from-widths ws cs l h.are }
@@ -230,7 +222,6 @@ map_some (row ∷ rows) h = omega arith
 
 table_line_drawable : (skin : RowSkin) (drawn : ℕ) (ws : List ℕ) (cs : List Spacing) (position : RelativePosition) (l : FmtLine) (own : List FmtLine) → FitColumns drawn ws cs
     → AreBordersShown skin → IsPlainTableLine skin ws l → IsTableLineBy IsFittingWrap (line_rules skin) cs position l own → (0 < length own) × AreDrawable skin drawn own
-table_line_drawable skin drawn ws cs position (Normal l) own fit borders plain here = absurd plain
 table_line_drawable skin drawn ws cs position (TableRow row) own fit borders plain (rows, is, laid) =
     let inside : 1 + bordered (widths_of cs) ≤ drawn = subst (λ vs. 1 + bordered vs ≤ drawn) (sym fit.are) fit.fit in
     let cells : ArePlainCells skin (widths_of cs) row.cells.items = subst (λ vs. ArePlainCells skin vs row.cells.items) (sym fit.are) plain in
@@ -240,7 +231,7 @@ table_line_drawable skin drawn ws cs position (TableRow row) own fit borders pla
 table_line_drawable skin drawn ws cs position (TableRule source) own fit borders plain (rule, is, laid) =
     subst (λ (ls : List FmtLine). (0 < length ls) × AreDrawable skin drawn ls) (sym is)
     (omega arith, (rule_drawable skin drawn position cs rule fit.two (subst (λ vs. 1 + bordered vs ≤ drawn) (sym fit.are) fit.fit) borders laid, tt))
-table_line_drawable skin drawn ws cs position HorizontalRule own fit borders plain here = absurd plain
+table_line_drawable skin drawn ws cs position _ own fit borders plain _ = absurd plain
 
 -- ---- lines without columns
 
@@ -250,24 +241,22 @@ no_row (cell ∷ cells) h = absurd (omega (arith, h))
 
 -- a line of a table without columns stays, and is drawn exactly
 bare_drawable : (skin : RowSkin) (drawn : ℕ) (l : FmtLine) → 2 ≤ drawn → AreBordersShown skin → IsPlainTableLine skin [] l → columns_in l ≡ 0 → IsDrawableLine skin drawn l
-bare_drawable skin drawn (Normal l) two borders plain none = absurd plain
 bare_drawable skin drawn (TableRow row) two borders plain none =
     subst (IsDrawableRow skin drawn) (sym (no_row row.cells.items none)) (record { fits = omega (arith, two); each = tt; border = column_border skin.table.compound_style skin.table_border_chars.vertical borders.vertical })
 bare_drawable skin drawn (TableRule rule) two borders plain none = record { fits = subst (λ (ws : List ℕ). rule_columns ws ≤ drawn) (sym plain) two; chars = column_rule skin (rule_chars skin.table_border_chars rule.position) (borders.rules rule.position) }
-bare_drawable skin drawn HorizontalRule two borders plain none = absurd plain
+bare_drawable skin drawn _ two borders plain none = absurd plain
 
 -- ---- lines of a text
 
 cells_plain : (skin : RowSkin) (ws : List ℕ) (said : List StyledRuns) (cells : List FmtComposite) → ArePlainIn skin ws said → AreCompositesRead (line_rules skin) said cells → ArePlainCells skin ws cells
 cells_plain skin [] said cells plain read = tt
 cells_plain skin (w ∷ ws) [] [] plain read = tt
-cells_plain skin (w ∷ ws) [] (l ∷ ls) plain read = absurd read
-cells_plain skin (w ∷ ws) (s ∷ ss) [] plain read = absurd read
 cells_plain skin (w ∷ ws) (s ∷ ss) (l ∷ ls) plain read = (
   read.0.measured,
   subst (λ (k : CompositeKind). IsPlainText skin w k (map run_of l.compounds.items)) (sym read.0.kind) (subst (λ (rs : List Run). IsPlainText skin w (kind_of s.style) rs) (sym read.0.text) plain.0),
   cells_plain skin ws ss ls plain.1 read.1,
 )
+cells_plain skin _ _ _ plain read = absurd read
 
 -- what a line of a table says that keeps the premises
 pub record TableContent (skin : RowSkin) (width : ℕ) (ws : List ℕ) (l : FmtLine) : Type 0 where
@@ -285,21 +274,10 @@ kept_columns skin width part ws is cells given = subst (λ vs. ArePlainIn skin v
 pub content_plain : (skin : RowSkin) (width : ℕ) (part : List LineContent) (ws : List ℕ) (c : LineContent) (l : FmtLine) → ArePartColumns skin width part ws → IsPlainContent skin width part c → IsLineRead (line_rules skin) c l → is_table_line l ≡ true
     → TableContent skin width ws l
 content_plain skin width part ws (normal said) (Normal l) columns plain read is = absurd (cc)
-content_plain skin width part ws (normal said) (TableRow row) columns plain read is = absurd read
-content_plain skin width part ws (normal said) (TableRule rule) columns plain read is = absurd read
-content_plain skin width part ws (normal said) HorizontalRule columns plain read is = absurd read
-content_plain skin width part ws (table_row cells) (Normal l) columns plain read is = absurd read
 content_plain skin width part ws (table_row cells) (TableRow row) columns plain read is = record { two = plain.0; borders = plain.1; plain = cells_plain skin ws cells row.cells.items (columns cells plain.2) read }
-content_plain skin width part ws (table_row cells) (TableRule rule) columns plain read is = absurd read
-content_plain skin width part ws (table_row cells) HorizontalRule columns plain read is = absurd read
-content_plain skin width part ws (table_rule aligns) (Normal l) columns plain read is = absurd read
-content_plain skin width part ws (table_rule aligns) (TableRow row) columns plain read is = absurd read
 content_plain skin width part ws (table_rule aligns) (TableRule rule) columns plain read is = record { two = plain.0; borders = plain.1; plain = read.widths }
-content_plain skin width part ws (table_rule aligns) HorizontalRule columns plain read is = absurd read
-content_plain skin width part ws horizontal_rule (Normal l) columns plain read is = absurd read
-content_plain skin width part ws horizontal_rule (TableRow row) columns plain read is = absurd read
-content_plain skin width part ws horizontal_rule (TableRule rule) columns plain read is = absurd read
 content_plain skin width part ws horizontal_rule HorizontalRule columns plain read is = absurd (cc)
+content_plain skin width part ws _ _ columns plain read is = absurd read
 
 -- of lines of a text that come after a part, those that are drawn are drawn exactly
 abbrev pub Later : RowSkin → ℕ → ℕ → List LineInPart → List FmtLine → Type 0
@@ -311,8 +289,6 @@ laid_drawable : (skin : RowSkin) (width drawn n : ℕ) (part : List LineContent)
 laid_drawable skin width drawn zero part above text xs ws cs first table own others fit narrower bound are columns later keeps reads lines laid = tt
 laid_drawable skin width drawn (suc n) part above [] xs ws cs first [] own others fit narrower bound are columns later keeps reads lines laid =
     subst (λ (ls : List FmtLine). AreDrawable skin drawn (take (suc n) (ls ++ others))) (sym laid) (later (suc n) keeps)
-laid_drawable skin width drawn (suc n) part above (c ∷ text) xs ws cs first [] own others fit narrower bound are columns later keeps reads lines laid = absurd reads
-laid_drawable skin width drawn (suc n) part above [] xs ws cs first (l ∷ ls) own others fit narrower bound are columns later keeps reads lines laid = absurd reads
 laid_drawable skin width drawn (suc n) part above (c ∷ text) xs ws cs first (l ∷ ls) own others fit narrower bound are columns later keeps reads lines (front, more, joins, here, below_it) =
     let content : TableContent skin width ws l = content_plain skin width part ws c l columns keeps.0 reads.0 lines.0 in
     let two : 2 ≤ width = content.two in
@@ -321,18 +297,18 @@ laid_drawable skin width drawn (suc n) part above (c ∷ text) xs ws cs first (l
     subst (λ (xs : List FmtLine). AreDrawable skin drawn (take (suc n) xs)) (sym (ap (λ xs. xs ++ others) joins ∙ append_assoc front more others))
     (some_joined skin drawn front (more ++ others) n one.0 one.1
     (laid_drawable skin width drawn n part (aligns_at above c) text xs ws (columns_from ws cs l) false ls more others fit narrower bound (from-widths ws cs l are) columns later keeps.1 reads.1 lines.1 below_it))
+laid_drawable skin width drawn _ part above _ xs ws cs first _ own others fit narrower bound are columns later keeps reads lines _ = absurd reads
 
 bare_lines : (skin : RowSkin) (width drawn n : ℕ) (part : List LineContent) (above : Option (List Alignment)) (first : Bool) (text : List LineContent) (xs : List LineInPart) (table others : List FmtLine) → width ≤ drawn → columns_count table ≡ 0 → Later skin width drawn xs others
     → KeepsPremises skin width (take n (lines_in part above first text ++ xs)) → AreRead (line_rules skin) text table → AllTableLines table → AreDrawable skin drawn (take n (table ++ others))
 bare_lines skin width drawn zero part above first text xs table others narrower none later keeps reads lines = tt
 bare_lines skin width drawn (suc n) part above first [] xs [] others narrower none later keeps reads lines = later (suc n) keeps
-bare_lines skin width drawn (suc n) part above first (c ∷ text) xs [] others narrower none later keeps reads lines = absurd reads
-bare_lines skin width drawn (suc n) part above first [] xs (l ∷ ls) others narrower none later keeps reads lines = absurd reads
 bare_lines skin width drawn (suc n) part above first (c ∷ text) xs (l ∷ ls) others narrower none later keeps reads lines =
     let content : TableContent skin width [] l = content_plain skin width part [] c l (λ cells given. tt) keeps.0 reads.0 lines.0 in
     let two : 2 ≤ width = content.two in
     let own : columns_in l ≡ 0 = omega (arith, none) in
     (bare_drawable skin drawn l (omega (arith, two, narrower)) content.borders content.plain own, bare_lines skin width drawn n part (aligns_at above c) false text xs ls others narrower (omega (arith, none)) later keeps.1 reads.1 lines.1)
+bare_lines skin width drawn _ part above first _ xs _ others narrower none later keeps reads lines = absurd reads
 
 -- The lines of a table, which is a part of a text, and those after it.
 pub table_drawable : (skin : RowSkin) (width drawn n : ℕ) (c : LineContent) (text : List LineContent) (xs : List LineInPart) (l : FmtLine) (ls own others : List FmtLine) → width ≤ drawn → drawn < 2 ^ 64 - 1 → Later skin width drawn xs others

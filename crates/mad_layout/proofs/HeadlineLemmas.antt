@@ -13,29 +13,16 @@ use Rattle.mad_fit.specs.Areas.{IsWithinLimits}
 use Rattle.mad_fit.specs.declared.area.Area.{Area}
 use Rattle.mad_layout.specs.Drawable.{AreDrawable}
 use Rattle.mad_blocks.specs.Fronts.{IsFrontLayout}
-use Rattle.mad_layout.specs.InArea.{IsAreaLayout, IsAreaFront, ShowsText, WritesInArea}
-use Rattle.mad_blocks.specs.Layouts.{IsLayoutAt, IsMarkdownLayout}
+use Rattle.mad_layout.specs.InArea.{IsAreaFront, ShowsText, WritesInArea}
 use Rattle.mad_layout.specs.Premises.{KeepsPremises}
 use Rattle.mad_layout.specs.Shown.{lines_shown, AreShownIn}
 use Rattle.mad_blocks.specs.TextParts.{LineInPart, text_parts, lines_in_parts}
 use Rattle.mad_rows.specs.declared.row_skin.RowSkin.{RowSkin}
 use Rattle.mad_format.specs.declared.line.FmtLine.{FmtLine}
-use Rattle.mad_layout.specs.declared.fmt_text.FmtText.{FmtText}
 use Rattle.mad_layout.proofs.DrawableLemmas.{layout_is_drawable}
 use Rattle.mad_blocks.proofs.WrapKinds.{wrapped_at}
 use Rattle.mad_layout.proofs.ReadParts.{in_parts_both}
 use Rattle.mad_rows.specs.RowStyles.{line_rules}
-
--- a text that was laid out for an area
-pub area_layout : {E : Type 0} (r : Result FmtText E) (skin : RowSkin) (markdown : List ℕ) (area : Area) (width : ℕ) → width ≡ area.width - 1
-    → IfOk r (λ laid_out. IsMarkdownLayout (line_rules skin) (Some width) markdown laid_out.lines.items)
-    → IfOk r (λ laid_out. IsAreaLayout skin markdown area laid_out.lines.items)
-area_layout {E} (Ok laid_out) skin markdown area width e h = record {
-  text = h.0;
-  read = h.1;
-  layout = subst (λ (w : ℕ). IsLayoutAt (line_rules skin) (Some w) h.0 laid_out.lines.items) e h.2;
-}
-area_layout {E} (Err x) skin markdown area width e h = tt
 
 -- the first lines of some are first lines of all
 first_keep : (skin : RowSkin) (width n : ℕ) (front rest : List LineInPart) → KeepsPremises skin width (take n (front ++ rest)) → KeepsPremises skin width (take n front)

@@ -10,14 +10,13 @@ use Rattle.mad_screen.specs.Painting.{attach}
 use Rattle.mad_term.specs.Trace.{Trace, flushed}
 use Rattle.mad_term.proofs.Traces.{took_flushed}
 use Rattle.mad_md.specs.Lines.{LineContent}
-use Rattle.mad_md.specs.Reading.{IsRead, unread_text}
 use Rattle.mad_fit.specs.Areas.{IsWithinLimits}
 use Rattle.mad_fit.specs.declared.area.Area.{Area}
 use Rattle.mad_draw.specs.Pieces.{PennedChar, penned_chars}
 use Rattle.mad_draw.specs.PennedCells.{penned_attached, penned_cells}
 use Rattle.mad_layout.specs.FlaggedTexts.{LineInPart, lines_in_parts, AreAcross}
 use Rattle.mad_blocks.specs.Fronts.{IsFrontLayout}
-use Rattle.mad_layout.specs.Headline.{cell_chars, AreShownAcross, ShowsFirstRows}
+use Rattle.mad_layout.specs.Headline.{cell_chars, AreShownAcross, ShowsFirstRows, ShowsHeadline}
 use Rattle.mad_layout.specs.InArea.{ShowsText}
 use Rattle.mad_blocks.proofs.WideLayouts.{IsLayout}
 use Rattle.mad_rows.specs.Rows.{row_pieces}
@@ -139,20 +138,16 @@ rest_or_enough : (skin : RowSkin) (width : ℕ) (height : ℕ) (rest : List Line
 rest_or_enough skin width height rest lines (inl none) = inl (ap lines_in_parts none)
 rest_or_enough skin width height rest lines (inr some) = inr (omega (arith, some, length-map lines (line_chars skin width)))
 
--- the text is read as lines, and the area shows the first of their rows
-abbrev ShowsReading : RowSkin → List ℕ → Area → Trace → Trace → Type 0
-ShowsReading skin markdown area old new = (lines : List LineContent) × IsRead (unread_text false markdown) lines × ShowsFirstRows skin lines area old new
-
-headline : (skin : RowSkin) (markdown : List ℕ) (area : Area) (old new : Trace) → IsWithinLimits area → 4 ≤ area.width → ShowsText skin markdown area old new → ShowsReading skin markdown area old new
+headline : (skin : RowSkin) (markdown : List ℕ) (area : Area) (old new : Trace) → IsWithinLimits area → 4 ≤ area.width → ShowsText skin markdown area old new → ShowsHeadline skin markdown area old new
 headline skin markdown area old new limits wide h =
     let text : List LineContent = h.laid_out.text in
     let width : ℕ = area.width - 1 in
     let front : IsFrontLayout (line_rules skin) (Some width) area.height text h.lines = h.laid_out.layout in
     let layout : IsLayout (line_rules skin) width front.front h.lines = wrapped_at (line_rules skin) width front.front h.lines (omega (arith, wide)) front.layout in
-    let bound : area.width < 2 ^ 64 - 1 = omega (arith, limits.columns) in (
-      text,
-      h.laid_out.read,
-      record {
+    let bound : area.width < 2 ^ 64 - 1 = omega (arith, limits.columns) in record {
+      lines = text;
+      read = h.laid_out.read;
+      rows = record {
         shown = λ premises.
             let first = front_keeps skin width area.height text front.front front.rest front.parts premises in
             let rows = text_across skin area area.height front.front h.lines bound wide first layout in
@@ -162,17 +157,17 @@ headline skin markdown area old new limits wide h =
               subst (λ (ls : List LineInPart). AreAcross skin area ls all.0) (sym (in_parts_both text front.front front.rest front.parts)) all.1,
               took_more_at old.bytes new (AreShownIn skin h.lines area 0) (AreShownAcross all.0 area) (shown_across skin h.lines area all.0 all.2) (h.shown premises),
             );
-      },
-    )
+      };
+    }
 
 pub headline_shown : {T E : Type 0} (r : Result T E) (skin : RowSkin) (markdown : List ℕ) (area : Area) (old new : Trace) → IsWithinLimits area
-    → OnOk r (4 ≤ area.width → ShowsText skin markdown area old new) → OnOk r (4 ≤ area.width → ShowsReading skin markdown area old new)
+    → OnOk r (4 ≤ area.width → ShowsText skin markdown area old new) → OnOk r (4 ≤ area.width → ShowsHeadline skin markdown area old new)
 headline_shown {T} {E} (Ok x) skin markdown area old new limits h = λ wide. headline skin markdown area old new limits wide (h wide)
 headline_shown {T} {E} (Err e) skin markdown area old new limits h = tt
 
--- a flush takes nothing from it
-pub headline_flushed : (skin : RowSkin) (lines : List LineContent) (area : Area) (old mid new : Trace) → ShowsFirstRows skin lines area old mid → new ≡ flushed mid → ShowsFirstRows skin lines area old new
-headline_flushed skin lines area old mid new h e = record { shown = λ premises. let rows = h.shown premises in (rows.0, rows.1, took_flushed old mid new (AreShownAcross rows.0 area) rows.2 e) }
+first_rows_flushed : (skin : RowSkin) (lines : List LineContent) (area : Area) (old mid new : Trace) → ShowsFirstRows skin lines area old mid → new ≡ flushed mid → ShowsFirstRows skin lines area old new
+first_rows_flushed skin lines area old mid new h e = record { shown = λ premises. let rows = h.shown premises in (rows.0, rows.1, took_flushed old mid new (AreShownAcross rows.0 area) rows.2 e) }
 
-pub reading_flushed : (skin : RowSkin) (markdown : List ℕ) (area : Area) (old mid new : Trace) → ShowsReading skin markdown area old mid → new ≡ flushed mid → ShowsReading skin markdown area old new
-reading_flushed skin markdown area old mid new h e = (h.0, h.1, headline_flushed skin h.0 area old mid new h.2 e)
+-- a flush takes nothing from it
+pub headline_flushed : (skin : RowSkin) (markdown : List ℕ) (area : Area) (old mid new : Trace) → ShowsHeadline skin markdown area old mid → new ≡ flushed mid → ShowsHeadline skin markdown area old new
+headline_flushed skin markdown area old mid new h e = record { lines = h.lines; read = h.read; rows = first_rows_flushed skin h.lines area old mid new h.rows e }

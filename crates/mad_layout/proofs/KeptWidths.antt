@@ -34,62 +34,45 @@ pub record IsTableLineRead (skin : RowSkin) (c : LineContent) (l : FmtLine) : Ty
 
 abbrev pub AreTableRead : RowSkin → List LineContent → List FmtLine → Type 0
 AreTableRead skin [] [] = Unit {0}
-AreTableRead skin [] (l ∷ ls) = ⊥
-AreTableRead skin (c ∷ cs) [] = ⊥
 AreTableRead skin (c ∷ cs) (l ∷ ls) = IsTableLineRead skin c l × AreTableRead skin cs ls
+AreTableRead skin _ _ = ⊥
 
 -- ---- the widths
 
 counts_read : (skin : RowSkin) (said : List StyledRuns) (cells : List FmtComposite) → AreCompositesRead (line_rules skin) said cells → length cells ≡ length said
 counts_read skin [] [] h = refl
-counts_read skin [] (l ∷ ls) h = absurd h
-counts_read skin (s ∷ ss) [] h = absurd h
 counts_read skin (s ∷ ss) (l ∷ ls) h = let rest : length ls ≡ length ss = counts_read skin ss ls h.1 in omega (arith, rest)
+counts_read skin _ _ h = absurd h
 
 lengths_read : (skin : RowSkin) (said : List StyledRuns) (cells : List FmtComposite) → AreCompositesRead (line_rules skin) said cells → map (λ (l : FmtComposite). l.visible_length) cells ≡ map (cell_columns skin) said
 lengths_read skin [] [] h = refl
-lengths_read skin [] (l ∷ ls) h = absurd h
-lengths_read skin (s ∷ ss) [] h = absurd h
 lengths_read skin (s ∷ ss) (l ∷ ls) h =
     let text : text_of l ≡ runs_text s.runs = sym (ap runs_text (sym h.0.text) ∙ runs_are l.compounds.items) in
     let own : l.visible_length ≡ cell_columns skin s =
     h.0.measured ∙ ap (λ (k : CompositeKind). capped (indent skin.list_items_indentation_mode k + width_of (text_of l))) h.0.kind ∙ ap (λ (t : List FlaggedChar). capped (indent skin.list_items_indentation_mode (kind_of s.style) + width_of t)) text in
     ap (λ n. n ∷ map (λ (l : FmtComposite). l.visible_length) ls) own ∙ ap (λ ns. cell_columns skin s ∷ ns) (lengths_read skin ss ls h.1)
+lengths_read skin _ _ h = absurd h
 
 line_count : (skin : RowSkin) (c : LineContent) (l : FmtLine) → IsLineRead (line_rules skin) c l → columns_in l ≡ count_in c
 line_count skin (normal said) (Normal l) read = refl
-line_count skin (normal said) (TableRow row) read = absurd read
-line_count skin (normal said) (TableRule rule) read = absurd read
-line_count skin (normal said) HorizontalRule read = absurd read
-line_count skin (table_row cells) (Normal l) read = absurd read
 line_count skin (table_row cells) (TableRow row) read = counts_read skin cells row.cells.items read
-line_count skin (table_row cells) (TableRule rule) read = absurd read
-line_count skin (table_row cells) HorizontalRule read = absurd read
-line_count skin (table_rule aligns) (Normal l) read = absurd read
-line_count skin (table_rule aligns) (TableRow row) read = absurd read
 line_count skin (table_rule aligns) (TableRule rule) read = ap length read.aligns_are
-line_count skin (table_rule aligns) HorizontalRule read = absurd read
-line_count skin horizontal_rule (Normal l) read = absurd read
-line_count skin horizontal_rule (TableRow row) read = absurd read
-line_count skin horizontal_rule (TableRule rule) read = absurd read
 line_count skin horizontal_rule HorizontalRule read = refl
+line_count skin _ _ read = absurd read
 
 pub count_read : (skin : RowSkin) (cs : List LineContent) (ls : List FmtLine) → AreTableRead skin cs ls → columns_count ls ≡ columns_among cs
 count_read skin [] [] h = refl
-count_read skin [] (l ∷ ls) h = absurd h
-count_read skin (c ∷ cs) [] h = absurd h
 count_read skin (c ∷ cs) (l ∷ ls) h =
     let own : columns_in l ≡ count_in c = line_count skin c l h.0.read in
     let rest : columns_count ls ≡ columns_among cs = count_read skin cs ls h.1 in
     omega (arith, own, rest)
+count_read skin _ _ h = absurd h
 
 abbrev row_lengths : List (List FmtComposite) → List (List ℕ)
 row_lengths rows = map (λ cells. map (λ (l : FmtComposite). l.visible_length) cells) rows
 
 cells_read : (skin : RowSkin) (cs : List LineContent) (ls : List FmtLine) → AreTableRead skin cs ls → row_lengths (rows_among ls) ≡ cells_among skin cs
 cells_read skin [] [] h = refl
-cells_read skin [] (l ∷ ls) h = absurd h
-cells_read skin (c ∷ cs) [] h = absurd h
 cells_read skin (normal said ∷ cs) (Normal l ∷ ls) h = cells_read skin cs ls h.1
 cells_read skin (normal said ∷ cs) (TableRow row ∷ ls) h = absurd h.0.read
 cells_read skin (normal said ∷ cs) (TableRule rule ∷ ls) h = absurd h.0.read
@@ -107,6 +90,7 @@ cells_read skin (horizontal_rule ∷ cs) (Normal l ∷ ls) h = absurd h.0.read
 cells_read skin (horizontal_rule ∷ cs) (TableRow row ∷ ls) h = absurd h.0.read
 cells_read skin (horizontal_rule ∷ cs) (TableRule rule ∷ ls) h = absurd h.0.read
 cells_read skin (horizontal_rule ∷ cs) (HorizontalRule ∷ ls) h = cells_read skin cs ls h.1
+cells_read skin _ _ h = absurd h
 
 firsts_are : (rows : List (List FmtComposite)) → first_lengths rows ≡ flat_map (take 1) (row_lengths rows)
 firsts_are [] = refl

@@ -117,11 +117,9 @@ line_keeps r (t ∷ ts) s k n l h =
 
 -- a blank token begins no line
 place_by-blank : (r : Room) (s : Placing) (w : ℕ) (e f b : Bool) → b ≡ true → (place_by r s w e f b).lines ≡ s.lines
-place_by-blank r s w true f true h = refl
 place_by-blank r s w true f false h = cc
-place_by-blank r s w false true b h = refl
-place_by-blank r s w false false true h = refl
 place_by-blank r s w false false false h = cc
+place_by-blank r s w _ _ _ h = refl
 
 gap_keeps : (r : Room) (ts : List Size) (s : Placing) → AllBlank ts → (place_all r s ts).lines ≡ s.lines
 gap_keeps r [] s h = refl

@@ -81,20 +81,16 @@ singles_columns style (suc n) =
 -- ---- in front of a line
 
 pub prefix_shown : (skin : RowSkin) (kind : CompositeKind) → IsPlainPrefix skin kind → AreShownPieces (prefix_pieces skin kind)
-prefix_shown skin Paragraph h = tt
-prefix_shown skin (Header level) h = tt
 prefix_shown skin (ListItem depth) h = all_joined IsShownPiece (single_spaces skin.paragraph.compound_style depth) _ (singles_shown skin.paragraph.compound_style depth) ((column_piece skin.bullet h).shown, ((shown_spaces skin.paragraph.compound_style 1).0, tt))
 prefix_shown skin (ListItemFollowUp depth) h = singles_shown skin.paragraph.compound_style _
 prefix_shown skin (OrderedListItem level index) h =
     all_joined IsShownPiece (single_spaces skin.paragraph.compound_style level) _ (singles_shown skin.paragraph.compound_style level)
     (number_shown (ordered_item_style skin level).index_style index h.0, ((column_suffix skin level h.1).shown, ((shown_spaces skin.paragraph.compound_style 1).0, tt)))
 prefix_shown skin (OrderedListItemFollowUp level index) h = singles_shown skin.paragraph.compound_style _
-prefix_shown skin Code h = tt
 prefix_shown skin Quote h = ((column_piece skin.quote_mark h).shown, ((shown_spaces skin.paragraph.compound_style 1).0, tt))
+prefix_shown skin _ h = tt
 
 pub prefix_columns : (skin : RowSkin) (kind : CompositeKind) → IsPlainPrefix skin kind → pieces_columns (prefix_pieces skin kind) ≡ indent skin.list_items_indentation_mode kind
-prefix_columns skin Paragraph h = refl
-prefix_columns skin (Header level) h = refl
 prefix_columns skin (ListItem depth) h =
     let blank : CompoundStyle = skin.paragraph.compound_style in
     let after : List RowPiece = char_piece skin.bullet ∷ prefix_space skin ∷ [] in
@@ -112,16 +108,10 @@ prefix_columns skin (OrderedListItem level index) h =
     let one : columns (chars (32 ∷ [])) + 0 ≡ 1 = spaces_columns blank 1 in
     omega (arith, both, before, one, (column_suffix skin level h.1).one, number_columns index h.0)
 prefix_columns skin (OrderedListItemFollowUp level index) h = singles_columns skin.paragraph.compound_style (later_indent skin.list_items_indentation_mode (ordered_indent level index))
-prefix_columns skin Code h = refl
 prefix_columns skin Quote h = let one : columns (chars (32 ∷ [])) + 0 ≡ 1 = spaces_columns skin.paragraph.compound_style 1 in omega (arith, one, (column_piece skin.quote_mark h).one)
+prefix_columns skin _ h = refl
 
 -- the lines that follow have a plain prefix too
 pub follow_up_plain : (skin : RowSkin) (kind : CompositeKind) → IsPlainPrefix skin kind → IsPlainPrefix skin (follow_up kind)
-follow_up_plain skin Paragraph h = tt
-follow_up_plain skin (Header level) h = tt
-follow_up_plain skin (ListItem depth) h = tt
-follow_up_plain skin (ListItemFollowUp depth) h = tt
-follow_up_plain skin (OrderedListItem level index) h = tt
-follow_up_plain skin (OrderedListItemFollowUp level index) h = tt
-follow_up_plain skin Code h = tt
 follow_up_plain skin Quote h = h
+follow_up_plain skin _ h = tt

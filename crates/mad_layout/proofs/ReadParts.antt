@@ -30,23 +30,19 @@ pub record IsCodeRead (skin : RowSkin) (c : LineContent) (l : FmtComposite) : Ty
 
 abbrev pub AreCodeRead : RowSkin → List LineContent → List FmtComposite → Type 0
 AreCodeRead skin [] [] = Unit {0}
-AreCodeRead skin [] (l ∷ ls) = ⊥
-AreCodeRead skin (c ∷ cs) [] = ⊥
 AreCodeRead skin (c ∷ cs) (l ∷ ls) = IsCodeRead skin c l × AreCodeRead skin cs ls
+AreCodeRead skin _ _ = ⊥
 
 abbrev pub IsPartRead : RowSkin → List LineContent → Part → Type 0
-IsPartRead skin [] p = ⊥
 IsPartRead skin (c ∷ cs) (table ls) = AreTableRead skin (c ∷ cs) ls
-IsPartRead skin (c ∷ cs) (block []) = ⊥
 IsPartRead skin (c ∷ cs) (block (l ∷ ls)) = IsCodeRead skin c l × AreCodeRead skin cs ls
 IsPartRead skin (c ∷ []) (single l) = (is_code c ≡ false) × (is_table c ≡ false) × IsLineRead (line_rules skin) c l
-IsPartRead skin (c ∷ d ∷ cs) (single l) = ⊥
+IsPartRead skin _ _ = ⊥
 
 abbrev pub ArePartsRead : RowSkin → List (List LineContent) → List Part → Type 0
 ArePartsRead skin [] [] = Unit {0}
-ArePartsRead skin [] (p ∷ ps) = ⊥
-ArePartsRead skin (cs ∷ css) [] = ⊥
 ArePartsRead skin (cs ∷ css) (p ∷ ps) = IsPartRead skin cs p × ArePartsRead skin css ps
+ArePartsRead skin _ _ = ⊥
 
 both_on : (a b c : Bool) → a ≡ true → b ≡ true → ((a && b) || c) ≡ true
 both_on true true c e f = refl
@@ -80,40 +76,33 @@ code_joins : (skin : RowSkin) (c : LineContent) (l : FmtComposite) (css : List (
 code_joins skin c l [] [] h parts = ((h, tt), tt)
 code_joins skin c l [] (p ∷ ps) h parts = absurd parts
 code_joins skin c l (cs ∷ css) [] h parts = absurd parts
-code_joins skin c l ([] ∷ css) (p ∷ ps) h parts = absurd parts.0
-code_joins skin c l ((d ∷ ds) ∷ css) (table [] ∷ ps) h parts = absurd parts.0
 code_joins skin c l ((d ∷ ds) ∷ css) (table (m ∷ ms) ∷ ps) h parts =
     subst (λ (b : Bool). ReadWith skin b c d ds css (block (l ∷ []) ∷ table (m ∷ ms) ∷ ps)) (sym (apart (is_code c) (is_code d) (is_table c) (is_table d) (inr (table_no_code d parts.0.0.table)) (inl (code_no_table c h.code)))) ((h, tt), parts)
-code_joins skin c l ((d ∷ ds) ∷ css) (block [] ∷ ps) h parts = absurd parts.0
 code_joins skin c l ((d ∷ ds) ∷ css) (block (k ∷ ks) ∷ ps) h parts =
     subst (λ (b : Bool). ReadWith skin b c d ds css (block (l ∷ k ∷ ks) ∷ ps)) (sym (both_on (is_code c) (is_code d) (is_table c && is_table d) h.code parts.0.0.code)) ((h, parts.0), parts.1)
 code_joins skin c l ((d ∷ []) ∷ css) (single m ∷ ps) h parts =
     subst (λ (b : Bool). ReadWith skin b c d [] css (block (l ∷ []) ∷ single m ∷ ps)) (sym (apart (is_code c) (is_code d) (is_table c) (is_table d) (inr parts.0.0) (inr parts.0.1))) ((h, tt), parts)
-code_joins skin c l ((d ∷ e ∷ ds) ∷ css) (single m ∷ ps) h parts = absurd parts.0
+code_joins skin c l _ _ h parts = absurd parts.0
 
 table_joins : (skin : RowSkin) (c : LineContent) (l : FmtLine) (css : List (List LineContent)) (ps : List Part) → IsTableLineRead skin c l → ArePartsRead skin css ps → ArePartsRead skin (in_front c css) (with_table l ps)
 table_joins skin c l [] [] h parts = ((h, tt), tt)
 table_joins skin c l [] (p ∷ ps) h parts = absurd parts
 table_joins skin c l (cs ∷ css) [] h parts = absurd parts
-table_joins skin c l ([] ∷ css) (p ∷ ps) h parts = absurd parts.0
-table_joins skin c l ((d ∷ ds) ∷ css) (table [] ∷ ps) h parts = absurd parts.0
 table_joins skin c l ((d ∷ ds) ∷ css) (table (m ∷ ms) ∷ ps) h parts =
     subst (λ (b : Bool). ReadWith skin b c d ds css (table (l ∷ m ∷ ms) ∷ ps)) (sym (later_on (is_code c && is_code d) (is_table c) (is_table d) h.table parts.0.0.table)) ((h, parts.0), parts.1)
-table_joins skin c l ((d ∷ ds) ∷ css) (block [] ∷ ps) h parts = absurd parts.0
 table_joins skin c l ((d ∷ ds) ∷ css) (block (k ∷ ks) ∷ ps) h parts =
     subst (λ (b : Bool). ReadWith skin b c d ds css (table (l ∷ []) ∷ block (k ∷ ks) ∷ ps)) (sym (apart (is_code c) (is_code d) (is_table c) (is_table d) (inl (table_no_code c h.table)) (inr (code_no_table d parts.0.0.code)))) ((h, tt), parts)
 table_joins skin c l ((d ∷ []) ∷ css) (single m ∷ ps) h parts =
     subst (λ (b : Bool). ReadWith skin b c d [] css (table (l ∷ []) ∷ single m ∷ ps)) (sym (apart (is_code c) (is_code d) (is_table c) (is_table d) (inr parts.0.0) (inr parts.0.1))) ((h, tt), parts)
-table_joins skin c l ((d ∷ e ∷ ds) ∷ css) (single m ∷ ps) h parts = absurd parts.0
+table_joins skin c l _ _ h parts = absurd parts.0
 
 stands_alone : (skin : RowSkin) (c : LineContent) (l : FmtLine) (css : List (List LineContent)) (ps : List Part) → is_code c ≡ false → is_table c ≡ false → IsLineRead (line_rules skin) c l → ArePartsRead skin css ps
     → ArePartsRead skin (in_front c css) (single l ∷ ps)
 stands_alone skin c l [] [] no_code no_table h parts = ((no_code, no_table, h), tt)
-stands_alone skin c l [] (p ∷ ps) no_code no_table h parts = absurd parts
-stands_alone skin c l (cs ∷ css) [] no_code no_table h parts = absurd parts
 stands_alone skin c l ([] ∷ css) (p ∷ ps) no_code no_table h parts = absurd parts.0
 stands_alone skin c l ((d ∷ ds) ∷ css) (p ∷ ps) no_code no_table h parts =
     subst (λ (b : Bool). ReadWith skin b c d ds css (single l ∷ p ∷ ps)) (sym (apart (is_code c) (is_code d) (is_table c) (is_table d) (inl no_code) (inl no_table))) ((no_code, no_table, h), parts)
+stands_alone skin c l _ _ no_code no_table h parts = absurd parts
 
 pub parts_read : (skin : RowSkin) (text : List LineContent) (read : List FmtLine) → AreRead (line_rules skin) text read → ArePartsRead skin (text_parts text) (parts_of read)
 parts_read skin [] [] h = tt
@@ -125,42 +114,27 @@ parts_read skin (normal said ∷ cs) (Normal l ∷ ls) h =
     by_bool (λ b. is_code_kind l.kind ≡ b → ArePartsRead skin (in_front (normal said) (text_parts cs)) (with_composite b l (parts_of ls))) (is_code_kind l.kind)
     (λ on e. code_joins skin (normal said) l (text_parts cs) (parts_of ls) (record { code = sym kind ∙ on; read = h.0 }) parts)
     (λ off e. stands_alone skin (normal said) (Normal l) (text_parts cs) (parts_of ls) (sym kind ∙ off) refl h.0 parts) refl
-parts_read skin (normal said ∷ cs) (TableRow row ∷ ls) h = absurd h.0
-parts_read skin (normal said ∷ cs) (TableRule rule ∷ ls) h = absurd h.0
-parts_read skin (normal said ∷ cs) (HorizontalRule ∷ ls) h = absurd h.0
-parts_read skin (table_row cells ∷ cs) (Normal l ∷ ls) h = absurd h.0
 parts_read skin (table_row cells ∷ cs) (TableRow row ∷ ls) h = table_joins skin (table_row cells) (TableRow row) (text_parts cs) (parts_of ls) (record { table = refl; line = refl; read = h.0 }) (parts_read skin cs ls h.1)
-parts_read skin (table_row cells ∷ cs) (TableRule rule ∷ ls) h = absurd h.0
-parts_read skin (table_row cells ∷ cs) (HorizontalRule ∷ ls) h = absurd h.0
-parts_read skin (table_rule aligns ∷ cs) (Normal l ∷ ls) h = absurd h.0
-parts_read skin (table_rule aligns ∷ cs) (TableRow row ∷ ls) h = absurd h.0
 parts_read skin (table_rule aligns ∷ cs) (TableRule rule ∷ ls) h = table_joins skin (table_rule aligns) (TableRule rule) (text_parts cs) (parts_of ls) (record { table = refl; line = refl; read = h.0 }) (parts_read skin cs ls h.1)
-parts_read skin (table_rule aligns ∷ cs) (HorizontalRule ∷ ls) h = absurd h.0
-parts_read skin (horizontal_rule ∷ cs) (Normal l ∷ ls) h = absurd h.0
-parts_read skin (horizontal_rule ∷ cs) (TableRow row ∷ ls) h = absurd h.0
-parts_read skin (horizontal_rule ∷ cs) (TableRule rule ∷ ls) h = absurd h.0
 parts_read skin (horizontal_rule ∷ cs) (HorizontalRule ∷ ls) h = stands_alone skin horizontal_rule HorizontalRule (text_parts cs) (parts_of ls) refl refl h.0 (parts_read skin cs ls h.1)
+parts_read skin _ _ h = absurd h.0
 
 -- the lines of a part are what is read from those of the text's part
 code_raw : (skin : RowSkin) (cs : List LineContent) (ls : List FmtComposite) → AreCodeRead skin cs ls → AreRead (line_rules skin) cs (map Normal ls)
 code_raw skin [] [] h = tt
-code_raw skin [] (l ∷ ls) h = absurd h
-code_raw skin (c ∷ cs) [] h = absurd h
 code_raw skin (c ∷ cs) (l ∷ ls) h = (h.0.read, code_raw skin cs ls h.1)
+code_raw skin _ _ h = absurd h
 
 pub table_raw : (skin : RowSkin) (cs : List LineContent) (ls : List FmtLine) → AreTableRead skin cs ls → AreRead (line_rules skin) cs ls
 table_raw skin [] [] h = tt
-table_raw skin [] (l ∷ ls) h = absurd h
-table_raw skin (c ∷ cs) [] h = absurd h
 table_raw skin (c ∷ cs) (l ∷ ls) h = (h.0.read, table_raw skin cs ls h.1)
+table_raw skin _ _ h = absurd h
 
 pub part_raw : (skin : RowSkin) (cs : List LineContent) (p : Part) → IsPartRead skin cs p → AreRead (line_rules skin) cs (raw_lines p)
-part_raw skin [] p h = absurd h
 part_raw skin (c ∷ cs) (table ls) h = table_raw skin (c ∷ cs) ls h
-part_raw skin (c ∷ cs) (block []) h = absurd h
 part_raw skin (c ∷ cs) (block (l ∷ ls)) h = (h.0.read, code_raw skin cs ls h.1)
 part_raw skin (c ∷ []) (single l) h = (h.2, tt)
-part_raw skin (c ∷ d ∷ cs) (single l) h = absurd h
+part_raw skin _ _ h = absurd h
 
 -- ---- lines in their parts
 

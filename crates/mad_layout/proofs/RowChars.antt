@@ -100,8 +100,6 @@ after_char : (skin : RowSkin) (c : StyledChar) → chars_in (char_piece c ∷ pr
 after_char skin c = first_piece (char_piece c) (prefix_space skin ∷ []) ∙ ap (λ l. skin_char (char_alone c) ++ l) (last_space skin)
 
 pub front_chars : (skin : RowSkin) (kind : CompositeKind) → IsPlainPrefix skin kind → chars_in (prefix_pieces skin kind) ≡ front_of skin kind
-front_chars skin Paragraph h = refl
-front_chars skin (Header level) h = refl
 front_chars skin (ListItem depth) h =
     let blank : CompoundStyle = skin.paragraph.compound_style in
     both (single_spaces blank depth) (char_piece skin.bullet ∷ prefix_space skin ∷ [])
@@ -116,8 +114,8 @@ front_chars skin (OrderedListItem level index) h =
     ∙ ap (λ l. l ++ chars_in (number_piece style.index_style index ∷ after)) (singles_chars blank level)
     ∙ ap (λ l. replicate level 32 ++ l) (first_piece (number_piece style.index_style index) after ∙ ap (λ l. l ++ chars_in after) number ∙ ap (λ l. decimal index ++ l) (after_char skin style.index_suffix))
 front_chars skin (OrderedListItemFollowUp level index) h = singles_chars skin.paragraph.compound_style (later_indent skin.list_items_indentation_mode (ordered_indent level index))
-front_chars skin Code h = refl
 front_chars skin Quote h = after_char skin skin.quote_mark
+front_chars skin _ h = refl
 
 -- ---- a row
 

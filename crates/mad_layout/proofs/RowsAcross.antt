@@ -80,12 +80,8 @@ style_follows skin Quote = refl
 pub code_indent : (skin : RowSkin) (k : CompositeKind) → is_code_kind k ≡ true → indent skin.list_items_indentation_mode k ≡ 0
 code_indent skin Paragraph e = refl
 code_indent skin (Header level) e = refl
-code_indent skin (ListItem depth) e = absurd (cc)
-code_indent skin (ListItemFollowUp depth) e = absurd (cc)
-code_indent skin (OrderedListItem level index) e = absurd (cc)
-code_indent skin (OrderedListItemFollowUp level index) e = absurd (cc)
 code_indent skin Code e = refl
-code_indent skin Quote e = absurd (cc)
+code_indent skin _ e = absurd (cc)
 
 pub parts_are : (ps : List Compound) → map (λ (r : Run). flagged r.flags (chars r.text)) (map run_of ps) ≡ map flagged_of ps
 parts_are [] = refl
@@ -195,7 +191,7 @@ kind_rows skin area part said l own bound plain read (inr (wide, (wrap, wraps, s
     let text : width_of (runs_text said.runs) ≡ width_of (text_of l) = ap width_of (ap runs_text (sym read.text) ∙ runs_are l.compounds.items) in
     let most : is_code_kind k ≡ true → inner ≤ widest_in part = λ on. omega (arith, text, read.widest on, code_indent skin k on, read.measured, wide, margins-le (line_style skin k) width) in
     let spacing : AllByRecursion (λ (x : FmtComposite). x.spacing ≡ place_for (is_code_kind k) (min (widest_in part) inner)) wrap =
-    subst (λ (s : Option Spacing). AllByRecursion (λ (x : FmtComposite). x.spacing ≡ s) wrap) read.spacing wraps.spacing in
+    subst (λ (s : Option Spacing). AllByRecursion (λ (x : FmtComposite). x.spacing ≡ s) wrap) read.spacing wraps.made.spacing in
     let parts : marked_parts said ≡ map flagged_of l.compounds.items = ap (map (λ (r : Run). flagged r.flags (chars r.text))) (sym read.text) ∙ parts_are l.compounds.items in
     let some : 0 < length wrap = not_none wrap (λ e.
     let none : flagged_text l.compounds.items ≡ [] = subst (λ (xs : List FmtComposite). Keeps (flagged_text l.compounds.items) (map flagged_text (line_compounds xs))) e wraps.wrap.keeps in
@@ -205,7 +201,7 @@ kind_rows skin area part said l own bound plain read (inr (wide, (wrap, wraps, s
       (
         map flagged_text (line_compounds wrap),
         subst (λ (ps : List (List FlaggedChar)). AreRowsOf r ps (map flagged_text (line_compounds wrap))) (sym parts) (wrapped_rows r l.compounds.items (line_compounds wrap) passes wraps.wrap),
-        ap (map (line_chars skin area.width)) same ∙ wrap_across skin area part said wrap bound plain.prefix most wraps.kinds spacing wraps.measured fits,
+        ap (map (line_chars skin area.width)) same ∙ wrap_across skin area part said wrap bound plain.prefix most wraps.made.kinds spacing wraps.made.measured fits,
       ),
     )
 
@@ -220,36 +216,21 @@ said_rows skin area part said l own bound plain read laid =
 -- the line of a layout is what was read, in its place, and none of a table
 abbrev pub IsReadIn : RowSkin → ℕ → List LineContent → LineContent → FmtLine → Type 0
 IsReadIn skin width part (normal said) (Normal l) = IsPlacedIn skin width part said l
-IsReadIn skin width part (normal said) (TableRow row) = ⊥
-IsReadIn skin width part (normal said) (TableRule rule) = ⊥
-IsReadIn skin width part (normal said) HorizontalRule = ⊥
-IsReadIn skin width part (table_row cells) l = ⊥
-IsReadIn skin width part (table_rule aligns) l = ⊥
-IsReadIn skin width part horizontal_rule (Normal l) = ⊥
-IsReadIn skin width part horizontal_rule (TableRow row) = ⊥
-IsReadIn skin width part horizontal_rule (TableRule rule) = ⊥
 IsReadIn skin width part horizontal_rule HorizontalRule = Unit {0}
+IsReadIn skin width part _ _ = ⊥
 
 abbrev pub AreReadIn : RowSkin → ℕ → List LineInPart → List FmtLine → Type 0
 AreReadIn skin width [] [] = Unit {0}
-AreReadIn skin width [] (l ∷ ls) = ⊥
-AreReadIn skin width (x ∷ xs) [] = ⊥
 AreReadIn skin width (x ∷ xs) (l ∷ ls) = IsReadIn skin width x.part x.line l × AreReadIn skin width xs ls
+AreReadIn skin width _ _ = ⊥
 
 content_rows : (skin : RowSkin) (area : Area) (x : LineInPart) (line : LineContent) (l : FmtLine) (own : List FmtLine) → area.width < 2 ^ 64 - 1 → IsPlainContent skin (area.width - 1) x.part line
     → IsReadIn skin (area.width - 1) x.part line l → IsLineAt IsCompositeWrap (line_rules skin) (Some (area.width - 1)) l own → (0 < length own) × IsAcross skin area x line (map (line_chars skin area.width) own)
 content_rows skin area x (normal said) (Normal l) own bound plain read laid = said_rows skin area x.part said l own bound plain read laid
-content_rows skin area x (normal said) (TableRow row) own bound plain read laid = absurd read
-content_rows skin area x (normal said) (TableRule rule) own bound plain read laid = absurd read
-content_rows skin area x (normal said) HorizontalRule own bound plain read laid = absurd read
-content_rows skin area x (table_row cells) l own bound plain read laid = absurd read
-content_rows skin area x (table_rule aligns) l own bound plain read laid = absurd read
-content_rows skin area x horizontal_rule (Normal l) own bound plain read laid = absurd read
-content_rows skin area x horizontal_rule (TableRow row) own bound plain read laid = absurd read
-content_rows skin area x horizontal_rule (TableRule rule) own bound plain read laid = absurd read
 content_rows skin area x horizontal_rule HorizontalRule own bound plain read laid =
     let one : length own ≡ 1 = ap length laid in
     (omega (arith, one), ap (map (line_chars skin area.width)) laid ∙ ap (λ (t : List ℕ). t ∷ []) (run_chars skin.horizontal_rule area.width (column_piece skin.horizontal_rule plain)))
+content_rows skin area x _ _ own bound plain read laid = absurd read
 
 -- cells have rows in any columns
 cells_exist : (skin : RowSkin) (cs : List Spacing) (cells : List StyledRuns) → (placed : List CellInColumn) × AreInColumns skin cs cells placed
@@ -311,8 +292,6 @@ pub front_across : (skin : RowSkin) (area : Area) (n : ℕ) (xs ys : List LineIn
     → KeepsPremises skin (area.width - 1) (take n (xs ++ ys)) → AreReadIn skin (area.width - 1) xs placed → AreLinesAt IsCompositeWrap (line_rules skin) (Some (area.width - 1)) placed own
     → HaveFirstRows skin area n (xs ++ ys) (own ++ others)
 front_across skin area zero xs ys placed own others bound later keeps reads laid = let all = across_exist skin area (xs ++ ys) in (all.0, all.1, refl)
-front_across skin area (suc n) [] ys (l ∷ ls) own others bound later keeps reads laid = absurd reads
-front_across skin area (suc n) (x ∷ xs) ys [] own others bound later keeps reads laid = absurd reads
 front_across skin area (suc n) [] ys [] own others bound later keeps reads laid = subst (λ (ls : List FmtLine). HaveFirstRows skin area (suc n) ys (ls ++ others)) (sym laid) (later (suc n) keeps)
 front_across skin area (suc n) (x ∷ xs) ys (l ∷ ls) own others bound later keeps reads (here, behind, joins, first_laid, more) =
     let chars : List FmtLine → List (List ℕ) = map (line_chars skin area.width) in
@@ -324,3 +303,4 @@ front_across skin area (suc n) (x ∷ xs) ys (l ∷ ls) own others bound later k
       (chars here, rest.0, refl, first.1, rest.1),
       some_same (chars here) rest.0 (chars (behind ++ others)) n count rest.2 ∙ ap (take (suc n)) (sym (ap chars lines ∙ map-append (line_chars skin area.width) here (behind ++ others))),
     )
+front_across skin area _ _ ys _ own others bound later keeps reads _ = absurd reads

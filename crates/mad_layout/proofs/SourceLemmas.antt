@@ -102,11 +102,10 @@ IsPlainAnywhere skin width line = (part : List LineContent) → IsPlainContent s
 lines_keep : (skin : RowSkin) (width : ℕ) (source : List ℕ) (places : List LinePlace) (lines : List LineContent) → 3 ≤ width
     → AllByRecursion (λ place. TakesColumns (line_text source place)) places → AreInlineLines source places lines → AllByRecursion (IsPlainAnywhere skin width) lines
 lines_keep skin width source [] [] wide h reads = tt
-lines_keep skin width source [] (l ∷ ls) wide h reads = absurd reads
-lines_keep skin width source (p ∷ ps) [] wide h reads = absurd reads
 lines_keep skin width source (p ∷ ps) (l ∷ ls) wide h reads =
     subst (λ (line : LineContent). AllByRecursion (IsPlainAnywhere skin width) (line ∷ ls)) (sym reads.0.says)
     (λ part. plain_line skin width _ reads.0.reading wide h.0 reads.0.reads, lines_keep skin width source ps ls wide h.1 reads.1)
+lines_keep skin width source _ _ wide h reads = absurd reads
 
 first_keep : (skin : RowSkin) (width n : ℕ) (xs : List LineInPart) → AllByRecursion (IsPlainAnywhere skin width) (map (λ (x : LineInPart). x.line) xs) → KeepsPremises skin width (take n xs)
 first_keep skin width zero xs h = tt

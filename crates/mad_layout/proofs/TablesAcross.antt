@@ -90,7 +90,7 @@ cell_rows skin c cell ls bound measured plain (inr (wide, wraps)) =
     let room_where : premise (text_of cell) = subst premise (runs_are ps) plain.room in
     let room : HasRoom r (text_of cell) = room_where (omega (arith, measured, wide)) in
     let passes : r.width < r.first + width_of (flagged_text ps) = omega (arith, measured, wide) in
-    (map flagged_text (line_compounds ls), wrapped_rows r ps (line_compounds ls) passes wraps.wrap, wrap_in_column skin c cell.kind ls bound plain.prefix wraps.kinds wraps.measured (wraps.wrap.fits room))
+    (map flagged_text (line_compounds ls), wrapped_rows r ps (line_compounds ls) passes wraps.wrap, wrap_in_column skin c cell.kind ls bound plain.prefix wraps.made.kinds wraps.made.measured (wraps.wrap.fits room))
 
 said_cell : (skin : RowSkin) (c : Spacing) (said : StyledRuns) (cell : FmtComposite) (ls : List FmtComposite) → IsCompositeRead (line_rules skin) said cell → HasRowsIn skin c cell.kind (map flagged_of cell.compounds.items) ls
     → HasRowsIn skin c (kind_of said.style) (marked_parts said) ls
@@ -108,8 +108,6 @@ cells_in_columns : (skin : RowSkin) (cs : List Spacing) (said : List StyledRuns)
     → ArePlainCells skin (widths_of cs) cells → AreCellsLaidOut IsCompositeWrap (line_rules skin) cs cells lines → AreInColumns skin cs said (placed_lines skin cs lines)
 cells_in_columns skin [] said cells lines bound read plain laid = refl
 cells_in_columns skin (c ∷ cs) said cells [] bound read plain laid = absurd laid
-cells_in_columns skin (c ∷ cs) [] (cell ∷ cells) (ls ∷ lines) bound read plain laid = absurd read
-cells_in_columns skin (c ∷ cs) (s ∷ ss) [] (ls ∷ lines) bound read plain laid = absurd read
 cells_in_columns skin (c ∷ cs) [] [] (ls ∷ lines) bound read plain laid =
     let rest : List CellInColumn = placed_lines skin cs lines in (
       rest,
@@ -125,15 +123,15 @@ cells_in_columns skin (c ∷ cs) (s ∷ ss) (cell ∷ cells) (ls ∷ lines) boun
       ap (λ (xs : List (List ℕ)). record { width = c.width; rows = xs } ∷ rest) own.2,
       cells_in_columns skin cs ss cells lines bound.1 read.1 plain.2 laid.1,
     )
+cells_in_columns skin _ _ _ _ bound read plain laid = absurd read
 
 as_tall : (skin : RowSkin) (cs : List Spacing) (cells : List FmtComposite) (lines : List (List FmtComposite)) → AreCellsLaidOut IsCompositeWrap (line_rules skin) cs cells lines → most_rows (placed_lines skin cs lines) ≡ tallest lines
 as_tall skin [] cells [] laid = refl
-as_tall skin [] cells (ls ∷ lines) laid = absurd laid
-as_tall skin (c ∷ cs) cells [] laid = absurd laid
 as_tall skin (c ∷ cs) cells (ls ∷ lines) laid =
     let rest : most_rows (placed_lines skin cs lines) ≡ tallest lines = as_tall skin cs (below cells) lines laid.1 in
     let own : length (lines_rows skin c ls) ≡ length ls = length-map ls (λ l. cell_chars skin (in_column c l)) in
     omega (arith, rest, own)
+as_tall skin _ cells _ laid = absurd laid
 
 row_is_across : (skin : RowSkin) (area : Area) (cs : List Spacing) (said : List StyledRuns) (cells : List FmtComposite) (rows : List FmtTableRow) → AllByRecursion (λ c. c.width < 2 ^ 64 - 1) cs → AreCompositesRead (line_rules skin) said cells
     → ArePlainCells skin (widths_of cs) cells → IsRowLaidOutBy IsCompositeWrap (line_rules skin) cs cells rows → IsRowAcross skin area cs said (map (line_chars skin area.width) (map TableRow rows))
@@ -164,10 +162,6 @@ line_rows : (skin : RowSkin) (area : Area) (ws : List ℕ) (x : LineInPart) (c :
     → TableContent skin (area.width - 1) ws l → IsLineRead (line_rules skin) c l → is_table_line l ≡ true → IsTableLineBy IsCompositeWrap (line_rules skin) (columns_below ws x.aligns) x.position l own
     → (0 < length own) × IsAcross skin area x c (map (line_chars skin area.width) own)
 line_rows skin area ws x (normal said) (Normal l) own bound fit is content read table laid = absurd (cc)
-line_rows skin area ws x (normal said) (TableRow row) own bound fit is content read table laid = absurd read
-line_rows skin area ws x (normal said) (TableRule rule) own bound fit is content read table laid = absurd read
-line_rows skin area ws x (normal said) HorizontalRule own bound fit is content read table laid = absurd read
-line_rows skin area ws x (table_row cells) (Normal l) own bound fit is content read table laid = absurd read
 line_rows skin area ws x (table_row cells) (TableRow row) own bound fit is content read table (rows, same, laid) =
     let width : ℕ = area.width - 1 in
     let cs : List Spacing = columns_below ws x.aligns in
@@ -178,27 +172,19 @@ line_rows skin area ws x (table_row cells) (TableRow row) own bound fit is conte
     let count : length rows ≡ max _ 1 = laid.count in
     subst (λ (ls : List FmtLine). (0 < length ls) × IsAcross skin area x (table_row cells) (map (line_chars skin area.width) ls)) (sym same)
     (map_some rows (omega (arith, count)), subst (λ vs. IsRowAcross skin area (columns_below vs x.aligns) cells (map (line_chars skin area.width) (map TableRow rows))) is across)
-line_rows skin area ws x (table_row cells) (TableRule rule) own bound fit is content read table laid = absurd read
-line_rows skin area ws x (table_row cells) HorizontalRule own bound fit is content read table laid = absurd read
-line_rows skin area ws x (table_rule aligns) (Normal l) own bound fit is content read table laid = absurd read
-line_rows skin area ws x (table_rule aligns) (TableRow row) own bound fit is content read table laid = absurd read
 line_rows skin area ws x (table_rule aligns) (TableRule source) own bound fit is content read table (rule, same, laid) =
     let chars = rule_line_chars skin area x.position ws rule (column_rule skin (rule_chars skin.table_border_chars x.position) (content.borders.rules x.position)) laid.position_is (laid.widths_are ∙ below-widths ws x.aligns) in
     subst (λ (ls : List FmtLine). (0 < length ls) × IsAcross skin area x (table_rule aligns) (map (line_chars skin area.width) ls)) (sym same)
     (omega arith, ap (λ (t : List ℕ). t ∷ []) (chars ∙ ap (rule_across skin area x.position) is))
-line_rows skin area ws x (table_rule aligns) HorizontalRule own bound fit is content read table laid = absurd read
-line_rows skin area ws x horizontal_rule (Normal l) own bound fit is content read table laid = absurd read
-line_rows skin area ws x horizontal_rule (TableRow row) own bound fit is content read table laid = absurd read
-line_rows skin area ws x horizontal_rule (TableRule rule) own bound fit is content read table laid = absurd read
 line_rows skin area ws x horizontal_rule HorizontalRule own bound fit is content read table laid = absurd (cc)
+line_rows skin area ws x _ _ own bound fit is content read _ _ = absurd read
 
 -- ---- the lines of a table
 
 abbrev pub AreLaidIn : RowSkin → ℕ → List ℕ → List LineInPart → List FmtLine → List FmtLine → Type 0
 AreLaidIn skin width ws [] [] lines = lines ≡ []
-AreLaidIn skin width ws [] (l ∷ ls) lines = ⊥
-AreLaidIn skin width ws (x ∷ xs) [] lines = ⊥
 AreLaidIn skin width ws (x ∷ xs) (l ∷ ls) lines = (own : List FmtLine) × (others : List FmtLine) × (lines ≡ own ++ others) × IsLaidIn skin width ws x l own × AreLaidIn skin width ws xs ls others
+AreLaidIn skin width ws _ _ lines = ⊥
 
 -- The first rows of these lines and of those after them, whose rows are there for any number of lines that keep the premises.
 pub table_front : (skin : RowSkin) (area : Area) (n : ℕ) (ws : List ℕ) (xs ys : List LineInPart) (read own others : List FmtLine) → area.width < 2 ^ 64 - 1 → 1 + bordered ws ≤ area.width - 1
@@ -206,8 +192,6 @@ pub table_front : (skin : RowSkin) (area : Area) (n : ℕ) (ws : List ℕ) (xs y
     → KeepsPremises skin (area.width - 1) (take n (xs ++ ys)) → AreLaidIn skin (area.width - 1) ws xs read own → HaveFirstRows skin area n (xs ++ ys) (own ++ others)
 table_front skin area zero ws xs ys read own others bound fit later keeps laid = let all = across_exist skin area (xs ++ ys) in (all.0, all.1, refl)
 table_front skin area (suc n) ws [] ys [] own others bound fit later keeps laid = subst (λ (ls : List FmtLine). HaveFirstRows skin area (suc n) ys (ls ++ others)) (sym laid) (later (suc n) keeps)
-table_front skin area (suc n) ws [] ys (l ∷ ls) own others bound fit later keeps laid = absurd laid
-table_front skin area (suc n) ws (x ∷ xs) ys [] own others bound fit later keeps laid = absurd laid
 table_front skin area (suc n) ws (x ∷ xs) ys (l ∷ ls) own others bound fit later keeps (here, behind, joins, h, more) =
     let drawn : List FmtLine → List (List ℕ) = map (line_chars skin area.width) in
     let content : TableContent skin (area.width - 1) ws l = content_plain skin (area.width - 1) x.part ws x.line l (kept_columns skin (area.width - 1) x.part ws h.widths) keeps.0 h.read h.table in
@@ -219,38 +203,25 @@ table_front skin area (suc n) ws (x ∷ xs) ys (l ∷ ls) own others bound fit l
       (drawn here, rest.0, refl, first.1, rest.1),
       some_same (drawn here) rest.0 (drawn (behind ++ others)) n count rest.2 ∙ ap (take (suc n)) (sym (ap drawn lines ∙ map-append (line_chars skin area.width) here (behind ++ others))),
     )
+table_front skin area _ ws _ ys _ own others bound fit later keeps laid = absurd laid
 
 -- ---- lines of a table in their part
 
 as_long : (skin : RowSkin) (cs : List LineContent) (ls : List FmtLine) → AreTableRead skin cs ls → length ls ≡ length cs
 as_long skin [] [] h = refl
-as_long skin [] (l ∷ ls) h = absurd h
-as_long skin (c ∷ cs) [] h = absurd h
 as_long skin (c ∷ cs) (l ∷ ls) h = let rest : length ls ≡ length cs = as_long skin cs ls h.1 in omega (arith, rest)
+as_long skin _ _ h = absurd h
 
 columns_at : (skin : RowSkin) (ws : List ℕ) (above : Option (List Alignment)) (c : LineContent) (l : FmtLine) → IsLineRead (line_rules skin) c l → is_table_line l ≡ true → columns_from ws (columns_below ws above) l ≡ columns_below ws (aligns_at above c)
 columns_at skin ws above (normal said) (Normal l) read table = refl
-columns_at skin ws above (normal said) (TableRow row) read table = absurd read
-columns_at skin ws above (normal said) (TableRule rule) read table = absurd read
-columns_at skin ws above (normal said) HorizontalRule read table = absurd read
-columns_at skin ws above (table_row cells) (Normal l) read table = absurd read
 columns_at skin ws above (table_row cells) (TableRow row) read table = refl
-columns_at skin ws above (table_row cells) (TableRule rule) read table = absurd read
-columns_at skin ws above (table_row cells) HorizontalRule read table = absurd read
-columns_at skin ws above (table_rule aligns) (Normal l) read table = absurd read
-columns_at skin ws above (table_rule aligns) (TableRow row) read table = absurd read
 columns_at skin ws above (table_rule aligns) (TableRule rule) read table = ap (columns_with ws) read.aligns_are
-columns_at skin ws above (table_rule aligns) HorizontalRule read table = absurd read
-columns_at skin ws above horizontal_rule (Normal l) read table = absurd read
-columns_at skin ws above horizontal_rule (TableRow row) read table = absurd read
-columns_at skin ws above horizontal_rule (TableRule rule) read table = absurd read
 columns_at skin ws above horizontal_rule HorizontalRule read table = refl
+columns_at skin ws above _ _ read _ = absurd read
 
 laid_in : (skin : RowSkin) (width : ℕ) (ws : List ℕ) (part : List LineContent) (above : Option (List Alignment)) (first : Bool) (cs : List LineContent) (ls own : List FmtLine) → ws ≡ kept_widths skin width part → (columns_among part == 0) ≡ false
     → AreTableRead skin cs ls → AreTableLinesBy IsCompositeWrap (line_rules skin) ws (columns_below ws above) first ls own → AreLaidIn skin width ws (lines_in part above first cs) ls own
 laid_in skin width ws part above first [] [] own is some reads laid = laid
-laid_in skin width ws part above first [] (l ∷ ls) own is some reads laid = absurd reads
-laid_in skin width ws part above first (c ∷ cs) [] own is some reads laid = absurd reads
 laid_in skin width ws part above first (c ∷ cs) (l ∷ ls) own is some reads (here, behind, joins, one, more) =
     let columns = columns_at skin ws above c l reads.0.read reads.0.line in
     let place : position_at first (length ls == 0) ≡ position_in part first (length cs == 0) =
@@ -267,6 +238,7 @@ laid_in skin width ws part above first (c ∷ cs) (l ∷ ls) own is some reads (
       },
       laid_in skin width ws part (aligns_at above c) false cs ls behind is some reads.1 (subst (λ (xs : List Spacing). AreTableLinesBy IsCompositeWrap (line_rules skin) ws xs false ls behind) columns more),
     )
+laid_in skin width ws part above first _ _ own is some reads _ = absurd reads
 
 -- ---- a table without columns
 
@@ -291,29 +263,16 @@ no_items {A} (x ∷ xs) h = absurd (omega (arith, h))
 
 bare_line : (skin : RowSkin) (position : RelativePosition) (c : LineContent) (l : FmtLine) → position ≡ Other → IsLineRead (line_rules skin) c l → is_table_line l ≡ true → columns_in l ≡ 0 → IsTableLineBy IsCompositeWrap (line_rules skin) [] position l (l ∷ [])
 bare_line skin position (normal said) (Normal l) other read table none = refl
-bare_line skin position (normal said) (TableRow row) other read table none = absurd read
-bare_line skin position (normal said) (TableRule rule) other read table none = absurd read
-bare_line skin position (normal said) HorizontalRule other read table none = absurd read
-bare_line skin position (table_row cells) (Normal l) other read table none = absurd read
 bare_line skin position (table_row cells) (TableRow row) other read table none =
     (row ∷ [], refl, record { lines = []; laid_out = tt; count = refl; rows_are = (subst (tables.IsLineAcross [] []) (sym (no_items row.cells.items none)) tt, tt) })
-bare_line skin position (table_row cells) (TableRule rule) other read table none = absurd read
-bare_line skin position (table_row cells) HorizontalRule other read table none = absurd read
-bare_line skin position (table_rule aligns) (Normal l) other read table none = absurd read
-bare_line skin position (table_rule aligns) (TableRow row) other read table none = absurd read
 bare_line skin position (table_rule aligns) (TableRule rule) other read table none =
     (rule, refl, record { position_is = read.position ∙ sym other; widths_are = read.widths; aligns_are = no_items rule.aligns.items none })
-bare_line skin position (table_rule aligns) HorizontalRule other read table none = absurd read
-bare_line skin position horizontal_rule (Normal l) other read table none = absurd read
-bare_line skin position horizontal_rule (TableRow row) other read table none = absurd read
-bare_line skin position horizontal_rule (TableRule rule) other read table none = absurd read
 bare_line skin position horizontal_rule HorizontalRule other read table none = refl
+bare_line skin position _ _ other read _ none = absurd read
 
 bare_in : (skin : RowSkin) (width : ℕ) (part : List LineContent) (above : Option (List Alignment)) (first : Bool) (cs : List LineContent) (ls : List FmtLine) → [] ≡ kept_widths skin width part → columns_among part ≡ 0 → columns_count ls ≡ 0
     → AreTableRead skin cs ls → AreLaidIn skin width [] (lines_in part above first cs) ls ls
 bare_in skin width part above first [] [] is none empty reads = refl
-bare_in skin width part above first [] (l ∷ ls) is none empty reads = absurd reads
-bare_in skin width part above first (c ∷ cs) [] is none empty reads = absurd reads
 bare_in skin width part above first (c ∷ cs) (l ∷ ls) is none empty reads =
     let aligns = aligns_at above c in
     let place : RelativePosition = position_in part first (length cs == 0) in
@@ -330,6 +289,7 @@ bare_in skin width part above first (c ∷ cs) (l ∷ ls) is none empty reads =
       },
       bare_in skin width part aligns false cs ls is none (omega (arith, empty)) reads.1,
     )
+bare_in skin width part above first _ _ is none empty reads = absurd reads
 
 -- ---- a table
 

@@ -42,8 +42,6 @@ inner_code skin width said on =
 
 widest_same : (skin : RowSkin) (room : ℕ) (cs : List LineContent) (ls : List FmtComposite) → room < 2 ^ 64 - 1 → AreCodeRead skin cs ls → min (widest ls) room ≡ min (widest_in cs) room
 widest_same skin room [] [] bound h = refl
-widest_same skin room [] (l ∷ ls) bound h = absurd h
-widest_same skin room (c ∷ cs) [] bound h = absurd h
 widest_same skin room (normal said ∷ cs) (l ∷ ls) bound h =
     let rest : min (widest ls) room ≡ min (widest_in cs) room = widest_same skin room cs ls bound h.1 in
     let read : IsCompositeRead (line_rules skin) said l = h.0.read in
@@ -53,12 +51,11 @@ widest_same skin room (normal said ∷ cs) (l ∷ ls) bound h =
 widest_same skin room (table_row cells ∷ cs) (l ∷ ls) bound h = absurd h.0.read
 widest_same skin room (table_rule aligns ∷ cs) (l ∷ ls) bound h = absurd h.0.read
 widest_same skin room (horizontal_rule ∷ cs) (l ∷ ls) bound h = absurd h.0.read
+widest_same skin room _ _ bound h = absurd h
 
 block_placed : (skin : RowSkin) (width columns : ℕ) (part : List LineContent) (above : Option (List Alignment)) (first : Bool) (cs : List LineContent) (ls : List FmtComposite) → columns ≡ min (widest_in part) (code_left skin width) → widest_in cs ≤ widest_in part
     → AreCodeRead skin cs ls → AreReadIn skin width (lines_in part above first cs) (map Normal (map (placed_code columns) ls))
 block_placed skin width columns part above first [] [] is most h = tt
-block_placed skin width columns part above first [] (l ∷ ls) is most h = absurd h
-block_placed skin width columns part above first (c ∷ cs) [] is most h = absurd h
 block_placed skin width columns part above first (normal said ∷ cs) (l ∷ ls) is most h =
     let read : IsCompositeRead (line_rules skin) said l = h.0.read in
     let width_is : columns ≡ min (widest_in part) (inner_width skin width said) = is ∙ ap (min (widest_in part)) (sym (inner_code skin width said h.0.code)) in (
@@ -74,6 +71,7 @@ block_placed skin width columns part above first (normal said ∷ cs) (l ∷ ls)
 block_placed skin width columns part above first (table_row cells ∷ cs) (l ∷ ls) is most h = absurd h.0.read
 block_placed skin width columns part above first (table_rule aligns ∷ cs) (l ∷ ls) is most h = absurd h.0.read
 block_placed skin width columns part above first (horizontal_rule ∷ cs) (l ∷ ls) is most h = absurd h.0.read
+block_placed skin width columns part above first _ _ is most h = absurd h
 
 -- ---- a part
 
@@ -103,11 +101,9 @@ parts_across : (skin : RowSkin) (area : Area) (n : ℕ) (css : List (List LineCo
 parts_across skin area n [] [] lines bound wide keeps reads laid = ([], refl, ap (λ (ls : List FmtLine). take n (map (line_chars skin area.width) ls)) (sym laid))
 parts_across skin area n [] (p ∷ ps) lines bound wide keeps reads laid = absurd reads
 parts_across skin area n (cs ∷ css) [] lines bound wide keeps reads laid = absurd reads
-parts_across skin area n ([] ∷ css) (p ∷ ps) lines bound wide keeps reads laid = absurd reads.0
 parts_across skin area n ((c ∷ cs) ∷ css) (table ls ∷ ps) lines bound wide keeps reads (own, others, joins, here, more) =
     subst (HaveFirstRows skin area n (all_in ((c ∷ cs) ∷ css))) (sym joins)
     (table_across_area skin area n (c ∷ cs) (all_in css) ls own others bound wide (λ m k. parts_across skin area m css ps others bound wide k reads.1 more) keeps reads.0 here)
-parts_across skin area n ((c ∷ cs) ∷ css) (block [] ∷ ps) lines bound wide keeps reads laid = absurd reads.0
 parts_across skin area n ((c ∷ cs) ∷ css) (block (l ∷ ls) ∷ ps) lines bound wide keeps reads (own, others, joins, here, more) =
     let width : ℕ = area.width - 1 in
     let columns : ℕ = min (widest (l ∷ ls)) (code_left skin width) in
@@ -119,7 +115,7 @@ parts_across skin area n ((c ∷ []) ∷ css) (single l ∷ ps) lines bound wide
     subst (HaveFirstRows skin area n (all_in ((c ∷ []) ∷ css))) (sym joins)
     (front_across skin area n (lines_in (c ∷ []) None true (c ∷ [])) (all_in css) (l ∷ []) own others bound
     (λ m k. parts_across skin area m css ps others bound wide k reads.1 more) keeps (line_placed skin (area.width - 1) (c ∷ []) c l reads.0.0 reads.0.1 reads.0.2, tt) here)
-parts_across skin area n ((c ∷ d ∷ cs) ∷ css) (single l ∷ ps) lines bound wide keeps reads laid = absurd reads.0
+parts_across skin area n _ _ lines bound wide keeps reads _ = absurd reads.0
 
 -- The first rows of a layout are the first rows of the text's lines, where the first lines keep the premises.
 pub text_across : (skin : RowSkin) (area : Area) (n : ℕ) (text : List LineContent) (lines : List FmtLine) → area.width < 2 ^ 64 - 1 → 4 ≤ area.width → KeepsPremises skin (area.width - 1) (take n (lines_in_parts text))

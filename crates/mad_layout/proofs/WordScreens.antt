@@ -96,9 +96,6 @@ record OneLine (lines : List FmtLine) : Type 0 where
 laid : (read lines : List FmtLine) → AreRead (line_rules word_skin) (normal word_line ∷ []) read → ArePartsAt IsCompositeWrap (line_rules word_skin) 11 (Some 11) (parts_of read) lines → OneLine lines
 laid [] lines reads parts = absurd reads
 laid (l ∷ m ∷ ms) lines reads parts = absurd reads.1
-laid (TableRow row ∷ []) lines reads parts = absurd reads.0
-laid (TableRule rule ∷ []) lines reads parts = absurd reads.0
-laid (HorizontalRule ∷ []) lines reads parts = absurd reads.0
 laid (Normal l ∷ []) lines reads parts =
     let kind : l.kind ≡ Paragraph = reads.0.kind in
     let part : ArePartsAt IsCompositeWrap (line_rules word_skin) 11 (Some 11) (single (Normal l) ∷ []) lines =
@@ -124,6 +121,7 @@ laid (Normal l ∷ []) lines reads parts =
       columns = columns;
       spacing = reads.0.spacing;
     }
+laid _ lines reads parts = absurd reads.0
 
 -- ---- the first cell of its row
 

@@ -105,15 +105,12 @@ chosen b front back = if b then Some (front, back) else None
 -- where a clean cut drops a middle
 cut_broken : (r : Room) (ps : List Compound) (lines : List (List Compound)) → drops_middle r ps ≡ true
     → ((front back : Compound) → clean_cut r ps ≡ Some (front, back) → map runs_of lines ≡ (run_of front ∷ []) ∷ (run_of back ∷ []) ∷ []) → AreBroken r (map flagged_of ps) (map flagged_text lines)
-cut_broken r [] lines clean two = absurd (cc)
-cut_broken r (p ∷ []) lines clean two = absurd (cc)
-cut_broken r (p ∷ q ∷ []) lines clean two = absurd (cc)
 cut_broken r (front ∷ middle ∷ back ∷ []) lines clean two =
     by_bool (λ b. (is_white middle && both_fit r front back) ≡ b → is_some (chosen b front back) ≡ true → ((f k : Compound) → chosen b front back ≡ Some (f, k) → map runs_of lines ≡ (run_of f ∷ []) ∷ (run_of k ∷ []) ∷ [])
     → AreBroken r (map flagged_of (front ∷ middle ∷ back ∷ [])) (map flagged_text lines)) (is_white middle && both_fit r front back)
     (λ on e c two. two_broken r front middle back lines (white_flagged (flags_of middle) (chars middle.src.now) (and_parts (is_white middle) (both_fit r front back) on).0) (two front back refl))
     (λ off e c two. absurd (cc)) refl clean two
-cut_broken r (p ∷ q ∷ s ∷ t ∷ ps) lines clean two = absurd (cc)
+cut_broken r _ lines clean two = absurd (cc)
 
 -- ---- none is empty
 

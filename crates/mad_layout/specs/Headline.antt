@@ -1,10 +1,11 @@
 -- The headline in the subject's own words: the first rows of a text, in the cells of an area.
-use Rattle.std.specs.Prelude.{◌≡◌, ℕ, ◌+◌, ◌-◌, ◌<◌, List, map, replicate, take, Some, slice_get, slice_index_or, unwrap_or}
+use Rattle.std.specs.Prelude.{◌≡◌, ℕ, ◌+◌, ◌-◌, ◌<◌, false, List, map, replicate, take, Some, slice_get, slice_index_or, unwrap_or}
 use Rattle.mad_screen.specs.Drawing.{IsOutside}
 use Rattle.mad_screen.specs.Grid.{Grid, IsGrid, plain_pen, cell_at, blank}
 use Rattle.mad_screen.specs.Terminal.{after_bytes}
 use Rattle.mad_term.specs.Trace.{Trace, TookWith}
 use Rattle.mad_md.specs.Lines.{LineContent}
+use Rattle.mad_md.specs.Reading.{IsRead, unread_text}
 use Rattle.mad_fit.specs.declared.area.Area.{Area}
 use Rattle.mad_draw.specs.DrawnRows.{IsOnScreen}
 use Rattle.mad_draw.specs.PennedCells.{penned_cells}
@@ -30,8 +31,14 @@ abbrev pub AreShownAcross : List (List ℕ) → Area → List ℕ → Type 0
 AreShownAcross across area bytes =
     (g : Grid) → IsOnScreen area g → (new : Grid) × (after_bytes g bytes ≡ Some new) × IsGrid new × (new.pen ≡ plain_pen) × ShowsAcross across area g new
 
--- The headline of a text's lines: where as many of them as the area has rows keep the premises, they have rows, and the area shows the first
--- of these.
+-- What an area shows of a text's lines: where as many of them as the area has rows keep the premises, they have rows, and the area shows
+-- the first of these.
 pub record ShowsFirstRows (skin : RowSkin) (lines : List LineContent) (area : Area) (old new : Trace) : Type 0 where
   pub shown : KeepsPremises skin (area.width - 1) (take area.height (lines_in_parts lines))
       → (across : List (List ℕ)) × AreAcross skin area (lines_in_parts lines) across × TookWith old new (AreShownAcross across area)
+
+-- The headline of a text: what its lines are, and what the area shows of them.
+pub record ShowsHeadline (skin : RowSkin) (markdown : List ℕ) (area : Area) (old new : Trace) : Type 0 where
+  pub lines : List LineContent
+  pub read : IsRead (unread_text false markdown) lines
+  pub rows : ShowsFirstRows skin lines area old new

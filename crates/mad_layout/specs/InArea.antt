@@ -8,19 +8,12 @@ use Rattle.mad_term.specs.declared.errors.Error.{Error}
 use Rattle.mad_term.specs.declared.errors.Error.TheVariants.{Memory}
 use Rattle.mad_fit.specs.declared.area.Area.{Area}
 use Rattle.mad_blocks.specs.Fronts.{IsFrontLayout}
-use Rattle.mad_blocks.specs.Layouts.{IsLayoutAt}
 use Rattle.mad_layout.specs.Premises.{KeepsPremises}
 use Rattle.mad_layout.specs.Shown.{area_bytes, AreShownIn}
 use Rattle.mad_blocks.specs.TextParts.{lines_in_parts}
 use Rattle.mad_rows.specs.declared.row_skin.RowSkin.{RowSkin}
 use Rattle.mad_format.specs.declared.line.FmtLine.{FmtLine}
 use Rattle.mad_rows.specs.RowStyles.{line_rules}
-
--- The lines are a layout of the text for an area, one column narrower than the area. Each line's wrap is a least one.
-pub record IsAreaLayout (skin : RowSkin) (markdown : List ℕ) (area : Area) (lines : List FmtLine) : Type 0 where
-  pub text : List LineContent
-  pub read : IsRead (unread_text false markdown) text
-  pub layout : IsLayoutAt (line_rules skin) (Some (area.width - 1)) text lines
 
 -- The lines are a layout of the text's first lines, one column narrower than the area: of all of them, or of enough to take at least the
 -- area's rows.

@@ -22,10 +22,9 @@ ArePlainCells skin (w ∷ ws) (cell ∷ cells) = IsMeasured (line_rules skin) ce
 
 -- a line of a table, not yet laid out, whose cells are so in columns of these widths
 abbrev pub IsPlainTableLine : RowSkin → List ℕ → FmtLine → Type 0
-IsPlainTableLine skin ws (Normal l) = ⊥
 IsPlainTableLine skin ws (TableRow row) = ArePlainCells skin ws row.cells.items
 IsPlainTableLine skin ws (TableRule rule) = rule.widths.items ≡ []
-IsPlainTableLine skin ws HorizontalRule = ⊥
+IsPlainTableLine skin ws _ = ⊥
 
 -- A table that is laid out at a width, also one without columns, is drawn exactly in a row at least as wide: its borders are shown, and in
 -- the columns that it has at that width its cells have room.

@@ -43,14 +43,10 @@ pub record IsColumnChar (c : ℕ) : Type 0 where
 -- The character in front of a line of this kind, if there is one, takes one column: an item's bullet, the character after its number, a quote's.
 -- (A number that is read has nine digits at most.)
 abbrev pub IsPlainPrefix : RowSkin → CompositeKind → Type 0
-IsPlainPrefix skin Paragraph = Unit {0}
-IsPlainPrefix skin (Header level) = Unit {0}
 IsPlainPrefix skin (ListItem depth) = IsColumnChar (char_alone skin.bullet)
-IsPlainPrefix skin (ListItemFollowUp depth) = Unit {0}
 IsPlainPrefix skin (OrderedListItem level index) = (index < 2 ^ 32) × IsColumnChar (index_suffix skin level)
-IsPlainPrefix skin (OrderedListItemFollowUp level index) = Unit {0}
-IsPlainPrefix skin Code = Unit {0}
 IsPlainPrefix skin Quote = IsColumnChar (char_alone skin.quote_mark)
+IsPlainPrefix skin _ = Unit {0}
 
 -- A line or a cell of this kind, its text plain, with a plain prefix, and that has room in `width` columns where it doesn't fit.
 pub record IsPlainText (skin : RowSkin) (width : ℕ) (kind : CompositeKind) (runs : List Run) : Type 0 where

@@ -7,7 +7,7 @@ ghost use Rattle.mad_md.specs.Reading.{IsRead, unread_text};
 ghost use Rattle.mad_md.specs.declared.text.Text.{Text};
 ghost use Rattle.mad_blocks.specs.FittingLayouts.{IsFittingLayoutAt};
 ghost use Rattle.mad_rows.specs.RowStyles.{line_rules};
-ghost use Rattle.mad_layout.specs.InArea.{IsAreaFront, IsAreaLayout};
+ghost use Rattle.mad_layout.specs.InArea.{IsAreaFront};
 ghost use Rattle.mad_blocks.specs.Layouts.{IsLayoutAt, IsMarkdownLayout};
 ghost use Rattle.mad_format.specs.FmtLines.{widest_line};
 ghost use Rattle.mad_layout.specs.RowSkins.{row_skin};
@@ -138,7 +138,7 @@ impl MadSkin {
     ) -> Result<FmtText<'k, 's>, AllocError>
         ensures skin { IfOk result (λ text. text.skin.now ≡ self.now) }
         ensures width { IfOk result (λ text. text.width ≡ Some (area.now.width - 1)) }
-        ensures lines { IfOk result (λ text. IsAreaLayout (row_skin self.now) markdown.now area.now text.lines.items) }
+        ensures lines { IfOk result (λ text. IsMarkdownLayout (line_rules (row_skin self.now)) (Some (area.now.width - 1)) markdown.now text.lines.items) }
     {
         let width = (area.width as usize).saturating_sub(1);
         FmtText::from(alloc, self, markdown, Some(width))

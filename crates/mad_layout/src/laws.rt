@@ -20,8 +20,8 @@ pub use mad_blocks::laws::{
     wrong_layouts,
 };
 use mad_fit::Area;
-use mad_screen::Screen;
-use mad_term::{CutOut, Error};
+use mad_screen::{CutOut, Screen};
+use mad_term::Error;
 use std::alloc::Global;
 
 /// Each character of `aaa bb cc` takes columns.

@@ -1,12 +1,10 @@
 //! The writing calls of a skin.
 
-ghost use Rattle.std.specs.Prelude.{◌≡◌, ◌≤◌, false, List, IsErrOf, OnOk};
-ghost use Rattle.mad_md.specs.Lines.{LineContent};
-ghost use Rattle.mad_md.specs.Reading.{IsRead, unread_text};
+ghost use Rattle.std.specs.Prelude.{◌≡◌, ◌≤◌, IsErrOf, OnOk};
 ghost use Rattle.mad_term.specs.Draws.{Draws, AndFlushes};
 ghost use Rattle.mad_term.specs.declared.errors.Error.TheVariants.{Memory};
 ghost use Rattle.mad_fit.specs.Areas.{IsWithinLimits};
-ghost use Rattle.mad_layout.specs.Headline.{ShowsFirstRows};
+ghost use Rattle.mad_layout.specs.Headline.{ShowsHeadline};
 ghost use Rattle.mad_layout.specs.InArea.{WritesInArea, ShowsText};
 ghost use Rattle.mad_layout.specs.Inlines.{WritesInline};
 ghost use Rattle.mad_rows.specs.Rows.{composite_bytes};
@@ -42,7 +40,7 @@ impl MadSkin {
         requires { IsWithinLimits area.now }
         ensures writes { WritesInArea (row_skin self.now) markdown.now area.now (O.seen out.old) result (O.seen out.new) }
         ensures shown { OnOk result (4 ≤ area.now.width → ShowsText (row_skin self.now) markdown.now area.now (O.seen out.old) (O.seen out.new)) }
-        ensures headline { OnOk result (4 ≤ area.now.width → (lines : List LineContent) × IsRead (unread_text false markdown.now) lines × ShowsFirstRows (row_skin self.now) lines area.now (O.seen out.old) (O.seen out.new)) }
+        ensures headline { OnOk result (4 ≤ area.now.width → ShowsHeadline (row_skin self.now) markdown.now area.now (O.seen out.old) (O.seen out.new)) }
 
         // The same with no premise but on the source: its lines begin as paragraphs, and each of its characters takes columns, line ends apart.
         ensures shown_source { OnOk result (4 ≤ area.now.width → LinesTakeColumns markdown.now → ShowsSource (row_skin self.now) markdown.now area.now (O.seen out.old) (O.seen out.new)) }
@@ -66,7 +64,7 @@ impl MadSkin {
         requires { IsWithinLimits area.now }
         ensures writes { AndFlushes (WritesInArea (row_skin self.now) markdown.now area.now) (O.seen out.old) result (O.seen out.new) }
         ensures shown { OnOk result (4 ≤ area.now.width → ShowsText (row_skin self.now) markdown.now area.now (O.seen out.old) (O.seen out.new)) }
-        ensures headline { OnOk result (4 ≤ area.now.width → (lines : List LineContent) × IsRead (unread_text false markdown.now) lines × ShowsFirstRows (row_skin self.now) lines area.now (O.seen out.old) (O.seen out.new)) }
+        ensures headline { OnOk result (4 ≤ area.now.width → ShowsHeadline (row_skin self.now) markdown.now area.now (O.seen out.old) (O.seen out.new)) }
         ensures shown_source { OnOk result (4 ≤ area.now.width → LinesTakeColumns markdown.now → ShowsSource (row_skin self.now) markdown.now area.now (O.seen out.old) (O.seen out.new)) }
     {
         self.write_in_area_on(alloc, out, markdown, area)?;

@@ -22,11 +22,8 @@ shows_no_fence on line lines h =
 
 -- how many cells the first line has
 abbrev cells_of : List LineContent → ℕ
-cells_of [] = 0
-cells_of (normal content ∷ lines) = 0
 cells_of (table_row cells ∷ lines) = length cells
-cells_of (table_rule alignments ∷ lines) = 0
-cells_of (horizontal_rule ∷ lines) = 0
+cells_of _ = 0
 
 one_cell : (on : Bool) → cells_of (map (content_at bar_in_code) (placed_of (unread_text on bar_in_code))) ≡ 1
 unfolding items_within cut_cells trim_start trim_end chars encode

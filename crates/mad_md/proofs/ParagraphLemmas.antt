@@ -29,9 +29,8 @@ pub record IsInlineLine (text : List ℕ) (line : LineContent) : Type 0 where
 -- There are as many lines as places, and each is in order the Paragraph of the text at its place, read by its marks.
 abbrev pub AreInlineLines : List ℕ → List LinePlace → List LineContent → Type 0
 AreInlineLines source [] [] = Unit {0}
-AreInlineLines source [] (line ∷ lines) = ⊥
-AreInlineLines source (place ∷ places) [] = ⊥
 AreInlineLines source (place ∷ places) (line ∷ lines) = IsInlineLine (line_text source place) line × AreInlineLines source places lines
+AreInlineLines source _ _ = ⊥
 
 -- a line that begins as a paragraph is read by its marks
 paragraph_said : (text : List ℕ) → IsParagraphText text → IsInlineLine text (line_of false plain text)

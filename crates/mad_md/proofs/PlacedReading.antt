@@ -44,10 +44,9 @@ is_cell source at text = record { reading = items_of plain (cell_rest (trim_star
 
 cells_are : (source : List ℕ) (at : ℕ) (texts : List (List ℕ)) (cells : List StyledPlaces) → AreReadCells source at texts cells → cells ≡ placed_cells source at texts
 cells_are source at [] [] h = refl
-cells_are source at [] (cell ∷ cells) h = absurd h
-cells_are source at (text ∷ texts) [] h = absurd h
 cells_are source at (text ∷ texts) (cell ∷ cells) h =
     ap (λ c. c ∷ cells) (cell_is source at text cell h.0) ∙ ap (λ cs. placed_cell source at text ∷ cs) (cells_are source (at + length text + 1) texts cells h.1)
+cells_are source at _ _ h = absurd h
 
 are_cells : (source : List ℕ) (at : ℕ) (texts : List (List ℕ)) → AreReadCells source at texts (placed_cells source at texts)
 are_cells source at [] = tt

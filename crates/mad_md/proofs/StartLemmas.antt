@@ -46,10 +46,8 @@ abbrev Ends : List ℕ → LineStart → Type 0
 Ends line start = IsCharBoundary line start.len
 
 or_last : (a b c : Bool) → (a || b || not c) ≡ false → c ≡ true
-or_last true b c e = absurd (cc)
-or_last false true c e = absurd (cc)
 or_last false false true e = refl
-or_last false false false e = absurd (cc)
+or_last _ _ _ e = absurd (cc)
 
 ordered_ends : (line : List ℕ) (spaces digits : ℕ) → IsUtf8 line → IfSome (ordered_after spaces digits (drop spaces line)) (Ends line)
 ordered_ends line spaces digits u =

@@ -93,9 +93,8 @@ pub record IsCell (source : List ℕ) (at : ℕ) (text : List ℕ) (cell : Style
 -- There are as many cells as texts, and each reads its text in order, the first from this place on and a bar between two.
 abbrev pub AreReadCells : List ℕ → ℕ → List (List ℕ) → List StyledPlaces → Type 0
 AreReadCells source at [] [] = Unit {0}
-AreReadCells source at [] (cell ∷ cells) = ⊥
-AreReadCells source at (text ∷ texts) [] = ⊥
 AreReadCells source at (text ∷ texts) (cell ∷ cells) = IsCell source at text cell × AreReadCells source (at + length text + 1) texts cells
+AreReadCells source at _ _ = ⊥
 
 -- the cells without the last one, if that has no compound
 abbrev pub without_last_empty_cell : List StyledPlaces → List StyledPlaces

@@ -149,11 +149,8 @@ line_of_form (Separate style) carried text = marked_line plain style text
 
 -- the flags that it carries on
 abbrev pub flags_of_form : Form → Flags → List ℕ → Flags
-flags_of_form TablePart carried text = plain
-flags_of_form Code carried text = plain
-flags_of_form Rule carried text = plain
 flags_of_form (Continuing style) carried text = flags_at_end carried (items_of carried text)
-flags_of_form (Separate style) carried text = plain
+flags_of_form _ carried text = plain
 
 -- the line that a text is, between fences or outside them
 unfoldable pub line_of : Bool → Flags → List ℕ → LineContent

@@ -19,10 +19,8 @@ use Rattle.mad_parse.specs.Reading.{tokens_of, read_all, in_order, and_after, Te
 use Rattle.mad_parse.specs.declared.tokens.StyleToken.{StyleToken}
 
 cut_drop : (n : ℕ) (cs : List ℕ) → cut_after n cs ≡ cut_after 0 (drop n cs)
-cut_drop zero [] = refl
-cut_drop (suc n) [] = refl
-cut_drop zero (c ∷ cs) = refl
 cut_drop (suc n) (c ∷ cs) = cut_drop n cs
+cut_drop _ _ = refl
 
 if_true : {A : Type 0} (b : Bool) (x y : A) → b ≡ true → cond b x y ≡ x
 if_true b x y e = rw e refl

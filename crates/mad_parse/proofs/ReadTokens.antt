@@ -197,9 +197,6 @@ read_rgb r g b small_r small_g small_b =
     (color_token (color_text (color.Rgb r g b)) (color.Rgb r g b) refl (no_number 114 (drop 1 (color_text (color.Rgb r g b))) refl (λ e. absurd (omega (arith, e)))) (rgb_reads r g b small_r small_g small_b))
 
 pub read_color : (c : Color) → IsColor c → IsReadBackColor c → IsRead (token.Color c)
-read_color color.Reset bytes written = absurd written
-read_color color.Black bytes written = absurd written
-read_color color.White bytes written = absurd written
 read_color (color.Rgb r g b) bytes written = read_rgb r g b bytes.0 bytes.1 bytes.2
 read_color (color.AnsiValue n) bytes written = read_ansi n bytes
 read_color color.DarkGrey bytes written = read_word (token.Color color.DarkGrey) refl (lit< tt) refl refl refl
@@ -216,6 +213,7 @@ read_color color.DarkMagenta bytes written = read_word (token.Color color.DarkMa
 read_color color.Cyan bytes written = read_word (token.Color color.Cyan) refl (lit< tt) refl refl refl
 read_color color.DarkCyan bytes written = read_word (token.Color color.DarkCyan) refl (lit< tt) refl refl refl
 read_color color.Grey bytes written = read_word (token.Color color.Grey) refl (lit< tt) refl refl refl
+read_color _ bytes written = absurd written
 
 pub read_none : IsRead token.None
 read_none = read_word token.None refl (lit< tt) refl refl refl
@@ -235,19 +233,4 @@ read_attribute attribute.Reverse written = read_word (token.Attribute attribute.
 read_attribute attribute.CrossedOut written = read_word (token.Attribute attribute.CrossedOut) refl (lit< tt) refl refl refl
 read_attribute attribute.Encircled written = read_word (token.Attribute attribute.Encircled) refl (lit< tt) refl refl refl
 read_attribute attribute.OverLined written = read_word (token.Attribute attribute.OverLined) refl (lit< tt) refl refl refl
-read_attribute attribute.Reset written = absurd (true≢false (sym written))
-read_attribute attribute.SlowBlink written = absurd (true≢false (sym written))
-read_attribute attribute.RapidBlink written = absurd (true≢false (sym written))
-read_attribute attribute.Hidden written = absurd (true≢false (sym written))
-read_attribute attribute.Fraktur written = absurd (true≢false (sym written))
-read_attribute attribute.NoBold written = absurd (true≢false (sym written))
-read_attribute attribute.NormalIntensity written = absurd (true≢false (sym written))
-read_attribute attribute.NoItalic written = absurd (true≢false (sym written))
-read_attribute attribute.NoUnderline written = absurd (true≢false (sym written))
-read_attribute attribute.NoBlink written = absurd (true≢false (sym written))
-read_attribute attribute.NoReverse written = absurd (true≢false (sym written))
-read_attribute attribute.NoHidden written = absurd (true≢false (sym written))
-read_attribute attribute.NotCrossedOut written = absurd (true≢false (sym written))
-read_attribute attribute.Framed written = absurd (true≢false (sym written))
-read_attribute attribute.NotFramedOrEncircled written = absurd (true≢false (sym written))
-read_attribute attribute.NotOverLined written = absurd (true≢false (sym written))
+read_attribute _ written = absurd (true≢false (sym written))

@@ -67,27 +67,21 @@ aligns_past [] us h = refl
 aligns_past (token.Color c ∷ ts) us h = aligns_past ts us h
 aligns_past (token.Attribute a ∷ ts) us h = aligns_past ts us h
 aligns_past (token.None ∷ ts) us h = aligns_past ts us h
-aligns_past (token.Char c ∷ ts) us h = absurd (true≢false (sym h))
-aligns_past (token.Align a ∷ ts) us h = absurd (true≢false (sym h))
-aligns_past (token.Dimension n ∷ ts) us h = absurd (true≢false (sym h))
+aligns_past _ us h = absurd (true≢false (sym h))
 
 numbers_past : (ts us : List StyleToken) → list_all is_styling ts ≡ true → numbers_of (ts ++ us) ≡ numbers_of us
 numbers_past [] us h = refl
 numbers_past (token.Color c ∷ ts) us h = numbers_past ts us h
 numbers_past (token.Attribute a ∷ ts) us h = numbers_past ts us h
 numbers_past (token.None ∷ ts) us h = numbers_past ts us h
-numbers_past (token.Char c ∷ ts) us h = absurd (true≢false (sym h))
-numbers_past (token.Align a ∷ ts) us h = absurd (true≢false (sym h))
-numbers_past (token.Dimension n ∷ ts) us h = absurd (true≢false (sym h))
+numbers_past _ us h = absurd (true≢false (sym h))
 
 char_past : (ts us : List StyleToken) (c : ℕ) → list_all is_styling ts ≡ true → char_index (ts ++ token.Char c ∷ us) ≡ length ts
 char_past [] us c h = refl
 char_past (token.Color d ∷ ts) us c h = ap (λ n. 1 + n) (char_past ts us c h) ∙ omega arith
 char_past (token.Attribute a ∷ ts) us c h = ap (λ n. 1 + n) (char_past ts us c h) ∙ omega arith
 char_past (token.None ∷ ts) us c h = ap (λ n. 1 + n) (char_past ts us c h) ∙ omega arith
-char_past (token.Char d ∷ ts) us c h = absurd (true≢false (sym h))
-char_past (token.Align a ∷ ts) us c h = absurd (true≢false (sym h))
-char_past (token.Dimension n ∷ ts) us c h = absurd (true≢false (sym h))
+char_past _ us c h = absurd (true≢false (sym h))
 
 -- ---- a style of a line
 

@@ -42,9 +42,6 @@ attributes_of_append (token.None ∷ xs) ys = attributes_of_append xs ys
 -- ---- the colors
 
 foreground_written : (c : Color) (background : Option Color) → IsReadBackColor c → foreground_tokens (Some c) background ≡ token.Color c ∷ []
-foreground_written color.Reset background h = absurd h
-foreground_written color.Black background h = absurd h
-foreground_written color.White background h = absurd h
 foreground_written (color.Rgb r g b) background h = refl
 foreground_written (color.AnsiValue n) background h = refl
 foreground_written color.DarkGrey background h = refl
@@ -61,11 +58,9 @@ foreground_written color.DarkMagenta background h = refl
 foreground_written color.Cyan background h = refl
 foreground_written color.DarkCyan background h = refl
 foreground_written color.Grey background h = refl
+foreground_written _ background h = absurd h
 
 background_written : (c : Color) → IsReadBackColor c → background_tokens (Some c) ≡ token.Color c ∷ []
-background_written color.Reset h = absurd h
-background_written color.Black h = absurd h
-background_written color.White h = absurd h
 background_written (color.Rgb r g b) h = refl
 background_written (color.AnsiValue n) h = refl
 background_written color.DarkGrey h = refl
@@ -82,6 +77,7 @@ background_written color.DarkMagenta h = refl
 background_written color.Cyan h = refl
 background_written color.DarkCyan h = refl
 background_written color.Grey h = refl
+background_written _ h = absurd h
 
 -- the tokens of two colors: none, `none` and a background, a foreground, or both
 abbrev pub two_colors : Option Color → Option Color → List StyleToken

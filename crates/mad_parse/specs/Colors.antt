@@ -68,10 +68,8 @@ ansi_color (Some n) = Ok (AnsiValue n)
 
 -- the color of these three amounts, if all are numbers
 abbrev pub rgb_color : Option ℕ → Option ℕ → Option ℕ → Result Color ParseColorError
-rgb_color None green blue = Err Unrecognized
-rgb_color (Some r) None blue = Err Unrecognized
-rgb_color (Some r) (Some g) None = Err Unrecognized
 rgb_color (Some r) (Some g) (Some b) = Ok (Rgb r g b)
+rgb_color _ _ _ = Err Unrecognized
 
 -- two parts of a text, the first with a byte in front
 abbrev pub front_with : ℕ → Option (List ℕ × List ℕ) → Option (List ℕ × List ℕ)

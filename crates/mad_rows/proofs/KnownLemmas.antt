@@ -74,15 +74,9 @@ all_get {A} P (x ∷ xs) zero other h k = h.0
 all_get {A} P (x ∷ xs) (suc n) other h k = all_get P xs n other h.1 k
 
 line_known : (skin : RowSkin) (kind : CompositeKind) → AreKnownStyles skin → IsStyle (line_style skin kind).compound_style.object_style
-line_known skin Paragraph h = h.parts.paragraph
-line_known skin (Header zero) h = h.parts.paragraph
 line_known skin (Header (suc n)) h = all_get IsKnownLine skin.headers n skin.paragraph h.headers h.parts.paragraph
-line_known skin (ListItem depth) h = h.parts.paragraph
-line_known skin (ListItemFollowUp depth) h = h.parts.paragraph
-line_known skin (OrderedListItem level index) h = h.parts.paragraph
-line_known skin (OrderedListItemFollowUp level index) h = h.parts.paragraph
 line_known skin Code h = h.parts.code_block
-line_known skin Quote h = h.parts.paragraph
+line_known skin _ h = h.parts.paragraph
 
 plain_known : IsStyle plain_style.object_style
 plain_known = record { foreground = tt; background = tt; underline = tt }
@@ -97,16 +91,14 @@ spaced_known : (style : CompoundStyle) (n : ℕ) (ps : List RowPiece) → IsStyl
 spaced_known style n ps h k = known_both (single_spaces style n) ps (single_known style n h) k
 
 prefix_known : (skin : RowSkin) (kind : CompositeKind) → AreKnownStyles skin → AreKnown (prefix_pieces skin kind)
-prefix_known skin Paragraph h = tt
-prefix_known skin (Header level) h = tt
 prefix_known skin (ListItem depth) h = spaced_known skin.paragraph.compound_style depth _ h.parts.paragraph (h.parts.bullet, (h.parts.paragraph, tt))
 prefix_known skin (ListItemFollowUp depth) h = single_known skin.paragraph.compound_style _ h.parts.paragraph
 prefix_known skin (OrderedListItem level index) h =
     let item = item_known skin level h in
     spaced_known skin.paragraph.compound_style level _ h.parts.paragraph (item.0, (item.1, (h.parts.paragraph, tt)))
 prefix_known skin (OrderedListItemFollowUp level index) h = single_known skin.paragraph.compound_style _ h.parts.paragraph
-prefix_known skin Code h = tt
 prefix_known skin Quote h = (h.parts.quote_mark, (h.parts.paragraph, tt))
+prefix_known skin _ h = tt
 
 composite_known : (skin : RowSkin) (outer : Option ℕ) (margins : ℕ × ℕ) (right : Bool) (l : FmtComposite) → AreKnownStyles skin → AreKnown (composite_pieces skin outer margins right l)
 composite_known skin outer margins right l h =

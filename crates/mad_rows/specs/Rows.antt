@@ -42,8 +42,6 @@ prefix_space skin = record { style = skin.paragraph.compound_style.object_style;
 -- the prefix of a line: an item's bullet or number after the spaces of its depth; on the item's further lines, the spaces of their
 -- indent; a quote's bar
 abbrev pub prefix_pieces : RowSkin → CompositeKind → List RowPiece
-prefix_pieces skin Paragraph = []
-prefix_pieces skin (Header level) = []
 prefix_pieces skin (ListItem depth) = single_spaces skin.paragraph.compound_style depth ++ (char_piece skin.bullet ∷ prefix_space skin ∷ [])
 prefix_pieces skin (ListItemFollowUp depth) = single_spaces skin.paragraph.compound_style (later_indent skin.list_items_indentation_mode (2 + depth))
 prefix_pieces skin (OrderedListItem level index) =
@@ -52,8 +50,8 @@ prefix_pieces skin (OrderedListItem level index) =
     ∷ char_piece (ordered_item_style skin level).index_suffix ∷ prefix_space skin ∷ [])
 prefix_pieces skin (OrderedListItemFollowUp level index) =
     single_spaces skin.paragraph.compound_style (later_indent skin.list_items_indentation_mode (ordered_indent level index))
-prefix_pieces skin Code = []
 prefix_pieces skin Quote = char_piece skin.quote_mark ∷ prefix_space skin ∷ []
+prefix_pieces skin _ = []
 
 -- what a compound says, in a line of this style
 abbrev pub run_piece : RowSkin → LineStyle → Run → RowPiece

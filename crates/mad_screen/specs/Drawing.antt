@@ -16,8 +16,7 @@ drawing left top (row ∷ rows) = move_to_bytes left top ++ (row ++ drawing left
 abbrev pub PaintRows : List (List ℕ) → List (List Glyph) → Type 0
 PaintRows [] [] = Unit {0}
 PaintRows (t ∷ ts) (r ∷ rs) = Paints t r × PaintRows ts rs
-PaintRows [] (r ∷ rs) = ⊥
-PaintRows (t ∷ ts) [] = ⊥
+PaintRows _ _ = ⊥
 
 -- each row has this many columns
 abbrev pub AreWide : ℕ → List (List Glyph) → Type 0

@@ -5,5 +5,6 @@ pub mod Painting
 pub mod Pictures
 pub mod Readers
 pub mod Refusals
+pub mod Scripted
 pub mod Terminal
 pub mod TerminalLaws

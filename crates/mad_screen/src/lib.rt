@@ -1,4 +1,4 @@
-//! The plain terminal, which says what bytes show.
+//! The plain terminal, which says what bytes show, and devices for tests.
 //!
 //! In the order of the work:
 //!
@@ -8,6 +8,7 @@
 //! 4. [`reader`]: a text, character by character.
 //! 5. [`pictures`]: screens as text.
 //! 6. [`laws`]: what drawing relies on.
+//! 7. [`scripted`]: devices whose bytes can be read, and which fail where one wants them to.
 #![tactic(auto)]
 
 mod cell;
@@ -16,9 +17,11 @@ mod pen;
 mod pictures;
 mod reader;
 mod screen;
+mod scripted;
 
 pub use cell::Cell;
 pub use pen::Pen;
 pub use pictures::Looks;
 pub use reader::NotPlain;
 pub use screen::Screen;
+pub use scripted::{CutOut, ScriptSource};

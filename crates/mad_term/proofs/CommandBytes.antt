@@ -57,21 +57,4 @@ mix_written kind r g b =
 -- a color with a number
 pub numbered : (kind : ℕ) (color : Color) (n : ℕ) → color_number color ≡ Some n → color_numbers kind color ≡ kind ∷ 5 ∷ n ∷ []
 numbered kind (Rgb r g b) n h = cc
-numbered kind Reset n h = ap (palette_numbers kind) h
-numbered kind Black n h = ap (palette_numbers kind) h
-numbered kind DarkGrey n h = ap (palette_numbers kind) h
-numbered kind Red n h = ap (palette_numbers kind) h
-numbered kind DarkRed n h = ap (palette_numbers kind) h
-numbered kind Green n h = ap (palette_numbers kind) h
-numbered kind DarkGreen n h = ap (palette_numbers kind) h
-numbered kind Yellow n h = ap (palette_numbers kind) h
-numbered kind DarkYellow n h = ap (palette_numbers kind) h
-numbered kind Blue n h = ap (palette_numbers kind) h
-numbered kind DarkBlue n h = ap (palette_numbers kind) h
-numbered kind Magenta n h = ap (palette_numbers kind) h
-numbered kind DarkMagenta n h = ap (palette_numbers kind) h
-numbered kind Cyan n h = ap (palette_numbers kind) h
-numbered kind DarkCyan n h = ap (palette_numbers kind) h
-numbered kind White n h = ap (palette_numbers kind) h
-numbered kind Grey n h = ap (palette_numbers kind) h
-numbered kind (AnsiValue m) n h = ap (palette_numbers kind) h
+numbered kind _ n h = ap (palette_numbers kind) h

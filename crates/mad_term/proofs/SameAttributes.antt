@@ -31,11 +31,9 @@ attribute_at i low = eqb-true (attribute_index (at i)) i (agree_below_at (λ k. 
 bit_from : (x y : ℕ) → x < 2 → y < 2 → eqb x 1 ≡ eqb y 1 → x ≡ y
 bit_from zero zero p q e = refl
 bit_from zero (suc zero) p q e = cc
-bit_from zero (suc (suc y)) p q e = absurd (omega arith)
 bit_from (suc zero) zero p q e = cc
 bit_from (suc zero) (suc zero) p q e = refl
-bit_from (suc zero) (suc (suc y)) p q e = absurd (omega arith)
-bit_from (suc (suc x)) y p q e = absurd (omega arith)
+bit_from _ _ p q e = absurd (omega arith)
 
 bits_from : (m n : ℕ) → m < 2 ^ 24 → n < 2 ^ 24 → ((a : Attribute) → eqb (bit_at m (attribute_index a)) 1 ≡ eqb (bit_at n (attribute_index a)) 1) → m ≡ n
 bits_from m n p q h =

@@ -6,7 +6,6 @@ pub mod Color
 pub mod Commands
 pub mod Draws
 pub mod Errors
-pub mod Scripted
 pub mod Stream
 pub mod Styles
 pub mod Trace

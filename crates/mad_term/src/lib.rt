@@ -5,10 +5,9 @@
 //! 1. [`errors`]: what a call refuses by.
 //! 2. [`devices`]: what takes bytes ([`Out`]) and what gives them ([`Source`]), and [`put_all`].
 //! 3. [`streams`]: the readers and writers of the standard library as devices.
-//! 4. [`scripted`]: devices for tests, which fail where one wants them to.
-//! 5. [`color`], [`attribute`], [`attributes`]: how a text may look.
-//! 6. [`commands`], [`styles`], [`repeats`]: the bytes of moves, erasures and texts in a style, by Display and in a row buffer.
-//! 7. [`queue`]: the same, to a device.
+//! 4. [`color`], [`attribute`], [`attributes`]: how a text may look.
+//! 5. [`commands`], [`styles`], [`repeats`]: the bytes of moves, erasures and texts in a style, by Display and in a row buffer.
+//! 6. [`queue`]: the same, to a device.
 #![tactic(auto)]
 
 mod attribute;
@@ -19,7 +18,6 @@ mod devices;
 mod errors;
 mod queue;
 mod repeats;
-mod scripted;
 mod streams;
 mod styles;
 
@@ -35,7 +33,6 @@ pub use queue::{
     queue_styled,
 };
 pub use repeats::StyledRepeat;
-pub use scripted::{CutOut, ScriptSource};
 pub use streams::Stream;
 pub use styles::{
     ContentStyle, StyledContent, StyledNumber, push_background, push_foreground, push_styled,

@@ -4,9 +4,10 @@ use crate::queued::sent;
 use crate::words::number;
 use mad_md::Alignment;
 use mad_parse::{StyleToken, write_align, write_attribute, write_color, write_style_tokens};
+use mad_screen::CutOut;
 use mad_term::{
-    Attribute, Attributes, ClearType, Color, ContentStyle, CutOut, Error, Out, Source, Stream,
-    put_all, queue_bg, queue_clear, queue_fg, queue_move, queue_styled,
+    Attribute, Attributes, ClearType, Color, ContentStyle, Error, Out, Source, Stream, put_all,
+    queue_bg, queue_clear, queue_fg, queue_move, queue_styled,
 };
 use std::alloc::{AllocError, Global};
 use std::io;

@@ -3,7 +3,8 @@
 use crate::devices;
 use crate::words::{number, style_of};
 use mad_style::{CompoundStyle, LineStyle, StyledChar};
-use mad_term::{ClearType, CutOut, Error};
+use mad_screen::CutOut;
+use mad_term::{ClearType, Error};
 use std::alloc::{AllocError, Global};
 
 /// The answer of a call of this module, or of one of the next.

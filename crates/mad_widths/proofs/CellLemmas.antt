@@ -30,16 +30,14 @@ zip_replicate R (suc n) x y h = (h, zip_replicate R n x y h)
 
 pub zip_set : {A B : Type 0} (R : A → B → Type 0) (xs : List A) (ys : List B) (i : ℕ) (x : A) (y : B) → AllZip R xs ys → R x y → AllZip R (set xs i x) (set ys i y)
 zip_set R [] [] i x y h one = tt
-zip_set R [] (b ∷ ys) i x y h one = absurd h
-zip_set R (a ∷ xs) [] i x y h one = absurd h
 zip_set R (a ∷ xs) (b ∷ ys) zero x y h one = (one, h.1)
 zip_set R (a ∷ xs) (b ∷ ys) (suc i) x y h one = (h.0, zip_set R xs ys i x y h.1 one)
+zip_set _ _ _ _ x y h one = absurd h
 
 pub zip_length : {A B : Type 0} (R : A → B → Type 0) (xs : List A) (ys : List B) → AllZip R xs ys → length xs ≡ length ys
 zip_length R [] [] h = refl
-zip_length R [] (b ∷ ys) h = absurd h
-zip_length R (a ∷ xs) [] h = absurd h
 zip_length R (a ∷ xs) (b ∷ ys) h = ap suc (zip_length R xs ys h.1)
+zip_length _ _ _ h = absurd h
 
 pub zip_at : {A B : Type 0} (R : A → B → Type 0) (xs : List A) (ys : List B) (i : ℕ) (d : A) (e : B) → AllZip R xs ys → i < length xs → R (get_or xs i d) (get_or ys i e)
 zip_at R [] ys i d e h l = absurd (omega (arith, l))
@@ -49,20 +47,18 @@ zip_at R (a ∷ xs) (b ∷ ys) (suc i) d e h l = zip_at R xs ys i d e h.1 (omega
 
 pub same_naturals : (cs : List SeenColumn) (cells : List (List ℕ)) → AllZip ColumnHasSeen cs cells → natural_widths (map needs_in cs) ≡ natural_widths (map needs_of cells)
 same_naturals [] [] h = refl
-same_naturals [] (x ∷ cells) h = absurd h
-same_naturals (c ∷ cs) [] h = absurd h
 same_naturals (c ∷ cs) (x ∷ cells) h = ap₂ (λ n ns. n ∷ ns) (ap (λ w. max w 3) h.0.widest_is) (same_naturals cs cells h.1)
+same_naturals _ _ h = absurd h
 
 pub same_needs : (cs : List SeenColumn) (cells : List (List ℕ)) → AllZip ColumnHasSeen cs cells → AllByRecursion (λ c. length c < 2 ^ 64) cells → map needs_in cs ≡ map needs_of cells
 same_needs [] [] h few = refl
-same_needs [] (x ∷ cells) h few = absurd h
-same_needs (c ∷ cs) [] h few = absurd h
 same_needs (c ∷ cs) (x ∷ cells) h few =
     let n : max c.widest 3 ≡ max (widest x) 3 = ap (λ w. max w 3) h.0.widest_is in
     let counted = h.0.counted few.0 in
     let a : average_width c.total c.count ≡ average_width (sum x) (length x) = ap₂ (λ t k. average_width t k) counted.1 counted.0 in
     let one : needs_in c ≡ needs_of x = ap₂ (λ (n : ℕ) (a : ℕ). record { natural = n; average = a }) n a in
     ap₂ (λ n ns. n ∷ ns) one (same_needs cs cells h.1 few.1)
+same_needs _ _ h few = absurd h
 
 -- natural widths are three at least
 pub naturals_wide : (cs : List SeenColumn) → All (λ n. 3 ≤ n.natural) (map needs_in cs)

@@ -26,18 +26,15 @@ length-narrowed (w ∷ ws) [] = refl
 length-narrowed (w ∷ ws) (c ∷ cs) = ap suc (length-narrowed ws cs)
 
 pub get_or-narrowed : (ws cs : List ℕ) (i : ℕ) → get_or (narrowed ws cs) i 0 ≡ get_or ws i 0 - get_or cs i 0
-get_or-narrowed [] cs i = omega arith
-get_or-narrowed (w ∷ ws) [] zero = omega arith
-get_or-narrowed (w ∷ ws) [] (suc i) = omega arith
 get_or-narrowed (w ∷ ws) (c ∷ cs) zero = refl
 get_or-narrowed (w ∷ ws) (c ∷ cs) (suc i) = get_or-narrowed ws cs i
+get_or-narrowed _ _ _ = omega arith
 
 sum_zip : (ws cs : List ℕ) → AllZip (λ c w. c ≤ w) cs ws → sum (narrowed ws cs) + sum cs ≡ sum ws
 sum_zip [] [] h = refl
-sum_zip [] (c ∷ cs) h = absurd h
-sum_zip (w ∷ ws) [] h = absurd h
 sum_zip (w ∷ ws) (c ∷ cs) h =
     omega (arith, h.0, sum_zip ws cs h.1, sum_by-cons (λ (x : ℕ). x) (w - c) (narrowed ws cs), sum_by-cons (λ (x : ℕ). x) c cs, sum_by-cons (λ (x : ℕ). x) w ws)
+sum_zip _ _ h = absurd h
 
 pub sum-narrowed : (ws cs : List ℕ) → length cs ≡ length ws → ((i : ℕ) → i < length ws → get_or cs i 0 ≤ get_or ws i 0) → sum (narrowed ws cs) + sum cs ≡ sum ws
 sum-narrowed ws cs e h = sum_zip ws cs (all_zip_from (λ c w. c ≤ w) cs ws e (λ i l. h i (subst (λ n. i < n) e l)))

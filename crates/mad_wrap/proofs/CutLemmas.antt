@@ -76,15 +76,13 @@ cut_of_three r a m b test =
     }
 
 pub cut_is : (r : Room) (ps : List Compound) (front back : Compound) → clean_cut r ps ≡ Some (front, back) → IsCut r ps front back
-cut_is r [] front back e = absurd (cc)
-cut_is r (a ∷ []) front back e = absurd (cc)
 cut_is r (a ∷ b ∷ []) front back e =
     let made = made_by (both_fit r a b) (a, b) (front, back) e in
     subst (λ (q : Compound × Compound). IsCut r (a ∷ b ∷ []) q.0 q.1) made.1 (cut_of_two r a b made.0)
 cut_is r (a ∷ m ∷ b ∷ []) front back e =
     let made = made_by (is_white m && both_fit r a b) (a, b) (front, back) e in
     subst (λ (q : Compound × Compound). IsCut r (a ∷ m ∷ b ∷ []) q.0 q.1) made.1 (cut_of_three r a m b made.0)
-cut_is r (a ∷ b ∷ c ∷ d ∷ ps) front back e = absurd (cc)
+cut_is r _ front back e = absurd (cc)
 
 -- what was made by a test passed it
 pub some_made : {A : Type 0} (b : Bool) (x : A) → is_some (if b then Some x else None) ≡ true → b ≡ true
@@ -93,11 +91,9 @@ some_made false x e = absurd (cc)
 
 -- a clean cut has room for the first line's indent
 pub cut_has_room : (r : Room) (ps : List Compound) → is_cut_clean r ps ≡ true → r.first ≤ r.width
-cut_has_room r [] e = absurd (cc)
-cut_has_room r (a ∷ []) e = absurd (cc)
 cut_has_room r (a ∷ b ∷ []) e = let cut = cut_of_two r a b (some_made (both_fit r a b) (a, b) e) in omega (arith, cut.fits_first)
 cut_has_room r (a ∷ m ∷ b ∷ []) e = let cut = cut_of_three r a m b (some_made (is_white m && both_fit r a b) (a, b) e) in omega (arith, cut.fits_first)
-cut_has_room r (a ∷ b ∷ c ∷ d ∷ ps) e = absurd (cc)
+cut_has_room r _ e = absurd (cc)
 
 -- the text of a line that holds one compound
 text_of_one : (cs : List Compound) (p : Compound) → map run_of cs ≡ run_of p ∷ [] → flagged_text cs ≡ flagged_of p

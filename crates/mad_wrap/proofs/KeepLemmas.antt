@@ -36,16 +36,14 @@ text_of_runs (c ∷ cs) (t ∷ ts) h =
 
 pub texts_are : (ps : List (LineAndGap Token)) (ls : List WrappedLine) → HoldBreak ps ls → map (λ p. tokens_text p.line) ps ≡ map flagged_text (compounds_of ls)
 texts_are [] [] h = refl
-texts_are [] (l ∷ ls) h = absurd h
-texts_are (p ∷ ps) [] h = absurd h
 texts_are (p ∷ ps) (l ∷ ls) h =
     ap (λ x. x ∷ map (λ p. tokens_text p.line) ps) (sym (text_of_runs l.compounds.items p.line h.0.runs_are)) ∙ ap (λ xs. flagged_text l.compounds.items ∷ xs) (texts_are ps ls h.1)
+texts_are _ _ h = absurd h
 
 pub lengths_are : (ps : List (LineAndGap Token)) (ls : List WrappedLine) → HoldBreak ps ls → length ps ≡ length ls
 lengths_are [] [] h = refl
-lengths_are [] (l ∷ ls) h = absurd h
-lengths_are (p ∷ ps) [] h = absurd h
 lengths_are (p ∷ ps) (l ∷ ls) h = omega (arith, lengths_are ps ls h.1)
+lengths_are _ _ h = absurd h
 
 -- ---- keeps
 
@@ -117,29 +115,26 @@ some_text max (t ∷ ts) some h = omega (arith, some_flagged t h.0.place, length
 pub some_lines : (max : ℕ) (ps : List (LineAndGap Token)) (ls : List WrappedLine) → HoldBreak ps ls → AllByRecursion (IsHonest max) (lines_and_gaps ps) → SomeOnEach ps
     → AllByRecursion (λ l. 0 < length (flagged_text l)) (compounds_of ls)
 some_lines max [] [] h g some = tt
-some_lines max [] (l ∷ ls) h g some = absurd h
-some_lines max (p ∷ ps) [] h g some = absurd h
 some_lines max (p ∷ ps) (l ∷ ls) h g some = (
   omega (arith, some_text max p.line some.0 (line_of (IsHonest max) p ps g), ap length (text_of_runs l.compounds.items p.line h.0.runs_are)),
   some_lines max ps ls h.1 (rest_of (IsHonest max) p ps g) some.1,
 )
+some_lines max _ _ h g some = absurd h
 
 -- ---- what each line says of itself
 
 pub runs_are : (ps : List (LineAndGap Token)) (ls : List WrappedLine) → HoldBreak ps ls → map runs_of (compounds_of ls) ≡ map (λ p. map token_run p.line) ps
 runs_are [] [] h = refl
-runs_are [] (l ∷ ls) h = absurd h
-runs_are (p ∷ ps) [] h = absurd h
 runs_are (p ∷ ps) (l ∷ ls) h = ap (λ x. x ∷ map runs_of (compounds_of ls)) h.0.runs_are ∙ ap (λ x. map token_run p.line ∷ x) (runs_are ps ls h.1)
+runs_are _ _ h = absurd h
 
 pub counted_are : (max : ℕ) (ps : List (LineAndGap Token)) (ls : List WrappedLine) → HoldBreak ps ls → AllByRecursion (IsHonest max) (lines_and_gaps ps) → AreCounted ls
 counted_are max [] [] h g = tt
-counted_are max [] (l ∷ ls) h g = absurd h
-counted_are max (p ∷ ps) [] h g = absurd h
 counted_are max (p ∷ ps) (l ∷ ls) h g = (
   omega (arith, h.0.columns_are, width_is max p.line (line_of (IsHonest max) p ps g), ap width_of (text_of_runs l.compounds.items p.line h.0.runs_are)),
   counted_are max ps ls h.1 (rest_of (IsHonest max) p ps g),
 )
+counted_are max _ _ h g = absurd h
 
 -- ---- the compounds are tokens
 
@@ -165,12 +160,11 @@ made_of cs all pre post ts l same joins =
 pub parts_are : (cs : List Compound) (all pre : List Token) (ps : List (LineAndGap Token)) (ls : List WrappedLine) → HoldBreak ps ls → pre ++ lines_and_gaps ps ≡ all
     → AllByRecursion (IsMadeOf cs all) (compounds_of ls)
 parts_are cs all pre [] [] h e = tt
-parts_are cs all pre [] (l ∷ ls) h e = absurd h
-parts_are cs all pre (p ∷ ps) [] h e = absurd h
 parts_are cs all pre (p ∷ ps) (l ∷ ls) h e = (
   made_of cs all pre (p.gap ++ lines_and_gaps ps) p.line l.compounds.items h.0.runs_are e,
   parts_are cs all (pre ++ (p.line ++ p.gap)) ps ls h.1 (append_assoc pre (p.line ++ p.gap) (lines_and_gaps ps) ∙ ap (λ x. pre ++ x) (append_assoc p.line p.gap (lines_and_gaps ps)) ∙ e),
 )
+parts_are cs all pre _ _ h e = absurd h
 
 -- ---- no compound is empty
 
@@ -185,9 +179,8 @@ filled max (c ∷ cs) (t ∷ ts) h g =
 pub filled_lines : (max : ℕ) (ps : List (LineAndGap Token)) (ls : List WrappedLine) → HoldBreak ps ls → AllByRecursion (IsHonest max) (lines_and_gaps ps)
     → AllByRecursion NoneEmpty (compounds_of ls)
 filled_lines max [] [] h g = tt
-filled_lines max [] (l ∷ ls) h g = absurd h
-filled_lines max (p ∷ ps) [] h g = absurd h
 filled_lines max (p ∷ ps) (l ∷ ls) h g = (
   filled max l.compounds.items p.line h.0.runs_are (line_of (IsHonest max) p ps g),
   filled_lines max ps ls h.1 (rest_of (IsHonest max) p ps g),
 )
+filled_lines max _ _ h g = absurd h

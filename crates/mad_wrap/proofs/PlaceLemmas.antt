@@ -78,9 +78,8 @@ forced_push r (q ∷ ps) p h b l = (h.0, h.1, forced_from_other r ps p h.2 b l)
 
 holds_push : (ps : List (LineAndGap Token)) (ls : List WrappedLine) (p : LineAndGap Token) (l : WrappedLine) → HoldBreak ps ls → HoldsTokens p.line l → HoldBreak (ps ++ p ∷ []) (ls ++ l ∷ [])
 holds_push [] [] p l h g = (g, tt)
-holds_push [] (m ∷ ls) p l h g = absurd h
-holds_push (q ∷ ps) [] p l h g = absurd h
 holds_push (q ∷ ps) (m ∷ ls) p l h g = (h.0, holds_push ps ls p l h.1 g)
+holds_push _ _ p l h g = absurd h
 
 pub next_indent-push : (r : Room) (ps : List (LineAndGap Token)) (p : LineAndGap Token) → next_indent r (ps ++ p ∷ []) ≡ r.other
 next_indent-push r [] p = refl

@@ -25,9 +25,8 @@ HoldsTokens ts l = Holds (map token_run ts) (total_width ts) l
 -- each line holds its tokens of the break
 abbrev pub HoldBreak : List (LineAndGap Token) → List WrappedLine → Type 0
 HoldBreak [] [] = Unit {0}
-HoldBreak [] (l ∷ ls) = ⊥
-HoldBreak (p ∷ ps) [] = ⊥
 HoldBreak (p ∷ ps) (l ∷ ls) = HoldsTokens p.line l × HoldBreak ps ls
+HoldBreak _ _ = ⊥
 
 -- the tokens are on these lines, by first fit
 pub record ArePlacedLines (r : Room) (ts : List Token) (lines : List WrappedLine) : Type 0 where

@@ -27,7 +27,7 @@ pub use Rattle.mad_screen.specs.Grid
 pub use Rattle.mad_screen.specs.Painting
 pub use Rattle.mad_screen.specs.Pictures
 pub use Rattle.mad_screen.specs.Refusals
-pub use Rattle.mad_term.specs.Scripted
+pub use Rattle.mad_screen.specs.Scripted
 pub use Rattle.mad_screen.specs.Readers
 pub use Rattle.mad_term.specs.Stream
 pub use Rattle.mad_term.specs.Styles

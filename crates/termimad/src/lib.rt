@@ -8,10 +8,10 @@
 /// What a terminal takes, and what it shows.
 pub mod term {
     pub use mad_columns::char_columns;
-    pub use mad_screen::{Cell, Looks, NotPlain, Pen, Screen, laws};
+    pub use mad_screen::{Cell, CutOut, Looks, NotPlain, Pen, Screen, ScriptSource, laws};
     pub use mad_term::{
-        Attribute, Attributes, Clear, ClearType, Color, ContentStyle, CutOut, Error,
-        InsufficientWidthError, MoveTo, Out, ScriptSource, Source, Stream, StyledContent,
+        Attribute, Attributes, Clear, ClearType, Color, ContentStyle, Error,
+        InsufficientWidthError, MoveTo, Out, Source, Stream, StyledContent,
         StyledNumber, StyledRepeat, push_background, push_clear, push_foreground, push_move,
         push_styled, put_all, put_displayed, put_text, queue_bg, queue_clear, queue_fg, queue_move,
         queue_repeated, queue_styled,
@@ -71,6 +71,7 @@ pub use mad_md::{
     Alignment, Composite, CompositeStyle, Compound, Line, LineCursor, MAX_HEADER_DEPTH,
     ParseOptions, TableRow, TableRule, Text, parse_text, parse_text_with,
 };
+pub use mad_screen::{CutOut, ScriptSource};
 pub use mad_style::{
     ASCII_TABLE_BORDER_CHARS, ATTRIBUTES, CompositeKind, CompoundStyle, LineStyle,
     ListItemsIndentationMode, MAX_ORDERED_LIST_DEPTH, OrderedItemStyle, ROUNDED_TABLE_BORDER_CHARS,
@@ -78,8 +79,8 @@ pub use mad_style::{
     gray, ordered_item_indent, rgb,
 };
 pub use mad_term::{
-    Attribute, Attributes, Clear, ClearType, Color, ContentStyle, CutOut, Error,
-    InsufficientWidthError, MoveTo, Out, ScriptSource, Source, Stream, StyledContent, StyledNumber,
+    Attribute, Attributes, Clear, ClearType, Color, ContentStyle, Error,
+    InsufficientWidthError, MoveTo, Out, Source, Stream, StyledContent, StyledNumber,
     StyledRepeat, char_columns, put_all, put_displayed, put_text, queue_bg, queue_clear, queue_fg,
     queue_move, queue_repeated, queue_styled,
 };

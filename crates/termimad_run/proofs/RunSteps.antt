@@ -33,8 +33,7 @@ refused_words : (T : Type 0) (words : List (List ℕ)) (failure : Failure) (old 
 refused_words T words Usage old new h same = (h, same)
 refused_words T words Skin old new h same = (h, same)
 refused_words T words Memory old new h same = inl (h, same)
-refused_words T words Io old new h same = absurd h
-refused_words T words NotUtf8 old new h same = absurd h
+refused_words _ words _ old new h same = absurd h
 
 -- the exit at the words
 pub call_exit : {T : Type 0} (words : List (List ℕ)) (r : Result T Failure) (failure : Failure) (old new : Devices) → IsErrAnd r (λ e. e ≡ failure) → FailsToStart words old.err failure new.err → new.input ≡ old.input → new.out ≡ old.out → RunsTo words old r new
@@ -45,9 +44,7 @@ call_exit {T} words r failure old new is h input out =
 failed_to_read : (T : Type 0) (words : List (List ℕ)) (failure : Failure) (old new : Devices) → Started words old.err new.err → ReadingFails old.input failure new.input → new.out ≡ old.out → RunsTo {T = T} words old (Err failure) new
 failed_to_read T words Io old new call h out = inl (record { call = call; stopped = h; unwritten = out })
 failed_to_read T words Memory old new call h out = inr (inl (record { call = call; stopped = h; unwritten = out }))
-failed_to_read T words Usage old new call h out = absurd h
-failed_to_read T words NotUtf8 old new call h out = absurd h
-failed_to_read T words Skin old new call h out = absurd h
+failed_to_read _ words _ old new call h out = absurd h
 
 -- what was read is a text
 pub has_read : (old new : Trace) (bytes slice text : List ℕ) → ReadsWhole old bytes new → slice ≡ bytes → text ≡ slice → IsUtf8 slice → HasRead old text new
@@ -82,8 +79,14 @@ flush_exit {T} words r text old new written call is read h out =
 
 -- a flush takes nothing from what is shown
 pub still_shown : (skin : MadSkin) (command : Command) (text : List ℕ) (old written new : Trace) → ShowsCall skin command text old written → new ≡ flushed written → ShowsCall skin command text old new
-still_shown skin (InArea area) text old written new (across, h) is = (
-  (across.0, across.1, record { shown = λ premises. let rows = across.2.shown premises in (rows.0, rows.1, took_flushed old written new (AreShownAcross rows.0 area) rows.2 is) }),
+still_shown skin (InArea area) text old written new (headline, h) is = (
+  record {
+    lines = headline.lines;
+    read = headline.read;
+    rows = record {
+      shown = λ premises. let rows = headline.rows.shown premises in (rows.0, rows.1, took_flushed old written new (AreShownAcross rows.0 area) rows.2 is);
+    };
+  },
   record {
     lines = h.lines;
     laid_out = h.laid_out;

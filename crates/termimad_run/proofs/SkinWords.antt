@@ -21,20 +21,16 @@ first_byte m n name xs ys h k = ap (λ (l : List ℕ). get_or l 0 0) (sym h ∙ 
 
 asked_once : (words : List (List ℕ)) (c d : Command) (a b : Option (List ℕ)) → Asks words c a → Asks words d b → a ≡ b
 asked_once [] c d a b h k = absurd h
-asked_once (name ∷ []) (InArea x) (InArea y) a b h k = absurd h.1
-asked_once (name ∷ l ∷ []) (InArea x) (InArea y) a b h k = absurd h.1
-asked_once (name ∷ l ∷ t ∷ []) (InArea x) (InArea y) a b h k = absurd h.1
-asked_once (name ∷ l ∷ t ∷ w ∷ []) (InArea x) (InArea y) a b h k = absurd h.1
 asked_once (name ∷ l ∷ t ∷ w ∷ e ∷ rest) (InArea x) (InArea y) a b h k = one_word rest a b h.1.1 k.1.1
 asked_once (name ∷ words) (InArea x) (AtWidth n) a b h k = absurd (let e : 97 ≡ 116 = first_byte 97 116 name _ _ h.0 k.0 in omega (arith, e))
 asked_once (name ∷ words) (InArea x) Inline a b h k = absurd (let e : 97 ≡ 105 = first_byte 97 105 name _ _ h.0 k.0 in omega (arith, e))
 asked_once (name ∷ words) (AtWidth n) (InArea x) a b h k = absurd (let e : 116 ≡ 97 = first_byte 116 97 name _ _ h.0 k.0 in omega (arith, e))
-asked_once (name ∷ []) (AtWidth n) (AtWidth m) a b h k = absurd h.1
 asked_once (name ∷ w ∷ rest) (AtWidth n) (AtWidth m) a b h k = one_word rest a b h.1.1 k.1.1
 asked_once (name ∷ words) (AtWidth n) Inline a b h k = absurd (let e : 116 ≡ 105 = first_byte 116 105 name _ _ h.0 k.0 in omega (arith, e))
 asked_once (name ∷ words) Inline (InArea x) a b h k = absurd (let e : 105 ≡ 97 = first_byte 105 97 name _ _ h.0 k.0 in omega (arith, e))
 asked_once (name ∷ words) Inline (AtWidth n) a b h k = absurd (let e : 105 ≡ 116 = first_byte 105 116 name _ _ h.0 k.0 in omega (arith, e))
 asked_once (name ∷ words) Inline Inline a b h k = one_word words a b h.1 k.1
+asked_once _ _ _ a b h k = absurd h.1
 
 known_skin : (word : Option (List ℕ)) (given : MadSkin × List (List ℕ)) → skin_given word ≡ Some given → skin_given word ≡ None → ⊥
 known_skin word given h refused = let both : Some given ≡ None = sym h ∙ refused in cc
@@ -47,11 +43,8 @@ never words old new call h =
 
 -- a failure has the status of a refused skin only where the words ask for one
 pub skin_exit : (words : List (List ℕ)) (failure : Failure) (old new : Devices) → RunsTo {T = Unit {0}} words old (Err failure) new → status_of failure ≡ 4 → AsksRefusedSkin words
-skin_exit words Usage old new h e = absurd (omega (arith, e))
 skin_exit words Skin old new h e = h.0
-skin_exit words NotUtf8 old new h e = absurd (omega (arith, e))
-skin_exit words Io old new h e = absurd (omega (arith, e))
-skin_exit words Memory old new h e = absurd (omega (arith, e))
+skin_exit words _ old new h e = absurd (omega (arith, e))
 
 -- words that ask for such a skin end so, or out of memory
 pub refused_exit : (words : List (List ℕ)) (failure : Failure) (old new : Devices) → RunsTo {T = Unit {0}} words old (Err failure) new → AsksRefusedSkin words → (status_of failure ≡ 4) ⊎ (status_of failure ≡ 5)

@@ -71,5 +71,4 @@ abbrev pub RefusesWords : List (List ℕ) → Failure → Type 0
 RefusesWords words Usage = IsNoCall words
 RefusesWords words Skin = AsksRefusedSkin words
 RefusesWords words Memory = AsksJson words
-RefusesWords words Io = ⊥
-RefusesWords words NotUtf8 = ⊥
+RefusesWords words _ = ⊥

@@ -36,11 +36,8 @@ SaysOnce old text new = (new ≡ after old text) ⊎ CutShort old text new
 
 -- what the refusal of a skin makes of a run
 abbrev pub skin_failure : SkinError → Failure
-skin_failure skin_error.NotObject = Skin
-skin_failure (skin_error.WrongType key) = Skin
-skin_failure (skin_error.Style key error) = Skin
-skin_failure (skin_error.TwoNames key) = Skin
 skin_failure skin_error.Memory = Memory
+skin_failure _ = Skin
 
 -- what is said of the keys that name no part of a skin: a line for each, in their order
 abbrev pub key_lines : List (List ℕ) → List ℕ

@@ -42,14 +42,10 @@ IsJsonText (Some word) = skin_named word ≡ None
 abbrev pub RefusesText : List ℕ → Failure → Type 0
 RefusesText text Skin = json_skin text ≡ None
 RefusesText text Memory = Unit {0}
-RefusesText text Usage = ⊥
-RefusesText text Io = ⊥
-RefusesText text NotUtf8 = ⊥
+RefusesText text _ = ⊥
 
 -- why a word gives no skin
 abbrev pub RefusesSkin : Option (List ℕ) → Failure → Type 0
 RefusesSkin word Skin = skin_given word ≡ None
 RefusesSkin word Memory = IsJsonText word
-RefusesSkin word Usage = ⊥
-RefusesSkin word Io = ⊥
-RefusesSkin word NotUtf8 = ⊥
+RefusesSkin word _ = ⊥

@@ -1,14 +1,12 @@
 -- The headline of the program: what a run does to its devices, and how it ends.
 use Rattle.std.specs.Prelude.{◌≡◌, ◌⊎◌, ℕ, false, List, [], ◌∷◌, ◌++◌, Some, Result, Ok, Err, IsErrOf, IsUtf8, ⊤}
 use Rattle.termimad.specs.Inline.{Item, IsInlineReading}
-use Rattle.termimad.specs.Lines.{LineContent}
-use Rattle.termimad.specs.Reading.{IsRead, unread_text}
 use Rattle.termimad.specs.Draws.{Draws}
 use Rattle.termimad.specs.Trace.{Trace, failed, flushed}
 use Rattle.termimad.specs.Stream.{untold}
 use Rattle.termimad.specs.declared.Error.{Error}
 use Rattle.termimad.specs.declared.Error.TheVariants.{Memory as NoMemory}
-use Rattle.termimad.specs.Headline.{ShowsFirstRows}
+use Rattle.termimad.specs.Headline.{ShowsHeadline}
 use Rattle.termimad.specs.InArea.{WritesInArea, ShowsText}
 use Rattle.termimad.specs.Inlines.{inline_bytes}
 use Rattle.termimad.specs.RowSkins.{row_skin}
@@ -63,7 +61,7 @@ WritesCall skin Inline text old r new = (line : List ℕ) × IsWithoutLineEnd te
 -- layout. Of the others nothing is said.
 abbrev pub ShowsCall : MadSkin → Command → List ℕ → Trace → Trace → Type 0
 ShowsCall skin (InArea area) text old new =
-    ((lines : List LineContent) × IsRead (unread_text false text) lines × ShowsFirstRows (row_skin skin) lines area old new) × ShowsText (row_skin skin) text area old new
+    ShowsHeadline (row_skin skin) text area old new × ShowsText (row_skin skin) text area old new
 ShowsCall skin (AtWidth width) text old new = ⊤
 ShowsCall skin Inline text old new = ⊤
 

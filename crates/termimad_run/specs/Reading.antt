@@ -25,6 +25,4 @@ pub record ReadsSome (old new : Trace) : Type 0 where
 abbrev pub ReadingFails : Trace → Failure → Trace → Type 0
 ReadingFails old Io new = ReadsToFault old new
 ReadingFails old Memory new = ReadsSome old new
-ReadingFails old Usage new = ⊥
-ReadingFails old NotUtf8 new = ⊥
-ReadingFails old Skin new = ⊥
+ReadingFails old _ new = ⊥

@@ -1,4 +1,4 @@
-use Rattle.mad_layout.proofs.HeadlineRows.{reading_flushed}
+use Rattle.mad_layout.proofs.HeadlineRows.{headline_flushed}
 use Rattle.mad_layout.proofs.HeadlineLemmas.{area_not_flushed, shown_flushed}
 use Rattle.mad_layout.proofs.SourceLemmas.{source_flushed}
 use Rattle.mad_layout.specs.RowSkins.{row_skin}
@@ -15,7 +15,7 @@ pub returns-clause-shown : goal.returns-clause-shown
 returns-clause-shown g c = λ wide. shown_flushed (row_skin c.args.self.now) c.args.markdown.now c.args.area.now _ _ _ (c.in_ok-write_in_area_on.ensures.shown wide) c.in_ok-flush.ensures
 
 pub returns-clause-headline : goal.returns-clause-headline
-returns-clause-headline g c = λ wide. reading_flushed (row_skin c.args.self.now) c.args.markdown.now c.args.area.now _ _ _ (c.in_ok-write_in_area_on.ensures.headline wide) c.in_ok-flush.ensures
+returns-clause-headline g c = λ wide. headline_flushed (row_skin c.args.self.now) c.args.markdown.now c.args.area.now _ _ _ (c.in_ok-write_in_area_on.ensures.headline wide) c.in_ok-flush.ensures
 
 pub returns-clause-shown_source : goal.returns-clause-shown_source
 returns-clause-shown_source g c = λ wide. λ takes. source_flushed (row_skin c.args.self.now) c.args.markdown.now c.args.area.now _ _ _ (c.in_ok-write_in_area_on.ensures.shown_source wide takes) c.in_ok-flush.ensures

@@ -3,7 +3,7 @@
 ghost use Rattle.std.specs.Prelude.{◌≡◌, ◌<◌, ◌≤◌, ◌+◌, ◌-◌, ◌^◌, ◌↔◌, IfOk, IsErr, IsTrue, Some, [], length, max, min, vec_capacity};
 ghost use Rattle.mad_term.specs.Trace.{Puts, Flushes, Gets, Fills, failed};
 
-use crate::devices::{Out, Source};
+use mad_term::{Out, Source};
 use std::alloc::{AllocError, Global};
 use std::io;
 
@@ -21,7 +21,7 @@ pub struct CutOut {
 }
 
 impl CutOut {
-    ghost use Rattle.mad_term.specs.Scripted.{cut_trace, cut_puts, IsCutOut, IsSameDevice};
+    ghost use Rattle.mad_screen.specs.Scripted.{cut_trace, cut_puts, IsCutOut, IsSameDevice};
 
     /// A device that takes at most `step` bytes at a put and `room` bytes in all. A put that could take
     /// nothing is a fault, and so is each flush if `flush_fails`.
@@ -75,7 +75,7 @@ impl CutOut {
     }
 
     // Counts a fault and answers it.
-    #[tactic(auto, unfolding(crate::specs::Trace::failed))]
+    #[tactic(auto, unfolding(mad_term::specs::Trace::failed))]
     fn fail(&mut self) -> io::Error
         ensures counted { cut_trace self.new ≡ failed (cut_trace self.old) }
         ensures puts { cut_puts self.new ≡ cut_puts self.old }
@@ -87,11 +87,11 @@ impl CutOut {
 }
 
 impl Out for CutOut {
-    ghost use Rattle.mad_term.specs.Scripted.{cut_trace, cut_puts, cut_count, IsSameDevice};
+    ghost use Rattle.mad_screen.specs.Scripted.{cut_trace, cut_puts, cut_count, IsSameDevice};
 
     ghost seen = { cut_trace };
 
-    #[tactic(auto, unfolding(crate::specs::Trace::after))]
+    #[tactic(auto, unfolding(mad_term::specs::Trace::after))]
     fn put(&mut self, bytes: &[u8]) -> io::Result<usize>
         ensures puts { Puts (cut_trace self.old) bytes.now result (cut_trace self.new) }
         ensures count { IfOk result (λ count. count ≡ cut_count self.old (length bytes.now)) }
@@ -112,7 +112,7 @@ impl Out for CutOut {
         Ok(count)
     }
 
-    #[tactic(auto, unfolding(crate::specs::Trace::flushed))]
+    #[tactic(auto, unfolding(mad_term::specs::Trace::flushed))]
     fn flush(&mut self) -> io::Result<()>
         ensures flushes { Flushes (cut_trace self.old) result (cut_trace self.new) }
         ensures fault { IsErr result ↔ IsTrue self.old.flush_fails }
@@ -138,7 +138,7 @@ pub struct ScriptSource<'s> {
 }
 
 impl<'s> ScriptSource<'s> {
-    ghost use Rattle.mad_term.specs.Scripted.{script_trace, IsScript};
+    ghost use Rattle.mad_screen.specs.Scripted.{script_trace, IsScript};
 
     /// A source of `bytes`; after them it fails if `fails`, else it is at its end. A fill hands out all that it has room for.
     pub fn new(bytes: &'s [u8], fails: bool) -> Self
@@ -175,10 +175,10 @@ impl<'s> ScriptSource<'s> {
 }
 
 impl ScriptSource<'_> {
-    ghost use Rattle.mad_term.specs.Scripted.{script_trace, IsSameSource};
+    ghost use Rattle.mad_screen.specs.Scripted.{script_trace, IsSameSource};
 
     // Counts a fault and answers it.
-    #[tactic(auto, unfolding(crate::specs::Trace::failed))]
+    #[tactic(auto, unfolding(mad_term::specs::Trace::failed))]
     fn fail(&mut self) -> io::Error
         ensures counted { script_trace self.new ≡ failed (script_trace self.old) }
         ensures keeps { IsSameSource self.old self.new }
@@ -189,11 +189,11 @@ impl ScriptSource<'_> {
 }
 
 impl Source for ScriptSource<'_> {
-    ghost use Rattle.mad_term.specs.Scripted.{script_trace, script_count, IsSameSource};
+    ghost use Rattle.mad_screen.specs.Scripted.{script_trace, script_count, IsSameSource};
 
     ghost seen = { script_trace };
 
-    #[tactic(auto, unfolding(crate::specs::Trace::ahead))]
+    #[tactic(auto, unfolding(mad_term::specs::Trace::ahead))]
     fn get(&mut self) -> io::Result<Option<u8>>
         ensures gets { Gets (script_trace self.old) result (script_trace self.new) }
         ensures fault { IsErr result ↔ ((script_trace self.old).bytes ≡ Some []) × IsTrue self.old.fails }
@@ -209,7 +209,7 @@ impl Source for ScriptSource<'_> {
         Ok(None)
     }
 
-    #[tactic(auto, unfolding(crate::specs::Trace::ahead_all))]
+    #[tactic(auto, unfolding(mad_term::specs::Trace::ahead_all))]
     fn fill(&mut self, buffer: &mut [u8]) -> io::Result<usize>
         ensures fills { Fills (script_trace self.old) buffer.new result (script_trace self.new) }
         ensures count { IfOk result (λ count. count ≡ script_count self.old (length buffer.old)) }

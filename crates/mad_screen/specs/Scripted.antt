@@ -1,7 +1,7 @@
 -- The devices of tests: what they hand over is known, and where they fail.
 use Rattle.std.specs.Prelude.{◌≡◌, ℕ, ◌-◌, Bool, List, [], Some, length, min}
-use Rattle.mad_term.specs.declared.scripted.CutOut.{CutOut}
-use Rattle.mad_term.specs.declared.scripted.ScriptSource.{ScriptSource}
+use Rattle.mad_screen.specs.declared.scripted.CutOut.{CutOut}
+use Rattle.mad_screen.specs.declared.scripted.ScriptSource.{ScriptSource}
 use Rattle.mad_term.specs.Trace.{Trace}
 
 -- it tells all that it took
