@@ -14,7 +14,7 @@ use Rattle.mad_format.specs.Wraps.{text_of}
 use Rattle.mad_format.specs.LineRules.{LineRules}
 use Rattle.mad_format.specs.declared.composite.FmtComposite.{FmtComposite}
 use Rattle.mad_format.specs.declared.line.FmtLine.{FmtLine}
-use Rattle.mad_format.specs.declared.line.FmtLine.TheVariants.{Normal, TableRow, TableRule, HorizontalRule}
+use Rattle.mad_format.specs.declared.line.FmtLine.TheVariants.{Normal}
 
 -- the left margin that the first line keeps
 abbrev left_margin_of : Option (ℕ × ℕ) → ℕ

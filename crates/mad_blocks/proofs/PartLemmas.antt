@@ -3,7 +3,7 @@ use Rattle.std.proofs.Common.{◌≡◌, ℕ, ◌-◌, ◌≤◌, ◌⊎◌, inr
 use Rattle.std.specs.List.{AllByRecursion}
 use Rattle.mad_md.specs.declared.alignment.Alignment.TheVariants.{Left}
 use Rattle.mad_style.specs.declared.kinds.CompositeKind.{CompositeKind}
-use Rattle.mad_style.specs.declared.kinds.CompositeKind.TheVariants.{Paragraph, Header, ListItem, ListItemFollowUp, OrderedListItem, OrderedListItemFollowUp, Code, Quote}
+use Rattle.mad_style.specs.declared.kinds.CompositeKind.TheVariants.{Code}
 use Rattle.mad_style.specs.LineStyles.{margins_at}
 use Rattle.mad_fit.specs.declared.spacing.Spacing.{Spacing}
 use Rattle.mad_blocks.specs.LayoutParts.{Part, table, block, single, is_code_kind, with_table, with_code, with_composite, parts_of, widest, placed_code, justified, code_room}

@@ -13,7 +13,7 @@ use Rattle.mad_format.specs.WrappedLines.{Wrap, style_margins}
 use Rattle.mad_format.specs.LineRules.{LineRules}
 use Rattle.mad_format.specs.declared.composite.FmtComposite.{FmtComposite}
 use Rattle.mad_format.specs.declared.line.FmtLine.{FmtLine}
-use Rattle.mad_format.specs.declared.line.FmtLine.TheVariants.{Normal, TableRow, TableRule, HorizontalRule}
+use Rattle.mad_format.specs.declared.line.FmtLine.TheVariants.{Normal, TableRow}
 use Rattle.mad_format.specs.declared.table.FmtTableRow.{FmtTableRow}
 use Rattle.mad_format.specs.declared.table.RelativePosition.{RelativePosition}
 use Rattle.mad_blocks.proofs.WideLayouts.{IsLayout}

@@ -1,5 +1,5 @@
 -- From a layout to what its area shows.
-use Rattle.std.proofs.Common.{◌≡◌, ℕ, zero, suc, ◌-◌, ◌≤◌, List, [], ◌∷◌, ◌++◌, take, inl, inr, Some, Result, Ok, Err, OnOk, IfOk, subst, arith}
+use Rattle.std.proofs.Common.{◌≡◌, ℕ, zero, suc, ◌-◌, ◌≤◌, List, [], ◌∷◌, ◌++◌, take, inl, inr, Some, Result, Ok, Err, OnOk, subst, arith}
 use Rattle.mad_md.specs.Lines.{LineContent}
 use Rattle.std.specs.Result.{IsErrAnd}
 use Rattle.std.specs.declared.io.Error as io

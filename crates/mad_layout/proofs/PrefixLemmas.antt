@@ -11,7 +11,7 @@ use Rattle.mad_columns.proofs.CharColumns.{char_columns-ascii}
 use Rattle.mad_screen.specs.Painting.{IsPrinted, IsWhole, IsShown}
 use Rattle.mad_style.specs.declared.compound_styles.CompoundStyle.{CompoundStyle}
 use Rattle.mad_style.specs.declared.kinds.CompositeKind.{CompositeKind}
-use Rattle.mad_style.specs.declared.kinds.CompositeKind.TheVariants.{Paragraph, Header, ListItem, ListItemFollowUp, OrderedListItem, OrderedListItemFollowUp, Code, Quote}
+use Rattle.mad_style.specs.declared.kinds.CompositeKind.TheVariants.{ListItem, ListItemFollowUp, OrderedListItem, OrderedListItemFollowUp, Quote}
 use Rattle.mad_fit.specs.TextColumns.{columns}
 use Rattle.mad_fit.proofs.AllLemmas.{all_push, all_joined}
 use Rattle.mad_draw.specs.Pieces.{RowPiece, IsShownPiece, AreShownPieces, char_piece, pieces_columns, single_spaces}

@@ -10,14 +10,14 @@ use Rattle.mad_fit.proofs.UniqueLemmas.{chars_of_flagged}
 use Rattle.mad_screen.specs.Glyph.{Look}
 use Rattle.mad_screen.specs.Painting.{look_of_style}
 use Rattle.mad_md.specs.declared.alignment.Alignment.TheVariants.{Left}
-use Rattle.mad_md.specs.Flagged.{FlaggedChar, Flags, flagged, flags_of, flagged_of, flagged_text}
+use Rattle.mad_md.specs.Flagged.{FlaggedChar, flags_of, flagged_of, flagged_text}
 use Rattle.mad_md.specs.Lines.{StyledRuns, LineContent}
 use Rattle.mad_md.specs.declared.compound.Compound.{Compound}
 use Rattle.mad_style.specs.LineStyles.{margins_at}
 use Rattle.mad_style.specs.StyledChars.{char_alone, char_style}
 use Rattle.mad_style.specs.declared.compound_styles.CompoundStyle.{CompoundStyle}
 use Rattle.mad_style.specs.declared.kinds.CompositeKind.{CompositeKind}
-use Rattle.mad_style.specs.declared.kinds.CompositeKind.TheVariants.{Paragraph, Header, ListItem, ListItemFollowUp, OrderedListItem, OrderedListItemFollowUp, Code, Quote}
+use Rattle.mad_style.specs.declared.kinds.CompositeKind.TheVariants.{ListItem, ListItemFollowUp, OrderedListItem, OrderedListItemFollowUp, Quote}
 use Rattle.mad_style.specs.declared.line_styles.LineStyle.{LineStyle}
 use Rattle.mad_style.specs.declared.styled_chars.StyledChar.{StyledChar}
 use Rattle.mad_fit.specs.Completions.{left_completion}

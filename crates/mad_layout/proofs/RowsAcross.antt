@@ -33,7 +33,7 @@ use Rattle.mad_format.specs.Wraps.{text_of, columns_of, IsMeasured}
 use Rattle.mad_rows.specs.declared.row_skin.RowSkin.{RowSkin}
 use Rattle.mad_format.specs.declared.composite.FmtComposite.{FmtComposite}
 use Rattle.mad_format.specs.declared.line.FmtLine.{FmtLine}
-use Rattle.mad_format.specs.declared.line.FmtLine.TheVariants.{Normal, TableRow, TableRule, HorizontalRule}
+use Rattle.mad_format.specs.declared.line.FmtLine.TheVariants.{Normal, HorizontalRule}
 use Rattle.mad_layout.proofs.DrawableLemmas.{IsPlacedFor, has_room}
 use Rattle.mad_format.proofs.ReadWraps.{margins-le}
 use Rattle.mad_layout.proofs.DrawnParts.{runs_are}

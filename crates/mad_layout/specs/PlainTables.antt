@@ -10,7 +10,7 @@ use Rattle.mad_format.specs.Wraps.{IsMeasured}
 use Rattle.mad_rows.specs.declared.row_skin.RowSkin.{RowSkin}
 use Rattle.mad_format.specs.declared.composite.FmtComposite.{FmtComposite}
 use Rattle.mad_format.specs.declared.line.FmtLine.{FmtLine}
-use Rattle.mad_format.specs.declared.line.FmtLine.TheVariants.{Normal, TableRow, TableRule, HorizontalRule}
+use Rattle.mad_format.specs.declared.line.FmtLine.TheVariants.{TableRow, TableRule}
 use Rattle.mad_rows.specs.RowStyles.{line_rules}
 
 -- cells of any kind, measured and plain, each with room in its column of these where it doesn't fit; nothing is asked of cells past the

@@ -6,7 +6,7 @@ use Rattle.std.specs.Str.{chars, IsUtf8}
 use Rattle.mad_md.specs.Flagged.{FlaggedChar, Run, flagged, is_blank}
 use Rattle.mad_md.specs.Lines.{StyledRuns, LineContent, normal, table_row, table_rule, horizontal_rule}
 use Rattle.mad_style.specs.declared.kinds.CompositeKind.{CompositeKind}
-use Rattle.mad_style.specs.declared.kinds.CompositeKind.TheVariants.{Paragraph, Header, ListItem, ListItemFollowUp, OrderedListItem, OrderedListItemFollowUp, Code, Quote}
+use Rattle.mad_style.specs.declared.kinds.CompositeKind.TheVariants.{ListItem, OrderedListItem, Quote}
 use Rattle.mad_columns.specs.Columns.{char_columns}
 use Rattle.mad_screen.specs.Painting.{IsPrinted}
 use Rattle.mad_style.specs.Kinds.{kind_of}

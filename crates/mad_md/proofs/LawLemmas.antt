@@ -3,7 +3,7 @@ use Rattle.std.proofs.Common.{◌≡◌, ℕ, Bool, true, false, List, [], ◌�
 use Rattle.std.specs.Str.{chars, trim_start, trim_end}
 use Rattle.std.proofs.Math.Utf8.{encode}
 use Rattle.mad_md.specs.Flagged.{Run, plain}
-use Rattle.mad_md.specs.Lines.{LineContent, normal, table_row, table_rule, horizontal_rule}
+use Rattle.mad_md.specs.Lines.{LineContent, normal, table_row}
 use Rattle.mad_md.specs.Places.{table_row_at, content_at}
 use Rattle.mad_md.specs.Reading.{unread_text, Unread, IsRead}
 use Rattle.mad_md.specs.ReadingLaws.{fence, bar_in_code, empty_line_between, item_of_a_star, ShowsNoFence, CutsNoCode, CarriesNothingOver, PlacesTheSecondStar}

@@ -14,7 +14,7 @@ use Rattle.mad_term.specs.Styles.{IsStyle}
 use Rattle.mad_style.specs.CompoundStyles.{overwritten, plain_style}
 use Rattle.mad_style.specs.declared.compound_styles.CompoundStyle.{CompoundStyle}
 use Rattle.mad_style.specs.declared.kinds.CompositeKind.{CompositeKind}
-use Rattle.mad_style.specs.declared.kinds.CompositeKind.TheVariants.{Paragraph, Header, ListItem, ListItemFollowUp, OrderedListItem, OrderedListItemFollowUp, Code, Quote}
+use Rattle.mad_style.specs.declared.kinds.CompositeKind.TheVariants.{Header, ListItem, ListItemFollowUp, OrderedListItem, OrderedListItemFollowUp, Code, Quote}
 use Rattle.mad_style.specs.declared.line_styles.LineStyle.{LineStyle}
 use Rattle.mad_format.specs.FmtLines.{rule_columns}
 use Rattle.mad_format.specs.declared.composite.FmtComposite.{FmtComposite}

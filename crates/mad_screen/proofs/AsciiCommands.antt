@@ -9,7 +9,7 @@ use Rattle.mad_term.specs.declared.attribute.Attribute.TheVariants.{Bold, Dim, I
 use Rattle.mad_term.specs.declared.attribute.Attribute.TheVariants as attributes
 use Rattle.mad_term.specs.declared.attributes.Attributes.{Attributes}
 use Rattle.mad_term.specs.declared.color.Color.{Color}
-use Rattle.mad_term.specs.declared.color.Color.TheVariants.{Reset, Black, DarkGrey, Red, DarkRed, Green, DarkGreen, Yellow, DarkYellow, Blue, DarkBlue, Magenta, DarkMagenta, Cyan, DarkCyan, White, Grey, Rgb, AnsiValue}
+use Rattle.mad_term.specs.declared.color.Color.TheVariants.{Reset, Rgb, AnsiValue}
 use Rattle.mad_term.specs.declared.commands.ClearType.{ClearType}
 use Rattle.mad_term.specs.declared.commands.ClearType.TheVariants.{All, FromCursorDown, FromCursorUp, CurrentLine, UntilNewLine}
 use Rattle.mad_term.specs.declared.styles.ContentStyle.{ContentStyle}

@@ -4,7 +4,7 @@ use Rattle.std.specs.List.{flat_map}
 use Rattle.std.specs.Prelude.{codes, decimal}
 use Rattle.std.specs.Fmt.{digits}
 use Rattle.mad_term.specs.declared.color.Color.{Color}
-use Rattle.mad_term.specs.declared.color.Color.TheVariants.{Reset, Black, DarkGrey, Red, DarkRed, Green, DarkGreen, Yellow, DarkYellow, Blue, DarkBlue, Magenta, DarkMagenta, Cyan, DarkCyan, White, Grey, Rgb, AnsiValue}
+use Rattle.mad_term.specs.declared.color.Color.TheVariants.{Rgb}
 use Rattle.mad_term.specs.Color.{color_number}
 use Rattle.mad_term.specs.Commands.{sgr_bytes}
 use Rattle.mad_term.specs.Styles.{color_numbers, palette_numbers}

@@ -13,7 +13,7 @@ use Rattle.termimad.specs.Headline.{AreShownAcross}
 use Rattle.termimad.specs.RowSkins.{row_skin}
 use Rattle.termimad.specs.Shown.{AreShownIn}
 use Rattle.termimad_run.specs.declared.failure.Failure.{Failure}
-use Rattle.termimad_run.specs.declared.failure.Failure.TheVariants.{Io, Usage, NotUtf8, Skin, Memory}
+use Rattle.termimad_run.specs.declared.failure.Failure.TheVariants.{Io, Usage, Skin, Memory}
 use Rattle.termimad_run.specs.Calls.{RefusesWords}
 use Rattle.termimad_run.specs.Failures.{failure_of}
 use Rattle.termimad_run.specs.Reading.{ReadsWhole, ReadingFails}

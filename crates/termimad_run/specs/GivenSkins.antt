@@ -8,7 +8,7 @@ use Rattle.termimad.specs.SkinReading.{skin_read}
 use Rattle.termimad.specs.Skins.{no_style_skin, default_skin}
 use Rattle.termimad.specs.declared.MadSkin.{MadSkin}
 use Rattle.termimad_run.specs.declared.failure.Failure.{Failure}
-use Rattle.termimad_run.specs.declared.failure.Failure.TheVariants.{Io, Usage, NotUtf8, Skin, Memory}
+use Rattle.termimad_run.specs.declared.failure.Failure.TheVariants.{Skin, Memory}
 
 -- the skins that have a name
 unfoldable pub skin_named : List ℕ → Option MadSkin

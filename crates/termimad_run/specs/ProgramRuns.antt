@@ -1,5 +1,5 @@
 -- The headline of the program: what a run does to its devices, and how it ends.
-use Rattle.std.specs.Prelude.{◌≡◌, ◌⊎◌, ℕ, false, List, [], ◌∷◌, ◌++◌, Some, Result, Ok, Err, IsErrOf, IsUtf8, ⊤}
+use Rattle.std.specs.Prelude.{◌≡◌, ◌⊎◌, ℕ, List, [], ◌∷◌, ◌++◌, Some, Result, Ok, Err, IsErrOf, IsUtf8, ⊤}
 use Rattle.termimad.specs.Inline.{Item, IsInlineReading}
 use Rattle.termimad.specs.Draws.{Draws}
 use Rattle.termimad.specs.Trace.{Trace, failed, flushed}

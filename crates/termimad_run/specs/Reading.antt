@@ -2,7 +2,7 @@
 use Rattle.std.specs.Prelude.{◌≡◌, ℕ, List}
 use Rattle.termimad.specs.Trace.{Trace, failed, ahead_all, IsAtItsEnd}
 use Rattle.termimad_run.specs.declared.failure.Failure.{Failure}
-use Rattle.termimad_run.specs.declared.failure.Failure.TheVariants.{Io, Usage, NotUtf8, Skin, Memory}
+use Rattle.termimad_run.specs.declared.failure.Failure.TheVariants.{Io, Memory}
 
 -- These bytes were read, and the source is at its end: where it tells its bytes, they are all that it had.
 pub record ReadsWhole (old : Trace) (bytes : List ℕ) (new : Trace) : Type 0 where
