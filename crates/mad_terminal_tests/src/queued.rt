@@ -2,8 +2,8 @@
 
 use crate::devices;
 use crate::words::{number, style_of};
-use mad_style::{CompoundStyle, LineStyle, StyledChar};
 use mad_screen::CutOut;
+use mad_style::{CompoundStyle, LineStyle, StyledChar};
 use mad_term::{ClearType, Error};
 use std::alloc::{AllocError, Global};
 
