@@ -1,10 +1,10 @@
 -- Blocks of code among lines, found and placed one after the other.
 use Rattle.std.proofs.Common.{◌≡◌, ℕ, zero, suc, ◌+◌, ◌-◌, ◌<◌, ◌≤◌, true, false, Bool, List, [], ◌∷◌, ◌++◌, map, length, take, drop, get_or, set, max, Option, Some, None, if◌then◌else◌, refl, ap, sym, ◌∙◌, arith, subst, append_assoc}
 use Rattle.std.specs.List.{AllByRecursion, flat_map}
-use Rattle.std.proofs.lemmas.List.{at_drop_more, at_drop_all, map-append, drop-drop, length-append, length-drop, length-take, get_or-append_right, set-append_right, take-append-drop}
-use Rattle.std.proofs.Math.Seq.{take-suc, take-append_seam, drop-append_seam}
+use Rattle.std.proofs.lemmas.List.{get_or-drop, at_drop_more, at_drop_all, map-append, drop-drop, length-append, length-drop, length-take, get_or-append_right, set-append_right, take-append-drop}
+use Rattle.std.proofs.Math.Seq.{take-add, take-length, take-suc, take-append_seam, drop-append_seam}
 use Rattle.mad_fit.proofs.AllLemmas.{all_push}
-use Rattle.mad_blocks.specs.CodeBlocks.{blocks_among, placed_line, with_block_placed, part_placed, blocks_placed, width_within, code_columns, NoCodeFirst, IsClosedBlock}
+use Rattle.mad_blocks.specs.CodeBlocks.{blocks_among, placed_line, with_block_placed, part_placed, blocks_placed, width_within, code_columns, NoCode, NoCodeFirst, IsClosedBlock, IsNextBlock}
 use Rattle.mad_blocks.specs.LayoutParts.{Part, table, block, single, with_table, is_code_kind, is_code_line, widest, block_width, placed_code, justified, with_code, with_composite, parts_of}
 use Rattle.mad_blocks.specs.declared.code_blocks.CodeBlock.{CodeBlock}
 use Rattle.mad_format.specs.declared.composite.FmtComposite.{FmtComposite}
@@ -75,6 +75,15 @@ skip_placed room (TableRow row) ls h = placed_table room (TableRow row) (parts_o
 skip_placed room (TableRule rule) ls h = placed_table room (TableRule rule) (parts_of ls)
 skip_placed room HorizontalRule ls h = refl
 
+-- ---- of any lines
+
+length-normal : (ls : List FmtComposite) → length (map Normal ls) ≡ length ls
+length-normal [] = refl
+length-normal (l ∷ ls) = ap suc (length-normal ls)
+
+take-more : (ls : List FmtLine) (n : ℕ) (d : FmtLine) → n < length ls → take (n + 1) ls ≡ take n ls ++ get_or ls n d ∷ []
+take-more ls n d inside = let one : n + 1 ≡ suc n = omega arith in ap (λ (k : ℕ). take k ls) one ∙ take-suc ls n d inside
+
 -- ---- what was found at a line
 
 -- none of code begins there
@@ -83,9 +92,30 @@ none_here lines at b h inside none =
     let same : at + b.height ≡ at = omega (arith, none) in
     subst NoCodeFirst (ap (λ (n : ℕ). drop n lines) same ∙ at_drop_more (λ l. l) lines at HorizontalRule inside) h.ends
 
-pub found_none : (lines : List FmtLine) (at : ℕ) (b : CodeBlock) → IsClosedBlock lines at b → at < length lines → b.height ≡ 0 → blocks_among at (parts_of (drop at lines)) ≡ blocks_among (at + 1) (parts_of (drop (at + 1) lines))
-found_none lines at b h inside none =
-    ap (λ (ls : List FmtLine). blocks_among at (parts_of ls)) (at_drop_more (λ l. l) lines at HorizontalRule inside) ∙ skip_among at (get_or lines at HorizontalRule) (drop (at + 1) lines) (none_here lines at b h inside none)
+-- lines that aren't code have no block
+none_among : (at : ℕ) (ls : List FmtLine) → NoCode ls → blocks_among at (parts_of ls) ≡ []
+none_among at [] h = refl
+none_among at (l ∷ ls) h = skip_among at l ls h.0 ∙ none_among (at + 1) ls h.1
+
+pub found_none : (lines : List FmtLine) (at : ℕ) → NoCode (drop at lines) → blocks_among at (parts_of (drop at lines)) ≡ []
+found_none lines at h = none_among at (drop at lines) h
+
+-- nor have the first lines, where these aren't
+skip_all_among : (at n : ℕ) (ls : List FmtLine) → n ≤ length ls → NoCode (take n ls) → blocks_among at (parts_of ls) ≡ blocks_among (at + n) (parts_of (drop n ls))
+skip_all_among at zero ls inside h = let same : at ≡ at + 0 = omega arith in ap (λ (k : ℕ). blocks_among k (parts_of ls)) same
+skip_all_among at (suc n) [] inside h = absurd (omega (arith, inside))
+skip_all_among at (suc n) (l ∷ ls) inside h =
+    let next : at + 1 + n ≡ at + suc n = omega arith in
+    skip_among at l ls h.0 ∙ skip_all_among (at + 1) n ls (omega (arith, inside)) h.1 ∙ ap (λ (k : ℕ). blocks_among k (parts_of (drop n ls))) next
+
+skip_all_placed : (room : Option ℕ) (n : ℕ) (ls : List FmtLine) → n ≤ length ls → NoCode (take n ls) → blocks_placed room ls ≡ take n ls ++ blocks_placed room (drop n ls)
+skip_all_placed room zero ls inside h = refl
+skip_all_placed room (suc n) [] inside h = absurd (omega (arith, inside))
+skip_all_placed room (suc n) (l ∷ ls) inside h = skip_placed room l ls h.0 ∙ ap (λ ms. l ∷ ms) (skip_all_placed room n ls (omega (arith, inside)) h.1)
+
+none_placed : (room : Option ℕ) (ls : List FmtLine) → NoCode ls → blocks_placed room ls ≡ ls
+none_placed room [] h = refl
+none_placed room (l ∷ ls) h = skip_placed room l ls h.0 ∙ ap (λ ms. l ∷ ms) (none_placed room ls h.1)
 
 same_block : (b : CodeBlock) (at height width : ℕ) → b.start ≡ at → b.height ≡ height → b.width ≡ width → record { start = at; height = height; width = width } ≡ b
 same_block b at height width e f g =
@@ -102,6 +132,68 @@ found_some lines at b h some =
     ap (λ (ls : List FmtLine). blocks_among at (parts_of ls)) h.lines_are ∙ some_among at h.own rest (omega (arith, some, h.height)) h.code h.ends
     ∙ ap (λ (x : CodeBlock). x ∷ blocks_among (at + length h.own) (parts_of rest)) (same_block b at (length h.own) (widest h.own) h.start h.height h.width)
     ∙ ap (λ (n : ℕ). b ∷ blocks_among (at + n) (parts_of rest)) (sym h.height)
+
+-- a block with lines begins among the lines
+pub begins_inside : (lines : List FmtLine) (at : ℕ) (b : CodeBlock) → IsClosedBlock lines at b → 0 < b.height → at < length lines
+begins_inside lines at b h some =
+    omega (arith, some, h.height, ap length h.lines_are, length-append (map Normal h.own) (drop (at + b.height) lines), length-normal h.own, length-drop at lines)
+
+-- how many lines are skipped
+skipped_inside : (lines : List FmtLine) (from : ℕ) (b : CodeBlock) → IsNextBlock lines from b → b.start - from ≤ length (drop from lines)
+skipped_inside lines from b h = omega (arith, begins_inside lines b.start b h.closed h.some, h.after, length-drop from lines)
+
+past_skipped : (lines : List FmtLine) (from : ℕ) (b : CodeBlock) → IsNextBlock lines from b → drop (b.start - from) (drop from lines) ≡ drop b.start lines
+past_skipped lines from b h =
+    let is : from + (b.start - from) ≡ b.start = omega (arith, h.after) in
+    drop-drop (b.start - from) from lines ∙ ap (λ (n : ℕ). drop n lines) is
+
+pub found_next : (lines : List FmtLine) (from : ℕ) (b : CodeBlock) → IsNextBlock lines from b
+    → blocks_among from (parts_of (drop from lines)) ≡ b ∷ blocks_among (b.start + b.height) (parts_of (drop (b.start + b.height) lines))
+found_next lines from b h =
+    let is : from + (b.start - from) ≡ b.start = omega (arith, h.after) in
+    skip_all_among from (b.start - from) (drop from lines) (skipped_inside lines from b h) h.skipped
+    ∙ ap (λ (n : ℕ). blocks_among n (parts_of (drop (b.start - from) (drop from lines)))) is
+    ∙ ap (λ (ls : List FmtLine). blocks_among b.start (parts_of ls)) (past_skipped lines from b h)
+    ∙ found_some lines b.start b h.closed h.some
+
+-- the lines from the one to the other are no code
+pub record NoCodeSoFar (lines : List FmtLine) (from at : ℕ) : Type 0 where
+  pub after : from ≤ at
+  pub inside : at ≤ length lines
+  pub none : NoCode (take (at - from) (drop from lines))
+
+pub no_code_start : (lines : List FmtLine) (from : ℕ) → from ≤ length lines → NoCodeSoFar lines from from
+no_code_start lines from inside =
+    let none : 0 ≡ from - from = omega arith in
+    record { after = omega arith; inside = inside; none = subst (λ (n : ℕ). NoCode (take n (drop from lines))) none tt }
+
+pub no_code_more : (lines : List FmtLine) (from at : ℕ) (b : CodeBlock) → NoCodeSoFar lines from at → IsClosedBlock lines at b → at < length lines → b.height ≡ 0 → NoCodeSoFar lines from (at + 1)
+no_code_more lines from at b h closed inside none =
+    let n = at - from in
+    let here : get_or (drop from lines) n HorizontalRule ≡ get_or lines at HorizontalRule =
+    let is : from + n ≡ at = omega (arith, h.after) in
+    get_or-drop from lines n HorizontalRule ∙ ap (λ (k : ℕ). get_or lines k HorizontalRule) is in
+    let next : n + 1 ≡ at + 1 - from = omega (arith, h.after) in
+    record {
+      after = omega (arith, h.after);
+      inside = omega (arith, inside);
+      none = subst (λ (k : ℕ). NoCode (take k (drop from lines))) next
+          (subst NoCode (sym (take-more (drop from lines) n HorizontalRule (omega (arith, inside, h.after, length-drop from lines))))
+          (all_push (λ (l : FmtLine). is_code_line l ≡ false) (take n (drop from lines)) (get_or (drop from lines) n HorizontalRule) h.none (ap is_code_line here ∙ none_here lines at b closed inside none)));
+    }
+
+pub no_code_left : (lines : List FmtLine) (from at : ℕ) → NoCodeSoFar lines from at → length lines ≤ at → NoCode (drop from lines)
+no_code_left lines from at h past =
+    let all : at - from ≡ length (drop from lines) = omega (arith, past, h.after, h.inside, length-drop from lines) in
+    subst NoCode (ap (λ (n : ℕ). take n (drop from lines)) all ∙ take-length (drop from lines)) h.none
+
+pub next_found : (lines : List FmtLine) (from at : ℕ) (b : CodeBlock) → NoCodeSoFar lines from at → IsClosedBlock lines at b → 0 < b.height → IsNextBlock lines from b
+next_found lines from at b h closed some = record {
+  after = omega (arith, h.after, closed.start);
+  skipped = subst (λ (n : ℕ). NoCode (take (n - from) (drop from lines))) (sym closed.start) h.none;
+  some = some;
+  closed = subst (λ (n : ℕ). IsClosedBlock lines n b) (sym closed.start) closed;
+}
 
 -- ---- the lines of a block, one after the other
 
@@ -173,14 +265,19 @@ ends_at lines at l inside here h = subst NoCodeFirst (sym (next_of lines at l in
 pub ends_past : (lines : List FmtLine) (at : ℕ) → length lines ≤ at → NoCodeFirst (drop at lines)
 ends_past lines at past = subst NoCodeFirst (sym (at_drop_all (λ l. l) lines at past)) tt
 
-length-normal : (ls : List FmtComposite) → length (map Normal ls) ≡ length ls
-length-normal [] = refl
-length-normal (l ∷ ls) = ap suc (length-normal ls)
-
 -- a block ends with the lines at the latest
 pub within_lines : (lines : List FmtLine) (at : ℕ) (b : CodeBlock) → IsClosedBlock lines at b → at ≤ length lines → at + b.height ≤ length lines
 within_lines lines at b h inside =
     omega (arith, inside, h.height, ap length h.lines_are, length-append (map Normal h.own) (drop (at + b.height) lines), length-normal h.own, length-drop at lines, length-drop (at + b.height) lines)
+
+pub within_next : (lines : List FmtLine) (from : ℕ) (b : CodeBlock) → IsNextBlock lines from b → b.start + b.height ≤ length lines
+within_next lines from b h =
+    let begins : b.start < length lines = begins_inside lines b.start b h.closed h.some in
+    within_lines lines b.start b h.closed (omega (arith, begins))
+
+-- fewer lines are left after it
+pub fewer_left : (lines : List FmtLine) (from : ℕ) (b : CodeBlock) → IsNextBlock lines from b → length lines - (b.start + b.height) < length lines - from
+fewer_left lines from b h = omega (arith, begins_inside lines b.start b h.closed h.some, h.after, h.some)
 
 -- ---- placing
 
@@ -239,9 +336,6 @@ width_is : (room : Option ℕ) (ls : List FmtComposite) → width_within room (w
 width_is None ls = refl
 width_is (Some room) ls = refl
 
-take-more : (ls : List FmtLine) (n : ℕ) (d : FmtLine) → n < length ls → take (n + 1) ls ≡ take n ls ++ get_or ls n d ∷ []
-take-more ls n d inside = let one : n + 1 ≡ suc n = omega arith in ap (λ (k : ℕ). take k ls) one ∙ take-suc ls n d inside
-
 front_of : (n : ℕ) (xs ys : List FmtLine) → n ≡ length xs → take n (xs ++ ys) ≡ xs
 front_of n xs ys size = ap (λ (k : ℕ). take k (xs ++ ys)) size ∙ take-append_seam xs ys
 
@@ -256,15 +350,18 @@ pub record PlacedSoFar (room : Option ℕ) (all lines : List FmtLine) (at : ℕ)
 pub so_far_start : (room : Option ℕ) (all : List FmtLine) → PlacedSoFar room all all 0
 so_far_start room all = record { inside = omega arith; so_far = refl }
 
-pub so_far_line : (room : Option ℕ) (all lines : List FmtLine) (at : ℕ) (b : CodeBlock) → PlacedSoFar room all lines at → IsClosedBlock lines at b → at < length lines → b.height ≡ 0 → PlacedSoFar room all lines (at + 1)
-so_far_line room all lines at b h is inside none =
-    let l = get_or lines at HorizontalRule in
-    let rest = drop (at + 1) lines in
-    let next : drop at lines ≡ l ∷ rest = at_drop_more (λ l. l) lines at HorizontalRule inside in
+pub so_far_next : (room : Option ℕ) (all lines : List FmtLine) (from : ℕ) (b : CodeBlock) → PlacedSoFar room all lines from → IsNextBlock lines from b → PlacedSoFar room all lines b.start
+so_far_next room all lines from b h next =
+    let n = b.start - from in
+    let is : from + n ≡ b.start = omega (arith, next.after) in
     record {
-      inside = omega (arith, inside);
-      so_far = ap (λ ls. ls ++ blocks_placed room rest) (take-more lines at HorizontalRule inside) ∙ append_assoc (take at lines) (l ∷ []) (blocks_placed room rest)
-          ∙ ap (λ ls. take at lines ++ ls) (sym (skip_placed room l rest (none_here lines at b is inside none)) ∙ ap (blocks_placed room) (sym next)) ∙ h.so_far;
+      inside = omega (arith, begins_inside lines b.start b next.closed next.some);
+      so_far = ap (λ (k : ℕ). take k lines ++ blocks_placed room (drop b.start lines)) (sym is)
+          ∙ ap (λ ls. ls ++ blocks_placed room (drop b.start lines)) (take-add from n lines)
+          ∙ append_assoc (take from lines) (take n (drop from lines)) (blocks_placed room (drop b.start lines))
+          ∙ ap (λ ls. take from lines ++ (take n (drop from lines) ++ blocks_placed room ls)) (sym (past_skipped lines from b next))
+          ∙ ap (λ ls. take from lines ++ ls) (sym (skip_all_placed room n (drop from lines) (skipped_inside lines from b next) next.skipped))
+          ∙ h.so_far;
     }
 
 placed_lines : (room : Option ℕ) (lines : List FmtLine) (at width : ℕ) (b : CodeBlock) (h : IsClosedBlock lines at b) → width ≡ width_within room b.width → map (placed_line width) (take b.height (drop at lines)) ≡ map Normal (justified room h.own)
@@ -298,7 +395,5 @@ so_far_block room all lines new at width b h is lowered placed =
           ∙ h.so_far;
     }
 
-pub so_far_end : (room : Option ℕ) (all lines : List FmtLine) (at : ℕ) → PlacedSoFar room all lines at → length lines ≤ at → lines ≡ blocks_placed room all
-so_far_end room all lines at h past =
-    let none : drop at lines ≡ [] = at_drop_all (λ l. l) lines at past in
-    sym (take-append-drop at lines) ∙ ap (λ ls. take at lines ++ ls) none ∙ ap (λ ls. take at lines ++ blocks_placed room ls) (sym none) ∙ h.so_far
+pub so_far_end : (room : Option ℕ) (all lines : List FmtLine) (at : ℕ) → PlacedSoFar room all lines at → NoCode (drop at lines) → lines ≡ blocks_placed room all
+so_far_end room all lines at h none = sym (take-append-drop at lines) ∙ ap (λ ls. take at lines ++ ls) (sym (none_placed room (drop at lines) none)) ∙ h.so_far

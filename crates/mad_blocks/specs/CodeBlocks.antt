@@ -1,12 +1,12 @@
 -- Blocks of code among lines.
-use Rattle.std.specs.Prelude.{◌≡◌, ℕ, ◌+◌, true, false, List, [], ◌∷◌, ◌++◌, map, length, take, drop, Option, Some, None, if◌then◌else◌}
+use Rattle.std.specs.Prelude.{◌≡◌, ℕ, ◌+◌, ◌-◌, ◌<◌, ◌≤◌, true, false, List, [], ◌∷◌, ◌++◌, map, length, take, drop, Option, Some, None, if◌then◌else◌}
 use Rattle.std.specs.List.{AllByRecursion, flat_map}
 use Rattle.mad_blocks.specs.LayoutParts.{Part, table, block, single, is_code_kind, is_code_line, widest, placed_code, justified, parts_of}
 pub use Rattle.mad_blocks.specs.LayoutParts.{width_within}
 use Rattle.mad_blocks.specs.declared.code_blocks.CodeBlock.{CodeBlock}
 use Rattle.mad_format.specs.declared.composite.FmtComposite.{FmtComposite}
 use Rattle.mad_format.specs.declared.line.FmtLine.{FmtLine}
-use Rattle.mad_format.specs.declared.line.FmtLine.TheVariants.{Normal, TableRow, TableRule, HorizontalRule}
+use Rattle.mad_format.specs.declared.line.FmtLine.TheVariants.{Normal}
 
 -- the blocks among parts, the first of which begins at this line
 abbrev pub blocks_among : ℕ → List Part → List CodeBlock
@@ -22,9 +22,7 @@ code_blocks ls = blocks_among 0 (parts_of ls)
 -- a line in a place of this many columns; a rule and a line of a table have none
 abbrev pub placed_line : ℕ → FmtLine → FmtLine
 placed_line width (Normal l) = Normal (placed_code width l)
-placed_line width (TableRow row) = TableRow row
-placed_line width (TableRule rule) = TableRule rule
-placed_line width HorizontalRule = HorizontalRule
+placed_line width line = line
 
 -- lines, with those of a block in its place
 abbrev pub with_block_placed : CodeBlock → List FmtLine → List FmtLine
@@ -59,3 +57,14 @@ pub record IsClosedBlock (lines : List FmtLine) (at : ℕ) (b : CodeBlock) : Typ
   pub width : b.width ≡ widest own
   pub lines_are : drop at lines ≡ map Normal own ++ drop (at + b.height) lines
   pub ends : NoCodeFirst (drop (at + b.height) lines)
+
+-- none of the lines is one of code
+abbrev pub NoCode : List FmtLine → Type 0
+NoCode lines = AllByRecursion (λ l. is_code_line l ≡ false) lines
+
+-- The block is the first one from a line on.
+pub record IsNextBlock (lines : List FmtLine) (from : ℕ) (b : CodeBlock) : Type 0 where
+  pub after : from ≤ b.start
+  pub skipped : NoCode (take (b.start - from) (drop from lines))
+  pub some : 0 < b.height
+  pub closed : IsClosedBlock lines b.start b

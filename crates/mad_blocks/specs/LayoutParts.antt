@@ -32,17 +32,13 @@ is_code_line _ = false
 
 -- a line of a table in front of parts: it joins a table that begins them
 abbrev pub with_table : FmtLine → List Part → List Part
-with_table l [] = table (l ∷ []) ∷ []
 with_table l (table ls ∷ ps) = table (l ∷ ls) ∷ ps
-with_table l (block ls ∷ ps) = table (l ∷ []) ∷ block ls ∷ ps
-with_table l (single m ∷ ps) = table (l ∷ []) ∷ single m ∷ ps
+with_table l ps = table (l ∷ []) ∷ ps
 
 -- a line of code in front of parts: it joins a block that begins them
 abbrev pub with_code : FmtComposite → List Part → List Part
-with_code l [] = block (l ∷ []) ∷ []
-with_code l (table ls ∷ ps) = block (l ∷ []) ∷ table ls ∷ ps
 with_code l (block ls ∷ ps) = block (l ∷ ls) ∷ ps
-with_code l (single m ∷ ps) = block (l ∷ []) ∷ single m ∷ ps
+with_code l ps = block (l ∷ []) ∷ ps
 
 -- a composite in front of parts
 abbrev pub with_composite : Bool → FmtComposite → List Part → List Part

@@ -1,7 +1,7 @@
 //! Blocks of code among lines, as calls of their own.
 
-ghost use Rattle.std.specs.Prelude.{◌≡◌, ◌≤◌, ◌<◌, ◌+◌, length, IfOk};
-ghost use Rattle.mad_blocks.specs.CodeBlocks.{IsClosedBlock, blocks_placed, code_blocks, code_columns, placed_line};
+ghost use Rattle.std.specs.Prelude.{◌≡◌, ◌≤◌, ◌<◌, ◌+◌, drop, length, IfOk, MatchOption};
+ghost use Rattle.mad_blocks.specs.CodeBlocks.{IsClosedBlock, IsNextBlock, NoCode, blocks_placed, code_blocks, code_columns, placed_line};
 
 use crate::laying::{code_place, is_code, width_within};
 use mad_format::FmtLine;
@@ -46,14 +46,9 @@ pub fn find_blocks(alloc: Global, lines: &[FmtLine]) -> Result<Vec<CodeBlock>, A
 {
     let mut blocks = Vec::new(alloc);
     let mut start = 0;
-    while start < lines.len() {
-        let block = block_at(lines, start);
-        if block.height == 0 {
-            start += 1;
-        } else {
-            blocks.push(block)?;
-            start += block.height;
-        }
+    while let Some(block) = next_block(lines, start) {
+        blocks.push(block)?;
+        start = block.start + block.height;
     }
     Ok(blocks)
 }
@@ -64,16 +59,27 @@ pub fn justify_blocks(lines: &mut [FmtLine], room: Option<usize>)
     ensures { lines.new ≡ blocks_placed room lines.old }
 {
     let mut start = 0;
+    while let Some(block) = next_block(lines, start) {
+        let width = width_within(block.width, room);
+        CodeBlock { width, ..block }.justify(lines);
+        start = block.start + block.height;
+    }
+}
+
+// The first block from a line on, if there is one.
+fn next_block(lines: &[FmtLine], from: usize) -> Option<CodeBlock>
+    requires { from ≤ length lines.now }
+    ensures { MatchOption result (NoCode (drop from lines.now)) (λ block. IsNextBlock lines.now from block) }
+{
+    let mut start = from;
     while start < lines.len() {
         let block = block_at(lines, start);
-        if block.height == 0 {
-            start += 1;
-        } else {
-            let width = width_within(block.width, room);
-            CodeBlock { width, ..block }.justify(lines);
-            start += block.height;
+        if block.height > 0 {
+            return Some(block);
         }
+        start += 1;
     }
+    None
 }
 
 // The block that begins at this line; one without lines, where none does.

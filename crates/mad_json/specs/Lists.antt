@@ -2,7 +2,7 @@
 use Rattle.std.specs.Prelude.{ℕ, List, [], ◌∷◌, ◌++◌, length, map, filter, take, drop, Option, Some, None, Result, Ok, Err}
 use Rattle.std.specs.Option.{option_or}
 use Rattle.mad_md.specs.declared.alignment.Alignment.{Alignment}
-use Rattle.mad_md.specs.declared.alignment.Alignment.TheVariants.{Unspecified, Left, Center, Right}
+use Rattle.mad_md.specs.declared.alignment.Alignment.TheVariants.{Unspecified}
 use Rattle.mad_term.specs.Attributes.{has_attribute}
 use Rattle.mad_style.specs.declared.compound_styles.CompoundStyle.{CompoundStyle}
 use Rattle.mad_style.specs.declared.line_styles.LineStyle.{LineStyle}
@@ -32,9 +32,7 @@ levels_said f (Some items) old = made (replaced old) (items_said f items [])
 -- the align that a line has, or another where it has none
 abbrev pub align_or : Alignment → Alignment → Alignment
 align_or Unspecified other = other
-align_or Left other = Left
-align_or Center other = Center
-align_or Right other = Right
+align_or align other = align
 
 -- a style with the colors and the written attributes that another has
 abbrev pub compound_with : CompoundStyle → CompoundStyle → CompoundStyle

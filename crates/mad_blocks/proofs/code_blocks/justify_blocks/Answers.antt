@@ -1,16 +1,23 @@
-use Rattle.mad_blocks.proofs.CodeBlockLemmas.{so_far_start, so_far_line, so_far_block, so_far_end}
+use Rattle.std.proofs.Common.{arith}
+use Rattle.mad_blocks.specs.CodeBlocks.{IsNextBlock}
+use Rattle.mad_blocks.proofs.CodeBlockLemmas.{so_far_start, so_far_next, so_far_block, so_far_end, fewer_left}
 use Rattle.mad_blocks.proofs.code_blocks.justify_blocks.Goals as goal
 
-pub loop-start-init : goal.loop-start-init
-loop-start-init c = so_far_start c.args.room c.args.lines.now
+pub loop-block-init : goal.loop-block-init
+loop-block-init c = so_far_start c.args.room c.args.lines.now
 
-pub loop-start-preserved-then-block-eq0 : goal.loop-start-preserved-then-block-eq0
-loop-start-preserved-then-block-eq0 c =
-    so_far_line c.args.room c.args.lines.now c.loop-start.lines c.loop-start.start c.block_at-block.result c.loop-start.invariant c.block_at-block.ensures c.loop-start-test.true c.if-block-eq0.true
+pub next_block-requires : goal.next_block-requires
+next_block-requires c = c.loop-block.invariant.inside
 
-pub loop-start-preserved : goal.loop-start-preserved
-loop-start-preserved c =
-    so_far_block c.args.room c.args.lines.now c.loop-start.lines c.justify.new.lines c.loop-start.start c.width_within-width.result c.block_at-block.result c.loop-start.invariant c.block_at-block.ensures c.width_within-width.ensures c.justify.ensures
+pub loop-block-smaller : goal.loop-block-smaller
+loop-block-smaller c = omega (arith, fewer_left c.loop-block.lines c.loop-block.start c.in-Some.block c.in-Some.ensures, c.justify.auto.lines)
+
+pub loop-block-preserved : goal.loop-block-preserved
+loop-block-preserved c =
+    let b = c.in-Some.block in
+    let next : IsNextBlock c.loop-block.lines c.loop-block.start b = c.in-Some.ensures in
+    so_far_block c.args.room c.args.lines.now c.loop-block.lines c.justify.new.lines b.start c.width_within-width.result b
+    (so_far_next c.args.room c.args.lines.now c.loop-block.lines c.loop-block.start b c.loop-block.invariant next) next.closed c.width_within-width.ensures c.justify.ensures
 
 pub returns : goal.returns
-returns c = so_far_end c.args.room c.args.lines.now c.loop-start.lines c.loop-start.start c.loop-start.invariant c.loop-start-test.false
+returns c = so_far_end c.args.room c.args.lines.now c.loop-block.lines c.loop-block.start c.loop-block.invariant c.in_default.ensures
