@@ -6,6 +6,7 @@ pub mod DrawnLayouts
 pub mod DrawnParts
 pub mod FlaggedBreaks
 pub mod FlaggedTokens
+pub mod HeaderLemmas
 pub mod HeadlineLemmas
 pub mod HeadlineRows
 pub mod InlineLemmas
