@@ -25,12 +25,11 @@ same_place_decides p q = (
 
 pub same_tail_decides : (s t : Option Pos) → Decides (option_eq same_place s t) (s ≡ t)
 same_tail_decides None None = (λ e. refl, λ e. refl)
-same_tail_decides None (Some q) = (λ e. cc, λ e. cc)
-same_tail_decides (Some p) None = (λ e. cc, λ e. cc)
 same_tail_decides (Some p) (Some q) = (
   λ e. ap Some ((same_place_decides p q).0 e),
   λ e. (same_place_decides p q).1 (ap (λ (o : Option Pos). unwrap_or o p) e),
 )
+same_tail_decides _ _ = (λ e. cc, λ e. cc)
 
 -- the test says that all is the same
 same_editor_decides : (a b : Editor) → Decides (same_editor a b) (a ≡ b)
@@ -49,8 +48,6 @@ same_editor_decides a b = (
 -- lines that are compared one by one
 pub lines_decide : (E : Line → Line → Bool) → ((l m : Line) → Decides (E l m) (chars_of l ≡ chars_of m)) → (ls ms : List Line) → Decides (pointwise E ls ms) (lines_of ls ≡ lines_of ms)
 lines_decide E d [] [] = (λ e. refl, λ e. refl)
-lines_decide E d [] (m ∷ ms) = (λ e. cc, λ e. cc)
-lines_decide E d (l ∷ ls) [] = (λ e. cc, λ e. cc)
 lines_decide E d (l ∷ ls) (m ∷ ms) = (
   λ e.
       let head = (d l m).0 (first_so (E l m) (pointwise E ls ms) e) in
@@ -58,6 +55,7 @@ lines_decide E d (l ∷ ls) (m ∷ ms) = (
       λ i. head i ∷ tail i,
   λ e. and_from (E l m) (pointwise E ls ms) ((d l m).1 (ap (λ t. get_or t 0 []) e)) ((lines_decide E d ls ms).1 (ap (drop 1) e)),
 )
+lines_decide E d _ _ = (λ e. cc, λ e. cc)
 
 -- what is kept is the same exactly where the editors are
 pub same_kept : (r : Bool) (a b : Editor) (ls ms : List (List ℕ)) (p q : Pos) (s t : Option Pos) → Seen a ls p s → Seen b ms q t → IsValid ls p s → IsValid ms q t → Decides r ((ls ≡ ms) × (p ≡ q) × (s ≡ t)) → (r ≡ same_editor a b) × (IsTrue r ↔ (a ≡ b))

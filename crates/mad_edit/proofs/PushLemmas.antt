@@ -28,10 +28,9 @@ glue_cons l (k ∷ ls) ms h = refl
 
 glue_onto : (c : ℕ) (ls ms : List (List ℕ)) → 0 < length ls → 0 < length ms → onto_first c (glue ls ms) ≡ glue (onto_first c ls) ms
 unfolding glue
-glue_onto c [] ms h k = absurd (omega arith)
-glue_onto c (l ∷ []) [] h k = absurd (omega arith)
 glue_onto c (l ∷ []) (m ∷ ms) h k = refl
 glue_onto c (l ∷ n ∷ ls) ms h k = refl
+glue_onto c _ _ h k = absurd (omega arith)
 
 some_lines : (t : List ℕ) → 0 < length (lines t)
 some_lines t = omega (arith, length-slice_split is_newline t)
@@ -48,16 +47,15 @@ lines-append (c ∷ t) u =
 
 kept_in_glue : (ls ms : List (List ℕ)) (y x : ℕ) → IsPlace ls (record { y = y; x = x }) → IsPlace (glue ls ms) (record { y = y; x = x }) × (offset_of (glue ls ms) (record { y = y; x = x }) ≡ offset_of ls (record { y = y; x = x }))
 unfolding glue
-kept_in_glue [] ms y x h = absurd (omega arith)
 kept_in_glue (l ∷ []) [] y x h = (h, refl)
 kept_in_glue (l ∷ []) (m ∷ ms) zero x h = ((omega arith, omega (arith, length-append l m, h.1)), refl)
-kept_in_glue (l ∷ []) (m ∷ ms) (suc y) x h = absurd (omega arith)
 kept_in_glue (l ∷ k ∷ ls) ms zero x h = ((omega arith, h.1), refl)
 kept_in_glue (l ∷ k ∷ ls) ms (suc y) x h =
     let rest = kept_in_glue (k ∷ ls) ms y x (omega arith, h.1) in
     let one = length-append (10 ∷ l) (led_lines (take y (glue (k ∷ ls) ms))) in
     let two = length-append (10 ∷ l) (led_lines (take y (k ∷ ls))) in
     ((omega arith, rest.0.1), omega (arith, one, two, rest.1))
+kept_in_glue _ _ _ x h = absurd (omega arith)
 
 -- a place of a text is one of the text that goes on, at the same offset
 pub place_kept : (t u : List ℕ) (p : Pos) → IsPlaceIn t p → IsPlaceIn (t ++ u) p × (offset_at (t ++ u) p ≡ offset_at t p)

@@ -1,6 +1,6 @@
 -- Characters, and the bytes that spell them.
-use Rattle.std.proofs.Common.{ℕ, ◌≤◌, ◌≡◌, List, [], ◌∷◌, ◌++◌, length, take, drop, refl, ap, sym, ◌∙◌, arith, lit<, append-nil, cond, true}
-use Rattle.std.specs.Prelude.{All, encode_utf8, encode_utf8_all, slice_range}
+use Rattle.std.proofs.Common.{ℕ, ◌≡◌, List, [], ◌∷◌, ◌++◌, take, drop, refl, ap, sym, ◌∙◌, arith, lit<, append-nil, cond, true}
+use Rattle.std.specs.Prelude.{All, encode_utf8, encode_utf8_all}
 use Rattle.std.specs.Char.{IsScalar}
 use Rattle.std.specs.Str.{chars}
 use Rattle.std.proofs.Math.Utf8.{scalars, scalar}
@@ -10,6 +10,7 @@ use Rattle.std.proofs.lemmas.List.{take_at, drop_at, length-take-le}
 use Rattle.std.proofs.lemmas.List.Edits.{split_between}
 use Rattle.std.proofs.lemmas.List.Elements.{All-head, All-tail, All-take, All-drop}
 use Rattle.mad_lines.specs.TextLines.{accepted, IsAcceptedChar}
+use Rattle.mad_edit.specs.Editor.{Editor, IsEditor, IsCut, selection_start, selection_end, selected, inserted, without}
 
 pub nothing_accepted : accepted (chars []) ≡ []
 nothing_accepted = ap accepted chars-nil
@@ -29,27 +30,21 @@ all_accepted [] h = refl
 all_accepted (c ∷ cs) h =
     ap (λ b. cond b (c ∷ accepted cs) (accepted cs)) (All-head IsAcceptedChar c cs h).0 ∙ ap (λ t. c ∷ t) (all_accepted cs (All-tail IsAcceptedChar c cs h))
 
--- what was handed out as bytes is put in again as it was
-pub handed_back : (cs bs : List ℕ) → All IsAcceptedChar cs → bs ≡ encode_utf8_all cs → accepted (chars bs) ≡ cs
-handed_back cs bs h e = ap (λ b. accepted (chars b)) e ∙ ap accepted (chars-encodes cs (all_scalars cs h)) ∙ all_accepted cs h
-
--- what was cut between two offsets, put in again at the first, gives back the text
-pub cut_undone : (t bs : List ℕ) (a b : ℕ) → a ≤ b → b ≤ length t → All IsAcceptedChar t → bs ≡ encode_utf8_all (slice_range t a b) → take a (take a t ++ drop b t) ++ (accepted (chars bs) ++ drop a (take a t ++ drop b t)) ≡ t
-cut_undone t bs a b low high plain e =
-    let n = length-take-le a t (omega arith) in
-    ap (λ s. s ++ (accepted (chars bs) ++ drop a (take a t ++ drop b t))) (take_at (take a t) (drop b t) a n)
-    ∙ ap (λ s. take a t ++ (accepted (chars bs) ++ s)) (drop_at (take a t) (drop b t) a n)
-    ∙ ap (λ s. take a t ++ (s ++ drop b t)) (handed_back (slice_range t a b) bs (All-take IsAcceptedChar _ _ (All-drop IsAcceptedChar a t plain)) e)
-    ∙ sym (split_between t a b low)
-
--- the text is what is left, with what was cut out at its offset
-pub cut_removed : (t left bs : List ℕ) (a b n : ℕ) → a ≤ b → b ≤ length t → All IsAcceptedChar t → bs ≡ encode_utf8_all (slice_range t a b) → left ≡ take a t ++ drop b t → n ≡ a → t ≡ take n left ++ (chars bs ++ drop n left)
-cut_removed t left bs a b n low high plain e cut at =
-    let size = length-take-le a t (omega arith) in
-    let part : chars bs ≡ slice_range t a b = ap chars e ∙ chars-encodes (slice_range t a b) (all_scalars (slice_range t a b) (All-take IsAcceptedChar _ _ (All-drop IsAcceptedChar a t plain))) in
-    split_between t a b low
-    ∙ ap (λ s. s ++ (slice_range t a b ++ drop b t)) (sym (take_at (take a t) (drop b t) a size))
-    ∙ ap (λ s. take a (take a t ++ drop b t) ++ (slice_range t a b ++ s)) (sym (drop_at (take a t) (drop b t) a size))
-    ∙ ap (λ s. take a (take a t ++ drop b t) ++ (s ++ drop a (take a t ++ drop b t))) (sym part)
-    ∙ ap (λ s. take a s ++ (chars bs ++ drop a s)) (sym cut)
-    ∙ ap (λ m. take m left ++ (chars bs ++ drop m left)) (sym at)
+-- the characters of a selection that was cut, put in again at the cursor, give back the text, and none of them is left out
+pub cut_back : (old new : Editor) (bs : List ℕ) → IsEditor old → IsCut old new → bs ≡ encode_utf8_all (selected old) → (inserted new (chars bs) ≡ old.text) × (old.text ≡ take new.offset new.text ++ (chars bs ++ drop new.offset new.text))
+cut_back old new bs h cut e =
+    let t = old.text in
+    let a = selection_start old in
+    let b = selection_end old in
+    let n = new.offset in
+    let plain : All IsAcceptedChar (selected old) = All-take IsAcceptedChar _ _ (All-drop IsAcceptedChar a t h.accepted) in
+    let part : chars bs ≡ selected old = ap chars e ∙ chars-encodes (selected old) (all_scalars (selected old) plain) in
+    let size = length-take-le a t (omega (arith, h.last)) in
+    let back : t ≡ take n new.text ++ (chars bs ++ drop n new.text) =
+    split_between t a b (omega (arith, h.last))
+    ∙ ap (λ s. s ++ (selected old ++ drop b t)) (sym (take_at (take a t) (drop b t) a size))
+    ∙ ap (λ s. take a (without t a b) ++ (selected old ++ s)) (sym (drop_at (take a t) (drop b t) a size))
+    ∙ ap (λ s. take a (without t a b) ++ (s ++ drop a (without t a b))) (sym part)
+    ∙ ap (λ s. take a s ++ (chars bs ++ drop a s)) (sym cut.text)
+    ∙ ap (λ m. take m new.text ++ (chars bs ++ drop m new.text)) (sym cut.cursor) in
+    (ap (λ cs. take n new.text ++ (cs ++ drop n new.text)) (ap accepted part ∙ all_accepted (selected old) plain ∙ sym part) ∙ sym back, back)

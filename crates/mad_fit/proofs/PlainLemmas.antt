@@ -30,16 +30,3 @@ plain_is bs (suc m) utf8 inside plain =
 
 pub plain_border : (bs : List ℕ) (n : ℕ) → IsUtf8 bs → n ≤ length bs → ArePlain bs n → IsCharBoundary bs n
 plain_border bs n utf8 inside plain = IsCharBoundary-from_drop bs n inside (plain_is bs n utf8 inside plain).rest
-
--- what is left of a text after a plain front
-pub record IsPlainRest (bs : List ℕ) (n : ℕ) (rest : List ℕ) : Type 0 where
-  pub utf8 : IsUtf8 rest
-  pub columns_are : n + columns (chars rest) ≡ columns (chars bs)
-
-pub plain_rest : (bs : List ℕ) (n : ℕ) (rest : List ℕ) → drop n bs ≡ rest → IsUtf8 bs → n ≤ length bs → ArePlain bs n → IsPlainRest bs n rest
-plain_rest bs n rest is utf8 inside plain =
-    let front = plain_is bs n utf8 inside plain in
-    record {
-      utf8 = subst IsUtf8 is front.rest;
-      columns_are = subst (λ (l : List ℕ). n + columns (chars l) ≡ columns (chars bs)) is front.columns_are;
-    }

@@ -1,9 +1,10 @@
 //! Headers and the items of lists, which have a style for each level.
 
 ghost use Rattle.std.specs.Prelude.{◌≡◌, Ok, IfOk, IfErr, OnOk, [], map};
+ghost use Rattle.serde_json.specs.Find.{as_array};
 ghost use Rattle.serde_json.specs.View.{view, items_view};
 ghost use Rattle.mad_json.specs.Faults.{TellsValue};
-ghost use Rattle.mad_json.specs.Lists.{items_said, replaced, compound_with, header_with, headers_said, ordered_items_said};
+ghost use Rattle.mad_json.specs.Lists.{items_said, levels_said, replaced, compound_with, header_with, headers_said, ordered_items_said};
 
 use crate::errors::ValueError;
 use crate::texts::{FromTokens, read_style};
@@ -27,12 +28,7 @@ pub fn set_headers(
         set_each(headers, &line);
         return Ok(());
     }
-    let Some(items) = value.as_array() else {
-        return Err(ValueError::WrongType);
-    };
-    let styles = read_styles(alloc, items)?;
-    replace_front(headers, styles.as_slice());
-    Ok(())
+    set_levels(alloc, headers, value)
 }
 
 /// Replaces the styles of the items of lists, by level. After a refusal they are as they were.
@@ -44,11 +40,23 @@ pub fn set_ordered_items(
     ensures ok { OnOk result (ordered_items_said (view value.now) item_styles.old ≡ Ok item_styles.new) }
     ensures err { IfErr result (λ e. TellsValue e (ordered_items_said (view value.now) item_styles.old)) }
 {
+    set_levels(alloc, item_styles, value)
+}
+
+// Replaces styles by level, as the values of a list say.
+fn set_levels<S: FromTokens>(
+    alloc: Global,
+    styles: &mut [S],
+    value: &Value,
+) -> Result<(), ValueError>
+    ensures ok { OnOk result (levels_said S.of_tokens (as_array (view value.now)) styles.old ≡ Ok styles.new) }
+    ensures err { IfErr result (λ e. TellsValue e (levels_said S.of_tokens (as_array (view value.now)) styles.old)) }
+{
     let Some(items) = value.as_array() else {
         return Err(ValueError::WrongType);
     };
-    let styles = read_styles(alloc, items)?;
-    replace_front(item_styles, styles.as_slice());
+    let read = read_styles(alloc, items)?;
+    replace_front(styles, read.as_slice());
     Ok(())
 }
 

@@ -1,7 +1,7 @@
 -- A fitting break of flagged tokens is one of the tokens.
 use Rattle.std.proofs.Common.{◌≡◌, ℕ, ◌+◌, ◌<◌, Bool, true, List, [], ◌∷◌, ◌++◌, map, length, refl, sym, ap, ◌∙◌, subst, arith}
 use Rattle.std.specs.List.{AllByRecursion}
-use Rattle.std.proofs.lemmas.List.{length-map}
+use Rattle.std.proofs.lemmas.List.{length-map, map-append}
 use Rattle.mad_wrap.proofs.PromisedStarts.{blank_token}
 use Rattle.mad_md.specs.Flagged.{FlaggedChar, flagged_of, is_blank}
 use Rattle.mad_md.specs.declared.compound.Compound.{Compound}
@@ -28,8 +28,17 @@ cut_first f (x ∷ xs) ys (t ∷ ts) e =
     let more = cut_first f xs ys ts tail in
     (t ∷ more.0, more.1, ap (λ l. t ∷ l) more.2, ap (λ y. y ∷ map f more.0) head ∙ ap (λ l. x ∷ l) more.3, more.4)
 
+-- a line and its gap, each token by a function
+abbrev pub piece_by : {A B : Type 0} → (A → B) → LineAndGap A → LineAndGap B
+piece_by f q = record { line = map f q.line; gap = map f q.gap }
+
+pub joined_by : {A B : Type 0} (f : A → B) (qs : List (LineAndGap A)) → lines_and_gaps (map (piece_by f) qs) ≡ map f (lines_and_gaps qs)
+joined_by f [] = refl
+joined_by f (q ∷ qs) =
+    sym (map-append f q.line (q.gap ++ lines_and_gaps qs) ∙ ap (λ l. map f q.line ++ l) (map-append f q.gap (lines_and_gaps qs)) ∙ ap (λ l. map f q.line ++ (map f q.gap ++ l)) (sym (joined_by f qs)))
+
 abbrev pub flagged_piece : LineAndGap Token → LineAndGap (List FlaggedChar)
-flagged_piece q = record { line = map flagged_token q.line; gap = map flagged_token q.gap }
+flagged_piece q = piece_by flagged_token q
 
 same_piece : (p q : LineAndGap (List FlaggedChar)) → p.line ≡ q.line → p.gap ≡ q.gap → p ≡ q
 same_piece p q line gap = ap (λ l. record { line = l; gap = p.gap }) line ∙ ap (λ g. record { line = q.line; gap = g }) gap

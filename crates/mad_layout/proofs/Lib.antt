@@ -13,7 +13,6 @@ pub mod InlineLemmas
 pub mod ItemCellLemmas
 pub mod KeptWidths
 pub mod KindLemmas
-pub mod LeastSizes
 pub mod PlainLineLemmas
 pub mod PrefixLemmas
 pub mod ReadParts

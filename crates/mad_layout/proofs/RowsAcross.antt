@@ -58,24 +58,12 @@ as_kind : (l : FmtComposite) (k : CompositeKind) → l.kind ≡ k → l ≡ reco
 as_kind l k e = ap (λ (x : CompositeKind). record l { kind = x }) e
 
 code_follows : (k : CompositeKind) → is_code_kind (follow_up k) ≡ is_code_kind k
-code_follows Paragraph = refl
-code_follows (Header level) = refl
-code_follows (ListItem depth) = refl
-code_follows (ListItemFollowUp depth) = refl
-code_follows (OrderedListItem level index) = refl
-code_follows (OrderedListItemFollowUp level index) = refl
 code_follows Code = refl
-code_follows Quote = refl
+code_follows _ = refl
 
 style_follows : (skin : RowSkin) (k : CompositeKind) → line_style skin (follow_up k) ≡ line_style skin k
-style_follows skin Paragraph = refl
-style_follows skin (Header level) = refl
-style_follows skin (ListItem depth) = refl
-style_follows skin (ListItemFollowUp depth) = refl
-style_follows skin (OrderedListItem level index) = refl
-style_follows skin (OrderedListItemFollowUp level index) = refl
 style_follows skin Code = refl
-style_follows skin Quote = refl
+style_follows skin _ = refl
 
 pub code_indent : (skin : RowSkin) (k : CompositeKind) → is_code_kind k ≡ true → indent skin.list_items_indentation_mode k ≡ 0
 code_indent skin Paragraph e = refl

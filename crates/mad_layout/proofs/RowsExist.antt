@@ -11,14 +11,16 @@ use Rattle.mad_md.specs.Flagged.{FlaggedChar, is_blank}
 use Rattle.mad_fit.specs.TextColumns.{width_of}
 use Rattle.mad_fit.proofs.AllLemmas.{all_front, all_back, all_joined}
 use Rattle.mad_fit.proofs.FlaggedLemmas.{width_of-append}
-use Rattle.mad_wrap.specs.Breaks.{LineAndGap, lines_and_gaps}
+use Rattle.mad_fit.specs.declared.tokens.Token.{Token}
+use Rattle.mad_wrap.proofs.LeastLemmas.{least_from}
+use Rattle.mad_wrap.specs.Breaks.{LineAndGap, lines_and_gaps, total_width, AllBlank, FitsFrom}
 use Rattle.mad_wrap.specs.Keeps.{Keeps, AllWhite}
-use Rattle.mad_wrap.specs.LineRoom.{left_of, fits_in, taken}
+use Rattle.mad_wrap.specs.Placings.{LinesForced}
 use Rattle.mad_wrap.specs.Rooms.{most_indent, token_limit}
 use Rattle.mad_wrap.specs.WrapLines.{LinesFit}
 use Rattle.mad_wrap.specs.declared.room.Room.{Room}
 use Rattle.mad_layout.specs.FlaggedRows.{whole, goes_on, tokens_from, tokens_of, IsFittingBreak, AreRowsOf}
-use Rattle.mad_layout.proofs.LeastSizes.{Placing, place_by, Size, total_width, AllBlank, FitsFrom, place_all, least}
+use Rattle.mad_layout.proofs.FlaggedBreaks.{piece_by, joined_by}
 use Rattle.mad_blocks.proofs.LayoutJoins.{by_bool}
 
 abbrev pub all_blank : List FlaggedChar → Bool
@@ -91,30 +93,84 @@ line_text p = whole p.line
 abbrev pub WhiteGaps : List (LineAndGap (List FlaggedChar)) → Type 0
 WhiteGaps ps = AllByRecursion (λ p. AllWhite (whole p.gap)) ps
 
-abbrev Broken : List (List FlaggedChar) → List (List FlaggedChar) → Type 0
-Broken ts rs = (ps : List (LineAndGap (List FlaggedChar))) × (lines_and_gaps ps ≡ ts) × (map line_text ps ≡ rs) × WhiteGaps ps
+-- what breaking looks at of a token: its columns, and whether it is blank
+abbrev sized : List FlaggedChar → Token
+sized t = record { compound = record { src = record { ref_ptr = (0, 0); now = [] }; bold = false; italic = false; code = false; strikeout = false }; blank = all_blank t; width = width_of t; start_in_compound = 0; end_in_compound = 0 }
+
+abbrev sized_pieces : List (LineAndGap (List FlaggedChar)) → List (LineAndGap Token)
+sized_pieces ps = map (piece_by sized) ps
+
+sizes_wide : (ts : List (List FlaggedChar)) → total_width (map sized ts) ≡ width_of (whole ts)
+sizes_wide [] = refl
+sizes_wide (t ∷ ts) = ap (λ n. width_of t + n) (sizes_wide ts) ∙ sym (width_of-append t (whole ts))
+
+-- The rows are lines of tokens, the first of which begins with these. Each line but the first begins where the one before has no room.
+record Broken (r : Room) (i : ℕ) (begun ts rs : List (List FlaggedChar)) : Type 0 where
+  first : LineAndGap (List FlaggedChar)
+  others : List (LineAndGap (List FlaggedChar))
+  more : List (List FlaggedChar)
+  begins : first.line ≡ begun ++ more
+  covers : lines_and_gaps (first ∷ others) ≡ ts
+  rows_are : map line_text (first ∷ others) ≡ rs
+  dropped : WhiteGaps (first ∷ others)
+  forced : LinesForced i r (sized_pieces (first ∷ others))
 
 whole_more : (ts : List (List FlaggedChar)) (t : List FlaggedChar) → whole (ts ++ t ∷ []) ≡ whole ts ++ t
 whole_more ts t = flat_map-append (λ (t : List FlaggedChar). t) ts (t ∷ []) ∙ ap (λ l. whole ts ++ l) (append-nil t)
 
-rows_broken : (r : Room) (i : ℕ) (line gap : List (List FlaggedChar)) (ended : Bool) (ts : List (List FlaggedChar)) → AllWhite (whole gap) → (ended ≡ false → gap ≡ []) → Broken (line ++ (gap ++ ts)) (rows r i (whole line) ended ts)
-rows_broken r i line gap ended [] white none = (record { line = line; gap = gap } ∷ [], refl, refl, (white, tt))
-rows_broken r i line gap true (t ∷ ts) white none =
-    let next = rows_broken r r.other (t ∷ []) [] false ts tt (λ e. refl) in
-    by_bool (λ b. Broken (line ++ (gap ++ t ∷ ts)) (if b then rows r i (whole line) true ts else whole line ∷ rows r r.other t false ts)) (all_blank t)
-    (λ on. subst (λ l. Broken (line ++ l) (rows r i (whole line) true ts)) (append_assoc gap (t ∷ []) ts)
-    (rows_broken r i line (gap ++ t ∷ []) true ts (subst AllWhite (sym (whole_more gap t)) (all_joined IsWhiteChar (whole gap) t white (white_of t on))) (λ e. absurd (cc))))
-    (λ off. (record { line = line; gap = gap } ∷ next.0, ap (λ l. line ++ (gap ++ l)) next.1, ap (λ l. whole line ∷ l) (next.2 ∙ ap (λ l. rows r r.other l false ts) (append-nil t)), (white, next.3)))
-rows_broken r i line gap false (t ∷ ts) white none =
-    let next = rows_broken r r.other (t ∷ []) [] false ts tt (λ e. refl) in
+-- a token that isn't blank and doesn't fit begins the next line
+line_ends : (r : Room) (i : ℕ) (line gap : List (List FlaggedChar)) (t : List FlaggedChar) (ts : List (List FlaggedChar)) → AllWhite (whole gap) → all_blank t ≡ false → r.width < i + width_of (whole line) + width_of (whole gap) + width_of t
+    → Broken r r.other (t ∷ []) (t ∷ ts) (rows r r.other (whole (t ∷ [])) false ts) → Broken r i line (line ++ (gap ++ t ∷ ts)) (whole line ∷ rows r r.other t false ts)
+line_ends r i line gap t ts white solid past next = record {
+  first = record { line = line; gap = gap };
+  others = next.first ∷ next.others;
+  more = [];
+  begins = sym (append-nil line);
+  covers = ap (λ l. line ++ (gap ++ l)) next.covers;
+  rows_are = ap (λ l. whole line ∷ l) (next.rows_are ∙ ap (λ l. rows r r.other l false ts) (append-nil t));
+  dropped = (white, next.dropped);
+  forced = (record { first = sized t; others = map sized next.more; begins = ap (map sized) next.begins; solid = solid; passes = omega (arith, past, sizes_wide line, sizes_wide gap) }, next.forced);
+}
+
+longer : (r : Room) (i : ℕ) (line ts rs : List (List FlaggedChar)) (t : List FlaggedChar) → Broken r i (line ++ t ∷ []) ts rs → Broken r i line ts rs
+longer r i line ts rs t b = record {
+  first = b.first;
+  others = b.others;
+  more = t ∷ b.more;
+  begins = b.begins ∙ append_assoc line (t ∷ []) b.more;
+  covers = b.covers;
+  rows_are = b.rows_are;
+  dropped = b.dropped;
+  forced = b.forced;
+}
+
+rows_broken : (r : Room) (i : ℕ) (line gap : List (List FlaggedChar)) (ended : Bool) (ts : List (List FlaggedChar)) → AllWhite (whole gap) → (ended ≡ false → gap ≡ [])
+    → (ended ≡ true → r.width < i + width_of (whole line) + width_of (whole gap)) → Broken r i line (line ++ (gap ++ ts)) (rows r i (whole line) ended ts)
+rows_broken r i line gap ended [] white none past = record { first = record { line = line; gap = gap }; others = []; more = []; begins = sym (append-nil line); covers = refl; rows_are = refl; dropped = (white, tt); forced = tt }
+rows_broken r i line gap true (t ∷ ts) white none past =
+    by_bool (λ b. Broken r i line (line ++ (gap ++ t ∷ ts)) (if b then rows r i (whole line) true ts else whole line ∷ rows r r.other t false ts)) (all_blank t)
+    (λ on. subst (λ l. Broken r i line (line ++ l) (rows r i (whole line) true ts)) (append_assoc gap (t ∷ []) ts)
+    (rows_broken r i line (gap ++ t ∷ []) true ts (subst AllWhite (sym (whole_more gap t)) (all_joined IsWhiteChar (whole gap) t white (white_of t on))) (λ e. absurd (cc))
+    (λ e. omega (arith, past refl, ap width_of (whole_more gap t), width_of-append (whole gap) t))))
+    (λ off. line_ends r i line gap t ts white off (omega (arith, past refl)) (rows_broken r r.other (t ∷ []) [] false ts tt (λ e. refl) (λ e. absurd (cc))))
+rows_broken r i line gap false (t ∷ ts) white none past =
     let text : line ++ (t ∷ ts) ≡ line ++ (gap ++ t ∷ ts) = ap (λ g. line ++ (g ++ t ∷ ts)) (sym (none refl)) in
-    by_bool (λ f. Broken (line ++ (gap ++ t ∷ ts)) (if f then rows r i (whole line ++ t) false ts else (if all_blank t then rows r i (whole line) true ts else whole line ∷ rows r r.other t false ts)))
+    by_bool (λ f. nat_le (i + width_of (whole line) + width_of t) r.width ≡ f
+    → Broken r i line (line ++ (gap ++ t ∷ ts)) (if f then rows r i (whole line ++ t) false ts else (if all_blank t then rows r i (whole line) true ts else whole line ∷ rows r r.other t false ts)))
     (nat_le (i + width_of (whole line) + width_of t) r.width)
-    (λ on. subst (λ l. Broken l (rows r i (whole line ++ t) false ts)) (append_assoc line (t ∷ []) ts ∙ text)
-    (subst (λ l. Broken ((line ++ t ∷ []) ++ ts) (rows r i l false ts)) (whole_more line t) (rows_broken r i (line ++ t ∷ []) [] false ts tt (λ e. refl))))
-    (λ off. by_bool (λ b. Broken (line ++ (gap ++ t ∷ ts)) (if b then rows r i (whole line) true ts else whole line ∷ rows r r.other t false ts)) (all_blank t)
-    (λ blank. subst (λ l. Broken l (rows r i (whole line) true ts)) text (rows_broken r i line (t ∷ []) true ts (subst AllWhite (sym (append-nil t)) (white_of t blank)) (λ e. absurd (cc))))
-    (λ solid. (record { line = line; gap = gap } ∷ next.0, ap (λ l. line ++ (gap ++ l)) next.1, ap (λ l. whole line ∷ l) (next.2 ∙ ap (λ l. rows r r.other l false ts) (append-nil t)), (white, next.3))))
+    (λ on e. subst (λ l. Broken r i line l (rows r i (whole line ++ t) false ts)) (append_assoc line (t ∷ []) ts ∙ text)
+    (longer r i line ((line ++ t ∷ []) ++ ts) (rows r i (whole line ++ t) false ts) t
+    (subst (λ l. Broken r i (line ++ t ∷ []) ((line ++ t ∷ []) ++ ts) (rows r i l false ts)) (whole_more line t) (rows_broken r i (line ++ t ∷ []) [] false ts tt (λ e. refl) (λ e. absurd (cc))))))
+    (λ off e.
+        let past : r.width < i + width_of (whole line) + width_of t = grind (arith, nat_tests) in
+        by_bool (λ b. Broken r i line (line ++ (gap ++ t ∷ ts)) (if b then rows r i (whole line) true ts else whole line ∷ rows r r.other t false ts)) (all_blank t)
+        (λ blank. subst (λ l. Broken r i line l (rows r i (whole line) true ts)) text
+        (rows_broken r i line (t ∷ []) true ts (subst AllWhite (sym (append-nil t)) (white_of t blank)) (λ e. absurd (cc)) (λ e. omega (arith, past, ap width_of (append-nil t)))))
+        (λ solid. line_ends r i line gap t ts white solid (omega (arith, past)) (rows_broken r r.other (t ∷ []) [] false ts tt (λ e. refl) (λ e. absurd (cc)))))
+    refl
+
+lines_broken : (r : Room) (parts : List (List FlaggedChar)) → Broken r r.first [] (tokens_of r parts) (rows_of r parts)
+lines_broken r parts = rows_broken r r.first [] [] false (tokens_of r parts) tt (λ e. refl) (λ e. absurd (cc))
 
 -- ---- they fit
 
@@ -155,96 +211,29 @@ tokens_of_within r (p ∷ ps) narrow =
 
 -- ---- no fitting break has fewer lines
 
-abbrev size : List FlaggedChar → Size
-size t = record { width = width_of t; blank = all_blank t }
-
-fits_left : (width used n : ℕ) → fits_in (left_of width used) n ≡ nat_le (used + n) width
-fits_left width used n =
-    by_bool (λ b. nat_le used width ≡ b → fits_in (if b then Some (width - used) else None) n ≡ nat_le (used + n) width) (nat_le used width)
-    (λ on e. grind (arith, nat_tests)) (λ off e. grind (arith, nat_tests)) refl
-
-taken_left : (width used n : ℕ) → nat_le (used + n) width ≡ true → taken (left_of width used) n ≡ left_of width (used + n)
-taken_left width used n fits =
-    let inside : used + n ≤ width = grind (arith, nat_tests) in
-    let before : nat_le used width ≡ true = grind (arith, nat_tests) in
-    let less : width - used - n ≡ width - (used + n) = omega (arith, inside) in
-    ap (λ b. taken (if b then Some (width - used) else None) n) before ∙ ap Some less ∙ sym (ap (λ b. if b then Some (width - (used + n)) else None) fits)
-
-abbrev at : Room → ℕ → ℕ → List FlaggedChar → Bool → Placing
-at r k i line ended = record { lines = k + 1; left = left_of r.width (i + width_of line); ended = ended }
-
-rows_count : (r : Room) (k i : ℕ) (line : List FlaggedChar) (ended : Bool) (ts : List (List FlaggedChar)) → length (rows r i line ended ts) + k ≡ (place_all r (at r k i line ended) (map size ts)).lines
-rows_count r k i line ended [] = omega arith
-rows_count r k i line true (t ∷ ts) =
-    let s : Placing = at r k i line true in
-    by_bool (λ b. length (if b then rows r i line true ts else line ∷ rows r r.other t false ts) + k ≡ (place_all r (place_by r s (width_of t) true (fits_in s.left (width_of t)) b) (map size ts)).lines) (all_blank t)
-    (λ on. rows_count r k i line true ts)
-    (λ off. omega (arith, rows_count r (k + 1) r.other t false ts))
-rows_count r k i line false (t ∷ ts) =
-    let s : Placing = at r k i line false in
-    let used : ℕ = i + width_of line in
-    let n : ℕ = width_of t in
-    let left : left_of r.width (i + width_of (line ++ t)) ≡ left_of r.width (used + n) = let e : i + width_of (line ++ t) ≡ used + n = omega (arith, width_of-append line t) in ap (left_of r.width) e in
-    by_bool (λ f. nat_le (used + n) r.width ≡ f → length (if f then rows r i (line ++ t) false ts else (if all_blank t then rows r i line true ts else line ∷ rows r r.other t false ts)) + k
-    ≡ (place_all r (place_by r s n false f (all_blank t)) (map size ts)).lines) (nat_le (used + n) r.width)
-    (λ on e. rows_count r k i (line ++ t) false ts
-    ∙ ap (λ o. (place_all r (record { lines = k + 1; left = o; ended = false }) (map size ts)).lines) (left ∙ sym (taken_left r.width used n on)))
-    (λ off e. by_bool (λ b. length (if b then rows r i line true ts else line ∷ rows r r.other t false ts) + k ≡ (place_all r (place_by r s n false false b) (map size ts)).lines) (all_blank t)
-    (λ blank. rows_count r k i line true ts)
-    (λ solid. omega (arith, rows_count r (k + 1) r.other t false ts)))
-    refl
-    ∙ ap (λ f. (place_all r (place_by r s n false f (all_blank t)) (map size ts)).lines) (sym (fits_left r.width used n))
-
-abbrev size_piece : LineAndGap (List FlaggedChar) → LineAndGap Size
-size_piece p = record { line = map size p.line; gap = map size p.gap }
-
-sizes_joined : (ps : List (LineAndGap (List FlaggedChar))) → lines_and_gaps (map size_piece ps) ≡ map size (lines_and_gaps ps)
-sizes_joined [] = refl
-sizes_joined (p ∷ ps) =
-    sym (map-append size p.line (p.gap ++ lines_and_gaps ps) ∙ ap (λ l. map size p.line ++ l) (map-append size p.gap (lines_and_gaps ps)) ∙ ap (λ l. map size p.line ++ (map size p.gap ++ l)) (sym (sizes_joined ps)))
-
-sizes_wide : (ts : List (List FlaggedChar)) → total_width (map size ts) ≡ width_of (whole ts)
-sizes_wide [] = refl
-sizes_wide (t ∷ ts) = ap (λ n. width_of t + n) (sizes_wide ts) ∙ sym (width_of-append t (whole ts))
-
 blank_of : (t : List FlaggedChar) → AllByRecursion (λ x. is_blank x ≡ true) t → all_blank t ≡ true
 blank_of [] h = refl
 blank_of (x ∷ xs) h = ap (λ b. b && all_blank xs) h.0 ∙ blank_of xs h.1
 
-sizes_blank : (ts : List (List FlaggedChar)) → AllByRecursion (λ x. is_blank x ≡ true) (whole ts) → AllBlank (map size ts)
+sizes_blank : (ts : List (List FlaggedChar)) → AllByRecursion (λ x. is_blank x ≡ true) (whole ts) → AllBlank (map sized ts)
 sizes_blank [] h = tt
 sizes_blank (t ∷ ts) h =
     let is : FlaggedChar → Type 0 = λ x. is_blank x ≡ true in
     (blank_of t (all_front is t (whole ts) h), sizes_blank ts (all_back is t (whole ts) h))
 
-sizes_fit : (i : ℕ) (r : Room) (ps : List (LineAndGap (List FlaggedChar))) → LinesFit i r (map (λ p. whole p.line) ps) → AllByRecursion (λ p. AllByRecursion (λ x. is_blank x ≡ true) (whole p.gap)) ps → FitsFrom i r (map size_piece ps)
+sizes_fit : (i : ℕ) (r : Room) (ps : List (LineAndGap (List FlaggedChar))) → LinesFit i r (map (λ p. whole p.line) ps) → AllByRecursion (λ p. AllByRecursion (λ x. is_blank x ≡ true) (whole p.gap)) ps → FitsFrom i r (sized_pieces ps)
 sizes_fit i r [] fits dropped = tt
 sizes_fit i r (p ∷ ps) fits dropped = (omega (arith, fits.0, sizes_wide p.line), sizes_blank p.gap dropped.0, sizes_fit r.other r ps fits.1 dropped.1)
 
 rows_least : (r : Room) (parts : List (List FlaggedChar)) (ps : List (LineAndGap (List FlaggedChar))) → IsFittingBreak r parts ps → length (rows_of r parts) ≤ length ps
 rows_least r parts ps b =
-    let tokens : List (List FlaggedChar) = tokens_of r parts in
-    let start : left_of r.width (r.first + 0) ≡ left_of r.width r.first = let e : r.first + 0 ≡ r.first = omega arith in ap (left_of r.width) e in
-    let count = rows_count r 0 r.first [] false tokens ∙ ap (λ o. (place_all r (record { lines = 0 + 1; left = o; ended = false }) (map size tokens)).lines) start in
-    let best = least r (map size tokens) (map size_piece ps) (record {
-      some_line = omega (arith, b.some, length-map ps size_piece);
-      covers = sizes_joined ps ∙ ap (map size) b.covers;
-      fits = sizes_fit r.first r ps b.fits b.dropped;
-    }) in
-    omega (arith, count, best, length-map ps size_piece)
+    let broken = lines_broken r parts in
+    let lines : List (LineAndGap (List FlaggedChar)) = broken.first ∷ broken.others in
+    let same : lines_and_gaps (sized_pieces ps) ≡ lines_and_gaps (sized_pieces lines) = joined_by sized ps ∙ ap (map sized) (b.covers ∙ sym broken.covers) ∙ sym (joined_by sized lines) in
+    let fewest = least_from r.first r [] (sized_pieces lines) (sized_pieces ps) (omega (arith, b.some, length-map ps (piece_by sized))) broken.forced (sizes_fit r.first r ps b.fits b.dropped) same in
+    omega (arith, fewest, length-map ps (piece_by sized), length-map lines (piece_by sized), ap length broken.rows_are, length-map lines line_text)
 
--- ---- there is one, and a line that fits is its one row
-
-rows_some : (r : Room) (i : ℕ) (line : List FlaggedChar) (ended : Bool) (ts : List (List FlaggedChar)) → 0 < length (rows r i line ended ts)
-rows_some r i line ended [] = omega arith
-rows_some r i line true (t ∷ ts) =
-    by_bool (λ b. 0 < length (if b then rows r i line true ts else line ∷ rows r r.other t false ts)) (all_blank t) (λ on. rows_some r i line true ts) (λ off. omega arith)
-rows_some r i line false (t ∷ ts) =
-    by_bool (λ f. 0 < length (if f then rows r i (line ++ t) false ts else (if all_blank t then rows r i line true ts else line ∷ rows r r.other t false ts)))
-    (nat_le (i + width_of line + width_of t) r.width)
-    (λ on. rows_some r i (line ++ t) false ts)
-    (λ off. by_bool (λ b. 0 < length (if b then rows r i line true ts else line ∷ rows r r.other t false ts)) (all_blank t)
-    (λ blank. rows_some r i line true ts) (λ solid. omega arith))
+-- ---- a line that fits is its one row
 
 rows_alone : (r : Room) (i : ℕ) (line : List FlaggedChar) (ts : List (List FlaggedChar)) → i + width_of line + width_of (whole ts) ≤ r.width → rows r i line false ts ≡ (line ++ whole ts) ∷ []
 rows_alone r i line [] fits = ap (λ l. l ∷ []) (sym (append-nil line))
@@ -309,15 +298,15 @@ each_fits r (t ∷ ts) some h = (omega (arith, some, h.0), each_fits r ts some h
 
 pub rows_exist : (r : Room) (parts : List (List FlaggedChar)) → AreRowsOf r parts (rows_of r parts)
 rows_exist r parts =
-    let broken = rows_broken r r.first [] [] false (tokens_of r parts) tt (λ e. refl) in
+    let broken = lines_broken r parts in
     record {
       keeps = subst (λ l. Keeps l (rows_of r parts)) (whole_tokens_of r parts) (rows_keep r r.first [] [] false (tokens_of r parts) tt (λ e. refl));
       broken = record {
-        breaks = broken.0;
-        some = omega (arith, rows_some r r.first [] false (tokens_of r parts), ap length broken.2, length-map broken.0 line_text);
-        covers = broken.1;
-        rows_are = broken.2;
-        dropped = broken.3;
+        breaks = broken.first ∷ broken.others;
+        some = omega arith;
+        covers = broken.covers;
+        rows_are = broken.rows_are;
+        dropped = broken.dropped;
       };
       alone = λ fits.
           let same = whole_tokens_of r parts in

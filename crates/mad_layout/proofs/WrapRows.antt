@@ -25,7 +25,7 @@ use Rattle.mad_wrap.specs.declared.room.Room.{Room}
 use Rattle.mad_layout.specs.FlaggedRows.{whole, tokens_from, tokens_of, AreBroken, AreRowsOf}
 use Rattle.mad_layout.specs.Premises.{runs_text}
 use Rattle.mad_layout.proofs.DrawnParts.{runs_are}
-use Rattle.mad_layout.proofs.FlaggedBreaks.{break_lifts, flagged_piece}
+use Rattle.mad_layout.proofs.FlaggedBreaks.{break_lifts, flagged_piece, joined_by}
 use Rattle.mad_layout.proofs.FlaggedTokens.{tokens_agree}
 use Rattle.mad_blocks.proofs.LayoutJoins.{by_bool}
 use Rattle.mad_layout.proofs.RowsExist.{line_text, IsSome, WhiteGaps, whole_some, whole_tokens, whole_tokens_of}
@@ -35,13 +35,6 @@ whole_parts [] = refl
 whole_parts (p ∷ ps) = ap (λ l. flagged_of p ++ l) (whole_parts ps)
 
 -- ---- where they break
-
--- the tokens of a break as flagged text
-flagged_joined : (qs : List (LineAndGap Token)) → lines_and_gaps (map flagged_piece qs) ≡ map flagged_token (lines_and_gaps qs)
-flagged_joined [] = refl
-flagged_joined (q ∷ qs) =
-    sym (map-append flagged_token q.line (q.gap ++ lines_and_gaps qs) ∙ ap (λ l. map flagged_token q.line ++ l) (map-append flagged_token q.gap (lines_and_gaps qs))
-    ∙ ap (λ l. map flagged_token q.line ++ (map flagged_token q.gap ++ l)) (sym (flagged_joined qs)))
 
 tokens_whole : (ts : List Token) → whole (map flagged_token ts) ≡ tokens_text ts
 tokens_whole [] = refl
@@ -74,7 +67,7 @@ placed_broken : (r : Room) (ps : List Compound) (ts : List Token) (rows : List (
 placed_broken r ps ts rows cut placed = record {
   breaks = map flagged_piece placed.breaks;
   some = omega (arith, placed.placing.some_line, length-map placed.breaks flagged_piece);
-  covers = flagged_joined placed.breaks ∙ ap (map flagged_token) placed.placing.covers ∙ tokens_agree r ps ts cut;
+  covers = joined_by flagged_token placed.breaks ∙ ap (map flagged_token) placed.placing.covers ∙ tokens_agree r ps ts cut;
   rows_are = flagged_lines placed.breaks ∙ placed.texts_are;
   dropped = white_gaps (token_limit r) r.first r placed.breaks (subst (AllByRecursion (IsHonest (token_limit r))) (sym placed.placing.covers) (all_honest (token_limit r) ps ts cut)) placed.placing.gaps;
 }

@@ -161,9 +161,8 @@ lesser_offset ls p q hp hq h = elim (cases_lt p.y q.y) [
 
 slice_get_at : (p q : List ℕ) (n : ℕ) → length p ≡ n → slice_get (p ++ q) n ≡ slice_get q 0
 slice_get_at [] q zero h = refl
-slice_get_at [] q (suc n) h = absurd (omega arith)
-slice_get_at (x ∷ p) q zero h = absurd (omega arith)
 slice_get_at (x ∷ p) q (suc n) h = slice_get_at p q n (omega arith)
+slice_get_at _ q _ h = absurd (omega arith)
 
 -- the character at a place is the first of those after it
 pub char_after : (ls : List (List ℕ)) (p : Pos) → IsPlace ls p → slice_get (text_of ls) (offset_of ls p) ≡ slice_get (after ls p) 0

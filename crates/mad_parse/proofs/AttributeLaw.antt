@@ -78,29 +78,7 @@ is_in_kept s (b ∷ list) a =
 
 in_written : (a : Attribute) → is_in a written_attributes ≡ is_written a
 in_written attribute.Reset = refl
-in_written attribute.Bold = refl
-in_written attribute.Dim = refl
-in_written attribute.Italic = refl
-in_written attribute.Underlined = refl
-in_written attribute.SlowBlink = refl
-in_written attribute.RapidBlink = refl
-in_written attribute.Reverse = refl
-in_written attribute.Hidden = refl
-in_written attribute.CrossedOut = refl
-in_written attribute.Fraktur = refl
-in_written attribute.NoBold = refl
-in_written attribute.NormalIntensity = refl
-in_written attribute.NoItalic = refl
-in_written attribute.NoUnderline = refl
-in_written attribute.NoBlink = refl
-in_written attribute.NoReverse = refl
-in_written attribute.NoHidden = refl
-in_written attribute.NotCrossedOut = refl
-in_written attribute.Framed = refl
-in_written attribute.Encircled = refl
-in_written attribute.OverLined = refl
-in_written attribute.NotFramedOrEncircled = refl
-in_written attribute.NotOverLined = refl
+in_written _ = refl
 
 -- the attributes of a list that a set has, where it has no others than those of the list
 has_back : (s : Attributes) (list : List Attribute) → ((a : Attribute) → is_in a list ≡ false → has_attribute s a ≡ false) → (a : Attribute) → has_attribute (added no_attributes (filter (has_attribute s) list)) a ≡ has_attribute s a

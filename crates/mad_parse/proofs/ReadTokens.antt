@@ -199,30 +199,17 @@ read_rgb r g b small_r small_g small_b =
 pub read_color : (c : Color) → IsColor c → IsReadBackColor c → IsRead (token.Color c)
 read_color (color.Rgb r g b) bytes written = read_rgb r g b bytes.0 bytes.1 bytes.2
 read_color (color.AnsiValue n) bytes written = read_ansi n bytes
-read_color color.DarkGrey bytes written = read_word (token.Color color.DarkGrey) refl (lit< tt) refl refl refl
-read_color color.Red bytes written = read_word (token.Color color.Red) refl (lit< tt) refl refl refl
-read_color color.DarkRed bytes written = read_word (token.Color color.DarkRed) refl (lit< tt) refl refl refl
-read_color color.Green bytes written = read_word (token.Color color.Green) refl (lit< tt) refl refl refl
-read_color color.DarkGreen bytes written = read_word (token.Color color.DarkGreen) refl (lit< tt) refl refl refl
-read_color color.Yellow bytes written = read_word (token.Color color.Yellow) refl (lit< tt) refl refl refl
-read_color color.DarkYellow bytes written = read_word (token.Color color.DarkYellow) refl (lit< tt) refl refl refl
-read_color color.Blue bytes written = read_word (token.Color color.Blue) refl (lit< tt) refl refl refl
-read_color color.DarkBlue bytes written = read_word (token.Color color.DarkBlue) refl (lit< tt) refl refl refl
-read_color color.Magenta bytes written = read_word (token.Color color.Magenta) refl (lit< tt) refl refl refl
-read_color color.DarkMagenta bytes written = read_word (token.Color color.DarkMagenta) refl (lit< tt) refl refl refl
-read_color color.Cyan bytes written = read_word (token.Color color.Cyan) refl (lit< tt) refl refl refl
-read_color color.DarkCyan bytes written = read_word (token.Color color.DarkCyan) refl (lit< tt) refl refl refl
-read_color color.Grey bytes written = read_word (token.Color color.Grey) refl (lit< tt) refl refl refl
-read_color _ bytes written = absurd written
+read_color color.Reset bytes written = absurd written
+read_color color.Black bytes written = absurd written
+read_color color.White bytes written = absurd written
+read_color c bytes written = read_word (token.Color c) refl (lit< tt) refl refl refl
 
 pub read_none : IsRead token.None
 read_none = read_word token.None refl (lit< tt) refl refl refl
 
 pub read_align : (a : Alignment) → has_text (token.Align a) ≡ true → IsRead (token.Align a)
 read_align align.Unspecified text = absurd (true≢false (sym text))
-read_align align.Left text = read_word (token.Align align.Left) refl (lit< tt) refl refl refl
-read_align align.Center text = read_word (token.Align align.Center) refl (lit< tt) refl refl refl
-read_align align.Right text = read_word (token.Align align.Right) refl (lit< tt) refl refl refl
+read_align a text = read_word (token.Align a) refl (lit< tt) refl refl refl
 
 pub read_attribute : (a : Attribute) → is_written a ≡ true → IsRead (token.Attribute a)
 read_attribute attribute.Bold written = read_word (token.Attribute attribute.Bold) refl (lit< tt) refl refl refl

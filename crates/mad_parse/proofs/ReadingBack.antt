@@ -123,33 +123,23 @@ margins_read l r (two_margins e) = subst AllRead (sym e) (read_number (min l 655
 -- an align in front of them
 align_colors : (a : Alignment) (ts : List StyleToken) → colors_of (align_tokens a ++ ts) ≡ colors_of ts
 align_colors align.Unspecified ts = refl
-align_colors align.Left ts = refl
-align_colors align.Center ts = refl
-align_colors align.Right ts = refl
+align_colors _ ts = refl
 
 align_attributes : (a : Alignment) (ts : List StyleToken) → attributes_of (align_tokens a ++ ts) ≡ attributes_of ts
 align_attributes align.Unspecified ts = refl
-align_attributes align.Left ts = refl
-align_attributes align.Center ts = refl
-align_attributes align.Right ts = refl
+align_attributes _ ts = refl
 
 align_numbers : (a : Alignment) (ts : List StyleToken) → numbers_of (align_tokens a ++ ts) ≡ numbers_of ts
 align_numbers align.Unspecified ts = refl
-align_numbers align.Left ts = refl
-align_numbers align.Center ts = refl
-align_numbers align.Right ts = refl
+align_numbers _ ts = refl
 
 align_last : (a : Alignment) (ts : List StyleToken) → aligns_of ts ≡ [] → last_or align.Unspecified (aligns_of (align_tokens a ++ ts)) ≡ a
 align_last align.Unspecified ts none = ap (last_or align.Unspecified) none
-align_last align.Left ts none = ap (last_or align.Left) none
-align_last align.Center ts none = ap (last_or align.Center) none
-align_last align.Right ts none = ap (last_or align.Right) none
+align_last a ts none = ap (last_or a) none
 
 aligns_read : (a : Alignment) → AllRead (align_tokens a)
 aligns_read align.Unspecified = tt
-aligns_read align.Left = (read_align align.Left refl, tt)
-aligns_read align.Center = (read_align align.Center refl, tt)
-aligns_read align.Right = (read_align align.Right refl, tt)
+aligns_read a = (read_align a refl, tt)
 
 abbrev line_of : CompoundStyle → Alignment → ℕ → ℕ → LineStyle
 line_of style a l r = record { compound_style = style; align = a; left_margin = l; right_margin = r }

@@ -23,61 +23,28 @@ use Rattle.mad_parse.proofs.ReadTokens.{AllRead, all_append, read_color, read_no
 
 pub colors_of_append : (xs ys : List StyleToken) → colors_of (xs ++ ys) ≡ colors_of xs ++ colors_of ys
 colors_of_append [] ys = refl
-colors_of_append (token.Char x ∷ xs) ys = colors_of_append xs ys
 colors_of_append (token.Color x ∷ xs) ys = ap (λ l. Some x ∷ l) (colors_of_append xs ys)
-colors_of_append (token.Attribute x ∷ xs) ys = colors_of_append xs ys
-colors_of_append (token.Align x ∷ xs) ys = colors_of_append xs ys
-colors_of_append (token.Dimension x ∷ xs) ys = colors_of_append xs ys
 colors_of_append (token.None ∷ xs) ys = ap (λ l. None ∷ l) (colors_of_append xs ys)
+colors_of_append (_ ∷ xs) ys = colors_of_append xs ys
 
 pub attributes_of_append : (xs ys : List StyleToken) → attributes_of (xs ++ ys) ≡ attributes_of xs ++ attributes_of ys
 attributes_of_append [] ys = refl
-attributes_of_append (token.Char x ∷ xs) ys = attributes_of_append xs ys
-attributes_of_append (token.Color x ∷ xs) ys = attributes_of_append xs ys
 attributes_of_append (token.Attribute x ∷ xs) ys = ap (λ l. x ∷ l) (attributes_of_append xs ys)
-attributes_of_append (token.Align x ∷ xs) ys = attributes_of_append xs ys
-attributes_of_append (token.Dimension x ∷ xs) ys = attributes_of_append xs ys
-attributes_of_append (token.None ∷ xs) ys = attributes_of_append xs ys
+attributes_of_append (_ ∷ xs) ys = attributes_of_append xs ys
 
 -- ---- the colors
 
 foreground_written : (c : Color) (background : Option Color) → IsReadBackColor c → foreground_tokens (Some c) background ≡ token.Color c ∷ []
-foreground_written (color.Rgb r g b) background h = refl
-foreground_written (color.AnsiValue n) background h = refl
-foreground_written color.DarkGrey background h = refl
-foreground_written color.Red background h = refl
-foreground_written color.DarkRed background h = refl
-foreground_written color.Green background h = refl
-foreground_written color.DarkGreen background h = refl
-foreground_written color.Yellow background h = refl
-foreground_written color.DarkYellow background h = refl
-foreground_written color.Blue background h = refl
-foreground_written color.DarkBlue background h = refl
-foreground_written color.Magenta background h = refl
-foreground_written color.DarkMagenta background h = refl
-foreground_written color.Cyan background h = refl
-foreground_written color.DarkCyan background h = refl
-foreground_written color.Grey background h = refl
-foreground_written _ background h = absurd h
+foreground_written color.Reset background h = absurd h
+foreground_written color.Black background h = absurd h
+foreground_written color.White background h = absurd h
+foreground_written _ background h = refl
 
 background_written : (c : Color) → IsReadBackColor c → background_tokens (Some c) ≡ token.Color c ∷ []
-background_written (color.Rgb r g b) h = refl
-background_written (color.AnsiValue n) h = refl
-background_written color.DarkGrey h = refl
-background_written color.Red h = refl
-background_written color.DarkRed h = refl
-background_written color.Green h = refl
-background_written color.DarkGreen h = refl
-background_written color.Yellow h = refl
-background_written color.DarkYellow h = refl
-background_written color.Blue h = refl
-background_written color.DarkBlue h = refl
-background_written color.Magenta h = refl
-background_written color.DarkMagenta h = refl
-background_written color.Cyan h = refl
-background_written color.DarkCyan h = refl
-background_written color.Grey h = refl
-background_written _ h = absurd h
+background_written color.Reset h = absurd h
+background_written color.Black h = absurd h
+background_written color.White h = absurd h
+background_written _ h = refl
 
 -- the tokens of two colors: none, `none` and a background, a foreground, or both
 abbrev pub two_colors : Option Color → Option Color → List StyleToken

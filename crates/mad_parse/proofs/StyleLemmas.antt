@@ -19,9 +19,7 @@ style_after false s (token.Color c ∷ ts) = style_after true (foreground_set s 
 style_after true s (token.Color c ∷ ts) = style_after true (background_set s c) ts
 style_after settled s (token.None ∷ ts) = style_after true s ts
 style_after settled s (token.Attribute a ∷ ts) = style_after settled (attribute_added s a) ts
-style_after settled s (token.Char c ∷ ts) = style_after settled s ts
-style_after settled s (token.Align align ∷ ts) = style_after settled s ts
-style_after settled s (token.Dimension n ∷ ts) = style_after settled s ts
+style_after settled s (_ ∷ ts) = style_after settled s ts
 
 -- a style with another color, where that is present
 abbrev with_background : CompoundStyle → Option Color → CompoundStyle
@@ -48,9 +46,7 @@ after_settled s [] = refl
 after_settled s (token.Color c ∷ ts) = after_settled (background_set s c) ts ∙ ap (λ t. all_added t (attributes_of ts)) (later_color (last_color (colors_of ts)) s c)
 after_settled s (token.None ∷ ts) = after_settled s ts ∙ ap (λ o. all_added (with_background s o) (attributes_of ts)) (sym (later_none (last_color (colors_of ts))))
 after_settled s (token.Attribute a ∷ ts) = after_settled (attribute_added s a) ts
-after_settled s (token.Char c ∷ ts) = after_settled s ts
-after_settled s (token.Align align ∷ ts) = after_settled s ts
-after_settled s (token.Dimension n ∷ ts) = after_settled s ts
+after_settled s (_ ∷ ts) = after_settled s ts
 
 after_colors : (s : CompoundStyle) (colors : List (Option Color)) (a : _) → with_colors (attribute_added s a) colors ≡ attribute_added (with_colors s colors) a
 after_colors s [] a = refl
@@ -61,9 +57,7 @@ after_all s [] = refl
 after_all s (token.Color c ∷ ts) = after_settled (foreground_set s c) ts
 after_all s (token.None ∷ ts) = after_settled s ts
 after_all s (token.Attribute a ∷ ts) = after_all (attribute_added s a) ts ∙ ap (λ t. all_added t (attributes_of ts)) (after_colors s (colors_of ts) a)
-after_all s (token.Char c ∷ ts) = after_all s ts
-after_all s (token.Align align ∷ ts) = after_all s ts
-after_all s (token.Dimension n ∷ ts) = after_all s ts
+after_all s (_ ∷ ts) = after_all s ts
 
 none_first : (colors : List (Option Color)) → with_colors plain_style colors ≡ record plain_style { object_style = record plain_style.object_style { foreground_color = first_or None colors; background_color = last_color (drop 1 colors) } }
 none_first [] = refl
@@ -80,29 +74,20 @@ placed_after second s [] = s
 placed_after second s (token.Align align ∷ ts) = placed_after second (record s { align = align }) ts
 placed_after false s (token.Dimension n ∷ ts) = placed_after true (record s { left_margin = n }) ts
 placed_after true s (token.Dimension n ∷ ts) = placed_after true (record s { right_margin = n }) ts
-placed_after second s (token.Color c ∷ ts) = placed_after second s ts
-placed_after second s (token.None ∷ ts) = placed_after second s ts
-placed_after second s (token.Attribute a ∷ ts) = placed_after second s ts
-placed_after second s (token.Char c ∷ ts) = placed_after second s ts
+placed_after second s (_ ∷ ts) = placed_after second s ts
 
 placed_second : (s : LineStyle) (ts : List StyleToken) → placed_after true s ts ≡ record s { align = last_or s.align (aligns_of ts); right_margin = last_or s.right_margin (numbers_of ts) }
 placed_second s [] = refl
 placed_second s (token.Align align ∷ ts) = placed_second (record s { align = align }) ts
 placed_second s (token.Dimension n ∷ ts) = placed_second (record s { right_margin = n }) ts
-placed_second s (token.Color c ∷ ts) = placed_second s ts
-placed_second s (token.None ∷ ts) = placed_second s ts
-placed_second s (token.Attribute a ∷ ts) = placed_second s ts
-placed_second s (token.Char c ∷ ts) = placed_second s ts
+placed_second s (_ ∷ ts) = placed_second s ts
 
 placed_first : (s : LineStyle) (ts : List StyleToken)
     → placed_after false s ts ≡ record s { align = last_or s.align (aligns_of ts); left_margin = first_or s.left_margin (numbers_of ts); right_margin = last_or s.right_margin (drop 1 (numbers_of ts)) }
 placed_first s [] = refl
 placed_first s (token.Align align ∷ ts) = placed_first (record s { align = align }) ts
 placed_first s (token.Dimension n ∷ ts) = placed_second (record s { left_margin = n }) ts
-placed_first s (token.Color c ∷ ts) = placed_first s ts
-placed_first s (token.None ∷ ts) = placed_first s ts
-placed_first s (token.Attribute a ∷ ts) = placed_first s ts
-placed_first s (token.Char c ∷ ts) = placed_first s ts
+placed_first s (_ ∷ ts) = placed_first s ts
 
 pub placed_all : (ts : List StyleToken) → placed_after false (unmargined (style_of ts) Unspecified) ts ≡ line_style_of ts
 placed_all ts = placed_first (unmargined (style_of ts) Unspecified) ts

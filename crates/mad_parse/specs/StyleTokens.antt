@@ -19,9 +19,8 @@ pub data Fault : Type 0 where
 
 -- the only character, if there is just one
 abbrev pub only : List ℕ → Option ℕ
-only [] = None
 only (c ∷ []) = Some c
-only (c ∷ d ∷ cs) = None
+only _ = None
 
 -- a character, or the text is no token
 abbrev pub as_char : Option ℕ → List ℕ → Result StyleToken Fault

@@ -128,11 +128,9 @@ requested-granted requests left (t ∷ ts) apart columns =
     omega (arith, first, rest, requested-set requests t.column v ts once)
 
 lowered : (requests : List ℕ) (p left i : ℕ) → get_or (set requests p (min (get_or requests p 0) left)) i 0 ≤ get_or requests i 0
-lowered [] p left i = omega arith
 lowered (a ∷ requests) zero left zero = omega arith
-lowered (a ∷ requests) zero left (suc i) = omega arith
-lowered (a ∷ requests) (suc p) left zero = omega arith
 lowered (a ∷ requests) (suc p) left (suc i) = lowered requests p left i
+lowered _ _ _ _ = omega arith
 
 -- no request grows
 pub granted-le : (requests : List ℕ) (left : ℕ) (ts : List Turn) (i : ℕ) → get_or (granted requests left ts) i 0 ≤ get_or requests i 0

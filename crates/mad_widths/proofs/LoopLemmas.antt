@@ -32,9 +32,7 @@ bools true y z w = refl
 bools false true true w = refl
 bools false true false true = refl
 bools false true false false = refl
-bools false false true w = refl
-bools false false false true = refl
-bools false false false false = refl
+bools false false z w = refl
 
 eqb_sym : (a b : ℕ) → eqb a b ≡ eqb b a
 eqb_sym a b =

@@ -16,14 +16,12 @@ use Rattle.mad_widths.proofs.GrantLemmas.{length-grants, get_or-grants, grants-l
 
 pub all_zip_from : (R : ℕ → ℕ → Type 0) (xs ys : List ℕ) → length xs ≡ length ys → ((i : ℕ) → i < length xs → R (get_or xs i 0) (get_or ys i 0)) → AllZip R xs ys
 all_zip_from R [] [] e h = tt
-all_zip_from R [] (y ∷ ys) e h = absurd (omega (arith, e))
-all_zip_from R (x ∷ xs) [] e h = absurd (omega (arith, e))
 all_zip_from R (x ∷ xs) (y ∷ ys) e h = (h zero (omega arith), all_zip_from R xs ys (omega (arith, e)) (λ i l. h (suc i) (omega (arith, l))))
+all_zip_from R _ _ e h = absurd (omega (arith, e))
 
 pub length-narrowed : (ws cs : List ℕ) → length (narrowed ws cs) ≡ length ws
-length-narrowed [] cs = refl
-length-narrowed (w ∷ ws) [] = refl
 length-narrowed (w ∷ ws) (c ∷ cs) = ap suc (length-narrowed ws cs)
+length-narrowed _ _ = refl
 
 pub get_or-narrowed : (ws cs : List ℕ) (i : ℕ) → get_or (narrowed ws cs) i 0 ≡ get_or ws i 0 - get_or cs i 0
 get_or-narrowed (w ∷ ws) (c ∷ cs) zero = refl

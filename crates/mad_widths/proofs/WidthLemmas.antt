@@ -1,15 +1,20 @@
 -- The two steps together, and what the column widths are.
-use Rattle.std.proofs.Common.{◌≡◌, ◌≢◌, ℕ, ◌+◌, ◌-◌, ◌*◌, ◌≤◌, ◌<◌, true, false, cond, not, eqb, ltb, leb, List, [], ◌∷◌, length, get_or, sum, refl, sym, ap, ◌∙◌, arith, subst, All}
+use Rattle.std.proofs.Common.{◌≡◌, ◌≢◌, ℕ, ◌+◌, ◌-◌, ◌*◌, ◌≤◌, ◌<◌, true, false, cond, not, eqb, ltb, leb, List, [], ◌∷◌, length, map, get_or, sum, refl, sym, ap, ◌∙◌, arith, subst, All}
 use Rattle.std.proofs.lemmas.Bool.{cond-true, cond-false, le-leb, lt-leb, lt-ltb, le-ltb, eq-eqb, ne_eqb, and_left, and_right, and_from, not_from_true, not_from_false}
+use Rattle.std.proofs.lemmas.List.{length-map}
 use Rattle.mad_widths.specs.Turns.{Turn, grants, AreTurns}
-use Rattle.mad_widths.specs.ColumnWidths.{Needs, natural_widths, narrowed, first_requests, above_three, second_requests, after_first, after_second, column_widths, AreEven, AreReduced}
+use Rattle.mad_widths.specs.ColumnWidths.{Needs, natural_widths, narrowed, first_requests, above_three, second_requests, after_first, after_second, column_widths, AreEven, IsHalfway, AreReduced}
+use Rattle.mad_widths.specs.SeenCells.{needs_in}
 use Rattle.mad_widths.specs.TableFits.{IsFit}
+use Rattle.mad_widths.specs.declared.sharing.SeenColumn.{SeenColumn}
 use Rattle.mad_widths.specs.declared.tbl_fit.TblFitResult.{TblFitResult}
+use Rattle.mad_widths.proofs.CellLemmas.{naturals_wide}
 use Rattle.mad_widths.proofs.EvenLemmas.{first_even, second_even}
-use Rattle.mad_widths.proofs.ShareLemmas.{IsStep, step, AreWide, first_leave, length-first_requests, second_leave, length-second_requests, second_enough, above_is, none_given, length-naturals, get_or-naturals, all_zip_from}
+use Rattle.mad_widths.proofs.ShareLemmas.{IsStep, step, AreWide, first_leave, length-first_requests, second_leave, length-second_requests, second_enough, above_is, length-naturals, get_or-naturals, all_zip_from}
 
 -- ---- the first step
 
+-- what it leaves of the natural widths
 pub first_step : (available : ℕ) (ns : List Needs) (ts : List Turn) → AreTurns (natural_widths ns) ts → All (λ n. 3 ≤ n.natural) ns
     → IsStep (natural_widths ns) (natural_widths ns) (first_requests (sum (natural_widths ns) - available) ns) (sum (natural_widths ns) - available) (after_first available ns)
 unfolding after_first
@@ -18,72 +23,51 @@ first_step available ns ts turns wide =
     (length-first_requests (sum (natural_widths ns) - available) ns ∙ sym (length-naturals ns))
     (first_leave (sum (natural_widths ns) - available) ns wide)
 
--- what the first step leaves of the excess, and what the columns are wider than three then
-pub record IsHalfway (available left : ℕ) (ns : List Needs) (ws : List ℕ) : Type 0 where
-  pub is : ws ≡ after_first available ns
-  pub left_is : left ≡ sum ws - available
-  pub enough : available ≤ sum ws
-  pub above : left + (available - 3 * length ns) ≡ above_three ws
-  pub length_is : length ws ≡ length ns
-  pub wide : AreWide ws
-  pub narrower : (i : ℕ) → i < length ns → get_or ws i 0 ≤ get_or (natural_widths ns) i 0
-  pub even : AreEven ns ws
-
-pub halfway : (available excess left : ℕ) (ns : List Needs) (ts : List Turn) (ws : List ℕ) → AreTurns (natural_widths ns) ts → All (λ n. 3 ≤ n.natural) ns → 3 * length ns ≤ available
-    → available ≤ sum (natural_widths ns) → excess ≡ sum (natural_widths ns) - available → left ≡ excess - sum (first_requests excess ns) → ws ≡ narrowed (natural_widths ns) (grants (natural_widths ns) (first_requests excess ns) excess)
-    → IsHalfway available left ns ws
-unfolding after_first
-halfway available excess left ns ts ws turns wide wide_enough more e f w =
-    let ex = sum (natural_widths ns) - available in
-    let same : ws ≡ after_first available ns = w ∙ ap (λ x. narrowed (natural_widths ns) (grants (natural_widths ns) (first_requests x ns) x)) e in
-    let s0 : IsStep (natural_widths ns) (natural_widths ns) (first_requests ex ns) ex (after_first available ns) = first_step available ns ts turns wide in
-    let s : IsStep (natural_widths ns) (natural_widths ns) (first_requests ex ns) ex ws = subst (IsStep (natural_widths ns) (natural_widths ns) (first_requests ex ns) ex) (sym same) s0 in
-    let left' : left ≡ ex - sum (first_requests ex ns) = f ∙ ap (λ x. x - sum (first_requests x ns)) e in
-    let len : length ws ≡ length ns = s.length_is ∙ length-naturals ns in
-    let is' : left ≡ sum ws - available = omega (arith, left', s.sum_is, more) in
-    let enough' : available ≤ sum ws = omega (arith, s.sum_is, more) in
-    record {
-      is = same;
-      left_is = is';
-      enough = enough';
-      above = omega (arith, above_is ws s.wide, len, wide_enough, is', enough');
-      length_is = len;
-      wide = s.wide;
-      narrower = λ i l. s.narrower i (subst (λ n. i < n) (sym (length-naturals ns)) l);
-      even = subst (AreEven ns) (sym w) (first_even excess ns ts turns);
-    }
-
 -- ---- the second step
 
-pub whole : (available left : ℕ) (ns : List Needs) (ts : List Turn) (ws after : List ℕ) → AreTurns (natural_widths ns) ts → IsHalfway available left ns ws
-    → after ≡ narrowed ws (grants (natural_widths ns) (second_requests left ws) left) → AreReduced available ns after
-unfolding after_second
-whole available left ns ts ws after turns h e =
+-- what the second step starts from
+pub record IsBetween (available left : ℕ) (columns : List SeenColumn) (ws : List ℕ) : Type 0 where
+  pub above : left + (available - 3 * length columns) ≡ above_three ws
+  pub length_is : length ws ≡ length (map needs_in columns)
+  pub wide : AreWide ws
+  pub narrower : (i : ℕ) → i < length ws → get_or ws i 0 ≤ get_or (natural_widths (map needs_in columns)) i 0
+  pub even : AreEven (map needs_in columns) ws
+
+pub between : (columns : List SeenColumn) (available left : ℕ) (ts : List Turn) (ws : List ℕ) → IsHalfway available left (map needs_in columns) ws → AreTurns (natural_widths (map needs_in columns)) ts → 3 * length columns ≤ available → IsBetween available left columns ws
+unfolding after_first
+between columns available left ts ws h turns wide_enough =
+    let ns = map needs_in columns in
     let order = natural_widths ns in
-    let requests = second_requests left ws in
-    let len : length order ≡ length ws = length-naturals ns ∙ sym h.length_is in
-    let s0 : IsStep order ws requests left (narrowed ws (grants order requests left)) = step order ws requests left ts turns len (length-second_requests left ws) (second_leave left ws h.wide) in
-    let s : IsStep order ws requests left after = subst (IsStep order ws requests left) (sym e) s0 in
-    let enough : left ≤ sum requests = second_enough left (available - 3 * length ns) ws h.above in
-    let same : narrowed ws (grants order requests left) ≡ narrowed (after_first available ns) (grants order (second_requests (sum (after_first available ns) - available) (after_first available ns)) (sum (after_first available ns) - available)) =
-    ap (λ l. narrowed ws (grants order (second_requests l ws) l)) h.left_is ∙ ap (λ v. narrowed v (grants order (second_requests (sum v - available) v) (sum v - available))) h.is in
+    let excess = sum order - available in
+    let s : IsStep order order (first_requests excess ns) excess ws = subst (IsStep order order (first_requests excess ns) excess) (sym h.is) (first_step available ns ts turns (naturals_wide columns)) in
+    let len : length ws ≡ length ns = s.length_is ∙ length-naturals ns in
     record {
-      is = e ∙ same;
-      sum_is = omega (arith, s.sum_is, enough, h.left_is, h.enough);
-      within = all_zip_from (λ w n. (3 ≤ w) × (w ≤ n)) after order (s.length_is ∙ sym len) (λ i l.
-          let i1 : i < length ws = subst (λ n. i < n) s.length_is l in
-          let i2 : i < length ns = subst (λ n. i < n) h.length_is i1 in
-          (s.wide i l, omega (arith, s.narrower i i1, h.narrower i i2)));
-      even = subst (AreEven ns) (sym e) (second_even left (available - 3 * length ns) ns ts ws turns h.above h.length_is h.wide h.even);
+      above = omega (arith, above_is ws s.wide, len, length-map columns needs_in, wide_enough, h.sum_is);
+      length_is = len;
+      wide = s.wide;
+      narrower = λ i l. s.narrower i (subst (λ n. i < n) s.length_is l);
+      even = subst (AreEven ns) (sym h.is) (first_even excess ns ts turns);
     }
 
--- nothing left after the first step
-pub whole_at_once : (available left : ℕ) (ns : List Needs) (ts : List Turn) (ws : List ℕ) → AreTurns (natural_widths ns) ts → IsHalfway available left ns ws → left ≡ 0 → AreReduced available ns ws
-whole_at_once available left ns ts ws turns h zero_left =
+pub whole : (columns : List SeenColumn) (available left : ℕ) (ts : List Turn) (ws after : List ℕ) → IsHalfway available left (map needs_in columns) ws → AreTurns (natural_widths (map needs_in columns)) ts → IsBetween available left columns ws
+    → after ≡ narrowed ws (grants (natural_widths (map needs_in columns)) (second_requests left ws) left) → AreReduced available (map needs_in columns) after
+unfolding after_second
+whole columns available left ts ws after h turns b e =
+    let ns = map needs_in columns in
     let order = natural_widths ns in
-    let len : length order ≡ length ws = length-naturals ns ∙ sym h.length_is in
-    whole available left ns ts ws ws turns h
-    (sym (none_given order ws (second_requests left ws) len) ∙ ap (λ n. narrowed ws (grants order (second_requests left ws) n)) (sym zero_left))
+    let requests = second_requests left ws in
+    let rest = available - 3 * length columns in
+    let len : length order ≡ length ws = length-naturals ns ∙ sym b.length_is in
+    let s : IsStep order ws requests left after = subst (IsStep order ws requests left) (sym e) (step order ws requests left ts turns len (length-second_requests left ws) (second_leave left ws b.wide)) in
+    let left_is : left ≡ sum ws - available = omega (arith, h.sum_is) in
+    record {
+      is = e ∙ ap (λ l. narrowed ws (grants order (second_requests l ws) l)) left_is ∙ ap (λ v. narrowed v (grants order (second_requests (sum v - available) v) (sum v - available))) h.is;
+      sum_is = omega (arith, s.sum_is, second_enough left rest ws b.above, h.sum_is);
+      within = all_zip_from (λ w n. (3 ≤ w) × (w ≤ n)) after order (s.length_is ∙ sym len) (λ i l.
+          let l' : i < length ws = subst (λ n. i < n) s.length_is l in
+          (s.wide i l, omega (arith, s.narrower i l', b.narrower i l')));
+      even = subst (AreEven ns) (sym e) (second_even left rest ns ts ws turns b.above b.length_is b.wide b.even);
+    }
 
 -- ---- the three cases
 

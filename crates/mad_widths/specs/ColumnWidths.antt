@@ -1,6 +1,6 @@
 -- The widths of a table's columns, from the widths of their cells and from what is available for all of them.
 -- Widths are in columns of the terminal.
-use Rattle.std.specs.Prelude.{◌≡◌, ◌≢◌, ℕ, ◌-◌, ◌*◌, ◌<◌, ◌≤◌, min, max, Bool, true, false, not, ◌&&◌, ◌==◌, nat_lt, nat_le, if◌then◌else◌, List, [], ◌∷◌, length, map, sum, sum_by, slice_index, slice_index_or}
+use Rattle.std.specs.Prelude.{◌≡◌, ◌≢◌, ℕ, ◌+◌, ◌-◌, ◌*◌, ◌<◌, ◌≤◌, min, max, Bool, true, false, not, ◌&&◌, ◌==◌, nat_lt, nat_le, if◌then◌else◌, List, [], ◌∷◌, length, map, sum, sum_by, slice_index, slice_index_or}
 use Rattle.std.specs.List.{AllZip}
 use Rattle.std.specs.Int.{div_ceil}
 use Rattle.mad_widths.specs.Turns.{grants}
@@ -98,6 +98,11 @@ pub record AreShared (available : ℕ) (naturals : List ℕ) (reduced : Bool) (w
   pub fitting : sum naturals ≤ available → (widths ≡ naturals) × (reduced ≡ false)
   pub single : available < sum naturals → length naturals ≡ 1 → (widths ≡ available ∷ []) × (reduced ≡ false)
   pub shared : available < sum naturals → length naturals ≢ 1 → (sum widths ≡ available) × AllZip (λ w n. (3 ≤ w) × (w ≤ n)) widths naturals × (reduced ≡ true)
+
+-- the widths after the first step, together what is available and what is left of the excess
+pub record IsHalfway (available left : ℕ) (ns : List Needs) (ws : List ℕ) : Type 0 where
+  pub is : ws ≡ after_first available ns
+  pub sum_is : sum ws ≡ available + left
 
 -- the widths that both steps leave: their sum is exactly what is available, and they are from three to the natural ones
 pub record AreReduced (available : ℕ) (ns : List Needs) (ws : List ℕ) : Type 0 where

@@ -20,7 +20,7 @@ blank_and_solid : (t : Token) → t.blank ≡ true → t.blank ≡ false → ⊥
 blank_and_solid t on off = let both : true ≡ false = sym on ∙ off in cc
 
 -- the break's line began where the placed one did, or before it, with the tokens extra
-least_from : (i : ℕ) (r : Room) (extra : List Token) (ps qs : List (LineAndGap Token)) → 0 < length qs → LinesForced i r ps → FitsFrom i r qs → lines_and_gaps qs ≡ extra ++ lines_and_gaps ps → length ps ≤ length qs
+pub least_from : (i : ℕ) (r : Room) (extra : List Token) (ps qs : List (LineAndGap Token)) → 0 < length qs → LinesForced i r ps → FitsFrom i r qs → lines_and_gaps qs ≡ extra ++ lines_and_gaps ps → length ps ≤ length qs
 least_from i r extra [] qs some forced fits e = omega arith
 least_from i r extra (p ∷ []) qs some forced fits e = omega arith
 least_from i r extra (p ∷ p' ∷ ps) [] some forced fits e = absurd (omega arith)

@@ -29,10 +29,9 @@ returns-then-own_char-c c =
 -- nothing is left exactly where the texts are the same
 ended : (r : Option ℕ) (b : Bool) (t ys own rest cs : List ℕ) → is_some r ≡ not b → YieldsFirst {A = ℕ} (λ (s : List ℕ). s) own r rest → t ≡ ys ++ own → ys ≡ cs → (IsTrue b → t ≡ cs) × (t ≡ cs → IsTrue b)
 ended None true t ys own rest cs h steps e all = (λ k. e ∙ ap (λ s. ys ++ s) steps.0 ∙ append-nil ys ∙ all, λ same. search rules)
-ended None false t ys own rest cs h steps e all = cc
-ended (Some x) true t ys own rest cs h steps e all = cc
 ended (Some x) false t ys own rest cs h steps e all =
     (λ k. search rules, λ same. absurd (omega (arith, ap length same, ap length e, length-append ys own, ap length steps, ap length all)))
+ended _ _ t ys own rest cs h steps e all = cc
 
 pub returns : goal.returns
 returns c =
