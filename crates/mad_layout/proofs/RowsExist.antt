@@ -162,11 +162,11 @@ rows_broken r i line gap false (t ∷ ts) white none past =
     (longer r i line ((line ++ t ∷ []) ++ ts) (rows r i (whole line ++ t) false ts) t
     (subst (λ l. Broken r i (line ++ t ∷ []) ((line ++ t ∷ []) ++ ts) (rows r i l false ts)) (whole_more line t) (rows_broken r i (line ++ t ∷ []) [] false ts tt (λ e. refl) (λ e. absurd (cc))))))
     (λ off e.
-        let past : r.width < i + width_of (whole line) + width_of t = grind (arith, nat_tests) in
-        by_bool (λ b. Broken r i line (line ++ (gap ++ t ∷ ts)) (if b then rows r i (whole line) true ts else whole line ∷ rows r r.other t false ts)) (all_blank t)
-        (λ blank. subst (λ l. Broken r i line l (rows r i (whole line) true ts)) text
-        (rows_broken r i line (t ∷ []) true ts (subst AllWhite (sym (append-nil t)) (white_of t blank)) (λ e. absurd (cc)) (λ e. omega (arith, past, ap width_of (append-nil t)))))
-        (λ solid. line_ends r i line gap t ts white solid (omega (arith, past)) (rows_broken r r.other (t ∷ []) [] false ts tt (λ e. refl) (λ e. absurd (cc)))))
+    let past : r.width < i + width_of (whole line) + width_of t = grind (arith, nat_tests) in
+    by_bool (λ b. Broken r i line (line ++ (gap ++ t ∷ ts)) (if b then rows r i (whole line) true ts else whole line ∷ rows r r.other t false ts)) (all_blank t)
+    (λ blank. subst (λ l. Broken r i line l (rows r i (whole line) true ts)) text
+    (rows_broken r i line (t ∷ []) true ts (subst AllWhite (sym (append-nil t)) (white_of t blank)) (λ e. absurd (cc)) (λ e. omega (arith, past, ap width_of (append-nil t)))))
+    (λ solid. line_ends r i line gap t ts white solid (omega (arith, past)) (rows_broken r r.other (t ∷ []) [] false ts tt (λ e. refl) (λ e. absurd (cc)))))
     refl
 
 lines_broken : (r : Room) (parts : List (List FlaggedChar)) → Broken r r.first [] (tokens_of r parts) (rows_of r parts)
