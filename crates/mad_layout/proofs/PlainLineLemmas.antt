@@ -1,6 +1,6 @@
 -- Plain lines, which are written as they are.
-use Rattle.std.proofs.Common.{◌≡◌, ℕ, ◌+◌, ◌-◌, ◌<◌, ◌≤◌, ◌^◌, Bool, true, false, List, [], ◌∷◌, ◌++◌, map, length, drop, get_or, chars, Option, None, Some, Result, Ok, Err, Vec, Global, Bor, refl, ap, sym, ◌∙◌, subst, arith, inl, append_assoc}
-use Rattle.std.specs.Prelude.{nat_eq, ◌&&◌}
+use Rattle.std.proofs.Common.{◌≡◌, ℕ, ◌+◌, ◌-◌, ◌<◌, ◌≤◌, ◌^◌, true, false, List, [], ◌∷◌, ◌++◌, map, length, drop, get_or, chars, Option, None, Some, Result, Ok, Err, Vec, Global, Bor, refl, ap, sym, ◌∙◌, subst, arith, inl, append_assoc}
+use Rattle.std.specs.Prelude.{nat_eq}
 use Rattle.std.specs.List.{AllByRecursion}
 use Rattle.std.specs.Str.{IsUtf8, bytes_eq}
 use Rattle.std.specs.Result.{IsErrAnd}

@@ -4,7 +4,7 @@ use Rattle.std.specs.Prelude.{is_some}
 use Rattle.std.specs.List.{AllByRecursion}
 use Rattle.std.specs.Char.{is_whitespace}
 use Rattle.std.proofs.lemmas.Bool.{and_parts}
-use Rattle.std.proofs.lemmas.List.{append-nil, map-append, length-map}
+use Rattle.std.proofs.lemmas.List.{append-nil, length-map}
 use Rattle.std.proofs.lemmas.Str.{chars-nil}
 use Rattle.mad_wrap.proofs.CutLemmas.{white_flagged}
 use Rattle.mad_md.specs.Flagged.{FlaggedChar, Flags, is_blank, flagged, run_of, flags_of, flagged_of, flagged_text}
