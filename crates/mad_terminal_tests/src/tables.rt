@@ -49,17 +49,30 @@ pub fn borders(alloc: Global, key: &str) -> Result<String, AllocError> {
 }
 
 fn characters(set: TableBorderChars) -> [char; 11] {
+    let TableBorderChars {
+        horizontal,
+        vertical,
+        top_left_corner,
+        top_right_corner,
+        bottom_right_corner,
+        bottom_left_corner,
+        top_junction,
+        right_junction,
+        bottom_junction,
+        left_junction,
+        cross,
+    } = set;
     [
-        set.horizontal,
-        set.vertical,
-        set.top_left_corner,
-        set.top_right_corner,
-        set.bottom_right_corner,
-        set.bottom_left_corner,
-        set.top_junction,
-        set.right_junction,
-        set.bottom_junction,
-        set.left_junction,
-        set.cross,
+        horizontal,
+        vertical,
+        top_left_corner,
+        top_right_corner,
+        bottom_right_corner,
+        bottom_left_corner,
+        top_junction,
+        right_junction,
+        bottom_junction,
+        left_junction,
+        cross,
     ]
 }
