@@ -3,8 +3,8 @@ use Rattle.std.specs.Prelude.{◌≡◌, ℕ, ◌≤◌, Bool, true, false, List
 use Rattle.std.specs.Vec.Iter.{into_iter_items}
 use Rattle.mad_md.specs.Cursor.{unread}
 use Rattle.mad_md.specs.Lines.{LineContent, content_of}
-use Rattle.mad_md.specs.Plain.{ArePlainBytes, IsPlainNext}
-use Rattle.mad_md.specs.ReadRaw.{plain_line}
+use Rattle.mad_md.specs.UnmarkedLines.{AreUnmarkedBytes, IsUnmarkedNext}
+use Rattle.mad_md.specs.ReadRaw.{unflagged_line}
 use Rattle.mad_md.specs.Scan.{lines_of}
 use Rattle.mad_md.specs.declared.cursor.LineCursor.{LineCursor}
 use Rattle.mad_md.specs.declared.line.Line.{Line}
@@ -60,15 +60,15 @@ abbrev pub LaysPart : LineRules → Option ℕ → List LineContent → List Fmt
 LaysPart skin width before lines true after new = LaidPart skin width before lines after new
 LaysPart skin width before lines false after new = (before ≡ []) × (after ≡ []) × (new ≡ lines)
 
--- The text is read on the way, no line waits, and the next one is plain and of at most `most` bytes.
-pub record HasPlainNext (most : ℕ) (parts : PartCursor) : Type 0 where
+-- The text is read on the way, no line waits, and the next one is unmarked and of at most `most` bytes.
+pub record HasUnmarkedNext (most : ℕ) (parts : PartCursor) : Type 0 where
   pub cursor : LineCursor
   pub lines : parts.lines ≡ Unread cursor
   pub none_waits : parts.waiting ≡ None
-  pub plain : IsPlainNext most (unread cursor)
+  pub unmarked : IsUnmarkedNext most (unread cursor)
 
--- The first of the lines that were left is plain, and of at most `most` bytes; it was read.
-pub record IsPlainRead (most : ℕ) (before : List LineContent) (text : List ℕ) (after : List LineContent) : Type 0 where
-  pub line : before ≡ plain_line text ∷ after
+-- The first of the lines that were left is unmarked, and of at most `most` bytes; it was read.
+pub record IsUnmarkedRead (most : ℕ) (before : List LineContent) (text : List ℕ) (after : List LineContent) : Type 0 where
+  pub line : before ≡ unflagged_line text ∷ after
   pub short : length text ≤ most
-  pub plain : ArePlainBytes text (length text)
+  pub unmarked : AreUnmarkedBytes text (length text)

@@ -5,7 +5,7 @@ ghost use Rattle.mad_md.specs.Lines.{content_of, contents, normal, styled_runs};
 ghost use Rattle.mad_md.specs.Reading.{IsRead, unread_text};
 ghost use Rattle.mad_md.specs.Scan.{lines_of};
 ghost use Rattle.mad_format.specs.FmtLines.{IsLineRead};
-ghost use Rattle.mad_blocks.specs.PartCursors.{lines_left, HasPlainNext, IsNextLine, IsNextWhere, LaidPart, LaysPart, IsPlainRead};
+ghost use Rattle.mad_blocks.specs.PartCursors.{lines_left, HasUnmarkedNext, IsNextLine, IsNextWhere, LaidPart, LaysPart, IsUnmarkedRead};
 ghost use Rattle.mad_blocks.specs.TextParts.{is_code, is_table};
 ghost use Rattle.mad_format.specs.declared.line.FmtLine.{FmtLine};
 
@@ -77,18 +77,18 @@ impl<'s> PartCursor<'s> {
         }
     }
 
-    /// Reads the next line where it is a part by itself and plain, and of at most `most` bytes: see [`LineCursor::next_plain`]. Where it
+    /// Reads the next line where it is a part by itself and unmarked, and of at most `most` bytes: see [`LineCursor::next_unmarked`]. Where it
     /// isn't, nothing is read. No memory is needed.
-    pub fn next_plain(&mut self, most: usize) -> Option<&'s str>
-        ensures read { MatchOption result (self.new ≡ self.old) (λ text. IsPlainRead most (lines_left self.old) text.now (lines_left self.new)) }
-        ensures found { IsSome result → HasPlainNext most self.old }
-        ensures none { result ≡ None → ¬ HasPlainNext most self.old }
+    pub fn next_unmarked(&mut self, most: usize) -> Option<&'s str>
+        ensures read { MatchOption result (self.new ≡ self.old) (λ text. IsUnmarkedRead most (lines_left self.old) text.now (lines_left self.new)) }
+        ensures found { IsSome result → HasUnmarkedNext most self.old }
+        ensures none { result ≡ None → ¬ HasUnmarkedNext most self.old }
     {
         if self.waiting.is_some() {
             return None;
         }
         match &mut self.lines {
-            SourceLines::Unread(cursor) => cursor.next_plain(most),
+            SourceLines::Unread(cursor) => cursor.next_unmarked(most),
             SourceLines::Read(_) => None,
         }
     }

@@ -6,28 +6,28 @@ use Rattle.std.specs.Cmp.Lexicographic.{pointwise, bytes_decides}
 use Rattle.std.specs.Option.{option_eq, unwrap_or}
 use Rattle.std.proofs.lemmas.Bool.{and_from}
 use Rattle.mad_lines.specs.declared.line.Line.{Line}
-use Rattle.mad_lines.specs.declared.place.Pos.{Pos}
+use Rattle.mad_lines.specs.declared.position.Pos.{Pos}
 use Rattle.mad_lines.specs.TextLines.{lines, chars_of, lines_of, text_of, offset_of}
 use Rattle.mad_edit.proofs.EditorLemmas.{Seen, lines_seen, line_seen, column_seen}
-use Rattle.mad_edit.specs.Editor.{Editor, IsValid, same_editor, same_place, cursor_line, cursor_column}
+use Rattle.mad_edit.specs.Editor.{Editor, IsValid, same_editor, same_position, cursor_line, cursor_column}
 
-abbrev place : ℕ → ℕ → Pos
-place y x = record { y = y; x = x }
+abbrev position : ℕ → ℕ → Pos
+position y x = record { y = y; x = x }
 
-pub same_place_decides : (p q : Pos) → Decides (same_place p q) (p ≡ q)
-same_place_decides p q = (
+pub same_position_decides : (p q : Pos) → Decides (same_position p q) (p ≡ q)
+same_position_decides p q = (
   λ e.
       let y : p.y ≡ q.y = (unsigned_Decides p.y q.y).0 (first_so _ _ e) in
       let x : p.x ≡ q.x = (unsigned_Decides p.x q.x).0 (second_so _ _ e) in
-      λ i. place (y i) (x i),
+      λ i. position (y i) (x i),
   λ e. and_from _ _ ((unsigned_Decides p.y q.y).1 (ap (λ (r : Pos). r.y) e)) ((unsigned_Decides p.x q.x).1 (ap (λ (r : Pos). r.x) e)),
 )
 
-pub same_tail_decides : (s t : Option Pos) → Decides (option_eq same_place s t) (s ≡ t)
+pub same_tail_decides : (s t : Option Pos) → Decides (option_eq same_position s t) (s ≡ t)
 same_tail_decides None None = (λ e. refl, λ e. refl)
 same_tail_decides (Some p) (Some q) = (
-  λ e. ap Some ((same_place_decides p q).0 e),
-  λ e. (same_place_decides p q).1 (ap (λ (o : Option Pos). unwrap_or o p) e),
+  λ e. ap Some ((same_position_decides p q).0 e),
+  λ e. (same_position_decides p q).1 (ap (λ (o : Option Pos). unwrap_or o p) e),
 )
 same_tail_decides _ _ = (λ e. cc, λ e. cc)
 
@@ -66,7 +66,7 @@ same_kept r a b ls ms p q s t seen also h k d =
     let y : p.y ≡ q.y = line_seen a ls p s seen h ∙ ap cursor_line e ∙ sym (line_seen b ms q t also k) in
     let x : p.x ≡ q.x = column_seen a ls p s seen h ∙ ap cursor_column e ∙ sym (column_seen b ms q t also k) in (
       sym (lines_seen a ls p s seen h) ∙ ap (λ (z : Editor). lines z.text) e ∙ lines_seen b ms q t also k,
-      λ i. place (y i) (x i),
+      λ i. position (y i) (x i),
       ap (λ (z : Editor). z.tail) (seen ∙ e ∙ sym also),
     ) in
     (one_answer r (same_editor a b) (λ v. made (d.0 v), λ e. d.1 (kept e)) (same_editor_decides a b), (λ v. made (d.0 v), λ e. d.1 (kept e)))

@@ -1,8 +1,8 @@
 -- An editor and the lines that it keeps.
 use Rattle.std.proofs.Common.{ℕ, ◌-◌, ◌≤◌, ◌≡◌, List, length, take, drop, arith, ap, ◌∙◌, sym, subst, Option, None, Some, max, refl}
 use Rattle.std.proofs.lemmas.List.{length-take-le, length-drop}
-use Rattle.mad_lines.proofs.PlaceLemmas.{length-text}
-use Rattle.mad_lines.specs.declared.place.Pos.{Pos}
+use Rattle.mad_lines.proofs.PositionLemmas.{length-text}
+use Rattle.mad_lines.specs.declared.position.Pos.{Pos}
 use Rattle.mad_lines.specs.TextLines.{lines, text_of, offset_of, line_at}
 use Rattle.mad_edit.proofs.SplitLemmas.{lines-text_of, accepted_text}
 use Rattle.mad_edit.proofs.LineLemmas.{newlines_before, length_front, front_before, rest_after}
@@ -10,7 +10,7 @@ use Rattle.mad_edit.specs.Editor.{Editor, IsValid, IsEditor, tail_offset, cursor
 
 -- the lines of its text are those that it keeps
 pub own_lines : (ls : List (List ℕ)) (at : Pos) (tail : Option Pos) → IsValid ls at tail → lines (text_of ls) ≡ ls
-own_lines ls at tail h = lines-text_of ls (omega (arith, h.cursor.0)) h.plain
+own_lines ls at tail h = lines-text_of ls (omega (arith, h.cursor.0)) h.texts
 
 -- the same of an editor that is seen as its text
 pub lines_seen : (e : Editor) (ls : List (List ℕ)) (at : Pos) (tail : Option Pos) → record { text = text_of ls; offset = offset_of ls at; tail = tail } ≡ e → IsValid ls at tail → lines e.text ≡ ls
@@ -30,20 +30,20 @@ editor_seen e ls at tail seen h =
       cursor = omega (arith, length-text ls at h.cursor);
       tail = rw (own_lines ls at tail h) h.selected;
       last = last_seen ls at tail h;
-      accepted = accepted_text ls h.plain;
+      accepted = accepted_text ls h.texts;
     })
 
 pub line_seen : (e : Editor) (ls : List (List ℕ)) (at : Pos) (tail : Option Pos) → Seen e ls at tail → IsValid ls at tail → at.y ≡ cursor_line e
-line_seen e ls at tail seen h = subst (λ (x : Editor). at.y ≡ cursor_line x) seen (sym (newlines_before ls at h.cursor h.plain))
+line_seen e ls at tail seen h = subst (λ (x : Editor). at.y ≡ cursor_line x) seen (sym (newlines_before ls at h.cursor h.texts))
 
 pub column_seen : (e : Editor) (ls : List (List ℕ)) (at : Pos) (tail : Option Pos) → Seen e ls at tail → IsValid ls at tail → at.x ≡ cursor_column e
-column_seen e ls at tail seen h = subst (λ (x : Editor). at.x ≡ cursor_column x) seen (sym (length_front ls at h.cursor h.plain))
+column_seen e ls at tail seen h = subst (λ (x : Editor). at.x ≡ cursor_column x) seen (sym (length_front ls at h.cursor h.texts))
 
 pub front_seen : (e : Editor) (ls : List (List ℕ)) (at : Pos) (tail : Option Pos) → Seen e ls at tail → IsValid ls at tail → take at.x (line_at ls at.y) ≡ front_of_line e
-front_seen e ls at tail seen h = subst (λ (x : Editor). take at.x (line_at ls at.y) ≡ front_of_line x) seen (sym (front_before ls at h.cursor h.plain))
+front_seen e ls at tail seen h = subst (λ (x : Editor). take at.x (line_at ls at.y) ≡ front_of_line x) seen (sym (front_before ls at h.cursor h.texts))
 
 pub rest_seen : (e : Editor) (ls : List (List ℕ)) (at : Pos) (tail : Option Pos) → Seen e ls at tail → IsValid ls at tail → drop at.x (line_at ls at.y) ≡ rest_of_line e
-rest_seen e ls at tail seen h = subst (λ (x : Editor). drop at.x (line_at ls at.y) ≡ rest_of_line x) seen (sym (rest_after ls at h.cursor h.plain))
+rest_seen e ls at tail seen h = subst (λ (x : Editor). drop at.x (line_at ls at.y) ≡ rest_of_line x) seen (sym (rest_after ls at h.cursor h.texts))
 
 pub front_length : (e : Editor) (ls : List (List ℕ)) (at : Pos) (tail : Option Pos) → Seen e ls at tail → IsValid ls at tail → length (front_of_line e) ≡ at.x
 front_length e ls at tail seen h = sym (ap length (front_seen e ls at tail seen h)) ∙ length-take-le at.x (line_at ls at.y) h.cursor.1

@@ -1,13 +1,13 @@
--- A text that goes on at its end keeps its places.
+-- A text that goes on at its end keeps its positions.
 use Rattle.std.proofs.Common.{ℕ, zero, suc, ◌<◌, ◌≡◌, List, [], ◌∷◌, ◌++◌, length, take, drop, refl, ap, sym, ◌∙◌, arith, subst, cond, true, false, Bool, length-append, Option, None, Some, append-nil}
 use Rattle.std.specs.Option.{ForSome}
 use Rattle.std.specs.List.{onto_first}
 use Rattle.std.proofs.lemmas.List.Splits.{length-slice_split}
 use Rattle.std.proofs.lemmas.List.{take_all, drop_all}
-use Rattle.mad_lines.specs.declared.place.Pos.{Pos}
-use Rattle.mad_lines.specs.TextLines.{lines, is_newline, led_lines, IsPlace, offset_of, accepted}
-use Rattle.mad_edit.specs.Editor.{IsPlaceIn, offset_at, clamp_tail, replaced}
-use Rattle.mad_edit.proofs.UndoLemmas.{clamp_place}
+use Rattle.mad_lines.specs.declared.position.Pos.{Pos}
+use Rattle.mad_lines.specs.TextLines.{lines, is_newline, led_lines, IsPosition, offset_of, accepted}
+use Rattle.mad_edit.specs.Editor.{IsPositionIn, offset_at, clamp_tail, replaced}
+use Rattle.mad_edit.proofs.UndoLemmas.{clamp_position}
 
 -- the last line goes on with the first of others
 glue : List (List ℕ) → List (List ℕ) → List (List ℕ)
@@ -45,7 +45,7 @@ lines-append (c ∷ t) u =
     ap (λ (ls : List (List ℕ)). cond (is_newline c) ([] ∷ ls) (onto_first c ls)) (lines-append t u)
     ∙ glue_char (is_newline c) c (lines t) (lines u) (some_lines t) (some_lines u)
 
-kept_in_glue : (ls ms : List (List ℕ)) (y x : ℕ) → IsPlace ls (record { y = y; x = x }) → IsPlace (glue ls ms) (record { y = y; x = x }) × (offset_of (glue ls ms) (record { y = y; x = x }) ≡ offset_of ls (record { y = y; x = x }))
+kept_in_glue : (ls ms : List (List ℕ)) (y x : ℕ) → IsPosition ls (record { y = y; x = x }) → IsPosition (glue ls ms) (record { y = y; x = x }) × (offset_of (glue ls ms) (record { y = y; x = x }) ≡ offset_of ls (record { y = y; x = x }))
 unfolding glue
 kept_in_glue (l ∷ []) [] y x h = (h, refl)
 kept_in_glue (l ∷ []) (m ∷ ms) zero x h = ((omega arith, omega (arith, length-append l m, h.1)), refl)
@@ -57,14 +57,14 @@ kept_in_glue (l ∷ k ∷ ls) ms (suc y) x h =
     ((omega arith, rest.0.1), omega (arith, one, two, rest.1))
 kept_in_glue _ _ _ x h = absurd (omega arith)
 
--- a place of a text is one of the text that goes on, at the same offset
-pub place_kept : (t u : List ℕ) (p : Pos) → IsPlaceIn t p → IsPlaceIn (t ++ u) p × (offset_at (t ++ u) p ≡ offset_at t p)
-place_kept t u p h =
-    subst (λ (ls : List (List ℕ)). IsPlace ls p × (offset_of ls p ≡ offset_at t p)) (sym (lines-append t u)) (kept_in_glue (lines t) (lines u) p.y p.x h)
+-- a position of a text is one of the text that goes on, at the same offset
+pub position_kept : (t u : List ℕ) (p : Pos) → IsPositionIn t p → IsPositionIn (t ++ u) p × (offset_at (t ++ u) p ≡ offset_at t p)
+position_kept t u p h =
+    subst (λ (ls : List (List ℕ)). IsPosition ls p × (offset_of ls p ≡ offset_at t p)) (sym (lines-append t u)) (kept_in_glue (lines t) (lines u) p.y p.x h)
 
-pub tail_kept : (t u : List ℕ) (tail : Option Pos) → ForSome tail (IsPlaceIn t) → clamp_tail (t ++ u) tail ≡ tail
+pub tail_kept : (t u : List ℕ) (tail : Option Pos) → ForSome tail (IsPositionIn t) → clamp_tail (t ++ u) tail ≡ tail
 tail_kept t u None h = refl
-tail_kept t u (Some p) h = ap (λ (x : Pos). Some x) (clamp_place (lines (t ++ u)) p (place_kept t u p (h p refl)).0)
+tail_kept t u (Some p) h = ap (λ (x : Pos). Some x) (clamp_position (lines (t ++ u)) p (position_kept t u p (h p refl)).0)
 
 -- what is put in at the end
 pub replaced_at_end : (t cs : List ℕ) (n m : ℕ) → n ≡ length t → m ≡ length t → replaced t n m cs ≡ t ++ accepted cs

@@ -18,11 +18,11 @@ accepted_part true r h = cc
 accepted_part false r h = h
 
 -- a line alone
-lines_plain : (l : List ℕ) → IsLineText l → lines l ≡ l ∷ []
-lines_plain [] h = refl
-lines_plain (c ∷ l) h =
+lines_text : (l : List ℕ) → IsLineText l → lines l ≡ l ∷ []
+lines_text [] h = refl
+lines_text (c ∷ l) h =
     let other : (c == 10) ≡ false = not_newline (c == 10) (is_accepted c) (All-head IsLineChar c l h).0 in
-    ap (λ b. cond b ([] ∷ lines l) (onto_first c (lines l))) other ∙ ap (onto_first c) (lines_plain l (All-tail IsLineChar c l h))
+    ap (λ b. cond b ([] ∷ lines l) (onto_first c (lines l))) other ∙ ap (onto_first c) (lines_text l (All-tail IsLineChar c l h))
 
 -- a line and the text after its newline
 lines_cut : (l t : List ℕ) → IsLineText l → lines (l ++ 10 ∷ t) ≡ l ∷ lines t
@@ -32,7 +32,7 @@ lines_cut (c ∷ l) t h =
     ap (λ b. cond b ([] ∷ lines (l ++ 10 ∷ t)) (onto_first c (lines (l ++ 10 ∷ t)))) other ∙ ap (onto_first c) (lines_cut l t (All-tail IsLineChar c l h))
 
 lines_next : (l : List ℕ) (ls : List (List ℕ)) → All IsLineText (l ∷ ls) → lines (l ++ led_lines ls) ≡ l ∷ ls
-lines_next l [] h = ap lines (append-nil l) ∙ lines_plain l (All-head IsLineText l [] h)
+lines_next l [] h = ap lines (append-nil l) ∙ lines_text l (All-head IsLineText l [] h)
 lines_next l (m ∷ ls) h =
     lines_cut l (m ++ led_lines ls) (All-head IsLineText l (m ∷ ls) h)
     ∙ ap (λ t. l ∷ t) (lines_next m ls (All-tail IsLineText l (m ∷ ls) h))

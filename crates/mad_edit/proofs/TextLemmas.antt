@@ -37,8 +37,8 @@ cut_back old new bs h cut e =
     let a = selection_start old in
     let b = selection_end old in
     let n = new.offset in
-    let plain : All IsAcceptedChar (selected old) = All-take IsAcceptedChar _ _ (All-drop IsAcceptedChar a t h.accepted) in
-    let part : chars bs ≡ selected old = ap chars e ∙ chars-encodes (selected old) (all_scalars (selected old) plain) in
+    let texts : All IsAcceptedChar (selected old) = All-take IsAcceptedChar _ _ (All-drop IsAcceptedChar a t h.accepted) in
+    let part : chars bs ≡ selected old = ap chars e ∙ chars-encodes (selected old) (all_scalars (selected old) texts) in
     let size = length-take-le a t (omega (arith, h.last)) in
     let back : t ≡ take n new.text ++ (chars bs ++ drop n new.text) =
     split_between t a b (omega (arith, h.last))
@@ -47,4 +47,4 @@ cut_back old new bs h cut e =
     ∙ ap (λ s. take a (without t a b) ++ (s ++ drop a (without t a b))) (sym part)
     ∙ ap (λ s. take a s ++ (chars bs ++ drop a s)) (sym cut.text)
     ∙ ap (λ m. take m new.text ++ (chars bs ++ drop m new.text)) (sym cut.cursor) in
-    (ap (λ cs. take n new.text ++ (cs ++ drop n new.text)) (ap accepted part ∙ all_accepted (selected old) plain ∙ sym part) ∙ sym back, back)
+    (ap (λ cs. take n new.text ++ (cs ++ drop n new.text)) (ap accepted part ∙ all_accepted (selected old) texts ∙ sym part) ∙ sym back, back)

@@ -3,8 +3,8 @@ use Rattle.std.proofs.Common.{ℕ, ◌≡◌, List, [], ◌∷◌, ◌++◌, len
 use Rattle.std.specs.Prelude.{All, Option}
 use Rattle.std.proofs.lemmas.List.{take_at, drop_at, take-append-drop}
 use Rattle.std.proofs.lemmas.List.Elements.{All-append, All-take, All-drop, All-same}
-use Rattle.mad_lines.specs.declared.place.Pos.{Pos}
-use Rattle.mad_lines.specs.TextLines.{accepted, IsAcceptedChar, IsPlace, clamp, line_at, end_of}
+use Rattle.mad_lines.specs.declared.position.Pos.{Pos}
+use Rattle.mad_lines.specs.TextLines.{accepted, IsAcceptedChar, IsPosition, clamp, line_at, end_of}
 use Rattle.mad_edit.specs.Editor.{Editor, IsReplaced, replaced, offset_at, clamp_in, clamp_tail}
 use Rattle.mad_edit.specs.Undo.{Cut, Removes, LeadsTo, put_in, all_undone}
 use Rattle.mad_edit.proofs.TextLemmas.{all_accepted}
@@ -39,16 +39,16 @@ clamp_within : (b : Bool) (n m : ℕ) (p e : Pos) → b ≡ true → n ≡ p.x �
 clamp_within true n m p e h k = ap (λ (x : ℕ). let q : Pos = record { y = p.y; x = x } in q) k
 clamp_within false n m p e h k = cc
 
--- a place of the text is the nearest to itself
-pub clamp_place : (ls : List (List ℕ)) (p : Pos) → IsPlace ls p → clamp ls p ≡ p
-clamp_place ls p h = clamp_within (nat_lt p.y (length ls)) (min p.x (length (line_at ls p.y))) 0 p (end_of ls) (search rules) (omega (arith, h.1))
+-- a position of the text is the nearest to itself
+pub clamp_position : (ls : List (List ℕ)) (p : Pos) → IsPosition ls p → clamp ls p ≡ p
+clamp_position ls p h = clamp_within (nat_lt p.y (length ls)) (min p.x (length (line_at ls p.y))) 0 p (end_of ls) (search rules) (omega (arith, h.1))
 
 -- the last cut undone
-pub undone_last : (first : List ℕ) (cuts : List Cut) (c : Cut) (last new : List ℕ) (n : ℕ) → All IsAcceptedChar first → n ≡ offset_at last (clamp_in last c.place) → new ≡ replaced last n n c.text → LeadsTo first (cuts ++ c ∷ []) last → LeadsTo first cuts new
+pub undone_last : (first : List ℕ) (cuts : List Cut) (c : Cut) (last new : List ℕ) (n : ℕ) → All IsAcceptedChar first → n ≡ offset_at last (clamp_in last c.position) → new ≡ replaced last n n c.text → LeadsTo first (cuts ++ c ∷ []) last → LeadsTo first cuts new
 undone_last first cuts c last new n h at made leads =
     let step = leads_last first cuts c last leads in
     let r = step.2 in
-    let same : n ≡ r.offset = at ∙ ap (offset_at last) (clamp_place _ c.place r.place.0) ∙ r.place.1 in
+    let same : n ≡ r.offset = at ∙ ap (offset_at last) (clamp_position _ c.position r.position.0) ∙ r.position.1 in
     let before = accepted_along first cuts step.0 h step.1 in
     let whole = All-same IsAcceptedChar (take r.offset last ++ (c.text ++ drop r.offset last)) step.0 (sym r.text) before in
     let text : accepted c.text ≡ c.text = all_accepted c.text (all_front c.text (drop r.offset last) (all_back (take r.offset last) (c.text ++ drop r.offset last) whole)) in
@@ -56,10 +56,10 @@ undone_last first cuts c last new n h at made leads =
     (r.text ∙ ap (λ s. take r.offset last ++ (s ++ drop r.offset last)) (sym text) ∙ ap (λ m. replaced last m m c.text) (sym same) ∙ sym made) step.1
 
 -- the last of the cuts is undone first
-pub undone_more : (cuts : List Cut) (c : Cut) (e : Editor) → all_undone (cuts ++ c ∷ []) e ≡ all_undone cuts (put_in e (offset_at e.text (clamp_in e.text c.place)) c.text)
+pub undone_more : (cuts : List Cut) (c : Cut) (e : Editor) → all_undone (cuts ++ c ∷ []) e ≡ all_undone cuts (put_in e (offset_at e.text (clamp_in e.text c.position)) c.text)
 undone_more [] c e = refl
 undone_more (d ∷ cuts) c e =
-    ap (λ (x : Editor). put_in x (offset_at x.text (clamp_in x.text d.place)) d.text) (undone_more cuts c e)
+    ap (λ (x : Editor). put_in x (offset_at x.text (clamp_in x.text d.position)) d.text) (undone_more cuts c e)
 
 abbrev editor : List ℕ → ℕ → Option Pos → Editor
 editor text offset tail = record { text = text; offset = offset; tail = tail }

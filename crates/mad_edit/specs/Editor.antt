@@ -5,11 +5,11 @@ use Rattle.std.specs.Cmp.Lexicographic.{pointwise}
 use Rattle.std.specs.Option.{ForSome, option_eq}
 use Rattle.std.specs.Ordering.{on, eq_of_both}
 use Rattle.std.specs.List.{prefix_len, suffix_len}
-use Rattle.mad_lines.specs.declared.place.Pos.{Pos}
+use Rattle.mad_lines.specs.declared.position.Pos.{Pos}
 use Rattle.mad_lines.specs.declared.words.CharClass.{CharClass}
 use Rattle.mad_lines.specs.CharClasses.{is_alphanumeric, is_of}
 use Rattle.mad_lines.specs.LineColumns.{columns, IsIndexAtColumn}
-use Rattle.mad_lines.specs.TextLines.{lines, line_at, IsPlace, IsLineText, IsAcceptedChar, is_newline, offset_of, accepted, clamp}
+use Rattle.mad_lines.specs.TextLines.{lines, line_at, IsPosition, IsLineText, IsAcceptedChar, is_newline, offset_of, accepted, clamp}
 
 -- an editor
 pub record Editor : Type 0 where
@@ -17,32 +17,32 @@ pub record Editor : Type 0 where
   pub offset : ℕ
   pub tail : Option Pos
 
--- whether two places are the same
-abbrev pub same_place : Pos → Pos → Bool
-same_place = eq_of_both (on (λ p. p.y) nat_eq) (on (λ p. p.x) nat_eq)
+-- whether two positions are the same
+abbrev pub same_position : Pos → Pos → Bool
+same_position = eq_of_both (on (λ p. p.y) nat_eq) (on (λ p. p.x) nat_eq)
 
 -- whether two editors have the same text, offset and tail
 abbrev pub same_editor : Editor → Editor → Bool
 same_editor =
-    eq_of_both (on (λ e. e.text) (pointwise nat_eq)) (eq_of_both (on (λ e. e.offset) nat_eq) (on (λ e. e.tail) (option_eq same_place)))
+    eq_of_both (on (λ e. e.text) (pointwise nat_eq)) (eq_of_both (on (λ e. e.offset) nat_eq) (on (λ e. e.tail) (option_eq same_position)))
 
--- a place is one of the text
-abbrev pub IsPlaceIn : List ℕ → Pos → Type 0
-IsPlaceIn t p = IsPlace (lines t) p
+-- a position is one of the text
+abbrev pub IsPositionIn : List ℕ → Pos → Type 0
+IsPositionIn t p = IsPosition (lines t) p
 
--- the offset that says the same as a place
+-- the offset that says the same as a position
 abbrev pub offset_at : List ℕ → Pos → ℕ
 offset_at t p = offset_of (lines t) p
 
--- a place of the text that says the same as an offset
+-- a position of the text that says the same as an offset
 abbrev pub IsAt : List ℕ → ℕ → Pos → Type 0
-IsAt t n p = IsPlaceIn t p × (offset_at t p ≡ n)
+IsAt t n p = IsPositionIn t p × (offset_at t p ≡ n)
 
--- the place itself, or the nearest one on its line, or the end of the text
+-- the position itself, or the nearest one on its line, or the end of the text
 abbrev pub clamp_in : List ℕ → Pos → Pos
 clamp_in t p = clamp (lines t) p
 
--- a tail keeps its line and its place in it as far as the text goes
+-- a tail keeps its line and its position in it as far as the text goes
 abbrev pub clamp_tail : List ℕ → Option Pos → Option Pos
 clamp_tail t tail = option_map (clamp_in t) tail
 
@@ -102,15 +102,15 @@ rest_of_line e = take (prefix_len is_in_line (drop e.offset e.text)) (drop e.off
 -- what is true of every editor
 pub record IsEditor (e : Editor) : Type 0 where
   pub cursor : e.offset ≤ length e.text
-  pub tail : ForSome e.tail (IsPlaceIn e.text)
+  pub tail : ForSome e.tail (IsPositionIn e.text)
   pub last : selection_last e ≤ length e.text
   pub accepted : All IsAcceptedChar e.text
 
--- lines with a cursor and a tail: both are places of the lines, and each line is the text of one
+-- lines with a cursor and a tail: both are positions of the lines, and each line is the text of one
 pub record IsValid (ls : List (List ℕ)) (at : Pos) (tail : Option Pos) : Type 0 where
-  pub cursor : IsPlace ls at
-  pub selected : ForSome tail (IsPlace ls)
-  pub plain : All IsLineText ls
+  pub cursor : IsPosition ls at
+  pub selected : ForSome tail (IsPosition ls)
+  pub texts : All IsLineText ls
 
 -- the editor after characters were put in place of what was between two offsets
 pub record IsReplaced (old new : Editor) (from to : ℕ) (cs : List ℕ) : Type 0 where

@@ -17,8 +17,8 @@ middle_line_kept = record { text = codes "a\ncd\nf"; offset = 1; tail = None }
 
 -- two cuts that lead from `abcd` to no text
 abbrev pub two_cuts : List Cut
-two_cuts = record { place = record { y = 0; x = 1 }; text = codes "bc" } ∷ record { place = record { y = 0; x = 0 }; text = codes "ad" } ∷ []
+two_cuts = record { position = record { y = 0; x = 1 }; text = codes "bc" } ∷ record { position = record { y = 0; x = 0 }; text = codes "ad" } ∷ []
 
 -- the same in the other order
 abbrev pub two_cuts_turned : List Cut
-two_cuts_turned = record { place = record { y = 0; x = 0 }; text = codes "ad" } ∷ record { place = record { y = 0; x = 1 }; text = codes "bc" } ∷ []
+two_cuts_turned = record { position = record { y = 0; x = 0 }; text = codes "ad" } ∷ record { position = record { y = 0; x = 1 }; text = codes "bc" } ∷ []

@@ -1,9 +1,9 @@
-//! The editor's text and its places. Only this module and its own see how the text is kept.
+//! The editor's text and its positions. Only this module and its own see how the text is kept.
 
 ghost use Rattle.std.specs.Prelude.{◌≡◌, ◌<◌, ◌≤◌, ◌+◌, ◌-◌, ◌↔◌, [], None, Some, length, chars, min, max, option_map, IfOk, IfSome, IsSome, OnOk, OnErr, IsTrue, string_bytes, encode_utf8_all, slice_range};
 ghost use Rattle.std.specs.Option.{ForSome};
-ghost use Rattle.mad_lines.specs.TextLines.{lines, lines_of, accepted, clamp, IsPlace};
-ghost use Rattle.mad_edit.specs.Editor.{IsPlaceIn, offset_at, IsAt, clamp_in, clamp_tail, replaced, cursor_line, cursor_column, front_of_line, rest_of_line, IsEditor, IsWide, IsMovedToLine, selection_start, selection_last};
+ghost use Rattle.mad_lines.specs.TextLines.{lines, lines_of, accepted, clamp, IsPosition};
+ghost use Rattle.mad_edit.specs.Editor.{IsPositionIn, offset_at, IsAt, clamp_in, clamp_tail, replaced, cursor_line, cursor_column, front_of_line, rest_of_line, IsEditor, IsWide, IsMovedToLine, selection_start, selection_last};
 
 mod comparing;
 mod reading;
@@ -12,9 +12,9 @@ mod showing;
 mod undo;
 
 use mad_lines::{
-    Line, Pos, Range, clone_lines, columns, edit_lines, end_place, front_at, in_order,
-    index_at_column, is_before, line_count, line_len, place_after, place_before, place_past,
-    rest_at, text_between, valid_pos,
+    Line, Pos, Range, clone_lines, columns, edit_lines, end_position, front_at, in_order,
+    index_at_column, is_before, line_count, line_len, position_after, position_before,
+    position_past, rest_at, text_between, valid_pos,
 };
 use std::alloc::{AllocError, Global};
 use std::marker::Model;
@@ -39,11 +39,11 @@ impl Model for InputFieldContent {
     ghost invariant = { λ a. IsValid (lines_of a.lines.items) a.pos a.selection_tail };
 }
 
-// A tail at the nearest place of these lines.
+// A tail at the nearest position of these lines.
 fn clamp_tail(lines: &[Line], tail: Option<Pos>) -> Option<Pos>
     requires { 0 < length lines.now }
     ensures is { result ≡ option_map (clamp (lines_of lines.now)) tail }
-    ensures place { ForSome result (IsPlace (lines_of lines.now)) }
+    ensures position { ForSome result (IsPosition (lines_of lines.now)) }
 {
     tail.map(|tail| valid_pos(lines, tail))
 }
@@ -66,7 +66,7 @@ impl InputFieldContent {
         })
     }
 
-    /// The place of the cursor.
+    /// The position of the cursor.
     pub fn cursor_pos(&self) -> Pos
         ensures at { IsAt self.now.text self.now.offset result }
         ensures line { result.y ≡ cursor_line self.now }
@@ -78,10 +78,10 @@ impl InputFieldContent {
         self.pos
     }
 
-    /// Puts a text in place of what is between two places, and the cursor after it.
+    /// Puts a text in place of what is between two positions, and the cursor after it.
     pub(crate) fn edit(&mut self, from: Pos, to: Pos, text: &str) -> Result<(), AllocError>
-        requires from { IsPlaceIn self.old.text from }
-        requires to { IsPlaceIn self.old.text to }
+        requires from { IsPositionIn self.old.text from }
+        requires to { IsPositionIn self.old.text to }
         requires order { offset_at self.old.text from ≤ offset_at self.old.text to }
         ensures text { OnOk result (self.new.text
             ≡ replaced self.old.text (offset_at self.old.text from) (offset_at self.old.text to) (chars text.now)) }
@@ -95,42 +95,42 @@ impl InputFieldContent {
         Ok(())
     }
 
-    /// Puts the cursor at a place of the text.
-    pub(crate) fn put_cursor(&mut self, place: Pos)
-        requires { IsPlaceIn self.old.text place }
-        ensures { self.new ≡ record self.old { offset = offset_at self.old.text place } }
+    /// Puts the cursor at a position of the text.
+    pub(crate) fn put_cursor(&mut self, position: Pos)
+        requires { IsPositionIn self.old.text position }
+        ensures { self.new ≡ record self.old { offset = offset_at self.old.text position } }
     {
         // Read so that the invariant of the lines is at hand.
         let _ = &self.lines;
-        self.pos = place;
+        self.pos = position;
     }
 
-    /// The next place, if a place is not the end.
-    pub(crate) fn next_place(&self, place: Pos) -> Option<Pos>
-        requires { IsPlaceIn self.now.text place }
-        ensures place { IfSome result (λ q. IsPlaceIn self.now.text q) }
-        ensures next { IfSome result (λ q. offset_at self.now.text q ≡ offset_at self.now.text place + 1) }
-        ensures at_end { IsSome result ↔ (offset_at self.now.text place < length self.now.text) }
+    /// The next position, if a position is not the end.
+    pub(crate) fn next_position(&self, position: Pos) -> Option<Pos>
+        requires { IsPositionIn self.now.text position }
+        ensures position { IfSome result (λ q. IsPositionIn self.now.text q) }
+        ensures next { IfSome result (λ q. offset_at self.now.text q ≡ offset_at self.now.text position + 1) }
+        ensures at_end { IsSome result ↔ (offset_at self.now.text position < length self.now.text) }
     {
-        place_after(&self.lines, place)
+        position_after(&self.lines, position)
     }
 
-    /// The previous place, if a place is not the start.
-    pub(crate) fn previous_place(&self, place: Pos) -> Option<Pos>
-        requires { IsPlaceIn self.now.text place }
-        ensures place { IfSome result (λ q. IsPlaceIn self.now.text q) }
-        ensures next { IfSome result (λ q. offset_at self.now.text q + 1 ≡ offset_at self.now.text place) }
-        ensures at_start { IsSome result ↔ (0 < offset_at self.now.text place) }
+    /// The previous position, if a position is not the start.
+    pub(crate) fn previous_position(&self, position: Pos) -> Option<Pos>
+        requires { IsPositionIn self.now.text position }
+        ensures position { IfSome result (λ q. IsPositionIn self.now.text q) }
+        ensures next { IfSome result (λ q. offset_at self.now.text q + 1 ≡ offset_at self.now.text position) }
+        ensures at_start { IsSome result ↔ (0 < offset_at self.now.text position) }
     {
-        place_before(&self.lines, place)
+        position_before(&self.lines, position)
     }
 
-    /// The place after the character at a place, or the end.
-    pub(crate) fn place_past_char(&self, place: Pos) -> Pos
-        requires { IsPlaceIn self.now.text place }
-        ensures next { IsAt self.now.text (min (offset_at self.now.text place + 1) (length self.now.text)) result }
+    /// The position after the character at a position, or the end.
+    pub(crate) fn position_past_char(&self, position: Pos) -> Pos
+        requires { IsPositionIn self.now.text position }
+        ensures next { IsAt self.now.text (min (offset_at self.now.text position + 1) (length self.now.text)) result }
     {
-        place_past(&self.lines, place)
+        position_past(&self.lines, position)
     }
 
     /// The characters of the cursor's line before the cursor.
@@ -147,8 +147,8 @@ impl InputFieldContent {
         rest_at(&self.lines, self.pos)
     }
 
-    /// The place some characters before the cursor in its line.
-    pub(crate) fn place_back(&self, count: usize) -> Pos
+    /// The position some characters before the cursor in its line.
+    pub(crate) fn position_back(&self, count: usize) -> Pos
         requires { count ≤ length (front_of_line self.now) }
         ensures { IsAt self.now.text (self.now.offset - count) result }
     {
@@ -158,8 +158,8 @@ impl InputFieldContent {
         }
     }
 
-    /// The place some characters after the cursor in its line.
-    pub(crate) fn place_ahead(&self, count: usize) -> Pos
+    /// The position some characters after the cursor in its line.
+    pub(crate) fn position_ahead(&self, count: usize) -> Pos
         requires { count ≤ length (rest_of_line self.now) }
         ensures { IsAt self.now.text (self.now.offset + count) result }
     {
@@ -171,7 +171,7 @@ impl InputFieldContent {
         }
     }
 
-    /// The selection: its lesser place and its greater one, whose character is selected too.
+    /// The selection: its lesser position and its greater one, whose character is selected too.
     pub fn selection(&self) -> Range
         ensures min { IsAt self.now.text (selection_start self.now) result.min }
         ensures max { IsAt self.now.text (selection_last self.now) result.max }
@@ -196,19 +196,19 @@ impl InputFieldContent {
         is_before(min, max)
     }
 
-    /// The text between two places.
+    /// The text between two positions.
     pub(crate) fn copy_between(&self, from: Pos, to: Pos) -> Result<String, AllocError>
-        requires from { IsPlaceIn self.now.text from }
-        requires to { IsPlaceIn self.now.text to }
+        requires from { IsPositionIn self.now.text from }
+        requires to { IsPositionIn self.now.text to }
         ensures { IfOk result (λ s. string_bytes s
             ≡ encode_utf8_all (slice_range self.now.text (offset_at self.now.text from) (offset_at self.now.text to))) }
     {
         text_between(*self.lines.allocator(), &self.lines, from, to)
     }
 
-    /// The nearest place of the text: the place itself, or its line's end, or the text's end.
+    /// The nearest position of the text: the position itself, or its line's end, or the text's end.
     pub fn make_valid_pos(&self, pos: Pos) -> Pos
-        ensures place { IsPlaceIn self.now.text result }
+        ensures position { IsPositionIn self.now.text result }
         ensures nearest { result ≡ clamp_in self.now.text pos }
     {
         valid_pos(&self.lines, pos)
@@ -218,7 +218,7 @@ impl InputFieldContent {
     pub fn end(&self) -> Pos
         ensures { IsAt self.now.text (length self.now.text) result }
     {
-        end_place(&self.lines)
+        end_position(&self.lines)
     }
 
     /// A copy of the text, the cursor and the tail.
@@ -283,21 +283,21 @@ impl InputFieldContent {
         self.selection_tail = None;
     }
 
-    /// Puts the tail at the nearest place of the text.
+    /// Puts the tail at the nearest position of the text.
     pub fn set_selection_tail(&mut self, tail: Pos)
         ensures { self.new ≡ record self.old { tail = Some (clamp_in self.old.text tail) } }
     {
         self.selection_tail = Some(valid_pos(&self.lines, tail));
     }
 
-    /// Puts the tail at a place of the text.
-    pub(crate) fn put_tail(&mut self, place: Pos)
-        requires { IsPlaceIn self.old.text place }
-        ensures { self.new ≡ record self.old { tail = Some place } }
+    /// Puts the tail at a position of the text.
+    pub(crate) fn put_tail(&mut self, position: Pos)
+        requires { IsPositionIn self.old.text position }
+        ensures { self.new ≡ record self.old { tail = Some position } }
     {
         // Read so that the invariant of the lines is at hand.
         let _ = &self.lines;
-        self.selection_tail = Some(place);
+        self.selection_tail = Some(position);
     }
 
     /// Whether there is a tail.

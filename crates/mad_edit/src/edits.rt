@@ -2,7 +2,7 @@
 
 ghost use Rattle.std.specs.Prelude.{◌≡◌, ◌<◌, ◌≤◌, ◌+◌, ◌-◌, ◌↔◌, ◌⊎◌, [], ◌∷◌, ◌++◌, false, length, chars, IfOk, OnOk, OnErr, IsTrue};
 ghost use Rattle.mad_lines.specs.TextLines.{accepted};
-ghost use Rattle.mad_edit.specs.Editor.{IsPlaceIn, offset_at, IsReplaced, IsRemoved, below_start, below_end, front_of_line, rest_of_line, after_word_removed, without, clamp_tail};
+ghost use Rattle.mad_edit.specs.Editor.{IsPositionIn, offset_at, IsReplaced, IsRemoved, below_start, below_end, front_of_line, rest_of_line, after_word_removed, without, clamp_tail};
 ghost use Rattle.mad_edit.specs.Words.{word_before, removed_after};
 
 use crate::content::InputFieldContent;
@@ -71,10 +71,10 @@ impl InputFieldContent {
         Ok(())
     }
 
-    /// Removes what is between two places, and puts the cursor there.
+    /// Removes what is between two positions, and puts the cursor there.
     pub(crate) fn remove(&mut self, from: Pos, to: Pos) -> Result<(), AllocError>
-        requires from { IsPlaceIn self.old.text from }
-        requires to { IsPlaceIn self.old.text to }
+        requires from { IsPositionIn self.old.text from }
+        requires to { IsPositionIn self.old.text to }
         requires order { offset_at self.old.text from ≤ offset_at self.old.text to }
         ensures ok { OnOk result (IsRemoved self.old self.new (offset_at self.old.text from) (offset_at self.old.text to)) }
         ensures err { OnErr result (self.new ≡ self.old) }
@@ -95,7 +95,7 @@ impl InputFieldContent {
         ensures err { OnErr result (self.new ≡ self.old) }
     {
         let at = self.cursor_pos();
-        match self.previous_place(at) {
+        match self.previous_position(at) {
             Some(from) => {
                 self.remove(from, at)?;
                 Ok(true)
@@ -117,7 +117,7 @@ impl InputFieldContent {
         ensures err { OnErr result (self.new ≡ self.old) }
     {
         let at = self.cursor_pos();
-        if let Some(to) = self.next_place(at) {
+        if let Some(to) = self.next_position(at) {
             self.remove(at, to)?;
             return Ok(true);
         }
@@ -144,7 +144,7 @@ impl InputFieldContent {
             return Ok(false);
         }
         let at = self.cursor_pos();
-        let from = self.place_back(count);
+        let from = self.position_back(count);
         self.remove(from, at)?;
         Ok(true)
     }
@@ -171,7 +171,7 @@ impl InputFieldContent {
         if rest > 0 {
             let at = self.cursor_pos();
             let count = (word + 1).min(rest);
-            let to = self.place_ahead(count);
+            let to = self.position_ahead(count);
             self.remove(at, to)?;
         }
         if word == rest && front > 0 {

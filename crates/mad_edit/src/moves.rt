@@ -11,12 +11,12 @@ use crate::words::{word_after, word_before};
 use mad_lines::Pos;
 
 impl InputFieldContent {
-    /// Puts the cursor at the nearest place of the text.
+    /// Puts the cursor at the nearest position of the text.
     pub fn set_cursor_pos(&mut self, new_pos: Pos)
         ensures { self.new ≡ record self.old { offset = offset_at self.old.text (clamp_in self.old.text new_pos) } }
     {
-        let place = self.make_valid_pos(new_pos);
-        self.put_cursor(place);
+        let position = self.make_valid_pos(new_pos);
+        self.put_cursor(position);
     }
 
     /// Whether there is a character after the cursor.
@@ -24,7 +24,7 @@ impl InputFieldContent {
         ensures { IsTrue result ↔ (self.now.offset < length self.now.text) }
     {
         let at = self.cursor_pos();
-        self.next_place(at).is_some()
+        self.next_position(at).is_some()
     }
 
     /// Whether there is a character before the cursor.
@@ -32,7 +32,7 @@ impl InputFieldContent {
         ensures { IsTrue result ↔ (0 < self.now.offset) }
     {
         let at = self.cursor_pos();
-        self.previous_place(at).is_some()
+        self.previous_position(at).is_some()
     }
 
     /// One character to the right. Returns whether there is one.
@@ -42,9 +42,9 @@ impl InputFieldContent {
         ensures stays { OnFalse result (self.new ≡ self.old) }
     {
         let at = self.cursor_pos();
-        match self.next_place(at) {
-            Some(place) => {
-                self.put_cursor(place);
+        match self.next_position(at) {
+            Some(position) => {
+                self.put_cursor(position);
                 true
             }
             None => false,
@@ -57,9 +57,9 @@ impl InputFieldContent {
         ensures moved { self.new ≡ record self.old { offset = self.old.offset - 1 } }
     {
         let at = self.cursor_pos();
-        match self.previous_place(at) {
-            Some(place) => {
-                self.put_cursor(place);
+        match self.previous_position(at) {
+            Some(position) => {
+                self.put_cursor(position);
                 true
             }
             None => false,
@@ -94,8 +94,8 @@ impl InputFieldContent {
         ensures moved { self.new ≡ record self.old { offset = self.old.offset + length (rest_of_line self.old) } }
     {
         let count = self.rest_of_line().len();
-        let place = self.place_ahead(count);
-        self.put_cursor(place);
+        let position = self.position_ahead(count);
+        self.put_cursor(position);
         count > 0
     }
 
@@ -105,8 +105,8 @@ impl InputFieldContent {
         ensures moved { self.new ≡ record self.old { offset = self.old.offset - length (front_of_line self.old) } }
     {
         let count = self.front_of_line().len();
-        let place = self.place_back(count);
-        self.put_cursor(place);
+        let position = self.position_back(count);
+        self.put_cursor(position);
         count > 0
     }
 
@@ -117,8 +117,8 @@ impl InputFieldContent {
         ensures moved { self.new ≡ record self.old { offset = self.old.offset - word_before (front_of_line self.old) } }
     {
         let count = word_before(self.front_of_line());
-        let place = self.place_back(count);
-        self.put_cursor(place);
+        let position = self.position_back(count);
+        self.put_cursor(position);
         count > 0
     }
 
@@ -129,8 +129,8 @@ impl InputFieldContent {
         ensures moved { self.new ≡ record self.old { offset = self.old.offset + word_after (rest_of_line self.old) } }
     {
         let count = word_after(self.rest_of_line());
-        let place = self.place_ahead(count);
-        self.put_cursor(place);
+        let position = self.position_ahead(count);
+        self.put_cursor(position);
         count > 0
     }
 

@@ -3,7 +3,7 @@
 ghost use Rattle.std.specs.Prelude.{◌≡◌, ◌<◌, ◌≤◌, ◌+◌, ◌↔◌, false, length, chars, IfOk, OnOk, OnErr, IsTrue, string_bytes, encode_utf8_all, None};
 ghost use Rattle.mad_lines.specs.TextLines.{accepted};
 ghost use Rattle.mad_edit.specs.Undo.{Removes};
-ghost use Rattle.mad_lines.specs.declared.place.Pos.{Pos};
+ghost use Rattle.mad_lines.specs.declared.position.Pos.{Pos};
 ghost use Rattle.mad_edit.specs.Editor.{IsEditor, inserted, IsAt, IsCut, IsRemoved, IsReplaced, IsWide, replaced, selected, selection_start, selection_last, selection_end, below_start, below_end, SelectsAround};
 
 use crate::content::InputFieldContent;
@@ -21,7 +21,7 @@ impl InputFieldContent {
         ensures valid { IsEditor self.now }
     {
         let Range { min, max } = self.selection();
-        let end = self.place_past_char(max);
+        let end = self.position_past_char(max);
         self.copy_between(min, end)
     }
 
@@ -42,7 +42,7 @@ impl InputFieldContent {
         ensures err { OnErr result (self.new ≡ self.old) }
     {
         let Range { min, max } = self.selection();
-        let end = self.place_past_char(max);
+        let end = self.position_past_char(max);
         self.remove(min, end)?;
         self.unselect();
         Ok(())
@@ -80,7 +80,7 @@ impl InputFieldContent {
         ensures wide { OnOk result (IsWide self.old → IsCut self.old self.new) }
         ensures undone { IfOk result (λ s. IsWide self.old → inserted self.new (chars (string_bytes s)) ≡ self.old.text) }
         ensures removes { IfOk result (λ s. (p : Pos) → IsWide self.old → IsAt self.new.text self.new.offset p
-            → Removes self.old.text (record { place = p; text = chars (string_bytes s) }) self.new.text) }
+            → Removes self.old.text (record { position = p; text = chars (string_bytes s) }) self.new.text) }
         ensures below { OnOk result (selection_last self.old ≤ selection_start self.old → below_start self.old < below_end self.old
             → IsRemoved self.old self.new (below_start self.old) (below_end self.old)) }
         ensures nothing { OnOk result (selection_last self.old ≤ selection_start self.old → below_end self.old ≤ below_start self.old
@@ -109,7 +109,7 @@ impl InputFieldContent {
             return self.insert_str(text);
         }
         let Range { min, max } = self.selection();
-        let end = self.place_past_char(max);
+        let end = self.position_past_char(max);
         self.edit(min, end, text)?;
         self.unselect();
         Ok(())
@@ -124,8 +124,8 @@ impl InputFieldContent {
             return false;
         }
         let before = class.count_end(self.front_of_line());
-        let first = self.place_back(before);
-        let last = self.place_ahead(after - 1);
+        let first = self.position_back(before);
+        let last = self.position_ahead(after - 1);
         self.put_tail(first);
         self.put_cursor(last);
         true

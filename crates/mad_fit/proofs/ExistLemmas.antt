@@ -94,7 +94,7 @@ tokens_there (suc fuel) max start p l inside utf8 border = elim (cases_lt start 
       let t = first.0 in
       let is = first.1 in
       let end = ends_at_border max start p t is in
-      let rest = tokens_there fuel max t.end_in_compound p (omega (arith, is.begins, is.place.some)) end.0 utf8 end in
+      let rest = tokens_there fuel max t.end_in_compound p (omega (arith, is.begins, is.within.some)) end.0 utf8 end in
       (t ∷ rest.0, (is, rest.1))
 ]
 

@@ -2,13 +2,13 @@
 use Rattle.std.specs.Prelude.{◌≡◌, ℕ, ◌+◌, ◌<◌, ◌&&◌, ◌||◌, ◌==◌, not, Bool, true, nat_le, List, length, get_or}
 use Rattle.std.specs.Char.{is_ascii_graphic}
 
--- `n` bytes from a place on are graphic
+-- `n` bytes from a position on are graphic
 abbrev pub AreGraphic : List ℕ → ℕ → ℕ → Type 0
 AreGraphic bs start n = (k : ℕ) → k < n → is_ascii_graphic (get_or bs (start + k) 0) ≡ true
 
 -- the first `n` bytes are graphic or spaces
-abbrev pub ArePlain : List ℕ → ℕ → Type 0
-ArePlain bs n = (k : ℕ) → k < n → (31 < get_or bs k 0) × (get_or bs k 0 < 127)
+abbrev pub ArePrintable : List ℕ → ℕ → Type 0
+ArePrintable bs n = (k : ℕ) → k < n → (31 < get_or bs k 0) × (get_or bs k 0 < 127)
 
 -- the text ends there, or has a space there that isn't code
 abbrev pub is_end_of_word : Bool → List ℕ → ℕ → Bool

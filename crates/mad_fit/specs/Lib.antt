@@ -2,6 +2,6 @@ pub mod Areas
 pub mod Ascii
 pub mod TextColumns
 pub mod Completions
-pub mod TokenPlaces
+pub mod TokenPositions
 pub mod Tokens
 pub mod TokensLeft

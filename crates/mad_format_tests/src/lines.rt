@@ -4,7 +4,7 @@ ghost use Rattle.std.specs.Prelude.{IfOk};
 ghost use Rattle.mad_format.specs.WrappedLines.{AllMeasured};
 
 use crate::pictures::push_margins;
-use crate::skins::{plain_skin, skin_with};
+use crate::skins::{skin_with, unstyled_skin};
 use crate::words::number;
 use mad_blocks::{find_blocks, lay_source};
 use mad_format::{FmtComposite, FmtLine, LineSkin, hard_wrap_lines, wrap_bound};
@@ -50,20 +50,20 @@ pub fn long(alloc: Global, picture: &mut String, words: &str, text: &str) -> Res
 }
 
 fn push_counts(alloc: Global, picture: &mut String, text: &str, width: usize) -> Result<(), Error> {
-    let lines = lay_source(alloc, &plain_skin(), text, Some(width))?.len();
+    let lines = lay_source(alloc, &unstyled_skin(), text, Some(width))?.len();
     let starts = count_starts(alloc, text, width)?;
     Ok(write!(picture, "{lines} lines, {starts} starts")?)
 }
 
 fn count_starts(alloc: Global, text: &str, width: usize) -> Result<usize, Error> {
     let whole = FmtComposite::from_compound(alloc, Compound::raw_str(text))?;
-    let bound = wrap_bound(alloc, &whole, width, &plain_skin())?;
+    let bound = wrap_bound(alloc, &whole, width, &unstyled_skin())?;
     Ok(bound.starts.len())
 }
 
 /// The blocks of code among the lines of a text.
 pub fn blocks(alloc: Global, picture: &mut String, text: &str) -> Result<(), Error> {
-    let lines = read_lines(alloc, text, &plain_skin())?;
+    let lines = read_lines(alloc, text, &unstyled_skin())?;
     for block in &find_blocks(alloc, &lines)? {
         write!(picture, "{block:?}\n")?;
     }

@@ -6,12 +6,12 @@ use mad_style::{CompositeKind, CompoundStyle, LineStyle, ListItemsIndentationMod
 
 /// One style for all kinds of lines, and a mode of items.
 #[derive(Clone, Copy)]
-pub struct PlainSkin {
+pub struct TestSkin {
     style: LineStyle,
     mode: ListItemsIndentationMode,
 }
 
-impl LineSkin for PlainSkin {
+impl LineSkin for TestSkin {
     ghost rules = { λ skin. record { list_items_indentation_mode = skin.mode; line_style = λ kind. skin.style } };
 
     fn items_indentation(&self) -> ListItemsIndentationMode {
@@ -28,17 +28,17 @@ pub fn skin_with(
     left_margin: usize,
     right_margin: usize,
     mode: ListItemsIndentationMode,
-) -> PlainSkin {
+) -> TestSkin {
     let style = LineStyle {
         compound_style: CompoundStyle::default(),
         align: Alignment::Unspecified,
         left_margin,
         right_margin,
     };
-    PlainSkin { style, mode }
+    TestSkin { style, mode }
 }
 
 /// A skin without looks and margins.
-pub fn plain_skin() -> PlainSkin {
+pub fn unstyled_skin() -> TestSkin {
     skin_with(0, 0, ListItemsIndentationMode::Block)
 }

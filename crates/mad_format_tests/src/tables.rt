@@ -2,7 +2,7 @@
 
 use crate::lines::read_lines;
 use crate::pictures::{push_lines, push_row};
-use crate::skins::plain_skin;
+use crate::skins::unstyled_skin;
 use crate::words::{aligns, number, numbers};
 use mad_blocks::{Table, fix_all_tables, lay_row, lay_source};
 use mad_format::FmtLine;
@@ -13,14 +13,14 @@ use std::fmt::Write;
 
 /// The lines of a text at a width, or at none.
 pub fn lay(alloc: Global, picture: &mut String, width: &str, text: &str) -> Result<(), Error> {
-    let lines = lay_source(alloc, &plain_skin(), text, width.parse().ok())?;
+    let lines = lay_source(alloc, &unstyled_skin(), text, width.parse().ok())?;
     Ok(push_lines(picture, &lines)?)
 }
 
 /// The lines of a text at a width, its tables alone laid out.
 pub fn tables(alloc: Global, picture: &mut String, width: &str, text: &str) -> Result<(), Error> {
     let width = number(&mut width.split_whitespace());
-    let skin = plain_skin();
+    let skin = unstyled_skin();
     let mut lines = read_lines(alloc, text, &skin)?;
     fix_all_tables(alloc, &mut lines, width, &skin)?;
     Ok(push_lines(picture, &lines)?)
@@ -47,7 +47,7 @@ fn push_fixed(
     width: usize,
     text: &str,
 ) -> Result<(), Error> {
-    let skin = plain_skin();
+    let skin = unstyled_skin();
     let mut lines = read_lines(alloc, text, &skin)?;
     if table.start.saturating_add(table.height) <= lines.len() {
         table.fix_columns(alloc, &mut lines, width, &skin)?;
@@ -69,7 +69,7 @@ fn push_laid_row(
     aligns: &[Alignment],
     text: &str,
 ) -> Result<(), Error> {
-    let skin = plain_skin();
+    let skin = unstyled_skin();
     let mut lines = read_lines(alloc, text, &skin)?.into_iter();
     if let Some(FmtLine::TableRow(row)) = lines.next() {
         for row in &lay_row(alloc, row, widths, aligns, &skin)? {
@@ -82,7 +82,7 @@ fn push_laid_row(
 /// The widths and the alignments of a text's rules, each cut or filled up to a number of columns.
 pub fn rules(alloc: Global, picture: &mut String, count: &str, text: &str) -> Result<(), Error> {
     let count = number(&mut count.split_whitespace());
-    for line in read_lines(alloc, text, &plain_skin())? {
+    for line in read_lines(alloc, text, &unstyled_skin())? {
         if let FmtLine::TableRule(mut rule) = line {
             rule.set_nbcols(count)?;
             write!(picture, "{:?} {:?}\n", rule.widths, rule.aligns)?;

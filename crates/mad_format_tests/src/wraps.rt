@@ -3,7 +3,7 @@
 ghost use Rattle.mad_format.specs.Wraps.{IsMeasured};
 
 use crate::pictures::push_compounds;
-use crate::skins::{PlainSkin, plain_skin, skin_with};
+use crate::skins::{TestSkin, skin_with, unstyled_skin};
 use crate::words::{mode, number, numbers, style};
 use mad_format::{
     FmtComposite, LineSkin, WrapBound, check_wrap_bound, hard_wrap_composite, wrap_bound,
@@ -29,7 +29,7 @@ fn push_both(
     picture: &mut String,
     read: Composite,
     width: usize,
-    skin: &PlainSkin,
+    skin: &TestSkin,
 ) -> Result<(), Error> {
     let composite = FmtComposite::from(read, skin);
     push_wrap(alloc, picture, &composite, width, skin)?;
@@ -59,7 +59,7 @@ fn push_bound(
     picture: &mut String,
     composite: &FmtComposite,
     width: usize,
-    skin: &PlainSkin,
+    skin: &TestSkin,
 ) -> Result<(), Error> {
     let bound = wrap_bound(alloc, composite, width, skin)?;
     Ok(write!(picture, "starts {:?}", bound.starts)?)
@@ -71,7 +71,7 @@ pub fn check(alloc: Global, picture: &mut String, words: &str, text: &str) -> Re
     let width = number(&mut words);
     let starts = numbers(alloc, words)?;
     let read = Composite::from_inline(alloc, text)?;
-    let skin = plain_skin();
+    let skin = unstyled_skin();
     let composite = FmtComposite::from(read, &skin);
     let passes = check_wrap_bound(&composite, width, &skin, &WrapBound { starts })?;
     Ok(write!(picture, "{passes}")?)

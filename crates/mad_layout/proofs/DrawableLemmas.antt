@@ -1,4 +1,4 @@
--- A layout of a plain text is drawn exactly.
+-- A layout of a printable text is drawn exactly.
 use Rattle.std.proofs.Common.{◌≡◌, ℕ, Bool, true, false, zero, suc, ◌+◌, ◌-◌, ◌^◌, ◌<◌, ◌≤◌, inl, inr, List, [], ◌∷◌, ◌++◌, map, Option, Some, None, Contains, drop, length, min, take, refl, sym, ap, ◌∙◌, subst, arith, append_assoc}
 use Rattle.std.specs.Prelude.{IfSome, unwrap_or}
 use Rattle.std.specs.List.{AllByRecursion}
@@ -26,7 +26,7 @@ use Rattle.mad_blocks.specs.Layouts.{AreRead}
 use Rattle.mad_blocks.proofs.WideLayouts.{IsLayout}
 use Rattle.mad_format.specs.FmtLines.{IsLineRead, is_table_line}
 use Rattle.mad_blocks.specs.LayoutParts.{Part, table, block, single, parts_of, justified, code_room, IsLineAt, AreLinesAt, ArePartsAt}
-use Rattle.mad_layout.specs.Premises.{IsPlainRun, inner_width, runs_text, IsPlainPrefix, IsPlainText, IsPlainContent, KeepsPremises}
+use Rattle.mad_layout.specs.Premises.{IsPrintableRun, inner_width, runs_text, IsPrintablePrefix, IsPrintableText, IsPrintableContent, KeepsPremises}
 use Rattle.mad_rows.specs.Rows.{place_of}
 use Rattle.mad_rows.specs.RowStyles.{line_rules, line_style}
 use Rattle.mad_format.specs.CompositeWraps.{line_compounds, HaveKinds}
@@ -39,13 +39,13 @@ use Rattle.mad_format.specs.declared.line.FmtLine.{FmtLine}
 use Rattle.mad_format.specs.declared.line.FmtLine.TheVariants.{Normal, TableRow, TableRule, HorizontalRule}
 use Rattle.mad_layout.proofs.DrawableTables.{Later, table_drawable}
 use Rattle.mad_layout.proofs.DrawnParts.{each_of, pieces_shown, runs_are, some_joined, utf8_of}
-use Rattle.mad_layout.proofs.PrefixLemmas.{prefix_shown, prefix_columns, follow_up_plain}
+use Rattle.mad_layout.proofs.PrefixLemmas.{prefix_shown, prefix_columns, follow_up_printable}
 use Rattle.mad_blocks.proofs.PartLemmas.{IsPlacedOrKept, ArePlacedOrKept, IsPartOfKind, parts_kinds, code_placed}
 use Rattle.mad_layout.proofs.ReadParts.{ArePartsRead, parts_read, part_raw, all_in}
 use Rattle.mad_blocks.proofs.WrapKinds.{layout_fits}
 use Rattle.mad_format.proofs.ReadWraps.{margins-le}
 use Rattle.mad_layout.proofs.ColumnChars.{column_piece}
-use Rattle.mad_layout.proofs.WholeTokens.{IsShownRun, plain_is_shown, tokens_shown}
+use Rattle.mad_layout.proofs.WholeTokens.{IsShownRun, printable_is_shown, tokens_shown}
 
 -- ---- one line
 
@@ -63,7 +63,7 @@ place_inside None length columns margins drawn same fits h = omega (arith, same,
 place_inside (Some s) length columns margins drawn same fits h = h.1
 
 -- a line that fits with these margins
-drawable : (skin : RowSkin) (drawn : ℕ) (margins : ℕ × ℕ) (l : FmtComposite) → drawn < 2 ^ 64 - 1 → IsPlainPrefix skin l.kind → IsMeasured (line_rules skin) l
+drawable : (skin : RowSkin) (drawn : ℕ) (margins : ℕ × ℕ) (l : FmtComposite) → drawn < 2 ^ 64 - 1 → IsPrintablePrefix skin l.kind → IsMeasured (line_rules skin) l
     → margins.0 + columns_of (line_rules skin) l + margins.1 ≤ drawn → FitsPlace l.spacing (columns_of (line_rules skin) l) margins drawn → AllByRecursion IsShownRun (map run_of l.compounds.items) → IsDrawableLine skin drawn (line_with margins l)
 drawable skin drawn margins l bound prefix measured fits place shown =
     let same : l.visible_length ≡ columns_of (line_rules skin) l = omega (arith, measured, fits, bound) in
@@ -87,7 +87,7 @@ narrower_fits (Some s) columns wider margins drawn less h = (omega (arith, less,
 -- the lines of a composite that is wrapped in what its margins leave
 wrapped_drawable : (skin : RowSkin) (drawn first : ℕ) (margins : ℕ × ℕ) (kind other : CompositeKind) (place : Option Spacing) (r : Room) (ps : List Compound) (ts : List Token) (wrap : List FmtComposite) → drawn < 2 ^ 64 - 1
     → margins.0 + r.width + margins.1 ≤ drawn → FitsPlace place r.width margins drawn → first ≡ indent skin.list_items_indentation_mode kind → r.other ≡ indent skin.list_items_indentation_mode other
-    → IsPlainPrefix skin kind → IsPlainPrefix skin other → AllByRecursion IsShownRun (map run_of ps ++ map token_run ts) → HaveKinds kind other wrap → AllByRecursion (λ l. l.spacing ≡ place) wrap
+    → IsPrintablePrefix skin kind → IsPrintablePrefix skin other → AllByRecursion IsShownRun (map run_of ps ++ map token_run ts) → HaveKinds kind other wrap → AllByRecursion (λ l. l.spacing ≡ place) wrap
     → AllByRecursion (IsMeasured (line_rules skin)) wrap → LinesFit first r (map flagged_text (line_compounds wrap)) → AllByRecursion (IsMadeOf ps ts) (line_compounds wrap) → AreDrawable skin drawn (map (line_with margins) wrap)
 wrapped_drawable skin drawn first margins kind other place r ps ts [] bound inside fits_place first_is other_is prefix follow shown kinds spacing measured fits parts = tt
 wrapped_drawable skin drawn first margins kind other place r ps ts (l ∷ ls) bound inside fits_place first_is other_is prefix follow shown kinds spacing measured fits parts =
@@ -96,7 +96,7 @@ wrapped_drawable skin drawn first margins kind other place r ps ts (l ∷ ls) bo
     let columns : columns_of (line_rules skin) l ≤ r.width = omega (arith, own, fits.0) in
     let in_place : FitsPlace l.spacing (columns_of (line_rules skin) l) margins drawn =
     subst (λ (s : Option Spacing). FitsPlace s (columns_of (line_rules skin) l) margins drawn) (sym spacing.0) (narrower_fits place (columns_of (line_rules skin) l) r.width margins drawn columns fits_place) in (
-      drawable skin drawn margins l bound (subst (IsPlainPrefix skin) (sym kinds.0) prefix) measured.0 (omega (arith, columns, inside)) in_place
+      drawable skin drawn margins l bound (subst (IsPrintablePrefix skin) (sym kinds.0) prefix) measured.0 (omega (arith, columns, inside)) in_place
           (all_each (Contains runs) IsShownRun (λ x has. each_of IsShownRun runs x shown has) (map run_of l.compounds.items) parts.0),
       wrapped_drawable skin drawn r.other margins other other place r ps ts ls bound inside fits_place other_is other_is follow follow shown kinds.1 spacing.1 measured.1 fits.1 parts.1,
     )
@@ -116,13 +116,13 @@ pub record IsPlacedFor (skin : RowSkin) (width : ℕ) (line : StyledRuns) (l : F
   pub place : IfSome l.spacing (λ s. (s.width ≤ inner_of skin width l) × (min l.visible_length (inner_of skin width l) ≤ s.width))
 
 -- where the composite doesn't fit, its characters have room
-pub has_room : (skin : RowSkin) (width : ℕ) (line : StyledRuns) (source : FmtComposite) → IsPlainText skin (inner_width skin width line) (kind_of line.style) line.runs → IsPlacedFor skin width line source
+pub has_room : (skin : RowSkin) (width : ℕ) (line : StyledRuns) (source : FmtComposite) → IsPrintableText skin (inner_width skin width line) (kind_of line.style) line.runs → IsPlacedFor skin width line source
     → width < source.visible_length + (style_margins (line_rules skin) width source).0 + (style_margins (line_rules skin) width source).1 → HasRoom (room_of (line_rules skin) source.kind (inner_of skin width source)) (text_of source)
-has_room skin width line source plain read wide =
+has_room skin width line source printable read wide =
     let left = λ (k : CompositeKind). width - (margins_at (line_style skin k) (Some width)).0 - (margins_at (line_style skin k) (Some width)).1 in
     let premise = λ (k : CompositeKind) (text : List FlaggedChar). left k < indent skin.list_items_indentation_mode k + width_of text → HasRoom (room_of (line_rules skin) k (left k)) text in
     let text : runs_text line.runs ≡ text_of source = ap runs_text (sym read.text) ∙ runs_are source.compounds.items in
-    let room : premise source.kind (text_of source) = subst (λ k. premise k (text_of source)) (sym read.kind) (subst (premise (kind_of line.style)) text plain.room) in
+    let room : premise source.kind (text_of source) = subst (λ k. premise k (text_of source)) (sym read.kind) (subst (premise (kind_of line.style)) text printable.room) in
     room (omega (arith, wide, read.measured, margins-le (line_style skin source.kind) width))
 
 kept_place : (place : Option Spacing) (length columns inner : ℕ) (margins : ℕ × ℕ) (drawn : ℕ) → columns ≡ length → length ≤ inner → margins.0 + inner + margins.1 ≤ drawn
@@ -136,56 +136,56 @@ wrapped_place None length inner margins drawn wide inside h = tt
 wrapped_place (Some s) length inner margins drawn wide inside h = (omega (arith, wide, h.1), omega (arith, inside, h.0))
 
 read_drawable : (skin : RowSkin) (width drawn : ℕ) (line : StyledRuns) (source : FmtComposite) (lines : List FmtLine) → width ≤ drawn → drawn < 2 ^ 64 - 1
-    → IsPlainText skin (inner_width skin width line) (kind_of line.style) line.runs → IsPlacedFor skin width line source → IsLaidOutBy IsFittingWrap (line_rules skin) width source lines → AreDrawable skin drawn lines
-read_drawable skin width drawn line source lines narrower bound plain read (inl (fits, same)) =
+    → IsPrintableText skin (inner_width skin width line) (kind_of line.style) line.runs → IsPlacedFor skin width line source → IsLaidOutBy IsFittingWrap (line_rules skin) width source lines → AreDrawable skin drawn lines
+read_drawable skin width drawn line source lines narrower bound printable read (inl (fits, same)) =
     let margins : ℕ × ℕ = style_margins (line_rules skin) width source in
-    let prefix : IsPlainPrefix skin source.kind = subst (IsPlainPrefix skin) (sym read.kind) plain.prefix in
-    let runs : AllByRecursion IsPlainRun (map run_of source.compounds.items) = subst (AllByRecursion IsPlainRun) (sym read.text) plain.plain in
+    let prefix : IsPrintablePrefix skin source.kind = subst (IsPrintablePrefix skin) (sym read.kind) printable.prefix in
+    let runs : AllByRecursion IsPrintableRun (map run_of source.compounds.items) = subst (AllByRecursion IsPrintableRun) (sym read.text) printable.printable in
     let columns : columns_of (line_rules skin) source ≡ source.visible_length = omega (arith, fits, read.measured, narrower, bound) in
     let inside : margins.0 + inner_of skin width source + margins.1 ≤ drawn = omega (arith, narrower, margins-le (line_style skin source.kind) width) in
     let inner : source.visible_length ≤ inner_of skin width source = omega (arith, fits) in
     let one = drawable skin drawn margins source bound prefix read.measured (omega (arith, fits, columns, narrower))
     (kept_place source.spacing source.visible_length (columns_of (line_rules skin) source) (inner_of skin width source) margins drawn columns inner inside read.place)
-    (all_each IsPlainRun IsShownRun plain_is_shown (map run_of source.compounds.items) runs) in
+    (all_each IsPrintableRun IsShownRun printable_is_shown (map run_of source.compounds.items) runs) in
     subst (AreDrawable skin drawn) (sym same) (one, tt)
-read_drawable skin width drawn line source lines narrower bound plain read (inr (wide, (wrap, wraps, same))) =
+read_drawable skin width drawn line source lines narrower bound printable read (inr (wide, (wrap, wraps, same))) =
     let ps = source.compounds.items in
     let margins : ℕ × ℕ = style_margins (line_rules skin) width source in
-    let prefix : IsPlainPrefix skin source.kind = subst (IsPlainPrefix skin) (sym read.kind) plain.prefix in
+    let prefix : IsPrintablePrefix skin source.kind = subst (IsPrintablePrefix skin) (sym read.kind) printable.prefix in
     let r : Room = room_of (line_rules skin) source.kind (inner_of skin width source) in
-    let runs : AllByRecursion IsPlainRun (map run_of ps) = subst (AllByRecursion IsPlainRun) (sym read.text) plain.plain in
-    let room : HasRoom r (text_of source) = has_room skin width line source plain read wide in
+    let runs : AllByRecursion IsPrintableRun (map run_of ps) = subst (AllByRecursion IsPrintableRun) (sym read.text) printable.printable in
+    let room : HasRoom r (text_of source) = has_room skin width line source printable read wide in
     let narrow : AllByRecursion (λ x. char_columns x.char ≤ token_limit r) (flagged_text ps) =
     all_each (λ x. most_indent r + char_columns x.char ≤ r.width) (λ x. char_columns x.char ≤ token_limit r) (λ x h. omega (arith, h)) (flagged_text ps) room.each in
     let tokens = tokens_of_all (token_limit r) ps (utf8_of ps runs) in
-    let shown = all_joined IsShownRun (map run_of ps) (map token_run tokens.0) (all_each IsPlainRun IsShownRun plain_is_shown (map run_of ps) runs)
+    let shown = all_joined IsShownRun (map run_of ps) (map token_run tokens.0) (all_each IsPrintableRun IsShownRun printable_is_shown (map run_of ps) runs)
     (tokens_shown (token_limit r) ps tokens.0 runs narrow tokens.1) in
     let inside : margins.0 + r.width + margins.1 ≤ drawn = omega (arith, narrower, margins-le (line_style skin source.kind) width) in
     let place : FitsPlace source.spacing r.width margins drawn =
     wrapped_place source.spacing source.visible_length (inner_of skin width source) margins drawn (omega (arith, wide, margins-le (line_style skin source.kind) width)) inside read.place in
     subst (AreDrawable skin drawn) (sym same)
-    (wrapped_drawable skin drawn r.first margins source.kind (follow_up source.kind) source.spacing r ps tokens.0 wrap bound inside place refl refl prefix (follow_up_plain skin source.kind prefix) shown
+    (wrapped_drawable skin drawn r.first margins source.kind (follow_up source.kind) source.spacing r ps tokens.0 wrap bound inside place refl refl prefix (follow_up_printable skin source.kind prefix) shown
     wraps.made.kinds wraps.made.spacing wraps.made.measured (wraps.fits room) (wraps.parts tokens.0 tokens.1))
 
 -- ---- a text
 
 -- so it has a line at least
-read_some : (skin : RowSkin) (width : ℕ) (line : StyledRuns) (source : FmtComposite) (lines : List FmtLine) → IsPlainText skin (inner_width skin width line) (kind_of line.style) line.runs → IsPlacedFor skin width line source
+read_some : (skin : RowSkin) (width : ℕ) (line : StyledRuns) (source : FmtComposite) (lines : List FmtLine) → IsPrintableText skin (inner_width skin width line) (kind_of line.style) line.runs → IsPlacedFor skin width line source
     → IsLaidOutBy IsFittingWrap (line_rules skin) width source lines → 0 < length lines
-read_some skin width line source lines plain read (inl (fits, same)) = let one : length lines ≡ 1 = ap length same in omega (arith, one)
-read_some skin width line source lines plain read (inr (wide, ([], wraps, same))) =
-    let room : HasRoom (room_of (line_rules skin) source.kind (inner_of skin width source)) (text_of source) = has_room skin width line source plain read wide in
+read_some skin width line source lines printable read (inl (fits, same)) = let one : length lines ≡ 1 = ap length same in omega (arith, one)
+read_some skin width line source lines printable read (inr (wide, ([], wraps, same))) =
+    let room : HasRoom (room_of (line_rules skin) source.kind (inner_of skin width source)) (text_of source) = has_room skin width line source printable read wide in
     let empty : width_of (text_of source) ≡ 0 = ap width_of wraps.keeps in
     absurd (omega (arith, wide, read.measured, room.indent, empty, margins-le (line_style skin source.kind) width))
-read_some skin width line source lines plain read (inr (wide, (w ∷ ws, wraps, same))) =
+read_some skin width line source lines printable read (inr (wide, (w ∷ ws, wraps, same))) =
     let more : length lines ≡ suc (length (map (line_with (style_margins (line_rules skin) width source)) ws)) = ap length same in omega (arith, more)
 
 -- what becomes of one line of a text
-content_drawable : (skin : RowSkin) (width drawn : ℕ) (part : List LineContent) (content : LineContent) (l m : FmtLine) (own : List FmtLine) → width ≤ drawn → drawn < 2 ^ 64 - 1 → IsPlainContent skin width part content → IsLineRead (line_rules skin) content l → is_table_line l ≡ false
+content_drawable : (skin : RowSkin) (width drawn : ℕ) (part : List LineContent) (content : LineContent) (l m : FmtLine) (own : List FmtLine) → width ≤ drawn → drawn < 2 ^ 64 - 1 → IsPrintableContent skin width part content → IsLineRead (line_rules skin) content l → is_table_line l ≡ false
     → IsPlacedOrKept (line_rules skin) width l m → IsLineAt IsFittingWrap (line_rules skin) (Some width) m own → (0 < length own) × AreDrawable skin drawn own
-content_drawable skin width drawn part (table_row cells) (TableRow row) m own narrower bound plain read alone placed here = absurd (cc)
-content_drawable skin width drawn part (table_rule aligns) (TableRule rule) m own narrower bound plain read alone placed here = absurd (cc)
-content_drawable skin width drawn part (normal said) (Normal l) m own narrower bound plain read alone (inl same) here =
+content_drawable skin width drawn part (table_row cells) (TableRow row) m own narrower bound printable read alone placed here = absurd (cc)
+content_drawable skin width drawn part (table_rule aligns) (TableRule rule) m own narrower bound printable read alone placed here = absurd (cc)
+content_drawable skin width drawn part (normal said) (Normal l) m own narrower bound printable read alone (inl same) here =
     let becomes : IsLaidOutBy IsFittingWrap (line_rules skin) width l own = subst (λ (x : FmtLine). IsLineAt IsFittingWrap (line_rules skin) (Some width) x own) same here in
     let is : IsPlacedFor skin width said l = record {
       kind = read.kind;
@@ -193,18 +193,18 @@ content_drawable skin width drawn part (normal said) (Normal l) m own narrower b
       measured = read.measured;
       place = subst (λ (s : Option Spacing). IfSome s (λ p. (p.width ≤ inner_of skin width l) × (min l.visible_length (inner_of skin width l) ≤ p.width))) (sym read.spacing) tt;
     } in
-    (read_some skin width said l own plain is becomes, read_drawable skin width drawn said l own narrower bound plain is becomes)
-content_drawable skin width drawn part (normal said) (Normal l) m own narrower bound plain read alone (inr placed) here =
+    (read_some skin width said l own printable is becomes, read_drawable skin width drawn said l own narrower bound printable is becomes)
+content_drawable skin width drawn part (normal said) (Normal l) m own narrower bound printable read alone (inr placed) here =
     let p : FmtComposite = record l { spacing = Some placed.place } in
     let becomes : IsLaidOutBy IsFittingWrap (line_rules skin) width p own = subst (λ (x : FmtLine). IsLineAt IsFittingWrap (line_rules skin) (Some width) x own) placed.is here in
     let is : IsPlacedFor skin width said p = record { kind = read.kind; text = read.text; measured = read.measured; place = (placed.inside, placed.holds) } in
-    (read_some skin width said p own plain is becomes, read_drawable skin width drawn said p own narrower bound plain is becomes)
-content_drawable skin width drawn part horizontal_rule HorizontalRule m own narrower bound plain read alone (inl same) here =
+    (read_some skin width said p own printable is becomes, read_drawable skin width drawn said p own narrower bound printable is becomes)
+content_drawable skin width drawn part horizontal_rule HorizontalRule m own narrower bound printable read alone (inl same) here =
     let becomes : own ≡ HorizontalRule ∷ [] = subst (λ (x : FmtLine). IsLineAt IsFittingWrap (line_rules skin) (Some width) x own) same here in
     let one : length own ≡ 1 = ap length becomes in
-    (omega (arith, one), subst (AreDrawable skin drawn) (sym becomes) (column_piece skin.horizontal_rule plain, tt))
-content_drawable skin width drawn part horizontal_rule HorizontalRule m own narrower bound plain read alone (inr placed) here = absurd placed
-content_drawable skin width drawn part _ _ m own narrower bound plain read alone _ here = absurd read
+    (omega (arith, one), subst (AreDrawable skin drawn) (sym becomes) (column_piece skin.horizontal_rule printable, tt))
+content_drawable skin width drawn part horizontal_rule HorizontalRule m own narrower bound printable read alone (inr placed) here = absurd placed
+content_drawable skin width drawn part _ _ m own narrower bound printable read alone _ here = absurd read
 
 -- the lines of a part, where those of the parts after it are drawn exactly
 lines_drawable : (skin : RowSkin) (width drawn n : ℕ) (part : List LineContent) (above : Option (List Alignment)) (begins : Bool) (text : List LineContent) (xs : List LineInPart) (read placed own others : List FmtLine) → width ≤ drawn → drawn < 2 ^ 64 - 1 → Later skin width drawn xs others

@@ -25,8 +25,8 @@ use Rattle.mad_blocks.specs.FittingLayouts.{IsFittingWrap}
 use Rattle.mad_format.specs.Indents.{indent, follow_up, room_of}
 use Rattle.mad_blocks.specs.Layouts.{AreRead}
 use Rattle.mad_format.specs.FmtLines.{bordered, rule_columns, AreCompositesRead, IsLineRead, is_table_line}
-use Rattle.mad_layout.specs.PlainTables.{ArePlainCells, IsPlainTableLine}
-use Rattle.mad_layout.specs.Premises.{IsPlainRun, runs_text, IsPlainPrefix, IsPlainText, AreBordersShown, ArePlainIn, IsPlainContent, KeepsPremises}
+use Rattle.mad_layout.specs.PrintableTables.{ArePrintableCells, IsPrintableTableLine}
+use Rattle.mad_layout.specs.Premises.{IsPrintableRun, runs_text, IsPrintablePrefix, IsPrintableText, AreBordersShown, ArePrintableIn, IsPrintableContent, KeepsPremises}
 use Rattle.mad_rows.specs.Rows.{compound_piece, inner_columns, prefix_pieces, place_of, row_columns, rule_chars}
 use Rattle.mad_rows.specs.RowStyles.{line_rules, line_style}
 use Rattle.mad_blocks.specs.Tables.{AreKeptWidths, in_column, IsBlankIn, columns_with, centered, columns_from, columns_count, columns_in, position_at, IsTop, IsLineAcross, AreDown, below, IsCellLaidOut, AreCellsLaidOut, IsRuleLaidOut, IsTableLineBy, AreTableLinesBy, IsTableLaidOutBy}
@@ -41,13 +41,13 @@ use Rattle.mad_format.specs.declared.table.FmtTableRow.{FmtTableRow}
 use Rattle.mad_format.specs.declared.table.FmtTableRule.{FmtTableRule}
 use Rattle.mad_format.specs.declared.table.RelativePosition.{RelativePosition}
 use Rattle.mad_layout.proofs.DrawnParts.{each_of, pieces_shown, runs_are, some_joined, utf8_of}
-use Rattle.mad_layout.proofs.PrefixLemmas.{prefix_shown, prefix_columns, follow_up_plain}
+use Rattle.mad_layout.proofs.PrefixLemmas.{prefix_shown, prefix_columns, follow_up_printable}
 use Rattle.mad_blocks.proofs.PartRuns.{AllTableLines}
 use Rattle.mad_blocks.proofs.TableLemmas.{top_spacing}
 use Rattle.mad_layout.proofs.KeptWidths.{AreTableRead, widths_kept}
 use Rattle.mad_layout.proofs.ReadParts.{table_raw}
 use Rattle.mad_layout.proofs.ColumnChars.{column_border, column_rule}
-use Rattle.mad_layout.proofs.WholeTokens.{IsShownRun, plain_is_shown, tokens_shown}
+use Rattle.mad_layout.proofs.WholeTokens.{IsShownRun, printable_is_shown, tokens_shown}
 
 -- ---- a line of a cell
 
@@ -55,7 +55,7 @@ use Rattle.mad_layout.proofs.WholeTokens.{IsShownRun, plain_is_shown, tokens_sho
 abbrev FillColumn : RowSkin → Spacing → List FmtComposite → Type 0
 FillColumn skin c ls = AllByRecursion (λ l. FillsItsPlace skin (in_column c l)) ls
 
-fills_column : (skin : RowSkin) (c : Spacing) (l : FmtComposite) → c.width < 2 ^ 64 - 1 → IsPlainPrefix skin l.kind → IsMeasured (line_rules skin) l → columns_of (line_rules skin) l ≤ c.width
+fills_column : (skin : RowSkin) (c : Spacing) (l : FmtComposite) → c.width < 2 ^ 64 - 1 → IsPrintablePrefix skin l.kind → IsMeasured (line_rules skin) l → columns_of (line_rules skin) l ≤ c.width
     → AllByRecursion IsShownRun (map run_of l.compounds.items) → FillsItsPlace skin (in_column c l)
 fills_column skin c l bound prefix measured fits shown =
     let same : l.visible_length ≡ columns_of (line_rules skin) l = omega (arith, measured, fits, bound) in
@@ -68,7 +68,7 @@ fills_column skin c l bound prefix measured fits shown =
     }
 
 wrapped_fill : (skin : RowSkin) (c : Spacing) (first : ℕ) (kind other : CompositeKind) (r : Room) (ps : List Compound) (ts : List Token) (wrap : List FmtComposite) → c.width < 2 ^ 64 - 1 → r.width ≡ c.width
-    → first ≡ indent skin.list_items_indentation_mode kind → r.other ≡ indent skin.list_items_indentation_mode other → IsPlainPrefix skin kind → IsPlainPrefix skin other
+    → first ≡ indent skin.list_items_indentation_mode kind → r.other ≡ indent skin.list_items_indentation_mode other → IsPrintablePrefix skin kind → IsPrintablePrefix skin other
     → AllByRecursion IsShownRun (map run_of ps ++ map token_run ts) → HaveKinds kind other wrap → AllByRecursion (IsMeasured (line_rules skin)) wrap → LinesFit first r (map flagged_text (line_compounds wrap))
     → AllByRecursion (IsMadeOf ps ts) (line_compounds wrap) → FillColumn skin c wrap
 wrapped_fill skin c first kind other r ps ts [] bound width first_is other_is prefix follow shown kinds measured fits parts = tt
@@ -76,30 +76,30 @@ wrapped_fill skin c first kind other r ps ts (l ∷ ls) bound width first_is oth
     let runs = map run_of ps ++ map token_run ts in
     let own : indent skin.list_items_indentation_mode l.kind ≡ first = ap (indent skin.list_items_indentation_mode) kinds.0 ∙ sym first_is in
     let columns : columns_of (line_rules skin) l ≤ c.width = omega (arith, own, width, fits.0) in (
-      fills_column skin c l bound (subst (IsPlainPrefix skin) (sym kinds.0) prefix) measured.0 columns
+      fills_column skin c l bound (subst (IsPrintablePrefix skin) (sym kinds.0) prefix) measured.0 columns
           (all_each (Contains runs) IsShownRun (λ x has. each_of IsShownRun runs x shown has) (map run_of l.compounds.items) parts.0),
       wrapped_fill skin c r.other other other r ps ts ls bound width other_is other_is follow follow shown kinds.1 measured.1 fits.1 parts.1,
     )
 
-cell_fills : (skin : RowSkin) (c : Spacing) (cell : FmtComposite) (ls : List FmtComposite) → c.width < 2 ^ 64 - 1 → IsMeasured (line_rules skin) cell → IsPlainText skin c.width cell.kind (map run_of cell.compounds.items)
+cell_fills : (skin : RowSkin) (c : Spacing) (cell : FmtComposite) (ls : List FmtComposite) → c.width < 2 ^ 64 - 1 → IsMeasured (line_rules skin) cell → IsPrintableText skin c.width cell.kind (map run_of cell.compounds.items)
     → IsCellLaidOut IsFittingWrap (line_rules skin) c.width cell ls → FillColumn skin c ls
-cell_fills skin c cell ls bound measured plain (inl (fits, same)) =
+cell_fills skin c cell ls bound measured printable (inl (fits, same)) =
     let columns : columns_of (line_rules skin) cell ≤ c.width = omega (arith, measured, fits, bound) in
-    let one = fills_column skin c cell bound plain.prefix measured columns (all_each IsPlainRun IsShownRun plain_is_shown (map run_of cell.compounds.items) plain.plain) in
+    let one = fills_column skin c cell bound printable.prefix measured columns (all_each IsPrintableRun IsShownRun printable_is_shown (map run_of cell.compounds.items) printable.printable) in
     subst (FillColumn skin c) (sym same) (one, tt)
-cell_fills skin c cell ls bound measured plain (inr (wide, wraps)) =
+cell_fills skin c cell ls bound measured printable (inr (wide, wraps)) =
     let ps = cell.compounds.items in
     let r : Room = room_of (line_rules skin) cell.kind c.width in
     let text : runs_text (map run_of ps) ≡ text_of cell = runs_are ps in
     let premise = λ (t : List FlaggedChar). c.width < indent skin.list_items_indentation_mode cell.kind + width_of t → HasRoom r t in
-    let room_where : premise (text_of cell) = subst premise text plain.room in
+    let room_where : premise (text_of cell) = subst premise text printable.room in
     let room : HasRoom r (text_of cell) = room_where (omega (arith, measured, wide)) in
     let narrow : AllByRecursion (λ x. char_columns x.char ≤ token_limit r) (flagged_text ps) =
     all_each (λ x. most_indent r + char_columns x.char ≤ r.width) (λ x. char_columns x.char ≤ token_limit r) (λ x h. omega (arith, h)) (flagged_text ps) room.each in
-    let tokens = tokens_of_all (token_limit r) ps (utf8_of ps plain.plain) in
-    let shown = all_joined IsShownRun (map run_of ps) (map token_run tokens.0) (all_each IsPlainRun IsShownRun plain_is_shown (map run_of ps) plain.plain)
-    (tokens_shown (token_limit r) ps tokens.0 plain.plain narrow tokens.1) in
-    wrapped_fill skin c r.first cell.kind (follow_up cell.kind) r ps tokens.0 ls bound refl refl refl plain.prefix (follow_up_plain skin cell.kind plain.prefix) shown wraps.made.kinds wraps.made.measured (wraps.fits room)
+    let tokens = tokens_of_all (token_limit r) ps (utf8_of ps printable.printable) in
+    let shown = all_joined IsShownRun (map run_of ps) (map token_run tokens.0) (all_each IsPrintableRun IsShownRun printable_is_shown (map run_of ps) printable.printable)
+    (tokens_shown (token_limit r) ps tokens.0 printable.printable narrow tokens.1) in
+    wrapped_fill skin c r.first cell.kind (follow_up cell.kind) r ps tokens.0 ls bound refl refl refl printable.prefix (follow_up_printable skin cell.kind printable.prefix) shown wraps.made.kinds wraps.made.measured (wraps.fits room)
     (wraps.parts tokens.0 tokens.1)
 
 -- ---- a row
@@ -114,16 +114,16 @@ FillColumns skin [] lines = Unit {0}
 FillColumns skin (c ∷ cs) [] = Unit {0}
 FillColumns skin (c ∷ cs) (ls ∷ lines) = FillColumn skin c ls × FillColumns skin cs lines
 
-no_cells : (skin : RowSkin) (ws : List ℕ) → ArePlainCells skin ws []
+no_cells : (skin : RowSkin) (ws : List ℕ) → ArePrintableCells skin ws []
 no_cells skin [] = tt
 no_cells skin (w ∷ ws) = tt
 
-cells_fill : (skin : RowSkin) (cs : List Spacing) (cells : List FmtComposite) (lines : List (List FmtComposite)) → AllByRecursion (λ c. c.width < 2 ^ 64 - 1) cs → ArePlainCells skin (widths_of cs) cells
+cells_fill : (skin : RowSkin) (cs : List Spacing) (cells : List FmtComposite) (lines : List (List FmtComposite)) → AllByRecursion (λ c. c.width < 2 ^ 64 - 1) cs → ArePrintableCells skin (widths_of cs) cells
     → AreCellsLaidOut IsFittingWrap (line_rules skin) cs cells lines → FillColumns skin cs lines
-cells_fill skin [] cells lines bound plain laid = tt
-cells_fill skin (c ∷ cs) cells [] bound plain laid = tt
-cells_fill skin (c ∷ cs) [] (ls ∷ lines) bound plain laid = (subst (FillColumn skin c) (sym laid.0) tt, cells_fill skin cs [] lines bound.1 (no_cells skin (widths_of cs)) laid.1)
-cells_fill skin (c ∷ cs) (cell ∷ cells) (ls ∷ lines) bound plain laid = (cell_fills skin c cell ls bound.0 plain.0 plain.1 laid.0, cells_fill skin cs cells lines bound.1 plain.2 laid.1)
+cells_fill skin [] cells lines bound printable laid = tt
+cells_fill skin (c ∷ cs) cells [] bound printable laid = tt
+cells_fill skin (c ∷ cs) [] (ls ∷ lines) bound printable laid = (subst (FillColumn skin c) (sym laid.0) tt, cells_fill skin cs [] lines bound.1 (no_cells skin (widths_of cs)) laid.1)
+cells_fill skin (c ∷ cs) (cell ∷ cells) (ls ∷ lines) bound printable laid = (cell_fills skin c cell ls bound.0 printable.0 printable.1 laid.0, cells_fill skin cs cells lines bound.1 printable.2 laid.1)
 
 -- an empty paragraph fills its place
 blank_fills : (skin : RowSkin) (c : Spacing) (x : FmtComposite) → IsBlankIn c x → FillsItsPlace skin x
@@ -221,17 +221,17 @@ map_some [] h = absurd (omega (arith, h))
 map_some (row ∷ rows) h = omega arith
 
 table_line_drawable : (skin : RowSkin) (drawn : ℕ) (ws : List ℕ) (cs : List Spacing) (position : RelativePosition) (l : FmtLine) (own : List FmtLine) → FitColumns drawn ws cs
-    → AreBordersShown skin → IsPlainTableLine skin ws l → IsTableLineBy IsFittingWrap (line_rules skin) cs position l own → (0 < length own) × AreDrawable skin drawn own
-table_line_drawable skin drawn ws cs position (TableRow row) own fit borders plain (rows, is, laid) =
+    → AreBordersShown skin → IsPrintableTableLine skin ws l → IsTableLineBy IsFittingWrap (line_rules skin) cs position l own → (0 < length own) × AreDrawable skin drawn own
+table_line_drawable skin drawn ws cs position (TableRow row) own fit borders printable (rows, is, laid) =
     let inside : 1 + bordered (widths_of cs) ≤ drawn = subst (λ vs. 1 + bordered vs ≤ drawn) (sym fit.are) fit.fit in
-    let cells : ArePlainCells skin (widths_of cs) row.cells.items = subst (λ vs. ArePlainCells skin vs row.cells.items) (sym fit.are) plain in
+    let cells : ArePrintableCells skin (widths_of cs) row.cells.items = subst (λ vs. ArePrintableCells skin vs row.cells.items) (sym fit.are) printable in
     let fill : FillColumns skin cs laid.lines = cells_fill skin cs row.cells.items laid.lines (widths_small drawn cs fit.bound inside) cells laid.laid_out in
     let count : length rows ≡ max _ 1 = laid.count in
     subst (λ (ls : List FmtLine). (0 < length ls) × AreDrawable skin drawn ls) (sym is) (map_some rows (omega (arith, count)), rows_drawable skin drawn cs laid.lines rows inside borders fill laid.rows_are)
-table_line_drawable skin drawn ws cs position (TableRule source) own fit borders plain (rule, is, laid) =
+table_line_drawable skin drawn ws cs position (TableRule source) own fit borders printable (rule, is, laid) =
     subst (λ (ls : List FmtLine). (0 < length ls) × AreDrawable skin drawn ls) (sym is)
     (omega arith, (rule_drawable skin drawn position cs rule fit.two (subst (λ vs. 1 + bordered vs ≤ drawn) (sym fit.are) fit.fit) borders laid, tt))
-table_line_drawable skin drawn ws cs position _ own fit borders plain _ = absurd plain
+table_line_drawable skin drawn ws cs position _ own fit borders printable _ = absurd printable
 
 -- ---- lines without columns
 
@@ -240,44 +240,44 @@ no_row [] h = refl
 no_row (cell ∷ cells) h = absurd (omega (arith, h))
 
 -- a line of a table without columns stays, and is drawn exactly
-bare_drawable : (skin : RowSkin) (drawn : ℕ) (l : FmtLine) → 2 ≤ drawn → AreBordersShown skin → IsPlainTableLine skin [] l → columns_in l ≡ 0 → IsDrawableLine skin drawn l
-bare_drawable skin drawn (TableRow row) two borders plain none =
+bare_drawable : (skin : RowSkin) (drawn : ℕ) (l : FmtLine) → 2 ≤ drawn → AreBordersShown skin → IsPrintableTableLine skin [] l → columns_in l ≡ 0 → IsDrawableLine skin drawn l
+bare_drawable skin drawn (TableRow row) two borders printable none =
     subst (IsDrawableRow skin drawn) (sym (no_row row.cells.items none)) (record { fits = omega (arith, two); each = tt; border = column_border skin.table.compound_style skin.table_border_chars.vertical borders.vertical })
-bare_drawable skin drawn (TableRule rule) two borders plain none = record { fits = subst (λ (ws : List ℕ). rule_columns ws ≤ drawn) (sym plain) two; chars = column_rule skin (rule_chars skin.table_border_chars rule.position) (borders.rules rule.position) }
-bare_drawable skin drawn _ two borders plain none = absurd plain
+bare_drawable skin drawn (TableRule rule) two borders printable none = record { fits = subst (λ (ws : List ℕ). rule_columns ws ≤ drawn) (sym printable) two; chars = column_rule skin (rule_chars skin.table_border_chars rule.position) (borders.rules rule.position) }
+bare_drawable skin drawn _ two borders printable none = absurd printable
 
 -- ---- lines of a text
 
-cells_plain : (skin : RowSkin) (ws : List ℕ) (said : List StyledRuns) (cells : List FmtComposite) → ArePlainIn skin ws said → AreCompositesRead (line_rules skin) said cells → ArePlainCells skin ws cells
-cells_plain skin [] said cells plain read = tt
-cells_plain skin (w ∷ ws) [] [] plain read = tt
-cells_plain skin (w ∷ ws) (s ∷ ss) (l ∷ ls) plain read = (
+cells_printable : (skin : RowSkin) (ws : List ℕ) (said : List StyledRuns) (cells : List FmtComposite) → ArePrintableIn skin ws said → AreCompositesRead (line_rules skin) said cells → ArePrintableCells skin ws cells
+cells_printable skin [] said cells printable read = tt
+cells_printable skin (w ∷ ws) [] [] printable read = tt
+cells_printable skin (w ∷ ws) (s ∷ ss) (l ∷ ls) printable read = (
   read.0.measured,
-  subst (λ (k : CompositeKind). IsPlainText skin w k (map run_of l.compounds.items)) (sym read.0.kind) (subst (λ (rs : List Run). IsPlainText skin w (kind_of s.style) rs) (sym read.0.text) plain.0),
-  cells_plain skin ws ss ls plain.1 read.1,
+  subst (λ (k : CompositeKind). IsPrintableText skin w k (map run_of l.compounds.items)) (sym read.0.kind) (subst (λ (rs : List Run). IsPrintableText skin w (kind_of s.style) rs) (sym read.0.text) printable.0),
+  cells_printable skin ws ss ls printable.1 read.1,
 )
-cells_plain skin _ _ _ plain read = absurd read
+cells_printable skin _ _ _ printable read = absurd read
 
 -- what a line of a table says that keeps the premises
 pub record TableContent (skin : RowSkin) (width : ℕ) (ws : List ℕ) (l : FmtLine) : Type 0 where
   pub two : 2 ≤ width
   pub borders : AreBordersShown skin
-  pub plain : IsPlainTableLine skin ws l
+  pub printable : IsPrintableTableLine skin ws l
 
--- cells that keep the premises of a part are plain in these columns
+-- cells that keep the premises of a part are printable in these columns
 abbrev pub ArePartColumns : RowSkin → ℕ → List LineContent → List ℕ → Type 0
-ArePartColumns skin width part ws = (cells : List StyledRuns) → ArePlainIn skin (kept_widths skin width part) cells → ArePlainIn skin ws cells
+ArePartColumns skin width part ws = (cells : List StyledRuns) → ArePrintableIn skin (kept_widths skin width part) cells → ArePrintableIn skin ws cells
 
 pub kept_columns : (skin : RowSkin) (width : ℕ) (part : List LineContent) (ws : List ℕ) → ws ≡ kept_widths skin width part → ArePartColumns skin width part ws
-kept_columns skin width part ws is cells given = subst (λ vs. ArePlainIn skin vs cells) (sym is) given
+kept_columns skin width part ws is cells given = subst (λ vs. ArePrintableIn skin vs cells) (sym is) given
 
-pub content_plain : (skin : RowSkin) (width : ℕ) (part : List LineContent) (ws : List ℕ) (c : LineContent) (l : FmtLine) → ArePartColumns skin width part ws → IsPlainContent skin width part c → IsLineRead (line_rules skin) c l → is_table_line l ≡ true
+pub content_printable : (skin : RowSkin) (width : ℕ) (part : List LineContent) (ws : List ℕ) (c : LineContent) (l : FmtLine) → ArePartColumns skin width part ws → IsPrintableContent skin width part c → IsLineRead (line_rules skin) c l → is_table_line l ≡ true
     → TableContent skin width ws l
-content_plain skin width part ws (normal said) (Normal l) columns plain read is = absurd (cc)
-content_plain skin width part ws (table_row cells) (TableRow row) columns plain read is = record { two = plain.0; borders = plain.1; plain = cells_plain skin ws cells row.cells.items (columns cells plain.2) read }
-content_plain skin width part ws (table_rule aligns) (TableRule rule) columns plain read is = record { two = plain.0; borders = plain.1; plain = read.widths }
-content_plain skin width part ws horizontal_rule HorizontalRule columns plain read is = absurd (cc)
-content_plain skin width part ws _ _ columns plain read is = absurd read
+content_printable skin width part ws (normal said) (Normal l) columns printable read is = absurd (cc)
+content_printable skin width part ws (table_row cells) (TableRow row) columns printable read is = record { two = printable.0; borders = printable.1; printable = cells_printable skin ws cells row.cells.items (columns cells printable.2) read }
+content_printable skin width part ws (table_rule aligns) (TableRule rule) columns printable read is = record { two = printable.0; borders = printable.1; printable = read.widths }
+content_printable skin width part ws horizontal_rule HorizontalRule columns printable read is = absurd (cc)
+content_printable skin width part ws _ _ columns printable read is = absurd read
 
 -- of lines of a text that come after a part, those that are drawn are drawn exactly
 abbrev pub Later : RowSkin → ℕ → ℕ → List LineInPart → List FmtLine → Type 0
@@ -290,10 +290,10 @@ laid_drawable skin width drawn zero part above text xs ws cs first table own oth
 laid_drawable skin width drawn (suc n) part above [] xs ws cs first [] own others fit narrower bound are columns later keeps reads lines laid =
     subst (λ (ls : List FmtLine). AreDrawable skin drawn (take (suc n) (ls ++ others))) (sym laid) (later (suc n) keeps)
 laid_drawable skin width drawn (suc n) part above (c ∷ text) xs ws cs first (l ∷ ls) own others fit narrower bound are columns later keeps reads lines (front, more, joins, here, below_it) =
-    let content : TableContent skin width ws l = content_plain skin width part ws c l columns keeps.0 reads.0 lines.0 in
+    let content : TableContent skin width ws l = content_printable skin width part ws c l columns keeps.0 reads.0 lines.0 in
     let two : 2 ≤ width = content.two in
     let columns_fit : FitColumns drawn ws cs = record { two = omega (arith, two, narrower); bound = bound; fit = omega (arith, fit, narrower); are = are } in
-    let one = table_line_drawable skin drawn ws (columns_from ws cs l) (position_at first (length ls == 0)) l front (fit_from drawn ws cs l columns_fit) content.borders content.plain here in
+    let one = table_line_drawable skin drawn ws (columns_from ws cs l) (position_at first (length ls == 0)) l front (fit_from drawn ws cs l columns_fit) content.borders content.printable here in
     subst (λ (xs : List FmtLine). AreDrawable skin drawn (take (suc n) xs)) (sym (ap (λ xs. xs ++ others) joins ∙ append_assoc front more others))
     (some_joined skin drawn front (more ++ others) n one.0 one.1
     (laid_drawable skin width drawn n part (aligns_at above c) text xs ws (columns_from ws cs l) false ls more others fit narrower bound (from-widths ws cs l are) columns later keeps.1 reads.1 lines.1 below_it))
@@ -304,10 +304,10 @@ bare_lines : (skin : RowSkin) (width drawn n : ℕ) (part : List LineContent) (a
 bare_lines skin width drawn zero part above first text xs table others narrower none later keeps reads lines = tt
 bare_lines skin width drawn (suc n) part above first [] xs [] others narrower none later keeps reads lines = later (suc n) keeps
 bare_lines skin width drawn (suc n) part above first (c ∷ text) xs (l ∷ ls) others narrower none later keeps reads lines =
-    let content : TableContent skin width [] l = content_plain skin width part [] c l (λ cells given. tt) keeps.0 reads.0 lines.0 in
+    let content : TableContent skin width [] l = content_printable skin width part [] c l (λ cells given. tt) keeps.0 reads.0 lines.0 in
     let two : 2 ≤ width = content.two in
     let own : columns_in l ≡ 0 = omega (arith, none) in
-    (bare_drawable skin drawn l (omega (arith, two, narrower)) content.borders content.plain own, bare_lines skin width drawn n part (aligns_at above c) false text xs ls others narrower (omega (arith, none)) later keeps.1 reads.1 lines.1)
+    (bare_drawable skin drawn l (omega (arith, two, narrower)) content.borders content.printable own, bare_lines skin width drawn n part (aligns_at above c) false text xs ls others narrower (omega (arith, none)) later keeps.1 reads.1 lines.1)
 bare_lines skin width drawn _ part above first _ xs _ others narrower none later keeps reads lines = absurd reads
 
 -- The lines of a table, which is a part of a text, and those after it.
@@ -317,7 +317,7 @@ pub table_drawable : (skin : RowSkin) (width drawn n : ℕ) (c : LineContent) (t
 table_drawable skin width drawn n c text xs l ls own others narrower bound later keeps reads lines (inl (inl none, stays)) =
     subst (λ (xs : List FmtLine). AreDrawable skin drawn (take (suc n) (xs ++ others))) (sym stays) (bare_lines skin width drawn (suc n) (c ∷ text) None true (c ∷ text) xs (l ∷ ls) others narrower none later keeps (table_raw skin (c ∷ text) (l ∷ ls) reads) lines)
 table_drawable skin width drawn n c text xs l ls own others narrower bound later keeps reads lines (inl (inr none, stays)) =
-    let content : TableContent skin width [] l = content_plain skin width (c ∷ text) [] c l (λ cells given. tt) keeps.0 reads.0.read lines.0 in
+    let content : TableContent skin width [] l = content_printable skin width (c ∷ text) [] c l (λ cells given. tt) keeps.0 reads.0.read lines.0 in
     let two : 2 ≤ width = content.two in
     absurd (omega (arith, none, two))
 table_drawable skin width drawn n c text xs l ls own others narrower bound later keeps reads lines (inr (some, place, (ws, kept, laid))) =
@@ -327,25 +327,25 @@ table_drawable skin width drawn n c text xs l ls own others narrower bound later
 -- ---- a table by itself
 
 alone_drawable : (skin : RowSkin) (drawn : ℕ) (ws : List ℕ) (cs : List Spacing) (first : Bool) (table own : List FmtLine) → FitColumns drawn ws cs → AreBordersShown skin
-    → AllByRecursion (IsPlainTableLine skin ws) table → AreTableLinesBy IsFittingWrap (line_rules skin) ws cs first table own → AreDrawable skin drawn own
-alone_drawable skin drawn ws cs first [] own fit borders plain laid = subst (AreDrawable skin drawn) (sym laid) tt
-alone_drawable skin drawn ws cs first (l ∷ ls) own fit borders plain (front, more, joins, here, below_it) =
+    → AllByRecursion (IsPrintableTableLine skin ws) table → AreTableLinesBy IsFittingWrap (line_rules skin) ws cs first table own → AreDrawable skin drawn own
+alone_drawable skin drawn ws cs first [] own fit borders printable laid = subst (AreDrawable skin drawn) (sym laid) tt
+alone_drawable skin drawn ws cs first (l ∷ ls) own fit borders printable (front, more, joins, here, below_it) =
     let below_fit : FitColumns drawn ws (columns_from ws cs l) = fit_from drawn ws cs l fit in
-    let one = table_line_drawable skin drawn ws (columns_from ws cs l) (position_at first (length ls == 0)) l front below_fit borders plain.0 here in
-    subst (AreDrawable skin drawn) (sym joins) (all_joined (IsDrawableLine skin drawn) front more one.1 (alone_drawable skin drawn ws (columns_from ws cs l) false ls more below_fit borders plain.1 below_it))
+    let one = table_line_drawable skin drawn ws (columns_from ws cs l) (position_at first (length ls == 0)) l front below_fit borders printable.0 here in
+    subst (AreDrawable skin drawn) (sym joins) (all_joined (IsDrawableLine skin drawn) front more one.1 (alone_drawable skin drawn ws (columns_from ws cs l) false ls more below_fit borders printable.1 below_it))
 
-bare_alone : (skin : RowSkin) (drawn : ℕ) (table : List FmtLine) → 2 ≤ drawn → AreBordersShown skin → columns_count table ≡ 0 → AllByRecursion (IsPlainTableLine skin []) table → AreDrawable skin drawn table
-bare_alone skin drawn [] two borders none plain = tt
-bare_alone skin drawn (l ∷ ls) two borders none plain =
-    let own : columns_in l ≡ 0 = omega (arith, none) in (bare_drawable skin drawn l two borders plain.0 own, bare_alone skin drawn ls two borders (omega (arith, none)) plain.1)
+bare_alone : (skin : RowSkin) (drawn : ℕ) (table : List FmtLine) → 2 ≤ drawn → AreBordersShown skin → columns_count table ≡ 0 → AllByRecursion (IsPrintableTableLine skin []) table → AreDrawable skin drawn table
+bare_alone skin drawn [] two borders none printable = tt
+bare_alone skin drawn (l ∷ ls) two borders none printable =
+    let own : columns_in l ≡ 0 = omega (arith, none) in (bare_drawable skin drawn l two borders printable.0 own, bare_alone skin drawn ls two borders (omega (arith, none)) printable.1)
 
 -- A table's lines fit where its columns do with their borders.
 pub tables_fitting : (skin : RowSkin) (width drawn : ℕ) (table lines : List FmtLine) → 2 ≤ width → width ≤ drawn → drawn < 2 ^ 64 - 1 → AreBordersShown skin
-    → AllByRecursion (IsPlainTableLine skin []) table → ((ws : List ℕ) → AreKeptWidths (columns_count table) width table ws → AllByRecursion (IsPlainTableLine skin ws) table)
+    → AllByRecursion (IsPrintableTableLine skin []) table → ((ws : List ℕ) → AreKeptWidths (columns_count table) width table ws → AllByRecursion (IsPrintableTableLine skin ws) table)
     → IsTableLaidOutBy IsFittingWrap (line_rules skin) (columns_count table) width table lines → AreDrawable skin drawn lines
-tables_fitting skin width drawn table lines two narrower bound borders bare plain (inl (inl none, stays)) =
+tables_fitting skin width drawn table lines two narrower bound borders bare printable (inl (inl none, stays)) =
     subst (AreDrawable skin drawn) (sym stays) (bare_alone skin drawn table (omega (arith, two, narrower)) borders none bare)
-tables_fitting skin width drawn table lines two narrower bound borders bare plain (inl (inr none, stays)) = absurd (omega (arith, none, two))
-tables_fitting skin width drawn table lines two narrower bound borders bare plain (inr (some, place, (ws, kept, laid))) =
+tables_fitting skin width drawn table lines two narrower bound borders bare printable (inl (inr none, stays)) = absurd (omega (arith, none, two))
+tables_fitting skin width drawn table lines two narrower bound borders bare printable (inr (some, place, (ws, kept, laid))) =
     let inside : bordered ws + 1 ≤ width = kept.fit in
-    alone_drawable skin drawn ws (centered ws) true table lines (record { two = omega (arith, two, narrower); bound = bound; fit = omega (arith, inside, narrower); are = centered-widths ws }) borders (plain ws kept) laid
+    alone_drawable skin drawn ws (centered ws) true table lines (record { two = omega (arith, two, narrower); bound = bound; fit = omega (arith, inside, narrower); are = centered-widths ws }) borders (printable ws kept) laid

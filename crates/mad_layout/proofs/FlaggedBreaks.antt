@@ -67,7 +67,7 @@ blank_tokens max [] h on = tt
 blank_tokens max (t ∷ ts) h on =
     let is : FlaggedChar → Type 0 = λ x. is_blank x ≡ true in
     let rest : List FlaggedChar = whole (map flagged_token ts) in
-    (blank_token t.blank (flagged_token t) (some_flagged t h.0.place) h.0.alike.alike (all_front is (flagged_token t) rest on), blank_tokens max ts h.1 (all_back is (flagged_token t) rest on))
+    (blank_token t.blank (flagged_token t) (some_flagged t h.0.within) h.0.alike.alike (all_front is (flagged_token t) rest on), blank_tokens max ts h.1 (all_back is (flagged_token t) rest on))
 
 fits_back : (max indent : ℕ) (r : Room) (qs : List (LineAndGap Token)) → AllByRecursion (IsHonest max) (lines_and_gaps qs) → LinesFit indent r (map (λ p. whole p.line) (map flagged_piece qs))
     → AllByRecursion (λ p. AllByRecursion (λ x. is_blank x ≡ true) (whole p.gap)) (map flagged_piece qs) → FitsFrom indent r qs

@@ -87,15 +87,15 @@ goes_through limit blank u (y ∷ ys) rest some alike within h =
     ∙ ap (λ l. l ∷ tokens_from limit [] rest) joins
 
 -- the tokens of a compound from a place on
-from_place : (limit start : ℕ) (p : Compound) (ts : List Token) → AreTokensFrom limit p start ts → map flagged_token ts ≡ tokens_from limit [] (flagged (flags_of p) (chars (drop start p.src.now)))
-from_place limit start p [] h =
+from_start : (limit start : ℕ) (p : Compound) (ts : List Token) → AreTokensFrom limit p start ts → map flagged_token ts ≡ tokens_from limit [] (flagged (flags_of p) (chars (drop start p.src.now)))
+from_start limit start p [] h =
     sym (ap (λ n. tokens_from limit [] (flagged (flags_of p) (chars (drop n p.src.now)))) h
     ∙ ap (λ l. tokens_from limit [] (flagged (flags_of p) (chars l))) (drop_all (length p.src.now) p.src.now (omega arith)) ∙ ap (λ l. tokens_from limit [] (flagged (flags_of p) l)) chars-nil)
-from_place limit start p (t ∷ ts) (first, more) =
+from_start limit start p (t ∷ ts) (first, more) =
     let rest : List FlaggedChar = flagged (flags_of p) (chars (drop t.end_in_compound p.src.now)) in
     let alike = first.alike in
-    ap (λ l. flagged_token t ∷ l) (from_place limit t.end_in_compound p ts more)
-    ∙ sym (goes_through limit t.blank [] (flagged_token t) rest (some_flagged t first.place) alike.alike
+    ap (λ l. flagged_token t ∷ l) (from_start limit t.end_in_compound p ts more)
+    ∙ sym (goes_through limit t.blank [] (flagged_token t) rest (some_flagged t first.within) alike.alike
     (λ several. omega (arith, alike.counts, alike.within several)) (subst (λ w. StopsBefore limit t.blank w rest) alike.counts first.stops))
     ∙ ap (tokens_from limit []) (sym (text_at limit start p t first))
 
@@ -104,5 +104,5 @@ pub tokens_agree : (r : Room) (ps : List Compound) (ts : List Token) → AreToke
 tokens_agree r [] ts h = ap (map flagged_token) h
 tokens_agree r (p ∷ ps) ts (own, others, joins, first, more) =
     ap (map flagged_token) joins ∙ map-append flagged_token own others
-    ∙ ap (λ l. l ++ map flagged_token others) (from_place (token_limit r) 0 p own first)
+    ∙ ap (λ l. l ++ map flagged_token others) (from_start (token_limit r) 0 p own first)
     ∙ ap (λ l. tokens_from (token_limit r) [] (flagged_of p) ++ l) (tokens_agree r ps others more)

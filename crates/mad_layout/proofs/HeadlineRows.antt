@@ -36,8 +36,8 @@ use Rattle.mad_rows.specs.RowStyles.{line_rules}
 abbrev chars_of : Glyph → List ℕ
 chars_of g = g.chars
 
-abbrev plainly : ℕ → PennedChar
-plainly c = record { char = c; pen = plain_pen }
+abbrev in_plain_pen : ℕ → PennedChar
+in_plain_pen c = record { char = c; pen = plain_pen }
 
 tails : (k : ℕ) (pen other : Look) → map chars_of (replicate k (record { chars = []; pen = pen })) ≡ map chars_of (replicate k (record { chars = []; pen = other }))
 tails zero pen other = refl
@@ -57,14 +57,14 @@ attach_same (suc k) pen other c a b h = (
       ∙ sym (map-append chars_of (glyphs (c ∷ b.0) k other) b.1),
 )
 
-joined_same : (cs : List PennedChar) → SameChars (penned_attached cs) (penned_attached (map plainly (map char_of cs)))
+joined_same : (cs : List PennedChar) → SameChars (penned_attached cs) (penned_attached (map in_plain_pen (map char_of cs)))
 joined_same [] = (refl, refl)
-joined_same (c ∷ cs) = attach_same (char_columns c.char) c.pen plain_pen c.char (penned_attached cs) (penned_attached (map plainly (map char_of cs))) (joined_same cs)
+joined_same (c ∷ cs) = attach_same (char_columns c.char) c.pen plain_pen c.char (penned_attached cs) (penned_attached (map in_plain_pen (map char_of cs))) (joined_same cs)
 
 cells_same : (cs : List PennedChar) (i : ℕ) → (get_or (penned_cells cs) i blank).chars ≡ cell_chars (map char_of cs) i
 cells_same cs i =
     sym (get_or-map chars_of (penned_cells cs) i blank) ∙ ap (λ l. get_or l i (32 ∷ [])) (joined_same cs).1
-    ∙ get_or-map chars_of (penned_cells (map plainly (map char_of cs))) i blank
+    ∙ get_or-map chars_of (penned_cells (map in_plain_pen (map char_of cs))) i blank
 
 -- ---- the rows of the area
 

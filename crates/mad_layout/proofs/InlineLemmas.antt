@@ -5,7 +5,7 @@ use Rattle.std.proofs.lemmas.List.{append-nil}
 use Rattle.mad_md.specs.Flagged.{run_of}
 use Rattle.mad_md.specs.ReadInline.{IsReadInline}
 use Rattle.mad_md.specs.declared.composite.Composite.{Composite}
-use Rattle.mad_md.specs.declared.composite.CompositeStyle.TheVariants.{Paragraph as Plain}
+use Rattle.mad_md.specs.declared.composite.CompositeStyle.TheVariants.{Paragraph as ParagraphText}
 use Rattle.mad_term.specs.Draws.{Draws}
 use Rattle.mad_term.specs.Trace.{Trace}
 use Rattle.mad_term.specs.declared.errors.Error.{Error}
@@ -42,7 +42,7 @@ displayed skin src l h items reading =
     ∙ ap (free_pieces skin Paragraph) (h.text.1.each items reading))
 
 -- a paragraph that is a line's reading is drawn as the line
-pub written : {T : Type 0} (skin : RowSkin) (src : List ℕ) (read : Composite) (old : Trace) (r : Result T Error) (new : Trace) → read.style ≡ Plain → IsReadInline src read.compounds.items
+pub written : {T : Type 0} (skin : RowSkin) (src : List ℕ) (read : Composite) (old : Trace) (r : Result T Error) (new : Trace) → read.style ≡ ParagraphText → IsReadInline src read.compounds.items
     → Draws old (composite_bytes skin read) r new → WritesInline skin src old r new
 written skin src read old r new style reads drawn =
     let bytes = ap (λ s. pieces_bytes (free_pieces skin (kind_of s) (map run_of read.compounds.items))) style ∙ ap (λ runs. pieces_bytes (free_pieces skin Paragraph runs)) (reads.1.each reads.1.reading reads.1.reads) in

@@ -7,19 +7,19 @@ use Rattle.std.proofs.lemmas.Str.{IsUtf8-from_ascii, chars-IsAscii}
 use Rattle.std.proofs.lemmas.Str.Ascii.{IsAscii-cons}
 use Rattle.mad_columns.specs.Columns.{char_columns}
 use Rattle.mad_columns.proofs.CharColumns.{char_columns-ascii}
-use Rattle.mad_md.specs.Flagged.{plain, flagged}
+use Rattle.mad_md.specs.Flagged.{unflagged, flagged}
 use Rattle.mad_md.specs.Lines.{StyledRuns, LineContent, table_row}
 use Rattle.mad_md.specs.Cells.{AreCells, IsCell, part_says}
 use Rattle.mad_md.specs.Inline.{byte}
 use Rattle.mad_md.specs.Parts.{HasNoNewline}
-use Rattle.mad_md.specs.Places.{StyledPlaces, LinePlaces, table_row_at, content_at}
+use Rattle.mad_md.specs.Spans.{StyledSpans, LineSpans, table_row_at, content_at}
 use Rattle.mad_md.specs.Reading.{IsReading, IsRead, unread_text}
 use Rattle.mad_md.specs.declared.composite.CompositeStyle.TheVariants.{ListItem}
 use Rattle.mad_style.specs.Kinds.{kind_of}
 use Rattle.mad_widths.specs.ColumnWidths.{needs_of, column_widths}
 use Rattle.mad_fit.specs.TextColumns.{width_of}
 use Rattle.mad_layout.specs.ItemCells.{item_in_a_cell, hanging_skin, ItemInACellKeepsPremises}
-use Rattle.mad_layout.specs.Premises.{IsColumnChar, AreRuleChars, IsPlainText, AreBordersShown, ArePlainIn, KeepsPremises, runs_text}
+use Rattle.mad_layout.specs.Premises.{IsColumnChar, AreRuleChars, IsPrintableText, AreBordersShown, ArePrintableIn, KeepsPremises, runs_text}
 use Rattle.mad_rows.specs.Rows.{rule_chars}
 use Rattle.mad_layout.specs.Sources.{TakesColumns}
 use Rattle.mad_layout.specs.TableColumns.{cell_columns, kept_widths}
@@ -28,7 +28,7 @@ use Rattle.mad_format.specs.declared.table.RelativePosition.{RelativePosition}
 use Rattle.mad_format.specs.declared.table.RelativePosition.TheVariants.{Top, Other, Bottom}
 use Rattle.mad_layout.proofs.KindLemmas.{no_newline, letter_ascii}
 use Rattle.mad_layout.proofs.ColumnChars.{ascii_column}
-use Rattle.mad_layout.proofs.SourceLemmas.{plain_run}
+use Rattle.mad_layout.proofs.SourceLemmas.{printable_run}
 
 -- ---- what is read
 
@@ -36,17 +36,17 @@ abbrev letters : List ℕ
 letters = 97 ∷ 98 ∷ 99 ∷ 100 ∷ []
 
 abbrev item : StyledRuns
-item = record { style = ListItem 0; runs = record { flags = plain; text = letters } ∷ [] }
+item = record { style = ListItem 0; runs = record { flags = unflagged; text = letters } ∷ [] }
 
 abbrev item_read : List LineContent
 item_read = table_row (item ∷ []) ∷ []
 
 -- where it is
-abbrev item_place : StyledPlaces
-item_place = record { style = ListItem 0; places = record { flags = plain; start = 3; end = 7 } ∷ [] }
+abbrev item_span : StyledSpans
+item_span = record { style = ListItem 0; spans = record { flags = unflagged; start = 3; end = 7 } ∷ [] }
 
-abbrev item_placed : List LinePlaces
-item_placed = table_row_at (item_place ∷ []) ∷ []
+abbrev item_spans : List LineSpans
+item_spans = table_row_at (item_span ∷ []) ∷ []
 
 abbrev cell_text : List ℕ
 cell_text = 42 ∷ 32 ∷ letters
@@ -68,7 +68,7 @@ text_cut = record {
   closed = tt;
 }
 
-cell_read : IsCell item_in_a_cell 1 cell_text item_place
+cell_read : IsCell item_in_a_cell 1 cell_text item_span
 unfolding trim_start trim_end chars encode
 cell_read = record {
   reading = byte 97 ∷ byte 98 ∷ byte 99 ∷ byte 100 ∷ [];
@@ -76,19 +76,19 @@ cell_read = record {
   says = refl;
 }
 
-row_said : table_row_at (item_place ∷ []) ≡ part_says (cell_text ∷ []) (item_place ∷ [])
+row_said : table_row_at (item_span ∷ []) ≡ part_says (cell_text ∷ []) (item_span ∷ [])
 unfolding trim_start trim_end chars encode
 row_said = refl
 
-item_reading : IsReading (unread_text false item_in_a_cell) item_placed
+item_reading : IsReading (unread_text false item_in_a_cell) item_spans
 item_reading = record {
   parts = item_in_a_cell ∷ [];
   cut = record { some = omega arith; joined = refl; cut = (item_unbroken, tt) };
-  are = (table_row_at (item_place ∷ []), plain, [], refl, (record { texts = cell_text ∷ []; cut = text_cut; cells = item_place ∷ []; read = (cell_read, tt); says = row_said }, refl), refl);
+  are = (table_row_at (item_span ∷ []), unflagged, [], refl, (record { texts = cell_text ∷ []; cut = text_cut; cells = item_span ∷ []; read = (cell_read, tt); says = row_said }, refl), refl);
 }
 
 lines_are_item : (lines : List LineContent) → IsRead (unread_text false item_in_a_cell) lines → lines ≡ item_read
-lines_are_item lines h = h.says ∙ ap (map (content_at item_in_a_cell)) (sym (h.only item_placed item_reading))
+lines_are_item lines h = h.says ∙ ap (map (content_at item_in_a_cell)) (sym (h.only item_spans item_reading))
 
 -- ---- its characters
 
@@ -107,7 +107,7 @@ letters_columns = record {
 
 four : width_of (runs_text item.runs) ≡ 4
 four =
-    let text : width_of (runs_text item.runs) ≡ char_columns 97 + (char_columns 98 + (char_columns 99 + (char_columns 100 + 0))) = ap (λ (cs : List ℕ). width_of (flagged plain cs ++ [])) (chars-IsAscii letters letters_ascii) in
+    let text : width_of (runs_text item.runs) ≡ char_columns 97 + (char_columns 98 + (char_columns 99 + (char_columns 100 + 0))) = ap (λ (cs : List ℕ). width_of (flagged unflagged cs ++ [])) (chars-IsAscii letters letters_ascii) in
     omega (arith, text, one 97 (omega arith) (omega arith), one 98 (omega arith) (omega arith), one 99 (omega arith) (omega arith), one 100 (omega arith) (omega arith))
 
 -- ---- borders
@@ -137,13 +137,13 @@ computed = refl
 five : kept_widths hanging_skin 7 item_read ≡ 5 ∷ []
 five = ap (λ (n : ℕ). column_widths 5 (needs_of (n ∷ []) ∷ [])) six ∙ computed
 
-plain_item : IsPlainText hanging_skin 5 (kind_of item.style) item.runs
-plain_item = record {
+printable_item : IsPrintableText hanging_skin 5 (kind_of item.style) item.runs
+printable_item = record {
   prefix = ascii_column 42 refl (omega arith) (omega arith);
-  plain = (plain_run plain letters letters_columns, tt);
+  printable = (printable_run unflagged letters letters_columns, tt);
   room = λ wide. record {
     indent = omega arith;
-    each = subst (λ (cs : List ℕ). AllByRecursion (λ x. 4 + char_columns x.char ≤ 5) (flagged plain cs ++ [])) (sym (chars-IsAscii letters letters_ascii))
+    each = subst (λ (cs : List ℕ). AllByRecursion (λ x. 4 + char_columns x.char ≤ 5) (flagged unflagged cs ++ [])) (sym (chars-IsAscii letters letters_ascii))
         (omega (arith, one 97 (omega arith) (omega arith)), (omega (arith, one 98 (omega arith) (omega arith)), (omega (arith, one 99 (omega arith) (omega arith)), (omega (arith, one 100 (omega arith) (omega arith)), tt))));
   };
 }
@@ -151,4 +151,4 @@ plain_item = record {
 pub item_in_a_cell_keeps_premises : ItemInACellKeepsPremises
 item_in_a_cell_keeps_premises lines h =
     subst (λ (ls : List LineContent). KeepsPremises hanging_skin 7 (lines_in_parts ls)) (sym (lines_are_item lines h))
-    ((omega arith, borders, subst (λ (vs : List ℕ). ArePlainIn hanging_skin vs (item ∷ [])) (sym five) (plain_item, tt)), tt)
+    ((omega arith, borders, subst (λ (vs : List ℕ). ArePrintableIn hanging_skin vs (item ∷ [])) (sym five) (printable_item, tt)), tt)

@@ -7,27 +7,27 @@ use Rattle.std.proofs.lemmas.Fmt.{length-decimal-le_succ}
 use Rattle.std.proofs.lemmas.Str.Ascii.{IsAscii-nil, IsAscii-cons}
 use Rattle.mad_columns.specs.Columns.{char_columns}
 use Rattle.mad_columns.proofs.CharColumns.{char_columns-ascii}
-use Rattle.mad_md.specs.Flagged.{plain, flagged}
+use Rattle.mad_md.specs.Flagged.{unflagged, flagged}
 use Rattle.mad_md.specs.Lines.{StyledRuns, LineContent, normal, horizontal_rule}
-use Rattle.mad_md.specs.Places.{LinePlaces, normal_at, horizontal_rule_at, content_at}
+use Rattle.mad_md.specs.Spans.{LineSpans, normal_at, horizontal_rule_at, content_at}
 use Rattle.mad_md.specs.Reading.{IsReading, AreLines, unread_text}
 use Rattle.mad_md.specs.Inline.{byte}
-use Rattle.mad_md.specs.Parts.{AreParts, HasNoNewline, line_places}
+use Rattle.mad_md.specs.Parts.{AreParts, HasNoNewline, line_spans}
 use Rattle.mad_md.specs.declared.composite.CompositeStyle.{CompositeStyle}
 use Rattle.mad_md.specs.declared.composite.CompositeStyle.TheVariants.{Header, Paragraph, ListItem, OrderedListItem, Code, Quote}
 use Rattle.mad_style.specs.Kinds.{kind_of}
 use Rattle.mad_fit.specs.TextColumns.{width_of}
 use Rattle.mad_format.specs.Indents.{indent}
-use Rattle.mad_layout.specs.Premises.{IsPlainPrefix, IsPlainText, KeepsPremises, inner_width, runs_text}
+use Rattle.mad_layout.specs.Premises.{IsPrintablePrefix, IsPrintableText, KeepsPremises, inner_width, runs_text}
 use Rattle.mad_layout.specs.SeveralKinds.{ascii_skin, several_kinds, SeveralKindsKeepPremises}
 use Rattle.mad_layout.specs.Sources.{TakesColumns}
 use Rattle.mad_blocks.specs.TextParts.{lines_in_parts}
-use Rattle.mad_layout.proofs.SourceLemmas.{plain_run}
+use Rattle.mad_layout.proofs.SourceLemmas.{printable_run}
 use Rattle.mad_layout.proofs.ColumnChars.{ascii_column}
 
 -- a line of one letter
 abbrev letter_line : CompositeStyle → ℕ → StyledRuns
-letter_line style c = record { style = style; runs = record { flags = plain; text = c ∷ [] } ∷ [] }
+letter_line style c = record { style = style; runs = record { flags = unflagged; text = c ∷ [] } ∷ [] }
 
 abbrev kinds_read : List LineContent
 kinds_read =
@@ -35,30 +35,30 @@ kinds_read =
     ∷ normal (letter_line Quote 101) ∷ horizontal_rule ∷ normal (letter_line Code 102) ∷ []
 
 -- where they are
-abbrev at_place : CompositeStyle → ℕ → ℕ → LinePlaces
-at_place style start end = normal_at (record { style = style; places = record { flags = plain; start = start; end = end } ∷ [] })
+abbrev at_span : CompositeStyle → ℕ → ℕ → LineSpans
+at_span style start end = normal_at (record { style = style; spans = record { flags = unflagged; start = start; end = end } ∷ [] })
 
 -- from each line on
-abbrev from_code : List LinePlaces
-from_code = at_place Code 27 28 ∷ []
+abbrev from_code : List LineSpans
+from_code = at_span Code 27 28 ∷ []
 
-abbrev from_rule : List LinePlaces
+abbrev from_rule : List LineSpans
 from_rule = horizontal_rule_at ∷ from_code
 
-abbrev from_quote : List LinePlaces
-from_quote = at_place Quote 17 18 ∷ from_rule
+abbrev from_quote : List LineSpans
+from_quote = at_span Quote 17 18 ∷ from_rule
 
-abbrev from_number : List LinePlaces
-from_number = at_place (OrderedListItem 0 1) 13 14 ∷ from_quote
+abbrev from_number : List LineSpans
+from_number = at_span (OrderedListItem 0 1) 13 14 ∷ from_quote
 
-abbrev from_item : List LinePlaces
-from_item = at_place (ListItem 0) 8 9 ∷ from_number
+abbrev from_item : List LineSpans
+from_item = at_span (ListItem 0) 8 9 ∷ from_number
 
-abbrev from_paragraph : List LinePlaces
-from_paragraph = at_place Paragraph 4 5 ∷ from_item
+abbrev from_paragraph : List LineSpans
+from_paragraph = at_span Paragraph 4 5 ∷ from_item
 
-abbrev kinds_placed : List LinePlaces
-kinds_placed = at_place (Header 1) 2 3 ∷ from_paragraph
+abbrev kinds_spans : List LineSpans
+kinds_spans = at_span (Header 1) 2 3 ∷ from_paragraph
 
 abbrev fence : List ℕ
 fence = 96 ∷ 96 ∷ 96 ∷ []
@@ -96,48 +96,48 @@ kinds_cut = record {
   );
 }
 
-kinds_are : AreLines several_kinds false false plain (line_places kinds_parts) kinds_placed
+kinds_are : AreLines several_kinds false false unflagged (line_spans kinds_parts) kinds_spans
 kinds_are = (
-  at_place (Header 1) 2 3,
-  plain,
+  at_span (Header 1) 2 3,
+  unflagged,
   from_paragraph,
   refl,
-  (plain, record { reading = byte 97 ∷ []; reads = record { spells = refl; marked = (refl, tt) }; says = refl; ends = refl }, refl),
+  (unflagged, record { reading = byte 97 ∷ []; reads = record { spells = refl; marked = (refl, tt) }; says = refl; ends = refl }, refl),
   (
-    at_place Paragraph 4 5,
-    plain,
+    at_span Paragraph 4 5,
+    unflagged,
     from_item,
     refl,
     record { reading = byte 98 ∷ []; reads = record { spells = refl; marked = (refl, tt) }; says = refl; ends = refl },
     (
-      at_place (ListItem 0) 8 9,
-      plain,
+      at_span (ListItem 0) 8 9,
+      unflagged,
       from_number,
       refl,
       record { reading = byte 99 ∷ []; reads = record { spells = refl; marked = (refl, tt) }; says = refl; ends = refl },
       (
-        at_place (OrderedListItem 0 1) 13 14,
-        plain,
+        at_span (OrderedListItem 0 1) 13 14,
+        unflagged,
         from_quote,
         refl,
         record { reading = byte 100 ∷ []; reads = record { spells = refl; marked = (refl, tt) }; says = refl; ends = refl },
         (
-          at_place Quote 17 18,
-          plain,
+          at_span Quote 17 18,
+          unflagged,
           from_rule,
           refl,
           record { reading = byte 101 ∷ []; reads = record { spells = refl; marked = (refl, tt) }; says = refl; ends = refl },
-          (horizontal_rule_at, plain, from_code, refl, (refl, refl), (at_place Code 27 28, plain, [], refl, (refl, refl), refl)),
+          (horizontal_rule_at, unflagged, from_code, refl, (refl, refl), (at_span Code 27 28, unflagged, [], refl, (refl, refl), refl)),
         ),
       ),
     ),
   ),
 )
 
-kinds_reading : IsReading (unread_text false several_kinds) kinds_placed
+kinds_reading : IsReading (unread_text false several_kinds) kinds_spans
 kinds_reading = record { parts = kinds_parts; cut = kinds_cut; are = kinds_are }
 
-says : map (content_at several_kinds) kinds_placed ≡ kinds_read
+says : map (content_at several_kinds) kinds_spans ≡ kinds_read
 says = refl
 
 pub letter_ascii : (c : ℕ) → c < 127 → IsAscii (c ∷ [])
@@ -151,16 +151,16 @@ letter_columns c low high =
       columns = subst (AllByRecursion (λ c. 0 < char_columns c)) (sym (chars-IsAscii (c ∷ []) (letter_ascii c high))) (omega (arith, one), tt);
     }
 
-letter_plain : (style : CompositeStyle) (c : ℕ) → 32 ≤ c → c < 127 → IsPlainPrefix ascii_skin (kind_of style) → indent ascii_skin.list_items_indentation_mode (kind_of style) + 1 ≤ inner_width ascii_skin 11 (letter_line style c)
-    → IsPlainText ascii_skin (inner_width ascii_skin 11 (letter_line style c)) (kind_of style) (letter_line style c).runs
-letter_plain style c low high prefix narrow =
+letter_printable : (style : CompositeStyle) (c : ℕ) → 32 ≤ c → c < 127 → IsPrintablePrefix ascii_skin (kind_of style) → indent ascii_skin.list_items_indentation_mode (kind_of style) + 1 ≤ inner_width ascii_skin 11 (letter_line style c)
+    → IsPrintableText ascii_skin (inner_width ascii_skin 11 (letter_line style c)) (kind_of style) (letter_line style c).runs
+letter_printable style c low high prefix narrow =
     let one : char_columns c ≡ 1 = char_columns-ascii c low high in
     let line : StyledRuns = letter_line style c in
     let cs : chars (c ∷ []) ≡ c ∷ [] = chars-IsAscii (c ∷ []) (letter_ascii c high) in
-    let text : width_of (runs_text line.runs) ≡ char_columns c + 0 = ap (λ (cs : List ℕ). width_of (flagged plain cs ++ [])) cs in
+    let text : width_of (runs_text line.runs) ≡ char_columns c + 0 = ap (λ (cs : List ℕ). width_of (flagged unflagged cs ++ [])) cs in
     record {
       prefix = prefix;
-      plain = (plain_run plain (c ∷ []) (letter_columns c low high), tt);
+      printable = (printable_run unflagged (c ∷ []) (letter_columns c low high), tt);
       room = λ wide. absurd (omega (arith, wide, text, one, narrow));
     }
 
@@ -168,18 +168,18 @@ letter_plain style c low high prefix narrow =
 
 pub several_kinds_keep_premises : SeveralKindsKeepPremises
 several_kinds_keep_premises lines h =
-    let same : lines ≡ kinds_read = h.says ∙ ap (map (content_at several_kinds)) (sym (h.only kinds_placed kinds_reading)) ∙ says in
+    let same : lines ≡ kinds_read = h.says ∙ ap (map (content_at several_kinds)) (sym (h.only kinds_spans kinds_reading)) ∙ says in
     subst (λ (ls : List LineContent). KeepsPremises ascii_skin 11 (lines_in_parts ls)) (sym same) (
-      letter_plain (Header 1) 97 (omega arith) (omega arith) tt (omega arith),
+      letter_printable (Header 1) 97 (omega arith) (omega arith) tt (omega arith),
       (
-        letter_plain Paragraph 98 (omega arith) (omega arith) tt (omega arith),
+        letter_printable Paragraph 98 (omega arith) (omega arith) tt (omega arith),
         (
-          letter_plain (ListItem 0) 99 (omega arith) (omega arith) (ascii_column 42 refl (omega arith) (omega arith)) (omega arith),
+          letter_printable (ListItem 0) 99 (omega arith) (omega arith) (ascii_column 42 refl (omega arith) (omega arith)) (omega arith),
           (
-            letter_plain (OrderedListItem 0 1) 100 (omega arith) (omega arith) (omega arith, ascii_column 46 refl (omega arith) (omega arith)) (omega (arith, length-decimal-le_succ 1 (omega arith))),
+            letter_printable (OrderedListItem 0 1) 100 (omega arith) (omega arith) (omega arith, ascii_column 46 refl (omega arith) (omega arith)) (omega (arith, length-decimal-le_succ 1 (omega arith))),
             (
-              letter_plain Quote 101 (omega arith) (omega arith) (ascii_column 62 refl (omega arith) (omega arith)) (omega arith),
-              (ascii_column 45 refl (omega arith) (omega arith), (letter_plain Code 102 (omega arith) (omega arith) tt (omega arith), tt)),
+              letter_printable Quote 101 (omega arith) (omega arith) (ascii_column 62 refl (omega arith) (omega arith)) (omega arith),
+              (ascii_column 45 refl (omega arith) (omega arith), (letter_printable Code 102 (omega arith) (omega arith) tt (omega arith), tt)),
             ),
           ),
         ),

@@ -13,7 +13,7 @@ pub mod InlineLemmas
 pub mod ItemCellLemmas
 pub mod KeptWidths
 pub mod KindLemmas
-pub mod PlainLineLemmas
+pub mod UnmarkedLineLemmas
 pub mod PrefixLemmas
 pub mod ReadParts
 pub mod RowChars

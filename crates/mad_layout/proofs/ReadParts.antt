@@ -96,13 +96,13 @@ table_joins skin c l ((d ∷ []) ∷ css) (single m ∷ ps) h parts =
     subst (λ (b : Bool). ReadWith skin b c d [] css (table (l ∷ []) ∷ single m ∷ ps)) (sym (apart (is_code c) (is_code d) (is_table c) (is_table d) (inr parts.0.0) (inr parts.0.1))) ((h, tt), parts)
 table_joins skin c l _ _ h parts = absurd parts.0
 
-stands_alone : (skin : RowSkin) (c : LineContent) (l : FmtLine) (css : List (List LineContent)) (ps : List Part) → is_code c ≡ false → is_table c ≡ false → IsLineRead (line_rules skin) c l → ArePartsRead skin css ps
+is_alone : (skin : RowSkin) (c : LineContent) (l : FmtLine) (css : List (List LineContent)) (ps : List Part) → is_code c ≡ false → is_table c ≡ false → IsLineRead (line_rules skin) c l → ArePartsRead skin css ps
     → ArePartsRead skin (in_front c css) (single l ∷ ps)
-stands_alone skin c l [] [] no_code no_table h parts = ((no_code, no_table, h), tt)
-stands_alone skin c l ([] ∷ css) (p ∷ ps) no_code no_table h parts = absurd parts.0
-stands_alone skin c l ((d ∷ ds) ∷ css) (p ∷ ps) no_code no_table h parts =
+is_alone skin c l [] [] no_code no_table h parts = ((no_code, no_table, h), tt)
+is_alone skin c l ([] ∷ css) (p ∷ ps) no_code no_table h parts = absurd parts.0
+is_alone skin c l ((d ∷ ds) ∷ css) (p ∷ ps) no_code no_table h parts =
     subst (λ (b : Bool). ReadWith skin b c d ds css (single l ∷ p ∷ ps)) (sym (apart (is_code c) (is_code d) (is_table c) (is_table d) (inl no_code) (inl no_table))) ((no_code, no_table, h), parts)
-stands_alone skin c l _ _ no_code no_table h parts = absurd parts
+is_alone skin c l _ _ no_code no_table h parts = absurd parts
 
 pub parts_read : (skin : RowSkin) (text : List LineContent) (read : List FmtLine) → AreRead (line_rules skin) text read → ArePartsRead skin (text_parts text) (parts_of read)
 parts_read skin [] [] h = tt
@@ -113,10 +113,10 @@ parts_read skin (normal said ∷ cs) (Normal l ∷ ls) h =
     let kind : is_code_kind l.kind ≡ is_code_kind (kind_of said.style) = ap is_code_kind h.0.kind in
     by_bool (λ b. is_code_kind l.kind ≡ b → ArePartsRead skin (in_front (normal said) (text_parts cs)) (with_composite b l (parts_of ls))) (is_code_kind l.kind)
     (λ on e. code_joins skin (normal said) l (text_parts cs) (parts_of ls) (record { code = sym kind ∙ on; read = h.0 }) parts)
-    (λ off e. stands_alone skin (normal said) (Normal l) (text_parts cs) (parts_of ls) (sym kind ∙ off) refl h.0 parts) refl
+    (λ off e. is_alone skin (normal said) (Normal l) (text_parts cs) (parts_of ls) (sym kind ∙ off) refl h.0 parts) refl
 parts_read skin (table_row cells ∷ cs) (TableRow row ∷ ls) h = table_joins skin (table_row cells) (TableRow row) (text_parts cs) (parts_of ls) (record { table = refl; line = refl; read = h.0 }) (parts_read skin cs ls h.1)
 parts_read skin (table_rule aligns ∷ cs) (TableRule rule ∷ ls) h = table_joins skin (table_rule aligns) (TableRule rule) (text_parts cs) (parts_of ls) (record { table = refl; line = refl; read = h.0 }) (parts_read skin cs ls h.1)
-parts_read skin (horizontal_rule ∷ cs) (HorizontalRule ∷ ls) h = stands_alone skin horizontal_rule HorizontalRule (text_parts cs) (parts_of ls) refl refl h.0 (parts_read skin cs ls h.1)
+parts_read skin (horizontal_rule ∷ cs) (HorizontalRule ∷ ls) h = is_alone skin horizontal_rule HorizontalRule (text_parts cs) (parts_of ls) refl refl h.0 (parts_read skin cs ls h.1)
 parts_read skin _ _ h = absurd h.0
 
 -- the lines of a part are what is read from those of the text's part

@@ -25,7 +25,7 @@ use Rattle.mad_layout.specs.FlaggedTables.{kept_widths, columns_below, rows_in_c
 use Rattle.mad_format.specs.Indents.{indent, follow_up, room_of}
 use Rattle.mad_format.specs.FmtLines.{bordered}
 use Rattle.mad_blocks.specs.LayoutParts.{is_code_kind, IsLineAt, AreLinesAt}
-use Rattle.mad_layout.specs.Premises.{IsPlainPrefix, IsPlainText, IsPlainContent, KeepsPremises, inner_width, runs_text}
+use Rattle.mad_layout.specs.Premises.{IsPrintablePrefix, IsPrintableText, IsPrintableContent, KeepsPremises, inner_width, runs_text}
 use Rattle.mad_rows.specs.RowStyles.{line_rules, line_style}
 use Rattle.mad_blocks.specs.TextParts.{LineInPart}
 use Rattle.mad_format.specs.WrappedLines.{style_margins, line_with, IsLaidOutBy}
@@ -37,7 +37,7 @@ use Rattle.mad_format.specs.declared.line.FmtLine.TheVariants.{Normal, Horizonta
 use Rattle.mad_layout.proofs.DrawableLemmas.{IsPlacedFor, has_room}
 use Rattle.mad_format.proofs.ReadWraps.{margins-le}
 use Rattle.mad_layout.proofs.DrawnParts.{runs_are}
-use Rattle.mad_layout.proofs.PrefixLemmas.{follow_up_plain}
+use Rattle.mad_layout.proofs.PrefixLemmas.{follow_up_printable}
 use Rattle.mad_layout.proofs.RowChars.{place_for, line_chars, row_chars, run_chars}
 use Rattle.mad_blocks.proofs.LayoutJoins.{by_bool}
 use Rattle.mad_layout.proofs.RowsExist.{rows_of, rows_exist}
@@ -84,7 +84,7 @@ record IsRowLine (skin : RowSkin) (width : ℕ) (part : List LineContent) (said 
   inside : columns_of (line_rules skin) l ≤ inner_width skin width said
   holds : is_code_kind (kind_of said.style) ≡ true → columns_of (line_rules skin) l ≤ widest_in part
 
-one_row : (skin : RowSkin) (area : Area) (part : List LineContent) (said : StyledRuns) (k : CompositeKind) (l : FmtComposite) → area.width < 2 ^ 64 - 1 → l.kind ≡ k → IsPlainPrefix skin k
+one_row : (skin : RowSkin) (area : Area) (part : List LineContent) (said : StyledRuns) (k : CompositeKind) (l : FmtComposite) → area.width < 2 ^ 64 - 1 → l.kind ≡ k → IsPrintablePrefix skin k
     → is_code_kind k ≡ is_code_kind (kind_of said.style) → line_style skin k ≡ line_style skin (kind_of said.style) → IsRowLine skin (area.width - 1) part said l
     → line_chars skin area.width (line_with (margins_at (line_style skin (kind_of said.style)) (Some (area.width - 1))) l) ≡ row_across skin area part said k (text_of l)
 one_row skin area part said k l bound kind prefix code style facts =
@@ -96,7 +96,7 @@ one_row skin area part said k l bound kind prefix code style facts =
     ∙ row_chars skin area part said (record l { kind = k }) bound prefix f.measured (f.spacing ∙ ap (λ b. place_for b place) (sym code)) inner f.inside (λ on. f.holds (sym code ∙ on))) facts
 
 -- of the lines of a wrap, those after the first
-others_across : (skin : RowSkin) (area : Area) (part : List LineContent) (said : StyledRuns) (wrap : List FmtComposite) → area.width < 2 ^ 64 - 1 → IsPlainPrefix skin (kind_of said.style)
+others_across : (skin : RowSkin) (area : Area) (part : List LineContent) (said : StyledRuns) (wrap : List FmtComposite) → area.width < 2 ^ 64 - 1 → IsPrintablePrefix skin (kind_of said.style)
     → (is_code_kind (kind_of said.style) ≡ true → inner_width skin (area.width - 1) said ≤ widest_in part) → HaveKinds (follow_up (kind_of said.style)) (follow_up (kind_of said.style)) wrap
     → AllByRecursion (λ (l : FmtComposite). l.spacing ≡ place_for (is_code_kind (kind_of said.style)) (min (widest_in part) (inner_width skin (area.width - 1) said))) wrap → AllByRecursion (IsMeasured (line_rules skin)) wrap
     → LinesFit (indent skin.list_items_indentation_mode (follow_up (kind_of said.style))) (room_of (line_rules skin) (kind_of said.style) (inner_width skin (area.width - 1) said)) (map flagged_text (line_compounds wrap))
@@ -108,11 +108,11 @@ others_across skin area part said (l ∷ ls) bound prefix most kinds spacing mea
     let own : indent skin.list_items_indentation_mode l.kind ≡ indent skin.list_items_indentation_mode (follow_up k) = ap (indent skin.list_items_indentation_mode) kinds.0 in
     let inside : columns_of (line_rules skin) l ≤ inner_width skin (area.width - 1) said = omega (arith, own, fits.0) in
     let facts : IsRowLine skin (area.width - 1) part said l = record { measured = measured.0; spacing = spacing.0; inside = inside; holds = λ on. omega (arith, inside, most on) } in
-    let first = one_row skin area part said (follow_up k) l bound kinds.0 (follow_up_plain skin k prefix) (code_follows k) (style_follows skin k) facts in
+    let first = one_row skin area part said (follow_up k) l bound kinds.0 (follow_up_printable skin k prefix) (code_follows k) (style_follows skin k) facts in
     let rest = others_across skin area part said ls bound prefix most kinds.1 spacing.1 measured.1 fits.1 in
     ap (λ x. x ∷ map (line_chars skin area.width) (map (line_with (margins_at (line_style skin k) (Some (area.width - 1)))) ls)) first ∙ ap (λ xs. row_across skin area part said (follow_up k) (text_of l) ∷ xs) rest
 
-wrap_across : (skin : RowSkin) (area : Area) (part : List LineContent) (said : StyledRuns) (wrap : List FmtComposite) → area.width < 2 ^ 64 - 1 → IsPlainPrefix skin (kind_of said.style)
+wrap_across : (skin : RowSkin) (area : Area) (part : List LineContent) (said : StyledRuns) (wrap : List FmtComposite) → area.width < 2 ^ 64 - 1 → IsPrintablePrefix skin (kind_of said.style)
     → (is_code_kind (kind_of said.style) ≡ true → inner_width skin (area.width - 1) said ≤ widest_in part) → HaveKinds (kind_of said.style) (follow_up (kind_of said.style)) wrap
     → AllByRecursion (λ (l : FmtComposite). l.spacing ≡ place_for (is_code_kind (kind_of said.style)) (min (widest_in part) (inner_width skin (area.width - 1) said))) wrap → AllByRecursion (IsMeasured (line_rules skin)) wrap
     → LinesFit (indent skin.list_items_indentation_mode (kind_of said.style)) (room_of (line_rules skin) (kind_of said.style) (inner_width skin (area.width - 1) said)) (map flagged_text (line_compounds wrap))
@@ -148,9 +148,9 @@ not_none : (ws : List FmtComposite) → (ws ≡ [] → ⊥) → 0 < length ws
 not_none [] h = absurd (h refl)
 not_none (w ∷ ws) h = omega arith
 
-kind_rows : (skin : RowSkin) (area : Area) (part : List LineContent) (said : StyledRuns) (l : FmtComposite) (own : List FmtLine) → area.width < 2 ^ 64 - 1 → IsPlainText skin (inner_width skin (area.width - 1) said) (kind_of said.style) said.runs
+kind_rows : (skin : RowSkin) (area : Area) (part : List LineContent) (said : StyledRuns) (l : FmtComposite) (own : List FmtLine) → area.width < 2 ^ 64 - 1 → IsPrintableText skin (inner_width skin (area.width - 1) said) (kind_of said.style) said.runs
     → IsPlacedIn skin (area.width - 1) part said (record l { kind = kind_of said.style }) → IsLaidOutBy IsCompositeWrap (line_rules skin) (area.width - 1) (record l { kind = kind_of said.style }) own → AreRowsIn skin area part said own
-kind_rows skin area part said l own bound plain read (inl (fits, same)) =
+kind_rows skin area part said l own bound printable read (inl (fits, same)) =
     let k : CompositeKind = kind_of said.style in
     let source : FmtComposite = record l { kind = k } in
     let width : ℕ = area.width - 1 in
@@ -164,16 +164,16 @@ kind_rows skin area part said l own bound plain read (inl (fits, same)) =
       (
         text_of source ∷ [],
         subst (λ (ps : List (List FlaggedChar)). AreRowsOf (room_of (line_rules skin) k (inner_width skin width said)) ps (text_of source ∷ [])) (sym parts) rows,
-        ap (map (line_chars skin area.width)) same ∙ ap (λ x. x ∷ []) (one_row skin area part said k source bound refl plain.prefix refl refl facts),
+        ap (map (line_chars skin area.width)) same ∙ ap (λ x. x ∷ []) (one_row skin area part said k source bound refl printable.prefix refl refl facts),
       ),
     )
-kind_rows skin area part said l own bound plain read (inr (wide, (wrap, wraps, same))) =
+kind_rows skin area part said l own bound printable read (inr (wide, (wrap, wraps, same))) =
     let k : CompositeKind = kind_of said.style in
     let source : FmtComposite = record l { kind = k } in
     let width : ℕ = area.width - 1 in
     let inner : ℕ = inner_width skin width said in
     let r : Room = room_of (line_rules skin) k inner in
-    let room : HasRoom r (text_of source) = has_room skin width said source plain (placed_for skin width part said l read) wide in
+    let room : HasRoom r (text_of source) = has_room skin width said source printable (placed_for skin width part said l read) wide in
     let passes : r.width < r.first + width_of (flagged_text l.compounds.items) = omega (arith, wide, read.measured, margins-le (line_style skin k) width) in
     let fits : LinesFit r.first r (map flagged_text (line_compounds wrap)) = wraps.wrap.fits room in
     let text : width_of (runs_text said.runs) ≡ width_of (text_of l) = ap width_of (ap runs_text (sym read.text) ∙ runs_are l.compounds.items) in
@@ -189,15 +189,15 @@ kind_rows skin area part said l own bound plain read (inr (wide, (wrap, wraps, s
       (
         map flagged_text (line_compounds wrap),
         subst (λ (ps : List (List FlaggedChar)). AreRowsOf r ps (map flagged_text (line_compounds wrap))) (sym parts) (wrapped_rows r l.compounds.items (line_compounds wrap) passes wraps.wrap),
-        ap (map (line_chars skin area.width)) same ∙ wrap_across skin area part said wrap bound plain.prefix most wraps.made.kinds spacing wraps.made.measured fits,
+        ap (map (line_chars skin area.width)) same ∙ wrap_across skin area part said wrap bound printable.prefix most wraps.made.kinds spacing wraps.made.measured fits,
       ),
     )
 
-pub said_rows : (skin : RowSkin) (area : Area) (part : List LineContent) (said : StyledRuns) (l : FmtComposite) (own : List FmtLine) → area.width < 2 ^ 64 - 1 → IsPlainText skin (inner_width skin (area.width - 1) said) (kind_of said.style) said.runs
+pub said_rows : (skin : RowSkin) (area : Area) (part : List LineContent) (said : StyledRuns) (l : FmtComposite) (own : List FmtLine) → area.width < 2 ^ 64 - 1 → IsPrintableText skin (inner_width skin (area.width - 1) said) (kind_of said.style) said.runs
     → IsPlacedIn skin (area.width - 1) part said l → IsLaidOutBy IsCompositeWrap (line_rules skin) (area.width - 1) l own → AreRowsIn skin area part said own
-said_rows skin area part said l own bound plain read laid =
+said_rows skin area part said l own bound printable read laid =
     let same : l ≡ record l { kind = kind_of said.style } = as_kind l (kind_of said.style) read.kind in
-    kind_rows skin area part said l own bound plain (subst (IsPlacedIn skin (area.width - 1) part said) same read) (subst (λ (x : FmtComposite). IsLaidOutBy IsCompositeWrap (line_rules skin) (area.width - 1) x own) same laid)
+    kind_rows skin area part said l own bound printable (subst (IsPlacedIn skin (area.width - 1) part said) same read) (subst (λ (x : FmtComposite). IsLaidOutBy IsCompositeWrap (line_rules skin) (area.width - 1) x own) same laid)
 
 -- ---- the rows of all lines
 
@@ -212,13 +212,13 @@ AreReadIn skin width [] [] = Unit {0}
 AreReadIn skin width (x ∷ xs) (l ∷ ls) = IsReadIn skin width x.part x.line l × AreReadIn skin width xs ls
 AreReadIn skin width _ _ = ⊥
 
-content_rows : (skin : RowSkin) (area : Area) (x : LineInPart) (line : LineContent) (l : FmtLine) (own : List FmtLine) → area.width < 2 ^ 64 - 1 → IsPlainContent skin (area.width - 1) x.part line
+content_rows : (skin : RowSkin) (area : Area) (x : LineInPart) (line : LineContent) (l : FmtLine) (own : List FmtLine) → area.width < 2 ^ 64 - 1 → IsPrintableContent skin (area.width - 1) x.part line
     → IsReadIn skin (area.width - 1) x.part line l → IsLineAt IsCompositeWrap (line_rules skin) (Some (area.width - 1)) l own → (0 < length own) × IsAcross skin area x line (map (line_chars skin area.width) own)
-content_rows skin area x (normal said) (Normal l) own bound plain read laid = said_rows skin area x.part said l own bound plain read laid
-content_rows skin area x horizontal_rule HorizontalRule own bound plain read laid =
+content_rows skin area x (normal said) (Normal l) own bound printable read laid = said_rows skin area x.part said l own bound printable read laid
+content_rows skin area x horizontal_rule HorizontalRule own bound printable read laid =
     let one : length own ≡ 1 = ap length laid in
-    (omega (arith, one), ap (map (line_chars skin area.width)) laid ∙ ap (λ (t : List ℕ). t ∷ []) (run_chars skin.horizontal_rule area.width (column_piece skin.horizontal_rule plain)))
-content_rows skin area x _ _ own bound plain read laid = absurd read
+    (omega (arith, one), ap (map (line_chars skin area.width)) laid ∙ ap (λ (t : List ℕ). t ∷ []) (run_chars skin.horizontal_rule area.width (column_piece skin.horizontal_rule printable)))
+content_rows skin area x _ _ own bound printable read laid = absurd read
 
 -- cells have rows in any columns
 cells_exist : (skin : RowSkin) (cs : List Spacing) (cells : List StyledRuns) → (placed : List CellInColumn) × AreInColumns skin cs cells placed

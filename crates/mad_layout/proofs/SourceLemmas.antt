@@ -9,10 +9,10 @@ use Rattle.std.proofs.lemmas.Str.{chars-append, IsUtf8-take, IsUtf8-between}
 use Rattle.unicode_width.specs.Width.{char_width}
 use Rattle.mad_columns.specs.Columns.{char_columns}
 use Rattle.mad_columns.proofs.CharColumns.{char_columns-three}
-use Rattle.mad_md.specs.Flagged.{Flags, FlaggedChar, RunPlace, flagged, is_blank, run_at}
+use Rattle.mad_md.specs.Flagged.{Flags, FlaggedChar, RunSpan, flagged, is_blank, run_at}
 use Rattle.mad_md.specs.Inline.{Item, runs, IsInlineReading}
 use Rattle.mad_md.specs.Lines.{LineContent}
-use Rattle.mad_md.specs.Parts.{LinePlace, line_places, line_text}
+use Rattle.mad_md.specs.Parts.{LineSpan, line_spans, line_text}
 use Rattle.mad_md.specs.Reading.{IsRead, unread_text}
 use Rattle.mad_md.proofs.ParagraphLemmas.{AreInlineLines, paragraphs_read}
 use Rattle.mad_md.proofs.RunBorders.{IsBordered, runs_bordered}
@@ -28,7 +28,7 @@ use Rattle.mad_fit.specs.declared.area.Area.{Area}
 use Rattle.mad_fit.proofs.AllLemmas.{all_front, all_back, all_each}
 use Rattle.mad_layout.specs.InArea.{ShowsText}
 use Rattle.mad_style.specs.Kinds.{kind_of}
-use Rattle.mad_layout.specs.Premises.{AreJoined, IsPlainRun, IsPlainText, IsPlainContent, KeepsPremises, inner_width, runs_text}
+use Rattle.mad_layout.specs.Premises.{AreJoined, IsPrintableRun, IsPrintableText, IsPrintableContent, KeepsPremises, inner_width, runs_text}
 use Rattle.mad_blocks.specs.TextParts.{LineInPart, lines_in_parts}
 use Rattle.mad_layout.specs.Sources.{TakesColumns, LinesTakeColumns, ShowsSource}
 use Rattle.mad_rows.specs.declared.row_skin.RowSkin.{RowSkin}
@@ -52,26 +52,26 @@ unjoined : (flags : Flags) (cs : List ℕ) → AllByRecursion (λ c. 0 < char_co
 unjoined flags [] h behind = tt
 unjoined flags (c ∷ cs) h behind = (λ none. absurd (omega (arith, none, h.0)), unjoined flags cs h.1 (not (is_blank (record { char = c; flags = flags }))))
 
-pub plain_run : (flags : Flags) (text : List ℕ) → TakesColumns text → IsPlainRun (record { flags = flags; text = text })
-plain_run flags text h = record { utf8 = h.utf8; printed = printed (chars text) h.columns; joined = unjoined flags (chars text) h.columns false }
+pub printable_run : (flags : Flags) (text : List ℕ) → TakesColumns text → IsPrintableRun (record { flags = flags; text = text })
+printable_run flags text h = record { utf8 = h.utf8; printed = printed (chars text) h.columns; joined = unjoined flags (chars text) h.columns false }
 
 -- ---- a line
 
-piece_columns : (text : List ℕ) (place : RunPlace) → TakesColumns text → IsBordered text place → TakesColumns (slice_range text place.start place.end)
-piece_columns text place h borders =
-    let behind : List ℕ = drop place.start text in
-    let utf8 : IsUtf8 (slice_range text place.start place.end) = IsUtf8-between text place.start place.end h.utf8 borders.order borders.first borders.last in
-    let cut : chars text ≡ chars (take place.start text) ++ chars behind =
-    sym (ap chars (take-append-drop place.start text)) ∙ chars-append (take place.start text) behind (IsUtf8-take text place.start h.utf8 borders.first) in
-    let rest : chars behind ≡ chars (slice_range text place.start place.end) ++ chars (drop (place.end - place.start) behind) =
-    sym (ap chars (take-append-drop (place.end - place.start) behind)) ∙ chars-append (slice_range text place.start place.end) (drop (place.end - place.start) behind) utf8 in
+piece_columns : (text : List ℕ) (span : RunSpan) → TakesColumns text → IsBordered text span → TakesColumns (slice_range text span.start span.end)
+piece_columns text span h borders =
+    let behind : List ℕ = drop span.start text in
+    let utf8 : IsUtf8 (slice_range text span.start span.end) = IsUtf8-between text span.start span.end h.utf8 borders.order borders.first borders.last in
+    let cut : chars text ≡ chars (take span.start text) ++ chars behind =
+    sym (ap chars (take-append-drop span.start text)) ∙ chars-append (take span.start text) behind (IsUtf8-take text span.start h.utf8 borders.first) in
+    let rest : chars behind ≡ chars (slice_range text span.start span.end) ++ chars (drop (span.end - span.start) behind) =
+    sym (ap chars (take-append-drop (span.end - span.start) behind)) ∙ chars-append (slice_range text span.start span.end) (drop (span.end - span.start) behind) utf8 in
     let from : AllByRecursion (λ c. 0 < char_columns c) (chars behind) =
-    all_back (λ c. 0 < char_columns c) (chars (take place.start text)) (chars behind) (subst (AllByRecursion (λ c. 0 < char_columns c)) cut h.columns) in
-    record { utf8 = utf8; columns = all_front (λ c. 0 < char_columns c) (chars (slice_range text place.start place.end)) _ (subst (AllByRecursion (λ c. 0 < char_columns c)) rest from) }
+    all_back (λ c. 0 < char_columns c) (chars (take span.start text)) (chars behind) (subst (AllByRecursion (λ c. 0 < char_columns c)) cut h.columns) in
+    record { utf8 = utf8; columns = all_front (λ c. 0 < char_columns c) (chars (slice_range text span.start span.end)) _ (subst (AllByRecursion (λ c. 0 < char_columns c)) rest from) }
 
-plain_runs : (text : List ℕ) (places : List RunPlace) → TakesColumns text → AllByRecursion (IsBordered text) places → AllByRecursion IsPlainRun (map (run_at text) places)
-plain_runs text [] h borders = tt
-plain_runs text (p ∷ ps) h borders = (plain_run p.flags _ (piece_columns text p h borders.0), plain_runs text ps h borders.1)
+printable_runs : (text : List ℕ) (spans : List RunSpan) → TakesColumns text → AllByRecursion (IsBordered text) spans → AllByRecursion IsPrintableRun (map (run_at text) spans)
+printable_runs text [] h borders = tt
+printable_runs text (p ∷ ps) h borders = (printable_run p.flags _ (piece_columns text p h borders.0), printable_runs text ps h borders.1)
 
 every : {A : Type 0} (P : A → Type 0) → ((x : A) → P x) → (xs : List A) → AllByRecursion P xs
 every P f [] = tt
@@ -80,13 +80,13 @@ every P f (x ∷ xs) = (f x, every P f xs)
 pub three-le : (style : LineStyle) (width : ℕ) → 3 ≤ width → 3 ≤ width - (margins_at style (Some width)).0 - (margins_at style (Some width)).1
 three-le style width wide = grind (arith, nat_tests)
 
-plain_line : (skin : RowSkin) (width : ℕ) (text : List ℕ) (reading : List Item) → 3 ≤ width → TakesColumns text → IsInlineReading text reading
-    → IsPlainText skin (inner_width skin width (record { style = Paragraph; runs = map (run_at text) (runs reading) })) (kind_of Paragraph) (map (run_at text) (runs reading))
-plain_line skin width text reading wide h reads =
+printable_line : (skin : RowSkin) (width : ℕ) (text : List ℕ) (reading : List Item) → 3 ≤ width → TakesColumns text → IsInlineReading text reading
+    → IsPrintableText skin (inner_width skin width (record { style = Paragraph; runs = map (run_at text) (runs reading) })) (kind_of Paragraph) (map (run_at text) (runs reading))
+printable_line skin width text reading wide h reads =
     let inner : 3 ≤ inner_width skin width (record { style = Paragraph; runs = map (run_at text) (runs reading) }) = three-le skin.paragraph width wide in
     record {
       prefix = tt;
-      plain = plain_runs text (runs reading) h (runs_bordered text reading h.utf8 reads);
+      printable = printable_runs text (runs reading) h (runs_bordered text reading h.utf8 reads);
       room = λ _. record {
         indent = omega arith;
         each = every _ (λ (x : FlaggedChar). omega (arith, inner, char_columns-three x.char)) (runs_text (map (run_at text) (runs reading)));
@@ -96,37 +96,37 @@ plain_line skin width text reading wide h reads =
 -- ---- a text
 
 -- the line keeps the premises in any part
-abbrev IsPlainAnywhere : RowSkin → ℕ → LineContent → Type 0
-IsPlainAnywhere skin width line = (part : List LineContent) → IsPlainContent skin width part line
+abbrev IsPrintableAnywhere : RowSkin → ℕ → LineContent → Type 0
+IsPrintableAnywhere skin width line = (part : List LineContent) → IsPrintableContent skin width part line
 
-lines_keep : (skin : RowSkin) (width : ℕ) (source : List ℕ) (places : List LinePlace) (lines : List LineContent) → 3 ≤ width
-    → AllByRecursion (λ place. TakesColumns (line_text source place)) places → AreInlineLines source places lines → AllByRecursion (IsPlainAnywhere skin width) lines
+lines_keep : (skin : RowSkin) (width : ℕ) (source : List ℕ) (spans : List LineSpan) (lines : List LineContent) → 3 ≤ width
+    → AllByRecursion (λ span. TakesColumns (line_text source span)) spans → AreInlineLines source spans lines → AllByRecursion (IsPrintableAnywhere skin width) lines
 lines_keep skin width source [] [] wide h reads = tt
 lines_keep skin width source (p ∷ ps) (l ∷ ls) wide h reads =
-    subst (λ (line : LineContent). AllByRecursion (IsPlainAnywhere skin width) (line ∷ ls)) (sym reads.0.says)
-    (λ part. plain_line skin width _ reads.0.reading wide h.0 reads.0.reads, lines_keep skin width source ps ls wide h.1 reads.1)
+    subst (λ (line : LineContent). AllByRecursion (IsPrintableAnywhere skin width) (line ∷ ls)) (sym reads.0.says)
+    (λ part. printable_line skin width _ reads.0.reading wide h.0 reads.0.reads, lines_keep skin width source ps ls wide h.1 reads.1)
 lines_keep skin width source _ _ wide h reads = absurd reads
 
-first_keep : (skin : RowSkin) (width n : ℕ) (xs : List LineInPart) → AllByRecursion (IsPlainAnywhere skin width) (map (λ (x : LineInPart). x.line) xs) → KeepsPremises skin width (take n xs)
+first_keep : (skin : RowSkin) (width n : ℕ) (xs : List LineInPart) → AllByRecursion (IsPrintableAnywhere skin width) (map (λ (x : LineInPart). x.line) xs) → KeepsPremises skin width (take n xs)
 first_keep skin width zero xs h = tt
 first_keep skin width (suc n) [] h = tt
 first_keep skin width (suc n) (x ∷ xs) h = (h.0 x.part, first_keep skin width n xs h.1)
 
 -- such a source is read line by line
-pub source_read : (source : List ℕ) (text : List LineContent) → LinesTakeColumns source → (read : IsRead (unread_text false source) text) → AreInlineLines source (line_places read.reads.parts) text
+pub source_read : (source : List ℕ) (text : List LineContent) → LinesTakeColumns source → (read : IsRead (unread_text false source) text) → AreInlineLines source (line_spans read.reads.parts) text
 source_read source text h read =
-    let places : List LinePlace = line_places read.reads.parts in
+    let spans : List LineSpan = line_spans read.reads.parts in
     let given = h read.reads.parts read.reads.cut in
     paragraphs_read source text read
-    (all_each (λ (p : LinePlace). TakesColumns (line_text source p) × IsParagraphText (line_text source p)) (λ (p : LinePlace). IsUtf8 (line_text source p)) (λ p x. x.0.utf8) places given)
-    (all_each (λ (p : LinePlace). TakesColumns (line_text source p) × IsParagraphText (line_text source p)) (λ (p : LinePlace). IsParagraphText (line_text source p)) (λ p x. x.1) places given)
+    (all_each (λ (p : LineSpan). TakesColumns (line_text source p) × IsParagraphText (line_text source p)) (λ (p : LineSpan). IsUtf8 (line_text source p)) (λ p x. x.0.utf8) spans given)
+    (all_each (λ (p : LineSpan). TakesColumns (line_text source p) × IsParagraphText (line_text source p)) (λ (p : LineSpan). IsParagraphText (line_text source p)) (λ p x. x.1) spans given)
 
 pub source_keeps : (skin : RowSkin) (width n : ℕ) (source : List ℕ) (text : List LineContent) → 3 ≤ width → LinesTakeColumns source → IsRead (unread_text false source) text → KeepsPremises skin width (take n (lines_in_parts text))
 source_keeps skin width n source text wide h read =
-    let places : List LinePlace = line_places read.reads.parts in
+    let spans : List LineSpan = line_spans read.reads.parts in
     first_keep skin width n (lines_in_parts text)
-    (subst (AllByRecursion (IsPlainAnywhere skin width)) (sym (lines_are text)) (lines_keep skin width source places text wide
-    (all_each (λ (p : LinePlace). TakesColumns (line_text source p) × IsParagraphText (line_text source p)) (λ (p : LinePlace). TakesColumns (line_text source p)) (λ p x. x.0) places (h read.reads.parts read.reads.cut))
+    (subst (AllByRecursion (IsPrintableAnywhere skin width)) (sym (lines_are text)) (lines_keep skin width source spans text wide
+    (all_each (λ (p : LineSpan). TakesColumns (line_text source p) × IsParagraphText (line_text source p)) (λ (p : LineSpan). TakesColumns (line_text source p)) (λ p x. x.0) spans (h read.reads.parts read.reads.cut))
     (source_read source text h read)))
 
 -- what an area shows of such a source

@@ -21,8 +21,8 @@ use Rattle.mad_layout.specs.FlaggedTables.{columns_among, cells_among, down, kep
 use Rattle.mad_layout.specs.FlaggedTexts.{LineInPart, aligns_at, position_in, lines_in, IsAcross}
 use Rattle.mad_format.specs.Indents.{indent, follow_up, room_of}
 use Rattle.mad_format.specs.FmtLines.{bordered, IsCompositeRead, AreCompositesRead, IsLineRead, is_table_line}
-use Rattle.mad_layout.specs.PlainTables.{ArePlainCells}
-use Rattle.mad_layout.specs.Premises.{IsPlainPrefix, IsPlainText, KeepsPremises}
+use Rattle.mad_layout.specs.PrintableTables.{ArePrintableCells}
+use Rattle.mad_layout.specs.Premises.{IsPrintablePrefix, IsPrintableText, KeepsPremises}
 use Rattle.mad_blocks.specs.Tables.{in_column, IsCellLaidOut, AreCellsLaidOut, below, tallest, IsRowLaidOutBy, columns_with, columns_from, columns_count, columns_in, position_at, IsTableLineBy, AreTableLinesBy, IsTableLaidOutBy}
 use Rattle.mad_blocks.specs.Tables as tables
 use Rattle.mad_format.specs.Wraps.{text_of, columns_of, IsMeasured}
@@ -34,10 +34,10 @@ use Rattle.mad_format.specs.declared.table.FmtTableRow.{FmtTableRow}
 use Rattle.mad_format.specs.declared.table.RelativePosition.{RelativePosition}
 use Rattle.mad_format.specs.declared.table.RelativePosition.TheVariants.{Other}
 use Rattle.mad_layout.proofs.CellChars.{cell_chars, column_chars, lines_rows, placed_lines, down_chars, rule_line_chars}
-use Rattle.mad_layout.proofs.DrawableTables.{TableContent, content_plain, kept_columns, widths_of, centered-widths, columns_with-widths, widths_small, map_some}
+use Rattle.mad_layout.proofs.DrawableTables.{TableContent, content_printable, kept_columns, widths_of, centered-widths, columns_with-widths, widths_small, map_some}
 use Rattle.mad_layout.proofs.DrawnParts.{runs_are}
 use Rattle.mad_layout.proofs.KeptWidths.{AreTableRead, count_read, widths_kept}
-use Rattle.mad_layout.proofs.PrefixLemmas.{follow_up_plain}
+use Rattle.mad_layout.proofs.PrefixLemmas.{follow_up_printable}
 use Rattle.mad_layout.proofs.RowChars.{line_chars}
 use Rattle.mad_layout.proofs.RowsAcross.{parts_are, HaveFirstRows, across_exist, some_same}
 use Rattle.mad_layout.proofs.ColumnChars.{column_rule}
@@ -47,13 +47,13 @@ use Rattle.mad_rows.specs.RowStyles.{line_rules}
 
 -- ---- a cell in its column
 
-one_in_column : (skin : RowSkin) (c : Spacing) (k : CompositeKind) (l : FmtComposite) → c.width < 2 ^ 64 - 1 → IsPlainPrefix skin k → l.kind ≡ k → IsMeasured (line_rules skin) l → columns_of (line_rules skin) l ≤ c.width
+one_in_column : (skin : RowSkin) (c : Spacing) (k : CompositeKind) (l : FmtComposite) → c.width < 2 ^ 64 - 1 → IsPrintablePrefix skin k → l.kind ≡ k → IsMeasured (line_rules skin) l → columns_of (line_rules skin) l ≤ c.width
     → cell_chars skin (in_column c l) ≡ row_in_column skin c k (text_of l)
 one_in_column skin c k l bound prefix kind measured fits =
     let same : l.visible_length ≡ columns_of (line_rules skin) l = omega (arith, measured, fits, bound) in
-    column_chars skin c l (subst (IsPlainPrefix skin) (sym kind) prefix) same ∙ ap (λ (x : CompositeKind). row_in_column skin c x (text_of l)) kind
+    column_chars skin c l (subst (IsPrintablePrefix skin) (sym kind) prefix) same ∙ ap (λ (x : CompositeKind). row_in_column skin c x (text_of l)) kind
 
-others_in_column : (skin : RowSkin) (c : Spacing) (k : CompositeKind) (ls : List FmtComposite) → c.width < 2 ^ 64 - 1 → IsPlainPrefix skin (follow_up k) → HaveKinds (follow_up k) (follow_up k) ls → AllByRecursion (IsMeasured (line_rules skin)) ls
+others_in_column : (skin : RowSkin) (c : Spacing) (k : CompositeKind) (ls : List FmtComposite) → c.width < 2 ^ 64 - 1 → IsPrintablePrefix skin (follow_up k) → HaveKinds (follow_up k) (follow_up k) ls → AllByRecursion (IsMeasured (line_rules skin)) ls
     → LinesFit (indent skin.list_items_indentation_mode (follow_up k)) (room_of (line_rules skin) k c.width) (map flagged_text (line_compounds ls)) → lines_rows skin c ls ≡ map (row_in_column skin c (follow_up k)) (map flagged_text (line_compounds ls))
 others_in_column skin c k [] bound prefix kinds measured fits = refl
 others_in_column skin c k (l ∷ ls) bound prefix kinds measured fits =
@@ -62,35 +62,35 @@ others_in_column skin c k (l ∷ ls) bound prefix kinds measured fits =
     let rest = others_in_column skin c k ls bound prefix kinds.1 measured.1 fits.1 in
     ap (λ x. x ∷ lines_rows skin c ls) first ∙ ap (λ xs. row_in_column skin c (follow_up k) (text_of l) ∷ xs) rest
 
-wrap_in_column : (skin : RowSkin) (c : Spacing) (k : CompositeKind) (ls : List FmtComposite) → c.width < 2 ^ 64 - 1 → IsPlainPrefix skin k → HaveKinds k (follow_up k) ls → AllByRecursion (IsMeasured (line_rules skin)) ls
+wrap_in_column : (skin : RowSkin) (c : Spacing) (k : CompositeKind) (ls : List FmtComposite) → c.width < 2 ^ 64 - 1 → IsPrintablePrefix skin k → HaveKinds k (follow_up k) ls → AllByRecursion (IsMeasured (line_rules skin)) ls
     → LinesFit (indent skin.list_items_indentation_mode k) (room_of (line_rules skin) k c.width) (map flagged_text (line_compounds ls)) → lines_rows skin c ls ≡ rows_in_column skin c k (map flagged_text (line_compounds ls))
 wrap_in_column skin c k [] bound prefix kinds measured fits = refl
 wrap_in_column skin c k (l ∷ ls) bound prefix kinds measured fits =
     let own : indent skin.list_items_indentation_mode l.kind ≡ indent skin.list_items_indentation_mode k = ap (indent skin.list_items_indentation_mode) kinds.0 in
     let first = one_in_column skin c k l bound prefix kinds.0 measured.0 (omega (arith, own, fits.0)) in
-    let rest = others_in_column skin c k ls bound (follow_up_plain skin k prefix) kinds.1 measured.1 fits.1 in
+    let rest = others_in_column skin c k ls bound (follow_up_printable skin k prefix) kinds.1 measured.1 fits.1 in
     ap (λ x. x ∷ lines_rows skin c ls) first ∙ ap (λ xs. row_in_column skin c k (text_of l) ∷ xs) rest
 
 -- the lines of a cell are rows of it
 abbrev HasRowsIn : RowSkin → Spacing → CompositeKind → List (List FlaggedChar) → List FmtComposite → Type 0
 HasRowsIn skin c k parts ls = (rows : List (List FlaggedChar)) × AreRowsOf (room_of (line_rules skin) k c.width) parts rows × (lines_rows skin c ls ≡ rows_in_column skin c k rows)
 
-cell_rows : (skin : RowSkin) (c : Spacing) (cell : FmtComposite) (ls : List FmtComposite) → c.width < 2 ^ 64 - 1 → IsMeasured (line_rules skin) cell → IsPlainText skin c.width cell.kind (map run_of cell.compounds.items)
+cell_rows : (skin : RowSkin) (c : Spacing) (cell : FmtComposite) (ls : List FmtComposite) → c.width < 2 ^ 64 - 1 → IsMeasured (line_rules skin) cell → IsPrintableText skin c.width cell.kind (map run_of cell.compounds.items)
     → IsCellLaidOut IsCompositeWrap (line_rules skin) c.width cell ls → HasRowsIn skin c cell.kind (map flagged_of cell.compounds.items) ls
-cell_rows skin c cell ls bound measured plain (inl (fits, same)) =
+cell_rows skin c cell ls bound measured printable (inl (fits, same)) =
     let inside : columns_of (line_rules skin) cell ≤ c.width = omega (arith, measured, fits, bound) in (
       text_of cell ∷ [],
       kept_rows (room_of (line_rules skin) cell.kind c.width) (text_of cell) (map flagged_of cell.compounds.items) (whole_parts cell.compounds.items) inside,
-      ap (lines_rows skin c) same ∙ ap (λ x. x ∷ []) (one_in_column skin c cell.kind cell bound plain.prefix refl measured inside),
+      ap (lines_rows skin c) same ∙ ap (λ x. x ∷ []) (one_in_column skin c cell.kind cell bound printable.prefix refl measured inside),
     )
-cell_rows skin c cell ls bound measured plain (inr (wide, wraps)) =
+cell_rows skin c cell ls bound measured printable (inr (wide, wraps)) =
     let ps = cell.compounds.items in
     let r : Room = room_of (line_rules skin) cell.kind c.width in
     let premise = λ (t : List FlaggedChar). c.width < indent skin.list_items_indentation_mode cell.kind + width_of t → HasRoom r t in
-    let room_where : premise (text_of cell) = subst premise (runs_are ps) plain.room in
+    let room_where : premise (text_of cell) = subst premise (runs_are ps) printable.room in
     let room : HasRoom r (text_of cell) = room_where (omega (arith, measured, wide)) in
     let passes : r.width < r.first + width_of (flagged_text ps) = omega (arith, measured, wide) in
-    (map flagged_text (line_compounds ls), wrapped_rows r ps (line_compounds ls) passes wraps.wrap, wrap_in_column skin c cell.kind ls bound plain.prefix wraps.made.kinds wraps.made.measured (wraps.wrap.fits room))
+    (map flagged_text (line_compounds ls), wrapped_rows r ps (line_compounds ls) passes wraps.wrap, wrap_in_column skin c cell.kind ls bound printable.prefix wraps.made.kinds wraps.made.measured (wraps.wrap.fits room))
 
 said_cell : (skin : RowSkin) (c : Spacing) (said : StyledRuns) (cell : FmtComposite) (ls : List FmtComposite) → IsCompositeRead (line_rules skin) said cell → HasRowsIn skin c cell.kind (map flagged_of cell.compounds.items) ls
     → HasRowsIn skin c (kind_of said.style) (marked_parts said) ls
@@ -100,30 +100,30 @@ said_cell skin c said cell ls read h =
 
 -- ---- a row
 
-none_plain : (skin : RowSkin) (ws : List ℕ) → ArePlainCells skin ws []
-none_plain skin [] = tt
-none_plain skin (w ∷ ws) = tt
+none_printable : (skin : RowSkin) (ws : List ℕ) → ArePrintableCells skin ws []
+none_printable skin [] = tt
+none_printable skin (w ∷ ws) = tt
 
 cells_in_columns : (skin : RowSkin) (cs : List Spacing) (said : List StyledRuns) (cells : List FmtComposite) (lines : List (List FmtComposite)) → AllByRecursion (λ c. c.width < 2 ^ 64 - 1) cs → AreCompositesRead (line_rules skin) said cells
-    → ArePlainCells skin (widths_of cs) cells → AreCellsLaidOut IsCompositeWrap (line_rules skin) cs cells lines → AreInColumns skin cs said (placed_lines skin cs lines)
-cells_in_columns skin [] said cells lines bound read plain laid = refl
-cells_in_columns skin (c ∷ cs) said cells [] bound read plain laid = absurd laid
-cells_in_columns skin (c ∷ cs) [] [] (ls ∷ lines) bound read plain laid =
+    → ArePrintableCells skin (widths_of cs) cells → AreCellsLaidOut IsCompositeWrap (line_rules skin) cs cells lines → AreInColumns skin cs said (placed_lines skin cs lines)
+cells_in_columns skin [] said cells lines bound read printable laid = refl
+cells_in_columns skin (c ∷ cs) said cells [] bound read printable laid = absurd laid
+cells_in_columns skin (c ∷ cs) [] [] (ls ∷ lines) bound read printable laid =
     let rest : List CellInColumn = placed_lines skin cs lines in (
       rest,
       ap (λ (xs : List FmtComposite). record { width = c.width; rows = lines_rows skin c xs } ∷ rest) laid.0,
-      cells_in_columns skin cs [] [] lines bound.1 tt (none_plain skin (widths_of cs)) laid.1,
+      cells_in_columns skin cs [] [] lines bound.1 tt (none_printable skin (widths_of cs)) laid.1,
     )
-cells_in_columns skin (c ∷ cs) (s ∷ ss) (cell ∷ cells) (ls ∷ lines) bound read plain laid =
+cells_in_columns skin (c ∷ cs) (s ∷ ss) (cell ∷ cells) (ls ∷ lines) bound read printable laid =
     let rest : List CellInColumn = placed_lines skin cs lines in
-    let own = said_cell skin c s cell ls read.0 (cell_rows skin c cell ls bound.0 plain.0 plain.1 laid.0) in (
+    let own = said_cell skin c s cell ls read.0 (cell_rows skin c cell ls bound.0 printable.0 printable.1 laid.0) in (
       own.0,
       rest,
       own.1,
       ap (λ (xs : List (List ℕ)). record { width = c.width; rows = xs } ∷ rest) own.2,
-      cells_in_columns skin cs ss cells lines bound.1 read.1 plain.2 laid.1,
+      cells_in_columns skin cs ss cells lines bound.1 read.1 printable.2 laid.1,
     )
-cells_in_columns skin _ _ _ _ bound read plain laid = absurd read
+cells_in_columns skin _ _ _ _ bound read printable laid = absurd read
 
 as_tall : (skin : RowSkin) (cs : List Spacing) (cells : List FmtComposite) (lines : List (List FmtComposite)) → AreCellsLaidOut IsCompositeWrap (line_rules skin) cs cells lines → most_rows (placed_lines skin cs lines) ≡ tallest lines
 as_tall skin [] cells [] laid = refl
@@ -134,14 +134,14 @@ as_tall skin (c ∷ cs) cells (ls ∷ lines) laid =
 as_tall skin _ cells _ laid = absurd laid
 
 row_is_across : (skin : RowSkin) (area : Area) (cs : List Spacing) (said : List StyledRuns) (cells : List FmtComposite) (rows : List FmtTableRow) → AllByRecursion (λ c. c.width < 2 ^ 64 - 1) cs → AreCompositesRead (line_rules skin) said cells
-    → ArePlainCells skin (widths_of cs) cells → IsRowLaidOutBy IsCompositeWrap (line_rules skin) cs cells rows → IsRowAcross skin area cs said (map (line_chars skin area.width) (map TableRow rows))
-row_is_across skin area cs said cells rows bound read plain laid =
+    → ArePrintableCells skin (widths_of cs) cells → IsRowLaidOutBy IsCompositeWrap (line_rules skin) cs cells rows → IsRowAcross skin area cs said (map (line_chars skin area.width) (map TableRow rows))
+row_is_across skin area cs said cells rows bound read printable laid =
     let placed : List CellInColumn = placed_lines skin cs laid.lines in
     let same : most_rows placed ≡ tallest laid.lines = as_tall skin cs cells laid.lines laid.laid_out in
     let tall : length rows ≡ max (tallest laid.lines) 1 = laid.count in
     let count : length rows ≡ max (most_rows placed) 1 = omega (arith, tall, same) in (
       placed,
-      cells_in_columns skin cs said cells laid.lines bound read plain laid.laid_out,
+      cells_in_columns skin cs said cells laid.lines bound read printable laid.laid_out,
       down_chars skin area cs laid.lines rows laid.rows_are ∙ ap (λ n. map (table_across skin area (1 + bordered (widths_of cs))) (rows_down skin n placed)) count,
     )
 
@@ -167,8 +167,8 @@ line_rows skin area ws x (table_row cells) (TableRow row) own bound fit is conte
     let cs : List Spacing = columns_below ws x.aligns in
     let widths : widths_of cs ≡ ws = below-widths ws x.aligns in
     let inside : 1 + bordered (widths_of cs) ≤ width = subst (λ vs. 1 + bordered vs ≤ width) (sym widths) fit in
-    let plain : ArePlainCells skin (widths_of cs) row.cells.items = subst (λ vs. ArePlainCells skin vs row.cells.items) (sym widths) content.plain in
-    let across = row_is_across skin area cs cells row.cells.items rows (widths_small width cs (omega (arith, bound)) inside) read plain laid in
+    let printable : ArePrintableCells skin (widths_of cs) row.cells.items = subst (λ vs. ArePrintableCells skin vs row.cells.items) (sym widths) content.printable in
+    let across = row_is_across skin area cs cells row.cells.items rows (widths_small width cs (omega (arith, bound)) inside) read printable laid in
     let count : length rows ≡ max _ 1 = laid.count in
     subst (λ (ls : List FmtLine). (0 < length ls) × IsAcross skin area x (table_row cells) (map (line_chars skin area.width) ls)) (sym same)
     (map_some rows (omega (arith, count)), subst (λ vs. IsRowAcross skin area (columns_below vs x.aligns) cells (map (line_chars skin area.width) (map TableRow rows))) is across)
@@ -194,7 +194,7 @@ table_front skin area zero ws xs ys read own others bound fit later keeps laid =
 table_front skin area (suc n) ws [] ys [] own others bound fit later keeps laid = subst (λ (ls : List FmtLine). HaveFirstRows skin area (suc n) ys (ls ++ others)) (sym laid) (later (suc n) keeps)
 table_front skin area (suc n) ws (x ∷ xs) ys (l ∷ ls) own others bound fit later keeps (here, behind, joins, h, more) =
     let drawn : List FmtLine → List (List ℕ) = map (line_chars skin area.width) in
-    let content : TableContent skin (area.width - 1) ws l = content_plain skin (area.width - 1) x.part ws x.line l (kept_columns skin (area.width - 1) x.part ws h.widths) keeps.0 h.read h.table in
+    let content : TableContent skin (area.width - 1) ws l = content_printable skin (area.width - 1) x.part ws x.line l (kept_columns skin (area.width - 1) x.part ws h.widths) keeps.0 h.read h.table in
     let first = line_rows skin area ws x x.line l here bound fit h.widths content h.read h.table h.laid in
     let rest = table_front skin area n ws xs ys ls behind others bound fit later keeps.1 more in
     let count : 0 < length (drawn here) = omega (arith, first.0, length-map here (line_chars skin area.width)) in

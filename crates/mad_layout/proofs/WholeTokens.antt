@@ -1,4 +1,4 @@
--- The tokens of a plain text begin with a character that takes columns.
+-- The tokens of a printable text begin with a character that takes columns.
 use Rattle.std.proofs.Common.{◌≡◌, ℕ, zero, suc, ◌<◌, ◌≤◌, inl, inr, Bool, true, false, not, ◌&&◌, List, [], ◌∷◌, ◌++◌, map, chars, length, drop, refl, sym, ap, ◌∙◌, subst, arith}
 use Rattle.std.specs.List.{AllByRecursion}
 use Rattle.std.specs.Char.{is_whitespace}
@@ -13,16 +13,16 @@ use Rattle.mad_fit.specs.Tokens.{StopsBefore, IsAlike, AreTokensFrom, AreTokensO
 use Rattle.mad_fit.specs.declared.tokens.Token.{Token}
 use Rattle.mad_fit.proofs.AllLemmas.{all_joined, all_front, all_back}
 use Rattle.mad_fit.proofs.TokenTexts.{text_at, some_flagged}
-use Rattle.mad_layout.specs.Premises.{AreJoined, IsPlainRun}
+use Rattle.mad_layout.specs.Premises.{AreJoined, IsPrintableRun}
 
 -- ---- characters without their flags
 
-abbrev pub plain_text : List FlaggedChar → List ℕ
-plain_text xs = map (λ (x : FlaggedChar). x.char) xs
+abbrev pub chars_of : List FlaggedChar → List ℕ
+chars_of xs = map (λ (x : FlaggedChar). x.char) xs
 
-plain-flagged : (f : Flags) (cs : List ℕ) → plain_text (flagged f cs) ≡ cs
-plain-flagged f [] = refl
-plain-flagged f (c ∷ cs) = ap (λ l. c ∷ l) (plain-flagged f cs)
+chars_of-flagged : (f : Flags) (cs : List ℕ) → chars_of (flagged f cs) ≡ cs
+chars_of-flagged f [] = refl
+chars_of-flagged f (c ∷ cs) = ap (λ l. c ∷ l) (chars_of-flagged f cs)
 
 printed_front : (cs ds : List ℕ) → IsPrinted (cs ++ ds) → IsPrinted cs
 printed_front [] ds h = tt
@@ -56,10 +56,10 @@ behind_alike b blank [] some h = absurd (omega arith)
 behind_alike b blank (x ∷ []) some h = ap not h.0
 behind_alike b blank (x ∷ y ∷ xs) some h = behind_alike (not (is_blank x)) blank (y ∷ xs) (omega arith) h.1
 
--- what is left of a plain text where a token begins
+-- what is left of a printable text where a token begins
 record IsRest (max : ℕ) (xs : List FlaggedChar) : Type 0 where
-  printed : IsPrinted (plain_text xs)
-  whole : IsWhole (plain_text xs)
+  printed : IsPrinted (chars_of xs)
+  whole : IsWhole (chars_of xs)
   ahead : Bool
   joined : AreJoined ahead xs
   narrow : AllByRecursion (λ x. char_columns x.char ≤ max) xs
@@ -78,7 +78,7 @@ none_widthless max w blank (x ∷ []) ys y some alike narrow (inr passes) none b
 none_widthless max w blank (x ∷ z ∷ xs) ys y some alike narrow (inr passes) none black after = omega (arith, alike.within (omega arith), passes, none)
 
 whole_behind : (max w : ℕ) (blank b : Bool) (xs ys : List FlaggedChar) → 0 < length xs → IsAlike max blank w xs → AllByRecursion (λ x. char_columns x.char ≤ max) xs
-    → StopsBefore max blank w ys → AreJoined (behind b xs) ys → IsWhole (plain_text ys)
+    → StopsBefore max blank w ys → AreJoined (behind b xs) ys → IsWhole (chars_of ys)
 whole_behind max w blank b xs [] some alike narrow stops joined = tt
 whole_behind max w blank b xs (y ∷ ys) some alike narrow stops joined =
     positive (char_columns y.char) (λ none.
@@ -86,15 +86,15 @@ whole_behind max w blank b xs (y ∷ ys) some alike narrow stops joined =
 
 -- the text in front is shown, and where the next begins the rest is as this was
 cut_rest : (max w : ℕ) (blank : Bool) (xs ys : List FlaggedChar) → 0 < length xs → IsAlike max blank w xs → StopsBefore max blank w ys → IsRest max (xs ++ ys)
-    → IsShown (plain_text xs) × IsRest max ys
+    → IsShown (chars_of xs) × IsRest max ys
 cut_rest max w blank xs ys some alike stops h =
-    let cut : plain_text (xs ++ ys) ≡ plain_text xs ++ plain_text ys = map-append (λ (x : FlaggedChar). x.char) xs ys in
-    let printed : IsPrinted (plain_text xs ++ plain_text ys) = subst IsPrinted cut h.printed in
-    let whole : IsWhole (plain_text xs ++ plain_text ys) = subst IsWhole cut h.whole in
+    let cut : chars_of (xs ++ ys) ≡ chars_of xs ++ chars_of ys = map-append (λ (x : FlaggedChar). x.char) xs ys in
+    let printed : IsPrinted (chars_of xs ++ chars_of ys) = subst IsPrinted cut h.printed in
+    let whole : IsWhole (chars_of xs ++ chars_of ys) = subst IsWhole cut h.whole in
     let joined : AreJoined (behind h.ahead xs) ys = joined_back h.ahead xs ys h.joined in (
-      record { printed = printed_front (plain_text xs) (plain_text ys) printed; whole = whole_front (plain_text xs) (plain_text ys) whole },
+      record { printed = printed_front (chars_of xs) (chars_of ys) printed; whole = whole_front (chars_of xs) (chars_of ys) whole },
       record {
-        printed = printed_back (plain_text xs) (plain_text ys) printed;
+        printed = printed_back (chars_of xs) (chars_of ys) printed;
         whole = whole_behind max w blank h.ahead xs ys some alike (all_front (λ x. char_columns x.char ≤ max) xs ys h.narrow) stops joined;
         ahead = behind h.ahead xs;
         joined = joined;
@@ -113,22 +113,22 @@ joined_whole : (f : Flags) (cs : List ℕ) → AreJoined false (flagged f cs) �
 joined_whole f [] h = tt
 joined_whole f (c ∷ cs) h = positive (char_columns c) (λ none. false≢true (h.0 none).1)
 
-pub plain_is_shown : (r : Run) → IsPlainRun r → IsShownRun r
-plain_is_shown r h = record { utf8 = h.utf8; shown = record { printed = h.printed; whole = joined_whole r.flags (chars r.text) h.joined } }
+pub printable_is_shown : (r : Run) → IsPrintableRun r → IsShownRun r
+printable_is_shown r h = record { utf8 = h.utf8; shown = record { printed = h.printed; whole = joined_whole r.flags (chars r.text) h.joined } }
 
 shown_from : (max start : ℕ) (p : Compound) (ts : List Token) → AreTokensFrom max p start ts → IsRest max (flagged (flags_of p) (chars (drop start p.src.now)))
     → AllByRecursion IsShownRun (map token_run ts)
 shown_from max start p [] h rest = tt
 shown_from max start p (t ∷ ts) (first, more) rest =
-    let cut = cut_rest max t.width t.blank (flagged_token t) (flagged (flags_of p) (chars (drop t.end_in_compound p.src.now))) (some_flagged t first.place) first.alike first.stops
+    let cut = cut_rest max t.width t.blank (flagged_token t) (flagged (flags_of p) (chars (drop t.end_in_compound p.src.now))) (some_flagged t first.within) first.alike first.stops
     (subst (IsRest max) (text_at max start p t first) rest) in (
-      record { utf8 = first.place.utf8; shown = subst IsShown (plain-flagged (flags_of t.compound) (chars (token_text t))) cut.0 },
+      record { utf8 = first.within.utf8; shown = subst IsShown (chars_of-flagged (flags_of t.compound) (chars (token_text t))) cut.0 },
       shown_from max t.end_in_compound p ts more cut.1,
     )
 
-rest_at_start : (max : ℕ) (p : Compound) → IsPlainRun (run_of p) → AllByRecursion (λ x. char_columns x.char ≤ max) (flagged_of p) → IsRest max (flagged_of p)
+rest_at_start : (max : ℕ) (p : Compound) → IsPrintableRun (run_of p) → AllByRecursion (λ x. char_columns x.char ≤ max) (flagged_of p) → IsRest max (flagged_of p)
 rest_at_start max p h narrow =
-    let same : plain_text (flagged_of p) ≡ chars p.src.now = plain-flagged (flags_of p) (chars p.src.now) in
+    let same : chars_of (flagged_of p) ≡ chars p.src.now = chars_of-flagged (flags_of p) (chars p.src.now) in
     record {
       printed = subst IsPrinted (sym same) h.printed;
       whole = subst IsWhole (sym same) (joined_whole (flags_of p) (chars p.src.now) h.joined);
@@ -137,12 +137,12 @@ rest_at_start max p h narrow =
       narrow = narrow;
     }
 
--- the tokens of plain compounds are shown
-pub tokens_shown : (max : ℕ) (ps : List Compound) (ts : List Token) → AllByRecursion IsPlainRun (map run_of ps) → AllByRecursion (λ x. char_columns x.char ≤ max) (flagged_text ps)
+-- the tokens of printable compounds are shown
+pub tokens_shown : (max : ℕ) (ps : List Compound) (ts : List Token) → AllByRecursion IsPrintableRun (map run_of ps) → AllByRecursion (λ x. char_columns x.char ≤ max) (flagged_text ps)
     → AreTokensOf max ps ts → AllByRecursion IsShownRun (map token_run ts)
-tokens_shown max [] ts plain narrow h = subst (λ (l : List Token). AllByRecursion IsShownRun (map token_run l)) (sym h) tt
-tokens_shown max (p ∷ ps) ts plain narrow (own, others, joins, first, more) =
+tokens_shown max [] ts printable narrow h = subst (λ (l : List Token). AllByRecursion IsShownRun (map token_run l)) (sym h) tt
+tokens_shown max (p ∷ ps) ts printable narrow (own, others, joins, first, more) =
     let is = λ (x : FlaggedChar). char_columns x.char ≤ max in
-    let here = shown_from max 0 p own first (rest_at_start max p plain.0 (all_front is (flagged_of p) (flagged_text ps) narrow)) in
-    let behind_it = tokens_shown max ps others plain.1 (all_back is (flagged_of p) (flagged_text ps) narrow) more in
+    let here = shown_from max 0 p own first (rest_at_start max p printable.0 (all_front is (flagged_of p) (flagged_text ps) narrow)) in
+    let behind_it = tokens_shown max ps others printable.1 (all_back is (flagged_of p) (flagged_text ps) narrow) more in
     subst (AllByRecursion IsShownRun) (sym (ap (map token_run) joins ∙ map-append token_run own others)) (all_joined IsShownRun (map token_run own) (map token_run others) here behind_it)

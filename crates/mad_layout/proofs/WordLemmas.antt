@@ -6,7 +6,7 @@ use Rattle.std.proofs.lemmas.Str.{IsUtf8-from_ascii, chars-IsAscii}
 use Rattle.std.proofs.lemmas.Str.Ascii.{IsAscii-cons, IsAscii-nil}
 use Rattle.mad_columns.specs.Columns.{char_columns}
 use Rattle.mad_columns.proofs.CharColumns.{char_columns-ascii}
-use Rattle.mad_md.specs.Parts.{AreParts, HasNoNewline, line_places, line_text}
+use Rattle.mad_md.specs.Parts.{AreParts, HasNoNewline, line_spans, line_text}
 use Rattle.mad_md.specs.ReadByMarks.{IsParagraphText}
 use Rattle.mad_fit.proofs.AllLemmas.{all_back}
 use Rattle.mad_layout.specs.Sources.{TakesColumns, LinesTakeColumns}
@@ -67,4 +67,4 @@ words_begin = (refl, inl refl)
 
 pub words_take_columns : LinesTakeColumns words
 words_take_columns parts cut =
-    subst (λ (ps : List (List ℕ)). AllByRecursion (λ place. TakesColumns (line_text words place) × IsParagraphText (line_text words place)) (line_places ps)) (sym (one_part parts cut)) ((words_columns, words_begin), tt)
+    subst (λ (ps : List (List ℕ)). AllByRecursion (λ span. TakesColumns (line_text words span) × IsParagraphText (line_text words span)) (line_spans ps)) (sym (one_part parts cut)) ((words_columns, words_begin), tt)

@@ -2,11 +2,11 @@
 use Rattle.std.proofs.Common.{◌≡◌, ℕ, zero, suc, replicate, ◌⊎◌, ◌≤◌, List, [], ◌∷◌, ◌++◌, map, inl, inr, chars, get_or, Option, Some, None, refl, ap, sym, ◌∙◌, subst, arith, lit<}
 use Rattle.std.specs.Prelude.{IfSome, IsSome, length, true, false, unwrap_or}
 use Rattle.std.proofs.lemmas.List.{append-nil, length-replicate}
-use Rattle.mad_md.specs.Flagged.{Run, plain, flagged, run_at, run_of}
+use Rattle.mad_md.specs.Flagged.{Run, unflagged, flagged, run_at, run_of}
 use Rattle.mad_md.specs.Lines.{LineContent, StyledRuns, normal}
-use Rattle.mad_md.specs.Parts.{line_places}
+use Rattle.mad_md.specs.Parts.{line_spans}
 use Rattle.mad_md.specs.Reading.{IsRead, unread_text}
-use Rattle.mad_md.specs.declared.composite.CompositeStyle.TheVariants.{Paragraph as Plain}
+use Rattle.mad_md.specs.declared.composite.CompositeStyle.TheVariants.{Paragraph as ParagraphText}
 use Rattle.mad_md.proofs.ParagraphLemmas.{AreInlineLines}
 use Rattle.mad_md.proofs.RunBorders.{unmarked_runs}
 use Rattle.mad_term.specs.Trace.{Trace}
@@ -26,7 +26,7 @@ use Rattle.mad_draw.proofs.PieceLemmas.{ascii_spaces, shown_spaces, spaces_colum
 use Rattle.mad_draw.proofs.ShownLemmas.{area_shown}
 use Rattle.mad_screen.proofs.PaintingLemmas.{painted_is_grid, text_leads}
 use Rattle.mad_screen.proofs.Paints.{read_leads, spaces_cells}
-use Rattle.mad_style.specs.CompoundStyles.{plain_style}
+use Rattle.mad_style.specs.CompoundStyles.{unstyled}
 use Rattle.mad_layout.proofs.SourceLemmas.{source_keeps, source_read}
 use Rattle.std.specs.List.{AllByRecursion}
 use Rattle.std.specs.Str.{IsAscii}
@@ -63,26 +63,26 @@ use Rattle.mad_layout.proofs.WordLemmas.{one_a, one_b, one_c, one_space, spelled
 -- ---- how it is read
 
 abbrev word_run : Run
-word_run = record { flags = plain; text = words }
+word_run = record { flags = unflagged; text = words }
 
 abbrev word_line : StyledRuns
-word_line = record { style = Plain; runs = word_run ∷ [] }
+word_line = record { style = ParagraphText; runs = word_run ∷ [] }
 
-one_line : (xs : List LineContent) → AreInlineLines words (line_places (words ∷ [])) xs → xs ≡ normal word_line ∷ []
+one_line : (xs : List LineContent) → AreInlineLines words (line_spans (words ∷ [])) xs → xs ≡ normal word_line ∷ []
 one_line [] h = absurd h
 one_line (l ∷ []) h =
-    ap (λ (x : LineContent). x ∷ []) (h.0.says ∙ ap (λ rs. normal (record { style = Plain; runs = map (run_at words) rs })) (unmarked_runs words h.0.reading refl h.0.reads))
+    ap (λ (x : LineContent). x ∷ []) (h.0.says ∙ ap (λ rs. normal (record { style = ParagraphText; runs = map (run_at words) rs })) (unmarked_runs words h.0.reading refl h.0.reads))
 one_line (l ∷ m ∷ ms) h = absurd h.1
 
 words_read : (text : List LineContent) → IsRead (unread_text false words) text → text ≡ normal word_line ∷ []
 words_read text read =
-    let are : AreInlineLines words (line_places read.reads.parts) text = source_read words text words_take_columns read in
-    one_line text (subst (λ (ps : List (List ℕ)). AreInlineLines words (line_places ps) text) (one_part read.reads.parts read.reads.cut) are)
+    let are : AreInlineLines words (line_spans read.reads.parts) text = source_read words text words_take_columns read in
+    one_line text (subst (λ (ps : List (List ℕ)). AreInlineLines words (line_spans ps) text) (one_part read.reads.parts read.reads.cut) are)
 
 -- ---- how it is laid out in eleven columns
 
 word_columns : width_of (runs_text (word_run ∷ [])) ≡ 9
-word_columns = ap (λ (cs : List ℕ). width_of (flagged plain cs ++ [])) spelled ∙ omega (arith, one_a, one_b, one_c, one_space)
+word_columns = ap (λ (cs : List ℕ). width_of (flagged unflagged cs ++ [])) spelled ∙ omega (arith, one_a, one_b, one_c, one_space)
 
 -- it is one line as it was read, without margins
 record OneLine (lines : List FmtLine) : Type 0 where
@@ -276,12 +276,12 @@ corner_stays old new taken empty start g skin area skin_is area_is none all h be
 
 -- ---- spaces
 
-blank_cell : get_or (penned_cells (penned_chars (spaces plain_style 12))) 0 blank ≡ blank
+blank_cell : get_or (penned_cells (penned_chars (spaces unstyled 12))) 0 blank ≡ blank
 blank_cell =
     let ascii : chars (replicate 12 32) ≡ replicate 12 32 = chars-IsAscii (replicate 12 32) (ascii_spaces 12) in
     ap (λ (gs : List Glyph). get_or gs 0 blank)
-    (cells_of_pieces (spaces plain_style 12) (shown_spaces plain_style 12) ∙ ap (λ (cs : List ℕ). cells_of (look_of_style plain_style.object_style) cs ++ []) ascii
-    ∙ ap (λ (gs : List Glyph). gs ++ []) (spaces_cells (look_of_style plain_style.object_style) 12))
+    (cells_of_pieces (spaces unstyled 12) (shown_spaces unstyled 12) ∙ ap (λ (cs : List ℕ). cells_of (look_of_style unstyled.object_style) cs ++ []) ascii
+    ∙ ap (λ (gs : List Glyph). gs ++ []) (spaces_cells (look_of_style unstyled.object_style) 12))
 
 known_rows : (row : ℕ → List RowPiece) (y count : ℕ) → ((k : ℕ) → AreKnown (row k)) → AllByRecursion AreKnown (rows_from row y count)
 known_rows row y zero h = tt
@@ -292,9 +292,9 @@ no_letter e = let first : 32 ≡ 97 = ap (λ (g : Glyph). get_or g.chars 0 0) e 
 
 pub spaces_are_no_text : SpacesAreNoText
 spaces_are_no_text old new none all h =
-    let row : ℕ → List RowPiece = λ y. spaces plain_style 12 in
-    let known : AreKnown (spaces plain_style 12) = spaces_known plain_style 12 (record { foreground = tt; background = tt; underline = tt }) in
-    let drawn = area_shown row word_area (omega arith) (omega arith) (known_rows row 0 2 (λ k. known)) (λ y inside. record { shown = shown_spaces plain_style 12; columns = spaces_columns plain_style 12 })
+    let row : ℕ → List RowPiece = λ y. spaces unstyled 12 in
+    let known : AreKnown (spaces unstyled 12) = spaces_known unstyled 12 (record { foreground = tt; background = tt; underline = tt }) in
+    let drawn = area_shown row word_area (omega arith) (omega arith) (known_rows row 0 2 (λ k. known)) (λ y inside. record { shown = shown_spaces unstyled 12; columns = spaces_columns unstyled 12 })
     (empty_grid 16 4) on_screen in
     let source : ShowsSource word_skin words word_area old new = record {
       lines = h.lines;

@@ -9,9 +9,8 @@ pub mod Inlines
 pub mod ItemCells
 pub mod LineTexts
 pub mod MadeSkins
-pub mod PlainLines
-pub mod PlainTables
 pub mod Premises
+pub mod PrintableTables
 pub mod RecoloredSkins
 pub mod RowSkins
 pub mod SeveralKinds
@@ -22,5 +21,6 @@ pub mod Skins
 pub mod Sources
 pub mod TableColumns
 pub mod Texts
+pub mod UnmarkedRows
 pub mod Words
 pub mod WrittenParts

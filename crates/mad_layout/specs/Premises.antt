@@ -30,7 +30,7 @@ AreJoined after [] = Unit {0}
 AreJoined after (x ∷ xs) = (char_columns x.char ≡ 0 → (is_whitespace x.char ≡ false) × (after ≡ true)) × AreJoined (not (is_blank x)) xs
 
 -- A run without control characters, each widthless character after a non-blank one of the same run.
-pub record IsPlainRun (r : Run) : Type 0 where
+pub record IsPrintableRun (r : Run) : Type 0 where
   pub utf8 : IsUtf8 r.text
   pub printed : IsPrinted (chars r.text)
   pub joined : AreJoined false (flagged r.flags (chars r.text))
@@ -42,16 +42,16 @@ pub record IsColumnChar (c : ℕ) : Type 0 where
 
 -- The character in front of a line of this kind, if there is one, takes one column: an item's bullet, the character after its number, a quote's.
 -- (A number that is read has nine digits at most.)
-abbrev pub IsPlainPrefix : RowSkin → CompositeKind → Type 0
-IsPlainPrefix skin (ListItem depth) = IsColumnChar (char_alone skin.bullet)
-IsPlainPrefix skin (OrderedListItem level index) = (index < 2 ^ 32) × IsColumnChar (index_suffix skin level)
-IsPlainPrefix skin Quote = IsColumnChar (char_alone skin.quote_mark)
-IsPlainPrefix skin _ = Unit {0}
+abbrev pub IsPrintablePrefix : RowSkin → CompositeKind → Type 0
+IsPrintablePrefix skin (ListItem depth) = IsColumnChar (char_alone skin.bullet)
+IsPrintablePrefix skin (OrderedListItem level index) = (index < 2 ^ 32) × IsColumnChar (index_suffix skin level)
+IsPrintablePrefix skin Quote = IsColumnChar (char_alone skin.quote_mark)
+IsPrintablePrefix skin _ = Unit {0}
 
--- A line or a cell of this kind, its text plain, with a plain prefix, and that has room in `width` columns where it doesn't fit.
-pub record IsPlainText (skin : RowSkin) (width : ℕ) (kind : CompositeKind) (runs : List Run) : Type 0 where
-  pub prefix : IsPlainPrefix skin kind
-  pub plain : AllByRecursion IsPlainRun runs
+-- A line or a cell of this kind, its text printable, with a printable prefix, and that has room in `width` columns where it doesn't fit.
+pub record IsPrintableText (skin : RowSkin) (width : ℕ) (kind : CompositeKind) (runs : List Run) : Type 0 where
+  pub prefix : IsPrintablePrefix skin kind
+  pub printable : AllByRecursion IsPrintableRun runs
   pub room : width < indent skin.list_items_indentation_mode kind + width_of (runs_text runs) → HasRoom (room_of (line_rules skin) kind width) (runs_text runs)
 
 -- each character of a rule takes one column
@@ -67,19 +67,19 @@ pub record AreBordersShown (skin : RowSkin) : Type 0 where
   pub rules : (position : RelativePosition) → AreRuleChars (rule_chars skin.table_border_chars position)
 
 -- so are cells, each in its column of these widths; nothing is asked of cells past the last column
-abbrev pub ArePlainIn : RowSkin → List ℕ → List StyledRuns → Type 0
-ArePlainIn skin [] cells = Unit {0}
-ArePlainIn skin (w ∷ ws) [] = Unit {0}
-ArePlainIn skin (w ∷ ws) (cell ∷ cells) = IsPlainText skin w (kind_of cell.style) cell.runs × ArePlainIn skin ws cells
+abbrev pub ArePrintableIn : RowSkin → List ℕ → List StyledRuns → Type 0
+ArePrintableIn skin [] cells = Unit {0}
+ArePrintableIn skin (w ∷ ws) [] = Unit {0}
+ArePrintableIn skin (w ∷ ws) (cell ∷ cells) = IsPrintableText skin w (kind_of cell.style) cell.runs × ArePrintableIn skin ws cells
 
--- A line of any kind, in its part of a text. Of a line of a table: there is place for the ends of a rule, and each kept cell is plain in
+-- A line of any kind, in its part of a text. Of a line of a table: there is room for the ends of a rule, and each kept cell is printable in
 -- the column that it gets.
-abbrev pub IsPlainContent : RowSkin → ℕ → List LineContent → LineContent → Type 0
-IsPlainContent skin width part (normal line) = IsPlainText skin (inner_width skin width line) (kind_of line.style) line.runs
-IsPlainContent skin width part (table_row cells) = (2 ≤ width) × AreBordersShown skin × ArePlainIn skin (kept_widths skin width part) cells
-IsPlainContent skin width part (table_rule aligns) = (2 ≤ width) × AreBordersShown skin
-IsPlainContent skin width part horizontal_rule = IsColumnChar (char_alone skin.horizontal_rule)
+abbrev pub IsPrintableContent : RowSkin → ℕ → List LineContent → LineContent → Type 0
+IsPrintableContent skin width part (normal line) = IsPrintableText skin (inner_width skin width line) (kind_of line.style) line.runs
+IsPrintableContent skin width part (table_row cells) = (2 ≤ width) × AreBordersShown skin × ArePrintableIn skin (kept_widths skin width part) cells
+IsPrintableContent skin width part (table_rule aligns) = (2 ≤ width) × AreBordersShown skin
+IsPrintableContent skin width part horizontal_rule = IsColumnChar (char_alone skin.horizontal_rule)
 
 -- so is each of these lines of a text, at a layout's width
 abbrev pub KeepsPremises : RowSkin → ℕ → List LineInPart → Type 0
-KeepsPremises skin width lines = AllByRecursion (λ l. IsPlainContent skin width l.part l.line) lines
+KeepsPremises skin width lines = AllByRecursion (λ l. IsPrintableContent skin width l.part l.line) lines

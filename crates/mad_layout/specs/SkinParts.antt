@@ -8,13 +8,13 @@ use Rattle.mad_style.specs.declared.line_styles.LineStyle.{LineStyle}
 use Rattle.mad_style.specs.declared.scroll_bars.ScrollBarStyle.{ScrollBarStyle}
 use Rattle.mad_style.specs.declared.styled_chars.StyledChar.{StyledChar}
 use Rattle.mad_term.specs.AttributeSets.{no_attributes, only}
-use Rattle.mad_style.specs.CompoundStyles.{text_style, plain_style, attribute_added}
+use Rattle.mad_style.specs.CompoundStyles.{text_style, unstyled, attribute_added}
 use Rattle.mad_style.specs.LineStyles.{unmargined}
 use Rattle.mad_style.specs.StyledChars.{styled_char, colored_char}
 
 -- a line without style
 abbrev pub unstyled_line : LineStyle
-unstyled_line = unmargined plain_style Unspecified
+unstyled_line = unmargined unstyled Unspecified
 
 -- light gray (17 of 23) on dark gray (3): gray n is the palette's 232 + n
 abbrev pub code_style : CompoundStyle
@@ -22,7 +22,7 @@ code_style = text_style (Some (AnsiValue 249)) (Some (AnsiValue 235)) no_attribu
 
 -- headers are underlined
 abbrev pub header_line : LineStyle
-header_line = record unstyled_line { compound_style = attribute_added plain_style attribute.Underlined }
+header_line = record unstyled_line { compound_style = attribute_added unstyled attribute.Underlined }
 
 -- the first header is bold and centered too
 abbrev pub first_header_line : LineStyle

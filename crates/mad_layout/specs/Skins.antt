@@ -6,7 +6,7 @@ use Rattle.mad_md.specs.declared.alignment.Alignment.TheVariants.{Unspecified}
 use Rattle.mad_style.specs.declared.kinds.ListItemsIndentationMode.TheVariants.{Block}
 use Rattle.mad_term.specs.AttributeSets.{only}
 use Rattle.mad_style.specs.Borders.{standard_borders}
-use Rattle.mad_style.specs.CompoundStyles.{text_style, plain_style}
+use Rattle.mad_style.specs.CompoundStyles.{text_style, unstyled}
 use Rattle.mad_style.specs.LineStyles.{unmargined}
 use Rattle.mad_style.specs.StyledChars.{styled_char, colored_char}
 use Rattle.mad_layout.specs.SkinParts.{unstyled_line, code_style, default_header_lines, default_quote, default_table, default_scrollbar}
@@ -27,10 +27,10 @@ default_skin =
       scrollbar = default_scrollbar;
       table = default_table;
       bullet = colored_char (AnsiValue 240) 0x2022;
-      ordered_item_styles = replicate 4 (record { index_style = plain_style; index_suffix = colored_char (AnsiValue 244) 46 });
+      ordered_item_styles = replicate 4 (record { index_style = unstyled; index_suffix = colored_char (AnsiValue 244) 46 });
       quote_mark = default_quote;
       horizontal_rule = colored_char (AnsiValue 238) 0x2015;
-      ellipsis = plain_style;
+      ellipsis = unstyled;
       table_border_chars = standard_borders;
       list_items_indentation_mode = Block;
     }
@@ -40,19 +40,19 @@ abbrev pub no_style_skin : MadSkin
 no_style_skin =
     record {
       paragraph = unstyled_line;
-      bold = plain_style;
-      italic = plain_style;
-      strikeout = plain_style;
-      inline_code = plain_style;
+      bold = unstyled;
+      italic = unstyled;
+      strikeout = unstyled;
+      inline_code = unstyled;
       code_block = unstyled_line;
       headers = replicate 8 unstyled_line;
       scrollbar = default_scrollbar;
       table = unstyled_line;
-      bullet = styled_char plain_style 0x2022;
-      ordered_item_styles = replicate 4 (record { index_style = plain_style; index_suffix = styled_char plain_style 46 });
-      quote_mark = styled_char plain_style 0x2590;
-      horizontal_rule = styled_char plain_style 0x2015;
-      ellipsis = plain_style;
+      bullet = styled_char unstyled 0x2022;
+      ordered_item_styles = replicate 4 (record { index_style = unstyled; index_suffix = styled_char unstyled 46 });
+      quote_mark = styled_char unstyled 0x2590;
+      horizontal_rule = styled_char unstyled 0x2015;
+      ellipsis = unstyled;
       table_border_chars = standard_borders;
       list_items_indentation_mode = Block;
     }

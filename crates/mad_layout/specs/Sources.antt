@@ -3,7 +3,7 @@ use Rattle.std.specs.Prelude.{ℕ, ◌<◌, List}
 use Rattle.std.specs.List.{AllByRecursion}
 use Rattle.std.specs.Str.{chars, IsUtf8}
 use Rattle.mad_columns.specs.Columns.{char_columns}
-use Rattle.mad_md.specs.Parts.{AreParts, line_places, line_text}
+use Rattle.mad_md.specs.Parts.{AreParts, line_spans, line_text}
 use Rattle.mad_md.specs.ReadByMarks.{IsParagraphText}
 use Rattle.mad_term.specs.Trace.{Trace, TookWith}
 use Rattle.mad_fit.specs.declared.area.Area.{Area}
@@ -20,7 +20,7 @@ pub record TakesColumns (text : List ℕ) : Type 0 where
 -- Each line of the source is such a text, and begins as a paragraph. A newline is in no line, nor is a carriage return in front of one.
 abbrev pub LinesTakeColumns : List ℕ → Type 0
 LinesTakeColumns source =
-    (parts : List (List ℕ)) → AreParts source parts → AllByRecursion (λ place. TakesColumns (line_text source place) × IsParagraphText (line_text source place)) (line_places parts)
+    (parts : List (List ℕ)) → AreParts source parts → AllByRecursion (λ span. TakesColumns (line_text source span) × IsParagraphText (line_text source span)) (line_spans parts)
 
 -- What a plain terminal shows that reads what was written: the first rows of a layout of the text in the area, every other cell as
 -- before, and the plain pen again.

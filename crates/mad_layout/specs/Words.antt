@@ -3,7 +3,7 @@ use Rattle.std.specs.Prelude.{◌≡◌, ℕ, List, [], ◌∷◌, Some}
 use Rattle.mad_term.specs.Trace.{Trace}
 use Rattle.mad_screen.specs.Glyph.{Glyph}
 use Rattle.mad_screen.specs.Grid.{plain_pen}
-use Rattle.mad_style.specs.CompoundStyles.{plain_style}
+use Rattle.mad_style.specs.CompoundStyles.{unstyled}
 use Rattle.mad_fit.specs.declared.area.Area.{Area}
 use Rattle.mad_draw.specs.DrawnRows.{rows_bytes}
 use Rattle.mad_draw.specs.Pieces.{spaces}
@@ -30,4 +30,4 @@ corner = record { chars = 122 ∷ []; pen = plain_pen }
 
 -- Who fills the area with spaces has not shown the text.
 abbrev pub SpacesAreNoText : Type 0
-SpacesAreNoText = (old new : Trace) → old.bytes ≡ Some [] → new.bytes ≡ Some (rows_bytes (λ y. spaces plain_style 12) word_area) → ¬ (ShowsText word_skin words word_area old new)
+SpacesAreNoText = (old new : Trace) → old.bytes ≡ Some [] → new.bytes ≡ Some (rows_bytes (λ y. spaces unstyled 12) word_area) → ¬ (ShowsText word_skin words word_area old new)

@@ -11,7 +11,7 @@ ghost use Rattle.mad_layout.specs.SeveralKinds.{SeveralKindsKeepPremises};
 ghost use Rattle.mad_layout.specs.Sources.{LinesTakeColumns};
 ghost use Rattle.mad_format.specs.CompositeWraps.{IsCompositeWrap};
 ghost use Rattle.mad_blocks.specs.FittingLayouts.{IsFittingWrap};
-ghost use Rattle.mad_layout.specs.PlainTables.{TablesFit};
+ghost use Rattle.mad_layout.specs.PrintableTables.{TablesFit};
 ghost use Rattle.mad_layout.specs.Words.{corner, words, SpacesAreNoText};
 
 use crate::skin::MadSkin;

@@ -3,7 +3,7 @@
 ghost use Rattle.std.specs.Prelude.{◌≡◌, ◌≤◌, ◌++◌, [], ℕ, length, IfSome, IsTrue, OnOk, string_bytes};
 ghost use Rattle.mad_fit.specs.Completions.{left_completion};
 ghost use Rattle.mad_blocks.specs.PartCursors.{lines_left};
-ghost use Rattle.mad_layout.specs.PlainLines.{IsPlainWidth, HandsOnPlain};
+ghost use Rattle.mad_layout.specs.UnmarkedRows.{IsUnmarkedWidth, HandsOnUnmarked};
 ghost use Rattle.mad_rows.specs.Rows.{text_bytes};
 ghost use Rattle.mad_layout.specs.WrittenParts.{HandsOn, WritesParts, WritesPartsOf};
 ghost use Rattle.mad_layout.specs.RowSkins.{row_skin};
@@ -55,7 +55,7 @@ fn write_parts<O: Out>(
     let mut rows = String::new(alloc);
     let mut lines = Vec::new(alloc);
     while parts.lay_next(alloc, &mut lines, width, skin)? {
-        hand_on_plain(out, &mut rows, &mut lines, parts, width, skin)?;
+        hand_on_unmarked(out, &mut rows, &mut lines, parts, width, skin)?;
     }
     put_all(out, rows.as_bytes())?;
     Ok(())
@@ -105,8 +105,8 @@ fn send<O: Out>(out: &mut O, rows: &mut String) -> Result<(), Error>
     Ok(())
 }
 
-// Hands lines on, and after them the plain lines that follow in the text, which go to the rows as they are.
-fn hand_on_plain<O: Out>(
+// Hands lines on, and after them the unmarked lines that follow in the text, which go to the rows as they are.
+fn hand_on_unmarked<O: Out>(
     out: &mut O,
     rows: &mut String,
     lines: &mut Vec<FmtLine>,
@@ -116,13 +116,13 @@ fn hand_on_plain<O: Out>(
 ) -> Result<(), Error>
     ensures dropped { OnOk result (lines.new.items ≡ []) }
     ensures shorter { OnOk result (length (lines_left parts.new) ≤ length (lines_left parts.old)) }
-    ensures handed { HandsOnPlain skin.now width (lines_left parts.old) (string_bytes rows.old ++ text_bytes skin.now width lines.old.items) (O.seen out.old) result (O.seen out.new) (string_bytes rows.new) (lines_left parts.new) }
+    ensures handed { HandsOnUnmarked skin.now width (lines_left parts.old) (string_bytes rows.old ++ text_bytes skin.now width lines.old.items) (O.seen out.old) result (O.seen out.new) (string_bytes rows.new) (lines_left parts.new) }
 {
     hand_on(out, rows, lines, width, skin)?;
-    let Some(most) = plain_width(width, skin) else {
+    let Some(most) = unmarked_width(width, skin) else {
         return Ok(());
     };
-    while let Some(text) = parts.next_plain(most) {
+    while let Some(text) = parts.next_unmarked(most) {
         rows.push_str(text)?;
         rows.push_str("\n")?;
         send(out, rows)?;
@@ -130,17 +130,17 @@ fn hand_on_plain<O: Out>(
     Ok(())
 }
 
-// The columns that a plain line may have to be a row as it is; none where paragraphs have a style or margins, or aren't aligned left.
-fn plain_width(width: Option<usize>, skin: &RowSkin) -> Option<usize>
-    ensures { IfSome result (IsPlainWidth skin.now width) }
+// The columns that an unmarked line may have to be a row as it is; none where paragraphs have a style or margins, or aren't aligned left.
+fn unmarked_width(width: Option<usize>, skin: &RowSkin) -> Option<usize>
+    ensures { IfSome result (IsUnmarkedWidth skin.now width) }
 {
     let width = wrap_width(width)?;
     let style = &skin.paragraph;
     let (left, right) = style.margins_in(Some(width));
-    if left > 0 || right > 0 || !style.compound_style.object_style.is_plain() {
+    if left > 0 || right > 0 || !style.compound_style.object_style.is_unstyled() {
         return None;
     }
-    if stands_left(style.align) {
+    if is_aligned_left(style.align) {
         Some(width)
     } else {
         None
@@ -148,7 +148,7 @@ fn plain_width(width: Option<usize>, skin: &RowSkin) -> Option<usize>
 }
 
 // Whether no columns are left of a text in a wider place.
-fn stands_left(align: Alignment) -> bool
+fn is_aligned_left(align: Alignment) -> bool
     ensures { IsTrue result → (rest : ℕ) → left_completion align rest ≡ 0 }
 {
     matches!(align, Alignment::Left | Alignment::Unspecified)

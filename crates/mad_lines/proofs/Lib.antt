@@ -1,4 +1,4 @@
-pub mod PlaceLemmas
+pub mod PositionLemmas
 pub mod RowLemmas
 pub mod TextLemmas
 pub mod ColumnLemmas

@@ -3,7 +3,7 @@ use Rattle.std.proofs.Common.{ℕ, ◌+◌, ◌≡◌, List, [], ◌∷◌, ◌+
 use Rattle.std.proofs.lemmas.List.{map-append, take_at, length-map}
 use Rattle.mad_lines.specs.declared.line.Line.{Line}
 use Rattle.mad_lines.specs.TextLines.{led_lines, led_lines_with, lines_of, chars_of, text_of}
-use Rattle.mad_lines.proofs.PlaceLemmas.{led_lines-append}
+use Rattle.mad_lines.proofs.PositionLemmas.{led_lines-append}
 
 -- the line that was made is ended
 pub led_ended : (done : List Line) (l : Line) → led_lines (lines_of (done ++ l ∷ [])) ≡ led_lines_with (lines_of done) (chars_of l)

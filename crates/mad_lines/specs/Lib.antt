@@ -1,4 +1,4 @@
 pub mod TextLines
 pub mod LineColumns
 pub mod CharClasses
-pub mod PlaceOrder
+pub mod PositionOrder

@@ -1,8 +1,8 @@
--- A text as its lines, and places in it.
+-- A text as its lines, and positions in it.
 use Rattle.std.specs.Prelude.{ℕ, ◌+◌, ◌<◌, ◌≤◌, ◌≡◌, ◌==◌, ◌&&◌, List, [], ◌∷◌, ◌++◌, length, take, drop, map, not, true, Bool, All, slice_index_or, filter, min, nat_lt, if◌then◌else◌, ◌-◌}
 use Rattle.std.specs.List.{slice_split}
 use Rattle.std.specs.Char.{IsScalar}
-use Rattle.mad_lines.specs.declared.place.Pos.{Pos}
+use Rattle.mad_lines.specs.declared.position.Pos.{Pos}
 use Rattle.mad_lines.specs.declared.line.Line.{Line}
 
 -- each line after a newline
@@ -26,11 +26,11 @@ lines t = slice_split is_newline t
 abbrev pub line_at : List (List ℕ) → ℕ → List ℕ
 line_at ls y = slice_index_or ls y []
 
--- a place is before a character of its line, or at the line's end
-abbrev pub IsPlace : List (List ℕ) → Pos → Type 0
-IsPlace ls p = (p.y < length ls) × (p.x ≤ length (line_at ls p.y))
+-- a position is before a character of its line, or at the line's end
+abbrev pub IsPosition : List (List ℕ) → Pos → Type 0
+IsPosition ls p = (p.y < length ls) × (p.x ≤ length (line_at ls p.y))
 
--- how many characters of the text are before a place
+-- how many characters of the text are before a position
 abbrev pub offset_of : List (List ℕ) → Pos → ℕ
 offset_of ls p = length (led_lines (take p.y ls)) + p.x
 
@@ -75,6 +75,6 @@ pub record AreLineTexts (ls : List (List ℕ)) (l : List ℕ) : Type 0 where
 abbrev pub end_of : List (List ℕ) → Pos
 end_of ls = record { y = length ls - 1; x = length (line_at ls (length ls - 1)) }
 
--- the place itself, or the nearest one on its line, or the end
+-- the position itself, or the nearest one on its line, or the end
 abbrev pub clamp : List (List ℕ) → Pos → Pos
 clamp ls p = if nat_lt p.y (length ls) then record { y = p.y; x = min p.x (length (line_at ls p.y)) } else end_of ls

@@ -1,11 +1,11 @@
 //! Edits of a list of lines.
 
 ghost use Rattle.std.specs.Prelude.{◌≡◌, ◌≤◌, ◌+◌, ◌∷◌, [], ◌++◌, All, length, take, drop, chars, IfOk, OnOk, OnErr};
-ghost use Rattle.mad_lines.specs.TextLines.{IsPlace, IsLineText, AreLineTexts, lines_of, line_at, led_lines_with, text_of, accepted, offset_of};
+ghost use Rattle.mad_lines.specs.TextLines.{IsPosition, IsLineText, AreLineTexts, lines_of, line_at, led_lines_with, text_of, accepted, offset_of};
 
 use crate::line::Line;
-use crate::place::Pos;
-use crate::places::{front_at, rest_at};
+use crate::position::Pos;
+use crate::positions::{front_at, rest_at};
 use std::alloc::{AllocError, Global};
 use std::mem;
 
@@ -38,7 +38,7 @@ fn add_char(
 ) -> Result<(), AllocError>
     ensures text { OnOk result (led_lines_with (lines_of lines.new.items) current.new.items
         ≡ led_lines_with (lines_of lines.old.items) current.old.items ++ accepted (c ∷ [])) }
-    ensures plain { OnOk result (AreLineTexts (lines_of lines.old.items) current.old.items
+    ensures texts { OnOk result (AreLineTexts (lines_of lines.old.items) current.old.items
         → AreLineTexts (lines_of lines.new.items) current.new.items) }
 {
     if c == '\n' {
@@ -50,7 +50,7 @@ fn add_char(
     Ok(())
 }
 
-// Lines that were made of a text, and the place after the text.
+// Lines that were made of a text, and the position after the text.
 #[derive(Drop)]
 struct NewLines {
     lines: Vec<Line>,
@@ -67,9 +67,9 @@ fn lines_with_text(
     requires front { IsLineText front.now }
     requires back { IsLineText back.now }
     ensures text { IfOk result (λ t. text_of (lines_of t.lines.items) ≡ front.now ++ (accepted (chars text.now) ++ back.now)) }
-    ensures end { IfOk result (λ t. IsPlace (lines_of t.lines.items) t.end) }
+    ensures end { IfOk result (λ t. IsPosition (lines_of t.lines.items) t.end) }
     ensures ends_at { IfOk result (λ t. offset_of (lines_of t.lines.items) t.end ≡ length front.now + length (accepted (chars text.now))) }
-    ensures plain { IfOk result (λ t. All IsLineText (lines_of t.lines.items)) }
+    ensures texts { IfOk result (λ t. All IsLineText (lines_of t.lines.items)) }
 {
     let mut lines = Vec::new(alloc);
     let mut current = front.to_vec(alloc)?;
@@ -85,7 +85,7 @@ fn lines_with_text(
     Ok(NewLines { lines, end })
 }
 
-/// Puts a text in place of what is between two places, and returns the place after it.
+/// Puts a text in place of what is between two positions, and returns the position after it.
 /// Carriage returns and backspaces are left out.
 ///
 /// The line of `to` may not be above that of `from`. Where both are in one line and `to` is before `from`, what is between them is
@@ -95,16 +95,16 @@ fn lines_with_text(
 ///
 /// Out of memory is the only error, and leaves the lines unchanged.
 pub fn edit_lines(lines: &mut Vec<Line>, from: Pos, to: Pos, text: &str) -> Result<Pos, AllocError>
-    requires from { IsPlace (lines_of lines.old.items) from }
-    requires to { IsPlace (lines_of lines.old.items) to }
+    requires from { IsPosition (lines_of lines.old.items) from }
+    requires to { IsPosition (lines_of lines.old.items) to }
     requires order { from.y ≤ to.y }
-    requires plain { All IsLineText (lines_of lines.old.items) }
+    requires texts { All IsLineText (lines_of lines.old.items) }
     ensures text { OnOk result (let ls = lines_of lines.old.items in text_of (lines_of lines.new.items)
         ≡ take (offset_of ls from) (text_of ls) ++ (accepted (chars text.now) ++ drop (offset_of ls to) (text_of ls))) }
-    ensures place { IfOk result (λ p. IsPlace (lines_of lines.new.items) p) }
+    ensures position { IfOk result (λ p. IsPosition (lines_of lines.new.items) p) }
     ensures at { IfOk result (λ p. offset_of (lines_of lines.new.items) p
         ≡ offset_of (lines_of lines.old.items) from + length (accepted (chars text.now))) }
-    ensures plain { OnOk result (All IsLineText (lines_of lines.new.items)) }
+    ensures texts { OnOk result (All IsLineText (lines_of lines.new.items)) }
     ensures err { OnErr result (lines_of lines.new.items ≡ lines_of lines.old.items) }
 {
     let NewLines { lines: made, end } = lines_made(lines, from, to, text)?;
@@ -117,14 +117,14 @@ pub fn edit_lines(lines: &mut Vec<Line>, from: Pos, to: Pos, text: &str) -> Resu
 
 // The lines that replace those from `from`'s to `to`'s, once the text is in place of what is between.
 fn lines_made(lines: &Vec<Line>, from: Pos, to: Pos, text: &str) -> Result<NewLines, AllocError>
-    requires from { IsPlace (lines_of lines.now.items) from }
-    requires to { IsPlace (lines_of lines.now.items) to }
-    requires plain { All IsLineText (lines_of lines.now.items) }
+    requires from { IsPosition (lines_of lines.now.items) from }
+    requires to { IsPosition (lines_of lines.now.items) to }
+    requires texts { All IsLineText (lines_of lines.now.items) }
     ensures text { let ls = lines_of lines.now.items in IfOk result (λ t. text_of (lines_of t.lines.items)
         ≡ take from.x (line_at ls from.y) ++ (accepted (chars text.now) ++ drop to.x (line_at ls to.y))) }
-    ensures end { IfOk result (λ t. IsPlace (lines_of t.lines.items) t.end) }
+    ensures end { IfOk result (λ t. IsPosition (lines_of t.lines.items) t.end) }
     ensures ends_at { IfOk result (λ t. offset_of (lines_of t.lines.items) t.end ≡ from.x + length (accepted (chars text.now))) }
-    ensures plain { IfOk result (λ t. All IsLineText (lines_of t.lines.items)) }
+    ensures texts { IfOk result (λ t. All IsLineText (lines_of t.lines.items)) }
 {
     let front = front_at(lines, from);
     let back = rest_at(lines, to);

@@ -3,7 +3,7 @@ use Rattle.std.proofs.Common.{◌≡◌, ℕ, ◌≤◌, ◌<◌, ◌+◌, Bool,
 use Rattle.std.specs.List.{AllByRecursion, join_with_byte, onto_first}
 use Rattle.mad_md.specs.Cells.{odd_with, odd_after, HasBarsInCode, AreClosed, AreCells, cell_style, cell_rest, alignment_of, with_alignment, alignments}
 use Rattle.std.specs.Option.{is_some}
-use Rattle.mad_md.specs.Flagged.{Flags, plain, flags_of, Run, run_of}
+use Rattle.mad_md.specs.Flagged.{Flags, unflagged, flags_of, Run, run_of}
 use Rattle.mad_md.specs.ReadInline.{IsReadInlineWith}
 use Rattle.mad_md.specs.declared.alignment.Alignment.{Alignment}
 use Rattle.mad_md.specs.declared.compound.Compound.{Compound}
@@ -111,7 +111,7 @@ cells_cut part = cut_is_cells part (cut_cells false part) (cut_from false part)
 
 -- ---- the first cell
 
--- What is cut from a place on: the first cell ends at n.
+-- What is cut from a position on: the first cell ends at n.
 record EndsAt (bs : List ℕ) (cells : List (List ℕ)) (n : ℕ) : Type 0 where
   within : n ≤ length bs
   last : n ≡ length bs → cells ≡ bs ∷ []
@@ -232,15 +232,15 @@ cells_more part text cell rest after more so_far new read h is first e said push
 
 -- what a cell is that has been read and trimmed
 pub cell_read : (style : CompositeStyle) (given : Compound) (read ended kept : List Compound) (after : Flags) (cell : List ℕ)
-    → IsReadInlineWith (flags_of given) given.src.now read after → flags_of given ≡ plain → given.src.now ≡ cell_rest (trim_start cell)
+    → IsReadInlineWith (flags_of given) given.src.now read after → flags_of given ≡ unflagged → given.src.now ≡ cell_rest (trim_start cell)
     → map run_of ended ≡ end_trimmed (map run_of read) → map run_of kept ≡ start_trimmed (map run_of ended) → style ≡ cell_style (trim_start cell)
     → ◌≡◌ {A = StyledRuns} (record { style = style; runs = map run_of kept }) (cell_of cell)
 cell_read style given read ended kept after cell h off text end start kind =
     let text_is = cell_rest (trim_start cell) in
-    let behind : IsReadInlineWith plain given.src.now read after = subst (λ (f : Flags). IsReadInlineWith f given.src.now read after) off h in
-    let there : IsReadInlineWith plain text_is read after = subst (λ (t : List ℕ). IsReadInlineWith plain t read after) text behind in
-    let runs_are = start ∙ ap start_trimmed (end ∙ ap end_trimmed (there.each (items_of plain text_is) (items_read plain text_is))) in
-    ap (λ (rs : List Run). record { style = style; runs = rs }) runs_are ∙ ap (λ (k : CompositeStyle). record { style = k; runs = cell_runs text_is (items_of plain text_is) }) kind
+    let behind : IsReadInlineWith unflagged given.src.now read after = subst (λ (f : Flags). IsReadInlineWith f given.src.now read after) off h in
+    let there : IsReadInlineWith unflagged text_is read after = subst (λ (t : List ℕ). IsReadInlineWith unflagged t read after) text behind in
+    let runs_are = start ∙ ap start_trimmed (end ∙ ap end_trimmed (there.each (items_of unflagged text_is) (items_read unflagged text_is))) in
+    ap (λ (rs : List Run). record { style = style; runs = rs }) runs_are ∙ ap (λ (k : CompositeStyle). record { style = k; runs = cell_runs text_is (items_of unflagged text_is) }) kind
 
 -- ---- alignment by alignment
 

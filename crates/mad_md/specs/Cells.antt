@@ -2,10 +2,10 @@
 use Rattle.std.specs.Prelude.{◌≡◌, ℕ, ◌+◌, ◌-◌, ◌<◌, Bool, true, false, not, ◌&&◌, ◌||◌, ◌==◌, List, [], ◌∷◌, length, take, drop, slice_range, slice_index, Option, Some, None, if◌then◌else◌}
 use Rattle.std.specs.List.{AllByRecursion, join_with_byte}
 use Rattle.std.specs.Str.{trim, trim_start, trim_end}
-use Rattle.mad_md.specs.Flagged.{RunPlace, plain}
+use Rattle.mad_md.specs.Flagged.{RunSpan, unflagged}
 use Rattle.mad_md.specs.Inline.{Item, IsInlineReading, runs_with}
-use Rattle.mad_md.specs.Parts.{LinePlace, line_text, without_last_if}
-use Rattle.mad_md.specs.Places.{StyledPlaces, LinePlaces, table_row_at, table_rule_at}
+use Rattle.mad_md.specs.Parts.{LineSpan, line_text, without_last_if}
+use Rattle.mad_md.specs.Spans.{StyledSpans, LineSpans, table_row_at, table_rule_at}
 use Rattle.mad_md.specs.Starts.{begins, count_in_front}
 use Rattle.mad_md.specs.declared.alignment.Alignment.{Alignment}
 use Rattle.mad_md.specs.declared.alignment.Alignment.TheVariants.{Unspecified, Left, Center, Right}
@@ -52,53 +52,53 @@ cell_style text = if begins text (42 ∷ 32 ∷ []) then ListItem 0 else if begi
 abbrev pub cell_rest : List ℕ → List ℕ
 cell_rest text = if begins text (42 ∷ 32 ∷ []) || begins text (62 ∷ 32 ∷ []) then drop 2 text else text
 
--- a place without the whitespace at its start; in code nothing is blank
-abbrev pub start_trimmed_place : List ℕ → RunPlace → RunPlace
-start_trimmed_place source place = if place.flags.code then place else record place { start = place.end - length (trim_start (slice_range source place.start place.end)) }
+-- a span without the whitespace at its start; in code nothing is blank
+abbrev pub start_trimmed_span : List ℕ → RunSpan → RunSpan
+start_trimmed_span source span = if span.flags.code then span else record span { start = span.end - length (trim_start (slice_range source span.start span.end)) }
 
--- a place without the whitespace at its end; in code nothing is blank
-abbrev pub end_trimmed_place : List ℕ → RunPlace → RunPlace
-end_trimmed_place source place = if place.flags.code then place else record place { end = place.start + length (trim_end (slice_range source place.start place.end)) }
+-- a span without the whitespace at its end; in code nothing is blank
+abbrev pub end_trimmed_span : List ℕ → RunSpan → RunSpan
+end_trimmed_span source span = if span.flags.code then span else record span { end = span.start + length (trim_end (slice_range source span.start span.end)) }
 
--- a place at the start of others, or what is left of these if it is empty
-abbrev pub first_kept : RunPlace → List RunPlace → List RunPlace → List RunPlace
-first_kept place places left = if place.start == place.end then left else place ∷ places
+-- a span at the start of others, or what is left of these if it is empty
+abbrev pub first_kept : RunSpan → List RunSpan → List RunSpan → List RunSpan
+first_kept span spans left = if span.start == span.end then left else span ∷ spans
 
--- places without the blanks at the start of the first one: one that gets empty is dropped, and the next is the first
-abbrev pub without_blanks_in_front : List ℕ → List RunPlace → List RunPlace
+-- spans without the blanks at the start of the first one: one that gets empty is dropped, and the next is the first
+abbrev pub without_blanks_in_front : List ℕ → List RunSpan → List RunSpan
 without_blanks_in_front source [] = []
-without_blanks_in_front source (place ∷ places) = first_kept (start_trimmed_place source place) places (without_blanks_in_front source places)
+without_blanks_in_front source (span ∷ spans) = first_kept (start_trimmed_span source span) spans (without_blanks_in_front source spans)
 
--- a place before what is left of others: whole if some are left, else without the blanks at its end
-abbrev pub last_kept : List ℕ → RunPlace → List RunPlace → List RunPlace
-last_kept source place [] = first_kept (end_trimmed_place source place) [] []
-last_kept source place (next ∷ left) = place ∷ next ∷ left
+-- a span before what is left of others: whole if some are left, else without the blanks at its end
+abbrev pub last_kept : List ℕ → RunSpan → List RunSpan → List RunSpan
+last_kept source span [] = first_kept (end_trimmed_span source span) [] []
+last_kept source span (next ∷ left) = span ∷ next ∷ left
 
--- places without the blanks at the end of the last one: one that gets empty is dropped, and the one before it is the last
-abbrev pub without_blanks_at_end : List ℕ → List RunPlace → List RunPlace
+-- spans without the blanks at the end of the last one: one that gets empty is dropped, and the one before it is the last
+abbrev pub without_blanks_at_end : List ℕ → List RunSpan → List RunSpan
 without_blanks_at_end source [] = []
-without_blanks_at_end source (place ∷ places) = last_kept source place (without_blanks_at_end source places)
+without_blanks_at_end source (span ∷ spans) = last_kept source span (without_blanks_at_end source spans)
 
--- the places of a cell's compounds, by those of the runs of its rest
-abbrev pub cell_places : List ℕ → List RunPlace → List RunPlace
-cell_places source places = without_blanks_in_front source (without_blanks_at_end source places)
+-- the spans of a cell's compounds, by those of the runs of its rest
+abbrev pub cell_spans : List ℕ → List RunSpan → List RunSpan
+cell_spans source spans = without_blanks_in_front source (without_blanks_at_end source spans)
 
--- The cell is the reading of its text, from its place in the source on. Whitespace in front and its prefix are left out.
+-- The cell is the reading of its text, from its position in the source on. Whitespace in front and its prefix are left out.
 -- The rest is read by its marks without flags before it, and blanks are dropped at both ends.
-pub record IsCell (source : List ℕ) (at : ℕ) (text : List ℕ) (cell : StyledPlaces) : Type 0 where
+pub record IsCell (source : List ℕ) (at : ℕ) (text : List ℕ) (cell : StyledSpans) : Type 0 where
   pub reading : List Item
   pub reads : IsInlineReading (cell_rest (trim_start text)) reading
-  pub says : cell ≡ record { style = cell_style (trim_start text); places = cell_places source (runs_with plain (at + (length text - length (cell_rest (trim_start text)))) reading) }
+  pub says : cell ≡ record { style = cell_style (trim_start text); spans = cell_spans source (runs_with unflagged (at + (length text - length (cell_rest (trim_start text)))) reading) }
 
--- There are as many cells as texts, and each reads its text in order, the first from this place on and a bar between two.
-abbrev pub AreReadCells : List ℕ → ℕ → List (List ℕ) → List StyledPlaces → Type 0
+-- There are as many cells as texts, and each reads its text in order, the first from this position on and a bar between two.
+abbrev pub AreReadCells : List ℕ → ℕ → List (List ℕ) → List StyledSpans → Type 0
 AreReadCells source at [] [] = Unit {0}
 AreReadCells source at (text ∷ texts) (cell ∷ cells) = IsCell source at text cell × AreReadCells source (at + length text + 1) texts cells
 AreReadCells source at _ _ = ⊥
 
 -- the cells without the last one, if that has no compound
-abbrev pub without_last_empty_cell : List StyledPlaces → List StyledPlaces
-without_last_empty_cell cells = without_last_if (λ cell. length cell.places == 0) cells
+abbrev pub without_last_empty_cell : List StyledSpans → List StyledSpans
+without_last_empty_cell cells = without_last_if (λ cell. length cell.spans == 0) cells
 
 -- ---- rules
 
@@ -150,19 +150,19 @@ alignments [] = Some []
 alignments (text ∷ texts) = with_alignment (alignment_of text) (alignments texts)
 
 -- a rule where there are alignments, and else a row
-abbrev pub rule_or_row : Option (List Alignment) → List StyledPlaces → LinePlaces
+abbrev pub rule_or_row : Option (List Alignment) → List StyledSpans → LineSpans
 rule_or_row (Some (alignment ∷ others)) cells = table_rule_at (alignment ∷ others)
 rule_or_row (Some []) cells = table_row_at cells
 rule_or_row None cells = table_row_at cells
 
 -- What the texts of cells and the cells say. A last cell without compounds is dropped, and of those that are left each has an alignment in a rule.
-abbrev pub part_says : List (List ℕ) → List StyledPlaces → LinePlaces
+abbrev pub part_says : List (List ℕ) → List StyledSpans → LineSpans
 part_says texts cells = rule_or_row (alignments (take (length (without_last_empty_cell cells)) texts)) (without_last_empty_cell cells)
 
--- The line is the table part at this place, after its first bar.
-pub record IsTablePart (source : List ℕ) (place : LinePlace) (line : LinePlaces) : Type 0 where
+-- The line is the table part at this span, after its first bar.
+pub record IsTablePart (source : List ℕ) (span : LineSpan) (line : LineSpans) : Type 0 where
   pub texts : List (List ℕ)
-  pub cut : AreCells (line_text source place) texts
-  pub cells : List StyledPlaces
-  pub read : AreReadCells source place.start texts cells
+  pub cut : AreCells (line_text source span) texts
+  pub cells : List StyledSpans
+  pub read : AreReadCells source span.start texts cells
   pub says : line ≡ part_says texts cells

@@ -6,7 +6,7 @@ use Rattle.std.specs.List.{slice_split, onto_first}
 use Rattle.std.specs.Str.{trim_start, trim_end}
 use Rattle.std.specs.Str.Lines.{strip_carriage_return}
 use Rattle.mad_md.specs.Cells.{odd_with, cell_style, cell_rest, alignments}
-use Rattle.mad_md.specs.Flagged.{Flags, Run, run_at, plain}
+use Rattle.mad_md.specs.Flagged.{Flags, Run, run_at, unflagged}
 use Rattle.mad_md.specs.Inline.{Item, mark, byte, spell_mark, mark_at, is_on, marks_of, runs_with, flags_at_end}
 use Rattle.mad_md.specs.Lines.{StyledRuns, LineContent, normal, table_row, table_rule, horizontal_rule}
 use Rattle.mad_md.specs.Parts.{without_last_if, without_last_empty}
@@ -37,7 +37,7 @@ items_within (suc n) before (b ∷ bs) =
 abbrev pub items_of : Flags → List ℕ → List Item
 items_of flags line = items_within (length line) (marks_of flags) line
 
--- the cells of a part, from a place on
+-- the cells of a part, from a position on
 unfoldable pub cut_cells : Bool → List ℕ → List (List ℕ)
 cut_cells odd [] = [] ∷ []
 cut_cells odd (b ∷ bs) = if (b == 124) && not odd then [] ∷ cut_cells false bs else onto_first b (cut_cells (odd_with odd b) bs)
@@ -85,11 +85,11 @@ start_trimmed (run ∷ others) = kept_before (run_start_trimmed run) others (sta
 
 -- the runs of a cell's rest without the blanks at both ends
 abbrev pub cell_runs : List ℕ → List Item → List Run
-cell_runs text items = start_trimmed (end_trimmed (map (run_at text) (runs_with plain 0 items)))
+cell_runs text items = start_trimmed (end_trimmed (map (run_at text) (runs_with unflagged 0 items)))
 
 -- what a cell says
 abbrev pub cell_of : List ℕ → StyledRuns
-cell_of text = record { style = cell_style (trim_start text); runs = cell_runs (cell_rest (trim_start text)) (items_of plain (cell_rest (trim_start text))) }
+cell_of text = record { style = cell_style (trim_start text); runs = cell_runs (cell_rest (trim_start text)) (items_of unflagged (cell_rest (trim_start text))) }
 
 -- a cell, unless it is the last one and has no run
 abbrev pub kept_cell : Bool → StyledRuns → List StyledRuns
@@ -145,12 +145,12 @@ line_of_form TablePart carried text = part_of text
 line_of_form Code carried text = code_line text
 line_of_form Rule carried text = horizontal_rule
 line_of_form (Continuing style) carried text = marked_line carried style text
-line_of_form (Separate style) carried text = marked_line plain style text
+line_of_form (Separate style) carried text = marked_line unflagged style text
 
 -- the flags that it carries on
 abbrev pub flags_of_form : Form → Flags → List ℕ → Flags
 flags_of_form (Continuing style) carried text = flags_at_end carried (items_of carried text)
-flags_of_form _ carried text = plain
+flags_of_form _ carried text = unflagged
 
 -- the line that a text is, between fences or outside them
 unfoldable pub line_of : Bool → Flags → List ℕ → LineContent
@@ -159,20 +159,20 @@ line_of false carried text = line_of_form (line_start text).form carried (drop (
 
 -- the flags that it carries on
 unfoldable pub flags_of_line : Bool → Flags → List ℕ → Flags
-flags_of_line true carried text = plain
+flags_of_line true carried text = unflagged
 flags_of_line false carried text = flags_of_form (line_start text).form carried (drop (line_start text).len text)
 
 -- the lines that texts in a row are, a fence being open before the first of them or not
 abbrev pub lines_of_texts : Bool → Bool → Flags → List (List ℕ) → List LineContent
 lines_of_texts continue_spans fenced carried [] = []
 lines_of_texts continue_spans fenced carried (text ∷ texts) =
-    if is_fence text then lines_of_texts continue_spans (not fenced) plain texts
+    if is_fence text then lines_of_texts continue_spans (not fenced) unflagged texts
     else line_of fenced carried text ∷ lines_of_texts continue_spans fenced (carried_on continue_spans (flags_of_line fenced carried text)) texts
 
 -- the lines of a text, without the carriage returns at their ends
 abbrev pub texts_of : List ℕ → List (List ℕ)
 texts_of text = map strip_carriage_return (without_last_empty (slice_split (λ b. b == 10) text))
 
--- the lines from this place on
+-- the lines from this position on
 unfoldable pub lines_of : Unread → List LineContent
 lines_of unread = lines_of_texts unread.continue_spans unread.fenced unread.carried (texts_of unread.text)

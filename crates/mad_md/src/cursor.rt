@@ -2,10 +2,10 @@
 
 ghost use Rattle.std.specs.Prelude.{◌≡◌, false, IfOk, OnErr, IsSome, IsTrue, None, MatchOption};
 ghost use Rattle.mad_md.specs.Cursor.{unread, IsStep};
-ghost use Rattle.mad_md.specs.Flagged.{flags_of, plain};
+ghost use Rattle.mad_md.specs.Flagged.{flags_of, unflagged};
 ghost use Rattle.mad_md.specs.Inline.{flags_at_end};
 ghost use Rattle.mad_md.specs.Lines.{content_of};
-ghost use Rattle.mad_md.specs.Plain.{IsPlainNext, IsPlainStep};
+ghost use Rattle.mad_md.specs.UnmarkedLines.{IsUnmarkedNext, IsUnmarkedStep};
 ghost use Rattle.mad_md.specs.Reading.{unread_text, IsRead, carried_on};
 ghost use Rattle.mad_md.specs.Scan.{items_of, marked_line, line_of_form, flags_of_form, lines_of, line_of, flags_of_line, code_line};
 
@@ -15,8 +15,8 @@ use crate::compound::Compound;
 use crate::inline::read_inline;
 use crate::line::Line;
 use crate::parts::{cut_part, without_return};
-use crate::plain::plain_len;
 use crate::starts::{Form, begins, line_start};
+use crate::unmarked_lines::unmarked_line_len;
 use std::alloc::{AllocError, Global};
 
 /// How a text is read.
@@ -27,7 +27,7 @@ pub struct ParseOptions {
     pub continue_spans: bool,
 }
 
-/// A place in a text, from which it is read line by line.
+/// A position in a text, from which it is read line by line.
 ///
 /// It is a small value, and can be copied to read the same lines again. Reading a line takes memory for that
 /// line alone, so a caller can stop after the lines that it needs.
@@ -40,7 +40,7 @@ pub struct LineCursor<'s> {
 }
 
 impl<'s> LineCursor<'s> {
-    /// The place before the first line.
+    /// The position before the first line.
     pub fn new(src: &'s str, options: ParseOptions) -> LineCursor<'s>
         ensures start { unread result ≡ unread_text options.continue_spans src.entry.now }
         ensures reading { IsRead (unread result) (lines_of (unread result)) }
@@ -64,21 +64,21 @@ impl<'s> LineCursor<'s> {
         Ok(line)
     }
 
-    /// Reads the next line where it is plain, and moves on after it. A plain line is a paragraph of at most `most` bytes, all of
+    /// Reads the next line where it is unmarked, and moves on after it. An unmarked line is a paragraph of at most `most` bytes, all of
     /// them spaces or graphic ASCII characters. No `*`, `~` or backquote is among them at all. It begins with a letter, or is
     /// empty, and a newline follows.
     ///
     /// Where there is none, or another line is next, the cursor stays where it was. No memory is needed.
-    pub fn next_plain(&mut self, most: usize) -> Option<&'s str>
-        ensures step { MatchOption result (self.new ≡ self.old) (λ text. IsPlainStep most (unread self.old) text.now (unread self.new)) }
-        ensures found { IsSome result → IsPlainNext most (unread self.old) }
-        ensures none { result ≡ None → ¬ IsPlainNext most (unread self.old) }
+    pub fn next_unmarked(&mut self, most: usize) -> Option<&'s str>
+        ensures step { MatchOption result (self.new ≡ self.old) (λ text. IsUnmarkedStep most (unread self.old) text.now (unread self.new)) }
+        ensures found { IsSome result → IsUnmarkedNext most (unread self.old) }
+        ensures none { result ≡ None → ¬ IsUnmarkedNext most (unread self.old) }
     {
         if self.is_bound() {
             return None;
         }
         let src = self.rest.src;
-        let len = plain_len(src.as_bytes(), most)?;
+        let len = unmarked_line_len(src.as_bytes(), most)?;
         self.rest = Compound::raw_str(&src[len + 1..]);
         Some(&src[..len])
     }
@@ -86,14 +86,14 @@ impl<'s> LineCursor<'s> {
     // Whether what was read before decides about the next line too: a fence is open, or flags are carried on.
     fn is_bound(&self) -> bool
         ensures fence { result ≡ false → self.now.fenced ≡ false }
-        ensures flags { result ≡ false → flags_of self.now.rest ≡ plain }
-        ensures bound { IsTrue result → self.now.fenced ≡ false → ¬ (flags_of self.now.rest ≡ plain) }
+        ensures flags { result ≡ false → flags_of self.now.rest ≡ unflagged }
+        ensures bound { IsTrue result → self.now.fenced ≡ false → ¬ (flags_of self.now.rest ≡ unflagged) }
     {
         let rest = self.rest;
         self.fenced || rest.bold || rest.italic || rest.code || rest.strikeout
     }
 
-    // The next line, and the place after it.
+    // The next line, and the position after it.
     fn step(self, alloc: Global) -> Result<(Option<Line<'s>>, LineCursor<'s>), AllocError>
         ensures { IfOk result (λ step. IsStep (unread self.entry) step.0 (unread step.1)) }
     {
@@ -183,7 +183,7 @@ fn read_form<'s>(
 // A line of code, which ends without flags.
 fn code_line<'s>(alloc: Global, text: &'s str) -> Result<(Line<'s>, Compound<'s>), AllocError>
     ensures line { IfOk result (λ read. content_of read.0 ≡ code_line text.entry.now) }
-    ensures flags { IfOk result (λ read. flags_of read.1 ≡ plain) }
+    ensures flags { IfOk result (λ read. flags_of read.1 ≡ unflagged) }
 {
     let code = Composite::raw(alloc, CompositeStyle::Code, text)?;
     Ok((Line::Normal(code), Compound::raw_str(text)))

@@ -19,13 +19,13 @@ use Rattle.mad_parse.proofs.NameLemmas.{other_length}
 -- ---- texts without a name
 
 -- a name of two letters or more, the first of them ASCII
-abbrev is_plain_name : List ℕ → Bool
-is_plain_name (n ∷ m ∷ ns) = nat_lt n 128
-is_plain_name _ = false
+abbrev is_ascii_name : List ℕ → Bool
+is_ascii_name (n ∷ m ∷ ns) = nat_lt n 128
+is_ascii_name _ = false
 
 -- a text that is no such name
 abbrev Unnamed : List ℕ → Type 0
-Unnamed text = (name : List ℕ) → is_plain_name name ≡ true → is_named text name ≡ false
+Unnamed text = (name : List ℕ) → is_ascii_name name ≡ true → is_named text name ≡ false
 
 unnamed_short : (c : ℕ) → Unnamed (c ∷ [])
 unnamed_short c [] plain = refl
@@ -44,10 +44,10 @@ unnamed_high b rest h (n ∷ []) plain = absurd (true≢false (sym plain))
 unnamed_high b rest h (n ∷ m ∷ ns) plain =
     and_left _ _ (ne_eqb (to_ascii_lowercase b) (to_ascii_lowercase n) (λ e. absurd (omega (arith, h, lower_high b h, lower_low n (ltb-true n 128 plain), e))))
 
-unnamed_in : {A : Type 0} (text : List ℕ) (table : List (List ℕ × A)) → Unnamed text → list_all (λ entry. is_plain_name entry.0) table ≡ true → named table text ≡ None
+unnamed_in : {A : Type 0} (text : List ℕ) (table : List (List ℕ × A)) → Unnamed text → list_all (λ entry. is_ascii_name entry.0) table ≡ true → named table text ≡ None
 unnamed_in text [] h plain = refl
 unnamed_in text (entry ∷ table) h plain =
-    let parts = and_parts (is_plain_name entry.0) (list_all (λ entry. is_plain_name entry.0) table) plain in
+    let parts = and_parts (is_ascii_name entry.0) (list_all (λ entry. is_ascii_name entry.0) table) plain in
     cond-false (is_named text entry.0) (Some entry.1) (named table text) (h entry.0 parts.0) ∙ unnamed_in text table h parts.1
 
 -- ---- texts that are no number

@@ -91,12 +91,12 @@ rgb_read text red rest trimmed green blue last r g b first trim second trim2 is_
 
 -- ---- the ways out of `parse_color`
 
-color_plain : (text : List ℕ) → ((rest : List ℕ) → text ≢ 35 ∷ rest) → color_of text ≡ named_or_called (named color_names text) text
-color_plain [] h = refl
-color_plain (b ∷ bs) h = cond-false (b == 35) _ _ (ne_eqb b 35 (λ e. h bs (ap (λ x. x ∷ bs) e)))
+color_unnumbered : (text : List ℕ) → ((rest : List ℕ) → text ≢ 35 ∷ rest) → color_of text ≡ named_or_called (named color_names text) text
+color_unnumbered [] h = refl
+color_unnumbered (b ∷ bs) h = cond-false (b == 35) _ _ (ne_eqb b 35 (λ e. h bs (ap (λ x. x ∷ bs) e)))
 
 color_called : (text : List ℕ) (o : Option Color) → ((rest : List ℕ) → text ≢ 35 ∷ rest) → o ≡ named color_names text → o ≡ None → color_of text ≡ call_front (without_last 41 text)
-color_called text o h is none = color_plain text h ∙ ap (λ n. named_or_called n text) (sym is ∙ none)
+color_called text o h is none = color_unnumbered text h ∙ ap (λ n. named_or_called n text) (sym is ∙ none)
 
 pub color_unclosed : (text : List ℕ) (o : Option Color) → ((rest : List ℕ) → text ≢ 35 ∷ rest) → o ≡ named color_names text → o ≡ None → without_last 41 text ≡ None → Err color_error.Unrecognized ≡ color_of text
 color_unclosed text o h is none e = sym (color_called text o h is none ∙ ap call_front e)

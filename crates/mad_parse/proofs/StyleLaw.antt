@@ -85,9 +85,9 @@ colors_read (Some f) (Some b) p q h k = (read_color f p h, (read_color b q k, tt
 
 -- ---- the attributes
 
-attributes_plain : (list : List Attribute) → colors_of (map token.Attribute list) ≡ []
-attributes_plain [] = refl
-attributes_plain (a ∷ list) = attributes_plain list
+attributes_colorless : (list : List Attribute) → colors_of (map token.Attribute list) ≡ []
+attributes_colorless [] = refl
+attributes_colorless (a ∷ list) = attributes_colorless list
 
 attributes_back : (list : List Attribute) → attributes_of (map token.Attribute list) ≡ list
 attributes_back [] = refl
@@ -111,7 +111,7 @@ style_colors : (s : CompoundStyle) → IsReadBackStyle s → colors_of (style_to
 style_colors s h =
     let two = two_colors s.object_style.foreground_color s.object_style.background_color in
     let list = filter (has_attribute s.object_style.attributes) written_attributes in
-    ap colors_of (tokens_are s h) ∙ colors_of_append two (map token.Attribute list) ∙ ap (λ l. colors_of two ++ l) (attributes_plain list) ∙ append-nil (colors_of two)
+    ap colors_of (tokens_are s h) ∙ colors_of_append two (map token.Attribute list) ∙ ap (λ l. colors_of two ++ l) (attributes_colorless list) ∙ append-nil (colors_of two)
 
 style_attributes : (s : CompoundStyle) → IsReadBackStyle s → attributes_of (style_tokens s) ≡ filter (has_attribute s.object_style.attributes) written_attributes
 style_attributes s h =

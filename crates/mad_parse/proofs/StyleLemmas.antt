@@ -6,7 +6,7 @@ use Rattle.mad_md.specs.declared.alignment.Alignment.TheVariants.{Unspecified}
 use Rattle.mad_term.specs.declared.color.Color.{Color}
 use Rattle.mad_style.specs.declared.compound_styles.CompoundStyle.{CompoundStyle}
 use Rattle.mad_style.specs.declared.line_styles.LineStyle.{LineStyle}
-use Rattle.mad_style.specs.CompoundStyles.{plain_style, foreground_set, background_set, attribute_added}
+use Rattle.mad_style.specs.CompoundStyles.{unstyled, foreground_set, background_set, attribute_added}
 use Rattle.mad_style.specs.LineStyles.{unmargined}
 use Rattle.mad_parse.specs.TokenStyles.{first_or, last_or, colors_of, attributes_of, aligns_of, numbers_of, last_color, all_added, style_of, line_style_of}
 use Rattle.mad_parse.specs.declared.tokens.StyleToken.{StyleToken}
@@ -59,14 +59,14 @@ after_all s (token.None ∷ ts) = after_settled s ts
 after_all s (token.Attribute a ∷ ts) = after_all (attribute_added s a) ts ∙ ap (λ t. all_added t (attributes_of ts)) (after_colors s (colors_of ts) a)
 after_all s (_ ∷ ts) = after_all s ts
 
-none_first : (colors : List (Option Color)) → with_colors plain_style colors ≡ record plain_style { object_style = record plain_style.object_style { foreground_color = first_or None colors; background_color = last_color (drop 1 colors) } }
+none_first : (colors : List (Option Color)) → with_colors unstyled colors ≡ record unstyled { object_style = record unstyled.object_style { foreground_color = first_or None colors; background_color = last_color (drop 1 colors) } }
 none_first [] = refl
 none_first (color ∷ colors) =
-    ap (λ o. record plain_style { object_style = record plain_style.object_style { foreground_color = o; background_color = option_or (last_color colors) None } }) (later_none color)
-    ∙ ap (λ o. record plain_style { object_style = record plain_style.object_style { foreground_color = color; background_color = o } }) (later_none (last_color colors))
+    ap (λ o. record unstyled { object_style = record unstyled.object_style { foreground_color = o; background_color = option_or (last_color colors) None } }) (later_none color)
+    ∙ ap (λ o. record unstyled { object_style = record unstyled.object_style { foreground_color = color; background_color = o } }) (later_none (last_color colors))
 
-pub styled_all : (ts : List StyleToken) → style_after false plain_style ts ≡ style_of ts
-styled_all ts = after_all plain_style ts ∙ ap (λ s. all_added s (attributes_of ts)) (none_first (colors_of ts))
+pub styled_all : (ts : List StyleToken) → style_after false unstyled ts ≡ style_of ts
+styled_all ts = after_all unstyled ts ∙ ap (λ s. all_added s (attributes_of ts)) (none_first (colors_of ts))
 
 -- a line's style after more tokens; the flag says whether the left margin is settled
 abbrev pub placed_after : Bool → LineStyle → List StyleToken → LineStyle
@@ -93,7 +93,7 @@ pub placed_all : (ts : List StyleToken) → placed_after false (unmargined (styl
 placed_all ts = placed_first (unmargined (style_of ts) Unspecified) ts
 
 -- at the end of the tokens
-pub style_done : (settled : Bool) (s : CompoundStyle) (ts : List StyleToken) (i : ℕ) → length ts ≤ i → style_after settled s (drop i ts) ≡ style_after false plain_style ts → s ≡ style_of ts
+pub style_done : (settled : Bool) (s : CompoundStyle) (ts : List StyleToken) (i : ℕ) → length ts ≤ i → style_after settled s (drop i ts) ≡ style_after false unstyled ts → s ≡ style_of ts
 style_done settled s ts i past held = sym (ap (style_after settled s) (drop_all i ts past)) ∙ held ∙ styled_all ts
 
 pub line_done : (second : Bool) (s : LineStyle) (ts : List StyleToken) (i : ℕ) → length ts ≤ i → placed_after second s (drop i ts) ≡ placed_after false (unmargined (style_of ts) Unspecified) ts → s ≡ line_style_of ts

@@ -5,8 +5,8 @@ use Rattle.std.specs.List.{flat_map}
 use Rattle.std.proofs.lemmas.List.Concat.{flat_map-append}
 use Rattle.mad_md.specs.Flagged.{run_of}
 use Rattle.mad_md.specs.declared.compound.Compound.{Compound}
-use Rattle.mad_term.specs.Styles.{IsPlain, piece_bytes}
-use Rattle.mad_term.proofs.Pieces.{plain_piece}
+use Rattle.mad_term.specs.Styles.{IsUnstyled, piece_bytes}
+use Rattle.mad_term.proofs.Pieces.{unstyled_piece}
 use Rattle.mad_style.specs.declared.compound_styles.CompoundStyle.{CompoundStyle}
 use Rattle.mad_style.specs.declared.kinds.CompositeKind.{CompositeKind}
 use Rattle.mad_style.specs.declared.line_styles.LineStyle.{LineStyle}
@@ -28,16 +28,16 @@ pub pieces_of_runs : (skin : RowSkin) (style : LineStyle) (ps : List Compound) �
 pieces_of_runs skin style [] = refl
 pieces_of_runs skin style (p ∷ ps) = ap (λ qs. compound_piece skin style p ∷ qs) (pieces_of_runs skin style ps)
 
--- a compound that looks as its line does, which is plain, writes its text alone
-pub bare_piece : (skin : RowSkin) (line : LineStyle) (p : Compound) → IsPlain line.compound_style.object_style → compound_style skin line (run_of p) ≡ line.compound_style
+-- a compound that looks as its line does, which has no style, writes its text alone
+pub bare_piece : (skin : RowSkin) (line : LineStyle) (p : Compound) → IsUnstyled line.compound_style.object_style → compound_style skin line (run_of p) ≡ line.compound_style
     → p.src.now ≡ piece_bytes (compound_piece skin line p).style (compound_piece skin line p).text
-bare_piece skin line p plain same = sym (ap (λ (s : CompoundStyle). piece_bytes s.object_style p.src.now) same ∙ plain_piece line.compound_style.object_style p.src.now plain)
+bare_piece skin line p unstyled same = sym (ap (λ (s : CompoundStyle). piece_bytes s.object_style p.src.now) same ∙ unstyled_piece line.compound_style.object_style p.src.now unstyled)
 
 -- the bytes of one such compound more
-pub bare_taken : (skin : RowSkin) (line : LineStyle) (ps : List Compound) (i : ℕ) (d : Compound) → i < length ps → IsPlain line.compound_style.object_style → compound_style skin line (run_of (get_or ps i d)) ≡ line.compound_style
+pub bare_taken : (skin : RowSkin) (line : LineStyle) (ps : List Compound) (i : ℕ) (d : Compound) → i < length ps → IsUnstyled line.compound_style.object_style → compound_style skin line (run_of (get_or ps i d)) ≡ line.compound_style
     → pieces_bytes (map (compound_piece skin line) (take i ps)) ++ (get_or ps i d).src.now ≡ pieces_bytes (map (compound_piece skin line) (take (i + 1) ps))
-bare_taken skin line ps i d inside plain same =
-    ap (λ r. pieces_bytes (map (compound_piece skin line) (take i ps)) ++ r) (bare_piece skin line (get_or ps i d) plain same) ∙ pieces_taken (compound_piece skin line) ps i d inside
+bare_taken skin line ps i d inside unstyled same =
+    ap (λ r. pieces_bytes (map (compound_piece skin line) (take i ps)) ++ r) (bare_piece skin line (get_or ps i d) unstyled same) ∙ pieces_taken (compound_piece skin line) ps i d inside
 
 -- bytes after those that are there
 pub put_after : (base so_far kept piece next new : List ℕ) → new ≡ kept ++ piece → kept ≡ base ++ so_far → so_far ++ piece ≡ next → new ≡ base ++ next

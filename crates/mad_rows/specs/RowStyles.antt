@@ -9,7 +9,7 @@ use Rattle.mad_style.specs.declared.kinds.CompositeKind.TheVariants.{Header, Cod
 use Rattle.mad_style.specs.declared.line_styles.LineStyle.{LineStyle}
 use Rattle.mad_style.specs.declared.ordered_items.OrderedItemStyle.{OrderedItemStyle}
 use Rattle.mad_term.specs.Styles.{IsStyle}
-use Rattle.mad_style.specs.CompoundStyles.{overwritten, plain_style}
+use Rattle.mad_style.specs.CompoundStyles.{overwritten, unstyled}
 use Rattle.mad_style.specs.StyledChars.{char_alone, char_style, styled_char}
 use Rattle.mad_format.specs.LineRules.{LineRules}
 use Rattle.mad_rows.specs.declared.row_skin.RowSkin.{RowSkin}
@@ -76,12 +76,12 @@ pub record AreKnownStyles (skin : RowSkin) : Type 0 where
   pub items : AllByRecursion IsKnownItem skin.ordered_item_styles
 
 -- an ordered item without style: a number and a dot
-abbrev pub plain_item_style : OrderedItemStyle
-plain_item_style = record { index_style = plain_style; index_suffix = styled_char plain_style 46 }
+abbrev pub unstyled_item : OrderedItemStyle
+unstyled_item = record { index_style = unstyled; index_suffix = styled_char unstyled 46 }
 
 -- how items of this level look among these; levels past the last take the last
 abbrev pub item_style_at : List OrderedItemStyle → ℕ → OrderedItemStyle
-item_style_at styles level = unwrap_or (slice_get styles (min level 3)) plain_item_style
+item_style_at styles level = unwrap_or (slice_get styles (min level 3)) unstyled_item
 
 abbrev pub ordered_item_style : RowSkin → ℕ → OrderedItemStyle
 ordered_item_style skin level = item_style_at skin.ordered_item_styles level

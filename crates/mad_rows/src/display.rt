@@ -182,10 +182,10 @@ impl fmt::Display for Compounds<'_, '_> {
     ghost output = { λ c. Some (pieces_bytes (map (compound_piece c.skin.now c.style.now) c.compounds.now)) };
 
     fn fmt<W: fmt::Write>(&self, f: &mut fmt::Formatter<W>) -> fmt::Result {
-        // Most compounds are plain, and need no commands.
-        let plain = self.style.compound_style.object_style.is_plain();
+        // Most compounds have no style, and need no commands.
+        let unstyled = self.style.compound_style.object_style.is_unstyled();
         for compound in self.compounds {
-            if plain && is_bare(compound) {
+            if unstyled && is_bare(compound) {
                 f.write_str(compound.src)?;
                 continue;
             }

@@ -79,10 +79,10 @@ fn append_compounds(
 ) -> Result<(), AllocError>
     ensures { OnOk result (string_bytes rows.new ≡ string_bytes rows.old ++ pieces_bytes (map (compound_piece skin.now style.now) compounds.now)) }
 {
-    // Most compounds are plain, and need no commands.
-    let plain = style.compound_style.object_style.is_plain();
+    // Most compounds have no style, and need no commands.
+    let unstyled = style.compound_style.object_style.is_unstyled();
     for compound in compounds {
-        if plain && is_bare(compound) {
+        if unstyled && is_bare(compound) {
             rows.push_str(compound.src)?;
             continue;
         }

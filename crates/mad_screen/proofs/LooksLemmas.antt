@@ -52,14 +52,14 @@ gets_if_left known pen given = go (nat_lt (length known) 26) refl given where
   go true e _ = ltb-true _ _ e
   go false _ h = absurd (false≢true h)
 
--- the letter at a place below 26, and the question mark at any other place
+-- the letter at an index below 26, and the question mark at any other index
 pub letter_below : (index : ℕ) (place : Option ℕ) → place ≡ Some index → index < 26 → 97 + index ≡ nth_letter place
 letter_below index place is below = cond_below index 26 (97 + index) 63 below ∙ ap nth_letter (sym is)
 
 pub letter_past : (index : ℕ) (place : Option ℕ) → place ≡ Some index → 26 ≤ index → 63 ≡ nth_letter place
 letter_past index place is past = cond_above index 26 (97 + index) 63 63 past refl ∙ ap nth_letter (sym is)
 
--- the letter of a pen that isn't the default one, by the place at which it was found
+-- the letter of a pen that isn't the default one, by the index at which it was found
 pub letter_found : (seen known : List pens.Pen) (pen : Look) (place : Option ℕ) → seen ≡ known → false ≡ is_plain pen → place ≡ position (λ k. same_look (look_of k) pen) seen → nth_letter place ≡ letter_of (map look_of known) pen
 letter_found seen known pen place same own found =
     ap nth_letter (found ∙ ap (position (λ k. same_look (look_of k) pen)) same ∙ position_look known pen)

@@ -60,7 +60,7 @@ abbrev pub nth_letter : Option ℕ → ℕ
 nth_letter None = 63
 nth_letter (Some n) = if nat_lt n 26 then 97 + n else 63
 
--- the letter of a pen: that of its place among the pens with one, and a point (46) for the default one
+-- the letter of a pen: that of its index among the pens with one, and a point (46) for the default one
 abbrev pub letter_of : List Look → Look → ℕ
 letter_of known pen = if is_plain pen then 46 else nth_letter (position (λ k. same_look k pen) known)
 

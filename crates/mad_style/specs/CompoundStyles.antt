@@ -20,8 +20,8 @@ text_style foreground background attributes =
     }
 
 -- the style in which nothing is set
-abbrev pub plain_style : CompoundStyle
-plain_style = text_style None None no_attributes
+abbrev pub unstyled : CompoundStyle
+unstyled = text_style None None no_attributes
 
 -- a style with another foreground
 abbrev pub foreground_set : CompoundStyle → Color → CompoundStyle

@@ -4,7 +4,7 @@ use Rattle.mad_term.specs.declared.styles.ContentStyle.{ContentStyle}
 use Rattle.mad_term.specs.Styles.{piece_bytes, styled_repeat_bytes}
 use Rattle.mad_style.specs.declared.compound_styles.CompoundStyle.{CompoundStyle}
 use Rattle.mad_style.specs.declared.styled_chars.StyledChar.{StyledChar}
-use Rattle.mad_style.specs.CompoundStyles.{plain_style}
+use Rattle.mad_style.specs.CompoundStyles.{unstyled}
 use Rattle.mad_style.specs.StyledChars.{char_style, char_alone}
 
 -- a text repeated, as one piece; none at all writes nothing, no command either
@@ -13,7 +13,7 @@ repeat_bytes style text count = styled_repeat_bytes style.object_style text coun
 
 -- the style that a repeated text is written in: none where nothing is
 abbrev pub repeat_style : CompoundStyle → ℕ → ContentStyle
-repeat_style style count = if count == 0 then plain_style.object_style else style.object_style
+repeat_style style count = if count == 0 then unstyled.object_style else style.object_style
 
 -- a character in its style, as one piece
 abbrev pub styled_char_bytes : StyledChar → List ℕ

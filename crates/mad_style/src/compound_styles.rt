@@ -28,9 +28,9 @@ pub struct CompoundStyle {
 }
 
 impl Default for CompoundStyle {
-    ghost use Rattle.mad_style.specs.CompoundStyles.{plain_style};
+    ghost use Rattle.mad_style.specs.CompoundStyles.{unstyled};
 
-    ghost is_default = { λ style. style ≡ plain_style };
+    ghost is_default = { λ style. style ≡ unstyled };
 
     /// The style in which nothing is set.
     fn default() -> Self {

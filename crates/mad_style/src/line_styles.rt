@@ -28,11 +28,11 @@ pub struct LineStyle {
 }
 
 impl Default for LineStyle {
-    ghost use Rattle.mad_style.specs.CompoundStyles.{plain_style};
+    ghost use Rattle.mad_style.specs.CompoundStyles.{unstyled};
     ghost use Rattle.mad_md.specs.declared.alignment.Alignment.TheVariants.{Unspecified};
     ghost use Rattle.mad_style.specs.LineStyles.{unmargined};
 
-    ghost is_default = { λ style. style ≡ unmargined plain_style Unspecified };
+    ghost is_default = { λ style. style ≡ unmargined unstyled Unspecified };
 
     /// The style in which nothing is set.
     fn default() -> Self {

@@ -20,10 +20,10 @@ pub struct OrderedItemStyle {
 }
 
 impl Default for OrderedItemStyle {
-    ghost use Rattle.mad_style.specs.CompoundStyles.{plain_style};
+    ghost use Rattle.mad_style.specs.CompoundStyles.{unstyled};
     ghost use Rattle.mad_style.specs.StyledChars.{colored_char};
 
-    ghost is_default = { λ style. style ≡ record { index_style = plain_style; index_suffix = colored_char (AnsiValue 244) 46 } };
+    ghost is_default = { λ style. style ≡ record { index_style = unstyled; index_suffix = colored_char (AnsiValue 244) 46 } };
 
     /// A number without style, and a gray dot.
     fn default() -> Self {
@@ -35,12 +35,12 @@ impl Default for OrderedItemStyle {
 }
 
 impl OrderedItemStyle {
-    ghost use Rattle.mad_style.specs.CompoundStyles.{plain_style};
+    ghost use Rattle.mad_style.specs.CompoundStyles.{unstyled};
     ghost use Rattle.mad_style.specs.StyledChars.{styled_char};
 
     /// A number and a dot without style.
     pub fn no_style() -> Self
-        ensures { result ≡ record { index_style = plain_style; index_suffix = styled_char plain_style 46 } }
+        ensures { result ≡ record { index_style = unstyled; index_suffix = styled_char unstyled 46 } }
     {
         Self {
             index_style: CompoundStyle::default(),

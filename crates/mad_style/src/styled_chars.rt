@@ -20,7 +20,7 @@ pub struct StyledChar {
 }
 
 impl StyledChar {
-    ghost use Rattle.mad_style.specs.CompoundStyles.{plain_style, foreground_set, background_set};
+    ghost use Rattle.mad_style.specs.CompoundStyles.{unstyled, foreground_set, background_set};
     ghost use Rattle.mad_style.specs.Repeats.{repeat_style, styled_char_bytes, char_repeat_bytes};
     ghost use Rattle.mad_style.specs.StyledChars.{char_style, char_alone, styled_char, colored_char};
 
@@ -36,7 +36,7 @@ impl StyledChar {
 
     /// A character in no style.
     pub fn nude(nude_char: char) -> StyledChar
-        ensures { result ≡ styled_char plain_style nude_char }
+        ensures { result ≡ styled_char unstyled nude_char }
     {
         Self::new(CompoundStyle::default(), nude_char)
     }

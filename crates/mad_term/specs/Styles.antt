@@ -58,7 +58,7 @@ pub record IsStyle (s : ContentStyle) : Type 0 where
   pub underline : IsColorOrNone s.underline_color
 
 -- the style sets nothing
-pub record IsPlain (s : ContentStyle) : Type 0 where
+pub record IsUnstyled (s : ContentStyle) : Type 0 where
   pub foreground : s.foreground_color ≡ None
   pub background : s.background_color ≡ None
   pub underline : s.underline_color ≡ None

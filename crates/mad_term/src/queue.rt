@@ -80,8 +80,8 @@ pub fn queue_styled<O: Out>(
     // The numbers of its colors are bytes: what reading the piece back needs to know.
     ensures bytes { IsStyle style }
 {
-    // A plain text goes out as it is.
-    if style.is_plain() {
+    // A text without style goes out as it is.
+    if style.is_unstyled() {
         return put_text(out, text);
     }
     let piece = StyledContent {

@@ -28,8 +28,8 @@ impl fmt::Display for StyledRepeat<'_> {
             content: self.content,
             count: self.count,
         };
-        // Most are plain spaces, and need no commands.
-        if self.style.is_plain() {
+        // Most are spaces without style, and need no commands.
+        if self.style.is_unstyled() {
             return copies.fmt(f);
         }
         let opening = StyleOpening(self.style);

@@ -27,9 +27,9 @@ pub struct ContentStyle {
 }
 
 impl Default for ContentStyle {
-    ghost use Rattle.mad_term.specs.Styles.{IsPlain};
+    ghost use Rattle.mad_term.specs.Styles.{IsUnstyled};
 
-    ghost is_default = { IsPlain };
+    ghost is_default = { IsUnstyled };
 
     fn default() -> ContentStyle {
         ContentStyle {
@@ -42,11 +42,11 @@ impl Default for ContentStyle {
 }
 
 impl ContentStyle {
-    ghost use Rattle.mad_term.specs.Styles.{IsPlain, IsStyle};
+    ghost use Rattle.mad_term.specs.Styles.{IsUnstyled, IsStyle};
 
     /// Whether the style sets nothing.
-    pub fn is_plain(self) -> bool
-        ensures plain { IsTrue result ↔ IsPlain self }
+    pub fn is_unstyled(self) -> bool
+        ensures unstyled { IsTrue result ↔ IsUnstyled self }
 
         // The numbers of its colors are bytes: what reading the piece back needs to know.
         ensures bytes { IsStyle self }
@@ -206,8 +206,8 @@ impl fmt::Display for StyledContent<'_> {
     ghost output = { λ p. Some (piece_bytes p.style p.content.now) };
 
     fn fmt<W: fmt::Write>(&self, f: &mut fmt::Formatter<W>) -> fmt::Result {
-        // Most texts are plain, and need no commands.
-        if self.style.is_plain() {
+        // Most texts have no style, and need no commands.
+        if self.style.is_unstyled() {
             return f.write_str(self.content);
         }
         let opening = StyleOpening(self.style);
@@ -264,7 +264,7 @@ pub fn push_background(row: &mut String, color: Color) -> Result<(), AllocError>
     write!(row, "{command}")
 }
 
-/// Appends a piece: a text in a style. An empty text writes its style's commands too, and a plain
+/// Appends a piece: a text in a style. An empty text writes its style's commands too, and a text without
 /// style none.
 ///
 /// # Errors

@@ -10,7 +10,7 @@ use Rattle.mad_wrap.specs.Breaks.{total_width}
 use Rattle.mad_wrap.specs.LineRoom.{left_of, left_after, is_right}
 use Rattle.mad_wrap.specs.declared.room.Room.{Room}
 use Rattle.mad_wrap.proofs.CheckerSteps.{token_at}
-use Rattle.mad_wrap.proofs.PlaceLemmas.{left_of-some, total_width-push}
+use Rattle.mad_wrap.proofs.PlacingLemmas.{left_of-some, total_width-push}
 
 -- ---- what is left of a line
 

@@ -14,7 +14,7 @@ use Rattle.mad_fit.proofs.TokenTexts.{text_from, some_compound}
 use Rattle.mad_wrap.specs.CleanCut.{fits_after, both_fit, is_white, clean_cut, is_cut_clean, drops_middle, AreTexts}
 use Rattle.mad_wrap.specs.Keeps.{AllWhite, Keeps}
 use Rattle.mad_wrap.specs.LeastWrap.{AreTokensIn, AreTokenized, IsWrap}
-use Rattle.mad_wrap.specs.PlacedLines.{AreTwoLines}
+use Rattle.mad_wrap.specs.TokenLines.{AreTwoLines}
 use Rattle.mad_wrap.specs.Placings.{ArePlaced}
 use Rattle.mad_wrap.specs.WrapLines.{runs_of, LinesFit, NoneEmpty, IsMadeOf}
 use Rattle.mad_wrap.specs.declared.room.Room.{Room}

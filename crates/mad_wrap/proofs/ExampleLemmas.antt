@@ -3,7 +3,7 @@ use Rattle.std.proofs.Common.{◌≡◌, ℕ, ◌+◌, ◌<◌, true, false, Lis
 use Rattle.std.proofs.lemmas.Bool.Decides.{nat_tests}
 use Rattle.std.specs.Char.{is_whitespace}
 use Rattle.std.specs.Prelude.{codes, ◌==◌}
-use Rattle.mad_md.specs.Flagged.{FlaggedChar, Run, plain, flagged, flagged_text, run_of}
+use Rattle.mad_md.specs.Flagged.{FlaggedChar, Run, unflagged, flagged, flagged_text, run_of}
 use Rattle.mad_md.specs.declared.compound.Compound.{Compound}
 use Rattle.mad_fit.specs.TextColumns.{width_of}
 use Rattle.mad_fit.specs.Tokens.{token_run}
@@ -24,28 +24,28 @@ use Rattle.mad_wrap.proofs.UniqueLemmas.{one_first_fit}
 
 -- the character at a place
 abbrev char_at : ℕ → List FlaggedChar → FlaggedChar
-char_at n xs = get_or xs n (record { char = 0; flags = plain })
+char_at n xs = get_or xs n (record { char = 0; flags = unflagged })
 
 -- ---- texts that aren't kept
 
-pub glued : (r : Room) (ps : List Compound) (lines : List (List Compound)) → flagged_text ps ≡ flagged plain (codes "aaa bb") → map flagged_text lines ≡ flagged plain (codes "aaabb") ∷ [] → ¬ (IsWrap r ps lines)
+pub glued : (r : Room) (ps : List Compound) (lines : List (List Compound)) → flagged_text ps ≡ flagged unflagged (codes "aaa bb") → map flagged_text lines ≡ flagged unflagged (codes "aaabb") ∷ [] → ¬ (IsWrap r ps lines)
 glued r ps lines text are wrap =
-    let kept : Keeps (flagged plain (codes "aaa bb")) (flagged plain (codes "aaabb") ∷ []) = subst (Keeps (flagged plain (codes "aaa bb"))) are (subst (λ t. Keeps t (map flagged_text lines)) text wrap.keeps) in
+    let kept : Keeps (flagged unflagged (codes "aaa bb")) (flagged unflagged (codes "aaabb") ∷ []) = subst (Keeps (flagged unflagged (codes "aaa bb"))) are (subst (λ t. Keeps t (map flagged_text lines)) text wrap.keeps) in
     let fourth : false ≡ true = ap (λ (xs : List FlaggedChar). (char_at 3 xs).char == 98) kept.2 in
     cc
 
 -- the gap after `aa` is none, a space or more
-no_gap : (gap rest more : List FlaggedChar) → flagged plain (codes "aa ") ++ flagged (record plain { bold = true }) (codes "bb") ≡ flagged plain (codes "aa") ++ (gap ++ rest) → AllWhite gap → rest ≡ flagged plain (codes "bb") ++ more → ⊥
-no_gap [] rest more e white next = let third : false ≡ true = ap (λ (xs : List FlaggedChar). (char_at 2 xs).char == 98) (e ∙ ap (λ (l : List FlaggedChar). flagged plain (codes "aa") ++ l) next) in cc
+no_gap : (gap rest more : List FlaggedChar) → flagged unflagged (codes "aa ") ++ flagged (record unflagged { bold = true }) (codes "bb") ≡ flagged unflagged (codes "aa") ++ (gap ++ rest) → AllWhite gap → rest ≡ flagged unflagged (codes "bb") ++ more → ⊥
+no_gap [] rest more e white next = let third : false ≡ true = ap (λ (xs : List FlaggedChar). (char_at 2 xs).char == 98) (e ∙ ap (λ (l : List FlaggedChar). flagged unflagged (codes "aa") ++ l) next) in cc
 no_gap (x ∷ []) rest more e white next =
-    let fourth : true ≡ false = ap (λ (xs : List FlaggedChar). (char_at 3 xs).flags.bold) (e ∙ ap (λ (l : List FlaggedChar). flagged plain (codes "aa") ++ (x ∷ l)) next) in cc
+    let fourth : true ≡ false = ap (λ (xs : List FlaggedChar). (char_at 3 xs).flags.bold) (e ∙ ap (λ (l : List FlaggedChar). flagged unflagged (codes "aa") ++ (x ∷ l)) next) in cc
 no_gap (x ∷ y ∷ gap) rest more e white next = let fourth : false ≡ true = ap (λ (xs : List FlaggedChar). is_whitespace (char_at 3 xs).char) e ∙ white.1.0 in cc
 
-pub lost_flags : (r : Room) (ps : List Compound) (lines : List (List Compound)) → flagged_text ps ≡ flagged plain (codes "aa ") ++ flagged (record plain { bold = true }) (codes "bb")
-    → map flagged_text lines ≡ flagged plain (codes "aa") ∷ flagged plain (codes "bb") ∷ [] → ¬ (IsWrap r ps lines)
+pub lost_flags : (r : Room) (ps : List Compound) (lines : List (List Compound)) → flagged_text ps ≡ flagged unflagged (codes "aa ") ++ flagged (record unflagged { bold = true }) (codes "bb")
+    → map flagged_text lines ≡ flagged unflagged (codes "aa") ∷ flagged unflagged (codes "bb") ∷ [] → ¬ (IsWrap r ps lines)
 lost_flags r ps lines text are wrap =
-    let source = flagged plain (codes "aa ") ++ flagged (record plain { bold = true }) (codes "bb") in
-    let kept : Keeps source (flagged plain (codes "aa") ∷ flagged plain (codes "bb") ∷ []) = subst (Keeps source) are (subst (λ t. Keeps t (map flagged_text lines)) text wrap.keeps) in
+    let source = flagged unflagged (codes "aa ") ++ flagged (record unflagged { bold = true }) (codes "bb") in
+    let kept : Keeps source (flagged unflagged (codes "aa") ∷ flagged unflagged (codes "bb") ∷ []) = subst (Keeps source) are (subst (λ t. Keeps t (map flagged_text lines)) text wrap.keeps) in
     no_gap kept.0 kept.1 (kept.4.0 ++ kept.4.1) kept.2 kept.3 kept.4.2
 
 -- ---- tokens on lines

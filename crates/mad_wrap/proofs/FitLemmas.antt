@@ -9,7 +9,7 @@ use Rattle.mad_wrap.specs.declared.first_fit.FirstFit.{FirstFit}
 use Rattle.mad_wrap.specs.declared.first_fit.Put.TheVariants.{OnLine, OnNext, InGap}
 use Rattle.mad_wrap.specs.declared.room.Room.{Room}
 use Rattle.mad_wrap.specs.declared.wrapped_line.WrappedLine.{WrappedLine}
-use Rattle.mad_wrap.proofs.PlaceLemmas.{Progress, AddsToken, IsBegun, progress_fits, progress_ends, progress_begins}
+use Rattle.mad_wrap.proofs.PlacingLemmas.{Progress, AddsToken, IsBegun, progress_fits, progress_ends, progress_begins}
 use Rattle.mad_wrap.proofs.StartLemmas.{StartsSoFar, starts_fit, starts_end, starts_next}
 
 -- ---- lines

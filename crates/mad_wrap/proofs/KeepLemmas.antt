@@ -16,7 +16,7 @@ use Rattle.mad_fit.proofs.FlaggedLemmas.{width_of-append}
 use Rattle.mad_fit.proofs.TokenTexts.{IsHonest, tokens_text-append, some_flagged, length-token_text}
 use Rattle.mad_wrap.specs.Breaks.{LineAndGap, lines_and_gaps, total_width, AllBlank, FitsFrom}
 use Rattle.mad_wrap.specs.Keeps.{AllWhite, Keeps}
-use Rattle.mad_wrap.specs.PlacedLines.{HoldBreak}
+use Rattle.mad_wrap.specs.TokenLines.{HoldBreak}
 use Rattle.mad_wrap.specs.Placings.{GapsForced}
 use Rattle.mad_wrap.specs.WrapLines.{runs_of, LinesFit, NoneEmpty, IsMadeOf}
 use Rattle.mad_wrap.specs.declared.room.Room.{Room}
@@ -110,7 +110,7 @@ SomeOnEach ps = AllByRecursion (λ p. 0 < length p.line) ps
 
 some_text : (max : ℕ) (ts : List Token) → 0 < length ts → AllByRecursion (IsHonest max) ts → 0 < length (tokens_text ts)
 some_text max [] some h = absurd (omega arith)
-some_text max (t ∷ ts) some h = omega (arith, some_flagged t h.0.place, length-append (flagged_token t) (tokens_text ts))
+some_text max (t ∷ ts) some h = omega (arith, some_flagged t h.0.within, length-append (flagged_token t) (tokens_text ts))
 
 pub some_lines : (max : ℕ) (ps : List (LineAndGap Token)) (ls : List WrappedLine) → HoldBreak ps ls → AllByRecursion (IsHonest max) (lines_and_gaps ps) → SomeOnEach ps
     → AllByRecursion (λ l. 0 < length (flagged_text l)) (compounds_of ls)
@@ -174,7 +174,7 @@ filled max (c ∷ cs) [] h g = absurd (cc)
 filled max (c ∷ cs) (t ∷ ts) h g =
     let head : run_of c ≡ token_run t = cc in
     let tail : map run_of cs ≡ map token_run ts = cc in
-    (omega (arith, ap (λ (x : Run). length x.text) head, length-token_text t g.0.place, g.0.place.some), filled max cs ts tail g.1)
+    (omega (arith, ap (λ (x : Run). length x.text) head, length-token_text t g.0.within, g.0.within.some), filled max cs ts tail g.1)
 
 pub filled_lines : (max : ℕ) (ps : List (LineAndGap Token)) (ls : List WrappedLine) → HoldBreak ps ls → AllByRecursion (IsHonest max) (lines_and_gaps ps)
     → AllByRecursion NoneEmpty (compounds_of ls)

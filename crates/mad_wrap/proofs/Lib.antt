@@ -11,7 +11,7 @@ pub mod LeastLemmas
 pub mod MeasureLemmas
 pub mod PassLemmas
 pub mod PastLemmas
-pub mod PlaceLemmas
+pub mod PlacingLemmas
 pub mod PromisedStarts
 pub mod StartLemmas
 pub mod UniqueLemmas

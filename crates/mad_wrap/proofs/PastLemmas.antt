@@ -11,7 +11,7 @@ use Rattle.mad_wrap.specs.LeastBound.{IsFirstPast}
 use Rattle.mad_wrap.specs.LineRoom.{left_of, left_after, past_here}
 use Rattle.mad_wrap.specs.declared.room.Room.{Room}
 use Rattle.mad_wrap.proofs.CheckLemmas.{left_more, left_of-none}
-use Rattle.mad_wrap.proofs.PlaceLemmas.{left_of-some, total_width-push}
+use Rattle.mad_wrap.proofs.PlacingLemmas.{left_of-some, total_width-push}
 
 -- what is said of the first token that passes the first line, among the tokens so far
 abbrev pub IsPast : Room → List Token → Option ℕ → Type 0

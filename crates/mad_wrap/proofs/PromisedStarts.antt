@@ -18,7 +18,7 @@ use Rattle.mad_wrap.specs.CleanCut.{fits_after, both_fit, is_white, clean_cut, i
 use Rattle.mad_wrap.specs.LeastBound.{IsBound, AreChecked, drops_code, AreStartsOf, AreFewest, AreCutStarts, IsFirstPast}
 use Rattle.mad_wrap.specs.LeastWrap.{AreTokensIn}
 use Rattle.mad_wrap.specs.LineStarts.{starts_of}
-use Rattle.mad_wrap.specs.PlacedLines.{ArePlacedStarts}
+use Rattle.mad_wrap.specs.TokenLines.{ArePlacedStarts}
 use Rattle.mad_wrap.specs.Placings.{IsFirstFit}
 use Rattle.mad_wrap.specs.Rooms.{most_indent, token_limit}
 use Rattle.mad_wrap.specs.WrapLines.{HasRoom}
@@ -100,7 +100,7 @@ blank_token b (x ∷ xs) some h g = sym h.0 ∙ g.0
 pub blank_tokens : (max : ℕ) (ts : List Token) → AllByRecursion (IsHonest max) ts → AllByRecursion (λ x. is_blank x ≡ true) (tokens_text ts) → AllBlank ts
 blank_tokens max [] h g = tt
 blank_tokens max (t ∷ ts) h g = (
-  blank_token t.blank (flagged_token t) (some_flagged t h.0.place) h.0.alike.alike (all_front (λ x. is_blank x ≡ true) (flagged_token t) (tokens_text ts) g),
+  blank_token t.blank (flagged_token t) (some_flagged t h.0.within) h.0.alike.alike (all_front (λ x. is_blank x ≡ true) (flagged_token t) (tokens_text ts) g),
   blank_tokens max ts h.1 (all_back (λ x. is_blank x ≡ true) (flagged_token t) (tokens_text ts) g),
 )
 

@@ -6,11 +6,11 @@ use Rattle.mad_fit.specs.declared.tokens.Token.{Token}
 use Rattle.mad_wrap.specs.Breaks.{LineAndGap, lines_and_gaps}
 use Rattle.mad_wrap.specs.LineRoom.{left_of, fits_in, taken}
 use Rattle.mad_wrap.specs.LineStarts.{starts_from, dropped_after, dropped_from, from_first, starts_of}
-use Rattle.mad_wrap.specs.PlacedLines.{ArePlacedStarts}
+use Rattle.mad_wrap.specs.TokenLines.{ArePlacedStarts}
 use Rattle.mad_wrap.specs.Placings.{LinesForced}
 use Rattle.mad_wrap.specs.declared.room.Room.{Room}
 use Rattle.mad_wrap.proofs.PassLemmas.{dropped_some}
-use Rattle.mad_wrap.proofs.PlaceLemmas.{Shape, shape_start, shape_fits, shape_ends, shape_begins, lines_and_gaps-push, whole_fit}
+use Rattle.mad_wrap.proofs.PlacingLemmas.{Shape, shape_start, shape_fits, shape_ends, shape_begins, lines_and_gaps-push, whole_fit}
 
 starts_from-push : (n : ℕ) (ps : List (LineAndGap Token)) (p : LineAndGap Token) → starts_from n (ps ++ p ∷ []) ≡ starts_from n ps ++ (n + length (lines_and_gaps ps)) ∷ []
 starts_from-push n [] p = ap (λ m. m ∷ []) (omega arith)

@@ -14,7 +14,7 @@ use Rattle.mad_wrap.specs.CleanCut.{clean_cut}
 use Rattle.mad_wrap.specs.Keeps.{Keeps}
 use Rattle.mad_wrap.specs.LeastWrap.{AreTokensIn, AreTokenized, IsLeastBreak, IsWrap}
 use Rattle.mad_wrap.specs.WrapLines.{compounds_of, AreCounted}
-use Rattle.mad_wrap.specs.PlacedLines.{ArePlacedLines}
+use Rattle.mad_wrap.specs.TokenLines.{ArePlacedLines}
 use Rattle.mad_wrap.specs.Rooms.{most_indent, token_limit}
 use Rattle.mad_wrap.specs.WrapLines.{HasRoom, LinesFit}
 use Rattle.mad_wrap.specs.declared.room.Room.{Room}

@@ -1,6 +1,6 @@
 -- Wrong answers that the definitions refuse, each of a text at a width. Tokens are given by their columns: `aaa` is a word of three.
 use Rattle.std.specs.Prelude.{◌≡◌, ℕ, true, false, List, [], ◌∷◌, ◌++◌, map, length, codes}
-use Rattle.mad_md.specs.Flagged.{plain, flagged, flagged_text}
+use Rattle.mad_md.specs.Flagged.{unflagged, flagged, flagged_text}
 use Rattle.mad_md.specs.declared.compound.Compound.{Compound}
 use Rattle.mad_fit.specs.TextColumns.{width_of}
 use Rattle.mad_fit.specs.declared.tokens.Token.{Token}
@@ -25,12 +25,12 @@ pub record IsSpace (columns : ℕ) (t : Token) : Type 0 where
 
 -- glued after a skipped blank: `aaa bb` as `aaabb`, in any room
 abbrev pub GluedIsRefused : Type 0
-GluedIsRefused = (r : Room) (ps : List Compound) (lines : List (List Compound)) → flagged_text ps ≡ flagged plain (codes "aaa bb") → map flagged_text lines ≡ flagged plain (codes "aaabb") ∷ [] → ¬ (IsWrap r ps lines)
+GluedIsRefused = (r : Room) (ps : List Compound) (lines : List (List Compound)) → flagged_text ps ≡ flagged unflagged (codes "aaa bb") → map flagged_text lines ≡ flagged unflagged (codes "aaabb") ∷ [] → ¬ (IsWrap r ps lines)
 
--- flags lost: `aa` and a bold `bb` after a space as `aa` and a plain `bb`, in any room
+-- flags lost: `aa` and a bold `bb` after a space as `aa` and an unflagged `bb`, in any room
 abbrev pub LostFlagsAreRefused : Type 0
-LostFlagsAreRefused = (r : Room) (ps : List Compound) (lines : List (List Compound)) → flagged_text ps ≡ flagged plain (codes "aa ") ++ flagged (record plain { bold = true }) (codes "bb")
-    → map flagged_text lines ≡ flagged plain (codes "aa") ∷ flagged plain (codes "bb") ∷ [] → ¬ (IsWrap r ps lines)
+LostFlagsAreRefused = (r : Room) (ps : List Compound) (lines : List (List Compound)) → flagged_text ps ≡ flagged unflagged (codes "aa ") ++ flagged (record unflagged { bold = true }) (codes "bb")
+    → map flagged_text lines ≡ flagged unflagged (codes "aa") ∷ flagged unflagged (codes "bb") ∷ [] → ¬ (IsWrap r ps lines)
 
 -- cut at the width: `ab cccc` at 5 with a first line of five columns
 abbrev pub CutAtTheWidthIsRefused : Type 0

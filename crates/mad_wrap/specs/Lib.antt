@@ -9,7 +9,7 @@ pub mod LeastBound
 pub mod LeastWrap
 pub mod LineRoom
 pub mod LineStarts
-pub mod PlacedLines
+pub mod TokenLines
 pub mod Placings
 pub mod Rooms
 pub mod WrapLines

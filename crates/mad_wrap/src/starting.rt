@@ -8,7 +8,7 @@ ghost use Rattle.mad_fit.specs.declared.tokens.Token.{Token};
 ghost use Rattle.mad_wrap.specs.LeastWrap.{AreTokenized};
 ghost use Rattle.mad_wrap.specs.LeastBound.{IsBound, AreChecked, AreStartsOf, AreFewest, AreCutStarts, IsFirstPast};
 ghost use Rattle.mad_wrap.specs.LineRoom.{past_here};
-ghost use Rattle.mad_wrap.specs.PlacedLines.{ArePlacedStarts};
+ghost use Rattle.mad_wrap.specs.TokenLines.{ArePlacedStarts};
 ghost use Rattle.mad_wrap.specs.WrapLines.{HasRoom};
 
 use crate::clean_cut::clean_cut;

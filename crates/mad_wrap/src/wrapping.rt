@@ -5,7 +5,7 @@ ghost use Rattle.mad_md.specs.Flagged.{flagged_text};
 ghost use Rattle.mad_fit.specs.TextColumns.{width_of};
 ghost use Rattle.mad_wrap.specs.LeastWrap.{IsWrap};
 ghost use Rattle.mad_wrap.specs.WrapLines.{compounds_of, AreCounted};
-ghost use Rattle.mad_wrap.specs.PlacedLines.{AreTwoLines};
+ghost use Rattle.mad_wrap.specs.TokenLines.{AreTwoLines};
 
 use crate::clean_cut::clean_cut;
 use crate::placing::place;

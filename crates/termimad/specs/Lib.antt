@@ -7,8 +7,8 @@ pub use Rattle.mad_md.specs.ReadInline
 pub use Rattle.mad_md.specs.ReadRaw
 pub use Rattle.mad_md.specs.Cells
 pub use Rattle.mad_md.specs.Cursor
-pub use Rattle.mad_md.specs.Places
-pub use Rattle.mad_md.specs.Plain
+pub use Rattle.mad_md.specs.Spans
+pub use Rattle.mad_md.specs.UnmarkedLines
 pub use Rattle.mad_md.specs.Reading
 pub use Rattle.mad_md.specs.ReadingLaws
 pub use Rattle.mad_md.specs.Scan
@@ -59,7 +59,7 @@ pub use Rattle.mad_widths.specs.WorkedWidths
 pub use Rattle.mad_fit.specs.Areas
 pub use Rattle.mad_fit.specs.TextColumns
 pub use Rattle.mad_fit.specs.Completions
-pub use Rattle.mad_fit.specs.TokenPlaces
+pub use Rattle.mad_fit.specs.TokenPositions
 pub use Rattle.mad_fit.specs.Tokens
 pub use Rattle.mad_fit.specs.TokensLeft
 pub use Rattle.mad_draw.specs.DrawnRows
@@ -87,7 +87,7 @@ pub use Rattle.mad_format.specs.LineRules
 pub use Rattle.mad_format.specs.FmtLines
 pub use Rattle.mad_layout.specs.MadeSkins
 pub use Rattle.mad_blocks.specs.LayoutParts
-pub use Rattle.mad_layout.specs.PlainTables
+pub use Rattle.mad_layout.specs.PrintableTables
 pub use Rattle.mad_layout.specs.Premises
 pub use Rattle.mad_layout.specs.RecoloredSkins
 pub use Rattle.mad_rows.specs.Rows
@@ -130,7 +130,7 @@ pub use Rattle.mad_json.specs.Written as SkinWritten
 pub use Rattle.mad_lines.specs.TextLines
 pub use Rattle.mad_lines.specs.LineColumns
 pub use Rattle.mad_lines.specs.CharClasses
-pub use Rattle.mad_lines.specs.PlaceOrder
+pub use Rattle.mad_lines.specs.PositionOrder
 pub use Rattle.mad_edit.specs.Editor
 pub use Rattle.mad_edit.specs.Undo
 pub use Rattle.mad_edit.specs.Words as EditedWords

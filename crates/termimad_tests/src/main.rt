@@ -36,7 +36,8 @@ impl Calls for LibraryCalls {
     }
 }
 
-// `large COUNT CALL` counts what the call answers of the text repeated `COUNT` times.
+// `large COUNT CALL` counts what the call answers of the text repeated `COUNT` times, and `refused CALL` says what a call answers that no
+// memory has room for.
 fn answer_of(alloc: Global, call: &str, text: &str) -> Result<String, Refusal> {
     let (name, words) = call.split_once(' ').unwrap_or((call, ""));
     match name {
@@ -44,6 +45,7 @@ fn answer_of(alloc: Global, call: &str, text: &str) -> Result<String, Refusal> {
         "deep" => skins::deep_changes(alloc, numbers_of(words).0[0], text),
         "numbered" => skins::numbered(alloc, words.parse().unwrap_or(0)),
         "large" => large_answer(alloc, words, text),
+        "refused" => refused_answer(alloc, words, text),
         "run" => Ok(runs::run(alloc, runs::ROOM, words, text)?),
         "words_on_a_screen" => screens::words(alloc),
         "run_in_twenty_bytes" => Ok(runs::run(alloc, 20, words, text)?),
@@ -57,6 +59,14 @@ fn large_answer(alloc: Global, words: &str, text: &str) -> Result<String, Refusa
     let text = text.repeat(alloc, numbers[0])?;
     let answer = answer_in_skin(alloc, name, words, text.as_str())?;
     Ok(texts::counts(alloc, answer.as_str())?)
+}
+
+fn refused_answer(alloc: Global, call: &str, text: &str) -> Result<String, Refusal> {
+    let (name, words) = call.split_once(' ').unwrap_or((call, ""));
+    match answer_in_skin(alloc, name, words, text) {
+        Err(Refusal::Memory) => Ok(String::from_str(alloc, "want of memory")?),
+        answer => answer,
+    }
 }
 
 fn answer_in_skin(alloc: Global, name: &str, words: &str, text: &str) -> Result<String, Refusal> {

@@ -24,10 +24,7 @@ impl Refusal {
     /// Its text. Out of memory it has none.
     pub fn told(self, alloc: Global) -> Result<String, AllocError> {
         match self {
-            Refusal::Memory
-            | Refusal::Skin(SkinError::Memory)
-            | Refusal::Writing(Error::Memory)
-            | Refusal::Screen(NotPlain::Memory) => Err(AllocError),
+            Refusal::Memory => Err(AllocError),
             Refusal::Json => String::from_str(alloc, "no JSON"),
             Refusal::Skin(error) => format!(in alloc; "{error}"),
             Refusal::Writing(error) => format!(in alloc; "{error}"),
@@ -53,18 +50,27 @@ impl From<JsonError> for Refusal {
 
 impl From<SkinError> for Refusal {
     fn from(error: SkinError) -> Self {
-        Refusal::Skin(error)
+        match error {
+            SkinError::Memory => Refusal::Memory,
+            error => Refusal::Skin(error),
+        }
     }
 }
 
 impl From<Error> for Refusal {
     fn from(error: Error) -> Self {
-        Refusal::Writing(error)
+        match error {
+            Error::Memory => Refusal::Memory,
+            error => Refusal::Writing(error),
+        }
     }
 }
 
 impl From<NotPlain> for Refusal {
     fn from(error: NotPlain) -> Self {
-        Refusal::Screen(error)
+        match error {
+            NotPlain::Memory => Refusal::Memory,
+            error => Refusal::Screen(error),
+        }
     }
 }

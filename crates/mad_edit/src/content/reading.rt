@@ -6,7 +6,9 @@ ghost use Rattle.mad_lines.specs.TextLines.{lines, lines_of, line_at};
 ghost use Rattle.mad_edit.specs.Editor.{cursor_line, selected};
 
 use crate::content::InputFieldContent;
-use mad_lines::{Chars, Line, Pos, Range, char_width, end_place, line_at, line_count, place_past};
+use mad_lines::{
+    Chars, Line, Pos, Range, char_width, end_position, line_at, line_count, position_past,
+};
 
 impl InputFieldContent {
     /// A line, if there is one with this number, counted from 0.
@@ -48,14 +50,14 @@ impl InputFieldContent {
         ensures { IsTrue result ↔ (length self.now.text ≡ 0) }
     {
         let start = self.start();
-        self.next_place(start).is_none()
+        self.next_position(start).is_none()
     }
 
     /// The characters of the text, newlines included.
     pub fn chars(&self) -> Chars<'_>
         ensures { result ≡ self.now.text }
     {
-        let end = end_place(&self.lines);
+        let end = end_position(&self.lines);
         Chars::new(&self.lines, Pos { y: 0, x: 0 }, end)
     }
 
@@ -64,7 +66,7 @@ impl InputFieldContent {
         ensures { result ≡ selected self.now }
     {
         let Range { min, max } = self.selection();
-        let end = place_past(&self.lines, max);
+        let end = position_past(&self.lines, max);
         Chars::new(&self.lines, min, end)
     }
 

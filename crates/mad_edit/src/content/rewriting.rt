@@ -47,7 +47,7 @@ impl InputFieldContent {
         Ok(())
     }
 
-    /// Leaves an empty text. A tail stays, at its only place.
+    /// Leaves an empty text. A tail stays, at its only position.
     pub fn clear(&mut self)
         ensures text { self.new.text ≡ [] }
         ensures cursor { self.new.offset ≡ 0 }
@@ -58,7 +58,7 @@ impl InputFieldContent {
         self.selection_tail = clamp_tail(&self.lines, self.selection_tail);
     }
 
-    /// Two lines, by their numbers from 0, change places. The cursor and the tail keep their line and place numbers as far as the text goes.
+    /// Two lines, by their numbers from 0, change places. The cursor and the tail keep their line and position numbers as far as the text goes.
     /// Returns whether these are two lines of the text.
     pub fn swap_lines(&mut self, one: usize, other: usize) -> bool
         ensures done { IsTrue result ↔ ((one ≢ other) × (one < length (lines self.old.text)) × (other < length (lines self.old.text))) }

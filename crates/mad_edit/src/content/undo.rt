@@ -9,7 +9,7 @@ use mad_lines::Pos;
 use std::alloc::AllocError;
 
 impl InputFieldContent {
-    /// Undoes cuts, the last one first: each text is put in at its place again, or at the nearest one, and the cursor after
+    /// Undoes cuts, the last one first: each text is put in at its position again, or at the nearest one, and the cursor after
     /// it. If the list of cuts led from an editor's text to the one that is there now, that text is there again.
     ///
     /// # Errors
@@ -26,8 +26,8 @@ impl InputFieldContent {
         let mut left = cuts.len();
         'cuts: while left > 0 {
             left -= 1;
-            let (place, text) = cuts[left];
-            undone.set_cursor_pos(place);
+            let (position, text) = cuts[left];
+            undone.set_cursor_pos(position);
             undone.insert_str(text)?;
         }
         *self = undone;

@@ -5,8 +5,8 @@ use Rattle.mad_edit.proofs.laws.two_cuts_in_order.Goals as goal
 pub returns-clause-leads : goal.returns-clause-leads
 returns-clause-leads c = (
   codes "ad",
-  record { offset = 1; place = ((omega arith, omega arith), refl); text = refl },
-  ([], record { offset = 0; place = ((omega arith, omega arith), refl); text = refl }, refl),
+  record { offset = 1; position = ((omega arith, omega arith), refl); text = refl },
+  ([], record { offset = 0; position = ((omega arith, omega arith), refl); text = refl }, refl),
 )
 
 -- the first cut would be at the start
@@ -17,4 +17,4 @@ first_char next n e h =
     omega (arith, second)
 
 pub returns-clause-turned : goal.returns-clause-turned
-returns-clause-turned c = λ leads. first_char leads.0 leads.1.offset (sym leads.1.place.1) leads.1.text
+returns-clause-turned c = λ leads. first_char leads.0 leads.1.offset (sym leads.1.position.1) leads.1.text

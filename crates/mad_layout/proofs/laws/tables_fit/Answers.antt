@@ -10,5 +10,5 @@ pub returns-clause-fitting : goal.returns-clause-fitting
 returns-clause-fitting c = tables_fitting
 
 pub returns-clause-least : goal.returns-clause-least
-returns-clause-least c = λ skin width drawn table lines two narrower bound borders bare plain laid.
-    tables_fitting skin width drawn table lines two narrower bound borders bare plain (table_by IsCompositeWrap IsFittingWrap wrap_fits (line_rules skin) (columns_count table) width table lines laid)
+returns-clause-least c = λ skin width drawn table lines two narrower bound borders bare printable laid.
+    tables_fitting skin width drawn table lines two narrower bound borders bare printable (table_by IsCompositeWrap IsFittingWrap wrap_fits (line_rules skin) (columns_count table) width table lines laid)

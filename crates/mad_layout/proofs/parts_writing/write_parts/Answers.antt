@@ -2,7 +2,7 @@ use Rattle.std.proofs.Common.{string_bytes, ap, ◌∙◌, subst, arith}
 use Rattle.mad_blocks.specs.PartCursors.{lines_left}
 use Rattle.mad_blocks.proofs.PartCursorLemmas.{laid_shorter}
 use Rattle.mad_term.specs.Trace.{after, CutShort}
-use Rattle.mad_layout.proofs.PlainLineLemmas.{written_plain, written_plain_refused}
+use Rattle.mad_layout.proofs.UnmarkedLineLemmas.{written_unmarked, written_unmarked_refused}
 use Rattle.mad_layout.proofs.WrittenLemmas.{written_start, written_early, written_cut_short, written_whole}
 use Rattle.mad_layout.proofs.parts_writing.write_parts.Goals as goal
 
@@ -17,20 +17,20 @@ returns-in_err-lay_next g c = written_early c.args.skin.now c.args.width _ _ _ _
 
 pub loop-lines-preserved : goal.loop-lines-preserved
 loop-lines-preserved g c = record {
-  so_far = written_plain c.args.skin.now c.args.width _ _ (lines_left c.lay_next.new.self) _ _ c.lay_next.new.lines.items _ _ _ _ _ c.loop-lines.invariant.so_far (rw c.if-branch.true at c.in_ok-lay_next.ensures) c.loop-lines.invariant.none
-      c.in_ok-hand_on_plain.ensures.handed;
-  none = c.in_ok-hand_on_plain.ensures.dropped;
+  so_far = written_unmarked c.args.skin.now c.args.width _ _ (lines_left c.lay_next.new.self) _ _ c.lay_next.new.lines.items _ _ _ _ _ c.loop-lines.invariant.so_far (rw c.if-branch.true at c.in_ok-lay_next.ensures) c.loop-lines.invariant.none
+      c.in_ok-hand_on_unmarked.ensures.handed;
+  none = c.in_ok-hand_on_unmarked.ensures.dropped;
 }
 
 pub loop-lines-smaller : goal.loop-lines-smaller
 loop-lines-smaller g c =
     let shorter = laid_shorter _ _ (lines_left c.loop-lines.parts) (lines_left c.lay_next.new.self) _ c.lay_next.new.lines.items (rw c.if-branch.true at c.in_ok-lay_next.ensures) in
-    omega (arith, shorter, c.in_ok-hand_on_plain.ensures.shorter)
+    omega (arith, shorter, c.in_ok-hand_on_unmarked.ensures.shorter)
 
-pub returns-in_err-hand_on_plain : goal.returns-in_err-hand_on_plain
-returns-in_err-hand_on_plain g c =
-    written_plain_refused c.args.skin.now c.args.width _ _ (lines_left c.lay_next.new.self) _ _ c.lay_next.new.lines.items _ _ _ _ _ _ _ c.loop-lines.invariant.so_far (rw c.if-branch.true at c.in_ok-lay_next.ensures) c.loop-lines.invariant.none
-    c.in_err-hand_on_plain.ensures.handed c.from_residual-in_err-hand_on_plain.ensures.1
+pub returns-in_err-hand_on_unmarked : goal.returns-in_err-hand_on_unmarked
+returns-in_err-hand_on_unmarked g c =
+    written_unmarked_refused c.args.skin.now c.args.width _ _ (lines_left c.lay_next.new.self) _ _ c.lay_next.new.lines.items _ _ _ _ _ _ _ c.loop-lines.invariant.so_far (rw c.if-branch.true at c.in_ok-lay_next.ensures) c.loop-lines.invariant.none
+    c.in_err-hand_on_unmarked.ensures.handed c.from_residual-in_err-hand_on_unmarked.ensures.1
 
 pub returns-in_err-put_all : goal.returns-in_err-put_all
 returns-in_err-put_all g c =

@@ -27,8 +27,8 @@ returns-clause-ends_at c =
     typed_end c.loop-c.lines.items (record { chars = c.extend_from_slice.new.self }) c.loop-c.current.items c.args.front.now _ c.loop-c.invariant.0
     ∙ ap (λ t. length c.args.front.now + length (accepted t)) (all_read c))
 
-pub returns-clause-plain : goal.returns-clause-plain
-returns-clause-plain c =
+pub returns-clause-texts : goal.returns-clause-texts
+returns-clause-texts c =
     rw (c.in_ok-push.ensures.items, map-append) (
     All-append IsLineText (lines_of c.loop-c.lines.items) _ c.loop-c.invariant.1.lines
     (All-cons IsLineText _ [] (rw c.in_ok-extend_from_slice.ensures.items (All-append (λ x. (is_line_char x ≡ true) × IsScalar x) _ _ c.loop-c.invariant.1.line c.requires.back)) (All-nil IsLineText)))

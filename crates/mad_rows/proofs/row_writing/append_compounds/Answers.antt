@@ -8,7 +8,7 @@ loop-compound-preserved-then-is_bare c =
     let skin = c.args.skin.now in
     let line = c.args.style.now in
     put_after _ _ _ _ _ _ c.in_ok-push_str.ensures.bytes c.loop-compound.invariant
-    (bare_taken skin line c.args.compounds.now c.loop-compound.compound-index _ c.loop-compound-test.true (c.is_plain-plain.ensures.plain.0 c.if-plain.true) (c.is_bare.ensures c.if-is_bare.true skin line))
+    (bare_taken skin line c.args.compounds.now c.loop-compound.compound-index _ c.loop-compound-test.true (c.is_unstyled-unstyled.ensures.unstyled.0 c.if-unstyled.true) (c.is_bare.ensures c.if-is_bare.true skin line))
 
 pub loop-compound-preserved : goal.loop-compound-preserved
 loop-compound-preserved c =

@@ -4,7 +4,7 @@ use Rattle.mad_fit.proofs.CursorLemmas.{all_read}
 use Rattle.mad_wrap.specs.WrapLines.{capped}
 use Rattle.mad_wrap.specs.declared.wrapped_line.WrappedLine.{WrappedLine}
 use Rattle.mad_wrap.proofs.FitLemmas.{LinesSoFar, line_takes, line_ends, line_begins}
-use Rattle.mad_wrap.proofs.PlaceLemmas.{progress_start, placed_all}
+use Rattle.mad_wrap.proofs.PlacingLemmas.{progress_start, placed_all}
 use Rattle.mad_wrap.proofs.placing.place.Goals as goal
 use Rattle.mad_wrap.proofs.placing.place.Goals.{in-OnLine, in-OnNext+in_ok-next-in-OnNext+in_ok-push-in-OnNext}
 

@@ -8,6 +8,6 @@ pub returns-clause-removes : goal.returns-clause-removes
 returns-clause-removes c = λ p wide at.
     record {
       offset = c.del_selection.new.self.offset;
-      place = at;
+      position = at;
       text = (cut_back _ _ _ c.selection_string.ensures.valid (c.in_ok-del_selection.ensures.wide wide).0 c.in_ok-handed.ensures.is).1;
     }

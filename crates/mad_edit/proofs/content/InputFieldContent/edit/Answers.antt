@@ -20,7 +20,7 @@ returns-clause-cursor c = rw (lines_seen _ _ _ _ c.self.view_is c.self.invariant
 
 pub returns-clause-tail : goal.returns-clause-tail
 returns-clause-tail c =
-    let kept = lines-text_of (lines_of c.edit_lines.new.lines.items) (omega (arith, c.in_ok-pos.ensures.place)) c.in_ok-pos.ensures.plain in
+    let kept = lines-text_of (lines_of c.edit_lines.new.lines.items) (omega (arith, c.in_ok-pos.ensures.position)) c.in_ok-pos.ensures.texts in
     rw (← c.self.view_is) ((rw c.deref.ensures.value at c.clamp_tail-self-inside.ensures.is) ∙ ap (λ (ls : List (List ℕ)). option_map (clamp ls) c.self.inside.selection_tail) (sym kept))
 
 pub edit_lines-requires-clause-order : goal.edit_lines-requires-clause-order

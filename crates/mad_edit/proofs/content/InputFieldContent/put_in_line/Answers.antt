@@ -14,7 +14,7 @@ invariant_of-self c =
     record {
       cursor = (rw (lines_seen _ _ _ _ c.self.view_is c.self.invariant) at c.requires, rw line at c.index_at_column-x.ensures.within);
       selected = c.self.invariant.selected;
-      plain = c.self.invariant.plain;
+      texts = c.self.invariant.texts;
     }
 
 pub returns : goal.returns

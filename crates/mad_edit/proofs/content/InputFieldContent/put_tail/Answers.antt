@@ -1,6 +1,6 @@
 use Rattle.std.proofs.Common.{◌≡◌, subst}
-use Rattle.mad_lines.specs.declared.place.Pos.{Pos}
-use Rattle.mad_lines.specs.TextLines.{lines_of, IsPlace}
+use Rattle.mad_lines.specs.declared.position.Pos.{Pos}
+use Rattle.mad_lines.specs.TextLines.{lines_of, IsPosition}
 use Rattle.mad_edit.proofs.EditorLemmas.{lines_seen}
 use Rattle.mad_edit.proofs.content.InputFieldContent.put_tail.Goals as goal
 
@@ -8,7 +8,7 @@ pub invariant_of-self : goal.invariant_of-self
 invariant_of-self c = record {
   cursor = c.self.invariant.cursor;
   selected = λ x same.
-      let e : c.args.place ≡ x = cc in
-      subst (λ (v : Pos). IsPlace (lines_of c.self.inside.lines.items) v) e (rw (lines_seen _ _ _ _ c.self.view_is c.self.invariant) at c.requires);
-  plain = c.self.invariant.plain;
+      let e : c.args.position ≡ x = cc in
+      subst (λ (v : Pos). IsPosition (lines_of c.self.inside.lines.items) v) e (rw (lines_seen _ _ _ _ c.self.view_is c.self.invariant) at c.requires);
+  texts = c.self.invariant.texts;
 }

@@ -16,7 +16,7 @@ cuts-preserved c = record {
       let within : i < length pairs = omega (arith, c.cuts.invariant.within) in
       let next : c.cuts.left ≡ i + 1 = omega arith in
       let cut = cut_of (get_or pairs i (record { y = 0; x = 0 }, record { ref_ptr = (0, 0); now = [] })) in
-      let at : n ≡ offset_at last (clamp_in last cut.place) = ap (λ (e : Editor). e.offset) c.set_cursor_pos.ensures in
+      let at : n ≡ offset_at last (clamp_in last cut.position) = ap (λ (e : Editor). e.offset) c.set_cursor_pos.ensures in
       let made : c.insert_str.new.self.text ≡ replaced last n n cut.text =
       c.in_ok-insert_str.ensures.ok.text ∙ ap (λ (e : Editor). replaced e.text n n cut.text) c.set_cursor_pos.ensures in
       let cuts : map cut_of (take c.cuts.left pairs) ≡ map cut_of (take i pairs) ++ cut ∷ [] =
@@ -30,7 +30,7 @@ cuts-preserved c = record {
       let within : i < length pairs = omega (arith, c.cuts.invariant.within) in
       let next : c.cuts.left ≡ i + 1 = omega arith in
       let cut = cut_of (get_or pairs i (record { y = 0; x = 0 }, record { ref_ptr = (0, 0); now = [] })) in
-      let made = put_in_there before c.set_cursor_pos.new.self c.insert_str.new.self (offset_at before.text (clamp_in before.text cut.place)) cut.text
+      let made = put_in_there before c.set_cursor_pos.new.self c.insert_str.new.self (offset_at before.text (clamp_in before.text cut.position)) cut.text
       c.set_cursor_pos.ensures c.in_ok-insert_str.ensures.ok in
       c.cuts.invariant.editor
       ∙ ap (λ (cs : List Cut). all_undone cs before) (ap (λ k. map cut_of (take k pairs)) next ∙ map_more cut_of pairs i (record { y = 0; x = 0 }, record { ref_ptr = (0, 0); now = [] }) within)

@@ -3,7 +3,7 @@ use Rattle.std.specs.Prelude.{slice_range}
 use Rattle.std.proofs.lemmas.List.{drop_more}
 use Rattle.std.proofs.lemmas.Option.{get_or_from_slice_get}
 use Rattle.mad_lines.specs.TextLines.{lines_of, text_of, offset_of}
-use Rattle.mad_lines.proofs.PlaceLemmas.{length-text}
+use Rattle.mad_lines.proofs.PositionLemmas.{length-text}
 use Rattle.mad_lines.proofs.chars.CharsIterator.next.Goals as goal
 
 -- the first of a span, and the rest

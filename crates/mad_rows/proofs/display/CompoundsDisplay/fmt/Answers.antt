@@ -15,5 +15,5 @@ loop-compound-preserved-then-is_bare g c = λ p.
     let skin = c.args.self.now.skin.now in
     let line = c.args.self.now.style.now in
     has_written_of_eq _ _ _ _ _
-    (bare_taken skin line c.args.self.now.compounds.now c.loop-compound.compound-index _ c.loop-compound-test.true (c.is_plain-plain.ensures.plain.0 c.if-plain.true) (c.is_bare.ensures c.if-is_bare.true skin line))
+    (bare_taken skin line c.args.self.now.compounds.now c.loop-compound.compound-index _ c.loop-compound-test.true (c.is_unstyled-unstyled.ensures.unstyled.0 c.if-unstyled.true) (c.is_bare.ensures c.if-is_bare.true skin line))
     (has_written_append _ _ _ _ _ _ (c.loop-compound.invariant p) (c.in_ok-write_str.ensures.writes (c.loop-compound.invariant p).plain refl))

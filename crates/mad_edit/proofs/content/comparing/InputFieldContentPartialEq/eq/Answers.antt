@@ -4,7 +4,7 @@ use Rattle.std.specs.Cmp.Lexicographic.{bytes_decides, pointwise}
 use Rattle.std.specs.Ordering.{on}
 use Rattle.mad_lines.specs.declared.line.Line.{Line}
 use Rattle.mad_lines.specs.TextLines.{lines_of, chars_of}
-use Rattle.mad_edit.proofs.CompareLemmas.{same_kept, lines_decide, same_place_decides, same_tail_decides}
+use Rattle.mad_edit.proofs.CompareLemmas.{same_kept, lines_decide, same_position_decides, same_tail_decides}
 use Rattle.mad_edit.proofs.content.comparing.InputFieldContentPartialEq.eq.Goals as goal
 use Rattle.mad_edit.proofs.content.comparing.InputFieldContentPartialEq.eq.Goals.{then-eq, else-eq}
 
@@ -24,7 +24,7 @@ returns-then-eq-2 c =
     let tail : Decides c.eq-then-eq-2.result (a.selection_tail ≡ b.selection_tail) =
     along _ _ c.eq-then-eq-2.ensures (same_tail_decides a.selection_tail b.selection_tail) in
     let front : (lines_of a.lines.items ≡ lines_of b.lines.items) × (a.pos ≡ b.pos) = elim c.if-eq.branch [
-      | then-eq w ↦ (text.0 w.if-eq.true, (same_place_decides a.pos b.pos).0 (sym w.eq-then-eq.ensures ∙ sym w.value-is ∙ c.if-eq-2.true))
+      | then-eq w ↦ (text.0 w.if-eq.true, (same_position_decides a.pos b.pos).0 (sym w.eq-then-eq.ensures ∙ sym w.value-is ∙ c.if-eq-2.true))
       | else-eq w ↦ cc
     ] in
     let k = same_kept c.eq-then-eq-2.result c.args.self.now c.args.other.now (lines_of a.lines.items) (lines_of b.lines.items)
@@ -38,7 +38,7 @@ returns-else-eq-2 c =
     let b = c.other.inside in
     let text = text_decides c.eq.result a.lines.items b.lines.items c.eq.ensures in
     let front : (lines_of a.lines.items ≡ lines_of b.lines.items) × (a.pos ≡ b.pos) → c.if-eq.value ≡ true = λ k. elim c.if-eq.branch [
-      | then-eq w ↦ w.value-is ∙ w.eq-then-eq.ensures ∙ (same_place_decides a.pos b.pos).1 k.1
+      | then-eq w ↦ w.value-is ∙ w.eq-then-eq.ensures ∙ (same_position_decides a.pos b.pos).1 k.1
       | else-eq w ↦ let t : c.eq.result ≡ true = text.1 k.0 in let f : c.eq.result ≡ false = w.if-eq.false in cc
     ] in
     let k = same_kept c.if-eq.value c.args.self.now c.args.other.now (lines_of a.lines.items) (lines_of b.lines.items)

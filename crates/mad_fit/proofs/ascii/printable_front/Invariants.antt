@@ -1,0 +1,13 @@
+use Rattle.std.proofs.Common.{◌≤◌, ◌-◌, length}
+use Rattle.mad_fit.specs.Ascii.{ArePrintable}
+use Rattle.mad_fit.proofs.ascii.printable_front.Given as goal
+
+abbrev pub invariant-loop-count : goal.invariant-loop-count
+invariant-loop-count l = record {
+  printable : ArePrintable l.text l.count;
+  inside : l.count ≤ length l.text;
+  within : l.count ≤ l.most;
+}
+
+abbrev pub decreases-loop-count : goal.decreases-loop-count
+decreases-loop-count l = l.most - l.count
