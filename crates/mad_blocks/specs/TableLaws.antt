@@ -34,7 +34,7 @@ pub record AreNoTables : Type 0 where
   pub other_place : (column : Spacing) (columns : List Spacing) (lines : List (List FmtComposite)) (cell : FmtComposite) (others : List FmtComposite) (row : FmtTableRow) (rows : List FmtTableRow)
       → row.cells.items ≡ cell ∷ others → cell.spacing ≢ Some column → ¬ (AreDown (column ∷ columns) lines (row ∷ rows))
 
--- What is no layout of a table, by the places of its rules: a rule that is the first line of a table is not on top; one that is the last of
+-- What is no layout of a table, by the positions of its rules: a rule that is the first line of a table is not on top; one that is the last of
 -- two is not at the bottom; one between two others isn't just a rule among others.
 pub record AreNoRules (wraps : Wrap) : Type 0 where
   pub first : (skin : LineRules) (n width : ℕ) (source rule : FmtTableRule) (table lines : List FmtLine) → 0 < n → 0 < width → rule.position ≢ Top

@@ -138,13 +138,13 @@ position_at true last = Top
 position_at false true = Bottom
 position_at false false = Other
 
--- a rule across columns, at its place in its table
+-- a rule across columns, at its position in its table
 pub record IsRuleLaidOut (position : RelativePosition) (columns : List Spacing) (rule : FmtTableRule) : Type 0 where
   pub position_is : rule.position ≡ position
   pub widths_are : rule.widths.items ≡ map (λ c. c.width) columns
   pub aligns_are : rule.aligns.items ≡ map (λ c. c.align) columns
 
--- What a line of a table becomes in columns at its place in the table: a row its rows, a rule a rule across the columns.
+-- What a line of a table becomes in columns at its position in the table: a row its rows, a rule a rule across the columns.
 abbrev pub IsTableLineBy : Wrap → LineRules → List Spacing → RelativePosition → FmtLine → List FmtLine → Type 0
 IsTableLineBy wraps skin columns position (Normal l) lines = lines ≡ Normal l ∷ []
 IsTableLineBy wraps skin columns position (TableRow row) lines =

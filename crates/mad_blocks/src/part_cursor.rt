@@ -77,8 +77,8 @@ impl<'s> PartCursor<'s> {
         }
     }
 
-    /// Reads the next line where it is a part by itself and unmarked, and of at most `most` bytes: see [`LineCursor::next_unmarked`]. Where it
-    /// isn't, nothing is read. No memory is needed.
+    /// Reads the next line of a text that is read on the way, where no line waits and it is unmarked, of at most `most` bytes: see
+    /// [`LineCursor::next_unmarked`]. Else nothing is read, and of a text that was read before nothing ever is. No memory is needed.
     pub fn next_unmarked(&mut self, most: usize) -> Option<&'s str>
         ensures read { MatchOption result (self.new ≡ self.old) (λ text. IsUnmarkedRead most (lines_left self.old) text.now (lines_left self.new)) }
         ensures found { IsSome result → HasUnmarkedNext most self.old }

@@ -190,7 +190,7 @@ fn position_at(first: bool, last: bool) -> RelativePosition
     }
 }
 
-// Puts what a line of a table becomes in these columns, which is at this place.
+// Puts what a line of a table becomes in these columns, which is at this position in its table.
 fn push_table_line<'s, S: LineSkin>(
     alloc: Global,
     lines: &mut Vec<FmtLine<'s>>,

@@ -42,7 +42,7 @@ IsAt t n p = IsPositionIn t p × (offset_at t p ≡ n)
 abbrev pub clamp_in : List ℕ → Pos → Pos
 clamp_in t p = clamp (lines t) p
 
--- a tail keeps its line and its position in it as far as the text goes
+-- a tail keeps the numbers of its line and character as far as the text goes
 abbrev pub clamp_tail : List ℕ → Option Pos → Option Pos
 clamp_tail t tail = option_map (clamp_in t) tail
 
@@ -87,7 +87,7 @@ is_in_line c = not (c == 10)
 abbrev pub cursor_line : Editor → ℕ
 cursor_line e = count_by is_newline (take e.offset e.text)
 
--- how much of its line is before the cursor
+-- how many characters of its line are before the cursor
 abbrev pub cursor_column : Editor → ℕ
 cursor_column e = suffix_len is_in_line (take e.offset e.text)
 

@@ -105,7 +105,7 @@ impl InputFieldContent {
         self.pos = position;
     }
 
-    /// The next position, if a position is not the end.
+    /// The position after this one, if this isn't the end.
     pub(crate) fn next_position(&self, position: Pos) -> Option<Pos>
         requires { IsPositionIn self.now.text position }
         ensures position { IfSome result (λ q. IsPositionIn self.now.text q) }
@@ -115,7 +115,7 @@ impl InputFieldContent {
         position_after(&self.lines, position)
     }
 
-    /// The previous position, if a position is not the start.
+    /// The position before this one, if this isn't the start.
     pub(crate) fn previous_position(&self, position: Pos) -> Option<Pos>
         requires { IsPositionIn self.now.text position }
         ensures position { IfSome result (λ q. IsPositionIn self.now.text q) }

@@ -57,12 +57,12 @@ at_end max n f bs end past =
     subst (λ (cs : List ℕ). StopsBefore max false n (flagged f cs)) (sym none) tt
 
 space_blank : (f : Flags) → not f.code ≡ true → is_blank (record { char = 32; flags = f }) ≢ false
-space_blank f printable e = false≢true (sym e ∙ printable)
+space_blank f uncoded e = false≢true (sym e ∙ uncoded)
 
 at_space : (max n : ℕ) (f : Flags) (bs : List ℕ) (end : ℕ) → end < length bs → IsUtf8 (drop end bs) → get_or bs end 0 ≡ 32 → not f.code ≡ true → StopsBefore max false n (flagged f (chars (drop end bs)))
-at_space max n f bs end inside utf8 space printable =
+at_space max n f bs end inside utf8 space uncoded =
     let parts : drop end bs ≡ encode_utf8 32 ++ drop (end + 1) bs = at_drop_more (λ l. l) bs end 0 inside ∙ ap (λ c. c ∷ drop (end + 1) bs) space ∙ ap (λ l. l ++ drop (end + 1) bs) (sym (encode_ascii 32 (omega arith))) in
-    stops_at max f (drop end bs) (drop (end + 1) bs) 32 n false utf8 parts (inl (space_blank f printable))
+    stops_at max f (drop end bs) (drop (end + 1) bs) 32 n false utf8 parts (inl (space_blank f uncoded))
 
 word_stops : (max n : ℕ) (f : Flags) (bs : List ℕ) (end : ℕ) → IsUtf8 (drop end bs) → is_end_of_word f.code bs end ≡ true → StopsBefore max false n (flagged f (chars (drop end bs)))
 word_stops max n f bs end utf8 h = elim (cases_lt end (length bs)) as (λ _. StopsBefore max false n (flagged f (chars (drop end bs)))) [
@@ -90,11 +90,11 @@ space_columns : char_columns 32 ≡ 1
 space_columns = char_columns-ascii 32 (omega arith) (omega arith)
 
 space_front : (max : ℕ) (f : Flags) (bs : List ℕ) → IsUtf8 bs → 0 < length bs → get_or bs 0 0 ≡ 32 → not f.code ≡ true → IsFront max f bs 1 true 1
-space_front max f bs utf8 some space printable =
+space_front max f bs utf8 some space uncoded =
     let parts : drop 0 bs ≡ encode_utf8 32 ++ drop (0 + 1) bs = at_drop_more (λ l. l) bs 0 0 some ∙ ap (λ c. c ∷ drop (0 + 1) bs) space ∙ ap (λ l. l ++ drop (0 + 1) bs) (sym (encode_ascii 32 (omega arith))) in
     let one = len_utf8_ascii 32 (omega arith) in
     let next : IsFront max f bs (0 + len_utf8 32) true (0 + char_columns 32) =
-    front_more max f bs (drop (0 + 1) bs) 0 32 0 true true (front_start max f bs true utf8) parts (omega (arith, one, space_columns)) printable (inl refl) in
+    front_more max f bs (drop (0 + 1) bs) 0 32 0 true true (front_start max f bs true utf8) parts (omega (arith, one, space_columns)) uncoded (inl refl) in
     let size : 0 + len_utf8 32 ≡ 1 = omega (arith, one) in
     let wide : 0 + char_columns 32 ≡ 1 = omega (arith, space_columns) in
     subst (λ n. IsFront max f bs 1 true n) wide (subst (λ n. IsFront max f bs n true (0 + char_columns 32)) size next)

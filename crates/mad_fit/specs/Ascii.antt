@@ -7,8 +7,8 @@ abbrev pub AreGraphic : List ℕ → ℕ → ℕ → Type 0
 AreGraphic bs start n = (k : ℕ) → k < n → is_ascii_graphic (get_or bs (start + k) 0) ≡ true
 
 -- the first `n` bytes are graphic or spaces
-abbrev pub ArePrintable : List ℕ → ℕ → Type 0
-ArePrintable bs n = (k : ℕ) → k < n → (31 < get_or bs k 0) × (get_or bs k 0 < 127)
+abbrev pub AreSpacesOrGraphic : List ℕ → ℕ → Type 0
+AreSpacesOrGraphic bs n = (k : ℕ) → k < n → (31 < get_or bs k 0) × (get_or bs k 0 < 127)
 
 -- the text ends there, or has a space there that isn't code
 abbrev pub is_end_of_word : Bool → List ℕ → ℕ → Bool

@@ -1,7 +1,7 @@
 //! Fronts of a text that are graphic ASCII, told by their bytes.
 
 ghost use Rattle.std.specs.Prelude.{◌≡◌, ◌≤◌, ◌<◌, ◌+◌, ◌^◌, length, IsTrue};
-ghost use Rattle.mad_fit.specs.Ascii.{AreGraphic, ArePrintable, is_end_of_word, is_lone_space};
+ghost use Rattle.mad_fit.specs.Ascii.{AreGraphic, AreSpacesOrGraphic, is_end_of_word, is_lone_space};
 
 /// How many bytes from `start` on are graphic ASCII characters, counted up to `most`.
 ///
@@ -25,20 +25,20 @@ pub(crate) fn graphic_at(text: &str, start: usize, most: usize) -> usize
 /// How many bytes at the front are spaces and graphic ASCII characters, counted up to `most`.
 ///
 /// Each of these takes one byte and one column.
-pub(crate) fn printable_front(text: &str, most: usize) -> usize
-    ensures printable { ArePrintable text.now result }
+pub(crate) fn ascii_front(text: &str, most: usize) -> usize
+    ensures ascii { AreSpacesOrGraphic text.now result }
     ensures inside { result ≤ length text.now }
     ensures within { result ≤ most }
 {
     let bytes = text.as_bytes();
     let mut count = 0;
-    while count < most && count < bytes.len() && is_printable(bytes[count]) {
+    while count < most && count < bytes.len() && is_space_or_graphic(bytes[count]) {
         count += 1;
     }
     count
 }
 
-fn is_printable(byte: u8) -> bool
+fn is_space_or_graphic(byte: u8) -> bool
     ensures { IsTrue result → (31 < byte) × (byte < 127) }
 {
     (b' '..0x7f).contains(&byte)

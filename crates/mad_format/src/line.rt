@@ -20,7 +20,7 @@ pub enum FmtLine<'s> {
     TableRow(FmtTableRow<'s>),
     /// A rule across a table.
     TableRule(FmtTableRule),
-    /// A rule across the place of the text.
+    /// A rule across the page.
     HorizontalRule,
 }
 
@@ -47,7 +47,7 @@ impl<'s> FmtLine<'s> {
     }
 
     /// The columns of the line, by its cached lengths. A row of a table counts its cells, without borders. A rule across one counts its
-    /// columns and borders, and two without columns. A rule across the place counts none.
+    /// columns and borders, and two without columns. A rule across the page counts none.
     pub fn visible_length(&self) -> usize
         ensures { result ≡ columns_of_line self.now }
     {

@@ -32,7 +32,7 @@ pub fn push_margins(picture: &mut String, line: &FmtLine) -> Result<(), AllocErr
     Ok(())
 }
 
-/// Puts lines: of a row its cells, of a rule its place and its columns.
+/// Puts lines: of a row its cells, of a rule its position and its columns.
 pub fn push_lines(picture: &mut String, lines: &[FmtLine]) -> Result<(), AllocError> {
     for line in lines {
         draw_line(picture, line)?;

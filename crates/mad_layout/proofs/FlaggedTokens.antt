@@ -86,7 +86,7 @@ goes_through limit blank u (y ∷ ys) rest some alike within h =
     (subst (λ l. 1 < length l → width_of l ≤ limit) (sym joins) within) (subst (λ l. StopsBefore limit blank (width_of l) rest) (sym joins) h)
     ∙ ap (λ l. l ∷ tokens_from limit [] rest) joins
 
--- the tokens of a compound from a place on
+-- the tokens of a compound from a position on
 from_start : (limit start : ℕ) (p : Compound) (ts : List Token) → AreTokensFrom limit p start ts → map flagged_token ts ≡ tokens_from limit [] (flagged (flags_of p) (chars (drop start p.src.now)))
 from_start limit start p [] h =
     sym (ap (λ n. tokens_from limit [] (flagged (flags_of p) (chars (drop n p.src.now)))) h

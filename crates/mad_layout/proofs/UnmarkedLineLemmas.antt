@@ -20,7 +20,7 @@ use Rattle.mad_fit.specs.TextColumns.{columns, width_of}
 use Rattle.mad_fit.specs.Completions.{left_completion}
 use Rattle.mad_fit.proofs.AllLemmas.{all_push}
 use Rattle.mad_fit.proofs.FlaggedLemmas.{width_of-flagged}
-use Rattle.mad_fit.proofs.PrintableLemmas.{printable_is}
+use Rattle.mad_fit.proofs.AsciiFrontLemmas.{ascii_front_is}
 use Rattle.mad_term.specs.Styles.{IsUnstyled}
 use Rattle.mad_term.specs.Draws.{Refused}
 use Rattle.mad_term.specs.Trace.{Trace, after}
@@ -82,7 +82,7 @@ high b h = grind (arith, nat_tests)
 
 unmarked_columns : (bs : List ℕ) → IsUtf8 bs → AllUnmarked bs → columns (chars bs) ≡ length bs
 unmarked_columns bs utf8 h =
-    let front = printable_is bs (length bs) utf8 (omega arith) (λ k below. (unmarked_low (get_or bs k 0) (h k below), high (get_or bs k 0) (h k below))) in
+    let front = ascii_front_is bs (length bs) utf8 (omega arith) (λ k below. (unmarked_low (get_or bs k 0) (h k below), high (get_or bs k 0) (h k below))) in
     let none : columns (chars (drop (length bs) bs)) ≡ 0 = ap columns (chars_of_empty (drop (length bs) bs) (omega (arith, length-drop (length bs) bs))) in
     omega (arith, front.columns_are, none)
 

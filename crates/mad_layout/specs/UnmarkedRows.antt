@@ -16,7 +16,7 @@ use Rattle.mad_rows.specs.declared.row_skin.RowSkin.{RowSkin}
 use Rattle.mad_format.specs.declared.line.FmtLine.{FmtLine}
 use Rattle.mad_rows.specs.RowStyles.{line_rules}
 
--- Paragraphs of at most `most` columns are rows by themselves, which are aligned left, without margins and in no style.
+-- A paragraph of at most `most` columns is one row: aligned left, without margins and without style.
 pub record IsUnmarkedWidth (skin : RowSkin) (width : Option ℕ) (most : ℕ) : Type 0 where
   pub wraps : wrap_width width ≡ Some most
   pub style : IsUnstyled skin.paragraph.compound_style.object_style

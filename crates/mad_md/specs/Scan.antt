@@ -37,7 +37,7 @@ items_within (suc n) before (b ∷ bs) =
 abbrev pub items_of : Flags → List ℕ → List Item
 items_of flags line = items_within (length line) (marks_of flags) line
 
--- the cells of a part, from a position on
+-- the texts of the cells of what is left of a part, after an odd number of backquotes in its cell or not
 unfoldable pub cut_cells : Bool → List ℕ → List (List ℕ)
 cut_cells odd [] = [] ∷ []
 cut_cells odd (b ∷ bs) = if (b == 124) && not odd then [] ∷ cut_cells false bs else onto_first b (cut_cells (odd_with odd b) bs)
@@ -173,6 +173,6 @@ lines_of_texts continue_spans fenced carried (text ∷ texts) =
 abbrev pub texts_of : List ℕ → List (List ℕ)
 texts_of text = map strip_carriage_return (without_last_empty (slice_split (λ b. b == 10) text))
 
--- the lines from this position on
+-- the lines of what is left
 unfoldable pub lines_of : Unread → List LineContent
 lines_of unread = lines_of_texts unread.continue_spans unread.fenced unread.carried (texts_of unread.text)

@@ -148,7 +148,7 @@ row_columns cells = 1 + bordered (map inner_columns cells)
 abbrev pub table_row_pieces : RowSkin → Option ℕ → Bool → List FmtComposite → List RowPiece
 table_row_pieces skin outer filled cells = placed_pieces skin outer filled (row_columns cells) (flat_map (cell_pieces skin) cells ++ vertical_piece skin ∷ [])
 
--- the characters of a rule, by its place in its table: corners or junctions at its ends, a junction or a cross between two columns
+-- the characters of a rule, by its position in its table: corners or junctions at its ends, a junction or a cross between two columns
 abbrev pub rule_chars : TableBorderChars → RelativePosition → RuleChars
 rule_chars b Top = record { left = b.top_left_corner; horizontal = b.horizontal; between = b.top_junction; right = b.top_right_corner }
 rule_chars b Other = record { left = b.left_junction; horizontal = b.horizontal; between = b.cross; right = b.right_junction }
@@ -161,7 +161,7 @@ table_rule_pieces skin outer filled rule =
 
 -- ---- any line
 
--- The pieces of a line at an outer width, with its margins. A rule across the place fills it.
+-- The pieces of a line at an outer width, with its margins. A rule across the page fills the outer width.
 abbrev pub line_pieces : RowSkin → Option ℕ → Bool → FmtLine → List RowPiece
 line_pieces skin outer filled (Normal l) = composite_pieces skin outer (margins_of skin outer l) filled l
 line_pieces skin outer filled (TableRow row) = table_row_pieces skin outer filled row.cells.items

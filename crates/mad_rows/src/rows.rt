@@ -87,7 +87,7 @@ pub(crate) fn row_columns(cells: &[FmtComposite]) -> usize
     columns.saturating_add(1)
 }
 
-/// The characters of a rule at this place in its table.
+/// The characters of a rule at this position in its table.
 pub(crate) fn rule_chars(borders: &TableBorderChars, position: RelativePosition) -> RuleChars
     ensures { result ≡ rule_chars borders.now position }
 {

@@ -22,13 +22,13 @@ pub any_look : (known : List pens.Pen) (pen : Look) → list_any (λ k. same_loo
 any_look [] pen = refl
 any_look (k ∷ known) pen = ap (λ b. same_look (look_of k) pen || b) (any_look known pen)
 
-places_look : (known : List pens.Pen) (pen : Look) → position_or_len (λ k. same_look (look_of k) pen) known ≡ position_or_len (λ k. same_look k pen) (map look_of known)
-places_look [] pen = refl
-places_look (k ∷ known) pen = ap (λ n. cond (not (same_look (look_of k) pen)) (1 + n) 0) (places_look known pen)
+positions_look : (known : List pens.Pen) (pen : Look) → position_or_len (λ k. same_look (look_of k) pen) known ≡ position_or_len (λ k. same_look k pen) (map look_of known)
+positions_look [] pen = refl
+positions_look (k ∷ known) pen = ap (λ n. cond (not (same_look (look_of k) pen)) (1 + n) 0) (positions_look known pen)
 
 position_look : (known : List pens.Pen) (pen : Look) → position (λ k. same_look (look_of k) pen) known ≡ position (λ k. same_look k pen) (map look_of known)
 position_look known pen =
-    ap (λ n. cond (nat_lt n (length known)) (Some n) None) (places_look known pen)
+    ap (λ n. cond (nat_lt n (length known)) (Some n) None) (positions_look known pen)
     ∙ ap (λ n. cond (nat_lt (position_or_len (λ k. same_look k pen) (map look_of known)) n) (Some (position_or_len (λ k. same_look k pen) (map look_of known))) None) (sym (length-map known look_of))
 
 -- a further pen that gets a letter, and one that doesn't

@@ -2,11 +2,11 @@
 use Rattle.std.specs.Prelude.{◌≡◌, ℕ, suc, ◌+◌, ◌-◌, ◌*◌, ◌≤◌, ◌&&◌, nat_lt, Bool, true, false, List, [], ◌∷◌, length, Option, Some, None, if◌then◌else◌, replicate, slice_index_or, slice_set}
 use Rattle.mad_screen.specs.Glyph.{Glyph, Look}
 
--- the default pen: no color, no attribute
+-- the plain pen: no color, no attribute
 abbrev pub plain_pen : Look
 plain_pen = record { fg = None; bg = None; underline = None; codes = 0 }
 
--- a space with the default pen, as every cell is at first
+-- a space with the plain pen, as every cell is at first
 abbrev pub blank : Glyph
 blank = record { chars = 32 ∷ []; pen = plain_pen }
 

@@ -37,11 +37,11 @@ same_color = (color_equality.ghosts).eq
 abbrev pub same_look : Look → Look → Bool
 same_look a b = option_eq same_color a.fg b.fg && (option_eq same_color a.bg b.bg && (option_eq same_color a.underline b.underline && a.codes == b.codes))
 
--- whether a pen is the default one
+-- whether a pen is the plain one
 abbrev pub is_plain : Look → Bool
 is_plain pen = is_none pen.fg && is_none pen.bg && is_none pen.underline && pen.codes == 0
 
--- Whether a pen gets the next letter, after these pens. It isn't the default one and has no letter yet, and one of the 26
+-- Whether a pen gets the next letter, after these pens. It isn't the plain one and has no letter yet, and one of the 26
 -- is left.
 abbrev pub gets_letter : List Look → Look → Bool
 gets_letter known pen = nat_lt (length known) 26 && (not (is_plain pen) && not (list_any (λ k. same_look k pen) known))
@@ -60,7 +60,7 @@ abbrev pub nth_letter : Option ℕ → ℕ
 nth_letter None = 63
 nth_letter (Some n) = if nat_lt n 26 then 97 + n else 63
 
--- the letter of a pen: that of its index among the pens with one, and a point (46) for the default one
+-- the letter of a pen: that of its index among the pens with one, and a point (46) for the plain one
 abbrev pub letter_of : List Look → Look → ℕ
 letter_of known pen = if is_plain pen then 46 else nth_letter (position (λ k. same_look k pen) known)
 

@@ -83,7 +83,7 @@ erase_row [] g = Some (erased (row_start g + g.x) (row_end g) g)
 erase_row (n ∷ []) g = if n == 2 then Some (erased (row_start g) (row_end g) g) else None
 erase_row _ g = None
 
--- the pen once an attribute was switched on; Reset makes it the default one and isn't kept
+-- the pen once an attribute was switched on; Reset makes it the plain one and isn't kept
 abbrev pub switched_on : Attribute → Look → Look
 switched_on Reset p = plain_pen
 switched_on a p = record p { codes = bit_or p.codes (2 ^ attribute_index a) }

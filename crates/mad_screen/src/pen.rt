@@ -19,8 +19,8 @@ pub struct Pen {
     pub bg: Option<Color>,
     /// The color of lines below them.
     pub underline: Option<Color>,
-    /// The attributes whose codes came since the pen was last made the default one. Codes that switch something off are
-    /// attributes like the others; `Reset`, code 0, makes the pen the default one and isn't kept.
+    /// The attributes whose codes came since the pen was last made plain. Codes that switch something off are
+    /// attributes like the others; `Reset`, code 0, makes the pen plain and isn't kept.
     pub codes: Attributes,
 }
 
@@ -30,7 +30,7 @@ impl Default for Pen {
 
     ghost is_default = { λ p. look_of p ≡ plain_pen };
 
-    /// The default pen: no color, no attribute.
+    /// The plain pen: no color, no attribute.
     fn default() -> Self {
         Pen {
             fg: None,
@@ -42,7 +42,7 @@ impl Default for Pen {
 }
 
 impl Pen {
-    /// Whether it is the default pen.
+    /// Whether it is the plain pen.
     pub(crate) fn is_plain(self) -> bool
         ensures { result ≡ is_plain (look_of self) }
     {

@@ -59,9 +59,9 @@ impl fmt::Display for Screen {
     }
 }
 
-/// The looks of a screen's cells as a picture: a letter for each pen, a point for the default one.
+/// The looks of a screen's cells as a picture: a letter for each pen, a point for the plain one.
 ///
-/// The letters go to the pens in the order in which they first appear, row by row. The first pen that isn't the default
+/// The letters go to the pens in the order in which they first appear, row by row. The first pen that isn't the plain
 /// one gets `a`, the second `b`, up to `z`. A pen that comes when all letters are taken is a question mark.
 #[derive(Debug, Drop)]
 pub struct Looks<'a> {

@@ -55,7 +55,7 @@ impl Model for Screen {
 }
 
 impl Screen {
-    /// An empty screen of `width` columns and `height` rows: spaces in the default pen, the cursor at the first position.
+    /// An empty screen of `width` columns and `height` rows: spaces in the plain pen, the cursor at the first position.
     /// It keeps the allocator. Out of memory is the only error.
     pub fn new(alloc: Global, width: u16, height: u16) -> Result<Self, AllocError>
         ensures { IfOk result (λ screen. screen ≡ empty_grid width height) }

@@ -22,7 +22,7 @@ use Rattle.mad_wrap.specs.declared.room.Room.{Room}
 use Rattle.mad_wrap.proofs.KeepLemmas.{text_of_runs, width_is}
 use Rattle.mad_wrap.proofs.UniqueLemmas.{one_first_fit}
 
--- the character at a place
+-- the character at an index
 abbrev char_at : ℕ → List FlaggedChar → FlaggedChar
 char_at n xs = get_or xs n (record { char = 0; flags = unflagged })
 

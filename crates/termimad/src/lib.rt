@@ -31,7 +31,7 @@ pub mod wrap {
     pub use mad_wrap::{Room, laws};
 }
 
-/// What laying out asks of a skin. Laws of layouts: worked tables, what is no table, and texts whose premises are proved.
+/// What laying out asks of a skin. Laws of layouts: texts that keep the premises, tables that fit when they are drawn, and a worked screen.
 pub mod layout {
     pub use mad_layout::{LineSkin, laws};
 }

@@ -19,7 +19,7 @@ pub record IsAreaOf (left top width height : List ℕ) (area : Area) : Type 0 wh
   pub wide : 4 ≤ area.width
   pub within : IsWithinLimits area
 
--- the words in the place of [SKIN]: none, or one
+-- the words given for SKIN: none, or one
 abbrev pub IsSkinWord : List (List ℕ) → Option (List ℕ) → Type 0
 IsSkinWord [] word = word ≡ None
 IsSkinWord (given ∷ []) word = word ≡ Some given

@@ -1,4 +1,4 @@
--- The skin that the word in the place of SKIN is.
+-- The skin that the word given for SKIN is.
 use Rattle.std.specs.Prelude.{◌≡◌, ℕ, List, [], codes, Option, Some, None, option_and_then, if◌then◌else◌}
 use Rattle.std.specs.Result.{result_ok}
 use Rattle.std.specs.Str.{bytes_eq}

@@ -55,7 +55,7 @@ pub fn parse_call(alloc: Global, words: &[String]) -> Result<Call, Failure>
     })
 }
 
-// What the words ask for: the command, and the word in the place of SKIN.
+// What the words ask for: the command, and the word given for SKIN.
 fn parse_words(words: &[String]) -> Option<(Command, Option<&str>)>
     ensures { MatchOption result (IsNoCall (map string_bytes words.now))
         (λ asked. Asks (map string_bytes words.now) asked.0 (option_map (λ word. word.now) asked.1)) }
@@ -114,7 +114,7 @@ fn parse_area(left: &str, top: &str, width: &str, height: &str) -> Option<Area>
     Some(Area::new(left, top, width, height))
 }
 
-// The word in the place of SKIN, if there is at most one.
+// The word given for SKIN, if there is at most one.
 fn skin_word(words: &[String]) -> Option<Option<&str>>
     ensures { MatchOption result ((word : Option (List ℕ)) → ¬ (IsSkinWord (map string_bytes words.now) word))
         (λ word. IsSkinWord (map string_bytes words.now) (option_map (λ word. word.now) word)) }

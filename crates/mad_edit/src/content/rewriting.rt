@@ -58,7 +58,8 @@ impl InputFieldContent {
         self.selection_tail = clamp_tail(&self.lines, self.selection_tail);
     }
 
-    /// Two lines, by their numbers from 0, change places. The cursor and the tail keep their line and position numbers as far as the text goes.
+    /// Two lines, by their numbers from 0, change places. The cursor and the tail keep the numbers of their line and
+    /// character as far as the text goes.
     /// Returns whether these are two lines of the text.
     pub fn swap_lines(&mut self, one: usize, other: usize) -> bool
         ensures done { IsTrue result ↔ ((one ≢ other) × (one < length (lines self.old.text)) × (other < length (lines self.old.text))) }

@@ -1,10 +1,10 @@
 use Rattle.std.proofs.Common.{◌≤◌, ◌-◌, length}
-use Rattle.mad_fit.specs.Ascii.{ArePrintable}
-use Rattle.mad_fit.proofs.ascii.printable_front.Given as goal
+use Rattle.mad_fit.specs.Ascii.{AreSpacesOrGraphic}
+use Rattle.mad_fit.proofs.ascii.ascii_front.Given as goal
 
 abbrev pub invariant-loop-count : goal.invariant-loop-count
 invariant-loop-count l = record {
-  printable : ArePrintable l.text l.count;
+  ascii : AreSpacesOrGraphic l.text l.count;
   inside : l.count ≤ length l.text;
   within : l.count ≤ l.most;
 }
