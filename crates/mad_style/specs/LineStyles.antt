@@ -1,5 +1,5 @@
 -- Styles of lines.
-use Rattle.std.specs.Prelude.{ℕ, ◌+◌, Option, Some, None, nat_lt, if◌then◌else◌}
+use Rattle.std.specs.Prelude.{ℕ, ◌+◌, ◌-◌, Option, Some, None, nat_lt, if◌then◌else◌}
 use Rattle.mad_md.specs.declared.alignment.Alignment.{Alignment}
 use Rattle.mad_style.specs.declared.compound_styles.CompoundStyle.{CompoundStyle}
 use Rattle.mad_style.specs.declared.line_styles.LineStyle.{LineStyle}
@@ -14,3 +14,7 @@ abbrev pub margins_at : LineStyle → Option ℕ → ℕ × ℕ
 margins_at style None = (style.left_margin, style.right_margin)
 margins_at style (Some width) =
     if nat_lt width (style.left_margin + style.right_margin + 3) then (0, 0) else (style.left_margin, style.right_margin)
+
+-- what these margins leave of a width
+abbrev pub width_inside : LineStyle → ℕ → ℕ
+width_inside style width = let margins = margins_at style (Some width) in width - margins.0 - margins.1
