@@ -3,7 +3,7 @@
 ghost use Rattle.std.specs.Prelude.{◌≡◌, ◌<◌, ◌≤◌, ◌+◌, ◌-◌, ◌↔◌, [], None, Some, length, chars, min, max, option_map, IfOk, IfSome, IsSome, OnOk, OnErr, IsTrue, string_bytes, encode_utf8_all, slice_range};
 ghost use Rattle.std.specs.Option.{ForSome};
 ghost use Rattle.mad_lines.specs.TextLines.{lines, lines_of, accepted, clamp, IsPosition};
-ghost use Rattle.mad_edit.specs.Editor.{IsPositionIn, offset_at, IsAt, clamp_in, clamp_tail, replaced, cursor_line, cursor_column, front_of_line, rest_of_line, IsEditor, IsWide, IsMovedToLine, selection_start, selection_last};
+ghost use Rattle.mad_edit.specs.Editor.{IsPositionIn, offset_at, IsAt, clamp_in, clamp_tail, replaced, cursor_line, cursor_index, front_of_line, rest_of_line, IsEditor, IsWide, IsMovedToLine, selection_start, selection_last};
 
 mod comparing;
 mod reading;
@@ -70,7 +70,7 @@ impl InputFieldContent {
     pub fn cursor_pos(&self) -> Pos
         ensures at { IsAt self.now.text self.now.offset result }
         ensures line { result.y ≡ cursor_line self.now }
-        ensures column { result.x ≡ cursor_column self.now }
+        ensures index { result.x ≡ cursor_index self.now }
         ensures valid { IsEditor self.now }
     {
         // Read so that the invariant of the lines is at hand.
