@@ -1,6 +1,6 @@
 //! The style tokens that styles are written as.
 
-ghost use Rattle.std.specs.Prelude.{◌≡◌, ◌++◌, IfOk, OnOk, List, min, string_bytes};
+ghost use Rattle.std.specs.Prelude.{◌≡◌, ◌++◌, ℕ, IfOk, OnOk, List, min, string_bytes};
 ghost use Rattle.std.specs.Char.{IsScalar};
 ghost use Rattle.mad_term.specs.Styles.{IsStyle};
 ghost use Rattle.mad_style.specs.StyledChars.{char_alone, char_style};
@@ -19,6 +19,9 @@ use std::alloc::{AllocError, Global};
 pub trait PushStyleTokens {
     ghost tokens_of_value: { Self → List StyleToken };
 
+    // The value is read back from its text, where it is one that reads back.
+    ghost reads_back: { Self → List ℕ → Type 0 };
+
     /// Puts the tokens that say the value after those that are there.
     ///
     /// # Errors
@@ -33,7 +36,8 @@ pub trait PushStyleTokens {
     ///
     /// Out of memory.
     fn to_style_tokens_string(&self, alloc: Global) -> Result<String, AllocError>
-        ensures { IfOk result (λ text. string_bytes text ≡ tokens_text (tokens_of_value self.now)) };
+        ensures text { IfOk result (λ text. string_bytes text ≡ tokens_text (tokens_of_value self.now)) }
+        ensures reads_back { IfOk result (λ text. reads_back self.now (string_bytes text)) };
 }
 
 fn push_style(style: CompoundStyle, tokens: &mut Vec<StyleToken>) -> Result<(), AllocError>
@@ -145,14 +149,13 @@ fn push_item(item: OrderedItemStyle, tokens: &mut Vec<StyleToken>) -> Result<(),
 impl PushStyleTokens for CompoundStyle {
     ghost tokens_of_value = { style_tokens };
 
+    ghost reads_back = { StyleReadsBack };
+
     fn push_style_tokens(&self, tokens: &mut Vec<StyleToken>) -> Result<(), AllocError> {
         push_style(*self, tokens)
     }
 
-    fn to_style_tokens_string(&self, alloc: Global) -> Result<String, AllocError>
-        ensures text { IfOk result (λ text. string_bytes text ≡ tokens_text (style_tokens self.now)) }
-        ensures reads_back { IfOk result (λ text. StyleReadsBack self.now (string_bytes text)) }
-    {
+    fn to_style_tokens_string(&self, alloc: Global) -> Result<String, AllocError> {
         let mut tokens = Vec::new(alloc);
         push_style(*self, &mut tokens)?;
         style_tokens_to_string(alloc, &tokens)
@@ -162,14 +165,13 @@ impl PushStyleTokens for CompoundStyle {
 impl PushStyleTokens for LineStyle {
     ghost tokens_of_value = { line_style_tokens };
 
+    ghost reads_back = { LineReadsBack };
+
     fn push_style_tokens(&self, tokens: &mut Vec<StyleToken>) -> Result<(), AllocError> {
         push_line_tokens(*self, tokens)
     }
 
-    fn to_style_tokens_string(&self, alloc: Global) -> Result<String, AllocError>
-        ensures text { IfOk result (λ text. string_bytes text ≡ tokens_text (line_style_tokens self.now)) }
-        ensures reads_back { IfOk result (λ text. LineReadsBack self.now (string_bytes text)) }
-    {
+    fn to_style_tokens_string(&self, alloc: Global) -> Result<String, AllocError> {
         let mut tokens = Vec::new(alloc);
         push_line_tokens(*self, &mut tokens)?;
         style_tokens_to_string(alloc, &tokens)
@@ -179,14 +181,13 @@ impl PushStyleTokens for LineStyle {
 impl PushStyleTokens for StyledChar {
     ghost tokens_of_value = { styled_char_tokens };
 
+    ghost reads_back = { CharReadsBack };
+
     fn push_style_tokens(&self, tokens: &mut Vec<StyleToken>) -> Result<(), AllocError> {
         push_styled_char(*self, tokens)
     }
 
-    fn to_style_tokens_string(&self, alloc: Global) -> Result<String, AllocError>
-        ensures text { IfOk result (λ text. string_bytes text ≡ tokens_text (styled_char_tokens self.now)) }
-        ensures reads_back { IfOk result (λ text. CharReadsBack self.now (string_bytes text)) }
-    {
+    fn to_style_tokens_string(&self, alloc: Global) -> Result<String, AllocError> {
         let mut tokens = Vec::new(alloc);
         push_styled_char(*self, &mut tokens)?;
         style_tokens_to_string(alloc, &tokens)
@@ -196,14 +197,13 @@ impl PushStyleTokens for StyledChar {
 impl PushStyleTokens for OrderedItemStyle {
     ghost tokens_of_value = { item_tokens };
 
+    ghost reads_back = { ItemReadsBack };
+
     fn push_style_tokens(&self, tokens: &mut Vec<StyleToken>) -> Result<(), AllocError> {
         push_item(*self, tokens)
     }
 
-    fn to_style_tokens_string(&self, alloc: Global) -> Result<String, AllocError>
-        ensures text { IfOk result (λ text. string_bytes text ≡ tokens_text (item_tokens self.now)) }
-        ensures reads_back { IfOk result (λ text. ItemReadsBack self.now (string_bytes text)) }
-    {
+    fn to_style_tokens_string(&self, alloc: Global) -> Result<String, AllocError> {
         let mut tokens = Vec::new(alloc);
         push_item(*self, &mut tokens)?;
         style_tokens_to_string(alloc, &tokens)
