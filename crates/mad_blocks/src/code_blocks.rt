@@ -3,7 +3,7 @@
 ghost use Rattle.std.specs.Prelude.{◌≡◌, ◌≤◌, ◌<◌, ◌+◌, drop, length, IfOk, MatchOption};
 ghost use Rattle.mad_blocks.specs.CodeBlocks.{IsClosedBlock, IsNextBlock, NoCode, blocks_placed, code_blocks, code_columns, placed_line};
 
-use crate::laying::{code_place, is_code, width_within};
+use crate::laying::{code_place, is_code_kind, width_within};
 use mad_format::FmtLine;
 use std::alloc::{AllocError, Global};
 
@@ -112,7 +112,9 @@ fn code_columns(line: &FmtLine) -> Option<usize>
     ensures { result ≡ code_columns line.now }
 {
     match line {
-        FmtLine::Normal(composite) if is_code(composite.kind) => Some(composite.visible_length),
+        FmtLine::Normal(composite) if is_code_kind(composite.kind) => Some(
+            composite.visible_length,
+        ),
         _ => None,
     }
 }

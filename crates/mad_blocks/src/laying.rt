@@ -58,7 +58,7 @@ pub fn wrap_width(width: Option<usize>) -> Option<usize>
 }
 
 /// Whether a composite of this kind is code.
-pub fn is_code(kind: CompositeKind) -> bool
+pub(crate) fn is_code_kind(kind: CompositeKind) -> bool
     ensures { result ≡ is_code_kind kind }
 {
     matches!(kind, CompositeKind::Code)

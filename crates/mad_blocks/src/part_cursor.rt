@@ -9,7 +9,7 @@ ghost use Rattle.mad_blocks.specs.PartCursors.{lines_left, HasUnmarkedNext, IsNe
 ghost use Rattle.mad_blocks.specs.TextParts.{is_code, is_table};
 ghost use Rattle.mad_format.specs.declared.line.FmtLine.{FmtLine};
 
-use crate::laying::{is_code, push_block, push_read_at, table_width, wrap_width};
+use crate::laying::{is_code_kind, push_block, push_read_at, table_width, wrap_width};
 use crate::table_layout::push_whole_table;
 use mad_format::{FmtComposite, FmtLine, LineSkin, put_line};
 use mad_md::{Composite, Line, LineCursor, ParseOptions, Text};
@@ -122,7 +122,7 @@ impl<'s> PartCursor<'s> {
     ) -> Result<(), AllocError>
         ensures { OnOk result (LaidPart (S.rules skin.now) width (normal (styled_runs composite.entry) ∷ lines_left self.old) lines.old.items (lines_left self.new) lines.new.items) }
     {
-        if is_code(CompositeKind::from(composite.style)) {
+        if is_code_kind(CompositeKind::from(composite.style)) {
             self.lay_block(alloc, lines, composite, width, skin)
         } else {
             push_read_at(alloc, lines, composite, wrap_width(width), skin)
@@ -174,7 +174,7 @@ impl<'s> PartCursor<'s> {
         ensures { IfOk result (λ next. IsNextWhere is_code (λ composite. normal (styled_runs composite)) (lines_left self.old) next (lines_left self.new)) }
     {
         match self.next_line(alloc)? {
-            Some(Line::Normal(composite)) if is_code(CompositeKind::from(composite.style)) => {
+            Some(Line::Normal(composite)) if is_code_kind(CompositeKind::from(composite.style)) => {
                 Ok(Some(composite))
             }
             other => {

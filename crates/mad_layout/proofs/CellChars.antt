@@ -18,7 +18,7 @@ use Rattle.mad_draw.specs.TableRules.{border_piece, horizontals, junction, rule_
 use Rattle.mad_draw.specs.declared.table_rules.RuleChars.{RuleChars}
 use Rattle.mad_layout.specs.Drawable.{AreShownChars}
 use Rattle.mad_layout.specs.FlaggedLines.{skin_char, front_of}
-use Rattle.mad_layout.specs.FlaggedTables.{row_in_column, CellInColumn, first_row, first_rows, rows_down, rule_row, table_across, rule_across}
+use Rattle.mad_layout.specs.FlaggedTables.{row_in_column, CellInColumn, first_row, first_rows, rows_down, rule_row, table_across, rule_across_area}
 use Rattle.mad_format.specs.FmtLines.{bordered, rule_columns}
 use Rattle.mad_layout.specs.Premises.{IsPrintablePrefix}
 use Rattle.mad_rows.specs.Rows.{prefix_pieces, compound_piece, composite_pieces, cell_pieces, vertical_piece, placed_pieces, row_columns, rule_chars, left_of_place, right_of_place, align_in, place_of, inner_blanks}
@@ -162,7 +162,7 @@ rule_pieces_chars skin b (w ∷ ws) shown =
     ∙ ap (λ t. skin_char b.left ++ t) (both (horizontals style b w) rest ∙ ap (λ t. t ++ chars_in rest) (across w) ∙ ap (λ t. repeat w (skin_char b.horizontal) ++ t) (junctions_chars style b ws across))
 
 pub rule_line_chars : (skin : RowSkin) (area : Area) (position : RelativePosition) (ws : List ℕ) (rule : FmtTableRule) → AreShownChars skin (rule_chars skin.table_border_chars position) → rule.position ≡ position → rule.widths.items ≡ ws
-    → line_chars skin area.width (TableRule rule) ≡ rule_across skin area position ws
+    → line_chars skin area.width (TableRule rule) ≡ rule_across_area skin area position ws
 rule_line_chars skin area position ws rule shown place widths =
     let pieces : RelativePosition → List ℕ → List RowPiece = λ p vs. rule_pieces skin.table.compound_style (rule_chars skin.table_border_chars p) vs in
     ap (λ p. chars_in (placed_pieces skin (Some area.width) true (rule_columns rule.widths.items) (pieces p rule.widths.items))) place

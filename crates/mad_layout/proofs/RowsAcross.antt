@@ -21,7 +21,7 @@ use Rattle.mad_style.specs.StyledChars.{char_alone}
 use Rattle.mad_layout.specs.FlaggedLines.{widest_in, skin_char, row_across, rows_across, marked_parts}
 use Rattle.mad_layout.specs.FlaggedTexts.{IsAcross, AreAcross}
 use Rattle.mad_layout.specs.FlaggedRows.{AreRowsOf}
-use Rattle.mad_layout.specs.FlaggedTables.{kept_widths, columns_below, rows_in_column, CellInColumn, AreInColumns, rows_down, most_rows, table_across, IsRowAcross, rule_across}
+use Rattle.mad_layout.specs.FlaggedTables.{kept_widths, columns_below, rows_in_column, CellInColumn, AreInColumns, rows_down, most_rows, table_across, IsRowAcross, rule_across_area}
 use Rattle.mad_format.specs.Indents.{indent, follow_up, room_of}
 use Rattle.mad_format.specs.FmtLines.{bordered}
 use Rattle.mad_blocks.specs.LayoutParts.{is_code_kind, IsLineAt, AreLinesAt}
@@ -241,7 +241,7 @@ line_across skin area x (normal said) =
     let r : Room = room_of (line_rules skin) (kind_of said.style) (inner_width skin (area.width - 1) said) in
     (rows_across skin area x.part said (rows_of r (marked_parts said)), (rows_of r (marked_parts said), rows_exist r (marked_parts said), refl))
 line_across skin area x (table_row cells) = row_exists skin area (columns_below (kept_widths skin (area.width - 1) x.part) x.aligns) cells
-line_across skin area x (table_rule aligns) = (rule_across skin area x.position (kept_widths skin (area.width - 1) x.part) ∷ [], refl)
+line_across skin area x (table_rule aligns) = (rule_across_area skin area x.position (kept_widths skin (area.width - 1) x.part) ∷ [], refl)
 line_across skin area x horizontal_rule = (repeat area.width (skin_char (char_alone skin.horizontal_rule)) ∷ [], refl)
 
 -- every line has rows across an area

@@ -17,7 +17,7 @@ use Rattle.mad_wrap.specs.declared.room.Room.{Room}
 use Rattle.mad_format.specs.CompositeWraps.{line_compounds, HaveKinds, IsCompositeWrap}
 use Rattle.mad_layout.specs.FlaggedLines.{marked_parts}
 use Rattle.mad_layout.specs.FlaggedRows.{AreRowsOf}
-use Rattle.mad_layout.specs.FlaggedTables.{columns_among, cells_among, down, kept_widths, columns_below, row_in_column, rows_in_column, CellInColumn, AreInColumns, rows_down, most_rows, table_across, IsRowAcross, rule_across}
+use Rattle.mad_layout.specs.FlaggedTables.{columns_among, cells_among, down, kept_widths, columns_below, row_in_column, rows_in_column, CellInColumn, AreInColumns, rows_down, most_rows, table_across, IsRowAcross, rule_across_area}
 use Rattle.mad_layout.specs.FlaggedTexts.{LineInPart, aligns_at, position_in, lines_in, IsAcross}
 use Rattle.mad_format.specs.Indents.{indent, follow_up, room_of}
 use Rattle.mad_format.specs.FmtLines.{bordered, IsCompositeRead, AreCompositesRead, IsLineRead, is_table_line}
@@ -175,7 +175,7 @@ line_rows skin area ws x (table_row cells) (TableRow row) own bound fit is conte
 line_rows skin area ws x (table_rule aligns) (TableRule source) own bound fit is content read table (rule, same, laid) =
     let chars = rule_line_chars skin area x.position ws rule (column_rule skin (rule_chars skin.table_border_chars x.position) (content.borders.rules x.position)) laid.position_is (laid.widths_are ∙ below-widths ws x.aligns) in
     subst (λ (ls : List FmtLine). (0 < length ls) × IsAcross skin area x (table_rule aligns) (map (line_chars skin area.width) ls)) (sym same)
-    (omega arith, ap (λ (t : List ℕ). t ∷ []) (chars ∙ ap (rule_across skin area x.position) is))
+    (omega arith, ap (λ (t : List ℕ). t ∷ []) (chars ∙ ap (rule_across_area skin area x.position) is))
 line_rows skin area ws x horizontal_rule HorizontalRule own bound fit is content read table laid = absurd (cc)
 line_rows skin area ws x _ _ own bound fit is content read _ _ = absurd read
 

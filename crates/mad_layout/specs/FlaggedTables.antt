@@ -90,5 +90,5 @@ IsRowAcross skin area columns cells across =
     × (across ≡ map (table_across skin area (1 + bordered (map (λ c. c.width) columns))) (rows_down skin (max (most_rows placed) 1) placed))
 
 -- a rule's row, at its position in its table
-abbrev pub rule_across : RowSkin → Area → RelativePosition → List ℕ → List ℕ
-rule_across skin area position widths = table_across skin area (rule_columns widths) (rule_row (rule_chars skin.table_border_chars position) widths)
+abbrev pub rule_across_area : RowSkin → Area → RelativePosition → List ℕ → List ℕ
+rule_across_area skin area position widths = table_across skin area (rule_columns widths) (rule_row (rule_chars skin.table_border_chars position) widths)
