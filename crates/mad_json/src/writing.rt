@@ -106,12 +106,7 @@ fn put_items(
         values_of(alloc, &skin.ordered_item_styles)?,
     )?;
     let mode = mode_to_string(alloc, skin.list_items_indentation_mode)?;
-    put(
-        members,
-        alloc,
-        "list_items_indentation_mode",
-        Value::String(mode),
-    )?;
+    put_text(alloc, members, "list_items_indentation_mode", mode)?;
     Ok(())
 }
 
