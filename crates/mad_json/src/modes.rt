@@ -3,8 +3,7 @@
 ghost use Rattle.std.specs.Prelude.{◌≡◌, Ok, IfOk, IfErr};
 ghost use Rattle.serde_json.specs.View.{view};
 ghost use Rattle.mad_json.specs.Faults.{TellsValue};
-ghost use Rattle.mad_json.specs.Modes.{mode_said, mode_named, hanging_front, called_mode};
-ghost use Rattle.mad_parse.specs.Colors.{without_last};
+ghost use Rattle.mad_json.specs.Modes.{mode_said, mode_named, hanging_mode, called_mode};
 
 use crate::errors::ValueError;
 use crate::texts::text_of;
@@ -42,7 +41,7 @@ fn mode_named(text: &str) -> Option<ListItemsIndentationMode>
 }
 
 fn hanging_of(text: &str) -> Option<ListItemsIndentationMode>
-    ensures { result ≡ hanging_front (without_last 41 text.now) }
+    ensures { result ≡ hanging_mode text.now }
 {
     let (name, digits) = text.strip_suffix(')')?.split_once('(')?;
     called_mode(name, digits)
