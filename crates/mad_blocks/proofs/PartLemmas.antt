@@ -4,11 +4,11 @@ use Rattle.std.specs.List.{AllByRecursion}
 use Rattle.mad_md.specs.declared.alignment.Alignment.TheVariants.{Left}
 use Rattle.mad_style.specs.declared.kinds.CompositeKind.{CompositeKind}
 use Rattle.mad_style.specs.declared.kinds.CompositeKind.TheVariants.{Code}
-use Rattle.mad_style.specs.LineStyles.{margins_at}
+use Rattle.mad_style.specs.LineStyles.{width_inside}
 use Rattle.mad_fit.specs.declared.spacing.Spacing.{Spacing}
 use Rattle.mad_blocks.specs.LayoutParts.{Part, table, block, single, is_code_kind, with_table, with_code, with_composite, parts_of, widest, placed_code, justified, code_room}
 use Rattle.mad_format.specs.FmtLines.{is_table_line}
-use Rattle.mad_format.specs.WrappedLines.{style_margins}
+use Rattle.mad_format.specs.WrappedLines.{inner_columns_at}
 use Rattle.mad_format.specs.LineRules.{LineRules}
 use Rattle.mad_format.specs.declared.composite.FmtComposite.{FmtComposite}
 use Rattle.mad_format.specs.declared.line.FmtLine.{FmtLine}
@@ -17,16 +17,12 @@ use Rattle.mad_blocks.proofs.PartRuns.{AllTableLines, AllCode}
 
 -- ---- each line in its place
 
--- what the margins of a composite's kind leave of a width
-abbrev pub inner_left : LineRules → ℕ → FmtComposite → ℕ
-inner_left skin width l = width - (style_margins skin width l).0 - (style_margins skin width l).1
-
 -- The line is a line of code in a place that its margins leave room for, and that holds as much of it as fits.
 pub record IsPlacedCode (skin : LineRules) (width : ℕ) (l : FmtComposite) (m : FmtLine) : Type 0 where
   pub place : Spacing
   pub is : m ≡ Normal (record l { spacing = Some place })
-  pub inside : place.width ≤ inner_left skin width l
-  pub holds : min l.visible_length (inner_left skin width l) ≤ place.width
+  pub inside : place.width ≤ inner_columns_at skin width l
+  pub holds : min l.visible_length (inner_columns_at skin width l) ≤ place.width
 
 abbrev IsPlacedCodeLine : LineRules → ℕ → FmtLine → FmtLine → Type 0
 IsPlacedCodeLine skin width (Normal l) m = IsPlacedCode skin width l m
@@ -80,18 +76,14 @@ pub code_is : (k : CompositeKind) → is_code_kind k ≡ true → k ≡ Code
 code_is Code h = refl
 code_is _ h = absurd (cc)
 
--- the columns that the margins of code leave
-abbrev left_of_code : LineRules → ℕ → ℕ
-left_of_code skin width = let margins = margins_at (skin.line_style Code) (Some width) in width - margins.0 - margins.1
-
 block_placed : (skin : LineRules) (width most : ℕ) (ls : List FmtComposite) → AllCode ls → widest ls ≤ most
-    → ArePlacedOrKept skin width (map Normal ls) (map Normal (map (placed_code (min most (left_of_code skin width))) ls))
+    → ArePlacedOrKept skin width (map Normal ls) (map Normal (map (placed_code (min most (width_inside (skin.line_style Code) width))) ls))
 block_placed skin width most [] code wide = tt
 block_placed skin width most (l ∷ ls) code wide =
-    let inner : inner_left skin width l ≡ left_of_code skin width =
-    ap (λ (k : CompositeKind). width - (margins_at (skin.line_style k) (Some width)).0 - (margins_at (skin.line_style k) (Some width)).1) (code_is l.kind code.0) in (
+    let inner : inner_columns_at skin width l ≡ width_inside (skin.line_style Code) width =
+    ap (λ (k : CompositeKind). width_inside (skin.line_style k) width) (code_is l.kind code.0) in (
       inr (record {
-        place = record { width = min most (left_of_code skin width); align = Left };
+        place = record { width = min most (width_inside (skin.line_style Code) width); align = Left };
         is = refl;
         inside = omega (arith, inner);
         holds = omega (arith, inner, wide);

@@ -1,9 +1,9 @@
 -- Lines that aren't the layout of a text.
-use Rattle.std.specs.Prelude.{◌≡◌, ℕ, ◌-◌, ◌<◌, [], ◌∷◌, map, None}
+use Rattle.std.specs.Prelude.{◌≡◌, ℕ, ◌<◌, [], ◌∷◌, map, None}
 use Rattle.mad_wrap.specs.WrapLines.{HasRoom}
 use Rattle.mad_format.specs.Indents.{room_of}
 use Rattle.mad_blocks.specs.LayoutParts.{justified, placed_code}
-use Rattle.mad_format.specs.WrappedLines.{IsLineWrapped, line_with, style_margins}
+use Rattle.mad_format.specs.WrappedLines.{IsLineWrapped, inner_columns_at, line_with}
 use Rattle.mad_format.specs.Wraps.{text_of}
 use Rattle.mad_format.specs.LineRules.{LineRules}
 use Rattle.mad_format.specs.declared.composite.FmtComposite.{FmtComposite}
@@ -18,7 +18,7 @@ MarginsTestedAgainAreRefused = (skin : LineRules) (l : FmtComposite) → l.kind 
 -- a long line left as it is, where each of its characters has room
 abbrev pub LongLineLeftIsRefused : Type 0
 LongLineLeftIsRefused = (skin : LineRules) (width : ℕ) (l : FmtComposite) (margins : ℕ × ℕ) → width < l.visible_length
-    → HasRoom (room_of skin l.kind (width - (style_margins skin width l).0 - (style_margins skin width l).1)) (text_of l) → ¬ (IsLineWrapped skin width (Normal l) (line_with margins l ∷ []))
+    → HasRoom (room_of skin l.kind (inner_columns_at skin width l)) (text_of l) → ¬ (IsLineWrapped skin width (Normal l) (line_with margins l ∷ []))
 
 -- a block as wide as its last line, which is narrower than the first
 abbrev pub LastLinesWidthIsRefused : Type 0

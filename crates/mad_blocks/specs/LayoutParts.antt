@@ -1,7 +1,7 @@
 -- A text's lines as parts, and its layout, part by part: tables, blocks of code, and any other line by itself.
 use Rattle.std.specs.Prelude.{◌≡◌, ℕ, ◌-◌, ◌^◌, max, min, nat_lt, if◌then◌else◌, Bool, true, false, List, [], ◌∷◌, ◌++◌, map, Option, Some, None}
 use Rattle.mad_md.specs.declared.alignment.Alignment.TheVariants.{Left}
-use Rattle.mad_style.specs.LineStyles.{margins_at}
+use Rattle.mad_style.specs.LineStyles.{width_inside}
 use Rattle.mad_style.specs.declared.kinds.CompositeKind.{CompositeKind}
 use Rattle.mad_style.specs.declared.kinds.CompositeKind.TheVariants.{Code}
 use Rattle.mad_format.specs.CompositeWraps.{IsCompositeWrap}
@@ -103,7 +103,7 @@ justified room ls = map (placed_code (block_width room ls)) ls
 -- what the margins of code leave of a width, if there is one
 abbrev pub code_room : LineRules → Option ℕ → Option ℕ
 code_room skin None = None
-code_room skin (Some width) = let margins = margins_at (skin.line_style Code) (Some width) in Some (width - margins.0 - margins.1)
+code_room skin (Some width) = Some (width_inside (skin.line_style Code) width)
 
 -- the width that lines are wrapped at: nothing is wrapped without a width, nor at one under three
 abbrev pub wrap_width : Option ℕ → Option ℕ

@@ -61,10 +61,7 @@ pub fn wrap_width(width: Option<usize>) -> Option<usize>
 pub fn is_code(kind: CompositeKind) -> bool
     ensures { result ≡ is_code_kind kind }
 {
-    match kind {
-        CompositeKind::Code => true,
-        _ => false,
-    }
+    matches!(kind, CompositeKind::Code)
 }
 
 // What the margins of code leave of a width.

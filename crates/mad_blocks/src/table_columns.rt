@@ -94,10 +94,7 @@ pub(crate) fn columns_with(
 fn align_at(aligns: &[Alignment], i: usize) -> Alignment
     ensures { result ≡ unwrap_or (slice_get aligns.now i) Unspecified }
 {
-    match aligns.get(i) {
-        Some(align) => *align,
-        None => Alignment::Unspecified,
-    }
+    aligns.get(i).copied().unwrap_or(Alignment::Unspecified)
 }
 
 /// Columns of these widths, centered.

@@ -96,7 +96,8 @@ fn push_rest<'s>(
 /// Lays out each table among the lines at a width, in columns; every other line stays. A table is a run of rows and rules, as
 /// long as can be, with as many columns as its widest line has.
 ///
-/// The cached lengths of all lines have to be right. The lines are taken once from front to back. Only out of memory is an error, and leaves some of the lines.
+/// The cached lengths of all lines have to be right. The lines are taken once from front to back. Only out of memory is an error, and
+/// leaves some of the lines.
 pub fn fix_all_tables<'s, S: LineSkin>(
     alloc: Global,
     lines: &mut Vec<FmtLine<'s>>,

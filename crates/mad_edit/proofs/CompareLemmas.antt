@@ -8,8 +8,8 @@ use Rattle.std.proofs.lemmas.Bool.{and_from}
 use Rattle.mad_lines.specs.declared.line.Line.{Line}
 use Rattle.mad_lines.specs.declared.position.Pos.{Pos}
 use Rattle.mad_lines.specs.TextLines.{lines, chars_of, lines_of, text_of, offset_of}
-use Rattle.mad_edit.proofs.EditorLemmas.{Seen, lines_seen, line_seen, column_seen}
-use Rattle.mad_edit.specs.Editor.{Editor, IsValid, same_editor, same_position, cursor_line, cursor_column}
+use Rattle.mad_edit.proofs.EditorLemmas.{Seen, lines_seen, line_seen, index_seen}
+use Rattle.mad_edit.specs.Editor.{Editor, IsValid, same_editor, same_position, cursor_line, cursor_index}
 
 abbrev position : ℕ → ℕ → Pos
 position y x = record { y = y; x = x }
@@ -64,7 +64,7 @@ same_kept r a b ls ms p q s t seen also h k d =
     sym seen ∙ (λ i. let e : Editor = record { text = text_of (w.0 i); offset = offset_of (w.0 i) (w.1 i); tail = w.2 i } in e) ∙ also in
     let kept : a ≡ b → (ls ≡ ms) × (p ≡ q) × (s ≡ t) = λ e.
     let y : p.y ≡ q.y = line_seen a ls p s seen h ∙ ap cursor_line e ∙ sym (line_seen b ms q t also k) in
-    let x : p.x ≡ q.x = column_seen a ls p s seen h ∙ ap cursor_column e ∙ sym (column_seen b ms q t also k) in (
+    let x : p.x ≡ q.x = index_seen a ls p s seen h ∙ ap cursor_index e ∙ sym (index_seen b ms q t also k) in (
       sym (lines_seen a ls p s seen h) ∙ ap (λ (z : Editor). lines z.text) e ∙ lines_seen b ms q t also k,
       λ i. position (y i) (x i),
       ap (λ (z : Editor). z.tail) (seen ∙ e ∙ sym also),

@@ -6,7 +6,7 @@ use Rattle.mad_lines.specs.declared.position.Pos.{Pos}
 use Rattle.mad_lines.specs.TextLines.{lines, text_of, offset_of, line_at}
 use Rattle.mad_edit.proofs.SplitLemmas.{lines-text_of, accepted_text}
 use Rattle.mad_edit.proofs.LineLemmas.{newlines_before, length_front, front_before, rest_after}
-use Rattle.mad_edit.specs.Editor.{Editor, IsValid, IsEditor, tail_offset, cursor_line, cursor_column, front_of_line, rest_of_line}
+use Rattle.mad_edit.specs.Editor.{Editor, IsValid, IsEditor, tail_offset, cursor_line, cursor_index, front_of_line, rest_of_line}
 
 -- the lines of its text are those that it keeps
 pub own_lines : (ls : List (List ℕ)) (at : Pos) (tail : Option Pos) → IsValid ls at tail → lines (text_of ls) ≡ ls
@@ -36,8 +36,8 @@ editor_seen e ls at tail seen h =
 pub line_seen : (e : Editor) (ls : List (List ℕ)) (at : Pos) (tail : Option Pos) → Seen e ls at tail → IsValid ls at tail → at.y ≡ cursor_line e
 line_seen e ls at tail seen h = subst (λ (x : Editor). at.y ≡ cursor_line x) seen (sym (newlines_before ls at h.cursor h.texts))
 
-pub column_seen : (e : Editor) (ls : List (List ℕ)) (at : Pos) (tail : Option Pos) → Seen e ls at tail → IsValid ls at tail → at.x ≡ cursor_column e
-column_seen e ls at tail seen h = subst (λ (x : Editor). at.x ≡ cursor_column x) seen (sym (length_front ls at h.cursor h.texts))
+pub index_seen : (e : Editor) (ls : List (List ℕ)) (at : Pos) (tail : Option Pos) → Seen e ls at tail → IsValid ls at tail → at.x ≡ cursor_index e
+index_seen e ls at tail seen h = subst (λ (x : Editor). at.x ≡ cursor_index x) seen (sym (length_front ls at h.cursor h.texts))
 
 pub front_seen : (e : Editor) (ls : List (List ℕ)) (at : Pos) (tail : Option Pos) → Seen e ls at tail → IsValid ls at tail → take at.x (line_at ls at.y) ≡ front_of_line e
 front_seen e ls at tail seen h = subst (λ (x : Editor). take at.x (line_at ls at.y) ≡ front_of_line x) seen (sym (front_before ls at h.cursor h.texts))

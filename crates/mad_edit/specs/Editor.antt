@@ -88,12 +88,12 @@ abbrev pub cursor_line : Editor → ℕ
 cursor_line e = count_by is_newline (take e.offset e.text)
 
 -- how many characters of its line are before the cursor
-abbrev pub cursor_column : Editor → ℕ
-cursor_column e = suffix_len is_in_line (take e.offset e.text)
+abbrev pub cursor_index : Editor → ℕ
+cursor_index e = suffix_len is_in_line (take e.offset e.text)
 
 -- the characters of its line before the cursor
 abbrev pub front_of_line : Editor → List ℕ
-front_of_line e = drop (e.offset - cursor_column e) (take e.offset e.text)
+front_of_line e = drop (e.offset - cursor_index e) (take e.offset e.text)
 
 -- the characters of its line after the cursor
 abbrev pub rest_of_line : Editor → List ℕ

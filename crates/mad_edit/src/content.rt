@@ -3,7 +3,7 @@
 ghost use Rattle.std.specs.Prelude.{◌≡◌, ◌<◌, ◌≤◌, ◌+◌, ◌-◌, ◌↔◌, [], None, Some, length, chars, min, max, option_map, IfOk, IfSome, IsSome, OnOk, OnErr, IsTrue, string_bytes, encode_utf8_all, slice_range};
 ghost use Rattle.std.specs.Option.{ForSome};
 ghost use Rattle.mad_lines.specs.TextLines.{lines, lines_of, accepted, clamp, IsPosition};
-ghost use Rattle.mad_edit.specs.Editor.{IsPositionIn, offset_at, IsAt, clamp_in, clamp_tail, replaced, cursor_line, cursor_column, front_of_line, rest_of_line, IsEditor, IsWide, IsMovedToLine, selection_start, selection_last};
+ghost use Rattle.mad_edit.specs.Editor.{IsPositionIn, offset_at, IsAt, clamp_in, clamp_tail, replaced, cursor_line, cursor_index, front_of_line, rest_of_line, IsEditor, IsWide, IsMovedToLine, selection_start, selection_last, selection_end};
 
 mod comparing;
 mod reading;
@@ -70,7 +70,7 @@ impl InputFieldContent {
     pub fn cursor_pos(&self) -> Pos
         ensures at { IsAt self.now.text self.now.offset result }
         ensures line { result.y ≡ cursor_line self.now }
-        ensures column { result.x ≡ cursor_column self.now }
+        ensures index { result.x ≡ cursor_index self.now }
         ensures valid { IsEditor self.now }
     {
         // Read so that the invariant of the lines is at hand.
@@ -194,6 +194,16 @@ impl InputFieldContent {
         let _ = &self.lines;
         let Range { min, max } = self.selection();
         is_before(min, max)
+    }
+
+    /// The position of the first selected character, and the one past the last.
+    pub(crate) fn selected_span(&self) -> (Pos, Pos)
+        ensures start { IsAt self.now.text (selection_start self.now) result.0 }
+        ensures end { IsAt self.now.text (selection_end self.now) result.1 }
+        ensures valid { IsEditor self.now }
+    {
+        let Range { min, max } = self.selection();
+        (min, self.position_past_char(max))
     }
 
     /// The text between two positions.

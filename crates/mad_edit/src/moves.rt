@@ -39,7 +39,7 @@ impl InputFieldContent {
     pub fn move_right(&mut self) -> bool
         ensures can { IsTrue result ↔ (self.old.offset < length self.old.text) }
         ensures moved { OnTrue result (self.new ≡ record self.old { offset = self.old.offset + 1 }) }
-        ensures stays { OnFalse result (self.new ≡ self.old) }
+        ensures none { OnFalse result (self.new ≡ self.old) }
     {
         let at = self.cursor_pos();
         match self.next_position(at) {

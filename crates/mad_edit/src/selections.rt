@@ -7,7 +7,7 @@ ghost use Rattle.mad_lines.specs.declared.position.Pos.{Pos};
 ghost use Rattle.mad_edit.specs.Editor.{IsEditor, inserted, IsAt, IsCut, IsRemoved, IsReplaced, IsWide, replaced, selected, selection_start, selection_last, selection_end, below_start, below_end, SelectsAround};
 
 use crate::content::InputFieldContent;
-use mad_lines::{CharClass, Range};
+use mad_lines::CharClass;
 use std::alloc::AllocError;
 
 impl InputFieldContent {
@@ -20,9 +20,8 @@ impl InputFieldContent {
         ensures is { IfOk result (λ s. string_bytes s ≡ encode_utf8_all (selected self.now)) }
         ensures valid { IsEditor self.now }
     {
-        let Range { min, max } = self.selection();
-        let end = self.position_past_char(max);
-        self.copy_between(min, end)
+        let (start, end) = self.selected_span();
+        self.copy_between(start, end)
     }
 
     /// A copy of the selected characters.
@@ -41,9 +40,8 @@ impl InputFieldContent {
         ensures ok { OnOk result (IsCut self.old self.new) }
         ensures err { OnErr result (self.new ≡ self.old) }
     {
-        let Range { min, max } = self.selection();
-        let end = self.position_past_char(max);
-        self.remove(min, end)?;
+        let (start, end) = self.selected_span();
+        self.remove(start, end)?;
         self.unselect();
         Ok(())
     }
@@ -108,9 +106,8 @@ impl InputFieldContent {
         if !self.has_wide_selection() {
             return self.insert_str(text);
         }
-        let Range { min, max } = self.selection();
-        let end = self.position_past_char(max);
-        self.edit(min, end, text)?;
+        let (start, end) = self.selected_span();
+        self.edit(start, end, text)?;
         self.unselect();
         Ok(())
     }

@@ -1,9 +1,10 @@
 -- The columns in front of a line: those of its bullet, number or quote mark, and of the lines that follow one.
-use Rattle.std.specs.Prelude.{ℕ, ◌+◌, length, decimal}
+use Rattle.std.specs.Prelude.{ℕ, ◌+◌}
 use Rattle.mad_style.specs.declared.kinds.CompositeKind.{CompositeKind}
 use Rattle.mad_style.specs.declared.kinds.CompositeKind.TheVariants.{ListItem, ListItemFollowUp, OrderedListItem, OrderedListItemFollowUp, Quote}
 use Rattle.mad_style.specs.declared.kinds.ListItemsIndentationMode.{ListItemsIndentationMode}
 use Rattle.mad_style.specs.declared.kinds.ListItemsIndentationMode.TheVariants.{FirstLineOnly, Block, Hanging}
+use Rattle.mad_style.specs.OrderedItems.{ordered_indent}
 use Rattle.mad_wrap.specs.declared.room.Room.{Room}
 use Rattle.mad_format.specs.LineRules.{LineRules}
 
@@ -18,10 +19,6 @@ abbrev pub later_indent : ListItemsIndentationMode → ℕ → ℕ
 later_indent FirstLineOnly n = 0
 later_indent Block n = n
 later_indent (Hanging extra) n = n + extra
-
--- the columns in front of an ordered item: those of its level, of its number, and of the mark and the space after the number
-abbrev pub ordered_indent : ℕ → ℕ → ℕ
-ordered_indent level index = length (decimal index) + 2 + level
 
 -- the columns in front of a line of this kind: a bullet and a space after an item's depth, a quote mark and a space
 abbrev pub indent : ListItemsIndentationMode → CompositeKind → ℕ

@@ -1,7 +1,7 @@
 -- Lines of a layout that are wrapped at a width.
-use Rattle.std.specs.Prelude.{◌≡◌, ℕ, ◌+◌, ◌-◌, ◌<◌, ◌≤◌, ◌⊎◌, List, [], ◌∷◌, ◌++◌, map, Some}
+use Rattle.std.specs.Prelude.{◌≡◌, ℕ, ◌+◌, ◌<◌, ◌≤◌, ◌⊎◌, List, [], ◌∷◌, ◌++◌, map, Some}
 use Rattle.std.specs.List.{AllByRecursion}
-use Rattle.mad_style.specs.LineStyles.{margins_at}
+use Rattle.mad_style.specs.LineStyles.{margins_at, width_inside}
 use Rattle.mad_format.specs.CompositeWraps.{IsCompositeWrap}
 use Rattle.mad_format.specs.Wraps.{IsMeasured}
 use Rattle.mad_format.specs.LineRules.{LineRules}
@@ -12,6 +12,10 @@ use Rattle.mad_format.specs.declared.line.FmtLine.TheVariants.{Normal, TableRow,
 -- the margins (left, right) of a composite at a width, those of its kind's style
 abbrev pub style_margins : LineRules → ℕ → FmtComposite → ℕ × ℕ
 style_margins skin width l = margins_at (skin.line_style l.kind) (Some width)
+
+-- the columns that they leave
+abbrev pub inner_columns_at : LineRules → ℕ → FmtComposite → ℕ
+inner_columns_at skin width l = width_inside (skin.line_style l.kind) width
 
 -- the composite fits with its margins, by its cached length
 abbrev pub FitsWithMargins : LineRules → ℕ → FmtComposite → Type 0
@@ -31,7 +35,7 @@ IsLaidOutBy wraps skin width source lines =
     let margins = style_margins skin width source in
     (FitsWithMargins skin width source × (lines ≡ line_with margins source ∷ []))
     ⊎ ((width < source.visible_length + margins.0 + margins.1)
-    × ((wrap : List FmtComposite) × wraps skin (width - margins.0 - margins.1) source wrap × (lines ≡ map (line_with margins) wrap)))
+    × ((wrap : List FmtComposite) × wraps skin (inner_columns_at skin width source) source wrap × (lines ≡ map (line_with margins) wrap)))
 
 -- what becomes of a line; rules and lines of tables stay
 abbrev pub IsLineLaidOutBy : Wrap → LineRules → ℕ → FmtLine → List FmtLine → Type 0

@@ -135,7 +135,7 @@ impl<'s> FmtComposite<'s> {
     pub fn add_compound(&mut self, compound: Compound<'s>) -> Result<(), AllocError>
         ensures text { OnOk result (self.new.compounds.items ≡ self.old.compounds.items ++ compound.entry ∷ []) }
         ensures length { OnOk result (self.new.visible_length ≡ capped (self.old.visible_length + width_of (flagged_of compound.entry))) }
-        ensures refused { OnErr result ((self.new.compounds.items ≡ self.old.compounds.items) × (self.new.visible_length ≡ self.old.visible_length)) }
+        ensures err { OnErr result ((self.new.compounds.items ≡ self.old.compounds.items) × (self.new.visible_length ≡ self.old.visible_length)) }
         ensures kind { self.new.kind ≡ self.old.kind }
         ensures spacing { self.new.spacing ≡ self.old.spacing }
         ensures margins { self.new.margins ≡ self.old.margins }

@@ -47,7 +47,7 @@ impl<'s> FmtLine<'s> {
     }
 
     /// The columns of the line, by its cached lengths. A row of a table counts its cells, without borders. A rule across one counts its
-    /// columns and borders, and two without columns. A rule across the page counts none.
+    /// columns and borders, and two without columns. A rule across the page counts none. Sums stay at `usize::MAX`.
     pub fn visible_length(&self) -> usize
         ensures { result ≡ columns_of_line self.now }
     {
@@ -78,7 +78,8 @@ fn cells_columns(cells: &[FmtComposite]) -> usize
     columns
 }
 
-/// The columns of a rule across columns of these widths: its ends, the columns, and a junction between two of them.
+/// The columns of a rule across columns of these widths: its ends, the columns, and a junction between two of them. The sum stays at
+/// `usize::MAX`.
 pub fn rule_columns(widths: &[usize]) -> usize
     ensures { result ≡ capped (rule_columns widths.now) }
 {

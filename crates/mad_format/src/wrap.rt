@@ -29,8 +29,8 @@ use std::vec::IntoIter;
 ///
 /// The lines keep the composite's text but for whitespace between them and after the last, and no fitting break has fewer.
 /// Where each character has room after the greater indent, each line fits. Two compounds that fit on a line each, with or
-/// without one of whitespace between them, are cut there. Any other text is cut into tokens, which are placed one after the other. The first line
-/// has the composite's kind, and the others the kind that follows it; all have its spacing, and no margins.
+/// without one of whitespace between them, are cut there. Any other text is cut into tokens, which are placed one after the
+/// other. The first line has the composite's kind, and the others the kind that follows it; all have its spacing, and no margins.
 ///
 /// The composite has to be wider than the width, and its cached length right. The time is linear in the text; no character is
 /// copied.
@@ -172,8 +172,10 @@ pub fn hard_wrap_lines<'s, S: LineSkin>(
     ensures narrow { width < 3 → IfOk result (λ _. AllFit (S.rules skin.now) width lines.entry.items) }
     ensures refused { IfErr result (λ e. (e ≡ Memory) ⊎ ((e ≡ InsufficientWidth (record { available_width = width })) × (width < 3) × ¬ (AllFit (S.rules skin.now) width lines.entry.items))) }
 {
-    if !all_fit(&lines, width, skin) {
-        check_width(width)?;
+    if let Err(narrow) = check_width(width) {
+        if !all_fit(&lines, width, skin) {
+            return Err(Error::from(narrow));
+        }
     }
     Ok(wrap_lines(alloc, lines, width, skin)?)
 }

@@ -8,7 +8,7 @@ use Rattle.mad_md.specs.declared.alignment.Alignment.{Alignment}
 use Rattle.mad_md.specs.Lines.{StyledRuns, LineContent, normal, table_row, table_rule, horizontal_rule}
 use Rattle.mad_md.specs.declared.compound.Compound.{Compound}
 use Rattle.mad_style.specs.Kinds.{kind_of}
-use Rattle.mad_style.specs.LineStyles.{margins_at}
+use Rattle.mad_style.specs.LineStyles.{width_inside}
 use Rattle.mad_style.specs.declared.kinds.CompositeKind.{CompositeKind}
 use Rattle.mad_fit.specs.TextColumns.{width_of}
 use Rattle.mad_fit.specs.Tokens.{token_run}
@@ -30,7 +30,7 @@ use Rattle.mad_layout.specs.Premises.{IsPrintableRun, inner_width, runs_text, Is
 use Rattle.mad_rows.specs.Rows.{place_of}
 use Rattle.mad_rows.specs.RowStyles.{line_rules, line_style}
 use Rattle.mad_format.specs.CompositeWraps.{line_compounds, HaveKinds}
-use Rattle.mad_format.specs.WrappedLines.{style_margins, line_with, IsLaidOutBy}
+use Rattle.mad_format.specs.WrappedLines.{inner_columns_at, style_margins, line_with, IsLaidOutBy}
 use Rattle.mad_blocks.specs.TextParts.{LineInPart, text_parts, aligns_at, lines_in, lines_in_parts}
 use Rattle.mad_format.specs.Wraps.{text_of, columns_of, IsMeasured}
 use Rattle.mad_rows.specs.declared.row_skin.RowSkin.{RowSkin}
@@ -105,7 +105,7 @@ wrapped_drawable skin drawn first margins kind other place r ps ts (l ∷ ls) bo
 
 -- what the margins of a composite's kind leave of a width
 abbrev pub inner_of : RowSkin → ℕ → FmtComposite → ℕ
-inner_of skin width l = width - (style_margins (line_rules skin) width l).0 - (style_margins (line_rules skin) width l).1
+inner_of skin width l = inner_columns_at (line_rules skin) width l
 
 -- The composite says what was read, and has no place of its own, or one that is no wider than what its margins leave, and as wide as the
 -- composite or as that.
@@ -119,7 +119,7 @@ pub record IsPlacedFor (skin : RowSkin) (width : ℕ) (line : StyledRuns) (l : F
 pub has_room : (skin : RowSkin) (width : ℕ) (line : StyledRuns) (source : FmtComposite) → IsPrintableText skin (inner_width skin width line) (kind_of line.style) line.runs → IsPlacedFor skin width line source
     → width < source.visible_length + (style_margins (line_rules skin) width source).0 + (style_margins (line_rules skin) width source).1 → HasRoom (room_of (line_rules skin) source.kind (inner_of skin width source)) (text_of source)
 has_room skin width line source printable read wide =
-    let left = λ (k : CompositeKind). width - (margins_at (line_style skin k) (Some width)).0 - (margins_at (line_style skin k) (Some width)).1 in
+    let left = λ (k : CompositeKind). width_inside (line_style skin k) width in
     let premise = λ (k : CompositeKind) (text : List FlaggedChar). left k < indent skin.list_items_indentation_mode k + width_of text → HasRoom (room_of (line_rules skin) k (left k)) text in
     let text : runs_text line.runs ≡ text_of source = ap runs_text (sym read.text) ∙ runs_are source.compounds.items in
     let room : premise source.kind (text_of source) = subst (λ k. premise k (text_of source)) (sym read.kind) (subst (premise (kind_of line.style)) text printable.room) in

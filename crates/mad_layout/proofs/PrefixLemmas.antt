@@ -16,7 +16,8 @@ use Rattle.mad_fit.specs.TextColumns.{columns}
 use Rattle.mad_fit.proofs.AllLemmas.{all_push, all_joined}
 use Rattle.mad_draw.specs.Pieces.{RowPiece, IsShownPiece, AreShownPieces, char_piece, pieces_columns, single_spaces}
 use Rattle.mad_draw.proofs.PieceLemmas.{columns-both, spaces_columns, shown_spaces}
-use Rattle.mad_format.specs.Indents.{follow_up, indent, later_indent, ordered_indent}
+use Rattle.mad_style.specs.OrderedItems.{ordered_indent}
+use Rattle.mad_format.specs.Indents.{follow_up, indent, later_indent}
 use Rattle.mad_layout.specs.Premises.{IsPrintablePrefix}
 use Rattle.mad_rows.specs.Rows.{number_piece, prefix_space, prefix_pieces}
 use Rattle.mad_rows.specs.RowStyles.{ordered_item_style}

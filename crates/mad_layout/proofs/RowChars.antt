@@ -26,7 +26,8 @@ use Rattle.mad_fit.specs.declared.spacing.Spacing.{Spacing}
 use Rattle.mad_draw.specs.Pieces.{RowPiece, IsColumnPiece, char_piece, char_repeat, PennedChar, penned_chars, spaces, single_spaces}
 use Rattle.mad_draw.proofs.PieceLemmas.{ascii_spaces}
 use Rattle.mad_layout.specs.FlaggedLines.{widest_in, skin_char, front_of, placed_columns, row_across}
-use Rattle.mad_format.specs.Indents.{ordered_indent, later_indent}
+use Rattle.mad_style.specs.OrderedItems.{ordered_indent}
+use Rattle.mad_format.specs.Indents.{later_indent}
 use Rattle.mad_blocks.specs.LayoutParts.{is_code_kind}
 use Rattle.mad_layout.specs.Premises.{IsPrintablePrefix, inner_width}
 use Rattle.mad_rows.specs.Rows.{number_piece, prefix_space, prefix_pieces, compound_piece, composite_pieces, row_pieces, left_of_place, right_of_place, align_in, place_of, inner_blanks, outer_blanks}

@@ -4,7 +4,7 @@ use Rattle.std.specs.Prelude.{min}
 use Rattle.mad_md.specs.Lines.{StyledRuns, LineContent, normal, table_row, table_rule, horizontal_rule}
 use Rattle.mad_md.specs.declared.alignment.Alignment.{Alignment}
 use Rattle.mad_style.specs.Kinds.{kind_of}
-use Rattle.mad_style.specs.LineStyles.{margins_at}
+use Rattle.mad_style.specs.LineStyles.{width_inside}
 use Rattle.mad_style.specs.declared.kinds.CompositeKind.{CompositeKind}
 use Rattle.mad_fit.specs.TextColumns.{width_of}
 use Rattle.mad_fit.specs.declared.area.Area.{Area}
@@ -34,11 +34,11 @@ use Rattle.mad_layout.proofs.TablesAcross.{table_across_area}
 
 -- the columns that the margins of code leave
 abbrev code_left : RowSkin → ℕ → ℕ
-code_left skin width = let margins = margins_at skin.code_block (Some width) in width - margins.0 - margins.1
+code_left skin width = width_inside skin.code_block width
 
 inner_code : (skin : RowSkin) (width : ℕ) (said : StyledRuns) → is_code_kind (kind_of said.style) ≡ true → inner_width skin width said ≡ code_left skin width
 inner_code skin width said on =
-    ap (λ (k : CompositeKind). width - (margins_at (line_style skin k) (Some width)).0 - (margins_at (line_style skin k) (Some width)).1) (code_is (kind_of said.style) on)
+    ap (λ (k : CompositeKind). width_inside (line_style skin k) width) (code_is (kind_of said.style) on)
 
 widest_same : (skin : RowSkin) (room : ℕ) (cs : List LineContent) (ls : List FmtComposite) → room < 2 ^ 64 - 1 → AreCodeRead skin cs ls → min (widest ls) room ≡ min (widest_in cs) room
 widest_same skin room [] [] bound h = refl

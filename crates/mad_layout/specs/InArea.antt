@@ -1,11 +1,10 @@
 -- What a text shows that was written in an area, by way of a layout.
-use Rattle.std.specs.Prelude.{◌≡◌, ◌⊎◌, ℕ, false, ◌-◌, List, Some, Result, IsErrOf, take}
+use Rattle.std.specs.Prelude.{ℕ, false, ◌-◌, List, Some, Result, take}
 use Rattle.mad_md.specs.Lines.{LineContent}
 use Rattle.mad_md.specs.Reading.{IsRead, unread_text}
-use Rattle.mad_term.specs.Draws.{Draws}
+use Rattle.mad_term.specs.Draws.{DrawsSome}
 use Rattle.mad_term.specs.Trace.{Trace, TookWith}
 use Rattle.mad_term.specs.declared.errors.Error.{Error}
-use Rattle.mad_term.specs.declared.errors.Error.TheVariants.{Memory}
 use Rattle.mad_fit.specs.declared.area.Area.{Area}
 use Rattle.mad_blocks.specs.Fronts.{IsFrontLayout}
 use Rattle.mad_layout.specs.Premises.{KeepsPremises}
@@ -24,8 +23,7 @@ pub record IsAreaFront (skin : RowSkin) (markdown : List ℕ) (area : Area) (lin
 
 -- What the call does to its device: it draws such lines, from the first on; or memory for them was refused, and nothing went out.
 abbrev pub WritesInArea : {T : Type 0} → RowSkin → List ℕ → Area → Trace → Result T Error → Trace → Type 0
-WritesInArea skin markdown area old r new =
-    ((lines : List FmtLine) × IsAreaFront skin markdown area lines × Draws old (area_bytes skin lines area 0) r new) ⊎ (IsErrOf r Memory × (new ≡ old))
+WritesInArea skin markdown area old r new = DrawsSome (IsAreaFront skin markdown area) (λ lines. area_bytes skin lines area 0) old r new
 
 -- What a plain terminal shows that reads what was written, where as many lines of the text as the area has rows keep the premises: the
 -- first rows of the layout in the area, every other cell as before, and the plain pen again.

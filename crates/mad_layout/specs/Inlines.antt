@@ -1,11 +1,10 @@
 -- Inline texts and composites that are by themselves.
-use Rattle.std.specs.Prelude.{◌≡◌, ◌⊎◌, ℕ, List, None, false, Result, IsErrOf, map}
+use Rattle.std.specs.Prelude.{◌≡◌, ℕ, List, None, false, Result, map}
 use Rattle.mad_md.specs.Flagged.{run_at}
 use Rattle.mad_md.specs.Inline.{Item, IsInlineReading, runs}
-use Rattle.mad_term.specs.Draws.{Draws}
+use Rattle.mad_term.specs.Draws.{DrawsSome}
 use Rattle.mad_term.specs.Trace.{Trace}
 use Rattle.mad_term.specs.declared.errors.Error.{Error}
-use Rattle.mad_term.specs.declared.errors.Error.TheVariants.{Memory}
 use Rattle.mad_draw.specs.Pieces.{pieces_bytes}
 use Rattle.mad_rows.specs.Rows.{composite_pieces, free_pieces, margins_of}
 use Rattle.mad_md.specs.ReadInline.{IsReadInline}
@@ -26,8 +25,7 @@ inline_bytes skin src items = pieces_bytes (free_pieces skin Paragraph (map (run
 -- What a call does that writes a line of text: it draws the bytes of the line's reading, of which there is exactly one; or memory
 -- for it was refused, and nothing went out.
 abbrev pub WritesInline : {T : Type 0} → RowSkin → List ℕ → Trace → Result T Error → Trace → Type 0
-WritesInline skin src old r new =
-    ((items : List Item) × IsInlineReading src items × Draws old (inline_bytes skin src items) r new) ⊎ (IsErrOf r Memory × (new ≡ old))
+WritesInline skin src old r new = DrawsSome (IsInlineReading src) (inline_bytes skin src) old r new
 
 -- the line is displayed by the bytes that are written of it
 abbrev pub IsDisplayedAsWritten : RowSkin → List ℕ → FmtComposite → Type 0

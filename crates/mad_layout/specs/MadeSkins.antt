@@ -4,12 +4,11 @@ use Rattle.mad_md.specs.declared.alignment.Alignment.TheVariants.{Unspecified}
 use Rattle.mad_term.specs.declared.color.Color.TheVariants.{AnsiValue}
 use Rattle.mad_style.specs.declared.compound_styles.CompoundStyle.{CompoundStyle}
 use Rattle.mad_style.specs.declared.line_styles.LineStyle.{LineStyle}
-use Rattle.mad_style.specs.declared.styled_chars.StyledChar.{StyledChar}
 use Rattle.mad_term.specs.AttributeSets.{no_attributes}
 use Rattle.mad_style.specs.Borders.{ascii_borders}
-use Rattle.mad_style.specs.CompoundStyles.{text_style, foreground_set}
-use Rattle.mad_style.specs.LineStyles.{unmargined}
-use Rattle.mad_style.specs.StyledChars.{styled_char, char_style}
+use Rattle.mad_style.specs.CompoundStyles.{text_style}
+use Rattle.mad_style.specs.LineStyles.{line_in, unmargined}
+use Rattle.mad_style.specs.StyledChars.{shown_as}
 use Rattle.mad_layout.specs.SkinParts.{header_line, first_header_line}
 use Rattle.mad_layout.specs.Skins.{default_skin}
 use Rattle.mad_layout.specs.declared.skin.MadSkin.{MadSkin}
@@ -20,7 +19,7 @@ gray_on_gray text under = text_style (Some (AnsiValue (232 + text))) (Some (Ansi
 
 -- a line in gray
 abbrev pub in_gray : LineStyle → ℕ → LineStyle
-in_gray line level = record line { compound_style = foreground_set line.compound_style (AnsiValue (232 + level)) }
+in_gray line level = line_in (AnsiValue (232 + level)) line
 
 -- the default skin for a dark background: code in gray 20 on gray 5, the first three headers in the grays 22, 21 and 20
 abbrev pub dark_skin : MadSkin
@@ -40,10 +39,6 @@ light_skin =
       code_block = unmargined (gray_on_gray 3 20) Unspecified;
       headers = in_gray first_header_line 0 ∷ in_gray header_line 2 ∷ in_gray header_line 4 ∷ replicate 5 header_line;
     }
-
--- another character in the same style
-abbrev pub shown_as : StyledChar → ℕ → StyledChar
-shown_as mark c = styled_char (char_style mark) c
 
 -- a skin with `*` for a bullet, `>` for the mark of a quote, `-` for a rule, and ASCII borders
 abbrev pub limited_to_ascii : MadSkin → MadSkin

@@ -1,28 +1,11 @@
 -- Skins whose parts take another color.
 use Rattle.std.specs.Prelude.{map}
 use Rattle.mad_term.specs.declared.color.Color.{Color}
-use Rattle.mad_style.specs.declared.line_styles.LineStyle.{LineStyle}
-use Rattle.mad_style.specs.declared.scroll_bars.ScrollBarStyle.{ScrollBarStyle}
-use Rattle.mad_style.specs.declared.styled_chars.StyledChar.{StyledChar}
+use Rattle.mad_style.specs.Bars.{bar_on}
 use Rattle.mad_style.specs.CompoundStyles.{foreground_set, background_set}
-use Rattle.mad_style.specs.StyledChars.{styled_char, char_style, char_alone}
+use Rattle.mad_style.specs.LineStyles.{line_in, line_on}
+use Rattle.mad_style.specs.StyledChars.{char_in, char_on}
 use Rattle.mad_layout.specs.declared.skin.MadSkin.{MadSkin}
-
--- a line, and a character, with another foreground or background
-abbrev pub line_in : Color → LineStyle → LineStyle
-line_in color line = record line { compound_style = foreground_set line.compound_style color }
-
-abbrev pub line_on : Color → LineStyle → LineStyle
-line_on color line = record line { compound_style = background_set line.compound_style color }
-
-abbrev pub char_in : Color → StyledChar → StyledChar
-char_in color mark = styled_char (foreground_set (char_style mark) color) (char_alone mark)
-
-abbrev pub char_on : Color → StyledChar → StyledChar
-char_on color mark = styled_char (background_set (char_style mark) color) (char_alone mark)
-
-abbrev pub bar_on : Color → ScrollBarStyle → ScrollBarStyle
-bar_on color bar = record { track = char_on color bar.track; thumb = char_on color bar.thumb }
 
 -- a skin whose headers have another foreground, and another background
 abbrev pub headers_in : Color → MadSkin → MadSkin

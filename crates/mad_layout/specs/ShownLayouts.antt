@@ -8,11 +8,17 @@ use Rattle.mad_layout.specs.FlaggedTexts.{AreAcross}
 use Rattle.mad_layout.specs.Headline.{AreShownAcross}
 use Rattle.mad_blocks.specs.Layouts.{IsLayoutAt}
 use Rattle.mad_layout.specs.Premises.{KeepsPremises}
-use Rattle.mad_layout.specs.Shown.{AreShownIn}
+use Rattle.mad_layout.specs.Drawable.{AreDrawable}
+use Rattle.mad_layout.specs.Shown.{AreShownIn, lines_shown}
 use Rattle.mad_blocks.specs.TextParts.{lines_in_parts}
 use Rattle.mad_rows.specs.declared.row_skin.RowSkin.{RowSkin}
 use Rattle.mad_format.specs.declared.line.FmtLine.{FmtLine}
 use Rattle.mad_rows.specs.RowStyles.{line_rules}
+
+-- What a plain terminal shows that reads what was written, where each line that has a row fits the area, as a layout left it: the lines in
+-- the area from `scroll` on, every other cell as before, and the plain pen again.
+abbrev pub ShowsDrawable : RowSkin → List FmtLine → Area → ℕ → Trace → Trace → Type 0
+ShowsDrawable skin lines area scroll old new = AreDrawable skin area.width (lines_shown lines area scroll) → TookWith old new (AreShownIn skin lines area scroll)
 
 -- What a plain terminal shows that reads what was written, where the lines are a layout of a text, at a width that isn't more than the
 -- area's, and as many lines of the text as the area reaches keep the premises (a line has one row at least): the lines in the area from

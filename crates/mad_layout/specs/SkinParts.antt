@@ -5,16 +5,11 @@ use Rattle.mad_term.specs.declared.attribute.Attribute.TheVariants as attribute
 use Rattle.mad_term.specs.declared.color.Color.TheVariants.{AnsiValue}
 use Rattle.mad_style.specs.declared.compound_styles.CompoundStyle.{CompoundStyle}
 use Rattle.mad_style.specs.declared.line_styles.LineStyle.{LineStyle}
-use Rattle.mad_style.specs.declared.scroll_bars.ScrollBarStyle.{ScrollBarStyle}
 use Rattle.mad_style.specs.declared.styled_chars.StyledChar.{StyledChar}
 use Rattle.mad_term.specs.AttributeSets.{no_attributes, only}
 use Rattle.mad_style.specs.CompoundStyles.{text_style, unstyled, attribute_added}
-use Rattle.mad_style.specs.LineStyles.{unmargined}
-use Rattle.mad_style.specs.StyledChars.{styled_char, colored_char}
-
--- a line without style
-abbrev pub unstyled_line : LineStyle
-unstyled_line = unmargined unstyled Unspecified
+use Rattle.mad_style.specs.LineStyles.{unmargined, unstyled_line}
+use Rattle.mad_style.specs.StyledChars.{styled_char}
 
 -- light gray (17 of 23) on dark gray (3): gray n is the palette's 232 + n
 abbrev pub code_style : CompoundStyle
@@ -35,10 +30,6 @@ default_header_lines = first_header_line ∷ replicate 7 header_line
 -- tables are gray: gray n is the palette's 232 + n
 abbrev pub default_table : LineStyle
 default_table = unmargined (text_style (Some (AnsiValue 239)) None no_attributes) Unspecified
-
--- a light gray thumb (21) on a dark gray track (5), both half blocks
-abbrev pub default_scrollbar : ScrollBarStyle
-default_scrollbar = record { track = colored_char (AnsiValue 237) 0x2590; thumb = colored_char (AnsiValue 253) 0x2590 }
 
 -- the mark of quotes: a bold half block in gray 12
 abbrev pub default_quote : StyledChar

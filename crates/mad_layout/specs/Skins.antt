@@ -7,9 +7,11 @@ use Rattle.mad_style.specs.declared.kinds.ListItemsIndentationMode.TheVariants.{
 use Rattle.mad_term.specs.AttributeSets.{only}
 use Rattle.mad_style.specs.Borders.{standard_borders}
 use Rattle.mad_style.specs.CompoundStyles.{text_style, unstyled}
-use Rattle.mad_style.specs.LineStyles.{unmargined}
+use Rattle.mad_style.specs.Bars.{default_scrollbar}
+use Rattle.mad_style.specs.LineStyles.{unmargined, unstyled_line}
+use Rattle.mad_style.specs.OrderedItems.{default_item, unstyled_item}
 use Rattle.mad_style.specs.StyledChars.{styled_char, colored_char}
-use Rattle.mad_layout.specs.SkinParts.{unstyled_line, code_style, default_header_lines, default_quote, default_table, default_scrollbar}
+use Rattle.mad_layout.specs.SkinParts.{code_style, default_header_lines, default_quote, default_table}
 use Rattle.mad_layout.specs.declared.skin.MadSkin.{MadSkin}
 
 -- The default skin: bold, italic and struck out text as such, code light on dark, headers underlined and the first one bold
@@ -27,7 +29,7 @@ default_skin =
       scrollbar = default_scrollbar;
       table = default_table;
       bullet = colored_char (AnsiValue 240) 0x2022;
-      ordered_item_styles = replicate 4 (record { index_style = unstyled; index_suffix = colored_char (AnsiValue 244) 46 });
+      ordered_item_styles = replicate 4 default_item;
       quote_mark = default_quote;
       horizontal_rule = colored_char (AnsiValue 238) 0x2015;
       ellipsis = unstyled;
@@ -49,7 +51,7 @@ no_style_skin =
       scrollbar = default_scrollbar;
       table = unstyled_line;
       bullet = styled_char unstyled 0x2022;
-      ordered_item_styles = replicate 4 (record { index_style = unstyled; index_suffix = styled_char unstyled 46 });
+      ordered_item_styles = replicate 4 unstyled_item;
       quote_mark = styled_char unstyled 0x2590;
       horizontal_rule = styled_char unstyled 0x2015;
       ellipsis = unstyled;

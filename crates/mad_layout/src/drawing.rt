@@ -3,11 +3,9 @@
 ghost use Rattle.std.specs.Prelude.{◌≡◌, OnOk, drop, slice_get};
 ghost use Rattle.std.specs.Option.{option_copied};
 ghost use Rattle.mad_term.specs.Draws.{Draws};
-ghost use Rattle.mad_term.specs.Trace.{TookWith};
 ghost use Rattle.mad_fit.specs.Areas.{IsWithinLimits};
-ghost use Rattle.mad_layout.specs.Drawable.{AreDrawable};
-ghost use Rattle.mad_layout.specs.ShownLayouts.{ShowsLayout, ShowsRowsFrom};
-ghost use Rattle.mad_layout.specs.Shown.{area_bytes, lines_shown, AreShownIn};
+ghost use Rattle.mad_layout.specs.ShownLayouts.{ShowsDrawable, ShowsLayout, ShowsRowsFrom};
+ghost use Rattle.mad_layout.specs.Shown.{area_bytes};
 ghost use Rattle.mad_layout.specs.RowSkins.{row_skin};
 
 use crate::fmt_text::FmtText;
@@ -40,8 +38,7 @@ pub fn draw_text<O: Out>(
     // What a plain terminal shows that reads it. Asked is of each line that has a row, as a layout left it: with its margins it fits the
     // area. No piece of it holds a control character or begins with a widthless one. Each character of a prefix, a rule and a border
     // takes one column.
-    ensures shown { OnOk result (AreDrawable (row_skin text.now.skin.now) area.now.width (lines_shown text.now.lines.items area.now scroll)
-        → TookWith (O.seen out.old) (O.seen out.new) (AreShownIn (row_skin text.now.skin.now) text.now.lines.items area.now scroll)) }
+    ensures shown { OnOk result (ShowsDrawable (row_skin text.now.skin.now) text.now.lines.items area.now scroll (O.seen out.old) (O.seen out.new)) }
 
     // The same where the lines are a layout, at no more than the area's width, of a text that keeps the premises.
     ensures shown_layout { OnOk result (ShowsLayout (row_skin text.now.skin.now) text.now.lines.items area.now scroll (O.seen out.old) (O.seen out.new)) }
@@ -88,8 +85,7 @@ impl Rows for TextRows<'_, '_> {
             line,
             width: self.width,
         };
-        write!(bytes, "{shown}")?;
-        Ok(())
+        write!(bytes, "{shown}")
     }
 }
 

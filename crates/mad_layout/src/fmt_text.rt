@@ -139,6 +139,7 @@ impl MadSkin {
         ensures skin { IfOk result (λ text. text.skin.now ≡ self.now) }
         ensures width { IfOk result (λ text. text.width ≡ Some (area.now.width - 1)) }
         ensures lines { IfOk result (λ text. IsMarkdownLayout (line_rules (row_skin self.now)) (Some (area.now.width - 1)) markdown.now text.lines.items) }
+        ensures fitting { IfOk result (λ laid_out. (text : List LineContent) × IsRead (unread_text false markdown.now) text × IsFittingLayoutAt (line_rules (row_skin self.now)) (Some (area.now.width - 1)) text laid_out.lines.items) }
     {
         let width = (area.width as usize).saturating_sub(1);
         FmtText::from(alloc, self, markdown, Some(width))
@@ -176,6 +177,7 @@ impl MadSkin {
         ensures skin { IfOk result (λ text. text.skin.now ≡ self.now) }
         ensures width { IfOk result (λ text. text.width ≡ width) }
         ensures lines { IfOk result (λ text. IsMarkdownLayout (line_rules (row_skin self.now)) width markdown.now text.lines.items) }
+        ensures fitting { IfOk result (λ laid_out. (text : List LineContent) × IsRead (unread_text false markdown.now) text × IsFittingLayoutAt (line_rules (row_skin self.now)) width text laid_out.lines.items) }
     {
         FmtText::from(alloc, self, markdown, width)
     }
@@ -190,6 +192,7 @@ impl MadSkin {
         ensures skin { IfOk result (λ text. text.skin.now ≡ self.now) }
         ensures width { IfOk result (λ text. text.width ≡ Some width) }
         ensures lines { IfOk result (λ text. IsMarkdownLayout (line_rules (row_skin self.now)) (Some width) markdown.now text.lines.items) }
+        ensures fitting { IfOk result (λ laid_out. (text : List LineContent) × IsRead (unread_text false markdown.now) text × IsFittingLayoutAt (line_rules (row_skin self.now)) (Some width) text laid_out.lines.items) }
     {
         FmtText::from(alloc, self, markdown, Some(width))
     }
@@ -204,6 +207,7 @@ pub fn text<'k, 's>(
     ensures skin { IfOk result (λ text. text.skin.now ≡ skin.now) }
     ensures width { IfOk result (λ text. text.width ≡ None) }
     ensures lines { IfOk result (λ text. IsMarkdownLayout (line_rules (row_skin skin.now)) None markdown.now text.lines.items) }
+    ensures fitting { IfOk result (λ laid_out. (text : List LineContent) × IsRead (unread_text false markdown.now) text × IsFittingLayoutAt (line_rules (row_skin skin.now)) None text laid_out.lines.items) }
 {
     skin.text(alloc, markdown, None)
 }
@@ -218,6 +222,7 @@ pub fn term_text<'k, 's>(
     ensures skin { IfOk result (λ text. text.skin.now ≡ skin.now) }
     ensures width { IfOk result (λ text. text.width ≡ Some width) }
     ensures lines { IfOk result (λ text. IsMarkdownLayout (line_rules (row_skin skin.now)) (Some width) markdown.now text.lines.items) }
+    ensures fitting { IfOk result (λ laid_out. (text : List LineContent) × IsRead (unread_text false markdown.now) text × IsFittingLayoutAt (line_rules (row_skin skin.now)) (Some width) text laid_out.lines.items) }
 {
     skin.term_text(alloc, markdown, width)
 }

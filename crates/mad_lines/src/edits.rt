@@ -14,7 +14,7 @@ use std::mem;
 /// # Errors
 ///
 /// Out of memory is the only error, and leaves the lines unchanged.
-pub fn replace_lines(
+pub(crate) fn replace_lines(
     lines: &mut Vec<Line>,
     from: usize,
     to: usize,

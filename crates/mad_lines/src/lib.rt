@@ -16,12 +16,12 @@ mod positions;
 mod words;
 
 pub use chars::Chars;
-pub use edits::{edit_lines, replace_lines};
+pub use edits::edit_lines;
 pub use line::{Line, char_width, columns, index_at_column};
 pub use position::{Pos, Range};
 pub use positions::{
-    char_and_next, char_at, clear_lines, clone_lines, end_position, front_at, in_order, is_before,
-    line_at, line_count, line_len, position_after, position_before, position_past, rest_at,
-    swap_lines, text_between, valid_pos,
+    char_at, clear_lines, clone_lines, end_position, front_at, in_order, is_before, line_at,
+    line_count, line_len, position_after, position_before, position_past, rest_at, swap_lines,
+    text_between, valid_pos,
 };
 pub use words::{CharClass, is_alphanumeric};

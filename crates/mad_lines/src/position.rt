@@ -22,7 +22,7 @@ impl Pos {
 }
 
 /// A range of positions; both ends are in it.
-#[derive(Clone, Copy, Debug)]
+#[derive(Clone, Copy, Debug, PartialEq, Eq)]
 pub struct Range {
     /// Its first position.
     pub min: Pos,

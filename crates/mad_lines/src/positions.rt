@@ -149,7 +149,7 @@ pub fn char_at(lines: &[Line], position: Pos) -> Option<char>
 }
 
 /// The character at a position, and the next position, if this is not the end. `position` has to be a position of the lines.
-pub fn char_and_next(lines: &[Line], position: Pos) -> Option<(char, Pos)>
+pub(crate) fn char_and_next(lines: &[Line], position: Pos) -> Option<(char, Pos)>
     requires { IsPosition (lines_of lines.now) position }
     ensures char { IfSome result (λ r. slice_get (text_of (lines_of lines.now)) (offset_of (lines_of lines.now) position) ≡ Some r.0) }
     ensures position { IfSome result (λ r. IsPosition (lines_of lines.now) r.1) }

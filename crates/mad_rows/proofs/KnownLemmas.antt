@@ -11,6 +11,7 @@ use Rattle.mad_fit.proofs.AllLemmas.{all_push}
 use Rattle.mad_term.specs.declared.color.Color.{Color}
 use Rattle.mad_term.specs.Color.{IsColorOrNone}
 use Rattle.mad_term.specs.Styles.{IsStyle}
+use Rattle.mad_style.specs.OrderedItems.{unstyled_item}
 use Rattle.mad_style.specs.CompoundStyles.{overwritten, unstyled}
 use Rattle.mad_style.specs.declared.compound_styles.CompoundStyle.{CompoundStyle}
 use Rattle.mad_style.specs.declared.kinds.CompositeKind.{CompositeKind}
@@ -26,7 +27,7 @@ use Rattle.mad_draw.specs.declared.table_rules.RuleChars.{RuleChars}
 use Rattle.mad_draw.proofs.PieceLemmas.{known_both, char_repeat_known, spaces_known, single_known}
 use Rattle.mad_draw.proofs.RuleLemmas.{rule_known}
 use Rattle.mad_rows.specs.Rows.{compound_piece, prefix_pieces, inner_blanks, outer_blanks, composite_pieces, cell_pieces, line_pieces, row_pieces, margins_of, left_of_place, right_of_place, placed_pieces, row_columns, rule_chars, vertical_piece}
-use Rattle.mad_rows.specs.RowStyles.{AreKnownStyles, IsKnownItem, IsKnownLine, compound_style, ellipsis_bytes, line_style, ordered_item_style, overwritten_if, unstyled_item}
+use Rattle.mad_rows.specs.RowStyles.{AreKnownStyles, IsKnownItem, IsKnownLine, compound_style, ellipsis_bytes, line_style, ordered_item_style, overwritten_if}
 use Rattle.mad_rows.specs.declared.row_skin.RowSkin.{RowSkin}
 
 or_known : (a b : Option Color) → IsColorOrNone a → IsColorOrNone b → IsColorOrNone (option_or a b)

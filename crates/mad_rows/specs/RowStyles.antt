@@ -9,8 +9,9 @@ use Rattle.mad_style.specs.declared.kinds.CompositeKind.TheVariants.{Header, Cod
 use Rattle.mad_style.specs.declared.line_styles.LineStyle.{LineStyle}
 use Rattle.mad_style.specs.declared.ordered_items.OrderedItemStyle.{OrderedItemStyle}
 use Rattle.mad_term.specs.Styles.{IsStyle}
-use Rattle.mad_style.specs.CompoundStyles.{overwritten, unstyled}
-use Rattle.mad_style.specs.StyledChars.{char_alone, char_style, styled_char}
+use Rattle.mad_style.specs.CompoundStyles.{overwritten}
+use Rattle.mad_style.specs.OrderedItems.{unstyled_item}
+use Rattle.mad_style.specs.StyledChars.{char_alone, char_style}
 use Rattle.mad_format.specs.LineRules.{LineRules}
 use Rattle.mad_rows.specs.declared.row_skin.RowSkin.{RowSkin}
 
@@ -74,10 +75,6 @@ pub record AreKnownStyles (skin : RowSkin) : Type 0 where
   pub parts : AreKnownParts skin
   pub headers : AllByRecursion IsKnownLine skin.headers
   pub items : AllByRecursion IsKnownItem skin.ordered_item_styles
-
--- an ordered item without style: a number and a dot
-abbrev pub unstyled_item : OrderedItemStyle
-unstyled_item = record { index_style = unstyled; index_suffix = styled_char unstyled 46 }
 
 -- how items of this level look among these; levels past the last take the last
 abbrev pub item_style_at : List OrderedItemStyle → ℕ → OrderedItemStyle

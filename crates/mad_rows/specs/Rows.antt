@@ -22,7 +22,8 @@ use Rattle.mad_format.specs.declared.line.FmtLine.TheVariants.{Normal, TableRow,
 use Rattle.mad_format.specs.declared.table.FmtTableRule.{FmtTableRule}
 use Rattle.mad_format.specs.declared.table.RelativePosition.{RelativePosition}
 use Rattle.mad_format.specs.declared.table.RelativePosition.TheVariants.{Top, Other, Bottom}
-use Rattle.mad_format.specs.Indents.{later_indent, ordered_indent}
+use Rattle.mad_style.specs.OrderedItems.{ordered_indent}
+use Rattle.mad_format.specs.Indents.{later_indent}
 use Rattle.mad_format.specs.FmtLines.{bordered, rule_columns}
 use Rattle.mad_draw.specs.Pieces.{RowPiece, pieces_bytes, char_piece, char_repeat, spaces, single_spaces}
 use Rattle.mad_draw.specs.TableRules.{border_piece, rule_pieces}

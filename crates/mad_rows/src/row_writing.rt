@@ -12,7 +12,11 @@ use mad_md::Compound;
 use mad_style::LineStyle;
 use std::alloc::AllocError;
 
-/// Puts lines after the rows that are there, each with a newline.
+/// Puts lines after the rows that are there, each with a newline, at a width in columns, if there is one.
+///
+/// # Errors
+///
+/// Out of memory. What the rows then end with is open.
 pub fn append_lines(
     rows: &mut String,
     lines: &[FmtLine],
@@ -27,7 +31,11 @@ pub fn append_lines(
     Ok(())
 }
 
-/// Puts a line and a newline after the rows that are there. Blanks that no memory has room for are refused before anything is put.
+/// Puts a line and a newline after the rows that are there, at a width in columns, if there is one.
+///
+/// # Errors
+///
+/// Out of memory: for blanks that no memory has room for before anything is put. Else what the rows then end with is open.
 pub fn append_line(
     rows: &mut String,
     line: &FmtLine,

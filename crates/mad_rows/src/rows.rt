@@ -112,7 +112,8 @@ pub(crate) fn rule_chars(borders: &TableBorderChars, position: RelativePosition)
     }
 }
 
-/// The columns of a row that no text fills: those of the line's blanks and rules; past the last line, the whole width.
+/// The columns of a row that no text fills: those of the line's blanks and rules; past the last line, the whole width. Sums stay at
+/// `usize::MAX`.
 pub fn row_blanks(skin: &RowSkin, line: Option<&FmtLine>, width: usize) -> usize
     ensures { result ≡ capped (row_blanks skin.now width (option_copied line.entry)) }
 {
@@ -123,7 +124,7 @@ pub fn row_blanks(skin: &RowSkin, line: Option<&FmtLine>, width: usize) -> usize
 }
 
 /// The columns of a line that no text fills, at an outer width: those of its blanks and rules. The blanks right of it count only where
-/// they are asked for.
+/// they are asked for. Sums stay at `usize::MAX`.
 pub fn line_blanks(skin: &RowSkin, line: &FmtLine, outer: Option<usize>, filled: bool) -> usize
     ensures { result ≡ capped (line_blanks skin.now outer filled line.now) }
 {
@@ -149,7 +150,7 @@ pub fn line_blanks(skin: &RowSkin, line: &FmtLine, outer: Option<usize>, filled:
     }
 }
 
-/// The blank columns of a composite in a row, in its own place and beside it.
+/// The blank columns of a composite in a row, in its own place and beside it. Sums stay at `usize::MAX`.
 pub fn composite_blanks(skin: &RowSkin, composite: &FmtComposite, place: RowPlace) -> usize
     ensures { result ≡ capped (composite_blanks skin.now place.outer place.margins place.filled composite.now) }
 {

@@ -28,11 +28,9 @@ pub struct LineStyle {
 }
 
 impl Default for LineStyle {
-    ghost use Rattle.mad_style.specs.CompoundStyles.{unstyled};
-    ghost use Rattle.mad_md.specs.declared.alignment.Alignment.TheVariants.{Unspecified};
-    ghost use Rattle.mad_style.specs.LineStyles.{unmargined};
+    ghost use Rattle.mad_style.specs.LineStyles.{unstyled_line};
 
-    ghost is_default = { λ style. style ≡ unmargined unstyled Unspecified };
+    ghost is_default = { λ style. style ≡ unstyled_line };
 
     /// The style in which nothing is set.
     fn default() -> Self {
@@ -52,8 +50,8 @@ impl From<CompoundStyle> for LineStyle {
 }
 
 impl LineStyle {
-    ghost use Rattle.mad_style.specs.CompoundStyles.{foreground_set, background_set, attribute_added};
-    ghost use Rattle.mad_style.specs.LineStyles.{unmargined, margins_at};
+    ghost use Rattle.mad_style.specs.CompoundStyles.{attribute_added};
+    ghost use Rattle.mad_style.specs.LineStyles.{line_in, line_on, unmargined, margins_at};
     ghost use Rattle.mad_style.specs.Repeats.{repeat_bytes};
 
     /// A style without margins.
@@ -85,21 +83,21 @@ impl LineStyle {
 
     /// Sets the foreground.
     pub fn set_fg(&mut self, color: Color)
-        ensures { self.new ≡ record self.old { compound_style = foreground_set self.old.compound_style color } }
+        ensures { self.new ≡ line_in color self.old }
     {
         self.compound_style.set_fg(color);
     }
 
     /// Sets the background.
     pub fn set_bg(&mut self, color: Color)
-        ensures { self.new ≡ record self.old { compound_style = background_set self.old.compound_style color } }
+        ensures { self.new ≡ line_on color self.old }
     {
         self.compound_style.set_bg(color);
     }
 
     /// Sets the foreground and the background.
     pub fn set_fgbg(&mut self, fg: Color, bg: Color)
-        ensures { self.new ≡ record self.old { compound_style = background_set (foreground_set self.old.compound_style fg) bg } }
+        ensures { self.new ≡ line_on bg (line_in fg self.old) }
     {
         self.compound_style.set_fgbg(fg, bg);
     }

@@ -1,7 +1,7 @@
 //! How the numbers of an ordered list look, and how far its items are indented.
 
-ghost use Rattle.std.specs.Prelude.{◌≡◌, ◌+◌, length, decimal};
-ghost use Rattle.mad_term.specs.declared.color.Color.TheVariants.{AnsiValue};
+ghost use Rattle.std.specs.Prelude.{◌≡◌, length, decimal};
+ghost use Rattle.mad_style.specs.OrderedItems.{ordered_indent};
 
 use crate::colors::gray;
 use crate::compound_styles::CompoundStyle;
@@ -20,10 +20,9 @@ pub struct OrderedItemStyle {
 }
 
 impl Default for OrderedItemStyle {
-    ghost use Rattle.mad_style.specs.CompoundStyles.{unstyled};
-    ghost use Rattle.mad_style.specs.StyledChars.{colored_char};
+    ghost use Rattle.mad_style.specs.OrderedItems.{default_item};
 
-    ghost is_default = { λ style. style ≡ record { index_style = unstyled; index_suffix = colored_char (AnsiValue 244) 46 } };
+    ghost is_default = { λ style. style ≡ default_item };
 
     /// A number without style, and a gray dot.
     fn default() -> Self {
@@ -35,12 +34,11 @@ impl Default for OrderedItemStyle {
 }
 
 impl OrderedItemStyle {
-    ghost use Rattle.mad_style.specs.CompoundStyles.{unstyled};
-    ghost use Rattle.mad_style.specs.StyledChars.{styled_char};
+    ghost use Rattle.mad_style.specs.OrderedItems.{unstyled_item};
 
     /// A number and a dot without style.
     pub fn no_style() -> Self
-        ensures { result ≡ record { index_style = unstyled; index_suffix = styled_char unstyled 46 } }
+        ensures { result ≡ unstyled_item }
     {
         Self {
             index_style: CompoundStyle::default(),
@@ -52,7 +50,7 @@ impl OrderedItemStyle {
 /// The columns in front of the text of an item of an ordered list: one for each level and each digit of
 /// its number. The character and the space after the number take one each.
 pub fn ordered_item_indent(level: u8, index: u32) -> usize
-    ensures { result ≡ length (decimal index) + 2 + level }
+    ensures { result ≡ ordered_indent level index }
 {
     digit_count(index) as usize + 2 + usize::from(level)
 }

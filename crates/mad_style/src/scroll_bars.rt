@@ -1,7 +1,6 @@
 //! How a scroll bar looks.
 
-ghost use Rattle.std.specs.Prelude.{◌≡◌, unwrap_or};
-ghost use Rattle.mad_term.specs.declared.color.Color.TheVariants.{AnsiValue};
+ghost use Rattle.std.specs.Prelude.{◌≡◌};
 
 use crate::colors::gray;
 use crate::styled_chars::StyledChar;
@@ -20,9 +19,9 @@ pub struct ScrollBarStyle {
 }
 
 impl Default for ScrollBarStyle {
-    ghost use Rattle.mad_style.specs.StyledChars.{colored_char};
+    ghost use Rattle.mad_style.specs.Bars.{default_scrollbar};
 
-    ghost is_default = { λ bar. bar ≡ record { track = colored_char (AnsiValue 237) 0x2590; thumb = colored_char (AnsiValue 253) 0x2590 } };
+    ghost is_default = { λ bar. bar ≡ default_scrollbar };
 
     /// A light gray thumb on a dark gray track.
     fn default() -> Self {
@@ -31,12 +30,9 @@ impl Default for ScrollBarStyle {
 }
 
 impl From<StyledChar> for ScrollBarStyle {
-    ghost use Rattle.mad_style.specs.StyledChars.{char_style, char_alone, colored_char};
+    ghost use Rattle.mad_style.specs.Bars.{bar_of_char};
 
-    ghost from_gives = { λ c bar. bar ≡ record {
-      track = colored_char (unwrap_or (char_style c).object_style.background_color (AnsiValue 237)) (char_alone c);
-      thumb = colored_char (unwrap_or (char_style c).object_style.foreground_color (AnsiValue 253)) (char_alone c);
-    } };
+    ghost from_gives = { λ c bar. bar ≡ bar_of_char c };
 
     /// A bar of this character. Its thumb has the character's foreground, and its track has the character's
     /// background as its foreground. Where one is absent it has the gray of the default bar.
@@ -52,12 +48,11 @@ impl From<StyledChar> for ScrollBarStyle {
 }
 
 impl ScrollBarStyle {
-    ghost use Rattle.mad_style.specs.CompoundStyles.{background_set};
-    ghost use Rattle.mad_style.specs.StyledChars.{char_style, char_alone, styled_char, colored_char};
+    ghost use Rattle.mad_style.specs.Bars.{bar_on, default_scrollbar};
 
     /// A light gray thumb on a dark gray track, both of the character `▐`.
     pub fn new() -> Self
-        ensures { result ≡ record { track = colored_char (AnsiValue 237) 0x2590; thumb = colored_char (AnsiValue 253) 0x2590 } }
+        ensures { result ≡ default_scrollbar }
     {
         Self {
             track: StyledChar::from_fg_char(gray(5), RIGHT_HALF),
@@ -67,10 +62,7 @@ impl ScrollBarStyle {
 
     /// Sets the background of the track and of the thumb.
     pub fn set_bg(&mut self, bg: Color)
-        ensures { self.new ≡ record {
-          track = styled_char (background_set (char_style self.old.track) bg) (char_alone self.old.track);
-          thumb = styled_char (background_set (char_style self.old.thumb) bg) (char_alone self.old.thumb);
-        } }
+        ensures { self.new ≡ bar_on bg self.old }
     {
         self.track.set_bg(bg);
         self.thumb.set_bg(bg);

@@ -20,9 +20,9 @@ pub struct StyledChar {
 }
 
 impl StyledChar {
-    ghost use Rattle.mad_style.specs.CompoundStyles.{unstyled, foreground_set, background_set};
+    ghost use Rattle.mad_style.specs.CompoundStyles.{unstyled};
     ghost use Rattle.mad_style.specs.Repeats.{repeat_style, styled_char_bytes, char_repeat_bytes};
-    ghost use Rattle.mad_style.specs.StyledChars.{char_style, char_alone, styled_char, colored_char};
+    ghost use Rattle.mad_style.specs.StyledChars.{char_in, char_on, char_style, char_alone, shown_as, styled_char, colored_char};
 
     /// A character in a style.
     pub fn new(compound_style: CompoundStyle, nude_char: char) -> StyledChar
@@ -64,7 +64,7 @@ impl StyledChar {
 
     /// Puts another character in the place of this one; its style stays.
     pub fn set_char(&mut self, nude_char: char)
-        ensures { self.new ≡ styled_char (char_style self.old) nude_char }
+        ensures { self.new ≡ shown_as self.old nude_char }
     {
         self.nude_char = nude_char;
     }
@@ -78,7 +78,7 @@ impl StyledChar {
 
     /// Sets the foreground.
     pub fn set_fg(&mut self, color: Color)
-        ensures { self.new ≡ styled_char (foreground_set (char_style self.old) color) (char_alone self.old) }
+        ensures { self.new ≡ char_in color self.old }
     {
         self.compound_style.set_fg(color);
     }
@@ -92,7 +92,7 @@ impl StyledChar {
 
     /// Sets the background.
     pub fn set_bg(&mut self, color: Color)
-        ensures { self.new ≡ styled_char (background_set (char_style self.old) color) (char_alone self.old) }
+        ensures { self.new ≡ char_on color self.old }
     {
         self.compound_style.set_bg(color);
     }

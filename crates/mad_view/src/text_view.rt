@@ -2,12 +2,10 @@
 
 ghost use Rattle.std.specs.Prelude.{◌≡◌, OnOk, vec_len};
 ghost use Rattle.mad_term.specs.Draws.{Draws, DrawsAndFlushes};
-ghost use Rattle.mad_term.specs.Trace.{TookWith};
 ghost use Rattle.mad_fit.specs.Areas.{IsWithinLimits};
-ghost use Rattle.mad_layout.specs.Drawable.{AreDrawable};
 ghost use Rattle.mad_layout.specs.RowSkins.{row_skin};
-ghost use Rattle.mad_layout.specs.Shown.{area_bytes, lines_shown, AreShownIn};
-ghost use Rattle.mad_layout.specs.ShownLayouts.{ShowsLayout, ShowsRowsFrom};
+ghost use Rattle.mad_layout.specs.Shown.{area_bytes};
+ghost use Rattle.mad_layout.specs.ShownLayouts.{ShowsDrawable, ShowsLayout, ShowsRowsFrom};
 ghost use Rattle.mad_view.specs.Scrolls.{scroll_within};
 
 use mad_fit::Area;
@@ -71,9 +69,7 @@ impl<'a, 't> TextView<'a, 't> {
         // What a plain terminal shows that reads it, where each line that has a row keeps these. As a layout left it, it fits the
         // area with its margins. No piece of it holds a control character or begins with a widthless one. Each character of a
         // prefix, a rule and a border takes one column.
-        ensures shown { let text = self.now.text.now in OnOk result (AreDrawable (row_skin text.skin.now) self.now.area.now.width (lines_shown text.lines.items self.now.area.now self.now.scroll)
-            → TookWith (O.seen out.old) (O.seen out.new)
-            (AreShownIn (row_skin text.skin.now) text.lines.items self.now.area.now self.now.scroll)) }
+        ensures shown { let text = self.now.text.now in OnOk result (ShowsDrawable (row_skin text.skin.now) text.lines.items self.now.area.now self.now.scroll (O.seen out.old) (O.seen out.new)) }
 
         // The same where the lines are a layout of a text that keeps the premises, at most as wide as the area.
         ensures shown_layout { let text = self.now.text.now in OnOk result (ShowsLayout (row_skin text.skin.now) text.lines.items self.now.area.now self.now.scroll (O.seen out.old) (O.seen out.new)) }
@@ -95,9 +91,7 @@ impl<'a, 't> TextView<'a, 't> {
     pub fn write<O: Out>(&self, alloc: Global, out: &mut O) -> Result<(), Error>
         requires { IsWithinLimits self.now.area.now }
         ensures writes { let text = self.now.text.now in DrawsAndFlushes (O.seen out.old) (area_bytes (row_skin text.skin.now) text.lines.items self.now.area.now self.now.scroll) result (O.seen out.new) }
-        ensures shown { let text = self.now.text.now in OnOk result (AreDrawable (row_skin text.skin.now) self.now.area.now.width (lines_shown text.lines.items self.now.area.now self.now.scroll)
-            → TookWith (O.seen out.old) (O.seen out.new)
-            (AreShownIn (row_skin text.skin.now) text.lines.items self.now.area.now self.now.scroll)) }
+        ensures shown { let text = self.now.text.now in OnOk result (ShowsDrawable (row_skin text.skin.now) text.lines.items self.now.area.now self.now.scroll (O.seen out.old) (O.seen out.new)) }
         ensures shown_layout { let text = self.now.text.now in OnOk result (ShowsLayout (row_skin text.skin.now) text.lines.items self.now.area.now self.now.scroll (O.seen out.old) (O.seen out.new)) }
         ensures headline { let text = self.now.text.now in OnOk result (ShowsRowsFrom (row_skin text.skin.now) text.lines.items self.now.area.now self.now.scroll (O.seen out.old) (O.seen out.new)) }
     {

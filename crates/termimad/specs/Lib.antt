@@ -35,10 +35,12 @@ pub use Rattle.mad_screen.specs.Terminal
 pub use Rattle.mad_screen.specs.TerminalLaws
 pub use Rattle.mad_term.specs.Trace
 pub use Rattle.mad_term.specs.AttributeSets
+pub use Rattle.mad_style.specs.Bars
 pub use Rattle.mad_style.specs.Borders
 pub use Rattle.mad_style.specs.CompoundStyles
 pub use Rattle.mad_style.specs.Kinds
 pub use Rattle.mad_style.specs.LineStyles
+pub use Rattle.mad_style.specs.OrderedItems
 pub use Rattle.mad_style.specs.Repeats
 pub use Rattle.mad_style.specs.StyledChars
 pub use Rattle.mad_parse.specs.Colors

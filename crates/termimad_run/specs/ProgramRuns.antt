@@ -1,11 +1,10 @@
 -- The headline of the program: what a run does to its devices, and how it ends.
-use Rattle.std.specs.Prelude.{◌≡◌, ◌⊎◌, ℕ, List, [], ◌∷◌, ◌++◌, Some, Result, Ok, Err, IsErrOf, IsUtf8, ⊤}
+use Rattle.std.specs.Prelude.{◌≡◌, ◌⊎◌, ℕ, List, [], ◌∷◌, ◌++◌, Some, Result, Ok, Err, IsUtf8, ⊤}
 use Rattle.termimad.specs.Inline.{Item, IsInlineReading}
-use Rattle.termimad.specs.Draws.{Draws}
+use Rattle.termimad.specs.Draws.{DrawsSome}
 use Rattle.termimad.specs.Trace.{Trace, failed, flushed}
 use Rattle.termimad.specs.Stream.{untold}
 use Rattle.termimad.specs.declared.Error.{Error}
-use Rattle.termimad.specs.declared.Error.TheVariants.{Memory as NoMemory}
 use Rattle.termimad.specs.Headline.{ShowsHeadline}
 use Rattle.termimad.specs.InArea.{WritesInArea, ShowsText}
 use Rattle.termimad.specs.Inlines.{inline_bytes}
@@ -47,8 +46,7 @@ pub record Started (words : List (List ℕ)) (old new : Trace) : Type 0 where
 -- What `inline` writes of a line: the bytes of its reading, of which there is exactly one, and a newline. Or memory for it was
 -- refused, and nothing went out.
 abbrev pub WritesLine : {T : Type 0} → MadSkin → List ℕ → Trace → Result T Error → Trace → Type 0
-WritesLine skin line old r new =
-    ((items : List Item) × IsInlineReading line items × Draws old (inline_bytes (row_skin skin) line items ++ (10 ∷ [])) r new) ⊎ (IsErrOf r NoMemory × (new ≡ old))
+WritesLine skin line old r new = DrawsSome (IsInlineReading line) (λ items. inline_bytes (row_skin skin) line items ++ (10 ∷ [])) old r new
 
 -- What the output is asked to take of a text. It is the text in its area, or its lines, laid out at a width part by part. Of `inline`
 -- it is the line without its end, and a newline.

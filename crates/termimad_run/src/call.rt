@@ -44,9 +44,7 @@ pub fn parse_call(alloc: Global, words: &[String]) -> Result<Call, Failure>
     ensures { MatchResult result (λ call. IsCall (map string_bytes words.now) call.command call.skin (map string_bytes call.unknown.items))
         (λ failure. RefusesWords (map string_bytes words.now) failure) }
 {
-    let Some((command, word)) = parse_words(words) else {
-        return Err(Failure::Usage);
-    };
+    let (command, word) = parse_words(words).ok_or(Failure::Usage)?;
     let (skin, unknown) = skin_of(alloc, word)?;
     Ok(Call {
         command,
@@ -61,18 +59,18 @@ fn parse_words(words: &[String]) -> Option<(Command, Option<&str>)>
         (λ asked. Asks (map string_bytes words.now) asked.0 (option_map (λ word. word.now) asked.1)) }
 {
     let (name, words) = words.split_first()?;
-    if name.as_str() == "area" {
-        let (area, word) = parse_area_call(words)?;
-        return Some((Command::InArea(area), word));
+    match name.as_str() {
+        "area" => {
+            let (area, word) = parse_area_call(words)?;
+            Some((Command::InArea(area), word))
+        }
+        "text" => {
+            let (width, word) = parse_text_call(words)?;
+            Some((Command::AtWidth(width), word))
+        }
+        "inline" => Some((Command::Inline, skin_word(words)?)),
+        _ => None,
     }
-    if name.as_str() == "text" {
-        let (width, word) = parse_text_call(words)?;
-        return Some((Command::AtWidth(width), word));
-    }
-    if name.as_str() == "inline" {
-        return Some((Command::Inline, skin_word(words)?));
-    }
-    None
 }
 
 // What the words after `area` ask for.
@@ -104,14 +102,16 @@ fn parse_area(left: &str, top: &str, width: &str, height: &str) -> Option<Area>
     ensures { MatchOption result ((area : SomeArea) → ¬ (IsAreaOf left.now top.now width.now height.now area))
         (λ area. IsAreaOf left.now top.now width.now height.now area) }
 {
-    let left = parse_number(left)?;
-    let top = parse_number(top)?;
-    let width = parse_number(width)?;
-    let height = parse_number(height)?;
-    if width < LEAST_AREA_WIDTH || left > u16::MAX - width || top > u16::MAX - height {
+    let area = Area {
+        left: parse_number(left)?,
+        top: parse_number(top)?,
+        width: parse_number(width)?,
+        height: parse_number(height)?,
+    };
+    if area.width < LEAST_AREA_WIDTH || !area.is_within_limits() {
         return None;
     }
-    Some(Area::new(left, top, width, height))
+    Some(area)
 }
 
 // The word given for SKIN, if there is at most one.

@@ -16,7 +16,7 @@ use termimad::{Out, Source};
 ///
 /// The arguments are checked first, then the skin, whose unknown keys are said on `err`. Then the input is read whole
 /// and decoded, and then the output is written and flushed. A failure is said on `err`, in one line; a fault of `err`
-/// changes no status.
+/// changes no status. Statuses are 0, and of a failure 1 to 5.
 pub fn run<I: Source, O: Out, E: Out>(
     alloc: Global,
     args: &[String],

@@ -6,9 +6,7 @@ ghost use Rattle.mad_lines.specs.TextLines.{lines, lines_of, line_at};
 ghost use Rattle.mad_edit.specs.Editor.{cursor_line, selected};
 
 use crate::content::InputFieldContent;
-use mad_lines::{
-    Chars, Line, Pos, Range, char_width, end_position, line_at, line_count, position_past,
-};
+use mad_lines::{Chars, Line, Pos, char_width, end_position, line_at, line_count};
 
 impl InputFieldContent {
     /// A line, if there is one with this number, counted from 0.
@@ -65,9 +63,8 @@ impl InputFieldContent {
     pub fn selection_chars(&self) -> Chars<'_>
         ensures { result ≡ selected self.now }
     {
-        let Range { min, max } = self.selection();
-        let end = position_past(&self.lines, max);
-        Chars::new(&self.lines, min, end)
+        let (start, end) = self.selected_span();
+        Chars::new(&self.lines, start, end)
     }
 
     /// Whether the text is this one.

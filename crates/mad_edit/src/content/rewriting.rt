@@ -4,7 +4,7 @@ ghost use Rattle.std.specs.Prelude.{◌≡◌, ◌<◌, ◌-◌, ◌+◌, ◌↔
 ghost use Rattle.std.specs.Bool.{OnTrue, OnFalse};
 ghost use Rattle.std.specs.List.{swap};
 ghost use Rattle.mad_lines.specs.TextLines.{lines, text_of, accepted};
-ghost use Rattle.mad_edit.specs.Editor.{clamp_in, clamp_tail, offset_at, cursor_line, cursor_column};
+ghost use Rattle.mad_edit.specs.Editor.{clamp_in, clamp_tail, offset_at, cursor_line, cursor_index};
 
 use crate::content::{InputFieldContent, clamp_tail};
 use mad_lines::{Pos, clear_lines, line_count, swap_lines, valid_pos};
@@ -65,7 +65,7 @@ impl InputFieldContent {
         ensures done { IsTrue result ↔ ((one ≢ other) × (one < length (lines self.old.text)) × (other < length (lines self.old.text))) }
         ensures text { OnTrue result (self.new.text ≡ text_of (swap (lines self.old.text) one other)) }
         ensures cursor { OnTrue result (self.new.offset
-            ≡ offset_at self.new.text (clamp_in self.new.text (record { y = cursor_line self.old; x = cursor_column self.old }))) }
+            ≡ offset_at self.new.text (clamp_in self.new.text (record { y = cursor_line self.old; x = cursor_index self.old }))) }
         ensures tail { OnTrue result (self.new.tail ≡ clamp_tail self.new.text self.old.tail) }
         ensures none { OnFalse result (self.new ≡ self.old) }
     {
@@ -85,7 +85,7 @@ impl InputFieldContent {
         ensures done { IsTrue result ↔ (0 < cursor_line self.old) }
         ensures text { OnTrue result (self.new.text ≡ text_of (swap (lines self.old.text) (cursor_line self.old - 1) (cursor_line self.old))) }
         ensures cursor { OnTrue result (self.new.offset
-            ≡ offset_at self.new.text (clamp_in self.new.text (record { y = cursor_line self.old - 1; x = cursor_column self.old }))) }
+            ≡ offset_at self.new.text (clamp_in self.new.text (record { y = cursor_line self.old - 1; x = cursor_index self.old }))) }
         ensures tail { OnTrue result (self.new.tail ≡ clamp_tail self.new.text self.old.tail) }
         ensures none { OnFalse result (self.new ≡ self.old) }
     {
@@ -104,7 +104,7 @@ impl InputFieldContent {
         ensures done { IsTrue result ↔ (cursor_line self.old + 1 < length (lines self.old.text)) }
         ensures text { OnTrue result (self.new.text ≡ text_of (swap (lines self.old.text) (cursor_line self.old + 1) (cursor_line self.old))) }
         ensures cursor { OnTrue result (self.new.offset
-            ≡ offset_at self.new.text (clamp_in self.new.text (record { y = cursor_line self.old + 1; x = cursor_column self.old }))) }
+            ≡ offset_at self.new.text (clamp_in self.new.text (record { y = cursor_line self.old + 1; x = cursor_index self.old }))) }
         ensures tail { OnTrue result (self.new.tail ≡ clamp_tail self.new.text self.old.tail) }
         ensures none { OnFalse result (self.new ≡ self.old) }
     {

@@ -1,6 +1,6 @@
 use Rattle.std.proofs.Common.{ℕ, List, rules, arith, ap, sym, ◌∙◌}
 use Rattle.std.specs.Prelude.{option_map}
-use Rattle.mad_edit.proofs.EditorLemmas.{lines_seen, line_seen, column_seen}
+use Rattle.mad_edit.proofs.EditorLemmas.{lines_seen, line_seen, index_seen}
 use Rattle.mad_lines.specs.TextLines.{lines_of, text_of, offset_of, clamp}
 use Rattle.mad_edit.proofs.SwapLemmas.{swapped_lines, swapped_texts}
 use Rattle.mad_edit.proofs.content.InputFieldContent.swap_lines.Goals as goal
@@ -26,7 +26,7 @@ returns-clause-text c = rw (lines_seen _ _ _ _ c.self.view_is c.self.invariant) 
 pub returns-clause-cursor : goal.returns-clause-cursor
 returns-clause-cursor c =
     let count = rw c.deref.ensures.value at c.line_count-count.ensures in
-    rw ((swapped_lines (lines_of c.self.inside.lines.items) (lines_of c.swap_lines.new.lines.items) c.args.one c.args.other (omega arith) (omega arith) c.self.invariant.texts c.swap_lines.ensures), ← line_seen _ _ _ _ c.self.view_is c.self.invariant, ← column_seen _ _ _ _ c.self.view_is c.self.invariant)
+    rw ((swapped_lines (lines_of c.self.inside.lines.items) (lines_of c.swap_lines.new.lines.items) c.args.one c.args.other (omega arith) (omega arith) c.self.invariant.texts c.swap_lines.ensures), ← line_seen _ _ _ _ c.self.view_is c.self.invariant, ← index_seen _ _ _ _ c.self.view_is c.self.invariant)
     (ap (offset_of (lines_of c.swap_lines.new.lines.items)) (rw c.deref-2.ensures.value at c.valid_pos-self-inside.ensures.is))
 
 pub returns-clause-tail : goal.returns-clause-tail

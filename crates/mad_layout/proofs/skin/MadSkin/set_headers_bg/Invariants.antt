@@ -1,5 +1,5 @@
 use Rattle.std.proofs.Common.{◌≡◌, ◌++◌, map, take, drop}
-use Rattle.mad_layout.specs.RecoloredSkins.{line_on}
+use Rattle.mad_style.specs.LineStyles.{line_on}
 use Rattle.mad_layout.proofs.skin.MadSkin.set_headers_bg.Given as goal
 
 -- the headers before this one have the color, the others are as they were

@@ -1,5 +1,5 @@
 use Rattle.std.proofs.Common.{arith}
-use Rattle.mad_layout.specs.RecoloredSkins.{line_in}
+use Rattle.mad_style.specs.LineStyles.{line_in}
 use Rattle.mad_layout.proofs.HeaderLemmas.{header_changed}
 use Rattle.mad_layout.proofs.skin.MadSkin.set_headers_fg.Goals as goal
 
