@@ -19,7 +19,7 @@ pub data SkinFault : Type 0 where
   at_key : List ℕ → ValueFault → SkinFault
   two_names : List ℕ → SkinFault
 
--- why a text says no part, as the error of its value; out of memory is no fault of the text
+-- the error of a value by that of its text; out of memory is no fault of the text
 abbrev pub value_error_of : ParseStyleTokenError → ValueError
 value_error_of token_error.Memory = value_error.Memory
 value_error_of error = value_error.Style error

@@ -15,11 +15,11 @@ abbrev pub called_mode : List ℕ → List ℕ → Option ListItemsIndentationMo
 called_mode name digits =
     if is_named name (codes "hanging") && nat_lt (length digits) 4 then option_map Hanging (number_below 256 digits) else None
 
--- the mode of a text that ends in a bracket, from what is before that: it is cut at its first bracket
+-- the mode of what is before a last bracket, which is cut at the first one, where it has one
 abbrev pub front_mode : List ℕ → Option ListItemsIndentationMode
 front_mode front = option_and_then (λ parts. called_mode parts.0 parts.1) (cut_at 40 front)
 
--- the mode of a text with its number in brackets
+-- the mode of a text that ends in a bracket
 abbrev pub hanging_mode : List ℕ → Option ListItemsIndentationMode
 hanging_mode text = option_and_then front_mode (without_last 41 text)
 

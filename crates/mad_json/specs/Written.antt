@@ -21,7 +21,7 @@ use Rattle.mad_json.specs.declared.scroll_bars.ScrollBarStyleDef.TheVariants.{Si
 abbrev pub text_data : List StyleToken → Data
 text_data tokens = string (tokens_text tokens)
 
--- a style as its tokens
+-- a style is written as its tokens are
 abbrev pub style_data : CompoundStyle → Data
 style_data style = text_data (style_tokens style)
 
