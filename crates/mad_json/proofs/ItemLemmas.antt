@@ -31,7 +31,8 @@ items_refused {A} f xs i x so_far (value_error.Style (token_error.Unrecognized t
     sym held ∙ items_next f xs i x so_far inside here ∙ ap (λ (r : Result A ValueFault). and_next r (λ z. items_said f (items_view (drop (i + 1) xs)) (so_far ++ z ∷ []))) told
 items_refused {A} f xs i x so_far (value_error.Style (token_error.InvalidColor color)) all inside here held told =
     sym held ∙ items_next f xs i x so_far inside here ∙ ap (λ (r : Result A ValueFault). and_next r (λ z. items_said f (items_view (drop (i + 1) xs)) (so_far ++ z ∷ []))) told
-items_refused {A} f xs i x so_far (value_error.Style token_error.Memory) all inside here held told = tt
+items_refused {A} f xs i x so_far (value_error.Style token_error.Memory) all inside here held told = absurd told
+items_refused {A} f xs i x so_far value_error.Memory all inside here held told = tt
 
 -- all are read
 pub items_all : {A : Type 0} (f : List StyleToken → A) (xs ys : List Value) (i : ℕ) (read : List A) → length xs ≤ i → xs ≡ ys → items_said f (items_view (drop i xs)) read ≡ items_said f (items_view xs) []

@@ -1,6 +1,6 @@
 -- Lists and modes read back from what they are written as.
-use Rattle.std.proofs.Common.{◌≡◌, ℕ, ◌+◌, ◌<◌, ◌≤◌, get_or, subst, zero, suc, false, List, [], ◌∷◌, ◌++◌, length, map, take, drop, refl, sym, ap, ◌∙◌, arith, lt-ltb, append_assoc, append-nil, None, Result, Ok}
-use Rattle.std.specs.Prelude.{codes, decimal, nat_lt, option_map}
+use Rattle.std.proofs.Common.{◌≡◌, ℕ, ◌+◌, ◌<◌, ◌≤◌, get_or, subst, zero, suc, false, List, [], ◌∷◌, ◌++◌, length, map, take, drop, refl, sym, ap, ◌∙◌, arith, lt-ltb, append_assoc, append-nil, Option, None, Result, Ok}
+use Rattle.std.specs.Prelude.{codes, decimal, nat_lt, ok_or, option_map, option_and_then}
 use Rattle.std.specs.List.{All}
 use Rattle.std.proofs.lemmas.Bool.{cond-true}
 use Rattle.std.proofs.lemmas.Fmt.{length-decimal-le}
@@ -9,14 +9,16 @@ use Rattle.std.proofs.lemmas.List.Elements.{All-nil, All-cons, All-append}
 use Rattle.serde_json.specs.Data.{Data, string}
 use Rattle.serde_json.specs.View.{items_of}
 use Rattle.serde_json.specs.Written.{items_have_float}
+use Rattle.mad_style.specs.declared.kinds.ListItemsIndentationMode.{ListItemsIndentationMode}
 use Rattle.mad_style.specs.declared.kinds.ListItemsIndentationMode.TheVariants.{Hanging}
 use Rattle.mad_parse.specs.Numbers.{number_below}
+use Rattle.mad_parse.specs.StyleTokens.{unrecognized}
 use Rattle.mad_parse.proofs.ColorLemmas.{without_put}
 use Rattle.mad_parse.proofs.LawLemmas.{decimal_reads}
 use Rattle.mad_parse.specs.declared.tokens.StyleToken.{StyleToken}
-use Rattle.mad_json.specs.Faults.{ValueFault}
+use Rattle.mad_json.specs.Faults.{ValueFault, bad_text}
 use Rattle.mad_json.specs.Lists.{items_said, replaced}
-use Rattle.mad_json.specs.Modes.{mode_said, known_mode, hanging_front}
+use Rattle.mad_json.specs.Modes.{mode_said, front_mode}
 use Rattle.mad_json.specs.Texts.{value_said, and_next}
 use Rattle.mad_json.specs.Written.{mode_text}
 
@@ -80,8 +82,8 @@ three_digits n small = length-decimal-le 3 n (omega arith) (omega (arith, small)
 
 pub mode_back : (extra : ℕ) → extra < 256 → mode_said (string (mode_text (Hanging extra))) ≡ Ok (Hanging extra)
 mode_back extra small =
-    let text_known = known_mode (mode_text (Hanging extra)) in
-    ap (λ o. text_known (hanging_front o)) (without_put 41 (codes "hanging(" ++ decimal extra))
+    let text_known : Option ListItemsIndentationMode → Result ListItemsIndentationMode ValueFault = λ o. ok_or o (bad_text (unrecognized (mode_text (Hanging extra)))) in
+    ap (λ o. text_known (option_and_then front_mode o)) (without_put 41 (codes "hanging(" ++ decimal extra))
     ∙ ap text_known
     (cond-true (nat_lt (length (decimal extra)) 4) (option_map Hanging (number_below 256 (decimal extra))) None (lt-ltb (length (decimal extra)) 4 (omega (arith, three_digits extra small)))
     ∙ ap (option_map Hanging) (decimal_reads 256 extra small (omega (arith, small))))

@@ -1,6 +1,6 @@
 -- A whole skin reads back from what it is written as.
 use Rattle.std.proofs.Common.{◌≡◌, ℕ, false, List, [], length, map, refl, sym, ap, ◌∙◌, Option, Some, None, Ok}
-use Rattle.std.specs.Prelude.{codes}
+use Rattle.std.specs.Prelude.{codes, unwrap_or}
 use Rattle.std.specs.List.{All}
 use Rattle.std.proofs.lemmas.Bool.{cond-false}
 use Rattle.serde_json.specs.Data.{Data, string, array, Members, no_members, member, put}
@@ -18,10 +18,10 @@ use Rattle.mad_layout.specs.Skins.{default_skin}
 use Rattle.mad_layout.specs.declared.skin.MadSkin.{MadSkin}
 use Rattle.mad_json.specs.Fields.{field_named}
 use Rattle.mad_json.specs.Lists.{replaced, headers_said, ordered_items_said}
-use Rattle.mad_json.specs.Reading.{Found, nothing_found, borders_or, part_said, is_seen, now_seen, members_read, then_found, value_read, names_again, found_part, skin_and_unknown, skin_read}
+use Rattle.mad_json.specs.Reading.{Found, nothing_found, part_said, is_seen, now_seen, members_read, value_read, names_again, found_part, skin_and_unknown, skin_read}
 use Rattle.mad_json.specs.ReadsBack.{ReadsBackStyle, ReadsBackLine, ReadsBackChar, ReadsBackItem, ReadBackAdditions, ReadBackChars, ReadBackLines, ReadBackItems, IsReadBackSkin, SkinReadsBack}
 use Rattle.mad_json.specs.ScrollBars.{def_of}
-use Rattle.mad_json.specs.Texts.{of_text, made, value_said}
+use Rattle.mad_json.specs.Texts.{of_text, made, and_next, value_said}
 use Rattle.mad_json.specs.Written.{style_data, line_data, char_data, item_data, bar_data, mode_text, IsNameOf, skin_data}
 use Rattle.mad_json.specs.declared.fields.Field.{Field}
 use Rattle.mad_json.specs.declared.fields.Field.TheVariants.{Bold, Italic, Strikeout, InlineCode, Ellipsis, Bullet, QuoteMark, HorizontalRule, ScrollBar, Paragraph, CodeBlock, Table, Headers, OrderedItems, TableBorders, IndentationMode}
@@ -62,7 +62,7 @@ bar_flat (Rich track thumb) = refl
 pub part_read : (key : List ℕ) (d : Data) (field : Field) (found : Found) (skin : MadSkin) (ms : Members) → field_named key ≡ Some field → is_seen field found.seen ≡ false → has_float d ≡ false
     → part_said field d found.skin ≡ Ok skin → members_read (member key d ms) found ≡ members_read ms (record { skin = skin; seen = now_seen field found.seen; unknown = found.unknown })
 part_read key d field found skin ms names new flat said =
-    ap (λ r. then_found r (members_read ms))
+    ap (λ r. and_next r (members_read ms))
     (cond-false (names_again (field_named key) found.seen) _ _ (ap (λ o. names_again o found.seen) names ∙ new)
     ∙ cond-false (has_float d) _ _ flat
     ∙ ap (λ o. value_read o key d found) names
@@ -179,7 +179,7 @@ written_skin skin name named a m l i h =
     ∙ part_read (codes "scrollbar") (bar_data (def_of skin.scrollbar)) ScrollBar f12 s13 m13 refl refl (bar_flat (def_of skin.scrollbar)) (ap (made (λ x. record s12 { scrollbar = x })) (m.scrollbar h.scrollbar))
     ∙ part_read (codes "strikeout") (style_data skin.strikeout) Strikeout f13 s14 m14 refl refl (refl) (ap (made (λ x. record s13 { strikeout = x })) (style_said _ a.strikeout h.strikeout))
     ∙ part_read (codes "table") (line_data skin.table) Table f14 s15 m15 refl refl (refl) (ap (made (λ x. record s14 { table = x })) (line_said _ l.table h.table))
-    ∙ part_read (codes "table_border_chars") (string name) TableBorders f15 s16 m16 refl refl (refl) (ap (λ o. let s : MadSkin = record s15 { table_border_chars = borders_or s15.table_border_chars o } in Ok s) named))
+    ∙ part_read (codes "table_border_chars") (string name) TableBorders f15 s16 m16 refl refl (refl) (ap (λ o. let s : MadSkin = record s15 { table_border_chars = unwrap_or o s15.table_border_chars } in Ok s) named))
 
 pub skin_back : (skin : MadSkin) (name : Option (List ℕ)) (d : Data) → IsNameOf skin.table_border_chars name → d ≡ skin_data skin name → ReadBackAdditions skin → ReadBackChars skin → ReadBackLines skin → ReadBackItems skin → SkinReadsBack skin d
 skin_back skin None d unnamed is a m l i h = absurd (unnamed h.borders.0 h.borders.1)

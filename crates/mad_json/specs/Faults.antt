@@ -1,6 +1,7 @@
 -- Why a value is no skin.
 use Rattle.std.specs.Prelude.{◌≡◌, ℕ, List, Result, Err, string_bytes}
 use Rattle.mad_parse.specs.StyleTokens.{Fault, unrecognized, bad_color}
+use Rattle.mad_parse.specs.declared.errors.ParseStyleTokenError.{ParseStyleTokenError}
 use Rattle.mad_parse.specs.declared.errors.ParseStyleTokenError.TheVariants as token_error
 use Rattle.mad_json.specs.declared.errors.SkinError.{SkinError}
 use Rattle.mad_json.specs.declared.errors.SkinError.TheVariants.{NotObject, WrongType, Style, TwoNames, Memory}
@@ -18,12 +19,18 @@ pub data SkinFault : Type 0 where
   at_key : List ℕ → ValueFault → SkinFault
   two_names : List ℕ → SkinFault
 
--- an error of a value tells of its fault; out of memory may come before any
+-- the error of a value by that of its text; out of memory is no fault of the text
+abbrev pub value_error_of : ParseStyleTokenError → ValueError
+value_error_of token_error.Memory = value_error.Memory
+value_error_of error = value_error.Style error
+
+-- An error of a value tells of its fault. Out of memory may come before any, and is never told of as the fault of a style.
 abbrev pub TellsValue : {A : Type 0} → ValueError → Result A ValueFault → Type 0
 TellsValue value_error.WrongType r = r ≡ Err wrong_kind
 TellsValue (value_error.Style (token_error.Unrecognized text)) r = r ≡ Err (bad_text (unrecognized (string_bytes text)))
 TellsValue (value_error.Style (token_error.InvalidColor e)) r = r ≡ Err (bad_text (bad_color e))
-TellsValue (value_error.Style token_error.Memory) r = Unit {0}
+TellsValue (value_error.Style token_error.Memory) r = ⊥
+TellsValue value_error.Memory r = Unit {0}
 
 -- An error of a skin tells of its fault. Out of memory may come before any, and is never told of as the fault of a style.
 abbrev pub TellsSkin : {A : Type 0} → SkinError → Result A SkinFault → Type 0

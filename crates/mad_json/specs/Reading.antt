@@ -1,5 +1,6 @@
 -- The skin that a value says: the members of an object in byte order of their keys, and the first fault.
-use Rattle.std.specs.Prelude.{ℕ, Bool, true, false, List, [], ◌∷◌, ◌++◌, replicate, slice_index_or, slice_set, Option, Some, None, Result, Ok, Err, if◌then◌else◌}
+use Rattle.std.specs.Prelude.{ℕ, Bool, true, false, List, [], ◌∷◌, ◌++◌, replicate, slice_index_or, slice_set, Option, Some, None, unwrap_or, Result, Ok, Err, if◌then◌else◌}
+use Rattle.std.specs.Result.{result_map_both}
 use Rattle.mad_style.specs.declared.borders.TableBorderChars.{TableBorderChars}
 use Rattle.mad_style.specs.Borders.{borders_named}
 use Rattle.mad_parse.specs.TokenStyles.{style_of, line_style_of, styled_char_of}
@@ -13,19 +14,14 @@ use Rattle.mad_json.specs.Fields.{field_named, field_index}
 use Rattle.mad_json.specs.Lists.{headers_said, ordered_items_said}
 use Rattle.mad_json.specs.Modes.{mode_said}
 use Rattle.mad_json.specs.ScrollBars.{scrollbar_said}
-use Rattle.mad_json.specs.Texts.{value_said, made}
+use Rattle.mad_json.specs.Texts.{value_said, made, and_next}
 use Rattle.mad_json.specs.declared.fields.Field.{Field}
 use Rattle.mad_json.specs.declared.fields.Field.TheVariants.{Bold, Italic, Strikeout, InlineCode, Ellipsis, Bullet, QuoteMark, HorizontalRule, ScrollBar, Paragraph, CodeBlock, Table, Headers, OrderedItems, TableBorders, IndentationMode}
 
--- borders by name; those of no known name stay
-abbrev pub borders_or : TableBorderChars → Option TableBorderChars → TableBorderChars
-borders_or old None = old
-borders_or old (Some borders) = borders
-
--- the same by a text, where there is one
+-- borders by a name, where there is one; those of no known name stay
 abbrev pub borders_said : TableBorderChars → Option (List ℕ) → Result TableBorderChars ValueFault
 borders_said old None = Err wrong_kind
-borders_said old (Some name) = Ok (borders_or old (borders_named name))
+borders_said old (Some name) = Ok (unwrap_or (borders_named name) old)
 
 -- a skin with one part as a value says it; a drawn character that isn't told is `*`
 abbrev pub part_said : Field → Data → MadSkin → Result MadSkin ValueFault
@@ -66,8 +62,7 @@ now_seen field seen = slice_set seen (field_index field) true
 
 -- a skin with a part, or the fault of that part's key
 abbrev pub found_part : List ℕ → List Bool → List (List ℕ) → Result MadSkin ValueFault → Result Found SkinFault
-found_part key seen unknown (Ok skin) = Ok (record { skin = skin; seen = seen; unknown = unknown })
-found_part key seen unknown (Err fault) = Err (at_key key fault)
+found_part key seen unknown said = result_map_both (λ skin. record { skin = skin; seen = seen; unknown = unknown }) (at_key key) said
 
 -- the value of a key, which may hold no float, however deep
 abbrev pub value_read : Option Field → List ℕ → Data → Found → Result Found SkinFault
@@ -86,15 +81,10 @@ member_read key d found =
     else if has_float d then Err (at_key key wrong_kind)
     else value_read (field_named key) key d found
 
--- the rest, unless there is a fault
-abbrev pub then_found : Result Found SkinFault → (Found → Result Found SkinFault) → Result Found SkinFault
-then_found (Ok found) next = next found
-then_found (Err fault) next = Err fault
-
 -- the members, front to back, up to the first fault
 abbrev pub members_read : Members → Found → Result Found SkinFault
 members_read no_members found = Ok found
-members_read (member key d ms) found = then_found (member_read key d found) (members_read ms)
+members_read (member key d ms) found = and_next (member_read key d found) (members_read ms)
 
 -- the members of an object, where there is one
 abbrev pub object_read : Option Members → Result Found SkinFault
@@ -103,8 +93,7 @@ object_read (Some ms) = members_read ms nothing_found
 
 -- a skin, and the keys that name no part, in byte order
 abbrev pub skin_and_unknown : Result Found SkinFault → Result (MadSkin × List (List ℕ)) SkinFault
-skin_and_unknown (Ok found) = Ok (found.skin, found.unknown)
-skin_and_unknown (Err fault) = Err fault
+skin_and_unknown read = result_map_both (λ found. (found.skin, found.unknown)) (λ fault. fault) read
 
 -- the skin that a value says and the keys that name no part of it, or the first fault
 abbrev pub skin_read : Data → Result (MadSkin × List (List ℕ)) SkinFault

@@ -1,5 +1,6 @@
 -- What a text among the values says.
 use Rattle.std.specs.Prelude.{ℕ, List, Option, Some, None, Result, Ok, Err}
+use Rattle.std.specs.Result.{result_map_both}
 use Rattle.mad_parse.specs.StyleTokens.{Fault}
 use Rattle.mad_parse.specs.Reading.{tokens_of, said}
 use Rattle.mad_parse.specs.declared.tokens.StyleToken.{StyleToken}
@@ -9,8 +10,7 @@ use Rattle.mad_json.specs.Faults.{ValueFault, wrong_kind, bad_text}
 
 -- what is read, or the fault of its text
 abbrev pub of_text : {A : Type 0} → Result A Fault → Result A ValueFault
-of_text (Ok x) = Ok x
-of_text (Err fault) = Err (bad_text fault)
+of_text r = result_map_both (λ x. x) bad_text r
 
 -- what the tokens of a text say, where there is one
 abbrev pub text_said : {A : Type 0} → (List StyleToken → A) → Option (List ℕ) → Result A ValueFault
@@ -23,10 +23,9 @@ value_said f d = text_said f (as_str d)
 
 -- what is made of what was read
 abbrev pub made : {A B : Type 0} → (A → B) → Result A ValueFault → Result B ValueFault
-made f (Ok x) = Ok (f x)
-made f (Err fault) = Err fault
+made f r = result_map_both f (λ fault. fault) r
 
 -- what is read next, unless there is a fault
-abbrev pub and_next : {A B : Type 0} → Result A ValueFault → (A → Result B ValueFault) → Result B ValueFault
+abbrev pub and_next : {A B E : Type 0} → Result A E → (A → Result B E) → Result B E
 and_next (Ok x) next = next x
 and_next (Err fault) next = Err fault

@@ -9,6 +9,7 @@ use Rattle.mad_style.specs.declared.line_styles.LineStyle.{LineStyle}
 use Rattle.mad_style.specs.declared.ordered_items.OrderedItemStyle.{OrderedItemStyle}
 use Rattle.mad_style.specs.declared.styled_chars.StyledChar.{StyledChar}
 use Rattle.mad_parse.specs.Written.{tokens_text, style_tokens, line_style_tokens, styled_char_tokens, item_tokens}
+use Rattle.mad_parse.specs.declared.tokens.StyleToken.{StyleToken}
 use Rattle.mad_layout.specs.declared.skin.MadSkin.{MadSkin}
 use Rattle.serde_json.specs.Data.{Data, string, array, object, Members, no_members, put}
 use Rattle.serde_json.specs.View.{items_of}
@@ -16,21 +17,25 @@ use Rattle.mad_json.specs.ScrollBars.{def_of}
 use Rattle.mad_json.specs.declared.scroll_bars.ScrollBarStyleDef.{ScrollBarStyleDef}
 use Rattle.mad_json.specs.declared.scroll_bars.ScrollBarStyleDef.TheVariants.{Simple, Rich}
 
--- a style is written as its text
+-- tokens are written as their text
+abbrev pub text_data : List StyleToken → Data
+text_data tokens = string (tokens_text tokens)
+
+-- a style is written as its tokens are
 abbrev pub style_data : CompoundStyle → Data
-style_data style = string (tokens_text (style_tokens style))
+style_data style = text_data (style_tokens style)
 
 -- so is a line
 abbrev pub line_data : LineStyle → Data
-line_data line = string (tokens_text (line_style_tokens line))
+line_data line = text_data (line_style_tokens line)
 
 -- so is a drawn character
 abbrev pub char_data : StyledChar → Data
-char_data drawn = string (tokens_text (styled_char_tokens drawn))
+char_data drawn = text_data (styled_char_tokens drawn)
 
 -- so is the style of an item
 abbrev pub item_data : OrderedItemStyle → Data
-item_data style = string (tokens_text (item_tokens style))
+item_data style = text_data (item_tokens style)
 
 -- a scroll bar as one text, or as an object of its two characters
 abbrev pub bar_data : ScrollBarStyleDef → Data

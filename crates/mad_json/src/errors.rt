@@ -64,39 +64,42 @@ impl From<AllocError> for SkinError {
 pub enum ValueError {
     /// The value is of another kind than its part.
     WrongType,
-    /// A text in it has a word that is no style token, or says no indentation mode; or out of memory.
+    /// A text in it has a word that is no style token, or says no indentation mode.
     Style(ParseStyleTokenError),
+    /// A growth of a list or a text was refused.
+    Memory,
 }
 
 impl From<ParseStyleTokenError> for ValueError {
-    ghost use Rattle.mad_json.specs.declared.errors.ValueError.TheVariants.{Style};
+    ghost use Rattle.mad_json.specs.Faults.{value_error_of};
 
-    ghost from_gives = { λ error e. e ≡ Style error };
+    ghost from_gives = { λ error e. e ≡ value_error_of error };
 
     fn from(error: ParseStyleTokenError) -> Self {
-        ValueError::Style(error)
+        match error {
+            ParseStyleTokenError::Memory => ValueError::Memory,
+            error => ValueError::Style(error),
+        }
     }
 }
 
 impl From<AllocError> for ValueError {
-    ghost use Rattle.mad_json.specs.declared.errors.ValueError.TheVariants.{Style};
-    ghost use Rattle.mad_parse.specs.declared.errors.ParseStyleTokenError.TheVariants.{Memory};
+    ghost use Rattle.mad_json.specs.declared.errors.ValueError.TheVariants.{Memory};
 
-    ghost from_gives = { λ _ e. e ≡ Style Memory };
+    ghost from_gives = { λ _ e. e ≡ Memory };
 
     fn from(_: AllocError) -> Self {
-        ValueError::Style(ParseStyleTokenError::Memory)
+        ValueError::Memory
     }
 }
 
 impl<T: Drop> From<AllocFailed<T>> for ValueError {
-    ghost use Rattle.mad_json.specs.declared.errors.ValueError.TheVariants.{Style};
-    ghost use Rattle.mad_parse.specs.declared.errors.ParseStyleTokenError.TheVariants.{Memory};
+    ghost use Rattle.mad_json.specs.declared.errors.ValueError.TheVariants.{Memory};
 
-    ghost from_gives = { λ _ e. e ≡ Style Memory };
+    ghost from_gives = { λ _ e. e ≡ Memory };
 
     fn from(_: AllocFailed<T>) -> Self {
-        ValueError::Style(ParseStyleTokenError::Memory)
+        ValueError::Memory
     }
 }
 
@@ -109,7 +112,7 @@ pub(crate) fn at_key(key: &String, error: ValueError) -> SkinError
     };
     match error {
         ValueError::WrongType => SkinError::WrongType { key },
-        ValueError::Style(ParseStyleTokenError::Memory) => SkinError::Memory,
         ValueError::Style(error) => SkinError::Style { key, error },
+        ValueError::Memory => SkinError::Memory,
     }
 }

@@ -52,9 +52,7 @@ fn set_levels<S: FromTokens>(
     ensures ok { OnOk result (levels_said S.of_tokens (as_array (view value.now)) styles.old ≡ Ok styles.new) }
     ensures err { IfErr result (λ e. TellsValue e (levels_said S.of_tokens (as_array (view value.now)) styles.old)) }
 {
-    let Some(items) = value.as_array() else {
-        return Err(ValueError::WrongType);
-    };
+    let items = value.as_array().ok_or(ValueError::WrongType)?;
     let read = read_styles(alloc, items)?;
     replace_front(styles, read.as_slice());
     Ok(())

@@ -3,10 +3,10 @@
 ghost use Rattle.std.specs.Prelude.{◌≡◌, Ok, IfOk, IfErr};
 ghost use Rattle.serde_json.specs.View.{view};
 ghost use Rattle.mad_json.specs.Faults.{TellsValue};
-ghost use Rattle.mad_json.specs.Modes.{mode_said, mode_named, hanging_front, called_mode};
-ghost use Rattle.mad_parse.specs.Colors.{without_last};
+ghost use Rattle.mad_json.specs.Modes.{mode_said, mode_named, hanging_mode, called_mode};
 
 use crate::errors::ValueError;
+use crate::texts::text_of;
 use mad_parse::{ParseStyleTokenError, parse_byte};
 use mad_style::ListItemsIndentationMode;
 use serde_json::Value;
@@ -18,9 +18,7 @@ pub fn mode_of(alloc: Global, value: &Value) -> Result<ListItemsIndentationMode,
     ensures ok { IfOk result (λ mode. mode_said (view value.now) ≡ Ok mode) }
     ensures err { IfErr result (λ e. TellsValue e (mode_said (view value.now))) }
 {
-    let Some(text) = value.as_str() else {
-        return Err(ValueError::WrongType);
-    };
+    let text = text_of(value)?;
     match mode_named(text) {
         Some(mode) => Ok(mode),
         None => {
@@ -43,14 +41,9 @@ fn mode_named(text: &str) -> Option<ListItemsIndentationMode>
 }
 
 fn hanging_of(text: &str) -> Option<ListItemsIndentationMode>
-    ensures { result ≡ hanging_front (without_last 41 text.now) }
+    ensures { result ≡ hanging_mode text.now }
 {
-    let Some(front) = text.strip_suffix(')') else {
-        return None;
-    };
-    let Some((name, digits)) = front.split_once('(') else {
-        return None;
-    };
+    let (name, digits) = text.strip_suffix(')')?.split_once('(')?;
     called_mode(name, digits)
 }
 

@@ -12,7 +12,7 @@ use crate::floats::holds_float;
 use crate::lists::{set_headers, set_ordered_items};
 use crate::modes::mode_of;
 use crate::scroll_bars::scrollbar_of;
-use crate::texts::read_style;
+use crate::texts::{read_style, text_of};
 use mad_layout::MadSkin;
 use mad_style::TableBorderChars;
 use serde_json::Value;
@@ -45,9 +45,7 @@ pub fn skin_from_value(alloc: Global, value: &Value) -> Result<(MadSkin, Vec<Str
     ensures ok { IfOk result (λ read. skin_read (view value.now) ≡ Ok (read.0, map string_bytes read.1.items)) }
     ensures err { IfErr result (λ e. TellsSkin e (skin_read (view value.now))) }
 {
-    let Some(members) = value.as_object() else {
-        return Err(SkinError::NotObject);
-    };
+    let members = value.as_object().ok_or(SkinError::NotObject)?;
     let mut reader = Reader::new(alloc);
     for (key, member) in members.iter() {
         reader.take_member(alloc, key, member)?;
@@ -148,8 +146,5 @@ fn borders_of(old: TableBorderChars, value: &Value) -> Result<TableBorderChars, 
     ensures ok { IfOk result (λ borders. borders_said old (as_str (view value.now)) ≡ Ok borders) }
     ensures err { IfErr result (λ e. TellsValue e (borders_said old (as_str (view value.now)))) }
 {
-    let Some(name) = value.as_str() else {
-        return Err(ValueError::WrongType);
-    };
-    Ok(TableBorderChars::by_key(name).unwrap_or(old))
+    Ok(TableBorderChars::by_key(text_of(value)?).unwrap_or(old))
 }

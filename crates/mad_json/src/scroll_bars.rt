@@ -69,12 +69,8 @@ pub fn scrollbar_of(alloc: Global, value: &Value) -> Result<ScrollBarStyle, Valu
         let styled_char = StyledChar::parse(alloc, text)?;
         return Ok(ScrollBarStyleDef::Simple(styled_char).into_scrollbar_style());
     }
-    let Some(thumb) = text_member(value, "thumb") else {
-        return Err(ValueError::WrongType);
-    };
-    let Some(track) = text_member(value, "track") else {
-        return Err(ValueError::WrongType);
-    };
+    let thumb = text_member(value, "thumb").ok_or(ValueError::WrongType)?;
+    let track = text_member(value, "track").ok_or(ValueError::WrongType)?;
     let thumb = StyledChar::parse(alloc, thumb)?;
     let track = StyledChar::parse(alloc, track)?;
     Ok(ScrollBarStyle { track, thumb })

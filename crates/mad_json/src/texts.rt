@@ -78,7 +78,8 @@ pub(crate) fn read_style<S: FromTokens>(alloc: Global, value: &Value) -> Result<
     Ok(S::parse(alloc, text)?)
 }
 
-fn text_of(value: &Value) -> Result<&str, ValueError>
+/// The text that a value is.
+pub(crate) fn text_of(value: &Value) -> Result<&str, ValueError>
     ensures { MatchResult result (λ text. as_str (view value.now) ≡ Some text.now)
         (λ e. (e ≡ WrongType) × (as_str (view value.now) ≡ None)) }
 {

@@ -2,20 +2,18 @@
 
 ghost use Rattle.std.specs.Prelude.{◌≡◌, ℕ, List, Option, Ok, IfOk, OnOk, map, string_bytes};
 ghost use Rattle.std.specs.List.{All};
-ghost use Rattle.serde_json.specs.Data.{Data, put, string, array, object};
+ghost use Rattle.serde_json.specs.Data.{put, string, array, object};
 ghost use Rattle.serde_json.specs.View.{view, items_of, members_view};
+ghost use Rattle.mad_parse.specs.Written.{tokens_text};
 ghost use Rattle.mad_json.specs.Modes.{mode_said};
-ghost use Rattle.mad_json.specs.ReadsBack.{ReadsBackStyle, ReadsBackLine, ReadsBackChar, ReadsBackItem, ReadsBackBar, ReadBackAdditions, ReadBackChars, ReadBackLines, ReadBackItems, SkinReadsBack};
+ghost use Rattle.mad_json.specs.ReadsBack.{ReadsBackBar, ReadBackAdditions, ReadBackChars, ReadBackLines, ReadBackItems, SkinReadsBack};
 ghost use Rattle.mad_json.specs.ScrollBars.{def_of};
-ghost use Rattle.mad_json.specs.Written.{style_data, line_data, char_data, item_data, bar_data, mode_text, IsNameOf, with_additions, with_chars, with_lines, with_items, with_borders, IsDataOf};
+ghost use Rattle.mad_json.specs.Written.{text_data, bar_data, mode_text, IsNameOf, with_additions, with_chars, with_lines, with_items, with_borders, IsDataOf};
 
 use crate::scroll_bars::ScrollBarStyleDef;
 use mad_layout::MadSkin;
 use mad_parse::PushStyleTokens;
-use mad_style::{
-    CompoundStyle, LineStyle, ListItemsIndentationMode, OrderedItemStyle, ScrollBarStyle,
-    StyledChar, TableBorderChars,
-};
+use mad_style::{ListItemsIndentationMode, ScrollBarStyle, TableBorderChars};
 use serde_json::{Map, Value, put};
 use std::alloc::{AllocError, Global};
 
@@ -106,12 +104,7 @@ fn put_items(
         values_of(alloc, &skin.ordered_item_styles)?,
     )?;
     let mode = mode_to_string(alloc, skin.list_items_indentation_mode)?;
-    put(
-        members,
-        alloc,
-        "list_items_indentation_mode",
-        Value::String(mode),
-    )?;
+    put_text(alloc, members, "list_items_indentation_mode", mode)?;
     Ok(())
 }
 
@@ -129,69 +122,24 @@ fn put_borders(
     Ok(())
 }
 
-// A part of a skin that is written as a text.
-trait TextPart {
-    // What it is written as.
-    ghost data_of: { Self → Data };
-
-    // It is read back from that.
-    ghost is_back: { Self → Type 0 };
-
-    fn to_value(&self, alloc: Global) -> Result<Value, AllocError>
-        ensures value { IfOk result (λ value. view value ≡ data_of self.now) }
-        ensures reads_back { IfOk result (λ _. is_back self.now) };
+// The text that a part of a skin is written as.
+fn value_of<P: PushStyleTokens>(alloc: Global, part: &P) -> Result<Value, AllocError>
+    ensures value { IfOk result (λ value. view value ≡ text_data (P.tokens_of_value part.now)) }
+    ensures reads_back { IfOk result (λ _. P.reads_back part.now (tokens_text (P.tokens_of_value part.now))) }
+{
+    Ok(Value::String(part.to_style_tokens_string(alloc)?))
 }
 
-impl TextPart for CompoundStyle {
-    ghost data_of = { style_data };
-
-    ghost is_back = { ReadsBackStyle };
-
-    fn to_value(&self, alloc: Global) -> Result<Value, AllocError> {
-        Ok(Value::String(self.to_style_tokens_string(alloc)?))
-    }
-}
-
-impl TextPart for LineStyle {
-    ghost data_of = { line_data };
-
-    ghost is_back = { ReadsBackLine };
-
-    fn to_value(&self, alloc: Global) -> Result<Value, AllocError> {
-        Ok(Value::String(self.to_style_tokens_string(alloc)?))
-    }
-}
-
-impl TextPart for StyledChar {
-    ghost data_of = { char_data };
-
-    ghost is_back = { ReadsBackChar };
-
-    fn to_value(&self, alloc: Global) -> Result<Value, AllocError> {
-        Ok(Value::String(self.to_style_tokens_string(alloc)?))
-    }
-}
-
-impl TextPart for OrderedItemStyle {
-    ghost data_of = { item_data };
-
-    ghost is_back = { ReadsBackItem };
-
-    fn to_value(&self, alloc: Global) -> Result<Value, AllocError> {
-        Ok(Value::String(self.to_style_tokens_string(alloc)?))
-    }
-}
-
-fn put_part<P: TextPart>(
+fn put_part<P: PushStyleTokens>(
     alloc: Global,
     members: &mut Map<String, Value>,
     key: &str,
     part: &P,
 ) -> Result<(), AllocError>
-    ensures value { OnOk result (members_view members.new.entries ≡ put key.now (P.data_of part.now) (members_view members.old.entries)) }
-    ensures reads_back { OnOk result (P.is_back part.now) }
+    ensures value { OnOk result (members_view members.new.entries ≡ put key.now (text_data (P.tokens_of_value part.now)) (members_view members.old.entries)) }
+    ensures reads_back { OnOk result (P.reads_back part.now (tokens_text (P.tokens_of_value part.now))) }
 {
-    put(members, alloc, key, part.to_value(alloc)?)
+    put(members, alloc, key, value_of(alloc, part)?)
 }
 
 fn put_text(
@@ -218,13 +166,13 @@ fn array_of(values: Vec<Value>) -> Value
 }
 
 // The list of what parts are written as.
-fn values_of<P: TextPart>(alloc: Global, parts: &[P]) -> Result<Value, AllocError>
-    ensures value { IfOk result (λ value. view value ≡ array (items_of (map P.data_of parts.now))) }
-    ensures reads_back { IfOk result (λ _. All P.is_back parts.now) }
+fn values_of<P: PushStyleTokens>(alloc: Global, parts: &[P]) -> Result<Value, AllocError>
+    ensures value { IfOk result (λ value. view value ≡ array (items_of (map (λ part. text_data (P.tokens_of_value part)) parts.now))) }
+    ensures reads_back { IfOk result (λ _. All (λ part. P.reads_back part (tokens_text (P.tokens_of_value part))) parts.now) }
 {
     let mut values = Vec::new(alloc);
     for part in parts {
-        let value = part.to_value(alloc)?;
+        let value = value_of(alloc, part)?;
         values.push(value)?;
     }
     Ok(array_of(values))
@@ -235,7 +183,7 @@ fn bar_value(alloc: Global, bar: &ScrollBarStyle) -> Result<Value, AllocError>
     ensures reads_back { IfOk result (λ _. ReadsBackBar bar.now) }
 {
     match ScrollBarStyleDef::from(bar) {
-        ScrollBarStyleDef::Simple(styled_char) => styled_char.to_value(alloc),
+        ScrollBarStyleDef::Simple(styled_char) => value_of(alloc, &styled_char),
         ScrollBarStyleDef::Rich { track, thumb } => {
             let mut members = Map::new(alloc);
             put_part(alloc, &mut members, "thumb", &thumb)?;

@@ -4,7 +4,7 @@ use Rattle.mad_json.proofs.writing.bar_value.Goals as goal
 
 pub returns-in-Simple-clause-reads_back : goal.returns-in-Simple-clause-reads_back
 returns-in-Simple-clause-reads_back c =
-    if_made c.to_value.result _ _ (simple_read c.args.bar.now c.in-Simple.styled_char (sym c.from.ensures ∙ c.in-Simple.is)) c.to_value.ensures.reads_back
+    if_made c.value_of.result _ _ (simple_read c.args.bar.now c.in-Simple.styled_char (sym c.from.ensures ∙ c.in-Simple.is)) c.value_of.ensures.reads_back
 
 pub returns-in_ok-put_part-in-Rich-2-clause-reads_back :
     goal.returns-in_ok-put_part-in-Rich-2-clause-reads_back
