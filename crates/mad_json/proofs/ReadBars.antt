@@ -16,7 +16,8 @@ use Rattle.mad_parse.specs.Reading.{said, tokens_of}
 use Rattle.mad_parse.specs.TokenStyles.{styled_char_of}
 use Rattle.mad_parse.specs.Written.{tokens_text, styled_char_tokens}
 use Rattle.mad_json.specs.ReadsBack.{IsOnlyColored, IsReadBackBar, ReadsBackChar, ReadsBackBar}
-use Rattle.mad_json.specs.ScrollBars.{bar_of_char, is_simple, simple_char, def_of, scrollbar_said}
+use Rattle.mad_style.specs.Bars.{bar_of_char}
+use Rattle.mad_json.specs.ScrollBars.{is_simple, simple_char, def_of, scrollbar_said}
 use Rattle.mad_json.specs.Texts.{of_text, made, and_next}
 use Rattle.mad_json.specs.Written.{bar_data}
 use Rattle.mad_json.specs.declared.scroll_bars.ScrollBarStyleDef.TheVariants.{Simple, Rich}

@@ -1,10 +1,10 @@
 -- Scroll bars as values.
-use Rattle.std.specs.Prelude.{ℕ, ◌==◌, ◌&&◌, Bool, List, Option, Some, None, Result, Err, codes, unwrap_or, if◌then◌else◌, option_and_then}
+use Rattle.std.specs.Prelude.{ℕ, ◌==◌, ◌&&◌, Bool, List, Option, Some, None, Result, Err, codes, if◌then◌else◌, option_and_then}
 use Rattle.std.specs.Option.{is_none}
 use Rattle.mad_term.specs.AttributeSets.{no_attributes}
-use Rattle.mad_term.specs.declared.color.Color.TheVariants.{AnsiValue}
+use Rattle.mad_style.specs.Bars.{bar_of_char}
 use Rattle.mad_style.specs.CompoundStyles.{text_style}
-use Rattle.mad_style.specs.StyledChars.{styled_char, colored_char, char_alone, char_style}
+use Rattle.mad_style.specs.StyledChars.{styled_char, char_alone, char_style}
 use Rattle.mad_style.specs.declared.scroll_bars.ScrollBarStyle.{ScrollBarStyle}
 use Rattle.mad_style.specs.declared.styled_chars.StyledChar.{StyledChar}
 use Rattle.mad_parse.specs.TokenStyles.{styled_char_of}
@@ -14,15 +14,6 @@ use Rattle.mad_json.specs.Faults.{ValueFault, wrong_kind}
 use Rattle.mad_json.specs.Texts.{text_said, made, and_next}
 use Rattle.mad_json.specs.declared.scroll_bars.ScrollBarStyleDef.{ScrollBarStyleDef}
 use Rattle.mad_json.specs.declared.scroll_bars.ScrollBarStyleDef.TheVariants.{Simple, Rich}
-
--- the bar of one character: its foreground is the thumb's color, its background the track's; where one is absent that of the
--- default bar
-abbrev pub bar_of_char : StyledChar → ScrollBarStyle
-bar_of_char c =
-    record {
-      track = colored_char (unwrap_or (char_style c).object_style.background_color (AnsiValue 237)) (char_alone c);
-      thumb = colored_char (unwrap_or (char_style c).object_style.foreground_color (AnsiValue 253)) (char_alone c);
-    }
 
 -- the bar of a description
 abbrev pub bar_of : ScrollBarStyleDef → ScrollBarStyle
