@@ -10,6 +10,7 @@ use Rattle.mad_blocks.specs.declared.code_blocks.CodeBlock.{CodeBlock}
 use Rattle.mad_format.specs.declared.composite.FmtComposite.{FmtComposite}
 use Rattle.mad_format.specs.declared.line.FmtLine.{FmtLine}
 use Rattle.mad_format.specs.declared.line.FmtLine.TheVariants.{Normal, TableRow, TableRule, HorizontalRule}
+use Rattle.mad_format.proofs.ListLemmas.{most_push}
 use Rattle.mad_format.proofs.WrapLemmas.{next_of}
 
 -- ---- parts
@@ -220,10 +221,6 @@ pub code_some : (l : FmtLine) (n : ℕ) → code_columns l ≡ Some n → IsCode
 code_some (Normal l) n h = let is = columns_if (is_code_kind l.kind) l n h in record { own = l; is = refl; code = is.0; columns_are = is.1 }
 code_some _ n h = absurd (cc)
 
-widest_push : (ls : List FmtComposite) (l : FmtComposite) → widest (ls ++ l ∷ []) ≡ max l.visible_length (widest ls)
-widest_push [] l = refl
-widest_push (m ∷ ls) l = omega (arith, widest_push ls l)
-
 -- this many lines from a line on are code
 pub record CodeSoFar (lines : List FmtLine) (at height width : ℕ) : Type 0 where
   pub own : List FmtComposite
@@ -246,11 +243,12 @@ code_start lines at inside = let same : at ≡ at + 0 = omega arith in record {
 pub code_more : (lines : List FmtLine) (at height width columns new : ℕ) (l : FmtLine) → CodeSoFar lines at height width → at + height < length lines → l ≡ get_or lines (at + height) l → IsCodeLine l columns → new ≡ max columns width
     → CodeSoFar lines at (height + 1) new
 code_more lines at height width columns new l h inside here line new_is =
-    let next : at + height + 1 ≡ at + (height + 1) = omega arith in record {
+    let next : at + height + 1 ≡ at + (height + 1) = omega arith in
+    let pushed : widest (h.own ++ line.own ∷ []) ≡ max line.own.visible_length (widest h.own) = most_push (λ (l : FmtComposite). l.visible_length) h.own line.own in record {
       own = h.own ++ line.own ∷ [];
       code = all_push (λ (l : FmtComposite). is_code_kind l.kind ≡ true) h.own line.own h.code line.code;
       height_is = omega (arith, h.height_is, length-append h.own (line.own ∷ []));
-      width_is = omega (arith, new_is, h.width_is, line.columns_are, widest_push h.own line.own);
+      width_is = omega (arith, new_is, h.width_is, line.columns_are, pushed);
       lines_are = h.lines_are ∙ ap (λ ls. map Normal h.own ++ ls) (next_of lines (at + height) l inside here ∙ ap (λ l. l ∷ drop (at + height + 1) lines) line.is ∙ ap (λ (n : ℕ). Normal line.own ∷ drop n lines) next)
           ∙ sym (append_assoc (map Normal h.own) (Normal line.own ∷ []) (drop (at + (height + 1)) lines)) ∙ ap (λ ls. ls ++ drop (at + (height + 1)) lines) (sym (map-append Normal h.own (line.own ∷ [])));
       inside = omega (arith, inside);

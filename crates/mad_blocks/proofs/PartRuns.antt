@@ -2,10 +2,11 @@
 use Rattle.std.proofs.Common.{◌≡◌, ℕ, Bool, true, false, List, [], ◌∷◌, ◌++◌, map, refl, ap, sym, ◌∙◌}
 use Rattle.std.specs.List.{AllByRecursion}
 use Rattle.mad_blocks.specs.CodeBlocks.{NoCodeFirst}
-use Rattle.mad_blocks.specs.LayoutParts.{Part, table, block, single, is_code_kind, is_code_line, with_table, with_code, with_composite, with_line, parts_of, ArePartsBy, IsTableFixedBy, AreTablesLaidOut}
+use Rattle.mad_blocks.specs.LayoutParts.{Part, table, block, single, is_code_kind, is_code_line, with_table, with_code, with_composite, with_line, parts_of, IsTableFixedBy, AreTablesLaidOut}
 use Rattle.mad_format.specs.FmtLines.{is_table_line}
 use Rattle.mad_format.specs.WrappedLines.{Wrap}
 use Rattle.mad_format.specs.LineRules.{LineRules}
+use Rattle.mad_format.specs.Lists.{EachBecomes}
 use Rattle.mad_format.specs.declared.composite.FmtComposite.{FmtComposite}
 use Rattle.mad_format.specs.declared.line.FmtLine.{FmtLine}
 use Rattle.mad_format.specs.declared.line.FmtLine.TheVariants.{Normal, TableRow, TableRule, HorizontalRule}
@@ -109,8 +110,8 @@ alone_first (TableRule rule) ls h k = absurd (cc)
 alone_first HorizontalRule ls h k = refl
 
 -- a line that is not of a table stays where tables are laid out, whatever part it is of
-stays_in_front : (wraps : Wrap) (skin : LineRules) (width : ℕ) (b : Bool) (l : FmtComposite) (ps : List Part) (lines : List FmtLine) → ArePartsBy (IsTableFixedBy wraps skin width) ps lines
-    → ArePartsBy (IsTableFixedBy wraps skin width) (with_composite b l ps) (Normal l ∷ lines)
+stays_in_front : (wraps : Wrap) (skin : LineRules) (width : ℕ) (b : Bool) (l : FmtComposite) (ps : List Part) (lines : List FmtLine) → EachBecomes (IsTableFixedBy wraps skin width) ps lines
+    → EachBecomes (IsTableFixedBy wraps skin width) (with_composite b l ps) (Normal l ∷ lines)
 stays_in_front wraps skin width true l (block ls ∷ ps) lines (own, others, joins, is, more) =
     (Normal l ∷ own, others, ap (λ xs. Normal l ∷ xs) joins, ap (λ xs. Normal l ∷ xs) is, more)
 stays_in_front wraps skin width _ l _ lines h = (Normal l ∷ [], lines, refl, refl, h)

@@ -1,21 +1,23 @@
 -- Layout part by part is what tables, then blocks of code, then wrapping make of all lines.
-use Rattle.std.proofs.Common.{◌≡◌, ℕ, ◌<◌, Bool, true, false, inl, inr, List, [], ◌∷◌, ◌++◌, map, length, Option, Some, refl, ap, sym, ◌∙◌, subst, arith, append_assoc}
+use Rattle.std.proofs.Common.{◌≡◌, ℕ, ◌<◌, Bool, true, false, inl, inr, List, [], ◌∷◌, ◌++◌, map, length, Option, Some, refl, ap, sym, ◌∙◌, subst, arith}
 use Rattle.std.specs.Prelude.{◌==◌}
 use Rattle.std.specs.List.{flat_map}
 use Rattle.mad_fit.specs.declared.spacing.Spacing.{Spacing}
 use Rattle.mad_fit.proofs.AllLemmas.{all_joined}
 use Rattle.mad_blocks.specs.CodeBlocks.{NoCodeFirst, part_placed, blocks_placed}
 use Rattle.mad_blocks.specs.LayoutLaws.{PassesAreParts, PartsArePasses}
-use Rattle.mad_blocks.specs.LayoutParts.{Part, table, block, single, is_code_kind, is_code_line, with_table, with_code, with_composite, parts_of, ArePartsBy, IsTableFixedBy, justified, code_room, IsLineAt, AreLinesAt, ArePartsAt}
+use Rattle.mad_blocks.specs.LayoutParts.{Part, table, block, single, is_code_kind, is_code_line, with_table, with_code, with_composite, parts_of, IsTableFixedBy, justified, code_room, IsLineAt, AreLinesAt, ArePartsAt}
 use Rattle.mad_format.specs.FmtLines.{is_table_line}
 use Rattle.mad_blocks.specs.Tables.{columns_count, columns_from, position_at, IsTableLineBy, AreTableLinesBy, IsTableLaidOutBy}
 use Rattle.mad_format.specs.WrappedLines.{Wrap}
 use Rattle.mad_format.specs.LineRules.{LineRules}
+use Rattle.mad_format.specs.Lists.{EachBecomes}
 use Rattle.mad_format.specs.declared.composite.FmtComposite.{FmtComposite}
 use Rattle.mad_format.specs.declared.line.FmtLine.{FmtLine}
 use Rattle.mad_format.specs.declared.line.FmtLine.TheVariants.{Normal, TableRow, TableRule, HorizontalRule}
 use Rattle.mad_format.specs.declared.table.FmtTableRow.{FmtTableRow}
 use Rattle.mad_format.specs.declared.table.RelativePosition.{RelativePosition}
+use Rattle.mad_format.proofs.ListLemmas.{both_become, become_apart}
 use Rattle.mad_blocks.proofs.PartRuns.{AllTableLines, AllCode, NoTableFirst, table_not_code, one_table, block_in_front, alone_first}
 
 -- ---- parts that are apart
@@ -98,7 +100,7 @@ table_run wraps skin n width parts lines some are (inr (columns, place, (ws, wid
 
 -- ---- the first line of what parts become
 
-fixed_no_table : (wraps : Wrap) (skin : LineRules) (width : ℕ) (ps : List Part) (lines : List FmtLine) → StandApart ps → NoTableNext ps → ArePartsBy (IsTableFixedBy wraps skin width) ps lines → NoTableFirst lines
+fixed_no_table : (wraps : Wrap) (skin : LineRules) (width : ℕ) (ps : List Part) (lines : List FmtLine) → StandApart ps → NoTableNext ps → EachBecomes (IsTableFixedBy wraps skin width) ps lines → NoTableFirst lines
 fixed_no_table wraps skin width [] lines apart outside h = subst NoTableFirst (sym h) tt
 fixed_no_table wraps skin width (table ls ∷ ps) lines apart outside h = absurd outside
 fixed_no_table wraps skin width (block [] ∷ ps) lines apart outside h = absurd (let some = apart.0 in omega (arith, some))
@@ -109,7 +111,7 @@ first_not_code : (own others : List FmtLine) → IsTableRun own → NoCodeFirst 
 first_not_code [] others run = absurd (let some = run.0 in omega (arith, some))
 first_not_code (l ∷ ls) others run = table_not_code l run.1.0
 
-fixed_no_code : (wraps : Wrap) (skin : LineRules) (width : ℕ) (ps : List Part) (lines : List FmtLine) → StandApart ps → NoBlockNext ps → ArePartsBy (IsTableFixedBy wraps skin width) ps lines → NoCodeFirst lines
+fixed_no_code : (wraps : Wrap) (skin : LineRules) (width : ℕ) (ps : List Part) (lines : List FmtLine) → StandApart ps → NoBlockNext ps → EachBecomes (IsTableFixedBy wraps skin width) ps lines → NoCodeFirst lines
 fixed_no_code wraps skin width [] lines apart outside h = subst NoCodeFirst (sym h) tt
 fixed_no_code wraps skin width (table ls ∷ ps) lines apart outside (own, others, joins, laid, more) =
     subst NoCodeFirst (sym joins) (first_not_code own others (table_run wraps skin (columns_count ls) width ls own apart.0 apart.1 laid))
@@ -126,20 +128,7 @@ block_run_in_front : (ls : List FmtComposite) (rest : List FmtLine) → 0 < leng
 block_run_in_front [] rest some code first = absurd (omega (arith, some))
 block_run_in_front (l ∷ ls) rest some code first = block_in_front (l ∷ ls) rest code first
 
--- ---- wrapping, over lines that are joined
-
-lines_split : (wraps : Wrap) (skin : LineRules) (width : Option ℕ) (xs ys lines : List FmtLine) → AreLinesAt wraps skin width (xs ++ ys) lines
-    → (own : List FmtLine) × (others : List FmtLine) × (lines ≡ own ++ others) × AreLinesAt wraps skin width xs own × AreLinesAt wraps skin width ys others
-lines_split wraps skin width [] ys lines h = ([], lines, refl, refl, h)
-lines_split wraps skin width (x ∷ xs) ys lines (own, others, joins, here, more) =
-    let rest = lines_split wraps skin width xs ys others more in
-    (own ++ rest.0, rest.1, joins ∙ ap (λ zs. own ++ zs) rest.2 ∙ sym (append_assoc own rest.0 rest.1), (own, rest.0, refl, here, rest.3), rest.4)
-
-lines_joined : (wraps : Wrap) (skin : LineRules) (width : Option ℕ) (xs ys own others : List FmtLine) → AreLinesAt wraps skin width xs own → AreLinesAt wraps skin width ys others
-    → AreLinesAt wraps skin width (xs ++ ys) (own ++ others)
-lines_joined wraps skin width [] ys own others h more = subst (λ (ls : List FmtLine). AreLinesAt wraps skin width ys (ls ++ others)) (sym h) more
-lines_joined wraps skin width (x ∷ xs) ys own others (first, rest, joins, here, h) more =
-    (first, rest ++ others, ap (λ ls. ls ++ others) joins ∙ append_assoc first rest others, here, lines_joined wraps skin width xs ys rest others h more)
+-- ---- the lines of tables
 
 -- a table's lines stay
 table_line_stays : (wraps : Wrap) (skin : LineRules) (width : Option ℕ) (l : FmtLine) (lines : List FmtLine) → is_table_line l ≡ true → IsLineAt wraps skin width l lines → lines ≡ l ∷ []
@@ -168,25 +157,25 @@ abbrev placed : Option ℕ → List Part → List FmtLine
 placed room ps = flat_map (part_placed room) ps
 
 passes : (wraps : Wrap) (skin : LineRules) (tables : ℕ) (width : Option ℕ) (ps : List Part) (tabled lines : List FmtLine) → StandApart ps
-    → ArePartsBy (IsTableFixedBy wraps skin tables) ps tabled → AreLinesAt wraps skin width (blocks_placed (code_room skin width) tabled) lines → ArePartsAt wraps skin tables width ps lines
+    → EachBecomes (IsTableFixedBy wraps skin tables) ps tabled → AreLinesAt wraps skin width (blocks_placed (code_room skin width) tabled) lines → ArePartsAt wraps skin tables width ps lines
 passes wraps skin tables width [] tabled lines apart fixed wrapped = subst (λ (ls : List FmtLine). AreLinesAt wraps skin width (blocks_placed (code_room skin width) ls) lines) fixed wrapped
 passes wraps skin tables width (table ls ∷ ps) tabled lines apart (own, others, joins, laid, more) wrapped =
     let run : IsTableRun own = table_run wraps skin (columns_count ls) tables ls own apart.0 apart.1 laid in
     let first : NoTableFirst others = fixed_no_table wraps skin tables ps others apart.3 apart.2 more in
     let parts : parts_of tabled ≡ table own ∷ parts_of others = ap parts_of joins ∙ table_run_in_front own others run first in
-    let both = lines_split wraps skin width own (blocks_placed (code_room skin width) others) lines
+    let both = become_apart (IsLineAt wraps skin width) own (blocks_placed (code_room skin width) others) lines
     (subst (λ (qs : List Part). AreLinesAt wraps skin width (placed (code_room skin width) qs) lines) parts wrapped) in
     let stays : both.0 ≡ own = table_stays wraps skin width own both.0 run.1 both.3 in
     (own, both.1, both.2 ∙ ap (λ xs. xs ++ both.1) stays, laid, passes wraps skin tables width ps others both.1 apart.3 more both.4)
 passes wraps skin tables width (block ls ∷ ps) tabled lines apart (own, others, joins, is, more) wrapped =
     let first : NoCodeFirst others = fixed_no_code wraps skin tables ps others apart.3 apart.2 more in
     let parts : parts_of tabled ≡ block ls ∷ parts_of others = ap parts_of (joins ∙ ap (λ xs. xs ++ others) is) ∙ block_run_in_front ls others apart.0 apart.1 first in
-    let both = lines_split wraps skin width (map Normal (justified (code_room skin width) ls)) (blocks_placed (code_room skin width) others) lines
+    let both = become_apart (IsLineAt wraps skin width) (map Normal (justified (code_room skin width) ls)) (blocks_placed (code_room skin width) others) lines
     (subst (λ (qs : List Part). AreLinesAt wraps skin width (placed (code_room skin width) qs) lines) parts wrapped) in
     (both.0, both.1, both.2, both.3, passes wraps skin tables width ps others both.1 apart.3 more both.4)
 passes wraps skin tables width (single l ∷ ps) tabled lines apart (own, others, joins, is, more) wrapped =
     let parts : parts_of tabled ≡ single l ∷ parts_of others = ap parts_of (joins ∙ ap (λ xs. xs ++ others) is) ∙ alone_first l others apart.1 apart.0 in
-    let both = lines_split wraps skin width (l ∷ []) (blocks_placed (code_room skin width) others) lines
+    let both = become_apart (IsLineAt wraps skin width) (l ∷ []) (blocks_placed (code_room skin width) others) lines
     (subst (λ (qs : List Part). AreLinesAt wraps skin width (placed (code_room skin width) qs) lines) parts wrapped) in
     (both.0, both.1, both.2, both.3, passes wraps skin tables width ps others both.1 apart.2 more both.4)
 
@@ -195,7 +184,7 @@ passes wraps skin tables width (single l ∷ ps) tabled lines apart (own, others
 -- what the passes make of parts, one after the other
 record ArePasses (wraps : Wrap) (skin : LineRules) (tables : ℕ) (width : Option ℕ) (ps : List Part) (lines : List FmtLine) : Type 0 where
   tabled : List FmtLine
-  fixed : ArePartsBy (IsTableFixedBy wraps skin tables) ps tabled
+  fixed : EachBecomes (IsTableFixedBy wraps skin tables) ps tabled
   wrapped : AreLinesAt wraps skin width (blocks_placed (code_room skin width) tabled) lines
 
 parts_passes : (wraps : Wrap) (skin : LineRules) (tables : ℕ) (width : Option ℕ) (ps : List Part) (lines : List FmtLine) → StandApart ps → ArePartsAt wraps skin tables width ps lines → ArePasses wraps skin tables width ps lines
@@ -209,7 +198,7 @@ parts_passes wraps skin tables width (table ls ∷ ps) lines apart (own, others,
       tabled = own ++ rest.tabled;
       fixed = (own, rest.tabled, refl, laid, rest.fixed);
       wrapped = subst (λ (qs : List Part). AreLinesAt wraps skin width (placed (code_room skin width) qs) lines) (sym (table_run_in_front own rest.tabled run first))
-          (subst (AreLinesAt wraps skin width (own ++ after)) (sym joins) (lines_joined wraps skin width own after own others (table_as_it_is wraps skin width own run.1) rest.wrapped));
+          (subst (AreLinesAt wraps skin width (own ++ after)) (sym joins) (both_become (IsLineAt wraps skin width) own after own others (table_as_it_is wraps skin width own run.1) rest.wrapped));
     }
 parts_passes wraps skin tables width (block ls ∷ ps) lines apart (own, others, joins, laid, more) =
     let rest : ArePasses wraps skin tables width ps others = parts_passes wraps skin tables width ps others apart.3 more in
@@ -220,7 +209,7 @@ parts_passes wraps skin tables width (block ls ∷ ps) lines apart (own, others,
       tabled = map Normal ls ++ rest.tabled;
       fixed = (map Normal ls, rest.tabled, refl, refl, rest.fixed);
       wrapped = subst (λ (qs : List Part). AreLinesAt wraps skin width (placed (code_room skin width) qs) lines) (sym (block_run_in_front ls rest.tabled apart.0 apart.1 first))
-          (subst (AreLinesAt wraps skin width (there ++ after)) (sym joins) (lines_joined wraps skin width there after own others laid rest.wrapped));
+          (subst (AreLinesAt wraps skin width (there ++ after)) (sym joins) (both_become (IsLineAt wraps skin width) there after own others laid rest.wrapped));
     }
 parts_passes wraps skin tables width (single l ∷ ps) lines apart (own, others, joins, laid, more) =
     let rest : ArePasses wraps skin tables width ps others = parts_passes wraps skin tables width ps others apart.2 more in
@@ -229,7 +218,7 @@ parts_passes wraps skin tables width (single l ∷ ps) lines apart (own, others,
       tabled = l ∷ rest.tabled;
       fixed = (l ∷ [], rest.tabled, refl, refl, rest.fixed);
       wrapped = subst (λ (qs : List Part). AreLinesAt wraps skin width (placed (code_room skin width) qs) lines) (sym (alone_first l rest.tabled apart.1 apart.0))
-          (subst (AreLinesAt wraps skin width (l ∷ after)) (sym joins) (lines_joined wraps skin width (l ∷ []) after own others laid rest.wrapped));
+          (subst (AreLinesAt wraps skin width (l ∷ after)) (sym joins) (both_become (IsLineAt wraps skin width) (l ∷ []) after own others laid rest.wrapped));
     }
 
 -- ---- the laws

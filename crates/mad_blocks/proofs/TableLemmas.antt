@@ -8,7 +8,7 @@ use Rattle.mad_md.specs.declared.alignment.Alignment.TheVariants.{Unspecified}
 use Rattle.mad_fit.specs.declared.spacing.Spacing.{Spacing}
 use Rattle.mad_fit.proofs.AllLemmas.{all_push}
 use Rattle.mad_format.specs.CompositeWraps.{IsCompositeWrap}
-use Rattle.mad_blocks.specs.LayoutParts.{Part, ArePartsBy, IsTableFixedBy, AreTablesLaidOut}
+use Rattle.mad_blocks.specs.LayoutParts.{Part, IsTableFixedBy, AreTablesLaidOut}
 use Rattle.mad_blocks.proofs.PartRuns.{AllTableLines, NoTableFirst, one_table, line_stays}
 use Rattle.mad_blocks.specs.Tables.{columns_with, centered, columns_from, below, tallest, IsTop, IsNextLaidOut, AreCellsLaidOut, IsLineAcross, AreDown, IsRowLaidOutBy, position_at, IsTableLineBy, AreTableLinesBy, IsTableLaidOutBy, columns_count}
 use Rattle.mad_format.specs.FmtLines.{is_table_line}
@@ -16,6 +16,8 @@ use Rattle.mad_blocks.specs.TableRows.{lines_to_come, columns_left, cell_lines_l
 use Rattle.mad_format.specs.WrappedLines.{AllMeasured, IsLineMeasured}
 use Rattle.mad_format.specs.Wraps.{IsMeasured}
 use Rattle.mad_format.specs.LineRules.{LineRules}
+use Rattle.mad_format.proofs.ListLemmas.{most_push}
+use Rattle.mad_format.specs.Lists.{EachBecomes}
 use Rattle.mad_format.specs.declared.composite.FmtComposite.{FmtComposite}
 use Rattle.mad_format.specs.declared.line.FmtLine.{FmtLine}
 use Rattle.mad_format.specs.declared.line.FmtLine.TheVariants.{Normal, TableRow, TableRule, HorizontalRule}
@@ -49,10 +51,6 @@ cells_start skin columns cells measured = record {
   height_is = omega arith;
 }
 
-tallest_more : (ps : List (List FmtComposite)) (q : List FmtComposite) → tallest (ps ++ q ∷ []) ≡ max (length q) (tallest ps)
-tallest_more [] q = refl
-tallest_more (p ∷ ps) q = let rest : tallest (ps ++ q ∷ []) ≡ max (length q) (tallest ps) = tallest_more ps q in omega (arith, rest)
-
 below_measured : (skin : LineRules) (rest : List FmtComposite) → AllByRecursion (IsMeasured skin) rest → AllByRecursion (IsMeasured skin) (below rest)
 below_measured skin [] h = tt
 below_measured skin (l ∷ ls) h = h.1
@@ -66,7 +64,7 @@ cells_more skin columns cells i d rest after parts new p lines height taller ins
     let here : drop i columns ≡ get_or columns i d ∷ drop (i + 1) columns = drop_more columns i d inside in
     let lines_pushed : cell_lines_left new ≡ cell_lines_left parts ++ lines_to_come p ∷ [] = ap cell_lines_left pushed ∙ map-append lines_to_come parts (p ∷ []) in
     let columns_pushed : columns_left new ≡ columns_left parts ++ p.column ∷ [] = ap columns_left pushed ∙ map-append (λ (q : CellLines). q.column) parts (p ∷ []) in
-    let most : tallest (cell_lines_left new) ≡ max (length (lines_to_come p)) (tallest (cell_lines_left parts)) = ap tallest lines_pushed ∙ tallest_more (cell_lines_left parts) (lines_to_come p) in
+    let most : tallest (cell_lines_left new) ≡ max (length (lines_to_come p)) (tallest (cell_lines_left parts)) = ap tallest lines_pushed ∙ most_push length (cell_lines_left parts) (lines_to_come p) in
     record {
       measured = subst (AllByRecursion (IsMeasured skin)) (sym next) (below_measured skin rest held.measured);
       columns_are =
@@ -96,8 +94,8 @@ TakesSoFar all there cells rest = (xs : List FmtComposite) (qs : List CellLines)
 takes_more : (all there after : List CellLines) (p : CellLines) (cells more_cells : List FmtComposite) (x : FmtComposite) (rest more_rest : List CellLines) (q : CellLines)
     → TakesSoFar all there cells rest → there ≡ p ∷ after → IsTop p.column (lines_to_come p) x → q.column ≡ p.column → lines_to_come q ≡ below (lines_to_come p)
     → more_cells ≡ cells ++ x ∷ [] → more_rest ≡ rest ++ q ∷ [] → TakesSoFar all after more_cells more_rest
-takes_more all there after p cells more_cells x rest more_rest q held next top column behind cells_pushed rest_pushed xs qs h =
-    let here : TakesRow there (x ∷ xs) (q ∷ qs) = subst (λ (ps : List CellLines). TakesRow ps (x ∷ xs) (q ∷ qs)) (sym next) (top, column, behind, h) in
+takes_more all there after p cells more_cells x rest more_rest q held next top column later cells_pushed rest_pushed xs qs h =
+    let here : TakesRow there (x ∷ xs) (q ∷ qs) = subst (λ (ps : List CellLines). TakesRow ps (x ∷ xs) (q ∷ qs)) (sym next) (top, column, later, h) in
     let both : TakesRow all (cells ++ x ∷ xs) (rest ++ q ∷ qs) = held (x ∷ xs) (q ∷ qs) here in
     let cells_are : more_cells ++ xs ≡ cells ++ x ∷ xs = ap (λ ys. ys ++ xs) cells_pushed ∙ append_assoc cells (x ∷ []) xs in
     let rest_are : more_rest ++ qs ≡ rest ++ q ∷ qs = ap (λ ys. ys ++ qs) rest_pushed ∙ append_assoc rest (q ∷ []) qs in
@@ -246,20 +244,20 @@ moved_all (x ∷ xs) (suc n) zero none less = absurd (omega (arith, less))
 moved_all (x ∷ xs) (suc n) (suc count) none less = let rest = moved_all xs n count none (omega (arith, less)) in (ap (λ zs. x ∷ zs) rest.0, rest.1)
 
 -- the lines of a table, after those that were moved before
-pub moved_table : (xs : List FmtLine) (start height : ℕ) (rest behind empty table : List FmtLine) → rest ≡ xs → behind ≡ drop start rest → empty ≡ [] → table ≡ empty ++ take height behind → table ≡ take height (drop start xs)
-moved_table xs start height rest behind empty table read behind_is none table_is = table_is ∙ ap (λ ls. ls ++ take height behind) none ∙ ap (take height) (behind_is ∙ ap (drop start) read)
+pub moved_table : (xs : List FmtLine) (start height : ℕ) (rest left empty table : List FmtLine) → rest ≡ xs → left ≡ drop start rest → empty ≡ [] → table ≡ empty ++ take height left → table ≡ take height (drop start xs)
+moved_table xs start height rest left empty table read left_is none table_is = table_is ∙ ap (λ ls. ls ++ take height left) none ∙ ap (take height) (left_is ∙ ap (drop start) read)
 
 longer_by : (front own joined : List FmtLine) (before now : ℕ) → joined ≡ front ++ own → before ≡ length front → now ≡ length joined → now - before ≡ length own
 longer_by front own joined before now joins before_is now_is = omega (arith, before_is, now_is, ap length joins, length-append front own)
 
 -- what becomes of the table, between the lines before it and those after it
-pub table_fixed : (skin : LineRules) (n width : ℕ) (xs : List FmtLine) (start height : ℕ) (none rest front behind table after joined new : List FmtLine) (before now : ℕ) → none ≡ [] → rest ≡ xs → front ≡ none ++ take start rest
-    → behind ≡ drop start rest → table ≡ take height (drop start xs) → after ≡ drop height behind → (own : List FmtLine) × (joined ≡ front ++ own) × IsTableLaidOutBy IsCompositeWrap skin n width table own
+pub table_fixed : (skin : LineRules) (n width : ℕ) (xs : List FmtLine) (start height : ℕ) (none rest front left table after joined new : List FmtLine) (before now : ℕ) → none ≡ [] → rest ≡ xs → front ≡ none ++ take start rest
+    → left ≡ drop start rest → table ≡ take height (drop start xs) → after ≡ drop height left → (own : List FmtLine) × (joined ≡ front ++ own) × IsTableLaidOutBy IsCompositeWrap skin n width table own
     → before ≡ length front → now ≡ length joined → new ≡ joined ++ after
     → (own : List FmtLine) × (new ≡ take start xs ++ (own ++ drop (start + height) xs)) × IsTableLaidOutBy IsCompositeWrap skin n width (take height (drop start xs)) own × (now - before ≡ length own)
-table_fixed skin n width xs start height none rest front behind table after joined new before now begun read front_is behind_is table_is after_is (own, joins, laid) before_is now_is pushed =
+table_fixed skin n width xs start height none rest front left table after joined new before now begun read front_is left_is table_is after_is (own, joins, laid) before_is now_is pushed =
     let first : front ≡ take start xs = front_is ∙ ap (λ ls. ls ++ take start rest) begun ∙ ap (take start) read in
-    let last : after ≡ drop (start + height) xs = after_is ∙ ap (drop height) (behind_is ∙ ap (drop start) read) ∙ drop-drop height start xs in (
+    let last : after ≡ drop (start + height) xs = after_is ∙ ap (drop height) (left_is ∙ ap (drop start) read) ∙ drop-drop height start xs in (
       own,
       pushed ∙ ap (λ ls. ls ++ after) joins ∙ append_assoc front own after ∙ ap (λ ls. ls ++ (own ++ after)) first ∙ ap (λ ls. take start xs ++ (own ++ ls)) last,
       subst (λ (ls : List FmtLine). IsTableLaidOutBy IsCompositeWrap skin n width ls own) table_is laid,
@@ -294,21 +292,21 @@ parts_start skin widths all before columns rest measured is same =
       so_far = λ more h. subst (λ (cs : List Spacing). AreTableLinesBy IsCompositeWrap skin widths cs true all more) is h;
     })
 
-pub parts_more : (skin : LineRules) (widths : List ℕ) (all before : List FmtLine) (columns behind : List Spacing) (first : Bool) (rest after lines own new : List FmtLine) (line : FmtLine) (cs : List Spacing) (position : RelativePosition) (left : ℕ)
-    → PartsSoFar skin widths all before columns first rest lines → rest ≡ line ∷ after → behind ≡ columns_from widths columns line → cs ≡ behind → left ≡ length after → position ≡ position_at first (left == 0)
-    → IsTableLineBy IsCompositeWrap skin cs position line own → new ≡ lines ++ own → PartsSoFar skin widths all before behind false after new
-parts_more skin widths all before columns behind first rest after lines own new line cs position left held next behind_is cs_are left_is position_is part_at pushed =
+pub parts_more : (skin : LineRules) (widths : List ℕ) (all before : List FmtLine) (columns new_columns : List Spacing) (first : Bool) (rest after lines own new : List FmtLine) (line : FmtLine) (cs : List Spacing) (position : RelativePosition) (left : ℕ)
+    → PartsSoFar skin widths all before columns first rest lines → rest ≡ line ∷ after → new_columns ≡ columns_from widths columns line → cs ≡ new_columns → left ≡ length after → position ≡ position_at first (left == 0)
+    → IsTableLineBy IsCompositeWrap skin cs position line own → new ≡ lines ++ own → PartsSoFar skin widths all before new_columns false after new
+parts_more skin widths all before columns new_columns first rest after lines own new line cs position left held next new_columns_is cs_are left_is position_is part_at pushed =
     let place : position ≡ position_at first (length after == 0) = position_is ∙ ap (λ (n : ℕ). position_at first (n == 0)) left_is in
     let here : List Spacing = columns_from widths columns line in
     let part : IsTableLineBy IsCompositeWrap skin here (position_at first (length after == 0)) line own =
-    subst (λ (p : RelativePosition). IsTableLineBy IsCompositeWrap skin here p line own) place (subst (λ (xs : List Spacing). IsTableLineBy IsCompositeWrap skin xs position line own) (cs_are ∙ behind_is) part_at) in
+    subst (λ (p : RelativePosition). IsTableLineBy IsCompositeWrap skin here p line own) place (subst (λ (xs : List Spacing). IsTableLineBy IsCompositeWrap skin xs position line own) (cs_are ∙ new_columns_is) part_at) in
     let measured : AllMeasured skin (line ∷ after) = subst (AllMeasured skin) next held.measured in
     record {
       measured = measured.1;
       done = held.done ++ own;
       lines_are = pushed ∙ ap (λ ls. ls ++ own) held.lines_are ∙ append_assoc before held.done own;
       so_far = λ more h.
-          let rest_laid : AreTableLinesBy IsCompositeWrap skin widths here false after more = subst (λ (xs : List Spacing). AreTableLinesBy IsCompositeWrap skin widths xs false after more) behind_is h in
+          let rest_laid : AreTableLinesBy IsCompositeWrap skin widths here false after more = subst (λ (xs : List Spacing). AreTableLinesBy IsCompositeWrap skin widths xs false after more) new_columns_is h in
           let both : AreTableLinesBy IsCompositeWrap skin widths columns first (line ∷ after) (own ++ more) = (own, more, refl, part, rest_laid) in
           subst (λ (ls : List FmtLine). AreTableLinesBy IsCompositeWrap skin widths (centered widths) true all ls) (sym (append_assoc held.done own more))
           (held.so_far (own ++ more) (subst (λ (ls : List FmtLine). AreTableLinesBy IsCompositeWrap skin widths columns first ls (own ++ more)) (sym next) both));
@@ -332,7 +330,7 @@ table_laid : (skin : LineRules) (width : ℕ) (run rest own others : List FmtLin
 table_laid skin width [] rest own others parts first (inl none) h = subst (λ (ls : List FmtLine). AreTablesLaidOut IsCompositeWrap skin width rest (ls ++ others)) (sym none.1) h
 table_laid skin width [] rest own others parts first (inr some) h = absurd (let less : 0 < 0 = some.0 in omega (arith, less))
 table_laid skin width (l ∷ ls) rest own others parts first laid h =
-    subst (λ (ps : List Part). ArePartsBy (IsTableFixedBy IsCompositeWrap skin width) ps (own ++ others)) (sym (one_table l ls rest parts first)) (own, others, refl, laid, h)
+    subst (λ (ps : List Part). EachBecomes (IsTableFixedBy IsCompositeWrap skin width) ps (own ++ others)) (sym (one_table l ls rest parts first)) (own, others, refl, laid, h)
 
 -- What the lines have become so far, with whatever the lines of the table that is open and the rest of them become.
 pub record TablesSoFar (skin : LineRules) (width : ℕ) (all open_table rest lines : List FmtLine) : Type 0 where
@@ -362,10 +360,10 @@ tables_line skin width all open_table new_table rest after lines line held next 
     }
 
 -- any other line, after the table that was open
-tables_behind : (skin : LineRules) (width : ℕ) (all open_table rest after lines own between new : List FmtLine) (line : FmtLine) → TablesSoFar skin width all open_table rest lines
+tables_then_line : (skin : LineRules) (width : ℕ) (all open_table rest after lines own between new : List FmtLine) (line : FmtLine) → TablesSoFar skin width all open_table rest lines
     → rest ≡ line ∷ after → is_table_line line ≡ false → IsTableLaidOutBy IsCompositeWrap skin (columns_count open_table) width open_table own
     → between ≡ lines ++ own → new ≡ between ++ line ∷ [] → TablesSoFar skin width all [] after new
-tables_behind skin width all open_table rest after lines own between new line held next no_part laid with_table pushed =
+tables_then_line skin width all open_table rest after lines own between new line held next no_part laid with_table pushed =
     let measured : AllMeasured skin (line ∷ after) = subst (AllMeasured skin) next held.measured in
     record {
       table_measured = tt;
@@ -386,7 +384,7 @@ pub tables_other : (skin : LineRules) (width : ℕ) (all open_table whole begun 
 tables_other skin width all open_table whole begun rest after lines own between new line held next no_part whole_is laid_whole with_table pushed begun_is =
     let laid : IsTableLaidOutBy IsCompositeWrap skin (columns_count open_table) width open_table own = subst (λ (ls : List FmtLine). IsTableLaidOutBy IsCompositeWrap skin (columns_count ls) width ls own) whole_is laid_whole in
     subst (λ (ls : List FmtLine). TablesSoFar skin width all ls after new) (sym begun_is)
-    (tables_behind skin width all open_table rest after lines own between new line held next no_part laid with_table pushed)
+    (tables_then_line skin width all open_table rest after lines own between new line held next no_part laid with_table pushed)
 
 pub tables_all : (skin : LineRules) (width : ℕ) (all open_table rest lines own new : List FmtLine) → rest ≡ [] → TablesSoFar skin width all open_table rest lines
     → IsTableLaidOutBy IsCompositeWrap skin (columns_count open_table) width open_table own → new ≡ lines ++ own → AreTablesLaidOut IsCompositeWrap skin width all new

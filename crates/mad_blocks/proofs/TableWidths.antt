@@ -1,9 +1,9 @@
 -- The cells that a table's columns have seen, and the widths that it keeps.
-use Rattle.std.proofs.Common.{◌≡◌, ℕ, zero, suc, ◌+◌, ◌-◌, ◌*◌, ◌/◌, ◌^◌, ◌<◌, ◌≤◌, List, [], ◌∷◌, ◌++◌, map, length, length-append, drop, get_or, sum, replicate, refl, ap, sym, ◌∙◌, subst, arith, append_assoc, Result, Ok, Err, IfOk}
+use Rattle.std.proofs.Common.{◌≡◌, ℕ, zero, suc, ◌+◌, ◌-◌, ◌*◌, ◌/◌, ◌^◌, ◌<◌, ◌≤◌, List, [], ◌∷◌, ◌++◌, map, length, length-append, take, drop, get_or, sum, replicate, refl, ap, sym, ◌∙◌, subst, arith, append_assoc, Result, Ok, Err, IfOk}
 use Rattle.std.specs.Global.{Vec}
-use Rattle.std.specs.List.{AllByRecursion}
+use Rattle.std.specs.List.{AllByRecursion, flat_map}
 use Rattle.std.proofs.Math.Seq.{set-append_seam}
-use Rattle.std.proofs.lemmas.List.{append-nil, set_past, map-append}
+use Rattle.std.proofs.lemmas.List.{append-nil, set_past, map-append, length-map}
 use Rattle.std.proofs.lemmas.List.Sums.{sum_by-cons}
 use Rattle.std.proofs.lemmas.List.Elements.{All-from_recursion, recursion_from_All}
 use Rattle.mad_widths.specs.ColumnWidths.{needs_of, natural_widths, column_widths, AreShared}
@@ -12,7 +12,7 @@ use Rattle.mad_widths.specs.TableFits.{IsFit, IsTableFit}
 use Rattle.mad_widths.specs.declared.tbl_fit.TblFit.{TblFit}
 use Rattle.mad_widths.specs.declared.tbl_fit.TblFitResult.{TblFitResult}
 use Rattle.mad_format.specs.FmtLines.{bordered}
-use Rattle.mad_blocks.specs.Tables.{below, rows_among, first_lengths, lengths_in, AreKeptWidths}
+use Rattle.mad_blocks.specs.Tables.{rows_among, first_columns, lengths_of, lengths_in, AreKeptWidths}
 use Rattle.mad_format.specs.declared.composite.FmtComposite.{FmtComposite}
 use Rattle.mad_format.specs.declared.line.FmtLine.{FmtLine}
 use Rattle.mad_format.specs.declared.line.FmtLine.TheVariants.{Normal, TableRow, TableRule, HorizontalRule}
@@ -26,10 +26,10 @@ cells_seen seen column [] = seen
 cells_seen seen column (cell ∷ cells) = cells_seen (cell_added seen column cell.visible_length) (column + 1) cells
 
 -- the lengths in columns, with those of a row
-abbrev row_added : List (List ℕ) → List FmtComposite → List (List ℕ)
-row_added [] cells = []
+abbrev row_added : List (List ℕ) → List ℕ → List (List ℕ)
+row_added [] ws = []
 row_added (c ∷ cs) [] = c ∷ cs
-row_added (c ∷ cs) (cell ∷ cells) = (c ++ cell.visible_length ∷ []) ∷ row_added cs cells
+row_added (c ∷ cs) (w ∷ ws) = (c ++ w ∷ []) ∷ row_added cs ws
 
 nothing_added : (cs : List (List ℕ)) → row_added cs [] ≡ cs
 nothing_added [] = refl
@@ -50,7 +50,7 @@ added_at_seam done c cs w =
     set-append_seam done c cs (get_or (done ++ c ∷ cs) (length done) [] ++ w ∷ []) ∙ ap (λ x. done ++ (x ++ w ∷ []) ∷ cs) (get_at_seam done c cs [])
     ∙ sym (append_assoc done ((c ++ w ∷ []) ∷ []) cs)
 
-row_seen : (done seen : List (List ℕ)) (cells : List FmtComposite) → cells_seen (done ++ seen) (length done) cells ≡ done ++ row_added seen cells
+row_seen : (done seen : List (List ℕ)) (cells : List FmtComposite) → cells_seen (done ++ seen) (length done) cells ≡ done ++ row_added seen (lengths_of cells)
 row_seen done seen [] = ap (λ s. done ++ s) (sym (nothing_added seen))
 row_seen done [] (cell ∷ cells) =
     let same : done ++ [] ≡ done = append-nil done in
@@ -61,32 +61,35 @@ row_seen done (c ∷ cs) (cell ∷ cells) =
     let one : List (List ℕ) = (c ++ w ∷ []) ∷ [] in
     let longer : length done + 1 ≡ length (done ++ one) = sym (length-append done one) in
     ap (λ s. cells_seen s (length done + 1) cells) (added_at_seam done c cs w) ∙ ap (λ n. cells_seen ((done ++ one) ++ cs) n cells) longer
-    ∙ row_seen (done ++ one) cs cells ∙ append_assoc done one (row_added cs cells)
+    ∙ row_seen (done ++ one) cs cells ∙ append_assoc done one (row_added cs (lengths_of cells))
 
-first_more : (rows : List (List FmtComposite)) (cell : FmtComposite) (cells : List FmtComposite) → first_lengths (rows ++ (cell ∷ cells) ∷ []) ≡ first_lengths rows ++ cell.visible_length ∷ []
-first_more [] cell cells = refl
-first_more ([] ∷ rows) cell cells = first_more rows cell cells
-first_more ((x ∷ xs) ∷ rows) cell cells = ap (λ ls. x.visible_length ∷ ls) (first_more rows cell cells)
+first_more : (rows : List (List ℕ)) (w : ℕ) (ws : List ℕ) → flat_map (take 1) (rows ++ (w ∷ ws) ∷ []) ≡ flat_map (take 1) rows ++ w ∷ []
+first_more [] w ws = refl
+first_more ([] ∷ rows) w ws = first_more rows w ws
+first_more ((x ∷ xs) ∷ rows) w ws = ap (λ (l : List ℕ). x ∷ l) (first_more rows w ws)
 
-first_same : (rows : List (List FmtComposite)) → first_lengths (rows ++ [] ∷ []) ≡ first_lengths rows
+first_same : (rows : List (List ℕ)) → flat_map (take 1) (rows ++ [] ∷ []) ≡ flat_map (take 1) rows
 first_same [] = refl
 first_same ([] ∷ rows) = first_same rows
-first_same ((x ∷ xs) ∷ rows) = ap (λ ls. x.visible_length ∷ ls) (first_same rows)
+first_same ((x ∷ xs) ∷ rows) = ap (λ (l : List ℕ). x ∷ l) (first_same rows)
 
-lengths_more : (n : ℕ) (rows : List (List FmtComposite)) (cells : List FmtComposite) → lengths_in n (rows ++ cells ∷ []) ≡ row_added (lengths_in n rows) cells
-lengths_more zero rows cells = refl
-lengths_more (suc n) rows [] =
-    ap (λ c. c ∷ lengths_in n (map below (rows ++ [] ∷ []))) (first_same rows)
-    ∙ ap (λ rs. first_lengths rows ∷ lengths_in n rs) (map-append below rows ([] ∷ []))
-    ∙ ap (λ ls. first_lengths rows ∷ ls) (lengths_more n (map below rows) [] ∙ nothing_added (lengths_in n (map below rows)))
-lengths_more (suc n) rows (cell ∷ cells) =
-    ap (λ c. c ∷ lengths_in n (map below (rows ++ (cell ∷ cells) ∷ []))) (first_more rows cell cells)
-    ∙ ap (λ rs. (first_lengths rows ++ cell.visible_length ∷ []) ∷ lengths_in n rs) (map-append below rows ((cell ∷ cells) ∷ []))
-    ∙ ap (λ ls. (first_lengths rows ++ cell.visible_length ∷ []) ∷ ls) (lengths_more n (map below rows) cells)
+columns_more : (n : ℕ) (rows : List (List ℕ)) (ws : List ℕ) → first_columns n (rows ++ ws ∷ []) ≡ row_added (first_columns n rows) ws
+columns_more zero rows ws = refl
+columns_more (suc n) rows [] =
+    let later : List (List ℕ) = map (drop 1) rows in
+    ap (λ c. c ∷ first_columns n (map (drop 1) (rows ++ [] ∷ []))) (first_same rows)
+    ∙ ap (λ rs. flat_map (take 1) rows ∷ first_columns n rs) (map-append (drop 1) rows ([] ∷ []))
+    ∙ ap (λ cs. flat_map (take 1) rows ∷ cs) (columns_more n later [] ∙ nothing_added (first_columns n later))
+columns_more (suc n) rows (w ∷ ws) =
+    let first : List ℕ = flat_map (take 1) rows ++ w ∷ [] in
+    ap (λ c. c ∷ first_columns n (map (drop 1) (rows ++ (w ∷ ws) ∷ []))) (first_more rows w ws)
+    ∙ ap (λ rs. first ∷ first_columns n rs) (map-append (drop 1) rows ((w ∷ ws) ∷ []))
+    ∙ ap (λ cs. first ∷ cs) (columns_more n (map (drop 1) rows) ws)
 
 -- a row that is seen cell by cell
 pub row_is_seen : (n : ℕ) (rows : List (List FmtComposite)) (cells : List FmtComposite) → cells_seen (lengths_in n rows) 0 cells ≡ lengths_in n (rows ++ cells ∷ [])
-row_is_seen n rows cells = row_seen [] (lengths_in n rows) cells ∙ sym (lengths_more n rows cells)
+row_is_seen n rows cells =
+    row_seen [] (lengths_in n rows) cells ∙ sym (ap (first_columns n) (map-append lengths_of rows (cells ∷ [])) ∙ columns_more n (map lengths_of rows) (lengths_of cells))
 
 -- the cells of a row so far, with the rest of them, are all
 abbrev pub CellsSeen : TblFit → TblFit → List FmtComposite → ℕ → Type 0
@@ -153,22 +156,18 @@ lengths_start (suc n) = ap (λ ls. [] ∷ ls) (lengths_start n)
 
 -- ---- the kept widths
 
-length-lengths : (n : ℕ) (rows : List (List FmtComposite)) → length (lengths_in n rows) ≡ n
-length-lengths zero rows = refl
-length-lengths (suc n) rows = ap suc (length-lengths n (map below rows))
+column_count : (n : ℕ) (rows : List (List ℕ)) → length (first_columns n rows) ≡ n
+column_count zero rows = refl
+column_count (suc n) rows = ap suc (column_count n (map (drop 1) rows))
 
-first-le : (rows : List (List FmtComposite)) → length (first_lengths rows) ≤ length rows
+first-le : (rows : List (List ℕ)) → length (flat_map (take 1) rows) ≤ length rows
 first-le [] = omega arith
 first-le ([] ∷ rows) = omega (arith, first-le rows)
 first-le ((x ∷ xs) ∷ rows) = omega (arith, first-le rows)
 
-length-below : (rows : List (List FmtComposite)) → length (map below rows) ≡ length rows
-length-below [] = refl
-length-below (r ∷ rows) = ap suc (length-below rows)
-
-few_each : (n : ℕ) (rows : List (List FmtComposite)) → length rows < 2 ^ 64 → AllByRecursion (λ (c : List ℕ). length c < 2 ^ 64) (lengths_in n rows)
+few_each : (n : ℕ) (rows : List (List ℕ)) → length rows < 2 ^ 64 → AllByRecursion (λ (c : List ℕ). length c < 2 ^ 64) (first_columns n rows)
 few_each zero rows few = tt
-few_each (suc n) rows few = (omega (arith, few, first-le rows), few_each n (map below rows) (omega (arith, few, length-below rows)))
+few_each (suc n) rows few = (omega (arith, few, first-le rows), few_each n (map (drop 1) rows) (omega (arith, few, length-map rows (drop 1))))
 
 rows-le : (ls : List FmtLine) → length (rows_among ls) ≤ length ls
 rows-le [] = omega arith
@@ -195,10 +194,11 @@ all_threes (suc k) = (omega arith, all_threes k)
 pub kept_fitted : (n width : ℕ) (table : List FmtLine) (fitted : TblFitResult) → 4 * n + 1 ≤ width → length table < 2 ^ 64 → IsTableFit width (lengths_in n (rows_among table)) fitted
     → AreKeptWidths n width table fitted.col_widths.items
 kept_fitted n width table fitted wide few fit =
-    let cells : List (List ℕ) = lengths_in n (rows_among table) in
+    let rows : List (List ℕ) = map lengths_of (rows_among table) in
+    let cells : List (List ℕ) = first_columns n rows in
     let ws : List ℕ = fitted.col_widths.items in
-    let count : length cells ≡ n = length-lengths n (rows_among table) in
-    let each : IsFit (width - 1 - length cells) (map needs_of cells) fitted = fit.exact (All-from_recursion (λ c. length c < 2 ^ 64) cells (few_each n (rows_among table) (omega (arith, few, rows-le table)))) in
+    let count : length cells ≡ n = column_count n rows in
+    let each : IsFit (width - 1 - length cells) (map needs_of cells) fitted = fit.exact (All-from_recursion (λ c. length c < 2 ^ 64) cells (few_each n rows (omega (arith, few, rows-le table, length-map (rows_among table) lengths_of)))) in
     let borders : bordered ws ≡ sum ws + length ws = bordered_is ws in
     let same_count : length ws ≡ length cells = fit.count in
     let within : sum ws + length cells + 1 ≤ width = fit.within in

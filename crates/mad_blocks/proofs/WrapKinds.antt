@@ -16,6 +16,7 @@ use Rattle.mad_format.specs.declared.line.FmtLine.{FmtLine}
 use Rattle.mad_format.specs.declared.line.FmtLine.TheVariants.{Normal, TableRow}
 use Rattle.mad_format.specs.declared.table.FmtTableRow.{FmtTableRow}
 use Rattle.mad_format.specs.declared.table.RelativePosition.{RelativePosition}
+use Rattle.mad_format.proofs.ListLemmas.{become_by}
 use Rattle.mad_blocks.proofs.WideLayouts.{IsLayout}
 
 -- each wrap of the first kind is one of the second
@@ -81,8 +82,7 @@ line_fits skin width (Normal l) own (inr (wide, (wrap, wraps, same))) =
 line_fits skin width _ own here = here
 
 lines_fit : (skin : LineRules) (width : ℕ) (read lines : List FmtLine) → AreLinesAt IsCompositeWrap skin (Some width) read lines → AreLinesAt IsFittingWrap skin (Some width) read lines
-lines_fit skin width [] lines h = h
-lines_fit skin width (l ∷ ls) lines (own, others, joins, here, more) = (own, others, joins, line_fits skin width l own here, lines_fit skin width ls others more)
+lines_fit skin width = become_by (IsLineAt IsCompositeWrap skin (Some width)) (IsLineAt IsFittingWrap skin (Some width)) (line_fits skin width)
 
 part_fits : (skin : LineRules) (width : ℕ) (p : Part) (own : List FmtLine) → IsPartAt IsCompositeWrap skin width (Some width) p own → IsPartAt IsFittingWrap skin width (Some width) p own
 part_fits skin width (table ls) own here = table_by IsCompositeWrap IsFittingWrap wrap_fits skin _ width ls own here
@@ -90,8 +90,7 @@ part_fits skin width (block ls) own here = lines_fit skin width (map Normal (jus
 part_fits skin width (single l) own here = lines_fit skin width (l ∷ []) own here
 
 parts_fit : (skin : LineRules) (width : ℕ) (ps : List Part) (lines : List FmtLine) → ArePartsAt IsCompositeWrap skin width (Some width) ps lines → ArePartsAt IsFittingWrap skin width (Some width) ps lines
-parts_fit skin width [] lines h = h
-parts_fit skin width (p ∷ ps) lines (own, others, joins, here, more) = (own, others, joins, part_fits skin width p own here, parts_fit skin width ps others more)
+parts_fit skin width = become_by (IsPartAt IsCompositeWrap skin width (Some width)) (IsPartAt IsFittingWrap skin width (Some width)) (part_fits skin width)
 
 pub layout_fits : (skin : LineRules) (width : ℕ) (text : List LineContent) (lines : List FmtLine) → IsLayout skin width text lines → IsFittingLayout skin width text lines
 layout_fits skin width text lines layout = record { read = layout.read; reads = layout.reads; laid = parts_fit skin width (parts_of layout.read) lines layout.laid }

@@ -1,5 +1,5 @@
 -- A text's lines as parts, and its layout, part by part: tables, blocks of code, and any other line by itself.
-use Rattle.std.specs.Prelude.{◌≡◌, ℕ, ◌-◌, ◌^◌, max, min, nat_lt, if◌then◌else◌, Bool, true, false, List, [], ◌∷◌, ◌++◌, map, Option, Some, None}
+use Rattle.std.specs.Prelude.{◌≡◌, ℕ, ◌-◌, ◌^◌, min, nat_lt, if◌then◌else◌, Bool, true, false, List, [], ◌∷◌, map, Option, Some, None}
 use Rattle.mad_md.specs.declared.alignment.Alignment.TheVariants.{Left}
 use Rattle.mad_style.specs.LineStyles.{width_inside}
 use Rattle.mad_style.specs.declared.kinds.CompositeKind.{CompositeKind}
@@ -8,6 +8,7 @@ use Rattle.mad_format.specs.CompositeWraps.{IsCompositeWrap}
 use Rattle.mad_blocks.specs.Tables.{IsTableLaidOutBy, columns_count}
 use Rattle.mad_format.specs.WrappedLines.{Wrap, IsLineLaidOutBy}
 use Rattle.mad_format.specs.LineRules.{LineRules}
+use Rattle.mad_format.specs.Lists.{most, EachBecomes}
 use Rattle.mad_format.specs.declared.composite.FmtComposite.{FmtComposite}
 use Rattle.mad_format.specs.declared.line.FmtLine.{FmtLine}
 use Rattle.mad_format.specs.declared.line.FmtLine.TheVariants.{Normal, TableRow, TableRule, HorizontalRule}
@@ -57,11 +58,6 @@ abbrev pub parts_of : List FmtLine → List Part
 parts_of [] = []
 parts_of (l ∷ ls) = with_line l (parts_of ls)
 
--- what becomes of each of the parts, in order: `becomes` says what a part becomes
-abbrev pub ArePartsBy : (Part → List FmtLine → Type 0) → List Part → List FmtLine → Type 0
-ArePartsBy becomes [] lines = lines ≡ []
-ArePartsBy becomes (p ∷ ps) lines = (own : List FmtLine) × (others : List FmtLine) × (lines ≡ own ++ others) × becomes p own × ArePartsBy becomes ps others
-
 -- ---- tables
 
 -- a table is laid out, any other part stays
@@ -72,14 +68,13 @@ IsTableFixedBy wraps skin width (single l) lines = lines ≡ l ∷ []
 
 -- lines with each table laid out
 abbrev pub AreTablesLaidOut : Wrap → LineRules → ℕ → List FmtLine → List FmtLine → Type 0
-AreTablesLaidOut wraps skin width source lines = ArePartsBy (IsTableFixedBy wraps skin width) (parts_of source) lines
+AreTablesLaidOut wraps skin width source = EachBecomes (IsTableFixedBy wraps skin width) (parts_of source)
 
 -- ---- blocks of code
 
 -- the columns of the widest line
 abbrev pub widest : List FmtComposite → ℕ
-widest [] = 0
-widest (l ∷ ls) = max l.visible_length (widest ls)
+widest = most (λ (l : FmtComposite). l.visible_length)
 
 -- a width, at most the room, if there is a limit
 abbrev pub width_within : Option ℕ → ℕ → ℕ
@@ -122,8 +117,7 @@ IsLineAt wraps skin (Some width) l lines = IsLineLaidOutBy wraps skin width l li
 
 -- what becomes of each of the lines, in order
 abbrev pub AreLinesAt : Wrap → LineRules → Option ℕ → List FmtLine → List FmtLine → Type 0
-AreLinesAt wraps skin width [] lines = lines ≡ []
-AreLinesAt wraps skin width (l ∷ ls) lines = (own : List FmtLine) × (others : List FmtLine) × (lines ≡ own ++ others) × IsLineAt wraps skin width l own × AreLinesAt wraps skin width ls others
+AreLinesAt wraps skin width = EachBecomes (IsLineAt wraps skin width)
 
 -- what becomes of a block of code at a width, if there is one: its lines get the block's place first
 abbrev pub IsBlockAt : LineRules → Option ℕ → List FmtComposite → List FmtLine → Type 0
@@ -137,4 +131,4 @@ IsPartAt wraps skin tables width (single l) lines = AreLinesAt wraps skin width 
 
 -- what becomes of each of the parts, in order: the layouts of a text's parts joined are its layout
 abbrev pub ArePartsAt : Wrap → LineRules → ℕ → Option ℕ → List Part → List FmtLine → Type 0
-ArePartsAt wraps skin tables width ps lines = ArePartsBy (IsPartAt wraps skin tables width) ps lines
+ArePartsAt wraps skin tables width = EachBecomes (IsPartAt wraps skin tables width)

@@ -1,6 +1,6 @@
 -- The layout of a table.
-use Rattle.std.specs.Prelude.{◌≡◌, ℕ, zero, suc, ◌+◌, ◌-◌, ◌*◌, ◌/◌, ◌<◌, ◌≤◌, ◌==◌, ◌⊎◌, max, Bool, true, false, List, [], ◌∷◌, ◌++◌, map, length, replicate, Some, None}
-use Rattle.std.specs.List.{AllByRecursion}
+use Rattle.std.specs.Prelude.{◌≡◌, ℕ, zero, suc, ◌+◌, ◌-◌, ◌*◌, ◌/◌, ◌<◌, ◌≤◌, ◌==◌, ◌⊎◌, max, Bool, true, false, List, [], ◌∷◌, ◌++◌, map, length, take, drop, replicate, Some, None}
+use Rattle.std.specs.List.{AllByRecursion, flat_map}
 use Rattle.mad_md.specs.declared.alignment.Alignment.{Alignment}
 use Rattle.mad_md.specs.declared.alignment.Alignment.TheVariants.{Unspecified, Center}
 use Rattle.mad_style.specs.declared.kinds.CompositeKind.TheVariants.{Paragraph}
@@ -9,6 +9,7 @@ use Rattle.mad_fit.specs.declared.spacing.Spacing.{Spacing}
 use Rattle.mad_format.specs.FmtLines.{bordered}
 use Rattle.mad_format.specs.WrappedLines.{Wrap}
 use Rattle.mad_format.specs.LineRules.{LineRules}
+use Rattle.mad_format.specs.Lists.{most}
 use Rattle.mad_format.specs.declared.composite.FmtComposite.{FmtComposite}
 use Rattle.mad_format.specs.declared.line.FmtLine.{FmtLine}
 use Rattle.mad_format.specs.declared.line.FmtLine.TheVariants.{Normal, TableRow, TableRule, HorizontalRule}
@@ -82,8 +83,7 @@ AreDown columns lines (row ∷ rows) = IsLineAcross columns lines row.cells.item
 
 -- the count of lines of the cell that has the most
 abbrev pub tallest : List (List FmtComposite) → ℕ
-tallest [] = 0
-tallest (ls ∷ lines) = max (length ls) (tallest lines)
+tallest = most length
 
 -- The rows are a row of a table, laid out in columns: each kept cell is wrapped; there are as many rows as the tallest of
 -- them has lines, and at least one; missing lines and cells are empty paragraphs.
@@ -103,16 +103,18 @@ rows_among (TableRow row ∷ ls) = row.cells.items ∷ rows_among ls
 rows_among (TableRule rule ∷ ls) = rows_among ls
 rows_among (HorizontalRule ∷ ls) = rows_among ls
 
--- the cached lengths of the first cells of rows; a row without cells has none
-abbrev pub first_lengths : List (List FmtComposite) → List ℕ
-first_lengths [] = []
-first_lengths ([] ∷ rows) = first_lengths rows
-first_lengths ((cell ∷ cells) ∷ rows) = cell.visible_length ∷ first_lengths rows
+-- the first n columns of rows; a short row has nothing in the last ones
+abbrev pub first_columns : ℕ → List (List ℕ) → List (List ℕ)
+first_columns zero rows = []
+first_columns (suc n) rows = flat_map (take 1) rows ∷ first_columns n (map (drop 1) rows)
+
+-- the cached lengths of cells
+abbrev pub lengths_of : List FmtComposite → List ℕ
+lengths_of cells = map (λ (cell : FmtComposite). cell.visible_length) cells
 
 -- those of the cells in each of n columns
 abbrev pub lengths_in : ℕ → List (List FmtComposite) → List (List ℕ)
-lengths_in zero rows = []
-lengths_in (suc n) rows = first_lengths rows ∷ lengths_in n (map below rows)
+lengths_in n rows = first_columns n (map lengths_of rows)
 
 -- The widths of the kept columns of a table of n columns: at least three each, and with their borders they fit. Where there is room for
 -- three in each of the n, all are kept, with the widths that their cells need, or that share what is available; else as many as
@@ -177,5 +179,4 @@ columns_in HorizontalRule = 0
 
 -- the greatest of all lines
 abbrev pub columns_count : List FmtLine → ℕ
-columns_count [] = 0
-columns_count (l ∷ ls) = max (columns_in l) (columns_count ls)
+columns_count = most columns_in

@@ -1,11 +1,12 @@
 -- The parts of a text, and the position of each line in its part.
-use Rattle.std.specs.Prelude.{ℕ, ◌==◌, max, Bool, true, false, ◌&&◌, ◌||◌, List, [], ◌∷◌, length, Option, Some, None, if◌then◌else◌}
+use Rattle.std.specs.Prelude.{ℕ, ◌==◌, Bool, true, false, ◌&&◌, ◌||◌, List, [], ◌∷◌, length, Option, Some, None, if◌then◌else◌}
 use Rattle.std.specs.List.{flat_map}
 use Rattle.mad_md.specs.Lines.{LineContent, normal, table_row, table_rule, horizontal_rule}
 use Rattle.mad_md.specs.declared.alignment.Alignment.{Alignment}
 use Rattle.mad_style.specs.Kinds.{kind_of}
 use Rattle.mad_blocks.specs.LayoutParts.{is_code_kind}
 use Rattle.mad_blocks.specs.Tables.{position_at}
+use Rattle.mad_format.specs.Lists.{most}
 use Rattle.mad_format.specs.declared.table.RelativePosition.{RelativePosition}
 use Rattle.mad_format.specs.declared.table.RelativePosition.TheVariants.{Other}
 
@@ -44,8 +45,7 @@ count_in horizontal_rule = 0
 
 -- the greatest of all lines
 abbrev pub columns_among : List LineContent → ℕ
-columns_among [] = 0
-columns_among (l ∷ ls) = max (count_in l) (columns_among ls)
+columns_among = most count_in
 
 -- A line, and the part in which it is: the alignments of the part's last rule down to the line, and the line's position in its part.
 pub record LineInPart : Type 0 where

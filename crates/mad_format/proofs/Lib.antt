@@ -1,3 +1,4 @@
+pub mod ListLemmas
 pub mod MeasureLemmas
 pub mod ReadLemmas
 pub mod ReadWraps

@@ -1,5 +1,5 @@
 -- Lines of a layout.
-use Rattle.std.specs.Prelude.{◌≡◌, ℕ, ◌+◌, ◌-◌, max, Bool, true, false, List, [], ◌∷◌, ◌++◌, length, take, replicate, map, None}
+use Rattle.std.specs.Prelude.{◌≡◌, ℕ, ◌+◌, ◌-◌, Bool, true, false, List, [], ◌∷◌, ◌++◌, length, take, replicate, map, None}
 use Rattle.mad_md.specs.Flagged.{run_of}
 use Rattle.mad_md.specs.Lines.{StyledRuns, LineContent, normal, table_row, table_rule, horizontal_rule}
 use Rattle.mad_md.specs.declared.alignment.Alignment.{Alignment}
@@ -9,6 +9,7 @@ use Rattle.mad_style.specs.declared.kinds.CompositeKind.{CompositeKind}
 use Rattle.mad_wrap.specs.WrapLines.{capped}
 use Rattle.mad_format.specs.Wraps.{IsMeasured}
 use Rattle.mad_format.specs.LineRules.{LineRules}
+use Rattle.mad_format.specs.Lists.{most}
 use Rattle.mad_format.specs.declared.composite.FmtComposite.{FmtComposite}
 use Rattle.mad_format.specs.declared.line.FmtLine.{FmtLine}
 use Rattle.mad_format.specs.declared.line.FmtLine.TheVariants.{Normal, TableRow, TableRule, HorizontalRule}
@@ -47,8 +48,7 @@ columns_of_line HorizontalRule = 0
 
 -- the columns of the widest line
 abbrev pub widest_line : List FmtLine → ℕ
-widest_line [] = 0
-widest_line (l ∷ ls) = max (columns_of_line l) (widest_line ls)
+widest_line = most columns_of_line
 
 -- The composite is of this kind and says this, measured in this skin; it is not yet laid out, so it has no place of its own and no
 -- margins.

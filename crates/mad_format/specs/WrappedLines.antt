@@ -1,10 +1,11 @@
 -- Lines of a layout that are wrapped at a width.
-use Rattle.std.specs.Prelude.{◌≡◌, ℕ, ◌+◌, ◌<◌, ◌≤◌, ◌⊎◌, List, [], ◌∷◌, ◌++◌, map, Some}
+use Rattle.std.specs.Prelude.{◌≡◌, ℕ, ◌+◌, ◌<◌, ◌≤◌, ◌⊎◌, List, [], ◌∷◌, map, Some}
 use Rattle.std.specs.List.{AllByRecursion}
 use Rattle.mad_style.specs.LineStyles.{margins_at, width_inside}
 use Rattle.mad_format.specs.CompositeWraps.{IsCompositeWrap}
 use Rattle.mad_format.specs.Wraps.{IsMeasured}
 use Rattle.mad_format.specs.LineRules.{LineRules}
+use Rattle.mad_format.specs.Lists.{EachBecomes}
 use Rattle.mad_format.specs.declared.composite.FmtComposite.{FmtComposite}
 use Rattle.mad_format.specs.declared.line.FmtLine.{FmtLine}
 use Rattle.mad_format.specs.declared.line.FmtLine.TheVariants.{Normal, TableRow, TableRule, HorizontalRule}
@@ -46,8 +47,7 @@ IsLineLaidOutBy wraps skin width HorizontalRule lines = lines ≡ HorizontalRule
 
 -- what becomes of each of the lines, in order
 abbrev pub AreLaidOutBy : Wrap → LineRules → ℕ → List FmtLine → List FmtLine → Type 0
-AreLaidOutBy wraps skin width [] lines = lines ≡ []
-AreLaidOutBy wraps skin width (l ∷ ls) lines = (own : List FmtLine) × (others : List FmtLine) × (lines ≡ own ++ others) × IsLineLaidOutBy wraps skin width l own × AreLaidOutBy wraps skin width ls others
+AreLaidOutBy wraps skin width = EachBecomes (IsLineLaidOutBy wraps skin width)
 
 -- the same three with the fewest lines
 abbrev pub IsWrapped : LineRules → ℕ → FmtComposite → List FmtLine → Type 0

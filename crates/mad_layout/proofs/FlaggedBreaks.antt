@@ -75,8 +75,8 @@ fits_back max indent r [] honest fits dropped = tt
 fits_back max indent r (q ∷ qs) honest fits dropped =
     let is = IsHonest max in
     let line = all_front is q.line (q.gap ++ lines_and_gaps qs) honest in
-    let behind = all_back is q.line (q.gap ++ lines_and_gaps qs) honest in
-    (omega (arith, fits.0, width_of-tokens max q.line line), blank_tokens max q.gap (all_front is q.gap (lines_and_gaps qs) behind) dropped.0, fits_back max r.other r qs (all_back is q.gap (lines_and_gaps qs) behind) fits.1 dropped.1)
+    let later = all_back is q.line (q.gap ++ lines_and_gaps qs) honest in
+    (omega (arith, fits.0, width_of-tokens max q.line line), blank_tokens max q.gap (all_front is q.gap (lines_and_gaps qs) later) dropped.0, fits_back max r.other r qs (all_back is q.gap (lines_and_gaps qs) later) fits.1 dropped.1)
 
 no_tokens : (ts : List Token) → map flagged_token ts ≡ [] → ts ≡ []
 no_tokens [] e = refl

@@ -1,5 +1,5 @@
 -- The headline follows from what an area shows of a layout.
-use Rattle.std.proofs.Common.{◌≡◌, ℕ, zero, suc, ◌-◌, ◌^◌, ◌<◌, ◌≤◌, ◌⊎◌, inl, inr, List, [], ◌∷◌, ◌++◌, map, take, length, replicate, get_or, Option, Some, None, IfSome, Result, Ok, Err, OnOk, refl, ap, sym, ◌∙◌, subst, arith, append_assoc}
+use Rattle.std.proofs.Common.{◌≡◌, ℕ, zero, suc, ◌-◌, ◌^◌, ◌<◌, ◌≤◌, ◌⊎◌, inl, inr, List, [], ◌∷◌, ◌++◌, map, take, length, replicate, get_or, Option, Some, None, IfSome, Result, Ok, Err, OnOk, refl, ap, sym, ◌∙◌, subst, arith}
 use Rattle.std.specs.Prelude.{slice_get, unwrap_or}
 use Rattle.std.proofs.Math.ListN.{get_or-map}
 use Rattle.std.proofs.lemmas.List.{append-nil, length-map, map-append}
@@ -14,10 +14,11 @@ use Rattle.mad_fit.specs.Areas.{IsWithinLimits}
 use Rattle.mad_fit.specs.declared.area.Area.{Area}
 use Rattle.mad_draw.specs.Pieces.{PennedChar, penned_chars}
 use Rattle.mad_draw.specs.PennedCells.{penned_attached, penned_cells}
-use Rattle.mad_layout.specs.FlaggedTexts.{LineInPart, lines_in_parts, AreAcross}
+use Rattle.mad_layout.specs.FlaggedTexts.{LineInPart, lines_in_parts, IsAcross, AreAcross}
 use Rattle.mad_blocks.specs.Fronts.{IsFrontLayout}
 use Rattle.mad_layout.specs.Headline.{cell_chars, AreShownAcross, ShowsFirstRows, ShowsHeadline}
 use Rattle.mad_layout.specs.InArea.{ShowsText}
+use Rattle.mad_format.proofs.ListLemmas.{both_become}
 use Rattle.mad_blocks.proofs.WideLayouts.{IsLayout}
 use Rattle.mad_rows.specs.Rows.{row_pieces}
 use Rattle.mad_layout.specs.Shown.{AreShownIn}
@@ -120,11 +121,6 @@ as_long (suc n) xs [] e h = absurd (omega (arith, h))
 as_long (suc n) [] (y ∷ ys) e h = absurd (cc)
 as_long (suc n) (x ∷ xs) (y ∷ ys) e h = let tail : take n xs ≡ take n ys = cc in let more : n ≤ length xs = as_long n xs ys tail (omega (arith, h)) in omega (arith, more)
 
-across_both : (skin : RowSkin) (area : Area) (xs ys : List LineInPart) (own others : List (List ℕ)) → AreAcross skin area xs own → AreAcross skin area ys others → AreAcross skin area (xs ++ ys) (own ++ others)
-across_both skin area [] ys own others h more = subst (λ (l : List (List ℕ)). AreAcross skin area ys (l ++ others)) (sym h) more
-across_both skin area (x ∷ xs) ys own others (first, rest, joins, here, h) more =
-    (first, rest ++ others, ap (λ (l : List (List ℕ)). l ++ others) joins ∙ append_assoc first rest others, here, across_both skin area xs ys rest others h more)
-
 -- The rows of a text's first lines are the first rows of the whole text, if they are enough: the rest has rows.
 pub front_is_enough : (skin : RowSkin) (area : Area) (xs ys : List LineInPart) (own lines : List (List ℕ)) → AreAcross skin area xs own → take area.height own ≡ take area.height lines → (ys ≡ []) ⊎ (area.height ≤ length lines)
     → (across : List (List ℕ)) × AreAcross skin area (xs ++ ys) across × (take area.height across ≡ take area.height lines)
@@ -132,7 +128,7 @@ front_is_enough skin area xs ys own lines h same (inl none) =
     (own, subst (λ (l : List LineInPart). AreAcross skin area l own) (sym (ap (λ (l : List LineInPart). xs ++ l) none ∙ append-nil xs)) h, same)
 front_is_enough skin area xs ys own lines h same (inr some) =
     let more = across_exist skin area ys in
-    (own ++ more.0, across_both skin area xs ys own more.0 h more.1, enough_rows area.height own more.0 (as_long area.height own lines same some) ∙ same)
+    (own ++ more.0, both_become (λ (x : LineInPart). IsAcross skin area x x.line) xs ys own more.0 h more.1, enough_rows area.height own more.0 (as_long area.height own lines same some) ∙ same)
 
 rest_or_enough : (skin : RowSkin) (width : ℕ) (height : ℕ) (rest : List LineContent) (lines : List FmtLine) → (rest ≡ []) ⊎ (height ≤ length lines) → (lines_in_parts rest ≡ []) ⊎ (height ≤ length (map (line_chars skin width) lines))
 rest_or_enough skin width height rest lines (inl none) = inl (ap lines_in_parts none)

@@ -281,14 +281,14 @@ pub front_across : (skin : RowSkin) (area : Area) (n : ℕ) (xs ys : List LineIn
     → HaveFirstRows skin area n (xs ++ ys) (own ++ others)
 front_across skin area zero xs ys placed own others bound later keeps reads laid = let all = across_exist skin area (xs ++ ys) in (all.0, all.1, refl)
 front_across skin area (suc n) [] ys [] own others bound later keeps reads laid = subst (λ (ls : List FmtLine). HaveFirstRows skin area (suc n) ys (ls ++ others)) (sym laid) (later (suc n) keeps)
-front_across skin area (suc n) (x ∷ xs) ys (l ∷ ls) own others bound later keeps reads (here, behind, joins, first_laid, more) =
+front_across skin area (suc n) (x ∷ xs) ys (l ∷ ls) own others bound later keeps reads (here, there, joins, first_laid, more) =
     let chars : List FmtLine → List (List ℕ) = map (line_chars skin area.width) in
     let first = content_rows skin area x x.line l here bound keeps.0 reads.0 first_laid in
-    let rest = front_across skin area n xs ys ls behind others bound later keeps.1 reads.1 more in
+    let rest = front_across skin area n xs ys ls there others bound later keeps.1 reads.1 more in
     let count : 0 < length (chars here) = omega (arith, first.0, length-map here (line_chars skin area.width)) in
-    let lines : own ++ others ≡ here ++ (behind ++ others) = ap (λ (ls : List FmtLine). ls ++ others) joins ∙ append_assoc here behind others in (
+    let lines : own ++ others ≡ here ++ (there ++ others) = ap (λ (ls : List FmtLine). ls ++ others) joins ∙ append_assoc here there others in (
       chars here ++ rest.0,
       (chars here, rest.0, refl, first.1, rest.1),
-      some_same (chars here) rest.0 (chars (behind ++ others)) n count rest.2 ∙ ap (take (suc n)) (sym (ap chars lines ∙ map-append (line_chars skin area.width) here (behind ++ others))),
+      some_same (chars here) rest.0 (chars (there ++ others)) n count rest.2 ∙ ap (take (suc n)) (sym (ap chars lines ∙ map-append (line_chars skin area.width) here (there ++ others))),
     )
 front_across skin area _ _ ys _ own others bound later keeps reads _ = absurd reads

@@ -48,9 +48,9 @@ printed : (cs : List ℕ) → AllByRecursion (λ c. 0 < char_columns c) cs → I
 printed [] h = tt
 printed (c ∷ cs) h = (printed_char c h.0, printed cs h.1)
 
-unjoined : (flags : Flags) (cs : List ℕ) → AllByRecursion (λ c. 0 < char_columns c) cs → (behind : Bool) → AreJoined behind (flagged flags cs)
-unjoined flags [] h behind = tt
-unjoined flags (c ∷ cs) h behind = (λ none. absurd (omega (arith, none, h.0)), unjoined flags cs h.1 (not (is_blank (record { char = c; flags = flags }))))
+unjoined : (flags : Flags) (cs : List ℕ) → AllByRecursion (λ c. 0 < char_columns c) cs → (before : Bool) → AreJoined before (flagged flags cs)
+unjoined flags [] h before = tt
+unjoined flags (c ∷ cs) h before = (λ none. absurd (omega (arith, none, h.0)), unjoined flags cs h.1 (not (is_blank (record { char = c; flags = flags }))))
 
 pub printable_run : (flags : Flags) (text : List ℕ) → TakesColumns text → IsPrintableRun (record { flags = flags; text = text })
 printable_run flags text h = record { utf8 = h.utf8; printed = printed (chars text) h.columns; joined = unjoined flags (chars text) h.columns false }
@@ -59,14 +59,14 @@ printable_run flags text h = record { utf8 = h.utf8; printed = printed (chars te
 
 piece_columns : (text : List ℕ) (span : RunSpan) → TakesColumns text → IsBordered text span → TakesColumns (slice_range text span.start span.end)
 piece_columns text span h borders =
-    let behind : List ℕ = drop span.start text in
+    let later : List ℕ = drop span.start text in
     let utf8 : IsUtf8 (slice_range text span.start span.end) = IsUtf8-between text span.start span.end h.utf8 borders.order borders.first borders.last in
-    let cut : chars text ≡ chars (take span.start text) ++ chars behind =
-    sym (ap chars (take-append-drop span.start text)) ∙ chars-append (take span.start text) behind (IsUtf8-take text span.start h.utf8 borders.first) in
-    let rest : chars behind ≡ chars (slice_range text span.start span.end) ++ chars (drop (span.end - span.start) behind) =
-    sym (ap chars (take-append-drop (span.end - span.start) behind)) ∙ chars-append (slice_range text span.start span.end) (drop (span.end - span.start) behind) utf8 in
-    let from : AllByRecursion (λ c. 0 < char_columns c) (chars behind) =
-    all_back (λ c. 0 < char_columns c) (chars (take span.start text)) (chars behind) (subst (AllByRecursion (λ c. 0 < char_columns c)) cut h.columns) in
+    let cut : chars text ≡ chars (take span.start text) ++ chars later =
+    sym (ap chars (take-append-drop span.start text)) ∙ chars-append (take span.start text) later (IsUtf8-take text span.start h.utf8 borders.first) in
+    let rest : chars later ≡ chars (slice_range text span.start span.end) ++ chars (drop (span.end - span.start) later) =
+    sym (ap chars (take-append-drop (span.end - span.start) later)) ∙ chars-append (slice_range text span.start span.end) (drop (span.end - span.start) later) utf8 in
+    let from : AllByRecursion (λ c. 0 < char_columns c) (chars later) =
+    all_back (λ c. 0 < char_columns c) (chars (take span.start text)) (chars later) (subst (AllByRecursion (λ c. 0 < char_columns c)) cut h.columns) in
     record { utf8 = utf8; columns = all_front (λ c. 0 < char_columns c) (chars (slice_range text span.start span.end)) _ (subst (AllByRecursion (λ c. 0 < char_columns c)) rest from) }
 
 printable_runs : (text : List ℕ) (spans : List RunSpan) → TakesColumns text → AllByRecursion (IsBordered text) spans → AllByRecursion IsPrintableRun (map (run_at text) spans)

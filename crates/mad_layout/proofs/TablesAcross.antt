@@ -17,13 +17,13 @@ use Rattle.mad_wrap.specs.declared.room.Room.{Room}
 use Rattle.mad_format.specs.CompositeWraps.{line_compounds, HaveKinds, IsCompositeWrap}
 use Rattle.mad_layout.specs.FlaggedLines.{marked_parts}
 use Rattle.mad_layout.specs.FlaggedRows.{AreRowsOf}
-use Rattle.mad_layout.specs.FlaggedTables.{columns_among, cells_among, down, kept_widths, columns_below, row_in_column, rows_in_column, CellInColumn, AreInColumns, rows_down, most_rows, table_across, IsRowAcross, rule_across_area}
+use Rattle.mad_layout.specs.FlaggedTables.{columns_among, cells_among, kept_widths, columns_below, row_in_column, rows_in_column, CellInColumn, AreInColumns, rows_down, most_rows, table_across, IsRowAcross, rule_across_area}
 use Rattle.mad_layout.specs.FlaggedTexts.{LineInPart, aligns_at, position_in, lines_in, IsAcross}
 use Rattle.mad_format.specs.Indents.{indent, follow_up, room_of}
 use Rattle.mad_format.specs.FmtLines.{bordered, IsCompositeRead, AreCompositesRead, IsLineRead, is_table_line}
 use Rattle.mad_layout.specs.PrintableTables.{ArePrintableCells}
 use Rattle.mad_layout.specs.Premises.{IsPrintablePrefix, IsPrintableText, KeepsPremises}
-use Rattle.mad_blocks.specs.Tables.{in_column, IsCellLaidOut, AreCellsLaidOut, below, tallest, IsRowLaidOutBy, columns_with, columns_from, columns_count, columns_in, position_at, IsTableLineBy, AreTableLinesBy, IsTableLaidOutBy}
+use Rattle.mad_blocks.specs.Tables.{first_columns, in_column, IsCellLaidOut, AreCellsLaidOut, below, tallest, IsRowLaidOutBy, columns_with, columns_from, columns_count, columns_in, position_at, IsTableLineBy, AreTableLinesBy, IsTableLaidOutBy}
 use Rattle.mad_blocks.specs.Tables as tables
 use Rattle.mad_format.specs.Wraps.{text_of, columns_of, IsMeasured}
 use Rattle.mad_rows.specs.declared.row_skin.RowSkin.{RowSkin}
@@ -192,16 +192,16 @@ pub table_front : (skin : RowSkin) (area : Area) (n : ℕ) (ws : List ℕ) (xs y
     → KeepsPremises skin (area.width - 1) (take n (xs ++ ys)) → AreLaidIn skin (area.width - 1) ws xs read own → HaveFirstRows skin area n (xs ++ ys) (own ++ others)
 table_front skin area zero ws xs ys read own others bound fit later keeps laid = let all = across_exist skin area (xs ++ ys) in (all.0, all.1, refl)
 table_front skin area (suc n) ws [] ys [] own others bound fit later keeps laid = subst (λ (ls : List FmtLine). HaveFirstRows skin area (suc n) ys (ls ++ others)) (sym laid) (later (suc n) keeps)
-table_front skin area (suc n) ws (x ∷ xs) ys (l ∷ ls) own others bound fit later keeps (here, behind, joins, h, more) =
+table_front skin area (suc n) ws (x ∷ xs) ys (l ∷ ls) own others bound fit later keeps (here, there, joins, h, more) =
     let drawn : List FmtLine → List (List ℕ) = map (line_chars skin area.width) in
     let content : TableContent skin (area.width - 1) ws l = content_printable skin (area.width - 1) x.part ws x.line l (kept_columns skin (area.width - 1) x.part ws h.widths) keeps.0 h.read h.table in
     let first = line_rows skin area ws x x.line l here bound fit h.widths content h.read h.table h.laid in
-    let rest = table_front skin area n ws xs ys ls behind others bound fit later keeps.1 more in
+    let rest = table_front skin area n ws xs ys ls there others bound fit later keeps.1 more in
     let count : 0 < length (drawn here) = omega (arith, first.0, length-map here (line_chars skin area.width)) in
-    let lines : own ++ others ≡ here ++ (behind ++ others) = ap (λ (ls : List FmtLine). ls ++ others) joins ∙ append_assoc here behind others in (
+    let lines : own ++ others ≡ here ++ (there ++ others) = ap (λ (ls : List FmtLine). ls ++ others) joins ∙ append_assoc here there others in (
       drawn here ++ rest.0,
       (drawn here, rest.0, refl, first.1, rest.1),
-      some_same (drawn here) rest.0 (drawn (behind ++ others)) n count rest.2 ∙ ap (take (suc n)) (sym (ap drawn lines ∙ map-append (line_chars skin area.width) here (behind ++ others))),
+      some_same (drawn here) rest.0 (drawn (there ++ others)) n count rest.2 ∙ ap (take (suc n)) (sym (ap drawn lines ∙ map-append (line_chars skin area.width) here (there ++ others))),
     )
 table_front skin area _ ws _ ys _ own others bound fit later keeps laid = absurd laid
 
@@ -222,12 +222,12 @@ columns_at skin ws above _ _ read _ = absurd read
 laid_in : (skin : RowSkin) (width : ℕ) (ws : List ℕ) (part : List LineContent) (above : Option (List Alignment)) (first : Bool) (cs : List LineContent) (ls own : List FmtLine) → ws ≡ kept_widths skin width part → (columns_among part == 0) ≡ false
     → AreTableRead skin cs ls → AreTableLinesBy IsCompositeWrap (line_rules skin) ws (columns_below ws above) first ls own → AreLaidIn skin width ws (lines_in part above first cs) ls own
 laid_in skin width ws part above first [] [] own is some reads laid = laid
-laid_in skin width ws part above first (c ∷ cs) (l ∷ ls) own is some reads (here, behind, joins, one, more) =
+laid_in skin width ws part above first (c ∷ cs) (l ∷ ls) own is some reads (here, there, joins, one, more) =
     let columns = columns_at skin ws above c l reads.0.read reads.0.line in
     let place : position_at first (length ls == 0) ≡ position_in part first (length cs == 0) =
     ap (λ n. position_at first (n == 0)) (as_long skin cs ls reads.1) ∙ ap (λ (b : Bool). if b then Other else position_at first (length cs == 0)) (sym some) in (
       here,
-      behind,
+      there,
       joins,
       record {
         widths = is;
@@ -236,7 +236,7 @@ laid_in skin width ws part above first (c ∷ cs) (l ∷ ls) own is some reads (
         laid = subst (λ (p : RelativePosition). IsTableLineBy IsCompositeWrap (line_rules skin) (columns_below ws (aligns_at above c)) p l here) place
             (subst (λ (xs : List Spacing). IsTableLineBy IsCompositeWrap (line_rules skin) xs (position_at first (length ls == 0)) l here) columns one);
       },
-      laid_in skin width ws part (aligns_at above c) false cs ls behind is some reads.1 (subst (λ (xs : List Spacing). AreTableLinesBy IsCompositeWrap (line_rules skin) ws xs false ls behind) columns more),
+      laid_in skin width ws part (aligns_at above c) false cs ls there is some reads.1 (subst (λ (xs : List Spacing). AreTableLinesBy IsCompositeWrap (line_rules skin) ws xs false ls there) columns more),
     )
 laid_in skin width ws part above first _ _ own is some reads _ = absurd reads
 
@@ -249,7 +249,7 @@ no_columns available = let test : nat_le 0 available ≡ true = grind (arith, na
 no_widths : (skin : RowSkin) (width : ℕ) (part : List LineContent) → 0 < width → columns_among part ≡ 0 → [] ≡ kept_widths skin width part
 no_widths skin width part some none =
     let test : nat_le (4 * columns_among part + 1) width ≡ true = grind (arith, nat_tests) in
-    sym (ap (λ n. if nat_le (4 * n + 1) width then column_widths (width - 1 - n) (map needs_of (down n (cells_among skin part))) else replicate ((width - 1) / 4) 3) none
+    sym (ap (λ n. if nat_le (4 * n + 1) width then column_widths (width - 1 - n) (map needs_of (first_columns n (cells_among skin part))) else replicate ((width - 1) / 4) 3) none
     ∙ ap (λ (b : Bool). if b then column_widths (width - 1 - 0) [] else replicate ((width - 1) / 4) 3) (ap (λ n. nat_le (4 * n + 1) width) (sym none) ∙ test)
     ∙ no_columns (width - 1 - 0))
 

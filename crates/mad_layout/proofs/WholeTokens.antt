@@ -43,18 +43,18 @@ positive (suc n) h = omega arith
 -- ---- a text that is cut into tokens
 
 -- whether a character that isn't blank is in front of what follows these
-abbrev behind : Bool → List FlaggedChar → Bool
-behind b [] = b
-behind b (x ∷ xs) = behind (not (is_blank x)) xs
+abbrev ahead_after : Bool → List FlaggedChar → Bool
+ahead_after b [] = b
+ahead_after b (x ∷ xs) = ahead_after (not (is_blank x)) xs
 
-joined_back : (b : Bool) (xs ys : List FlaggedChar) → AreJoined b (xs ++ ys) → AreJoined (behind b xs) ys
+joined_back : (b : Bool) (xs ys : List FlaggedChar) → AreJoined b (xs ++ ys) → AreJoined (ahead_after b xs) ys
 joined_back b [] ys h = h
 joined_back b (x ∷ xs) ys h = joined_back (not (is_blank x)) xs ys h.1
 
-behind_alike : (b blank : Bool) (xs : List FlaggedChar) → 0 < length xs → AllByRecursion (λ x. is_blank x ≡ blank) xs → behind b xs ≡ not blank
-behind_alike b blank [] some h = absurd (omega arith)
-behind_alike b blank (x ∷ []) some h = ap not h.0
-behind_alike b blank (x ∷ y ∷ xs) some h = behind_alike (not (is_blank x)) blank (y ∷ xs) (omega arith) h.1
+ahead_alike : (b blank : Bool) (xs : List FlaggedChar) → 0 < length xs → AllByRecursion (λ x. is_blank x ≡ blank) xs → ahead_after b xs ≡ not blank
+ahead_alike b blank [] some h = absurd (omega arith)
+ahead_alike b blank (x ∷ []) some h = ap not h.0
+ahead_alike b blank (x ∷ y ∷ xs) some h = ahead_alike (not (is_blank x)) blank (y ∷ xs) (omega arith) h.1
 
 -- what is left of a printable text where a token begins
 record IsRest (max : ℕ) (xs : List FlaggedChar) : Type 0 where
@@ -77,12 +77,12 @@ none_widthless max w blank xs ys y some alike narrow (inl differs) none black af
 none_widthless max w blank (x ∷ []) ys y some alike narrow (inr passes) none black after = omega (arith, alike.counts, narrow.0, passes, none)
 none_widthless max w blank (x ∷ z ∷ xs) ys y some alike narrow (inr passes) none black after = omega (arith, alike.within (omega arith), passes, none)
 
-whole_behind : (max w : ℕ) (blank b : Bool) (xs ys : List FlaggedChar) → 0 < length xs → IsAlike max blank w xs → AllByRecursion (λ x. char_columns x.char ≤ max) xs
-    → StopsBefore max blank w ys → AreJoined (behind b xs) ys → IsWhole (chars_of ys)
-whole_behind max w blank b xs [] some alike narrow stops joined = tt
-whole_behind max w blank b xs (y ∷ ys) some alike narrow stops joined =
+whole_after : (max w : ℕ) (blank b : Bool) (xs ys : List FlaggedChar) → 0 < length xs → IsAlike max blank w xs → AllByRecursion (λ x. char_columns x.char ≤ max) xs
+    → StopsBefore max blank w ys → AreJoined (ahead_after b xs) ys → IsWhole (chars_of ys)
+whole_after max w blank b xs [] some alike narrow stops joined = tt
+whole_after max w blank b xs (y ∷ ys) some alike narrow stops joined =
     positive (char_columns y.char) (λ none.
-    none_widthless max w blank xs ys y some alike narrow stops none (joined.0 none).0 (sym (behind_alike b blank xs some alike.alike) ∙ (joined.0 none).1))
+    none_widthless max w blank xs ys y some alike narrow stops none (joined.0 none).0 (sym (ahead_alike b blank xs some alike.alike) ∙ (joined.0 none).1))
 
 -- the text in front is shown, and where the next begins the rest is as this was
 cut_rest : (max w : ℕ) (blank : Bool) (xs ys : List FlaggedChar) → 0 < length xs → IsAlike max blank w xs → StopsBefore max blank w ys → IsRest max (xs ++ ys)
@@ -91,12 +91,12 @@ cut_rest max w blank xs ys some alike stops h =
     let cut : chars_of (xs ++ ys) ≡ chars_of xs ++ chars_of ys = map-append (λ (x : FlaggedChar). x.char) xs ys in
     let printed : IsPrinted (chars_of xs ++ chars_of ys) = subst IsPrinted cut h.printed in
     let whole : IsWhole (chars_of xs ++ chars_of ys) = subst IsWhole cut h.whole in
-    let joined : AreJoined (behind h.ahead xs) ys = joined_back h.ahead xs ys h.joined in (
+    let joined : AreJoined (ahead_after h.ahead xs) ys = joined_back h.ahead xs ys h.joined in (
       record { printed = printed_front (chars_of xs) (chars_of ys) printed; whole = whole_front (chars_of xs) (chars_of ys) whole },
       record {
         printed = printed_back (chars_of xs) (chars_of ys) printed;
-        whole = whole_behind max w blank h.ahead xs ys some alike (all_front (λ x. char_columns x.char ≤ max) xs ys h.narrow) stops joined;
-        ahead = behind h.ahead xs;
+        whole = whole_after max w blank h.ahead xs ys some alike (all_front (λ x. char_columns x.char ≤ max) xs ys h.narrow) stops joined;
+        ahead = ahead_after h.ahead xs;
         joined = joined;
         narrow = all_back (λ x. char_columns x.char ≤ max) xs ys h.narrow;
       },
@@ -144,5 +144,5 @@ tokens_shown max [] ts printable narrow h = subst (λ (l : List Token). AllByRec
 tokens_shown max (p ∷ ps) ts printable narrow (own, others, joins, first, more) =
     let is = λ (x : FlaggedChar). char_columns x.char ≤ max in
     let here = shown_from max 0 p own first (rest_at_start max p printable.0 (all_front is (flagged_of p) (flagged_text ps) narrow)) in
-    let behind_it = tokens_shown max ps others printable.1 (all_back is (flagged_of p) (flagged_text ps) narrow) more in
-    subst (AllByRecursion IsShownRun) (sym (ap (map token_run) joins ∙ map-append token_run own others)) (all_joined IsShownRun (map token_run own) (map token_run others) here behind_it)
+    let later_shown = tokens_shown max ps others printable.1 (all_back is (flagged_of p) (flagged_text ps) narrow) more in
+    subst (AllByRecursion IsShownRun) (sym (ap (map token_run) joins ∙ map-append token_run own others)) (all_joined IsShownRun (map token_run own) (map token_run others) here later_shown)

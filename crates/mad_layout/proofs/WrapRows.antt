@@ -59,8 +59,8 @@ white_tokens max (t ∷ ts) honest blank =
 white_gaps : (max indent : ℕ) (r : Room) (qs : List (LineAndGap Token)) → AllByRecursion (IsHonest max) (lines_and_gaps qs) → GapsForced indent r qs → WhiteGaps (map flagged_piece qs)
 white_gaps max indent r [] honest gaps = tt
 white_gaps max indent r (q ∷ qs) honest gaps =
-    let behind = all_back (IsHonest max) q.line (q.gap ++ lines_and_gaps qs) honest in
-    (white_tokens max q.gap (all_front (IsHonest max) q.gap (lines_and_gaps qs) behind) gaps.0, white_gaps max r.other r qs (all_back (IsHonest max) q.gap (lines_and_gaps qs) behind) gaps.2)
+    let later = all_back (IsHonest max) q.line (q.gap ++ lines_and_gaps qs) honest in
+    (white_tokens max q.gap (all_front (IsHonest max) q.gap (lines_and_gaps qs) later) gaps.0, white_gaps max r.other r qs (all_back (IsHonest max) q.gap (lines_and_gaps qs) later) gaps.2)
 
 -- a placing is broken at tokens
 placed_broken : (r : Room) (ps : List Compound) (ts : List Token) (rows : List (List FlaggedChar)) → AreTokensOf (token_limit r) ps ts → ArePlaced r ts rows → AreBroken r (map flagged_of ps) rows

@@ -1,5 +1,5 @@
 -- The rows of a line that is of no table across an area.
-use Rattle.std.specs.Prelude.{ℕ, ◌+◌, ◌-◌, max, min, List, [], ◌∷◌, ◌++◌, map, replicate, Some, decimal, encode_utf8, if◌then◌else◌}
+use Rattle.std.specs.Prelude.{ℕ, ◌+◌, ◌-◌, min, List, [], ◌∷◌, ◌++◌, map, replicate, Some, decimal, encode_utf8, if◌then◌else◌}
 use Rattle.std.specs.Str.{chars}
 use Rattle.mad_md.specs.Flagged.{FlaggedChar, flagged}
 use Rattle.mad_md.specs.Lines.{StyledRuns, LineContent, normal}
@@ -12,6 +12,7 @@ use Rattle.mad_fit.specs.TextColumns.{width_of}
 use Rattle.mad_fit.specs.Completions.{left_completion}
 use Rattle.mad_fit.specs.declared.area.Area.{Area}
 use Rattle.mad_format.specs.Indents.{indent, follow_up}
+use Rattle.mad_format.specs.Lists.{most}
 use Rattle.mad_blocks.specs.LayoutParts.{is_code_kind}
 use Rattle.mad_layout.specs.LineTexts.{inner_width, runs_text}
 use Rattle.mad_rows.specs.RowStyles.{line_style, index_suffix}
@@ -21,11 +22,14 @@ use Rattle.mad_rows.specs.declared.row_skin.RowSkin.{RowSkin}
 abbrev pub marked_parts : StyledRuns → List (List FlaggedChar)
 marked_parts line = map (λ r. flagged r.flags (chars r.text)) line.runs
 
+-- the columns of what a line says between its marks, none of a line of a table or a rule
+abbrev pub columns_said : LineContent → ℕ
+columns_said (normal line) = width_of (runs_text line.runs)
+columns_said _ = 0
+
 -- the columns of a part's widest line
 abbrev pub widest_in : List LineContent → ℕ
-widest_in [] = 0
-widest_in (normal line ∷ ls) = max (width_of (runs_text line.runs)) (widest_in ls)
-widest_in (l ∷ ls) = widest_in ls
+widest_in = most columns_said
 
 -- a character of the skin, as it is written
 abbrev pub skin_char : ℕ → List ℕ

@@ -14,8 +14,9 @@ use Rattle.mad_layout.specs.FlaggedLines.{skin_char, front_of, marked_parts}
 use Rattle.mad_layout.specs.FlaggedRows.{AreRowsOf}
 use Rattle.mad_format.specs.Indents.{indent, follow_up, room_of}
 use Rattle.mad_format.specs.FmtLines.{bordered, rule_columns}
+use Rattle.mad_format.specs.Lists.{most}
 use Rattle.mad_rows.specs.Rows.{rule_chars}
-pub use Rattle.mad_layout.specs.TableColumns.{cell_columns, cells_among, down, kept_widths, columns_below}
+pub use Rattle.mad_layout.specs.TableColumns.{cell_columns, cells_among, kept_widths, columns_below}
 pub use Rattle.mad_blocks.specs.TextParts.{count_in, columns_among}
 use Rattle.mad_rows.specs.declared.row_skin.RowSkin.{RowSkin}
 use Rattle.mad_format.specs.declared.table.RelativePosition.{RelativePosition}
@@ -65,8 +66,7 @@ rows_down skin (suc n) cells = first_rows skin cells ∷ rows_down skin n (map (
 
 -- the count of rows of the cell that has the most
 abbrev pub most_rows : List CellInColumn → ℕ
-most_rows [] = 0
-most_rows (cell ∷ cells) = max (length cell.rows) (most_rows cells)
+most_rows = most (λ (cell : CellInColumn). length cell.rows)
 
 -- a rule across columns of these widths: its left end, its horizontals with a junction between two columns, and its right end
 abbrev pub rule_row : RuleChars → List ℕ → List ℕ

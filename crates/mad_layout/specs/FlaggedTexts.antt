@@ -1,5 +1,5 @@
 -- The rows of a text's lines across an area.
-use Rattle.std.specs.Prelude.{◌≡◌, ℕ, ◌-◌, List, [], ◌∷◌, ◌++◌}
+use Rattle.std.specs.Prelude.{◌≡◌, ℕ, ◌-◌, List, [], ◌∷◌}
 use Rattle.std.specs.List.{repeat}
 use Rattle.mad_md.specs.Flagged.{FlaggedChar}
 use Rattle.mad_md.specs.Lines.{LineContent, normal, table_row, table_rule, horizontal_rule}
@@ -10,6 +10,7 @@ use Rattle.mad_layout.specs.FlaggedLines.{skin_char, marked_parts, rows_across}
 use Rattle.mad_layout.specs.FlaggedRows.{AreRowsOf}
 use Rattle.mad_layout.specs.FlaggedTables.{kept_widths, columns_below, IsRowAcross, rule_across_area}
 use Rattle.mad_format.specs.Indents.{room_of}
+use Rattle.mad_format.specs.Lists.{EachBecomes}
 use Rattle.mad_layout.specs.LineTexts.{inner_width}
 pub use Rattle.mad_blocks.specs.TextParts.{LineInPart, aligns_at, position_in, lines_in, lines_in_parts}
 use Rattle.mad_rows.specs.declared.row_skin.RowSkin.{RowSkin}
@@ -25,6 +26,4 @@ IsAcross skin area x horizontal_rule across = across ≡ repeat area.width (skin
 
 -- the rows of lines, in order, across an area
 abbrev pub AreAcross : RowSkin → Area → List LineInPart → List (List ℕ) → Type 0
-AreAcross skin area [] across = across ≡ []
-AreAcross skin area (x ∷ xs) across =
-    (own : List (List ℕ)) × (others : List (List ℕ)) × (across ≡ own ++ others) × IsAcross skin area x x.line own × AreAcross skin area xs others
+AreAcross skin area = EachBecomes (λ (x : LineInPart). IsAcross skin area x x.line)

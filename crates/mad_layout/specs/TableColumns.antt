@@ -1,6 +1,5 @@
 -- The columns of a table, by its text.
-use Rattle.std.specs.Prelude.{ℕ, zero, suc, ◌+◌, ◌-◌, ◌*◌, ◌/◌, nat_le, if◌then◌else◌, List, [], ◌∷◌, map, replicate, take, drop, Option, Some, None}
-use Rattle.std.specs.List.{flat_map}
+use Rattle.std.specs.Prelude.{ℕ, ◌+◌, ◌-◌, ◌*◌, ◌/◌, nat_le, if◌then◌else◌, List, [], ◌∷◌, map, replicate, Option, Some, None}
 use Rattle.mad_md.specs.Lines.{StyledRuns, LineContent, normal, table_row, table_rule, horizontal_rule}
 use Rattle.mad_md.specs.declared.alignment.Alignment.{Alignment}
 use Rattle.mad_style.specs.Kinds.{kind_of}
@@ -10,7 +9,7 @@ use Rattle.mad_fit.specs.declared.spacing.Spacing.{Spacing}
 use Rattle.mad_wrap.specs.WrapLines.{capped}
 use Rattle.mad_format.specs.Indents.{indent}
 use Rattle.mad_layout.specs.LineTexts.{runs_text}
-use Rattle.mad_blocks.specs.Tables.{columns_with, centered}
+use Rattle.mad_blocks.specs.Tables.{columns_with, centered, first_columns}
 use Rattle.mad_blocks.specs.TextParts.{columns_among}
 use Rattle.mad_rows.specs.declared.row_skin.RowSkin.{RowSkin}
 
@@ -26,17 +25,12 @@ cells_among skin (table_row cells ∷ ls) = map (cell_columns skin) cells ∷ ce
 cells_among skin (table_rule aligns ∷ ls) = cells_among skin ls
 cells_among skin (horizontal_rule ∷ ls) = cells_among skin ls
 
--- the first n columns of rows
-abbrev pub down : ℕ → List (List ℕ) → List (List ℕ)
-down zero rows = []
-down (suc n) rows = flat_map (take 1) rows ∷ down n (map (drop 1) rows)
-
 -- The widths of a table's kept columns: where there is room for three in each, what their cells need or their share of it; else as many
 -- columns are kept as have room, of three.
 abbrev pub kept_widths : RowSkin → ℕ → List LineContent → List ℕ
 kept_widths skin width table =
     let n = columns_among table in
-    if nat_le (4 * n + 1) width then column_widths (width - 1 - n) (map needs_of (down n (cells_among skin table))) else replicate ((width - 1) / 4) 3
+    if nat_le (4 * n + 1) width then column_widths (width - 1 - n) (map needs_of (first_columns n (cells_among skin table))) else replicate ((width - 1) / 4) 3
 
 -- columns of these widths below a rule with these alignments; centered ones where no rule is above
 abbrev pub columns_below : List ℕ → Option (List Alignment) → List Spacing

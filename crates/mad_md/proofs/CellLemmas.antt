@@ -124,8 +124,8 @@ ends_later b bs cells n k e h = record {
   last = λ all. ap (onto_first b) (h.last (omega arith));
   more = λ l.
       let inside : n < length bs = omega arith in
-      let behind : drop (k + 1) (b ∷ bs) ≡ drop (n + 1) bs = let two : k + 1 ≡ suc (n + 1) = omega arith in ap (λ j. drop j (b ∷ bs)) two in
-      ap (onto_first b) (h.more inside) ∙ ap (λ f. f ∷ cut_cells false (drop (n + 1) bs)) (ap (λ j. take j (b ∷ bs)) (sym e)) ∙ ap (λ r. take k (b ∷ bs) ∷ cut_cells false r) (sym behind);
+      let dropped : drop (k + 1) (b ∷ bs) ≡ drop (n + 1) bs = let two : k + 1 ≡ suc (n + 1) = omega arith in ap (λ j. drop j (b ∷ bs)) two in
+      ap (onto_first b) (h.more inside) ∙ ap (λ f. f ∷ cut_cells false (drop (n + 1) bs)) (ap (λ j. take j (b ∷ bs)) (sym e)) ∙ ap (λ r. take k (b ∷ bs) ∷ cut_cells false r) (sym dropped);
   bar = λ l. let inside : n < length bs = omega arith in ap (λ j. get_or (b ∷ bs) j 0) e ∙ h.bar inside;
 }
 
@@ -237,8 +237,8 @@ pub cell_read : (style : CompositeStyle) (given : Compound) (read ended kept : L
     → ◌≡◌ {A = StyledRuns} (record { style = style; runs = map run_of kept }) (cell_of cell)
 cell_read style given read ended kept after cell h off text end start kind =
     let text_is = cell_rest (trim_start cell) in
-    let behind : IsReadInlineWith unflagged given.src.now read after = subst (λ (f : Flags). IsReadInlineWith f given.src.now read after) off h in
-    let there : IsReadInlineWith unflagged text_is read after = subst (λ (t : List ℕ). IsReadInlineWith unflagged t read after) text behind in
+    let unflagged_read : IsReadInlineWith unflagged given.src.now read after = subst (λ (f : Flags). IsReadInlineWith f given.src.now read after) off h in
+    let there : IsReadInlineWith unflagged text_is read after = subst (λ (t : List ℕ). IsReadInlineWith unflagged t read after) text unflagged_read in
     let runs_are = start ∙ ap start_trimmed (end ∙ ap end_trimmed (there.each (items_of unflagged text_is) (items_read unflagged text_is))) in
     ap (λ (rs : List Run). record { style = style; runs = rs }) runs_are ∙ ap (λ (k : CompositeStyle). record { style = k; runs = cell_runs text_is (items_of unflagged text_is) }) kind
 
@@ -302,10 +302,10 @@ columns_more columns alignment (Some others) = omega arith
 pub rule_refused : (cell : List ℕ) (after : Bor (List ℕ)) (rest : Option (Bor (List ℕ))) (columns total : ℕ) → with_columns columns (alignments (rule_texts (cell ∷ cells_left rest))) ≡ total
     → rest ≡ Some after → alignment_of cell ≡ None → 0 ≡ total
 rule_refused cell after rest columns total h is said =
-    let behind : cells_left rest ≡ cut_cells false after.now = ap cells_left is in
+    let later_cells : cells_left rest ≡ cut_cells false after.now = ap cells_left is in
     let later = alignments (rule_texts (cut_cells false after.now)) in
     let here : alignments (rule_texts (cell ∷ cells_left rest)) ≡ None =
-    ap (λ cs. alignments (rule_texts (cell ∷ cs))) behind ∙ ap alignments (rule_first cell (cut_cells false after.now) ((cells_cut after.now).some)) ∙ ap (λ a. with_alignment a later) said in
+    ap (λ cs. alignments (rule_texts (cell ∷ cs))) later_cells ∙ ap alignments (rule_first cell (cut_cells false after.now) ((cells_cut after.now).some)) ∙ ap (λ a. with_alignment a later) said in
     ap (with_columns columns) (sym here) ∙ h
 
 with_len : (a : Option Alignment) (b : Option (List Alignment)) (all : List Alignment) (n : ℕ) → with_alignment a b ≡ Some all → ((others : List Alignment) → b ≡ Some others → length others ≡ n) → length all ≡ n + 1
