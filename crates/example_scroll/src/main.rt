@@ -3,6 +3,7 @@
 
 ghost use Rattle.std.specs.Prelude.{IfOk};
 ghost use Rattle.termimad.specs.Areas.{IsWithinLimits};
+ghost use Rattle.termimad.specs.Views.{view_area};
 
 use std::alloc::Global;
 use std::io::{Error as IoError, ErrorKind};
@@ -31,7 +32,7 @@ fn main(rt: HostRuntime) -> Result<(), Error> {
 
 // What a screen of the area's size shows of a view.
 fn screen_of(alloc: Global, view: &TextView<'_, '_>) -> Result<Screen, Error>
-    requires { IsWithinLimits view.now.area.now }
+    requires { IsWithinLimits (view_area view.now) }
 {
     let mut out = CutOut::new(alloc, ROOM, ROOM, false)?;
     view.write_on(alloc, &mut out)?;

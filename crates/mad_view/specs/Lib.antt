@@ -1,1 +1,2 @@
 pub mod Scrolls
+pub mod Views

@@ -1,12 +1,12 @@
 //! A laid out text in an area.
 
-ghost use Rattle.std.specs.Prelude.{◌≡◌, OnOk, vec_len};
+ghost use Rattle.std.specs.Prelude.{◌≡◌, OnOk, length};
 ghost use Rattle.mad_term.specs.Draws.{Draws, DrawsAndFlushes};
 ghost use Rattle.mad_fit.specs.Areas.{IsWithinLimits};
-ghost use Rattle.mad_layout.specs.RowSkins.{row_skin};
 ghost use Rattle.mad_layout.specs.Shown.{area_bytes};
 ghost use Rattle.mad_layout.specs.ShownLayouts.{ShowsDrawable, ShowsLayout, ShowsRowsFrom};
 ghost use Rattle.mad_view.specs.Scrolls.{scroll_within};
+ghost use Rattle.mad_view.specs.Views.{view_area, view_lines, view_skin};
 
 use mad_fit::Area;
 use mad_layout::{FmtText, draw_text};
@@ -36,7 +36,7 @@ impl<'a, 't> TextView<'a, 't> {
 
     /// How many lines the text has.
     pub fn content_height(&self) -> usize
-        ensures { result ≡ vec_len self.now.text.now.lines }
+        ensures { result ≡ length (view_lines self.now) }
     {
         self.text.lines.len()
     }
@@ -44,7 +44,7 @@ impl<'a, 't> TextView<'a, 't> {
     /// Scrolls so that the line of this number, counted from 0, comes first. It goes no further than to the text's last line in
     /// the area's last row, so a text that fits isn't scrolled. Answers the scroll that is set.
     pub fn set_scroll(&mut self, scroll: usize) -> usize
-        ensures kept { self.new ≡ record self.old { scroll = scroll_within (vec_len self.old.text.now.lines) self.old.area.now.height scroll } }
+        ensures kept { self.new ≡ record self.old { scroll = scroll_within (length (view_lines self.old)) (view_area self.old).height scroll } }
         ensures answer { result ≡ self.new.scroll }
     {
         let hidden = self
@@ -63,19 +63,19 @@ impl<'a, 't> TextView<'a, 't> {
     ///
     /// A fault of the device, or out of memory. What went out by then is a beginning of the whole.
     pub fn write_on<O: Out>(&self, alloc: Global, out: &mut O) -> Result<(), Error>
-        requires { IsWithinLimits self.now.area.now }
-        ensures writes { let text = self.now.text.now in Draws (O.seen out.old) (area_bytes (row_skin text.skin.now) text.lines.items self.now.area.now self.now.scroll) result (O.seen out.new) }
+        requires { IsWithinLimits (view_area self.now) }
+        ensures writes { Draws (O.seen out.old) (area_bytes (view_skin self.now) (view_lines self.now) (view_area self.now) self.now.scroll) result (O.seen out.new) }
 
         // What a plain terminal shows that reads it, where each line that has a row keeps these. As a layout left it, it fits the
         // area with its margins. No piece of it holds a control character or begins with a widthless one. Each character of a
         // prefix, a rule and a border takes one column.
-        ensures shown { let text = self.now.text.now in OnOk result (ShowsDrawable (row_skin text.skin.now) text.lines.items self.now.area.now self.now.scroll (O.seen out.old) (O.seen out.new)) }
+        ensures shown { OnOk result (ShowsDrawable (view_skin self.now) (view_lines self.now) (view_area self.now) self.now.scroll (O.seen out.old) (O.seen out.new)) }
 
         // The same where the lines are a layout of a text that keeps the premises, at most as wide as the area.
-        ensures shown_layout { let text = self.now.text.now in OnOk result (ShowsLayout (row_skin text.skin.now) text.lines.items self.now.area.now self.now.scroll (O.seen out.old) (O.seen out.new)) }
+        ensures shown_layout { OnOk result (ShowsLayout (view_skin self.now) (view_lines self.now) (view_area self.now) self.now.scroll (O.seen out.old) (O.seen out.new)) }
 
         // The same in the text's own characters, where the layout is a column narrower than the area.
-        ensures headline { let text = self.now.text.now in OnOk result (ShowsRowsFrom (row_skin text.skin.now) text.lines.items self.now.area.now self.now.scroll (O.seen out.old) (O.seen out.new)) }
+        ensures headline { OnOk result (ShowsRowsFrom (view_skin self.now) (view_lines self.now) (view_area self.now) self.now.scroll (O.seen out.old) (O.seen out.new)) }
     {
         draw_text(alloc, out, self.text, self.area, self.scroll)
     }
@@ -89,11 +89,11 @@ impl<'a, 't> TextView<'a, 't> {
     /// A fault of the device, at its flush too, or out of memory. What went out by then is a beginning of the whole.
     #[tactic(auto, using(mad_term::proofs::Traces::took_flushed))]
     pub fn write<O: Out>(&self, alloc: Global, out: &mut O) -> Result<(), Error>
-        requires { IsWithinLimits self.now.area.now }
-        ensures writes { let text = self.now.text.now in DrawsAndFlushes (O.seen out.old) (area_bytes (row_skin text.skin.now) text.lines.items self.now.area.now self.now.scroll) result (O.seen out.new) }
-        ensures shown { let text = self.now.text.now in OnOk result (ShowsDrawable (row_skin text.skin.now) text.lines.items self.now.area.now self.now.scroll (O.seen out.old) (O.seen out.new)) }
-        ensures shown_layout { let text = self.now.text.now in OnOk result (ShowsLayout (row_skin text.skin.now) text.lines.items self.now.area.now self.now.scroll (O.seen out.old) (O.seen out.new)) }
-        ensures headline { let text = self.now.text.now in OnOk result (ShowsRowsFrom (row_skin text.skin.now) text.lines.items self.now.area.now self.now.scroll (O.seen out.old) (O.seen out.new)) }
+        requires { IsWithinLimits (view_area self.now) }
+        ensures writes { DrawsAndFlushes (O.seen out.old) (area_bytes (view_skin self.now) (view_lines self.now) (view_area self.now) self.now.scroll) result (O.seen out.new) }
+        ensures shown { OnOk result (ShowsDrawable (view_skin self.now) (view_lines self.now) (view_area self.now) self.now.scroll (O.seen out.old) (O.seen out.new)) }
+        ensures shown_layout { OnOk result (ShowsLayout (view_skin self.now) (view_lines self.now) (view_area self.now) self.now.scroll (O.seen out.old) (O.seen out.new)) }
+        ensures headline { OnOk result (ShowsRowsFrom (view_skin self.now) (view_lines self.now) (view_area self.now) self.now.scroll (O.seen out.old) (O.seen out.new)) }
     {
         self.write_on(alloc, out)?;
         out.flush()?;

@@ -108,6 +108,7 @@ pub use Rattle.mad_format.specs.WrappedLines
 pub use Rattle.mad_format.specs.Wraps
 pub use Rattle.mad_layout.specs.WrittenParts
 pub use Rattle.mad_view.specs.Scrolls
+pub use Rattle.mad_view.specs.Views
 pub use Rattle.mad_wrap.specs.Bounds
 pub use Rattle.mad_wrap.specs.Breaks
 pub use Rattle.mad_wrap.specs.CleanCut

@@ -1,0 +1,19 @@
+-- What a view is of.
+use Rattle.std.specs.Prelude.{List}
+use Rattle.mad_fit.specs.declared.area.Area.{Area}
+use Rattle.mad_format.specs.declared.line.FmtLine.{FmtLine}
+use Rattle.mad_layout.specs.RowSkins.{row_skin}
+use Rattle.mad_rows.specs.declared.row_skin.RowSkin.{RowSkin}
+use Rattle.mad_view.specs.declared.text_view.TextView.{TextView}
+
+-- the area of the screen that it is in
+abbrev pub view_area : TextView → Area
+view_area view = view.area.now
+
+-- its text's lines, as they were laid out
+abbrev pub view_lines : TextView → List FmtLine
+view_lines view = view.text.now.lines.items
+
+-- what rows show of its text's skin
+abbrev pub view_skin : TextView → RowSkin
+view_skin view = row_skin view.text.now.skin.now
