@@ -1,6 +1,6 @@
 -- Unmarked lines, which are written as they are.
 use Rattle.std.proofs.Common.{◌≡◌, ℕ, ◌+◌, ◌-◌, ◌<◌, ◌≤◌, ◌^◌, true, false, List, [], ◌∷◌, ◌++◌, map, length, drop, get_or, chars, Option, None, Some, Result, Ok, Err, Vec, Global, Bor, refl, ap, sym, ◌∙◌, subst, arith, inl, append_assoc}
-use Rattle.std.specs.Prelude.{nat_eq}
+use Rattle.std.specs.Prelude.{nat_eq, OnOk}
 use Rattle.std.specs.List.{AllByRecursion}
 use Rattle.std.specs.Str.{IsUtf8, bytes_eq}
 use Rattle.std.specs.Result.{IsErrAnd}
@@ -26,7 +26,7 @@ use Rattle.mad_term.specs.Draws.{Refused}
 use Rattle.mad_term.specs.Trace.{Trace, after}
 use Rattle.mad_term.specs.declared.errors.Error.{Error}
 use Rattle.mad_term.proofs.Exits.{refused_in_second}
-use Rattle.mad_term.proofs.Traces.{took_both}
+use Rattle.mad_term.proofs.Traces.{took_both, took_none}
 use Rattle.mad_draw.specs.Pieces.{pieces_bytes, spaces}
 use Rattle.mad_format.specs.CompositeWraps.{IsCompositeWrap}
 use Rattle.mad_blocks.specs.Layouts.{IsLayoutAt}
@@ -211,46 +211,36 @@ unmarked_sent skin width before left bytes kept new_kept old mid new h (sent, bo
 
 -- ---- exits
 
-pub unmarked_done : (skin : RowSkin) (width : Option ℕ) (before left : List LineContent) (bytes kept : List ℕ) (old new : Trace) → UnmarkedSoFar skin width before left bytes kept old new
-    → HandsOnUnmarked {T = Unit {0}} skin width before bytes old (Ok (tt {0})) new kept left
-unmarked_done skin width before left bytes kept old new h = record {
+-- the lines that are left, once no more is taken
+unmarked_ended : {T : Type 0} (skin : RowSkin) (width : Option ℕ) (before left rest : List LineContent) (bytes kept new_kept : List ℕ) (r : Result T Error) (old mid new : Trace) → (h : UnmarkedSoFar skin width before left bytes kept old mid)
+    → HandsOn old (bytes ++ text_bytes skin width h.lines) r new new_kept → OnOk r (rest ≡ left) → HandsOnUnmarked skin width before bytes old r new new_kept rest
+unmarked_ended {T} skin width before left rest bytes kept new_kept r old mid new h handed is = record {
   taken = h.taken;
   later = left;
   joins = h.joins;
   alone = h.alone;
   lines = h.lines;
   layout = h.layout;
-  handed = (h.sent, h.both, h.went);
-  rest = refl;
+  handed = handed;
+  rest = is;
 }
+
+pub unmarked_done : (skin : RowSkin) (width : Option ℕ) (before left : List LineContent) (bytes kept : List ℕ) (old new : Trace) → UnmarkedSoFar skin width before left bytes kept old new
+    → HandsOnUnmarked {T = Unit {0}} skin width before bytes old (Ok (tt {0})) new kept left
+unmarked_done skin width before left bytes kept old new h = unmarked_ended skin width before left left bytes kept kept (Ok (tt {0})) old new new h (h.sent, h.both, h.went) refl
 
 -- the bytes that are kept were refused
 pub unmarked_refused : {T : Type 0} (skin : RowSkin) (width : Option ℕ) (before left rest : List LineContent) (bytes kept new_kept : List ℕ) (r : Result T Error) (e : Error) (old mid new : Trace) → UnmarkedSoFar skin width before left bytes kept old mid
     → IsErrAnd r (λ d. d ≡ e) → Refused mid kept e new → HandsOnUnmarked skin width before bytes old r new new_kept rest
-unmarked_refused {T} skin width before left rest bytes kept new_kept r e old mid new h is refused = record {
-  taken = h.taken;
-  later = left;
-  joins = h.joins;
-  alone = h.alone;
-  lines = h.lines;
-  layout = h.layout;
-  handed = hands_refused r e old new (bytes ++ text_bytes skin width h.lines) new_kept is (subst (λ (b : List ℕ). Refused old b e new) (sym h.both) (refused_in_second e old mid new h.sent kept h.went refused));
-  rest = no_whole r e (rest ≡ left) is;
-}
+unmarked_refused {T} skin width before left rest bytes kept new_kept r e old mid new h is refused = unmarked_ended skin width before left rest bytes kept new_kept r old mid new h
+    (hands_refused r e old new (bytes ++ text_bytes skin width h.lines) new_kept is (subst (λ (b : List ℕ). Refused old b e new) (sym h.both) (refused_in_second e old mid new h.sent kept h.went refused)))
+    (no_whole r e (rest ≡ left) is)
 
 -- the lines in front were refused
 pub unmarked_none : {T : Type 0} (skin : RowSkin) (width : Option ℕ) (before rest : List LineContent) (bytes kept : List ℕ) (r : Result T Error) (e : Error) (old new : Trace) → IsErrAnd r (λ d. d ≡ e) → Refused old bytes e new
     → HandsOnUnmarked skin width before bytes old r new kept rest
-unmarked_none {T} skin width before rest bytes kept r e old new is refused = record {
-  taken = [];
-  later = before;
-  joins = refl;
-  alone = tt;
-  lines = [];
-  layout = record { read = []; reads = tt; laid = refl };
-  handed = hands_refused r e old new (bytes ++ []) kept is (subst (λ (b : List ℕ). Refused old b e new) (sym (append-nil bytes)) refused);
-  rest = no_whole r e (rest ≡ before) is;
-}
+unmarked_none {T} skin width before rest bytes kept r e old new is refused =
+    unmarked_refused skin width before before rest bytes bytes kept r e old old new (unmarked_start skin width before bytes bytes old old ([], refl, took_none old)) is refused
 
 -- a text and a newline after the rows that are kept
 pub row_put : (kept text mid new row : List ℕ) → mid ≡ kept ++ text → new ≡ mid ++ 10 ∷ [] → row ≡ text ++ 10 ∷ [] → new ≡ kept ++ row

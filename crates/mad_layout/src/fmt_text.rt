@@ -50,8 +50,7 @@ impl<'k, 's> FmtText<'k, 's> {
         ensures fitting { IfOk result (λ laid_out. (text : Text) × IsReadRaw src.now text × IsFittingLayoutAt (line_rules (row_skin skin.now)) width (contents text) laid_out.lines.items) }
     {
         let text = Text::raw_str(alloc, src)?;
-        let lines = lay_text(alloc, skin, text, width)?;
-        Ok(FmtText { skin, lines, width })
+        Self::from_text(alloc, skin, text, width)
     }
 
     /// A Markdown text, laid out at a width, in columns.

@@ -84,7 +84,7 @@ pub fn words_on_a_screen(alloc: Global) -> Result<Screen, Error>
 // Reads what a plain terminal reads.
 fn show(screen: &mut Screen, bytes: &[u8]) -> Result<(), Error>
     ensures shown { OnOk result (after_bytes screen.old bytes.now ≡ Some screen.new) }
-    ensures refused { OnErr result (result ≡ Err Memory) }
+    ensures err { OnErr result (result ≡ Err Memory) }
 {
     match screen.read_bytes(bytes) {
         Ok(()) => Ok(()),

@@ -1,8 +1,8 @@
 -- What a style is written as is read as that style.
 use Rattle.std.proofs.Common.{◌≡◌, ℕ, ◌<◌, ◌+◌, ◌==◌, Bool, true, false, List, [], ◌∷◌, ◌++◌, map, filter, length, take, drop, refl, sym, ap, ◌∙◌, arith, subst, true≢false, eqb-true, min, append-nil, Option, Some, None, inl, inr}
-use Rattle.std.specs.Prelude.{Ok}
+use Rattle.std.specs.Prelude.{Ok, filter_map}
 use Rattle.std.specs.Char.{IsScalar}
-use Rattle.std.specs.List.{list_all}
+use Rattle.std.specs.List.{list_all, cons_option}
 use Rattle.std.proofs.Math.Seq.{take-append_seam, drop-append_seam}
 use Rattle.std.proofs.lemmas.Bool.{cases_Bool, cond-false, cond-true, and_from}
 use Rattle.std.proofs.lemmas.List.Folds.{list_all-append}
@@ -19,7 +19,7 @@ use Rattle.mad_style.specs.declared.styled_chars.StyledChar.{StyledChar}
 use Rattle.mad_style.specs.StyledChars.{char_alone, char_style, styled_char}
 use Rattle.mad_parse.specs.Reading.{tokens_of, said}
 use Rattle.mad_parse.specs.ReadsBack.{IsReadBackStyle, IsReadBackLine, IsReadBackChar, IsReadBackItem, StyleReadsBack, LineReadsBack, CharReadsBack, ItemReadsBack}
-use Rattle.mad_parse.specs.TokenStyles.{first_or, last_or, colors_of, attributes_of, aligns_of, numbers_of, style_of, line_style_of, styled_char_of, item_style_of, char_index}
+use Rattle.mad_parse.specs.TokenStyles.{first_or, last_or, color_said, attribute_said, align_said, number_said, aligns_of, numbers_of, style_of, line_style_of, styled_char_of, item_style_of, char_index}
 use Rattle.mad_parse.specs.Written.{written_attributes, style_tokens, align_tokens, margin_tokens, line_style_tokens, styled_char_tokens, item_tokens, tokens_text}
 use Rattle.mad_parse.specs.declared.tokens.StyleToken.{StyleToken}
 use Rattle.mad_parse.specs.declared.tokens.StyleToken.TheVariants as token
@@ -62,19 +62,14 @@ style_styling s h =
     ap (list_all is_styling) (tokens_are s h) ∙ list_all-append is_styling (two_colors s.object_style.foreground_color s.object_style.background_color) (map token.Attribute list)
     ∙ and_from _ _ (two_styling s.object_style.foreground_color s.object_style.background_color) (map_styling list)
 
-aligns_past : (ts us : List StyleToken) → list_all is_styling ts ≡ true → aligns_of (ts ++ us) ≡ aligns_of us
-aligns_past [] us h = refl
-aligns_past (token.Color c ∷ ts) us h = aligns_past ts us h
-aligns_past (token.Attribute a ∷ ts) us h = aligns_past ts us h
-aligns_past (token.None ∷ ts) us h = aligns_past ts us h
-aligns_past _ us h = absurd (true≢false (sym h))
-
-numbers_past : (ts us : List StyleToken) → list_all is_styling ts ≡ true → numbers_of (ts ++ us) ≡ numbers_of us
-numbers_past [] us h = refl
-numbers_past (token.Color c ∷ ts) us h = numbers_past ts us h
-numbers_past (token.Attribute a ∷ ts) us h = numbers_past ts us h
-numbers_past (token.None ∷ ts) us h = numbers_past ts us h
-numbers_past _ us h = absurd (true≢false (sym h))
+-- tokens of a style say nothing that no color, attribute or `none` says
+styling_past : {A : Type 0} (f : StyleToken → Option A) → ((c : Color) → f (token.Color c) ≡ None) → ((a : Attribute) → f (token.Attribute a) ≡ None) → f token.None ≡ None
+    → (ts us : List StyleToken) → list_all is_styling ts ≡ true → filter_map f (ts ++ us) ≡ filter_map f us
+styling_past f colors attributes none [] us h = refl
+styling_past f colors attributes none (token.Color c ∷ ts) us h = ap (λ o. cons_option o (filter_map f (ts ++ us))) (colors c) ∙ styling_past f colors attributes none ts us h
+styling_past f colors attributes none (token.Attribute a ∷ ts) us h = ap (λ o. cons_option o (filter_map f (ts ++ us))) (attributes a) ∙ styling_past f colors attributes none ts us h
+styling_past f colors attributes none (token.None ∷ ts) us h = ap (λ o. cons_option o (filter_map f (ts ++ us))) none ∙ styling_past f colors attributes none ts us h
+styling_past f colors attributes none _ us h = absurd (true≢false (sym h))
 
 char_past : (ts us : List StyleToken) (c : ℕ) → list_all is_styling ts ≡ true → char_index (ts ++ token.Char c ∷ us) ≡ length ts
 char_past [] us c h = refl
@@ -96,17 +91,10 @@ margins l r = elim (cases_Bool (l + r == 0)) as (λ _. Margins l r) [
   | inr some ↦ two_margins (cond-false (l + r == 0) _ _ some)
 ]
 
-margins_colors : (l r : ℕ) → Margins l r → colors_of (margin_tokens l r) ≡ []
-margins_colors l r (no_margins p q e) = ap colors_of e
-margins_colors l r (two_margins e) = ap colors_of e
-
-margins_attributes : (l r : ℕ) → Margins l r → attributes_of (margin_tokens l r) ≡ []
-margins_attributes l r (no_margins p q e) = ap attributes_of e
-margins_attributes l r (two_margins e) = ap attributes_of e
-
-margins_aligns : (l r : ℕ) → Margins l r → aligns_of (margin_tokens l r) ≡ []
-margins_aligns l r (no_margins p q e) = ap aligns_of e
-margins_aligns l r (two_margins e) = ap aligns_of e
+-- margins say nothing but numbers
+margins_silent : {A : Type 0} (f : StyleToken → Option A) → ((n : ℕ) → f (token.Dimension n) ≡ None) → (l r : ℕ) → Margins l r → filter_map f (margin_tokens l r) ≡ []
+margins_silent f numbers l r (no_margins p q e) = ap (filter_map f) e
+margins_silent f numbers l r (two_margins e) = ap (filter_map f) e ∙ ap (λ o. cons_option o (cons_option (f (token.Dimension (min r 65535))) [])) (numbers (min l 65535)) ∙ ap (λ o. cons_option o []) (numbers (min r 65535))
 
 margin_left : (l r : ℕ) → l < 65536 → Margins l r → first_or 0 (numbers_of (margin_tokens l r)) ≡ l
 margin_left l r small (no_margins p q e) = ap (λ ts. first_or 0 (numbers_of ts)) e ∙ sym p
@@ -120,18 +108,10 @@ margins_read : (l r : ℕ) → Margins l r → AllRead (margin_tokens l r)
 margins_read l r (no_margins p q e) = subst AllRead (sym e) tt
 margins_read l r (two_margins e) = subst AllRead (sym e) (read_number (min l 65535) (omega arith), (read_number (min r 65535) (omega arith), tt))
 
--- an align in front of them
-align_colors : (a : Alignment) (ts : List StyleToken) → colors_of (align_tokens a ++ ts) ≡ colors_of ts
-align_colors align.Unspecified ts = refl
-align_colors _ ts = refl
-
-align_attributes : (a : Alignment) (ts : List StyleToken) → attributes_of (align_tokens a ++ ts) ≡ attributes_of ts
-align_attributes align.Unspecified ts = refl
-align_attributes _ ts = refl
-
-align_numbers : (a : Alignment) (ts : List StyleToken) → numbers_of (align_tokens a ++ ts) ≡ numbers_of ts
-align_numbers align.Unspecified ts = refl
-align_numbers _ ts = refl
+-- an align in front of other tokens says nothing but itself
+align_past : {A : Type 0} (f : StyleToken → Option A) → ((a : Alignment) → f (token.Align a) ≡ None) → (a : Alignment) (ts : List StyleToken) → filter_map f (align_tokens a ++ ts) ≡ filter_map f ts
+align_past f aligns align.Unspecified ts = refl
+align_past f aligns a ts = ap (λ o. cons_option o (filter_map f ts)) (aligns a)
 
 align_last : (a : Alignment) (ts : List StyleToken) → aligns_of ts ≡ [] → last_or align.Unspecified (aligns_of (align_tokens a ++ ts)) ≡ a
 align_last align.Unspecified ts none = ap (last_or align.Unspecified) none
@@ -155,10 +135,10 @@ line_alone s h =
     let styling = style_styling s.compound_style h.style in
     let ts = line_style_tokens s in
     let style : style_of ts ≡ s.compound_style =
-    style_back s.compound_style [] after h.style refl refl (align_colors s.align m ∙ margins_colors s.left_margin s.right_margin k) (align_attributes s.align m ∙ margins_attributes s.left_margin s.right_margin k) in
+    style_back s.compound_style [] after h.style refl refl (align_past color_said (λ a. refl) s.align m ∙ margins_silent color_said (λ n. refl) s.left_margin s.right_margin k) (align_past attribute_said (λ a. refl) s.align m ∙ margins_silent attribute_said (λ n. refl) s.left_margin s.right_margin k) in
     let side : last_or align.Unspecified (aligns_of ts) ≡ s.align =
-    ap (last_or align.Unspecified) (aligns_past (style_tokens s.compound_style) after styling) ∙ align_last s.align m (margins_aligns s.left_margin s.right_margin k) in
-    let numbers : numbers_of ts ≡ numbers_of m = numbers_past (style_tokens s.compound_style) after styling ∙ align_numbers s.align m in
+    ap (last_or align.Unspecified) (styling_past align_said (λ c. refl) (λ a. refl) refl (style_tokens s.compound_style) after styling) ∙ align_last s.align m (margins_silent align_said (λ n. refl) s.left_margin s.right_margin k) in
+    let numbers : numbers_of ts ≡ numbers_of m = styling_past number_said (λ c. refl) (λ a. refl) refl (style_tokens s.compound_style) after styling ∙ align_past number_said (λ a. refl) s.align m in
     let left : first_or 0 (numbers_of ts) ≡ s.left_margin = ap (first_or 0) numbers ∙ margin_left s.left_margin s.right_margin h.left k in
     let right : last_or 0 (drop 1 (numbers_of ts)) ≡ s.right_margin = ap (λ l. last_or 0 (drop 1 l)) numbers ∙ margin_right s.left_margin s.right_margin h.right k in
     same_line (style_of ts) s.compound_style (last_or align.Unspecified (aligns_of ts)) s.align (first_or 0 (numbers_of ts)) s.left_margin (last_or 0 (drop 1 (numbers_of ts))) s.right_margin style side left right

@@ -2,6 +2,7 @@
 use Rattle.std.proofs.Common.{◌≡◌, Bool, true, List, [], ◌∷◌, ◌++◌, map, filter, drop, refl, sym, ap, ◌∙◌, subst, append-nil, append_assoc, Option, Some, None, inl, inr}
 use Rattle.std.specs.List.{list_all}
 use Rattle.std.proofs.lemmas.Bool.{cases_Bool, cond-false, cond-true, and_parts}
+use Rattle.std.proofs.lemmas.List.Elements.{filter_map-append}
 use Rattle.mad_term.specs.Attributes.{has_attribute}
 use Rattle.mad_term.specs.AttributeSets.{no_attributes, only, united}
 use Rattle.mad_term.specs.Color.{IsColorOrNone}
@@ -12,25 +13,12 @@ use Rattle.mad_term.specs.declared.color.Color.TheVariants as color
 use Rattle.mad_style.specs.declared.compound_styles.CompoundStyle.{CompoundStyle}
 use Rattle.mad_style.specs.CompoundStyles.{text_style}
 use Rattle.mad_parse.specs.ReadsBack.{is_written, IsReadBackColor, IsReadBackOrNone, IsReadBackStyle}
-use Rattle.mad_parse.specs.TokenStyles.{first_or, colors_of, attributes_of, last_color, all_added, style_of}
+use Rattle.mad_parse.specs.TokenStyles.{first_or, color_said, attribute_said, colors_of, attributes_of, last_color, all_added, style_of}
 use Rattle.mad_parse.specs.Written.{written_attributes, foreground_tokens, background_tokens, attribute_tokens, style_tokens}
 use Rattle.mad_parse.specs.declared.tokens.StyleToken.{StyleToken}
 use Rattle.mad_parse.specs.declared.tokens.StyleToken.TheVariants as token
 use Rattle.mad_parse.proofs.AttributeLaw.{added, added_back}
 use Rattle.mad_parse.proofs.ReadTokens.{AllRead, all_append, read_color, read_none, read_attribute}
-
--- ---- tokens of a kind in two lists
-
-pub colors_of_append : (xs ys : List StyleToken) → colors_of (xs ++ ys) ≡ colors_of xs ++ colors_of ys
-colors_of_append [] ys = refl
-colors_of_append (token.Color x ∷ xs) ys = ap (λ l. Some x ∷ l) (colors_of_append xs ys)
-colors_of_append (token.None ∷ xs) ys = ap (λ l. None ∷ l) (colors_of_append xs ys)
-colors_of_append (_ ∷ xs) ys = colors_of_append xs ys
-
-pub attributes_of_append : (xs ys : List StyleToken) → attributes_of (xs ++ ys) ≡ attributes_of xs ++ attributes_of ys
-attributes_of_append [] ys = refl
-attributes_of_append (token.Attribute x ∷ xs) ys = ap (λ l. x ∷ l) (attributes_of_append xs ys)
-attributes_of_append (_ ∷ xs) ys = attributes_of_append xs ys
 
 -- ---- the colors
 
@@ -111,13 +99,13 @@ style_colors : (s : CompoundStyle) → IsReadBackStyle s → colors_of (style_to
 style_colors s h =
     let two = two_colors s.object_style.foreground_color s.object_style.background_color in
     let list = filter (has_attribute s.object_style.attributes) written_attributes in
-    ap colors_of (tokens_are s h) ∙ colors_of_append two (map token.Attribute list) ∙ ap (λ l. colors_of two ++ l) (attributes_colorless list) ∙ append-nil (colors_of two)
+    ap colors_of (tokens_are s h) ∙ filter_map-append color_said two (map token.Attribute list) ∙ ap (λ l. colors_of two ++ l) (attributes_colorless list) ∙ append-nil (colors_of two)
 
 style_attributes : (s : CompoundStyle) → IsReadBackStyle s → attributes_of (style_tokens s) ≡ filter (has_attribute s.object_style.attributes) written_attributes
 style_attributes s h =
     let two = two_colors s.object_style.foreground_color s.object_style.background_color in
     let list = filter (has_attribute s.object_style.attributes) written_attributes in
-    ap attributes_of (tokens_are s h) ∙ attributes_of_append two (map token.Attribute list)
+    ap attributes_of (tokens_are s h) ∙ filter_map-append attribute_said two (map token.Attribute list)
     ∙ ap (λ l. l ++ attributes_of (map token.Attribute list)) (colors_alone s.object_style.foreground_color s.object_style.background_color) ∙ attributes_back list
 
 no_underline : (s : CompoundStyle) → s.object_style.underline_color ≡ None → text_style s.object_style.foreground_color s.object_style.background_color s.object_style.attributes ≡ s
@@ -142,8 +130,8 @@ pub style_back : (s : CompoundStyle) (before after : List StyleToken) → IsRead
     → style_of (before ++ (style_tokens s ++ after)) ≡ s
 style_back s before after h c1 a1 c2 a2 =
     style_from s (before ++ (style_tokens s ++ after)) h
-    (colors_of_append before (style_tokens s ++ after) ∙ ap (λ l. l ++ colors_of (style_tokens s ++ after)) c1 ∙ colors_of_append (style_tokens s) after ∙ ap (λ l. colors_of (style_tokens s) ++ l) c2 ∙ append-nil _)
-    (attributes_of_append before (style_tokens s ++ after) ∙ ap (λ l. l ++ attributes_of (style_tokens s ++ after)) a1 ∙ attributes_of_append (style_tokens s) after ∙ ap (λ l. attributes_of (style_tokens s) ++ l) a2
+    (filter_map-append color_said before (style_tokens s ++ after) ∙ ap (λ l. l ++ colors_of (style_tokens s ++ after)) c1 ∙ filter_map-append color_said (style_tokens s) after ∙ ap (λ l. colors_of (style_tokens s) ++ l) c2 ∙ append-nil _)
+    (filter_map-append attribute_said before (style_tokens s ++ after) ∙ ap (λ l. l ++ attributes_of (style_tokens s ++ after)) a1 ∙ filter_map-append attribute_said (style_tokens s) after ∙ ap (λ l. attributes_of (style_tokens s) ++ l) a2
     ∙ append-nil _)
 
 -- ---- each token of a style is read back

@@ -1,5 +1,5 @@
 -- The styles that tokens say.
-use Rattle.std.specs.Prelude.{ℕ, List, [], ◌∷◌, Bool, true, false, Option, Some, None, take, drop}
+use Rattle.std.specs.Prelude.{ℕ, List, [], ◌∷◌, Bool, true, false, Option, Some, None, take, drop, filter_map}
 use Rattle.std.specs.List.{prefix_len}
 use Rattle.std.specs.Option.{option_or}
 use Rattle.mad_md.specs.declared.alignment.Alignment.{Alignment}
@@ -26,36 +26,43 @@ abbrev pub last_or : {A : Type 0} → A → List A → A
 last_or x [] = x
 last_or x (y ∷ ys) = last_or y ys
 
--- the colors of tokens, in order; `none` is a color that is absent
+-- the color that a token says; `none` is a color that is absent
+abbrev pub color_said : StyleToken → Option (Option Color)
+color_said (token.Color c) = Some (Some c)
+color_said token.None = Some None
+color_said _ = None
+
+abbrev pub attribute_said : StyleToken → Option Attribute
+attribute_said (token.Attribute a) = Some a
+attribute_said _ = None
+
+abbrev pub align_said : StyleToken → Option Alignment
+align_said (token.Align align) = Some align
+align_said _ = None
+
+abbrev pub number_said : StyleToken → Option ℕ
+number_said (token.Dimension n) = Some n
+number_said _ = None
+
+abbrev pub char_said : StyleToken → Option ℕ
+char_said (token.Char c) = Some c
+char_said _ = None
+
+-- what tokens say of each, in order
 abbrev pub colors_of : List StyleToken → List (Option Color)
-colors_of [] = []
-colors_of (token.Color c ∷ ts) = Some c ∷ colors_of ts
-colors_of (token.None ∷ ts) = None ∷ colors_of ts
-colors_of (_ ∷ ts) = colors_of ts
+colors_of ts = filter_map color_said ts
 
--- the attributes of tokens, in order
 abbrev pub attributes_of : List StyleToken → List Attribute
-attributes_of [] = []
-attributes_of (token.Attribute a ∷ ts) = a ∷ attributes_of ts
-attributes_of (_ ∷ ts) = attributes_of ts
+attributes_of ts = filter_map attribute_said ts
 
--- the alignments of tokens, in order
 abbrev pub aligns_of : List StyleToken → List Alignment
-aligns_of [] = []
-aligns_of (token.Align align ∷ ts) = align ∷ aligns_of ts
-aligns_of (_ ∷ ts) = aligns_of ts
+aligns_of ts = filter_map align_said ts
 
--- the numbers of tokens, in order
 abbrev pub numbers_of : List StyleToken → List ℕ
-numbers_of [] = []
-numbers_of (token.Dimension n ∷ ts) = n ∷ numbers_of ts
-numbers_of (_ ∷ ts) = numbers_of ts
+numbers_of ts = filter_map number_said ts
 
--- the characters of tokens, in order
 abbrev pub chars_of : List StyleToken → List ℕ
-chars_of [] = []
-chars_of (token.Char c ∷ ts) = c ∷ chars_of ts
-chars_of (_ ∷ ts) = chars_of ts
+chars_of ts = filter_map char_said ts
 
 -- the last color that is present
 abbrev pub last_color : List (Option Color) → Option Color

@@ -28,7 +28,10 @@ pub trait PushStyleTokens {
     ///
     /// Out of memory. What the list then ends with is open.
     fn push_style_tokens(&self, tokens: &mut Vec<StyleToken>) -> Result<(), AllocError>
-        ensures { OnOk result (tokens.new.items ≡ tokens.old.items ++ tokens_of_value self.now) };
+        ensures tokens { OnOk result (tokens.new.items ≡ tokens.old.items ++ tokens_of_value self.now) }
+
+        // So a text of these tokens is read as the value.
+        ensures reads_back { reads_back self.now (tokens_text (tokens_of_value self.now)) };
 
     /// The text that says the value.
     ///
@@ -37,7 +40,12 @@ pub trait PushStyleTokens {
     /// Out of memory.
     fn to_style_tokens_string(&self, alloc: Global) -> Result<String, AllocError>
         ensures text { IfOk result (λ text. string_bytes text ≡ tokens_text (tokens_of_value self.now)) }
-        ensures reads_back { IfOk result (λ text. reads_back self.now (string_bytes text)) };
+        ensures reads_back { IfOk result (λ text. reads_back self.now (string_bytes text)) }
+    {
+        let mut tokens = Vec::new(alloc);
+        self.push_style_tokens(&mut tokens)?;
+        style_tokens_to_string(alloc, &tokens)
+    }
 }
 
 fn push_style(style: CompoundStyle, tokens: &mut Vec<StyleToken>) -> Result<(), AllocError>
@@ -154,12 +162,6 @@ impl PushStyleTokens for CompoundStyle {
     fn push_style_tokens(&self, tokens: &mut Vec<StyleToken>) -> Result<(), AllocError> {
         push_style(*self, tokens)
     }
-
-    fn to_style_tokens_string(&self, alloc: Global) -> Result<String, AllocError> {
-        let mut tokens = Vec::new(alloc);
-        push_style(*self, &mut tokens)?;
-        style_tokens_to_string(alloc, &tokens)
-    }
 }
 
 impl PushStyleTokens for LineStyle {
@@ -169,12 +171,6 @@ impl PushStyleTokens for LineStyle {
 
     fn push_style_tokens(&self, tokens: &mut Vec<StyleToken>) -> Result<(), AllocError> {
         push_line_tokens(*self, tokens)
-    }
-
-    fn to_style_tokens_string(&self, alloc: Global) -> Result<String, AllocError> {
-        let mut tokens = Vec::new(alloc);
-        push_line_tokens(*self, &mut tokens)?;
-        style_tokens_to_string(alloc, &tokens)
     }
 }
 
@@ -186,12 +182,6 @@ impl PushStyleTokens for StyledChar {
     fn push_style_tokens(&self, tokens: &mut Vec<StyleToken>) -> Result<(), AllocError> {
         push_styled_char(*self, tokens)
     }
-
-    fn to_style_tokens_string(&self, alloc: Global) -> Result<String, AllocError> {
-        let mut tokens = Vec::new(alloc);
-        push_styled_char(*self, &mut tokens)?;
-        style_tokens_to_string(alloc, &tokens)
-    }
 }
 
 impl PushStyleTokens for OrderedItemStyle {
@@ -201,11 +191,5 @@ impl PushStyleTokens for OrderedItemStyle {
 
     fn push_style_tokens(&self, tokens: &mut Vec<StyleToken>) -> Result<(), AllocError> {
         push_item(*self, tokens)
-    }
-
-    fn to_style_tokens_string(&self, alloc: Global) -> Result<String, AllocError> {
-        let mut tokens = Vec::new(alloc);
-        push_item(*self, &mut tokens)?;
-        style_tokens_to_string(alloc, &tokens)
     }
 }

@@ -17,7 +17,7 @@ use Rattle.termimad_run.specs.declared.failure.Failure.TheVariants.{Io, Usage, S
 use Rattle.termimad_run.specs.Calls.{RefusesWords}
 use Rattle.termimad_run.specs.Failures.{failure_of}
 use Rattle.termimad_run.specs.Reading.{ReadsWhole, ReadingFails}
-use Rattle.termimad_run.specs.ProgramRuns.{Devices, Starts, Started, FailsToStart, HasRead, WritesCall, ShowsCall, RunsTo}
+use Rattle.termimad_run.specs.ProgramRuns.{Devices, Starts, Started, FailsToStart, HasRead, HasWritten, WritesCall, ShowsCall, RunsTo}
 
 -- the call that was parsed
 abbrev pub started : (words : List (List ℕ)) (old new : Trace) (command : Command) (skin : MadSkin) (unknown : List (List ℕ)) → Starts words old command skin unknown new → Started words old new
@@ -29,6 +29,12 @@ same_devices old new input out err =
     ∙ ap (λ (o : Trace). let d : Devices = record { input = old.input; out = o; err = new.err } in d) out
     ∙ ap (λ (e : Trace). let d : Devices = record { input = old.input; out = old.out; err = e } in d) err
 
+-- a run that ended in a failure
+ends_in : {T : Type 0} (words : List (List ℕ)) (r : Result T Failure) (failure : Failure) (old new : Devices) → IsErrAnd r (λ e. e ≡ failure) → RunsTo {T = T} words old (Err failure) new → RunsTo words old r new
+ends_in {T} words r failure old new is ran =
+    let p = err_from_is_err_and r is in
+    subst (λ (s : Result T Failure). RunsTo words old s new) (sym (p.1 ∙ ap Err p.2)) ran
+
 refused_words : (T : Type 0) (words : List (List ℕ)) (failure : Failure) (old new : Devices) → RefusesWords words failure → new ≡ old → RunsTo {T = T} words old (Err failure) new
 refused_words T words Usage old new h same = (h, same)
 refused_words T words Skin old new h same = (h, same)
@@ -37,9 +43,7 @@ refused_words _ words _ old new h same = absurd h
 
 -- the exit at the words
 pub call_exit : {T : Type 0} (words : List (List ℕ)) (r : Result T Failure) (failure : Failure) (old new : Devices) → IsErrAnd r (λ e. e ≡ failure) → FailsToStart words old.err failure new.err → new.input ≡ old.input → new.out ≡ old.out → RunsTo words old r new
-call_exit {T} words r failure old new is h input out =
-    let p = err_from_is_err_and r is in
-    subst (λ (s : Result T Failure). RunsTo words old s new) (sym (p.1 ∙ ap Err p.2)) (refused_words T words failure old new h.0 (same_devices old new input out h.1))
+call_exit {T} words r failure old new is h input out = ends_in words r failure old new is (refused_words T words failure old new h.0 (same_devices old new input out h.1))
 
 failed_to_read : (T : Type 0) (words : List (List ℕ)) (failure : Failure) (old new : Devices) → Started words old.err new.err → ReadingFails old.input failure new.input → new.out ≡ old.out → RunsTo {T = T} words old (Err failure) new
 failed_to_read T words Io old new call h out = inl (record { call = call; stopped = h; unwritten = out })
@@ -55,27 +59,24 @@ has_read old new bytes slice text read p q decoded = record {
 
 -- the exit at a reading
 pub read_exit : {T : Type 0} (words : List (List ℕ)) (r : Result T Failure) (failure : Failure) (old new : Devices) → IsErrAnd r (λ e. e ≡ failure) → Started words old.err new.err → ReadingFails old.input failure new.input → new.out ≡ old.out → RunsTo words old r new
-read_exit {T} words r failure old new is call h out =
-    let p = err_from_is_err_and r is in
-    subst (λ (s : Result T Failure). RunsTo words old s new) (sym (p.1 ∙ ap Err p.2)) (failed_to_read T words failure old new call h out)
+read_exit {T} words r failure old new is call h out = ends_in words r failure old new is (failed_to_read T words failure old new call h out)
 
-failed_to_write : (T : Type 0) (words : List (List ℕ)) (e : Error) (text : List ℕ) (old new : Devices) (call : Started words old.err new.err) → HasRead old.input text new.input → WritesCall {T = Unit {0}} call.skin call.command text old.out (Err e) new.out → RunsTo {T = T} words old (Err (failure_of e)) new
-failed_to_write T words (IO x) text old new call read h = inr (inl (record { call = call; text = text; read = read; error = IO x; so = refl; wrote = h }))
-failed_to_write T words (InsufficientWidth x) text old new call read h = inr (inl (record { call = call; text = text; read = read; error = InsufficientWidth x; so = refl; wrote = h }))
-failed_to_write T words NoMemory text old new call read h = inr (inr (record { call = call; text = text; read = read; error = NoMemory; so = refl; wrote = h }))
+-- what was written of the text that was read
+abbrev pub has_written : (words : List (List ℕ)) (text : List ℕ) (old new : Devices) (r : Result (Unit {0}) Error) (written : Trace) (call : Started words old.err new.err) → HasRead old.input text new.input → WritesCall call.skin call.command text old.out r written → HasWritten words old new r written
+has_written words text old new r written call read writes = record { call = call; text = text; read = read; writes = writes }
+
+failed_to_write : (T : Type 0) (words : List (List ℕ)) (e : Error) (old new : Devices) → HasWritten words old new (Err e) new.out → RunsTo {T = T} words old (Err (failure_of e)) new
+failed_to_write T words (IO x) old new h = inr (inl (record { error = IO x; so = refl; wrote = h }))
+failed_to_write T words (InsufficientWidth x) old new h = inr (inl (record { error = InsufficientWidth x; so = refl; wrote = h }))
+failed_to_write T words NoMemory old new h = inr (inr (record { error = NoMemory; so = refl; wrote = h }))
 
 -- the exit at a writing
-pub write_exit : {T : Type 0} (words : List (List ℕ)) (r : Result T Failure) (e : Error) (text : List ℕ) (old new : Devices) (call : Started words old.err new.err) → IsErrAnd r (λ f. f ≡ failure_of e) → HasRead old.input text new.input → WritesCall {T = Unit {0}} call.skin call.command text old.out (Err e) new.out → RunsTo words old r new
-write_exit {T} words r e text old new call is read h =
-    let p = err_from_is_err_and r is in
-    subst (λ (s : Result T Failure). RunsTo words old s new) (sym (p.1 ∙ ap Err p.2)) (failed_to_write T words e text old new call read h)
+pub write_exit : {T : Type 0} (words : List (List ℕ)) (r : Result T Failure) (e : Error) (old new : Devices) → IsErrAnd r (λ f. f ≡ failure_of e) → HasWritten words old new (Err e) new.out → RunsTo words old r new
+write_exit {T} words r e old new is h = ends_in words r (failure_of e) old new is (failed_to_write T words e old new h)
 
 -- the exit at a flush
-pub flush_exit : {T : Type 0} (words : List (List ℕ)) (r : Result T Failure) (text : List ℕ) (old new : Devices) (written : Trace) (call : Started words old.err new.err) → IsErrAnd r (λ f. f ≡ Io) → HasRead old.input text new.input → WritesCall {T = Unit {0}} call.skin call.command text old.out (Ok (tt {0})) written → new.out ≡ failed written → RunsTo words old r new
-flush_exit {T} words r text old new written call is read h out =
-    let p = err_from_is_err_and r is in
-    subst (λ (s : Result T Failure). RunsTo words old s new) (sym (p.1 ∙ ap Err p.2))
-    (inr (inr (record { call = call; text = text; read = read; written = written; wrote = h; unflushed = out })))
+pub flush_exit : {T : Type 0} (words : List (List ℕ)) (r : Result T Failure) (old new : Devices) (written : Trace) → IsErrAnd r (λ f. f ≡ Io) → HasWritten words old new (Ok (tt {0})) written → new.out ≡ failed written → RunsTo words old r new
+flush_exit {T} words r old new written is h out = ends_in words r Io old new is (inr (inr (record { written = written; wrote = h; unflushed = out })))
 
 -- a flush takes nothing from what is shown
 pub still_shown : (skin : MadSkin) (command : Command) (text : List ℕ) (old written new : Trace) → ShowsCall skin command text old written → new ≡ flushed written → ShowsCall skin command text old new

@@ -68,15 +68,19 @@ pub record HasRead (old : Trace) (text : List ℕ) (new : Trace) : Type 0 where
   pub whole : ReadsWhole old text new
   pub decoded : IsUtf8 text
 
--- status 0: the whole input is a text, and the output took what the call writes of it and was then flushed, once
-pub record IsDone (words : List (List ℕ)) (old new : Devices) : Type 0 where
+-- The whole input is a text, and the output was asked to take what the call writes of it; this is how that ended, and the output then.
+pub record HasWritten (words : List (List ℕ)) (old new : Devices) (r : Result (Unit {0}) Error) (written : Trace) : Type 0 where
   pub call : Started words old.err new.err
   pub text : List ℕ
   pub read : HasRead old.input text new.input
+  pub writes : WritesCall call.skin call.command text old.out r written
+
+-- status 0: the output took everything and was then flushed, once
+pub record IsDone (words : List (List ℕ)) (old new : Devices) : Type 0 where
   pub written : Trace
-  pub wrote : WritesCall call.skin call.command text old.out (Ok (tt {0})) written
+  pub wrote : HasWritten words old new (Ok (tt {0})) written
   pub flushed : new.out ≡ flushed written
-  pub shown : ShowsCall call.skin call.command text old.out new.out
+  pub shown : ShowsCall wrote.call.skin wrote.call.command wrote.text old.out new.out
 
 -- the input failed, or there was no memory for it; nothing was written
 pub record FailsToRead (words : List (List ℕ)) (old : Devices) (failure : Failure) (new : Devices) : Type 0 where
@@ -84,22 +88,16 @@ pub record FailsToRead (words : List (List ℕ)) (old : Devices) (failure : Fail
   pub stopped : ReadingFails old.input failure new.input
   pub unwritten : new.out ≡ old.out
 
--- the whole input was read, and writing was refused
+-- writing was refused
 pub record FailsToWrite (words : List (List ℕ)) (old : Devices) (failure : Failure) (new : Devices) : Type 0 where
-  pub call : Started words old.err new.err
-  pub text : List ℕ
-  pub read : HasRead old.input text new.input
   pub error : Error
   pub so : failure_of error ≡ failure
-  pub wrote : WritesCall {T = Unit {0}} call.skin call.command text old.out (Err error) new.out
+  pub wrote : HasWritten words old new (Err error) new.out
 
 -- the output took everything, and then its flush failed
 pub record FailsToFlush (words : List (List ℕ)) (old new : Devices) : Type 0 where
-  pub call : Started words old.err new.err
-  pub text : List ℕ
-  pub read : HasRead old.input text new.input
   pub written : Trace
-  pub wrote : WritesCall call.skin call.command text old.out (Ok (tt {0})) written
+  pub wrote : HasWritten words old new (Ok (tt {0})) written
   pub unflushed : new.out ≡ failed written
 
 -- the whole input was read and is no text; nothing was written

@@ -1,5 +1,5 @@
 use Rattle.std.proofs.Common.{refl, subst, List, ℕ, IsUtf8}
-use Rattle.termimad_run.proofs.RunSteps.{call_exit, started, has_read, read_exit, write_exit, flush_exit, still_shown}
+use Rattle.termimad_run.proofs.RunSteps.{call_exit, started, has_read, has_written, read_exit, write_exit, flush_exit, still_shown}
 use Rattle.termimad_run.proofs.program.execute.Goals as goal
 
 pub returns-in_err-call : goal.returns-in_err-call
@@ -20,23 +20,19 @@ returns-in_default g c = record {
 
 pub returns-in_err-write_call : goal.returns-in_err-write_call
 returns-in_err-write_call g c =
-    write_exit _ _ _ _ _ _ (started _ _ _ _ _ _ c.in_ok-call.ensures) c.from_residual-in_err-write_call.ensures.1
-    (has_read _ _ _ _ _ c.in_ok-bytes.ensures c.as_slice.ensures.value c.in-Ok.ensures.cases.0 c.in-Ok.ensures.cases.1)
-    c.in_err-write_call.ensures.writes
+    write_exit _ _ _ _ _ c.from_residual-in_err-write_call.ensures.1
+    (has_written _ _ _ _ _ _ (started _ _ _ _ _ _ c.in_ok-call.ensures) (has_read _ _ _ _ _ c.in_ok-bytes.ensures c.as_slice.ensures.value c.in-Ok.ensures.cases.0 c.in-Ok.ensures.cases.1) c.in_err-write_call.ensures.writes)
 
 pub returns-in_err-flush : goal.returns-in_err-flush
 returns-in_err-flush g c =
-    flush_exit _ _ _ _ _ _ (started _ _ _ _ _ _ c.in_ok-call.ensures) c.from_residual-in_err-flush.ensures.1
-    (has_read _ _ _ _ _ c.in_ok-bytes.ensures c.as_slice.ensures.value c.in-Ok.ensures.cases.0 c.in-Ok.ensures.cases.1)
-    c.in_ok-write_call.ensures.writes c.in_err-flush.ensures
+    flush_exit _ _ _ _ _ c.from_residual-in_err-flush.ensures.1
+    (has_written _ _ _ _ _ _ (started _ _ _ _ _ _ c.in_ok-call.ensures) (has_read _ _ _ _ _ c.in_ok-bytes.ensures c.as_slice.ensures.value c.in-Ok.ensures.cases.0 c.in-Ok.ensures.cases.1) c.in_ok-write_call.ensures.writes)
+    c.in_err-flush.ensures
 
 pub returns : goal.returns
 returns g c = record {
-  call = started _ _ _ _ _ _ c.in_ok-call.ensures;
-  text = c.in-Ok.text.now;
-  read = has_read _ _ _ _ _ c.in_ok-bytes.ensures c.as_slice.ensures.value c.in-Ok.ensures.cases.0 c.in-Ok.ensures.cases.1;
   written = _;
-  wrote = c.in_ok-write_call.ensures.writes;
+  wrote = has_written _ _ _ _ _ _ (started _ _ _ _ _ _ c.in_ok-call.ensures) (has_read _ _ _ _ _ c.in_ok-bytes.ensures c.as_slice.ensures.value c.in-Ok.ensures.cases.0 c.in-Ok.ensures.cases.1) c.in_ok-write_call.ensures.writes;
   flushed = c.in_ok-flush.ensures;
   shown = still_shown c.in_ok-call.call.skin _ _ _ _ _ c.in_ok-write_call.ensures.shown c.in_ok-flush.ensures;
 }
