@@ -1,6 +1,6 @@
 -- The headline of the program: what a run does to its devices, and how it ends.
 use Rattle.std.specs.Prelude.{◌≡◌, ◌⊎◌, ℕ, List, [], ◌∷◌, ◌++◌, Some, Result, Ok, Err, IsUtf8, ⊤}
-use Rattle.termimad.specs.Inline.{Item, IsInlineReading}
+use Rattle.termimad.specs.Inline.{IsInlineReading}
 use Rattle.termimad.specs.Draws.{DrawsSome}
 use Rattle.termimad.specs.Trace.{Trace, failed, flushed}
 use Rattle.termimad.specs.Stream.{untold}

@@ -1,4 +1,4 @@
-use Rattle.std.proofs.Common.{◌∙◌, ap, subst, sym, string_bytes}
+use Rattle.std.proofs.Common.{◌∙◌, ap, subst, sym}
 use Rattle.std.proofs.lemmas.Result.{IfOk-weaker}
 use Rattle.mad_parse.specs.Written.{tokens_text}
 use Rattle.mad_parse.proofs.ReadingBack.{pushed}
