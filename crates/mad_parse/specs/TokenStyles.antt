@@ -26,24 +26,28 @@ abbrev pub last_or : {A : Type 0} → A → List A → A
 last_or x [] = x
 last_or x (y ∷ ys) = last_or y ys
 
--- What a token says of a color, if anything; `none` is a color that is absent. The next four say the same of what they are named for.
+-- the color that a token says, if any: no color is what `none` says
 abbrev pub color_said : StyleToken → Option (Option Color)
 color_said (token.Color c) = Some (Some c)
 color_said token.None = Some None
 color_said _ = None
 
+-- the attribute that a token says, if any
 abbrev pub attribute_said : StyleToken → Option Attribute
 attribute_said (token.Attribute a) = Some a
 attribute_said _ = None
 
+-- the alignment that a token says, if any
 abbrev pub align_said : StyleToken → Option Alignment
 align_said (token.Align align) = Some align
 align_said _ = None
 
+-- the number that a token says, if any
 abbrev pub number_said : StyleToken → Option ℕ
 number_said (token.Dimension n) = Some n
 number_said _ = None
 
+-- the character that a token says, if any
 abbrev pub char_said : StyleToken → Option ℕ
 char_said (token.Char c) = Some c
 char_said _ = None
