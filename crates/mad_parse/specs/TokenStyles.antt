@@ -26,7 +26,7 @@ abbrev pub last_or : {A : Type 0} → A → List A → A
 last_or x [] = x
 last_or x (y ∷ ys) = last_or y ys
 
--- the color that a token says, if any: no color is what `none` says
+-- the color that a token says, if any; `none` says that there is no color
 abbrev pub color_said : StyleToken → Option (Option Color)
 color_said (token.Color c) = Some (Some c)
 color_said token.None = Some None

@@ -7,6 +7,9 @@ use Rattle.mad_term.specs.declared.color.Color.{Color}
 use Rattle.mad_term.specs.contracts.color.ColorPartialEq.TheImpl as color_equality
 use Rattle.mad_screen.specs.Glyph.{Glyph, Look}
 use Rattle.mad_screen.specs.Grid.{Grid}
+use Rattle.mad_screen.specs.declared.pen.Pen.{Pen}
+use Rattle.mad_screen.specs.declared.pictures.Looks.{Looks}
+use Rattle.mad_screen.specs.declared.screen.Screen.{Screen}
 
 -- the characters of a cell in UTF-8; a tail has none
 abbrev pub cell_text : Glyph → List ℕ
@@ -71,3 +74,11 @@ row_letters known cells = flat_map (λ cell. encode (letter_of known cell.pen)) 
 -- all its rows, each with its pens' letters
 abbrev pub letters_text : List Look → Grid → List ℕ
 letters_text known g = lines_text (row_letters known) g g.height
+
+-- the screen whose looks it pictures
+abbrev pub looks_screen : Looks → Screen
+looks_screen looks = looks.screen.now
+
+-- its pens with a letter, that of `a` first
+abbrev pub looks_pens : Looks → List Pen
+looks_pens looks = looks.pens.items

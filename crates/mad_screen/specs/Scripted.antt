@@ -17,11 +17,15 @@ cut_puts out = out.puts
 abbrev pub cut_count : CutOut → ℕ → ℕ
 cut_count out count = min count (min out.step (out.room - length out.taken.items))
 
+-- whether each of its flushes is a fault
+abbrev pub refuses_flushes : CutOut → Bool
+refuses_flushes out = out.flush_fails
+
 -- what it was made with
 pub record IsCutOut (out : CutOut) (step room : ℕ) (flush_fails : Bool) : Type 0 where
   pub step_is : out.step ≡ step
   pub room_is : out.room ≡ room
-  pub flush_is : out.flush_fails ≡ flush_fails
+  pub flush_is : refuses_flushes out ≡ flush_fails
   pub trace_is : cut_trace out ≡ record { bytes = Some []; faults = 0; flushes = 0 }
   pub puts_is : out.puts ≡ 0
 
@@ -29,7 +33,7 @@ pub record IsCutOut (out : CutOut) (step room : ℕ) (flush_fails : Bool) : Type
 pub record IsSameDevice (old new : CutOut) : Type 0 where
   pub step : new.step ≡ old.step
   pub room : new.room ≡ old.room
-  pub flush_fails : new.flush_fails ≡ old.flush_fails
+  pub flush_fails : refuses_flushes new ≡ refuses_flushes old
 
 -- it tells all that it has left
 abbrev pub script_trace : ScriptSource → Trace
@@ -39,13 +43,17 @@ script_trace source = record { bytes = Some source.left.now; faults = source.fau
 abbrev pub script_count : ScriptSource → ℕ → ℕ
 script_count source len = min len (min source.step (length source.left.now))
 
+-- whether each call after its last byte is a fault
+abbrev pub ends_in_fault : ScriptSource → Bool
+ends_in_fault source = source.fails
+
 -- what it was made with
 pub record IsScript (source : ScriptSource) (bytes : List ℕ) (step : ℕ) (fails : Bool) : Type 0 where
-  pub fails_is : source.fails ≡ fails
+  pub fails_is : ends_in_fault source ≡ fails
   pub step_is : source.step ≡ step
   pub trace_is : script_trace source ≡ record { bytes = Some bytes; faults = 0; flushes = 0 }
 
 -- it is still the source that it was made as, whatever it has handed out since
 pub record IsSameSource (old new : ScriptSource) : Type 0 where
-  pub fails : new.fails ≡ old.fails
+  pub fails : ends_in_fault new ≡ ends_in_fault old
   pub step : new.step ≡ old.step

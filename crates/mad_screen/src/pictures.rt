@@ -1,8 +1,8 @@
 //! Screens as pictures, for people and for tests: a line of text for each row.
 
-ghost use Rattle.std.specs.Prelude.{◌≡◌, ◌<◌, ◌≤◌, [], IfOk, map, vec_len};
+ghost use Rattle.std.specs.Prelude.{◌≡◌, ◌≤◌, [], IfOk, length, map};
 ghost use Rattle.mad_screen.specs.Glyph.{look_of};
-ghost use Rattle.mad_screen.specs.Pictures.{gets_letter, is_plain, letter_of, lettered};
+ghost use Rattle.mad_screen.specs.Pictures.{gets_letter, is_plain, letter_of, lettered, looks_pens, looks_screen};
 
 use crate::cell::Cell;
 use crate::pen::Pen;
@@ -86,9 +86,9 @@ impl Screen {
     ///
     /// Out of memory.
     pub fn looks(&self) -> Result<Looks<'_>, AllocError>
-        ensures screen { IfOk result (λ looks. looks.screen.now ≡ self.now) }
-        ensures letters { IfOk result (λ looks. vec_len looks.pens ≤ 26) }
-        ensures pens { IfOk result (λ looks. map look_of looks.pens.items ≡ lettered [] self.now.cells) }
+        ensures screen { IfOk result (λ looks. looks_screen looks ≡ self.now) }
+        ensures letters { IfOk result (λ looks. length (looks_pens looks) ≤ 26) }
+        ensures pens { IfOk result (λ looks. map look_of (looks_pens looks) ≡ lettered [] self.now.cells) }
     {
         let mut pens = Vec::new(self.allocator());
         for cell in self.cells() {
@@ -104,13 +104,13 @@ impl Screen {
 impl Looks<'_> {
     /// The pens that have a letter: that of `a` first.
     pub fn pens(&self) -> &[Pen]
-        ensures { result.now ≡ self.now.pens.items }
+        ensures { result.now ≡ looks_pens self.now }
     {
         &self.pens
     }
 
     fn letter(&self, pen: Pen) -> char
-        ensures { result ≡ letter_of (map look_of self.now.pens.items) (look_of pen) }
+        ensures { result ≡ letter_of (map look_of (looks_pens self.now)) (look_of pen) }
     {
         if pen.is_plain() {
             return '.';
@@ -124,9 +124,9 @@ impl Looks<'_> {
 
 impl fmt::Display for Looks<'_> {
     ghost use Rattle.std.specs.Prelude.{Some};
-    ghost use Rattle.mad_screen.specs.Pictures.{letters_text};
+    ghost use Rattle.mad_screen.specs.Pictures.{letters_text, looks_screen};
 
-    ghost output = { λ looks. Some (letters_text (map look_of looks.pens.items) looks.screen.now) };
+    ghost output = { λ looks. Some (letters_text (map look_of (looks_pens looks)) (looks_screen looks)) };
 
     /// The letters row by row, each row as a line.
     fn fmt<W: fmt::Write>(&self, f: &mut fmt::Formatter<W>) -> fmt::Result {

@@ -87,7 +87,7 @@ impl CutOut {
 }
 
 impl Out for CutOut {
-    ghost use Rattle.mad_screen.specs.Scripted.{cut_trace, cut_puts, cut_count, IsSameDevice};
+    ghost use Rattle.mad_screen.specs.Scripted.{cut_trace, cut_puts, cut_count, refuses_flushes, IsSameDevice};
 
     ghost seen = { cut_trace };
 
@@ -115,7 +115,7 @@ impl Out for CutOut {
     #[tactic(auto, unfolding(mad_term::specs::Trace::flushed))]
     fn flush(&mut self) -> io::Result<()>
         ensures flushes { Flushes (cut_trace self.old) result (cut_trace self.new) }
-        ensures fault { IsErr result ↔ IsTrue self.old.flush_fails }
+        ensures fault { IsErr result ↔ IsTrue (refuses_flushes self.old) }
         ensures no_put { cut_puts self.new ≡ cut_puts self.old }
         ensures keeps { IsSameDevice self.old self.new }
     {
@@ -189,14 +189,14 @@ impl ScriptSource<'_> {
 }
 
 impl Source for ScriptSource<'_> {
-    ghost use Rattle.mad_screen.specs.Scripted.{script_trace, script_count, IsSameSource};
+    ghost use Rattle.mad_screen.specs.Scripted.{script_trace, script_count, ends_in_fault, IsSameSource};
 
     ghost seen = { script_trace };
 
     #[tactic(auto, unfolding(mad_term::specs::Trace::ahead))]
     fn get(&mut self) -> io::Result<Option<u8>>
         ensures gets { Gets (script_trace self.old) result (script_trace self.new) }
-        ensures fault { IsErr result ↔ ((script_trace self.old).bytes ≡ Some []) × IsTrue self.old.fails }
+        ensures fault { IsErr result ↔ ((script_trace self.old).bytes ≡ Some []) × IsTrue (ends_in_fault self.old) }
         ensures keeps { IsSameSource self.old self.new }
     {
         if let [first, rest @ ..] = self.left {
@@ -213,7 +213,7 @@ impl Source for ScriptSource<'_> {
     fn fill(&mut self, buffer: &mut [u8]) -> io::Result<usize>
         ensures fills { Fills (script_trace self.old) buffer.new result (script_trace self.new) }
         ensures count { IfOk result (λ count. count ≡ script_count self.old (length buffer.old)) }
-        ensures fault { IsErr result ↔ (0 < length buffer.old) × ((script_trace self.old).bytes ≡ Some []) × IsTrue self.old.fails }
+        ensures fault { IsErr result ↔ (0 < length buffer.old) × ((script_trace self.old).bytes ≡ Some []) × IsTrue (ends_in_fault self.old) }
         ensures keeps { IsSameSource self.old self.new }
     {
         if self.fails && self.left.is_empty() && !buffer.is_empty() {
