@@ -1,8 +1,9 @@
 -- Layouts, the count of their lines apart.
-use Rattle.std.specs.Prelude.{ℕ, ◌≤◌, List, map, Option, Some, None, ⊤}
+use Rattle.std.specs.Prelude.{ℕ, ◌≤◌, List, map, Option, Some, None, false, ⊤}
 use Rattle.std.specs.List.{AllByRecursion}
 use Rattle.mad_md.specs.Flagged.{flagged_text}
 use Rattle.mad_md.specs.Lines.{LineContent}
+use Rattle.mad_md.specs.Reading.{IsRead, unread_text}
 use Rattle.mad_fit.specs.declared.tokens.Token.{Token}
 use Rattle.mad_wrap.specs.Keeps.{Keeps}
 use Rattle.mad_wrap.specs.LeastWrap.{AreTokensIn}
@@ -31,3 +32,7 @@ IsFittingLayout skin width text lines = IsLayoutBy IsFittingWrap skin width (Som
 abbrev pub IsFittingLayoutAt : LineRules → Option ℕ → List LineContent → List FmtLine → Type 0
 IsFittingLayoutAt skin None text lines = ⊤
 IsFittingLayoutAt skin (Some width) text lines = 3 ≤ width → IsFittingLayout skin width text lines
+
+-- the lines are such a layout of a Markdown text at a width, if there is one
+abbrev pub IsFittingMarkdownLayout : LineRules → Option ℕ → List ℕ → List FmtLine → Type 0
+IsFittingMarkdownLayout skin width markdown lines = (text : List LineContent) × IsRead (unread_text false markdown) text × IsFittingLayoutAt skin width text lines

@@ -1,11 +1,10 @@
 //! Texts, laid out.
 
-ghost use Rattle.std.specs.Prelude.{◌≡◌, ◌-◌, false, None, IfOk, List, Some};
-ghost use Rattle.mad_md.specs.Lines.{LineContent, contents};
+ghost use Rattle.std.specs.Prelude.{◌≡◌, ◌-◌, None, IfOk, Some};
+ghost use Rattle.mad_md.specs.Lines.{contents};
 ghost use Rattle.mad_md.specs.ReadRaw.{IsReadRaw};
-ghost use Rattle.mad_md.specs.Reading.{IsRead, unread_text};
 ghost use Rattle.mad_md.specs.declared.text.Text.{Text};
-ghost use Rattle.mad_blocks.specs.FittingLayouts.{IsFittingLayoutAt};
+ghost use Rattle.mad_blocks.specs.FittingLayouts.{IsFittingLayoutAt, IsFittingMarkdownLayout};
 ghost use Rattle.mad_rows.specs.RowStyles.{line_rules};
 ghost use Rattle.mad_layout.specs.InArea.{IsAreaFront};
 ghost use Rattle.mad_blocks.specs.Layouts.{IsLayoutAt, IsMarkdownLayout};
@@ -67,7 +66,7 @@ impl<'k, 's> FmtText<'k, 's> {
         ensures lines { IfOk result (λ laid_out. IsMarkdownLayout (line_rules (row_skin skin.now)) width src.now laid_out.lines.items) }
 
         // So from three columns on the lines are a fitting layout, the premise of what `draw_text` shows (`shown_layout`).
-        ensures fitting { IfOk result (λ laid_out. (text : List LineContent) × IsRead (unread_text false src.now) text × IsFittingLayoutAt (line_rules (row_skin skin.now)) width text laid_out.lines.items) }
+        ensures fitting { IfOk result (λ laid_out. IsFittingMarkdownLayout (line_rules (row_skin skin.now)) width src.now laid_out.lines.items) }
     {
         let lines = lay_source(alloc, skin, src, width)?;
         Ok(FmtText { skin, lines, width })
@@ -138,7 +137,7 @@ impl MadSkin {
         ensures skin { IfOk result (λ text. text.skin.now ≡ self.now) }
         ensures width { IfOk result (λ text. text.width ≡ Some (area.now.width - 1)) }
         ensures lines { IfOk result (λ text. IsMarkdownLayout (line_rules (row_skin self.now)) (Some (area.now.width - 1)) markdown.now text.lines.items) }
-        ensures fitting { IfOk result (λ laid_out. (text : List LineContent) × IsRead (unread_text false markdown.now) text × IsFittingLayoutAt (line_rules (row_skin self.now)) (Some (area.now.width - 1)) text laid_out.lines.items) }
+        ensures fitting { IfOk result (λ laid_out. IsFittingMarkdownLayout (line_rules (row_skin self.now)) (Some (area.now.width - 1)) markdown.now laid_out.lines.items) }
     {
         let width = (area.width as usize).saturating_sub(1);
         FmtText::from(alloc, self, markdown, Some(width))
@@ -176,7 +175,7 @@ impl MadSkin {
         ensures skin { IfOk result (λ text. text.skin.now ≡ self.now) }
         ensures width { IfOk result (λ text. text.width ≡ width) }
         ensures lines { IfOk result (λ text. IsMarkdownLayout (line_rules (row_skin self.now)) width markdown.now text.lines.items) }
-        ensures fitting { IfOk result (λ laid_out. (text : List LineContent) × IsRead (unread_text false markdown.now) text × IsFittingLayoutAt (line_rules (row_skin self.now)) width text laid_out.lines.items) }
+        ensures fitting { IfOk result (λ laid_out. IsFittingMarkdownLayout (line_rules (row_skin self.now)) width markdown.now laid_out.lines.items) }
     {
         FmtText::from(alloc, self, markdown, width)
     }
@@ -191,7 +190,7 @@ impl MadSkin {
         ensures skin { IfOk result (λ text. text.skin.now ≡ self.now) }
         ensures width { IfOk result (λ text. text.width ≡ Some width) }
         ensures lines { IfOk result (λ text. IsMarkdownLayout (line_rules (row_skin self.now)) (Some width) markdown.now text.lines.items) }
-        ensures fitting { IfOk result (λ laid_out. (text : List LineContent) × IsRead (unread_text false markdown.now) text × IsFittingLayoutAt (line_rules (row_skin self.now)) (Some width) text laid_out.lines.items) }
+        ensures fitting { IfOk result (λ laid_out. IsFittingMarkdownLayout (line_rules (row_skin self.now)) (Some width) markdown.now laid_out.lines.items) }
     {
         FmtText::from(alloc, self, markdown, Some(width))
     }
@@ -206,7 +205,7 @@ pub fn text<'k, 's>(
     ensures skin { IfOk result (λ text. text.skin.now ≡ skin.now) }
     ensures width { IfOk result (λ text. text.width ≡ None) }
     ensures lines { IfOk result (λ text. IsMarkdownLayout (line_rules (row_skin skin.now)) None markdown.now text.lines.items) }
-    ensures fitting { IfOk result (λ laid_out. (text : List LineContent) × IsRead (unread_text false markdown.now) text × IsFittingLayoutAt (line_rules (row_skin skin.now)) None text laid_out.lines.items) }
+    ensures fitting { IfOk result (λ laid_out. IsFittingMarkdownLayout (line_rules (row_skin skin.now)) None markdown.now laid_out.lines.items) }
 {
     skin.text(alloc, markdown, None)
 }
@@ -221,7 +220,7 @@ pub fn term_text<'k, 's>(
     ensures skin { IfOk result (λ text. text.skin.now ≡ skin.now) }
     ensures width { IfOk result (λ text. text.width ≡ Some width) }
     ensures lines { IfOk result (λ text. IsMarkdownLayout (line_rules (row_skin skin.now)) (Some width) markdown.now text.lines.items) }
-    ensures fitting { IfOk result (λ laid_out. (text : List LineContent) × IsRead (unread_text false markdown.now) text × IsFittingLayoutAt (line_rules (row_skin skin.now)) (Some width) text laid_out.lines.items) }
+    ensures fitting { IfOk result (λ laid_out. IsFittingMarkdownLayout (line_rules (row_skin skin.now)) (Some width) markdown.now laid_out.lines.items) }
 {
     skin.term_text(alloc, markdown, width)
 }

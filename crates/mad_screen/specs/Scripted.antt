@@ -43,7 +43,7 @@ script_trace source = record { bytes = Some source.left.now; faults = source.fau
 abbrev pub script_count : ScriptSource → ℕ → ℕ
 script_count source len = min len (min source.step (length source.left.now))
 
--- whether each call after its last byte is a fault
+-- whether it is a fault to ask for a byte after its last
 abbrev pub ends_in_fault : ScriptSource → Bool
 ends_in_fault source = source.fails
 

@@ -127,7 +127,7 @@ impl Out for CutOut {
     }
 }
 
-/// A source that hands out given bytes, and then its end, or a fault at each further call.
+/// A source that hands out given bytes. After these it is at its end, or each call that asks for a byte is a fault.
 #[derive(Debug, Drop)]
 pub struct ScriptSource<'s> {
     left: &'s [u8],
