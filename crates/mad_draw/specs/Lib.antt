@@ -1,4 +1,13 @@
+pub mod BesideBar
+pub mod Crops
 pub mod DrawnRows
+pub mod Fillings
+pub mod Panes
+pub mod Parts
 pub mod PennedCells
 pub mod Pieces
+pub mod PlacedPieces
+pub mod ProgressBars
+pub mod Rects
+pub mod SpacedTexts
 pub mod TableRules

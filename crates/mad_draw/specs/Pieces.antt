@@ -1,7 +1,9 @@
 -- Pieces: the texts of which a row is made, each in one style.
 use Rattle.std.specs.Prelude.{◌≡◌, ℕ, zero, suc, ◌+◌, List, [], ◌∷◌, map, replicate, encode_utf8}
+use Rattle.std.specs.Char.{IsScalar}
 use Rattle.std.specs.Str.{chars, IsUtf8}
 use Rattle.std.specs.List.{AllByRecursion, flat_map, repeat}
+use Rattle.mad_columns.specs.Columns.{char_columns}
 use Rattle.mad_term.specs.declared.styles.ContentStyle.{ContentStyle}
 use Rattle.mad_screen.specs.Glyph.{Look}
 use Rattle.mad_term.specs.Styles.{IsStyle, piece_bytes}
@@ -50,6 +52,15 @@ char_piece c = record { style = (char_style c).object_style; text = encode_utf8 
 abbrev pub char_repeat : StyledChar → ℕ → List RowPiece
 char_repeat c zero = []
 char_repeat c (suc n) = record { style = (char_style c).object_style; text = repeat (suc n) (encode_utf8 (char_alone c)) } ∷ []
+
+-- a character that takes one column
+pub record IsColumnChar (c : ℕ) : Type 0 where
+  pub scalar : IsScalar c
+  pub one : char_columns c ≡ 1
+
+-- a character `count` times, each a piece of its own
+abbrev pub single_chars : StyledChar → ℕ → List RowPiece
+single_chars c n = replicate n (char_piece c)
 
 -- ---- what is known of pieces
 

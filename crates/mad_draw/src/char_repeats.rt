@@ -1,11 +1,11 @@
-//! A character many times, as a displayed value.
+//! A character many times, as displayed values.
 
 ghost use Rattle.std.specs.Prelude.{Some};
-ghost use Rattle.mad_draw.specs.Pieces.{pieces_bytes, char_repeat};
+ghost use Rattle.mad_draw.specs.Pieces.{pieces_bytes, char_repeat, single_chars};
 
 use mad_style::StyledChar;
 use mad_term::StyledRepeat;
-use std::fmt;
+use std::fmt::{self, Display};
 
 /// A character `count` times, as one piece. A `count` of 0 writes nothing.
 #[derive(Clone, Copy)]
@@ -28,5 +28,26 @@ impl fmt::Display for CharRepeat {
             count: self.count,
         };
         write!(f, "{repeated}")
+    }
+}
+
+/// A character `count` times, each a piece of its own.
+#[derive(Clone, Copy)]
+pub struct SingleChars {
+    /// The character, in its style.
+    pub c: StyledChar,
+    /// How many times it is written.
+    pub count: usize,
+}
+
+impl fmt::Display for SingleChars {
+    ghost output = { λ s. Some (pieces_bytes (single_chars s.c s.count)) };
+
+    fn fmt<W: fmt::Write>(&self, f: &mut fmt::Formatter<W>) -> fmt::Result {
+        let c = self.c;
+        for _done in 0..self.count {
+            c.fmt(f)?;
+        }
+        Ok(())
     }
 }

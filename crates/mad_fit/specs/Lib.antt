@@ -1,5 +1,7 @@
 pub mod Areas
 pub mod Ascii
+pub mod Thumbs
+pub mod RunningWidths
 pub mod TextColumns
 pub mod Completions
 pub mod TokenPositions

@@ -1,6 +1,7 @@
 pub mod CompositeWraps
 pub mod Indents
 pub mod LineRules
+pub mod Fitting
 pub mod FmtLines
 pub mod LinesLeft
 pub mod Lists

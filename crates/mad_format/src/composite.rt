@@ -1,14 +1,16 @@
 //! Composites with their measured length.
 
-ghost use Rattle.std.specs.Prelude.{◌≡◌, ◌+◌, ◌++◌, ◌∷◌, [], IfOk, OnOk, OnErr, MatchOption};
+ghost use Rattle.std.specs.Prelude.{◌≡◌, ◌+◌, ◌<◌, ◌≤◌, ◌++◌, ◌∷◌, [], IsOk, IfOk, OnOk, OnErr, MatchOption};
 ghost use Rattle.mad_fit.specs.TextColumns.{width_of};
 ghost use Rattle.mad_fit.specs.Completions.{Completes};
 ghost use Rattle.mad_md.specs.Flagged.{flagged_of};
+ghost use Rattle.mad_format.specs.Fitting.{extended};
 
+use crate::fitter::Fitter;
 use crate::indents::composite_columns;
 use crate::line_skin::LineSkin;
 use mad_fit::{Spacing, columns};
-use mad_md::{Composite, Compound};
+use mad_md::{Alignment, Composite, Compound};
 use mad_style::CompositeKind;
 use std::alloc::{AllocError, Global};
 
@@ -29,6 +31,7 @@ pub struct FmtComposite<'s> {
 
 impl<'s> FmtComposite<'s> {
     ghost use Rattle.mad_style.specs.Kinds.{kind_of};
+    ghost use Rattle.mad_format.specs.Fitting.{IsCompositeFitted};
     ghost use Rattle.mad_format.specs.Wraps.{IsMeasured};
     ghost use Rattle.mad_wrap.specs.WrapLines.{capped};
 
@@ -144,5 +147,72 @@ impl<'s> FmtComposite<'s> {
         self.compounds.push(compound)?;
         self.visible_length = self.visible_length.saturating_add(columns);
         Ok(())
+    }
+
+    /// Fits it to a width by an alignment, as a [`Fitter`] of that does. Only out of memory is an error, and leaves it as it was.
+    pub fn fit_width<S: LineSkin>(
+        &mut self,
+        width: usize,
+        align: Alignment,
+        skin: &S,
+    ) -> Result<(), AllocError>
+        ensures fits { self.old.visible_length ≤ width → IsOk result × (self.new ≡ self.old) }
+        ensures fitted { width < self.old.visible_length → IsMeasured (S.rules skin.now) self.old
+            → OnOk result (IsCompositeFitted (S.rules skin.now) align width self.old self.new) }
+        ensures measured { width < self.old.visible_length → OnOk result (IsMeasured (S.rules skin.now) self.new) }
+        ensures kind { self.new.kind ≡ self.old.kind }
+        ensures spacing { self.new.spacing ≡ self.old.spacing }
+        ensures margins { self.new.margins ≡ self.old.margins }
+        ensures err { OnErr result (self.new ≡ self.old) }
+    {
+        Fitter::for_align(align).fit(self, width, skin)
+    }
+
+    /// Makes its place at least this wide, aligned so. Without a place it gets one, if it is narrower than that.
+    pub fn extend_width(&mut self, width: usize, align: Alignment)
+        ensures { self.new ≡ record self.old { spacing = extended self.old.spacing self.old.visible_length width align } }
+    {
+        self.spacing = extended(self.spacing, self.visible_length, width, align);
+    }
+
+    /// Fits it to a width, and then makes its place as wide. Only out of memory is an error, and leaves it as it was.
+    pub fn fill_width<S: LineSkin>(
+        &mut self,
+        width: usize,
+        align: Alignment,
+        skin: &S,
+    ) -> Result<(), AllocError>
+        ensures fits { self.old.visible_length ≤ width
+            → IsOk result × (self.new ≡ record self.old { spacing = extended self.old.spacing self.old.visible_length width align }) }
+        ensures fitted { width < self.old.visible_length → IsMeasured (S.rules skin.now) self.old
+            → OnOk result (IsCompositeFitted (S.rules skin.now) align width self.old self.new) }
+        ensures measured { width < self.old.visible_length → OnOk result (IsMeasured (S.rules skin.now) self.new) }
+        ensures kind { self.new.kind ≡ self.old.kind }
+        ensures spacing { OnOk result (self.new.spacing ≡ extended self.old.spacing self.new.visible_length width align) }
+        ensures margins { self.new.margins ≡ self.old.margins }
+        ensures err { OnErr result (self.new ≡ self.old) }
+    {
+        self.fit_width(width, align, skin)?;
+        self.extend_width(width, align);
+        Ok(())
+    }
+}
+
+// A place made at least `width` wide, for a text of this length. Where there is none, a text that is narrower gets one.
+fn extended(
+    spacing: Option<Spacing>,
+    length: usize,
+    width: usize,
+    align: Alignment,
+) -> Option<Spacing>
+    ensures { result ≡ extended spacing length width align }
+{
+    match spacing {
+        Some(place) => Some(Spacing {
+            width: place.width.max(width),
+            align,
+        }),
+        None if length < width => Some(Spacing { width, align }),
+        None => None,
     }
 }

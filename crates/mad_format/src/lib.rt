@@ -5,14 +5,16 @@
 //! 1. [`line_skin`]: what laying out asks of a skin.
 //! 2. [`indents`], [`room`]: the columns that a line of a kind has for its text.
 //! 3. [`composite`], [`table`], [`line`]: a line with its cached width; rows of a table, and rules across it.
-//! 4. [`wrap`]: wrapping composites and lists of lines, with the fewest lines.
-//! 5. [`bound`]: starts of lines that show that no fitting break has fewer.
+//! 4. [`fitter`]: a composite fitted to a width, with an ellipsis in place of what goes.
+//! 5. [`wrap`]: wrapping composites and lists of lines, with the fewest lines.
+//! 6. [`bound`]: starts of lines that show that no fitting break has fewer.
 //!
 //! Tables, blocks of code and whole texts are laid out in `mad_blocks`.
 #![tactic(auto)]
 
 pub mod bound;
 pub mod composite;
+pub mod fitter;
 pub mod indents;
 pub mod line;
 pub mod line_skin;
@@ -22,6 +24,7 @@ pub mod wrap;
 
 pub use bound::{WrapBound, check_wrap_bound, wrap_bound};
 pub use composite::FmtComposite;
+pub use fitter::Fitter;
 pub use indents::{composite_columns, composite_kind_widths, indent_of};
 pub use line::{FmtLine, put_line, rule_columns};
 pub use line_skin::LineSkin;

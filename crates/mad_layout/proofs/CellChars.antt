@@ -1,4 +1,4 @@
--- The characters of a table's lines across an area.
+-- The characters of a table's lines across the columns that are drawn.
 use Rattle.std.proofs.Common.{◌≡◌, ℕ, ◌+◌, ◌-◌, ◌≤◌, List, [], ◌∷◌, ◌++◌, map, length, replicate, drop, chars, false, true, Option, Some, None, refl, ap, sym, ◌∙◌, subst, arith, append_assoc}
 use Rattle.std.specs.Prelude.{slice_get, unwrap_or}
 use Rattle.std.specs.List.{flat_map, repeat}
@@ -11,14 +11,13 @@ use Rattle.mad_style.specs.declared.kinds.CompositeKind.{CompositeKind}
 use Rattle.mad_style.specs.declared.kinds.CompositeKind.TheVariants.{Paragraph}
 use Rattle.mad_style.specs.declared.line_styles.LineStyle.{LineStyle}
 use Rattle.mad_fit.specs.Completions.{left_completion}
-use Rattle.mad_fit.specs.declared.area.Area.{Area}
 use Rattle.mad_fit.specs.declared.spacing.Spacing.{Spacing}
 use Rattle.mad_draw.specs.Pieces.{RowPiece, spaces}
 use Rattle.mad_draw.specs.TableRules.{border_piece, horizontals, junction, rule_pieces}
 use Rattle.mad_draw.specs.declared.table_rules.RuleChars.{RuleChars}
 use Rattle.mad_layout.specs.Drawable.{AreShownChars}
 use Rattle.mad_layout.specs.FlaggedLines.{skin_char, front_of}
-use Rattle.mad_layout.specs.FlaggedTables.{row_in_column, CellInColumn, first_row, first_rows, rows_down, rule_row, table_across, rule_across_area}
+use Rattle.mad_layout.specs.FlaggedTables.{row_in_column, CellInColumn, first_row, first_rows, rows_down, rule_row, table_across, rule_across}
 use Rattle.mad_format.specs.FmtLines.{bordered, rule_columns}
 use Rattle.mad_layout.specs.Premises.{IsPrintablePrefix}
 use Rattle.mad_rows.specs.Rows.{prefix_pieces, compound_piece, composite_pieces, cell_pieces, vertical_piece, placed_pieces, row_columns, rule_chars, left_of_place, right_of_place, align_in, place_of, inner_blanks}
@@ -116,25 +115,25 @@ below_placed skin (c ∷ cs) ([] ∷ lines) = ap (λ (cells : List CellInColumn)
 below_placed skin (c ∷ cs) ((l ∷ ls) ∷ lines) = ap (λ (cells : List CellInColumn). record { width = c.width; rows = lines_rows skin c ls } ∷ cells) (below_placed skin cs lines)
 
 -- pieces in the place of a table
-placed_chars : (skin : RowSkin) (area : Area) (columns : ℕ) (ps : List RowPiece) → chars_in (placed_pieces skin (Some area.width) true columns ps) ≡ table_across skin area columns (chars_in ps)
-placed_chars skin area columns ps =
+placed_chars : (skin : RowSkin) (drawn : ℕ) (columns : ℕ) (ps : List RowPiece) → chars_in (placed_pieces skin (Some drawn) true columns ps) ≡ table_across skin drawn columns (chars_in ps)
+placed_chars skin drawn columns ps =
     let blank : CompoundStyle = skin.paragraph.compound_style in
-    let rest : ℕ = area.width - columns in
+    let rest : ℕ = drawn - columns in
     let left : ℕ = left_completion skin.table.align rest in
     both (spaces blank left) (ps ++ spaces blank (rest - left)) ∙ ap (λ t. t ++ chars_in (ps ++ spaces blank (rest - left))) (spaces_chars blank left)
     ∙ ap (λ t. replicate left 32 ++ t) (both ps (spaces blank (rest - left)) ∙ ap (λ t. chars_in ps ++ t) (spaces_chars blank (rest - left)))
 
-pub down_chars : (skin : RowSkin) (area : Area) (cs : List Spacing) (lines : List (List FmtComposite)) (rows : List FmtTableRow) → AreDown cs lines rows
-    → map (line_chars skin area.width) (map TableRow rows) ≡ map (table_across skin area (1 + bordered (widths_of cs))) (rows_down skin (length rows) (placed_lines skin cs lines))
-down_chars skin area cs lines [] down = refl
-down_chars skin area cs lines (row ∷ rows) down =
+pub down_chars : (skin : RowSkin) (drawn : ℕ) (cs : List Spacing) (lines : List (List FmtComposite)) (rows : List FmtTableRow) → AreDown cs lines rows
+    → map (line_chars skin drawn) (map TableRow rows) ≡ map (table_across skin drawn (1 + bordered (widths_of cs))) (rows_down skin (length rows) (placed_lines skin cs lines))
+down_chars skin drawn cs lines [] down = refl
+down_chars skin drawn cs lines (row ∷ rows) down =
     let pieces : List RowPiece = flat_map (cell_pieces skin) row.cells.items ++ vertical_piece skin ∷ [] in
     let columns : ℕ = 1 + bordered (widths_of cs) in
-    let across : ℕ → List ℕ → List ℕ = table_across skin area in
-    let first : line_chars skin area.width (TableRow row) ≡ across columns (first_rows skin (placed_lines skin cs lines)) =
-    placed_chars skin area (row_columns row.cells.items) pieces ∙ ap (λ n. across n (chars_in pieces)) (across_columns cs lines row.cells.items down.0) ∙ ap (across columns) (across_chars skin cs lines row.cells.items down.0) in
-    let rest = down_chars skin area cs (map below lines) rows down.1 ∙ ap (λ cells. map (across columns) (rows_down skin (length rows) cells)) (below_placed skin cs lines) in
-    ap (λ (t : List ℕ). t ∷ map (line_chars skin area.width) (map TableRow rows)) first ∙ ap (λ ts. across columns (first_rows skin (placed_lines skin cs lines)) ∷ ts) rest
+    let across : ℕ → List ℕ → List ℕ = table_across skin drawn in
+    let first : line_chars skin drawn (TableRow row) ≡ across columns (first_rows skin (placed_lines skin cs lines)) =
+    placed_chars skin drawn (row_columns row.cells.items) pieces ∙ ap (λ n. across n (chars_in pieces)) (across_columns cs lines row.cells.items down.0) ∙ ap (across columns) (across_chars skin cs lines row.cells.items down.0) in
+    let rest = down_chars skin drawn cs (map below lines) rows down.1 ∙ ap (λ cells. map (across columns) (rows_down skin (length rows) cells)) (below_placed skin cs lines) in
+    ap (λ (t : List ℕ). t ∷ map (line_chars skin drawn) (map TableRow rows)) first ∙ ap (λ ts. across columns (first_rows skin (placed_lines skin cs lines)) ∷ ts) rest
 
 -- ---- a rule
 
@@ -161,10 +160,10 @@ rule_pieces_chars skin b (w ∷ ws) shown =
     first_piece (border_piece style b.left) (horizontals style b w ++ rest)
     ∙ ap (λ t. skin_char b.left ++ t) (both (horizontals style b w) rest ∙ ap (λ t. t ++ chars_in rest) (across w) ∙ ap (λ t. repeat w (skin_char b.horizontal) ++ t) (junctions_chars style b ws across))
 
-pub rule_line_chars : (skin : RowSkin) (area : Area) (position : RelativePosition) (ws : List ℕ) (rule : FmtTableRule) → AreShownChars skin (rule_chars skin.table_border_chars position) → rule.position ≡ position → rule.widths.items ≡ ws
-    → line_chars skin area.width (TableRule rule) ≡ rule_across_area skin area position ws
-rule_line_chars skin area position ws rule shown place widths =
+pub rule_line_chars : (skin : RowSkin) (drawn : ℕ) (position : RelativePosition) (ws : List ℕ) (rule : FmtTableRule) → AreShownChars skin (rule_chars skin.table_border_chars position) → rule.position ≡ position → rule.widths.items ≡ ws
+    → line_chars skin drawn (TableRule rule) ≡ rule_across skin drawn position ws
+rule_line_chars skin drawn position ws rule shown place widths =
     let pieces : RelativePosition → List ℕ → List RowPiece = λ p vs. rule_pieces skin.table.compound_style (rule_chars skin.table_border_chars p) vs in
-    ap (λ p. chars_in (placed_pieces skin (Some area.width) true (rule_columns rule.widths.items) (pieces p rule.widths.items))) place
-    ∙ ap (λ vs. chars_in (placed_pieces skin (Some area.width) true (rule_columns vs) (pieces position vs))) widths
-    ∙ placed_chars skin area (rule_columns ws) (pieces position ws) ∙ ap (table_across skin area (rule_columns ws)) (rule_pieces_chars skin (rule_chars skin.table_border_chars position) ws shown)
+    ap (λ p. chars_in (placed_pieces skin (Some drawn) true (rule_columns rule.widths.items) (pieces p rule.widths.items))) place
+    ∙ ap (λ vs. chars_in (placed_pieces skin (Some drawn) true (rule_columns vs) (pieces position vs))) widths
+    ∙ placed_chars skin drawn (rule_columns ws) (pieces position ws) ∙ ap (table_across skin drawn (rule_columns ws)) (rule_pieces_chars skin (rule_chars skin.table_border_chars position) ws shown)

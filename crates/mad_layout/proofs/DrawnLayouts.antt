@@ -1,32 +1,44 @@
 -- What an area shows of a layout that was drawn in it.
-use Rattle.std.proofs.Common.{◌≡◌, ℕ, zero, suc, ◌+◌, ◌-◌, ◌^◌, ◌<◌, List, [], ◌∷◌, map, drop, Result, Ok, Err, OnOk, refl, ap, ◌∙◌, subst, arith, take}
-use Rattle.mad_term.specs.Trace.{Trace, TookWith, flushed}
+use Rattle.std.proofs.Common.{◌≡◌, ℕ, zero, suc, ◌+◌, ◌-◌, ◌^◌, ◌<◌, ◌≤◌, List, [], ◌∷◌, map, drop, Option, Some, None, IfSome, Result, Ok, Err, OnOk, refl, ap, ◌∙◌, subst, arith, take}
+use Rattle.mad_term.specs.Trace.{Trace, flushed}
 use Rattle.mad_term.proofs.Traces.{took_flushed}
 use Rattle.mad_fit.specs.Areas.{IsWithinLimits}
 use Rattle.mad_fit.specs.declared.area.Area.{Area}
+use Rattle.mad_draw.specs.BesideBar.{IsBarShown, columns_beside}
+use Rattle.mad_draw.specs.declared.scroll_bars.ScrollBar.{ScrollBar}
+use Rattle.mad_md.specs.Lines.{LineContent}
+use Rattle.mad_blocks.specs.Layouts.{IsLayoutAt}
+use Rattle.mad_blocks.specs.TextParts.{lines_in_parts}
+use Rattle.mad_layout.specs.FlaggedTexts.{AreAcross}
+use Rattle.mad_layout.specs.Premises.{KeepsPremises}
 use Rattle.mad_layout.specs.Drawable.{AreDrawable}
 use Rattle.mad_layout.specs.Headline.{AreShownAcross}
 use Rattle.mad_blocks.proofs.WideLayouts.{IsLayout}
 use Rattle.mad_layout.specs.Shown.{lines_shown, AreShownIn}
-use Rattle.mad_layout.specs.ShownLayouts.{ShowsLayout, ShowsRowsFrom}
+use Rattle.mad_layout.specs.ShownLayouts.{ShowsDrawable, ShowsLayout, ShowsRowsFrom}
 use Rattle.mad_rows.specs.declared.row_skin.RowSkin.{RowSkin}
 use Rattle.mad_format.specs.declared.line.FmtLine.{FmtLine}
 use Rattle.mad_layout.proofs.DrawableLemmas.{fitting_is_drawable, drawable_from}
 use Rattle.mad_blocks.proofs.WrapKinds.{layout_fits, wrapped_at}
-use Rattle.mad_layout.proofs.HeadlineRows.{shown_across, took_more_at}
+use Rattle.mad_layout.proofs.HeadlineRows.{IsBesideRows, shown_across, took_more_at}
+use Rattle.mad_layout.proofs.ShownLemmas.{fills}
 use Rattle.mad_layout.proofs.RowChars.{line_chars}
 use Rattle.mad_layout.proofs.TextParts.{text_across}
 use Rattle.mad_rows.specs.RowStyles.{line_rules}
 
+few : (bar : Option ScrollBar) (area : Area) → IsWithinLimits area → columns_beside bar area.width < 2 ^ 64 - 1
+few None area limits = omega (arith, limits.columns)
+few (Some bar) area limits = omega (arith, limits.columns)
+
 -- of drawable lines, so of a layout
-pub layout_shown : {T E : Type 0} (r : Result T E) (skin : RowSkin) (lines : List FmtLine) (area : Area) (scroll : ℕ) (old new : Trace) → IsWithinLimits area
-    → OnOk r (AreDrawable skin area.width (lines_shown lines area scroll) → TookWith old new (AreShownIn skin lines area scroll))
-    → OnOk r (ShowsLayout skin lines area scroll old new)
-layout_shown {T} {E} (Ok x) skin lines area scroll old new limits h =
-    λ source width narrower keeps layout.
-    let first : AreDrawable skin area.width (take (scroll + area.height) lines) = fitting_is_drawable skin width area.width (scroll + area.height) source lines narrower (omega (arith, limits.columns)) keeps layout in
-    h (drawable_from skin area.width lines scroll area.height (scroll + area.height) refl first)
-layout_shown {T} {E} (Err x) skin lines area scroll old new limits h = tt
+pub layout_shown : {T E : Type 0} (r : Result T E) (skin : RowSkin) (bar : Option ScrollBar) (lines : List FmtLine) (area : Area) (scroll : ℕ) (old new : Trace) → IsWithinLimits area
+    → OnOk r (ShowsDrawable skin bar lines area scroll old new) → OnOk r (ShowsLayout skin bar lines area scroll old new)
+layout_shown {T} {E} (Ok x) skin bar lines area scroll old new limits h =
+    λ source width narrower shown keeps layout.
+    let drawn : ℕ = columns_beside bar area.width in
+    let first : AreDrawable skin drawn (take (scroll + area.height) lines) = fitting_is_drawable skin width drawn (scroll + area.height) source lines narrower (few bar area limits) keeps layout in
+    h shown (drawable_from skin drawn lines scroll area.height (scroll + area.height) refl first)
+layout_shown {T} {E} (Err x) skin bar lines area scroll old new limits h = tt
 
 -- ---- in the text's own characters
 
@@ -44,26 +56,46 @@ lines_from skin width zero lines = refl
 lines_from skin width (suc s) [] = refl
 lines_from skin width (suc s) (l ∷ ls) = lines_from skin width s ls
 
--- what an area shows of a layout, it shows of the rows of its text
-pub rows_shown : {T E : Type 0} (r : Result T E) (skin : RowSkin) (lines : List FmtLine) (area : Area) (scroll : ℕ) (old new : Trace) → IsWithinLimits area
-    → OnOk r (ShowsLayout skin lines area scroll old new) → OnOk r (ShowsRowsFrom skin lines area scroll old new)
-rows_shown {T} {E} (Ok x) skin lines area scroll old new limits h =
-    λ text wide keeps laid.
-    let width : ℕ = area.width - 1 in
+-- the bar of an area is beside the rows of a layout
+beside_rows : (skin : RowSkin) (bar : Option ScrollBar) (lines : List FmtLine) (area : Area) (scroll : ℕ) → IfSome bar (IsBarShown area.width) → AreDrawable skin (columns_beside bar area.width) (lines_shown lines area scroll)
+    → IfSome bar (IsBesideRows skin (drop scroll lines) area)
+beside_rows skin None lines area scroll shown drawable = tt
+beside_rows skin (Some bar) lines area scroll shown drawable = record { shown = shown; fill = λ j inside. fills skin (area.width - 1) (drop scroll lines) area.height j inside drawable }
+
+-- The text's lines have rows, of which those from one on are those of the layout's lines, beside the bar.
+pub rows_from : (skin : RowSkin) (bar : Option ScrollBar) (lines : List FmtLine) (area : Area) (scroll : ℕ) (text : List LineContent) (width : ℕ) → IsWithinLimits area → 3 ≤ width → width ≤ columns_beside bar area.width
+    → IfSome bar (IsBarShown area.width) → KeepsPremises skin width (take (scroll + area.height) (lines_in_parts text)) → IsLayoutAt (line_rules skin) (Some width) text lines
+    → (across : List (List ℕ)) × AreAcross skin width (columns_beside bar area.width) (lines_in_parts text) across
+    × (take area.height (drop scroll across) ≡ take area.height (map (line_chars skin (columns_beside bar area.width)) (drop scroll lines))) × IfSome bar (IsBesideRows skin (drop scroll lines) area)
+rows_from skin bar lines area scroll text width limits wide narrower shown keeps laid =
+    let drawn : ℕ = columns_beside bar area.width in
     let n : ℕ = scroll + area.height in
-    let layout : IsLayout (line_rules skin) width text lines = wrapped_at (line_rules skin) width text lines (omega (arith, wide)) laid in
-    let bound : area.width < 2 ^ 64 - 1 = omega (arith, limits.columns) in
-    let rows = text_across skin area n text lines bound wide keeps layout in
-    let same : take area.height (drop scroll rows.0) ≡ take area.height (map (line_chars skin area.width) (drop scroll lines)) =
-    same_from scroll area.height n rows.0 (map (line_chars skin area.width) lines) refl rows.2 ∙ ap (take area.height) (lines_from skin area.width scroll lines) in (
+    let layout : IsLayout (line_rules skin) width text lines = wrapped_at (line_rules skin) width text lines wide laid in
+    let small : drawn < 2 ^ 64 - 1 = few bar area limits in
+    let rows = text_across skin width drawn n text lines (record { narrower = narrower; small = small }) wide keeps layout in
+    let drawable : AreDrawable skin drawn (take n lines) = fitting_is_drawable skin width drawn n text lines narrower small keeps (layout_fits (line_rules skin) width text lines layout) in (
       rows.0,
       rows.1,
-      took_more_at old.bytes new (AreShownIn skin lines area scroll) (AreShownAcross (drop scroll rows.0) area) (shown_across skin (drop scroll lines) area (drop scroll rows.0) same)
-          (h text width (omega arith) keeps (layout_fits (line_rules skin) width text lines layout)),
+      same_from scroll area.height n rows.0 (map (line_chars skin drawn) lines) refl rows.2 ∙ ap (take area.height) (lines_from skin drawn scroll lines),
+      beside_rows skin bar lines area scroll shown (drawable_from skin drawn lines scroll area.height n refl drawable),
     )
-rows_shown {T} {E} (Err x) skin lines area scroll old new limits h = tt
+
+-- what an area shows of a layout, it shows of the rows of its text
+pub rows_shown : {T E : Type 0} (r : Result T E) (skin : RowSkin) (bar : Option ScrollBar) (lines : List FmtLine) (area : Area) (scroll : ℕ) (old new : Trace) → IsWithinLimits area
+    → OnOk r (ShowsLayout skin bar lines area scroll old new) → OnOk r (ShowsRowsFrom skin bar lines area scroll old new)
+rows_shown {T} {E} (Ok x) skin bar lines area scroll old new limits h =
+    λ text width wide narrower shown keeps laid.
+    let rows = rows_from skin bar lines area scroll text width limits wide narrower shown keeps laid in (
+      rows.0,
+      rows.1,
+      took_more_at old.bytes new (AreShownIn skin bar lines area scroll) (AreShownAcross bar (drop scroll rows.0) area) (shown_across skin bar (drop scroll lines) area (drop scroll rows.0) rows.3 rows.2)
+          (h text width narrower shown keeps (layout_fits (line_rules skin) width text lines (wrapped_at (line_rules skin) width text lines wide laid))),
+    )
+rows_shown {T} {E} (Err x) skin bar lines area scroll old new limits h = tt
 
 -- a flush takes nothing from it
-pub rows_flushed : (skin : RowSkin) (lines : List FmtLine) (area : Area) (scroll : ℕ) (old mid new : Trace) → ShowsRowsFrom skin lines area scroll old mid → new ≡ flushed mid → ShowsRowsFrom skin lines area scroll old new
-rows_flushed skin lines area scroll old mid new h e =
-    λ text wide keeps laid. let rows = h text wide keeps laid in (rows.0, rows.1, took_flushed old mid new (AreShownAcross (drop scroll rows.0) area) rows.2 e)
+pub rows_flushed : (skin : RowSkin) (bar : Option ScrollBar) (lines : List FmtLine) (area : Area) (scroll : ℕ) (old mid new : Trace) → ShowsRowsFrom skin bar lines area scroll old mid → new ≡ flushed mid
+    → ShowsRowsFrom skin bar lines area scroll old new
+rows_flushed skin bar lines area scroll old mid new h e =
+    λ text width wide narrower shown keeps laid.
+    let rows = h text width wide narrower shown keeps laid in (rows.0, rows.1, took_flushed old mid new (AreShownAcross bar (drop scroll rows.0) area) rows.2 e)

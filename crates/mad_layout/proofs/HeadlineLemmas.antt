@@ -1,21 +1,21 @@
 -- From a layout to what its area shows.
-use Rattle.std.proofs.Common.{◌≡◌, ℕ, zero, suc, ◌-◌, ◌≤◌, List, [], ◌∷◌, ◌++◌, take, inl, inr, Some, Result, Ok, Err, OnOk, subst, arith}
+use Rattle.std.proofs.Common.{◌≡◌, ℕ, zero, suc, ◌-◌, ◌≤◌, List, [], ◌∷◌, ◌++◌, take, inl, inr, Some, None, Result, Ok, Err, OnOk, subst, arith}
 use Rattle.mad_md.specs.Lines.{LineContent}
 use Rattle.std.specs.Result.{IsErrAnd}
 use Rattle.std.specs.declared.io.Error as io
 use Rattle.mad_term.specs.declared.errors.Error.{Error}
 use Rattle.mad_term.specs.declared.errors.Error.TheVariants.{IO}
-use Rattle.mad_term.specs.Trace.{Trace, TookWith, failed, flushed}
-use Rattle.mad_term.specs.Draws.{AndFlushes}
+use Rattle.mad_term.specs.Trace.{Trace, failed, flushed}
+use Rattle.mad_term.specs.Draws.{Draws, AndFlushes}
 use Rattle.mad_term.proofs.Exits.{flushing_refused}
 use Rattle.mad_term.proofs.Traces.{flush_failed, took_flushed}
 use Rattle.mad_fit.specs.Areas.{IsWithinLimits}
 use Rattle.mad_fit.specs.declared.area.Area.{Area}
-use Rattle.mad_layout.specs.Drawable.{AreDrawable}
 use Rattle.mad_blocks.specs.Fronts.{IsFrontLayout}
 use Rattle.mad_layout.specs.InArea.{IsAreaFront, ShowsText, WritesInArea}
 use Rattle.mad_layout.specs.Premises.{KeepsPremises}
-use Rattle.mad_layout.specs.Shown.{lines_shown, AreShownIn}
+use Rattle.mad_layout.specs.Shown.{area_bytes, AreShownIn}
+use Rattle.mad_layout.specs.ShownLayouts.{ShowsDrawable}
 use Rattle.mad_blocks.specs.TextParts.{LineInPart, text_parts, lines_in_parts}
 use Rattle.mad_rows.specs.declared.row_skin.RowSkin.{RowSkin}
 use Rattle.mad_format.specs.declared.line.FmtLine.{FmtLine}
@@ -36,9 +36,14 @@ front_keeps skin width n text front rest parts h =
     first_keep skin width n (lines_in_parts front) (lines_in_parts rest)
     (subst (λ (xs : List LineInPart). KeepsPremises skin width (take n xs)) (in_parts_both text front rest parts) h)
 
+-- such a text was drawn
+pub area_written : {T : Type 0} (r : Result T Error) (skin own : RowSkin) (markdown : List ℕ) (area : Area) (lines : List FmtLine) (old new : Trace) → own ≡ skin → IsAreaFront skin markdown area lines
+    → Draws old (area_bytes own None lines area 0) r new → WritesInArea skin markdown area old r new
+area_written {T} r skin own markdown area lines old new same laid_out h = inl (lines, laid_out, subst (λ (s : RowSkin). Draws old (area_bytes s None lines area 0) r new) same h)
+
 -- what an area shows of such a text
 pub text_shown : {T E : Type 0} (r : Result T E) (skin own : RowSkin) (markdown : List ℕ) (area : Area) (lines : List FmtLine) (old new : Trace) → IsWithinLimits area → own ≡ skin → IsAreaFront skin markdown area lines
-    → OnOk r (AreDrawable own area.width (lines_shown lines area 0) → TookWith old new (AreShownIn own lines area 0))
+    → OnOk r (ShowsDrawable own None lines area 0 old new)
     → OnOk r (4 ≤ area.width → ShowsText skin markdown area old new)
 text_shown {T} {E} (Ok x) skin own markdown area lines old new limits same laid_out h =
     λ wide. record {
@@ -46,7 +51,7 @@ text_shown {T} {E} (Ok x) skin own markdown area lines old new limits same laid_
       laid_out = laid_out;
       shown = λ premises.
           let front : IsFrontLayout (line_rules skin) (Some (area.width - 1)) area.height laid_out.text lines = laid_out.layout in
-          subst (λ (s : RowSkin). AreDrawable s area.width (lines_shown lines area 0) → TookWith old new (AreShownIn s lines area 0)) same h
+          subst (λ (s : RowSkin). ShowsDrawable s None lines area 0 old new) same h tt
           (layout_is_drawable skin (area.width - 1) area.width area.height front.front lines (omega arith) (omega (arith, limits.columns)) (front_keeps skin (area.width - 1) area.height laid_out.text front.front front.rest front.parts premises) (wrapped_at (line_rules skin) (area.width - 1) front.front lines (omega arith) front.layout));
     }
 text_shown {T} {E} (Err x) skin own markdown area lines old new limits same laid_out h = tt
@@ -63,5 +68,5 @@ pub shown_flushed : (skin : RowSkin) (markdown : List ℕ) (area : Area) (old mi
 shown_flushed skin markdown area old mid new h e = record {
   lines = h.lines;
   laid_out = h.laid_out;
-  shown = λ premises. took_flushed old mid new (AreShownIn skin h.lines area 0) (h.shown premises) e;
+  shown = λ premises. took_flushed old mid new (AreShownIn skin None h.lines area 0) (h.shown premises) e;
 }

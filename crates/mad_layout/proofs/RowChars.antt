@@ -21,7 +21,6 @@ use Rattle.mad_style.specs.declared.kinds.CompositeKind.TheVariants.{ListItem, L
 use Rattle.mad_style.specs.declared.line_styles.LineStyle.{LineStyle}
 use Rattle.mad_style.specs.declared.styled_chars.StyledChar.{StyledChar}
 use Rattle.mad_fit.specs.Completions.{left_completion}
-use Rattle.mad_fit.specs.declared.area.Area.{Area}
 use Rattle.mad_fit.specs.declared.spacing.Spacing.{Spacing}
 use Rattle.mad_draw.specs.Pieces.{RowPiece, IsColumnPiece, char_piece, char_repeat, PennedChar, penned_chars, spaces, single_spaces}
 use Rattle.mad_draw.proofs.PieceLemmas.{ascii_spaces}
@@ -166,33 +165,37 @@ place_facts false s n own width e same fits = subst (λ (o : Option Spacing). Pl
 abbrev pub line_chars : RowSkin → ℕ → FmtLine → List ℕ
 line_chars skin width line = chars_in (row_pieces skin width (Some line))
 
--- a line that is placed so is a row across the area
-pub row_chars : (skin : RowSkin) (area : Area) (part : List LineContent) (said : StyledRuns) (l : FmtComposite) → area.width < 2 ^ 64 - 1 → IsPrintablePrefix skin l.kind → IsMeasured (line_rules skin) l
-    → l.spacing ≡ place_for (is_code_kind l.kind) (min (widest_in part) (inner_width skin (area.width - 1) said))
-    → inner_width skin (area.width - 1) said ≡ area.width - 1 - (margins_at (line_style skin l.kind) (Some (area.width - 1))).0 - (margins_at (line_style skin l.kind) (Some (area.width - 1))).1
-    → columns_of (line_rules skin) l ≤ inner_width skin (area.width - 1) said → (is_code_kind l.kind ≡ true → columns_of (line_rules skin) l ≤ widest_in part)
-    → line_chars skin area.width (line_with (margins_at (line_style skin l.kind) (Some (area.width - 1))) l) ≡ row_across skin area part said l.kind (text_of l)
-row_chars skin area part said l bound prefix measured place inner_is inside holds =
-    let width : ℕ = area.width - 1 in
+-- a layout's width, and the columns across which it is drawn
+pub record AreWidths (width drawn : ℕ) : Type 0 where
+  pub narrower : width ≤ drawn
+  pub small : drawn < 2 ^ 64 - 1
+
+-- a line that is placed so is a row across these columns
+pub row_chars : (skin : RowSkin) (width drawn : ℕ) (part : List LineContent) (said : StyledRuns) (l : FmtComposite) → AreWidths width drawn → IsPrintablePrefix skin l.kind → IsMeasured (line_rules skin) l
+    → l.spacing ≡ place_for (is_code_kind l.kind) (min (widest_in part) (inner_width skin width said))
+    → inner_width skin width said ≡ width - (margins_at (line_style skin l.kind) (Some width)).0 - (margins_at (line_style skin l.kind) (Some width)).1
+    → columns_of (line_rules skin) l ≤ inner_width skin width said → (is_code_kind l.kind ≡ true → columns_of (line_rules skin) l ≤ widest_in part)
+    → line_chars skin drawn (line_with (margins_at (line_style skin l.kind) (Some width)) l) ≡ row_across skin width drawn part said l.kind (text_of l)
+row_chars skin width drawn part said l bound prefix measured place inner_is inside holds =
     let style : LineStyle = line_style skin l.kind in
     let margins : ℕ × ℕ = margins_at style (Some width) in
     let own : ℕ = columns_of (line_rules skin) l in
     let block : ℕ = min (widest_in part) (inner_width skin width said) in
-    let columns : ℕ = placed_columns skin area part said l.kind (text_of l) in
-    let same : l.visible_length ≡ own = omega (arith, measured, inside, inner_is, bound) in
+    let columns : ℕ = placed_columns skin width part said l.kind (text_of l) in
+    let same : l.visible_length ≡ own = omega (arith, measured, inside, inner_is, bound.narrower, bound.small) in
     let facts : PlaceFacts l.spacing l.visible_length own columns = place_facts (is_code_kind l.kind) l.spacing l.visible_length own block place same (λ on. omega (arith, inside, holds on)) in
     let narrow : columns ≤ inner_width skin width said =
     by_bool (λ b. (if b then block else own) ≤ inner_width skin width said) (is_code_kind l.kind) (λ on. omega arith) (λ off. inside) in
-    let rest : ℕ = area.width - (columns + margins.0 + margins.1) in
+    let rest : ℕ = drawn - (columns + margins.0 + margins.1) in
     let half : left_completion style.align rest ≤ rest = left_completion-le style.align rest in
     let left : ℕ = left_completion style.align rest + margins.0 in
-    let fits : margins.0 + columns + margins.1 ≤ area.width = omega (arith, narrow, inner_is, margins-le style width) in
-    let right : (columns - own) + ((rest - left_completion style.align rest) + margins.1) ≡ area.width - left - own = omega (arith, half, fits, facts.holds) in
+    let fits : margins.0 + columns + margins.1 ≤ drawn = omega (arith, narrow, inner_is, bound.narrower, margins-le style width) in
+    let right : (columns - own) + ((rest - left_completion style.align rest) + margins.1) ≡ drawn - left - own = omega (arith, half, fits, facts.holds) in
     let text : List ℕ = map (λ (x : FlaggedChar). x.char) (text_of l) in
     let shape : ℕ → ℕ → ℕ → List ℕ = λ placed inner_left inner_right.
-    let r = area.width - (placed + margins.0 + margins.1) in
+    let r = drawn - (placed + margins.0 + margins.1) in
     replicate (left_completion style.align r + margins.0) 32 ++ (replicate inner_left 32 ++ (front_of skin l.kind ++ (text ++ (replicate inner_right 32 ++ replicate ((r - left_completion style.align r) + margins.1) 32)))) in
-    composite_chars skin area.width margins (record l { margins = Some margins }) prefix
+    composite_chars skin drawn margins (record l { margins = Some margins }) prefix
     ∙ ap (λ n. shape n (inner_blanks l).0 (inner_blanks l).1) facts.all
     ∙ ap (λ n. shape columns n (inner_blanks l).1) facts.left
     ∙ ap (λ n. shape columns 0 n) facts.right

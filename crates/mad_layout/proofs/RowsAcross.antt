@@ -1,5 +1,5 @@
--- From a layout's lines to the rows of a text's lines across an area.
-use Rattle.std.proofs.Common.{◌≡◌, ℕ, zero, suc, ◌+◌, ◌-◌, ◌^◌, ◌<◌, ◌≤◌, inl, inr, true, List, [], ◌∷◌, ◌++◌, map, length, take, chars, Option, Some, refl, ap, sym, ◌∙◌, subst, arith, append_assoc}
+-- From a layout's lines to the rows of a text's lines across the columns that are drawn.
+use Rattle.std.proofs.Common.{◌≡◌, ℕ, zero, suc, ◌+◌, ◌-◌, ◌<◌, ◌≤◌, inl, inr, true, List, [], ◌∷◌, ◌++◌, map, length, take, chars, Option, Some, refl, ap, sym, ◌∙◌, subst, arith, append_assoc}
 use Rattle.std.specs.Prelude.{min, max, IfSome}
 use Rattle.std.specs.List.{AllByRecursion, repeat}
 use Rattle.std.proofs.lemmas.List.{map-append, length-map}
@@ -11,7 +11,6 @@ use Rattle.mad_style.specs.LineStyles.{margins_at}
 use Rattle.mad_style.specs.declared.kinds.CompositeKind.{CompositeKind}
 use Rattle.mad_style.specs.declared.kinds.CompositeKind.TheVariants.{Paragraph, Header, Code}
 use Rattle.mad_fit.specs.TextColumns.{width_of}
-use Rattle.mad_fit.specs.declared.area.Area.{Area}
 use Rattle.mad_fit.specs.declared.spacing.Spacing.{Spacing}
 use Rattle.mad_wrap.specs.Keeps.{Keeps}
 use Rattle.mad_wrap.specs.WrapLines.{HasRoom, LinesFit}
@@ -21,7 +20,7 @@ use Rattle.mad_style.specs.StyledChars.{char_alone}
 use Rattle.mad_layout.specs.FlaggedLines.{widest_in, skin_char, row_across, rows_across, marked_parts}
 use Rattle.mad_layout.specs.FlaggedTexts.{IsAcross, AreAcross}
 use Rattle.mad_layout.specs.FlaggedRows.{AreRowsOf}
-use Rattle.mad_layout.specs.FlaggedTables.{kept_widths, columns_below, rows_in_column, CellInColumn, AreInColumns, rows_down, most_rows, table_across, IsRowAcross, rule_across_area}
+use Rattle.mad_layout.specs.FlaggedTables.{kept_widths, columns_below, rows_in_column, CellInColumn, AreInColumns, rows_down, most_rows, table_across, IsRowAcross, rule_across}
 use Rattle.mad_format.specs.Indents.{indent, follow_up, room_of}
 use Rattle.mad_format.specs.FmtLines.{bordered}
 use Rattle.mad_blocks.specs.LayoutParts.{is_code_kind, IsLineAt, AreLinesAt}
@@ -38,7 +37,7 @@ use Rattle.mad_layout.proofs.DrawableLemmas.{IsPlacedFor, has_room}
 use Rattle.mad_format.proofs.ReadWraps.{margins-le}
 use Rattle.mad_layout.proofs.DrawnParts.{runs_are}
 use Rattle.mad_layout.proofs.PrefixLemmas.{follow_up_printable}
-use Rattle.mad_layout.proofs.RowChars.{place_for, line_chars, row_chars, run_chars}
+use Rattle.mad_layout.proofs.RowChars.{AreWidths, place_for, line_chars, row_chars, run_chars}
 use Rattle.mad_blocks.proofs.LayoutJoins.{by_bool}
 use Rattle.mad_layout.proofs.RowsExist.{rows_of, rows_exist}
 use Rattle.mad_layout.proofs.ColumnChars.{column_piece}
@@ -84,48 +83,47 @@ record IsRowLine (skin : RowSkin) (width : ℕ) (part : List LineContent) (said 
   inside : columns_of (line_rules skin) l ≤ inner_width skin width said
   holds : is_code_kind (kind_of said.style) ≡ true → columns_of (line_rules skin) l ≤ widest_in part
 
-one_row : (skin : RowSkin) (area : Area) (part : List LineContent) (said : StyledRuns) (k : CompositeKind) (l : FmtComposite) → area.width < 2 ^ 64 - 1 → l.kind ≡ k → IsPrintablePrefix skin k
-    → is_code_kind k ≡ is_code_kind (kind_of said.style) → line_style skin k ≡ line_style skin (kind_of said.style) → IsRowLine skin (area.width - 1) part said l
-    → line_chars skin area.width (line_with (margins_at (line_style skin (kind_of said.style)) (Some (area.width - 1))) l) ≡ row_across skin area part said k (text_of l)
-one_row skin area part said k l bound kind prefix code style facts =
-    let width : ℕ = area.width - 1 in
+one_row : (skin : RowSkin) (width drawn : ℕ) (part : List LineContent) (said : StyledRuns) (k : CompositeKind) (l : FmtComposite) → AreWidths width drawn → l.kind ≡ k → IsPrintablePrefix skin k
+    → is_code_kind k ≡ is_code_kind (kind_of said.style) → line_style skin k ≡ line_style skin (kind_of said.style) → IsRowLine skin width part said l
+    → line_chars skin drawn (line_with (margins_at (line_style skin (kind_of said.style)) (Some width)) l) ≡ row_across skin width drawn part said k (text_of l)
+one_row skin width drawn part said k l bound kind prefix code style facts =
     let place : ℕ = min (widest_in part) (inner_width skin width said) in
     let inner : inner_width skin width said ≡ width - (margins_at (line_style skin k) (Some width)).0 - (margins_at (line_style skin k) (Some width)).1 = ap (λ s. width - (margins_at s (Some width)).0 - (margins_at s (Some width)).1) (sym style) in
-    subst (λ (x : FmtComposite). IsRowLine skin width part said x → line_chars skin area.width (line_with (margins_at (line_style skin (kind_of said.style)) (Some width)) x) ≡ row_across skin area part said k (text_of x)) (sym (as_kind l k kind))
-    (λ f. ap (λ s. line_chars skin area.width (line_with (margins_at s (Some width)) (record l { kind = k }))) (sym style)
-    ∙ row_chars skin area part said (record l { kind = k }) bound prefix f.measured (f.spacing ∙ ap (λ b. place_for b place) (sym code)) inner f.inside (λ on. f.holds (sym code ∙ on))) facts
+    subst (λ (x : FmtComposite). IsRowLine skin width part said x → line_chars skin drawn (line_with (margins_at (line_style skin (kind_of said.style)) (Some width)) x) ≡ row_across skin width drawn part said k (text_of x)) (sym (as_kind l k kind))
+    (λ f. ap (λ s. line_chars skin drawn (line_with (margins_at s (Some width)) (record l { kind = k }))) (sym style)
+    ∙ row_chars skin width drawn part said (record l { kind = k }) bound prefix f.measured (f.spacing ∙ ap (λ b. place_for b place) (sym code)) inner f.inside (λ on. f.holds (sym code ∙ on))) facts
 
 -- of the lines of a wrap, those after the first
-others_across : (skin : RowSkin) (area : Area) (part : List LineContent) (said : StyledRuns) (wrap : List FmtComposite) → area.width < 2 ^ 64 - 1 → IsPrintablePrefix skin (kind_of said.style)
-    → (is_code_kind (kind_of said.style) ≡ true → inner_width skin (area.width - 1) said ≤ widest_in part) → HaveKinds (follow_up (kind_of said.style)) (follow_up (kind_of said.style)) wrap
-    → AllByRecursion (λ (l : FmtComposite). l.spacing ≡ place_for (is_code_kind (kind_of said.style)) (min (widest_in part) (inner_width skin (area.width - 1) said))) wrap → AllByRecursion (IsMeasured (line_rules skin)) wrap
-    → LinesFit (indent skin.list_items_indentation_mode (follow_up (kind_of said.style))) (room_of (line_rules skin) (kind_of said.style) (inner_width skin (area.width - 1) said)) (map flagged_text (line_compounds wrap))
-    → map (line_chars skin area.width) (map (line_with (margins_at (line_style skin (kind_of said.style)) (Some (area.width - 1)))) wrap)
-    ≡ map (row_across skin area part said (follow_up (kind_of said.style))) (map flagged_text (line_compounds wrap))
-others_across skin area part said [] bound prefix most kinds spacing measured fits = refl
-others_across skin area part said (l ∷ ls) bound prefix most kinds spacing measured fits =
+others_across : (skin : RowSkin) (width drawn : ℕ) (part : List LineContent) (said : StyledRuns) (wrap : List FmtComposite) → AreWidths width drawn → IsPrintablePrefix skin (kind_of said.style)
+    → (is_code_kind (kind_of said.style) ≡ true → inner_width skin width said ≤ widest_in part) → HaveKinds (follow_up (kind_of said.style)) (follow_up (kind_of said.style)) wrap
+    → AllByRecursion (λ (l : FmtComposite). l.spacing ≡ place_for (is_code_kind (kind_of said.style)) (min (widest_in part) (inner_width skin width said))) wrap → AllByRecursion (IsMeasured (line_rules skin)) wrap
+    → LinesFit (indent skin.list_items_indentation_mode (follow_up (kind_of said.style))) (room_of (line_rules skin) (kind_of said.style) (inner_width skin width said)) (map flagged_text (line_compounds wrap))
+    → map (line_chars skin drawn) (map (line_with (margins_at (line_style skin (kind_of said.style)) (Some width))) wrap)
+    ≡ map (row_across skin width drawn part said (follow_up (kind_of said.style))) (map flagged_text (line_compounds wrap))
+others_across skin width drawn part said [] bound prefix most kinds spacing measured fits = refl
+others_across skin width drawn part said (l ∷ ls) bound prefix most kinds spacing measured fits =
     let k : CompositeKind = kind_of said.style in
     let own : indent skin.list_items_indentation_mode l.kind ≡ indent skin.list_items_indentation_mode (follow_up k) = ap (indent skin.list_items_indentation_mode) kinds.0 in
-    let inside : columns_of (line_rules skin) l ≤ inner_width skin (area.width - 1) said = omega (arith, own, fits.0) in
-    let facts : IsRowLine skin (area.width - 1) part said l = record { measured = measured.0; spacing = spacing.0; inside = inside; holds = λ on. omega (arith, inside, most on) } in
-    let first = one_row skin area part said (follow_up k) l bound kinds.0 (follow_up_printable skin k prefix) (code_follows k) (style_follows skin k) facts in
-    let rest = others_across skin area part said ls bound prefix most kinds.1 spacing.1 measured.1 fits.1 in
-    ap (λ x. x ∷ map (line_chars skin area.width) (map (line_with (margins_at (line_style skin k) (Some (area.width - 1)))) ls)) first ∙ ap (λ xs. row_across skin area part said (follow_up k) (text_of l) ∷ xs) rest
+    let inside : columns_of (line_rules skin) l ≤ inner_width skin width said = omega (arith, own, fits.0) in
+    let facts : IsRowLine skin width part said l = record { measured = measured.0; spacing = spacing.0; inside = inside; holds = λ on. omega (arith, inside, most on) } in
+    let first = one_row skin width drawn part said (follow_up k) l bound kinds.0 (follow_up_printable skin k prefix) (code_follows k) (style_follows skin k) facts in
+    let rest = others_across skin width drawn part said ls bound prefix most kinds.1 spacing.1 measured.1 fits.1 in
+    ap (λ x. x ∷ map (line_chars skin drawn) (map (line_with (margins_at (line_style skin k) (Some width))) ls)) first ∙ ap (λ xs. row_across skin width drawn part said (follow_up k) (text_of l) ∷ xs) rest
 
-wrap_across : (skin : RowSkin) (area : Area) (part : List LineContent) (said : StyledRuns) (wrap : List FmtComposite) → area.width < 2 ^ 64 - 1 → IsPrintablePrefix skin (kind_of said.style)
-    → (is_code_kind (kind_of said.style) ≡ true → inner_width skin (area.width - 1) said ≤ widest_in part) → HaveKinds (kind_of said.style) (follow_up (kind_of said.style)) wrap
-    → AllByRecursion (λ (l : FmtComposite). l.spacing ≡ place_for (is_code_kind (kind_of said.style)) (min (widest_in part) (inner_width skin (area.width - 1) said))) wrap → AllByRecursion (IsMeasured (line_rules skin)) wrap
-    → LinesFit (indent skin.list_items_indentation_mode (kind_of said.style)) (room_of (line_rules skin) (kind_of said.style) (inner_width skin (area.width - 1) said)) (map flagged_text (line_compounds wrap))
-    → map (line_chars skin area.width) (map (line_with (margins_at (line_style skin (kind_of said.style)) (Some (area.width - 1)))) wrap) ≡ rows_across skin area part said (map flagged_text (line_compounds wrap))
-wrap_across skin area part said [] bound prefix most kinds spacing measured fits = refl
-wrap_across skin area part said (l ∷ ls) bound prefix most kinds spacing measured fits =
+wrap_across : (skin : RowSkin) (width drawn : ℕ) (part : List LineContent) (said : StyledRuns) (wrap : List FmtComposite) → AreWidths width drawn → IsPrintablePrefix skin (kind_of said.style)
+    → (is_code_kind (kind_of said.style) ≡ true → inner_width skin width said ≤ widest_in part) → HaveKinds (kind_of said.style) (follow_up (kind_of said.style)) wrap
+    → AllByRecursion (λ (l : FmtComposite). l.spacing ≡ place_for (is_code_kind (kind_of said.style)) (min (widest_in part) (inner_width skin width said))) wrap → AllByRecursion (IsMeasured (line_rules skin)) wrap
+    → LinesFit (indent skin.list_items_indentation_mode (kind_of said.style)) (room_of (line_rules skin) (kind_of said.style) (inner_width skin width said)) (map flagged_text (line_compounds wrap))
+    → map (line_chars skin drawn) (map (line_with (margins_at (line_style skin (kind_of said.style)) (Some width))) wrap) ≡ rows_across skin width drawn part said (map flagged_text (line_compounds wrap))
+wrap_across skin width drawn part said [] bound prefix most kinds spacing measured fits = refl
+wrap_across skin width drawn part said (l ∷ ls) bound prefix most kinds spacing measured fits =
     let k : CompositeKind = kind_of said.style in
     let own : indent skin.list_items_indentation_mode l.kind ≡ indent skin.list_items_indentation_mode k = ap (indent skin.list_items_indentation_mode) kinds.0 in
-    let inside : columns_of (line_rules skin) l ≤ inner_width skin (area.width - 1) said = omega (arith, own, fits.0) in
-    let facts : IsRowLine skin (area.width - 1) part said l = record { measured = measured.0; spacing = spacing.0; inside = inside; holds = λ on. omega (arith, inside, most on) } in
-    let first = one_row skin area part said k l bound kinds.0 prefix refl refl facts in
-    let rest = others_across skin area part said ls bound prefix most kinds.1 spacing.1 measured.1 fits.1 in
-    ap (λ x. x ∷ map (line_chars skin area.width) (map (line_with (margins_at (line_style skin k) (Some (area.width - 1)))) ls)) first ∙ ap (λ xs. row_across skin area part said k (text_of l) ∷ xs) rest
+    let inside : columns_of (line_rules skin) l ≤ inner_width skin width said = omega (arith, own, fits.0) in
+    let facts : IsRowLine skin width part said l = record { measured = measured.0; spacing = spacing.0; inside = inside; holds = λ on. omega (arith, inside, most on) } in
+    let first = one_row skin width drawn part said k l bound kinds.0 prefix refl refl facts in
+    let rest = others_across skin width drawn part said ls bound prefix most kinds.1 spacing.1 measured.1 fits.1 in
+    ap (λ x. x ∷ map (line_chars skin drawn) (map (line_with (margins_at (line_style skin k) (Some width))) ls)) first ∙ ap (λ xs. row_across skin width drawn part said k (text_of l) ∷ xs) rest
 
 -- the composite is placed as a line that was read
 placed_for : (skin : RowSkin) (width : ℕ) (part : List LineContent) (said : StyledRuns) (l : FmtComposite) → IsPlacedIn skin width part said (record l { kind = kind_of said.style })
@@ -139,22 +137,21 @@ placed_for skin width part said l read =
     (λ on e. (omega arith, omega (arith, read.measured, text, read.widest on, code_indent skin k on))) (λ off e. tt) refl in
     record { kind = refl; text = read.text; measured = read.measured; place = subst (λ (o : Option Spacing). IfSome o (λ s. (s.width ≤ inner) × (min l.visible_length inner ≤ s.width))) (sym read.spacing) place }
 
-abbrev AreRowsIn : RowSkin → Area → List LineContent → StyledRuns → List FmtLine → Type 0
-AreRowsIn skin area part said own =
-    (0 < length own) × ((rows : List (List FlaggedChar)) × AreRowsOf (room_of (line_rules skin) (kind_of said.style) (inner_width skin (area.width - 1) said)) (marked_parts said) rows
-    × (map (line_chars skin area.width) own ≡ rows_across skin area part said rows))
+abbrev AreRowsIn : RowSkin → ℕ → ℕ → List LineContent → StyledRuns → List FmtLine → Type 0
+AreRowsIn skin width drawn part said own =
+    (0 < length own) × ((rows : List (List FlaggedChar)) × AreRowsOf (room_of (line_rules skin) (kind_of said.style) (inner_width skin width said)) (marked_parts said) rows
+    × (map (line_chars skin drawn) own ≡ rows_across skin width drawn part said rows))
 
 not_none : (ws : List FmtComposite) → (ws ≡ [] → ⊥) → 0 < length ws
 not_none [] h = absurd (h refl)
 not_none (w ∷ ws) h = omega arith
 
-kind_rows : (skin : RowSkin) (area : Area) (part : List LineContent) (said : StyledRuns) (l : FmtComposite) (own : List FmtLine) → area.width < 2 ^ 64 - 1 → IsPrintableText skin (inner_width skin (area.width - 1) said) (kind_of said.style) said.runs
-    → IsPlacedIn skin (area.width - 1) part said (record l { kind = kind_of said.style }) → IsLaidOutBy IsCompositeWrap (line_rules skin) (area.width - 1) (record l { kind = kind_of said.style }) own → AreRowsIn skin area part said own
-kind_rows skin area part said l own bound printable read (inl (fits, same)) =
+kind_rows : (skin : RowSkin) (width drawn : ℕ) (part : List LineContent) (said : StyledRuns) (l : FmtComposite) (own : List FmtLine) → AreWidths width drawn → IsPrintableText skin (inner_width skin width said) (kind_of said.style) said.runs
+    → IsPlacedIn skin width part said (record l { kind = kind_of said.style }) → IsLaidOutBy IsCompositeWrap (line_rules skin) width (record l { kind = kind_of said.style }) own → AreRowsIn skin width drawn part said own
+kind_rows skin width drawn part said l own bound printable read (inl (fits, same)) =
     let k : CompositeKind = kind_of said.style in
     let source : FmtComposite = record l { kind = k } in
-    let width : ℕ = area.width - 1 in
-    let inside : columns_of (line_rules skin) source ≤ inner_width skin width said = omega (arith, fits, read.measured, bound, margins-le (line_style skin k) width) in
+    let inside : columns_of (line_rules skin) source ≤ inner_width skin width said = omega (arith, fits, read.measured, bound.narrower, bound.small, margins-le (line_style skin k) width) in
     let text : width_of (runs_text said.runs) ≡ width_of (text_of l) = ap width_of (ap runs_text (sym read.text) ∙ runs_are l.compounds.items) in
     let facts : IsRowLine skin width part said source = record { measured = read.measured; spacing = read.spacing; inside = inside; holds = λ on. omega (arith, text, read.widest on, code_indent skin k on) } in
     let one : length own ≡ 1 = ap length same in
@@ -164,13 +161,12 @@ kind_rows skin area part said l own bound printable read (inl (fits, same)) =
       (
         text_of source ∷ [],
         subst (λ (ps : List (List FlaggedChar)). AreRowsOf (room_of (line_rules skin) k (inner_width skin width said)) ps (text_of source ∷ [])) (sym parts) rows,
-        ap (map (line_chars skin area.width)) same ∙ ap (λ x. x ∷ []) (one_row skin area part said k source bound refl printable.prefix refl refl facts),
+        ap (map (line_chars skin drawn)) same ∙ ap (λ x. x ∷ []) (one_row skin width drawn part said k source bound refl printable.prefix refl refl facts),
       ),
     )
-kind_rows skin area part said l own bound printable read (inr (wide, (wrap, wraps, same))) =
+kind_rows skin width drawn part said l own bound printable read (inr (wide, (wrap, wraps, same))) =
     let k : CompositeKind = kind_of said.style in
     let source : FmtComposite = record l { kind = k } in
-    let width : ℕ = area.width - 1 in
     let inner : ℕ = inner_width skin width said in
     let r : Room = room_of (line_rules skin) k inner in
     let room : HasRoom r (text_of source) = has_room skin width said source printable (placed_for skin width part said l read) wide in
@@ -189,15 +185,15 @@ kind_rows skin area part said l own bound printable read (inr (wide, (wrap, wrap
       (
         map flagged_text (line_compounds wrap),
         subst (λ (ps : List (List FlaggedChar)). AreRowsOf r ps (map flagged_text (line_compounds wrap))) (sym parts) (wrapped_rows r l.compounds.items (line_compounds wrap) passes wraps.wrap),
-        ap (map (line_chars skin area.width)) same ∙ wrap_across skin area part said wrap bound printable.prefix most wraps.made.kinds spacing wraps.made.measured fits,
+        ap (map (line_chars skin drawn)) same ∙ wrap_across skin width drawn part said wrap bound printable.prefix most wraps.made.kinds spacing wraps.made.measured fits,
       ),
     )
 
-pub said_rows : (skin : RowSkin) (area : Area) (part : List LineContent) (said : StyledRuns) (l : FmtComposite) (own : List FmtLine) → area.width < 2 ^ 64 - 1 → IsPrintableText skin (inner_width skin (area.width - 1) said) (kind_of said.style) said.runs
-    → IsPlacedIn skin (area.width - 1) part said l → IsLaidOutBy IsCompositeWrap (line_rules skin) (area.width - 1) l own → AreRowsIn skin area part said own
-said_rows skin area part said l own bound printable read laid =
+pub said_rows : (skin : RowSkin) (width drawn : ℕ) (part : List LineContent) (said : StyledRuns) (l : FmtComposite) (own : List FmtLine) → AreWidths width drawn → IsPrintableText skin (inner_width skin width said) (kind_of said.style) said.runs
+    → IsPlacedIn skin width part said l → IsLaidOutBy IsCompositeWrap (line_rules skin) width l own → AreRowsIn skin width drawn part said own
+said_rows skin width drawn part said l own bound printable read laid =
     let same : l ≡ record l { kind = kind_of said.style } = as_kind l (kind_of said.style) read.kind in
-    kind_rows skin area part said l own bound printable (subst (IsPlacedIn skin (area.width - 1) part said) same read) (subst (λ (x : FmtComposite). IsLaidOutBy IsCompositeWrap (line_rules skin) (area.width - 1) x own) same laid)
+    kind_rows skin width drawn part said l own bound printable (subst (IsPlacedIn skin width part said) same read) (subst (λ (x : FmtComposite). IsLaidOutBy IsCompositeWrap (line_rules skin) width x own) same laid)
 
 -- ---- the rows of all lines
 
@@ -212,13 +208,13 @@ AreReadIn skin width [] [] = Unit {0}
 AreReadIn skin width (x ∷ xs) (l ∷ ls) = IsReadIn skin width x.part x.line l × AreReadIn skin width xs ls
 AreReadIn skin width _ _ = ⊥
 
-content_rows : (skin : RowSkin) (area : Area) (x : LineInPart) (line : LineContent) (l : FmtLine) (own : List FmtLine) → area.width < 2 ^ 64 - 1 → IsPrintableContent skin (area.width - 1) x.part line
-    → IsReadIn skin (area.width - 1) x.part line l → IsLineAt IsCompositeWrap (line_rules skin) (Some (area.width - 1)) l own → (0 < length own) × IsAcross skin area x line (map (line_chars skin area.width) own)
-content_rows skin area x (normal said) (Normal l) own bound printable read laid = said_rows skin area x.part said l own bound printable read laid
-content_rows skin area x horizontal_rule HorizontalRule own bound printable read laid =
+content_rows : (skin : RowSkin) (width drawn : ℕ) (x : LineInPart) (line : LineContent) (l : FmtLine) (own : List FmtLine) → AreWidths width drawn → IsPrintableContent skin width x.part line
+    → IsReadIn skin width x.part line l → IsLineAt IsCompositeWrap (line_rules skin) (Some width) l own → (0 < length own) × IsAcross skin width drawn x line (map (line_chars skin drawn) own)
+content_rows skin width drawn x (normal said) (Normal l) own bound printable read laid = said_rows skin width drawn x.part said l own bound printable read laid
+content_rows skin width drawn x horizontal_rule HorizontalRule own bound printable read laid =
     let one : length own ≡ 1 = ap length laid in
-    (omega (arith, one), ap (map (line_chars skin area.width)) laid ∙ ap (λ (t : List ℕ). t ∷ []) (run_chars skin.horizontal_rule area.width (column_piece skin.horizontal_rule printable)))
-content_rows skin area x _ _ own bound printable read laid = absurd read
+    (omega (arith, one), ap (map (line_chars skin drawn)) laid ∙ ap (λ (t : List ℕ). t ∷ []) (run_chars skin.horizontal_rule drawn (column_piece skin.horizontal_rule printable)))
+content_rows skin width drawn x _ _ own bound printable read laid = absurd read
 
 -- cells have rows in any columns
 cells_exist : (skin : RowSkin) (cs : List Spacing) (cells : List StyledRuns) → (placed : List CellInColumn) × AreInColumns skin cs cells placed
@@ -231,30 +227,30 @@ cells_exist skin (c ∷ cs) (cell ∷ cells) =
     let rows : List (List FlaggedChar) = rows_of r (marked_parts cell) in
     (record { width = c.width; rows = rows_in_column skin c k rows } ∷ more.0, (rows, more.0, rows_exist r (marked_parts cell), refl, more.1))
 
-row_exists : (skin : RowSkin) (area : Area) (cs : List Spacing) (cells : List StyledRuns) → (across : List (List ℕ)) × IsRowAcross skin area cs cells across
-row_exists skin area cs cells =
+row_exists : (skin : RowSkin) (drawn : ℕ) (cs : List Spacing) (cells : List StyledRuns) → (across : List (List ℕ)) × IsRowAcross skin drawn cs cells across
+row_exists skin drawn cs cells =
     let placed = cells_exist skin cs cells in
-    (map (table_across skin area (1 + bordered (map (λ (c : Spacing). c.width) cs))) (rows_down skin (max (most_rows placed.0) 1) placed.0), (placed.0, placed.1, refl))
+    (map (table_across skin drawn (1 + bordered (map (λ (c : Spacing). c.width) cs))) (rows_down skin (max (most_rows placed.0) 1) placed.0), (placed.0, placed.1, refl))
 
-line_across : (skin : RowSkin) (area : Area) (x : LineInPart) (line : LineContent) → (across : List (List ℕ)) × IsAcross skin area x line across
-line_across skin area x (normal said) =
-    let r : Room = room_of (line_rules skin) (kind_of said.style) (inner_width skin (area.width - 1) said) in
-    (rows_across skin area x.part said (rows_of r (marked_parts said)), (rows_of r (marked_parts said), rows_exist r (marked_parts said), refl))
-line_across skin area x (table_row cells) = row_exists skin area (columns_below (kept_widths skin (area.width - 1) x.part) x.aligns) cells
-line_across skin area x (table_rule aligns) = (rule_across_area skin area x.position (kept_widths skin (area.width - 1) x.part) ∷ [], refl)
-line_across skin area x horizontal_rule = (repeat area.width (skin_char (char_alone skin.horizontal_rule)) ∷ [], refl)
+line_across : (skin : RowSkin) (width drawn : ℕ) (x : LineInPart) (line : LineContent) → (across : List (List ℕ)) × IsAcross skin width drawn x line across
+line_across skin width drawn x (normal said) =
+    let r : Room = room_of (line_rules skin) (kind_of said.style) (inner_width skin width said) in
+    (rows_across skin width drawn x.part said (rows_of r (marked_parts said)), (rows_of r (marked_parts said), rows_exist r (marked_parts said), refl))
+line_across skin width drawn x (table_row cells) = row_exists skin drawn (columns_below (kept_widths skin width x.part) x.aligns) cells
+line_across skin width drawn x (table_rule aligns) = (rule_across skin drawn x.position (kept_widths skin width x.part) ∷ [], refl)
+line_across skin width drawn x horizontal_rule = (repeat drawn (skin_char (char_alone skin.horizontal_rule)) ∷ [], refl)
 
 -- every line has rows across an area
-pub across_exist : (skin : RowSkin) (area : Area) (xs : List LineInPart) → (across : List (List ℕ)) × AreAcross skin area xs across
-across_exist skin area [] = ([], refl)
-across_exist skin area (x ∷ xs) =
-    let own = line_across skin area x x.line in
-    let more = across_exist skin area xs in
+pub across_exist : (skin : RowSkin) (width drawn : ℕ) (xs : List LineInPart) → (across : List (List ℕ)) × AreAcross skin width drawn xs across
+across_exist skin width drawn [] = ([], refl)
+across_exist skin width drawn (x ∷ xs) =
+    let own = line_across skin width drawn x x.line in
+    let more = across_exist skin width drawn xs in
     (own.0 ++ more.0, (own.0, more.0, refl, own.1, more.1))
 
 -- The lines have rows across the area, and the first of these are those of the layout's lines.
-abbrev pub HaveFirstRows : RowSkin → Area → ℕ → List LineInPart → List FmtLine → Type 0
-HaveFirstRows skin area n xs lines = (across : List (List ℕ)) × AreAcross skin area xs across × (take n across ≡ take n (map (line_chars skin area.width) lines))
+abbrev pub HaveFirstRows : RowSkin → ℕ → ℕ → ℕ → List LineInPart → List FmtLine → Type 0
+HaveFirstRows skin width drawn n xs lines = (across : List (List ℕ)) × AreAcross skin width drawn xs across × (take n across ≡ take n (map (line_chars skin drawn) lines))
 
 -- lists that are the same so far
 take_less : (n : ℕ) (xs : List (List ℕ)) → take n (take (suc n) xs) ≡ take n xs
@@ -275,20 +271,20 @@ some_same [] xs ys n some e = absurd (omega (arith, some))
 some_same (o ∷ own) xs ys n some e = ap (λ (l : List (List ℕ)). o ∷ l) (first_same own xs ys n e)
 
 -- The first rows of these lines and of those after them, whose rows are there for any number of lines that keep the premises.
-pub front_across : (skin : RowSkin) (area : Area) (n : ℕ) (xs ys : List LineInPart) (placed own others : List FmtLine) → area.width < 2 ^ 64 - 1
-    → ((m : ℕ) → KeepsPremises skin (area.width - 1) (take m ys) → HaveFirstRows skin area m ys others)
-    → KeepsPremises skin (area.width - 1) (take n (xs ++ ys)) → AreReadIn skin (area.width - 1) xs placed → AreLinesAt IsCompositeWrap (line_rules skin) (Some (area.width - 1)) placed own
-    → HaveFirstRows skin area n (xs ++ ys) (own ++ others)
-front_across skin area zero xs ys placed own others bound later keeps reads laid = let all = across_exist skin area (xs ++ ys) in (all.0, all.1, refl)
-front_across skin area (suc n) [] ys [] own others bound later keeps reads laid = subst (λ (ls : List FmtLine). HaveFirstRows skin area (suc n) ys (ls ++ others)) (sym laid) (later (suc n) keeps)
-front_across skin area (suc n) (x ∷ xs) ys (l ∷ ls) own others bound later keeps reads (here, there, joins, first_laid, more) =
-    let chars : List FmtLine → List (List ℕ) = map (line_chars skin area.width) in
-    let first = content_rows skin area x x.line l here bound keeps.0 reads.0 first_laid in
-    let rest = front_across skin area n xs ys ls there others bound later keeps.1 reads.1 more in
-    let count : 0 < length (chars here) = omega (arith, first.0, length-map here (line_chars skin area.width)) in
+pub front_across : (skin : RowSkin) (width drawn : ℕ) (n : ℕ) (xs ys : List LineInPart) (placed own others : List FmtLine) → AreWidths width drawn
+    → ((m : ℕ) → KeepsPremises skin width (take m ys) → HaveFirstRows skin width drawn m ys others)
+    → KeepsPremises skin width (take n (xs ++ ys)) → AreReadIn skin width xs placed → AreLinesAt IsCompositeWrap (line_rules skin) (Some width) placed own
+    → HaveFirstRows skin width drawn n (xs ++ ys) (own ++ others)
+front_across skin width drawn zero xs ys placed own others bound later keeps reads laid = let all = across_exist skin width drawn (xs ++ ys) in (all.0, all.1, refl)
+front_across skin width drawn (suc n) [] ys [] own others bound later keeps reads laid = subst (λ (ls : List FmtLine). HaveFirstRows skin width drawn (suc n) ys (ls ++ others)) (sym laid) (later (suc n) keeps)
+front_across skin width drawn (suc n) (x ∷ xs) ys (l ∷ ls) own others bound later keeps reads (here, there, joins, first_laid, more) =
+    let chars : List FmtLine → List (List ℕ) = map (line_chars skin drawn) in
+    let first = content_rows skin width drawn x x.line l here bound keeps.0 reads.0 first_laid in
+    let rest = front_across skin width drawn n xs ys ls there others bound later keeps.1 reads.1 more in
+    let count : 0 < length (chars here) = omega (arith, first.0, length-map here (line_chars skin drawn)) in
     let lines : own ++ others ≡ here ++ (there ++ others) = ap (λ (ls : List FmtLine). ls ++ others) joins ∙ append_assoc here there others in (
       chars here ++ rest.0,
       (chars here, rest.0, refl, first.1, rest.1),
-      some_same (chars here) rest.0 (chars (there ++ others)) n count rest.2 ∙ ap (take (suc n)) (sym (ap chars lines ∙ map-append (line_chars skin area.width) here (there ++ others))),
+      some_same (chars here) rest.0 (chars (there ++ others)) n count rest.2 ∙ ap (take (suc n)) (sym (ap chars lines ∙ map-append (line_chars skin drawn) here (there ++ others))),
     )
-front_across skin area _ _ ys _ own others bound later keeps reads _ = absurd reads
+front_across skin width drawn _ _ ys _ own others bound later keeps reads _ = absurd reads

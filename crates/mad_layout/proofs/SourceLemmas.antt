@@ -146,5 +146,5 @@ pub source_flushed : (skin : RowSkin) (markdown : List ℕ) (area : Area) (old m
 source_flushed skin markdown area old mid new h e = record {
   lines = h.lines;
   laid_out = h.laid_out;
-  shown = took_flushed old mid new (AreShownIn skin h.lines area 0) h.shown e;
+  shown = took_flushed old mid new (AreShownIn skin None h.lines area 0) h.shown e;
 }

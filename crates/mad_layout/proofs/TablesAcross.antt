@@ -1,4 +1,4 @@
--- From a table's layout to the rows of its lines across an area.
+-- From a table's layout to the rows of its lines across the columns that are drawn.
 use Rattle.std.proofs.Common.{◌≡◌, ℕ, zero, suc, ◌+◌, ◌-◌, ◌*◌, ◌/◌, ◌^◌, ◌<◌, ◌≤◌, ◌==◌, Bool, true, false, inl, inr, max, List, [], ◌∷◌, ◌++◌, map, length, take, replicate, chars, Option, Some, None, if◌then◌else◌, nat_le, refl, ap, sym, ◌∙◌, subst, arith, append_assoc}
 use Rattle.std.specs.List.{AllByRecursion}
 use Rattle.std.proofs.lemmas.Bool.Decides.{nat_tests}
@@ -10,14 +10,13 @@ use Rattle.mad_style.specs.Kinds.{kind_of}
 use Rattle.mad_style.specs.declared.kinds.CompositeKind.{CompositeKind}
 use Rattle.mad_widths.specs.ColumnWidths.{needs_of, column_widths, after_second}
 use Rattle.mad_fit.specs.TextColumns.{width_of}
-use Rattle.mad_fit.specs.declared.area.Area.{Area}
 use Rattle.mad_fit.specs.declared.spacing.Spacing.{Spacing}
 use Rattle.mad_wrap.specs.WrapLines.{HasRoom, LinesFit}
 use Rattle.mad_wrap.specs.declared.room.Room.{Room}
 use Rattle.mad_format.specs.CompositeWraps.{line_compounds, HaveKinds, IsCompositeWrap}
 use Rattle.mad_layout.specs.FlaggedLines.{marked_parts}
 use Rattle.mad_layout.specs.FlaggedRows.{AreRowsOf}
-use Rattle.mad_layout.specs.FlaggedTables.{columns_among, cells_among, kept_widths, columns_below, row_in_column, rows_in_column, CellInColumn, AreInColumns, rows_down, most_rows, table_across, IsRowAcross, rule_across_area}
+use Rattle.mad_layout.specs.FlaggedTables.{columns_among, cells_among, kept_widths, columns_below, row_in_column, rows_in_column, CellInColumn, AreInColumns, rows_down, most_rows, table_across, IsRowAcross, rule_across}
 use Rattle.mad_layout.specs.FlaggedTexts.{LineInPart, aligns_at, position_in, lines_in, IsAcross}
 use Rattle.mad_format.specs.Indents.{indent, follow_up, room_of}
 use Rattle.mad_format.specs.FmtLines.{bordered, IsCompositeRead, AreCompositesRead, IsLineRead, is_table_line}
@@ -38,7 +37,7 @@ use Rattle.mad_layout.proofs.DrawableTables.{TableContent, content_printable, ke
 use Rattle.mad_layout.proofs.DrawnParts.{runs_are}
 use Rattle.mad_layout.proofs.KeptWidths.{AreTableRead, count_read, widths_kept}
 use Rattle.mad_layout.proofs.PrefixLemmas.{follow_up_printable}
-use Rattle.mad_layout.proofs.RowChars.{line_chars}
+use Rattle.mad_layout.proofs.RowChars.{AreWidths, line_chars}
 use Rattle.mad_layout.proofs.RowsAcross.{parts_are, HaveFirstRows, across_exist, some_same}
 use Rattle.mad_layout.proofs.ColumnChars.{column_rule}
 use Rattle.mad_rows.specs.Rows.{rule_chars}
@@ -133,16 +132,16 @@ as_tall skin (c ∷ cs) cells (ls ∷ lines) laid =
     omega (arith, rest, own)
 as_tall skin _ cells _ laid = absurd laid
 
-row_is_across : (skin : RowSkin) (area : Area) (cs : List Spacing) (said : List StyledRuns) (cells : List FmtComposite) (rows : List FmtTableRow) → AllByRecursion (λ c. c.width < 2 ^ 64 - 1) cs → AreCompositesRead (line_rules skin) said cells
-    → ArePrintableCells skin (widths_of cs) cells → IsRowLaidOutBy IsCompositeWrap (line_rules skin) cs cells rows → IsRowAcross skin area cs said (map (line_chars skin area.width) (map TableRow rows))
-row_is_across skin area cs said cells rows bound read printable laid =
+row_is_across : (skin : RowSkin) (drawn : ℕ) (cs : List Spacing) (said : List StyledRuns) (cells : List FmtComposite) (rows : List FmtTableRow) → AllByRecursion (λ c. c.width < 2 ^ 64 - 1) cs → AreCompositesRead (line_rules skin) said cells
+    → ArePrintableCells skin (widths_of cs) cells → IsRowLaidOutBy IsCompositeWrap (line_rules skin) cs cells rows → IsRowAcross skin drawn cs said (map (line_chars skin drawn) (map TableRow rows))
+row_is_across skin drawn cs said cells rows bound read printable laid =
     let placed : List CellInColumn = placed_lines skin cs laid.lines in
     let same : most_rows placed ≡ tallest laid.lines = as_tall skin cs cells laid.lines laid.laid_out in
     let tall : length rows ≡ max (tallest laid.lines) 1 = laid.count in
     let count : length rows ≡ max (most_rows placed) 1 = omega (arith, tall, same) in (
       placed,
       cells_in_columns skin cs said cells laid.lines bound read printable laid.laid_out,
-      down_chars skin area cs laid.lines rows laid.rows_are ∙ ap (λ n. map (table_across skin area (1 + bordered (widths_of cs))) (rows_down skin n placed)) count,
+      down_chars skin drawn cs laid.lines rows laid.rows_are ∙ ap (λ n. map (table_across skin drawn (1 + bordered (widths_of cs))) (rows_down skin n placed)) count,
     )
 
 -- ---- a line in its table
@@ -158,26 +157,25 @@ pub record IsLaidIn (skin : RowSkin) (width : ℕ) (ws : List ℕ) (x : LineInPa
   pub read : IsLineRead (line_rules skin) x.line l
   pub laid : IsTableLineBy IsCompositeWrap (line_rules skin) (columns_below ws x.aligns) x.position l own
 
-line_rows : (skin : RowSkin) (area : Area) (ws : List ℕ) (x : LineInPart) (c : LineContent) (l : FmtLine) (own : List FmtLine) → area.width < 2 ^ 64 - 1 → 1 + bordered ws ≤ area.width - 1 → ws ≡ kept_widths skin (area.width - 1) x.part
-    → TableContent skin (area.width - 1) ws l → IsLineRead (line_rules skin) c l → is_table_line l ≡ true → IsTableLineBy IsCompositeWrap (line_rules skin) (columns_below ws x.aligns) x.position l own
-    → (0 < length own) × IsAcross skin area x c (map (line_chars skin area.width) own)
-line_rows skin area ws x (normal said) (Normal l) own bound fit is content read table laid = absurd (cc)
-line_rows skin area ws x (table_row cells) (TableRow row) own bound fit is content read table (rows, same, laid) =
-    let width : ℕ = area.width - 1 in
+line_rows : (skin : RowSkin) (width drawn : ℕ) (ws : List ℕ) (x : LineInPart) (c : LineContent) (l : FmtLine) (own : List FmtLine) → AreWidths width drawn → 1 + bordered ws ≤ width → ws ≡ kept_widths skin width x.part
+    → TableContent skin width ws l → IsLineRead (line_rules skin) c l → is_table_line l ≡ true → IsTableLineBy IsCompositeWrap (line_rules skin) (columns_below ws x.aligns) x.position l own
+    → (0 < length own) × IsAcross skin width drawn x c (map (line_chars skin drawn) own)
+line_rows skin width drawn ws x (normal said) (Normal l) own bound fit is content read table laid = absurd (cc)
+line_rows skin width drawn ws x (table_row cells) (TableRow row) own bound fit is content read table (rows, same, laid) =
     let cs : List Spacing = columns_below ws x.aligns in
     let widths : widths_of cs ≡ ws = below-widths ws x.aligns in
     let inside : 1 + bordered (widths_of cs) ≤ width = subst (λ vs. 1 + bordered vs ≤ width) (sym widths) fit in
     let printable : ArePrintableCells skin (widths_of cs) row.cells.items = subst (λ vs. ArePrintableCells skin vs row.cells.items) (sym widths) content.printable in
-    let across = row_is_across skin area cs cells row.cells.items rows (widths_small width cs (omega (arith, bound)) inside) read printable laid in
+    let across = row_is_across skin drawn cs cells row.cells.items rows (widths_small width cs (omega (arith, bound.narrower, bound.small)) inside) read printable laid in
     let count : length rows ≡ max _ 1 = laid.count in
-    subst (λ (ls : List FmtLine). (0 < length ls) × IsAcross skin area x (table_row cells) (map (line_chars skin area.width) ls)) (sym same)
-    (map_some rows (omega (arith, count)), subst (λ vs. IsRowAcross skin area (columns_below vs x.aligns) cells (map (line_chars skin area.width) (map TableRow rows))) is across)
-line_rows skin area ws x (table_rule aligns) (TableRule source) own bound fit is content read table (rule, same, laid) =
-    let chars = rule_line_chars skin area x.position ws rule (column_rule skin (rule_chars skin.table_border_chars x.position) (content.borders.rules x.position)) laid.position_is (laid.widths_are ∙ below-widths ws x.aligns) in
-    subst (λ (ls : List FmtLine). (0 < length ls) × IsAcross skin area x (table_rule aligns) (map (line_chars skin area.width) ls)) (sym same)
-    (omega arith, ap (λ (t : List ℕ). t ∷ []) (chars ∙ ap (rule_across_area skin area x.position) is))
-line_rows skin area ws x horizontal_rule HorizontalRule own bound fit is content read table laid = absurd (cc)
-line_rows skin area ws x _ _ own bound fit is content read _ _ = absurd read
+    subst (λ (ls : List FmtLine). (0 < length ls) × IsAcross skin width drawn x (table_row cells) (map (line_chars skin drawn) ls)) (sym same)
+    (map_some rows (omega (arith, count)), subst (λ vs. IsRowAcross skin drawn (columns_below vs x.aligns) cells (map (line_chars skin drawn) (map TableRow rows))) is across)
+line_rows skin width drawn ws x (table_rule aligns) (TableRule source) own bound fit is content read table (rule, same, laid) =
+    let chars = rule_line_chars skin drawn x.position ws rule (column_rule skin (rule_chars skin.table_border_chars x.position) (content.borders.rules x.position)) laid.position_is (laid.widths_are ∙ below-widths ws x.aligns) in
+    subst (λ (ls : List FmtLine). (0 < length ls) × IsAcross skin width drawn x (table_rule aligns) (map (line_chars skin drawn) ls)) (sym same)
+    (omega arith, ap (λ (t : List ℕ). t ∷ []) (chars ∙ ap (rule_across skin drawn x.position) is))
+line_rows skin width drawn ws x horizontal_rule HorizontalRule own bound fit is content read table laid = absurd (cc)
+line_rows skin width drawn ws x _ _ own bound fit is content read _ _ = absurd read
 
 -- ---- the lines of a table
 
@@ -187,23 +185,23 @@ AreLaidIn skin width ws (x ∷ xs) (l ∷ ls) lines = (own : List FmtLine) × (o
 AreLaidIn skin width ws _ _ lines = ⊥
 
 -- The first rows of these lines and of those after them, whose rows are there for any number of lines that keep the premises.
-pub table_front : (skin : RowSkin) (area : Area) (n : ℕ) (ws : List ℕ) (xs ys : List LineInPart) (read own others : List FmtLine) → area.width < 2 ^ 64 - 1 → 1 + bordered ws ≤ area.width - 1
-    → ((m : ℕ) → KeepsPremises skin (area.width - 1) (take m ys) → HaveFirstRows skin area m ys others)
-    → KeepsPremises skin (area.width - 1) (take n (xs ++ ys)) → AreLaidIn skin (area.width - 1) ws xs read own → HaveFirstRows skin area n (xs ++ ys) (own ++ others)
-table_front skin area zero ws xs ys read own others bound fit later keeps laid = let all = across_exist skin area (xs ++ ys) in (all.0, all.1, refl)
-table_front skin area (suc n) ws [] ys [] own others bound fit later keeps laid = subst (λ (ls : List FmtLine). HaveFirstRows skin area (suc n) ys (ls ++ others)) (sym laid) (later (suc n) keeps)
-table_front skin area (suc n) ws (x ∷ xs) ys (l ∷ ls) own others bound fit later keeps (here, there, joins, h, more) =
-    let drawn : List FmtLine → List (List ℕ) = map (line_chars skin area.width) in
-    let content : TableContent skin (area.width - 1) ws l = content_printable skin (area.width - 1) x.part ws x.line l (kept_columns skin (area.width - 1) x.part ws h.widths) keeps.0 h.read h.table in
-    let first = line_rows skin area ws x x.line l here bound fit h.widths content h.read h.table h.laid in
-    let rest = table_front skin area n ws xs ys ls there others bound fit later keeps.1 more in
-    let count : 0 < length (drawn here) = omega (arith, first.0, length-map here (line_chars skin area.width)) in
+pub table_front : (skin : RowSkin) (width drawn : ℕ) (n : ℕ) (ws : List ℕ) (xs ys : List LineInPart) (read own others : List FmtLine) → AreWidths width drawn → 1 + bordered ws ≤ width
+    → ((m : ℕ) → KeepsPremises skin width (take m ys) → HaveFirstRows skin width drawn m ys others)
+    → KeepsPremises skin width (take n (xs ++ ys)) → AreLaidIn skin width ws xs read own → HaveFirstRows skin width drawn n (xs ++ ys) (own ++ others)
+table_front skin width drawn zero ws xs ys read own others bound fit later keeps laid = let all = across_exist skin width drawn (xs ++ ys) in (all.0, all.1, refl)
+table_front skin width drawn (suc n) ws [] ys [] own others bound fit later keeps laid = subst (λ (ls : List FmtLine). HaveFirstRows skin width drawn (suc n) ys (ls ++ others)) (sym laid) (later (suc n) keeps)
+table_front skin width drawn (suc n) ws (x ∷ xs) ys (l ∷ ls) own others bound fit later keeps (here, there, joins, h, more) =
+    let chars_of : List FmtLine → List (List ℕ) = map (line_chars skin drawn) in
+    let content : TableContent skin width ws l = content_printable skin width x.part ws x.line l (kept_columns skin width x.part ws h.widths) keeps.0 h.read h.table in
+    let first = line_rows skin width drawn ws x x.line l here bound fit h.widths content h.read h.table h.laid in
+    let rest = table_front skin width drawn n ws xs ys ls there others bound fit later keeps.1 more in
+    let count : 0 < length (chars_of here) = omega (arith, first.0, length-map here (line_chars skin drawn)) in
     let lines : own ++ others ≡ here ++ (there ++ others) = ap (λ (ls : List FmtLine). ls ++ others) joins ∙ append_assoc here there others in (
-      drawn here ++ rest.0,
-      (drawn here, rest.0, refl, first.1, rest.1),
-      some_same (drawn here) rest.0 (drawn (there ++ others)) n count rest.2 ∙ ap (take (suc n)) (sym (ap drawn lines ∙ map-append (line_chars skin area.width) here (there ++ others))),
+      chars_of here ++ rest.0,
+      (chars_of here, rest.0, refl, first.1, rest.1),
+      some_same (chars_of here) rest.0 (chars_of (there ++ others)) n count rest.2 ∙ ap (take (suc n)) (sym (ap chars_of lines ∙ map-append (line_chars skin drawn) here (there ++ others))),
     )
-table_front skin area _ ws _ ys _ own others bound fit later keeps laid = absurd laid
+table_front skin width drawn _ ws _ ys _ own others bound fit later keeps laid = absurd laid
 
 -- ---- lines of a table in their part
 
@@ -294,19 +292,19 @@ bare_in skin width part above first _ _ is none empty reads = absurd reads
 -- ---- a table
 
 -- The first rows of a table and of the lines after it.
-pub table_across_area : (skin : RowSkin) (area : Area) (n : ℕ) (part : List LineContent) (ys : List LineInPart) (read own others : List FmtLine) → area.width < 2 ^ 64 - 1 → 4 ≤ area.width
-    → ((m : ℕ) → KeepsPremises skin (area.width - 1) (take m ys) → HaveFirstRows skin area m ys others)
-    → KeepsPremises skin (area.width - 1) (take n (lines_in part None true part ++ ys)) → AreTableRead skin part read
-    → IsTableLaidOutBy IsCompositeWrap (line_rules skin) (columns_count read) (area.width - 1) read own → HaveFirstRows skin area n (lines_in part None true part ++ ys) (own ++ others)
-table_across_area skin area n part ys read own others bound wide later keeps reads (inl (inl none, stays)) =
+pub table_rows_across : (skin : RowSkin) (width drawn : ℕ) (n : ℕ) (part : List LineContent) (ys : List LineInPart) (read own others : List FmtLine) → AreWidths width drawn → 3 ≤ width
+    → ((m : ℕ) → KeepsPremises skin width (take m ys) → HaveFirstRows skin width drawn m ys others)
+    → KeepsPremises skin width (take n (lines_in part None true part ++ ys)) → AreTableRead skin part read
+    → IsTableLaidOutBy IsCompositeWrap (line_rules skin) (columns_count read) width read own → HaveFirstRows skin width drawn n (lines_in part None true part ++ ys) (own ++ others)
+table_rows_across skin width drawn n part ys read own others bound wide later keeps reads (inl (inl none, stays)) =
     let empty : columns_among part ≡ 0 = sym (count_read skin part read reads) ∙ none in
-    subst (λ (ls : List FmtLine). HaveFirstRows skin area n (lines_in part None true part ++ ys) (ls ++ others)) (sym stays)
-    (table_front skin area n [] (lines_in part None true part) ys read read others bound (omega (arith, wide)) later keeps
-    (bare_in skin (area.width - 1) part None true part read (no_widths skin (area.width - 1) part (omega (arith, wide)) empty) empty none reads))
-table_across_area skin area n part ys read own others bound wide later keeps reads (inl (inr none, stays)) = absurd (omega (arith, none, wide))
-table_across_area skin area n part ys read own others bound wide later keeps reads (inr (some, place, (ws, kept, laid))) =
-    let fit : 1 + bordered ws ≤ area.width - 1 = let inside : bordered ws + 1 ≤ area.width - 1 = kept.fit in omega (arith, inside) in
+    subst (λ (ls : List FmtLine). HaveFirstRows skin width drawn n (lines_in part None true part ++ ys) (ls ++ others)) (sym stays)
+    (table_front skin width drawn n [] (lines_in part None true part) ys read read others bound (omega (arith, wide)) later keeps
+    (bare_in skin width part None true part read (no_widths skin width part (omega (arith, wide)) empty) empty none reads))
+table_rows_across skin width drawn n part ys read own others bound wide later keeps reads (inl (inr none, stays)) = absurd (omega (arith, none, wide))
+table_rows_across skin width drawn n part ys read own others bound wide later keeps reads (inr (some, place, (ws, kept, laid))) =
+    let fit : 1 + bordered ws ≤ width = let inside : bordered ws + 1 ≤ width = kept.fit in omega (arith, inside) in
     let count : columns_count read ≡ columns_among part = count_read skin part read reads in
     let columns : (columns_among part == 0) ≡ false = grind (arith, nat_tests) in
-    table_front skin area n ws (lines_in part None true part) ys read own others bound fit later keeps
-    (laid_in skin (area.width - 1) ws part None true part read own (widths_kept skin (area.width - 1) part read ws reads kept) columns reads laid)
+    table_front skin width drawn n ws (lines_in part None true part) ys read own others bound fit later keeps
+    (laid_in skin width ws part None true part read own (widths_kept skin width part read ws reads kept) columns reads laid)

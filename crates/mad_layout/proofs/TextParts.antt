@@ -7,7 +7,6 @@ use Rattle.mad_style.specs.Kinds.{kind_of}
 use Rattle.mad_style.specs.LineStyles.{width_inside}
 use Rattle.mad_style.specs.declared.kinds.CompositeKind.{CompositeKind}
 use Rattle.mad_fit.specs.TextColumns.{width_of}
-use Rattle.mad_fit.specs.declared.area.Area.{Area}
 use Rattle.mad_format.specs.CompositeWraps.{IsCompositeWrap}
 use Rattle.mad_layout.specs.FlaggedLines.{widest_in}
 use Rattle.mad_blocks.specs.TextParts.{is_code, is_table, text_parts}
@@ -25,10 +24,10 @@ use Rattle.mad_format.specs.declared.line.FmtLine.{FmtLine}
 use Rattle.mad_format.specs.declared.line.FmtLine.TheVariants.{Normal, TableRow, TableRule, HorizontalRule}
 use Rattle.mad_layout.proofs.DrawnParts.{runs_are}
 use Rattle.mad_blocks.proofs.PartLemmas.{code_is}
-use Rattle.mad_layout.proofs.RowChars.{place_for, line_chars}
+use Rattle.mad_layout.proofs.RowChars.{AreWidths, place_for, line_chars}
 use Rattle.mad_layout.proofs.RowsAcross.{IsReadIn, AreReadIn, HaveFirstRows, code_indent, front_across}
 use Rattle.mad_layout.proofs.ReadParts.{AreCodeRead, ArePartsRead, parts_read, all_in}
-use Rattle.mad_layout.proofs.TablesAcross.{table_across_area}
+use Rattle.mad_layout.proofs.TablesAcross.{table_rows_across}
 
 -- ---- a block of code
 
@@ -95,31 +94,30 @@ line_placed skin width part horizontal_rule HorizontalRule other no_table read =
 
 -- ---- a text
 
-parts_across : (skin : RowSkin) (area : Area) (n : ℕ) (css : List (List LineContent)) (ps : List Part) (lines : List FmtLine) → area.width < 2 ^ 64 - 1 → 4 ≤ area.width
-    → KeepsPremises skin (area.width - 1) (take n (all_in css)) → ArePartsRead skin css ps → ArePartsAt IsCompositeWrap (line_rules skin) (area.width - 1) (Some (area.width - 1)) ps lines
-    → HaveFirstRows skin area n (all_in css) lines
-parts_across skin area n [] [] lines bound wide keeps reads laid = ([], refl, ap (λ (ls : List FmtLine). take n (map (line_chars skin area.width) ls)) (sym laid))
-parts_across skin area n [] (p ∷ ps) lines bound wide keeps reads laid = absurd reads
-parts_across skin area n (cs ∷ css) [] lines bound wide keeps reads laid = absurd reads
-parts_across skin area n ((c ∷ cs) ∷ css) (table ls ∷ ps) lines bound wide keeps reads (own, others, joins, here, more) =
-    subst (HaveFirstRows skin area n (all_in ((c ∷ cs) ∷ css))) (sym joins)
-    (table_across_area skin area n (c ∷ cs) (all_in css) ls own others bound wide (λ m k. parts_across skin area m css ps others bound wide k reads.1 more) keeps reads.0 here)
-parts_across skin area n ((c ∷ cs) ∷ css) (block (l ∷ ls) ∷ ps) lines bound wide keeps reads (own, others, joins, here, more) =
-    let width : ℕ = area.width - 1 in
+parts_across : (skin : RowSkin) (width drawn : ℕ) (n : ℕ) (css : List (List LineContent)) (ps : List Part) (lines : List FmtLine) → AreWidths width drawn → 3 ≤ width
+    → KeepsPremises skin width (take n (all_in css)) → ArePartsRead skin css ps → ArePartsAt IsCompositeWrap (line_rules skin) width (Some width) ps lines
+    → HaveFirstRows skin width drawn n (all_in css) lines
+parts_across skin width drawn n [] [] lines bound wide keeps reads laid = ([], refl, ap (λ (ls : List FmtLine). take n (map (line_chars skin drawn) ls)) (sym laid))
+parts_across skin width drawn n [] (p ∷ ps) lines bound wide keeps reads laid = absurd reads
+parts_across skin width drawn n (cs ∷ css) [] lines bound wide keeps reads laid = absurd reads
+parts_across skin width drawn n ((c ∷ cs) ∷ css) (table ls ∷ ps) lines bound wide keeps reads (own, others, joins, here, more) =
+    subst (HaveFirstRows skin width drawn n (all_in ((c ∷ cs) ∷ css))) (sym joins)
+    (table_rows_across skin width drawn n (c ∷ cs) (all_in css) ls own others bound wide (λ m k. parts_across skin width drawn m css ps others bound wide k reads.1 more) keeps reads.0 here)
+parts_across skin width drawn n ((c ∷ cs) ∷ css) (block (l ∷ ls) ∷ ps) lines bound wide keeps reads (own, others, joins, here, more) =
     let columns : ℕ = min (widest (l ∷ ls)) (code_left skin width) in
-    let placed = block_placed skin width columns (c ∷ cs) None true (c ∷ cs) (l ∷ ls) (widest_same skin (code_left skin width) (c ∷ cs) (l ∷ ls) (omega (arith, bound)) reads.0) (omega arith) reads.0 in
-    subst (HaveFirstRows skin area n (all_in ((c ∷ cs) ∷ css))) (sym joins)
-    (front_across skin area n (lines_in (c ∷ cs) None true (c ∷ cs)) (all_in css) (map Normal (map (placed_code columns) (l ∷ ls))) own others bound
-    (λ m k. parts_across skin area m css ps others bound wide k reads.1 more) keeps placed here)
-parts_across skin area n ((c ∷ []) ∷ css) (single l ∷ ps) lines bound wide keeps reads (own, others, joins, here, more) =
-    subst (HaveFirstRows skin area n (all_in ((c ∷ []) ∷ css))) (sym joins)
-    (front_across skin area n (lines_in (c ∷ []) None true (c ∷ [])) (all_in css) (l ∷ []) own others bound
-    (λ m k. parts_across skin area m css ps others bound wide k reads.1 more) keeps (line_placed skin (area.width - 1) (c ∷ []) c l reads.0.0 reads.0.1 reads.0.2, tt) here)
-parts_across skin area n _ _ lines bound wide keeps reads _ = absurd reads.0
+    let placed = block_placed skin width columns (c ∷ cs) None true (c ∷ cs) (l ∷ ls) (widest_same skin (code_left skin width) (c ∷ cs) (l ∷ ls) (omega (arith, bound.narrower, bound.small)) reads.0) (omega arith) reads.0 in
+    subst (HaveFirstRows skin width drawn n (all_in ((c ∷ cs) ∷ css))) (sym joins)
+    (front_across skin width drawn n (lines_in (c ∷ cs) None true (c ∷ cs)) (all_in css) (map Normal (map (placed_code columns) (l ∷ ls))) own others bound
+    (λ m k. parts_across skin width drawn m css ps others bound wide k reads.1 more) keeps placed here)
+parts_across skin width drawn n ((c ∷ []) ∷ css) (single l ∷ ps) lines bound wide keeps reads (own, others, joins, here, more) =
+    subst (HaveFirstRows skin width drawn n (all_in ((c ∷ []) ∷ css))) (sym joins)
+    (front_across skin width drawn n (lines_in (c ∷ []) None true (c ∷ [])) (all_in css) (l ∷ []) own others bound
+    (λ m k. parts_across skin width drawn m css ps others bound wide k reads.1 more) keeps (line_placed skin width (c ∷ []) c l reads.0.0 reads.0.1 reads.0.2, tt) here)
+parts_across skin width drawn n _ _ lines bound wide keeps reads _ = absurd reads.0
 
 -- The first rows of a layout are the first rows of the text's lines, where the first lines keep the premises.
-pub text_across : (skin : RowSkin) (area : Area) (n : ℕ) (text : List LineContent) (lines : List FmtLine) → area.width < 2 ^ 64 - 1 → 4 ≤ area.width → KeepsPremises skin (area.width - 1) (take n (lines_in_parts text))
-    → IsLayout (line_rules skin) (area.width - 1) text lines → HaveFirstRows skin area n (lines_in_parts text) lines
-text_across skin area n text lines bound wide keeps layout =
-    parts_across skin area n (text_parts text) (parts_of layout.read) lines bound wide keeps
+pub text_across : (skin : RowSkin) (width drawn : ℕ) (n : ℕ) (text : List LineContent) (lines : List FmtLine) → AreWidths width drawn → 3 ≤ width → KeepsPremises skin width (take n (lines_in_parts text))
+    → IsLayout (line_rules skin) width text lines → HaveFirstRows skin width drawn n (lines_in_parts text) lines
+text_across skin width drawn n text lines bound wide keeps layout =
+    parts_across skin width drawn n (text_parts text) (parts_of layout.read) lines bound wide keeps
     (parts_read skin text layout.read layout.reads) layout.laid

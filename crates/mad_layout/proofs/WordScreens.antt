@@ -195,8 +195,8 @@ pub words_shown : (old new : Trace) (taken : List ℕ) (start g : Grid) → old.
     → IsOnScreen word_area start → after_bytes start taken ≡ Some g → ShowsWords start g
 words_shown old new taken start g none all h begun read =
     let one : OneLine h.lines = shown_as_one h.lines old new h in
-    let took : (text : List ℕ) × (new.bytes ≡ Some ([] ++ text)) × AreShownIn word_skin h.lines word_area 0 text =
-    subst (λ (o : Option (List ℕ)). IfSome o (λ before. (text : List ℕ) × (new.bytes ≡ Some (before ++ text)) × AreShownIn word_skin h.lines word_area 0 text)) none h.shown in
+    let took : (text : List ℕ) × (new.bytes ≡ Some ([] ++ text)) × AreShownIn word_skin None h.lines word_area 0 text =
+    subst (λ (o : Option (List ℕ)). IfSome o (λ before. (text : List ℕ) × (new.bytes ≡ Some (before ++ text)) × AreShownIn word_skin None h.lines word_area 0 text)) none h.shown in
     let same : took.0 ≡ taken = one_value new.bytes took.0 taken took.1 all in
     let shown = took.2 start begun in
     let is : shown.0 ≡ g = one_value (after_bytes start took.0) shown.0 g shown.1 (ap (after_bytes start) same ∙ read) in

@@ -1,4 +1,4 @@
--- The rows of a line that is of no table across an area.
+-- The rows of a line that is of no table, drawn across some columns.
 use Rattle.std.specs.Prelude.{ℕ, ◌+◌, ◌-◌, min, List, [], ◌∷◌, ◌++◌, map, replicate, Some, decimal, encode_utf8, if◌then◌else◌}
 use Rattle.std.specs.Str.{chars}
 use Rattle.mad_md.specs.Flagged.{FlaggedChar, flagged}
@@ -10,7 +10,6 @@ use Rattle.mad_style.specs.declared.kinds.CompositeKind.{CompositeKind}
 use Rattle.mad_style.specs.declared.kinds.CompositeKind.TheVariants.{ListItem, OrderedListItem, Quote}
 use Rattle.mad_fit.specs.TextColumns.{width_of}
 use Rattle.mad_fit.specs.Completions.{left_completion}
-use Rattle.mad_fit.specs.declared.area.Area.{Area}
 use Rattle.mad_format.specs.Indents.{indent, follow_up}
 use Rattle.mad_format.specs.Lists.{most}
 use Rattle.mad_blocks.specs.LayoutParts.{is_code_kind}
@@ -43,26 +42,26 @@ front_of skin (OrderedListItem level index) = replicate level 32 ++ (decimal ind
 front_of skin Quote = skin_char (char_alone skin.quote_mark) ++ 32 ∷ []
 front_of skin kind = replicate (indent skin.list_items_indentation_mode kind) 32
 
--- the columns of a row with those in front of it, or of its block, if it is one of code
-abbrev pub placed_columns : RowSkin → Area → List LineContent → StyledRuns → CompositeKind → List FlaggedChar → ℕ
-placed_columns skin area part line kind row =
-    if is_code_kind kind then min (widest_in part) (inner_width skin (area.width - 1) line) else indent skin.list_items_indentation_mode kind + width_of row
+-- the columns of a row with those in front of it, or of its block, if it is one of code, in a layout of this width
+abbrev pub placed_columns : RowSkin → ℕ → List LineContent → StyledRuns → CompositeKind → List FlaggedChar → ℕ
+placed_columns skin width part line kind row =
+    if is_code_kind kind then min (widest_in part) (inner_width skin width line) else indent skin.list_items_indentation_mode kind + width_of row
 
--- the columns left of it: its margin, and what its alignment leaves there
-abbrev pub left_columns : RowSkin → Area → CompositeKind → ℕ → ℕ
-left_columns skin area kind columns =
+-- the columns left of it among those that are drawn: its margin in the layout, and what its alignment leaves there
+abbrev pub left_columns : RowSkin → ℕ → ℕ → CompositeKind → ℕ → ℕ
+left_columns skin width drawn kind columns =
     let style = line_style skin kind in
-    let margins = margins_at style (Some (area.width - 1)) in
-    left_completion style.align (area.width - (columns + margins.0 + margins.1)) + margins.0
+    let margins = margins_at style (Some width) in
+    left_completion style.align (drawn - (columns + margins.0 + margins.1)) + margins.0
 
--- a row's characters across an area, after those in front of it and filled up with spaces
-abbrev pub row_across : RowSkin → Area → List LineContent → StyledRuns → CompositeKind → List FlaggedChar → List ℕ
-row_across skin area part line kind row =
-    let left = left_columns skin area kind (placed_columns skin area part line kind row) in
-    replicate left 32 ++ (front_of skin kind ++ (map (λ x. x.char) row ++ replicate (area.width - left - (indent skin.list_items_indentation_mode kind + width_of row)) 32))
+-- a row's characters across the columns that are drawn, after those in front of it and filled up with spaces
+abbrev pub row_across : RowSkin → ℕ → ℕ → List LineContent → StyledRuns → CompositeKind → List FlaggedChar → List ℕ
+row_across skin width drawn part line kind row =
+    let left = left_columns skin width drawn kind (placed_columns skin width part line kind row) in
+    replicate left 32 ++ (front_of skin kind ++ (map (λ x. x.char) row ++ replicate (drawn - left - (indent skin.list_items_indentation_mode kind + width_of row)) 32))
 
--- the rows of a line across an area; those after the first are of the kind that follows
-abbrev pub rows_across : RowSkin → Area → List LineContent → StyledRuns → List (List FlaggedChar) → List (List ℕ)
-rows_across skin area part line [] = []
-rows_across skin area part line (row ∷ rows) =
-    row_across skin area part line (kind_of line.style) row ∷ map (row_across skin area part line (follow_up (kind_of line.style))) rows
+-- the rows of a line across them; those after the first are of the kind that follows
+abbrev pub rows_across : RowSkin → ℕ → ℕ → List LineContent → StyledRuns → List (List FlaggedChar) → List (List ℕ)
+rows_across skin width drawn part line [] = []
+rows_across skin width drawn part line (row ∷ rows) =
+    row_across skin width drawn part line (kind_of line.style) row ∷ map (row_across skin width drawn part line (follow_up (kind_of line.style))) rows

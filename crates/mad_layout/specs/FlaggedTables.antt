@@ -1,4 +1,4 @@
--- The rows of a table's lines across an area.
+-- The rows of a table's lines, drawn across some columns.
 use Rattle.std.specs.Prelude.{◌≡◌, ℕ, zero, suc, ◌+◌, ◌-◌, max, List, [], ◌∷◌, ◌++◌, map, length, replicate, drop, slice_get, unwrap_or}
 use Rattle.std.specs.List.{flat_map, repeat}
 use Rattle.mad_md.specs.Flagged.{FlaggedChar}
@@ -7,7 +7,6 @@ use Rattle.mad_style.specs.Kinds.{kind_of}
 use Rattle.mad_style.specs.declared.kinds.CompositeKind.{CompositeKind}
 use Rattle.mad_fit.specs.TextColumns.{width_of}
 use Rattle.mad_fit.specs.Completions.{left_completion}
-use Rattle.mad_fit.specs.declared.area.Area.{Area}
 use Rattle.mad_fit.specs.declared.spacing.Spacing.{Spacing}
 use Rattle.mad_draw.specs.declared.table_rules.RuleChars.{RuleChars}
 use Rattle.mad_layout.specs.FlaggedLines.{skin_char, front_of, marked_parts}
@@ -74,21 +73,21 @@ rule_row b [] = skin_char b.left ++ skin_char b.right
 rule_row b (w ∷ ws) =
     skin_char b.left ++ (repeat w (skin_char b.horizontal) ++ (flat_map (λ v. skin_char b.between ++ repeat v (skin_char b.horizontal)) ws ++ skin_char b.right))
 
--- ---- across an area
+-- ---- across the columns that are drawn
 
 -- a row of a table, as wide as `columns`, where the table's alignment puts it
-abbrev pub table_across : RowSkin → Area → ℕ → List ℕ → List ℕ
-table_across skin area columns row =
-    let rest = area.width - columns in
+abbrev pub table_across : RowSkin → ℕ → ℕ → List ℕ → List ℕ
+table_across skin drawn columns row =
+    let rest = drawn - columns in
     let left = left_completion skin.table.align rest in
     replicate left 32 ++ (row ++ replicate (rest - left) 32)
 
 -- The rows of a table's row: as many as the cell has that has the most, and at least one.
-abbrev pub IsRowAcross : RowSkin → Area → List Spacing → List StyledRuns → List (List ℕ) → Type 0
-IsRowAcross skin area columns cells across =
+abbrev pub IsRowAcross : RowSkin → ℕ → List Spacing → List StyledRuns → List (List ℕ) → Type 0
+IsRowAcross skin drawn columns cells across =
     (placed : List CellInColumn) × AreInColumns skin columns cells placed
-    × (across ≡ map (table_across skin area (1 + bordered (map (λ c. c.width) columns))) (rows_down skin (max (most_rows placed) 1) placed))
+    × (across ≡ map (table_across skin drawn (1 + bordered (map (λ c. c.width) columns))) (rows_down skin (max (most_rows placed) 1) placed))
 
 -- a rule's row, at its position in its table
-abbrev pub rule_across_area : RowSkin → Area → RelativePosition → List ℕ → List ℕ
-rule_across_area skin area position widths = table_across skin area (rule_columns widths) (rule_row (rule_chars skin.table_border_chars position) widths)
+abbrev pub rule_across : RowSkin → ℕ → RelativePosition → List ℕ → List ℕ
+rule_across skin drawn position widths = table_across skin drawn (rule_columns widths) (rule_row (rule_chars skin.table_border_chars position) widths)

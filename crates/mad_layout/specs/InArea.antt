@@ -1,5 +1,5 @@
 -- What a text shows that was written in an area, by way of a layout.
-use Rattle.std.specs.Prelude.{ℕ, false, ◌-◌, List, Some, Result, take}
+use Rattle.std.specs.Prelude.{ℕ, false, ◌-◌, List, Some, None, Result, take}
 use Rattle.mad_md.specs.Lines.{LineContent}
 use Rattle.mad_md.specs.Reading.{IsRead, unread_text}
 use Rattle.mad_term.specs.Draws.{DrawsSome}
@@ -23,11 +23,11 @@ pub record IsAreaFront (skin : RowSkin) (markdown : List ℕ) (area : Area) (lin
 
 -- What the call does to its device: it draws such lines, from the first on; or memory for them was refused, and nothing went out.
 abbrev pub WritesInArea : {T : Type 0} → RowSkin → List ℕ → Area → Trace → Result T Error → Trace → Type 0
-WritesInArea skin markdown area old r new = DrawsSome (IsAreaFront skin markdown area) (λ lines. area_bytes skin lines area 0) old r new
+WritesInArea skin markdown area old r new = DrawsSome (IsAreaFront skin markdown area) (λ lines. area_bytes skin None lines area 0) old r new
 
 -- What a plain terminal shows that reads what was written, where as many lines of the text as the area has rows keep the premises: the
 -- first rows of the layout in the area, every other cell as before, and the plain pen again.
 pub record ShowsText (skin : RowSkin) (markdown : List ℕ) (area : Area) (old new : Trace) : Type 0 where
   pub lines : List FmtLine
   pub laid_out : IsAreaFront skin markdown area lines
-  pub shown : KeepsPremises skin (area.width - 1) (take area.height (lines_in_parts laid_out.text)) → TookWith old new (AreShownIn skin lines area 0)
+  pub shown : KeepsPremises skin (area.width - 1) (take area.height (lines_in_parts laid_out.text)) → TookWith old new (AreShownIn skin None lines area 0)

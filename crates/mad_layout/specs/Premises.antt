@@ -1,7 +1,7 @@
 -- What a text has to keep for its rows to be shown exactly.
 use Rattle.std.specs.Prelude.{◌≡◌, ℕ, ◌+◌, ◌<◌, ◌≤◌, ◌^◌, Bool, true, false, not, List, [], ◌∷◌}
 use Rattle.std.specs.List.{AllByRecursion}
-use Rattle.std.specs.Char.{IsScalar, is_whitespace}
+use Rattle.std.specs.Char.{is_whitespace}
 use Rattle.std.specs.Str.{chars, IsUtf8}
 use Rattle.mad_md.specs.Flagged.{FlaggedChar, Run, flagged, is_blank}
 use Rattle.mad_md.specs.Lines.{StyledRuns, LineContent, normal, table_row, table_rule, horizontal_rule}
@@ -14,6 +14,7 @@ use Rattle.mad_style.specs.StyledChars.{char_alone}
 use Rattle.mad_fit.specs.TextColumns.{width_of}
 use Rattle.mad_format.specs.Indents.{indent, room_of}
 pub use Rattle.mad_layout.specs.LineTexts.{runs_text, inner_width}
+pub use Rattle.mad_draw.specs.Pieces.{IsColumnChar}
 use Rattle.mad_draw.specs.declared.table_rules.RuleChars.{RuleChars}
 use Rattle.mad_rows.specs.Rows.{rule_chars}
 use Rattle.mad_rows.specs.RowStyles.{line_rules, index_suffix}
@@ -34,11 +35,6 @@ pub record IsPrintableRun (r : Run) : Type 0 where
   pub utf8 : IsUtf8 r.text
   pub printed : IsPrinted (chars r.text)
   pub joined : AreJoined false (flagged r.flags (chars r.text))
-
--- a character that takes one column
-pub record IsColumnChar (c : ℕ) : Type 0 where
-  pub scalar : IsScalar c
-  pub one : char_columns c ≡ 1
 
 -- The character in front of a line of this kind, if there is one, takes one column: an item's bullet, the character after its number, a quote's.
 -- (A number that is read has nine digits at most.)

@@ -1,5 +1,5 @@
 -- Texts of paragraphs in which each character takes columns.
-use Rattle.std.specs.Prelude.{ℕ, ◌<◌, List}
+use Rattle.std.specs.Prelude.{ℕ, ◌<◌, List, None}
 use Rattle.std.specs.List.{AllByRecursion}
 use Rattle.std.specs.Str.{chars, IsUtf8}
 use Rattle.mad_columns.specs.Columns.{char_columns}
@@ -27,4 +27,4 @@ LinesTakeColumns source =
 pub record ShowsSource (skin : RowSkin) (markdown : List ℕ) (area : Area) (old new : Trace) : Type 0 where
   pub lines : List FmtLine
   pub laid_out : IsAreaFront skin markdown area lines
-  pub shown : TookWith old new (AreShownIn skin lines area 0)
+  pub shown : TookWith old new (AreShownIn skin None lines area 0)

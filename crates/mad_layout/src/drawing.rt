@@ -5,21 +5,22 @@ ghost use Rattle.std.specs.Option.{option_copied};
 ghost use Rattle.mad_term.specs.Draws.{Draws};
 ghost use Rattle.mad_fit.specs.Areas.{IsWithinLimits};
 ghost use Rattle.mad_layout.specs.ShownLayouts.{ShowsDrawable, ShowsLayout, ShowsRowsFrom};
-ghost use Rattle.mad_layout.specs.Shown.{area_bytes};
+ghost use Rattle.mad_layout.specs.Shown.{area_bytes, text_bar};
 ghost use Rattle.mad_layout.specs.RowSkins.{row_skin};
 
 use crate::fmt_text::FmtText;
-use mad_draw::{Rows, draw_rows};
+use mad_draw::{Rows, RowsBeside, ScrollBar, columns_beside, draw_rows};
 use mad_fit::Area;
 use mad_format::FmtLine;
 use mad_rows::{PlacedRow, RowSkin, know_row, row_blanks};
 use mad_term::{Error, Out};
 use std::alloc::{AllocError, Global};
 
-/// Draws the rows of a text in an area, that of the line `scroll`, counted from 0, first. Each row fills the area's width; past the last
-/// line there are spaces in the paragraph's style. Nothing is flushed.
+/// Draws the rows of a text in an area, that of the line `scroll`, counted from 0, first. Past the last line there are spaces in the
+/// paragraph's style. Where `bar` is set, and the text has more lines than the area has rows, the skin's scroll bar is in the area's last
+/// column. Each row fills the area's width, or the columns that the bar leaves. Nothing is flushed.
 ///
-/// The area's right and bottom have to fit a `u16`. The lines are drawn as they are: one that is wider than the area, as
+/// The area's right and bottom have to fit a `u16`. The lines are drawn as they are: one that is wider than its row, as
 /// one of a text that was laid out for a wider place, leaves it. Each row goes to the device in one put, as long as that takes all of it.
 ///
 /// # Errors
@@ -31,27 +32,43 @@ pub fn draw_text<O: Out>(
     text: &FmtText,
     area: &Area,
     scroll: usize,
+    bar: bool,
 ) -> Result<(), Error>
     requires { IsWithinLimits area.now }
-    ensures writes { Draws (O.seen out.old) (area_bytes (row_skin text.now.skin.now) text.now.lines.items area.now scroll) result (O.seen out.new) }
+    ensures writes { Draws (O.seen out.old) (area_bytes (row_skin text.now.skin.now) (text_bar bar text.now area.now scroll) text.now.lines.items area.now scroll) result (O.seen out.new) }
 
     // What a plain terminal shows that reads it. Asked is of each line that has a row, as a layout left it: with its margins it fits the
-    // area. No piece of it holds a control character or begins with a widthless one. Each character of a prefix, a rule and a border
-    // takes one column.
-    ensures shown { OnOk result (ShowsDrawable (row_skin text.now.skin.now) text.now.lines.items area.now scroll (O.seen out.old) (O.seen out.new)) }
+    // columns that the bar leaves. No piece of it holds a control character or begins with a widthless one. Each character of a prefix, a
+    // rule, a border and the bar takes one column.
+    ensures shown { OnOk result (ShowsDrawable (row_skin text.now.skin.now) (text_bar bar text.now area.now scroll) text.now.lines.items area.now scroll (O.seen out.old) (O.seen out.new)) }
 
-    // The same where the lines are a layout, at no more than the area's width, of a text that keeps the premises.
-    ensures shown_layout { OnOk result (ShowsLayout (row_skin text.now.skin.now) text.now.lines.items area.now scroll (O.seen out.old) (O.seen out.new)) }
+    // The same where the lines are a layout, at no more than those columns, of a text that keeps the premises.
+    ensures shown_layout { OnOk result (ShowsLayout (row_skin text.now.skin.now) (text_bar bar text.now area.now scroll) text.now.lines.items area.now scroll (O.seen out.old) (O.seen out.new)) }
 
-    // The same in the text's own characters, where the layout is a column narrower than the area.
-    ensures headline { OnOk result (ShowsRowsFrom (row_skin text.now.skin.now) text.now.lines.items area.now scroll (O.seen out.old) (O.seen out.new)) }
+    // The same in the text's own characters, where the layout has three columns at least.
+    ensures headline { OnOk result (ShowsRowsFrom (row_skin text.now.skin.now) (text_bar bar text.now area.now scroll) text.now.lines.items area.now scroll (O.seen out.old) (O.seen out.new)) }
 {
+    let shown_bar = text_bar(text, area, scroll, bar);
     let rows = TextRows {
         skin: &text.skin.row_skin(),
         lines: lines_from(text.lines.as_slice(), scroll),
-        width: usize::from(area.width),
+        width: columns_beside(shown_bar, usize::from(area.width)),
     };
-    draw_rows(alloc, out, &rows, area)
+    let beside = RowsBeside {
+        rows: &rows,
+        bar: shown_bar,
+    };
+    draw_rows(alloc, out, &beside, area)
+}
+
+// The scroll bar beside a text that is drawn in an area from line `scroll` on, where it is asked for.
+fn text_bar(text: &FmtText, area: &Area, scroll: usize, asked: bool) -> Option<ScrollBar>
+    ensures { result ≡ text_bar asked text.now area.now scroll }
+{
+    if !asked {
+        return None;
+    }
+    ScrollBar::beside(area, scroll, text.lines.len(), text.skin.scrollbar)
 }
 
 // The lines from line `scroll` on; past the last one none.

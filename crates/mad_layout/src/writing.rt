@@ -46,7 +46,7 @@ impl MadSkin {
         ensures shown_source { OnOk result (4 ≤ area.now.width → LinesTakeColumns markdown.now → ShowsSource (row_skin self.now) markdown.now area.now (O.seen out.old) (O.seen out.new)) }
     {
         let text = self.area_front(alloc, markdown, area)?;
-        draw_text(alloc, out, &text, area, 0)
+        draw_text(alloc, out, &text, area, 0, false)
     }
 
     /// Writes a text in an area, as [`MadSkin::write_in_area_on`] does, and flushes. The area's right and bottom have to fit a `u16`.

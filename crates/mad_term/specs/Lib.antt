@@ -6,6 +6,7 @@ pub mod Color
 pub mod Commands
 pub mod Draws
 pub mod Errors
+pub mod Events
 pub mod Stream
 pub mod Styles
 pub mod Trace

@@ -8,6 +8,7 @@
 //! 4. [`color`], [`attribute`], [`attributes`]: how a text may look.
 //! 5. [`commands`], [`styles`], [`repeats`]: the bytes of moves, erasures and texts in a style, by Display and in a row buffer.
 //! 6. [`queue`]: the same, to a device.
+//! 7. [`keys`], [`mouse`], [`events`]: what a terminal tells a program.
 #![tactic(auto)]
 
 mod attribute;
@@ -16,6 +17,9 @@ mod color;
 mod commands;
 mod devices;
 mod errors;
+mod events;
+mod keys;
+mod mouse;
 mod queue;
 mod repeats;
 mod streams;
@@ -27,7 +31,10 @@ pub use color::Color;
 pub use commands::{Clear, ClearType, MoveTo, push_clear, push_move};
 pub use devices::{Out, Source, put_all};
 pub use errors::{Error, InsufficientWidthError};
+pub use events::{Event, TimedEvent};
+pub use keys::{KeyCode, KeyCombination, KeyEvent, KeyModifiers};
 pub use mad_columns::char_columns;
+pub use mouse::{MouseButton, MouseEvent, MouseEventKind};
 pub use queue::{
     put_displayed, put_text, queue_bg, queue_clear, queue_fg, queue_move, queue_repeated,
     queue_styled,

@@ -1,2 +1,3 @@
+pub mod MadViews
 pub mod Scrolls
 pub mod Views

@@ -59,12 +59,15 @@ pub use Rattle.mad_widths.specs.TableFits
 pub use Rattle.mad_widths.specs.Turns
 pub use Rattle.mad_widths.specs.WorkedWidths
 pub use Rattle.mad_fit.specs.Areas
+pub use Rattle.mad_fit.specs.Thumbs
 pub use Rattle.mad_fit.specs.TextColumns
 pub use Rattle.mad_fit.specs.Completions
 pub use Rattle.mad_fit.specs.TokenPositions
 pub use Rattle.mad_fit.specs.Tokens
 pub use Rattle.mad_fit.specs.TokensLeft
+pub use Rattle.mad_draw.specs.BesideBar
 pub use Rattle.mad_draw.specs.DrawnRows
+pub use Rattle.mad_draw.specs.Panes
 pub use Rattle.mad_draw.specs.Pieces
 pub use Rattle.mad_draw.specs.PennedCells
 pub use Rattle.mad_draw.specs.TableRules
@@ -107,6 +110,7 @@ pub use Rattle.mad_layout.specs.Texts
 pub use Rattle.mad_format.specs.WrappedLines
 pub use Rattle.mad_format.specs.Wraps
 pub use Rattle.mad_layout.specs.WrittenParts
+pub use Rattle.mad_view.specs.MadViews
 pub use Rattle.mad_view.specs.Scrolls
 pub use Rattle.mad_view.specs.Views
 pub use Rattle.mad_wrap.specs.Bounds

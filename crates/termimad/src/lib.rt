@@ -58,7 +58,7 @@ pub mod edit {
 }
 
 pub use mad_edit::{Chars, InputFieldContent, Pos, Range};
-pub use mad_fit::{Area, Spacing, Token, Tokens, token_iter, tokenize};
+pub use mad_fit::{Area, Spacing, Token, Tokens, compute_scrollbar, token_iter, tokenize};
 pub use mad_json::{ScrollBarStyleDef, SkinError, skin_from_value, skin_to_value};
 pub use mad_layout::{
     CodeBlock, DisplayableLine, FmtComposite, FmtInline, FmtLine, FmtTableRow, FmtTableRule,
@@ -84,5 +84,5 @@ pub use mad_term::{
     put_displayed, put_text, queue_bg, queue_clear, queue_fg, queue_move, queue_repeated,
     queue_styled,
 };
-pub use mad_view::TextView;
+pub use mad_view::{MadView, TextView, draw_views};
 pub use mad_widths::{TblFit, TblFitResult};

@@ -1,5 +1,5 @@
 -- How a run ends at each of its steps.
-use Rattle.std.proofs.Common.{◌≡◌, ℕ, List, Result, Ok, Err, IsUtf8, refl, ap, sym, ◌∙◌, subst, inl, inr}
+use Rattle.std.proofs.Common.{◌≡◌, ℕ, List, Result, Ok, Err, IsUtf8, None, refl, ap, sym, ◌∙◌, subst, inl, inr}
 use Rattle.std.specs.Result.{IsErrAnd}
 use Rattle.std.proofs.lemmas.Result.{err_from_is_err_and}
 use Rattle.mad_term.specs.Trace.{Trace, failed, flushed}
@@ -91,7 +91,7 @@ still_shown skin (InArea area) text old written new (headline, h) is = (
   record {
     lines = h.lines;
     laid_out = h.laid_out;
-    shown = λ premises. took_flushed old written new (AreShownIn (row_skin skin) h.lines area 0) (h.shown premises) is;
+    shown = λ premises. took_flushed old written new (AreShownIn (row_skin skin) None h.lines area 0) (h.shown premises) is;
   },
 )
 still_shown skin (AtWidth width) text old written new h is = tt

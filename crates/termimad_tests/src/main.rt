@@ -87,6 +87,7 @@ fn answer_asked(name: &str, asked: &Asked) -> Result<String, Refusal> {
         "view" => screens::view(asked, false, false),
         "scrolled" => screens::view(asked, false, true),
         "marks" => screens::view(asked, true, false),
+        "mad_view" => screens::mad_view(asked),
         "cut" => texts::cut_view(asked),
         "lines" => lines::displayed(asked),
         "unwrapped" => texts::unwrapped(asked),

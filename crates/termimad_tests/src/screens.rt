@@ -9,7 +9,8 @@ use std::alloc::{AllocError, Global};
 use termimad::layout::laws::words_on_a_screen;
 use termimad::screen::{Pen, Screen};
 use termimad::{
-    Area, ContentStyle, CutOut, FmtText, ParseOptions, StyledContent, TextView, parse_text_with,
+    Area, ContentStyle, CutOut, FmtText, MadView, ParseOptions, StyledContent, TextView,
+    parse_text_with,
 };
 
 // More than any row here writes.
@@ -32,6 +33,7 @@ pub fn view(asked: &Asked, continue_spans: bool, is_asked: bool) -> Result<Strin
     let text = parse_text_with(asked.alloc, asked.text, options)?;
     let text = FmtText::from_text(asked.alloc, &asked.skin, text, Some(area.width.into()))?;
     let mut view = TextView::from(&area, &text);
+    view.show_scrollbar = false;
     if is_asked {
         view.set_scroll(asked.numbers[4]);
     } else {
@@ -39,6 +41,17 @@ pub fn view(asked: &Asked, continue_spans: bool, is_asked: bool) -> Result<Strin
     }
     let mut out = CutOut::new(asked.alloc, ROOM, ROOM, false)?;
     view.write_on(asked.alloc, &mut out)?;
+    picture(asked.alloc, &area, out.taken())
+}
+
+/// The picture of a Markdown view whose field `scroll` is the last number: beside its scroll bar, if it has one.
+pub fn mad_view(asked: &Asked) -> Result<String, Refusal> {
+    let area = asked.area();
+    let text = String::from_str(asked.alloc, asked.text)?;
+    let mut view = MadView::from(text, area, asked.skin);
+    view.scroll = asked.numbers[4];
+    let mut out = CutOut::new(asked.alloc, ROOM, ROOM, false)?;
+    view.write_on(&mut out)?;
     picture(asked.alloc, &area, out.taken())
 }
 
