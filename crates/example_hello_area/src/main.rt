@@ -2,12 +2,15 @@
 #![tactic(auto)]
 
 use std::io;
-use termimad::{Area, Error, MadSkin, Stream};
+use termimad::{Area, Error, MadSkin, Out, Stream, queue_move};
 
 fn main(rt: HostRuntime) -> Result<(), Error> {
     let mut out = Stream::new(io::writer(&rt));
     let skin = MadSkin::default();
     let area = Area::new(0, 0, 24, 3);
     let text = "# Hello\n* *one* item\n> and a quote";
-    skin.write_in_area(rt.alloc(), &mut out, text, &area)
+    skin.write_in_area(rt.alloc(), &mut out, text, &area)?;
+    queue_move(rt.alloc(), &mut out, 0, 3)?;
+    out.flush()?;
+    Ok(())
 }
