@@ -36,7 +36,8 @@ fn print_report<C: Calls>(rt: &HostRuntime, calls: &C, file: &str, rows: &str) -
     print!(rt; "{file}: {report}")
 }
 
-/// How many rows a text has, after each that is answered otherwise than wanted, with its answer.
+/// How many rows a text has, after each that is answered otherwise than wanted. Of such a row it says the number of its line, its call, what was
+/// wanted, what was answered, and where the two part.
 ///
 /// # Errors
 ///
@@ -45,29 +46,74 @@ pub fn report<C: Calls>(alloc: Global, calls: &C, rows: &str) -> Result<String, 
     let rows: String = rows.chars().map(meant).collect(alloc)?;
     let mut report = String::new(alloc);
     let mut count: u64 = 0;
-    let mut rows = rows.split("\n$ ");
-    rows.next();
-    for row in rows {
-        judge(alloc, calls, row, &mut report)?;
-        count = count.saturating_add(1);
+    let mut line: usize = 1;
+    for (number, row) in rows.split("\n$ ").enumerate() {
+        if number > 0 {
+            judge(alloc, calls, line, row, &mut report)?;
+            count = count.saturating_add(1);
+        }
+        line = line.saturating_add(lines_of(row));
     }
     write!(report, "{count} rows\n")?;
     Ok(report)
 }
 
+// How many lines a text has, also where the last one is empty.
+fn lines_of(text: &str) -> usize {
+    text.split('\n').count()
+}
+
 fn judge<C: Calls>(
     alloc: Global,
     calls: &C,
+    line: usize,
     row: &str,
     report: &mut String,
 ) -> Result<(), AllocError> {
     let call = row.split('\n').next().unwrap_or("");
     let answer = answer_of(alloc, calls, call, row)?;
-    if answer != lines_after(alloc, row, '>')? {
+    let wanted = lines_after(alloc, row, '>')?;
+    if answer != wanted {
+        let parting = Parting::of(wanted.as_str(), answer.as_str());
+        let wanted: String = wanted.chars().map(sign_of).collect(alloc)?;
         let answer: String = answer.chars().map(sign_of).collect(alloc)?;
-        write!(report, "$ {call}\nanswers\n{answer}")?;
+        write!(
+            report,
+            "line {line}: $ {call}\nwanted\n{wanted}answered\n{answer}"
+        )?;
+        let Parting { line, column } = parting;
+        write!(report, "they part in line {line}, character {column}\n")?;
     }
     Ok(())
+}
+
+// The first place where two texts part, its line and its character in that line counted from 1.
+#[derive(Clone, Copy)]
+struct Parting {
+    line: usize,
+    column: usize,
+}
+
+impl Parting {
+    fn of(wanted: &str, answered: &str) -> Parting {
+        let mut parting = Parting { line: 1, column: 1 };
+        for (want, answer) in wanted.chars().zip(answered.chars()) {
+            if want != answer {
+                return parting;
+            }
+            parting.pass(want);
+        }
+        parting
+    }
+
+    fn pass(&mut self, c: char) {
+        if c == '\n' {
+            self.line = self.line.saturating_add(1);
+            self.column = 1;
+        } else {
+            self.column = self.column.saturating_add(1);
+        }
+    }
 }
 
 // What a row's call answers, each line with its newline.
