@@ -118,8 +118,9 @@ AreKept allowed (given ∷ others) cs left =
     (crop : Crop) × (rest : List ℕ) × (IsKept allowed given crop ⊎ (crop ≡ nothing)) × (cs ≡ written_chars crop.written ++ rest)
     × AreKept (allowed - crop.taken) others rest left
 
--- Whatever a crop writer is given, in any order, it never writes more columns in all than it was allowed, where each character that is
--- counted takes one column at most. Where each takes one column, what it wrote and what is left are together just what it was allowed.
+-- Whatever a crop writer is given, in any order, it never writes more columns in all than it was allowed, where no text has a backspace and
+-- each character that is counted takes one column at most. Where each takes one column, what it wrote and what is left are together just
+-- what it was allowed.
 pub record KeepsTheLimit : Type 0 where
   pub at_most : (limit : ℕ) (given : List Given) (cs : List ℕ) (left : ℕ) → AllByRecursion (IsMeasured (λ c. char_columns c ≤ 1)) given → AreKept limit given cs left
       → columns cs + left ≤ limit

@@ -1,7 +1,8 @@
 //! Writing of no more columns than a limit.
 
-ghost use Rattle.std.specs.Prelude.{◌≡◌, ◌≤◌, ◌==◌, chars, IfOk, OnErr, IsOk, IsErrOf, if◌then◌else◌};
+ghost use Rattle.std.specs.Prelude.{◌≡◌, ◌≤◌, ◌<◌, ◌==◌, chars, IfOk, OnErr, IsOk, IsErrOf, MatchOption, if◌then◌else◌};
 ghost use Rattle.std.specs.Cow.{cow_str_bytes, IsOwnedStr};
+ghost use Rattle.mad_columns.specs.Columns.{char_columns};
 ghost use Rattle.mad_term.specs.Draws.{Draws};
 ghost use Rattle.mad_term.specs.declared.errors.Error.TheVariants.{Memory};
 ghost use Rattle.mad_term.specs.Styles.{foreground_bytes, background_bytes, present_bytes};
@@ -118,10 +119,9 @@ impl<'w, O: Out> CropWriter<'w, O> {
         ensures same_device { self.new.w.ghost_name ≡ self.old.w.ghost_name }
         ensures same_tab { self.new.tab_replacement ≡ self.old.tab_replacement }
     {
-        let columns = char_columns(c);
-        if columns >= self.allowed {
+        let Some(columns) = self.columns_of(c) else {
             return Ok(());
-        }
+        };
         let mut buffer = [0; 4];
         let written = cs.queue_str(alloc, self.w, c.encode_utf8(&mut buffer));
         self.take_off(written, columns)
@@ -142,10 +142,9 @@ impl<'w, O: Out> CropWriter<'w, O> {
         if c == '\t' {
             return self.queue_unstyled_str(alloc, self.tab_replacement);
         }
-        let columns = char_columns(c);
-        if columns >= self.allowed {
+        let Some(columns) = self.columns_of(c) else {
             return Ok(());
-        }
+        };
         let mut buffer = [0; 4];
         let written = put_text(self.w, c.encode_utf8(&mut buffer));
         self.take_off(written, columns)
@@ -323,6 +322,14 @@ impl<'w, O: Out> CropWriter<'w, O> {
         }
         let written = filling.queue_unstyled(self.w, count);
         self.take_off(written, count)
+    }
+
+    // The columns of a character, if they leave one over.
+    fn columns_of(&self, c: char) -> Option<usize>
+        ensures { MatchOption result (self.now.allowed ≤ char_columns c) (λ columns. (columns ≡ char_columns c) × (columns < self.now.allowed)) }
+    {
+        let columns = char_columns(c);
+        (columns < self.allowed).then_some(columns)
     }
 
     // Takes columns off for what was written; out of memory nothing was.

@@ -38,17 +38,25 @@ const MOST: usize = 20;
 // A text in which a character that stands there more than 20 times in a row is written once, with its count in brackets.
 fn shortened(alloc: Global, text: &str) -> Result<String, AllocError> {
     let mut short = String::new(alloc);
-    let mut rest = text;
-    while let Some(c) = rest.chars().next() {
-        let after = rest.trim_start_matches(c);
-        push_times(&mut short, c, rest.chars().count().saturating_sub(after.chars().count()))?;
-        rest = after;
+    let mut last = None;
+    let mut count: usize = 0;
+    for c in text.chars() {
+        if last != Some(c) {
+            push_times(&mut short, last, count)?;
+            last = Some(c);
+            count = 0;
+        }
+        count = count.saturating_add(1);
     }
+    push_times(&mut short, last, count)?;
     Ok(short)
 }
 
-// A character `count` times.
-fn push_times(short: &mut String, c: char, count: usize) -> Result<(), AllocError> {
+// A character `count` times, if there is one.
+fn push_times(short: &mut String, c: Option<char>, count: usize) -> Result<(), AllocError> {
+    let Some(c) = c else {
+        return Ok(());
+    };
     if count > MOST {
         return write!(short, "{c}({count})");
     }
