@@ -38,7 +38,9 @@ pub mod layout {
 
 /// Drawings of one's own, and laws of drawing.
 pub mod draw {
-    pub use mad_draw::{Parts, Rows, columns_beside, draw_rows, laws, put_parts};
+    pub use mad_draw::{
+        Parts, Rows, RowsBeside, ScrollBar, columns_beside, draw_rows, laws, put_parts,
+    };
 }
 
 /// Laws of the widths of a table's columns.
