@@ -77,16 +77,15 @@ fn area_of(numbers: &[usize]) -> Option<Area> {
     let [left, top, width, height] = *numbers else {
         return None;
     };
-    let area = Area {
+    Some(Area {
         left: u16::try_from(left).ok()?,
         top: u16::try_from(top).ok()?,
         width: u16::try_from(width).ok()?,
         height: u16::try_from(height).ok()?,
-    };
-    area.is_within_limits().then_some(area)
+    })
 }
 
-// A rectangle of at least two columns and a row.
+// A rectangle of at least two columns and a row, if its right and bottom fit.
 fn draw_rect(alloc: Global, out: &mut CutOut, words: &Words) -> Result<(), Error> {
     let Some(area) = area_of(&words.numbers) else {
         return Ok(());
@@ -94,7 +93,7 @@ fn draw_rect(alloc: Global, out: &mut CutOut, words: &Words) -> Result<(), Error
     let mut rect = Rect::new(area, words.style);
     rect.set_border_style(border_of(words.words));
     rect.set_fill(words.words.contains("filled"));
-    if area.width < 2 || area.height < 1 {
+    if area.width < 2 || area.height < 1 || !area.is_within_limits() {
         return Ok(());
     }
     rect.draw(alloc, out)
