@@ -1,8 +1,8 @@
 -- What the calls of a crop writer write, and that they keep its limit.
-use Rattle.std.proofs.Common.{◌≡◌, ◌≢◌, ◌⊎◌, ⊎_elim, ℕ, zero, suc, ◌+◌, ◌-◌, ◌<◌, ◌≤◌, ◌==◌, min, Bool, true, false, cond, List, [], ◌∷◌, ◌++◌, length, take, drop, replicate, Result, Ok, Err, refl, ap, sym, ◌∙◌, subst, arith, append-nil}
+use Rattle.std.proofs.Common.{◌≡◌, ◌≢◌, ◌⊎◌, ⊎_elim, ℕ, zero, suc, ◌+◌, ◌-◌, ◌<◌, ◌≤◌, ◌==◌, min, Bool, true, false, true≢false, cond, List, [], ◌∷◌, ◌++◌, length, take, drop, replicate, Result, Ok, Err, refl, ap, sym, ◌∙◌, subst, arith, append-nil}
 use Rattle.std.specs.Prelude.{encode_utf8, encode_utf8_all, IsErrOf}
 use Rattle.std.specs.List.{AllByRecursion}
-use Rattle.std.specs.Result.{IsErrAnd}
+use Rattle.std.specs.Result.{is_ok, IsErrAnd}
 use Rattle.std.proofs.lemmas.Bool.{cases_lt}
 use Rattle.std.proofs.lemmas.Bool.Decides.{nat_tests}
 use Rattle.std.proofs.lemmas.List.{take-append-drop, take_all}
@@ -18,7 +18,7 @@ use Rattle.mad_term.proofs.Traces.{took_none}
 use Rattle.mad_fit.specs.RunningWidths.{columns_on, columns_back, forward, backward, running_width, StaysWithin, IsLongestFront, tabs_replaced}
 use Rattle.mad_fit.specs.TextColumns.{columns}
 use Rattle.mad_fit.proofs.StrFitLemmas.{backward-append}
-use Rattle.mad_draw.specs.Crops.{Given, Text, Char, Counted, Filled, Crop, nothing, some, IsKept, unless_full, written_bytes, left_after, Crops, IsMeasured, written_chars, AreKept, KeepsTheLimit}
+use Rattle.mad_draw.specs.Crops.{Given, Text, Char, Counted, Filled, Crop, nothing, some, filled, IsKept, unless_full, written_bytes, left_after, Crops, IsMeasured, written_chars, AreKept, KeepsTheLimit}
 
 -- ---- the calls
 
@@ -28,17 +28,19 @@ crops_nothing bytes given old allowed kept r is = record {
   crop = nothing;
   kept = kept;
   draws = subst (λ (s : Result (Unit {0}) Error). Draws old [] s old) (sym is) (took_none old);
+  succeeds = λ _. ap is_ok is;
   leaves = subst (λ (s : Result (Unit {0}) Error). allowed ≡ left_after s allowed 0) (sym is) (omega arith);
   early = λ _. refl;
 }
 
 -- memory was wanted
-pub crops_memory : (bytes : List ℕ → List ℕ) (given : Given) (crop : Crop) (old : Trace) (allowed : ℕ) (r : Result (Unit {0}) Error) → IsKept allowed given crop → IsErrAnd r (λ e. e ≡ Memory) → Crops bytes given old allowed r old allowed
-crops_memory bytes given crop old allowed r kept h = record {
-  crop = crop;
+pub crops_memory : (bytes : List ℕ → List ℕ) (given : Given) (cs : List ℕ) (taken : ℕ) (old : Trace) (allowed : ℕ) (r : Result (Unit {0}) Error) → IsKept allowed given (some cs taken) → IsErrAnd r (λ e. e ≡ Memory) → Crops bytes given old allowed r old allowed
+crops_memory bytes given cs taken old allowed r kept h = record {
+  crop = some cs taken;
   kept = kept;
-  draws = memory_first r old (written_bytes bytes crop.written) h;
-  leaves = let p = err_from_is_err_and r h in subst (λ (s : Result (Unit {0}) Error). allowed ≡ left_after s allowed crop.taken) (sym (p.1 ∙ ap Err p.2)) refl;
+  draws = memory_first r old (bytes cs) h;
+  succeeds = λ none. absurd (true≢false none);
+  leaves = let p = err_from_is_err_and r h in subst (λ (s : Result (Unit {0}) Error). allowed ≡ left_after s allowed taken) (sym (p.1 ∙ ap Err p.2)) refl;
   early = λ _. refl;
 }
 
@@ -51,6 +53,7 @@ crops_some bytes given cs text taken old mid new allowed left r s kept is draws 
   draws =
       subst (λ (q : Result (Unit {0}) Error). Draws old (bytes cs) q new) (sym same)
       (subst (λ (t : Trace). Draws old (bytes cs) s t) (sym moved) (subst (λ (t : List ℕ). Draws old t s mid) is draws));
+  succeeds = λ none. absurd (true≢false none);
   leaves = leaves ∙ ap (λ (q : Result (Unit {0}) Error). left_after q allowed taken) (sym same);
   early = λ h. moved ∙ early (subst (λ (q : Result (Unit {0}) Error). IsErrOf q Memory) same h);
 }
@@ -97,6 +100,16 @@ counted_full allowed cs none = (λ _. refl, λ h. absurd (omega (arith, none, h)
 
 pub counted_kept : (allowed : ℕ) (cs : List ℕ) → 0 < allowed → IsKept allowed (Counted cs) (some (take allowed cs) (min allowed (length cs)))
 counted_kept allowed cs room = (λ none. absurd (omega (arith, none, room)), λ _. refl)
+
+pub filled_none : (allowed c n : ℕ) → min n allowed ≡ 0 → IsKept allowed (Filled c n) nothing
+filled_none allowed c n none = sym (ap (filled c) none)
+
+filled_is : (c n : ℕ) → 0 < n → filled c n ≡ some (replicate n c) n
+filled_is c zero h = absurd (omega (arith, h))
+filled_is c (suc n) h = refl
+
+pub filled_kept : (allowed c n : ℕ) → 0 < min n allowed → IsKept allowed (Filled c n) (some (replicate (min n allowed) c) (min n allowed))
+filled_kept allowed c n room = sym (filled_is c (min n allowed) room)
 
 take_length : (xs : List ℕ) → take (length xs) xs ≡ xs
 take_length xs = take_all (length xs) xs (omega arith)
@@ -167,9 +180,13 @@ none_keeps R allowed crop same e = subst (Keeps R allowed) (sym e) (same, omega 
 some_keeps : (R : ℕ → ℕ → Type 0) (allowed : ℕ) (crop : Crop) (cs : List ℕ) (taken : ℕ) → crop ≡ some cs taken → R (columns cs) taken → taken ≤ allowed → Keeps R allowed crop
 some_keeps R allowed crop cs taken e a b = subst (Keeps R allowed) (sym e) (a, b)
 
+filled_keeps : (R : ℕ → ℕ → Type 0) (allowed c n : ℕ) → R 0 0 → R (columns (replicate n c)) n → n ≤ allowed → Keeps R allowed (filled c n)
+filled_keeps R allowed c zero none all within = (none, omega arith)
+filled_keeps R allowed c (suc n) none all within = (all, within)
+
 one_keeps : (R : ℕ → ℕ → Type 0) (P : ℕ → Type 0) (allowed : ℕ) (given : Given) (crop : Crop) → ((n : ℕ) → R n n) → ((n : ℕ) (cs : List ℕ) → AllByRecursion P cs → R (columns (take n cs)) (min n (length cs))) → ((n c : ℕ) → P c → R (columns (replicate n c)) n)
     → IsMeasured P given → IsKept allowed given crop → Keeps R allowed crop
-one_keeps R P allowed (Text cs) crop same counted filled measured kept =
+one_keeps R P allowed (Text cs) crop same counted of_filled measured kept =
     ⊎_elim
     (λ (none : allowed < 1). none_keeps R allowed crop (same 0) (kept.0 (omega (arith, none))))
     (λ (room : 1 ≤ allowed).
@@ -177,25 +194,25 @@ one_keeps R P allowed (Text cs) crop same counted filled measured kept =
     let both = text_keeps allowed cs found.0 measured found.1 in
     some_keeps R allowed crop (tabs_replaced found.0) (running_width found.0) found.2 (subst (λ (n : ℕ). R n (running_width found.0)) (sym both.0) (same (running_width found.0))) both.1)
     (cases_lt allowed 1)
-one_keeps R P allowed (Char c) crop same counted filled measured kept =
+one_keeps R P allowed (Char c) crop same counted of_filled measured kept =
     ⊎_elim
     (λ (fits : char_columns c < allowed).
     let one : columns (c ∷ []) ≡ char_columns c = omega arith in
     some_keeps R allowed crop (c ∷ []) (char_columns c) (kept.0 fits) (subst (λ (n : ℕ). R n (char_columns c)) (sym one) (same (char_columns c))) (omega (arith, fits)))
     (λ (full : allowed ≤ char_columns c). none_keeps R allowed crop (same 0) (kept.1 full))
     (cases_lt (char_columns c) allowed)
-one_keeps R P allowed (Counted cs) crop same counted filled measured kept =
+one_keeps R P allowed (Counted cs) crop same counted of_filled measured kept =
     ⊎_elim
     (λ (none : allowed < 1). none_keeps R allowed crop (same 0) (kept.0 (omega (arith, none))))
     (λ (room : 1 ≤ allowed). some_keeps R allowed crop (take allowed cs) (min allowed (length cs)) (kept.1 (omega (arith, room))) (counted allowed cs measured) (omega arith))
     (cases_lt allowed 1)
-one_keeps R P allowed (Filled c n) crop same counted filled measured kept =
-    some_keeps R allowed crop (replicate (min n allowed) c) (min n allowed) kept (filled (min n allowed) c measured) (omega arith)
+one_keeps R P allowed (Filled c n) crop same counted of_filled measured kept =
+    subst (Keeps R allowed) (sym kept) (filled_keeps R allowed c (min n allowed) (same 0) (of_filled (min n allowed) c measured) (omega arith))
 
 call_keeps : (R : ℕ → ℕ → Type 0) (P : ℕ → Type 0) (allowed : ℕ) (given : Given) (crop : Crop) → ((n : ℕ) → R n n) → ((n : ℕ) (cs : List ℕ) → AllByRecursion P cs → R (columns (take n cs)) (min n (length cs))) → ((n c : ℕ) → P c → R (columns (replicate n c)) n)
     → IsMeasured P given → IsKept allowed given crop ⊎ (crop ≡ nothing) → Keeps R allowed crop
-call_keeps R P allowed given crop same counted filled measured kept =
-    ⊎_elim (λ k. one_keeps R P allowed given crop same counted filled measured k) (λ e. none_keeps R allowed crop (same 0) e) kept
+call_keeps R P allowed given crop same counted of_filled measured kept =
+    ⊎_elim (λ k. one_keeps R P allowed given crop same counted of_filled measured k) (λ e. none_keeps R allowed crop (same 0) e) kept
 
 limit_kept : (limit : ℕ) (given : List Given) (cs : List ℕ) (left : ℕ) → AllByRecursion (IsMeasured (λ c. char_columns c ≤ 1)) given → AreKept limit given cs left → columns cs + left ≤ limit
 limit_kept limit [] cs left measured kept = let none : columns cs ≡ 0 = ap columns kept.0 in omega (arith, none, kept.1)

@@ -1,5 +1,5 @@
 -- What a crop writer writes of what it is given, and how many of its columns it takes off for it.
-use Rattle.std.specs.Prelude.{◌≡◌, ◌⊎◌, ℕ, ◌+◌, ◌-◌, ◌<◌, ◌≤◌, ◌==◌, min, List, [], ◌∷◌, ◌++◌, length, take, replicate, Option, Some, None, Result, Ok, Err, IsErrOf, encode_utf8_all, if◌then◌else◌}
+use Rattle.std.specs.Prelude.{◌≡◌, ◌⊎◌, ℕ, zero, suc, ◌+◌, ◌-◌, ◌<◌, ◌≤◌, ◌==◌, min, List, [], ◌∷◌, ◌++◌, length, take, replicate, Option, Some, None, IsNone, Result, Ok, Err, IsOk, IsErrOf, encode_utf8_all, if◌then◌else◌}
 use Rattle.std.specs.List.{AllByRecursion}
 use Rattle.mad_columns.specs.Columns.{char_columns}
 use Rattle.mad_term.specs.declared.errors.Error.{Error}
@@ -37,6 +37,11 @@ nothing = record { written = None; taken = 0 }
 abbrev pub some : List ℕ → ℕ → Crop
 some cs taken = record { written = Some cs; taken = taken }
 
+-- a character `n` times, each for a column; nothing of none
+abbrev pub filled : ℕ → ℕ → Crop
+filled c zero = nothing
+filled c (suc n) = some (replicate (suc n) c) (suc n)
+
 -- What is kept where so many columns are left. Of a text the longest front that stays within them, its tabs replaced. A character that
 -- leaves a column over. Of counted characters the first ones, each for a column. With no column left nothing is written.
 abbrev pub IsKept : ℕ → Given → Crop → Type 0
@@ -46,7 +51,7 @@ IsKept allowed (Text cs) crop =
 IsKept allowed (Char c) crop = (char_columns c < allowed → crop ≡ some (c ∷ []) (char_columns c)) × (allowed ≤ char_columns c → crop ≡ nothing)
 IsKept allowed (Counted cs) crop =
     (allowed ≡ 0 → crop ≡ nothing) × (0 < allowed → crop ≡ some (take allowed cs) (min allowed (length cs)))
-IsKept allowed (Filled c n) crop = crop ≡ some (replicate (min n allowed) c) (min n allowed)
+IsKept allowed (Filled c n) crop = crop ≡ filled c (min n allowed)
 
 -- ---- what a call does
 
@@ -81,11 +86,13 @@ abbrev pub left_after : {T : Type 0} → Result T Error → ℕ → ℕ → ℕ
 left_after (Ok x) allowed taken = allowed - taken
 left_after (Err e) allowed taken = left_at e allowed taken
 
--- What a call does: the bytes of what is kept go out. Out of memory comes before any did, and takes nothing off.
+-- What a call does: the bytes of what is kept go out. It succeeds where nothing is. Out of memory comes before any did, and takes nothing
+-- off.
 pub record Crops {T : Type 0} (bytes : List ℕ → List ℕ) (given : Given) (old : Trace) (allowed : ℕ) (r : Result T Error) (new : Trace) (left : ℕ) : Type 0 where
   pub crop : Crop
   pub kept : IsKept allowed given crop
   pub draws : Draws old (written_bytes bytes crop.written) r new
+  pub succeeds : IsNone crop.written → IsOk r
   pub leaves : left ≡ left_after r allowed crop.taken
   pub early : IsErrOf r Memory → new ≡ old
 
@@ -111,8 +118,9 @@ AreKept allowed (given ∷ others) cs left =
     (crop : Crop) × (rest : List ℕ) × (IsKept allowed given crop ⊎ (crop ≡ nothing)) × (cs ≡ written_chars crop.written ++ rest)
     × AreKept (allowed - crop.taken) others rest left
 
--- Whatever a crop writer is given, in any order, it never writes more columns in all than it was allowed, where each character that is
--- counted takes one column at most. Where each takes one column, what it wrote and what is left are together just what it was allowed.
+-- Whatever a crop writer is given, in any order, it never writes more columns in all than it was allowed, where no text has a backspace and
+-- each character that is counted takes one column at most. Where each takes one column, what it wrote and what is left are together just
+-- what it was allowed.
 pub record KeepsTheLimit : Type 0 where
   pub at_most : (limit : ℕ) (given : List Given) (cs : List ℕ) (left : ℕ) → AllByRecursion (IsMeasured (λ c. char_columns c ≤ 1)) given → AreKept limit given cs left
       → columns cs + left ≤ limit

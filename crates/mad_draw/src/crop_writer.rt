@@ -1,7 +1,8 @@
 //! Writing of no more columns than a limit.
 
-ghost use Rattle.std.specs.Prelude.{◌≡◌, ◌≤◌, ◌==◌, chars, IfOk, OnErr, IsErrOf, if◌then◌else◌};
+ghost use Rattle.std.specs.Prelude.{◌≡◌, ◌≤◌, ◌<◌, ◌==◌, chars, IfOk, OnErr, IsOk, IsErrOf, MatchOption, if◌then◌else◌};
 ghost use Rattle.std.specs.Cow.{cow_str_bytes, IsOwnedStr};
+ghost use Rattle.mad_columns.specs.Columns.{char_columns};
 ghost use Rattle.mad_term.specs.Draws.{Draws};
 ghost use Rattle.mad_term.specs.declared.errors.Error.TheVariants.{Memory};
 ghost use Rattle.mad_term.specs.Styles.{foreground_bytes, background_bytes, present_bytes};
@@ -17,7 +18,7 @@ use mad_term::{Error, Out, put_text};
 use std::alloc::{AllocError, Global};
 use std::borrow::CowStr;
 
-/// Writes texts to a device until a count of columns is used up. Nothing is written once it is.
+/// Writes texts to a device until a count of columns is used up. Nothing is written once it is, and no call then fails.
 ///
 /// Columns and characters don't always agree: some calls measure columns, and others count characters, as each says. Out of
 /// memory comes before anything went out and takes no column off. After a fault of the device the columns of the whole
@@ -75,9 +76,10 @@ impl<'w, O: Out> CropWriter<'w, O> {
     ///
     /// # Errors
     ///
-    /// A fault of the device, or out of memory.
+    /// A fault of the device, or out of memory: only where a tab is in what fits.
     pub fn queue_unstyled_str(&mut self, alloc: Global, s: &str) -> Result<(), Error>
         ensures crops { Crops unstyled_bytes (Text (chars s.now)) (O.seen self.old.w.now) self.old.allowed result (O.seen self.new.w.now) self.new.allowed }
+        ensures memory { IsErrOf result Memory → HasTabWithin s.now self.old.allowed }
         ensures same_device { self.new.w.ghost_name ≡ self.old.w.ghost_name }
         ensures same_tab { self.new.tab_replacement ≡ self.old.tab_replacement }
     {
@@ -117,10 +119,9 @@ impl<'w, O: Out> CropWriter<'w, O> {
         ensures same_device { self.new.w.ghost_name ≡ self.old.w.ghost_name }
         ensures same_tab { self.new.tab_replacement ≡ self.old.tab_replacement }
     {
-        let columns = char_columns(c);
-        if columns >= self.allowed {
+        let Some(columns) = self.columns_of(c) else {
             return Ok(());
-        }
+        };
         let mut buffer = [0; 4];
         let written = cs.queue_str(alloc, self.w, c.encode_utf8(&mut buffer));
         self.take_off(written, columns)
@@ -131,19 +132,19 @@ impl<'w, O: Out> CropWriter<'w, O> {
     ///
     /// # Errors
     ///
-    /// A fault of the device, or out of memory.
+    /// A fault of the device, or out of memory: only for a tab whose replacement has one itself.
     pub fn queue_unstyled_char(&mut self, alloc: Global, c: char) -> Result<(), Error>
         ensures crops { Crops unstyled_bytes (if c == 9 then Text (chars self.old.tab_replacement.now) else Char c) (O.seen self.old.w.now) self.old.allowed result (O.seen self.new.w.now) self.new.allowed }
+        ensures memory { IsErrOf result Memory → (c ≡ 9) × HasTabWithin self.old.tab_replacement.now self.old.allowed }
         ensures same_device { self.new.w.ghost_name ≡ self.old.w.ghost_name }
         ensures same_tab { self.new.tab_replacement ≡ self.old.tab_replacement }
     {
         if c == '\t' {
             return self.queue_unstyled_str(alloc, self.tab_replacement);
         }
-        let columns = char_columns(c);
-        if columns >= self.allowed {
+        let Some(columns) = self.columns_of(c) else {
             return Ok(());
-        }
+        };
         let mut buffer = [0; 4];
         let written = put_text(self.w, c.encode_utf8(&mut buffer));
         self.take_off(written, columns)
@@ -156,6 +157,7 @@ impl<'w, O: Out> CropWriter<'w, O> {
     /// A fault of the device.
     pub fn queue_unstyled_g_string(&mut self, s: &str) -> Result<(), Error>
         ensures crops { Crops unstyled_bytes (Counted (chars s.now)) (O.seen self.old.w.now) self.old.allowed result (O.seen self.new.w.now) self.new.allowed }
+        ensures without_memory { IsErrOf result Memory → ⊥ }
         ensures same_device { self.new.w.ghost_name ≡ self.old.w.ghost_name }
         ensures same_tab { self.new.tab_replacement ≡ self.old.tab_replacement }
     {
@@ -198,6 +200,7 @@ impl<'w, O: Out> CropWriter<'w, O> {
     pub fn queue_fg(&mut self, alloc: Global, cs: &CompoundStyle) -> Result<(), Error>
         ensures writes { Draws (O.seen self.old.w.now) (unless_full self.old.allowed (present_bytes foreground_bytes cs.now.object_style.foreground_color)) result (O.seen self.new.w.now) }
         ensures early { IsErrOf result Memory → O.seen self.new.w.now ≡ O.seen self.old.w.now }
+        ensures full { self.old.allowed ≡ 0 → IsOk result }
         ensures allowed { self.new.allowed ≡ self.old.allowed }
         ensures same_device { self.new.w.ghost_name ≡ self.old.w.ghost_name }
         ensures same_tab { self.new.tab_replacement ≡ self.old.tab_replacement }
@@ -216,6 +219,7 @@ impl<'w, O: Out> CropWriter<'w, O> {
     pub fn queue_bg(&mut self, alloc: Global, cs: &CompoundStyle) -> Result<(), Error>
         ensures writes { Draws (O.seen self.old.w.now) (unless_full self.old.allowed (present_bytes background_bytes cs.now.object_style.background_color)) result (O.seen self.new.w.now) }
         ensures early { IsErrOf result Memory → O.seen self.new.w.now ≡ O.seen self.old.w.now }
+        ensures full { self.old.allowed ≡ 0 → IsOk result }
         ensures allowed { self.new.allowed ≡ self.old.allowed }
         ensures same_device { self.new.w.ghost_name ≡ self.old.w.ghost_name }
         ensures same_tab { self.new.tab_replacement ≡ self.old.tab_replacement }
@@ -251,6 +255,7 @@ impl<'w, O: Out> CropWriter<'w, O> {
     /// A fault of the device.
     pub fn fill_unstyled(&mut self, filling: &Filling) -> Result<(), Error>
         ensures crops { Crops unstyled_bytes (Filled filling.now.filling_char self.old.allowed) (O.seen self.old.w.now) self.old.allowed result (O.seen self.new.w.now) self.new.allowed }
+        ensures without_memory { IsErrOf result Memory → ⊥ }
         ensures same_device { self.new.w.ghost_name ≡ self.old.w.ghost_name }
         ensures same_tab { self.new.tab_replacement ≡ self.old.tab_replacement }
     {
@@ -267,6 +272,9 @@ impl<'w, O: Out> CropWriter<'w, O> {
         ensures same_device { self.new.w.ghost_name ≡ self.old.w.ghost_name }
         ensures same_tab { self.new.tab_replacement ≡ self.old.tab_replacement }
     {
+        if self.is_full() {
+            return Ok(());
+        }
         let count = self.allowed;
         let written = queue_spaces(alloc, self.w, cs, count);
         self.take_off(written, count)
@@ -289,6 +297,9 @@ impl<'w, O: Out> CropWriter<'w, O> {
         ensures same_tab { self.new.tab_replacement ≡ self.old.tab_replacement }
     {
         let count = len.min(self.allowed);
+        if count == 0 {
+            return Ok(());
+        }
         let written = filling.queue_styled(alloc, self.w, cs, count);
         self.take_off(written, count)
     }
@@ -301,12 +312,24 @@ impl<'w, O: Out> CropWriter<'w, O> {
     #[tactic(auto, using(crate::proofs::FillingLemmas::encoded_repeat))]
     pub fn repeat_unstyled(&mut self, filling: &Filling, len: usize) -> Result<(), Error>
         ensures crops { Crops unstyled_bytes (Filled filling.now.filling_char len) (O.seen self.old.w.now) self.old.allowed result (O.seen self.new.w.now) self.new.allowed }
+        ensures without_memory { IsErrOf result Memory → ⊥ }
         ensures same_device { self.new.w.ghost_name ≡ self.old.w.ghost_name }
         ensures same_tab { self.new.tab_replacement ≡ self.old.tab_replacement }
     {
         let count = len.min(self.allowed);
+        if count == 0 {
+            return Ok(());
+        }
         let written = filling.queue_unstyled(self.w, count);
         self.take_off(written, count)
+    }
+
+    // The columns of a character, if they leave one over.
+    fn columns_of(&self, c: char) -> Option<usize>
+        ensures { MatchOption result (self.now.allowed ≤ char_columns c) (λ columns. (columns ≡ char_columns c) × (columns < self.now.allowed)) }
+    {
+        let columns = char_columns(c);
+        (columns < self.allowed).then_some(columns)
     }
 
     // Takes columns off for what was written; out of memory nothing was.

@@ -11,8 +11,9 @@ use std::fmt;
 /// The eighths are rounded, half of one upwards. A part of no eighths takes no column.
 #[derive(Clone, Copy, Debug, PartialEq, Eq)]
 pub struct ProgressBar {
-    /// The part that is done is `num / den`.
+    /// How much is done, of `den`.
     pub num: u64,
+    /// How much is to be done in all: at least 1.
     pub den: u64,
     /// The columns of the whole.
     pub chars_len: usize,

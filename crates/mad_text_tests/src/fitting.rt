@@ -1,12 +1,13 @@
-//! Columns, tokens, wrapped lines, and the blank columns round a text.
+//! Columns, tokens, wrapped lines, the fronts of a text that fit, and the blank columns round a text.
 //!
 //! Each line of a text is a compound. It is bold where it begins with two stars, and code where it begins with a backquote.
 
 use crate::pictures::{draw_compound, draw_compounds, draw_numbers};
-use mad_fit::{Spacing, Token, columns, tokenize};
+use mad_fit::{Spacing, StrFit, Token, columns, tokenize};
 use mad_md::{Alignment, Compound};
 use mad_wrap::{Room, WrappedLine, check_starts, fit_columns, wrap_compounds, wrap_starts};
 use std::alloc::{AllocError, Global};
+use std::borrow::CowStr;
 use std::fmt::Write;
 
 fn compound<'s>(line: &'s str) -> Compound<'s> {
@@ -130,4 +131,40 @@ pub(crate) fn draw_completions(
     };
     let (left, right) = Spacing::completions(alignment(align), inner, width);
     write!(picture, "{left} {right}")
+}
+
+/// The bytes and the columns of the longest front of a text that fits some columns.
+pub(crate) fn draw_front(
+    picture: &mut String,
+    numbers: &[usize],
+    text: &str,
+) -> Result<(), AllocError> {
+    let (bytes, columns) = StrFit::count_fitting(text, *numbers.first().unwrap_or(&0));
+    write!(picture, "{bytes} {columns}")
+}
+
+/// That front as it is written, its columns, and whether it is borrowed.
+pub(crate) fn draw_cow(
+    picture: &mut String,
+    numbers: &[usize],
+    text: &str,
+) -> Result<(), AllocError> {
+    let most = *numbers.first().unwrap_or(&0);
+    let (cow, columns) = StrFit::make_cow(*picture.allocator(), text, most)?;
+    let kind = match &cow {
+        CowStr::Borrowed(_) => "borrowed",
+        CowStr::Owned(_) => "owned",
+    };
+    write!(picture, "{kind} {columns} {cow}")
+}
+
+/// That front as a text of its own, and its columns.
+pub(crate) fn draw_string(
+    picture: &mut String,
+    numbers: &[usize],
+    text: &str,
+) -> Result<(), AllocError> {
+    let most = *numbers.first().unwrap_or(&0);
+    let (front, columns) = StrFit::make_string(*picture.allocator(), text, most)?;
+    write!(picture, "{columns} {front}")
 }

@@ -3,7 +3,7 @@
 //! The rows are in the files of `data/`. A call of a row begins with a word that says what answers it:
 //!
 //! 1. [`reading`]: the lines of a text, drawn by [`pictures`].
-//! 2. [`fitting`]: columns, tokens, wrapped lines, and the blank columns round a text.
+//! 2. [`fitting`]: columns, tokens, wrapped lines, the fronts of a text that fit, and the blank columns round a text.
 //! 3. [`widths`]: the widths of a table's columns.
 //! 4. [`editing`]: an editor after some calls.
 #![tactic(auto)]
@@ -82,6 +82,9 @@ fn draw_answer(
         "wrap" => fitting::draw_wrap(picture, numbers, text),
         "starts" => fitting::draw_check(picture, numbers, text),
         "completions" => fitting::draw_completions(picture, numbers, after),
+        "front" => fitting::draw_front(picture, numbers, text),
+        "cow" => fitting::draw_cow(picture, numbers, text),
+        "string" => fitting::draw_string(picture, numbers, text),
         "fit" => widths::draw_fit(picture, numbers, text),
         "edit" => editing::draw_edit(picture, numbers, after, text),
         "cut" => editing::draw_cut(picture, numbers, text),

@@ -59,6 +59,7 @@ pub use Rattle.mad_widths.specs.TableFits
 pub use Rattle.mad_widths.specs.Turns
 pub use Rattle.mad_widths.specs.WorkedWidths
 pub use Rattle.mad_fit.specs.Areas
+pub use Rattle.mad_fit.specs.RunningWidths
 pub use Rattle.mad_fit.specs.Thumbs
 pub use Rattle.mad_fit.specs.TextColumns
 pub use Rattle.mad_fit.specs.Completions
@@ -66,10 +67,17 @@ pub use Rattle.mad_fit.specs.TokenPositions
 pub use Rattle.mad_fit.specs.Tokens
 pub use Rattle.mad_fit.specs.TokensLeft
 pub use Rattle.mad_draw.specs.BesideBar
+pub use Rattle.mad_draw.specs.Crops
 pub use Rattle.mad_draw.specs.DrawnRows
+pub use Rattle.mad_draw.specs.Fillings
 pub use Rattle.mad_draw.specs.Panes
+pub use Rattle.mad_draw.specs.Parts as DrawingParts
 pub use Rattle.mad_draw.specs.Pieces
+pub use Rattle.mad_draw.specs.PlacedPieces
 pub use Rattle.mad_draw.specs.PennedCells
+pub use Rattle.mad_draw.specs.ProgressBars
+pub use Rattle.mad_draw.specs.Rects
+pub use Rattle.mad_draw.specs.SpacedTexts
 pub use Rattle.mad_draw.specs.TableRules
 pub use Rattle.mad_blocks.specs.CodeBlocks
 pub use Rattle.mad_format.specs.CompositeWraps

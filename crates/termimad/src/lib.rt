@@ -2,7 +2,7 @@
 //!
 //! What a text is, what a terminal takes and shows, and how lines are wrapped have modules of their own. So have styles as
 //! texts and the editor's text: [`md`], [`term`], [`screen`], [`wrap`], [`parse`] and [`edit`]. Laws are in [`md`], [`term`],
-//! [`wrap`], [`layout`], [`widths`], [`parse`] and [`edit`].
+//! [`draw`], [`wrap`], [`layout`], [`widths`], [`parse`] and [`edit`].
 #![tactic(auto)]
 
 /// What a terminal takes, and what it shows.
@@ -36,6 +36,13 @@ pub mod layout {
     pub use mad_layout::{LineSkin, laws};
 }
 
+/// Drawings of one's own, and laws of drawing.
+pub mod draw {
+    pub use mad_draw::{
+        Parts, Rows, RowsBeside, ScrollBar, columns_beside, draw_rows, laws, put_parts,
+    };
+}
+
 /// Laws of the widths of a table's columns.
 pub mod widths {
     pub use mad_widths::laws;
@@ -57,8 +64,16 @@ pub mod edit {
     pub use mad_edit::{Chars, InputFieldContent, Line, Pos, Range, laws};
 }
 
+pub use mad_draw::{
+    BORDER_STYLE_BLAND, BORDER_STYLE_HALF_WIDTH_OUTSIDE, BORDER_STYLE_MIDDLE_ROUND_LINE,
+    BORDER_STYLE_MIDDLE_SQUARE_LINE, CropWriter, Filling, ProgressBar, Rect, RectBorderStyle,
+    WriteSpaced, fill_bg, queue_spaces,
+};
 pub use mad_edit::{Chars, InputFieldContent, Pos, Range};
-pub use mad_fit::{Area, Spacing, Token, Tokens, compute_scrollbar, token_iter, tokenize};
+pub use mad_fit::{
+    Area, DEFAULT_TAB_REPLACEMENT, Spacing, StrFit, TAB_REPLACEMENT, Token, Tokens,
+    compute_scrollbar, first_chars, token_iter, tokenize,
+};
 pub use mad_json::{ScrollBarStyleDef, SkinError, skin_from_value, skin_to_value};
 pub use mad_layout::{
     CodeBlock, DisplayableLine, FmtComposite, FmtInline, FmtLine, FmtTableRow, FmtTableRule,

@@ -1,6 +1,6 @@
 use Rattle.std.proofs.Common.{ap, refl, sym, ◌∙◌, arith}
 use Rattle.std.specs.Prelude.{chars}
-use Rattle.mad_draw.specs.Crops.{Text, some, left_after, unstyled_bytes}
+use Rattle.mad_draw.specs.Crops.{Text, left_after, unstyled_bytes}
 use Rattle.mad_draw.proofs.CropLemmas.{crops_nothing, crops_memory, crops_some, none_left, some_left, text_full, text_kept, width_within}
 use Rattle.mad_fit.specs.RunningWidths.{running_width, tabs_replaced}
 use Rattle.mad_draw.proofs.crop_writer.CropWriter.queue_unstyled_str.Goals as goal
@@ -13,7 +13,7 @@ pub returns-in_err-text-clause-crops : goal.returns-in_err-text-clause-crops
 returns-in_err-text-clause-crops g c =
     let allowed = c.args.self.now.allowed in
     let found = c.in_err-text.ensures.err in
-    crops_memory (unstyled_bytes) (Text (chars c.args.s.now)) (some (tabs_replaced found.0) (running_width found.0)) _ allowed _
+    crops_memory (unstyled_bytes) (Text (chars c.args.s.now)) (tabs_replaced found.0) (running_width found.0) _ allowed _
     (text_kept allowed found.0 (chars c.args.s.now) (some_left allowed (sym c.is_full.ensures ∙ c.if-is_full.false)) found.1) c.from_residual.ensures.1
 
 pub take_off-requires : goal.take_off-requires

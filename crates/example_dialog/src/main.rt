@@ -1,0 +1,71 @@
+//! A dialog over a page: a filled rectangle with a title, a text in it, and a progress bar. The screen that shows it is written as rows.
+#![tactic(auto)]
+
+ghost use Rattle.std.specs.Prelude.{◌≤◌};
+ghost use Rattle.termimad.specs.Areas.{IsWithinLimits};
+
+use std::alloc::Global;
+use std::io::{Error as IoError, ErrorKind};
+use termimad::screen::{NotPlain, Screen};
+use termimad::{
+    Area, BORDER_STYLE_MIDDLE_ROUND_LINE, CompoundStyle, CropWriter, CutOut, Error, Filling,
+    MadSkin, Out, ProgressBar, Rect, queue_move,
+};
+
+// More bytes than the page and the dialog take.
+const ROOM: usize = 4000;
+
+const PAGE: &str = "# Archive\nEach report of the year is kept, with its pictures and its tables. Reports of the years before are \
+    packed: they are unpacked on the way to the screen, which may take a while.\n* 2024: 52 reports\n* 2025: 49 reports\n* 2026: 31 reports";
+
+const WHAT: &str = "Of **30** pages of *report 31* these are read:";
+
+fn main(rt: HostRuntime) -> Result<(), Error> {
+    let alloc = rt.alloc();
+    let skin = MadSkin::no_style();
+    let mut out = CutOut::new(alloc, ROOM, ROOM, false)?;
+    skin.write_in_area_on(alloc, &mut out, PAGE, &Area::new(0, 0, 44, 9))?;
+    let area = Area::new(6, 2, 32, 5);
+    draw_frame(alloc, &mut out, &area, " Unpacking ")?;
+    skin.write_in_area_on(alloc, &mut out, WHAT, &Area::new(8, 3, 28, 2))?;
+    draw_bar(alloc, &mut out, &area, ProgressBar::new(17, 30, 28))?;
+    let screen = screen_of(alloc, out.taken())?;
+    print!(rt; "{screen}")?;
+    Ok(())
+}
+
+// A filled rectangle with a title on its top edge. The corner, a border character on each side and the other corner stay.
+fn draw_frame<O: Out>(alloc: Global, out: &mut O, area: &Area, title: &str) -> Result<(), Error>
+    requires columns { 4 ≤ area.now.width }
+    requires rows { 1 ≤ area.now.height }
+    requires limits { IsWithinLimits area.now }
+{
+    let mut frame = Rect::new(*area, CompoundStyle::default());
+    frame.set_border_style(BORDER_STYLE_MIDDLE_ROUND_LINE);
+    frame.set_fill(true);
+    frame.draw(alloc, out)?;
+    queue_move(alloc, out, area.left + 2, area.top)?;
+    CropWriter::new(out, usize::from(area.width) - 4).queue_unstyled_str(alloc, title)
+}
+
+// A progress bar in the last row of the inside, with points up to its end.
+fn draw_bar<O: Out>(alloc: Global, out: &mut O, area: &Area, bar: ProgressBar) -> Result<(), Error>
+    requires columns { 4 ≤ area.now.width }
+    requires rows { 3 ≤ area.now.height }
+    requires limits { IsWithinLimits area.now }
+{
+    queue_move(alloc, out, area.left + 2, area.bottom() - 2)?;
+    let mut rest = CropWriter::new(out, usize::from(area.width) - 4);
+    rest.queue_unstyled_str(alloc, &bar.to_string(alloc)?)?;
+    rest.fill_unstyled(&Filling::from_char(alloc, '·')?)
+}
+
+// What a screen shows that reads the bytes.
+fn screen_of(alloc: Global, bytes: &[u8]) -> Result<Screen, Error> {
+    let mut screen = Screen::new(alloc, 44, 9)?;
+    match screen.read_bytes(bytes) {
+        Ok(()) => Ok(screen),
+        Err(NotPlain::Memory) => Err(Error::Memory),
+        Err(NotPlain::Undefined) => Err(Error::IO(IoError::from(ErrorKind::InvalidData))),
+    }
+}

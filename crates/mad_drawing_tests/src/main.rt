@@ -1,0 +1,38 @@
+//! What drawings and cropped writing write, by the rows of the files in `data/`: what no contract says, and devices that fail.
+//!
+//! In the order of the work:
+//!
+//! 1. [`devices`]: what a device takes of a drawing, and that it may fail after each byte.
+//! 2. [`drawings`]: rectangles, fillings, texts in a place of some columns, progress bars.
+//! 3. [`crops`]: the calls of a crop writer.
+//! 4. [`pictures`]: what a screen shows of a drawing.
+#![tactic(auto)]
+
+mod crops;
+mod devices;
+mod drawings;
+mod pictures;
+
+use std::alloc::{AllocError, Global};
+use std::io;
+use test_rows::Calls;
+
+struct DrawingCalls;
+
+impl Calls for DrawingCalls {
+    fn answer(&self, alloc: Global, call: &str, text: &str) -> Result<String, AllocError> {
+        let (name, rest) = call.split_once(' ').unwrap_or((call, ""));
+        match name {
+            "bar" => drawings::bar(alloc, rest),
+            "crop" => crops::crop(alloc, rest, text),
+            "cropped" => crops::cropped(alloc, rest, text),
+            "cut" => devices::cut(alloc, rest, text),
+            "screen" => pictures::screen(alloc, rest, text),
+            _ => devices::taken(alloc, call, text),
+        }
+    }
+}
+
+fn main(rt: HostRuntime) -> io::Result<()> {
+    test_rows::run(&rt, &DrawingCalls)
+}
