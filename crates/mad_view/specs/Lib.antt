@@ -1,3 +1,4 @@
 pub mod MadViews
 pub mod Scrolls
+pub mod ViewKeys
 pub mod Views

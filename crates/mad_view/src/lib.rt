@@ -1,10 +1,11 @@
 //! Views: texts that are shown in an area of the screen, and scrolled in it.
 //!
-//! 1. `scrolls`: how far texts are scrolled.
+//! 1. `scrolls`: how far texts are scrolled; `keys`: the keys that scroll them.
 //! 2. [`text_view`]: a laid out text in an area.
 //! 3. [`mad_view`]: a Markdown text in an area, and several of them.
 #![tactic(auto)]
 
+mod keys;
 pub mod mad_view;
 mod scrolls;
 pub mod text_view;

@@ -7,12 +7,13 @@ ghost use Rattle.mad_fit.specs.Thumbs.{scrollbar_at};
 ghost use Rattle.mad_layout.specs.Shown.{area_bytes};
 ghost use Rattle.mad_layout.specs.ShownLayouts.{ShowsDrawable, ShowsLayout, ShowsRowsFrom};
 ghost use Rattle.mad_view.specs.Scrolls.{pages_in_lines, scroll_within, scrolled_by, scrolled_down};
+ghost use Rattle.mad_view.specs.ViewKeys.{scrolled_by_key};
 ghost use Rattle.mad_view.specs.Views.{view_area, view_bar, view_lines, view_skin};
 
 use crate::scrolls::{pages_in_lines, scroll_within, scrolled_by, scrolled_down};
 use mad_fit::Area;
 use mad_layout::{FmtText, draw_text};
-use mad_term::{Error, Out};
+use mad_term::{Error, KeyCode, KeyCombination, KeyEvent, KeyModifiers, Out};
 use std::alloc::Global;
 
 /// A text in an area of the screen, which shows as many of its lines as the area has rows.
@@ -116,6 +117,32 @@ impl<'a, 't> TextView<'a, 't> {
     {
         let (lines, rows) = (self.content_height(), self.page_height());
         self.move_to(scrolled_down(lines, rows, self.scroll, rows))
+    }
+
+    /// Applies a key, as [`TextView::apply_key_combination`] does. Answers whether the view moved.
+    pub fn apply_key_event(&mut self, key: KeyEvent) -> bool
+        ensures kept { self.new ≡ record self.old { scroll = scrolled_by_key (length (view_lines self.old)) (view_area self.old).height self.old.scroll key.code key.modifiers } }
+        ensures answer { IsTrue result ↔ self.new.scroll ≢ self.old.scroll }
+    {
+        self.apply_key_combination(KeyCombination::from(key))
+    }
+
+    /// Applies a key: Up and Down scroll by a line, PageUp and PageDown by a page. Another key does nothing, and neither does one with a
+    /// modifier. Answers whether the view moved.
+    pub fn apply_key_combination(&mut self, key: KeyCombination) -> bool
+        ensures kept { self.new ≡ record self.old { scroll = scrolled_by_key (length (view_lines self.old)) (view_area self.old).height self.old.scroll key.code key.modifiers } }
+        ensures answer { IsTrue result ↔ self.new.scroll ≢ self.old.scroll }
+    {
+        if key.modifiers != KeyModifiers::NONE {
+            return false;
+        }
+        match key.code {
+            KeyCode::Up => self.line_up(),
+            KeyCode::Down => self.line_down(),
+            KeyCode::PageUp => self.page_up(),
+            KeyCode::PageDown => self.page_down(),
+            _ => false,
+        }
     }
 
     // The rows of the area.

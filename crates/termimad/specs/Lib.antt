@@ -120,6 +120,7 @@ pub use Rattle.mad_format.specs.Wraps
 pub use Rattle.mad_layout.specs.WrittenParts
 pub use Rattle.mad_view.specs.MadViews
 pub use Rattle.mad_view.specs.Scrolls
+pub use Rattle.mad_view.specs.ViewKeys
 pub use Rattle.mad_view.specs.Views
 pub use Rattle.mad_wrap.specs.Bounds
 pub use Rattle.mad_wrap.specs.Breaks

@@ -11,10 +11,10 @@ pub mod term {
     pub use mad_screen::{Cell, CutOut, Looks, NotPlain, Pen, Screen, ScriptSource, laws};
     pub use mad_term::{
         Attribute, Attributes, Clear, ClearType, Color, ContentStyle, Error,
-        InsufficientWidthError, MoveTo, Out, Source, Stream, StyledContent, StyledNumber,
-        StyledRepeat, push_background, push_clear, push_foreground, push_move, push_styled,
-        put_all, put_displayed, put_text, queue_bg, queue_clear, queue_fg, queue_move,
-        queue_repeated, queue_styled,
+        InsufficientWidthError, KeyCode, KeyCombination, KeyEvent, KeyModifiers, MoveTo, Out,
+        Source, Stream, StyledContent, StyledNumber, StyledRepeat, push_background, push_clear,
+        push_foreground, push_move, push_styled, put_all, put_displayed, put_text, queue_bg,
+        queue_clear, queue_fg, queue_move, queue_repeated, queue_styled,
     };
 }
 
@@ -95,9 +95,9 @@ pub use mad_style::{
 };
 pub use mad_term::{
     Attribute, Attributes, Clear, ClearType, Color, ContentStyle, Error, InsufficientWidthError,
-    MoveTo, Out, Source, Stream, StyledContent, StyledNumber, StyledRepeat, char_columns, put_all,
-    put_displayed, put_text, queue_bg, queue_clear, queue_fg, queue_move, queue_repeated,
-    queue_styled,
+    KeyCode, KeyCombination, KeyEvent, KeyModifiers, MoveTo, Out, Source, Stream, StyledContent,
+    StyledNumber, StyledRepeat, char_columns, put_all, put_displayed, put_text, queue_bg,
+    queue_clear, queue_fg, queue_move, queue_repeated, queue_styled,
 };
 pub use mad_view::{MadView, TextView, draw_views};
 pub use mad_widths::{TblFit, TblFitResult};

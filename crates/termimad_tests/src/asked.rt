@@ -23,15 +23,22 @@ impl Asked<'_> {
     pub fn area(&self) -> Area
         ensures { IsWithinLimits result }
     {
-        let [left, top, width, height, _] = self.numbers;
-        let (left, top) = (side(left), side(top));
-        Area::new(
-            left,
-            top,
-            side(width).min(u16::MAX - left),
-            side(height).min(u16::MAX - top),
-        )
+        area_from(self.numbers)
     }
+}
+
+/// The area whose left, top, width and height the first numbers are.
+pub fn area_from(numbers: [usize; 5]) -> Area
+    ensures { IsWithinLimits result }
+{
+    let [left, top, width, height, _] = numbers;
+    let (left, top) = (side(left), side(top));
+    Area::new(
+        left,
+        top,
+        side(width).min(u16::MAX - left),
+        side(height).min(u16::MAX - top),
+    )
 }
 
 fn side(number: usize) -> u16 {

@@ -4,11 +4,14 @@
 //! `dark`, `light`, `ascii` or JSON text, or no style where there is no rest. JSON text changes the default skin.
 //!
 //! 1. `asked`: what a call asks for; `skins`: skins and their values; `refusal`: why a call has no answer.
-//! 2. `screens`: pictures of areas and views; `texts` and `lines`: what is written of texts and of single lines; `runs`: runs of the program.
+//! 2. `screens`: pictures of areas and views; `mad_views`: Markdown views; `moves`: what views answer to scrolls and keys; `texts` and
+//!    `lines`: what is written of texts and of single lines; `runs`: runs of the program.
 #![tactic(auto)]
 
 mod asked;
 mod lines;
+mod mad_views;
+mod moves;
 mod refusal;
 mod runs;
 mod screens;
@@ -48,6 +51,12 @@ fn answer_of(alloc: Global, call: &str, text: &str) -> Result<String, Refusal> {
         "refused" => refused_answer(alloc, words, text),
         "run" => Ok(runs::run(alloc, runs::ROOM, words, text)?),
         "words_on_a_screen" => screens::words(alloc),
+        "thumb" => moves::thumb(alloc, words),
+        "moves" => moves::of_text_view(alloc, words, text),
+        "mad_moves" => moves::of_mad_view(alloc, words, text),
+        "two_views" => mad_views::two_pictured(alloc, words, text),
+        "two_views_written" => mad_views::two_written(alloc, words, text),
+        "two_views_cut" => mad_views::two_cut(alloc, words, text),
         "run_in_twenty_bytes" => Ok(runs::run(alloc, 20, words, text)?),
         _ => answer_in_skin(alloc, name, words, text),
     }
@@ -87,7 +96,9 @@ fn answer_asked(name: &str, asked: &Asked) -> Result<String, Refusal> {
         "view" => screens::view(asked, false, false),
         "scrolled" => screens::view(asked, false, true),
         "marks" => screens::view(asked, true, false),
-        "mad_view" => screens::mad_view(asked),
+        "beside_bar" => screens::beside_bar(asked),
+        "mad_view" => mad_views::pictured(asked),
+        "mad_view_written" => mad_views::written(asked),
         "cut" => texts::cut_view(asked),
         "lines" => lines::displayed(asked),
         "unwrapped" => texts::unwrapped(asked),

@@ -9,8 +9,7 @@ use std::alloc::{AllocError, Global};
 use termimad::layout::laws::words_on_a_screen;
 use termimad::screen::{Pen, Screen};
 use termimad::{
-    Area, ContentStyle, CutOut, FmtText, MadView, ParseOptions, StyledContent, TextView,
-    parse_text_with,
+    Area, ContentStyle, CutOut, FmtText, ParseOptions, StyledContent, TextView, parse_text_with,
 };
 
 // More than any row here writes.
@@ -44,14 +43,14 @@ pub fn view(asked: &Asked, continue_spans: bool, is_asked: bool) -> Result<Strin
     picture(asked.alloc, &area, out.taken())
 }
 
-/// The picture of a Markdown view whose field `scroll` is the last number: beside its scroll bar, if it has one.
-pub fn mad_view(asked: &Asked) -> Result<String, Refusal> {
+/// The picture of a view whose field `scroll` is the last number: beside its scroll bar, if it has one.
+pub fn beside_bar(asked: &Asked) -> Result<String, Refusal> {
     let area = asked.area();
-    let text = String::from_str(asked.alloc, asked.text)?;
-    let mut view = MadView::from(text, area, asked.skin);
+    let text = asked.skin.area_text(asked.alloc, asked.text, &area)?;
+    let mut view = TextView::from(&area, &text);
     view.scroll = asked.numbers[4];
     let mut out = CutOut::new(asked.alloc, ROOM, ROOM, false)?;
-    view.write_on(&mut out)?;
+    view.write_on(asked.alloc, &mut out)?;
     picture(asked.alloc, &area, out.taken())
 }
 
@@ -61,8 +60,8 @@ pub fn words(alloc: Global) -> Result<String, Refusal> {
     Ok(format!(in alloc; "{screen}")?)
 }
 
-// The picture of a screen that has read these bytes: one of points as large as the area, of 14 columns and four rows at least.
-fn picture(alloc: Global, area: &Area, bytes: &[u8]) -> Result<String, Refusal>
+/// The picture of a screen that has read these bytes: one of points as large as the area, of 14 columns and four rows at least.
+pub fn picture(alloc: Global, area: &Area, bytes: &[u8]) -> Result<String, Refusal>
     requires { IsWithinLimits area.now }
 {
     let (width, height) = (area.right().max(14), area.bottom().max(4));

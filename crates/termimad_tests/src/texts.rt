@@ -99,7 +99,8 @@ fn write_view(asked: &Asked, out: &mut CutOut) -> Result<(), Error> {
     TextView::from(&area, &text).write(asked.alloc, out)
 }
 
-fn taken(alloc: Global, out: &CutOut) -> Result<String, AllocError> {
+/// What a device took, as a text.
+pub fn taken(alloc: Global, out: &CutOut) -> Result<String, AllocError> {
     String::from_str(alloc, str::from_utf8(out.taken()).unwrap_or("no text"))
 }
 
