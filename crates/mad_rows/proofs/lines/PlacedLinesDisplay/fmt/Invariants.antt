@@ -1,7 +1,7 @@
 use Rattle.std.proofs.Common.{take}
 use Rattle.std.specs.Fmt.{HasWritten, IsPlainFormatter}
 use Rattle.mad_rows.specs.Rows.{text_bytes}
-use Rattle.mad_rows.proofs.display.PlacedLinesDisplay.fmt.Given as goal
+use Rattle.mad_rows.proofs.lines.PlacedLinesDisplay.fmt.Given as goal
 
 abbrev pub invariant-loop-line : goal.invariant-loop-line
 invariant-loop-line g l =

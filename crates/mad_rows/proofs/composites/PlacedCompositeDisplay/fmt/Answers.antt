@@ -1,7 +1,7 @@
 use Rattle.std.proofs.Common.{refl}
 use Rattle.std.proofs.Output.{has_written_of_eq, has_written_append}
 use Rattle.mad_rows.proofs.PieceLemmas.{composite_joined}
-use Rattle.mad_rows.proofs.display.PlacedCompositeDisplay.fmt.Goals as goal
+use Rattle.mad_rows.proofs.composites.PlacedCompositeDisplay.fmt.Goals as goal
 
 pub returns-clause-writes : goal.returns-clause-writes
 returns-clause-writes g c = λ plain ok.

@@ -3,7 +3,7 @@ use Rattle.std.proofs.Output.{has_written_of_eq, has_written_append}
 use Rattle.mad_rows.specs.Rows.{compound_piece}
 use Rattle.mad_draw.proofs.PieceLemmas.{pieces_taken}
 use Rattle.mad_rows.proofs.PieceLemmas.{bare_taken}
-use Rattle.mad_rows.proofs.display.CompoundsDisplay.fmt.Goals as goal
+use Rattle.mad_rows.proofs.composites.CompoundsDisplay.fmt.Goals as goal
 
 pub loop-compound-preserved : goal.loop-compound-preserved
 loop-compound-preserved g c = λ p.

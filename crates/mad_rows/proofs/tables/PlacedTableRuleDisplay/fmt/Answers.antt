@@ -3,7 +3,7 @@ use Rattle.std.proofs.Output.{has_written_of_eq}
 use Rattle.mad_wrap.specs.WrapLines.{capped}
 use Rattle.mad_format.specs.FmtLines.{rule_columns}
 use Rattle.mad_rows.proofs.PieceLemmas.{table_rule_bytes}
-use Rattle.mad_rows.proofs.display.PlacedTableRuleDisplay.fmt.Goals as goal
+use Rattle.mad_rows.proofs.tables.PlacedTableRuleDisplay.fmt.Goals as goal
 
 pub returns-clause-writes : goal.returns-clause-writes
 returns-clause-writes g c = λ p ok.

@@ -4,7 +4,7 @@ use Rattle.std.proofs.Output.{has_written_of_eq, has_written_append}
 use Rattle.mad_draw.specs.Pieces.{pieces_bytes}
 use Rattle.mad_rows.specs.Rows.{cell_pieces}
 use Rattle.mad_draw.proofs.PieceLemmas.{bytes_taken_of, bytes_both}
-use Rattle.mad_rows.proofs.display.CellsDisplay.fmt.Goals as goal
+use Rattle.mad_rows.proofs.tables.CellsDisplay.fmt.Goals as goal
 
 pub loop-composite-preserved : goal.loop-composite-preserved
 loop-composite-preserved g c = λ p.

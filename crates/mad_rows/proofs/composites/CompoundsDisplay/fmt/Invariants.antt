@@ -2,7 +2,7 @@ use Rattle.std.proofs.Common.{map, take}
 use Rattle.std.specs.Fmt.{HasWritten, IsPlainFormatter}
 use Rattle.mad_draw.specs.Pieces.{pieces_bytes}
 use Rattle.mad_rows.specs.Rows.{compound_piece}
-use Rattle.mad_rows.proofs.display.CompoundsDisplay.fmt.Given as goal
+use Rattle.mad_rows.proofs.composites.CompoundsDisplay.fmt.Given as goal
 
 abbrev pub invariant-loop-compound : goal.invariant-loop-compound
 invariant-loop-compound g l =

@@ -1,7 +1,7 @@
 use Rattle.std.proofs.Common.{rules}
 use Rattle.std.proofs.Output.{has_written_of_eq}
 use Rattle.mad_rows.proofs.PieceLemmas.{free_bytes}
-use Rattle.mad_rows.proofs.display.FreeCompositeDisplay.fmt.Goals as goal
+use Rattle.mad_rows.proofs.composites.FreeCompositeDisplay.fmt.Goals as goal
 
 pub returns-clause-writes : goal.returns-clause-writes
 returns-clause-writes g c = λ plain. λ ok.

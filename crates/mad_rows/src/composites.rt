@@ -1,19 +1,16 @@
-//! Composites, lines and rows as displayed values: piece by piece, without memory.
+//! Composites as displayed values: piece by piece, without memory.
 
-ghost use Rattle.std.specs.Prelude.{◌≡◌, ◌+◌, ℕ, Some};
+ghost use Rattle.std.specs.Prelude.{◌≡◌, ◌+◌, Some};
 ghost use Rattle.mad_draw.specs.Pieces.{pieces_bytes};
-ghost use Rattle.mad_rows.specs.Rows.{prefix_pieces, table_blanks};
+ghost use Rattle.mad_rows.specs.Rows.{prefix_pieces};
 ghost use Rattle.mad_wrap.specs.WrapLines.{capped};
-ghost use Rattle.mad_style.specs.StyledChars.{styled_char};
 
 use crate::row_skin::{RowSkin, is_bare};
-use crate::rows::{
-    RowPlace, inner_blanks, margins_of, outer_blanks, row_columns, rule_chars, table_blanks,
-};
-use mad_draw::{CharRepeat, RuleAcross, SingleSpaces, Spaces};
-use mad_format::{FmtComposite, FmtLine, FmtTableRow, FmtTableRule, indent_of, rule_columns};
+use crate::rows::{RowPlace, inner_blanks, margins_of, outer_blanks};
+use mad_draw::{SingleSpaces, Spaces};
+use mad_format::{FmtComposite, indent_of};
 use mad_md::{Composite, Compound};
-use mad_style::{CompositeKind, LineStyle, StyledChar};
+use mad_style::{CompositeKind, LineStyle};
 use mad_term::StyledNumber;
 use std::fmt::{self, Display};
 
@@ -284,199 +281,6 @@ impl fmt::Display for PlacedComposite<'_, '_> {
     }
 }
 
-// The cells of a row of a table, a border before each.
-#[derive(Clone, Copy)]
-struct Cells<'a, 's> {
-    skin: &'a RowSkin,
-    cells: &'a [FmtComposite<'s>],
-}
-
-impl fmt::Display for Cells<'_, '_> {
-    ghost use Rattle.std.specs.List.{flat_map};
-    ghost use Rattle.mad_rows.specs.Rows.{cell_pieces};
-
-    ghost output = { λ c. Some (pieces_bytes (flat_map (cell_pieces c.skin.now) c.cells.now)) };
-
-    fn fmt<W: fmt::Write>(&self, f: &mut fmt::Formatter<W>) -> fmt::Result {
-        let border = vertical(self.skin);
-        for composite in self.cells {
-            let placed = PlacedComposite {
-                skin: self.skin,
-                composite,
-                place: RowPlace {
-                    outer: None,
-                    margins: (0, 0),
-                    filled: false,
-                },
-            };
-            write!(f, "{border}{placed}")?;
-        }
-        Ok(())
-    }
-}
-
-// A vertical border.
-fn vertical(skin: &RowSkin) -> StyledChar
-    ensures { result ≡ styled_char skin.now.table.compound_style skin.now.table_border_chars.vertical }
-{
-    StyledChar::new(skin.table.compound_style, skin.table_border_chars.vertical)
-}
-
-// The blanks left and right of a line of a table by its columns, at an outer width; those on its right only where they are
-// asked for.
-fn spaces_beside(
-    skin: &RowSkin,
-    columns: usize,
-    outer: Option<usize>,
-    filled: bool,
-) -> (Spaces, Spaces)
-    ensures left { (n : ℕ) → columns ≡ capped n → result.0 ≡ record { style = skin.now.paragraph.compound_style; count = (table_blanks skin.now outer filled n).0 } }
-    ensures right { (n : ℕ) → columns ≡ capped n → result.1 ≡ record { style = skin.now.paragraph.compound_style; count = (table_blanks skin.now outer filled n).1 } }
-{
-    let (left, right) = table_blanks(skin, columns, outer, filled);
-    (skin.blanks(left), skin.blanks(right))
-}
-
-// A row of a table at an outer width.
-#[derive(Clone, Copy)]
-struct PlacedTableRow<'a, 's> {
-    skin: &'a RowSkin,
-    row: &'a FmtTableRow<'s>,
-    outer: Option<usize>,
-    filled: bool,
-}
-
-impl fmt::Display for PlacedTableRow<'_, '_> {
-    ghost use Rattle.mad_rows.specs.Rows.{table_row_pieces};
-
-    ghost output = { λ r. Some (pieces_bytes (table_row_pieces r.skin.now r.outer r.filled r.row.now.cells.items)) };
-
-    fn fmt<W: fmt::Write>(&self, f: &mut fmt::Formatter<W>) -> fmt::Result {
-        let columns = row_columns(&self.row.cells);
-        let (left, right) = spaces_beside(self.skin, columns, self.outer, self.filled);
-        let cells = Cells {
-            skin: self.skin,
-            cells: &self.row.cells,
-        };
-        let border = vertical(self.skin);
-        write!(f, "{left}{cells}{border}{right}")
-    }
-}
-
-// A rule across a table at an outer width.
-#[derive(Clone, Copy)]
-struct PlacedTableRule<'a> {
-    skin: &'a RowSkin,
-    rule: &'a FmtTableRule,
-    outer: Option<usize>,
-    filled: bool,
-}
-
-impl fmt::Display for PlacedTableRule<'_> {
-    ghost use Rattle.mad_rows.specs.Rows.{table_rule_pieces};
-
-    ghost output = { λ r. Some (pieces_bytes (table_rule_pieces r.skin.now r.outer r.filled r.rule.now)) };
-
-    fn fmt<W: fmt::Write>(&self, f: &mut fmt::Formatter<W>) -> fmt::Result {
-        let columns = rule_columns(&self.rule.widths);
-        let (left, right) = spaces_beside(self.skin, columns, self.outer, self.filled);
-        let rule = RuleAcross {
-            style: self.skin.table.compound_style,
-            chars: rule_chars(&self.skin.table_border_chars, self.rule.position),
-            widths: &self.rule.widths,
-        };
-        write!(f, "{left}{rule}{right}")
-    }
-}
-
-/// A line at an outer width, with its margins.
-#[derive(Clone, Copy)]
-pub struct PlacedLine<'a, 's> {
-    /// The skin that it is drawn in.
-    pub skin: &'a RowSkin,
-    /// The line.
-    pub line: &'a FmtLine<'s>,
-    /// The columns that it has, if there is a width.
-    pub outer: Option<usize>,
-    /// Whether the columns right of it are filled up.
-    pub filled: bool,
-}
-
-impl fmt::Display for PlacedLine<'_, '_> {
-    ghost use Rattle.mad_rows.specs.Rows.{line_pieces};
-
-    ghost output = { λ l. Some (pieces_bytes (line_pieces l.skin.now l.outer l.filled l.line.now)) };
-
-    fn fmt<W: fmt::Write>(&self, f: &mut fmt::Formatter<W>) -> fmt::Result {
-        match self.line {
-            FmtLine::Normal(composite) => {
-                PlacedComposite::at(self.skin, composite, self.outer, self.filled).fmt(f)
-            }
-            FmtLine::TableRow(row) => {
-                let placed = PlacedTableRow {
-                    skin: self.skin,
-                    row,
-                    outer: self.outer,
-                    filled: self.filled,
-                };
-                placed.fmt(f)
-            }
-            FmtLine::TableRule(rule) => {
-                let placed = PlacedTableRule {
-                    skin: self.skin,
-                    rule,
-                    outer: self.outer,
-                    filled: self.filled,
-                };
-                placed.fmt(f)
-            }
-            FmtLine::HorizontalRule => {
-                let rule = CharRepeat {
-                    c: self.skin.horizontal_rule,
-                    count: self.outer.unwrap_or(0),
-                };
-                rule.fmt(f)
-            }
-        }
-    }
-}
-
-/// What a row of `width` columns shows: a line, or past the last line spaces in the paragraph's style.
-#[derive(Clone, Copy)]
-pub struct PlacedRow<'a, 's> {
-    /// The skin that it is drawn in.
-    pub skin: &'a RowSkin,
-    /// The line.
-    pub line: Option<&'a FmtLine<'s>>,
-    /// The columns of the row.
-    pub width: usize,
-}
-
-impl fmt::Display for PlacedRow<'_, '_> {
-    ghost use Rattle.std.specs.Option.{option_copied};
-    ghost use Rattle.mad_rows.specs.Rows.{row_pieces};
-
-    ghost output = { λ r. Some (pieces_bytes (row_pieces r.skin.now r.width (option_copied r.line))) };
-
-    fn fmt<W: fmt::Write>(&self, f: &mut fmt::Formatter<W>) -> fmt::Result {
-        match self.line {
-            Some(line) => {
-                let placed = PlacedLine {
-                    skin: self.skin,
-                    line,
-                    outer: Some(self.width),
-                    filled: true,
-                };
-                placed.fmt(f)
-            }
-            None => {
-                let blanks = self.skin.blanks(self.width);
-                blanks.fmt(f)
-            }
-        }
-    }
-}
-
 /// A composite that is by itself: its style's left margin, its prefix and its compounds.
 #[derive(Clone, Copy)]
 pub struct FreeComposite<'a, 's> {
@@ -505,35 +309,5 @@ impl fmt::Display for FreeComposite<'_, '_> {
             compounds: &self.composite.compounds,
         };
         write!(f, "{margin}{prefix}{compounds}")
-    }
-}
-
-/// Lines at an outer width, each ended by a newline.
-#[derive(Clone, Copy)]
-pub struct PlacedLines<'a, 's> {
-    /// The skin that it is drawn in.
-    pub skin: &'a RowSkin,
-    /// The lines.
-    pub lines: &'a [FmtLine<'s>],
-    /// The columns of each line, if there is a width.
-    pub outer: Option<usize>,
-}
-
-impl fmt::Display for PlacedLines<'_, '_> {
-    ghost use Rattle.mad_rows.specs.Rows.{text_bytes};
-
-    ghost output = { λ l. Some (text_bytes l.skin.now l.outer l.lines.now) };
-
-    fn fmt<W: fmt::Write>(&self, f: &mut fmt::Formatter<W>) -> fmt::Result {
-        for line in self.lines {
-            let placed = PlacedLine {
-                skin: self.skin,
-                line,
-                outer: self.outer,
-                filled: false,
-            };
-            write!(f, "{placed}\n")?;
-        }
-        Ok(())
     }
 }

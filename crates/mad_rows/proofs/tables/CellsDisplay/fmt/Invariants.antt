@@ -3,7 +3,7 @@ use Rattle.std.specs.Fmt.{HasWritten, IsPlainFormatter}
 use Rattle.std.specs.List.{flat_map}
 use Rattle.mad_draw.specs.Pieces.{pieces_bytes}
 use Rattle.mad_rows.specs.Rows.{cell_pieces}
-use Rattle.mad_rows.proofs.display.CellsDisplay.fmt.Given as goal
+use Rattle.mad_rows.proofs.tables.CellsDisplay.fmt.Given as goal
 
 abbrev pub invariant-loop-composite : goal.invariant-loop-composite
 invariant-loop-composite g l =

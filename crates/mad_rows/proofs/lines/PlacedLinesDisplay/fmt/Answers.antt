@@ -2,7 +2,7 @@ use Rattle.std.proofs.Common.{refl}
 use Rattle.std.proofs.Output.{has_written_of_eq, has_written_append}
 use Rattle.mad_rows.specs.Rows.{line_bytes}
 use Rattle.mad_draw.proofs.PieceLemmas.{bytes_taken_of}
-use Rattle.mad_rows.proofs.display.PlacedLinesDisplay.fmt.Goals as goal
+use Rattle.mad_rows.proofs.lines.PlacedLinesDisplay.fmt.Goals as goal
 
 pub loop-line-preserved : goal.loop-line-preserved
 loop-line-preserved g c = λ p.

@@ -4,7 +4,7 @@ use Rattle.mad_wrap.specs.WrapLines.{capped}
 use Rattle.mad_rows.specs.Rows.{row_columns}
 use Rattle.mad_format.specs.declared.composite.FmtComposite.{FmtComposite}
 use Rattle.mad_rows.proofs.PieceLemmas.{row_bytes}
-use Rattle.mad_rows.proofs.display.PlacedTableRowDisplay.fmt.Goals as goal
+use Rattle.mad_rows.proofs.tables.PlacedTableRowDisplay.fmt.Goals as goal
 
 pub returns-clause-writes : goal.returns-clause-writes
 returns-clause-writes g c = λ p ok.
