@@ -1,5 +1,5 @@
 -- A composite that was read and laid out at once, measured no further than to where it passes the width.
-use Rattle.std.proofs.Common.{◌≡◌, ℕ, ◌+◌, ◌-◌, ◌<◌, ◌≤◌, ◌^◌, inl, inr, List, [], ◌∷◌, ◌++◌, map, Option, None, Some, Vec, Global, refl, ap, ◌∙◌, arith, subst}
+use Rattle.std.proofs.Common.{◌≡◌, ℕ, ◌+◌, ◌-◌, ◌<◌, ◌≤◌, ◌^◌, inl, inr, List, [], ◌∷◌, ◌++◌, map, None, Some, Vec, Global, refl, ap, ◌∙◌, arith, subst}
 use Rattle.std.proofs.lemmas.Bool.Decides.{nat_tests}
 use Rattle.mad_md.specs.declared.compound.Compound.{Compound}
 use Rattle.mad_md.specs.declared.composite.CompositeStyle.{CompositeStyle}
@@ -10,7 +10,6 @@ use Rattle.mad_style.specs.LineStyles.{margins_at}
 use Rattle.mad_style.specs.declared.line_styles.LineStyle.{LineStyle}
 use Rattle.mad_style.specs.declared.kinds.CompositeKind.{CompositeKind}
 use Rattle.mad_fit.specs.TextColumns.{width_of}
-use Rattle.mad_fit.specs.declared.spacing.Spacing.{Spacing}
 use Rattle.mad_wrap.specs.LeastWrap.{IsWrap}
 use Rattle.mad_wrap.specs.WrapLines.{capped, compounds_of, AreCounted}
 use Rattle.mad_wrap.specs.declared.room.Room.{Room}
@@ -20,6 +19,7 @@ use Rattle.mad_format.specs.Indents.{follow_up, room_of}
 use Rattle.mad_format.specs.FmtLines.{IsCompositeRead}
 use Rattle.mad_format.specs.WrappedLines.{IsWrapped, line_with, style_margins}
 use Rattle.mad_format.specs.LineRules.{LineRules}
+use Rattle.mad_format.specs.PutWraps.{PutsLines}
 use Rattle.mad_format.specs.declared.composite.FmtComposite.{FmtComposite}
 use Rattle.mad_format.specs.declared.line.FmtLine.{FmtLine}
 use Rattle.mad_format.specs.declared.line.FmtLine.TheVariants.{Normal}
@@ -29,14 +29,10 @@ use Rattle.mad_format.proofs.WrapLemmas.{composite_wrap}
 pub margins-le : (style : LineStyle) (width : ℕ) → (margins_at style (Some width)).0 + (margins_at style (Some width)).1 ≤ width
 margins-le style width = grind (arith, nat_tests)
 
--- the lines that a composite is wrapped into are put after the lines that are there
-abbrev pub ArePushed : Room → CompositeKind → Option Spacing → ℕ × ℕ → List WrappedLine → List FmtLine → List FmtLine → Type 0
-ArePushed r kind spacing margins wrapped old new = (composites : List FmtComposite) × (new ≡ old ++ map (line_with margins) composites) × AreComposites kind (follow_up kind) r.first r.other spacing wrapped composites
-
 -- a composite that is too wide, by its cached length
 pub pushed_wrap : (skin : LineRules) (width : ℕ) (source : FmtComposite) (margins : ℕ × ℕ) (r : Room) (wrapped : List WrappedLine) (old new : List FmtLine)
     → margins ≡ style_margins skin width source → r ≡ room_of skin source.kind (width - margins.0 - margins.1) → width - margins.0 - margins.1 < source.visible_length
-    → IsWrap r source.compounds.items (compounds_of wrapped) → AreCounted wrapped → ArePushed r source.kind source.spacing margins wrapped old new
+    → IsWrap r source.compounds.items (compounds_of wrapped) → AreCounted wrapped → PutsLines r source.kind source.spacing margins wrapped old new
     → (own : List FmtLine) × (new ≡ old ++ own) × IsWrapped skin width source own
 pushed_wrap skin width source margins r wrapped old new margins_are room_is wide wrap counted (composites, pushed, are) =
     let own : ℕ × ℕ = style_margins skin width source in
@@ -88,7 +84,7 @@ read_fits skin width columns style kind compounds margins r old new kind_is marg
 pub read_wraps : (skin : LineRules) (width : ℕ) (style : CompositeStyle) (kind : CompositeKind) (compounds : Vec Compound Global) (margins : ℕ × ℕ) (r : Room) (wrapped : List WrappedLine) (old new : List FmtLine)
     → kind ≡ kind_of style → margins ≡ margins_at (skin.line_style kind) (Some width) → r ≡ room_of skin kind (width - margins.0 - margins.1)
     → r.width < r.first + width_of (flagged_text compounds.items) → width < 2 ^ 64 - 1
-    → IsWrap r compounds.items (compounds_of wrapped) → AreCounted wrapped → ArePushed r kind None margins wrapped old new
+    → IsWrap r compounds.items (compounds_of wrapped) → AreCounted wrapped → PutsLines r kind None margins wrapped old new
     → IsReadAndPushed skin width (said_by style compounds) old new
 read_wraps skin width style kind compounds margins r wrapped old new kind_is margins_are room_is wide range wrap counted are =
     let length = (room_of skin kind width).first + width_of (flagged_text compounds.items) in

@@ -1,10 +1,13 @@
 //! Wrapping composites and lines in a skin.
 
-ghost use Rattle.std.specs.Prelude.{◌≡◌, ◌≤◌, ◌<◌, ◌⊎◌, ◌++◌, ◌∷◌, ◌↔◌, [], List, length, map, IfOk, IfErr, OnOk, IsSome, IsTrue, MatchOption};
+ghost use Rattle.std.specs.Prelude.{◌≡◌, ◌+◌, ◌≤◌, ◌<◌, ◌⊎◌, ◌++◌, ◌∷◌, ◌↔◌, [], List, length, IfOk, IfErr, OnOk, IsSome, IsTrue, MatchOption};
 ghost use Rattle.std.specs.Vec.Iter.{into_iter_items};
+ghost use Rattle.mad_md.specs.Flagged.{flagged_text};
 ghost use Rattle.mad_md.specs.Lines.{styled_runs};
+ghost use Rattle.mad_fit.specs.TextColumns.{width_of};
 ghost use Rattle.mad_format.specs.CompositeWraps.{AreComposites, IsCompositeWrap, composite_of};
 ghost use Rattle.mad_format.specs.LinesLeft.{AreCompositesLeft};
+ghost use Rattle.mad_format.specs.PutWraps.{PutsLines, PutsWrap};
 ghost use Rattle.mad_format.specs.Indents.{follow_up};
 ghost use Rattle.mad_format.specs.FmtLines.{IsCompositeRead};
 ghost use Rattle.mad_format.specs.WrappedLines.{AllMeasured, AllFit, AreLinesWrapped, IsLineMeasured, IsLineWrapped, IsWrapped, LineFits, line_with};
@@ -18,7 +21,7 @@ use crate::line::{FmtLine, put_line};
 use crate::line_skin::LineSkin;
 use crate::room::{Room, check_width, margins_and_rest, room_of};
 use mad_fit::Spacing;
-use mad_md::Composite;
+use mad_md::{Composite, Compound};
 use mad_style::CompositeKind;
 use mad_term::Error;
 use mad_wrap::{WrappedLine, fit_columns, wrap_compounds};
@@ -257,10 +260,10 @@ pub fn push_composite<'s, S: LineSkin>(
         return put_line(lines, line_with(margins, composite));
     }
     let room = room_of(skin, composite.kind, inner);
-    let wrap = wrap_compounds(alloc, &composite.compounds, room)?;
-    push_wrapped(
+    push_wrap(
+        alloc,
         lines,
-        wrap,
+        &composite.compounds,
         composite.kind,
         room,
         composite.spacing,
@@ -292,8 +295,7 @@ pub fn push_read<'s, S: LineSkin>(
     let (margins, inner) = margins_and_rest(skin, kind, width);
     let room = room_of(skin, kind, inner);
     let Some(columns) = fit_columns(&compounds, room) else {
-        let wrap = wrap_compounds(alloc, &compounds, room)?;
-        return push_wrapped(lines, wrap, kind, room, None, margins);
+        return push_wrap(alloc, lines, &compounds, kind, room, None, margins);
     };
     let composite = FmtComposite {
         kind,
@@ -303,6 +305,23 @@ pub fn push_read<'s, S: LineSkin>(
         margins: Some(margins),
     };
     put_line(lines, FmtLine::Normal(composite))
+}
+
+// Puts what compounds are wrapped into in their room, as [`push_wrapped`] puts it. They have to be wider than its first line.
+fn push_wrap<'s>(
+    alloc: Global,
+    lines: &mut Vec<FmtLine<'s>>,
+    compounds: &[Compound<'s>],
+    kind: CompositeKind,
+    room: Room,
+    spacing: Option<Spacing>,
+    margins: (usize, usize),
+) -> Result<(), AllocError>
+    requires wider { room.width < room.first + width_of (flagged_text compounds.now) }
+    ensures { OnOk result (PutsWrap room compounds.now kind spacing margins lines.old.items lines.new.items) }
+{
+    let wrap = wrap_compounds(alloc, compounds, room)?;
+    push_wrapped(lines, wrap, kind, room, spacing, margins)
 }
 
 // Puts wrapped lines after the lines that are there, as composites with these margins: the first of this kind, the others of
@@ -315,8 +334,7 @@ fn push_wrapped<'s>(
     spacing: Option<Spacing>,
     margins: (usize, usize),
 ) -> Result<(), AllocError>
-    ensures { OnOk result ((composites : List FmtComposite) × (lines.new.items ≡ lines.old.items ++ map (line_with margins) composites)
-        × AreComposites kind (follow_up kind) room.first room.other spacing wrap.entry.items composites) }
+    ensures { OnOk result (PutsLines room kind spacing margins wrap.entry.items lines.old.items lines.new.items) }
 {
     let mut left = LinesLeft::of(wrap, kind, room, spacing);
     while let Some(composite) = left.next() {

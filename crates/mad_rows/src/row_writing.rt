@@ -4,7 +4,8 @@ ghost use Rattle.std.specs.Prelude.{◌≡◌, ◌++◌, false, map, OnOk, strin
 ghost use Rattle.mad_draw.specs.Pieces.{pieces_bytes};
 ghost use Rattle.mad_rows.specs.Rows.{compound_piece, composite_pieces, line_bytes, margins_of, text_bytes};
 
-use crate::display::{PlacedComposite, PlacedCompound, PlacedLine};
+use crate::composites::{PlacedComposite, PlacedCompound};
+use crate::lines::PlacedLine;
 use crate::row_skin::{RowSkin, is_bare};
 use crate::rows::line_blanks;
 use mad_format::{FmtComposite, FmtLine};
