@@ -1,0 +1,3 @@
+pub mod LineRows
+pub mod RowChars
+pub mod RowPieces
