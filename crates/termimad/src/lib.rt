@@ -2,7 +2,7 @@
 //!
 //! What a text is, what a terminal takes and shows, and how lines are wrapped have modules of their own. So have styles as
 //! texts and the editor's text: [`md`], [`term`], [`screen`], [`wrap`], [`parse`] and [`edit`]. Laws are in [`md`], [`term`],
-//! [`wrap`], [`layout`], [`widths`], [`parse`] and [`edit`].
+//! [`wrap`], [`layout`], [`widths`], [`parse`], [`edit`] and [`field`].
 #![tactic(auto)]
 
 /// What a terminal takes, and what it shows.
@@ -10,9 +10,10 @@ pub mod term {
     pub use mad_columns::char_columns;
     pub use mad_screen::{Cell, CutOut, Looks, NotPlain, Pen, Screen, ScriptSource, laws};
     pub use mad_term::{
-        Attribute, Attributes, Clear, ClearType, Color, ContentStyle, Error,
-        InsufficientWidthError, MoveTo, Out, Source, Stream, StyledContent, StyledNumber,
-        StyledRepeat, push_background, push_clear, push_foreground, push_move, push_styled,
+        Attribute, Attributes, Clear, ClearType, Color, ContentStyle, Error, Event,
+        InsufficientWidthError, KeyCode, KeyCombination, KeyEvent, KeyModifiers, MouseButton,
+        MouseEvent, MouseEventKind, MoveTo, Out, Source, Stream, StyledContent, StyledNumber,
+        StyledRepeat, TimedEvent, push_background, push_clear, push_foreground, push_move, push_styled,
         put_all, put_displayed, put_text, queue_bg, queue_clear, queue_fg, queue_move,
         queue_repeated, queue_styled,
     };
@@ -57,7 +58,14 @@ pub mod edit {
     pub use mad_edit::{Chars, InputFieldContent, Line, Pos, Range, laws};
 }
 
+/// Laws of an input field: what its scrolls keep in view, and what its rows have.
+pub mod field {
+    pub use mad_field::laws;
+    pub use mad_field_rows::laws as row_laws;
+}
+
 pub use mad_edit::{Chars, InputFieldContent, Pos, Range};
+pub use mad_field::InputField;
 pub use mad_fit::{Area, Spacing, Token, Tokens, compute_scrollbar, token_iter, tokenize};
 pub use mad_json::{ScrollBarStyleDef, SkinError, skin_from_value, skin_to_value};
 pub use mad_layout::{
@@ -79,10 +87,11 @@ pub use mad_style::{
     gray, ordered_item_indent, rgb,
 };
 pub use mad_term::{
-    Attribute, Attributes, Clear, ClearType, Color, ContentStyle, Error, InsufficientWidthError,
-    MoveTo, Out, Source, Stream, StyledContent, StyledNumber, StyledRepeat, char_columns, put_all,
-    put_displayed, put_text, queue_bg, queue_clear, queue_fg, queue_move, queue_repeated,
-    queue_styled,
+    Attribute, Attributes, Clear, ClearType, Color, ContentStyle, Error, Event,
+    InsufficientWidthError, KeyCode, KeyCombination, KeyEvent, KeyModifiers, MouseButton,
+    MouseEvent, MouseEventKind, MoveTo, Out, Source, Stream, StyledContent, StyledNumber,
+    StyledRepeat, TimedEvent, char_columns, put_all, put_displayed, put_text, queue_bg,
+    queue_clear, queue_fg, queue_move, queue_repeated, queue_styled,
 };
 pub use mad_view::{MadView, TextView, draw_views};
 pub use mad_widths::{TblFit, TblFitResult};
