@@ -33,8 +33,8 @@ pub fn push_bytes(answer: &mut String, field: &InputField) -> Result<(), AllocEr
     write!(answer, "{text}\n")
 }
 
-/// Draws to devices that fail after each number of bytes, and appends how many there are and how many got another text than a
-/// beginning of so many bytes, or weren't refused.
+/// Draws to devices that fail after each number of bytes, and appends how many got another text than a beginning of so many bytes, or
+/// weren't refused.
 pub fn push_cut_off(answer: &mut String, field: &InputField) -> Result<(), AllocError> {
     let (_, whole) = drawn(*answer.allocator(), field, ROOM, ROOM)?;
     let count = whole.taken().len();
@@ -46,7 +46,7 @@ pub fn push_cut_off(answer: &mut String, field: &InputField) -> Result<(), Alloc
             wrong = wrong.saturating_add(1);
         }
     }
-    write!(answer, "{count} bytes, {wrong} wrong\n")
+    write!(answer, "cut off after each byte: {wrong} wrong\n")
 }
 
 /// Appends what the call that flushes is refused by, where the flush fails, and whether all bytes went out before it.
