@@ -7,3 +7,5 @@ pub mod PieceLemmas
 pub mod MarkedLemmas
 pub mod ShownLemmas
 pub mod LawLemmas
+pub mod IndexLemmas
+pub mod ScrollLemmas
