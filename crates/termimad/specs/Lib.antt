@@ -156,3 +156,16 @@ pub use Rattle.mad_layout.specs.Words as ShownWords
 pub use Rattle.mad_parse.specs.Laws as ParseLaws
 pub use Rattle.mad_wrap.specs.Examples as WrapExamples
 pub use Rattle.mad_wrap.specs.FirstFit
+pub use Rattle.mad_term.specs.Events
+pub use Rattle.mad_field_rows.specs.LineRows
+pub use Rattle.mad_field_rows.specs.RowChars
+pub use Rattle.mad_field_rows.specs.RowPieces
+pub use Rattle.mad_field.specs.Clicks
+pub use Rattle.mad_field.specs.Drawn as DrawnFields
+pub use Rattle.mad_field.specs.Edits as FieldEdits
+pub use Rattle.mad_field.specs.Fields
+pub use Rattle.mad_field.specs.Keys as FieldKeys
+pub use Rattle.mad_field.specs.Positions as FieldPositions
+pub use Rattle.mad_field.specs.Rows as FieldRows
+pub use Rattle.mad_field.specs.Scrolls as FieldScrolls
+pub use Rattle.mad_field.specs.Shown as ShownFields

@@ -1,0 +1,11 @@
+pub mod Choices
+pub mod WidthLemmas
+pub mod ColumnLemmas
+pub mod RowLemmas
+pub mod CursorLemmas
+pub mod PieceLemmas
+pub mod MarkedLemmas
+pub mod ShownLemmas
+pub mod LawLemmas
+pub mod IndexLemmas
+pub mod ScrollLemmas
