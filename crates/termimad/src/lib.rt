@@ -58,7 +58,9 @@ pub mod edit {
 }
 
 pub use mad_edit::{Chars, InputFieldContent, Pos, Range};
+pub use mad_ellipsis::{ELLIPSIS, Run, Zones};
 pub use mad_fit::{Area, Spacing, Token, Tokens, compute_scrollbar, token_iter, tokenize};
+pub use mad_format::Fitter;
 pub use mad_json::{ScrollBarStyleDef, SkinError, skin_from_value, skin_to_value};
 pub use mad_layout::{
     CodeBlock, DisplayableLine, FmtComposite, FmtInline, FmtLine, FmtTableRow, FmtTableRule,
