@@ -1,6 +1,8 @@
-//! Answers the rows of `data/`: what lines are laid out as, where the bounds of wraps start, and what becomes of tables.
+//! Answers the rows of `data/`: what lines are laid out as, where the bounds of wraps start, what becomes of tables, and
+//! what is fitted to a width.
 #![tactic(auto)]
 
+mod fits;
 mod lines;
 mod pictures;
 mod skins;
@@ -44,6 +46,10 @@ fn push_answer(
         "margins" => lines::margins(alloc, picture, words, text),
         "blocks" => lines::blocks(alloc, picture, text),
         "long" => lines::long(alloc, picture, words, text),
+        "fit" => fits::fit(alloc, picture, words, text),
+        "fits" => fits::fits(alloc, picture, words, text),
+        "fill" => fits::fill(alloc, picture, words, text),
+        "zones" => fits::zones(alloc, picture, words, text),
         "lay" => tables::lay(alloc, picture, words, text),
         "fix" => tables::fix(alloc, picture, words, text),
         "tables" => tables::tables(alloc, picture, words, text),

@@ -60,8 +60,8 @@ pub fn push_row(picture: &mut String, row: &FmtTableRow) -> Result<(), AllocErro
     picture.push('\n')
 }
 
-// A composite: a star before each compound that is bold, and after the last its place, if it has one.
-fn push_cell(picture: &mut String, cell: &FmtComposite) -> Result<(), AllocError> {
+/// Puts a composite: a star before each compound that is bold, and after the last its place, if it has one.
+pub fn push_cell(picture: &mut String, cell: &FmtComposite) -> Result<(), AllocError> {
     for compound in &cell.compounds {
         picture.push_str(if compound.bold { "*" } else { "" })?;
         picture.push_str(compound.src)?;

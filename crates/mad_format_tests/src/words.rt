@@ -45,6 +45,16 @@ pub fn mode(words: &mut SplitWhitespace) -> ListItemsIndentationMode {
     }
 }
 
+/// An alignment, none where the word names none.
+pub fn align(words: &mut SplitWhitespace) -> Alignment {
+    match words.next() {
+        Some("left") => Alignment::Left,
+        Some("center") => Alignment::Center,
+        Some("right") => Alignment::Right,
+        _ => Alignment::Unspecified,
+    }
+}
+
 /// The alignments of a pair of letters, and else none.
 pub fn aligns(letters: &str) -> &'static [Alignment] {
     match letters {

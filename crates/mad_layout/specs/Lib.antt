@@ -1,4 +1,5 @@
 pub mod Drawable
+pub mod FilledComposites
 pub mod FlaggedLines
 pub mod FlaggedRows
 pub mod FlaggedTables

@@ -6,7 +6,7 @@
 //!    several parts.
 //! 2. [`fmt_text`], [`fmt_inline`]: reading a text and laying it out; reading one line.
 //! 3. [`drawing`]: the rows of a text in an area of the screen.
-//! 4. `writing`, `text_writing`, `parts_writing`: the writing calls of a skin; [`displayable_line`]: a line as a displayed value.
+//! 4. `writing`, `filled_writing`, `text_writing`, `parts_writing`: the writing calls of a skin; [`displayable_line`]: a line as a displayed value.
 //! 5. [`laws`]: texts that keep the premises, and an example whose premises are proved.
 //!
 //! Composites, lines, tables and blocks of code, and how they are laid out, are in `mad_format` and `mad_blocks`; what is written of a line
@@ -18,6 +18,7 @@ pub mod drawing;
 pub mod fmt_inline;
 pub mod fmt_text;
 pub mod laws;
+mod filled_writing;
 mod made_skins;
 mod parts_writing;
 pub mod skin;

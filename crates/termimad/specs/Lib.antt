@@ -66,6 +66,13 @@ pub use Rattle.mad_fit.specs.Completions
 pub use Rattle.mad_fit.specs.TokenPositions
 pub use Rattle.mad_fit.specs.Tokens
 pub use Rattle.mad_fit.specs.TokensLeft
+pub use Rattle.mad_ellipsis.specs.CenteredCuts
+pub use Rattle.mad_ellipsis.specs.Cuts as RunCuts
+pub use Rattle.mad_ellipsis.specs.Ellipses
+pub use Rattle.mad_ellipsis.specs.Filled as FilledTexts
+pub use Rattle.mad_ellipsis.specs.Fitted
+pub use Rattle.mad_ellipsis.specs.Fronts as TextFronts
+pub use Rattle.mad_ellipsis.specs.Zones
 pub use Rattle.mad_draw.specs.BesideBar
 pub use Rattle.mad_draw.specs.Crops
 pub use Rattle.mad_draw.specs.DrawnRows
@@ -83,6 +90,8 @@ pub use Rattle.mad_blocks.specs.CodeBlocks
 pub use Rattle.mad_format.specs.CompositeWraps
 pub use Rattle.mad_layout.specs.Drawable
 pub use Rattle.mad_blocks.specs.FittingLayouts
+pub use Rattle.mad_layout.specs.FilledComposites
+pub use Rattle.mad_format.specs.Fitting
 pub use Rattle.mad_layout.specs.FlaggedLines
 pub use Rattle.mad_layout.specs.FlaggedRows
 pub use Rattle.mad_layout.specs.FlaggedTables

@@ -55,8 +55,10 @@ pub mod field {
 
 pub use mad_draw::{BORDER_STYLE_BLAND, BORDER_STYLE_HALF_WIDTH_OUTSIDE, BORDER_STYLE_MIDDLE_ROUND_LINE, BORDER_STYLE_MIDDLE_SQUARE_LINE, CropWriter, Filling, ProgressBar, Rect, RectBorderStyle, WriteSpaced, fill_bg, queue_spaces};
 pub use mad_edit::{Chars, InputFieldContent, Pos, Range};
+pub use mad_ellipsis::{ELLIPSIS, Run, Zones};
 pub use mad_field::InputField;
 pub use mad_fit::{Area, DEFAULT_TAB_REPLACEMENT, Spacing, StrFit, TAB_REPLACEMENT, Token, Tokens, compute_scrollbar, first_chars, token_iter, tokenize};
+pub use mad_format::Fitter;
 pub use mad_json::{ScrollBarStyleDef, SkinError, skin_from_value, skin_to_value};
 pub use mad_layout::{CodeBlock, DisplayableLine, FmtComposite, FmtInline, FmtLine, FmtTableRow, FmtTableRule, FmtText, MadSkin, RelativePosition, RowSkin, Table, composite_kind_widths, draw_text, find_blocks, fix_all_tables, inline, justify_blocks, lay_row, print_inline, print_text, term_text, text};
 pub use mad_md as md;
