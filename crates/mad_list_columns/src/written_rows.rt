@@ -28,9 +28,9 @@ pub(crate) fn push_row_from<T: Drop, E: CellExtract<T>, F: RowFilter<T>, O: RowO
     ensures writes { OnOk result ((cell_of : E → T → ShownCell) → MakesCells E.extracts cell_of → string_bytes bytes.new
         ≡ string_bytes bytes.old ++ row_or_erasure cell_of table.now columns.now rows.now.selection (slice_get (shown_from rows.now.rows from) 0)) }
 {
+    let (_, past_all) = rows.row_counts();
     let Some((i, content)) = rows.shown_from(from) else {
         push_clear(bytes, ClearType::UntilNewLine)?;
-        let (_, past_all) = rows.row_counts();
         return Ok(past_all);
     };
     let selected = rows.selection() == Some(i);

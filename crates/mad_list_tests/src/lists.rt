@@ -93,7 +93,7 @@ fn tell(alloc: Global, list: &List, command: &str, told: &mut String) -> Result<
             screen.read_bytes(written(alloc, list)?.taken())?;
             write!(told, "{screen}")?;
         }
-        "flushes" => {
+        "flushes" if list.area.is_within_limits() => {
             let mut out = CutOut::new(alloc, ROOM, ROOM, false)?;
             list.write(alloc, &mut out)?;
             write!(told, "{} puts, {} flushes\n", out.puts(), out.flushes())?;
@@ -107,7 +107,9 @@ fn tell(alloc: Global, list: &List, command: &str, told: &mut String) -> Result<
 
 fn written(alloc: Global, list: &List) -> Result<CutOut, Refusal> {
     let mut out = CutOut::new(alloc, ROOM, ROOM, false)?;
-    list.write_on(alloc, &mut out)?;
+    if list.area.is_within_limits() {
+        list.write_on(alloc, &mut out)?;
+    }
     Ok(out)
 }
 
@@ -117,8 +119,11 @@ fn cuts(alloc: Global, list: &List) -> Result<usize, Refusal> {
     let mut count = 0;
     for room in 0..whole.taken().len() {
         let mut out = CutOut::new(alloc, ROOM, room, false)?;
-        if list.write_on(alloc, &mut out).is_err() && out.taken() == &whole.taken()[..room] {
-            count += 1;
+        if list.area.is_within_limits() {
+            let failed = list.write_on(alloc, &mut out).is_err();
+            if failed && out.taken() == &whole.taken()[..room] {
+                count += 1;
+            }
         }
     }
     Ok(count)
