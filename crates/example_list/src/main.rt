@@ -50,6 +50,7 @@ fn change(alloc: Global, list: &mut List, command: &str) -> Result<(), Error> {
                 list.add_row(river)?;
             }
         }
+        "clear" => list.clear_rows(),
         "longer" => {
             let least: u32 = number.parse().unwrap_or(0);
             let test = Box::new(alloc, move |river: &River| river.length > least)?;

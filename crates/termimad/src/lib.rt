@@ -1,7 +1,7 @@
 //! Markdown for terminals: the names that a program needs, from the crates that have them.
 //!
 //! What a text is, what a terminal takes and shows, and how lines are wrapped have modules of their own. So have styles as
-//! texts and the editor's text: [`md`], [`term`], [`screen`], [`wrap`], [`parse`] and [`edit`]. Laws are in [`md`], [`term`],
+//! texts, the editor's text, lists and questions: [`md`], [`term`], [`screen`], [`wrap`], [`parse`], [`edit`], [`list`] and [`ask`]. Laws are in [`md`], [`term`],
 //! [`wrap`], [`layout`], [`widths`], [`parse`] and [`edit`].
 #![tactic(auto)]
 
@@ -57,6 +57,20 @@ pub mod edit {
     pub use mad_edit::{Chars, InputFieldContent, Line, Pos, Range, laws};
 }
 
+/// Lists without a skin: their rows, and what is written of them.
+pub mod list {
+    pub use mad_list::{
+        CellExtract, ListRow, ListRows, ListView, ListViewCell, ListViewColumn, RowFilter, RowOrder,
+    };
+    pub use mad_list_columns::{ListStyle, body_height, fit_columns, list_bar, push_list};
+}
+
+/// Questions, and what can be answered.
+pub mod ask {
+    pub use mad_ask::{Answer, AskError, Choices, Question};
+}
+
+pub use mad_ask::{Answer, AskError, Question};
 pub use mad_edit::{Chars, InputFieldContent, Pos, Range};
 pub use mad_fit::{Area, Spacing, Token, Tokens, compute_scrollbar, token_iter, tokenize};
 pub use mad_json::{ScrollBarStyleDef, SkinError, skin_from_value, skin_to_value};
@@ -66,6 +80,7 @@ pub use mad_layout::{
     find_blocks, fix_all_tables, inline, justify_blocks, lay_row, print_inline, print_text,
     term_text, text,
 };
+pub use mad_list::{CellExtract, ListView, ListViewCell, ListViewColumn, RowFilter, RowOrder};
 pub use mad_md as md;
 pub use mad_md::{
     Alignment, Composite, CompositeStyle, Compound, Line, LineCursor, MAX_HEADER_DEPTH,
