@@ -178,3 +178,20 @@ pub use Rattle.mad_field.specs.Positions as FieldPositions
 pub use Rattle.mad_field.specs.Rows as FieldRows
 pub use Rattle.mad_field.specs.Scrolls as FieldScrolls
 pub use Rattle.mad_field.specs.Shown as ShownFields
+pub use Rattle.mad_list_rows.specs.Adding as RowAdding
+pub use Rattle.mad_list_rows.specs.Answers as RowAnswers
+pub use Rattle.mad_list_rows.specs.Scrolling as RowScrolling
+pub use Rattle.mad_list_rows.specs.Selecting as RowSelecting
+pub use Rattle.mad_list_rows.specs.States as RowStates
+pub use Rattle.mad_list_columns.specs.Bodies as ListBodies
+pub use Rattle.mad_list_columns.specs.Cells as ListCells
+pub use Rattle.mad_list_columns.specs.Columns as ListColumns
+pub use Rattle.mad_list_columns.specs.Drawing as ListDrawing
+pub use Rattle.mad_list.specs.Lists
+pub use Rattle.mad_answers.specs.Deciding
+pub use Rattle.mad_answers.specs.ErrorTexts as AskErrorTexts
+pub use Rattle.mad_answers.specs.Offers
+pub use Rattle.mad_answers.specs.Reading as AnswerReading
+pub use Rattle.mad_ask.specs.Asking
+pub use Rattle.mad_ask.specs.QuestionTexts
+pub use Rattle.mad_ask.specs.Questions

@@ -1,7 +1,7 @@
 //! Markdown for terminals: the names that a program needs, from the crates that have them.
 //!
 //! Most names are at the top. What a text is, what a terminal takes and shows, and each other subject has a module of its own, with more
-//! names and with laws: [`md`], [`term`], [`screen`], [`draw`], [`wrap`], [`layout`], [`widths`], [`parse`], [`edit`] and [`field`].
+//! names and with laws: [`md`], [`term`], [`screen`], [`draw`], [`wrap`], [`layout`], [`widths`], [`parse`], [`edit`], [`field`], [`list`] and [`ask`].
 #![tactic(auto)]
 
 /// What a terminal takes, and what it shows.
@@ -53,6 +53,18 @@ pub mod field {
     pub use mad_field_rows::laws as row_laws;
 }
 
+/// Lists without a skin: their rows, and what is written of them.
+pub mod list {
+    pub use mad_list::{CellExtract, ListRow, ListRows, ListView, ListViewCell, ListViewColumn, RowFilter, RowOrder};
+    pub use mad_list_columns::{ListStyle, body_height, fit_columns, list_bar, push_list};
+}
+
+/// Questions, and what can be answered.
+pub mod ask {
+    pub use mad_ask::{Answer, AskError, Choices, Question};
+}
+
+pub use mad_ask::{Answer, AskError, Question};
 pub use mad_draw::{BORDER_STYLE_BLAND, BORDER_STYLE_HALF_WIDTH_OUTSIDE, BORDER_STYLE_MIDDLE_ROUND_LINE, BORDER_STYLE_MIDDLE_SQUARE_LINE, CropWriter, Filling, ProgressBar, Rect, RectBorderStyle, WriteSpaced, fill_bg, queue_spaces};
 pub use mad_edit::{Chars, InputFieldContent, Pos, Range};
 pub use mad_ellipsis::{ELLIPSIS, Run, Zones};
@@ -61,6 +73,7 @@ pub use mad_fit::{Area, DEFAULT_TAB_REPLACEMENT, Spacing, StrFit, TAB_REPLACEMEN
 pub use mad_format::Fitter;
 pub use mad_json::{ScrollBarStyleDef, SkinError, skin_from_value, skin_to_value};
 pub use mad_layout::{CodeBlock, DisplayableLine, FmtComposite, FmtInline, FmtLine, FmtTableRow, FmtTableRule, FmtText, MadSkin, RelativePosition, RowSkin, Table, composite_kind_widths, draw_text, find_blocks, fix_all_tables, inline, justify_blocks, lay_row, print_inline, print_text, term_text, text};
+pub use mad_list::{CellExtract, ListView, ListViewCell, ListViewColumn, RowFilter, RowOrder};
 pub use mad_md as md;
 pub use mad_md::{Alignment, Composite, CompositeStyle, Compound, Line, LineCursor, MAX_HEADER_DEPTH, ParseOptions, TableRow, TableRule, Text, parse_text, parse_text_with};
 pub use mad_screen::{CutOut, ScriptSource};

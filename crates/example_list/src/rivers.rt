@@ -1,0 +1,49 @@
+//! Rivers, which are the rows of the list.
+
+use std::alloc::{AllocError, Global};
+use termimad::{CellExtract, CompoundStyle, ListViewCell};
+
+/// A river.
+#[derive(Clone, Copy)]
+pub struct River {
+    /// Its name.
+    pub name: &'static str,
+    /// Its length in kilometers.
+    pub length: u32,
+}
+
+/// Some rivers of Europe.
+pub const RIVERS: [River; 8] = [
+    River { name: "Volga", length: 3530 },
+    River { name: "Danube", length: 2850 },
+    River { name: "Rhine", length: 1233 },
+    River { name: "Elbe", length: 1094 },
+    River { name: "Loire", length: 1012 },
+    River { name: "Rhone", length: 813 },
+    River { name: "Seine", length: 777 },
+    River { name: "Thames", length: 346 },
+];
+
+/// What a column shows of a river.
+#[derive(Drop)]
+pub struct Shown {
+    /// The allocator.
+    pub alloc: Global,
+    /// Whether it is the length, or else the name.
+    pub is_length: bool,
+}
+
+impl CellExtract<River> for Shown {
+    ghost use Rattle.std.specs.Prelude.{⊤};
+
+    ghost extracts = { λ _ _ _. ⊤ };
+
+    fn cell(&self, river: &River) -> Result<ListViewCell, AllocError> {
+        let text = if self.is_length {
+            format!(in self.alloc; "{}", river.length)?
+        } else {
+            String::from_str(self.alloc, river.name)?
+        };
+        Ok(ListViewCell::new(text, CompoundStyle::default()))
+    }
+}

@@ -1,0 +1,192 @@
+//! Lists that are drawn: a script changes them, and some of its commands tell what they are.
+
+ghost use Rattle.mad_fit.specs.Areas.{IsWithinLimits};
+
+use crate::items::{ByNumber, Item, Part, Without, item_of};
+use crate::refusal::Refusal;
+use mad_fit::Area;
+use mad_layout::MadSkin;
+use mad_list::{ListView, ListViewColumn};
+use mad_md::Alignment;
+use mad_screen::{CutOut, Screen};
+use mad_style::{CompoundStyle, rgb};
+use std::alloc::{AllocError, Global};
+
+// More bytes than any row here writes.
+const ROOM: usize = 20_000;
+
+type List<'k> = ListView<'k, Item, Part, Without, ByNumber>;
+
+/// What a script tells of a list. The words are its area, a skin and its columns: `0 0 9 4 plain n,3,3,letter v,3,3,number`.
+pub fn told(alloc: Global, words: &str, script: &str) -> Result<String, Refusal> {
+    let mut words = words.split(' ');
+    let mut sides = [0; 4];
+    for side in &mut sides {
+        *side = words.next().unwrap_or("").parse().unwrap_or(0);
+    }
+    let skin = skin_of(alloc, words.next().unwrap_or(""))?;
+    let mut columns = Vec::new(alloc);
+    for word in words {
+        columns.push(column_of(alloc, word)?)?;
+    }
+    let mut list: List = ListView::new(alloc, area_of(sides), columns, &skin);
+    let mut told = String::new(alloc);
+    for line in script.split('\n') {
+        let (command, words) = line.split_once(' ').unwrap_or((line, ""));
+        if !tell(alloc, &list, command, &mut told)? && !select(&mut list, command) {
+            change(&mut list, command, words)?;
+        }
+    }
+    Ok(told)
+}
+
+fn area_of(sides: [u16; 4]) -> Area
+    ensures { IsWithinLimits result }
+{
+    let [left, top, width, height] = sides;
+    Area::new(
+        left,
+        top,
+        width.min(u16::MAX - left),
+        height.min(u16::MAX - top),
+    )
+}
+
+// A skin without style, or one whose tables and headers are colored.
+fn skin_of(alloc: Global, name: &str) -> Result<MadSkin, AllocError> {
+    let mut skin = MadSkin::no_style();
+    if name == "colored" {
+        skin.table.set_fg(rgb(1, 2, 3));
+        skin.set_headers_fg(rgb(4, 5, 6));
+    }
+    Ok(skin)
+}
+
+// A column, as `n,3,3,letter,left`.
+fn column_of(alloc: Global, word: &str) -> Result<ListViewColumn<Part>, AllocError> {
+    let mut parts = word.split(',');
+    let title = parts.next().unwrap_or("");
+    let least = parts.next().unwrap_or("").parse().unwrap_or(0);
+    let greatest: usize = parts.next().unwrap_or("").parse().unwrap_or(0);
+    let part = Part {
+        alloc,
+        is_number: parts.next().unwrap_or("") == "number",
+        style: CompoundStyle::default(),
+    };
+    let column = ListViewColumn::new(alloc, title, least, greatest.max(least), part)?;
+    Ok(match parts.next().unwrap_or("") {
+        "left" => column.with_align(Alignment::Left),
+        "right" => column.with_align(Alignment::Right),
+        _ => column,
+    })
+}
+
+// What a command tells, if it is one that tells something.
+fn tell(alloc: Global, list: &List, command: &str, told: &mut String) -> Result<bool, Refusal> {
+    match command {
+        "write" => {
+            let out = written(alloc, list)?;
+            write!(told, "{}\n", str::from_utf8(out.taken()).unwrap_or("no text"))?;
+        }
+        "picture" => {
+            let mut screen = Screen::new(alloc, 14, 6)?;
+            screen.read_bytes(written(alloc, list)?.taken())?;
+            write!(told, "{screen}")?;
+        }
+        "flushes" if list.area.is_within_limits() => {
+            let mut out = CutOut::new(alloc, ROOM, ROOM, false)?;
+            list.write(alloc, &mut out)?;
+            write!(told, "{} puts, {} flushes\n", out.puts(), out.flushes())?;
+        }
+        "cuts" => write!(told, "{}\n", cuts(alloc, list)?)?,
+        "state" => push_state(list, told)?,
+        _ => return Ok(false),
+    }
+    Ok(true)
+}
+
+fn written(alloc: Global, list: &List) -> Result<CutOut, Refusal> {
+    let mut out = CutOut::new(alloc, ROOM, ROOM, false)?;
+    if list.area.is_within_limits() {
+        list.write_on(alloc, &mut out)?;
+    }
+    Ok(out)
+}
+
+// How many devices that fail, one at each byte, took a beginning of the whole.
+fn cuts(alloc: Global, list: &List) -> Result<usize, Refusal> {
+    let whole = written(alloc, list)?;
+    let mut count = 0;
+    for room in 0..whole.taken().len() {
+        let mut out = CutOut::new(alloc, ROOM, room, false)?;
+        if list.area.is_within_limits() {
+            let failed = list.write_on(alloc, &mut out).is_err();
+            if failed && out.taken() == &whole.taken()[..room] {
+                count += 1;
+            }
+        }
+    }
+    Ok(count)
+}
+
+// The counts, the selected row, the body's height and the bar's thumb.
+fn push_state(list: &List, told: &mut String) -> Result<(), AllocError> {
+    let (shown, all) = list.row_counts();
+    write!(told, "{shown} of {all}, ")?;
+    match list.get_selection() {
+        Some(item) => write!(told, "{}{} selected, ", item.number, item.letter)?,
+        None => write!(told, "none selected, ")?,
+    }
+    write!(told, "body {}, ", list.tbody_height())?;
+    match list.scrollbar() {
+        Some((first, last)) => write!(told, "thumb {first} to {last}")?,
+        None => write!(told, "no bar")?,
+    }
+    let bottom = if list.do_scroll_show_bottom() { ", bottom shown" } else { "" };
+    write!(told, "{bottom}\n")
+}
+
+// Whether a command selects or scrolls; then it is done.
+fn select(list: &mut List, command: &str) -> bool {
+    match command {
+        "next" => list.try_select_next(false),
+        "previous" => list.try_select_next(true),
+        "first" => list.select_first_line(),
+        "last" => list.select_last_line(),
+        "unselect" => list.unselect(),
+        "bottom" => list.scroll_to_bottom(),
+        "visible" => list.make_selection_visible(),
+        _ => return false,
+    }
+    true
+}
+
+fn change(list: &mut List, command: &str, words: &str) -> Result<(), Refusal> {
+    match command {
+        "add" => list.add_row(item_of(words))?,
+        "sort" => list.sort(ByNumber),
+        "clear" => list.clear_rows(),
+        "without" => list.set_filter(Without(words.parse().unwrap_or(0))),
+        "all" => list.remove_filter(),
+        "lines" => list.try_scroll_lines(words.parse().unwrap_or(0)),
+        "pages" => list.try_scroll_pages(words.parse().unwrap_or(0)),
+        "fit" => list.update_dimensions(),
+        _ => (),
+    }
+    Ok(())
+}
+
+/// A list of so many rows, scrolled to its bottom: what is written of it, and its counts.
+pub fn many(alloc: Global, count: u32) -> Result<String, Refusal> {
+    let skin = MadSkin::no_style();
+    let mut columns = Vec::new(alloc);
+    columns.push(column_of(alloc, "v,8,8,number")?)?;
+    let mut list: List = ListView::new(alloc, area_of([0, 0, 9, 4]), columns, &skin);
+    for number in 0..count {
+        list.add_row(Item { number, letter: 'x' })?;
+    }
+    let mut told = String::new(alloc);
+    tell(alloc, &list, "write", &mut told)?;
+    tell(alloc, &list, "state", &mut told)?;
+    Ok(told)
+}
