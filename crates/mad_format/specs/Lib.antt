@@ -7,3 +7,4 @@ pub mod LinesLeft
 pub mod Lists
 pub mod WrappedLines
 pub mod Wraps
+pub mod PlainWraps
