@@ -23,8 +23,9 @@ pub mod screen {
     pub use mad_screen::{Cell, Looks, NotPlain, Pen, Screen};
 }
 
-/// Breaking lines that are too wide, with the fewest lines.
+/// Breaking lines that are too wide, with the fewest lines; the lines of a plain text.
 pub mod wrap {
+    pub use mad_format::wrap_text;
     pub use mad_layout::{
         WrapBound, check_wrap_bound, hard_wrap_composite, hard_wrap_lines, room_of, wrap_bound,
     };
@@ -58,7 +59,11 @@ pub mod edit {
 }
 
 pub use mad_edit::{Chars, InputFieldContent, Pos, Range};
-pub use mad_fit::{Area, Spacing, Token, Tokens, compute_scrollbar, token_iter, tokenize};
+pub use mad_fit::{
+    Area, Spacing, TAB_REPLACEMENT, Token, Tokens, compute_scrollbar, is_printable, printable,
+    token_iter, tokenize,
+};
+pub use mad_format::wrap_text;
 pub use mad_json::{ScrollBarStyleDef, SkinError, skin_from_value, skin_to_value};
 pub use mad_layout::{
     CodeBlock, DisplayableLine, FmtComposite, FmtInline, FmtLine, FmtTableRow, FmtTableRule,
