@@ -4,7 +4,8 @@
 //! `dark`, `light`, `ascii` or JSON text, or no style where there is no rest. JSON text changes the default skin.
 //!
 //! 1. `asked`: what a call asks for; `skins`: skins and their values; `refusal`: why a call has no answer.
-//! 2. `screens`: pictures of areas and views; `texts` and `lines`: what is written of texts and of single lines; `runs`: runs of the program.
+//! 2. `screens`: pictures of areas and views; `texts` and `lines`: what is written of texts and of single lines; `runs`: runs of the program;
+//!    `untrusted`: texts that others wrote.
 #![tactic(auto)]
 
 mod asked;
@@ -14,6 +15,7 @@ mod runs;
 mod screens;
 mod skins;
 mod texts;
+mod untrusted;
 
 use asked::{Asked, numbers_of};
 use refusal::Refusal;
@@ -48,6 +50,8 @@ fn answer_of(alloc: Global, call: &str, text: &str) -> Result<String, Refusal> {
         "refused" => refused_answer(alloc, words, text),
         "run" => Ok(runs::run(alloc, runs::ROOM, words, text)?),
         "words_on_a_screen" => screens::words(alloc),
+        "untrusted" => untrusted::answer(alloc, words, text, false),
+        "printable" => untrusted::answer(alloc, words, text, true),
         "run_in_twenty_bytes" => Ok(runs::run(alloc, 20, words, text)?),
         _ => answer_in_skin(alloc, name, words, text),
     }
