@@ -1,9 +1,14 @@
 //! A table that a program makes of what it knows, laid out at two widths.
+//!
+//! No name can add a column or a star, and none reaches the terminal as an escape sequence.
 #![tactic(auto)]
 
 use std::alloc::{AllocError, Global};
+use std::borrow::CowStr;
 use std::io;
-use termimad::{Error, MadSkin, Out, Stream, put_all};
+use termimad::{
+    Alignment, Error, FmtText, MadSkin, Out, Stream, Text, printable, put_all, put_displayed,
+};
 
 struct Disk {
     name: &'static str,
@@ -11,16 +16,26 @@ struct Disk {
     used_percent: u8,
 }
 
-const DISKS: [Disk; 3] = [
+const DISKS: [Disk; 5] = [
     Disk {
         name: "/",
         holds: "the system and its *logs*",
         used_percent: 41,
     },
     Disk {
-        name: "/home",
-        holds: "what people keep",
+        name: "/home/a|b",
+        holds: "what `*star*` keeps",
         used_percent: 97,
+    },
+    Disk {
+        name: "|-|",
+        holds: "a name like a rule's",
+        used_percent: 100,
+    },
+    Disk {
+        name: "/\u{1b}[2Jx",
+        holds: "a name that would clear the screen",
+        used_percent: 0,
     },
     Disk {
         name: "/概要",
@@ -29,34 +44,49 @@ const DISKS: [Disk; 3] = [
     },
 ];
 
+const HEADERS: [&str; 3] = ["disk", "holds", "used"];
+
+const ALIGNMENTS: [Alignment; 3] = [Alignment::Left, Alignment::Left, Alignment::Right];
+
 fn main(rt: HostRuntime) -> Result<(), Error> {
     let alloc = rt.alloc();
-    let report = report_of(alloc, &DISKS)?;
     let skin = MadSkin::default();
     let mut out = Stream::new(io::writer(&rt));
+    let cells = cells_of(alloc, &DISKS)?;
     for width in [48, 30] {
-        skin.write_text_on(alloc, &mut out, report.as_str(), Some(width))?;
+        let report = FmtText::from_text(alloc, &skin, table_of(alloc, &cells)?, Some(width))?;
+        put_displayed(alloc, &mut out, 0, &report)?;
         put_all(&mut out, b"\n")?;
     }
     out.flush()?;
     Ok(())
 }
 
-// The disks as a table in Markdown, the percentages on the right.
-fn report_of(alloc: Global, disks: &[Disk]) -> Result<String, AllocError> {
-    let mut table = String::from_str(
-        alloc,
-        "|:-|:-|-:|\n|**disk**|**holds**|**used**|\n|:-|:-|-:|\n",
-    )?;
+// The texts of a disk's row.
+struct Cells {
+    name: CowStr<'static, Global>,
+    holds: CowStr<'static, Global>,
+    used: String,
+}
+
+fn cells_of(alloc: Global, disks: &[Disk]) -> Result<Vec<Cells>, AllocError> {
+    let mut cells = Vec::new(alloc);
     for disk in disks {
-        let Disk {
-            name,
-            holds,
-            used_percent,
-        } = disk;
-        let row = format!(in alloc; "|{name}|{holds}|{used_percent} %|\n")?;
-        table.push_str(row.as_str())?;
+        let used_percent = disk.used_percent;
+        cells.push(Cells {
+            name: printable(alloc, disk.name)?,
+            holds: printable(alloc, disk.holds)?,
+            used: format!(in alloc; "{used_percent} %")?,
+        })?;
     }
-    table.push_str("|-|-|-|")?;
-    Ok(table)
+    Ok(cells)
+}
+
+// The disks as a table, the percentages on the right.
+fn table_of<'c>(alloc: Global, cells: &'c [Cells]) -> Result<Text<'c>, AllocError> {
+    let mut rows = Vec::new(alloc);
+    for Cells { name, holds, used } in cells {
+        rows.push(vec![in alloc; name.as_str(), holds.as_str(), used.as_str()]?)?;
+    }
+    Text::from_table(alloc, &HEADERS, &ALIGNMENTS, &rows)
 }

@@ -17,3 +17,4 @@ pub mod RuleLemmas
 pub mod RunLemmas
 pub mod ShownLemmas
 pub mod SpacedLemmas
+pub mod UntrustedLemmas

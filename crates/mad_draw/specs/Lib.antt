@@ -11,3 +11,4 @@ pub mod ProgressBars
 pub mod Rects
 pub mod SpacedTexts
 pub mod TableRules
+pub mod Untrusted

@@ -11,7 +11,7 @@
 //! 7. [`fillings`]: one character over many columns. [`crop_writer`]: no more columns than a limit. [`spaced_texts`]: texts in
 //!    a place of some columns.
 //! 8. [`laws`]: what holds of rows beside a bar, of areas that are drawn one after the other, of pieces at any positions, of crop
-//!    writers and of progress bars.
+//!    writers and of progress bars. [`untrusted`]: that printable texts have no control characters.
 #![tactic(auto)]
 
 pub mod char_repeats;
@@ -26,6 +26,7 @@ pub mod scroll_bars;
 pub mod spaced_texts;
 pub mod spaces;
 pub mod table_rules;
+pub mod untrusted;
 
 pub use char_repeats::{CharRepeat, SingleChars};
 pub use crop_writer::CropWriter;

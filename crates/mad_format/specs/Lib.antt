@@ -1,10 +1,11 @@
 pub mod CompositeWraps
-pub mod Indents
-pub mod LineRules
 pub mod Fitting
 pub mod FmtLines
+pub mod Indents
+pub mod LineRules
 pub mod LinesLeft
 pub mod Lists
+pub mod PlainWraps
+pub mod PutWraps
 pub mod WrappedLines
 pub mod Wraps
-pub mod PutWraps

@@ -7,7 +7,8 @@
 //! 3. [`composite`], [`table`], [`line`]: a line with its cached width; rows of a table, and rules across it.
 //! 4. [`fitter`]: a composite fitted to a width, with an ellipsis in place of what goes.
 //! 5. [`wrap`]: wrapping composites and lists of lines, with the fewest lines.
-//! 6. [`bound`]: starts of lines that show that no fitting break has fewer.
+//! 6. [`plain`]: wrapping a plain text.
+//! 7. [`bound`]: starts of lines that show that no fitting break has fewer.
 //!
 //! Tables, blocks of code and whole texts are laid out in `mad_blocks`.
 #![tactic(auto)]
@@ -18,6 +19,7 @@ pub mod fitter;
 pub mod indents;
 pub mod line;
 pub mod line_skin;
+pub mod plain;
 pub mod room;
 pub mod table;
 pub mod wrap;
@@ -28,6 +30,7 @@ pub use fitter::Fitter;
 pub use indents::{composite_columns, composite_kind_widths, indent_of};
 pub use line::{FmtLine, put_line, rule_columns};
 pub use line_skin::LineSkin;
+pub use plain::wrap_text;
 pub use room::{margins_and_rest, room_of};
 pub use table::{FmtTableRow, FmtTableRule, RelativePosition};
 pub use wrap::{hard_wrap_composite, hard_wrap_lines, push_composite, push_read, wrap_composite};

@@ -5,6 +5,7 @@
 mod fits;
 mod lines;
 mod pictures;
+mod plain;
 mod skins;
 mod tables;
 mod words;
@@ -42,6 +43,8 @@ fn push_answer(
 ) -> Result<(), Error> {
     match name {
         "wrap" => wraps::wrap(alloc, picture, words, text),
+        "plain" => plain::plain(alloc, picture, words, text),
+        "plains" => plain::plains(alloc, picture, words, text),
         "check" => wraps::check(alloc, picture, words, text),
         "margins" => lines::margins(alloc, picture, words, text),
         "blocks" => lines::blocks(alloc, picture, text),

@@ -50,7 +50,7 @@ lengths_are _ _ h = absurd h
 blank_is_white : (x : FlaggedChar) → is_blank x ≡ true → is_whitespace x.char ≡ true
 blank_is_white x h = (and_parts (is_whitespace x.char) (not x.flags.code) h).0
 
-gap_is_white : (max : ℕ) (ts : List Token) → AllBlank ts → AllByRecursion (IsHonest max) ts → AllWhite (tokens_text ts)
+pub gap_is_white : (max : ℕ) (ts : List Token) → AllBlank ts → AllByRecursion (IsHonest max) ts → AllWhite (tokens_text ts)
 gap_is_white max [] h g = tt
 gap_is_white max (t ∷ ts) h g =
     all_joined (λ x. is_whitespace x.char ≡ true) (flagged_token t) (tokens_text ts)

@@ -13,6 +13,7 @@ pub use Rattle.mad_md.specs.Reading
 pub use Rattle.mad_md.specs.ReadingLaws
 pub use Rattle.mad_md.specs.Scan
 pub use Rattle.mad_md.specs.Starts
+pub use Rattle.mad_md.specs.Tables as DataTables
 pub use Rattle.mad_term.specs.Attribute
 pub use Rattle.mad_term.specs.AttributeNames
 pub use Rattle.mad_term.specs.Attributes
@@ -63,6 +64,7 @@ pub use Rattle.mad_fit.specs.RunningWidths
 pub use Rattle.mad_fit.specs.Thumbs
 pub use Rattle.mad_fit.specs.TextColumns
 pub use Rattle.mad_fit.specs.Completions
+pub use Rattle.mad_fit.specs.Printable
 pub use Rattle.mad_fit.specs.TokenPositions
 pub use Rattle.mad_fit.specs.Tokens
 pub use Rattle.mad_fit.specs.TokensLeft
@@ -124,6 +126,7 @@ pub use Rattle.mad_blocks.specs.TableLaws
 pub use Rattle.mad_blocks.specs.Tables
 pub use Rattle.mad_blocks.specs.TextParts
 pub use Rattle.mad_layout.specs.Texts
+pub use Rattle.mad_format.specs.PlainWraps
 pub use Rattle.mad_format.specs.WrappedLines
 pub use Rattle.mad_format.specs.Wraps
 pub use Rattle.mad_layout.specs.WrittenParts

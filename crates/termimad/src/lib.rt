@@ -21,8 +21,9 @@ pub mod draw {
     pub use mad_draw::{Parts, Rows, RowsBeside, ScrollBar, columns_beside, draw_rows, laws, put_parts};
 }
 
-/// Breaking lines that are too wide, with the fewest lines.
+/// Breaking lines that are too wide, with the fewest lines; the lines of a plain text.
 pub mod wrap {
+    pub use mad_format::wrap_text;
     pub use mad_layout::{WrapBound, check_wrap_bound, hard_wrap_composite, hard_wrap_lines, room_of, wrap_bound};
     pub use mad_wrap::{Room, laws};
 }
@@ -69,8 +70,8 @@ pub use mad_draw::{BORDER_STYLE_BLAND, BORDER_STYLE_HALF_WIDTH_OUTSIDE, BORDER_S
 pub use mad_edit::{Chars, InputFieldContent, Pos, Range};
 pub use mad_ellipsis::{ELLIPSIS, Run, Zones};
 pub use mad_field::InputField;
-pub use mad_fit::{Area, DEFAULT_TAB_REPLACEMENT, Spacing, StrFit, TAB_REPLACEMENT, Token, Tokens, compute_scrollbar, first_chars, token_iter, tokenize};
-pub use mad_format::Fitter;
+pub use mad_fit::{Area, DEFAULT_TAB_REPLACEMENT, Spacing, StrFit, TAB_REPLACEMENT, Token, Tokens, compute_scrollbar, first_chars, is_printable, printable, token_iter, tokenize};
+pub use mad_format::{Fitter, wrap_text};
 pub use mad_json::{ScrollBarStyleDef, SkinError, skin_from_value, skin_to_value};
 pub use mad_layout::{CodeBlock, DisplayableLine, FmtComposite, FmtInline, FmtLine, FmtTableRow, FmtTableRule, FmtText, MadSkin, RelativePosition, RowSkin, Table, composite_kind_widths, draw_text, find_blocks, fix_all_tables, inline, justify_blocks, lay_row, print_inline, print_text, term_text, text};
 pub use mad_list::{CellExtract, ListView, ListViewCell, ListViewColumn, RowFilter, RowOrder};

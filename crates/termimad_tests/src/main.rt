@@ -5,7 +5,8 @@
 //!
 //! 1. `asked`: what a call asks for; `skins`: skins and their values; `refusal`: why a call has no answer.
 //! 2. `screens`: pictures of areas and views; `mad_views`: Markdown views; `moves`: what views answer to scrolls and keys; `texts` and
-//!    `lines`: what is written of texts and of single lines; `runs`: runs of the program.
+//!    `lines`: what is written of texts and of single lines; `runs`: runs of the program;
+//!    `untrusted`: texts that others wrote.
 #![tactic(auto)]
 
 mod asked;
@@ -17,6 +18,7 @@ mod runs;
 mod screens;
 mod skins;
 mod texts;
+mod untrusted;
 
 use asked::{Asked, numbers_of};
 use refusal::Refusal;
@@ -57,6 +59,8 @@ fn answer_of(alloc: Global, call: &str, text: &str) -> Result<String, Refusal> {
         "two_views" => mad_views::two_pictured(alloc, words, text),
         "two_views_written" => mad_views::two_written(alloc, words, text),
         "two_views_cut" => mad_views::two_cut(alloc, words, text),
+        "untrusted" => untrusted::answer(alloc, words, text, false),
+        "printable" => untrusted::answer(alloc, words, text, true),
         "run_in_twenty_bytes" => Ok(runs::run(alloc, 20, words, text)?),
         _ => answer_in_skin(alloc, name, words, text),
     }
