@@ -24,7 +24,8 @@ fn main(rt: HostRuntime) -> Result<(), Error> {
         apply(alloc, &mut form, step)?;
         let screen = screen_of(alloc, &form)?;
         let looks = screen.looks()?;
-        println!(rt; "{step.caption}\n{screen}{looks}")?;
+        let caption = step.caption;
+        println!(rt; "{caption}\n{screen}{looks}")?;
     }
     let (name, password) = form.texts()?;
     println!(rt; "name {name}, password {password}")?;
