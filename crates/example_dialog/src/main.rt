@@ -15,7 +15,8 @@ use termimad::{
 // More bytes than the page and the dialog take.
 const ROOM: usize = 4000;
 
-const PAGE: &str = "# Archive\nEach report of the year is kept, with its pictures and its tables. Reports of the years before are \
+const PAGE: &str =
+    "# Archive\nEach report of the year is kept, with its pictures and its tables. Reports of the years before are \
     packed: they are unpacked on the way to the screen, which may take a while.\n* 2024: 52 reports\n* 2025: 49 reports\n* 2026: 31 reports";
 
 const WHAT: &str = "Of **30** pages of *report 31* these are read:";

@@ -11,11 +11,7 @@ pub fn ample(alloc: Global) -> Result<CutOut, AllocError> {
 }
 
 /// What a device took, after what the call was refused by.
-pub fn told(
-    alloc: Global,
-    drawn: Result<(), Error>,
-    out: &CutOut,
-) -> Result<String, AllocError> {
+pub fn told(alloc: Global, drawn: Result<(), Error>, out: &CutOut) -> Result<String, AllocError> {
     let taken = String::from_utf8_lossy(alloc, out.taken())?;
     let taken = shortened(alloc, &taken)?;
     match drawn {

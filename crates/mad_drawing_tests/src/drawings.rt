@@ -114,12 +114,7 @@ fn alignment(words: &str) -> Alignment {
 }
 
 // A text in a place of some columns, counted as some columns if there is a second number.
-fn write_spaced(
-    alloc: Global,
-    out: &mut CutOut,
-    words: &Words,
-    text: &str,
-) -> Result<(), Error> {
+fn write_spaced(alloc: Global, out: &mut CutOut, words: &Words, text: &str) -> Result<(), Error> {
     let (width, counted) = words.numbers.split_first().unwrap_or((&0, &[]));
     let spacing = Spacing {
         width: *width,

@@ -1,7 +1,7 @@
 //! What a screen shows of a drawing.
 
-use crate::drawings::draw;
 use crate::devices::ample;
+use crate::drawings::draw;
 use mad_screen::{NotPlain, Screen};
 use mad_term::{Error, push_move};
 use std::alloc::{AllocError, Global};
