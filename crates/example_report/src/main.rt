@@ -30,7 +30,7 @@ const DISKS: [Disk; 5] = [
     Disk {
         name: "|-|",
         holds: "a name like a rule's",
-        used_percent: 100,
+        used_percent: 64,
     },
     Disk {
         name: "/\u{1b}[2Jx",
@@ -63,6 +63,7 @@ fn main(rt: HostRuntime) -> Result<(), Error> {
 }
 
 // The texts of a disk's row.
+#[derive(Drop)]
 struct Cells {
     name: CowStr<'static, Global>,
     holds: CowStr<'static, Global>,
