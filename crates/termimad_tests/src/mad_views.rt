@@ -48,15 +48,16 @@ pub fn two_written(alloc: Global, words: &str, text: &str) -> Result<String, Ref
 pub fn two_cut(alloc: Global, words: &str, text: &str) -> Result<String, Refusal> {
     let views = two_views(alloc, words, text)?;
     let whole = drawn(alloc, &views)?;
-    for (room, _) in whole.taken().iter().enumerate() {
+    let whole = whole.taken();
+    for room in 0..whole.len() {
         let mut out = CutOut::new(alloc, 1, room, false)?;
         match draw_views(alloc, &mut out, &views) {
-            Err(Error::IO(_)) if whole.taken().starts_with(out.taken()) => {}
+            Err(Error::IO(_)) if out.taken() == &whole[..room] => {}
             Err(Error::Memory) => return Err(Refusal::Memory),
             _ => return Ok(format!(in alloc; "not cut at byte {room}")?),
         }
     }
-    Ok(format!(in alloc; "cut at each of {} bytes", whole.taken().len())?)
+    Ok(format!(in alloc; "cut at each of {} bytes", whole.len())?)
 }
 
 fn drawn(alloc: Global, views: &[MadView]) -> Result<CutOut, Refusal>
