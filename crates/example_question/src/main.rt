@@ -12,7 +12,7 @@ fn main(rt: HostRuntime) -> Result<(), AskError> {
     question.add_answer(alloc, "n", "none")?;
     question.set_default(alloc, "d")?;
     let skin = MadSkin::no_style();
-    let mut reader = Stream::new(io::reader(&rt));
+    let mut reader = Stream::new(rt.reader());
     let mut writer = Stream::new(io::writer(&rt));
     let answer = question.ask(alloc, &skin, Some(40), &mut reader, &mut writer)?;
     println!(rt; "The answer is {answer}.")?;
