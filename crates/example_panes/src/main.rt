@@ -22,7 +22,8 @@ const ROOM: usize = 3000;
 
 const STOPS: &str = "# Stops\n* Albury\n* **Benalla**\n* Chiltern";
 
-const STOP: &str = "# Benalla\nThe train waits here for the one from the south. *Ten minutes* are enough for a coffee, \
+const STOP: &str =
+    "# Benalla\nThe train waits here for the one from the south. *Ten minutes* are enough for a coffee, \
     and for a look at the mural on the silo.\n> Platform 2\n\n* toilets\n* water\n* bicycles";
 
 const TRAINS: &str = "|train|from|\n|-|-|\n|08:10|south|\n|08:20|north|\n|10:10|south|";
