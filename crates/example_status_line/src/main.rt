@@ -4,7 +4,7 @@
 use std::io;
 use termimad::{Alignment, Composite, Error, MadSkin, Out, Stream, put_all};
 
-const STATUS: &str = "**saved** `/data/ada/letters/to_charles_babbage.md`, line 12 of 340";
+const STATUS: &str = "**saved** `letters/london/to_charles_babbage.md`, line 12 of 340";
 
 fn main(rt: HostRuntime) -> Result<(), Error> {
     let alloc = rt.alloc();

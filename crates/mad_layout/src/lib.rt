@@ -15,10 +15,10 @@
 
 pub mod displayable_line;
 pub mod drawing;
+mod filled_writing;
 pub mod fmt_inline;
 pub mod fmt_text;
 pub mod laws;
-mod filled_writing;
 mod made_skins;
 mod parts_writing;
 pub mod skin;

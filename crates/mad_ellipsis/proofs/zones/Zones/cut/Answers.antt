@@ -1,4 +1,4 @@
-use Rattle.std.proofs.Common.{◌≡◌, ◌+◌, sym, ◌∙◌, arith, subst, refl}
+use Rattle.std.proofs.Common.{◌+◌, sym, ◌∙◌, arith, subst, refl}
 use Rattle.std.specs.Str.{IsCharBoundary}
 use Rattle.mad_md.specs.declared.compound.Compound.{Compound}
 use Rattle.mad_ellipsis.specs.Cuts.{IsPart}
