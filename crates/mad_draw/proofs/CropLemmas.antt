@@ -18,7 +18,7 @@ use Rattle.mad_term.proofs.Traces.{took_none}
 use Rattle.mad_fit.specs.RunningWidths.{columns_on, columns_back, forward, backward, running_width, StaysWithin, IsLongestFront, tabs_replaced}
 use Rattle.mad_fit.specs.TextColumns.{columns}
 use Rattle.mad_fit.proofs.StrFitLemmas.{backward-append}
-use Rattle.mad_draw.specs.Crops.{Given, Text, Char, Counted, Filled, Crop, nothing, some, filled, IsKept, unless_full, written_bytes, left_after, Crops, IsMeasured, written_chars, AreKept, KeepsTheLimit}
+use Rattle.mad_draw.specs.Crops.{Given, Text, Char, Counted, Filled, Crop, nothing, some, filled, IsKept, unless_full, left_after, Crops, IsMeasured, written_chars, AreKept, KeepsTheLimit}
 
 -- ---- the calls
 
