@@ -11,16 +11,17 @@ use std::io;
 const ROOM: usize = 2_000;
 
 // What is asked: a default, `-` for none; whether the input ends in a fault; the input.
-struct Asked<'a> {
+#[derive(Clone, Copy)]
+struct Asking<'a> {
     default_answer: &'a str,
     fails: bool,
     input: &'a str,
 }
 
-fn asked_of(words: &str) -> Asked<'_> {
+fn asking_of(words: &str) -> Asking<'_> {
     let (default_answer, words) = words.split_once(' ').unwrap_or((words, ""));
     let (end, input) = words.split_once(' ').unwrap_or((words, ""));
-    Asked {
+    Asking {
         default_answer,
         fails: end == "fails",
         input,
@@ -30,10 +31,10 @@ fn asked_of(words: &str) -> Asked<'_> {
 /// What a question writes, its answer or refusal, and how many bytes of its input are left. The words are the default or `-`, `ends` or
 /// `fails` as the input does, and the input, in which `⏎` is a newline and `ÿ` a byte that is no UTF-8.
 pub fn asked(alloc: Global, words: &str) -> Result<String, AllocError> {
-    let asked = asked_of(words);
-    let input = input_of(alloc, asked.input)?;
-    let question = question(alloc, asked.default_answer)?;
-    let mut reader = ScriptSource::new(input.as_slice(), asked.fails);
+    let asking = asking_of(words);
+    let input = input_of(alloc, asking.input)?;
+    let question = question(alloc, asking.default_answer)?;
+    let mut reader = ScriptSource::new(input.as_slice(), asking.fails);
     let mut out = CutOut::new(alloc, ROOM, ROOM, false)?;
     let answer = question.ask(alloc, &MadSkin::no_style(), Some(20), &mut reader, &mut out);
     let mut told = String::new(alloc);
@@ -80,15 +81,15 @@ fn push_char(bytes: &mut Vec<u8>, c: char) -> Result<(), AllocError> {
 
 /// How many devices that fail, one at each byte of what the question writes, took a beginning of it and led to their fault.
 pub fn cut(alloc: Global, words: &str) -> Result<String, Refusal> {
-    let asked = asked_of(words);
-    let input = input_of(alloc, asked.input)?;
-    let question = question(alloc, asked.default_answer)?;
+    let asking = asking_of(words);
+    let input = input_of(alloc, asking.input)?;
+    let question = question(alloc, asking.default_answer)?;
     let mut whole = CutOut::new(alloc, ROOM, ROOM, false)?;
-    let mut reader = ScriptSource::new(input.as_slice(), asked.fails);
+    let mut reader = ScriptSource::new(input.as_slice(), asking.fails);
     let _answer = question.ask(alloc, &MadSkin::no_style(), Some(20), &mut reader, &mut whole);
     let mut count = 0;
     for room in 0..whole.taken().len() {
-        let mut reader = ScriptSource::new(input.as_slice(), asked.fails);
+        let mut reader = ScriptSource::new(input.as_slice(), asking.fails);
         let mut out = CutOut::new(alloc, ROOM, room, false)?;
         let answer = question.ask(alloc, &MadSkin::no_style(), Some(20), &mut reader, &mut out);
         let failed = matches!(answer, Err(AskError::IO(_)));
