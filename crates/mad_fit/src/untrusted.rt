@@ -2,6 +2,7 @@
 
 ghost use Rattle.std.specs.Prelude.{◌≡◌, ◌≤◌, ◌↔◌, ◌++◌, false, true, length, chars, string_bytes, encode_utf8_all, IfOk, OnOk, OnErr, IsTrue};
 ghost use Rattle.std.specs.Cow.{cow_str_bytes, IsOwnedStr};
+ghost use Rattle.mad_fit.specs.KeptForms.{TextsArePrintableByLines, LinesKeepTheirForm, TabsInFrontStayCode};
 ghost use Rattle.mad_fit.specs.Printable.{is_printable_char, are_printable, picture, tab_spaces, return_shown, shown_as, shown_from, printable_text, IsPrintableFront};
 
 use crate::str_fit::TAB_REPLACEMENT;
@@ -134,3 +135,11 @@ fn picture(c: char) -> char
         _ => char::REPLACEMENT_CHARACTER,
     }
 }
+
+/// What a line is stays what it is: a text becomes printable line by line, and each line outside code blocks keeps its form. A tab in
+/// front is code either way, and a carriage return at a line's end goes either way.
+pub fn printable_lines_keep_their_form()
+    ensures lines { TextsArePrintableByLines }
+    ensures form { LinesKeepTheirForm }
+    ensures tab { TabsInFrontStayCode }
+{}
