@@ -17,6 +17,9 @@ pub mod tables;
 
 pub use composites::{FreeComposite, PlacedComposite};
 pub use lines::{PlacedLine, PlacedLines, PlacedRow};
-pub use row_skin::{HeaderStyles, OrderedItemStyles, RowSkin, item_style_at, style_of_kind};
+pub use row_skin::{
+    FlagStyles, HeaderStyles, OrderedItemStyles, RowSkin, item_style_at, style_of_compound,
+    style_of_kind,
+};
 pub use row_writing::{TextRows, append_line, append_lines};
 pub use rows::{RowPlace, composite_blanks, know_row, line_blanks, row_blanks};
