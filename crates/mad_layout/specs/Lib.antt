@@ -7,6 +7,7 @@ pub mod Headline
 pub mod InArea
 pub mod Inlines
 pub mod ItemCells
+pub mod LaidOutTexts
 pub mod LineTexts
 pub mod MadeSkins
 pub mod Premises
