@@ -1,7 +1,6 @@
 //! Drawing a layout's rows in an area of the screen.
 
-ghost use Rattle.std.specs.Prelude.{◌≡◌, OnOk, drop, slice_get};
-ghost use Rattle.std.specs.Option.{option_copied};
+ghost use Rattle.std.specs.Prelude.{◌≡◌, OnOk, drop};
 ghost use Rattle.mad_term.specs.Draws.{Draws};
 ghost use Rattle.mad_fit.specs.Areas.{IsWithinLimits};
 ghost use Rattle.mad_layout.specs.ShownLayouts.{ShowsDrawable, ShowsLayout, ShowsRowsFrom};
@@ -12,9 +11,9 @@ use crate::fmt_text::FmtText;
 use mad_draw::{Rows, RowsBeside, ScrollBar, columns_beside, draw_rows};
 use mad_fit::Area;
 use mad_format::FmtLine;
-use mad_rows::{PlacedRow, RowSkin, know_row, row_blanks};
+use mad_rows::TextRows;
 use mad_term::{Error, Out};
-use std::alloc::{AllocError, Global};
+use std::alloc::Global;
 
 /// Draws the rows of a text in an area, that of the line `scroll`, counted from 0, first. Past the last line there are spaces in the
 /// paragraph's style. Where `bar` is set, and the text has more lines than the area has rows, the skin's scroll bar is in the area's last
@@ -76,39 +75,4 @@ fn lines_from<'a, 's>(lines: &'a [FmtLine<'s>], scroll: usize) -> &'a [FmtLine<'
     ensures { result.now ≡ drop scroll lines.entry.now }
 {
     &lines[scroll.min(lines.len())..]
-}
-
-// The rows of lines in a place of `width` columns.
-#[derive(Clone, Copy)]
-struct TextRows<'a, 's> {
-    skin: &'a RowSkin,
-    lines: &'a [FmtLine<'s>],
-    width: usize,
-}
-
-impl Rows for TextRows<'_, '_> {
-    ghost use Rattle.mad_rows.specs.Rows.{row_pieces};
-
-    ghost pieces = { λ rows y. row_pieces rows.skin.now rows.width (slice_get rows.lines.now y) };
-
-    fn push_row(&self, bytes: &mut String, y: u16) -> Result<(), AllocError> {
-        let line = line_at(self.lines, y);
-        // Nothing is done: this only says that the colors of the row are known.
-        know_row(self.skin, line, self.width);
-        // Blanks that no memory has room for are refused before anything is written of the row.
-        bytes.reserve(row_blanks(self.skin, line, self.width))?;
-        let shown = PlacedRow {
-            skin: self.skin,
-            line,
-            width: self.width,
-        };
-        write!(bytes, "{shown}")
-    }
-}
-
-// The line of this number, if there is one.
-fn line_at<'a, 's>(lines: &'a [FmtLine<'s>], y: u16) -> Option<&'a FmtLine<'s>>
-    ensures { option_copied result ≡ slice_get lines.entry.now y }
-{
-    lines.get(usize::from(y))
 }

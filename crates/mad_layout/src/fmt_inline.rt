@@ -1,8 +1,8 @@
 //! Inline texts: one line, without a width.
 
-ghost use Rattle.std.specs.Prelude.{◌≡◌, IfOk, Some};
+ghost use Rattle.std.specs.Prelude.{IfOk, Some};
 ghost use Rattle.mad_draw.specs.Pieces.{pieces_bytes};
-ghost use Rattle.mad_layout.specs.Inlines.{IsInlineOf, IsDisplayedAsWritten};
+ghost use Rattle.mad_layout.specs.LaidOutTexts.{IsInlineRead};
 ghost use Rattle.mad_layout.specs.RowSkins.{row_skin};
 
 use crate::skin::MadSkin;
@@ -39,11 +39,7 @@ impl MadSkin {
         alloc: Global,
         src: &'s str,
     ) -> Result<FmtInline<'k, 's>, AllocError>
-        ensures skin { IfOk result (λ inline. inline.skin.now ≡ self.now) }
-        ensures composite { IfOk result (λ inline. IsInlineOf (row_skin self.now) src.now inline.composite) }
-
-        // It is displayed by the bytes that are written of it.
-        ensures displayed { IfOk result (λ inline. IsDisplayedAsWritten (row_skin self.now) src.now inline.composite) }
+        ensures { IfOk result (IsInlineRead self.now src.now) }
     {
         let composite = Composite::from_inline(alloc, src)?;
         Ok(FmtInline {
@@ -59,9 +55,7 @@ pub fn inline<'k, 's>(
     skin: &'k MadSkin,
     src: &'s str,
 ) -> Result<FmtInline<'k, 's>, AllocError>
-    ensures skin { IfOk result (λ inline. inline.skin.now ≡ skin.now) }
-    ensures composite { IfOk result (λ inline. IsInlineOf (row_skin skin.now) src.now inline.composite) }
-    ensures displayed { IfOk result (λ inline. IsDisplayedAsWritten (row_skin skin.now) src.now inline.composite) }
+    ensures { IfOk result (IsInlineRead skin.now src.now) }
 {
     skin.inline(alloc, src)
 }

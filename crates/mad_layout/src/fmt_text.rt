@@ -4,11 +4,9 @@ ghost use Rattle.std.specs.Prelude.{◌≡◌, ◌-◌, None, IfOk, Some};
 ghost use Rattle.mad_md.specs.Lines.{contents};
 ghost use Rattle.mad_md.specs.ReadRaw.{IsReadRaw};
 ghost use Rattle.mad_md.specs.declared.text.Text.{Text};
-ghost use Rattle.mad_blocks.specs.FittingLayouts.{IsFittingLayoutAt, IsFittingMarkdownLayout};
-ghost use Rattle.mad_rows.specs.RowStyles.{line_rules};
-ghost use Rattle.mad_layout.specs.InArea.{IsAreaFront};
-ghost use Rattle.mad_blocks.specs.Layouts.{IsLayoutAt, IsMarkdownLayout};
 ghost use Rattle.mad_format.specs.FmtLines.{widest_line};
+ghost use Rattle.mad_layout.specs.InArea.{IsAreaFront};
+ghost use Rattle.mad_layout.specs.LaidOutTexts.{IsMarkdownLaidOut, IsTextLaidOut};
 ghost use Rattle.mad_layout.specs.RowSkins.{row_skin};
 
 use crate::skin::MadSkin;
@@ -41,12 +39,7 @@ impl<'k, 's> FmtText<'k, 's> {
         src: &'s str,
         width: Option<usize>,
     ) -> Result<Self, AllocError>
-        ensures skin { IfOk result (λ laid_out. laid_out.skin.now ≡ skin.now) }
-        ensures width { IfOk result (λ laid_out. laid_out.width ≡ width) }
-        ensures lines { IfOk result (λ laid_out. (text : Text) × IsReadRaw src.now text × IsLayoutAt (line_rules (row_skin skin.now)) width (contents text) laid_out.lines.items) }
-
-        // So from three columns on the lines are a fitting layout, the premise of what `draw_text` shows (`shown_layout`).
-        ensures fitting { IfOk result (λ laid_out. (text : Text) × IsReadRaw src.now text × IsFittingLayoutAt (line_rules (row_skin skin.now)) width (contents text) laid_out.lines.items) }
+        ensures { IfOk result (λ laid_out. (text : Text) × IsReadRaw src.now text × IsTextLaidOut skin.now width (contents text) laid_out) }
     {
         let text = Text::raw_str(alloc, src)?;
         Self::from_text(alloc, skin, text, width)
@@ -61,12 +54,7 @@ impl<'k, 's> FmtText<'k, 's> {
         src: &'s str,
         width: Option<usize>,
     ) -> Result<Self, AllocError>
-        ensures skin { IfOk result (λ laid_out. laid_out.skin.now ≡ skin.now) }
-        ensures width { IfOk result (λ laid_out. laid_out.width ≡ width) }
-        ensures lines { IfOk result (λ laid_out. IsMarkdownLayout (line_rules (row_skin skin.now)) width src.now laid_out.lines.items) }
-
-        // So from three columns on the lines are a fitting layout, the premise of what `draw_text` shows (`shown_layout`).
-        ensures fitting { IfOk result (λ laid_out. IsFittingMarkdownLayout (line_rules (row_skin skin.now)) width src.now laid_out.lines.items) }
+        ensures { IfOk result (IsMarkdownLaidOut skin.now width src.now) }
     {
         let lines = lay_source(alloc, skin, src, width)?;
         Ok(FmtText { skin, lines, width })
@@ -81,12 +69,7 @@ impl<'k, 's> FmtText<'k, 's> {
         text: Text<'s>,
         width: Option<usize>,
     ) -> Result<Self, AllocError>
-        ensures skin { IfOk result (λ laid_out. laid_out.skin.now ≡ skin.now) }
-        ensures width { IfOk result (λ laid_out. laid_out.width ≡ width) }
-        ensures lines { IfOk result (λ laid_out. IsLayoutAt (line_rules (row_skin skin.now)) width (contents text.entry) laid_out.lines.items) }
-
-        // So from three columns on the lines are a fitting layout, the premise of what `draw_text` shows (`shown_layout`).
-        ensures fitting { IfOk result (λ laid_out. IsFittingLayoutAt (line_rules (row_skin skin.now)) width (contents text.entry) laid_out.lines.items) }
+        ensures { IfOk result (IsTextLaidOut skin.now width (contents text.entry)) }
     {
         let lines = lay_text(alloc, skin, text, width)?;
         Ok(FmtText { skin, lines, width })
@@ -134,10 +117,7 @@ impl MadSkin {
         markdown: &'s str,
         area: &Area,
     ) -> Result<FmtText<'k, 's>, AllocError>
-        ensures skin { IfOk result (λ text. text.skin.now ≡ self.now) }
-        ensures width { IfOk result (λ text. text.width ≡ Some (area.now.width - 1)) }
-        ensures lines { IfOk result (λ text. IsMarkdownLayout (line_rules (row_skin self.now)) (Some (area.now.width - 1)) markdown.now text.lines.items) }
-        ensures fitting { IfOk result (λ laid_out. IsFittingMarkdownLayout (line_rules (row_skin self.now)) (Some (area.now.width - 1)) markdown.now laid_out.lines.items) }
+        ensures { IfOk result (IsMarkdownLaidOut self.now (Some (area.now.width - 1)) markdown.now) }
     {
         let width = (area.width as usize).saturating_sub(1);
         FmtText::from(alloc, self, markdown, Some(width))
@@ -172,10 +152,7 @@ impl MadSkin {
         markdown: &'s str,
         width: Option<usize>,
     ) -> Result<FmtText<'k, 's>, AllocError>
-        ensures skin { IfOk result (λ text. text.skin.now ≡ self.now) }
-        ensures width { IfOk result (λ text. text.width ≡ width) }
-        ensures lines { IfOk result (λ text. IsMarkdownLayout (line_rules (row_skin self.now)) width markdown.now text.lines.items) }
-        ensures fitting { IfOk result (λ laid_out. IsFittingMarkdownLayout (line_rules (row_skin self.now)) width markdown.now laid_out.lines.items) }
+        ensures { IfOk result (IsMarkdownLaidOut self.now width markdown.now) }
     {
         FmtText::from(alloc, self, markdown, width)
     }
@@ -187,10 +164,7 @@ impl MadSkin {
         markdown: &'s str,
         width: usize,
     ) -> Result<FmtText<'k, 's>, AllocError>
-        ensures skin { IfOk result (λ text. text.skin.now ≡ self.now) }
-        ensures width { IfOk result (λ text. text.width ≡ Some width) }
-        ensures lines { IfOk result (λ text. IsMarkdownLayout (line_rules (row_skin self.now)) (Some width) markdown.now text.lines.items) }
-        ensures fitting { IfOk result (λ laid_out. IsFittingMarkdownLayout (line_rules (row_skin self.now)) (Some width) markdown.now laid_out.lines.items) }
+        ensures { IfOk result (IsMarkdownLaidOut self.now (Some width) markdown.now) }
     {
         FmtText::from(alloc, self, markdown, Some(width))
     }
@@ -202,10 +176,7 @@ pub fn text<'k, 's>(
     skin: &'k MadSkin,
     markdown: &'s str,
 ) -> Result<FmtText<'k, 's>, AllocError>
-    ensures skin { IfOk result (λ text. text.skin.now ≡ skin.now) }
-    ensures width { IfOk result (λ text. text.width ≡ None) }
-    ensures lines { IfOk result (λ text. IsMarkdownLayout (line_rules (row_skin skin.now)) None markdown.now text.lines.items) }
-    ensures fitting { IfOk result (λ laid_out. IsFittingMarkdownLayout (line_rules (row_skin skin.now)) None markdown.now laid_out.lines.items) }
+    ensures { IfOk result (IsMarkdownLaidOut skin.now None markdown.now) }
 {
     skin.text(alloc, markdown, None)
 }
@@ -217,10 +188,7 @@ pub fn term_text<'k, 's>(
     markdown: &'s str,
     width: usize,
 ) -> Result<FmtText<'k, 's>, AllocError>
-    ensures skin { IfOk result (λ text. text.skin.now ≡ skin.now) }
-    ensures width { IfOk result (λ text. text.width ≡ Some width) }
-    ensures lines { IfOk result (λ text. IsMarkdownLayout (line_rules (row_skin skin.now)) (Some width) markdown.now text.lines.items) }
-    ensures fitting { IfOk result (λ laid_out. IsFittingMarkdownLayout (line_rules (row_skin skin.now)) (Some width) markdown.now laid_out.lines.items) }
+    ensures { IfOk result (IsMarkdownLaidOut skin.now (Some width) markdown.now) }
 {
     skin.term_text(alloc, markdown, width)
 }

@@ -116,7 +116,8 @@ fn hand_on_unmarked<O: Out>(
 ) -> Result<(), Error>
     ensures dropped { OnOk result (lines.new.items ≡ []) }
     ensures shorter { OnOk result (length (lines_left parts.new) ≤ length (lines_left parts.old)) }
-    ensures handed { HandsOnUnmarked skin.now width (lines_left parts.old) (string_bytes rows.old ++ text_bytes skin.now width lines.old.items) (O.seen out.old) result (O.seen out.new) (string_bytes rows.new) (lines_left parts.new) }
+    ensures handed { let bytes = string_bytes rows.old ++ text_bytes skin.now width lines.old.items in
+        HandsOnUnmarked skin.now width (lines_left parts.old) bytes (O.seen out.old) result (O.seen out.new) (string_bytes rows.new) (lines_left parts.new) }
 {
     hand_on(out, rows, lines, width, skin)?;
     let Some(most) = unmarked_width(width, skin) else {

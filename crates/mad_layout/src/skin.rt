@@ -9,7 +9,9 @@ ghost use Rattle.mad_layout.specs.SkinParts.{header_line, first_header_line, def
 use mad_format::{LineSkin, composite_columns};
 use mad_md::{Alignment, Compound, MAX_HEADER_DEPTH};
 pub use mad_rows::OrderedItemStyles;
-use mad_rows::{HeaderStyles, RowSkin, item_style_at, style_of_kind};
+use mad_rows::{
+    FlagStyles, HeaderStyles, RowSkin, item_style_at, style_of_compound, style_of_kind,
+};
 use mad_style::{
     CompositeKind, CompoundStyle, LineStyle, ListItemsIndentationMode, MAX_ORDERED_LIST_DEPTH,
     OrderedItemStyle, STANDARD_TABLE_BORDER_CHARS, ScrollBarStyle, StyledChar, TableBorderChars,
@@ -186,11 +188,17 @@ impl MadSkin {
         item_style_at(&self.ordered_item_styles, level)
     }
 
-    /// The style of a compound in a line of that style, as [`RowSkin::compound_style`] makes it.
+    /// The style of a compound in a line of that style, which [`style_of_compound`] makes.
     pub fn compound_style(&self, line_style: &LineStyle, compound: &Compound) -> CompoundStyle
         ensures { result ≡ compound_style (row_skin self.now) line_style.now (run_of compound.now) }
     {
-        self.row_skin().compound_style(line_style, compound)
+        let added = FlagStyles {
+            italic: &self.italic,
+            strikeout: &self.strikeout,
+            bold: &self.bold,
+            code: &self.inline_code,
+        };
+        style_of_compound(line_style, added, &self.ellipsis, compound)
     }
 
     /// What rows show of the skin: all but its scroll bar.

@@ -2,10 +2,11 @@
 
 ghost use Rattle.std.specs.Prelude.{◌≡◌, IsErrOf};
 ghost use Rattle.mad_draw.specs.Pieces.{pieces_bytes};
+ghost use Rattle.mad_format.specs.declared.line.FmtLine.TheVariants.{Normal};
 ghost use Rattle.mad_term.specs.Draws.{Draws, AndFlushes};
 ghost use Rattle.mad_term.specs.declared.errors.Error.TheVariants.{Memory};
 ghost use Rattle.mad_layout.specs.Texts.{WritesMarkdown};
-ghost use Rattle.mad_rows.specs.Rows.{composite_pieces, line_pieces, margins_of, text_bytes};
+ghost use Rattle.mad_rows.specs.Rows.{line_pieces, text_bytes};
 ghost use Rattle.mad_layout.specs.RowSkins.{row_skin};
 
 use crate::fmt_text::FmtText;
@@ -30,7 +31,7 @@ impl MadSkin {
         width: Option<usize>,
         with_right_completion: bool,
     ) -> Result<(), Error>
-        ensures writes { Draws (O.seen out.old) (pieces_bytes (composite_pieces (row_skin self.now) width (margins_of (row_skin self.now) width composite.now) with_right_completion composite.now)) result (O.seen out.new) }
+        ensures writes { Draws (O.seen out.old) (pieces_bytes (line_pieces (row_skin self.now) width with_right_completion (Normal composite.now))) result (O.seen out.new) }
         ensures early { IsErrOf result Memory → O.seen out.new ≡ O.seen out.old }
     {
         let skin = &self.row_skin();

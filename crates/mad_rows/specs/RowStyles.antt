@@ -42,12 +42,16 @@ ellipsis_bytes = 226 ∷ 128 ∷ 166 ∷ []
 abbrev pub overwritten_if : Bool → CompoundStyle → CompoundStyle → CompoundStyle
 overwritten_if flag other style = if flag then overwritten style other else style
 
--- The style of a compound: the ellipsis has its own; else its line's, overwritten with those of its flags, italic first,
--- then strikeout, bold and code.
+-- The style of a compound in a line of this style: the ellipsis has its own; else the line's, overwritten with those of the compound's flags,
+-- italic first, then strikeout, bold and code.
+abbrev pub style_of_compound : CompoundStyle → CompoundStyle → CompoundStyle → CompoundStyle → CompoundStyle → LineStyle → Run → CompoundStyle
+style_of_compound ellipsis italic strikeout bold code style p =
+    if bytes_eq p.text ellipsis_bytes then ellipsis
+    else overwritten_if p.flags.code code (overwritten_if p.flags.bold bold (overwritten_if p.flags.strikeout strikeout (overwritten_if p.flags.italic italic style.compound_style)))
+
+-- so it is in a skin
 abbrev pub compound_style : RowSkin → LineStyle → Run → CompoundStyle
-compound_style skin style p =
-    if bytes_eq p.text ellipsis_bytes then skin.ellipsis
-    else overwritten_if p.flags.code skin.inline_code (overwritten_if p.flags.bold skin.bold (overwritten_if p.flags.strikeout skin.strikeout (overwritten_if p.flags.italic skin.italic style.compound_style)))
+compound_style skin = style_of_compound skin.ellipsis skin.italic skin.strikeout skin.bold skin.inline_code
 
 -- the numbers of a line's colors, and of an item's, are bytes, as those of every style are that a program has
 abbrev pub IsKnownLine : LineStyle → Type 0

@@ -100,6 +100,12 @@ outer_blanks align outer margins l = (
   right_of_place align (inner_columns l + margins.0 + margins.1) outer + margins.1,
 )
 
+-- the blank columns left and right of a line's own place; those on its right only where the row is filled up
+abbrev pub blanks_beside : Alignment → Option ℕ → ℕ × ℕ → Bool → FmtComposite → ℕ × ℕ
+blanks_beside align outer margins filled l =
+    let blanks = outer_blanks align outer margins l in
+    (blanks.0, if filled then blanks.1 else 0)
+
 -- the margins of a line: those of its layout, else those of its style at the outer width
 abbrev pub margins_of : RowSkin → Option ℕ → FmtComposite → ℕ × ℕ
 margins_of skin outer l = unwrap_or l.margins (margins_at (line_style skin l.kind) outer)
@@ -184,8 +190,8 @@ cell_blanks l = (inner_blanks l).0 + (inner_blanks l).1
 -- those of a composite, in its own place and beside it; those right of the place only where the row is filled up
 abbrev pub composite_blanks : RowSkin → Option ℕ → ℕ × ℕ → Bool → FmtComposite → ℕ
 composite_blanks skin outer margins filled l =
-    let blanks = outer_blanks (line_style skin l.kind).align outer margins l in
-    cell_blanks l + (blanks.0 + (if filled then blanks.1 else 0))
+    let blanks = blanks_beside (line_style skin l.kind).align outer margins filled l in
+    cell_blanks l + (blanks.0 + blanks.1)
 
 -- those left and right of a line of a table that takes `columns`; those right of it only where the row is filled up
 abbrev pub table_blanks : RowSkin → Option ℕ → Bool → ℕ → ℕ × ℕ

@@ -6,7 +6,7 @@ ghost use Rattle.mad_rows.specs.Rows.{prefix_pieces};
 ghost use Rattle.mad_wrap.specs.WrapLines.{capped};
 
 use crate::row_skin::{RowSkin, is_bare};
-use crate::rows::{RowPlace, inner_blanks, margins_of, outer_blanks};
+use crate::rows::{RowPlace, blanks_beside, inner_blanks, margins_of};
 use mad_draw::{SingleSpaces, Spaces};
 use mad_format::{FmtComposite, indent_of};
 use mad_md::{Composite, Compound};
@@ -209,8 +209,7 @@ pub struct PlacedComposite<'a, 's> {
 }
 
 impl<'a, 's> PlacedComposite<'a, 's> {
-    ghost use Rattle.std.specs.Prelude.{if◌then◌else◌};
-    ghost use Rattle.mad_rows.specs.Rows.{inner_blanks, margins_of, outer_blanks};
+    ghost use Rattle.mad_rows.specs.Rows.{blanks_beside, inner_blanks, margins_of};
 
     /// A composite at an outer width, with its margins there; where `filled` is set, the columns right of it are filled up.
     pub fn at(
@@ -235,15 +234,17 @@ impl<'a, 's> PlacedComposite<'a, 's> {
 
     /// What is in front of its compounds, and what is after them. Its line's style is given.
     pub(crate) fn ends(&self, style: &'a LineStyle) -> (CompositeFront<'a>, CompositeEnd<'a>)
-        ensures front { result.0 ≡ record { skin = self.now.skin; style = style.entry; kind = self.now.composite.now.kind; outer = (outer_blanks style.now.align self.now.place.outer self.now.place.margins self.now.composite.now).0; inner = (inner_blanks self.now.composite.now).0 } }
-        ensures end { result.1 ≡ record { skin = self.now.skin; style = style.entry; inner = (inner_blanks self.now.composite.now).1; outer = if self.now.place.filled then (outer_blanks style.now.align self.now.place.outer self.now.place.margins self.now.composite.now).1 else 0 } }
+        ensures front { let beside = blanks_beside style.now.align self.now.place.outer self.now.place.margins self.now.place.filled self.now.composite.now in
+            result.0 ≡ record { skin = self.now.skin; style = style.entry; kind = self.now.composite.now.kind; outer = beside.0; inner = (inner_blanks self.now.composite.now).0 } }
+        ensures end { let beside = blanks_beside style.now.align self.now.place.outer self.now.place.margins self.now.place.filled self.now.composite.now in
+            result.1 ≡ record { skin = self.now.skin; style = style.entry; inner = (inner_blanks self.now.composite.now).1; outer = beside.1 } }
     {
         let PlacedComposite {
             skin,
             composite,
             place,
         } = *self;
-        let (left, right) = outer_blanks(composite, style.align, place);
+        let (left, right) = blanks_beside(composite, style.align, place);
         let (inner_left, inner_right) = inner_blanks(composite);
         let front = CompositeFront {
             skin,
@@ -256,7 +257,7 @@ impl<'a, 's> PlacedComposite<'a, 's> {
             skin,
             style,
             inner: inner_right,
-            outer: if place.filled { right } else { 0 },
+            outer: right,
         };
         (front, end)
     }

@@ -5,7 +5,7 @@
 //! 1. [`row_skin`]: what rows are drawn in, the part of a skin that they show.
 //! 2. [`rows`]: where a line is in its row, and the columns that no text fills.
 //! 3. [`composites`], [`tables`], [`lines`]: a composite, a line of a table, and any line or row as displayed values.
-//! 4. [`row_writing`]: lines put after a string.
+//! 4. [`row_writing`]: lines and rows put after a string.
 #![tactic(auto)]
 
 pub mod composites;
@@ -17,6 +17,9 @@ pub mod tables;
 
 pub use composites::{FreeComposite, PlacedComposite};
 pub use lines::{PlacedLine, PlacedLines, PlacedRow};
-pub use row_skin::{HeaderStyles, OrderedItemStyles, RowSkin, item_style_at, style_of_kind};
-pub use row_writing::{append_line, append_lines};
+pub use row_skin::{
+    FlagStyles, HeaderStyles, OrderedItemStyles, RowSkin, item_style_at, style_of_compound,
+    style_of_kind,
+};
+pub use row_writing::{TextRows, append_line, append_lines};
 pub use rows::{RowPlace, composite_blanks, know_row, line_blanks, row_blanks};

@@ -2,7 +2,7 @@
 
 ghost use Rattle.std.specs.Prelude.{◌≡◌, IsTrue};
 ghost use Rattle.mad_md.specs.Flagged.{run_of};
-ghost use Rattle.mad_rows.specs.RowStyles.{compound_style, item_style_at, line_style, ordered_item_style, style_of_kind};
+ghost use Rattle.mad_rows.specs.RowStyles.{compound_style, item_style_at, line_style, ordered_item_style, style_of_compound, style_of_kind};
 
 use mad_draw::Spaces;
 use mad_format::LineSkin;
@@ -81,30 +81,17 @@ impl RowSkin {
         }
     }
 
-    /// The style of a compound in a line of that style.
-    ///
-    /// An ellipsis has its own; any other has its line's, overwritten with those of its flags: italic first, then
-    /// strikeout, bold and code.
+    /// The style of a compound in a line of that style, which [`style_of_compound`] makes.
     pub fn compound_style(&self, line_style: &LineStyle, compound: &Compound) -> CompoundStyle
         ensures { result ≡ compound_style self.now line_style.now (run_of compound.now) }
     {
-        if compound.src == ELLIPSIS {
-            return self.ellipsis;
-        }
-        let mut style = line_style.compound_style;
-        if compound.italic {
-            style.overwrite_with(&self.italic);
-        }
-        if compound.strikeout {
-            style.overwrite_with(&self.strikeout);
-        }
-        if compound.bold {
-            style.overwrite_with(&self.bold);
-        }
-        if compound.code {
-            style.overwrite_with(&self.inline_code);
-        }
-        style
+        let added = FlagStyles {
+            italic: &self.italic,
+            strikeout: &self.strikeout,
+            bold: &self.bold,
+            code: &self.inline_code,
+        };
+        style_of_compound(line_style, added, &self.ellipsis, compound)
     }
 }
 
@@ -143,6 +130,50 @@ pub fn item_style_at(styles: &OrderedItemStyles, level: u8) -> &OrderedItemStyle
     ensures { result.now ≡ item_style_at styles.now level }
 {
     &styles[usize::from(level).min(MAX_ORDERED_LIST_DEPTH - 1)]
+}
+
+/// What the flags of a compound add to its line's style.
+#[derive(Clone, Copy)]
+pub struct FlagStyles<'k> {
+    /// Of italic text.
+    pub italic: &'k CompoundStyle,
+    /// Of struck out text.
+    pub strikeout: &'k CompoundStyle,
+    /// Of bold text.
+    pub bold: &'k CompoundStyle,
+    /// Of code.
+    pub code: &'k CompoundStyle,
+}
+
+/// The style of a compound in a line of that style.
+///
+/// An ellipsis has its own; any other has its line's, overwritten with those of its flags: italic first, then
+/// strikeout, bold and code.
+pub fn style_of_compound(
+    line_style: &LineStyle,
+    added: FlagStyles,
+    ellipsis: &CompoundStyle,
+    compound: &Compound,
+) -> CompoundStyle
+    ensures { result ≡ style_of_compound ellipsis.now added.entry.italic.now added.entry.strikeout.now added.entry.bold.now added.entry.code.now line_style.now (run_of compound.now) }
+{
+    if compound.src == ELLIPSIS {
+        return *ellipsis;
+    }
+    let mut style = line_style.compound_style;
+    if compound.italic {
+        style.overwrite_with(added.italic);
+    }
+    if compound.strikeout {
+        style.overwrite_with(added.strikeout);
+    }
+    if compound.bold {
+        style.overwrite_with(added.bold);
+    }
+    if compound.code {
+        style.overwrite_with(added.code);
+    }
+    style
 }
 
 /// Whether a compound looks as its line does: it has no flag, and isn't an ellipsis.

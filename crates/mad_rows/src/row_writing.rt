@@ -1,13 +1,15 @@
-//! Lines as text at the end of a string: the same bytes as their displayed values, with the bare compounds put there at once.
+//! Lines and rows as text at the end of a string: the same bytes as their displayed values. In lines, bare compounds are put there at once.
 
-ghost use Rattle.std.specs.Prelude.{◌≡◌, ◌++◌, false, map, OnOk, string_bytes};
+ghost use Rattle.std.specs.Prelude.{◌≡◌, ◌++◌, false, map, slice_get, OnOk, string_bytes};
+ghost use Rattle.std.specs.Option.{option_copied};
 ghost use Rattle.mad_draw.specs.Pieces.{pieces_bytes};
 ghost use Rattle.mad_rows.specs.Rows.{compound_piece, composite_pieces, line_bytes, margins_of, text_bytes};
 
 use crate::composites::{PlacedComposite, PlacedCompound};
-use crate::lines::PlacedLine;
+use crate::lines::{PlacedLine, PlacedRow};
 use crate::row_skin::{RowSkin, is_bare};
-use crate::rows::line_blanks;
+use crate::rows::{know_row, line_blanks, row_blanks};
+use mad_draw::Rows;
 use mad_format::{FmtComposite, FmtLine};
 use mad_md::Compound;
 use mad_style::LineStyle;
@@ -103,4 +105,42 @@ fn append_compounds(
         write!(rows, "{placed}")?;
     }
     Ok(())
+}
+
+/// The rows of lines in a place: each row shows the line of its number, and past the last line spaces in the paragraph's style.
+#[derive(Clone, Copy)]
+pub struct TextRows<'a, 's> {
+    /// The skin that they are drawn in.
+    pub skin: &'a RowSkin,
+    /// The lines.
+    pub lines: &'a [FmtLine<'s>],
+    /// The columns of each row.
+    pub width: usize,
+}
+
+impl Rows for TextRows<'_, '_> {
+    ghost use Rattle.mad_rows.specs.Rows.{row_pieces};
+
+    ghost pieces = { λ rows y. row_pieces rows.skin.now rows.width (slice_get rows.lines.now y) };
+
+    fn push_row(&self, bytes: &mut String, y: u16) -> Result<(), AllocError> {
+        let line = line_at(self.lines, y);
+        // Nothing is done: this only says that the colors of the row are known.
+        know_row(self.skin, line, self.width);
+        // Blanks that no memory has room for are refused before anything is written of the row.
+        bytes.reserve(row_blanks(self.skin, line, self.width))?;
+        let shown = PlacedRow {
+            skin: self.skin,
+            line,
+            width: self.width,
+        };
+        write!(bytes, "{shown}")
+    }
+}
+
+// The line of this number, if there is one.
+fn line_at<'a, 's>(lines: &'a [FmtLine<'s>], y: u16) -> Option<&'a FmtLine<'s>>
+    ensures { option_copied result ≡ slice_get lines.entry.now y }
+{
+    lines.get(usize::from(y))
 }

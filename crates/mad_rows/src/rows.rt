@@ -4,7 +4,7 @@ ghost use Rattle.std.specs.Prelude.{◌≡◌, ◌<◌, ◌+◌, ◌^◌, ℕ};
 ghost use Rattle.std.specs.Option.{option_copied};
 ghost use Rattle.mad_draw.specs.Pieces.{AreKnown};
 ghost use Rattle.std.specs.List.{AllByRecursion, sum_by};
-ghost use Rattle.mad_rows.specs.Rows.{row_pieces, inner_blanks, inner_columns, outer_blanks, margins_of, row_blanks, line_blanks, composite_blanks, table_blanks, cell_blanks, row_columns, rule_chars};
+ghost use Rattle.mad_rows.specs.Rows.{row_pieces, inner_blanks, inner_columns, outer_blanks, blanks_beside, margins_of, row_blanks, line_blanks, composite_blanks, table_blanks, cell_blanks, row_columns, rule_chars};
 ghost use Rattle.mad_rows.specs.RowStyles.{AreKnownParts, AreKnownStyles, IsKnownItem, IsKnownLine};
 ghost use Rattle.mad_wrap.specs.WrapLines.{capped};
 
@@ -43,8 +43,20 @@ pub(crate) fn inner_columns(composite: &FmtComposite) -> usize
     }
 }
 
-/// The blank columns left and right of a composite's own place at the outer width, with the margins.
-pub(crate) fn outer_blanks(
+/// The blank columns left and right of a composite's own place in a row; those on its right only where the row is filled up.
+pub(crate) fn blanks_beside(
+    composite: &FmtComposite,
+    align: Alignment,
+    place: RowPlace,
+) -> (usize, usize)
+    ensures { result ≡ blanks_beside align place.outer place.margins place.filled composite.now }
+{
+    let (left, right) = outer_blanks(composite, align, place);
+    (left, if place.filled { right } else { 0 })
+}
+
+// The blank columns left and right of a composite's own place at the outer width, with the margins.
+fn outer_blanks(
     composite: &FmtComposite,
     align: Alignment,
     place: RowPlace,
@@ -155,8 +167,7 @@ pub fn composite_blanks(skin: &RowSkin, composite: &FmtComposite, place: RowPlac
     ensures { result ≡ capped (composite_blanks skin.now place.outer place.margins place.filled composite.now) }
 {
     let align = skin.line_style(composite.kind).align;
-    let (left, right) = outer_blanks(composite, align, place);
-    let right = if place.filled { right } else { 0 };
+    let (left, right) = blanks_beside(composite, align, place);
     cell_blanks(composite)
         .saturating_add(left)
         .saturating_add(right)

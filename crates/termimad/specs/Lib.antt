@@ -104,6 +104,7 @@ pub use Rattle.mad_layout.specs.InArea
 pub use Rattle.mad_format.specs.Indents
 pub use Rattle.mad_layout.specs.Inlines
 pub use Rattle.mad_layout.specs.ItemCells
+pub use Rattle.mad_layout.specs.LaidOutTexts
 pub use Rattle.mad_blocks.specs.LayoutLaws
 pub use Rattle.mad_blocks.specs.LayoutExamples
 pub use Rattle.mad_blocks.specs.Layouts
