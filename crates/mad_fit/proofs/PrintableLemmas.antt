@@ -1,17 +1,15 @@
 -- Printable texts, character by character.
-use Rattle.std.proofs.Common.{◌≡◌, ◌≢◌, ◌↔◌, ℕ, ◌+◌, ◌-◌, ◌<◌, ◌≤◌, ◌==◌, ◌||◌, ◌&&◌, not, nat_lt, Bool, true, false, cond, ⊎_elim, List, [], ◌∷◌, ◌++◌, length, take, drop, refl, ap, sym, ◌∙◌, subst, arith, length-append, append_assoc, append-nil}
+use Rattle.std.proofs.Common.{◌≡◌, ◌≢◌, ◌↔◌, ℕ, ◌+◌, ◌<◌, ◌==◌, ◌&&◌, nat_lt, Bool, true, false, cond, ⊎_elim, List, [], ◌∷◌, ◌++◌, length, take, drop, refl, ap, sym, ◌∙◌, subst, arith, length-append, append_assoc, append-nil}
 use Rattle.std.specs.Prelude.{encode_utf8, encode_utf8_all}
-use Rattle.std.specs.Char.{is_control}
 use Rattle.std.specs.Str.{chars, IsUtf8}
-use Rattle.std.specs.List.{list_all}
 use Rattle.std.proofs.Math.Utf8.{scalars, scalar}
 use Rattle.std.proofs.Math.Seq.{drop-append_seam, take-append_seam}
 use Rattle.std.proofs.lemmas.Bool.{cases_eq, and_parts, and_from}
 use Rattle.std.proofs.lemmas.Bool.Decides.{nat_tests}
 use Rattle.std.proofs.lemmas.List.Folds.{list_all-append}
-use Rattle.std.proofs.lemmas.Str.{IsUtf8-past_char, chars_past_char, chars-nil, chars-encodes, encodes-chars, encodes-append, scalars-chars, length-encode, len_utf8_bounds}
+use Rattle.std.proofs.lemmas.Str.{IsUtf8-past_char, chars_past_char, chars-encodes, encodes-chars, encodes-append, scalars-chars, length-encode, len_utf8_bounds}
 use Rattle.std.proofs.StrCases.{chars_of_empty}
-use Rattle.mad_fit.specs.Printable.{turns_direction, is_printable_char, are_printable, picture, tab_spaces, return_shown, shown_as, shown_from, printable_text, IsPrintableFront}
+use Rattle.mad_fit.specs.Printable.{is_printable_char, are_printable, picture, tab_spaces, return_shown, shown_as, shown_from, printable_text, IsPrintableFront}
 
 true_is_false : {A : Type 0} → true ≡ false → A
 true_is_false {A} e = absurd (no e)
@@ -116,9 +114,10 @@ bytes_printable text bytes utf8 is =
 
 -- exactly the printable texts stay
 pub unchanged : (text : List ℕ) (b : Bool) → IsUtf8 text → b ≡ are_printable (chars text) → (b ≡ true) ↔ (printable_text (chars text) ≡ chars text)
-unchanged text b utf8 is =
-    (λ h. all_stay true (chars text) (sym is ∙ h),
-     λ same. is ∙ sym (ap are_printable same) ∙ shown_printable (chars text) (scalars-chars text utf8))
+unchanged text b utf8 is = (
+  λ h. all_stay true (chars text) (sym is ∙ h),
+  λ same. is ∙ sym (ap are_printable same) ∙ shown_printable (chars text) (scalars-chars text utf8),
+)
 
 -- ---- a printable front
 
@@ -169,7 +168,7 @@ pub front_stops : (text rest more : List ℕ) (bytes start c : ℕ) (begins_line
 front_stops text rest more bytes start c begins_line held here parts stops =
     let some : 0 < length (encode_utf8 c) = omega (arith, length-encode c, (len_utf8_bounds c).0) in
     let longer : length text ≡ bytes + (length (encode_utf8 c) + length more) =
-        ap length (held.parts ∙ ap (λ (bs : List ℕ). held.front ++ bs) parts) ∙ length-append held.front (encode_utf8 c ++ more) ∙ ap (λ n. n + length (encode_utf8 c ++ more)) (sym held.counts) ∙ ap (λ n. bytes + n) (length-append (encode_utf8 c) more) in
+    ap length (held.parts ∙ ap (λ (bs : List ℕ). held.front ++ bs) parts) ∙ length-append held.front (encode_utf8 c ++ more) ∙ ap (λ n. n + length (encode_utf8 c ++ more)) (sym held.counts) ∙ ap (λ n. bytes + n) (length-append (encode_utf8 c) more) in
     let apart : bytes ≢ length text = omega (arith, longer) in
     subst (λ n. IsPrintableFront text n begins_line) (sym here) (front_is text rest bytes begins_line false held (ap are_printable (chars_past_char rest more c held.utf8 parts) ∙ ap (λ t. t && are_printable (chars more)) stops) (grind (arith, nat_tests, apart)))
 

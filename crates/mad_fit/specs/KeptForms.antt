@@ -1,5 +1,5 @@
 -- Printable texts keep the form of their lines.
-use Rattle.std.specs.Prelude.{◌≡◌, ◌≢◌, ℕ, Bool, true, List, [], ◌∷◌, ◌++◌, encode_utf8_all}
+use Rattle.std.specs.Prelude.{◌≡◌, ◌≢◌, ℕ, Bool, List, [], ◌∷◌, ◌++◌, encode_utf8_all}
 use Rattle.std.specs.List.{AllByRecursion}
 use Rattle.mad_md.specs.Starts.{is_fence, line_start}
 use Rattle.mad_fit.specs.Printable.{shown_from, printable_text}

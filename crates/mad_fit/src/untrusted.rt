@@ -75,11 +75,7 @@ fn is_printable_char(c: char) -> bool
 }
 
 // Writes what stands for the text, the first character of which begins a line or doesn't.
-fn push_shown_from(
-    shown: &mut String,
-    mut begins_line: bool,
-    text: &str,
-) -> Result<(), AllocError>
+fn push_shown_from(shown: &mut String, mut begins_line: bool, text: &str) -> Result<(), AllocError>
     ensures { OnOk result (string_bytes shown.new ≡ string_bytes shown.old ++ encode_utf8_all (shown_from begins_line (chars text.now))) }
 {
     let mut rest = text.chars();
@@ -91,12 +87,7 @@ fn push_shown_from(
 }
 
 // Writes what stands for a character that begins a line or doesn't, with this text after it.
-fn push_shown(
-    shown: &mut String,
-    begins_line: bool,
-    c: char,
-    after: &str,
-) -> Result<(), AllocError>
+fn push_shown(shown: &mut String, begins_line: bool, c: char, after: &str) -> Result<(), AllocError>
     ensures { OnOk result (string_bytes shown.new ≡ string_bytes shown.old ++ encode_utf8_all (shown_as begins_line c (chars after.now))) }
 {
     match c {
@@ -110,7 +101,11 @@ fn push_shown(
 fn tab_shown(begins_line: bool) -> &'static str
     ensures { result.now ≡ encode_utf8_all (tab_spaces begins_line) }
 {
-    if begins_line { CODE_INDENT } else { TAB_REPLACEMENT }
+    if begins_line {
+        CODE_INDENT
+    } else {
+        TAB_REPLACEMENT
+    }
 }
 
 // What stands for a carriage return with this text after it.

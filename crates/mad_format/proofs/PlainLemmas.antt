@@ -364,6 +364,7 @@ parts_more width text part left done new own h becomes is = by h.spans h.left_ar
   where
     Becomes : LineSpan → List (List ℕ) → Type 0
     Becomes span = IsPlainWrap width (line_text text span)
+
     by : (spans : List LineSpan) → map content_of (part ∷ left) ≡ map (raw_line text) spans → ((more : List (List ℕ)) → EachBecomes Becomes spans more → EachBecomes Becomes (line_spans h.parts) (done ++ more)) → ArePartsLeft width text left new
     by [] e so_far = absurd (cc)
     by (span ∷ spans) e so_far =
@@ -382,6 +383,7 @@ parts_all width text left done h none = record { parts = h.parts; cut = h.cut; e
   where
     Becomes : LineSpan → List (List ℕ) → Type 0
     Becomes span = IsPlainWrap width (line_text text span)
+
     by : (spans : List LineSpan) → map (raw_line text) spans ≡ [] → ((more : List (List ℕ)) → EachBecomes Becomes spans more → EachBecomes Becomes (line_spans h.parts) (done ++ more)) → EachBecomes Becomes (line_spans h.parts) (done ++ [])
     by [] e so_far = so_far [] refl
     by (span ∷ spans) e so_far = absurd (cc)

@@ -35,11 +35,7 @@ pub fn wrap_text<'s>(alloc: Global, text: &'s str, width: usize) -> Result<Vec<&
 }
 
 // The lines at any width.
-fn wrap_parts<'s>(
-    alloc: Global,
-    text: &'s str,
-    width: usize,
-) -> Result<Vec<&'s str>, AllocError>
+fn wrap_parts<'s>(alloc: Global, text: &'s str, width: usize) -> Result<Vec<&'s str>, AllocError>
     ensures { IfOk result (λ lines. IsTextWrap width text.entry.now (map (λ l. l.now) lines.items)) }
 {
     let parts = Text::raw_str(alloc, text)?;

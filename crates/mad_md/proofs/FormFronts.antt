@@ -7,7 +7,7 @@ use Rattle.std.specs.List.{AllByRecursion, prefix_len}
 use Rattle.std.specs.Str.Parse.{digits_value}
 use Rattle.std.proofs.lemmas.Bool.{and_parts}
 use Rattle.std.proofs.lemmas.Bool.Decides.{nat_tests}
-use Rattle.mad_md.specs.Starts.{begins, starts, indent, item_after, item_start, ordered_after, header_of, header_start, count_in_front, is_rule, is_fence, unprefixed_start, line_start}
+use Rattle.mad_md.specs.Starts.{begins, starts, indent, item_after, item_start, ordered_after, header_of, header_start, count_in_front, is_rule, is_fence, line_start}
 use Rattle.mad_md.specs.declared.starts.LineStart.{LineStart}
 use Rattle.mad_md.specs.declared.starts.Form.TheVariants.{TablePart, Code, Rule, Continuing, Separate}
 use Rattle.mad_md.specs.declared.composite.CompositeStyle.TheVariants.{Paragraph, Header, ListItem, OrderedListItem, Quote}
@@ -203,7 +203,6 @@ fence_front bs = begins_front (96 ∷ 96 ∷ 96 ∷ []) bs (refl, (refl, (refl, 
 pub front_append : (p xs ys : List ℕ) → front xs ≡ front ys → front (p ++ xs) ≡ front (p ++ ys)
 front_append [] xs ys e = e
 front_append (b ∷ p) xs ys e = ap (λ r. front_with b r (is_ascii b)) (front_append p xs ys e)
-
 
 -- ---- lines of code
 

@@ -1,5 +1,4 @@
 use Rattle.std.specs.Str.Iter.{char_indices_rest, char_indices_offset}
-use Rattle.std.proofs.Common.{◌≡◌, ◌≤◌, length}
 use Rattle.mad_fit.proofs.PrintableLemmas.{FrontSoFar}
 use Rattle.mad_fit.proofs.untrusted.printable_front.Given as goal
 
