@@ -56,11 +56,7 @@ pub(crate) fn blanks_beside(
 }
 
 // The blank columns left and right of a composite's own place at the outer width, with the margins.
-fn outer_blanks(
-    composite: &FmtComposite,
-    align: Alignment,
-    place: RowPlace,
-) -> (usize, usize)
+fn outer_blanks(composite: &FmtComposite, align: Alignment, place: RowPlace) -> (usize, usize)
     ensures { result ≡ outer_blanks align place.outer place.margins composite.now }
 {
     let inner = inner_columns(composite);
