@@ -23,7 +23,7 @@ const DISKS: [Disk; 5] = [
         used_percent: 41,
     },
     Disk {
-        name: "/home/a|b",
+        name: "/data/a|b",
         holds: "what `*star*` keeps",
         used_percent: 97,
     },
