@@ -1,6 +1,7 @@
 //! Fitting to a width, wider places, and cuts of runs that are kept.
 
-ghost use Rattle.mad_ellipsis.specs.Zones.{AreZones};
+ghost use Rattle.std.specs.Prelude.{OnOk};
+ghost use Rattle.mad_ellipsis.specs.Zones.{AreZones, runs_of};
 
 use crate::pictures::{push_cell, push_compounds};
 use crate::skins::unstyled_skin;
@@ -75,15 +76,29 @@ pub fn zones(alloc: Global, picture: &mut String, words: &str, text: &str) -> Re
     let mut zones = Zones::new(alloc, &compounds)?;
     push_runs(picture, &zones)?;
     for cut in cuts.chunks_exact(2) {
-        let (number, excess) = (cut[0], cut[1]);
-        if number < zones.runs().len() {
-            let gain = zones.cut(number, &mut compounds, excess)?;
-            push_texts(picture, &compounds)?;
-            write!(picture, "gains {gain}, ")?;
-            push_runs(picture, &zones)?;
-        }
+        cut_run(picture, &mut zones, &mut compounds, (cut[0], cut[1]))?;
     }
     Ok(())
+}
+
+// A cut of the run of this number, if there is one, where so many columns are too many.
+fn cut_run(
+    picture: &mut String,
+    zones: &mut Zones,
+    compounds: &mut Vec<Compound>,
+    cut: (usize, usize),
+) -> Result<(), AllocError>
+    requires { AreZones 0 compounds.old.items (runs_of zones.old) }
+    ensures { OnOk result (AreZones 0 compounds.new.items (runs_of zones.new)) }
+{
+    let (number, excess) = cut;
+    if number >= zones.runs().len() {
+        return Ok(());
+    }
+    let gain = zones.cut(number, compounds, excess)?;
+    push_texts(picture, compounds)?;
+    write!(picture, "gains {gain}, ")?;
+    push_runs(picture, zones)
 }
 
 // The runs, each by the number of its compound, its first byte, and the byte after it.
