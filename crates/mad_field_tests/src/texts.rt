@@ -6,11 +6,7 @@ use mad_field::InputField;
 use std::alloc::AllocError;
 
 /// Edits that answer whether anything was done, if it is one of them.
-pub fn edited(
-    field: &mut InputField,
-    name: &str,
-    rest: &str,
-) -> Result<Option<bool>, AllocError> {
+pub fn edited(field: &mut InputField, name: &str, rest: &str) -> Result<Option<bool>, AllocError> {
     let done = match name {
         "put_char" => field.put_char(words::char_of(rest))?,
         "insert_new_line" => field.insert_new_line()?,
