@@ -4,8 +4,8 @@ use Rattle.mad_fit.specs.declared.area.Area.{Area}
 
 -- ---- down
 
--- The first of `rows` lines that shows line y of `count`. If the one from `first` on doesn't show it, the line comes first or last,
--- with one more beyond it where there is one and where there are rows for it.
+-- The first of `rows` lines that shows line y of `count`. If the one from `first` on doesn't show it, the line comes first or last. One
+-- more is shown beyond it, where there is one and where there are rows for it.
 abbrev pub line_in_view : ℕ → ℕ → ℕ → ℕ → ℕ
 line_in_view rows count y first =
     if nat_lt y first then (if nat_lt 4 rows then y - 1 else y)
@@ -34,8 +34,8 @@ abbrev pub column_in_view : ℕ → ℕ → ℕ → ℕ
 column_in_view width column old =
     if nat_lt column (old + 2) then column - 2 else if nat_lt (old + width) (column + 2) then column + 2 - width else old
 
--- How many columns are hidden on the left, where the cursor is before character x, in `column`, of a line of `whole` columns: none where
--- the line and the cursor fit, and no more than has to be.
+-- How many columns are hidden on the left of a line of `whole` columns, where the cursor is before character x, in `column`. None are
+-- where the line and the cursor fit, and no more than has to be.
 abbrev pub columns_hidden : Bool → ℕ → ℕ → ℕ → ℕ → ℕ → ℕ
 columns_hidden focused width whole x column old =
     if nat_lt whole width then 0

@@ -85,8 +85,8 @@ fn column_in_view(width: usize, column: usize, old: usize) -> usize
     }
 }
 
-/// How many columns are hidden on the left of a line of `whole` columns, with the cursor before character `x`, in `column`, where `old`
-/// ones were.
+/// How many columns are hidden on the left of a line of `whole` columns, where `old` ones were. The cursor is before character `x`, in
+/// `column`.
 pub fn columns_hidden(
     focused: bool,
     width: usize,

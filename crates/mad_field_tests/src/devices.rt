@@ -33,8 +33,8 @@ pub fn push_bytes(answer: &mut String, field: &InputField) -> Result<(), AllocEr
     write!(answer, "{text}\n")
 }
 
-/// Draws to devices that fail after each number of bytes, and appends how many got another text than a beginning of so many bytes, or
-/// weren't refused.
+/// Draws to devices that fail after each number of bytes. Appends how many weren't refused, or got another text than a beginning of so
+/// many bytes.
 pub fn push_cut_off(answer: &mut String, field: &InputField) -> Result<(), AllocError> {
     let (_, whole) = drawn(*answer.allocator(), field, ROOM, ROOM)?;
     let count = whole.taken().len();
