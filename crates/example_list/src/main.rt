@@ -23,7 +23,16 @@ fn main(rt: HostRuntime) -> Result<(), Error> {
     let alloc = rt.alloc();
     let script = io::read_to_string(alloc, rt.reader())?;
     let mut columns = Vec::new(alloc);
-    let (name, length) = (Shown { alloc, is_length: false }, Shown { alloc, is_length: true });
+    let (name, length) = (
+        Shown {
+            alloc,
+            is_length: false,
+        },
+        Shown {
+            alloc,
+            is_length: true,
+        },
+    );
     columns.push(ListViewColumn::new(alloc, "river", 6, 12, name)?.with_align(Alignment::Left))?;
     columns.push(ListViewColumn::new(alloc, "km", 5, 6, length)?.with_align(Alignment::Right))?;
     let skin = MadSkin::no_style();

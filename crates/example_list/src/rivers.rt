@@ -14,14 +14,38 @@ pub struct River {
 
 /// Some rivers of Europe.
 pub const RIVERS: [River; 8] = [
-    River { name: "Volga", length: 3530 },
-    River { name: "Danube", length: 2850 },
-    River { name: "Rhine", length: 1233 },
-    River { name: "Elbe", length: 1094 },
-    River { name: "Loire", length: 1012 },
-    River { name: "Rhone", length: 813 },
-    River { name: "Seine", length: 777 },
-    River { name: "Thames", length: 346 },
+    River {
+        name: "Volga",
+        length: 3530,
+    },
+    River {
+        name: "Danube",
+        length: 2850,
+    },
+    River {
+        name: "Rhine",
+        length: 1233,
+    },
+    River {
+        name: "Elbe",
+        length: 1094,
+    },
+    River {
+        name: "Loire",
+        length: 1012,
+    },
+    River {
+        name: "Rhone",
+        length: 813,
+    },
+    River {
+        name: "Seine",
+        length: 777,
+    },
+    River {
+        name: "Thames",
+        length: 346,
+    },
 ];
 
 /// What a column shows of a river.

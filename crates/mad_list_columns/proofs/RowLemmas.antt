@@ -148,9 +148,9 @@ body_more left top r row old bytes mid written new a b before moves writes bars 
     let y : top + 2 + length done ≡ top + (r + 2) = omega (arith, length-map-range_with_len row 0 r) in
     let n : 0 + r ≡ r = omega arith in
     let rows : drawing left (top + 2) (map row (range_with_len 0 (r + 1))) ≡ drawing left (top + 2) done ++ (at ++ (row r ++ [])) =
-        ap (drawing left (top + 2)) (map-range_with_len_more row 0 r r n)
-        ∙ drawing-append left (top + 2) done (row r ∷ [])
-        ∙ ap (λ (k : ℕ). drawing left (top + 2) done ++ (move_to_bytes left k ++ (row r ++ []))) y in
+    ap (drawing left (top + 2)) (map-range_with_len_more row 0 r r n)
+    ∙ drawing-append left (top + 2) done (row r ∷ [])
+    ∙ ap (λ (k : ℕ). drawing left (top + 2) done ++ (move_to_bytes left k ++ (row r ++ []))) y in
     let now : new ≡ ((bytes ++ at) ++ a) ++ b = bars ∙ ap (λ (bs : List ℕ). bs ++ b) (writes ∙ ap (λ (bs : List ℕ). bs ++ a) moves) in
     now
     ∙ append_assoc (bytes ++ at) a b

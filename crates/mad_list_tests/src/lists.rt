@@ -86,7 +86,11 @@ fn tell(alloc: Global, list: &List, command: &str, told: &mut String) -> Result<
     match command {
         "write" => {
             let out = written(alloc, list)?;
-            write!(told, "{}\n", str::from_utf8(out.taken()).unwrap_or("no text"))?;
+            write!(
+                told,
+                "{}\n",
+                str::from_utf8(out.taken()).unwrap_or("no text")
+            )?;
         }
         "picture" => {
             let mut screen = Screen::new(alloc, 14, 6)?;
@@ -142,7 +146,11 @@ fn push_state(list: &List, told: &mut String) -> Result<(), AllocError> {
         Some((first, last)) => write!(told, "thumb {first} to {last}")?,
         None => write!(told, "no bar")?,
     }
-    let bottom = if list.do_scroll_show_bottom() { ", bottom shown" } else { "" };
+    let bottom = if list.do_scroll_show_bottom() {
+        ", bottom shown"
+    } else {
+        ""
+    };
     write!(told, "{bottom}\n")
 }
 
@@ -183,7 +191,10 @@ pub fn many(alloc: Global, count: u32) -> Result<String, Refusal> {
     columns.push(column_of(alloc, "v,8,8,number")?)?;
     let mut list: List = ListView::new(alloc, area_of([0, 0, 9, 4]), columns, &skin);
     for number in 0..count {
-        list.add_row(Item { number, letter: 'x' })?;
+        list.add_row(Item {
+            number,
+            letter: 'x',
+        })?;
     }
     let mut told = String::new(alloc);
     tell(alloc, &list, "write", &mut told)?;

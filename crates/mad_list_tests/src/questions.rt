@@ -44,7 +44,12 @@ pub fn asked(alloc: Global, words: &str) -> Result<String, AllocError> {
         Err(AskError::Memory) => return Err(AllocError),
         Err(error) => write!(told, "{error}")?,
     }
-    write!(told, ", {} left, {} flushes\n", reader.left().len(), out.flushes())?;
+    write!(
+        told,
+        ", {} left, {} flushes\n",
+        reader.left().len(),
+        out.flushes()
+    )?;
     Ok(told)
 }
 
@@ -86,7 +91,13 @@ pub fn cut(alloc: Global, words: &str) -> Result<String, Refusal> {
     let question = question(alloc, asking.default_answer)?;
     let mut whole = CutOut::new(alloc, ROOM, ROOM, false)?;
     let mut reader = ScriptSource::new(input.as_slice(), asking.fails);
-    let _answer = question.ask(alloc, &MadSkin::no_style(), Some(20), &mut reader, &mut whole);
+    let _answer = question.ask(
+        alloc,
+        &MadSkin::no_style(),
+        Some(20),
+        &mut reader,
+        &mut whole,
+    );
     let mut count = 0;
     for room in 0..whole.taken().len() {
         let mut reader = ScriptSource::new(input.as_slice(), asking.fails);

@@ -23,7 +23,7 @@ returns-clause-next g c =
 pub returns-clause-writes : goal.returns-clause-writes
 returns-clause-writes g c = λ cell_of makes.
     let selected : c.eq-selected.result ≡ is_selected c.args.rows.now.selection c.in-Some.i =
-        selected_is c.selection.result c.in-Some.i c.eq-selected.result c.eq-selected.ensures ∙ ap (λ (s : Option ℕ). is_selected s c.in-Some.i) c.selection.ensures.value in
+    selected_is c.selection.result c.in-Some.i c.eq-selected.result c.eq-selected.ensures ∙ ap (λ (s : Option ℕ). is_selected s c.in-Some.i) c.selection.ensures.value in
     c.in_ok-push_cells.ensures cell_of makes
     ∙ ap (λ (bs : List ℕ). string_bytes c.args.bytes.now ++ bs)
     (row_written cell_of c.args.table.now c.args.columns.now c.args.rows.now.selection c.args.rows.now.rows c.args.from c.in-Some.i c.in-Some.content.now c.eq-selected.result c.in-Some.ensures.first.0 c.in-Some.ensures.first.1 selected)
