@@ -196,6 +196,7 @@ pub use Rattle.mad_answers.specs.Deciding
 pub use Rattle.mad_answers.specs.ErrorTexts as AskErrorTexts
 pub use Rattle.mad_answers.specs.Offers
 pub use Rattle.mad_answers.specs.Reading as AnswerReading
+pub use Rattle.mad_answers.specs.Replies
 pub use Rattle.mad_ask.specs.Asking
 pub use Rattle.mad_ask.specs.QuestionTexts
 pub use Rattle.mad_ask.specs.Questions
