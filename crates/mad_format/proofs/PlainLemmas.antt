@@ -2,7 +2,7 @@
 use Rattle.std.proofs.Common.{◌≡◌, ℕ, ◌≤◌, ◌<◌, ◌+◌, ◌-◌, ◌&&◌, not, Bool, true, false, cond, List, [], ◌∷◌, ◌++◌, map, length, take, drop, get_or, is_some, Option, Some, None, Result, Ok, Err, Bor, refl, sym, ap, ◌∙◌, subst, arith, append_assoc, append-nil}
 use Rattle.std.specs.Prelude.{chars, encode_utf8_all, MatchOption, OnOk}
 use Rattle.std.specs.Char.{is_whitespace}
-use Rattle.std.specs.List.{AllByRecursion, flat_map}
+use Rattle.std.specs.List.{AllByRecursion}
 use Rattle.std.specs.Str.{IsUtf8, IsCharBoundary, skip_leading_whitespace, trim_start}
 use Rattle.std.proofs.Math.Utf8.{scalars, scalar}
 use Rattle.std.proofs.lemmas.Bool.{and_parts}
@@ -19,18 +19,18 @@ use Rattle.mad_md.specs.declared.line.Line.{Line}
 use Rattle.mad_md.specs.declared.text.Text.{Text}
 use Rattle.mad_md.specs.declared.compound.Compound.{Compound}
 use Rattle.mad_fit.specs.TextColumns.{columns, width_of}
-use Rattle.mad_fit.specs.Tokens.{flagged_token, tokens_text, token_run, token_text}
+use Rattle.mad_fit.specs.Tokens.{flagged_token, tokens_text, token_run}
 use Rattle.mad_fit.specs.declared.tokens.Token.{Token}
-use Rattle.mad_fit.proofs.AllLemmas.{all_joined, all_front, all_back, all_each}
-use Rattle.mad_fit.proofs.FlaggedLemmas.{width_of-append, width_of-flagged}
+use Rattle.mad_fit.proofs.AllLemmas.{all_front, all_back, all_each}
+use Rattle.mad_fit.proofs.FlaggedLemmas.{width_of-flagged}
 use Rattle.mad_fit.proofs.TokenTexts.{IsHonest, tokens_text-append, some_flagged, text_of_all, all_honest}
-use Rattle.mad_wrap.specs.Breaks.{LineAndGap, lines_and_gaps, AllBlank, TrimmingBreak, FittingBreak}
-use Rattle.mad_wrap.specs.CleanCut.{AreTexts, is_cut_clean}
+use Rattle.mad_wrap.specs.Breaks.{LineAndGap, lines_and_gaps}
+use Rattle.mad_wrap.specs.CleanCut.{AreTexts}
 use Rattle.mad_wrap.specs.Keeps.{AllWhite, Keeps}
-use Rattle.mad_wrap.specs.LeastWrap.{IsWrap, AreTokensIn}
-use Rattle.mad_wrap.specs.Placings.{GapsForced, LinesForced, BeginsAfter, AreFirstFit}
+use Rattle.mad_wrap.specs.LeastWrap.{IsWrap}
+use Rattle.mad_wrap.specs.Placings.{GapsForced, LinesForced, BeginsAfter}
 use Rattle.mad_wrap.specs.Rooms.{token_limit}
-use Rattle.mad_wrap.specs.WrapLines.{runs_of, LinesFit, HasRoom}
+use Rattle.mad_wrap.specs.WrapLines.{runs_of, LinesFit}
 use Rattle.mad_wrap.specs.declared.room.Room.{Room}
 use Rattle.mad_wrap.proofs.KeepLemmas.{text_of_runs, gap_is_white}
 use Rattle.mad_format.specs.Lists.{EachBecomes}

@@ -1,4 +1,4 @@
-use Rattle.std.proofs.Common.{◌≡◌, ◌++◌, ◌∷◌, [], rules, sym, ap, subst, ◌∙◌, append_assoc, map}
+use Rattle.std.proofs.Common.{◌≡◌, ◌++◌, ◌∷◌, [], rules, ap, subst, ◌∙◌, append_assoc, map}
 use Rattle.std.specs.Prelude.{chars}
 use Rattle.std.specs.Str.{IsUtf8}
 use Rattle.mad_wrap.specs.WrapLines.{compounds_of}
