@@ -8,7 +8,14 @@
 pub mod term {
     pub use mad_columns::char_columns;
     pub use mad_screen::{Cell, CutOut, Looks, NotPlain, Pen, Screen, ScriptSource, laws};
-    pub use mad_term::{Attribute, Attributes, Clear, ClearType, Color, ContentStyle, Error, Event, InsufficientWidthError, KeyCode, KeyCombination, KeyEvent, KeyModifiers, MouseButton, MouseEvent, MouseEventKind, MoveTo, Out, Source, Stream, StyledContent, StyledNumber, StyledRepeat, TimedEvent, push_background, push_clear, push_foreground, push_move, push_styled, put_all, put_displayed, put_text, queue_bg, queue_clear, queue_fg, queue_move, queue_repeated, queue_styled};
+    pub use mad_term::{
+        Attribute, Attributes, Clear, ClearType, Color, ContentStyle, Error, Event,
+        InsufficientWidthError, KeyCode, KeyCombination, KeyEvent, KeyModifiers, MouseButton,
+        MouseEvent, MouseEventKind, MoveTo, Out, Source, Stream, StyledContent, StyledNumber,
+        StyledRepeat, TimedEvent, push_background, push_clear, push_foreground, push_move,
+        push_styled, put_all, put_displayed, put_text, queue_bg, queue_clear, queue_fg, queue_move,
+        queue_repeated, queue_styled,
+    };
 }
 
 /// What a plain terminal shows of the bytes that it reads.
@@ -18,13 +25,17 @@ pub mod screen {
 
 /// Drawings of one's own, and laws of drawing.
 pub mod draw {
-    pub use mad_draw::{Parts, Rows, RowsBeside, ScrollBar, columns_beside, draw_rows, laws, put_parts};
+    pub use mad_draw::{
+        Parts, Rows, RowsBeside, ScrollBar, columns_beside, draw_rows, laws, put_parts,
+    };
 }
 
 /// Breaking lines that are too wide, with the fewest lines; the lines of a plain text.
 pub mod wrap {
     pub use mad_format::wrap_text;
-    pub use mad_layout::{WrapBound, check_wrap_bound, hard_wrap_composite, hard_wrap_lines, room_of, wrap_bound};
+    pub use mad_layout::{
+        WrapBound, check_wrap_bound, hard_wrap_composite, hard_wrap_lines, room_of, wrap_bound,
+    };
     pub use mad_wrap::{Room, laws};
 }
 
@@ -40,7 +51,13 @@ pub mod widths {
 
 /// Styles as texts, both ways.
 pub mod parse {
-    pub use mad_parse::{ParseAlignError, ParseAttributeError, ParseColorError, ParseStyleTokenError, PushStyleTokens, StyleToken, compound_style_from, laws, line_style_from, parse_align, parse_attribute, parse_color, parse_compound_style, parse_line_style, parse_ordered_item_style, parse_style_token, parse_style_tokens, parse_styled_char, style_tokens_to_string, write_align, write_attribute, write_color, write_style_tokens};
+    pub use mad_parse::{
+        ParseAlignError, ParseAttributeError, ParseColorError, ParseStyleTokenError,
+        PushStyleTokens, StyleToken, compound_style_from, laws, line_style_from, parse_align,
+        parse_attribute, parse_color, parse_compound_style, parse_line_style,
+        parse_ordered_item_style, parse_style_token, parse_style_tokens, parse_styled_char,
+        style_tokens_to_string, write_align, write_attribute, write_color, write_style_tokens,
+    };
 }
 
 /// The editor's text.
@@ -56,7 +73,9 @@ pub mod field {
 
 /// Lists without a skin: their rows, and what is written of them.
 pub mod list {
-    pub use mad_list::{CellExtract, ListRow, ListRows, ListView, ListViewCell, ListViewColumn, RowFilter, RowOrder};
+    pub use mad_list::{
+        CellExtract, ListRow, ListRows, ListView, ListViewCell, ListViewColumn, RowFilter, RowOrder,
+    };
     pub use mad_list_columns::{ListStyle, body_height, fit_columns, list_bar, push_list};
 }
 
@@ -65,20 +84,147 @@ pub mod ask {
     pub use mad_ask::{Answer, AskError, Choices, Question};
 }
 
-pub use mad_ask::{Answer, AskError, Question};
-pub use mad_draw::{BORDER_STYLE_BLAND, BORDER_STYLE_HALF_WIDTH_OUTSIDE, BORDER_STYLE_MIDDLE_ROUND_LINE, BORDER_STYLE_MIDDLE_SQUARE_LINE, CropWriter, Filling, ProgressBar, Rect, RectBorderStyle, WriteSpaced, fill_bg, queue_spaces};
-pub use mad_edit::{Chars, InputFieldContent, Pos, Range};
-pub use mad_ellipsis::{ELLIPSIS, Run, Zones};
+pub use mad_ask::Answer;
+pub use mad_ask::AskError;
+pub use mad_ask::Question;
+pub use mad_draw::BORDER_STYLE_BLAND;
+pub use mad_draw::BORDER_STYLE_HALF_WIDTH_OUTSIDE;
+pub use mad_draw::BORDER_STYLE_MIDDLE_ROUND_LINE;
+pub use mad_draw::BORDER_STYLE_MIDDLE_SQUARE_LINE;
+pub use mad_draw::CropWriter;
+pub use mad_draw::Filling;
+pub use mad_draw::ProgressBar;
+pub use mad_draw::Rect;
+pub use mad_draw::RectBorderStyle;
+pub use mad_draw::WriteSpaced;
+pub use mad_draw::fill_bg;
+pub use mad_draw::queue_spaces;
+pub use mad_edit::Chars;
+pub use mad_edit::InputFieldContent;
+pub use mad_edit::Pos;
+pub use mad_edit::Range;
+pub use mad_ellipsis::ELLIPSIS;
+pub use mad_ellipsis::Run;
+pub use mad_ellipsis::Zones;
 pub use mad_field::InputField;
-pub use mad_fit::{Area, DEFAULT_TAB_REPLACEMENT, Spacing, StrFit, TAB_REPLACEMENT, Token, Tokens, compute_scrollbar, first_chars, is_printable, printable, token_iter, tokenize};
-pub use mad_format::{Fitter, wrap_text};
-pub use mad_json::{ScrollBarStyleDef, SkinError, skin_from_value, skin_to_value};
-pub use mad_layout::{CodeBlock, DisplayableLine, FmtComposite, FmtInline, FmtLine, FmtTableRow, FmtTableRule, FmtText, MadSkin, RelativePosition, RowSkin, Table, composite_kind_widths, draw_text, find_blocks, fix_all_tables, inline, justify_blocks, lay_row, print_inline, print_text, term_text, text};
-pub use mad_list::{CellExtract, ListView, ListViewCell, ListViewColumn, RowFilter, RowOrder};
+pub use mad_fit::Area;
+pub use mad_fit::DEFAULT_TAB_REPLACEMENT;
+pub use mad_fit::Spacing;
+pub use mad_fit::StrFit;
+pub use mad_fit::TAB_REPLACEMENT;
+pub use mad_fit::Token;
+pub use mad_fit::Tokens;
+pub use mad_fit::compute_scrollbar;
+pub use mad_fit::first_chars;
+pub use mad_fit::is_printable;
+pub use mad_fit::printable;
+pub use mad_fit::token_iter;
+pub use mad_fit::tokenize;
+pub use mad_format::Fitter;
+pub use mad_format::wrap_text;
+pub use mad_json::ScrollBarStyleDef;
+pub use mad_json::SkinError;
+pub use mad_json::skin_from_value;
+pub use mad_json::skin_to_value;
+pub use mad_layout::CodeBlock;
+pub use mad_layout::DisplayableLine;
+pub use mad_layout::FmtComposite;
+pub use mad_layout::FmtInline;
+pub use mad_layout::FmtLine;
+pub use mad_layout::FmtTableRow;
+pub use mad_layout::FmtTableRule;
+pub use mad_layout::FmtText;
+pub use mad_layout::MadSkin;
+pub use mad_layout::RelativePosition;
+pub use mad_layout::RowSkin;
+pub use mad_layout::Table;
+pub use mad_layout::composite_kind_widths;
+pub use mad_layout::draw_text;
+pub use mad_layout::find_blocks;
+pub use mad_layout::fix_all_tables;
+pub use mad_layout::inline;
+pub use mad_layout::justify_blocks;
+pub use mad_layout::lay_row;
+pub use mad_layout::print_inline;
+pub use mad_layout::print_text;
+pub use mad_layout::term_text;
+pub use mad_layout::text;
+pub use mad_list::CellExtract;
+pub use mad_list::ListView;
+pub use mad_list::ListViewCell;
+pub use mad_list::ListViewColumn;
+pub use mad_list::RowFilter;
+pub use mad_list::RowOrder;
 pub use mad_md as md;
-pub use mad_md::{Alignment, Composite, CompositeStyle, Compound, Line, LineCursor, MAX_HEADER_DEPTH, ParseOptions, TableRow, TableRule, Text, parse_text, parse_text_with};
-pub use mad_screen::{CutOut, ScriptSource};
-pub use mad_style::{ASCII_TABLE_BORDER_CHARS, ATTRIBUTES, CompositeKind, CompoundStyle, LineStyle, ListItemsIndentationMode, MAX_ORDERED_LIST_DEPTH, OrderedItemStyle, ROUNDED_TABLE_BORDER_CHARS, STANDARD_TABLE_BORDER_CHARS, ScrollBarStyle, StyledChar, StyledText, TableBorderChars, ansi, gray, ordered_item_indent, rgb};
-pub use mad_term::{Attribute, Attributes, Clear, ClearType, Color, ContentStyle, Error, Event, InsufficientWidthError, KeyCode, KeyCombination, KeyEvent, KeyModifiers, MouseButton, MouseEvent, MouseEventKind, MoveTo, Out, Source, Stream, StyledContent, StyledNumber, StyledRepeat, TimedEvent, char_columns, put_all, put_displayed, put_text, queue_bg, queue_clear, queue_fg, queue_move, queue_repeated, queue_styled};
-pub use mad_view::{MadView, TextView, draw_views};
-pub use mad_widths::{TblFit, TblFitResult};
+pub use mad_md::Alignment;
+pub use mad_md::Composite;
+pub use mad_md::CompositeStyle;
+pub use mad_md::Compound;
+pub use mad_md::Line;
+pub use mad_md::LineCursor;
+pub use mad_md::MAX_HEADER_DEPTH;
+pub use mad_md::ParseOptions;
+pub use mad_md::TableRow;
+pub use mad_md::TableRule;
+pub use mad_md::Text;
+pub use mad_md::parse_text;
+pub use mad_md::parse_text_with;
+pub use mad_screen::CutOut;
+pub use mad_screen::ScriptSource;
+pub use mad_style::ASCII_TABLE_BORDER_CHARS;
+pub use mad_style::ATTRIBUTES;
+pub use mad_style::CompositeKind;
+pub use mad_style::CompoundStyle;
+pub use mad_style::LineStyle;
+pub use mad_style::ListItemsIndentationMode;
+pub use mad_style::MAX_ORDERED_LIST_DEPTH;
+pub use mad_style::OrderedItemStyle;
+pub use mad_style::ROUNDED_TABLE_BORDER_CHARS;
+pub use mad_style::STANDARD_TABLE_BORDER_CHARS;
+pub use mad_style::ScrollBarStyle;
+pub use mad_style::StyledChar;
+pub use mad_style::StyledText;
+pub use mad_style::TableBorderChars;
+pub use mad_style::ansi;
+pub use mad_style::gray;
+pub use mad_style::ordered_item_indent;
+pub use mad_style::rgb;
+pub use mad_term::Attribute;
+pub use mad_term::Attributes;
+pub use mad_term::Clear;
+pub use mad_term::ClearType;
+pub use mad_term::Color;
+pub use mad_term::ContentStyle;
+pub use mad_term::Error;
+pub use mad_term::Event;
+pub use mad_term::InsufficientWidthError;
+pub use mad_term::KeyCode;
+pub use mad_term::KeyCombination;
+pub use mad_term::KeyEvent;
+pub use mad_term::KeyModifiers;
+pub use mad_term::MouseButton;
+pub use mad_term::MouseEvent;
+pub use mad_term::MouseEventKind;
+pub use mad_term::MoveTo;
+pub use mad_term::Out;
+pub use mad_term::Source;
+pub use mad_term::Stream;
+pub use mad_term::StyledContent;
+pub use mad_term::StyledNumber;
+pub use mad_term::StyledRepeat;
+pub use mad_term::TimedEvent;
+pub use mad_term::char_columns;
+pub use mad_term::put_all;
+pub use mad_term::put_displayed;
+pub use mad_term::put_text;
+pub use mad_term::queue_bg;
+pub use mad_term::queue_clear;
+pub use mad_term::queue_fg;
+pub use mad_term::queue_move;
+pub use mad_term::queue_repeated;
+pub use mad_term::queue_styled;
+pub use mad_view::MadView;
+pub use mad_view::TextView;
+pub use mad_view::draw_views;
+pub use mad_widths::TblFit;
+pub use mad_widths::TblFitResult;
