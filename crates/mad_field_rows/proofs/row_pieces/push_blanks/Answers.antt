@@ -1,4 +1,4 @@
-use Rattle.std.proofs.Common.{◌≡◌, ◌≤◌, arith}
+use Rattle.std.proofs.Common.{arith}
 use Rattle.mad_draw.specs.Pieces.{pieces_bytes, spaces}
 use Rattle.mad_style.specs.StyledChars.{styled_char}
 use Rattle.mad_field_rows.proofs.PieceLemmas.{always_ok, blanks_known, blanks_more, blanks_written}
