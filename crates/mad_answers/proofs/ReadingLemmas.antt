@@ -1,11 +1,11 @@
 -- What is read and said, step by step.
-use Rattle.std.proofs.Common.{◌≡◌, ◌≢◌, ◌<◌, ◌≤◌, ◌+◌, ℕ, List, [], ◌∷◌, ◌++◌, length, Option, Some, None, option_map, Result, Ok, Err, String, Global, string_bytes, inl, inr, refl, ap, subst, sym, ◌∙◌, append_assoc}
+use Rattle.std.proofs.Common.{◌≡◌, ◌≢◌, ◌⊎◌, ◌+◌, ℕ, List, [], ◌∷◌, ◌++◌, length, Option, Some, None, option_map, Result, Ok, Err, String, Global, string_bytes, inl, inr, ⊎_elim, refl, ap, subst, sym, ◌∙◌, append_assoc}
 use Rattle.std.specs.Prelude.{MatchOption}
-use Rattle.std.specs.List.{All, flat_map}
 use Rattle.std.proofs.lemmas.List.{append-nil, length-append}
 use Rattle.std.proofs.lemmas.Grind.{flat_map-append}
 use Rattle.std.proofs.lemmas.List.Elements.{All-append, All-cons, All-nil}
-use Rattle.mad_term.specs.Trace.{Trace, after, ahead, ahead_all, CutShort, Ended}
+use Rattle.std.proofs.lemmas.Bool.Decides.{eqb_tells}
+use Rattle.mad_term.specs.Trace.{Trace, after, ahead, ahead_all, failed, CutShort}
 use Rattle.mad_term.proofs.Traces.{took_both, took_none}
 use Rattle.mad_answers.specs.declared.ask_error.AskError.{AskError}
 use Rattle.mad_answers.specs.declared.ask_error.AskError.TheVariants.{IO, EndOfInput, NotUtf8, Memory}
@@ -147,12 +147,12 @@ module _ (offered : Offered) (line : List ℕ) (count : ℕ) (old mid new : Devi
     more = line;
     last = new.input;
     read = read_here;
-    fault = inr (refl, none, subst (λ (t : Trace). CutShort t (complaint line) new.output) h.said cut);
+    fault = inr (refl, inr (some, h.open_end, over), none, subst (λ (t : Trace). CutShort t (complaint line) new.output) h.said cut);
   }
   end_fails EndOfInput (none, said) = (has_ended said, none)
   end_fails NotUtf8 (some, decides, quiet) = is_decided NoText some decides quiet
-  end_fails Memory (inl quiet) = record { lines = h.lines; more = line; read = read_here; said = inl (quiet ∙ h.said) }
-  end_fails Memory (inr said) = record { lines = h.lines; more = line; read = read_here; said = inr (last_said offered line h.lines old.output mid.output new.output h.said said) }
+  end_fails Memory (inl quiet) = record { lines = h.lines; more = line; read = read_here; one = inl h.open_end; said = inl (quiet ∙ h.said) }
+  end_fails Memory (inr said) = record { lines = h.lines; more = line; read = read_here; one = inl h.open_end; said = inr (last_said offered line h.lines old.output mid.output new.output h.said said) }
 
   -- so the end of the input gives what reading does
   pub ends : (r : Result (String Global) AskError) → EndGives offered line mid.output r new.output → ReadsAnswer offered old r new
@@ -164,8 +164,11 @@ module _ (offered : Offered) (line whole : List ℕ) (count : ℕ) (old mid new 
   read_whole : HasRead offered h.lines whole old.input new.input
   read_whole = subst (λ (l : List ℕ). HasRead offered h.lines l old.input new.input) (sym is) (read_byte offered h.lines line old.input mid.input new.input 10 h.read e)
 
+  whole_line : IsLine whole
+  whole_line = record { front = line; one = h.open_end; ended = is }
+
   pub line_decided : (decision : Decision) → line_decides offered whole ≡ decision → new.output ≡ mid.output → IsDecided offered decision old new
-  line_decided decision decides quiet = record { lines = h.lines; line = whole; read = read_whole; said = quiet ∙ h.said; decides = decides; ended = inl (record { front = line; one = h.open_end; ended = is }) }
+  line_decided decision decides quiet = record { lines = h.lines; line = whole; read = read_whole; said = quiet ∙ h.said; decides = decides; ended = inl whole_line }
 
   pub reply_failed : (x : AskError) → ReplyFails offered whole mid.output x new.output → IsRefused offered old x new
   reply_failed (IO x) (none, cut) = record {
@@ -173,11 +176,25 @@ module _ (offered : Offered) (line whole : List ℕ) (count : ℕ) (old mid new 
     more = whole;
     last = new.input;
     read = read_whole;
-    fault = inr (refl, none, subst (λ (t : Trace). CutShort t (complaint whole) new.output) h.said cut);
+    fault = inr (refl, inl whole_line, none, subst (λ (t : Trace). CutShort t (complaint whole) new.output) h.said cut);
   }
   reply_failed EndOfInput g = absurd g
   reply_failed NotUtf8 (decides, quiet) = line_decided NoText decides quiet
-  reply_failed Memory quiet = record { lines = h.lines; more = whole; read = read_whole; said = inl (quiet ∙ h.said) }
+  reply_failed Memory quiet = record { lines = h.lines; more = whole; read = read_whole; one = inr whole_line; said = inl (quiet ∙ h.said) }
+
+-- bytes without a newline, and one more of any kind
+one_more : (line : List ℕ) (byte : ℕ) → HasNoNewline line → HasNoNewline (line ++ byte ∷ []) ⊎ IsLine (line ++ byte ∷ [])
+one_more line byte h = ⊎_elim (λ e. inr (record { front = line; one = h; ended = ap (λ (b : ℕ). line ++ b ∷ []) e.1 })) (λ e. inl (no_newline_more line byte h e.1)) (eqb_tells byte 10)
+
+-- the input failed
+pub reader_failed : (offered : Offered) (line : List ℕ) (count : ℕ) (old mid new : Devices) → IsReading offered line count old mid → new.input ≡ failed mid.input → new.output ≡ mid.output → IsFaulted offered old new
+reader_failed offered line count old mid new h e same = record {
+  lines = h.lines;
+  more = line;
+  last = mid.input;
+  read = h.read;
+  fault = inl (e, h.open_end, same ∙ h.said);
+}
 
 -- no memory for a byte that was read
 pub byte_lost : (offered : Offered) (line : List ℕ) (count byte : ℕ) (old mid new : Devices) → IsReading offered line count old mid → mid.input ≡ ahead byte new.input → new.output ≡ mid.output → IsOutOfMemory offered old new
@@ -185,6 +202,7 @@ byte_lost offered line count byte old mid new h e same = record {
   lines = h.lines;
   more = line ++ byte ∷ [];
   read = read_byte offered h.lines line old.input mid.input new.input byte h.read e;
+  one = one_more line byte h.open_end;
   said = inl (same ∙ h.said);
 }
 

@@ -1,13 +1,11 @@
-use Rattle.std.proofs.Common.{◌≡◌, ◌∙◌, ◌++◌, ◌∷◌, [], ℕ, List, Option, String, Global, Vec, string_bytes, inl, inr, ap, arith, refl, subst, sym}
-use Rattle.mad_term.specs.Trace.{Trace, Ended, IsAtItsEnd, after, ahead}
-use Rattle.mad_answers.specs.declared.ask_error.AskError.{AskError}
-use Rattle.mad_answers.specs.declared.ask_error.AskError.TheVariants.{Memory}
-use Rattle.mad_answers.specs.Deciding.{Answered, Undecided, complaint, line_decides}
+use Rattle.std.proofs.Common.{◌≡◌, ◌∙◌, ◌++◌, ◌∷◌, [], ℕ, List, Global, Vec, inl, inr, ap, arith, refl, subst, sym}
+use Rattle.mad_term.specs.Trace.{Trace, Ended, IsAtItsEnd, ahead}
+use Rattle.mad_answers.specs.declared.ask_error.AskError.TheVariants.{IO, Memory}
 use Rattle.mad_answers.specs.Offers.{offered_by}
-use Rattle.mad_answers.specs.Reading.{Devices, IsRefused}
-use Rattle.mad_answers.specs.Replies.{EndGives, ReplyFails}
+use Rattle.mad_answers.specs.Reading.{IsRefused}
+use Rattle.mad_answers.specs.Replies.{EndGives}
 use Rattle.mad_answers.proofs.DecidingLemmas.{refused_exit}
-use Rattle.mad_answers.proofs.ReadingLemmas.{at_none, at_some, byte_lost, ends, goes_on, goes_on_after, line_decided, reply_failed, starts}
+use Rattle.mad_answers.proofs.ReadingLemmas.{at_none, at_some, byte_lost, ends, goes_on, goes_on_after, line_decided, reader_failed, reply_failed, starts}
 use Rattle.mad_answers.proofs.choices.Choices.read_answer.Goals as goal
 use Rattle.mad_answers.proofs.choices.Choices.read_answer.Goals.{then-byte-eq10+in_ok-answer+in_default-2, else-byte-eq10}
 
@@ -19,6 +17,10 @@ returns-in_default g c =
     let ended : Ended (g.I.Source.seen c.loop-read.reader) (g.I.Source.seen c.get.new.self) = at_none c.in_ok-byte.field-0 _ _ c.in_default.is c.in_ok-byte.ensures in
     let gives = subst (λ (l : List ℕ). EndGives (offered_by c.args.self.now) l (g.O.Out.seen c.loop-read.writer) c.end.result (g.O.Out.seen c.end.new.writer)) c.as_slice.ensures.value c.end.ensures in
     ends _ _ _ _ _ _ c.loop-read.invariant ended.same (inl (subst (λ (t : Trace). IsAtItsEnd t) (sym ended.same) ended.left)) c.end.result gives
+
+pub returns-in_err-byte : goal.returns-in_err-byte
+returns-in_err-byte g c =
+    refused_exit c.from_residual.result (IO c.in_err-byte.field-0.0) _ (λ e. IsRefused (offered_by c.args.self.now) (record { input = g.I.Source.seen c.args.reader.now; output = g.O.Out.seen c.args.writer.now }) e (record { input = g.I.Source.seen c.get.new.self; output = g.O.Out.seen c.loop-read.writer })) c.from_residual.ensures.1 (reader_failed _ _ _ _ _ _ c.loop-read.invariant c.in_err-byte.ensures refl)
 
 pub returns-in_err-push : goal.returns-in_err-push
 returns-in_err-push g c =
