@@ -85,7 +85,7 @@ still_shown skin (InArea area) text old written new (headline, h) is = (
     lines = headline.lines;
     read = headline.read;
     rows = record {
-      shown = λ premises. let rows = headline.rows.shown premises in (rows.0, rows.1, took_flushed old written new (AreShownAcross rows.0 area) rows.2 is);
+      shown = λ premises. let rows = headline.rows.shown premises in (rows.0, rows.1, took_flushed old written new (AreShownAcross None rows.0 area) rows.2 is);
     };
   },
   record {
