@@ -29,17 +29,22 @@ impl Form {
 
     /// Tab takes the focus to the other field. Each field gets all else, and a click in one takes the focus from the other.
     pub fn apply(&mut self, event: &TimedEvent) -> Result<(), AllocError> {
+        let (name, password) = self.focused();
         if event.is_key(TAB) {
-            self.focus_password(self.name.focused());
+            self.focus_password(name);
             return Ok(());
         }
-        let had = self.password.focused();
         apply_in(&mut self.name, event)?;
         apply_in(&mut self.password, event)?;
-        if self.name.focused() && self.password.focused() {
-            self.focus_password(!had);
+        if self.focused() == (true, true) {
+            self.focus_password(!password);
         }
         Ok(())
+    }
+
+    // Whether the name has the focus, and whether the password has it.
+    fn focused(&self) -> (bool, bool) {
+        (self.name.focused(), self.password.focused())
     }
 
     fn focus_password(&mut self, focus: bool) {

@@ -42,7 +42,7 @@ fn main(rt: HostRuntime) -> Result<(), Error> {
         match command {
             "picture" => print!(rt; "{}", screen_of(alloc, &mut list)?)?,
             "choose" => match list.get_selection() {
-                Some(river) => println!(rt; "the {}, of {} km", river.name, river.length)?,
+                Some(river) => println!(rt; "the {}, of {} km", river.name(), river.length)?,
                 None => println!(rt; "none")?,
             },
             command => change(alloc, &mut list, command)?,
@@ -66,7 +66,7 @@ fn change(alloc: Global, list: &mut List, command: &str) -> Result<(), Error> {
             list.set_filter(BoxedFilter { test });
         }
         "sort" => {
-            let compare = Box::new(alloc, |a: &River, b: &River| a.name.cmp(b.name))?;
+            let compare = Box::new(alloc, |a: &River, b: &River| a.name().cmp(b.name()))?;
             list.sort(BoxedOrder { compare });
         }
         "all" => list.remove_filter(),

@@ -3,47 +3,57 @@
 use std::alloc::{AllocError, Global};
 use termimad::{CellExtract, CompoundStyle, ListViewCell};
 
-/// A river.
+/// A river, by the index of its name.
 #[derive(Clone, Copy)]
 pub struct River {
-    /// Its name.
-    pub name: &'static str,
+    index: usize,
     /// Its length in kilometers.
     pub length: u32,
 }
 
+impl River {
+    /// Its name.
+    pub fn name(&self) -> &'static str {
+        NAMES.get(self.index).copied().unwrap_or("")
+    }
+}
+
+const NAMES: [&str; 8] = [
+    "Volga", "Danube", "Rhine", "Elbe", "Loire", "Rhone", "Seine", "Thames",
+];
+
 /// Some rivers of Europe.
 pub const RIVERS: [River; 8] = [
     River {
-        name: "Volga",
+        index: 0,
         length: 3530,
     },
     River {
-        name: "Danube",
+        index: 1,
         length: 2850,
     },
     River {
-        name: "Rhine",
+        index: 2,
         length: 1233,
     },
     River {
-        name: "Elbe",
+        index: 3,
         length: 1094,
     },
     River {
-        name: "Loire",
+        index: 4,
         length: 1012,
     },
     River {
-        name: "Rhone",
+        index: 5,
         length: 813,
     },
     River {
-        name: "Seine",
+        index: 6,
         length: 777,
     },
     River {
-        name: "Thames",
+        index: 7,
         length: 346,
     },
 ];
@@ -66,7 +76,7 @@ impl CellExtract<River> for Shown {
         let text = if self.is_length {
             format!(in self.alloc; "{}", river.length)?
         } else {
-            String::from_str(self.alloc, river.name)?
+            String::from_str(self.alloc, river.name())?
         };
         Ok(ListViewCell::new(text, CompoundStyle::default()))
     }

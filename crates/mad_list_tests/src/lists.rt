@@ -120,13 +120,13 @@ fn written(alloc: Global, list: &List) -> Result<CutOut, Refusal> {
 // How many devices that fail, one at each byte, took a beginning of the whole.
 fn cuts(alloc: Global, list: &List) -> Result<usize, Refusal> {
     let whole = written(alloc, list)?;
-    let mut count = 0;
+    let mut count: usize = 0;
     for room in 0..whole.taken().len() {
         let mut out = CutOut::new(alloc, ROOM, room, false)?;
         if list.area.is_within_limits() {
             let failed = list.write_on(alloc, &mut out).is_err();
             if failed && out.taken() == &whole.taken()[..room] {
-                count += 1;
+                count = count.saturating_add(1);
             }
         }
     }

@@ -98,14 +98,14 @@ pub fn cut(alloc: Global, words: &str) -> Result<String, Refusal> {
         &mut reader,
         &mut whole,
     );
-    let mut count = 0;
+    let mut count: usize = 0;
     for room in 0..whole.taken().len() {
         let mut reader = ScriptSource::new(input.as_slice(), asking.fails);
         let mut out = CutOut::new(alloc, ROOM, room, false)?;
         let answer = question.ask(alloc, &MadSkin::no_style(), Some(20), &mut reader, &mut out);
         let failed = matches!(answer, Err(AskError::IO(_)));
         if failed && out.taken() == &whole.taken()[..room] {
-            count += 1;
+            count = count.saturating_add(1);
         }
     }
     Ok(format!(in alloc; "{count}")?)
