@@ -1,13 +1,13 @@
 //! A list of rivers that a script of standard input filters, sorts, scrolls and chooses from. `picture` writes what a screen shows then.
 //!
 //! 1. [`rivers`]: the rows of the list.
-//! 2. [`boxes`]: filters and orders that hold a boxed closure.
+//! 2. [`choices`]: the filter and the order.
 #![tactic(auto)]
 
-mod boxes;
+mod choices;
 mod rivers;
 
-use boxes::{BoxedFilter, BoxedOrder};
+use choices::{ByName, LongerThan};
 use rivers::{RIVERS, River, Shown};
 use std::alloc::Global;
 use std::io::{self, Error as IoError, ErrorKind};
@@ -17,7 +17,7 @@ use termimad::{Alignment, Area, CutOut, Error, ListView, ListViewColumn, MadSkin
 // More bytes than a picture takes.
 const ROOM: usize = 2000;
 
-type List<'k> = ListView<'k, River, Shown, BoxedFilter, BoxedOrder>;
+type List<'k> = ListView<'k, River, Shown, LongerThan, ByName>;
 
 fn main(rt: HostRuntime) -> Result<(), Error> {
     let alloc = rt.alloc();
@@ -60,15 +60,8 @@ fn change(alloc: Global, list: &mut List, command: &str) -> Result<(), Error> {
             }
         }
         "clear" => list.clear_rows(),
-        "longer" => {
-            let least: u32 = number.parse().unwrap_or(0);
-            let test = Box::new(alloc, move |river: &River| river.length > least)?;
-            list.set_filter(BoxedFilter { test });
-        }
-        "sort" => {
-            let compare = Box::new(alloc, |a: &River, b: &River| a.name().cmp(b.name()))?;
-            list.sort(BoxedOrder { compare });
-        }
+        "longer" => list.set_filter(LongerThan(number.parse().unwrap_or(0))),
+        "sort" => list.sort(ByName),
         "all" => list.remove_filter(),
         "down" => list.try_select_next(false),
         "up" => list.try_select_next(true),

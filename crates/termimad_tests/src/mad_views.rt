@@ -72,7 +72,9 @@ fn two_views(alloc: Global, words: &str, text: &str) -> Result<[MadView; 2], Ref
     ensures { IfOk result (λ views. AllByRecursion (λ view. IsWithinLimits (area_of view)) views) }
 {
     let (words, other_words) = words.split_once('|').unwrap_or((words, ""));
-    let (text, other_text) = text.split_once("\n===\n").unwrap_or((text, ""));
+    let (text, other_text) = text.split_once('=').unwrap_or((text, ""));
+    let text = text.strip_suffix('\n').unwrap_or(text);
+    let other_text = other_text.strip_prefix("==\n").unwrap_or(other_text);
     let skin = skin_of(alloc, "")?;
     let view = view_of(alloc, numbers_of(words).0, skin, text)?;
     let other = view_of(alloc, numbers_of(other_words).0, skin, other_text)?;
