@@ -1,0 +1,97 @@
+//! Markdown views: pictures, and what goes out of them.
+
+ghost use Rattle.std.specs.Prelude.{IfOk};
+ghost use Rattle.std.specs.List.{AllByRecursion};
+ghost use Rattle.termimad.specs.Areas.{IsWithinLimits};
+ghost use Rattle.termimad.specs.MadViews.{area_of};
+
+use crate::asked::{Asked, area_from, numbers_of};
+use crate::refusal::Refusal;
+use crate::screens::picture;
+use crate::skins::skin_of;
+use crate::texts::taken;
+use std::alloc::Global;
+use termimad::{Area, CutOut, Error, MadSkin, MadView, draw_views};
+
+// More than any row here writes.
+const ROOM: usize = 2000;
+
+/// The picture of a view whose field `scroll` is the last number: beside its scroll bar, if it has one.
+pub fn pictured(asked: &Asked) -> Result<String, Refusal> {
+    let view = view_of(asked.alloc, asked.numbers, asked.skin, asked.text)?;
+    let mut out = CutOut::new(asked.alloc, ROOM, ROOM, false)?;
+    view.write_on(&mut out)?;
+    picture(asked.alloc, &asked.area(), out.taken())
+}
+
+/// What goes out of a view whose field `scroll` is the last number, to a device whose flush fails.
+pub fn written(asked: &Asked) -> Result<String, Refusal> {
+    let view = view_of(asked.alloc, asked.numbers, asked.skin, asked.text)?;
+    let mut out = CutOut::new(asked.alloc, ROOM, ROOM, true)?;
+    view.write(&mut out)?;
+    Ok(taken(asked.alloc, &out)?)
+}
+
+/// The picture of two views. Their numbers have a bar between them, and their texts a line `===`.
+pub fn two_pictured(alloc: Global, words: &str, text: &str) -> Result<String, Refusal> {
+    let out = drawn(alloc, &two_views(alloc, words, text)?)?;
+    picture(alloc, &Area::new(0, 0, 0, 0), out.taken())
+}
+
+/// What goes out of two views.
+pub fn two_written(alloc: Global, words: &str, text: &str) -> Result<String, Refusal> {
+    let out = drawn(alloc, &two_views(alloc, words, text)?)?;
+    Ok(taken(alloc, &out)?)
+}
+
+/// Whether two views are cut on each device that has room for less than goes out of them: what had room went out, and it is a fault.
+pub fn two_cut(alloc: Global, words: &str, text: &str) -> Result<String, Refusal> {
+    let views = two_views(alloc, words, text)?;
+    let whole = drawn(alloc, &views)?;
+    let whole = whole.taken();
+    for room in 0..whole.len() {
+        let mut out = CutOut::new(alloc, 1, room, false)?;
+        match draw_views(alloc, &mut out, &views) {
+            Err(Error::IO(_)) if out.taken() == &whole[..room] => {}
+            Err(Error::Memory) => return Err(Refusal::Memory),
+            _ => return Ok(format!(in alloc; "not cut at byte {room}")?),
+        }
+    }
+    Ok(format!(in alloc; "cut at each of {} bytes", whole.len())?)
+}
+
+fn drawn(alloc: Global, views: &[MadView]) -> Result<CutOut, Refusal>
+    requires { AllByRecursion (λ view. IsWithinLimits (area_of view)) views.now }
+{
+    let mut out = CutOut::new(alloc, ROOM, ROOM, false)?;
+    draw_views(alloc, &mut out, views)?;
+    Ok(out)
+}
+
+fn two_views(alloc: Global, words: &str, text: &str) -> Result<[MadView; 2], Refusal>
+    ensures { IfOk result (λ views. AllByRecursion (λ view. IsWithinLimits (area_of view)) views) }
+{
+    let mut areas = words.split('|');
+    let mut texts = text.split("===\n");
+    let skin = skin_of(alloc, "")?;
+    let text = texts.next().unwrap_or("");
+    let text = text.strip_suffix('\n').unwrap_or(text);
+    let view = view_of(alloc, numbers_of(areas.next().unwrap_or("")).0, skin, text)?;
+    let text = texts.next().unwrap_or("");
+    let other = view_of(alloc, numbers_of(areas.next().unwrap_or("")).0, skin, text)?;
+    Ok([view, other])
+}
+
+fn view_of(
+    alloc: Global,
+    numbers: [usize; 5],
+    skin: MadSkin,
+    text: &str,
+) -> Result<MadView, Refusal>
+    ensures { IfOk result (λ view. IsWithinLimits (area_of view)) }
+{
+    let text = String::from_str(alloc, text)?;
+    let mut view = MadView::from(text, area_from(numbers), skin);
+    view.scroll = numbers[4];
+    Ok(view)
+}

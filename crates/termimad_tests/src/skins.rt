@@ -1,0 +1,107 @@
+//! Skins and their values.
+
+use crate::asked::Asked;
+use crate::refusal::Refusal;
+use serde_json::Value;
+use std::alloc::{AllocError, Global};
+use termimad::{Color, MadSkin, skin_from_value, skin_to_value};
+
+/// The skin of a word.
+pub fn skin_of(alloc: Global, word: &str) -> Result<MadSkin, Refusal> {
+    match word {
+        "" => Ok(MadSkin::no_style()),
+        "default" => Ok(MadSkin::default()),
+        "dark" => Ok(MadSkin::default_dark()),
+        "light" => Ok(MadSkin::default_light()),
+        "ascii" => Ok(ascii()),
+        _ => skin_said(alloc, word),
+    }
+}
+
+// The skin without style, all of whose characters are ASCII.
+fn ascii() -> MadSkin {
+    let mut skin = MadSkin::no_style();
+    skin.limit_to_ascii();
+    skin
+}
+
+// The skin that a JSON text says. After `endless` its paragraphs have margins without end.
+fn skin_said(alloc: Global, word: &str) -> Result<MadSkin, Refusal> {
+    let Some(text) = word.strip_prefix("endless ") else {
+        return Ok(read(alloc, word)?.0);
+    };
+    let mut skin = read(alloc, text)?.0;
+    skin.paragraph.left_margin = usize::MAX;
+    skin.paragraph.right_margin = usize::MAX;
+    Ok(skin)
+}
+
+// The skin that a JSON text says, and its unknown keys.
+fn read(alloc: Global, text: &str) -> Result<(MadSkin, Vec<String>), Refusal> {
+    let value = Value::from_str(alloc, text)?;
+    Ok(skin_from_value(alloc, &value)?)
+}
+
+/// What a JSON text changes: the parts whose values aren't those of the default skin, and the unknown keys.
+pub fn changes(alloc: Global, text: &str) -> Result<String, Refusal> {
+    let (skin, unknown) = read(alloc, text)?;
+    let mut told = String::new(alloc);
+    push_changed_parts(alloc, &skin, &mut told)?;
+    for key in &unknown {
+        write!(told, "unknown: {key}\n")?;
+    }
+    Ok(told)
+}
+
+fn push_changed_parts(alloc: Global, skin: &MadSkin, told: &mut String) -> Result<(), AllocError> {
+    let old = skin_to_value(alloc, &MadSkin::default())?;
+    let new = skin_to_value(alloc, skin)?;
+    push_changed_members(&old, &new, told)
+}
+
+fn push_changed_members(old: &Value, new: &Value, told: &mut String) -> Result<(), AllocError> {
+    let Some(parts) = new.as_object() else {
+        return Ok(());
+    };
+    for (key, part) in parts.iter() {
+        if old.get(key.as_str()) != Some(part) {
+            write!(told, "{key}: {part}\n")?;
+        }
+    }
+    Ok(())
+}
+
+/// What it changes of the default skin where the numbers of a level's items are red.
+pub fn numbered(alloc: Global, level: u8) -> Result<String, Refusal> {
+    let mut skin = MadSkin::default();
+    let Some(style) = skin.ordered_item_style_mut(level) else {
+        return Ok(String::from_str(alloc, "no such level")?);
+    };
+    style.index_style.set_fg(Color::Red);
+    let mut told = String::new(alloc);
+    push_changed_parts(alloc, &skin, &mut told)?;
+    Ok(told)
+}
+
+/// The same of a text in which an unknown key has a value of many characters: `count` times what is before a point, and what is after it.
+pub fn deep_changes(alloc: Global, count: usize, text: &str) -> Result<String, Refusal> {
+    let (front, back) = text.split_once('.').unwrap_or((text, ""));
+    let front = front.repeat(alloc, count)?;
+    let back = back.repeat(alloc, count)?;
+    let text = format!(in alloc; "{{\"colour\":{front}{back}}}")?;
+    changes(alloc, text.as_str())
+}
+
+/// The value of the skin, as JSON.
+pub fn value(asked: &Asked) -> Result<String, Refusal> {
+    let value = skin_to_value(asked.alloc, &asked.skin)?;
+    Ok(value.to_string(asked.alloc)?)
+}
+
+/// Whether the skin is read back from its value.
+pub fn reads_back(asked: &Asked) -> Result<String, Refusal> {
+    let value = skin_to_value(asked.alloc, &asked.skin)?;
+    let (read, unknown) = skin_from_value(asked.alloc, &value)?;
+    let is_same = read == asked.skin && unknown.is_empty();
+    Ok(String::from_str(asked.alloc, if is_same { "well" } else { "otherwise" })?)
+}
