@@ -10,6 +10,7 @@ use Rattle.mad_lines.specs.declared.words.CharClass.{CharClass}
 use Rattle.mad_lines.specs.CharClasses.{is_alphanumeric, is_of}
 use Rattle.mad_lines.specs.LineColumns.{columns, IsIndexAtColumn}
 use Rattle.mad_lines.specs.TextLines.{lines, line_at, IsPosition, IsLineText, IsAcceptedChar, is_newline, offset_of, accepted, clamp}
+use Rattle.mad_edit.specs.Words.{removed_after}
 
 -- an editor
 pub record Editor : Type 0 where
@@ -140,6 +141,13 @@ pub record IsCut (old new : Editor) : Type 0 where
   pub cursor : new.offset ≡ selection_start old
   pub tail : new.tail ≡ None
 
+-- the editor after characters were put in place of its selection
+abbrev pub IsSelectionReplaced : Editor → Editor → List ℕ → Type 0
+IsSelectionReplaced old new cs =
+    (new.text ≡ replaced old.text (selection_start old) (selection_end old) cs)
+    × (new.offset ≡ selection_start old + length (accepted cs))
+    × (new.tail ≡ None)
+
 -- the characters of a class around the cursor are selected, if it is at one: the tail is at the first, the cursor at the last
 pub record SelectsAround (class : CharClass) (old new : Editor) (answer : Bool) : Type 0 where
   pub found : IsTrue answer ↔ (0 < prefix_len (is_of class) (rest_of_line old))
@@ -157,6 +165,16 @@ below_start e = if nat_lt e.offset (length e.text) then e.offset else (if length
 -- where it ends: after the character at the cursor, or at the end of the text
 abbrev pub below_end : Editor → ℕ
 below_end e = min (e.offset + 1) (length e.text)
+
+-- the editor after what a removal at the cursor takes was removed
+abbrev pub IsRemovedBelow : Editor → Editor → Type 0
+IsRemovedBelow old new = IsRemoved old new (below_start old) (below_end old)
+
+-- The editor's text and tail after letters and numbers after the cursor in its line, and the first other character, were removed.
+abbrev pub IsWordRemoved : Editor → Editor → Type 0
+IsWordRemoved old new =
+    (new.text ≡ without old.text old.offset (old.offset + removed_after (rest_of_line old)))
+    × (new.tail ≡ clamp_tail new.text old.tail)
 
 -- where the cursor is after a removal to the right: one step back in its line where letters and numbers reached the line's end
 abbrev pub after_word_removed : Editor → ℕ

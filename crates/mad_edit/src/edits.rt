@@ -2,8 +2,8 @@
 
 ghost use Rattle.std.specs.Prelude.{◌≡◌, ◌<◌, ◌≤◌, ◌+◌, ◌-◌, ◌↔◌, ◌⊎◌, [], ◌∷◌, ◌++◌, false, length, chars, IfOk, OnOk, OnErr, IsTrue};
 ghost use Rattle.mad_lines.specs.TextLines.{accepted};
-ghost use Rattle.mad_edit.specs.Editor.{IsPositionIn, offset_at, IsReplaced, IsRemoved, below_start, below_end, front_of_line, rest_of_line, after_word_removed, without, clamp_tail};
-ghost use Rattle.mad_edit.specs.Words.{word_before, removed_after};
+ghost use Rattle.mad_edit.specs.Editor.{IsPositionIn, offset_at, IsReplaced, IsRemoved, IsRemovedBelow, IsWordRemoved, below_start, below_end, front_of_line, rest_of_line, after_word_removed};
+ghost use Rattle.mad_edit.specs.Words.{word_before};
 
 use crate::content::InputFieldContent;
 use crate::words::word_before;
@@ -112,7 +112,7 @@ impl InputFieldContent {
     /// Out of memory is the only error, and leaves the editor unchanged.
     pub fn del_char_below(&mut self) -> Result<bool, AllocError>
         ensures done { IfOk result (λ b. IsTrue b ↔ (below_start self.old < below_end self.old)) }
-        ensures removed { IfOk result (λ b. IsTrue b → IsRemoved self.old self.new (below_start self.old) (below_end self.old)) }
+        ensures removed { IfOk result (λ b. IsTrue b → IsRemovedBelow self.old self.new) }
         ensures none { IfOk result (λ b. b ≡ false → self.new ≡ self.old) }
         ensures err { OnErr result (self.new ≡ self.old) }
     {
@@ -158,9 +158,7 @@ impl InputFieldContent {
     /// Out of memory is the only error, and leaves the editor unchanged.
     pub fn del_word_right(&mut self) -> Result<bool, AllocError>
         ensures done { IfOk result (λ b. IsTrue b ↔ ((0 < length (front_of_line self.old)) ⊎ (0 < length (rest_of_line self.old)))) }
-        ensures removed { OnOk result (0 < length (rest_of_line self.old) → (self.new.text
-            ≡ without self.old.text self.old.offset (self.old.offset + removed_after (rest_of_line self.old)))
-            × (self.new.tail ≡ clamp_tail self.new.text self.old.tail)) }
+        ensures removed { OnOk result (0 < length (rest_of_line self.old) → IsWordRemoved self.old self.new) }
         ensures stepped { OnOk result (length (rest_of_line self.old) ≡ 0 → (self.new.text ≡ self.old.text) × (self.new.tail ≡ self.old.tail)) }
         ensures cursor { OnOk result (self.new.offset ≡ after_word_removed self.old) }
         ensures err { OnErr result (self.new ≡ self.old) }

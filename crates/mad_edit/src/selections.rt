@@ -1,10 +1,9 @@
 //! What is selected: copied, removed, replaced.
 
 ghost use Rattle.std.specs.Prelude.{◌≡◌, ◌<◌, ◌≤◌, ◌+◌, ◌↔◌, false, length, chars, IfOk, OnOk, OnErr, IsTrue, string_bytes, encode_utf8_all, None};
-ghost use Rattle.mad_lines.specs.TextLines.{accepted};
 ghost use Rattle.mad_edit.specs.Undo.{Removes};
 ghost use Rattle.mad_lines.specs.declared.position.Pos.{Pos};
-ghost use Rattle.mad_edit.specs.Editor.{IsEditor, inserted, IsAt, IsCut, IsRemoved, IsReplaced, IsWide, replaced, selected, selection_start, selection_last, selection_end, below_start, below_end, SelectsAround};
+ghost use Rattle.mad_edit.specs.Editor.{IsEditor, inserted, IsAt, IsCut, IsRemovedBelow, IsReplaced, IsSelectionReplaced, IsWide, selected, selection_start, selection_last, selection_end, below_start, below_end, SelectsAround};
 
 use crate::content::InputFieldContent;
 use mad_lines::CharClass;
@@ -56,7 +55,7 @@ impl InputFieldContent {
         ensures wide { IfOk result (λ b. IsWide self.old → IsCut self.old self.new × IsTrue b) }
         ensures done { IfOk result (λ b. selection_last self.old ≤ selection_start self.old → (IsTrue b ↔ (below_start self.old < below_end self.old))) }
         ensures removed { IfOk result (λ b. selection_last self.old ≤ selection_start self.old → IsTrue b
-            → IsRemoved self.old self.new (below_start self.old) (below_end self.old)) }
+            → IsRemovedBelow self.old self.new) }
         ensures none { IfOk result (λ b. b ≡ false → self.new ≡ self.old) }
         ensures err { OnErr result (self.new ≡ self.old) }
     {
@@ -80,7 +79,7 @@ impl InputFieldContent {
         ensures removes { IfOk result (λ s. (p : Pos) → IsWide self.old → IsAt self.new.text self.new.offset p
             → Removes self.old.text (record { position = p; text = chars (string_bytes s) }) self.new.text) }
         ensures below { OnOk result (selection_last self.old ≤ selection_start self.old → below_start self.old < below_end self.old
-            → IsRemoved self.old self.new (below_start self.old) (below_end self.old)) }
+            → IsRemovedBelow self.old self.new) }
         ensures nothing { OnOk result (selection_last self.old ≤ selection_start self.old → below_end self.old ≤ below_start self.old
             → self.new ≡ self.old) }
         ensures err { OnErr result (self.new ≡ self.old) }
@@ -96,9 +95,7 @@ impl InputFieldContent {
     ///
     /// Out of memory is the only error, and leaves the editor unchanged.
     pub fn replace_selection(&mut self, text: &str) -> Result<(), AllocError>
-        ensures wide { OnOk result (IsWide self.old → (self.new.text
-            ≡ replaced self.old.text (selection_start self.old) (selection_end self.old) (chars text.now))
-            × (self.new.offset ≡ selection_start self.old + length (accepted (chars text.now))) × (self.new.tail ≡ None)) }
+        ensures wide { OnOk result (IsWide self.old → IsSelectionReplaced self.old self.new (chars text.now)) }
         ensures narrow { OnOk result (selection_last self.old ≤ selection_start self.old
             → IsReplaced self.old self.new self.old.offset self.old.offset (chars text.now)) }
         ensures err { OnErr result (self.new ≡ self.old) }
