@@ -50,7 +50,7 @@ test_false : (a b : ℕ) → a ≢ b → (a == b) ≡ false
 test_false a b e = grind (arith, nat_tests)
 
 -- what stands for a character that is no tab and no carriage return
-picture_shown : (begins_line : Bool) (c : ℕ) (after : List ℕ) → c ≢ 9 → c ≢ 13 → shown_as begins_line c after ≡ picture c ∷ []
+pub picture_shown : (begins_line : Bool) (c : ℕ) (after : List ℕ) → c ≢ 9 → c ≢ 13 → shown_as begins_line c after ≡ picture c ∷ []
 picture_shown begins_line c after tab return =
     ap (λ t. cond t (tab_spaces begins_line) (cond (c == 13) (return_shown after) (picture c ∷ []))) (test_false c 9 tab) ∙ ap (λ t. cond t (return_shown after) (picture c ∷ [])) (test_false c 13 return)
 

@@ -11,7 +11,7 @@ use Rattle.std.proofs.lemmas.Str.{IsUtf8-past_char, chars_past_char, chars-encod
 use Rattle.std.proofs.StrCases.{chars_of_empty}
 use Rattle.mad_fit.specs.Printable.{is_printable_char, are_printable, picture, tab_spaces, return_shown, shown_as, shown_from, printable_text, IsPrintableFront}
 
-true_is_false : {A : Type 0} → true ≡ false → A
+pub true_is_false : {A : Type 0} → true ≡ false → A
 true_is_false {A} e = absurd (no e)
   where
     no : true ≡ false → ⊥
@@ -55,7 +55,7 @@ picture_by c false false false h l = refl
 scalar_picture : (c : ℕ) → c < 32 → scalar (0x2400 + c) ≡ true
 scalar_picture c h = grind (arith, nat_tests)
 
-scalar_by : (c : ℕ) (stays low del : Bool) → scalar c ≡ true → nat_lt c 32 ≡ low → scalar (cond stays c (cond low (0x2400 + c) (cond del 0x2421 0xFFFD))) ≡ true
+pub scalar_by : (c : ℕ) (stays low del : Bool) → scalar c ≡ true → nat_lt c 32 ≡ low → scalar (cond stays c (cond low (0x2400 + c) (cond del 0x2421 0xFFFD))) ≡ true
 scalar_by c true low del h l = h
 scalar_by c false true del h l = scalar_picture c (grind (arith, nat_tests))
 scalar_by c false false true h l = refl

@@ -4,6 +4,7 @@ pub mod Thumbs
 pub mod RunningWidths
 pub mod TextColumns
 pub mod Completions
+pub mod KeptCells
 pub mod KeptForms
 pub mod Printable
 pub mod TokenPositions

@@ -2,6 +2,7 @@
 
 ghost use Rattle.std.specs.Prelude.{◌≡◌, ◌≤◌, ◌↔◌, ◌++◌, false, true, length, chars, string_bytes, encode_utf8_all, IfOk, OnOk, OnErr, IsTrue};
 ghost use Rattle.std.specs.Cow.{cow_str_bytes, IsOwnedStr};
+ghost use Rattle.mad_fit.specs.KeptCells.{TableLinesKeepTheirCells};
 ghost use Rattle.mad_fit.specs.KeptForms.{TextsArePrintableByLines, LinesKeepTheirForm, TabsInFrontStayCode};
 ghost use Rattle.mad_fit.specs.Printable.{is_printable_char, are_printable, picture, tab_spaces, return_shown, shown_as, shown_from, printable_text, IsPrintableFront};
 
@@ -133,8 +134,12 @@ fn picture(c: char) -> char
 
 /// What a line is stays what it is: a text becomes printable line by line, and each line outside code blocks keeps its form. A tab in
 /// front is code either way, and a carriage return at a line's end goes either way.
+///
+/// The line of a table keeps its cells, where none of its whitespace is a control character. It is cut at the same bars, and each cell
+/// has the same style, and the same compounds in printable texts. So it is the same rule, or a row of as many cells.
 pub fn printable_lines_keep_their_form()
     ensures lines { TextsArePrintableByLines }
     ensures form { LinesKeepTheirForm }
     ensures tab { TabsInFrontStayCode }
+    ensures cells { TableLinesKeepTheirCells }
 {}
