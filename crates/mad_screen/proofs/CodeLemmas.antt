@@ -16,13 +16,13 @@ no_bits n = same_from_bits (bits_to n 1) 0 (λ i. bit_at_and n (2 ^ 1 - 2 ^ 1) i
     nothing m = omega arith
 
 -- each of them
-inside : (n k i : ℕ) → 1 ≤ i → i < k → bit_at (bits_to n k) i ≡ bit_at n i
+pub inside : (n k i : ℕ) → 1 ≤ i → i < k → bit_at (bits_to n k) i ≡ bit_at n i
 inside n k i low high =
     let one : bit_at n i < 2 = bit_at-lt n i in
     let same : min (bit_at n i) 1 ≡ bit_at n i = omega arith in
     bit_at_and n (2 ^ k - 2 ^ 1) i ∙ ap (λ b. min (bit_at n i) b) (bit_at_mask_inside 1 k i low high) ∙ same
 
-outside : (n k i : ℕ) → (i < 1) ⊎ (k ≤ i) → bit_at (bits_to n k) i ≡ 0
+pub outside : (n k i : ℕ) → (i < 1) ⊎ (k ≤ i) → bit_at (bits_to n k) i ≡ 0
 outside n k i out =
     let none : min (bit_at n i) 0 ≡ 0 = omega arith in
     bit_at_and n (2 ^ k - 2 ^ 1) i

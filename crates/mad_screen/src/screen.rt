@@ -103,8 +103,15 @@ impl Screen {
         self.pen
     }
 
+    /// How many columns it has.
+    pub fn width(&self) -> u16
+        ensures { result ≡ self.now.width }
+    {
+        self.width
+    }
+
     /// How many rows it has.
-    pub(crate) fn height(&self) -> u16
+    pub fn height(&self) -> u16
         ensures { result ≡ self.now.height }
     {
         self.height
@@ -117,8 +124,8 @@ impl Screen {
         &self.cells
     }
 
-    /// The cells of row `y`.
-    pub(crate) fn row(&self, y: u16) -> &[Cell]
+    /// The cells of row `y`, counted from zero: a tail for each further column of a wide character.
+    pub fn row(&self, y: u16) -> &[Cell]
         requires { y < self.now.height }
         ensures { result.now ≡ row_cells self.now y }
     {
@@ -293,8 +300,8 @@ impl Screen {
         }
     }
 
-    // A copy of the screen.
-    fn copy(&self) -> Result<Self, AllocError>
+    /// A copy of the screen, with its cursor and its pen. Out of memory is the only error.
+    pub fn copy(&self) -> Result<Self, AllocError>
         ensures { IfOk result (λ screen. screen ≡ self.now) }
     {
         Ok(Screen {
