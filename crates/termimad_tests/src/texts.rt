@@ -21,7 +21,8 @@ pub fn written(asked: &Asked, name: &str) -> Result<String, Refusal> {
     Ok(told?)
 }
 
-fn write(asked: &Asked, name: &str, out: &mut CutOut) -> Result<(), Error> {
+/// Writes a text in an area, laid out at a width, or as a line.
+pub fn write(asked: &Asked, name: &str, out: &mut CutOut) -> Result<(), Error> {
     let (alloc, skin, text) = (asked.alloc, &asked.skin, asked.text);
     match name {
         "bytes" => skin.write_in_area(alloc, out, text, &asked.area()),
@@ -82,18 +83,8 @@ pub fn raw(asked: &Asked) -> Result<String, Refusal> {
     Ok(text.to_string(asked.alloc)?)
 }
 
-/// What a device takes of a view: it has room for some bytes, takes them one by one, and its flush fails.
-pub fn cut_view(asked: &Asked) -> Result<String, Refusal> {
-    let mut out = CutOut::new(asked.alloc, 1, asked.numbers[4], true)?;
-    let told = match write_view(asked, &mut out) {
-        Ok(()) => String::from_str(asked.alloc, "no fault"),
-        Err(Error::Memory) => Err(AllocError),
-        Err(_) => taken(asked.alloc, &out),
-    };
-    Ok(told?)
-}
-
-fn write_view(asked: &Asked, out: &mut CutOut) -> Result<(), Error> {
+/// Writes a view and flushes.
+pub fn write_view(asked: &Asked, out: &mut CutOut) -> Result<(), Error> {
     let area = asked.area();
     let text = asked.skin.area_text(asked.alloc, asked.text, &area)?;
     TextView::from(&area, &text).write(asked.alloc, out)
