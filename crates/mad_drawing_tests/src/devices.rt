@@ -63,8 +63,12 @@ fn push_times(short: &mut String, c: Option<char>, count: usize) -> Result<(), A
     Ok(())
 }
 
-/// Whether devices that fail get what they should of what a call writes.
+/// Whether devices that fail get what they should of what a call writes, or of what is shown on a screen.
 pub fn tried(alloc: Global, call: &str, text: &str) -> Result<String, AllocError> {
+    let call = call.strip_prefix("screen ").unwrap_or(call);
+    if call.starts_with("bar ") || call.starts_with("cropped ") {
+        return String::from_str(alloc, "no device");
+    }
     test_devices::tried(alloc, &Drawing { call, text })
 }
 

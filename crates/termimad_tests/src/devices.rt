@@ -62,7 +62,7 @@ fn writes(name: &str) -> bool {
     !matches!(
         name,
         "skin" | "deep" | "numbered" | "large" | "refused" | "words_on_a_screen" | "thumb" | "moves"
-            | "mad_moves" | "lines" | "unwrapped" | "raw" | "lengths" | "widths" | "value"
+            | "mad_moves" | "lines" | "unwrapped" | "raw" | "lengths" | "widths" | "kept" | "value"
             | "reads_back" | "devices" | "run_in_twenty_bytes"
     ) && !name.starts_with("ends_of_")
 }

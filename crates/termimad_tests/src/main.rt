@@ -105,6 +105,7 @@ fn answer_asked(name: &str, asked: &Asked) -> Result<String, Refusal> {
         "raw" => texts::raw(asked),
         "lengths" => texts::lengths(asked, asked.numbers[0]),
         "widths" => texts::widths(asked),
+        "kept" => texts::kept(asked),
         "value" => skins::value(asked),
         "reads_back" => skins::reads_back(asked),
         _ => texts::written(asked, name),

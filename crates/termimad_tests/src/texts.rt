@@ -111,6 +111,29 @@ pub fn lengths(asked: &Asked, width: usize) -> Result<String, Refusal> {
     Ok(lengths)
 }
 
+/// Whether at each width from one to another what is displayed of a text has all its characters but whitespace.
+pub fn kept(asked: &Asked) -> Result<String, Refusal> {
+    let [first, end, ..] = asked.numbers;
+    let solid_text = solid(asked.alloc, asked.text)?;
+    for width in first..end {
+        let text = asked.skin.text(asked.alloc, asked.text, Some(width))?;
+        let displayed = text.to_string(asked.alloc)?;
+        if solid(asked.alloc, displayed.as_str())? != solid_text {
+            return Ok(displayed);
+        }
+    }
+    Ok(String::from_str(asked.alloc, "all kept")?)
+}
+
+// A text without its whitespace.
+fn solid(alloc: Global, text: &str) -> Result<String, AllocError> {
+    let mut solid = String::new(alloc);
+    for word in text.split_whitespace() {
+        solid.push_str(word)?;
+    }
+    Ok(solid)
+}
+
 /// Whether at each width from one to another no line of a text is too wide or empty. Else the lengths at the first where one is.
 pub fn widths(asked: &Asked) -> Result<String, Refusal> {
     let [first, end, ..] = asked.numbers;
