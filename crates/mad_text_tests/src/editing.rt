@@ -16,7 +16,7 @@ fn draw(picture: &mut String, content: &InputFieldContent) -> Result<(), AllocEr
     if !content.has_selection() {
         return Ok(());
     }
-    let selected = content.copy_selection()?;
+    let selected = content.selection_string()?;
     write!(picture, "selected {selected}\n")
 }
 

@@ -25,6 +25,7 @@ use asked::{Asked, numbers_of};
 use refusal::Refusal;
 use std::alloc::{AllocError, Global};
 use std::io;
+use termimad::SkinError;
 use test_rows::Calls;
 
 fn main(rt: HostRuntime) -> io::Result<()> {
@@ -78,7 +79,7 @@ fn large_answer(alloc: Global, words: &str, text: &str) -> Result<String, Refusa
 fn refused_answer(alloc: Global, call: &str, text: &str) -> Result<String, Refusal> {
     let (name, words) = call.split_once(' ').unwrap_or((call, ""));
     match answer_in_skin(alloc, name, words, text) {
-        Err(Refusal::Memory) => Ok(String::from_str(alloc, "want of memory")?),
+        Err(Refusal::Memory) => Ok(SkinError::Memory.to_string(alloc)?),
         answer => answer,
     }
 }

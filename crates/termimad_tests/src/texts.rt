@@ -30,7 +30,13 @@ pub fn write(asked: &Asked, name: &str, out: &mut CutOut) -> Result<(), Error> {
         "text_twice" => write_text_twice(asked, out),
         "inline" => skin.write_inline(alloc, out, text),
         "inline_twice" => write_inline_twice(asked, out),
-        _ => lines::write(asked, name, out),
+        "text_on" => skin.write_text_on(alloc, out, text, Some(asked.numbers[0])),
+        "inline_on" => skin.write_inline_on(alloc, out, text),
+        "added" => lines::write_added(asked, out),
+        _ => match name.strip_prefix("filled_") {
+            Some(side) => lines::write_filled(asked, side, out),
+            None => lines::write(asked, name, out),
+        },
     }
 }
 
