@@ -21,12 +21,7 @@ type List<'k> = ListView<'k, Item, Part, Without, ByNumber>;
 
 /// What a script tells of a list. The words are its area, a skin and its columns: `0 0 9 4 plain n,3,3,letter v,3,3,number`. On devices, what
 /// is written goes to those that fail.
-pub fn told(
-    alloc: Global,
-    words: &str,
-    script: &str,
-    on_devices: bool,
-) -> Result<String, Refusal> {
+pub fn told(alloc: Global, words: &str, script: &str, on_devices: bool) -> Result<String, Refusal> {
     let mut words = words.split(' ');
     let mut sides = [0; 4];
     for side in &mut sides {

@@ -185,12 +185,7 @@ impl Inquiry<'_> {
         format!(in alloc; "readers cut after each of {count} bytes")
     }
 
-    fn fails_after(
-        &self,
-        alloc: Global,
-        front: &[u8],
-        whole: &[u8],
-    ) -> Result<bool, AllocError> {
+    fn fails_after(&self, alloc: Global, front: &[u8], whole: &[u8]) -> Result<bool, AllocError> {
         let mut reader = ScriptSource::new(front, true);
         let mut out = CutOut::new(alloc, ROOM, ROOM, false)?;
         match self.ask(alloc, &mut reader, &mut out) {

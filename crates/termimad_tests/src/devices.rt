@@ -35,7 +35,13 @@ fn tried_in_skin(alloc: Global, name: &str, words: &str, text: &str) -> Result<S
         numbers,
         text,
     };
-    Ok(test_devices::tried(alloc, &Named { name, asked: &asked })?)
+    Ok(test_devices::tried(
+        alloc,
+        &Named {
+            name,
+            asked: &asked,
+        },
+    )?)
 }
 
 #[derive(Drop)]
@@ -61,8 +67,24 @@ impl Writing for Named<'_, '_> {
 fn writes(name: &str) -> bool {
     !matches!(
         name,
-        "skin" | "deep" | "numbered" | "large" | "refused" | "words_on_a_screen" | "thumb" | "moves"
-            | "mad_moves" | "lines" | "unwrapped" | "raw" | "lengths" | "widths" | "kept" | "value"
-            | "reads_back" | "devices" | "run_in_twenty_bytes"
+        "skin"
+            | "deep"
+            | "numbered"
+            | "large"
+            | "refused"
+            | "words_on_a_screen"
+            | "thumb"
+            | "moves"
+            | "mad_moves"
+            | "lines"
+            | "unwrapped"
+            | "raw"
+            | "lengths"
+            | "widths"
+            | "kept"
+            | "value"
+            | "reads_back"
+            | "devices"
+            | "run_in_twenty_bytes"
     ) && !name.starts_with("ends_of_")
 }

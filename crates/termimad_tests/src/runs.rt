@@ -66,13 +66,7 @@ impl ProgramCall<'_> {
     ) -> Result<u8, AllocError> {
         let mut input = ScriptSource::new(input, fails);
         let mut err = CutOut::new(alloc, ROOM, ROOM, false)?;
-        Ok(termimad_run::run(
-            alloc,
-            self.args.as_slice(),
-            &mut input,
-            out,
-            &mut err,
-        ))
+        Ok(termimad_run::run(alloc, self.args.as_slice(), &mut input, out, &mut err))
     }
 
     // Tries inputs that fail after each count of bytes: nothing is written then, and it is the fault, if the input is read at all.

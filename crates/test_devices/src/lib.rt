@@ -76,7 +76,11 @@ pub fn tried<W: Writing>(alloc: Global, writing: &W) -> Result<String, AllocErro
     if !minds_flushes(alloc, writing, bytes, flushes)? {
         return String::from_str(alloc, "a flush that fails goes wrong");
     }
-    let flushed = if flushes > 0 { ", and at its flush" } else { "" };
+    let flushed = if flushes > 0 {
+        ", and at its flush"
+    } else {
+        ""
+    };
     format!(in alloc; "cut after each of {} bytes{flushed}", bytes.len())
 }
 
@@ -105,6 +109,10 @@ fn minds_flushes<W: Writing>(
     flushes: u64,
 ) -> Result<bool, AllocError> {
     let run = run_on(alloc, writing, ROOM, ROOM, true)?;
-    let is_due = if flushes > 0 { run.is_cut() } else { run.is_done() };
+    let is_due = if flushes > 0 {
+        run.is_cut()
+    } else {
+        run.is_done()
+    };
     Ok(is_due && run.out.taken() == bytes)
 }
