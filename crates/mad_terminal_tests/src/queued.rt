@@ -136,7 +136,9 @@ impl Writing for Queued<'_> {
     fn write(&self, alloc: Global, out: &mut CutOut) -> Result<(), Error> {
         match self.name {
             "write" => write_in_style(alloc, out, self.first, self.style, self.text),
-            "repeat" => self.style.repeat_string(alloc, out, self.text, self.count()),
+            "repeat" => self
+                .style
+                .repeat_string(alloc, out, self.text, self.count()),
             "commands" => devices::queue_all(alloc, out),
             _ => devices::write_all(alloc, out),
         }
