@@ -4,6 +4,7 @@ use crate::drawings::draw;
 use mad_screen::CutOut;
 use mad_term::Error;
 use std::alloc::{AllocError, Global};
+use test_devices::Writing;
 
 /// A device with room for all that a row writes. Its flush fails: a call that flushes would be refused.
 pub fn ample(alloc: Global) -> Result<CutOut, AllocError> {
@@ -62,33 +63,23 @@ fn push_times(short: &mut String, c: Option<char>, count: usize) -> Result<(), A
     Ok(())
 }
 
-/// Whether a device that fails after any count of the bytes took just these, and the call is refused by the fault.
-pub fn cut(alloc: Global, call: &str, text: &str) -> Result<String, AllocError> {
-    let mut out = ample(alloc)?;
-    if draw(alloc, &mut out, call, text).is_err() {
-        return Err(AllocError);
+/// Whether devices that fail get what they should of what a call writes, or of what is shown on a screen.
+pub fn tried(alloc: Global, call: &str, text: &str) -> Result<String, AllocError> {
+    let call = call.strip_prefix("screen ").unwrap_or(call);
+    if call.starts_with("bar ") || call.starts_with("cropped ") {
+        return String::from_str(alloc, "no device");
     }
-    let whole = out.taken();
-    for room in 0..whole.len() {
-        if !is_cut_at(alloc, call, text, whole, room)? {
-            return format!(in alloc; "not cut after {room} bytes");
-        }
-    }
-    let count = whole.len();
-    format!(in alloc; "cut after each of {count} bytes")
+    test_devices::tried(alloc, &Drawing { call, text })
 }
 
-fn is_cut_at(
-    alloc: Global,
-    call: &str,
-    text: &str,
-    whole: &[u8],
-    room: usize,
-) -> Result<bool, AllocError> {
-    let mut out = CutOut::new(alloc, 1, room, true)?;
-    match draw(alloc, &mut out, call, text) {
-        Err(Error::Memory) => Err(AllocError),
-        Err(Error::IO(_)) => Ok(whole.starts_with(out.taken()) && out.taken().len() == room),
-        _ => Ok(false),
+#[derive(Drop)]
+struct Drawing<'a> {
+    call: &'a str,
+    text: &'a str,
+}
+
+impl Writing for Drawing<'_> {
+    fn write(&self, alloc: Global, out: &mut CutOut) -> Result<(), Error> {
+        draw(alloc, out, self.call, self.text)
     }
 }

@@ -26,7 +26,7 @@ impl Calls for DrawingCalls {
             "bar" => drawings::bar(alloc, rest),
             "crop" => crops::crop(alloc, rest, text),
             "cropped" => crops::cropped(alloc, rest, text),
-            "cut" => devices::cut(alloc, rest, text),
+            "devices" => devices::tried(alloc, rest, text),
             "screen" => pictures::screen(alloc, rest, text),
             _ => devices::taken(alloc, call, text),
         }

@@ -17,8 +17,7 @@ pub fn apply(
         "state" => pictures::push_state(answer, field),
         "draw" => pictures::push_drawing(answer, field),
         "bytes" => devices::push_bytes(answer, field),
-        "cut_off" => devices::push_cut_off(answer, field),
-        "flush_fails" => devices::push_flush(answer, field),
+        "devices" => devices::push_tried(answer, field),
         _ => apply_call(answer, field, name, rest),
     }
 }

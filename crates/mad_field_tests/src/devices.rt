@@ -4,64 +4,37 @@ use mad_field::InputField;
 use mad_screen::CutOut;
 use mad_term::Error;
 use std::alloc::{AllocError, Global};
+use test_devices::Writing;
 
 // More bytes than a field of a row takes.
 const ROOM: usize = 20000;
 
-// What a device that takes some bytes at a time, and fails after some, got of a drawing. Whether it was refused comes first.
-fn drawn(
-    alloc: Global,
-    field: &InputField,
-    step: usize,
-    most: usize,
-) -> Result<(bool, CutOut), AllocError> {
-    let mut out = CutOut::new(alloc, step, most, false)?;
-    if !field.area().is_within_limits() {
-        return Ok((true, out));
-    }
-    match field.display_on(&mut out) {
-        Ok(_) => Ok((false, out)),
-        Err(Error::Memory) => Err(AllocError),
-        Err(_) => Ok((true, out)),
-    }
-}
-
 /// Appends the bytes of a drawing.
 pub fn push_bytes(answer: &mut String, field: &InputField) -> Result<(), AllocError> {
-    let (_, out) = drawn(*answer.allocator(), field, ROOM, ROOM)?;
-    let text = String::from_utf8_lossy(*answer.allocator(), out.taken())?;
+    let alloc = *answer.allocator();
+    let mut out = CutOut::new(alloc, ROOM, ROOM, false)?;
+    if let Err(Error::Memory) = Drawn(field).write(alloc, &mut out) {
+        return Err(AllocError);
+    }
+    let text = String::from_utf8_lossy(alloc, out.taken())?;
     write!(answer, "{text}\n")
 }
 
-/// Draws to devices that fail after each number of bytes. Appends how many weren't refused, or got another text than a beginning of so
-/// many bytes.
-pub fn push_cut_off(answer: &mut String, field: &InputField) -> Result<(), AllocError> {
-    let (_, whole) = drawn(*answer.allocator(), field, ROOM, ROOM)?;
-    let count = whole.taken().len();
-    let mut wrong: usize = 0;
-    for most in 0..count {
-        let (refused, out) = drawn(*answer.allocator(), field, 7, most)?;
-        let taken = out.taken();
-        if !refused || taken.len() != most || !whole.taken().starts_with(taken) {
-            wrong = wrong.saturating_add(1);
-        }
-    }
-    write!(answer, "cut off after each byte: {wrong} wrong\n")
+/// Appends whether devices that fail get what they should of a drawing.
+pub fn push_tried(answer: &mut String, field: &InputField) -> Result<(), AllocError> {
+    let tried = test_devices::tried(*answer.allocator(), &Drawn(field))?;
+    write!(answer, "{tried}\n")
 }
 
-/// Appends what the call that flushes is refused by, where the flush fails, and whether all bytes went out before it.
-pub fn push_flush(answer: &mut String, field: &InputField) -> Result<(), AllocError> {
-    let (_, whole) = drawn(*answer.allocator(), field, ROOM, ROOM)?;
-    let mut out = CutOut::new(*answer.allocator(), ROOM, ROOM, true)?;
-    if !field.area().is_within_limits() {
-        return Ok(());
-    }
-    match field.display(&mut out) {
-        Ok(_) => answer.push_str("flushed\n"),
-        Err(Error::Memory) => Err(AllocError),
-        Err(error) => {
-            let same = out.taken() == whole.taken();
-            write!(answer, "refused: {error}, after all bytes: {same}\n")
+// What goes out of a field, with a flush.
+#[derive(Drop)]
+struct Drawn<'f>(&'f InputField);
+
+impl Writing for Drawn<'_> {
+    fn write(&self, _alloc: Global, out: &mut CutOut) -> Result<(), Error> {
+        if self.0.area().is_within_limits() {
+            self.0.display(out)?;
         }
+        Ok(())
     }
 }

@@ -23,10 +23,16 @@ struct FieldCalls;
 
 impl Calls for FieldCalls {
     fn answer(&self, alloc: Global, call: &str, text: &str) -> Result<String, AllocError> {
+        let (call, on_devices) = match call.strip_prefix("devices ") {
+            Some(call) => (call, true),
+            None => (call, false),
+        };
         let (head, calls) = call.split_once(": ").unwrap_or((call, ""));
         let mut answer = String::new(alloc);
         match head.split_once(' ') {
-            Some(("field", numbers)) => draw_field(&mut answer, numbers, calls, text)?,
+            Some(("field", numbers)) => {
+                draw_field(&mut answer, numbers, calls, text, on_devices)?;
+            },
             Some(("as_click", event)) => inputs::push_click(&mut answer, event)?,
             Some(("is_key", key)) => inputs::push_is_key(&mut answer, key, calls)?,
             _ => inputs::push_bits(&mut answer, head)?,
@@ -35,12 +41,14 @@ impl Calls for FieldCalls {
     }
 }
 
-// What a field answers to calls, one after the other. It is focused and has the text, with the cursor at its start, scrolled there.
+// What a field answers to calls, one after the other. It is focused and has the text, with the cursor at its start, scrolled there. On devices,
+// what is drawn goes to those that fail.
 fn draw_field(
     answer: &mut String,
     numbers: &str,
     calls: &str,
     text: &str,
+    on_devices: bool,
 ) -> Result<(), AllocError> {
     let text: String = text
         .chars()
@@ -51,9 +59,34 @@ fn draw_field(
     field.move_to_start();
     for call in calls.split(", ") {
         let (name, rest) = call.split_once(' ').unwrap_or((call, ""));
-        calls::apply(answer, &mut field, name, rest)?;
+        let name = match name {
+            "draw" | "bytes" if on_devices => "devices",
+            name => name,
+        };
+        apply_whole(answer, &mut field, name, rest)?;
     }
     Ok(())
+}
+
+// What a call of a row may write of itself.
+const ROOM: usize = 500;
+
+// Applies a call. Where it is refused and the field isn't as it was, it says so. `cut_and_insert` is two calls.
+fn apply_whole(
+    answer: &mut String,
+    field: &mut InputField,
+    name: &str,
+    rest: &str,
+) -> Result<(), AllocError> {
+    answer.reserve(ROOM)?;
+    let content = field.content().try_clone(*answer.allocator())?;
+    let state = (field.scroll(), field.focused());
+    let applied = calls::apply(answer, field, name, rest);
+    let is_same = field.content() == &content && (field.scroll(), field.focused()) == state;
+    if applied.is_ok() || is_same || name == "cut_and_insert" {
+        return applied;
+    }
+    answer.push_str("changed by a refusal\n")
 }
 
 fn main(rt: HostRuntime) -> io::Result<()> {

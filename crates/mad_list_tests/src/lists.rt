@@ -10,15 +10,18 @@ use mad_list::{ListView, ListViewColumn};
 use mad_md::Alignment;
 use mad_screen::{CutOut, Screen};
 use mad_style::{CompoundStyle, rgb};
+use mad_term::Error;
 use std::alloc::{AllocError, Global};
+use test_devices::Writing;
 
 // More bytes than any row here writes.
 const ROOM: usize = 20_000;
 
 type List<'k> = ListView<'k, Item, Part, Without, ByNumber>;
 
-/// What a script tells of a list. The words are its area, a skin and its columns: `0 0 9 4 plain n,3,3,letter v,3,3,number`.
-pub fn told(alloc: Global, words: &str, script: &str) -> Result<String, Refusal> {
+/// What a script tells of a list. The words are its area, a skin and its columns: `0 0 9 4 plain n,3,3,letter v,3,3,number`. On devices, what
+/// is written goes to those that fail.
+pub fn told(alloc: Global, words: &str, script: &str, on_devices: bool) -> Result<String, Refusal> {
     let mut words = words.split(' ');
     let mut sides = [0; 4];
     for side in &mut sides {
@@ -33,8 +36,12 @@ pub fn told(alloc: Global, words: &str, script: &str) -> Result<String, Refusal>
     let mut told = String::new(alloc);
     for line in script.split('\n') {
         let (command, words) = line.split_once(' ').unwrap_or((line, ""));
+        let command = match command {
+            "write" | "picture" if on_devices => "devices",
+            command => command,
+        };
         if !tell(alloc, &list, command, &mut told)? && !select(&mut list, command) {
-            change(&mut list, command, words)?;
+            change(alloc, &mut list, command, words)?;
         }
     }
     Ok(told)
@@ -102,7 +109,10 @@ fn tell(alloc: Global, list: &List, command: &str, told: &mut String) -> Result<
             list.write(alloc, &mut out)?;
             write!(told, "{} puts, {} flushes\n", out.puts(), out.flushes())?;
         }
-        "cuts" => write!(told, "{}\n", cuts(alloc, list)?)?,
+        "devices" => {
+            let tried = test_devices::tried(alloc, &Drawn(list))?;
+            write!(told, "{tried}\n")?;
+        }
         "state" => push_state(list, told)?,
         _ => return Ok(false),
     }
@@ -117,20 +127,17 @@ fn written(alloc: Global, list: &List) -> Result<CutOut, Refusal> {
     Ok(out)
 }
 
-// How many devices that fail, one at each byte, took a beginning of the whole.
-fn cuts(alloc: Global, list: &List) -> Result<usize, Refusal> {
-    let whole = written(alloc, list)?;
-    let mut count: usize = 0;
-    for room in 0..whole.taken().len() {
-        let mut out = CutOut::new(alloc, ROOM, room, false)?;
-        if list.area.is_within_limits() {
-            let failed = list.write_on(alloc, &mut out).is_err();
-            if failed && out.taken() == &whole.taken()[..room] {
-                count = count.saturating_add(1);
-            }
+// What goes out of a list, with a flush.
+#[derive(Drop)]
+struct Drawn<'l, 'k>(&'l List<'k>);
+
+impl Writing for Drawn<'_, '_> {
+    fn write(&self, alloc: Global, out: &mut CutOut) -> Result<(), Error> {
+        if !self.0.area.is_within_limits() {
+            return Ok(());
         }
+        self.0.write(alloc, out)
     }
-    Ok(count)
 }
 
 // The counts, the selected row, the body's height and the bar's thumb.
@@ -169,9 +176,30 @@ fn select(list: &mut List, command: &str) -> bool {
     true
 }
 
-fn change(list: &mut List, command: &str, words: &str) -> Result<(), Refusal> {
+// Adds a row. Where that is refused, the row has to be handed back, and the list what it was.
+fn add(alloc: Global, list: &mut List, item: Item) -> Result<(), Refusal> {
+    let before = state_of(alloc, list)?;
+    let Err(refused) = list.add_row(item) else {
+        return Ok(());
+    };
+    let back = refused.value;
+    let is_back = back.number == item.number && back.letter == item.letter;
+    if is_back && state_of(alloc, list)? == before {
+        return Err(Refusal::Memory);
+    }
+    Err(Refusal::Changed)
+}
+
+// What is written of a list, and its state.
+fn state_of(alloc: Global, list: &List) -> Result<String, Refusal> {
+    let mut state = String::from_utf8_lossy(alloc, written(alloc, list)?.taken())?;
+    push_state(list, &mut state)?;
+    Ok(state)
+}
+
+fn change(alloc: Global, list: &mut List, command: &str, words: &str) -> Result<(), Refusal> {
     match command {
-        "add" => list.add_row(item_of(words))?,
+        "add" => add(alloc, list, item_of(words))?,
         "sort" => list.sort(ByNumber),
         "clear" => list.clear_rows(),
         "without" => list.set_filter(Without(words.parse().unwrap_or(0))),

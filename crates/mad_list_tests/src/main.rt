@@ -36,10 +36,20 @@ fn answer_of(alloc: Global, call: &str, text: &str) -> Result<String, Refusal> {
     let (name, words) = call.split_once(' ').unwrap_or((call, ""));
     match name {
         "rows" => Ok(rows::shown(alloc, words.parse().unwrap_or(0), text)?),
-        "list" => lists::told(alloc, words, text),
+        "list" => lists::told(alloc, words, text, false),
         "many" => lists::many(alloc, words.parse().unwrap_or(0)),
-        "ask" => Ok(questions::asked(alloc, words)?),
-        "cut" => questions::cut(alloc, words),
-        _ => Ok(questions::texts(alloc)?),
+        "ask" => questions::asked(alloc, words),
+        "devices" => on_devices(alloc, words, text),
+        _ => questions::texts(alloc),
+    }
+}
+
+// Whether devices that fail get what they should of what a call writes.
+fn on_devices(alloc: Global, call: &str, text: &str) -> Result<String, Refusal> {
+    let (name, words) = call.split_once(' ').unwrap_or((call, ""));
+    match name {
+        "list" => lists::told(alloc, words, text, true),
+        "ask" => questions::tried(alloc, words),
+        _ => Ok(String::from_str(alloc, "no device")?),
     }
 }

@@ -13,6 +13,8 @@ pub enum Refusal {
     Writing(Error),
     /// The plain terminal can't read what was written.
     Screen(NotPlain),
+    /// A call was refused, and a value isn't what it was before it.
+    Changed,
 }
 
 impl Refusal {
@@ -22,6 +24,7 @@ impl Refusal {
             Refusal::Memory => Err(AllocError),
             Refusal::Writing(error) => format!(in alloc; "{error}"),
             Refusal::Screen(error) => format!(in alloc; "{error}"),
+            Refusal::Changed => String::from_str(alloc, "changed by a refusal"),
         }
     }
 }

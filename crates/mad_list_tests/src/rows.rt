@@ -11,14 +11,35 @@ pub fn shown(alloc: Global, body: usize, script: &str) -> Result<String, AllocEr
     let mut rows: Rows = ListRows::new(alloc);
     let mut told = String::new(alloc);
     for line in script.split('\n') {
-        let (command, words) = line.split_once(' ').unwrap_or((line, ""));
-        if command == "show" {
+        if line == "show" {
             push_state(&rows, &mut told)?;
         } else {
-            change(&mut rows, body, command, words)?;
+            change_whole(alloc, &mut rows, body, line, &mut told)?;
         }
     }
     Ok(told)
+}
+
+// Changes rows. Where that is refused and they aren't what they were, it says so.
+fn change_whole(
+    alloc: Global,
+    rows: &mut Rows,
+    body: usize,
+    line: &str,
+    told: &mut String,
+) -> Result<(), AllocError> {
+    let (command, words) = line.split_once(' ').unwrap_or((line, ""));
+    let mut before = String::new(alloc);
+    push_state(rows, &mut before)?;
+    let Err(refused) = change(rows, body, command, words) else {
+        return Ok(());
+    };
+    let mut after = String::new(alloc);
+    push_state(rows, &mut after)?;
+    if after != before {
+        return told.push_str("changed by a refusal\n");
+    }
+    Err(refused)
 }
 
 fn change(rows: &mut Rows, body: usize, command: &str, words: &str) -> Result<(), AllocError> {

@@ -35,7 +35,8 @@ fn queue_commands(alloc: Global, out: &mut CutOut) -> Result<(), Error> {
     queue_bg(alloc, out, Color::Reset)
 }
 
-fn queue_all(alloc: Global, out: &mut CutOut) -> Result<(), Error> {
+/// One of each command, and two pieces.
+pub fn queue_all(alloc: Global, out: &mut CutOut) -> Result<(), Error> {
     queue_commands(alloc, out)?;
     let bold = ContentStyle {
         foreground_color: Some(Color::Red),
@@ -64,7 +65,8 @@ const TOKENS: &[StyleToken] = &[
     StyleToken::Dimension(7),
 ];
 
-fn write_all(alloc: Global, out: &mut CutOut) -> Result<(), Error> {
+/// Styles as texts.
+pub fn write_all(alloc: Global, out: &mut CutOut) -> Result<(), Error> {
     write_style_tokens(alloc, out, TOKENS)?;
     let color = Color::Rgb {
         r: 1,

@@ -6,6 +6,7 @@ use mad_screen::CutOut;
 use mad_style::{CompoundStyle, LineStyle, StyledChar};
 use mad_term::{ClearType, Error};
 use std::alloc::{AllocError, Global};
+use test_devices::Writing;
 
 /// The answer of a call of this module, or of one of the next.
 pub fn answer(alloc: Global, name: &str, rest: &str, text: &str) -> Result<String, AllocError> {
@@ -15,6 +16,7 @@ pub fn answer(alloc: Global, name: &str, rest: &str, text: &str) -> Result<Strin
         "write" => written(alloc, first, style, text),
         "repeat" => repeated(alloc, first, style, text),
         "repeated" => repeated_char(alloc, first, style),
+        "devices" => tried(alloc, first, words, text),
         "display" => first_char(style, first).to_string(alloc),
         _ => devices::answer(alloc, name, first, text),
     }
@@ -95,6 +97,52 @@ fn write_char(
 // Whether a text `count` times has more bytes than any memory holds.
 fn is_too_long(text: &str, count: usize) -> bool {
     text.len().saturating_mul(count) > usize::MAX / 2
+}
+
+// Whether devices that fail get what they should of what a call writes.
+fn tried(alloc: Global, name: &str, rest: &str, text: &str) -> Result<String, AllocError> {
+    let (first, words) = rest.split_once(' ').unwrap_or((rest, ""));
+    let queued = Queued {
+        name,
+        first,
+        style: CompoundStyle::from(style_of(words)),
+        text,
+    };
+    if !matches!(name, "write" | "repeat" | "commands" | "written_tokens") {
+        return String::from_str(alloc, "no device");
+    }
+    if name == "repeat" && is_too_long(text, queued.count()) {
+        return String::from_str(alloc, "too long");
+    }
+    test_devices::tried(alloc, &queued)
+}
+
+// What a call writes.
+#[derive(Drop)]
+struct Queued<'a> {
+    name: &'a str,
+    first: &'a str,
+    style: CompoundStyle,
+    text: &'a str,
+}
+
+impl Queued<'_> {
+    fn count(&self) -> usize {
+        number(Some(self.first)).unwrap_or(0)
+    }
+}
+
+impl Writing for Queued<'_> {
+    fn write(&self, alloc: Global, out: &mut CutOut) -> Result<(), Error> {
+        match self.name {
+            "write" => write_in_style(alloc, out, self.first, self.style, self.text),
+            "repeat" => self
+                .style
+                .repeat_string(alloc, out, self.text, self.count()),
+            "commands" => devices::queue_all(alloc, out),
+            _ => devices::write_all(alloc, out),
+        }
+    }
 }
 
 // A text `count` times in a style. Where that is too long, out of memory is the answer.

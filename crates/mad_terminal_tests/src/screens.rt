@@ -13,10 +13,14 @@ pub fn screen(alloc: Global, size: &str, text: &str, pictured: bool) -> Result<S
     if pictured {
         push_pictures(&mut answer, &screen)?;
     }
+    push_cursor(&mut answer, &screen)?;
+    Ok(answer)
+}
+
+fn push_cursor(answer: &mut String, screen: &Screen) -> Result<(), AllocError> {
     let (x, y) = screen.cursor();
     write!(answer, "cursor {x} {y}")?;
-    push_pen(&mut answer, screen.pen())?;
-    Ok(answer)
+    push_pen(answer, screen.pen())
 }
 
 fn screen_after(
@@ -40,11 +44,25 @@ fn read_line(
     refusals: &mut String,
 ) -> Result<(), AllocError> {
     let bytes = bytes_of(alloc, line)?;
-    match screen.read_bytes(&bytes) {
-        Ok(()) => Ok(()),
-        Err(NotPlain::Memory) => Err(AllocError),
-        Err(error) => write!(refusals, "{line} is {error}\n"),
+    let before = state_of(alloc, screen)?;
+    let Err(error) = screen.read_bytes(&bytes) else {
+        return Ok(());
+    };
+    if state_of(alloc, screen)? != before {
+        return refusals.push_str("changed by a refusal\n");
     }
+    match error {
+        NotPlain::Memory => Err(AllocError),
+        error => write!(refusals, "{line} is {error}\n"),
+    }
+}
+
+// All that can be seen of a screen.
+fn state_of(alloc: Global, screen: &Screen) -> Result<String, AllocError> {
+    let mut state = String::new(alloc);
+    push_pictures(&mut state, screen)?;
+    push_cursor(&mut state, screen)?;
+    Ok(state)
 }
 
 // The bytes of a text in which `<ff>` is the byte of these hex digits.

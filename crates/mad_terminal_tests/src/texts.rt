@@ -4,10 +4,12 @@ use crate::bytes;
 use crate::words::style_of;
 use mad_parse::{
     ParseStyleTokenError, PushStyleTokens, StyleToken, parse_align, parse_attribute, parse_color,
-    parse_compound_style, parse_line_style, parse_ordered_item_style, parse_style_tokens,
-    parse_styled_char, style_tokens_to_string,
+    parse_compound_style, parse_line_style, parse_ordered_item_style, parse_style_token,
+    parse_style_tokens, parse_styled_char, style_tokens_to_string,
 };
+use mad_screen::NotPlain;
 use mad_style::CompoundStyle;
+use mad_term::Error;
 use std::alloc::{AllocError, Global};
 use std::fmt::{Debug, Display};
 
@@ -15,6 +17,8 @@ use std::fmt::{Debug, Display};
 pub fn answer(alloc: Global, name: &str, rest: &str, text: &str) -> Result<String, AllocError> {
     match name {
         "tokens" => tokens(alloc, if rest.is_empty() { text } else { rest }),
+        "token" => token(alloc, rest),
+        "memory_texts" => memory_texts(alloc),
         "tokens_of" => count(alloc, rest, text),
         "color" => shown(alloc, parse_color(rest)),
         "attribute" => shown(alloc, parse_attribute(rest)),
@@ -34,6 +38,23 @@ fn tokens(alloc: Global, text: &str) -> Result<String, AllocError> {
         Ok(tokens) => listed(alloc, &tokens),
         Err(error) => refused(alloc, error),
     }
+}
+
+fn token(alloc: Global, text: &str) -> Result<String, AllocError> {
+    match parse_style_token(alloc, text) {
+        Ok(token) => format!(in alloc; "{token:?}"),
+        Err(error) => refused(alloc, error),
+    }
+}
+
+// The texts of out of memory, of each kind of error.
+fn memory_texts(alloc: Global) -> Result<String, AllocError> {
+    let (error, style, screen) = (
+        Error::Memory,
+        ParseStyleTokenError::Memory,
+        NotPlain::Memory,
+    );
+    format!(in alloc; "{error}\n{style}\n{screen}")
 }
 
 fn refused(alloc: Global, error: ParseStyleTokenError) -> Result<String, AllocError> {

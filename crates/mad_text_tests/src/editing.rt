@@ -16,7 +16,7 @@ fn draw(picture: &mut String, content: &InputFieldContent) -> Result<(), AllocEr
     if !content.has_selection() {
         return Ok(());
     }
-    let selected = content.copy_selection()?;
+    let selected = content.selection_string()?;
     write!(picture, "selected {selected}\n")
 }
 
@@ -76,12 +76,32 @@ fn draw_call(
     content: &mut InputFieldContent,
     call: &str,
 ) -> Result<(), AllocError> {
-    if let Some((call, text)) = call.split_once(' ') {
-        put_in(content, call, text)?;
-    } else if !apply(content, call)? {
-        picture.push_str("nothing: ")?;
-    }
+    let before = content.try_clone(*picture.allocator())?;
+    let Ok(done) = applied(content, call) else {
+        return draw_refused(picture, content, &before);
+    };
+    picture.push_str(if done { "" } else { "nothing: " })?;
     draw(picture, content)
+}
+
+fn applied(content: &mut InputFieldContent, call: &str) -> Result<bool, AllocError> {
+    let Some((call, text)) = call.split_once(' ') else {
+        return apply(content, call);
+    };
+    put_in(content, call, text)?;
+    Ok(true)
+}
+
+// A refusal, or that the editor isn't what it was before it.
+fn draw_refused(
+    picture: &mut String,
+    content: &InputFieldContent,
+    before: &InputFieldContent,
+) -> Result<(), AllocError> {
+    if content == before {
+        return Err(AllocError);
+    }
+    picture.push_str("changed by a refusal\n")
 }
 
 // An editor of a text. The numbers are the cursor's column and line, and then the tail's.

@@ -85,14 +85,41 @@ fn write_wide_row(
     out: &mut CutOut,
 ) -> Result<(), Error> {
     let [row, width, ..] = asked.numbers;
-    let align = match side {
+    let align = side_of(side);
+    if align == Alignment::Unspecified {
+        return write_row(asked, kind, None, Some(row), out);
+    }
+    let place = Spacing { width, align };
+    write_row(asked, kind, Some(place), Some(row), out)
+}
+
+fn side_of(word: &str) -> Alignment {
+    match word {
         "left" => Alignment::Left,
         "center" => Alignment::Center,
         "right" => Alignment::Right,
-        _ => return write_row(asked, kind, None, Some(row), out),
-    };
-    let place = Spacing { width, align };
-    write_row(asked, kind, Some(place), Some(row), out)
+        _ => Alignment::Unspecified,
+    }
+}
+
+/// Writes a line fitted to a width, which is the first number, and filled up on a side.
+pub fn write_filled(asked: &Asked, side: &str, out: &mut CutOut) -> Result<(), Error> {
+    let composite = Composite::from_inline(asked.alloc, asked.text)?;
+    let width = asked.numbers[0];
+    asked
+        .skin
+        .write_composite_fill(asked.alloc, out, &composite, width, side_of(side))
+}
+
+/// Writes a line to which its compounds were added one by one.
+pub fn write_added(asked: &Asked, out: &mut CutOut) -> Result<(), Error> {
+    let mut composite = FmtComposite::new(asked.alloc);
+    for compound in &Composite::from_inline(asked.alloc, asked.text)?.compounds {
+        composite.add_compound(*compound)?;
+    }
+    asked
+        .skin
+        .write_fmt_composite(asked.alloc, out, &composite, None, false)
 }
 
 // Writes what is displayed of a line, a bar, and the line in a row that is filled up.

@@ -8,20 +8,25 @@ ghost use Rattle.termimad.specs.MadViews.{area_of};
 use crate::asked::{Asked, area_from, numbers_of};
 use crate::refusal::Refusal;
 use crate::screens::picture;
-use crate::skins::skin_of;
 use crate::texts::taken;
-use std::alloc::Global;
+use std::alloc::{AllocError, Global};
 use termimad::{Area, CutOut, Error, MadSkin, MadView, draw_views};
+use test_devices::Writing;
 
 // More than any row here writes.
 const ROOM: usize = 2000;
 
 /// The picture of a view whose field `scroll` is the last number: beside its scroll bar, if it has one.
 pub fn pictured(asked: &Asked) -> Result<String, Refusal> {
-    let view = view_of(asked.alloc, asked.numbers, asked.skin, asked.text)?;
     let mut out = CutOut::new(asked.alloc, ROOM, ROOM, false)?;
-    view.write_on(&mut out)?;
+    write(asked, &mut out)?;
     picture(asked.alloc, &asked.area(), out.taken())
+}
+
+/// Writes a view whose field `scroll` is the last number.
+pub fn write(asked: &Asked, out: &mut CutOut) -> Result<(), Error> {
+    let view = view_of(asked.alloc, asked.numbers, asked.skin, asked.text)?;
+    view.write_on(out)
 }
 
 /// What goes out of a view whose field `scroll` is the last number, to a device whose flush fails.
@@ -44,20 +49,22 @@ pub fn two_written(alloc: Global, words: &str, text: &str) -> Result<String, Ref
     Ok(taken(alloc, &out)?)
 }
 
-/// Whether two views are cut on each device that has room for less than goes out of them: what had room went out, and it is a fault.
-pub fn two_cut(alloc: Global, words: &str, text: &str) -> Result<String, Refusal> {
-    let views = two_views(alloc, words, text)?;
-    let whole = drawn(alloc, &views)?;
-    let whole = whole.taken();
-    for room in 0..whole.len() {
-        let mut out = CutOut::new(alloc, 1, room, false)?;
-        match draw_views(alloc, &mut out, &views) {
-            Err(Error::IO(_)) if out.taken() == &whole[..room] => {}
-            Err(Error::Memory) => return Err(Refusal::Memory),
-            _ => return Ok(format!(in alloc; "not cut at byte {room}")?),
-        }
+/// Whether devices that fail get what they should of two views.
+pub fn two_tried(alloc: Global, words: &str, text: &str) -> Result<String, Refusal> {
+    Ok(test_devices::tried(alloc, &TwoViews { words, text })?)
+}
+
+#[derive(Drop)]
+struct TwoViews<'a> {
+    words: &'a str,
+    text: &'a str,
+}
+
+impl Writing for TwoViews<'_> {
+    fn write(&self, alloc: Global, out: &mut CutOut) -> Result<(), Error> {
+        let views = two_views(alloc, self.words, self.text)?;
+        draw_views(alloc, out, &views)
     }
-    Ok(format!(in alloc; "cut at each of {} bytes", whole.len())?)
 }
 
 fn drawn(alloc: Global, views: &[MadView]) -> Result<CutOut, Refusal>
@@ -68,12 +75,12 @@ fn drawn(alloc: Global, views: &[MadView]) -> Result<CutOut, Refusal>
     Ok(out)
 }
 
-fn two_views(alloc: Global, words: &str, text: &str) -> Result<[MadView; 2], Refusal>
+fn two_views(alloc: Global, words: &str, text: &str) -> Result<[MadView; 2], AllocError>
     ensures { IfOk result (λ views. AllByRecursion (λ view. IsWithinLimits (area_of view)) views) }
 {
     let mut areas = words.split('|');
     let mut texts = text.split("===\n");
-    let skin = skin_of(alloc, "")?;
+    let skin = MadSkin::no_style();
     let text = texts.next().unwrap_or("");
     let text = text.strip_suffix('\n').unwrap_or(text);
     let view = view_of(alloc, numbers_of(areas.next().unwrap_or("")).0, skin, text)?;
@@ -87,7 +94,7 @@ fn view_of(
     numbers: [usize; 5],
     skin: MadSkin,
     text: &str,
-) -> Result<MadView, Refusal>
+) -> Result<MadView, AllocError>
     ensures { IfOk result (λ view. IsWithinLimits (area_of view)) }
 {
     let text = String::from_str(alloc, text)?;

@@ -6,10 +6,11 @@
 //! 1. `asked`: what a call asks for; `skins`: skins and their values; `refusal`: why a call has no answer.
 //! 2. `screens`: pictures of areas and views; `mad_views`: Markdown views; `moves`: what views answer to scrolls and keys; `texts` and
 //!    `lines`: what is written of texts and of single lines; `runs`: runs of the program;
-//!    `untrusted`: texts that others wrote.
+//!    `untrusted`: texts that others wrote; `devices`: devices that fail.
 #![tactic(auto)]
 
 mod asked;
+mod devices;
 mod lines;
 mod mad_views;
 mod moves;
@@ -24,6 +25,7 @@ use asked::{Asked, numbers_of};
 use refusal::Refusal;
 use std::alloc::{AllocError, Global};
 use std::io;
+use termimad::SkinError;
 use test_rows::Calls;
 
 fn main(rt: HostRuntime) -> io::Result<()> {
@@ -58,9 +60,9 @@ fn answer_of(alloc: Global, call: &str, text: &str) -> Result<String, Refusal> {
         "mad_moves" => moves::of_mad_view(alloc, words, text),
         "two_views" => mad_views::two_pictured(alloc, words, text),
         "two_views_written" => mad_views::two_written(alloc, words, text),
-        "two_views_cut" => mad_views::two_cut(alloc, words, text),
         "untrusted" => untrusted::answer(alloc, words, text, false),
         "printable" => untrusted::answer(alloc, words, text, true),
+        "devices" => devices::tried(alloc, words, text),
         "run_in_twenty_bytes" => Ok(runs::run(alloc, 20, words, text)?),
         _ => answer_in_skin(alloc, name, words, text),
     }
@@ -77,7 +79,7 @@ fn large_answer(alloc: Global, words: &str, text: &str) -> Result<String, Refusa
 fn refused_answer(alloc: Global, call: &str, text: &str) -> Result<String, Refusal> {
     let (name, words) = call.split_once(' ').unwrap_or((call, ""));
     match answer_in_skin(alloc, name, words, text) {
-        Err(Refusal::Memory) => Ok(String::from_str(alloc, "want of memory")?),
+        Err(Refusal::Memory) => Ok(SkinError::Memory.to_string(alloc)?),
         answer => answer,
     }
 }
@@ -96,19 +98,15 @@ fn answer_in_skin(alloc: Global, name: &str, words: &str, text: &str) -> Result<
 
 fn answer_asked(name: &str, asked: &Asked) -> Result<String, Refusal> {
     match name {
-        "area" => screens::area(asked),
-        "view" => screens::view(asked, false, false),
-        "scrolled" => screens::view(asked, false, true),
-        "marks" => screens::view(asked, true, false),
-        "beside_bar" => screens::beside_bar(asked),
+        "area" | "view" | "scrolled" | "marks" | "beside_bar" => screens::pictured(asked, name),
         "mad_view" => mad_views::pictured(asked),
         "mad_view_written" => mad_views::written(asked),
-        "cut" => texts::cut_view(asked),
         "lines" => lines::displayed(asked),
         "unwrapped" => texts::unwrapped(asked),
         "raw" => texts::raw(asked),
         "lengths" => texts::lengths(asked, asked.numbers[0]),
         "widths" => texts::widths(asked),
+        "kept" => texts::kept(asked),
         "value" => skins::value(asked),
         "reads_back" => skins::reads_back(asked),
         _ => texts::written(asked, name),

@@ -35,7 +35,12 @@ pub fn of_mad_view(alloc: Global, words: &str, text: &str) -> Result<String, Ref
     let mut view = MadView::from(String::from_str(alloc, text)?, area, asked.skin);
     let mut told = String::new(alloc);
     for step in steps.split(' ') {
-        let answer = move_mad_view(&mut view, step)?;
+        let scroll = view.scroll;
+        let moved = move_mad_view(&mut view, step);
+        if moved.is_err() && view.scroll != scroll {
+            return Ok(String::from_str(alloc, "changed by a refusal")?);
+        }
+        let answer = moved?;
         push_step(&mut told, step, answer)?;
         write!(told, "scroll {}\n", view.scroll)?;
     }

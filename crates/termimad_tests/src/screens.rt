@@ -9,24 +9,40 @@ use std::alloc::{AllocError, Global};
 use termimad::layout::laws::words_on_a_screen;
 use termimad::screen::{Pen, Screen};
 use termimad::{
-    Area, ContentStyle, CutOut, FmtText, ParseOptions, StyledContent, TextView, parse_text_with,
+    Area, ContentStyle, CutOut, Error, FmtText, ParseOptions, StyledContent, TextView,
+    parse_text_with,
 };
 
 // More than any row here writes.
 const ROOM: usize = 20_000;
 
-/// The picture of a text in an area.
-pub fn area(asked: &Asked) -> Result<String, Refusal> {
-    let area = asked.area();
+/// The picture of a text in an area, or of a view.
+pub fn pictured(asked: &Asked, name: &str) -> Result<String, Refusal> {
     let mut out = CutOut::new(asked.alloc, ROOM, ROOM, false)?;
-    asked
-        .skin
-        .write_in_area_on(asked.alloc, &mut out, asked.text, &area)?;
-    picture(asked.alloc, &area, out.taken())
+    write(asked, name, &mut out)?;
+    picture(asked.alloc, &asked.area(), out.taken())
 }
 
-/// The picture of a view whose field `scroll` is the last number, or that is asked to scroll so far. Marks may go on over lines.
-pub fn view(asked: &Asked, continue_spans: bool, is_asked: bool) -> Result<String, Refusal> {
+/// Writes a text in an area, or a view.
+pub fn write(asked: &Asked, name: &str, out: &mut CutOut) -> Result<(), Error> {
+    match name {
+        "view" => write_view(asked, false, false, out),
+        "scrolled" => write_view(asked, false, true, out),
+        "marks" => write_view(asked, true, false, out),
+        "beside_bar" => write_beside_bar(asked, out),
+        _ => asked
+            .skin
+            .write_in_area_on(asked.alloc, out, asked.text, &asked.area()),
+    }
+}
+
+// Writes a view whose field `scroll` is the last number, or that is asked to scroll so far. Marks may go on over lines.
+fn write_view(
+    asked: &Asked,
+    continue_spans: bool,
+    is_asked: bool,
+    out: &mut CutOut,
+) -> Result<(), Error> {
     let area = asked.area();
     let options = ParseOptions { continue_spans };
     let text = parse_text_with(asked.alloc, asked.text, options)?;
@@ -38,20 +54,16 @@ pub fn view(asked: &Asked, continue_spans: bool, is_asked: bool) -> Result<Strin
     } else {
         view.scroll = asked.numbers[4];
     }
-    let mut out = CutOut::new(asked.alloc, ROOM, ROOM, false)?;
-    view.write_on(asked.alloc, &mut out)?;
-    picture(asked.alloc, &area, out.taken())
+    view.write_on(asked.alloc, out)
 }
 
-/// The picture of a view whose field `scroll` is the last number: beside its scroll bar, if it has one.
-pub fn beside_bar(asked: &Asked) -> Result<String, Refusal> {
+// Writes a view whose field `scroll` is the last number: beside its scroll bar, if it has one.
+fn write_beside_bar(asked: &Asked, out: &mut CutOut) -> Result<(), Error> {
     let area = asked.area();
     let text = asked.skin.area_text(asked.alloc, asked.text, &area)?;
     let mut view = TextView::from(&area, &text);
     view.scroll = asked.numbers[4];
-    let mut out = CutOut::new(asked.alloc, ROOM, ROOM, false)?;
-    view.write_on(asked.alloc, &mut out)?;
-    picture(asked.alloc, &area, out.taken())
+    view.write_on(asked.alloc, out)
 }
 
 /// The screen of the laws' example.

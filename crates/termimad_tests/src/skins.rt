@@ -4,7 +4,7 @@ use crate::asked::Asked;
 use crate::refusal::Refusal;
 use serde_json::Value;
 use std::alloc::{AllocError, Global};
-use termimad::{Color, MadSkin, skin_from_value, skin_to_value};
+use termimad::{Color, MadSkin, TableBorderChars, skin_from_value, skin_to_value};
 
 /// The skin of a word.
 pub fn skin_of(alloc: Global, word: &str) -> Result<MadSkin, Refusal> {
@@ -14,6 +14,7 @@ pub fn skin_of(alloc: Global, word: &str) -> Result<MadSkin, Refusal> {
         "dark" => Ok(MadSkin::default_dark()),
         "light" => Ok(MadSkin::default_light()),
         "ascii" => Ok(ascii()),
+        "returns" => Ok(returns()),
         _ => skin_said(alloc, word),
     }
 }
@@ -22,6 +23,27 @@ pub fn skin_of(alloc: Global, word: &str) -> Result<MadSkin, Refusal> {
 fn ascii() -> MadSkin {
     let mut skin = MadSkin::no_style();
     skin.limit_to_ascii();
+    skin
+}
+
+// Borders that are control characters.
+const RETURNS: TableBorderChars = TableBorderChars {
+    horizontal: '\r',
+    vertical: '\r',
+    top_left_corner: '\r',
+    top_right_corner: '\r',
+    bottom_right_corner: '\r',
+    bottom_left_corner: '\r',
+    top_junction: '\r',
+    right_junction: '\r',
+    bottom_junction: '\r',
+    left_junction: '\r',
+    cross: '\r',
+};
+
+fn returns() -> MadSkin {
+    let mut skin = MadSkin::no_style();
+    skin.table_border_chars = RETURNS;
     skin
 }
 

@@ -21,7 +21,8 @@ pub fn written(asked: &Asked, name: &str) -> Result<String, Refusal> {
     Ok(told?)
 }
 
-fn write(asked: &Asked, name: &str, out: &mut CutOut) -> Result<(), Error> {
+/// Writes a text in an area, laid out at a width, or as a line.
+pub fn write(asked: &Asked, name: &str, out: &mut CutOut) -> Result<(), Error> {
     let (alloc, skin, text) = (asked.alloc, &asked.skin, asked.text);
     match name {
         "bytes" => skin.write_in_area(alloc, out, text, &asked.area()),
@@ -29,7 +30,13 @@ fn write(asked: &Asked, name: &str, out: &mut CutOut) -> Result<(), Error> {
         "text_twice" => write_text_twice(asked, out),
         "inline" => skin.write_inline(alloc, out, text),
         "inline_twice" => write_inline_twice(asked, out),
-        _ => lines::write(asked, name, out),
+        "text_on" => skin.write_text_on(alloc, out, text, Some(asked.numbers[0])),
+        "inline_on" => skin.write_inline_on(alloc, out, text),
+        "added" => lines::write_added(asked, out),
+        _ => match name.strip_prefix("filled_") {
+            Some(side) => lines::write_filled(asked, side, out),
+            None => lines::write(asked, name, out),
+        },
     }
 }
 
@@ -82,18 +89,8 @@ pub fn raw(asked: &Asked) -> Result<String, Refusal> {
     Ok(text.to_string(asked.alloc)?)
 }
 
-/// What a device takes of a view: it has room for some bytes, takes them one by one, and its flush fails.
-pub fn cut_view(asked: &Asked) -> Result<String, Refusal> {
-    let mut out = CutOut::new(asked.alloc, 1, asked.numbers[4], true)?;
-    let told = match write_view(asked, &mut out) {
-        Ok(()) => String::from_str(asked.alloc, "no fault"),
-        Err(Error::Memory) => Err(AllocError),
-        Err(_) => taken(asked.alloc, &out),
-    };
-    Ok(told?)
-}
-
-fn write_view(asked: &Asked, out: &mut CutOut) -> Result<(), Error> {
+/// Writes a view and flushes.
+pub fn write_view(asked: &Asked, out: &mut CutOut) -> Result<(), Error> {
     let area = asked.area();
     let text = asked.skin.area_text(asked.alloc, asked.text, &area)?;
     TextView::from(&area, &text).write(asked.alloc, out)
@@ -118,6 +115,29 @@ pub fn lengths(asked: &Asked, width: usize) -> Result<String, Refusal> {
         write!(lengths, "{} ", line.visible_length())?;
     }
     Ok(lengths)
+}
+
+/// Whether at each width from one to another what is displayed of a text has all its characters but whitespace.
+pub fn kept(asked: &Asked) -> Result<String, Refusal> {
+    let [first, end, ..] = asked.numbers;
+    let solid_text = solid(asked.alloc, asked.text)?;
+    for width in first..end {
+        let text = asked.skin.text(asked.alloc, asked.text, Some(width))?;
+        let displayed = text.to_string(asked.alloc)?;
+        if solid(asked.alloc, displayed.as_str())? != solid_text {
+            return Ok(displayed);
+        }
+    }
+    Ok(String::from_str(asked.alloc, "all kept")?)
+}
+
+// A text without its whitespace.
+fn solid(alloc: Global, text: &str) -> Result<String, AllocError> {
+    let mut solid = String::new(alloc);
+    for word in text.split_whitespace() {
+        solid.push_str(word)?;
+    }
+    Ok(solid)
 }
 
 /// Whether at each width from one to another no line of a text is too wide or empty. Else the lengths at the first where one is.

@@ -32,7 +32,7 @@ fn signs(alloc: Global, answer: &str) -> Result<String, AllocError> {
     answer.chars().map(sign_of).collect(alloc)
 }
 
-/// What a call answers of a text with these signs, and of what is printable of it.
+/// What a call answers of a text with these signs, or of what is printable of it.
 pub fn answer(
     alloc: Global,
     call: &str,
@@ -40,12 +40,16 @@ pub fn answer(
     is_made_printable: bool,
 ) -> Result<String, Refusal> {
     let (name, words) = call.split_once(' ').unwrap_or((call, ""));
+    let text = text_of(alloc, is_made_printable, text)?;
+    let answer = answer_in_skin(alloc, name, words, text.as_str())?;
+    Ok(signs(alloc, &answer)?)
+}
+
+/// The text that has these signs, or what is printable of it.
+pub fn text_of(alloc: Global, is_made_printable: bool, text: &str) -> Result<String, AllocError> {
     let text: String = text.chars().map(meant).collect(alloc)?;
     if !is_made_printable {
-        let answer = answer_in_skin(alloc, name, words, &text)?;
-        return Ok(signs(alloc, &answer)?);
+        return Ok(text);
     }
-    let shown = printable(alloc, &text)?;
-    let answer = answer_in_skin(alloc, name, words, shown.as_str())?;
-    Ok(signs(alloc, &answer)?)
+    String::from_str(alloc, printable(alloc, &text)?.as_str())
 }
