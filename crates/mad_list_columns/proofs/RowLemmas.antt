@@ -1,5 +1,5 @@
 -- Shown rows, one after the other.
-use Rattle.std.proofs.Common.{◌≡◌, ◌<◌, ◌≤◌, ◌+◌, ◌-◌, ℕ, zero, suc, Bool, true, false, cond, List, [], ◌∷◌, ◌++◌, length, map, take, drop, Option, None, Some, refl, ap, sym, subst, ◌∙◌, arith, append_assoc, append-nil}
+use Rattle.std.proofs.Common.{◌≡◌, ◌≤◌, ◌+◌, ◌-◌, ℕ, zero, suc, Bool, true, false, cond, List, [], ◌∷◌, ◌++◌, length, map, take, drop, Option, None, Some, refl, ap, sym, ◌∙◌, arith, append_assoc, append-nil}
 use Rattle.std.specs.Prelude.{nat_eq, option_map}
 use Rattle.std.specs.Option.{option_eq}
 use Rattle.std.specs.List.{enumerate_from, filter, position_from, range_with_len, slice_get}
@@ -179,10 +179,10 @@ head_written left top height old a b c new titles rule tall first title second r
     ∙ ap (λ (bs : List ℕ). old ++ (up ++ (titles ++ (down ++ bs)))) (sym (append-nil rule))
     ∙ ap (λ (rs : List (List ℕ)). old ++ drawing left top rs) (sym all)
 
-whole : (left top height : ℕ) (titles rule : List ℕ) (row : ℕ → List ℕ) → drawing left top (take height (titles ∷ (rule ∷ [])) ++ map row (range_with_len 0 (height - 2))) ≡ drawing left top (take height (titles ∷ (rule ∷ []))) ++ drawing left (top + 2) (map row (range_with_len 0 (height - 2)))
-whole left top zero titles rule row = refl
-whole left top (suc zero) titles rule row = sym (append-nil (drawing left top (titles ∷ [])))
-whole left top (suc (suc h)) titles rule row =
+pub whole_drawn : (left top height : ℕ) (titles rule : List ℕ) (row : ℕ → List ℕ) → drawing left top (take height (titles ∷ (rule ∷ [])) ++ map row (range_with_len 0 (height - 2))) ≡ drawing left top (take height (titles ∷ (rule ∷ []))) ++ drawing left (top + 2) (map row (range_with_len 0 (height - 2)))
+whole_drawn left top zero titles rule row = refl
+whole_drawn left top (suc zero) titles rule row = sym (append-nil (drawing left top (titles ∷ [])))
+whole_drawn left top (suc (suc h)) titles rule row =
     let body : List (List ℕ) = map row (range_with_len 0 (suc (suc h) - 2)) in
     let head : List (List ℕ) = take (suc (suc h)) (titles ∷ (rule ∷ [])) in
     let all : head ≡ titles ∷ (rule ∷ []) = take_all (suc (suc h)) (titles ∷ (rule ∷ [])) (omega arith) in
@@ -196,4 +196,4 @@ list_written left top height titles rule row old mid new head body =
     body
     ∙ ap (λ (bs : List ℕ). bs ++ below) head
     ∙ append_assoc old above below
-    ∙ ap (λ (bs : List ℕ). old ++ bs) (sym (whole left top height titles rule row))
+    ∙ ap (λ (bs : List ℕ). old ++ bs) (sym (whole_drawn left top height titles rule row))

@@ -1,4 +1,4 @@
-use Rattle.std.proofs.Common.{length, string_bytes, arith}
+use Rattle.std.proofs.Common.{length, string_bytes}
 use Rattle.mad_list_columns.specs.Drawing.{rule_bytes, title_over, titles}
 use Rattle.mad_list_columns.proofs.TitleLemmas.{all_taken, zero_of}
 use Rattle.mad_list_columns.proofs.titles.push_rule.Goals as goal

@@ -1,4 +1,4 @@
-use Rattle.std.proofs.Common.{◌∙◌, length, string_bytes, arith, ◌≡◌}
+use Rattle.std.proofs.Common.{◌∙◌, length, string_bytes}
 use Rattle.mad_style.specs.Repeats.{styled_char_bytes}
 use Rattle.mad_list_columns.specs.Drawing.{title_bytes, title_over, titles}
 use Rattle.mad_list_columns.proofs.TitleLemmas.{all_taken, one_taken, zero_of}

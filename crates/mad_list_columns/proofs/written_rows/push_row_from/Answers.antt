@@ -2,7 +2,7 @@ use Rattle.std.proofs.Common.{◌≡◌, ◌∙◌, ◌++◌, ℕ, Option, List,
 use Rattle.std.specs.List.{slice_get}
 use Rattle.mad_list_rows.specs.declared.list_rows.ListRow.{ListRow}
 use Rattle.mad_list_columns.specs.Drawing.{is_selected, row_or_erasure, shown_from}
-use Rattle.mad_list_columns.proofs.RowLemmas.{FirstRow, none_from, none_past, row_written, selected_is, some_from}
+use Rattle.mad_list_columns.proofs.RowLemmas.{none_from, none_past, row_written, selected_is, some_from}
 use Rattle.mad_list_columns.proofs.written_rows.push_row_from.Goals as goal
 
 pub returns-in_default-clause-next : goal.returns-in_default-clause-next
