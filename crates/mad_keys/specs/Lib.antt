@@ -1,0 +1,6 @@
+pub mod Steps
+pub mod Keys
+pub mod Sequences
+pub mod EventBytes
+pub mod Readings
+pub mod Decoding
