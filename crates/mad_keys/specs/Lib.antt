@@ -1,5 +1,6 @@
 pub mod Steps
 pub mod Keys
+pub mod Digits
 pub mod Sequences
 pub mod EventBytes
 pub mod Readings

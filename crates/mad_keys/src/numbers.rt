@@ -1,7 +1,7 @@
 //! The numbers of a sequence.
 
-ghost use Rattle.std.specs.Prelude.{◌≡◌, ◌↔◌, ℕ, ◌<◌, ◌≤◌, ◌^◌, List, [], ◌∷◌, ◌++◌, length, take, Some, Bool, true, false};
-ghost use Rattle.mad_term.specs.Commands.{numbers_bytes};
+ghost use Rattle.std.specs.Prelude.{◌≡◌, ◌↔◌, ℕ, ◌<◌, ◌≤◌, ◌^◌, List, [], ◌∷◌, ◌++◌, length, take, Some, None, MatchBool};
+ghost use Rattle.mad_keys.specs.Digits.{with_byte, with_number, AreNumbers};
 
 use std::marker::Model;
 
@@ -38,26 +38,29 @@ impl Numbers {
         &self.numbers[..self.count]
     }
 
-    // One more number, unless there are three.
-    fn push(&mut self, number: u32) -> bool
-        ensures room { length self.old < 3 → (result ≡ true) × (self.new ≡ self.old ++ number ∷ []) }
-        ensures full { 3 ≤ length self.old → result ≡ false }
+    // One more number, if there is one, and room for it.
+    fn push(&mut self, number: Option<u32>) -> bool
+        ensures { MatchBool result (with_number self.old number ≡ Some self.new) (with_number self.old number ≡ None) }
     {
-        if self.count == 3 {
-            return false;
+        match number {
+            Some(number) if self.count < 3 => {
+                self.numbers[self.count] = number;
+                self.count += 1;
+                true
+            }
+            _ => false,
         }
-        self.numbers[self.count] = number;
-        self.count += 1;
-        true
     }
 }
 
 // The number with one more digit: none has a leading zero.
-fn with_digit(number: Option<u32>, digit: u8) -> Option<u32> {
-    if !digit.is_ascii_digit() {
+fn with_byte(number: Option<u32>, b: u8) -> Option<u32>
+    ensures { result ≡ with_byte number b }
+{
+    if !b.is_ascii_digit() {
         return None;
     }
-    let digit = u32::from(digit - b'0');
+    let digit = u32::from(b - b'0');
     match number {
         None => Some(digit),
         Some(0) => None,
@@ -66,7 +69,9 @@ fn with_digit(number: Option<u32>, digit: u8) -> Option<u32> {
 }
 
 /// The numbers that these bytes write, with semicolons between them.
-pub(crate) fn numbers_of(bytes: &[u8]) -> Option<Numbers> {
+pub(crate) fn numbers_of(bytes: &[u8]) -> Option<Numbers>
+    ensures { (ns : List ℕ) → (result ≡ Some ns) ↔ AreNumbers ns bytes.now }
+{
     let mut numbers = Numbers::new();
     if bytes.is_empty() {
         return Some(numbers);
@@ -74,15 +79,15 @@ pub(crate) fn numbers_of(bytes: &[u8]) -> Option<Numbers> {
     let mut number = None;
     for b in bytes {
         if *b == b';' {
-            if !numbers.push(number?) {
+            if !numbers.push(number) {
                 return None;
             }
             number = None;
         } else {
-            number = Some(with_digit(number, *b)?);
+            number = Some(with_byte(number, *b)?);
         }
     }
-    if !numbers.push(number?) {
+    if !numbers.push(number) {
         return None;
     }
     Some(numbers)
