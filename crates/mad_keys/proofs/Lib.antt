@@ -1,1 +1,3 @@
+pub mod DecoderLemmas
+pub mod EventLemmas
 pub mod NumberLemmas

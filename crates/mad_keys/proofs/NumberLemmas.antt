@@ -1,6 +1,6 @@
 -- Numbers, byte by byte.
 use Rattle.std.proofs.Common.{◌≡◌, ◌≢◌, ℕ, Bool, append-nil, ◌+◌, ◌-◌, ◌*◌, ◌/◌, ◌%◌, ◌^◌, ◌<◌, ◌≤◌, true, false, cond, ltb, leb, eqb, List, [], ◌∷◌, ◌++◌, length, get_or, drop, Option, Some, None, refl, ap, ◌∙◌, sym, subst, arith, append_assoc, length-append}
-use Rattle.std.specs.Prelude.{option_and_then, ◌&&◌, decimal, ◌↔◌}
+use Rattle.std.specs.Prelude.{option_and_then, ◌&&◌, decimal}
 use Rattle.std.specs.List.{flat_map}
 use Rattle.std.proofs.lemmas.Fmt.{decimal_by_steps, decimal_step, decimal_digit, decimal_nonempty}
 use Rattle.std.proofs.lemmas.List.{at_drop_more, at_drop_all}
@@ -8,13 +8,13 @@ use Rattle.std.proofs.lemmas.Option.{none-some, same_Some, cond_some, option_and
 use Rattle.std.proofs.lemmas.Bool.{and_parts, leb-true, ltb-true, eqb-true, eqb-false, ne_eqb}
 use Rattle.std.proofs.lemmas.Bool.Decides.{nat_tests}
 use Rattle.mad_term.specs.Commands.{numbers_bytes}
-use Rattle.mad_keys.specs.Digits.{with_digit, with_byte, with_number, AreSmall, AreNumbers}
+use Rattle.mad_keys.specs.Digits.{with_digit, with_byte, with_number, AreSmall, scan, numbers_at}
 
--- the numbers of these bytes, after some numbers and what there is of the next
-abbrev pub scan : List ℕ → List ℕ → Option ℕ → Option (List ℕ)
-scan [] ns now = with_number ns now
-scan (b ∷ bs) ns now =
-    cond (eqb b 59) (option_and_then (λ ms. scan bs ms None) (with_number ns now)) (option_and_then (λ n. scan bs ns (Some n)) (with_byte now b))
+-- these bytes are the numbers, of which there are at most three
+pub record AreNumbers (numbers bytes : List ℕ) : Type 0 where
+  pub written : bytes ≡ numbers_bytes numbers
+  pub few : length numbers ≤ 3
+  pub small : AreSmall numbers
 
 -- ---- what is written is read
 
@@ -81,7 +81,7 @@ abbrev IsSmall : Option ℕ → Type 0
 IsSmall None = Unit {0}
 IsSmall (Some n) = n < 2 ^ 32
 
-cond_then : {A : Type 0} (t : Bool) (o : Option A) (y : A) → cond t o None ≡ Some y → (t ≡ true) × (o ≡ Some y)
+pub cond_then : {A : Type 0} (t : Bool) (o : Option A) (y : A) → cond t o None ≡ Some y → (t ≡ true) × (o ≡ Some y)
 cond_then true o y h = (refl, h)
 cond_then false o y h = absurd (none-some y h)
 
@@ -173,11 +173,6 @@ scan_sound (b ∷ bs) ns now ms small now_small h =
 
 -- ---- both
 
--- the numbers of these bytes
-abbrev pub numbers_at : List ℕ → Option (List ℕ)
-numbers_at [] = Some []
-numbers_at (b ∷ bs) = scan (b ∷ bs) [] None
-
 pub numbers_at-sound : (bs ms : List ℕ) → numbers_at bs ≡ Some ms → AreNumbers ms bs
 numbers_at-sound [] ms h = subst (λ (l : List ℕ). AreNumbers l []) (same_Some _ _ h) (record { written = refl; few = omega arith; small = tt })
 numbers_at-sound (b ∷ bs) ms h = scan_sound (b ∷ bs) [] None ms tt tt h
@@ -193,9 +188,6 @@ numbers_at-complete bs (n ∷ ns) are =
     let more : length (numbers_bytes (n ∷ ns)) ≡ length (decimal n) + length (flat_map (λ m. 59 ∷ decimal m) ns) = length-append (decimal n) _ in
     ap numbers_at are.written ∙ numbers_at-some (numbers_bytes (n ∷ ns)) (λ e. let z : length (numbers_bytes (n ∷ ns)) ≡ 0 = ap length e in omega arith)
     ∙ scan_numbers n ns (omega (arith, are.few)) are.small
-
-pub numbers_at-iff : (bs : List ℕ) (r : Option (List ℕ)) → numbers_at bs ≡ r → (ns : List ℕ) → (r ≡ Some ns) ↔ AreNumbers ns bs
-numbers_at-iff bs r e ns = (λ h. numbers_at-sound bs ns (e ∙ h), λ are. sym e ∙ numbers_at-complete bs ns are)
 
 -- ---- the loop over the bytes
 

@@ -1,6 +1,5 @@
 -- Numbers in decimal, read digit by digit.
-use Rattle.std.specs.Prelude.{◌≡◌, ℕ, ◌+◌, ◌-◌, ◌*◌, ◌^◌, ◌<◌, ◌≤◌, ◌==◌, nat_lt, nat_le, ◌&&◌, List, [], ◌∷◌, ◌++◌, length, ⊤, Option, Some, None, if◌then◌else◌}
-use Rattle.mad_term.specs.Commands.{numbers_bytes}
+use Rattle.std.specs.Prelude.{ℕ, ◌+◌, ◌-◌, ◌*◌, ◌^◌, ◌<◌, ◌==◌, nat_lt, nat_le, ◌&&◌, List, [], ◌∷◌, ◌++◌, length, ⊤, Option, Some, None, option_and_then, if◌then◌else◌}
 
 -- the number with one more digit: it has no leading zero, and stays below 2 ^ 32
 abbrev pub with_digit : Option ℕ → ℕ → Option ℕ
@@ -21,8 +20,14 @@ abbrev pub AreSmall : List ℕ → Type 0
 AreSmall [] = ⊤
 AreSmall (n ∷ numbers) = (n < 2 ^ 32) × AreSmall numbers
 
--- these bytes are the numbers, of which there are at most three
-pub record AreNumbers (numbers bytes : List ℕ) : Type 0 where
-  pub written : bytes ≡ numbers_bytes numbers
-  pub few : length numbers ≤ 3
-  pub small : AreSmall numbers
+-- the numbers of these bytes, with a semicolon (59) between each two, after some numbers and what there is of the next
+abbrev pub scan : List ℕ → List ℕ → Option ℕ → Option (List ℕ)
+scan [] numbers now = with_number numbers now
+scan (b ∷ bytes) numbers now =
+    if b == 59 then option_and_then (λ more. scan bytes more None) (with_number numbers now)
+    else option_and_then (λ n. scan bytes numbers (Some n)) (with_byte now b)
+
+-- the numbers of these bytes, if they are at most three numbers without leading zeros
+abbrev pub numbers_at : List ℕ → Option (List ℕ)
+numbers_at [] = Some []
+numbers_at (b ∷ bytes) = scan (b ∷ bytes) [] None

@@ -4,6 +4,7 @@ use Rattle.std.specs.Char.{IsScalar}
 use Rattle.mad_term.specs.declared.events.Event.{Event}
 use Rattle.mad_term.specs.declared.events.Event.TheVariants.{Key}
 use Rattle.mad_term.specs.Commands.{numbers_bytes, command_bytes}
+use Rattle.mad_keys.specs.Digits.{AreSmall}
 use Rattle.mad_keys.specs.Keys.{escape_key, char_key, letter_key, console_key}
 use Rattle.mad_keys.specs.Sequences.{plain_key, sequence_event, mouse_event}
 
@@ -29,6 +30,7 @@ pub record IsAltBytes (event : Event) (bytes : List ℕ) : Type 0 where
 pub record IsSequenceBytes (event : Event) (bytes : List ℕ) : Type 0 where
   pub numbers : List ℕ
   pub letter : ℕ
+  pub small : AreSmall numbers
   pub written : bytes ≡ command_bytes numbers letter
   pub told : sequence_event numbers letter ≡ Some event
 
@@ -36,6 +38,7 @@ pub record IsSequenceBytes (event : Event) (bytes : List ℕ) : Type 0 where
 pub record IsMouseBytes (event : Event) (bytes : List ℕ) : Type 0 where
   pub numbers : List ℕ
   pub letter : ℕ
+  pub small : AreSmall numbers
   pub written : bytes ≡ 27 ∷ 91 ∷ 60 ∷ (numbers_bytes numbers ++ letter ∷ [])
   pub told : mouse_event numbers letter ≡ Some event
 

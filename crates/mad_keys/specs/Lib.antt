@@ -3,5 +3,6 @@ pub mod Keys
 pub mod Digits
 pub mod Sequences
 pub mod EventBytes
+pub mod Meanings
 pub mod Readings
 pub mod Decoding

@@ -1,8 +1,8 @@
 //! The keys of characters, and the modifiers held with a key.
 
-ghost use Rattle.std.specs.Prelude.{◌≡◌, ◌↔◌, ℕ, ◌<◌, ◌≤◌, Some, encode_utf8};
-ghost use Rattle.std.specs.Char.{IsScalar};
+ghost use Rattle.std.specs.Prelude.{◌≡◌, ◌<◌};
 ghost use Rattle.mad_keys.specs.Keys.{held, key_with, char_key};
+ghost use Rattle.mad_keys.specs.Meanings.{char_at};
 
 use mad_term::{KeyCode, KeyEvent, KeyModifiers};
 use std::str;
@@ -53,13 +53,16 @@ pub(crate) fn char_key(number: u8, c: char) -> KeyEvent
 
 /// The character that these bytes write, if they write one.
 pub(crate) fn char_of(bytes: &[u8]) -> Option<char>
-    ensures { (c : ℕ) → (result ≡ Some c) ↔ (IsScalar c × (bytes.now ≡ encode_utf8 c)) }
+    ensures { result ≡ char_at bytes.now }
 {
-    let text = str::from_utf8(bytes).ok()?;
+    let Ok(text) = str::from_utf8(bytes) else {
+        return None;
+    };
     let mut chars = text.chars();
     let c = chars.next()?;
-    match chars.next() {
-        Some(_) => None,
-        None => Some(c),
+    if chars.as_str().is_empty() {
+        Some(c)
+    } else {
+        None
     }
 }

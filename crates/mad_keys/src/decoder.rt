@@ -17,7 +17,8 @@ use std::marker::Model;
 /// as they come.
 #[derive(Drop)]
 pub struct Keys {
-    bytes: [u8; 18],
+    // Those that wait, and room for the last one of an item.
+    bytes: [u8; 19],
     count: usize,
 }
 
@@ -35,7 +36,7 @@ impl Keys {
         ensures { result ≡ [] }
     {
         Keys {
-            bytes: [0; 18],
+            bytes: [0; 19],
             count: 0,
         }
     }
@@ -50,15 +51,16 @@ impl Keys {
                 None
             }
             Step::Ends => self.end(b),
-            Step::Breaks => {
-                let event = self.pause();
-                if event.is_some() {
+            Step::Breaks => match self.pause() {
+                Some(event) => {
                     self.keep(b);
-                    return event;
+                    Some(event)
                 }
-                self.clear();
-                self.afresh(b)
-            }
+                None => {
+                    self.clear();
+                    self.afresh(b)
+                }
+            },
         }
     }
 
@@ -101,12 +103,12 @@ impl Keys {
 
     // A byte that is the last of an item: the event of them all.
     fn end(&mut self, b: u8) -> Option<Event>
-        ensures { IsEventOf (self.old ++ b ∷ []) result × (self.new ≡ []) }
+        ensures told { IsEventOf (self.old ++ b ∷ []) result }
+        ensures none_waits { self.new ≡ [] }
     {
-        let full = self.count == 18;
-        self.keep(b);
-        let event = if full { None } else { event_of(self.waiting()) };
-        self.clear();
+        self.bytes[self.count] = b;
+        let event = event_of(&self.bytes[..self.count + 1]);
+        self.count = 0;
         event
     }
 

@@ -1,7 +1,7 @@
 //! The numbers of a sequence.
 
-ghost use Rattle.std.specs.Prelude.{◌≡◌, ◌↔◌, ℕ, ◌<◌, ◌≤◌, ◌^◌, List, [], ◌∷◌, ◌++◌, length, take, Some, None, MatchBool};
-ghost use Rattle.mad_keys.specs.Digits.{with_byte, with_number, AreNumbers};
+ghost use Rattle.std.specs.Prelude.{◌≡◌, ℕ, ◌<◌, ◌≤◌, ◌^◌, List, [], ◌∷◌, ◌++◌, length, take, Some, None, MatchBool};
+ghost use Rattle.mad_keys.specs.Digits.{with_byte, with_number, numbers_at};
 
 use std::marker::Model;
 
@@ -70,7 +70,7 @@ fn with_byte(number: Option<u32>, b: u8) -> Option<u32>
 
 /// The numbers that these bytes write, with semicolons between them.
 pub(crate) fn numbers_of(bytes: &[u8]) -> Option<Numbers>
-    ensures { (ns : List ℕ) → (result ≡ Some ns) ↔ AreNumbers ns bytes.now }
+    ensures { result ≡ numbers_at bytes.now }
 {
     let mut numbers = Numbers::new();
     if bytes.is_empty() {

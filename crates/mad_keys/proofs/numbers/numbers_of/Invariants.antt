@@ -1,5 +1,5 @@
 use Rattle.std.proofs.Common.{◌≡◌, ℕ, List, [], None, drop}
-use Rattle.mad_keys.proofs.NumberLemmas.{scan, numbers_at}
+use Rattle.mad_keys.specs.Digits.{scan, numbers_at}
 use Rattle.mad_keys.proofs.numbers.numbers_of.Given as goal
 
 abbrev pub invariant-loop-b : goal.invariant-loop-b
