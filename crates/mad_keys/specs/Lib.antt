@@ -6,3 +6,4 @@ pub mod EventBytes
 pub mod Meanings
 pub mod Readings
 pub mod Decoding
+pub mod Laws
