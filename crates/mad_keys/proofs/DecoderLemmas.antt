@@ -8,8 +8,8 @@ use Rattle.mad_keys.specs.declared.steps.Step.{Step}
 use Rattle.mad_keys.specs.declared.steps.Step.TheVariants.{Waits, Ends, Breaks}
 use Rattle.mad_keys.specs.Steps.{step_of}
 use Rattle.mad_keys.specs.EventBytes.{IsEventOf}
-use Rattle.mad_keys.specs.Readings.{after_pause}
-use Rattle.mad_keys.specs.Decoding.{kept, lone_escape, AfreshGives, BrokenGives, StepGives, ByteGives}
+use Rattle.mad_keys.specs.Readings.{lone_escape, after_pause}
+use Rattle.mad_keys.specs.Decoding.{kept, AfreshGives, BrokenGives, StepGives, ByteGives}
 
 -- by the front's step, whatever it is
 at_step : (w : List ℕ) (b : ℕ) (s : Step) (event : Option Event) (left : List ℕ) → step_of w b ≡ s → StepGives s w b event left → ByteGives w b event left

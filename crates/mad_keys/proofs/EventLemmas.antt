@@ -63,11 +63,11 @@ numbers_some f bytes front letter ns e h = last_of f bytes front letter e ∙ ap
 
 -- ---- the event of bytes is one that they are
 
-split : {P : Type 0} (t : Bool) (x y : Option Event) (e : Event) → (t ≡ true → x ≡ Some e → P) → (t ≡ false → y ≡ Some e → P) → cond t x y ≡ Some e → P
+pub split : {P : Type 0} (t : Bool) (x y : Option Event) (e : Event) → (t ≡ true → x ≡ Some e → P) → (t ≡ false → y ≡ Some e → P) → cond t x y ≡ Some e → P
 split true x y e p q h = p refl h
 split false x y e p q h = q refl h
 
-mapped : {A : Type 0} (f : A → Event) (o : Option A) (e : Event) → option_map f o ≡ Some e → (x : A) × (o ≡ Some x) × (f x ≡ e)
+pub mapped : {A : Type 0} (f : A → Event) (o : Option A) (e : Event) → option_map f o ≡ Some e → (x : A) × (o ≡ Some x) × (f x ≡ e)
 mapped f None e h = absurd (none-some e h)
 mapped f (Some x) e h = (x, refl, same_Some _ _ h)
 

@@ -1,3 +1,6 @@
 pub mod DecoderLemmas
 pub mod EventLemmas
+pub mod KeptLemmas
 pub mod NumberLemmas
+pub mod ReadingLemmas
+pub mod ShortLemmas

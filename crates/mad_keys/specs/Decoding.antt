@@ -1,23 +1,15 @@
 -- What the decoder does, byte by byte.
-use Rattle.std.specs.Prelude.{◌≡◌, ℕ, ◌==◌, List, [], ◌∷◌, ◌++◌, take, Option, Some, None, if◌then◌else◌}
+use Rattle.std.specs.Prelude.{◌≡◌, ℕ, List, [], ◌∷◌, ◌++◌, take, Option, Some, None}
 use Rattle.mad_term.specs.declared.events.Event.{Event}
-use Rattle.mad_term.specs.declared.events.Event.TheVariants.{Key}
-use Rattle.mad_keys.specs.Keys.{escape_key}
 use Rattle.mad_keys.specs.declared.steps.Step.{Step}
 use Rattle.mad_keys.specs.declared.steps.Step.TheVariants.{Waits, Ends, Breaks}
 use Rattle.mad_keys.specs.Steps.{step_of}
 use Rattle.mad_keys.specs.EventBytes.{IsEventOf}
-use Rattle.mad_keys.specs.Readings.{after_pause}
+use Rattle.mad_keys.specs.Readings.{lone_escape, after_pause, listed}
 
 -- what the decoder keeps of a front: no event has more than 18 bytes
 abbrev pub kept : List ℕ → List ℕ
 kept w = take 18 w
-
--- Esc, where a lone ESC waits
-abbrev pub lone_escape : List ℕ → Option Event
-lone_escape [] = None
-lone_escape (a ∷ []) = if a == 27 then Some (Key escape_key) else None
-lone_escape (a ∷ b ∷ w) = None
 
 -- a byte that is read while nothing waits: the event that it ends, and what waits then
 abbrev pub AfreshGives : Step → ℕ → Option Event → List ℕ → Type 0
@@ -42,3 +34,9 @@ ByteGives w b event left = StepGives (step_of w b) w b event left
 -- a pause: what waited, the event, and what waits then
 abbrev pub PauseGives : List ℕ → Option Event → List ℕ → Type 0
 PauseGives w event left = (event ≡ lone_escape w) × (left ≡ after_pause w)
+
+-- bytes one after another: what waited, their events, and what waits then
+abbrev pub BytesGive : List ℕ → List ℕ → List Event → List ℕ → Type 0
+BytesGive w [] events left = (events ≡ []) × (left ≡ w)
+BytesGive w (b ∷ bytes) events left =
+    (event : Option Event) × (next : List ℕ) × (others : List Event) × ByteGives w b event next × BytesGive next bytes others left × (events ≡ listed event ++ others)

@@ -1,10 +1,12 @@
 -- How bytes are read: as items one after another, each of them an event or dropped.
-use Rattle.std.specs.Prelude.{◌≡◌, ◌≢◌, ◌⊎◌, ℕ, ◌==◌, List, [], ◌∷◌, ◌++◌, if◌then◌else◌}
+use Rattle.std.specs.Prelude.{◌≡◌, ℕ, ◌==◌, List, [], ◌∷◌, ◌++◌, Option, Some, None, if◌then◌else◌}
 use Rattle.mad_term.specs.declared.events.Event.{Event}
+use Rattle.mad_term.specs.declared.events.Event.TheVariants.{Key}
 use Rattle.mad_keys.specs.declared.steps.Step.{Step}
 use Rattle.mad_keys.specs.declared.steps.Step.TheVariants.{Waits, Ends, Breaks}
 use Rattle.mad_keys.specs.Steps.{step_of}
-use Rattle.mad_keys.specs.EventBytes.{IsEventBytes}
+use Rattle.mad_keys.specs.EventBytes.{IsEventOf}
+use Rattle.mad_keys.specs.Keys.{escape_key}
 
 -- these bytes make a longer front of a front
 abbrev pub Grows : List ℕ → List ℕ → List ℕ → Type 0
@@ -16,10 +18,21 @@ pub data Item : Type 0 where
   Whole : List ℕ → Item
   Broken : List ℕ → Item
 
--- the bytes of an item
-abbrev pub item_bytes : Item → List ℕ
-item_bytes (Whole bytes) = bytes
-item_bytes (Broken bytes) = bytes
+-- Esc, where a lone ESC waits
+abbrev pub lone_escape : List ℕ → Option Event
+lone_escape [] = None
+lone_escape (a ∷ []) = if a == 27 then Some (Key escape_key) else None
+lone_escape (a ∷ b ∷ w) = None
+
+-- the event of an item, if it has one: a whole one's is by its bytes, and a front that was broken off is Esc if it is a lone ESC
+abbrev pub Tells : Item → Option Event → Type 0
+Tells (Whole bytes) event = IsEventOf bytes event
+Tells (Broken bytes) event = event ≡ lone_escape bytes
+
+-- an event as a list
+abbrev pub listed : Option Event → List Event
+listed None = []
+listed (Some event) = event ∷ []
 
 -- These bytes begin with the rest of an item, of which w waited: first `part`, by which w grows to `front`, then `byte`.
 pub record Reaches (w bytes : List ℕ) (step : Step) (front : List ℕ) (byte : ℕ) (more : List ℕ) : Type 0 where
@@ -36,12 +49,10 @@ IsReading w bytes (Whole item ∷ items) rest =
 IsReading w bytes (Broken item ∷ items) rest =
     (byte : ℕ) × (more : List ℕ) × Reaches w bytes Breaks item byte more × IsReading [] (byte ∷ more) items rest
 
--- the events of items in order: each item is its event, or it is none and is dropped
+-- the events of items, in their order; an item without an event is dropped
 abbrev pub Told : List Item → List Event → Type 0
 Told [] events = events ≡ []
-Told (item ∷ items) events =
-    (((e : Event) → ¬ IsEventBytes e (item_bytes item)) × Told items events)
-    ⊎ ((e : Event) × (others : List Event) × (events ≡ e ∷ others) × IsEventBytes e (item_bytes item) × Told items others)
+Told (item ∷ items) events = (event : Option Event) × (others : List Event) × Tells item event × (events ≡ listed event ++ others) × Told items others
 
 -- a pause after these bytes waited: a lone ESC is an item
 abbrev pub paused : List ℕ → List Item
