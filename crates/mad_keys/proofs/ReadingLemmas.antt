@@ -27,13 +27,13 @@ afresh_never true u = refl
 afresh_never false true = refl
 afresh_never false false = refl
 
-never_breaks : (b : ℕ) → step_of [] b ≡ Breaks → ⊥
+pub never_breaks : (b : ℕ) → step_of [] b ≡ Breaks → ⊥
 never_breaks b h = true≢false (sym (ap is_breaks h) ∙ afresh_never (eqb b 27) (leb 194 b && leb b 244))
 
 -- ---- readings
 
 -- a byte by which the front grows comes before the rest of a reading
-extend : (items : List Item) (w : List ℕ) (b : ℕ) (bytes rest : List ℕ) → step_of w b ≡ Waits → IsReading (w ++ b ∷ []) bytes items rest → IsReading w (b ∷ bytes) items rest
+pub extend : (items : List Item) (w : List ℕ) (b : ℕ) (bytes rest : List ℕ) → step_of w b ≡ Waits → IsReading (w ++ b ∷ []) bytes items rest → IsReading w (b ∷ bytes) items rest
 extend [] w b bytes rest e h = (e, h)
 extend (Whole item ∷ items) w b bytes rest e h =
     let r = h.3 in
@@ -42,10 +42,10 @@ extend (Broken item ∷ items) w b bytes rest e h =
     let r = h.2 in
     (h.0, h.1, record { part = b ∷ r.part; split = ap (λ l. b ∷ l) r.split; grown = (e, r.grown); met = r.met }, h.3)
 
-whole : (items : List Item) (w : List ℕ) (b : ℕ) (bytes rest : List ℕ) → step_of w b ≡ Ends → IsReading [] bytes items rest → IsReading w (b ∷ bytes) (Whole (w ++ b ∷ []) ∷ items) rest
+pub whole : (items : List Item) (w : List ℕ) (b : ℕ) (bytes rest : List ℕ) → step_of w b ≡ Ends → IsReading [] bytes items rest → IsReading w (b ∷ bytes) (Whole (w ++ b ∷ []) ∷ items) rest
 whole items w b bytes rest e h = (w, b, bytes, record { part = []; split = refl; grown = refl; met = e }, refl, h)
 
-broken : (items : List Item) (w : List ℕ) (b : ℕ) (bytes rest : List ℕ) → step_of w b ≡ Breaks → IsReading [] (b ∷ bytes) items rest → IsReading w (b ∷ bytes) (Broken w ∷ items) rest
+pub broken : (items : List Item) (w : List ℕ) (b : ℕ) (bytes rest : List ℕ) → step_of w b ≡ Breaks → IsReading [] (b ∷ bytes) items rest → IsReading w (b ∷ bytes) (Broken w ∷ items) rest
 broken items w b bytes rest e h = (b, bytes, record { part = []; split = refl; grown = refl; met = e }, h)
 
 -- ---- one byte, and those after it
@@ -133,7 +133,7 @@ told_paused [] = refl
 told_paused (a ∷ []) = told_paused_one (eqb a 27) a refl
 told_paused (a ∷ b ∷ w) = refl
 
-told_both : (items others : List Item) (events more : List Event) → Told items events → Told others more → Told (items ++ others) (events ++ more)
+pub told_both : (items others : List Item) (events more : List Event) → Told items events → Told others more → Told (items ++ others) (events ++ more)
 told_both [] others events more h g = subst (λ (l : List Event). Told others (l ++ more)) (sym h) g
 told_both (item ∷ items) others events more h g =
     (h.0, h.1 ++ more, h.2, ap (λ l. l ++ more) h.3 ∙ append_assoc (listed h.0) h.1 more, told_both items others h.1 more h.4 g)

@@ -1,5 +1,5 @@
 -- What follows from the definitions.
-use Rattle.std.specs.Prelude.{◌≡◌, ℕ, ◌≤◌, List, [], ◌∷◌, ◌++◌, length, Option}
+use Rattle.std.specs.Prelude.{◌≡◌, ◌≢◌, ℕ, ◌≤◌, List, [], ◌∷◌, ◌++◌, length, Option}
 use Rattle.mad_term.specs.declared.events.Event.{Event}
 use Rattle.mad_keys.specs.Steps.{step_of}
 use Rattle.mad_keys.specs.EventBytes.{IsEventBytes}
@@ -37,3 +37,18 @@ pub record IsBlockAs (w block : List ℕ) (events : List Event) (left : List ℕ
 abbrev pub BlocksAreRead : Type 0
 BlocksAreRead = (w block : List ℕ) (events : List Event) (before : List ℕ) (event : Option Event) (left : List ℕ)
     → BytesGive (kept w) block events before → PauseGives before event left → IsBlockAs w block (events ++ listed event) left
+
+-- after what waited, bytes have exactly one reading
+pub record HasOneReading : Type 0 where
+  pub found : (w bytes : List ℕ) → (items : List Item) × (rest : List ℕ) × IsReading w bytes items rest
+  pub alone : (w bytes : List ℕ) (items others : List Item) (rest left : List ℕ) → IsReading w bytes items rest → IsReading w bytes others left → (items ≡ others) × (rest ≡ left)
+
+-- the last of these bytes is this one
+abbrev pub EndsIn : ℕ → List ℕ → Type 0
+EndsIn last bytes = (front : List ℕ) × (bytes ≡ front ++ last ∷ [])
+
+-- Two blocks, one after the other, have the events of both in one, where no ESC (27) is before the cut. What is before it ends a block,
+-- or it waited where the first block is empty.
+abbrev pub CutsChangeNothing : Type 0
+CutsChangeNothing = (w first second : List ℕ) (events others : List Event) (between left : List ℕ) → w ≢ 27 ∷ [] → (EndsIn 27 first → ⊥)
+    → IsBlock w first events between → IsBlock between second others left → IsBlock w (first ++ second) (events ++ others) left

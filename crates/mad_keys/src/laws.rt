@@ -1,6 +1,6 @@
 //! What callers rely on: laws of the definitions, each a function that does nothing and states its law.
 
-ghost use Rattle.mad_keys.specs.Laws.{HasOneEvent, AreEventsShort, BytesAreRead, BlocksAreRead};
+ghost use Rattle.mad_keys.specs.Laws.{HasOneEvent, AreEventsShort, BytesAreRead, BlocksAreRead, HasOneReading, CutsChangeNothing};
 
 /// The same bytes are one event at most.
 pub fn bytes_are_one_event()
@@ -20,4 +20,14 @@ pub fn bytes_are_read()
 /// The same of a block, which ends in a pause.
 pub fn blocks_are_read()
     ensures { BlocksAreRead }
+{}
+
+/// After what waited, bytes have exactly one reading.
+pub fn bytes_have_one_reading()
+    ensures { HasOneReading }
+{}
+
+/// A block that is cut in two, but not right after an ESC, has the same events.
+pub fn cuts_change_nothing()
+    ensures { CutsChangeNothing }
 {}
