@@ -1,5 +1,5 @@
 -- The event of bytes.
-use Rattle.std.proofs.Common.{◌≡◌, ◌≢◌, ℕ, ◌+◌, ◌%◌, ◌^◌, ◌<◌, ◌≤◌, ◌⊎◌, inl, inr, get_or, Bool, true, false, cond, eqb, List, [], ◌∷◌, ◌++◌, length, Option, Some, None, refl, ap, ◌∙◌, sym, subst, arith, append_assoc, append-nil, length-append}
+use Rattle.std.proofs.Common.{◌≡◌, ◌≢◌, ℕ, ◌+◌, ◌%◌, ◌^◌, ◌<◌, ◌≤◌, inl, inr, Bool, true, false, cond, eqb, List, [], ◌∷◌, ◌++◌, length, Option, Some, None, refl, ap, ◌∙◌, sym, subst, arith, append_assoc, append-nil}
 use Rattle.std.specs.Prelude.{option_and_then, option_map, decimal, encode_utf8, encode_utf8_all}
 use Rattle.std.specs.Str.{chars, is_utf8, IsUtf8, all_scalars}
 use Rattle.std.specs.Char.{IsScalar}
@@ -12,11 +12,11 @@ use Rattle.mad_term.specs.declared.events.Event.{Event}
 use Rattle.mad_term.specs.declared.events.Event.TheVariants.{Key}
 use Rattle.mad_term.specs.Commands.{numbers_bytes}
 use Rattle.mad_keys.specs.Digits.{numbers_at, AreSmall}
-use Rattle.mad_keys.specs.Keys.{escape_key, char_key, letter_key, console_key}
-use Rattle.mad_keys.specs.Sequences.{plain_key, sequence_event, mouse_event}
-use Rattle.mad_keys.specs.EventBytes.{IsCharBytes, IsAltBytes, IsSequenceBytes, IsMouseBytes, IsApplicationBytes, IsConsoleBytes, IsEventBytes, IsEventOf}
+use Rattle.mad_keys.specs.Keys.{char_key}
+use Rattle.mad_keys.specs.Sequences.{sequence_event, mouse_event}
+use Rattle.mad_keys.specs.EventBytes.{IsApplicationBytes, IsConsoleBytes, IsEventBytes, IsEventOf}
 use Rattle.mad_keys.specs.Meanings.{only, char_at, char_event_at, numbers_event_at, console_at, bracket_at, application_at, escape_at, event_at}
-use Rattle.mad_keys.proofs.NumberLemmas.{AreNumbers, cond_then, numbers_at-sound, numbers_at-complete}
+use Rattle.mad_keys.proofs.NumberLemmas.{cond_then, numbers_at-sound, numbers_at-complete}
 
 -- ---- characters
 

@@ -1,9 +1,8 @@
 -- What is kept of a front goes on as the front does.
-use Rattle.std.proofs.Common.{◌≡◌, ◌≢◌, ◌⊎◌, inl, inr, ℕ, ◌+◌, ◌<◌, ◌≤◌, Bool, true, false, cond, ltb, leb, eqb, List, [], ◌∷◌, ◌++◌, length, take, Option, Some, None, refl, ap, ◌∙◌, sym, subst, arith, length-append}
+use Rattle.std.proofs.Common.{◌≡◌, inl, inr, ℕ, ◌+◌, ◌<◌, ◌≤◌, Bool, true, false, cond, ltb, eqb, List, [], ◌∷◌, ◌++◌, length, take, Option, Some, None, refl, ap, ◌∙◌, sym, subst, arith, length-append}
 use Rattle.std.proofs.lemmas.Bool.{cond_both, ne_eqb, le-ltb, cases_lt}
 use Rattle.std.proofs.lemmas.List.{take_all, take_at, take-append-le, length-take-le}
 use Rattle.mad_term.specs.declared.events.Event.{Event}
-use Rattle.mad_keys.specs.declared.steps.Step.{Step}
 use Rattle.mad_keys.specs.declared.steps.Step.TheVariants.{Waits, Ends, Breaks}
 use Rattle.mad_keys.specs.Steps.{char_length, goes_on, char_step, among_step, console_step, old_mouse_step, bracket_step, escape_step, step_of}
 use Rattle.mad_keys.specs.EventBytes.{IsEventOf}

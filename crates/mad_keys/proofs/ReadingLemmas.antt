@@ -1,5 +1,5 @@
 -- The decoder reads as the definitions say.
-use Rattle.std.proofs.Common.{◌≡◌, ◌≢◌, ◌⊎◌, inl, inr, ℕ, ◌+◌, ◌<◌, ◌≤◌, Bool, true, false, cond, ltb, leb, eqb, List, [], ◌∷◌, ◌++◌, length, take, Option, Some, None, refl, ap, ◌∙◌, sym, subst, arith, append_assoc, append-nil}
+use Rattle.std.proofs.Common.{◌≡◌, ℕ, Bool, true, false, cond, leb, eqb, List, [], ◌∷◌, ◌++◌, Option, Some, None, refl, ap, ◌∙◌, sym, subst, append_assoc}
 use Rattle.std.specs.Prelude.{◌&&◌, ◌||◌}
 use Rattle.std.proofs.lemmas.Bool.{true≢false, eqb-true}
 use Rattle.std.proofs.lemmas.Option.{none-some}
@@ -9,8 +9,7 @@ use Rattle.mad_keys.specs.Keys.{escape_key}
 use Rattle.mad_keys.specs.declared.steps.Step.{Step}
 use Rattle.mad_keys.specs.declared.steps.Step.TheVariants.{Waits, Ends, Breaks}
 use Rattle.mad_keys.specs.Steps.{char_step, step_of}
-use Rattle.mad_keys.specs.EventBytes.{IsEventOf}
-use Rattle.mad_keys.specs.Readings.{Item, Whole, Broken, Grows, Reaches, IsReading, Tells, Told, listed, lone_escape, paused, after_pause, IsBlock}
+use Rattle.mad_keys.specs.Readings.{Item, Whole, Broken, IsReading, Told, listed, lone_escape, paused, after_pause}
 use Rattle.mad_keys.specs.Decoding.{kept, AfreshGives, BrokenGives, StepGives, ByteGives, BytesGive, PauseGives}
 use Rattle.mad_keys.specs.Laws.{IsReadAs, IsBlockAs}
 use Rattle.mad_keys.proofs.KeptLemmas.{kept_step, kept_lone, kept_pause, kept_more, kept_event}

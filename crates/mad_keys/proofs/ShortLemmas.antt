@@ -1,5 +1,5 @@
 -- No event has more than 18 bytes.
-use Rattle.std.proofs.Common.{◌≡◌, ◌≢◌, ◌⊎◌, inl, inr, ℕ, ◌+◌, ◌*◌, ◌/◌, ◌%◌, ◌^◌, ◌<◌, ◌≤◌, Bool, true, false, cond, ltb, leb, eqb, List, [], ◌∷◌, ◌++◌, length, Option, Some, None, refl, ap, ◌∙◌, sym, arith, length-append}
+use Rattle.std.proofs.Common.{◌≡◌, inl, inr, ℕ, ◌+◌, ◌*◌, ◌/◌, ◌%◌, ◌^◌, ◌<◌, ◌≤◌, ltb, leb, eqb, List, [], ◌∷◌, ◌++◌, length, Option, Some, None, refl, ap, ◌∙◌, sym, arith, length-append}
 use Rattle.std.specs.Prelude.{◌&&◌, ◌||◌, decimal, encode_utf8}
 use Rattle.std.specs.List.{flat_map}
 use Rattle.std.proofs.lemmas.Bool.{cond-false, cond_both, and_parts, eqb-true, leb-true, ltb-true, cases_lt}
@@ -10,9 +10,8 @@ use Rattle.std.proofs.lemmas.Str.{length-encode, len_utf8_bounds}
 use Rattle.mad_term.specs.declared.events.Event.{Event}
 use Rattle.mad_term.specs.declared.keys.KeyCode.{KeyCode}
 use Rattle.mad_term.specs.Commands.{numbers_bytes}
-use Rattle.mad_keys.specs.Digits.{AreSmall}
 use Rattle.mad_keys.specs.Keys.{number_key, letter_key}
-use Rattle.mad_keys.specs.Sequences.{plain_key, held_key, size_event, pair_event, sequence_event, mouse_kind, cell_event, mouse_event}
+use Rattle.mad_keys.specs.Sequences.{held_key, size_event, pair_event, sequence_event, mouse_kind, cell_event, mouse_event}
 use Rattle.mad_keys.specs.EventBytes.{IsEventBytes}
 use Rattle.mad_keys.proofs.NumberLemmas.{cond_then}
 use Rattle.mad_keys.proofs.EventLemmas.{mapped, split}

@@ -1,7 +1,7 @@
 -- Which keys characters and the names of sequences are.
-use Rattle.std.specs.Prelude.{ℕ, ◌+◌, ◌-◌, ◌*◌, ◌/◌, ◌%◌, ◌==◌, nat_lt, nat_le, ◌&&◌, ◌||◌, Bool, Option, Some, None, if◌then◌else◌}
+use Rattle.std.specs.Prelude.{ℕ, ◌+◌, ◌-◌, ◌*◌, ◌/◌, ◌%◌, ◌==◌, nat_lt, nat_le, ◌&&◌, ◌||◌, Option, Some, None, if◌then◌else◌}
 use Rattle.mad_term.specs.declared.keys.KeyCode.{KeyCode}
-use Rattle.mad_term.specs.declared.keys.KeyCode.TheVariants.{Char, Enter, Backspace, Delete, Insert, Tab, BackTab, Esc, Home, End, Up, Down, Left, Right, PageUp, PageDown, F, Null}
+use Rattle.mad_term.specs.declared.keys.KeyCode.TheVariants.{Char, Enter, Backspace, Delete, Insert, Tab, Esc, Home, End, Up, Down, Left, Right, PageUp, PageDown, F, Null}
 use Rattle.mad_term.specs.declared.keys.KeyEvent.{KeyEvent}
 use Rattle.mad_term.specs.declared.keys.KeyModifiers.{KeyModifiers}
 

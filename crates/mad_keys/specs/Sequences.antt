@@ -1,5 +1,5 @@
 -- Which events the sequences after `ESC [` are, by their numbers and the letter that ends them.
-use Rattle.std.specs.Prelude.{ℕ, ◌+◌, ◌-◌, ◌*◌, ◌/◌, ◌%◌, ◌^◌, ◌==◌, nat_lt, nat_le, ◌&&◌, ◌||◌, Bool, List, [], ◌∷◌, Option, Some, None, option_map, if◌then◌else◌}
+use Rattle.std.specs.Prelude.{ℕ, ◌+◌, ◌-◌, ◌*◌, ◌/◌, ◌%◌, ◌^◌, ◌==◌, nat_lt, nat_le, ◌&&◌, List, [], ◌∷◌, Option, Some, None, option_map, if◌then◌else◌}
 use Rattle.mad_term.specs.declared.keys.KeyCode.{KeyCode}
 use Rattle.mad_term.specs.declared.keys.KeyCode.TheVariants.{BackTab}
 use Rattle.mad_term.specs.declared.mouse.MouseButton.TheVariants.{Left, Right, Middle}

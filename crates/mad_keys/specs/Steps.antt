@@ -1,6 +1,6 @@
 -- What a byte does to a front, which is the beginning of what a terminal sends for one event: a character, or a sequence
 -- after ESC (27).
-use Rattle.std.specs.Prelude.{◌≡◌, ℕ, ◌+◌, ◌==◌, nat_lt, nat_le, ◌&&◌, ◌||◌, Bool, List, [], ◌∷◌, ◌++◌, length, if◌then◌else◌}
+use Rattle.std.specs.Prelude.{ℕ, ◌+◌, ◌==◌, nat_lt, nat_le, ◌&&◌, ◌||◌, Bool, List, [], ◌∷◌, length, if◌then◌else◌}
 use Rattle.mad_keys.specs.declared.steps.Step.{Step}
 use Rattle.mad_keys.specs.declared.steps.Step.TheVariants.{Waits, Ends, Breaks}
 

@@ -1,4 +1,4 @@
-use Rattle.std.proofs.Common.{◌≡◌, ℕ, ◌<◌, ◌++◌, length, sym, ◌∙◌, arith, encode_utf8}
+use Rattle.std.proofs.Common.{◌≡◌, ◌<◌, ◌++◌, length, sym, arith, encode_utf8}
 use Rattle.mad_keys.proofs.EventLemmas.{char_at-no_text, char_at-one, char_at-more}
 use Rattle.mad_keys.proofs.characters.char_of.Goals as goal
 

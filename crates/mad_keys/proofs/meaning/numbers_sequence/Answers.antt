@@ -1,4 +1,4 @@
-use Rattle.std.proofs.Common.{◌≡◌, ap, sym, ◌∙◌}
+use Rattle.std.proofs.Common.{ap, sym, ◌∙◌}
 use Rattle.mad_keys.specs.Sequences.{sequence_event}
 use Rattle.mad_keys.proofs.EventLemmas.{numbers_none, numbers_some}
 use Rattle.mad_keys.proofs.meaning.numbers_sequence.Goals as goal

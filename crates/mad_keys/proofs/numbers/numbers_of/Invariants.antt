@@ -1,4 +1,4 @@
-use Rattle.std.proofs.Common.{◌≡◌, ℕ, List, [], None, drop}
+use Rattle.std.proofs.Common.{◌≡◌, drop}
 use Rattle.mad_keys.specs.Digits.{scan, numbers_at}
 use Rattle.mad_keys.proofs.numbers.numbers_of.Given as goal
 

@@ -1,4 +1,3 @@
-use Rattle.std.proofs.Common.{◌≡◌, ℕ, [], ◌∷◌, ◌++◌, sym, ◌∙◌}
 use Rattle.mad_keys.proofs.DecoderLemmas.{afresh_ends}
 use Rattle.mad_keys.proofs.decoder.Keys.afresh.Goals as goal
 
