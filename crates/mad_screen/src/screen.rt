@@ -1,6 +1,6 @@
 //! The plain terminal: a screen that reads bytes.
 
-ghost use Rattle.std.specs.Prelude.{◌≡◌, ◌<◌, ◌+◌, ◌*◌, None, Some, suc, IfOk, OnOk, OnErr, IsErrOf, MatchBool};
+ghost use Rattle.std.specs.Prelude.{◌≡◌, ◌<◌, ◌+◌, ◌*◌, None, Some, suc, IfOk, OnOk, OnErr, IsErrOf, MatchBool, length};
 ghost use Rattle.std.specs.Option.{option_copied};
 ghost use Rattle.mad_screen.specs.Glyph.{look_of};
 ghost use Rattle.mad_screen.specs.Grid.{IsGrid, cell_on_screen, empty_grid};
@@ -103,9 +103,10 @@ impl Screen {
         self.pen
     }
 
-    /// How many columns it has.
+    /// How many columns it has. There is a cell for each column of each row.
     pub fn width(&self) -> u16
-        ensures { result ≡ self.now.width }
+        ensures columns { result ≡ self.now.width }
+        ensures full { length self.now.cells ≡ self.now.height * self.now.width }
     {
         self.width
     }

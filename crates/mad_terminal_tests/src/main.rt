@@ -6,7 +6,7 @@
 //! 2. [`texts`]: styles that are read from a text, and written as one.
 //! 3. [`bytes`]: what a command, a piece and a repeated text are.
 //! 4. [`queued`]: what each writing call writes. [`devices`]: devices that fail, and those of the standard library.
-//! 5. [`screens`]: what a screen shows of bytes.
+//! 5. [`screens`]: what a screen shows of bytes, and what leads from one screen to another.
 //! 6. [`tables`]: margins, indents and borders.
 #![tactic(auto)]
 
@@ -29,6 +29,7 @@ impl Calls for TerminalCalls {
         let (name, rest) = call.split_once(' ').unwrap_or((call, ""));
         match name {
             "screen" => screens::screen(alloc, rest, text, true),
+            "changes" => screens::changed(alloc, rest, text),
             "cursor" => screens::screen(alloc, rest, text, false),
             "margins" => tables::margins(alloc, rest),
             "written_margins" => tables::written_margins(alloc, rest),

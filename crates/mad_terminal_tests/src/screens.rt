@@ -65,6 +65,25 @@ fn state_of(alloc: Global, screen: &Screen) -> Result<String, AllocError> {
     Ok(state)
 }
 
+/// The bytes that lead from one screen to another of this size, each after a line of the text, or `none`. Then the picture
+/// and the looks of the first screen, once it has read them.
+pub fn changed(alloc: Global, size: &str, text: &str) -> Result<String, AllocError> {
+    let mut answer = String::new(alloc);
+    let (before, after) = text.split_once('\n').unwrap_or((text, ""));
+    let mut screen = screen_after(alloc, size, before, &mut answer)?;
+    let new = screen_after(alloc, size, after, &mut answer)?;
+    match mad_frames::changes(alloc, &screen, &new)? {
+        None => answer.push_str("none\n")?,
+        Some(bytes) => {
+            write!(answer, "{bytes}\n")?;
+            read_line(alloc, &mut screen, "\x1b[0m", &mut answer)?;
+            read_line(alloc, &mut screen, bytes.as_str(), &mut answer)?;
+            push_pictures(&mut answer, &screen)?;
+        }
+    }
+    Ok(answer)
+}
+
 // The bytes of a text in which `<ff>` is the byte of these hex digits.
 fn bytes_of(alloc: Global, text: &str) -> Result<Vec<u8>, AllocError> {
     let mut bytes = Vec::new(alloc);

@@ -1,0 +1,4 @@
+pub mod HalfwayLemmas
+pub mod LooksLemmas
+pub mod PieceLemmas
+pub mod WholeLemmas

@@ -1,0 +1,30 @@
+-- What leads a plain terminal from one screen to another.
+use Rattle.std.specs.Prelude.{◌≡◌, ℕ, List, ◌++◌, take, drop, Some}
+use Rattle.mad_screen.specs.Glyph.{Glyph}
+use Rattle.mad_screen.specs.Grid.{Grid, IsGrid, plain_pen}
+use Rattle.mad_screen.specs.Terminal.{after_bytes}
+use Rattle.mad_screen.specs.Painting.{Paints}
+
+-- two screens of one size
+pub record SameSize (a b : Grid) : Type 0 where
+  pub width : a.width ≡ b.width
+  pub height : a.height ≡ b.height
+
+-- a terminal that shows the cells of a screen, with the plain pen; its cursor may be anywhere
+pub record ShowsCells (g t : Grid) : Type 0 where
+  pub grid : IsGrid t
+  pub pen : t.pen ≡ plain_pen
+  pub size : SameSize g t
+  pub cells : t.cells ≡ g.cells
+
+-- bytes that lead a plain terminal from one screen to another
+abbrev pub LeadTo : Grid → Grid → List ℕ → Type 0
+LeadTo old new bytes = (t : Grid) → ShowsCells old t → (after : Grid) × (after_bytes t bytes ≡ Some after) × ShowsCells new after
+
+-- a screen on the way from one to another: its first `n` cells, along the rows, are the new ones
+abbrev pub halfway : Grid → Grid → ℕ → Grid
+halfway old new n = record old { cells = take n new.cells ++ drop n old.cells }
+
+-- bytes that end with some that paint these cells
+abbrev pub AddsPaint : List ℕ → List Glyph → List ℕ → Type 0
+AddsPaint before cells after = (bytes : List ℕ) × (after ≡ before ++ bytes) × Paints bytes cells
