@@ -1,7 +1,6 @@
 """A table of a folder's files: `report.py FOLDER [WIDTH [SKIN]]`.
 
-File names are words that others wrote: they are made printable, and their marks of Markdown are escaped by nothing, so a name
-in stars is shown in italic.
+File names are words that others wrote: they are made printable, and shown as code, in which no mark is read.
 """
 import os
 import sys
@@ -22,9 +21,10 @@ def table_of(folder):
 
 
 def name_of(file):
-    """The name without what a terminal obeys, in at most 24 columns. A bar would end the cell."""
-    name = termimad.printable(os.fsencode(file.name).decode("utf-8", "replace")).replace("|", "¦")
-    return termimad.fit(name.replace("\n", " "), 24, termimad.Align.INSIDE)
+    """The name as code, without what a terminal obeys, in at most 24 columns. A bar would end its cell, and a backtick its code."""
+    name = termimad.printable(os.fsencode(file.name).decode("utf-8", "replace"))
+    name = name.translate(str.maketrans("|`\n", "¦' "))
+    return f"`{termimad.fit(f'`{name}`', 24, termimad.Align.INSIDE)}`"
 
 
 def kind_of(file):

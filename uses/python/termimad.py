@@ -2,8 +2,18 @@
 
 Set TERMIMAD_LIBRARY to the path of the shared library; without it the loader looks for `libtermimad.so`.
 
-    >>> print(text("a *b*", width=20), end="")
-    a b
+    >>> print(text("* some *words* in a list", width=12), end="")
+    • some words
+      in a list
+    >>> rows("* some *words* in a list", width=12)
+    2
+    >>> fit("a **very** long line", width=10)
+    'a very lo…'
+    >>> printable("an escape \\x1b[2J")
+    'an escape ␛[2J'
+    >>> text("a", width=70000)
+    Traceback (most recent call last):
+    termimad.WrongNumber: A width, an area or an alignment is none that the call takes.
 
 A skin is "" for no style, "default", "dark" or "light", or JSON text as '{"bold":"red"}', which changes the default skin.
 A text or a skin may be `str` or `bytes`. A call raises a `Refused` where it can answer nothing.

@@ -90,7 +90,7 @@ impl From<Error> for Refusal {
 /// Of a whole that doesn't fit the buffer has the beginning. What is behind a whole that fits stays, and so does all of it where
 /// the call was refused.
 pub fn hand_out(made: Result<Vec<u8>, Refusal>, buffer: &mut [u8]) -> Answer
-    ensures { MatchResult made.entry (λ whole. HandsOut whole.items buffer.old result buffer.new)
+    ensures { MatchResult made (λ whole. HandsOut whole.items buffer.old result buffer.new)
         (λ refusal. IsRefused refusal result × (buffer.new ≡ buffer.old)) }
 {
     match made {
@@ -111,7 +111,7 @@ pub fn refuse(refusal: Refusal) -> Answer
 
 /// The answer of a call that counted rows.
 pub fn count_out(made: Result<usize, Refusal>) -> Answer
-    ensures { MatchResult made.entry (λ count. result ≡ record { count = count; status = 0 }) (λ refusal. IsRefused refusal result) }
+    ensures { MatchResult made (λ count. result ≡ record { count = count; status = 0 }) (λ refusal. IsRefused refusal result) }
 {
     match made {
         Ok(count) => Answer {
