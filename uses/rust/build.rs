@@ -4,7 +4,8 @@ use std::env;
 
 fn main() {
     println!("cargo:rerun-if-env-changed=TERMIMAD_LIBRARIES");
-    let folder = env::var("TERMIMAD_LIBRARIES").expect("TERMIMAD_LIBRARIES is the folder of libtermimad.a");
+    let folder =
+        env::var("TERMIMAD_LIBRARIES").expect("TERMIMAD_LIBRARIES is the folder of libtermimad.a");
     println!("cargo:rustc-link-search=native={folder}");
     println!("cargo:rustc-link-lib=static=termimad");
 }

@@ -16,25 +16,57 @@ const SHORT: u32 = 1;
 
 extern "C" {
     fn termimad_area(
-        text: *const u8, text_length: usize, skin: *const u8, skin_length: usize,
-        left: usize, top: usize, width: usize, height: usize, buffer: *mut u8, capacity: usize,
+        text: *const u8,
+        text_length: usize,
+        skin: *const u8,
+        skin_length: usize,
+        left: usize,
+        top: usize,
+        width: usize,
+        height: usize,
+        buffer: *mut u8,
+        capacity: usize,
     ) -> Answer;
     fn termimad_text(
-        text: *const u8, text_length: usize, skin: *const u8, skin_length: usize,
-        width: usize, buffer: *mut u8, capacity: usize,
+        text: *const u8,
+        text_length: usize,
+        skin: *const u8,
+        skin_length: usize,
+        width: usize,
+        buffer: *mut u8,
+        capacity: usize,
     ) -> Answer;
     fn termimad_inline(
-        text: *const u8, text_length: usize, skin: *const u8, skin_length: usize,
-        buffer: *mut u8, capacity: usize,
+        text: *const u8,
+        text_length: usize,
+        skin: *const u8,
+        skin_length: usize,
+        buffer: *mut u8,
+        capacity: usize,
     ) -> Answer;
     fn termimad_rows(
-        text: *const u8, text_length: usize, skin: *const u8, skin_length: usize, width: usize,
+        text: *const u8,
+        text_length: usize,
+        skin: *const u8,
+        skin_length: usize,
+        width: usize,
     ) -> Answer;
     fn termimad_fit(
-        text: *const u8, text_length: usize, skin: *const u8, skin_length: usize,
-        width: usize, align: usize, buffer: *mut u8, capacity: usize,
+        text: *const u8,
+        text_length: usize,
+        skin: *const u8,
+        skin_length: usize,
+        width: usize,
+        align: usize,
+        buffer: *mut u8,
+        capacity: usize,
     ) -> Answer;
-    fn termimad_printable(text: *const u8, text_length: usize, buffer: *mut u8, capacity: usize) -> Answer;
+    fn termimad_printable(
+        text: *const u8,
+        text_length: usize,
+        buffer: *mut u8,
+        capacity: usize,
+    ) -> Answer;
 }
 
 /// Why a call was refused.
@@ -92,8 +124,16 @@ pub fn area(text: &str, area: Area, skin: &str) -> Result<String, Refused> {
     let (width, height) = (area.width.into(), area.height.into());
     filled(|buffer| unsafe {
         termimad_area(
-            text.as_ptr(), text.len(), skin.as_ptr(), skin.len(),
-            left, top, width, height, buffer.as_mut_ptr(), buffer.len(),
+            text.as_ptr(),
+            text.len(),
+            skin.as_ptr(),
+            skin.len(),
+            left,
+            top,
+            width,
+            height,
+            buffer.as_mut_ptr(),
+            buffer.len(),
         )
     })
 }
@@ -102,8 +142,13 @@ pub fn area(text: &str, area: Area, skin: &str) -> Result<String, Refused> {
 pub fn text(text: &str, width: usize, skin: &str) -> Result<String, Refused> {
     filled(|buffer| unsafe {
         termimad_text(
-            text.as_ptr(), text.len(), skin.as_ptr(), skin.len(),
-            width, buffer.as_mut_ptr(), buffer.len(),
+            text.as_ptr(),
+            text.len(),
+            skin.as_ptr(),
+            skin.len(),
+            width,
+            buffer.as_mut_ptr(),
+            buffer.len(),
         )
     })
 }
@@ -112,14 +157,20 @@ pub fn text(text: &str, width: usize, skin: &str) -> Result<String, Refused> {
 pub fn inline(line: &str, skin: &str) -> Result<String, Refused> {
     filled(|buffer| unsafe {
         termimad_inline(
-            line.as_ptr(), line.len(), skin.as_ptr(), skin.len(), buffer.as_mut_ptr(), buffer.len(),
+            line.as_ptr(),
+            line.len(),
+            skin.as_ptr(),
+            skin.len(),
+            buffer.as_mut_ptr(),
+            buffer.len(),
         )
     })
 }
 
 /// How many rows a Markdown text takes at a width, in columns.
 pub fn rows(text: &str, width: usize, skin: &str) -> Result<usize, Refused> {
-    let answer = unsafe { termimad_rows(text.as_ptr(), text.len(), skin.as_ptr(), skin.len(), width) };
+    let answer =
+        unsafe { termimad_rows(text.as_ptr(), text.len(), skin.as_ptr(), skin.len(), width) };
     match answer.status {
         DONE => Ok(answer.count),
         status => Err(refusal(status)),
@@ -130,8 +181,14 @@ pub fn rows(text: &str, width: usize, skin: &str) -> Result<usize, Refused> {
 pub fn fit(line: &str, width: usize, align: Align, skin: &str) -> Result<String, Refused> {
     filled(|buffer| unsafe {
         termimad_fit(
-            line.as_ptr(), line.len(), skin.as_ptr(), skin.len(),
-            width, align as usize, buffer.as_mut_ptr(), buffer.len(),
+            line.as_ptr(),
+            line.len(),
+            skin.as_ptr(),
+            skin.len(),
+            width,
+            align as usize,
+            buffer.as_mut_ptr(),
+            buffer.len(),
         )
     })
 }

@@ -5,7 +5,12 @@ use termimad_use::{area, fit, inline, printable, rows, text, Align, Area, Refuse
 const NOTE: &str = "# Done\n* **3** files were read\n* *none* was changed\n> see `report.txt`";
 
 fn main() -> Result<(), Refused> {
-    let corner = Area { left: 2, top: 1, width: 30, height: 5 };
+    let corner = Area {
+        left: 2,
+        top: 1,
+        width: 30,
+        height: 5,
+    };
     println!("{:?}", area(NOTE, corner, "")?);
     print!("{}", text(NOTE, 24, "")?);
     for width in [6, 12, 24] {
