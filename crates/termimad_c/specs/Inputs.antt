@@ -1,5 +1,5 @@
 -- What the bytes and the numbers of a caller are.
-use Rattle.std.specs.Prelude.{◌≡◌, ◌⊎◌, ℕ, ◌≤◌, ◌^◌, List, [], ◌∷◌, Option, Some, None, IsUtf8}
+use Rattle.std.specs.Prelude.{◌≡◌, ◌⊎◌, ℕ, ◌<◌, ◌≤◌, ◌^◌, List, [], ◌∷◌, Option, Some, None, IsUtf8}
 use Rattle.termimad.specs.Areas.{IsWithinLimits}
 use Rattle.termimad.specs.declared.Alignment.{Alignment}
 use Rattle.termimad.specs.declared.Alignment.TheVariants.{Unspecified, Left, Center, Right}
@@ -45,14 +45,13 @@ pub record IsAreaOf (left top width height : ℕ) (area : Area) : Type 0 where
 abbrev pub IsNoArea : ℕ → ℕ → ℕ → ℕ → Type 0
 IsNoArea left top width height = (area : Area) → ¬ (IsAreaOf left top width height area)
 
--- the alignment of a number
-abbrev pub alignment_of : ℕ → Option Alignment
-alignment_of 0 = Some Unspecified
-alignment_of 1 = Some Left
-alignment_of 2 = Some Center
-alignment_of 3 = Some Right
-alignment_of (suc (suc (suc (suc n)))) = None
+-- the number of an alignment
+abbrev pub alignment_number : Alignment → ℕ
+alignment_number Unspecified = 0
+alignment_number Left = 1
+alignment_number Center = 2
+alignment_number Right = 3
 
 -- no line is fitted by these numbers
 abbrev pub IsNoFit : ℕ → ℕ → Type 0
-IsNoFit width align = (2 ^ 16 ≤ width) ⊎ (alignment_of align ≡ None)
+IsNoFit width align = (2 ^ 16 ≤ width) ⊎ (3 < align)

@@ -18,7 +18,7 @@ use Rattle.termimad_run.specs.ProgramRuns.{WritesCall, ShowsCall}
 use Rattle.termimad_run.specs.declared.call.Command.{Command}
 use Rattle.termimad_run.specs.declared.call.Command.TheVariants.{InArea, AtWidth}
 use Rattle.termimad_c.specs.Gathered.{untouched}
-use Rattle.termimad_c.specs.Inputs.{IsSkinOf, IsAreaOf, alignment_of}
+use Rattle.termimad_c.specs.Inputs.{IsSkinOf, IsAreaOf, alignment_number}
 
 -- They are all that the program writes of this text in the skin of this word, and what a plain terminal shows of them is what the
 -- program's bytes show.
@@ -55,7 +55,7 @@ pub record IsFittedLine (text word : List ℕ) (width align : ℕ) (whole : List
   pub skin : MadSkin
   pub given : IsSkinOf word skin
   pub alignment : Alignment
-  pub aligned : alignment_of align ≡ Some alignment
+  pub aligned : alignment_number alignment ≡ align
   pub line : FmtComposite
   pub read : IsInlineOf (row_skin skin) text line
   pub fitted : FmtComposite

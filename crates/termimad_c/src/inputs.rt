@@ -1,8 +1,8 @@
 //! What a caller hands: texts, skins and numbers. What C can get wrong is tested here.
 
-ghost use Rattle.std.specs.Prelude.{◌≡◌, ◌≤◌, ◌^◌, Some, None, IsUtf8, MatchResult};
+ghost use Rattle.std.specs.Prelude.{◌≡◌, ◌<◌, ◌≤◌, ◌^◌, IsUtf8, MatchResult, option_map};
 ghost use Rattle.termimad_c.specs.declared.answer.Refusal.TheVariants.{Condition, NotUtf8};
-ghost use Rattle.termimad_c.specs.Inputs.{IsSkinOf, RefusesSkin, IsAreaOf, IsNoArea, alignment_of};
+ghost use Rattle.termimad_c.specs.Inputs.{IsSkinOf, RefusesSkin, IsAreaOf, IsNoArea, alignment_number, word_given};
 
 use crate::answer::Refusal;
 use std::alloc::Global;
@@ -32,13 +32,21 @@ pub fn text_of(bytes: &[u8]) -> Result<&str, Refusal>
 /// # Errors
 ///
 /// `NotUtf8`; `Skin`, where the word is no JSON text or says no skin; or out of memory for what it says.
+#[tactic(auto, using(crate::proofs::Steps::word_refused))]
 pub fn skin_of_word(alloc: Global, word: &[u8]) -> Result<MadSkin, Refusal>
     ensures { MatchResult result (IsSkinOf word.now) (RefusesSkin word.now) }
 {
     let word = text_of(word)?;
-    let given = if word.is_empty() { None } else { Some(word) };
-    let (skin, _) = skin_of(alloc, given)?;
+    let (skin, _) = skin_of(alloc, given_word(word))?;
     Ok(skin)
+}
+
+// The word as the program takes it: none, where it is empty.
+#[tactic(auto, using(crate::proofs::Steps::empty_word, crate::proofs::Steps::other_word))]
+fn given_word(word: &str) -> Option<&str>
+    ensures { option_map (λ word. word.now) result ≡ word_given word.now }
+{
+    if word.is_empty() { None } else { Some(word) }
 }
 
 /// The number as columns or rows.
@@ -81,7 +89,7 @@ pub fn area_of(left: usize, top: usize, width: usize, height: usize) -> Result<A
 ///
 /// `Condition`, where it is another number.
 pub fn align_of(align: usize) -> Result<Alignment, Refusal>
-    ensures { MatchResult result (λ a. alignment_of align ≡ Some a) (λ refusal. (refusal ≡ Condition) × (alignment_of align ≡ None)) }
+    ensures { MatchResult result (λ a. alignment_number a ≡ align) (λ refusal. (refusal ≡ Condition) × (3 < align)) }
 {
     match align {
         0 => Ok(Alignment::Unspecified),

@@ -1,6 +1,6 @@
 //! What each call makes of its inputs.
 
-ghost use Rattle.std.specs.Prelude.{◌≡◌, ◌≤◌, ◌^◌, MatchResult, ⊥};
+ghost use Rattle.std.specs.Prelude.{◌≡◌, ◌≤◌, ◌^◌, MatchResult};
 ghost use Rattle.termimad_run.specs.Calls.{IsAllowed};
 ghost use Rattle.termimad_run.specs.declared.call.Command.TheVariants.{Inline};
 ghost use Rattle.termimad_c.specs.Inputs.{RefusesCall, IsNoArea, IsNoFit};
@@ -14,6 +14,7 @@ use termimad::printable;
 use termimad_run::{Command, write_call};
 
 /// A text in an area: the bytes of `termimad-view area`.
+#[tactic(auto, using(crate::proofs::Steps::call_refused))]
 pub fn area_bytes(
     alloc: Global,
     text: &[u8],
@@ -31,6 +32,7 @@ pub fn area_bytes(
 }
 
 /// A text at a width: the bytes of `termimad-view text`.
+#[tactic(auto, using(crate::proofs::Steps::call_refused))]
 pub fn text_bytes(alloc: Global, text: &[u8], skin: &[u8], width: usize) -> Result<Vec<u8>, Refusal>
     ensures { MatchResult result (λ whole. IsTextWritten text.now skin.now width whole.items)
         (RefusesCall (2 ^ 16 ≤ width) text.now skin.now) }
@@ -47,6 +49,7 @@ pub fn inline_bytes(alloc: Global, text: &[u8], skin: &[u8]) -> Result<Vec<u8>, 
 }
 
 // What the program writes of a text.
+#[tactic(auto, using(crate::proofs::Steps::skin_refused))]
 fn written(alloc: Global, text: &[u8], skin: &[u8], command: &Command) -> Result<Vec<u8>, Refusal>
     requires { IsAllowed command.now }
     ensures { MatchResult result (λ whole. IsWritten text.now skin.now command.now whole.items) (RefusesCall ⊥ text.now skin.now) }
@@ -59,6 +62,7 @@ fn written(alloc: Global, text: &[u8], skin: &[u8], command: &Command) -> Result
 }
 
 /// How many rows a text takes at a width.
+#[tactic(auto, using(crate::proofs::Steps::skin_refused))]
 pub fn rows_count(alloc: Global, text: &[u8], skin: &[u8], width: usize) -> Result<usize, Refusal>
     ensures { MatchResult result (IsRowCount text.now skin.now width) (RefusesCall (2 ^ 16 ≤ width) text.now skin.now) }
 {
@@ -70,6 +74,7 @@ pub fn rows_count(alloc: Global, text: &[u8], skin: &[u8], width: usize) -> Resu
 }
 
 /// A line of text with inline marks, fitted to a width with an ellipsis.
+#[tactic(auto, using(crate::proofs::Steps::skin_refused))]
 pub fn fitted_bytes(
     alloc: Global,
     text: &[u8],
