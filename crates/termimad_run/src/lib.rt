@@ -18,5 +18,8 @@ mod program;
 mod skin;
 mod writing;
 
+pub use call::Command;
 pub use failure::{Failure, refuse};
 pub use program::run;
+pub use skin::skin_of;
+pub use writing::write_call;

@@ -1,0 +1,44 @@
+-- What a call answers, and what is in the caller's buffer then.
+use Rattle.std.specs.Prelude.{◌≡◌, ℕ, ◌≤◌, ◌<◌, ◌↔◌, ◌⊎◌, List, ◌++◌, length, take, drop}
+use Rattle.termimad_run.specs.declared.failure.Failure.{Failure}
+use Rattle.termimad_run.specs.declared.failure.Failure.TheVariants as failure
+use Rattle.termimad_c.specs.declared.answer.Answer.{Answer}
+use Rattle.termimad_c.specs.declared.answer.Refusal.{Refusal}
+use Rattle.termimad_c.specs.declared.answer.Refusal.TheVariants.{Condition, NotUtf8, Skin, Memory}
+
+-- the status of a refusal
+abbrev pub status_of : Refusal → ℕ
+status_of Condition = 2
+status_of NotUtf8 = 3
+status_of Skin = 4
+status_of Memory = 5
+
+-- what a failure of the program is here
+abbrev pub refusal_of : Failure → Refusal
+refusal_of failure.Usage = Condition
+refusal_of failure.NotUtf8 = NotUtf8
+refusal_of failure.Skin = Skin
+refusal_of failure.Io = Memory
+refusal_of failure.Memory = Memory
+
+-- The answer tells the whole's length, whatever the buffer holds. The status is done (0) where the whole fits, and else too short
+-- (1). The buffer begins with the whole, or with as much of its front as fits; its other bytes are as before.
+pub record HandsOut (whole old : List ℕ) (answer : Answer) (new : List ℕ) : Type 0 where
+  pub count : answer.count ≡ length whole
+  pub done : (length whole ≤ length old) → answer.status ≡ 0
+  pub short : (length old < length whole) → answer.status ≡ 1
+  pub front : new ≡ take (length old) whole ++ drop (length whole) old
+
+-- the answer of a call that was refused
+abbrev pub IsRefused : Refusal → Answer → Type 0
+IsRefused refusal answer = (answer.count ≡ 0) × (answer.status ≡ status_of refusal)
+
+-- A call handed out bytes of which this is true, or it was refused for a reason of which that is true, and the buffer is as before.
+abbrev pub Answers : (List ℕ → Type 0) → (Refusal → Type 0) → List ℕ → Answer → List ℕ → Type 0
+Answers Makes Refuses old answer new =
+    ((whole : List ℕ) × Makes whole × HandsOut whole old answer new)
+    ⊎ ((refusal : Refusal) × Refuses refusal × IsRefused refusal answer × (new ≡ old))
+
+-- a call counted rows of which this is true, or it was refused for a reason of which that is true
+abbrev pub Counts : (ℕ → Type 0) → (Refusal → Type 0) → Answer → Type 0
+Counts Makes Refuses answer = (Makes answer.count × (answer.status ≡ 0)) ⊎ ((refusal : Refusal) × Refuses refusal × IsRefused refusal answer)

@@ -1,0 +1,57 @@
+-- What the bytes and the numbers of a caller are.
+use Rattle.std.specs.Prelude.{◌≡◌, ◌⊎◌, ℕ, ◌<◌, ◌≤◌, ◌^◌, List, [], ◌∷◌, Option, Some, None, IsUtf8}
+use Rattle.termimad.specs.Areas.{IsWithinLimits}
+use Rattle.termimad.specs.declared.Alignment.{Alignment}
+use Rattle.termimad.specs.declared.Alignment.TheVariants.{Unspecified, Left, Center, Right}
+use Rattle.termimad.specs.declared.Area.{Area}
+use Rattle.termimad.specs.declared.MadSkin.{MadSkin}
+use Rattle.termimad_run.specs.GivenSkins.{skin_given}
+use Rattle.termimad_c.specs.declared.answer.Refusal.{Refusal}
+use Rattle.termimad_c.specs.declared.answer.Refusal.TheVariants.{Condition, NotUtf8, Skin, Memory}
+
+-- the word of a skin, as the program takes it: an empty one is none
+abbrev pub word_given : List ℕ → Option (List ℕ)
+word_given [] = None
+word_given (byte ∷ more) = Some (byte ∷ more)
+
+-- the skin of a word, whatever keys are passed over
+abbrev pub IsSkinOf : List ℕ → MadSkin → Type 0
+IsSkinOf word skin = IsUtf8 word × (unknown : List (List ℕ)) × (skin_given (word_given word) ≡ Some (skin, unknown))
+
+-- why a word gives no skin
+abbrev pub RefusesSkin : List ℕ → Refusal → Type 0
+RefusesSkin word NotUtf8 = ¬ (IsUtf8 word)
+RefusesSkin word Skin = skin_given (word_given word) ≡ None
+RefusesSkin word Memory = Unit {0}
+RefusesSkin word Condition = ⊥
+
+-- Why a text and a skin are refused by a call whose numbers are wrong where this is so.
+abbrev pub RefusesCall : Type 0 → List ℕ → List ℕ → Refusal → Type 0
+RefusesCall Wrong text word Condition = Wrong
+RefusesCall Wrong text word NotUtf8 = (¬ (IsUtf8 text)) ⊎ (¬ (IsUtf8 word))
+RefusesCall Wrong text word Skin = skin_given (word_given word) ≡ None
+RefusesCall Wrong text word Memory = Unit {0}
+
+-- The area of these numbers: four columns wide at least, and within the limits of a screen.
+pub record IsAreaOf (left top width height : ℕ) (area : Area) : Type 0 where
+  pub left_is : area.left ≡ left
+  pub top_is : area.top ≡ top
+  pub width_is : area.width ≡ width
+  pub height_is : area.height ≡ height
+  pub wide : 4 ≤ area.width
+  pub within : IsWithinLimits area
+
+-- these numbers are no such area's
+abbrev pub IsNoArea : ℕ → ℕ → ℕ → ℕ → Type 0
+IsNoArea left top width height = (area : Area) → ¬ (IsAreaOf left top width height area)
+
+-- the number of an alignment
+abbrev pub alignment_number : Alignment → ℕ
+alignment_number Unspecified = 0
+alignment_number Left = 1
+alignment_number Center = 2
+alignment_number Right = 3
+
+-- no line is fitted by these numbers
+abbrev pub IsNoFit : ℕ → ℕ → Type 0
+IsNoFit width align = (2 ^ 16 ≤ width) ⊎ (3 < align)

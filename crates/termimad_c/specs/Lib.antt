@@ -1,0 +1,4 @@
+pub mod Answers
+pub mod Gathered
+pub mod Inputs
+pub mod Making

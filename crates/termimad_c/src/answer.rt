@@ -1,0 +1,134 @@
+//! What a call answers, and what it leaves in the caller's buffer.
+
+ghost use Rattle.std.specs.Prelude.{◌≡◌, MatchResult};
+ghost use Rattle.termimad_c.specs.Answers.{HandsOut, IsRefused, status_of, refusal_of};
+
+use std::alloc::AllocError;
+use termimad::Error;
+use termimad_run::Failure;
+
+// All of it is in the buffer.
+const DONE: u32 = 0;
+
+// The buffer is too small, and has the beginning.
+const SHORT: u32 = 1;
+
+/// What a call answers.
+#[repr(C)]
+#[derive(Clone, Copy, PartialEq, Eq, Debug, Drop)]
+pub struct Answer {
+    /// How many bytes the whole has, or how many rows were counted; 0 where the call was refused.
+    pub count: usize,
+    /// How the call ended.
+    pub status: u32,
+}
+
+/// Why a call is refused.
+#[derive(Clone, Copy, PartialEq, Eq, Debug)]
+pub enum Refusal {
+    /// A number is none that the call takes.
+    Condition,
+    /// The text or the skin is not UTF-8.
+    NotUtf8,
+    /// The skin is no name of one, no JSON text, or says no skin.
+    Skin,
+    /// Out of memory.
+    Memory,
+}
+
+impl Refusal {
+    /// Its status.
+    pub fn status(self) -> u32
+        ensures { result ≡ status_of self }
+    {
+        match self {
+            Refusal::Condition => 2,
+            Refusal::NotUtf8 => 3,
+            Refusal::Skin => 4,
+            Refusal::Memory => 5,
+        }
+    }
+}
+
+impl From<Failure> for Refusal {
+    ghost from_gives = { λ failure refusal. refusal ≡ refusal_of failure };
+
+    /// What is written is kept in memory, so a fault of the output is one of memory.
+    fn from(failure: Failure) -> Self {
+        match failure {
+            Failure::Usage => Refusal::Condition,
+            Failure::NotUtf8 => Refusal::NotUtf8,
+            Failure::Skin => Refusal::Skin,
+            Failure::Io | Failure::Memory => Refusal::Memory,
+        }
+    }
+}
+
+impl From<AllocError> for Refusal {
+    ghost use Rattle.termimad_c.specs.declared.answer.Refusal.TheVariants.{Memory};
+
+    ghost from_gives = { λ _ refusal. refusal ≡ Memory };
+
+    fn from(_: AllocError) -> Self {
+        Refusal::Memory
+    }
+}
+
+impl From<Error> for Refusal {
+    ghost use Rattle.termimad_c.specs.declared.answer.Refusal.TheVariants.{Memory};
+
+    ghost from_gives = { λ _ refusal. refusal ≡ Memory };
+
+    /// What is written is kept in memory, and no call here refuses by a width.
+    fn from(_: Error) -> Self {
+        Refusal::Memory
+    }
+}
+
+/// Hands out what a call made, or why it was refused.
+///
+/// Of a whole that doesn't fit the buffer has the beginning. What is behind a whole that fits stays, and so does all of it where
+/// the call was refused.
+pub fn hand_out(made: Result<Vec<u8>, Refusal>, buffer: &mut [u8]) -> Answer
+    ensures { MatchResult made (λ whole. HandsOut whole.items buffer.old result buffer.new)
+        (λ refusal. IsRefused refusal result × (buffer.new ≡ buffer.old)) }
+{
+    match made {
+        Ok(whole) => copy_front(whole.as_slice(), buffer),
+        Err(refusal) => refuse(refusal),
+    }
+}
+
+/// The answer of a call that is refused.
+pub fn refuse(refusal: Refusal) -> Answer
+    ensures { IsRefused refusal result }
+{
+    Answer {
+        count: 0,
+        status: refusal.status(),
+    }
+}
+
+/// The answer of a call that counted rows.
+pub fn count_out(made: Result<usize, Refusal>) -> Answer
+    ensures { MatchResult made (λ count. result ≡ record { count = count; status = 0 }) (λ refusal. IsRefused refusal result) }
+{
+    match made {
+        Ok(count) => Answer {
+            count,
+            status: DONE,
+        },
+        Err(refusal) => refuse(refusal),
+    }
+}
+
+// Copies what fits into the buffer.
+fn copy_front(whole: &[u8], buffer: &mut [u8]) -> Answer
+    ensures { HandsOut whole.now buffer.old result buffer.new }
+{
+    let count = whole.len();
+    let fitting = count.min(buffer.len());
+    buffer[..fitting].copy_from_slice(&whole[..fitting]);
+    let status = if fitting == count { DONE } else { SHORT };
+    Answer { count, status }
+}

@@ -1,0 +1,95 @@
+//! The calls as C sees them: a slice is a pointer and then a length, and an allocator is passed by nothing.
+//!
+//! None requires anything of its arguments. What C has to keep is what the types say: each pointer is not null, what it points to has
+//! the length that is told, and the buffer shares no byte with the text or the skin.
+
+ghost use Rattle.std.specs.Prelude.{◌≡◌, ◌⊎◌, ◌≤◌, ◌^◌};
+ghost use Rattle.termimad_run.specs.declared.call.Command.TheVariants.{Inline};
+ghost use Rattle.termimad_c.specs.Answers.{Answers, Counts};
+ghost use Rattle.termimad_c.specs.Inputs.{RefusesCall, IsNoArea, IsNoFit};
+ghost use Rattle.termimad_c.specs.Making.{IsWritten, IsAreaWritten, IsTextWritten, IsRowCount, IsFittedLine, IsMadePrintable};
+
+use crate::answer::{Answer, count_out, hand_out};
+use crate::making::{
+    area_bytes, fitted_bytes, inline_bytes, printable_bytes, rows_count, text_bytes,
+};
+use std::alloc::Global;
+
+/// A Markdown text in an area of the screen: what `termimad-view area` writes.
+#[unsafe(no_mangle)]
+pub extern "C" fn termimad_area(
+    alloc: Global,
+    text: &[u8],
+    skin: &[u8],
+    left: usize,
+    top: usize,
+    width: usize,
+    height: usize,
+    buffer: &mut [u8],
+) -> Answer
+    ensures { Answers (IsAreaWritten text.now skin.now left top width height)
+        (RefusesCall (IsNoArea left top width height) text.now skin.now) buffer.old result buffer.new }
+{
+    let made = area_bytes(alloc, text, skin, left, top, width, height);
+    hand_out(made, buffer)
+}
+
+/// A Markdown text, laid out at a width, in columns: what `termimad-view text` writes.
+#[unsafe(no_mangle)]
+pub extern "C" fn termimad_text(
+    alloc: Global,
+    text: &[u8],
+    skin: &[u8],
+    width: usize,
+    buffer: &mut [u8],
+) -> Answer
+    ensures { Answers (IsTextWritten text.now skin.now width) (RefusesCall (2 ^ 16 ≤ width) text.now skin.now) buffer.old result buffer.new }
+{
+    hand_out(text_bytes(alloc, text, skin, width), buffer)
+}
+
+/// A text as one line with its inline marks, and a newline: what `termimad-view inline` writes.
+#[unsafe(no_mangle)]
+pub extern "C" fn termimad_inline(
+    alloc: Global,
+    text: &[u8],
+    skin: &[u8],
+    buffer: &mut [u8],
+) -> Answer
+    ensures { Answers (IsWritten text.now skin.now Inline) (RefusesCall ⊥ text.now skin.now) buffer.old result buffer.new }
+{
+    hand_out(inline_bytes(alloc, text, skin), buffer)
+}
+
+/// How many rows a Markdown text takes at a width, in columns.
+#[unsafe(no_mangle)]
+pub extern "C" fn termimad_rows(alloc: Global, text: &[u8], skin: &[u8], width: usize) -> Answer
+    ensures { Counts (IsRowCount text.now skin.now width) (RefusesCall (2 ^ 16 ≤ width) text.now skin.now) result }
+{
+    count_out(rows_count(alloc, text, skin, width))
+}
+
+/// A line of text with its inline marks, fitted to a width, in columns, with an ellipsis where it is too long. What goes is inside
+/// it (0), at its end (1), at both ends (2) or at its front (3), by `align`.
+#[unsafe(no_mangle)]
+pub extern "C" fn termimad_fit(
+    alloc: Global,
+    text: &[u8],
+    skin: &[u8],
+    width: usize,
+    align: usize,
+    buffer: &mut [u8],
+) -> Answer
+    ensures { Answers (IsFittedLine text.now skin.now width align)
+        (RefusesCall (IsNoFit width align) text.now skin.now) buffer.old result buffer.new }
+{
+    hand_out(fitted_bytes(alloc, text, skin, width, align), buffer)
+}
+
+/// A text without what a terminal obeys: no character of it but newlines is a command.
+#[unsafe(no_mangle)]
+pub extern "C" fn termimad_printable(alloc: Global, text: &[u8], buffer: &mut [u8]) -> Answer
+    ensures { Answers (IsMadePrintable text.now) (RefusesCall ⊥ text.now text.now) buffer.old result buffer.new }
+{
+    hand_out(printable_bytes(alloc, text), buffer)
+}

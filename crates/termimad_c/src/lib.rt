@@ -1,0 +1,18 @@
+//! The library for C: each call takes bytes and numbers, and answers into a buffer of the caller's. `include/termimad.h` declares them.
+//!
+//! In the order of the work:
+//!
+//! 1. [`answer`]: what a call answers, and what it leaves in the buffer.
+//! 2. [`inputs`]: what a caller hands: texts, skins, numbers.
+//! 3. [`gathered`]: the device that keeps what a call writes.
+//! 4. [`making`]: what each call makes of its inputs.
+//! 5. [`exports`]: the calls as C sees them.
+#![tactic(auto)]
+
+mod answer;
+mod exports;
+mod gathered;
+mod inputs;
+mod making;
+
+pub use answer::{Answer, Refusal};

@@ -1,0 +1,104 @@
+//! What each call makes of its inputs.
+
+ghost use Rattle.std.specs.Prelude.{◌≡◌, ◌≤◌, ◌^◌, MatchResult};
+ghost use Rattle.termimad_run.specs.Calls.{IsAllowed};
+ghost use Rattle.termimad_run.specs.declared.call.Command.TheVariants.{Inline};
+ghost use Rattle.termimad_c.specs.Inputs.{RefusesCall, IsNoArea, IsNoFit};
+ghost use Rattle.termimad_c.specs.Making.{IsWritten, IsAreaWritten, IsTextWritten, IsRowCount, IsFittedLine, IsMadePrintable};
+
+use crate::answer::Refusal;
+use crate::gathered::Gathered;
+use crate::inputs::{align_of, area_of, number_of, skin_of_word, text_of};
+use std::alloc::Global;
+use termimad::printable;
+use termimad_run::{Command, write_call};
+
+/// A text in an area: the bytes of `termimad-view area`.
+#[tactic(auto, using(crate::proofs::Steps::call_refused))]
+pub fn area_bytes(
+    alloc: Global,
+    text: &[u8],
+    skin: &[u8],
+    left: usize,
+    top: usize,
+    width: usize,
+    height: usize,
+) -> Result<Vec<u8>, Refusal>
+    ensures { MatchResult result (λ whole. IsAreaWritten text.now skin.now left top width height whole.items)
+        (RefusesCall (IsNoArea left top width height) text.now skin.now) }
+{
+    let area = area_of(left, top, width, height)?;
+    written(alloc, text, skin, &Command::InArea(area))
+}
+
+/// A text at a width: the bytes of `termimad-view text`.
+#[tactic(auto, using(crate::proofs::Steps::call_refused))]
+pub fn text_bytes(alloc: Global, text: &[u8], skin: &[u8], width: usize) -> Result<Vec<u8>, Refusal>
+    ensures { MatchResult result (λ whole. IsTextWritten text.now skin.now width whole.items)
+        (RefusesCall (2 ^ 16 ≤ width) text.now skin.now) }
+{
+    let width = number_of(width)?;
+    written(alloc, text, skin, &Command::AtWidth(width))
+}
+
+/// A text as one line: the bytes of `termimad-view inline`.
+pub fn inline_bytes(alloc: Global, text: &[u8], skin: &[u8]) -> Result<Vec<u8>, Refusal>
+    ensures { MatchResult result (λ whole. IsWritten text.now skin.now Inline whole.items) (RefusesCall ⊥ text.now skin.now) }
+{
+    written(alloc, text, skin, &Command::Inline)
+}
+
+// What the program writes of a text.
+#[tactic(auto, using(crate::proofs::Steps::skin_refused))]
+fn written(alloc: Global, text: &[u8], skin: &[u8], command: &Command) -> Result<Vec<u8>, Refusal>
+    requires { IsAllowed command.now }
+    ensures { MatchResult result (λ whole. IsWritten text.now skin.now command.now whole.items) (RefusesCall ⊥ text.now skin.now) }
+{
+    let skin = skin_of_word(alloc, skin)?;
+    let text = text_of(text)?;
+    let mut out = Gathered::new(alloc);
+    write_call(alloc, &mut out, &skin, command, text)?;
+    Ok(out.bytes)
+}
+
+/// How many rows a text takes at a width.
+#[tactic(auto, using(crate::proofs::Steps::skin_refused))]
+pub fn rows_count(alloc: Global, text: &[u8], skin: &[u8], width: usize) -> Result<usize, Refusal>
+    ensures { MatchResult result (IsRowCount text.now skin.now width) (RefusesCall (2 ^ 16 ≤ width) text.now skin.now) }
+{
+    let width = number_of(width)?;
+    let skin = skin_of_word(alloc, skin)?;
+    let text = text_of(text)?;
+    let laid_out = skin.text(alloc, text, Some(usize::from(width)))?;
+    Ok(laid_out.lines.len())
+}
+
+/// A line of text with inline marks, fitted to a width with an ellipsis.
+#[tactic(auto, using(crate::proofs::Steps::skin_refused))]
+pub fn fitted_bytes(
+    alloc: Global,
+    text: &[u8],
+    skin: &[u8],
+    width: usize,
+    align: usize,
+) -> Result<Vec<u8>, Refusal>
+    ensures { MatchResult result (λ whole. IsFittedLine text.now skin.now width align whole.items)
+        (RefusesCall (IsNoFit width align) text.now skin.now) }
+{
+    let width = number_of(width)?;
+    let align = align_of(align)?;
+    let skin = skin_of_word(alloc, skin)?;
+    let text = text_of(text)?;
+    let mut line = skin.inline(alloc, text)?;
+    line.composite.fit_width(usize::from(width), align, &skin)?;
+    Ok(line.to_string(alloc)?.into_bytes())
+}
+
+/// A text without what a terminal obeys.
+pub fn printable_bytes(alloc: Global, text: &[u8]) -> Result<Vec<u8>, Refusal>
+    ensures { MatchResult result (λ whole. IsMadePrintable text.now whole.items) (RefusesCall ⊥ text.now text.now) }
+{
+    let text = text_of(text)?;
+    let shown = printable(alloc, text)?;
+    Ok(shown.into_owned(alloc)?.into_bytes())
+}

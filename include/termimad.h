@@ -1,0 +1,120 @@
+/* Markdown for terminals, for C: lays Markdown out as termimad-view does, into a buffer of the caller's.
+ *
+ * A text and a skin are a pointer and a length in bytes; no zero ends them. A skin is a word:
+ *   of length 0   no style
+ *   default, dark, light   the made skins
+ *   any other     JSON text as {"bold":"red"}, which changes the default skin; keys that name no part of a skin are passed over
+ *
+ * Each call answers a status and a count: how many bytes the whole result has, whatever the buffer holds. Ask with a buffer that is
+ * likely large enough. Where the status is TERMIMAD_SHORT, take one of `count` bytes and ask again:
+ *
+ *   char buffer[4096];
+ *   termimad_answer answer = termimad_text("a *b*", 5, "", 0, 80, buffer, sizeof buffer);
+ *   if (answer.status == TERMIMAD_DONE)
+ *       fwrite(buffer, 1, answer.count, stdout);
+ *
+ * What is proved of each call: it reads only the bytes of its text and skin, and writes only those of its buffer. The result is what
+ * termimad-view writes of that text, or what the call's own comment says. The count is the length of the whole result; the status is
+ * TERMIMAD_DONE exactly where all of it is in the buffer. Of a result that is too long the buffer has the beginning. What is behind a
+ * result stays, and all of the buffer where a call is refused.
+ *
+ * What the caller must keep, which nothing checks: each pointer is not NULL, also where its length is 0, and is valid for its length.
+ * The buffer shares no byte with the text or the skin, and no other thread touches these while the call runs. malloc, realloc and free
+ * come from one allocator and align as the C library's do. No call is made from a signal handler, or from the child of a fork in a
+ * program with threads. There is enough stack; 1 MiB is.
+ *
+ * There is no state between calls, so any thread may call. All memory that a call takes it gives back.
+ */
+#ifndef TERMIMAD_H
+#define TERMIMAD_H
+
+#include <stddef.h>
+#include <stdint.h>
+
+#ifdef __cplusplus
+extern "C" {
+#endif
+
+/* How a call ended. */
+enum {
+    TERMIMAD_DONE = 0,      /* the buffer has all of the result */
+    TERMIMAD_SHORT = 1,     /* the buffer is too small, and has the beginning */
+    TERMIMAD_CONDITION = 2, /* a number is none that the call takes */
+    TERMIMAD_NOT_UTF8 = 3,  /* the text or the skin is not UTF-8 */
+    TERMIMAD_SKIN = 4,      /* the skin is no JSON text, or says no skin */
+    TERMIMAD_MEMORY = 5     /* out of memory */
+};
+
+/* Where termimad_fit puts the ellipsis. */
+enum {
+    TERMIMAD_INSIDE = 0, /* in the widest words */
+    TERMIMAD_LEFT = 1,   /* at the end of the line */
+    TERMIMAD_CENTER = 2, /* at both ends */
+    TERMIMAD_RIGHT = 3   /* at the front of the line */
+};
+
+typedef struct {
+    size_t count;    /* the bytes of the whole result, or the rows; 0 where the call was refused */
+    uint32_t status; /* TERMIMAD_DONE to TERMIMAD_MEMORY */
+} termimad_answer;
+
+/* The text in an area of the screen: what `termimad-view area LEFT TOP WIDTH HEIGHT` writes.
+ *
+ * LEFT and TOP count columns and rows from 0. WIDTH is at least 4; LEFT + WIDTH and TOP + HEIGHT are at most 65535.
+ * Other numbers are refused: TERMIMAD_CONDITION.
+ *
+ *   termimad_area("# Hello\n* *one* item", 20, "dark", 4, 0, 0, 24, 3, buffer, sizeof buffer);
+ */
+termimad_answer termimad_area(const char *text, size_t text_length, const char *skin, size_t skin_length,
+                              size_t left, size_t top, size_t width, size_t height,
+                              char *buffer, size_t capacity);
+
+/* The text, laid out in WIDTH columns, each row with a newline: what `termimad-view text WIDTH` writes.
+ *
+ * WIDTH is at most 65535, else TERMIMAD_CONDITION. Under 3 nothing is wrapped.
+ *
+ *   termimad_text("|a|b|\n|-|-|\n|1|2|", 17, "", 0, 40, buffer, sizeof buffer);
+ */
+termimad_answer termimad_text(const char *text, size_t text_length, const char *skin, size_t skin_length,
+                              size_t width, char *buffer, size_t capacity);
+
+/* The text as one line with its inline marks, and a newline: what `termimad-view inline` writes.
+ *
+ * A newline that ends the text goes first, with a carriage return before it.
+ *
+ *   termimad_inline("**done** in `3 s`", 17, "default", 7, buffer, sizeof buffer);
+ */
+termimad_answer termimad_inline(const char *text, size_t text_length, const char *skin, size_t skin_length,
+                                char *buffer, size_t capacity);
+
+/* How many rows the text takes in WIDTH columns: `count` is that number. There is no buffer.
+ *
+ * WIDTH is at most 65535, else TERMIMAD_CONDITION.
+ *
+ *   size_t rows = termimad_rows(text, length, "", 0, 80).count;
+ */
+termimad_answer termimad_rows(const char *text, size_t text_length, const char *skin, size_t skin_length,
+                              size_t width);
+
+/* The text as one line with its inline marks, in at most WIDTH columns: an ellipsis is where something is left out.
+ *
+ * ALIGN is TERMIMAD_INSIDE to TERMIMAD_RIGHT, and WIDTH at most 65535, else TERMIMAD_CONDITION. No newline is added or taken.
+ * A line that fits stays as it is. An indent of the line is a part of its width.
+ *
+ *   termimad_fit("a **very** long line", 20, "", 0, 10, TERMIMAD_LEFT, buffer, sizeof buffer);
+ */
+termimad_answer termimad_fit(const char *text, size_t text_length, const char *skin, size_t skin_length,
+                             size_t width, size_t align, char *buffer, size_t capacity);
+
+/* The text without what a terminal obeys: no character of it but newlines is a command. ESC is shown as its picture, tabs are
+ * spaces, and no override turns the text round. Use it for each text that others wrote, before it is laid out.
+ *
+ *   termimad_printable(name, strlen(name), buffer, sizeof buffer);
+ */
+termimad_answer termimad_printable(const char *text, size_t text_length, char *buffer, size_t capacity);
+
+#ifdef __cplusplus
+}
+#endif
+
+#endif

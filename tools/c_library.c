@@ -1,0 +1,168 @@
+/* Calls the library as a careless program would: short buffers, empty texts, bad UTF-8, refused skins, huge numbers. Each text and
+ * each buffer has memory of its own, of exactly its length, so that valgrind or a sanitizer sees each byte beside it. What it answers
+ * is compared with the same call into a buffer that has room for all: `c_library CALLS`. */
+#include "termimad.h"
+
+#include <stdint.h>
+#include <stdio.h>
+#include <stdlib.h>
+#include <string.h>
+
+enum { ROOM = 1 << 21, PARTS = 6 };
+
+typedef struct {
+    char *bytes;
+    size_t length;
+} bytes;
+
+typedef struct {
+    unsigned kind;
+    bytes text, skin;
+    size_t numbers[4];
+} call;
+
+static uint64_t state = 63;
+
+static uint64_t next(uint64_t below)
+{
+    state = state * 6364136223846793005u + 1442695040888963407u;
+    return (state >> 33) % below;
+}
+
+static const char *const parts[] = {
+    "", "# head\n", "* item of *some* words\n", "|a|b|\n|:-|-:|\n|1|**2**|\n", "```\ncode\n```\n", "> quote\n", "---\n", "plain words ",
+    "\xff", "\xe6\x97", "\xe6\x97\xa5\xe6\x9c\xac", "\xf0\x9f\x98\x80", "\xed\xa0\x80", "\x1b[2J", "\t", "\r\n", "**bo", "`", "\xc2\x85", "\xe2\x80\xae",
+};
+
+static const char *const skins[] = {
+    "", "", "default", "dark", "light", "{\"bold\":\"red\"}", "{\"bold\":", "nothing", "{\"bold\":\"pissenlit\"}", "{\"colour\":1}", "\xff", "[", "{}", "null",
+    "{\"table_border_chars\":\"rounded\",\"headers\":[\"red\",\"\",\"\"]}", "{\"list_items_indentation_mode\":\"hanging(2)\"}",
+};
+
+static const size_t numbers[] = { 0, 1, 2, 3, 4, 5, 7, 12, 20, 40, 80, 300, 65535, 65536, 65540, 1u << 31, SIZE_MAX / 2, SIZE_MAX - 3, SIZE_MAX };
+
+#define COUNT(list) (sizeof(list) / sizeof *(list))
+
+static void *taken(size_t length)
+{
+    void *room = malloc(length);
+    if (room == NULL && length > 0) {
+        fprintf(stderr, "out of memory\n");
+        exit(2);
+    }
+    return room;
+}
+
+/* Memory of exactly these bytes. */
+static bytes copy_of(const char *from, size_t length)
+{
+    bytes it = { taken(length), length };
+    memcpy(it.bytes, from, length);
+    return it;
+}
+
+static bytes random_text(void)
+{
+    char text[PARTS * 64];
+    size_t length = 0;
+    for (uint64_t left = next(PARTS + 1); left > 0; left--) {
+        const char *part = parts[next(COUNT(parts))];
+        memcpy(text + length, part, strlen(part));
+        length += strlen(part);
+    }
+    return copy_of(text, length);
+}
+
+static call random_call(void)
+{
+    call it = { .kind = (unsigned)next(6), .text = random_text() };
+    const char *skin = skins[next(COUNT(skins))];
+    it.skin = copy_of(skin, strlen(skin));
+    for (int n = 0; n < 4; n++)
+        it.numbers[n] = numbers[next(COUNT(numbers))];
+    /* A tall wide area has gigabytes. */
+    if (it.kind == 0 && it.numbers[3] > 300 && it.numbers[3] < 65536)
+        it.numbers[3] = 9;
+    /* Half of the fits have an alignment. */
+    if (it.kind == 4 && next(2))
+        it.numbers[1] = next(4);
+    return it;
+}
+
+static termimad_answer answer_of(const call *c, char *buffer, size_t capacity)
+{
+    const char *text = c->text.bytes, *skin = c->skin.bytes;
+    size_t length = c->text.length, skin_length = c->skin.length;
+    const size_t *n = c->numbers;
+    switch (c->kind) {
+    case 0: return termimad_area(text, length, skin, skin_length, n[0], n[1], n[2], n[3], buffer, capacity);
+    case 1: return termimad_text(text, length, skin, skin_length, n[0], buffer, capacity);
+    case 2: return termimad_inline(text, length, skin, skin_length, buffer, capacity);
+    case 3: return termimad_rows(text, length, skin, skin_length, n[0]);
+    case 4: return termimad_fit(text, length, skin, skin_length, n[0], n[1], buffer, capacity);
+    default: return termimad_printable(text, length, buffer, capacity);
+    }
+}
+
+/* What is wrong with an answer into a buffer of `capacity` bytes that were all '~', if the whole is so; or NULL. */
+static const char *fault_of(const call *c, termimad_answer whole, const char *bytes, termimad_answer answer, const char *buffer, size_t capacity)
+{
+    if (whole.status != TERMIMAD_DONE && whole.count != 0)
+        return "a refused call has bytes";
+    if (answer.count != whole.count)
+        return "the count depends on the buffer";
+    if (whole.status != TERMIMAD_DONE || c->kind == 3) {
+        if (answer.status != whole.status)
+            return "the refusal depends on the buffer";
+        whole.count = 0;
+    } else if (answer.status != (whole.count <= capacity ? TERMIMAD_DONE : TERMIMAD_SHORT)) {
+        return "the status is not that of the buffer";
+    }
+    size_t written = whole.count < capacity ? whole.count : capacity;
+    if (memcmp(buffer, bytes, written) != 0)
+        return "the buffer has not the beginning";
+    for (size_t at = written; at < capacity; at++)
+        if (buffer[at] != '~')
+            return "a byte behind the result changed";
+    return NULL;
+}
+
+/* Makes one call twice, and answers whether it did as it has to. */
+static int try_call(unsigned number, char *room, unsigned *counted)
+{
+    call c = random_call();
+    termimad_answer whole = answer_of(&c, room, ROOM);
+    if (whole.status == TERMIMAD_SHORT || whole.status > TERMIMAD_SKIN) {
+        fprintf(stderr, "call %u: status %u with room for all\n", number, (unsigned)whole.status);
+        return 0;
+    }
+    counted[whole.status]++;
+    size_t fits = c.kind == 3 || whole.count == 0 ? next(9) : whole.count;
+    size_t capacities[] = { 0, next(fits + 1), fits, fits + 1 + next(9) };
+    size_t capacity = capacities[next(4)];
+    char *buffer = taken(capacity);
+    memset(buffer, '~', capacity);
+    termimad_answer answer = answer_of(&c, buffer, capacity);
+    const char *fault = fault_of(&c, whole, room, answer, buffer, capacity);
+    if (answer.status == TERMIMAD_SHORT)
+        counted[TERMIMAD_SHORT]++;
+    if (fault != NULL)
+        fprintf(stderr, "call %u, kind %u: %s\n", number, c.kind, fault);
+    free(buffer);
+    free(c.text.bytes);
+    free(c.skin.bytes);
+    return fault == NULL;
+}
+
+int main(int count, char **words)
+{
+    unsigned calls = count > 1 ? (unsigned)strtoul(words[1], NULL, 10) : 1000;
+    unsigned counted[TERMIMAD_MEMORY + 1] = { 0 }, wrong = 0;
+    char *room = taken(ROOM);
+    for (unsigned number = 0; number < calls; number++)
+        wrong += !try_call(number, room, counted);
+    free(room);
+    printf("%u calls: done %u, of these short %u, condition %u, not UTF-8 %u, skin %u; wrong %u\n", calls, counted[TERMIMAD_DONE],
+           counted[TERMIMAD_SHORT], counted[TERMIMAD_CONDITION], counted[TERMIMAD_NOT_UTF8], counted[TERMIMAD_SKIN], wrong);
+    return wrong != 0;
+}

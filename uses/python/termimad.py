@@ -1,0 +1,141 @@
+"""Markdown for terminals: the calls of libtermimad, by ctypes.
+
+Set TERMIMAD_LIBRARY to the path of the shared library; without it the loader looks for `libtermimad.so`.
+
+    >>> print(text("* some *words* in a list", width=12), end="")
+    • some words
+      in a list
+    >>> rows("* some *words* in a list", width=12)
+    2
+    >>> fit("a **very** long line", width=10)
+    'a very lo…'
+    >>> printable("an escape \\x1b[2J")
+    'an escape ␛[2J'
+    >>> text("a", width=70000)
+    Traceback (most recent call last):
+    termimad.WrongNumber: A width, an area or an alignment is none that the call takes.
+
+A skin is "" for no style, "default", "dark" or "light", or JSON text as '{"bold":"red"}', which changes the default skin.
+A text or a skin may be `str` or `bytes`. A call raises a `Refused` where it can answer nothing.
+"""
+import ctypes
+import enum
+import os
+
+
+class Align(enum.IntEnum):
+    """Where `fit` puts the ellipsis."""
+
+    INSIDE = 0  # in the widest words
+    LEFT = 1  # at the end of the line
+    CENTER = 2  # at both ends
+    RIGHT = 3  # at the front of the line
+
+
+class Refused(Exception):
+    """A call was refused. Each of its kinds is a class of its own."""
+
+
+class WrongNumber(Refused, ValueError):
+    """A width, an area or an alignment is none that the call takes."""
+
+
+class NotUtf8(Refused, ValueError):
+    """The text or the skin is not UTF-8."""
+
+
+class WrongSkin(Refused, ValueError):
+    """The skin is no JSON text, or says no skin."""
+
+
+class OutOfMemory(Refused, MemoryError):
+    """There was no memory for the result."""
+
+
+_DONE, _SHORT = 0, 1
+_REFUSALS = {2: WrongNumber, 3: NotUtf8, 4: WrongSkin, 5: OutOfMemory}
+_FIRST_CAPACITY = 4096
+
+
+class _Answer(ctypes.Structure):
+    _fields_ = [("count", ctypes.c_size_t), ("status", ctypes.c_uint32)]
+
+
+_library = ctypes.CDLL(os.environ.get("TERMIMAD_LIBRARY", "libtermimad.so"))
+_BYTES = [ctypes.c_char_p, ctypes.c_size_t]
+_PARAMETERS = {
+    "termimad_area": _BYTES * 2 + [ctypes.c_size_t] * 4 + _BYTES,
+    "termimad_text": _BYTES * 2 + [ctypes.c_size_t] + _BYTES,
+    "termimad_inline": _BYTES * 3,
+    "termimad_rows": _BYTES * 2 + [ctypes.c_size_t],
+    "termimad_fit": _BYTES * 2 + [ctypes.c_size_t] * 2 + _BYTES,
+    "termimad_printable": _BYTES * 2,
+}
+for _name, _parameters in _PARAMETERS.items():
+    _call = getattr(_library, _name)
+    _call.argtypes, _call.restype = _parameters, _Answer
+
+
+def area(markdown, left, top, width, height, skin=""):
+    """The text in an area of the screen, with the commands that move the cursor there."""
+    return _result("termimad_area", [markdown, skin], [left, top, width, height])
+
+
+def text(markdown, width, skin=""):
+    """The text, laid out in `width` columns, each row with a newline."""
+    return _result("termimad_text", [markdown, skin], [width])
+
+
+def inline(line, skin=""):
+    """The line with its inline marks, and a newline."""
+    return _result("termimad_inline", [line, skin], [])
+
+
+def rows(markdown, width, skin=""):
+    """How many rows the text takes in `width` columns."""
+    answer = _library.termimad_rows(*_handed([markdown, skin]), *_sizes([width]))
+    return _checked(answer).count
+
+
+def fit(line, width, align=Align.LEFT, skin=""):
+    """The line with its inline marks, in at most `width` columns: an ellipsis is where something is left out."""
+    return _result("termimad_fit", [line, skin], [width, align])
+
+
+def printable(words):
+    """The text without what a terminal obeys. Use it for each text that others wrote, before it is laid out."""
+    return _result("termimad_printable", [words], [])
+
+
+def _result(name, texts, numbers):
+    """What the call makes, by a second call where the first buffer is too small."""
+    capacity = _FIRST_CAPACITY
+    while True:
+        buffer = ctypes.create_string_buffer(capacity)
+        answer = _checked(getattr(_library, name)(*_handed(texts), *_sizes(numbers), buffer, capacity))
+        if answer.status == _DONE:
+            return buffer.raw[: answer.count].decode()
+        capacity = answer.count
+
+
+def _checked(answer):
+    if answer.status in _REFUSALS:
+        refusal = _REFUSALS[answer.status]
+        raise refusal(refusal.__doc__)
+    return answer
+
+
+def _handed(texts):
+    """Each text as its bytes and their number."""
+    for it in texts:
+        raw = it.encode("utf-8", "surrogatepass") if isinstance(it, str) else bytes(it)
+        yield raw
+        yield len(raw)
+
+
+def _sizes(numbers):
+    """The numbers, which ctypes would cut to their lower bits where they are too large."""
+    for number in numbers:
+        if not 0 <= number < 2**63:
+            raise WrongNumber(WrongNumber.__doc__)
+        yield number
