@@ -71,12 +71,12 @@ pub mod field {
     pub use mad_field_rows::laws as row_laws;
 }
 
-/// Lists without a skin: their rows, and what is written of them.
+/// Lists without a skin: their rows, what is written of them, and what that changes on a screen.
 pub mod list {
     pub use mad_list::{
         CellExtract, ListRow, ListRows, ListView, ListViewCell, ListViewColumn, RowFilter, RowOrder,
     };
-    pub use mad_list_columns::{ListStyle, body_height, fit_columns, list_bar, push_list};
+    pub use mad_list_columns::{ListStyle, body_height, fit_columns, laws, list_bar, push_list};
 }
 
 /// Questions, and what can be answered.
