@@ -23,7 +23,8 @@
  * come from one allocator and align as the C library's do. No call is made from a signal handler, or from the child of a fork in a
  * program with threads. There is enough stack; 1 MiB is.
  *
- * There is no state between calls, so any thread may call. All memory that a call takes it gives back.
+ * There is no state between calls, so any thread may call. While a call runs the whole result is in memory, also what doesn't fit the
+ * buffer; all memory that a call takes it gives back.
  */
 #ifndef TERMIMAD_H
 #define TERMIMAD_H
