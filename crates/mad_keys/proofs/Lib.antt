@@ -1,3 +1,4 @@
+pub mod AloneLemmas
 pub mod CutLemmas
 pub mod DecoderLemmas
 pub mod EventLemmas
