@@ -1,8 +1,8 @@
 -- What follows from the definitions.
-use Rattle.std.specs.Prelude.{◌≡◌, ◌≢◌, ◌⊎◌, ℕ, ◌≤◌, List, [], ◌∷◌, ◌++◌, length, Option}
+use Rattle.std.specs.Prelude.{◌≡◌, ◌≢◌, ℕ, ◌≤◌, List, [], ◌∷◌, ◌++◌, length, Option}
 use Rattle.mad_term.specs.declared.events.Event.{Event}
 use Rattle.mad_keys.specs.Steps.{step_of}
-use Rattle.mad_keys.specs.EventBytes.{IsSequenceBytes, IsMouseBytes, IsApplicationBytes, IsConsoleBytes, IsEventBytes}
+use Rattle.mad_keys.specs.EventBytes.{IsEventBytes}
 use Rattle.mad_keys.specs.Readings.{Item, IsReading, Told, IsBlock, listed}
 use Rattle.mad_keys.specs.Decoding.{kept, BytesGive, PauseGives}
 
@@ -53,7 +53,6 @@ abbrev pub CutsChangeNothing : Type 0
 CutsChangeNothing = (w first second : List ℕ) (events others : List Event) (between left : List ℕ) → w ≢ 27 ∷ [] → (EndsIn 27 first → ⊥)
     → IsBlock w first events between → IsBlock between second others left → IsBlock w (first ++ second) (events ++ others) left
 
--- where nothing waits, an event's sequence, alone in a block, is read as this event
-abbrev pub SequencesAreRead : Type 0
-SequencesAreRead = (bytes : List ℕ) (e : Event) → IsSequenceBytes e bytes ⊎ IsMouseBytes e bytes ⊎ IsApplicationBytes e bytes ⊎ IsConsoleBytes e bytes
-    → IsBlock [] bytes (e ∷ []) []
+-- where nothing waits, the bytes of an event, alone in a block, are read as this event, and nothing waits then
+abbrev pub EventsAreRead : Type 0
+EventsAreRead = (bytes : List ℕ) (e : Event) → IsEventBytes e bytes → IsBlock [] bytes (e ∷ []) []

@@ -1,6 +1,6 @@
 //! What callers rely on: laws of the definitions, each a function that does nothing and states its law.
 
-ghost use Rattle.mad_keys.specs.Laws.{HasOneEvent, AreEventsShort, BytesAreRead, BlocksAreRead, HasOneReading, CutsChangeNothing, SequencesAreRead};
+ghost use Rattle.mad_keys.specs.Laws.{HasOneEvent, AreEventsShort, BytesAreRead, BlocksAreRead, HasOneReading, CutsChangeNothing, EventsAreRead};
 
 /// The same bytes are one event at most.
 pub fn bytes_are_one_event()
@@ -32,7 +32,7 @@ pub fn cuts_change_nothing()
     ensures { CutsChangeNothing }
 {}
 
-/// An event's sequence, alone in a block, is read as that event and nothing else where nothing waits.
-pub fn sequences_are_read()
-    ensures { SequencesAreRead }
+/// The bytes of an event, alone in a block, are read as that event and nothing else where nothing waits.
+pub fn events_are_read()
+    ensures { EventsAreRead }
 {}
