@@ -1,3 +1,5 @@
+pub mod AloneLemmas
+pub mod CharLemmas
 pub mod CutLemmas
 pub mod DecoderLemmas
 pub mod EventLemmas

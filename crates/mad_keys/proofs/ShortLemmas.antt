@@ -51,7 +51,7 @@ no_kind n letter h =
 held_small : (m : ℕ) (code : Option KeyCode) (e : Event) → held_key m code ≡ Some e → m ≤ 8
 held_small m code e h = leb-true m 8 (and_parts (leb 2 m) (leb m 8) (cond_then (leb 2 m && leb m 8) _ e h).0).1
 
-held_is_key : (m : ℕ) (code : Option KeyCode) (e : Event) → held_key m code ≡ Some e → (k : KeyCode) × (code ≡ Some k)
+pub held_is_key : (m : ℕ) (code : Option KeyCode) (e : Event) → held_key m code ≡ Some e → (k : KeyCode) × (code ≡ Some k)
 held_is_key m code e h = let s = mapped _ code e (cond_then (leb 2 m && leb m 8) _ e h).1 in (s.0, s.1)
 
 size_small : (columns rows : ℕ) (e : Event) → size_event columns rows ≡ Some e → (columns < 2 ^ 16) × (rows < 2 ^ 16)

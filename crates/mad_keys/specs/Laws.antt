@@ -52,3 +52,7 @@ EndsIn last bytes = (front : List ℕ) × (bytes ≡ front ++ last ∷ [])
 abbrev pub CutsChangeNothing : Type 0
 CutsChangeNothing = (w first second : List ℕ) (events others : List Event) (between left : List ℕ) → w ≢ 27 ∷ [] → (EndsIn 27 first → ⊥)
     → IsBlock w first events between → IsBlock between second others left → IsBlock w (first ++ second) (events ++ others) left
+
+-- where nothing waits, the bytes of an event, alone in a block, are read as this event, and nothing waits then
+abbrev pub EventsAreRead : Type 0
+EventsAreRead = (bytes : List ℕ) (e : Event) → IsEventBytes e bytes → IsBlock [] bytes (e ∷ []) []

@@ -1,6 +1,6 @@
 //! What callers rely on: laws of the definitions, each a function that does nothing and states its law.
 
-ghost use Rattle.mad_keys.specs.Laws.{HasOneEvent, AreEventsShort, BytesAreRead, BlocksAreRead, HasOneReading, CutsChangeNothing};
+ghost use Rattle.mad_keys.specs.Laws.{HasOneEvent, AreEventsShort, BytesAreRead, BlocksAreRead, HasOneReading, CutsChangeNothing, EventsAreRead};
 
 /// The same bytes are one event at most.
 pub fn bytes_are_one_event()
@@ -30,4 +30,9 @@ pub fn bytes_have_one_reading()
 /// A block that is cut in two, but not right after an ESC, has the same events.
 pub fn cuts_change_nothing()
     ensures { CutsChangeNothing }
+{}
+
+/// The bytes of an event, alone in a block, are read as that event and nothing else where nothing waits.
+pub fn events_are_read()
+    ensures { EventsAreRead }
 {}
