@@ -1,6 +1,7 @@
 /* Calls the library as a careless program would: short buffers, empty texts, bad UTF-8, refused skins, huge numbers. Each text and
  * each buffer has memory of its own, of exactly its length, so that valgrind or a sanitizer sees each byte beside it. What it answers
- * is compared with the same call into a buffer that has room for all: `c_library CALLS`. */
+ * is compared with the same call into a buffer that has room for all. Then the call is made once more, with memory for its first
+ * growths alone: `c_library CALLS`. It is linked so that malloc and realloc come here first. */
 #include "termimad.h"
 
 #include <stdint.h>
@@ -20,6 +21,31 @@ typedef struct {
     bytes text, skin;
     size_t numbers[4];
 } call;
+
+/* How many growths of memory are granted; below zero, all are. */
+static long granted = -1;
+
+void *__real_malloc(size_t size);
+void *__real_realloc(void *old, size_t size);
+
+static int refuses(void)
+{
+    if (granted > 0)
+        granted--;
+    else if (granted == 0)
+        return 1;
+    return 0;
+}
+
+void *__wrap_malloc(size_t size)
+{
+    return refuses() ? NULL : __real_malloc(size);
+}
+
+void *__wrap_realloc(void *old, size_t size)
+{
+    return refuses() ? NULL : __real_realloc(old, size);
+}
 
 static uint64_t state = 63;
 
@@ -127,7 +153,21 @@ static const char *fault_of(const call *c, termimad_answer whole, const char *by
     return NULL;
 }
 
-/* Makes one call twice, and answers whether it did as it has to. */
+/* What is wrong with the same call where memory runs out, or NULL: it is refused with an untouched buffer, or does its work. */
+static const char *fault_without_memory(const call *c, termimad_answer whole, const char *bytes, char *buffer, size_t capacity, unsigned *refused)
+{
+    memset(buffer, '~', capacity);
+    granted = (long)next(8);
+    termimad_answer answer = answer_of(c, buffer, capacity);
+    granted = -1;
+    if (answer.status != TERMIMAD_MEMORY)
+        return fault_of(c, whole, bytes, answer, buffer, capacity);
+    (*refused)++;
+    termimad_answer none = { 0, TERMIMAD_MEMORY };
+    return fault_of(c, none, bytes, answer, buffer, capacity);
+}
+
+/* Makes one call thrice, and answers whether it did as it has to. */
 static int try_call(unsigned number, char *room, unsigned *counted)
 {
     call c = random_call();
@@ -146,6 +186,8 @@ static int try_call(unsigned number, char *room, unsigned *counted)
     const char *fault = fault_of(&c, whole, room, answer, buffer, capacity);
     if (answer.status == TERMIMAD_SHORT)
         counted[TERMIMAD_SHORT]++;
+    if (fault == NULL)
+        fault = fault_without_memory(&c, whole, room, buffer, capacity, &counted[TERMIMAD_MEMORY]);
     if (fault != NULL)
         fprintf(stderr, "call %u, kind %u: %s\n", number, c.kind, fault);
     free(buffer);
@@ -162,7 +204,7 @@ int main(int count, char **words)
     for (unsigned number = 0; number < calls; number++)
         wrong += !try_call(number, room, counted);
     free(room);
-    printf("%u calls: done %u, of these short %u, condition %u, not UTF-8 %u, skin %u; wrong %u\n", calls, counted[TERMIMAD_DONE],
-           counted[TERMIMAD_SHORT], counted[TERMIMAD_CONDITION], counted[TERMIMAD_NOT_UTF8], counted[TERMIMAD_SKIN], wrong);
+    printf("%u calls: done %u, of these short %u, condition %u, not UTF-8 %u, skin %u; refused memory %u; wrong %u\n", calls, counted[TERMIMAD_DONE],
+           counted[TERMIMAD_SHORT], counted[TERMIMAD_CONDITION], counted[TERMIMAD_NOT_UTF8], counted[TERMIMAD_SKIN], counted[TERMIMAD_MEMORY], wrong);
     return wrong != 0;
 }
