@@ -12,7 +12,7 @@ use mad_screen::Screen;
 use mad_term::push_move;
 use std::alloc::{AllocError, Global};
 
-// Appends what has changed in row `y`: each run of changed characters, after a move to its first column.
+// Appends what has changed in row `y`: each run of characters, after a move to its first column.
 fn push_row(
     alloc: Global,
     out: &mut String,
@@ -36,7 +36,7 @@ fn push_row(
         let start = change_start(old_row, new_row, x);
         x = start;
         if start < width {
-            x = change_end(old_row, new_row, start);
+            x = change_end(old_row, new_row, start, y);
             push_move(out, start as u16, y)?;
             push_cells(alloc, out, &new_row[start..x])?;
         }
@@ -48,7 +48,8 @@ fn push_row(
 /// has the plain pen before and after them, and its cursor may be anywhere.
 ///
 /// Only what has changed is written: each run of changed characters, after a move to its first column, as a piece for each
-/// part in one pen. A character has changed if any of its cells has. Equal screens give no bytes.
+/// part in one pen. A few unchanged characters between two changed ones are written over, where they take no more bytes than
+/// the move that they spare. A character has changed if any of its cells has. Equal screens give no bytes.
 ///
 /// `None` where the sizes differ, or where a row of `new` isn't whole characters, each with its tails in its pen. Reading can
 /// leave halves of wide characters, and no terminal shows these. `old` may have halves.

@@ -1,0 +1,13 @@
+use Rattle.std.proofs.Common.{length, ◌-◌, ◌≡◌, ◌<◌, ◌≤◌, false, slice_index_or}
+use Rattle.mad_screen.specs.Grid.{blank, is_tail}
+use Rattle.mad_frames.proofs.runs.gap_end.Given as goal
+
+abbrev pub invariant-loop-at : goal.invariant-loop-at
+invariant-loop-at l = record {
+  after : l.end ≤ l.at;
+  within : l.at ≤ length l.new;
+  head : l.at < length l.new → is_tail (slice_index_or l.new l.at blank) ≡ false;
+}
+
+abbrev pub decreases-loop-at : goal.decreases-loop-at
+decreases-loop-at l = length l.new - l.at
