@@ -36,15 +36,24 @@ pub fn told(alloc: Global, words: &str, script: &str, on_devices: bool) -> Resul
     let mut told = String::new(alloc);
     for line in script.split('\n') {
         let (command, words) = line.split_once(' ').unwrap_or((line, ""));
-        let command = match command {
-            "write" | "picture" if on_devices => "devices",
-            command => command,
+        let command = if on_devices {
+            to_devices(command)
+        } else {
+            command
         };
         if !tell(alloc, &list, command, &mut told)? && !select(&mut list, command) {
             change(alloc, &mut list, command, words)?;
         }
     }
     Ok(told)
+}
+
+// The command that has devices fail under what another command writes.
+fn to_devices(command: &str) -> &str {
+    match command {
+        "write" | "picture" => "devices",
+        _ => command,
+    }
 }
 
 fn area_of(sides: [u16; 4]) -> Area
