@@ -1,0 +1,2 @@
+pub mod PageKeys
+pub mod Pages

@@ -1,0 +1,67 @@
+//! The screen, the text's rows and the one on top.
+
+ghost use Rattle.std.specs.Prelude.{◌≡◌};
+ghost use Rattle.mad_page.specs.Pages.{above, at_end, below, body_rows, percent};
+
+/// A text's rows on a screen, whose last row is left free.
+#[derive(Clone, Copy, Debug, PartialEq, Eq)]
+pub struct Page {
+    /// The columns of the screen.
+    pub columns: u16,
+    /// Its rows, the last one too.
+    pub rows: u16,
+    /// How many rows the text has.
+    pub height: usize,
+    /// The index, from 0, of the text's row that is on top. All are allowed: past the text's last row the screen is blank.
+    pub top: usize,
+}
+
+impl Page {
+    /// How many rows of the screen the text has: all but the last one.
+    pub fn body_rows(&self) -> u16
+        ensures { result ≡ body_rows self.now }
+    {
+        self.rows.saturating_sub(1)
+    }
+
+    /// How much of the text is on the screen or above it, in per cent, rounded down. Of a text without rows it is all.
+    pub fn percent(&self) -> u64
+        ensures { result ≡ percent self.now }
+    {
+        if self.height == 0 {
+            return 100;
+        }
+        let reached = (self.top as u128 + u128::from(self.body_rows())).min(self.height as u128);
+        (100 * reached / self.height as u128) as u64
+    }
+
+    // Scrolls down by this many rows, no further than to the text's last row in the screen's last but one. A page that is further stays.
+    pub(crate) fn go_down(&mut self, count: usize)
+        ensures { self.new ≡ below self.old count }
+    {
+        self.top = self
+            .top
+            .max(self.top.saturating_add(count).min(self.last_top()));
+    }
+
+    // Scrolls up by this many rows, or to the text's first.
+    pub(crate) fn go_up(&mut self, count: usize)
+        ensures { self.new ≡ above self.old count }
+    {
+        self.top = self.top.saturating_sub(count);
+    }
+
+    // Scrolls so that the text's last row is in the screen's last but one, or to its first where it fits.
+    pub(crate) fn go_to_end(&mut self)
+        ensures { self.new ≡ at_end self.old }
+    {
+        self.top = self.last_top();
+    }
+
+    // The row on top where the text's last one is in the screen's last but one.
+    fn last_top(&self) -> usize
+        ensures { result ≡ (at_end self.now).top }
+    {
+        self.height.saturating_sub(usize::from(self.body_rows()))
+    }
+}

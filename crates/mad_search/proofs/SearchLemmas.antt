@@ -1,0 +1,106 @@
+-- Texts of lines, put together piece by piece, and rows that have a text, row by row.
+use Rattle.std.proofs.Common.{◌≡◌, ◌⊎◌, ℕ, ◌+◌, ◌-◌, ◌<◌, ◌≤◌, ◌==◌, min, Bool, true, false, List, [], ◌∷◌, ◌++◌, drop, length, get_or, slice_get, Option, Some, None, MatchOption, unwrap_or, below_more, refl, ap, sym, ◌∙◌, subst, inl, inr, arith, append_assoc}
+use Rattle.std.specs.Prelude.{◌↔◌}
+use Rattle.std.specs.List.{flat_map}
+use Rattle.std.specs.Str.Iter.{HasSubslice}
+use Rattle.std.proofs.Math.Nat.{eq-or-lt_of_le}
+use Rattle.std.proofs.lemmas.List.{drop_more}
+use Rattle.std.proofs.lemmas.List.Concat.{flat_map-cons}
+use Rattle.std.proofs.lemmas.Option.{slice_get_read, slice_get_past, same_Some}
+use Rattle.mad_format.specs.declared.composite.FmtComposite.{FmtComposite}
+use Rattle.mad_format.specs.declared.line.FmtLine.{FmtLine}
+use Rattle.mad_search.specs.Searches.{composite_text, cells_text, line_text, HasText, NoneBetween, NoneFrom, IsFirstFrom, IsLastBefore, IsNextRow, IsPreviousRow}
+
+-- a piece more is put after a text, of those that are left
+pub piece_put : {X : Type 0} (f : X → List ℕ) (xs : List X) (i : ℕ) (d : X) (whole text new : List ℕ) → i < length xs → text ++ flat_map f (drop i xs) ≡ whole → new ≡ text ++ f (get_or xs i d) → new ++ flat_map f (drop (i + 1) xs) ≡ whole
+piece_put f xs i d whole text new inside h e =
+    ap (λ (l : List ℕ). l ++ flat_map f (drop (i + 1) xs)) e
+    ∙ append_assoc text (f (get_or xs i d)) (flat_map f (drop (i + 1) xs))
+    ∙ ap (λ (l : List ℕ). text ++ l) (sym (flat_map-cons f (get_or xs i d) (drop (i + 1) xs)) ∙ ap (flat_map f) (sym (drop_more xs i d inside)))
+    ∙ h
+
+-- a cell's text and its newline
+pub cell_put : (xs : List FmtComposite) (i : ℕ) (x : FmtComposite) (whole text mid new : List ℕ) → i < length xs → x ≡ get_or xs i x → text ++ cells_text (drop i xs) ≡ whole → mid ≡ text ++ composite_text x → new ≡ mid ++ 10 ∷ [] → new ++ cells_text (drop (i + 1) xs) ≡ whole
+cell_put xs i x whole text mid new inside is h e k =
+    let part : FmtComposite → List ℕ = λ cell. composite_text cell ++ 10 ∷ [] in
+    let put : new ≡ text ++ part (get_or xs i x) = k ∙ ap (λ (l : List ℕ). l ++ 10 ∷ []) e ∙ append_assoc text (composite_text x) (10 ∷ []) ∙ ap (λ (c : FmtComposite). text ++ part c) is in
+    piece_put part xs i x whole text new inside h put
+
+-- a row has the text where its line has
+pub has_at : (sought : List ℕ) (lines : List FmtLine) (row : ℕ) (x : FmtLine) (b : Bool) → row < length lines → x ≡ get_or lines row x → (b ≡ true) ↔ HasSubslice (line_text x) sought → (b ≡ true) ↔ HasText sought lines row
+has_at sought lines row x b inside is (to, from) =
+    let here : slice_get lines row ≡ Some x = slice_get_read lines (length lines) row x refl inside is in (
+      λ t. record { line = x; is = here; has = to t },
+      λ h. from (subst (λ (l : FmtLine). HasSubslice (line_text l) sought) (same_Some h.line x (sym h.is ∙ here)) h.has),
+    )
+
+-- there is a row that has it
+pub row_within : (sought : List ℕ) (lines : List FmtLine) (row : ℕ) → HasText sought lines row → ¬ (length lines ≤ row)
+row_within sought lines row h past = let e : None ≡ Some h.line = sym (slice_get_past lines row past) ∙ h.is in absurd (cc)
+
+-- no row before the first one
+pub none_yet : (sought : List ℕ) (lines : List FmtLine) (from : ℕ) → NoneBetween sought lines from from
+none_yet sought lines from row low high has = absurd (omega arith)
+
+-- a row more doesn't have it
+pub none_more : (sought : List ℕ) (lines : List FmtLine) (from row : ℕ) → NoneBetween sought lines from row → ¬ HasText sought lines row → NoneBetween sought lines from (row + 1)
+none_more sought lines from row none here r low high has =
+    below_more (λ (k : ℕ). from ≤ k → HasText sought lines k → ⊥) row (λ k lt at_least it. none k at_least lt it) (λ at_least it. here it) r high low has
+
+-- no row after the last one
+pub none_after_all : (sought : List ℕ) (lines : List FmtLine) (from row : ℕ) → NoneBetween sought lines from row → length lines ≤ row → NoneFrom sought lines from
+none_after_all sought lines from row none past r low has =
+    let inside = row_within sought lines r has in
+    let high : r < row = omega (arith, inside) in
+    none r low high has
+
+-- a row before doesn't have it
+pub none_before : (sought : List ℕ) (lines : List FmtLine) (row end before : ℕ) → before + 1 ≡ row → NoneBetween sought lines row end → ¬ HasText sought lines before → NoneBetween sought lines before end
+none_before sought lines row end before next none here r low high has =
+    elim (eq-or-lt_of_le low) [ inl e ↦ here (subst (λ (k : ℕ). HasText sought lines k) (sym e) has) | inr more ↦ none r (omega arith) high has ]
+
+-- ---- around the ends
+
+not_empty : (s : List ℕ) (b : Bool) → b ≡ (length s == 0) → b ≡ false → ¬ (length s ≡ 0)
+not_empty s b is untrue e = let t : true ≡ false = sym (is ∙ ap (λ (n : ℕ). n == 0) e) ∙ untrue in absurd (cc)
+
+-- the next row is found after the row
+pub next_here : (s : List ℕ) (l : List FmtLine) (row from found : ℕ) (b : Bool) → b ≡ (length s == 0) → b ≡ false → from ≡ min row (length l) + 1 → IsFirstFrom s l from found → IsNextRow s l row found
+next_here s l row from found b is untrue at first =
+    let inside = row_within s l found first.has in
+    let low : min row (length l) + 1 ≤ found = subst (λ (n : ℕ). n ≤ found) at first.within in
+    let within : row + 1 ≤ found = omega (arith, inside, low) in
+    record {
+      nothing = λ e. absurd (not_empty s b is untrue e);
+      next = λ some. inl (record { within = within; has = first.has; none_before = λ r above high has. first.none_before r (omega (arith, at)) high has });
+    }
+
+-- or around the end, or nowhere
+pub next_around : (s : List ℕ) (l : List FmtLine) (row from found : ℕ) (o : Option ℕ) (b : Bool) → b ≡ (length s == 0) → b ≡ false → from ≡ min row (length l) + 1 → NoneFrom s l from
+    → MatchOption o (NoneFrom s l 0) (IsFirstFrom s l 0) → found ≡ unwrap_or o row → IsNextRow s l row found
+next_around s l row from found None b is untrue at none all e = record { nothing = λ e. absurd (not_empty s b is untrue e); next = λ some. inr (inr (all, e)) }
+next_around s l row from found (Some x) b is untrue at none first e = record {
+  nothing = λ e. absurd (not_empty s b is untrue e);
+  next = λ some. inr (inl (λ r above has. none r (omega (arith, at)) has, subst (IsFirstFrom s l 0) (sym e) first));
+}
+
+-- the row before is found before the row
+pub previous_here : (s : List ℕ) (l : List FmtLine) (row end found : ℕ) (b : Bool) → b ≡ (length s == 0) → b ≡ false → end ≡ min row (length l) → IsLastBefore s l end found → IsPreviousRow s l row found
+previous_here s l row end found b is untrue at last = record {
+  nothing = λ e. absurd (not_empty s b is untrue e);
+  previous = λ some.
+      inl (record {
+        within = let low : found < min row (length l) = subst (λ (n : ℕ). found < n) at last.within in omega (arith, low);
+        has = last.has;
+        none_after = λ r above high has. last.none_after r above (let inside = row_within s l r has in omega (arith, at, inside)) has;
+      });
+}
+
+-- or around the start, or nowhere
+pub previous_around : (s : List ℕ) (l : List FmtLine) (row end found : ℕ) (o : Option ℕ) (b : Bool) → b ≡ (length s == 0) → b ≡ false → end ≡ min row (length l) → NoneBetween s l 0 end
+    → MatchOption o (NoneBetween s l 0 (length l)) (IsLastBefore s l (length l)) → found ≡ unwrap_or o row → IsPreviousRow s l row found
+previous_around s l row end found None b is untrue at none all e = record { nothing = λ e. absurd (not_empty s b is untrue e); previous = λ some. inr (inr (all, e)) }
+previous_around s l row end found (Some x) b is untrue at none last e = record {
+  nothing = λ e. absurd (not_empty s b is untrue e);
+  previous = λ some. inr (inl (λ r above high has. none r above (let inside = row_within s l r has in omega (arith, at, inside)) has, subst (IsLastBefore s l (length l)) (sym e) last));
+}

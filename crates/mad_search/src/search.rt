@@ -1,0 +1,160 @@
+//! Which row of a laid out text has what is sought.
+
+ghost use Rattle.std.specs.Prelude.{◌≡◌, ◌++◌, IfOk, OnOk, IsTrue, ◌↔◌, MatchOption, string_bytes, length, ◌<◌, ◌≤◌};
+ghost use Rattle.std.specs.Str.Iter.{HasSubslice};
+ghost use Rattle.mad_search.specs.Searches.{composite_text, line_text, cells_text, HasText, IsFirstFrom, IsLastBefore, IsNextRow, IsPreviousRow, NoneBetween, NoneFrom};
+
+use mad_format::{FmtComposite, FmtLine};
+use std::alloc::{AllocError, Global};
+
+/// The row that has what is sought and comes next after the one of this index, around the end of the text. Where none has it, or nothing is
+/// sought, it is the row itself.
+///
+/// # Errors
+///
+/// Out of memory is the only error.
+pub fn next_row(
+    alloc: Global,
+    lines: &[FmtLine],
+    sought: &str,
+    row: usize,
+) -> Result<usize, AllocError>
+    ensures { IfOk result (λ found. IsNextRow sought.now lines.now row found) }
+{
+    if sought.is_empty() {
+        return Ok(row);
+    }
+    let after = first_row(alloc, lines, sought, row.min(lines.len()) + 1)?;
+    if let Some(found) = after {
+        return Ok(found);
+    }
+    let around = first_row(alloc, lines, sought, 0)?;
+    Ok(around.unwrap_or(row))
+}
+
+/// The row that has what is sought and comes next before the one of this index, around the start of the text. Where none has it, or nothing
+/// is sought, it is the row itself.
+///
+/// # Errors
+///
+/// Out of memory is the only error.
+pub fn previous_row(
+    alloc: Global,
+    lines: &[FmtLine],
+    sought: &str,
+    row: usize,
+) -> Result<usize, AllocError>
+    ensures { IfOk result (λ found. IsPreviousRow sought.now lines.now row found) }
+{
+    if sought.is_empty() {
+        return Ok(row);
+    }
+    let before = last_row(alloc, lines, sought, row.min(lines.len()))?;
+    if let Some(found) = before {
+        return Ok(found);
+    }
+    let around = last_row(alloc, lines, sought, lines.len())?;
+    Ok(around.unwrap_or(row))
+}
+
+// The first row from this index on that has what is sought.
+fn first_row(
+    alloc: Global,
+    lines: &[FmtLine],
+    sought: &str,
+    from: usize,
+) -> Result<Option<usize>, AllocError>
+    ensures { IfOk result (λ found. MatchOption found (NoneFrom sought.now lines.now from) (IsFirstFrom sought.now lines.now from)) }
+{
+    for row in from..lines.len() {
+        let has = has_text_at(alloc, lines, sought, row)?;
+        if has {
+            return Ok(Some(row));
+        }
+    }
+    Ok(None)
+}
+
+// The last row before this index that has what is sought.
+fn last_row(
+    alloc: Global,
+    lines: &[FmtLine],
+    sought: &str,
+    end: usize,
+) -> Result<Option<usize>, AllocError>
+    requires { end ≤ length lines.now }
+    ensures { IfOk result (λ found. MatchOption found (NoneBetween sought.now lines.now 0 end) (IsLastBefore sought.now lines.now end)) }
+{
+    let mut row = end;
+    'rows: while row > 0 {
+        row -= 1;
+        let has = has_text_at(alloc, lines, sought, row)?;
+        if has {
+            return Ok(Some(row));
+        }
+    }
+    Ok(None)
+}
+
+// Whether the row of an index has a text.
+fn has_text_at(
+    alloc: Global,
+    lines: &[FmtLine],
+    sought: &str,
+    row: usize,
+) -> Result<bool, AllocError>
+    requires { row < length lines.now }
+    ensures { IfOk result (λ has. IsTrue has ↔ HasText sought.now lines.now row) }
+{
+    let has = has_text(alloc, &lines[row], sought)?;
+    Ok(has)
+}
+
+// Whether a line has a text.
+fn has_text(alloc: Global, line: &FmtLine, sought: &str) -> Result<bool, AllocError>
+    ensures { IfOk result (λ has. IsTrue has ↔ HasSubslice (line_text line.now) sought.now) }
+{
+    let text = line_text(alloc, line)?;
+    Ok(contains(text.as_str(), sought))
+}
+
+// Whether a text has another in it.
+fn contains(text: &str, sought: &str) -> bool
+    ensures { IsTrue result ↔ HasSubslice text.now sought.now }
+{
+    text.contains(sought)
+}
+
+// The text of a line; of a row of a table that of its cells, each with a newline after it; of a rule none.
+fn line_text(alloc: Global, line: &FmtLine) -> Result<String, AllocError>
+    ensures { IfOk result (λ text. string_bytes text ≡ line_text line.now) }
+{
+    let mut text = String::new(alloc);
+    match line {
+        FmtLine::Normal(composite) => push_text(&mut text, composite)?,
+        FmtLine::TableRow(row) => push_cells(&mut text, row.cells.as_slice())?,
+        FmtLine::TableRule(_) | FmtLine::HorizontalRule => {}
+    }
+    Ok(text)
+}
+
+// Puts the text of each cell after a text, each with a newline after it.
+fn push_cells(text: &mut String, cells: &[FmtComposite]) -> Result<(), AllocError>
+    ensures { OnOk result (string_bytes text.new ≡ string_bytes text.old ++ cells_text cells.now) }
+{
+    for cell in cells {
+        push_text(text, cell)?;
+        text.push('\n')?;
+    }
+    Ok(())
+}
+
+// Puts the text of a composite after a text.
+fn push_text(text: &mut String, composite: &FmtComposite) -> Result<(), AllocError>
+    ensures { OnOk result (string_bytes text.new ≡ string_bytes text.old ++ composite_text composite.now) }
+{
+    for compound in &composite.compounds {
+        text.push_str(compound.src)?;
+    }
+    Ok(())
+}
