@@ -1,22 +1,21 @@
 -- The bytes of an event are one item.
-use Rattle.std.proofs.Common.{◌≡◌, ◌≢◌, ◌⊎◌, inl, inr, ℕ, ◌+◌, ◌-◌, ◌*◌, ◌/◌, ◌%◌, ◌^◌, ◌<◌, ◌≤◌, Bool, true, false, cond, ltb, leb, eqb, List, [], ◌∷◌, ◌++◌, length, Option, Some, None, refl, ap, ◌∙◌, sym, subst, arith, append_assoc, append-nil, length-append}
+use Rattle.std.proofs.Common.{◌≡◌, ◌≢◌, ◌⊎◌, inl, inr, ℕ, ◌+◌, ◌*◌, ◌/◌, ◌%◌, ◌^◌, ◌<◌, ◌≤◌, leb, eqb, List, [], ◌∷◌, ◌++◌, length, Some, None, refl, ap, ◌∙◌, sym, subst, arith, append_assoc, length-append}
 use Rattle.std.specs.Prelude.{◌&&◌, ◌||◌, decimal}
 use Rattle.std.specs.List.{flat_map}
-use Rattle.std.proofs.lemmas.Bool.{cond-true, cond-false, cond_both, and_parts, eqb-true, leb-true, ne_eqb, cases_lt}
+use Rattle.std.proofs.lemmas.Bool.{cond-true, cond-false, and_parts, eqb-true, leb-true, ne_eqb, cases_lt}
 use Rattle.std.proofs.lemmas.Bool.Decides.{nat_tests}
 use Rattle.std.proofs.lemmas.Option.{none-some}
 use Rattle.std.proofs.lemmas.Fmt.{decimal_by_steps, decimal_nonempty}
 use Rattle.mad_term.specs.declared.events.Event.{Event}
 use Rattle.mad_term.specs.declared.keys.KeyCode.{KeyCode}
 use Rattle.mad_term.specs.Commands.{numbers_bytes}
-use Rattle.mad_keys.specs.declared.steps.Step.{Step}
 use Rattle.mad_keys.specs.declared.steps.Step.TheVariants.{Waits, Ends, Breaks}
-use Rattle.mad_keys.specs.Steps.{is_end, among_step, console_step, bracket_step, step_of}
+use Rattle.mad_keys.specs.Steps.{among_step, step_of}
 use Rattle.mad_keys.specs.Digits.{AreSmall}
-use Rattle.mad_keys.specs.Keys.{letter_key, number_key, console_key}
-use Rattle.mad_keys.specs.Sequences.{plain_key, letter_event, pair_event, sequence_event, mouse_kind, cell_event, mouse_event}
+use Rattle.mad_keys.specs.Keys.{letter_key, console_key}
+use Rattle.mad_keys.specs.Sequences.{letter_event, pair_event, sequence_event, mouse_kind, cell_event, mouse_event}
 use Rattle.mad_keys.specs.EventBytes.{IsSequenceBytes, IsMouseBytes, IsApplicationBytes, IsConsoleBytes, IsEventBytes}
-use Rattle.mad_keys.specs.Readings.{Item, Whole, Broken, IsReading, Told, IsBlock}
+use Rattle.mad_keys.specs.Readings.{Whole, IsReading, IsBlock}
 use Rattle.mad_keys.proofs.NumberLemmas.{cond_then}
 use Rattle.mad_keys.proofs.EventLemmas.{mapped, split}
 use Rattle.mad_keys.proofs.ReadingLemmas.{extend, whole}

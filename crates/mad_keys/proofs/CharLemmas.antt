@@ -1,16 +1,16 @@
 -- The bytes of a character are one item.
-use Rattle.std.proofs.Common.{◌≡◌, ◌≢◌, ◌⊎◌, inl, inr, ℕ, ◌+◌, ◌-◌, ◌*◌, ◌/◌, ◌%◌, ◌^◌, ◌<◌, ◌≤◌, Bool, true, false, cond, ltb, leb, eqb, List, [], ◌∷◌, ◌++◌, length, refl, ap, ◌∙◌, sym, subst, arith, append_assoc, Some}
+use Rattle.std.proofs.Common.{◌≡◌, ◌≢◌, ◌⊎◌, inl, inr, ℕ, ◌+◌, ◌/◌, ◌%◌, ◌<◌, ◌≤◌, true, ltb, leb, eqb, List, [], ◌∷◌, ◌++◌, length, refl, ap, ◌∙◌, sym, subst, arith, append_assoc, Some}
 use Rattle.std.specs.Prelude.{◌&&◌, ◌||◌, encode_utf8}
 use Rattle.std.specs.Char.{IsScalar}
-use Rattle.std.proofs.lemmas.Bool.{cond-true, cond-false, cond_both, ne_eqb, cases_lt, cases_Bool, eqb-true, eqb-false, and_from, le-leb, ltb-true, ltb-false, lt-ltb, le-ltb, eq-eqb}
+use Rattle.std.proofs.lemmas.Bool.{cond-true, cond-false, cond_both, ne_eqb, eqb-true, and_from, le-leb, ltb-true, ltb-false, lt-ltb, le-ltb, eq-eqb}
 use Rattle.std.proofs.lemmas.Bool.Decides.{nat_tests}
 use Rattle.mad_term.specs.declared.events.Event.{Event}
 use Rattle.mad_term.specs.declared.events.Event.TheVariants.{Key}
 use Rattle.mad_keys.specs.Keys.{escape_key}
 use Rattle.mad_keys.specs.declared.steps.Step.{Step}
 use Rattle.mad_keys.specs.declared.steps.Step.TheVariants.{Waits, Ends, Breaks}
-use Rattle.mad_keys.specs.Steps.{char_length, least_second, greatest_second, goes_on, char_step, among_step, bracket_step, escape_step, step_of}
-use Rattle.mad_keys.specs.EventBytes.{IsCharBytes, IsAltBytes, IsEventBytes}
+use Rattle.mad_keys.specs.Steps.{char_length, least_second, greatest_second, goes_on, char_step, step_of}
+use Rattle.mad_keys.specs.EventBytes.{IsEventBytes}
 use Rattle.mad_keys.specs.Readings.{IsBlock}
 use Rattle.mad_keys.proofs.AloneLemmas.{IsRun, run_block, sequence_alone}
 use Rattle.std.proofs.Math.Utf8.{encode, scalar_cases}
