@@ -78,15 +78,30 @@ fn drawn(alloc: Global, views: &[MadView]) -> Result<CutOut, Refusal>
 fn two_views(alloc: Global, words: &str, text: &str) -> Result<[MadView; 2], AllocError>
     ensures { IfOk result (λ views. AllByRecursion (λ view. IsWithinLimits (area_of view)) views) }
 {
-    let mut areas = words.split('|');
-    let mut texts = text.split("===\n");
+    let (area, other_area) = two_areas(words);
+    let (text, other_text) = two_texts(text);
+    let (numbers, _) = numbers_of(area);
+    let (other_numbers, _) = numbers_of(other_area);
     let skin = MadSkin::no_style();
-    let text = texts.next().unwrap_or("");
-    let text = text.strip_suffix('\n').unwrap_or(text);
-    let view = view_of(alloc, numbers_of(areas.next().unwrap_or("")).0, skin, text)?;
-    let text = texts.next().unwrap_or("");
-    let other = view_of(alloc, numbers_of(areas.next().unwrap_or("")).0, skin, text)?;
+    let view = view_of(alloc, numbers, skin, text)?;
+    let other = view_of(alloc, other_numbers, skin, other_text)?;
     Ok([view, other])
+}
+
+// The numbers of both areas.
+fn two_areas(words: &str) -> (&str, &str) {
+    match words.split_once('|') {
+        Some(areas) => areas,
+        None => (words, ""),
+    }
+}
+
+// Both texts, which have a line `===` between them.
+fn two_texts(text: &str) -> (&str, &str) {
+    match text.split_once("===\n") {
+        Some((text, other)) => (text.strip_suffix('\n').unwrap_or(text), other),
+        None => (text, ""),
+    }
 }
 
 fn view_of(
