@@ -36,24 +36,11 @@ pub fn told(alloc: Global, words: &str, script: &str, on_devices: bool) -> Resul
     let mut told = String::new(alloc);
     for line in script.split('\n') {
         let (command, words) = line.split_once(' ').unwrap_or((line, ""));
-        let command = if on_devices {
-            to_devices(command)
-        } else {
-            command
-        };
-        if !tell(alloc, &list, command, &mut told)? && !select(&mut list, command) {
+        if !tell(alloc, &list, command, on_devices, &mut told)? && !select(&mut list, command) {
             change(alloc, &mut list, command, words)?;
         }
     }
     Ok(told)
-}
-
-// The command that has devices fail under what another command writes.
-fn to_devices(command: &str) -> &str {
-    match command {
-        "write" | "picture" => "devices",
-        _ => command,
-    }
 }
 
 fn area_of(sides: [u16; 4]) -> Area
@@ -98,8 +85,16 @@ fn column_of(alloc: Global, word: &str) -> Result<ListViewColumn<Part>, AllocErr
 }
 
 // What a command tells, if it is one that tells something.
-fn tell(alloc: Global, list: &List, command: &str, told: &mut String) -> Result<bool, Refusal> {
+fn tell(
+    alloc: Global,
+    list: &List,
+    command: &str,
+    on_devices: bool,
+    told: &mut String,
+) -> Result<bool, Refusal> {
     match command {
+        "devices" => push_tried(alloc, list, told)?,
+        "write" | "picture" if on_devices => push_tried(alloc, list, told)?,
         "write" => {
             let out = written(alloc, list)?;
             write!(
@@ -118,10 +113,6 @@ fn tell(alloc: Global, list: &List, command: &str, told: &mut String) -> Result<
             list.write(alloc, &mut out)?;
             write!(told, "{} puts, {} flushes\n", out.puts(), out.flushes())?;
         }
-        "devices" => {
-            let tried = test_devices::tried(alloc, &Drawn(list))?;
-            write!(told, "{tried}\n")?;
-        }
         "state" => push_state(list, told)?,
         _ => return Ok(false),
     }
@@ -134,6 +125,13 @@ fn written(alloc: Global, list: &List) -> Result<CutOut, Refusal> {
         list.write_on(alloc, &mut out)?;
     }
     Ok(out)
+}
+
+// What devices that fail get of a list.
+fn push_tried(alloc: Global, list: &List, told: &mut String) -> Result<(), Refusal> {
+    let tried = test_devices::tried(alloc, &Drawn(list))?;
+    write!(told, "{tried}\n")?;
+    Ok(())
 }
 
 // What goes out of a list, with a flush.
