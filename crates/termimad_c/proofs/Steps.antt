@@ -1,13 +1,28 @@
 -- The steps of a call: why it is refused, and what its inputs are.
-use Rattle.std.proofs.Common.{◌≡◌, ◌≢◌, ℕ, List, [], ◌∷◌, length, Option, Some, None, MatchResult, Result, Ok, Err, IsUtf8, refl, ap, sym, ◌∙◌, subst, inl, inr, arith}
+use Rattle.std.proofs.Common.{◌≡◌, ◌≢◌, ◌≤◌, ◌<◌, ℕ, List, [], ◌∷◌, length, Option, Some, None, MatchResult, Result, Ok, Err, IsUtf8, false, refl, ap, sym, ◌∙◌, subst, inl, inr, arith}
 use Rattle.std.specs.Result.{IsErrAnd}
 use Rattle.std.proofs.lemmas.Result.{err_from_is_err_and}
+use Rattle.termimad.specs.Fitting.{IsCompositeFitted}
+use Rattle.termimad.specs.Inlines.{IsInlineOf}
+use Rattle.termimad.specs.Layouts.{IsMarkdownLayout}
+use Rattle.termimad.specs.Pieces.{pieces_bytes}
+use Rattle.termimad.specs.RowSkins.{row_skin}
+use Rattle.termimad.specs.RowStyles.{line_rules}
+use Rattle.termimad.specs.Rows.{composite_pieces, margins_of}
+use Rattle.termimad.specs.Trace.{Trace}
+use Rattle.termimad.specs.declared.Alignment.{Alignment}
+use Rattle.termimad.specs.declared.FmtComposite.{FmtComposite}
+use Rattle.termimad.specs.declared.FmtLine.{FmtLine}
 use Rattle.termimad.specs.declared.MadSkin.{MadSkin}
 use Rattle.termimad_run.specs.GivenSkins.{skin_given, RefusesSkin as RefusesWord}
+use Rattle.termimad_run.specs.ProgramRuns.{WritesCall, ShowsCall}
+use Rattle.termimad_run.specs.declared.call.Command.{Command}
 use Rattle.termimad_run.specs.declared.failure.Failure.{Failure}
 use Rattle.termimad_run.specs.declared.failure.Failure.TheVariants as failure
 use Rattle.termimad_c.specs.Answers.{refusal_of}
-use Rattle.termimad_c.specs.Inputs.{word_given, IsSkinOf, RefusesSkin, RefusesCall}
+use Rattle.termimad_c.specs.Gathered.{untouched}
+use Rattle.termimad_c.specs.Inputs.{word_given, IsSkinOf, RefusesSkin, RefusesCall, alignment_number}
+use Rattle.termimad_c.specs.Making.{IsWritten, IsRowCount, IsFittedLine}
 use Rattle.termimad_c.specs.declared.answer.Refusal.{Refusal}
 use Rattle.termimad_c.specs.declared.answer.Refusal.TheVariants.{Condition, NotUtf8, Skin, Memory}
 
@@ -50,3 +65,47 @@ other_word (byte ∷ more) p = refl
 -- the skin of a word that is a text
 pub skin_read : (word text : List ℕ) (given : Option (List ℕ)) (skin : MadSkin) (unknown : List (List ℕ)) → IsUtf8 word → text ≡ word → given ≡ word_given text → skin_given given ≡ Some (skin, unknown) → IsSkinOf word skin
 skin_read word text given skin unknown utf8 p q h = (utf8, unknown, ap skin_given (ap word_given (sym p) ∙ sym q) ∙ h)
+
+-- all that a call wrote on a device that had taken nothing
+pub all_written : (text word src : List ℕ) (command : Command) (skin : MadSkin) (old last : Trace) (whole : List ℕ) → IsUtf8 text → src ≡ text → IsSkinOf word skin → old ≡ untouched
+    → WritesCall skin command src old (Ok (tt {0})) last → ShowsCall skin command src old last → last.bytes ≡ Some whole → IsWritten text word command whole
+all_written text word src command skin old last whole utf8 p given q writes shown taken = record {
+  utf8 = utf8;
+  skin = skin;
+  given = given;
+  last = last;
+  writes = subst (λ (t : List ℕ). WritesCall skin command t untouched (Ok (tt {0})) last) p (subst (λ (o : Trace). WritesCall skin command src o (Ok (tt {0})) last) q writes);
+  shown = subst (λ (t : List ℕ). ShowsCall skin command t untouched last) p (subst (λ (o : Trace). ShowsCall skin command src o last) q shown);
+  whole_is = taken;
+}
+
+-- the rows of a layout
+pub rows_counted : (text word src : List ℕ) (width columns count : ℕ) (skin : MadSkin) (lines : List FmtLine) → IsUtf8 text → src ≡ text → IsSkinOf word skin → columns ≡ width
+    → IsMarkdownLayout (line_rules (row_skin skin)) (Some columns) src lines → count ≡ length lines → IsRowCount text word width count
+rows_counted text word src width columns count skin lines utf8 p given q layout counted = record {
+  utf8 = utf8;
+  skin = skin;
+  given = given;
+  lines = lines;
+  layout = subst (λ (t : List ℕ). IsMarkdownLayout (line_rules (row_skin skin)) (Some width) t lines) p (subst (λ (w : ℕ). IsMarkdownLayout (line_rules (row_skin skin)) (Some w) src lines) q layout);
+  count_is = counted;
+}
+
+-- a line that was read, fitted and written
+pub line_fitted : (text word src : List ℕ) (width align columns : ℕ) (alignment : Alignment) (skin dress : MadSkin) (line fitted : FmtComposite) (whole : List ℕ) → IsUtf8 text → src ≡ text → IsSkinOf word skin
+    → columns ≡ width → alignment_number alignment ≡ align → dress ≡ skin → IsInlineOf (row_skin skin) src line → (line.visible_length ≤ columns → fitted ≡ line)
+    → (columns < line.visible_length → IsCompositeFitted (line_rules (row_skin skin)) alignment columns line fitted)
+    → whole ≡ pieces_bytes (composite_pieces (row_skin dress) None (margins_of (row_skin dress) None fitted) false fitted) → IsFittedLine text word width align whole
+line_fitted text word src width align columns alignment skin dress line fitted whole utf8 p given q aligned worn read fits cut written = record {
+  utf8 = utf8;
+  skin = skin;
+  given = given;
+  alignment = alignment;
+  aligned = aligned;
+  line = line;
+  read = subst (λ (t : List ℕ). IsInlineOf (row_skin skin) t line) p read;
+  fitted = fitted;
+  fits = λ h. fits (subst (λ (w : ℕ). line.visible_length ≤ w) (sym q) h);
+  cut = λ h. subst (λ (w : ℕ). IsCompositeFitted (line_rules (row_skin skin)) alignment w line fitted) q (cut (subst (λ (w : ℕ). w < line.visible_length) (sym q) h));
+  whole_is = written ∙ ap (λ (s : MadSkin). pieces_bytes (composite_pieces (row_skin s) None (margins_of (row_skin s) None fitted) false fitted)) worn;
+}
