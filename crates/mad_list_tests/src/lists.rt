@@ -232,7 +232,7 @@ pub fn many(alloc: Global, count: u32) -> Result<String, Refusal> {
         })?;
     }
     let mut told = String::new(alloc);
-    tell(alloc, &list, "write", &mut told)?;
-    tell(alloc, &list, "state", &mut told)?;
+    tell(alloc, &list, "write", false, &mut told)?;
+    tell(alloc, &list, "state", false, &mut told)?;
     Ok(told)
 }
