@@ -1,42 +1,57 @@
 //! A list of rivers that a script of standard input filters, sorts, scrolls and chooses from. `picture` writes what a screen shows then.
 //!
 //! 1. [`rivers`]: the rows of the list.
-//! 2. [`choices`]: the filter and the order.
+//! 2. [`choices`]: the filter and the order, each made of a box.
 #![tactic(auto)]
 
 mod choices;
 mod rivers;
 
-use choices::{ByName, LongerThan};
+use choices::{BoxedFilter, BoxedOrder};
 use rivers::{RIVERS, River, Shown};
-use std::alloc::Global;
+use std::alloc::{AllocError, Global};
 use std::io::{self, Error as IoError, ErrorKind};
 use termimad::screen::{NotPlain, Screen};
-use termimad::{Alignment, Area, CutOut, Error, ListView, ListViewColumn, MadSkin};
+use termimad::{
+    Alignment, Area, CutOut, Error, ListView, ListViewColumn, MadSkin, RowFilter, RowOrder,
+};
 
 // More bytes than a picture takes.
 const ROOM: usize = 2000;
 
-type List<'k> = ListView<'k, River, Shown, LongerThan, ByName>;
-
 fn main(rt: HostRuntime) -> Result<(), Error> {
     let alloc = rt.alloc();
     let script = io::read_to_string(alloc, rt.reader())?;
-    let mut columns = Vec::new(alloc);
-    let (name, length) = (
-        Shown {
-            alloc,
-            is_length: false,
-        },
-        Shown {
-            alloc,
-            is_length: true,
-        },
-    );
-    columns.push(ListViewColumn::new(alloc, "river", 6, 12, name)?.with_align(Alignment::Left))?;
-    columns.push(ListViewColumn::new(alloc, "km", 5, 6, length)?.with_align(Alignment::Right))?;
+    let length = 1000;
+    let long = Box::new(alloc, move |river: &River| river.length > length)?;
+    let by_name = Box::new(alloc, |a: &River, b: &River| a.name().cmp(b.name()))?;
+    run(
+        &rt,
+        alloc,
+        &script,
+        BoxedFilter::new(long),
+        BoxedOrder::new(by_name),
+    )
+}
+
+// Obeys the script. `long` filters and `sort` sorts, each once.
+fn run<F: RowFilter<River>, O: RowOrder<River>>(
+    rt: &impl Print,
+    alloc: Global,
+    script: &str,
+    filter: F,
+    order: O,
+) -> Result<(), Error> {
     let skin = MadSkin::no_style();
-    let mut list: List = ListView::new(alloc, Area::new(0, 0, 18, 6), columns, &skin);
+    let area = Area::new(0, 0, 18, 6);
+    let mut list: ListView<'_, River, Shown, F, O> = ListView::new(
+        alloc,
+        area,
+        columns(alloc)?,
+        &skin,
+    );
+    let mut filter = Some(filter);
+    let mut order = Some(order);
     for command in script.lines() {
         println!(rt; "> {command}")?;
         match command {
@@ -45,13 +60,41 @@ fn main(rt: HostRuntime) -> Result<(), Error> {
                 Some(river) => println!(rt; "the {}, of {} km", river.name(), river.length)?,
                 None => println!(rt; "none")?,
             },
-            command => change(alloc, &mut list, command)?,
+            "long" => {
+                if let Some(filter) = filter.take() {
+                    list.set_filter(filter);
+                }
+            }
+            "sort" => {
+                if let Some(order) = order.take() {
+                    list.sort(order);
+                }
+            }
+            command => change(&mut list, command)?,
         }
     }
     Ok(())
 }
 
-fn change(alloc: Global, list: &mut List, command: &str) -> Result<(), Error> {
+fn columns(alloc: Global) -> Result<Vec<ListViewColumn<Shown>>, AllocError> {
+    let name = Shown {
+        alloc,
+        is_length: false,
+    };
+    let length = Shown {
+        alloc,
+        is_length: true,
+    };
+    let mut columns = Vec::new(alloc);
+    columns.push(ListViewColumn::new(alloc, "river", 6, 12, name)?.with_align(Alignment::Left))?;
+    columns.push(ListViewColumn::new(alloc, "km", 5, 6, length)?.with_align(Alignment::Right))?;
+    Ok(columns)
+}
+
+fn change<F: RowFilter<River>, O: RowOrder<River>>(
+    list: &mut ListView<'_, River, Shown, F, O>,
+    command: &str,
+) -> Result<(), Error> {
     let (name, number) = command.split_once(' ').unwrap_or((command, ""));
     match name {
         "add" => {
@@ -60,8 +103,6 @@ fn change(alloc: Global, list: &mut List, command: &str) -> Result<(), Error> {
             }
         }
         "clear" => list.clear_rows(),
-        "longer" => list.set_filter(LongerThan(number.parse().unwrap_or(0))),
-        "sort" => list.sort(ByName),
         "all" => list.remove_filter(),
         "down" => list.try_select_next(false),
         "up" => list.try_select_next(true),
@@ -72,7 +113,10 @@ fn change(alloc: Global, list: &mut List, command: &str) -> Result<(), Error> {
 }
 
 // What a screen of the area's size shows of a list. The columns are fitted to the area first.
-fn screen_of(alloc: Global, list: &mut List) -> Result<Screen, Error> {
+fn screen_of<F: RowFilter<River>, O: RowOrder<River>>(
+    alloc: Global,
+    list: &mut ListView<'_, River, Shown, F, O>,
+) -> Result<Screen, Error> {
     list.area = Area::new(0, 0, 18, 6);
     list.update_dimensions();
     let mut out = CutOut::new(alloc, ROOM, ROOM, false)?;
