@@ -1,7 +1,7 @@
 -- How calls join.
-use Rattle.std.proofs.Common.{◌≡◌, ℕ, ◌+◌, List, [], ◌++◌, take, take-add, drop, Option, Some, None, option_map, IfSome, refl, ap, sym, ◌∙◌, subst, append_assoc}
+use Rattle.std.proofs.Common.{◌≡◌, ℕ, ◌+◌, Result, Ok, Err, List, [], ◌++◌, take, take-add, drop, Option, Some, None, option_map, IfSome, refl, ap, sym, ◌∙◌, subst, append_assoc}
 use Rattle.std.proofs.lemmas.List.{append-nil, take-append-drop}
-use Rattle.mad_term.specs.Trace.{Trace, after, failed, flushed, CutShort, Stopped, TookWith}
+use Rattle.mad_term.specs.Trace.{Trace, after, failed, flushed, CutShort, Stopped, TakesFront, Writes, TookWith}
 
 grown : (o : Option (List ℕ)) (a b : List ℕ) → option_map (λ s. s ++ b) (option_map (λ s. s ++ a) o) ≡ option_map (λ s. s ++ (a ++ b)) o
 grown None a b = refl
@@ -98,3 +98,8 @@ took_flushed old written new P h e = subst (λ (t : Trace). TookWith old t P) (s
 -- the fault of a flush comes after the whole text
 pub flush_failed : (old written new : Trace) (text : List ℕ) → written ≡ after old text → new ≡ failed written → CutShort old text new
 flush_failed old written new text went fault = record { front = text; rest = []; whole = append-nil text; went = fault ∙ ap failed went }
+
+-- what a counted put did, without its count
+pub writes_of : {T E : Type 0} (old new : Trace) (text : List ℕ) (count : ℕ) (r : Result T E) → TakesFront old text count r new → Writes old text r new
+writes_of old new text count (Ok t) h = h.1
+writes_of old new text count (Err e) h = cut_at old (after old (take count text)) new text count refl h

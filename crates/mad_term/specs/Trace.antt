@@ -38,6 +38,10 @@ pub record Stopped (old : Trace) (text : List ℕ) (new : Trace) : Type 0 where
 abbrev pub Writes : {T E : Type 0} → Trace → List ℕ → Result T E → Trace → Type 0
 Writes old text r new = MatchResult r (λ _. new ≡ after old text) (λ _. CutShort old text new)
 
+-- all of the text went out, or this many of its bytes and then one fault came
+abbrev pub TakesFront : {T E : Type 0} → Trace → List ℕ → ℕ → Result T E → Trace → Type 0
+TakesFront old text count r new = MatchResult r (λ _. (count ≡ length text) × (new ≡ after old text)) (λ _. new ≡ failed (after old (take count text)))
+
 -- one put took this many bytes of the front of the text, one at least of a text that isn't empty
 pub record Took (old : Trace) (text : List ℕ) (count : ℕ) (new : Trace) : Type 0 where
   pub some : 0 < length text → 0 < count

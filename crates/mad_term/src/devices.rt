@@ -1,6 +1,7 @@
 //! What takes bytes, and what gives them. A contract sees of a device one value, its *trace*.
 
-ghost use Rattle.mad_term.specs.Trace.{Trace, Writes, Puts, Flushes, Gets, Fills};
+ghost use Rattle.std.specs.Prelude.{◌≤◌, length};
+ghost use Rattle.mad_term.specs.Trace.{Trace, TakesFront, Writes, Puts, Flushes, Gets, Fills};
 
 use std::io;
 
@@ -49,6 +50,22 @@ pub trait Source {
         ensures { Fills (seen self.old) buffer.new result (seen self.new) };
 }
 
+/// Puts all of `bytes`, by as many puts as the device asks for. Answers how many bytes the device took, and the first fault of
+/// a put, which isn't repeated: these bytes were taken before it.
+pub fn put_counted<O: Out>(out: &mut O, bytes: &[u8]) -> (usize, io::Result<()>)
+    ensures within { result.0 ≤ length bytes.now }
+    ensures taken { TakesFront (O.seen out.old) bytes.now result.0 result.1 (O.seen out.new) }
+{
+    let mut done = 0;
+    while done < bytes.len() {
+        match out.put(&bytes[done..]) {
+            Ok(count) => done += count,
+            Err(error) => return (done, Err(error)),
+        }
+    }
+    (done, Ok(()))
+}
+
 /// Puts all of `bytes`, by as many puts as the device asks for.
 ///
 /// # Errors
@@ -57,10 +74,5 @@ pub trait Source {
 pub fn put_all<O: Out>(out: &mut O, bytes: &[u8]) -> io::Result<()>
     ensures { Writes (O.seen out.old) bytes.now result (O.seen out.new) }
 {
-    let mut done = 0;
-    while done < bytes.len() {
-        let count = out.put(&bytes[done..])?;
-        done += count;
-    }
-    Ok(())
+    put_counted(out, bytes).1
 }

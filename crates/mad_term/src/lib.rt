@@ -3,7 +3,7 @@
 //! In the order of the work:
 //!
 //! 1. [`errors`]: what a call refuses by.
-//! 2. [`devices`]: what takes bytes ([`Out`]) and what gives them ([`Source`]), and [`put_all`].
+//! 2. [`devices`]: what takes bytes ([`Out`]) and what gives them ([`Source`]), [`put_all`] and [`put_counted`].
 //! 3. [`streams`]: the readers and writers of the standard library as devices.
 //! 4. [`color`], [`attribute`], [`attributes`]: how a text may look.
 //! 5. [`commands`], [`styles`], [`repeats`]: the bytes of moves, erasures and texts in a style, by Display and in a row buffer.
@@ -29,7 +29,7 @@ pub use attribute::Attribute;
 pub use attributes::Attributes;
 pub use color::Color;
 pub use commands::{Clear, ClearType, MoveTo, push_clear, push_move};
-pub use devices::{Out, Source, put_all};
+pub use devices::{Out, Source, put_all, put_counted};
 pub use errors::{Error, InsufficientWidthError};
 pub use events::{Event, TimedEvent};
 pub use keys::{KeyCode, KeyCombination, KeyEvent, KeyModifiers};

@@ -1,6 +1,6 @@
 use Rattle.std.proofs.Common.{length, ◌-◌, ◌≡◌, ◌≤◌, take}
 use Rattle.mad_term.specs.Trace.{after}
-use Rattle.mad_term.proofs.devices.put_all.Given as goal
+use Rattle.mad_term.proofs.devices.put_counted.Given as goal
 
 abbrev pub invariant-loop-done : goal.invariant-loop-done
 invariant-loop-done g l = record {
