@@ -7,7 +7,7 @@ use Rattle.mad_term.specs.declared.commands.ClearType.TheVariants.{All, FromCurs
 use Rattle.mad_term.specs.declared.styles.ContentStyle.{ContentStyle}
 use Rattle.mad_term.specs.Color.{IsColor}
 use Rattle.mad_columns.specs.Columns.{char_columns}
-use Rattle.mad_term.specs.Commands.{move_to_bytes, clear_bytes}
+use Rattle.mad_term.specs.Commands.{move_to_bytes, clear_bytes, sgr_bytes}
 use Rattle.mad_term.specs.Styles.{foreground_bytes, background_bytes, piece_bytes, IsStyle}
 use Rattle.mad_screen.specs.Glyph.{Glyph, Look}
 use Rattle.mad_screen.specs.Grid.{Grid, IsGrid, plain_pen, painted, cell_at}
@@ -37,6 +37,10 @@ pub record Erases : Type 0 where
 pub record Colors : Type 0 where
   pub foreground : (g : Grid) (c : Color) → IsColor c → after_bytes g (foreground_bytes c) ≡ Some (record g { pen = record g.pen { fg = shown_color c } })
   pub background : (g : Grid) (c : Color) → IsColor c → after_bytes g (background_bytes c) ≡ Some (record g { pen = record g.pen { bg = shown_color c } })
+
+-- code 0 makes any pen the plain one
+abbrev pub ResetsThePen : Type 0
+ResetsThePen = (g : Grid) → after_bytes g (sgr_bytes (0 ∷ [])) ≡ Some (record g { pen = plain_pen })
 
 -- characters, wide and joined ones too, show their cells in the pen
 abbrev pub ShowsCharacters : Type 0

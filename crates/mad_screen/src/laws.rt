@@ -1,6 +1,6 @@
 //! What drawing relies on: laws of the plain terminal, each a function that does nothing and states its law.
 
-ghost use Rattle.mad_screen.specs.TerminalLaws.{ReadsInTurn, MovesTheCursor, Erases, ErasesPositions, Colors, ShowsCharacters, CountsColumns, PaintedIsRead, Composes, ChangesNoOtherPosition, DrawsRows, DrawsStrips};
+ghost use Rattle.mad_screen.specs.TerminalLaws.{ReadsInTurn, MovesTheCursor, Erases, ErasesPositions, Colors, ResetsThePen, ShowsCharacters, CountsColumns, PaintedIsRead, Composes, ChangesNoOtherPosition, DrawsRows, DrawsStrips};
 
 /// A text after another is read from the screen that the first one leaves.
 pub fn texts_are_read_in_turn()
@@ -25,6 +25,11 @@ pub fn erased_positions_are_spaces()
 /// The command of a foreground or a background gives the pen that color.
 pub fn colors_are_set()
     ensures { Colors }
+{}
+
+/// Code 0 makes any pen the plain one.
+pub fn code_zero_resets_the_pen()
+    ensures { ResetsThePen }
 {}
 
 /// Characters show their cells in the pen: wide ones with tails, widthless ones joined.
