@@ -1,14 +1,15 @@
-//! A form of two fields, driven by a script of events: after each step the screen is written as rows of text.
+//! A form of two fields and a button, driven by what a terminal sends: after each block of keys the screen is written as rows of text.
 //!
-//! 1. [`form`]: the fields, and which of them gets an event.
-//! 2. [`script`]: the events.
+//! 1. [`form`]: the fields and the button, and which of them gets an event.
+//! 2. [`script`]: the blocks of keys.
 #![tactic(auto)]
 
 mod form;
 mod script;
 
 use form::Form;
-use script::{Step, events_of};
+use mad_keys::Keys;
+use script::Step;
 use std::alloc::{AllocError, Global};
 use std::io::{Error as IoError, ErrorKind};
 use termimad::screen::{NotPlain, Screen};
@@ -20,8 +21,9 @@ const ROOM: usize = 2000;
 fn main(rt: HostRuntime) -> Result<(), Error> {
     let alloc = rt.alloc();
     let mut form = Form::new(alloc)?;
+    let mut keys = Keys::new();
     for step in &script::STEPS {
-        apply(alloc, &mut form, step)?;
+        apply(&mut form, &mut keys, step)?;
         let screen = screen_of(alloc, &form)?;
         let looks = screen.looks()?;
         let caption = step.caption;
@@ -32,9 +34,14 @@ fn main(rt: HostRuntime) -> Result<(), Error> {
     Ok(())
 }
 
-// Applies the events of a step.
-fn apply(alloc: Global, form: &mut Form, step: &Step) -> Result<(), AllocError> {
-    for event in &events_of(alloc, step)? {
+// Applies the events of a block of keys, and of the pause after it.
+fn apply(form: &mut Form, keys: &mut Keys, step: &Step) -> Result<(), AllocError> {
+    for b in step.keys {
+        if let Some(event) = keys.byte(*b) {
+            form.apply(event)?;
+        }
+    }
+    if let Some(event) = keys.pause() {
         form.apply(event)?;
     }
     Ok(())
@@ -44,7 +51,7 @@ fn apply(alloc: Global, form: &mut Form, step: &Step) -> Result<(), AllocError> 
 fn screen_of(alloc: Global, form: &Form) -> Result<Screen, Error> {
     let mut out = CutOut::new(alloc, ROOM, ROOM, false)?;
     form.draw(alloc, &mut out)?;
-    let mut screen = Screen::new(alloc, 20, 4)?;
+    let mut screen = Screen::new(alloc, 20, 5)?;
     match screen.read_bytes(out.taken()) {
         Ok(()) => Ok(screen),
         Err(NotPlain::Memory) => Err(Error::Memory),
