@@ -54,10 +54,25 @@ AddsNothing f new bytes = f.known ≡ true → f.base.cells ≡ new.cells → by
 abbrev pub KeepsInStep : FrameState → FrameState → List ℕ → Type 0
 KeepsInStep old new bytes = (start : Grid) (taken : List ℕ) → IsInStep old start taken → IsInStep new start (taken ++ bytes)
 
+-- what has to be sent to show a screen: the bytes that the device has yet to take, then the changes
+pub record IsMessage (f : FrameState) (new : Grid) (bytes : List ℕ) : Type 0 where
+  pub changes : List ℕ
+  pub whole : bytes ≡ f.unsent ++ changes
+  pub leads : LeadsAll f new changes
+  pub quiet : AddsNothing f new changes
+
+-- why there are no changes from one screen to another
+abbrev pub HasNoChanges : Grid → Grid → PresentError → Type 0
+HasNoChanges old new (IO e) = ⊥
+HasNoChanges old new Undefined = ⊥
+HasNoChanges old new NotWhole = ¬ (SameSize old new × IsWholeGrid new)
+HasNoChanges old new Memory = Unit {0}
+
 -- What was sent: the bytes that the device had yet to take, then the changes. A front of them went out, and the rest is left.
 pub record IsSent (old new : FrameState) (front : List ℕ) : Type 0 where
   pub changes : List ℕ
   pub whole : front ++ new.unsent ≡ old.unsent ++ changes
+  pub leads : LeadsAll old new.base changes
   pub quiet : AddsNothing old new.base changes
   pub read : drawn_screen old ≡ Some new.base
   pub drawn : new.drawn ≡ []
@@ -76,6 +91,10 @@ pub record IsCut (old new : FrameState) (before now : Trace) : Type 0 where
   pub sent : IsSent old new front
   pub went : now ≡ failed (after before front)
 
+-- one or the other
+abbrev pub Sends : {T E : Type 0} → FrameState → FrameState → Trace → Trace → Result T E → Type 0
+Sends old new before now r = MatchResult r (λ _. IsPresented old new before now) (λ _. IsCut old new before now)
+
 -- nothing has happened
 pub record IsKept (old new : FrameState) (before now : Trace) : Type 0 where
   pub frame : new ≡ old
@@ -85,7 +104,7 @@ pub record IsKept (old new : FrameState) (before now : Trace) : Type 0 where
 pub record IsNotWhole (f : FrameState) : Type 0 where
   pub screen : Grid
   pub drawn : drawn_screen f ≡ Some screen
-  pub broken : ¬ (SameSize f.base screen × IsWholeGrid screen)
+  pub broken : HasNoChanges f.base screen NotWhole
 
 -- what a present does by which it is refused
 abbrev pub IsRefused : FrameState → FrameState → Trace → Trace → PresentError → Type 0

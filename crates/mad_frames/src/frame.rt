@@ -1,10 +1,12 @@
 //! Frames: what is drawn into them is presented as what changes.
 
-ghost use Rattle.std.specs.Prelude.{◌≡◌, ◌≤◌, [], None, Some, true, false, IfOk, IfErr, OnOk, OnErr, length, string_bytes, drop};
+ghost use Rattle.std.specs.Prelude.{◌≡◌, ◌≤◌, ◌++◌, [], ◌∷◌, None, Some, true, false, IfOk, IfErr, IsErrOf, OnOk, OnErr, length, string_bytes, drop};
+ghost use Rattle.mad_term.specs.declared.commands.ClearType.TheVariants.{All};
+ghost use Rattle.mad_term.specs.Commands.{clear_bytes, sgr_bytes};
 ghost use Rattle.mad_term.specs.Trace.{Trace, Puts, Flushes, TookWith};
 ghost use Rattle.mad_frames.specs.Changes.{SameSize, LeadTo};
 ghost use Rattle.mad_frames.specs.Whole.{IsWholeGrid};
-ghost use Rattle.mad_frames.specs.Frames.{new_frame, frame_trace, drawn_screen, unknown, LeadsAll, AddsNothing, KeepsInStep, Presents};
+ghost use Rattle.mad_frames.specs.Frames.{new_frame, frame_trace, drawn_screen, unknown, LeadsAll, AddsNothing, HasNoChanges, IsMessage, KeepsInStep, Sends, Presents};
 
 use crate::errors::PresentError;
 use crate::writing::changes;
@@ -47,8 +49,22 @@ fn drop_front(bytes: &mut Vec<u8>, count: usize)
     bytes.truncate(bytes.len() - count);
 }
 
+// What makes any terminal blank, with the plain pen.
+#[tactic(auto, using(std::proofs::lemmas::Fmt::decimal_digit))]
+fn clearing(alloc: Global) -> Result<String, AllocError>
+    ensures { IfOk result (λ s. string_bytes s ≡ sgr_bytes (0 ∷ []) ++ clear_bytes All) }
+{
+    let mut bytes = String::from_str(alloc, "\x1b[0m")?;
+    push_clear(&mut bytes, ClearType::All)?;
+    Ok(bytes)
+}
+
 // The bytes from one screen to another, which has to be of whole characters.
-fn whole_changes(alloc: Global, old: &Screen, new: &Screen) -> Result<String, PresentError> {
+fn whole_changes(alloc: Global, old: &Screen, new: &Screen) -> Result<String, PresentError>
+    ensures leads { IfOk result (λ s. LeadTo old.now new.now (string_bytes s)) }
+    ensures same { IfOk result (λ s. old.now.cells ≡ new.now.cells → string_bytes s ≡ []) }
+    ensures err { IfErr result (HasNoChanges old.now new.now) }
+{
     match changes(alloc, old, new)? {
         Some(bytes) => Ok(bytes),
         None => Err(PresentError::NotWhole),
@@ -107,27 +123,36 @@ impl Frame {
     }
 
     // The screen that is to be presented.
-    fn drawn_screen(&self) -> Result<Screen, NotPlain> {
+    fn drawn_screen(&self) -> Result<Screen, NotPlain>
+        ensures read { IfOk result (λ screen. drawn_screen self.now ≡ Some screen) }
+        ensures undefined { IsErrOf result NotPlain.Undefined → drawn_screen self.now ≡ None }
+    {
         let mut screen = self.base.copy()?;
         screen.read_bytes(&self.drawn)?;
         Ok(screen)
     }
 
     // The bytes to a screen from what the terminal shows, or from whatever it shows.
-    fn changes_to(&self, alloc: Global, screen: &Screen) -> Result<String, PresentError> {
+    fn changes_to(&self, alloc: Global, screen: &Screen) -> Result<String, PresentError>
+        ensures leads { IfOk result (λ s. LeadsAll self.now screen.now (string_bytes s)) }
+        ensures quiet { IfOk result (λ s. AddsNothing self.now screen.now (string_bytes s)) }
+        ensures err { IfErr result (HasNoChanges self.now.base screen.now) }
+    {
         if self.known {
             return whole_changes(alloc, &self.base, screen);
         }
         let empty = Screen::new(alloc, self.base.width(), self.base.height())?;
         let drawn = whole_changes(alloc, &empty, screen)?;
-        let mut bytes = String::from_str(alloc, "\x1b[0m")?;
-        push_clear(&mut bytes, ClearType::All)?;
+        let mut bytes = clearing(alloc)?;
         bytes.push_str(drawn.as_str())?;
         Ok(bytes)
     }
 
     // What is to be sent to show a screen: what the device has yet to take, and the changes.
-    fn bytes_to(&self, alloc: Global, screen: &Screen) -> Result<Vec<u8>, PresentError> {
+    fn bytes_to(&self, alloc: Global, screen: &Screen) -> Result<Vec<u8>, PresentError>
+        ensures ok { IfOk result (λ bytes. IsMessage self.now screen.now bytes.items) }
+        ensures err { IfErr result (HasNoChanges self.now.base screen.now) }
+    {
         let changes = self.changes_to(alloc, screen)?;
         let mut bytes = Vec::from_slice(alloc, &self.unsent)?;
         bytes.extend_from_slice(changes.as_bytes())?;
@@ -135,7 +160,11 @@ impl Frame {
     }
 
     // Sends the bytes that lead to a screen. What isn't taken is kept.
-    fn send<O: Out>(&mut self, out: &mut O, screen: Screen, bytes: Vec<u8>) -> io::Result<()> {
+    fn send<O: Out>(&mut self, out: &mut O, screen: Screen, bytes: Vec<u8>) -> io::Result<()>
+        requires read { drawn_screen self.old ≡ Some screen }
+        requires message { IsMessage self.old screen bytes.items }
+        ensures { Sends self.old self.new (O.seen out.old) (O.seen out.new) result }
+    {
         let mut bytes = bytes;
         let (taken, put) = put_counted(out, &bytes);
         drop_front(&mut bytes, taken);
@@ -145,6 +174,16 @@ impl Frame {
         self.known = true;
         put?;
         out.flush()
+    }
+
+    // A present, without what follows for the terminal.
+    fn presented<O: Out>(&mut self, alloc: Global, out: &mut O) -> Result<(), PresentError>
+        ensures { Presents self.old self.new (O.seen out.old) (O.seen out.new) result }
+    {
+        let screen = self.drawn_screen()?;
+        let bytes = self.bytes_to(alloc, &screen)?;
+        self.send(out, screen, bytes)?;
+        Ok(())
     }
 
     /// Shows what was drawn: sends what differs from the screen that was presented last, in one put sequence, and flushes. What the
@@ -162,10 +201,7 @@ impl Frame {
         ensures in_step { TookWith (O.seen out.old) (O.seen out.new) (KeepsInStep self.old self.new) }
         ensures presents { Presents self.old self.new (O.seen out.old) (O.seen out.new) result }
     {
-        let screen = self.drawn_screen()?;
-        let bytes = self.bytes_to(alloc, &screen)?;
-        self.send(out, screen, bytes)?;
-        Ok(())
+        self.presented(alloc, out)
     }
 
     /// Presents the frame on a terminal that may show anything: clears it and sends all.
@@ -178,7 +214,7 @@ impl Frame {
         ensures presents { Presents (unknown self.old) self.new (O.seen out.old) (O.seen out.new) result }
     {
         self.known = false;
-        self.present(alloc, out)
+        self.presented(alloc, out)
     }
 }
 
