@@ -1,5 +1,7 @@
 -- The exact texts of what a present refuses by.
-use Rattle.std.specs.Prelude.{ℕ, List, Option, Some, None, codes}
+use Rattle.std.specs.Prelude.{◌≡◌, ℕ, Bool, true, false, List, Option, Some, None, codes}
+use Rattle.mad_term.specs.declared.errors.Error as drawing
+use Rattle.mad_term.specs.declared.errors.Error.TheVariants as errors
 use Rattle.mad_screen.specs.declared.reader.NotPlain as reading
 use Rattle.mad_screen.specs.declared.reader.NotPlain.TheVariants as not_plain
 use Rattle.mad_frames.specs.declared.errors.PresentError.{PresentError}
@@ -16,3 +18,15 @@ present_error_text Memory = Some (codes "want of memory")
 abbrev pub present_error_of : reading.NotPlain → PresentError
 present_error_of not_plain.Undefined = Undefined
 present_error_of not_plain.Memory = Memory
+
+-- a device's error
+abbrev pub is_io : drawing.Error → Bool
+is_io (errors.IO e) = true
+is_io _ = false
+
+-- What refuses a present, as what refuses a drawing. Where there is no drawing of that kind, it is a device's error.
+abbrev pub IsErrorOf : PresentError → drawing.Error → Type 0
+IsErrorOf (IO e) r = r ≡ errors.IO e
+IsErrorOf Undefined r = is_io r ≡ true
+IsErrorOf NotWhole r = is_io r ≡ true
+IsErrorOf Memory r = r ≡ errors.Memory

@@ -1,9 +1,10 @@
 //! What a present refuses by.
 
 ghost use Rattle.std.specs.Prelude.{◌≡◌};
-ghost use Rattle.mad_frames.specs.Refusals.{present_error_text, present_error_of};
+ghost use Rattle.mad_frames.specs.Refusals.{present_error_text, present_error_of, IsErrorOf};
 
 use mad_screen::NotPlain;
+use mad_term::Error;
 use std::alloc::AllocError;
 use std::{fmt, io};
 
@@ -63,5 +64,19 @@ impl From<AllocError> for PresentError {
 
     fn from(_: AllocError) -> Self {
         PresentError::Memory
+    }
+}
+
+impl From<PresentError> for Error {
+    ghost from_gives = { λ e r. IsErrorOf e r };
+
+    fn from(e: PresentError) -> Self {
+        match e {
+            PresentError::IO(e) => Error::IO(e),
+            PresentError::Undefined | PresentError::NotWhole => {
+                Error::IO(io::Error::from(io::ErrorKind::InvalidData))
+            }
+            PresentError::Memory => Error::Memory,
+        }
     }
 }
