@@ -4,7 +4,7 @@ use crate::form::Form;
 use std::alloc::{AllocError, Global};
 use termimad::frames::{Frame, PresentError};
 use termimad::screen::Screen;
-use termimad::{CutOut, Error};
+use termimad::{ClearType, CutOut, Error, queue_clear};
 
 const COLUMNS: u16 = 20;
 
@@ -34,8 +34,9 @@ impl Terminal {
         &self.screen
     }
 
-    /// Draws the form into the frame, and sends what has changed. Answers how many bytes that takes.
+    /// Draws the form into the blank frame, and sends what has changed. Answers how many bytes that takes.
     pub fn show(&mut self, alloc: Global, form: &Form) -> Result<usize, Error> {
+        queue_clear(&mut self.frame, ClearType::All)?;
         form.draw(alloc, &mut self.frame)?;
         let mut out = CutOut::new(alloc, ROOM, ROOM, false)?;
         self.frame.present(alloc, &mut out)?;
