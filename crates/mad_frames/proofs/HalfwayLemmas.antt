@@ -18,7 +18,7 @@ use Rattle.mad_screen.proofs.Reading.{nothing_leads}
 use Rattle.mad_screen.proofs.ReadingBack.{read_in_turn}
 use Rattle.mad_frames.specs.Changes.{SameSize, ShowsCells, LeadTo, halfway, AddsPaint}
 
-over : (a b cs : List Glyph) → length cs ≤ length b → put_list (a ++ b) (length a) cs ≡ a ++ (cs ++ drop (length cs) b)
+pub over : (a b cs : List Glyph) → length cs ≤ length b → put_list (a ++ b) (length a) cs ≡ a ++ (cs ++ drop (length cs) b)
 over a b [] h = refl
 over a [] (c ∷ cs) h = absurd (omega arith)
 over a (d ∷ b) (c ∷ cs) h =
@@ -123,7 +123,7 @@ row_part g y x n fits =
     take_front (suc n) (suc m) [] h = refl
     take_front (suc n) (suc m) (g ∷ l) h = ap (λ (r : List Glyph). g ∷ r) (take_front n m l (omega arith))
 
-no_bytes : (t : Grid) → after_bytes t [] ≡ Some t
+pub no_bytes : (t : Grid) → after_bytes t [] ≡ Some t
 no_bytes t = read_leads t t [] IsUtf8-nil (subst (λ (cs : List ℕ). Leads (resting t) cs (resting t)) (sym chars-nil) (nothing_leads (resting t)))
 
 -- at first nothing has been written

@@ -1,3 +1,4 @@
+pub mod FrameLemmas
 pub mod HalfwayLemmas
 pub mod LooksLemmas
 pub mod PieceLemmas

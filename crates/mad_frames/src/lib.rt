@@ -6,11 +6,18 @@
 //! 2. [`runs`]: where a row has changed.
 //! 3. [`pieces`]: cells written as pieces of styled text.
 //! 4. [`writing`]: the bytes from one screen to another.
+//! 5. [`errors`], [`frame`]: screens that are drawn into and presented.
+//! 6. [`laws`]: what is true of a frame, whatever is done with it.
 #![tactic(auto)]
 
+mod errors;
+mod frame;
+pub mod laws;
 mod pieces;
 mod runs;
 mod whole;
 mod writing;
 
+pub use errors::PresentError;
+pub use frame::Frame;
 pub use writing::changes;

@@ -13,11 +13,14 @@
 
 mod characters;
 mod decoder;
+mod forms;
 pub mod laws;
 mod meaning;
 mod mouse;
 mod numbers;
 mod sequences;
 mod steps;
+mod written;
 
 pub use decoder::Keys;
+pub use written::event_bytes;

@@ -1,0 +1,133 @@
+-- Bytes that are read one after the other, and their events.
+use Rattle.std.proofs.Common.{◌≡◌, ◌≢◌, ℕ, ◌+◌, ◌<◌, ◌≤◌, ◌==◌, Bool, true, false, List, [], ◌∷◌, ◌++◌, take, drop, length, get_or, Option, Some, None, refl, ap, sym, ◌∙◌, subst, append_assoc, if◌then◌else◌}
+use Rattle.std.proofs.lemmas.List.{append-nil, take_more, take_all, take-append-drop}
+use Rattle.mad_term.specs.declared.events.Event.{Event}
+use Rattle.mad_term.specs.declared.events.Event.TheVariants.{Key}
+use Rattle.mad_keys.specs.Decoding.{ByteGives, PauseGives, lone_escape}
+use Rattle.mad_keys.specs.Keys.{escape_key}
+use Rattle.mad_layout.specs.declared.skin.MadSkin.{MadSkin}
+use Rattle.mad_pager.specs.Sessions.{State, IsEventStep, HasSameText, turn_of, ends}
+use Rattle.mad_pager.specs.declared.session.Session.{Session}
+use Rattle.mad_pager.specs.declared.session.Turn.{Turn}
+use Rattle.mad_pager.specs.declared.session.Turn.TheVariants.{Goes, AsksSize, Ends}
+use Rattle.termimad_page_run.specs.Blocks.{told_events, AreTold, IsToldStep, IsToldDone, turn_told, IsSession, IsBlockTold, IsBlockDone, IsEndedIn}
+
+-- ---- how a session goes on
+
+pub ends_is : (turn : Turn) → ends turn ≡ true → turn ≡ Ends
+ends_is Ends h = refl
+ends_is Goes h = absurd (cc)
+ends_is AsksSize h = absurd (cc)
+
+pub goes_on : (turn : Turn) → ends turn ≡ false → turn ≢ Ends
+goes_on turn h e = let f : ends Ends ≡ false = subst (λ (t : Turn). ends t ≡ false) e h in absurd (cc)
+
+-- the text stays the same
+pub same_text : (a b c : Session) → HasSameText a b → HasSameText b c → HasSameText a c
+same_text a b c h k = record { name = k.name ∙ h.name; markdown = k.markdown ∙ h.markdown; skin = k.skin ∙ h.skin }
+
+pub step_along : (skin dress : MadSkin) (markdown text : List ℕ) (told : Option Event) (s new : State) → dress ≡ skin → text ≡ markdown → IsToldStep dress text told s new → IsToldStep skin markdown told s new
+step_along skin dress markdown text told s new e k h =
+    subst (λ (d : MadSkin). IsToldStep d markdown told s new) e (subst (λ (m : List ℕ). IsToldStep dress m told s new) k h)
+
+-- ---- bytes
+
+-- a byte more is read
+pub told_more : (w bytes : List ℕ) (b : ℕ) (events : List Event) (left : List ℕ) (told : Option Event) (new : List ℕ) → AreTold w bytes events left → ByteGives left b told new → AreTold w (bytes ++ b ∷ []) (events ++ told_events told) new
+told_more w [] b events left told new (none, same) gives = (
+  told,
+  new,
+  [],
+  subst (λ (l : List ℕ). ByteGives l b told new) same gives,
+  ap (λ (l : List Event). l ++ told_events told) none ∙ sym (append-nil (told_events told)),
+  (refl, refl),
+)
+told_more w (x ∷ bytes) b events left told new (first, mid, more, one, are, rest) gives = (
+  first,
+  mid,
+  more ++ told_events told,
+  one,
+  ap (λ (l : List Event). l ++ told_events told) are ∙ append_assoc (told_events first) more (told_events told),
+  told_more mid bytes b more left told new rest gives,
+)
+
+event_more : (skin : MadSkin) (markdown : List ℕ) (s : State) (events : List Event) (mid : State) (event : Event) (new : State)
+    → IsSession skin markdown s events mid → IsEventStep skin markdown event mid new → turn_of event mid ≢ Ends → IsSession skin markdown s (events ++ event ∷ []) new
+event_more skin markdown s [] mid event new same step goes =
+    (new, subst (λ (m : State). IsEventStep skin markdown event m new) same step, subst (λ (m : State). turn_of event m ≢ Ends) same goes, refl)
+event_more skin markdown s (e ∷ events) mid event new (next, one, first, rest) step goes = (next, one, first, event_more skin markdown next events mid event new rest step goes)
+
+-- what was told is done too
+pub session_more : (skin : MadSkin) (markdown : List ℕ) (s : State) (events : List Event) (mid : State) (told : Option Event) (new : State)
+    → IsSession skin markdown s events mid → IsToldStep skin markdown told mid new → turn_told told mid ≢ Ends → IsSession skin markdown s (events ++ told_events told) new
+session_more skin markdown s events mid None new h same goes =
+    subst (λ (es : List Event). IsSession skin markdown s es new) (sym (append-nil events)) (subst (λ (n : State). IsSession skin markdown s events n) (sym same) h)
+session_more skin markdown s events mid (Some event) new h step goes = event_more skin markdown s events mid event new h step goes
+
+-- Esc never ends a session
+escape_goes : (typing : Bool) → (if typing then Goes else Goes) ≢ Ends
+escape_goes true e = cc
+escape_goes false e = cc
+
+pub pause_goes : (w : List ℕ) (s : State) → turn_told (lone_escape w) s ≢ Ends
+pause_goes [] s = λ e. cc
+pause_goes (a ∷ []) s = elim (a == 27) as (λ b. turn_told (if b then Some (Key escape_key) else None) s ≢ Ends) [ true ↦ escape_goes s.is_typing | false ↦ λ e. cc ]
+pause_goes (a ∷ b ∷ w) s = λ e. cc
+
+-- an event ends the session
+pub ended : (skin : MadSkin) (markdown w block : List ℕ) (i : ℕ) (s : State) (events : List Event) (mid : State) (told : Option Event) (left : List ℕ)
+    → AreTold w (take i block) (events ++ told_events told) left → IsSession skin markdown s events mid → turn_told told mid ≡ Ends → IsEndedIn skin markdown w block s
+ended skin markdown w block i s events mid None left read done ends = absurd (cc)
+ended skin markdown w block i s events mid (Some event) left read done ends = record {
+  front = take i block;
+  rest = drop i block;
+  whole = take-append-drop i block;
+  events = events;
+  last = event;
+  left = left;
+  told = read;
+  before = mid;
+  session = done;
+  ends = ends;
+}
+
+-- the block's byte of this index
+pub byte_read : (w block : List ℕ) (i : ℕ) (events : List Event) (left : List ℕ) (told : Option Event) (new : List ℕ) → i < length block → AreTold w (take i block) events left → ByteGives left (get_or block i 0) told new
+    → AreTold w (take (i + 1) block) (events ++ told_events told) new
+byte_read w block i events left told new inside read gives =
+    subst (λ (l : List ℕ). AreTold w l (events ++ told_events told) new) (sym (take_more block i 0 inside)) (told_more w (take i block) (get_or block i 0) events left told new read gives)
+
+-- all of a block is read, and no pause comes
+pub block_read : (skin : MadSkin) (markdown w block : List ℕ) (i : ℕ) (s : State) (events : List Event) (left : List ℕ) (new : State) (pauses : Bool)
+    → length block ≤ i → pauses ≡ false → AreTold w (take i block) events left → IsSession skin markdown s events new → IsBlockDone skin markdown w block pauses s left new
+block_read skin markdown w block i s events left new pauses past unpaused read done = record {
+  events = events;
+  told = record {
+    before = left;
+    own = events;
+    told = subst (λ (l : List ℕ). AreTold w l events left) (take_all i block past) read;
+    last = None;
+    pause = λ is. let e : true ≡ false = sym is ∙ unpaused in absurd (cc);
+    none = λ is. (refl, refl);
+    all = sym (append-nil events);
+  };
+  session = done;
+}
+
+-- or one comes
+pub block_paused : (skin : MadSkin) (markdown w block : List ℕ) (i : ℕ) (s : State) (events : List Event) (left : List ℕ) (mid : State) (pauses : Bool) (told : Option Event) (after : List ℕ) (new : State)
+    → length block ≤ i → pauses ≡ true → AreTold w (take i block) events left → IsSession skin markdown s events mid → PauseGives left told after → IsToldDone skin markdown told mid new
+    → IsBlockDone skin markdown w block pauses s after new
+block_paused skin markdown w block i s events left mid pauses told after new past paused read done gives step = record {
+  events = events ++ told_events told;
+  told = record {
+    before = left;
+    own = events;
+    told = subst (λ (l : List ℕ). AreTold w l events left) (take_all i block past) read;
+    last = told;
+    pause = λ is. gives;
+    none = λ is. let e : true ≡ false = sym paused ∙ is in absurd (cc);
+    all = refl;
+  };
+  session = session_more skin markdown s events mid told new done step.0 step.1;
+}
