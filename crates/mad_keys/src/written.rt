@@ -37,9 +37,15 @@ fn bytes_of(alloc: Global, form: Form) -> Result<Vec<u8>, AllocError>
     }
 }
 
-/// The bytes by which a terminal tells an event, in their plainest form: Home is `ESC [ H`, F1 `ESC O P`, Delete `ESC [ 3 ~`, and with
-/// modifiers each has their number. None, where no bytes are the event: Control with `h`, `i`, `j` or `m`, Alt with `[` or `O`, Shift
-/// with a character, F0 and F13, or a size of 0.
+/// The bytes by which a terminal tells an event, in their plainest form. Alone in a block, [`Keys`](crate::Keys) reads them as that event.
+///
+/// It answers None only where no bytes are the event:
+///
+/// - Control with `h`, `i`, `j` or `m`, or with another character than `a` to `z`, `\`, `]`, `^` or `_`.
+/// - Alt with `[` or `O`: after ESC these begin sequences.
+/// - Shift with a character, and Shift or Control with Null, Tab, Enter or Backspace.
+/// - Esc or BackTab with modifiers.
+/// - A control character as a character, F0, F13 and more, a size of 0, and modifiers beside Shift, Control and Alt.
 ///
 /// # Errors
 ///
