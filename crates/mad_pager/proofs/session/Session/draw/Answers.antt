@@ -1,7 +1,7 @@
 use Rattle.mad_pager.specs.Screens.{AreLinesShown, IsLastRow, IsDrawing}
 use Rattle.mad_pager.specs.Sessions.{state_of}
 use Rattle.mad_pager.proofs.DrawnLemmas.{took_in_turn, screen_shown}
-use Rattle.mad_pager.proofs.drawing.Session.draw.Goals as goal
+use Rattle.mad_pager.proofs.session.Session.draw.Goals as goal
 
 pub returns : goal.returns
 returns g c =

@@ -5,7 +5,7 @@ use Rattle.mad_draw.specs.DrawnRows.{AreRowsShown}
 use Rattle.mad_pager.specs.Screens.{KeepsTextPremises, area_of, text_pane}
 use Rattle.mad_pager.specs.Sessions.{state_of}
 use Rattle.mad_pager.proofs.DrawnLemmas.{known, lines_shown, not_small}
-use Rattle.mad_pager.proofs.drawing.Session.draw_lines.Goals as goal
+use Rattle.mad_pager.proofs.session.Session.draw_lines.Goals as goal
 
 pub draw_text-requires : goal.draw_text-requires
 draw_text-requires g c = subst (λ (a : Area). IsWithinLimits a) (sym c.text_area-area.ensures) (record { columns = omega arith; rows = omega arith })

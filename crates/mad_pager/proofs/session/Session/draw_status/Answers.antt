@@ -3,7 +3,7 @@ use Rattle.mad_fit.specs.Areas.{IsWithinLimits}
 use Rattle.mad_fit.specs.declared.area.Area.{Area}
 use Rattle.mad_pager.specs.Sessions.{state_of}
 use Rattle.mad_pager.proofs.DrawnLemmas.{status_drawn}
-use Rattle.mad_pager.proofs.status.Session.draw_status.Goals as goal
+use Rattle.mad_pager.proofs.session.Session.draw_status.Goals as goal
 
 pub draw_line-requires-clause-within : goal.draw_line-requires-clause-within
 draw_line-requires-clause-within g c = subst (λ (a : Area). IsWithinLimits a) (sym c.last_row-area.ensures) (record { columns = omega arith; rows = omega arith })

@@ -7,7 +7,7 @@ use Rattle.mad_field.specs.Shown.{IsShowable}
 use Rattle.mad_pager.specs.Screens.{IsFieldRow}
 use Rattle.mad_pager.specs.Sessions.{state_of}
 use Rattle.mad_pager.proofs.DrawnLemmas.{known, took_so, took_nothing}
-use Rattle.mad_pager.proofs.drawing.Session.draw_field.Goals as goal
+use Rattle.mad_pager.proofs.session.Session.draw_field.Goals as goal
 
 pub display_on-requires : goal.display_on-requires
 display_on-requires g c = subst (λ (a : Area). IsWithinLimits a) c.area.ensures (c.is_within_limits-is_within.ensures.0 c.if-is_within.true)

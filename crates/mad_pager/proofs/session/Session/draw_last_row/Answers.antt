@@ -2,7 +2,7 @@ use Rattle.std.proofs.Common.{◌≡◌, true, false, sym, ◌∙◌}
 use Rattle.mad_pager.specs.Screens.{IsFieldRow, IsLastRow, IsStatus}
 use Rattle.mad_pager.specs.Sessions.{state_of}
 use Rattle.mad_pager.proofs.DrawnLemmas.{took_so}
-use Rattle.mad_pager.proofs.drawing.Session.draw_last_row.Goals as goal
+use Rattle.mad_pager.proofs.session.Session.draw_last_row.Goals as goal
 
 pub returns-then-is_typing : goal.returns-then-is_typing
 returns-then-is_typing g c =
