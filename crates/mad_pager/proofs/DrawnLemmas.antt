@@ -1,9 +1,15 @@
--- What is shown of what was drawn in turn.
-use Rattle.std.proofs.Common.{◌≡◌, ℕ, ◌+◌, ◌-◌, ◌<◌, ◌≤◌, ◌||◌, nat_lt, Bool, true, false, List, [], ◌∷◌, ◌++◌, map, length, Option, Some, None, option_map, IfSome, refl, ap, sym, ◌∙◌, subst, arith, append_assoc, take}
+-- What is shown of what was drawn in turn, and what goes out of it.
+use Rattle.std.proofs.Common.{◌≡◌, ℕ, ◌-◌, ◌≤◌, ◌||◌, nat_lt, Bool, true, false, List, [], ◌∷◌, ◌++◌, Option, Some, None, option_map, IfSome, Result, Err, refl, ap, sym, ◌∙◌, subst, arith, append_assoc, take}
 use Rattle.std.proofs.lemmas.List.{append-nil, append_cancel_left}
 use Rattle.std.proofs.lemmas.Option.{same_Some}
-use Rattle.mad_term.specs.Trace.{Trace, after, flushed, TookWith}
-use Rattle.mad_fit.specs.Areas.{HasPosition, IsWithinLimits}
+use Rattle.std.specs.Result.{IsErrAnd}
+use Rattle.std.specs.Prelude.{MatchResult}
+use Rattle.std.proofs.lemmas.Result.{err_from_is_err_and}
+use Rattle.std.specs.declared.io.Error as io
+use Rattle.mad_term.specs.Trace.{Trace, after, failed, flushed, CutShort, TookWith}
+use Rattle.mad_term.specs.declared.errors.Error.{Error}
+use Rattle.mad_term.specs.declared.errors.Error.TheVariants.{IO}
+use Rattle.mad_term.proofs.Traces.{took_both, cut_in_first, cut_in_second, flush_failed}
 use Rattle.mad_fit.specs.declared.area.Area.{Area}
 use Rattle.mad_draw.specs.BesideBar.{columns_beside}
 use Rattle.mad_draw.specs.DrawnRows.{AreRowsShown}
@@ -11,7 +17,6 @@ use Rattle.mad_draw.specs.Panes.{Pane, AreApart, ArePanesShown}
 use Rattle.mad_draw.specs.declared.scroll_bars.ScrollBar.{ScrollBar}
 use Rattle.mad_draw.proofs.PaneLemmas.{panes_shown}
 use Rattle.mad_blocks.proofs.WrapKinds.{layout_fits, wrapped_at}
-use Rattle.mad_field.specs.Shown.{IsShowable}
 use Rattle.mad_layout.specs.RowSkins.{row_skin}
 use Rattle.mad_layout.specs.ShownLayouts.{ShowsDrawable, ShowsLayout}
 use Rattle.mad_format.specs.declared.line.FmtLine.{FmtLine}
@@ -20,7 +25,7 @@ use Rattle.mad_layout.specs.Shown.{area_row}
 use Rattle.mad_layout.specs.declared.skin.MadSkin.{MadSkin}
 use Rattle.mad_rows.specs.RowStyles.{line_rules}
 use Rattle.std.proofs.lemmas.Bool.{ltb-false}
-use Rattle.mad_pager.specs.Screens.{is_small, area_of, bar_of, text_pane, field_pane, status_pane, status_words, IsLineIn, IsStatusLine, KeepsTextPremises, AreLinesShown, IsFieldRow, IsLastRow, IsStatus, IsDrawing, IsPicture, IsTypingShown, IsStatusShown}
+use Rattle.mad_pager.specs.Screens.{is_small, area_of, bar_of, text_pane, field_pane, status_pane, status_words, IsLineIn, IsStatusLine, KeepsTextPremises, AreLinesShown, IsFieldRow, IsLastRow, IsStatus, IsDrawing, IsPicture, IsTypingShown, IsStatusShown, IsShowing, IsShown, IsUnshown, question}
 use Rattle.mad_pager.specs.Sessions.{State, text_area, last_row}
 
 -- ---- what a device took
@@ -72,20 +77,6 @@ from_empty_at o n P e h = subst (λ (o : Option (List ℕ)). IfSome o (λ before
 -- all that a device took that had taken nothing
 pub from_empty : (old new : Trace) (P : List ℕ → Type 0) → old.bytes ≡ Some [] → TookWith old new P → (text : List ℕ) × (new.bytes ≡ Some text) × P text
 from_empty old new P e h = from_empty_at old.bytes new.bytes P e h
-
-put_at : (o : Option (List ℕ)) (before bytes : List ℕ) (P : List ℕ → Type 0) → P bytes
-    → IfSome o (λ b. (text : List ℕ) × (option_map (λ s. s ++ bytes) (option_map (λ s. s ++ before) o) ≡ Some (b ++ text)) × ((first : List ℕ) × (last : List ℕ) × (text ≡ first ++ last) × P last))
-put_at None before bytes P h = tt
-put_at (Some b) before bytes P h = (before ++ bytes, ap Some (append_assoc b before bytes), (before, bytes, refl, h))
-
--- something was put, and then these bytes, last of all
-pub put_last : (old mid new done : Trace) (before bytes : List ℕ) (P : List ℕ → Type 0) → mid ≡ after old before → new ≡ after mid bytes → done ≡ flushed new → P bytes
-    → TookWith old done (λ text. (first : List ℕ) × (last : List ℕ) × (text ≡ first ++ last) × P last)
-unfolding after flushed
-put_last old mid new done before bytes P a b c h =
-    let e : done.bytes ≡ option_map (λ s. s ++ bytes) (option_map (λ s. s ++ before) old.bytes) =
-    ap (λ (t : Trace). t.bytes) c ∙ (ap (λ (t : Trace). t.bytes) b ∙ ap (λ (o : Option (List ℕ)). option_map (λ s. s ++ bytes) o) (ap (λ (t : Trace). t.bytes) a)) in
-    subst (λ (n : Option (List ℕ)). IfSome old.bytes (λ b. (text : List ℕ) × (n ≡ Some (b ++ text)) × ((first : List ℕ) × (last : List ℕ) × (text ≡ first ++ last) × P last))) (sym e) (put_at old.bytes before bytes P h)
 
 -- ---- what is shown
 
@@ -152,3 +143,39 @@ status_drawn name words s dress line area old new said is at drawn =
     took_so old new (IsLineIn (row_skin dress) line (last_row s.page.columns s.page.rows)) (IsStatus name s)
     (λ text shown. record { dress = dress; line = line; is = subst (λ (w : List ℕ). IsStatusLine dress w s.page.columns line) said is; shown = shown })
     (subst (λ (a : Area). TookWith old new (IsLineIn (row_skin dress) line a)) at drawn)
+
+-- ---- what goes out
+
+-- the question and the picture
+showing : (skin : MadSkin) (name : List ℕ) (asks : Bool) (s : State) (bytes : List ℕ) → IsPicture skin name s bytes → IsShowing skin name asks s (question asks ++ bytes)
+showing skin name asks s bytes h = record { picture = bytes; is = refl; shows = h }
+
+pub shown_whole : (skin : MadSkin) (name : List ℕ) (asks : Bool) (s : State) (bytes : List ℕ) (old mid new done : Trace)
+    → IsPicture skin name s bytes → mid ≡ after old (question asks) → new ≡ after mid bytes → done ≡ flushed new → IsShown skin name asks s old done
+shown_whole skin name asks s bytes old mid new done h a b c =
+    (question asks ++ bytes, showing skin name asks s bytes h, c ∙ ap flushed (took_both old mid new (question asks) bytes a b))
+
+-- a fault in the question
+pub unshown_in_question : (skin : MadSkin) (name : List ℕ) (asks : Bool) (s : State) (bytes : List ℕ) (old new : Trace) (e : io.Error)
+    → IsPicture skin name s bytes → CutShort old (question asks) new → IsUnshown skin name asks s old (IO e) new
+unshown_in_question skin name asks s bytes old new e h cut =
+    (question asks ++ bytes, showing skin name asks s bytes h, cut_in_first old new (question asks) bytes cut)
+
+-- or in the picture
+pub unshown_in_picture : (skin : MadSkin) (name : List ℕ) (asks : Bool) (s : State) (bytes : List ℕ) (old mid new : Trace) (e : io.Error)
+    → IsPicture skin name s bytes → mid ≡ after old (question asks) → CutShort mid bytes new → IsUnshown skin name asks s old (IO e) new
+unshown_in_picture skin name asks s bytes old mid new e h a cut =
+    (question asks ++ bytes, showing skin name asks s bytes h, cut_in_second old mid new (question asks) bytes a cut)
+
+-- or at the flush
+pub unshown_at_flush : (skin : MadSkin) (name : List ℕ) (asks : Bool) (s : State) (bytes : List ℕ) (old mid written new : Trace) (e : io.Error)
+    → IsPicture skin name s bytes → mid ≡ after old (question asks) → written ≡ after mid bytes → new ≡ failed written → IsUnshown skin name asks s old (IO e) new
+unshown_at_flush skin name asks s bytes old mid written new e h a b fault =
+    (question asks ++ bytes, showing skin name asks s bytes h, flush_failed old written new (question asks ++ bytes) (took_both old mid written (question asks) bytes a b) fault)
+
+-- what a `?` hands on that made this error
+pub unshown_exit : (skin : MadSkin) (name : List ℕ) (asks : Bool) (s : State) (old new : Trace) (r : Result Unit Error) (e : Error)
+    → IsErrAnd r (λ d. d ≡ e) → IsUnshown skin name asks s old e new → MatchResult r (λ _. IsShown skin name asks s old new) (λ d. IsUnshown skin name asks s old d new)
+unshown_exit skin name asks s old new r e is h =
+    let p = err_from_is_err_and r is in
+    subst (λ (t : Result Unit Error). MatchResult t (λ _. IsShown skin name asks s old new) (λ d. IsUnshown skin name asks s old d new)) (sym (p.1 ∙ ap Err p.2)) h

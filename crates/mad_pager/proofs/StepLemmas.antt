@@ -2,10 +2,7 @@
 use Rattle.std.proofs.Common.{◌≡◌, ◌≢◌, ℕ, ◌-◌, List, Some, sym, subst, ap, ◌∙◌, false}
 use Rattle.mad_md.specs.declared.alignment.Alignment.{Alignment}
 use Rattle.mad_md.specs.declared.alignment.Alignment.TheVariants.{Left}
-use Rattle.mad_md.specs.declared.compound.Compound.{Compound}
-use Rattle.mad_ellipsis.specs.Fitted.{IsFitted}
 use Rattle.mad_format.specs.Fitting.{IsCompositeFitted}
-use Rattle.mad_format.specs.Indents.{indent}
 use Rattle.mad_format.specs.declared.composite.FmtComposite.{FmtComposite}
 use Rattle.mad_term.specs.declared.keys.KeyEvent.{KeyEvent}
 use Rattle.mad_fit.specs.declared.area.Area.{Area}
@@ -23,8 +20,7 @@ use Rattle.mad_page.specs.declared.keys.Ask.TheVariants.{Next}
 use Rattle.mad_page.specs.declared.page.Page.{Page}
 use Rattle.mad_search.specs.KeptRows.{IsKeptRow}
 use Rattle.mad_search.specs.Searches.{IsNextRow, IsPreviousRow}
-use Rattle.mad_pager.specs.Sessions.{State, IsAsked, IsKeyStep, IsLaidFor, IsMovedTo, last_row, text_area, turn_asked}
-use Rattle.mad_pager.specs.declared.session.Turn.{Turn}
+use Rattle.mad_pager.specs.Sessions.{State, IsAsked, IsKeyStep, IsLaidFor, IsMovedTo, text_area}
 
 -- a key that asks for something
 pub asked_step : (key : KeyEvent) (s : State) (page : Page) (ask : Ask) (new : State) → page ≡ (after_key key s.page).page → ask ≡ (after_key key s.page).ask → IsAsked ask (record s { page = page }) new → IsKeyStep key s new
@@ -61,6 +57,4 @@ moved area place old new e same other = record {
 pub fitted_along : (rules : LineRules) (align : Alignment) (width columns : ℕ) (before fitted after : FmtComposite) → align ≡ Left → width ≡ columns → after.compounds.items ≡ fitted.compounds.items
     → IsCompositeFitted rules align width before fitted → IsCompositeFitted rules Left columns before after
 fitted_along rules align width columns before fitted after a w same h =
-    let at = indent rules.list_items_indentation_mode before.kind in
-    subst (λ (x : List Compound). IsFitted Left at columns before.compounds.items x) (sym same)
-    (subst (λ (n : ℕ). IsFitted Left at n before.compounds.items fitted.compounds.items) w (subst (λ (x : Alignment). IsFitted x at width before.compounds.items fitted.compounds.items) a h))
+    rw same (subst (λ (n : ℕ). IsCompositeFitted rules Left n before fitted) w (subst (λ (x : Alignment). IsCompositeFitted rules x width before fitted) a h))

@@ -1,5 +1,5 @@
 -- What the screen shows of a session.
-use Rattle.std.specs.Prelude.{◌≡◌, ℕ, ◌+◌, ◌-◌, ◌<◌, ◌≤◌, ◌++◌, nat_lt, ◌||◌, Bool, true, false, List, [], ◌∷◌, length, take, codes, decimal, Option, Some, None, IfSome}
+use Rattle.std.specs.Prelude.{◌≡◌, ℕ, ◌+◌, ◌-◌, ◌<◌, ◌≤◌, ◌++◌, nat_lt, ◌||◌, Bool, true, false, List, [], ◌∷◌, length, take, codes, decimal, Option, Some, None, IfSome, if◌then◌else◌}
 use Rattle.mad_md.specs.Lines.{LineContent}
 use Rattle.mad_md.specs.declared.alignment.Alignment.TheVariants.{Left}
 use Rattle.mad_style.specs.declared.kinds.CompositeKind.TheVariants.{Paragraph}
@@ -13,7 +13,9 @@ use Rattle.mad_layout.specs.Premises.{KeepsPremises}
 use Rattle.mad_rows.specs.RowStyles.{line_rules}
 use Rattle.mad_page.specs.Pages.{percent}
 use Rattle.mad_search.specs.Searches.{composite_text}
-use Rattle.mad_term.specs.Trace.{Trace, TookWith}
+use Rattle.mad_term.specs.Trace.{Trace, after, flushed, CutShort}
+use Rattle.mad_term.specs.declared.errors.Error.{Error}
+use Rattle.mad_term.specs.declared.errors.Error.TheVariants.{IO, InsufficientWidth, Memory}
 use Rattle.mad_fit.specs.Areas.{IsWithinLimits}
 use Rattle.mad_fit.specs.declared.area.Area.{Area}
 use Rattle.mad_format.specs.declared.line.FmtLine.{FmtLine}
@@ -134,6 +136,24 @@ pub record IsPicture (skin : MadSkin) (name : List ℕ) (s : State) (bytes : Lis
   pub small : is_small s ≡ true → bytes ≡ []
   pub shown : is_small s ≡ false → IsDrawing skin name s bytes
 
--- The device took something, as a question for the size or nothing, then the picture of a session, last of all.
-abbrev pub IsShown : MadSkin → List ℕ → State → Trace → Trace → Type 0
-IsShown skin name s old new = TookWith old new (λ text. (before : List ℕ) × (bytes : List ℕ) × (text ≡ before ++ bytes) × IsPicture skin name s bytes)
+-- ---- what goes out
+
+-- the question for the size, if it is asked: the cursor goes far to the right and down (H), and the terminal is asked where it is (n). 27 is ESC.
+abbrev pub question : Bool → List ℕ
+question asks = if asks then 27 ∷ (codes "[999;999H" ++ 27 ∷ codes "[6n") else []
+
+-- these bytes are the question for the size, if it is asked, and the picture of a session
+pub record IsShowing (skin : MadSkin) (name : List ℕ) (asks : Bool) (s : State) (bytes : List ℕ) : Type 0 where
+  pub picture : List ℕ
+  pub is : bytes ≡ question asks ++ picture
+  pub shows : IsPicture skin name s picture
+
+-- the device took such bytes whole, and was flushed then
+abbrev pub IsShown : MadSkin → List ℕ → Bool → State → Trace → Trace → Type 0
+IsShown skin name asks s old new = (bytes : List ℕ) × IsShowing skin name asks s bytes × (new ≡ flushed (after old bytes))
+
+-- It failed within such bytes, or at the flush. Out of memory nothing went out. It refuses by nothing else.
+abbrev pub IsUnshown : MadSkin → List ℕ → Bool → State → Trace → Error → Trace → Type 0
+IsUnshown skin name asks s old (IO e) new = (bytes : List ℕ) × IsShowing skin name asks s bytes × CutShort old bytes new
+IsUnshown skin name asks s old (InsufficientWidth e) new = ⊥
+IsUnshown skin name asks s old Memory new = new ≡ old

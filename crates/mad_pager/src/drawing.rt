@@ -1,16 +1,17 @@
 //! The whole screen, drawn in memory and then put.
 
-ghost use Rattle.std.specs.Prelude.{◌≡◌, OnOk, IfOk, ℕ, List, Some, false};
-ghost use Rattle.mad_term.specs.Trace.{TookWith, after};
+ghost use Rattle.std.specs.Prelude.{◌≡◌, OnOk, IfOk, MatchResult, ℕ, List, Some, false};
+ghost use Rattle.mad_term.specs.Trace.{TookWith, Writes};
 ghost use Rattle.mad_pager.specs.Pictures.{picture_trace};
 ghost use Rattle.mad_pager.specs.Sessions.{state_of};
-ghost use Rattle.mad_pager.specs.Screens.{AreLinesShown, IsDrawing, IsFieldRow, IsLastRow, IsPicture, IsShown, is_small};
+ghost use Rattle.mad_pager.specs.Screens.{AreLinesShown, IsDrawing, IsFieldRow, IsLastRow, IsPicture, IsShown, IsUnshown, is_small, question};
 
 use crate::picture::Picture;
 use crate::session::{Session, text_area};
 use mad_layout::draw_text;
 use mad_term::{Error, Out, put_all};
-use std::alloc::Global;
+use std::alloc::{AllocError, Global};
+use std::io;
 
 // The least screen that shows something, in columns and rows.
 const LEAST_COLUMNS: u16 = 5;
@@ -28,7 +29,8 @@ impl Session<'_> {
     ///
     /// A fault of the device, or out of memory. Out of memory nothing went out.
     pub fn show<O: Out>(&self, alloc: Global, out: &mut O, asks: bool) -> Result<(), Error>
-        ensures { OnOk result (IsShown self.now.text.skin.now self.now.name.now (state_of self.now) (O.seen out.old) (O.seen out.new)) }
+        ensures { MatchResult result (λ _. IsShown self.now.text.skin.now self.now.name.now asks (state_of self.now) (O.seen out.old) (O.seen out.new))
+            (λ e. IsUnshown self.now.text.skin.now self.now.name.now asks (state_of self.now) (O.seen out.old) e (O.seen out.new)) }
     {
         let picture = self.picture(alloc)?;
         ask_size(out, asks)?;
@@ -38,7 +40,7 @@ impl Session<'_> {
     }
 
     // The screen, drawn in memory. Nothing is drawn on one that is too small.
-    fn picture(&self, alloc: Global) -> Result<Picture, Error>
+    fn picture(&self, alloc: Global) -> Result<Picture, AllocError>
         ensures { IfOk result (λ picture. (bytes : List ℕ) × ((picture_trace picture).bytes ≡ Some bytes) × IsPicture self.now.text.skin.now self.now.name.now (state_of self.now) bytes) }
     {
         let mut picture = Picture::new(alloc);
@@ -49,7 +51,7 @@ impl Session<'_> {
         // The only fault of memory is that there is none left.
         match self.draw(alloc, &mut picture) {
             Ok(()) => Ok(picture),
-            Err(_) => Err(Error::Memory),
+            Err(_) => Err(AllocError),
         }
     }
 
@@ -108,12 +110,11 @@ impl Session<'_> {
 }
 
 // Asks for the size of the screen, if it is to be asked.
-fn ask_size<O: Out>(out: &mut O, asks: bool) -> Result<(), Error>
-    ensures { OnOk result ((question : List ℕ) × (O.seen out.new ≡ after (O.seen out.old) question)) }
+fn ask_size<O: Out>(out: &mut O, asks: bool) -> io::Result<()>
+    ensures { Writes (O.seen out.old) (question asks) result (O.seen out.new) }
 {
     if asks {
-        put_all(out, SIZE_QUESTION)?;
-        return Ok(());
+        return put_all(out, SIZE_QUESTION);
     }
     Ok(())
 }

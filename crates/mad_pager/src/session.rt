@@ -1,6 +1,6 @@
 //! A session: a text on a screen, what is sought in it, and what an event does.
 
-ghost use Rattle.std.specs.Prelude.{◌≡◌, ◌==◌, ◌-◌, if◌then◌else◌, IfOk, OnOk, length, string_bytes, encode_utf8_all};
+ghost use Rattle.std.specs.Prelude.{◌≡◌, ◌==◌, ◌-◌, true, if◌then◌else◌, IfOk, OnOk, length, string_bytes, encode_utf8_all};
 ghost use Rattle.mad_columns.specs.Columns.{char_columns};
 ghost use Rattle.mad_field.specs.Fields.{new_field};
 ghost use Rattle.mad_page.specs.PageKeys.{after_key};
