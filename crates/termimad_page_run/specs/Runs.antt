@@ -63,7 +63,7 @@ pub record IsTurn (p : Paged) (block : List ℕ) (old new : Moment) : Type 0 whe
   pub shown : IsShown p.skin p.name old.asks old.state old.out new.out
   pub some : 0 < length block
   pub read : old.input ≡ ahead_all block new.input
-  pub done : IsBlockDone p.skin p.text old.waits block (nat_lt (length block) block_room) old.state new.waits new.state
+  pub done : IsBlockDone p.skin p.text old.waits block (nat_lt (length block) block_room) old.state new.waits new.asks new.state
 
 -- one turn after the other, one for each block
 abbrev pub AreTurns : Paged → List (List ℕ) → Moment → Moment → Type 0

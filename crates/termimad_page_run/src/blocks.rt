@@ -3,7 +3,7 @@
 ghost use Rattle.std.specs.Prelude.{◌≡◌, ◌≢◌, IfOk, OnOk, Option};
 ghost use Rattle.mad_term.specs.declared.events.Event.{Event};
 ghost use Rattle.mad_keys.specs.Decoding.{PauseGives};
-ghost use Rattle.mad_pager.specs.Sessions.{state_of, HasSameText};
+ghost use Rattle.mad_pager.specs.Sessions.{asks_size, state_of, HasSameText};
 ghost use Rattle.termimad_page_run.specs.Blocks.{IsBlockDone, IsEndedIn, IsToldDone, IsToldStep, turn_told};
 
 use mad_keys::Keys;
@@ -11,7 +11,8 @@ use mad_pager::{Session, Turn};
 use mad_term::Event;
 use std::alloc::{AllocError, Global};
 
-/// Does what the events of a block say, in order, and no more after one that ends the session. Then comes a pause, if there is one.
+/// Does what the events of a block say, in order, and no more after one that ends the session. Then comes a pause, if there is one. If an
+/// event asks for the size of the screen, so does the answer.
 ///
 /// # Errors
 ///
@@ -23,7 +24,7 @@ pub(crate) fn apply_block(
     block: &[u8],
     pauses: bool,
 ) -> Result<Turn, AllocError>
-    ensures goes { IfOk result (λ turn. turn ≢ Turn.Ends → IsBlockDone session.old.text.skin.now session.old.markdown.now keys.old block.now pauses (state_of session.old) keys.new (state_of session.new)) }
+    ensures goes { IfOk result (λ turn. turn ≢ Turn.Ends → IsBlockDone session.old.text.skin.now session.old.markdown.now keys.old block.now pauses (state_of session.old) keys.new (asks_size turn) (state_of session.new)) }
     ensures ends { IfOk result (λ turn. turn ≡ Turn.Ends → IsEndedIn session.old.text.skin.now session.old.markdown.now keys.old block.now (state_of session.old)) }
     ensures text { OnOk result (HasSameText session.old session.new) }
 {
@@ -35,7 +36,7 @@ pub(crate) fn apply_block(
         if ends {
             return Ok(Turn::Ends);
         }
-        asks = asks || turn.asks_size();
+        asks |= turn.asks_size();
     }
     let turn = turn_after(asks);
     if pauses {
@@ -47,7 +48,8 @@ pub(crate) fn apply_block(
 
 // How a session goes on that doesn't end.
 fn turn_after(asks: bool) -> Turn
-    ensures { result ≢ Turn.Ends }
+    ensures asks { asks_size result ≡ asks }
+    ensures goes { result ≢ Turn.Ends }
 {
     if asks { Turn::AsksSize } else { Turn::Goes }
 }

@@ -1,11 +1,11 @@
 use Rattle.std.proofs.Common.{◌≡◌, ◌+◌, [], ◌++◌, refl, sym, ap, ◌∙◌, true, false}
-use Rattle.mad_pager.specs.Sessions.{ends, state_of}
+use Rattle.mad_pager.specs.Sessions.{asks_size, ends, state_of}
 use Rattle.termimad_page_run.specs.Blocks.{told_events, turn_told}
 use Rattle.termimad_page_run.proofs.BlockLemmas.{byte_read, session_more, step_along, same_text, ended, ends_is, goes_on, block_read, block_paused}
 use Rattle.termimad_page_run.proofs.blocks.apply_block.Goals as goal
 
 pub loop-b-init : goal.loop-b-init
-loop-b-init c = record { events = []; told = (refl, refl); session = refl; text = record { name = refl; markdown = refl; skin = refl } }
+loop-b-init c = record { events = []; told = (refl, refl); session = (refl, refl); text = record { name = refl; markdown = refl; skin = refl } }
 
 pub loop-b-preserved : goal.loop-b-preserved
 loop-b-preserved c =
@@ -14,7 +14,8 @@ loop-b-preserved c =
     record {
       events = inv.events ++ told_events c.byte-event.result;
       told = byte_read _ _ _ _ _ _ _ c.loop-b-test.true inv.told c.byte-event.ensures;
-      session = session_more _ _ _ _ _ _ _ inv.session (step_along _ _ _ _ _ _ _ inv.text.skin inv.text.markdown c.in_ok-turn.ensures.step) (goes_on _ goes);
+      session = session_more _ _ _ _ _ _ _ _ _ inv.session (step_along _ _ _ _ _ _ _ inv.text.skin inv.text.markdown c.in_ok-turn.ensures.step) (goes_on _ goes)
+          (c.asks_size-asks.ensures ∙ ap asks_size c.in_ok-turn.ensures.turn);
       text = same_text _ _ _ inv.text c.in_ok-turn.ensures.text;
     }
 
@@ -25,7 +26,7 @@ pub returns-then-ends-clause-ends : goal.returns-then-ends-clause-ends
 returns-then-ends-clause-ends c = λ is.
     let inv = c.loop-b.invariant in
     let over : ends (turn_told c.byte-event.result (state_of c.loop-b.session)) ≡ true = ap ends (sym c.in_ok-turn.ensures.turn) ∙ (sym c.ends-ends.ensures ∙ c.if-ends.true) in
-    ended _ _ _ _ (c.loop-b.b-index + 1) _ inv.events _ c.byte-event.result _ (byte_read _ _ _ _ _ _ _ c.loop-b-test.true inv.told c.byte-event.ensures) inv.session (ends_is _ over)
+    ended _ _ _ _ (c.loop-b.b-index + 1) _ inv.events _ _ c.byte-event.result _ (byte_read _ _ _ _ _ _ _ c.loop-b-test.true inv.told c.byte-event.ensures) inv.session (ends_is _ over)
 
 pub returns-then-ends-clause-text : goal.returns-then-ends-clause-text
 returns-then-ends-clause-text c = same_text _ _ _ c.loop-b.invariant.text c.in_ok-turn.ensures.text
@@ -34,11 +35,11 @@ pub returns-then-pauses-clause-goes : goal.returns-then-pauses-clause-goes
 returns-then-pauses-clause-goes c = λ differs.
     let inv = c.loop-b.invariant in
     let it = c.in_ok-apply_pause.ensures.told in
-    block_paused _ _ _ _ c.loop-b.b-index _ inv.events _ _ _ it.0 _ _ c.loop-b-test.false c.if-pauses.true inv.told inv.session it.1
+    block_paused _ _ _ _ c.loop-b.b-index _ inv.events _ _ _ _ _ it.0 _ _ c.loop-b-test.false c.if-pauses.true inv.told inv.session c.turn_after-turn.ensures.asks it.1
     (step_along _ _ _ _ _ _ _ inv.text.skin inv.text.markdown it.2.0, it.2.1)
 
 pub returns-then-pauses-clause-ends : goal.returns-then-pauses-clause-ends
-returns-then-pauses-clause-ends c = λ is. absurd (c.turn_after-turn.ensures is)
+returns-then-pauses-clause-ends c = λ is. absurd (c.turn_after-turn.ensures.goes is)
 
 pub returns-then-pauses-clause-text : goal.returns-then-pauses-clause-text
 returns-then-pauses-clause-text c = same_text _ _ _ c.loop-b.invariant.text c.in_ok-apply_pause.ensures.text
@@ -46,7 +47,7 @@ returns-then-pauses-clause-text c = same_text _ _ _ c.loop-b.invariant.text c.in
 pub returns-clause-goes : goal.returns-clause-goes
 returns-clause-goes c = λ differs.
     let inv = c.loop-b.invariant in
-    block_read _ _ _ _ c.loop-b.b-index _ inv.events _ _ _ c.loop-b-test.false c.if-pauses.false inv.told inv.session
+    block_read _ _ _ _ c.loop-b.b-index _ inv.events _ _ _ _ _ c.loop-b-test.false c.if-pauses.false inv.told inv.session c.turn_after-turn.ensures.asks
 
 pub returns-clause-ends : goal.returns-clause-ends
-returns-clause-ends c = λ is. absurd (c.turn_after-turn.ensures is)
+returns-clause-ends c = λ is. absurd (c.turn_after-turn.ensures.goes is)

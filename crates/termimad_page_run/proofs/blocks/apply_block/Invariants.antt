@@ -9,6 +9,6 @@ abbrev pub invariant-loop-b : goal.invariant-loop-b
 invariant-loop-b l = record {
   events : List Event;
   told : AreTold l.fn.keys (take l.b-index l.block) events l.keys;
-  session : IsSession l.fn.session.text.skin.now l.fn.session.markdown.now (state_of l.fn.session) events (state_of l.session);
+  session : IsSession l.fn.session.text.skin.now l.fn.session.markdown.now (state_of l.fn.session) events l.asks (state_of l.session);
   text : HasSameText l.fn.session l.session;
 }
