@@ -3,15 +3,15 @@ use Rattle.std.proofs.Common.{◌≡◌, ◌≢◌, ℕ, ◌+◌, ◌<◌, ◌�
 use Rattle.std.proofs.lemmas.List.{append-nil, take_more, take_all, take-append-drop}
 use Rattle.mad_term.specs.declared.events.Event.{Event}
 use Rattle.mad_term.specs.declared.events.Event.TheVariants.{Key}
-use Rattle.mad_keys.specs.Decoding.{ByteGives, PauseGives}
-use Rattle.mad_keys.specs.Readings.{lone_escape}
+use Rattle.mad_keys.specs.Decoding.{ByteGives, BytesGive, PauseGives}
+use Rattle.mad_keys.specs.Readings.{listed, lone_escape}
 use Rattle.mad_keys.specs.Keys.{escape_key}
 use Rattle.mad_layout.specs.declared.skin.MadSkin.{MadSkin}
 use Rattle.mad_pager.specs.Sessions.{State, IsEventStep, HasSameText, asks_size, ends, turn_of}
 use Rattle.mad_pager.specs.declared.session.Session.{Session}
 use Rattle.mad_pager.specs.declared.session.Turn.{Turn}
 use Rattle.mad_pager.specs.declared.session.Turn.TheVariants.{Goes, AsksSize, Ends}
-use Rattle.termimad_page_run.specs.Blocks.{told_events, AreTold, IsToldStep, IsToldDone, turn_told, IsSession, IsBlockDone, IsEndedIn}
+use Rattle.termimad_page_run.specs.Blocks.{IsToldStep, IsToldDone, turn_told, IsSession, IsBlockDone, IsEndedIn}
 
 -- ---- how a session goes on
 
@@ -34,22 +34,23 @@ step_along skin dress markdown text told s new e k h =
 -- ---- bytes
 
 -- a byte more is read
-pub told_more : (w bytes : List ℕ) (b : ℕ) (events : List Event) (left : List ℕ) (told : Option Event) (new : List ℕ) → AreTold w bytes events left → ByteGives left b told new → AreTold w (bytes ++ b ∷ []) (events ++ told_events told) new
+pub told_more : (w bytes : List ℕ) (b : ℕ) (events : List Event) (left : List ℕ) (told : Option Event) (new : List ℕ)
+    → BytesGive w bytes events left → ByteGives left b told new → BytesGive w (bytes ++ b ∷ []) (events ++ listed told) new
 told_more w [] b events left told new (none, same) gives = (
   told,
   new,
   [],
   subst (λ (l : List ℕ). ByteGives l b told new) same gives,
-  ap (λ (l : List Event). l ++ told_events told) none ∙ sym (append-nil (told_events told)),
   (refl, refl),
+  ap (λ (l : List Event). l ++ listed told) none ∙ sym (append-nil (listed told)),
 )
-told_more w (x ∷ bytes) b events left told new (first, mid, more, one, are, rest) gives = (
+told_more w (x ∷ bytes) b events left told new (first, mid, more, one, rest, are) gives = (
   first,
   mid,
-  more ++ told_events told,
+  more ++ listed told,
   one,
-  ap (λ (l : List Event). l ++ told_events told) are ∙ append_assoc (told_events first) more (told_events told),
   told_more mid bytes b more left told new rest gives,
+  ap (λ (l : List Event). l ++ listed told) are ∙ append_assoc (listed first) more (listed told),
 )
 
 or_false : (b : Bool) → (b || false) ≡ b
@@ -85,7 +86,7 @@ event_more skin markdown s (e ∷ events) asks mid event new (next, others, one,
 -- what was told is done too
 told_done : (skin : MadSkin) (markdown : List ℕ) (s : State) (events : List Event) (asks : Bool) (mid : State) (told : Option Event) (new : State)
     → IsSession skin markdown s events asks mid → IsToldStep skin markdown told mid new → turn_told told mid ≢ Ends
-    → IsSession skin markdown s (events ++ told_events told) (asks || asks_size (turn_told told mid)) new
+    → IsSession skin markdown s (events ++ listed told) (asks || asks_size (turn_told told mid)) new
 told_done skin markdown s events asks mid None new h same goes =
     subst (λ (b : Bool). IsSession skin markdown s (events ++ []) b new) (sym (or_false asks))
     (subst (λ (es : List Event). IsSession skin markdown s es asks new) (sym (append-nil events)) (subst (λ (n : State). IsSession skin markdown s events asks n) (sym same) h))
@@ -93,16 +94,16 @@ told_done skin markdown s events asks mid (Some event) new h step goes = event_m
 
 pub session_more : (skin : MadSkin) (markdown : List ℕ) (s : State) (events : List Event) (asks : Bool) (mid : State) (told : Option Event) (new : State) (asked : Bool)
     → IsSession skin markdown s events asks mid → IsToldStep skin markdown told mid new → turn_told told mid ≢ Ends → asked ≡ asks_size (turn_told told mid)
-    → IsSession skin markdown s (events ++ told_events told) (asks || asked) new
+    → IsSession skin markdown s (events ++ listed told) (asks || asked) new
 session_more skin markdown s events asks mid told new asked h step goes is =
-    subst (λ (b : Bool). IsSession skin markdown s (events ++ told_events told) (asks || b) new) (sym is) (told_done skin markdown s events asks mid told new h step goes)
+    subst (λ (b : Bool). IsSession skin markdown s (events ++ listed told) (asks || b) new) (sym is) (told_done skin markdown s events asks mid told new h step goes)
 
 -- what a pause tells is done too, and asks for nothing
 pause_more : (skin : MadSkin) (markdown : List ℕ) (s : State) (events : List Event) (asks : Bool) (mid : State) (told : Option Event) (new : State)
-    → IsSession skin markdown s events asks mid → IsToldDone skin markdown told mid new → IsSession skin markdown s (events ++ told_events told) asks new
+    → IsSession skin markdown s events asks mid → IsToldDone skin markdown told mid new → IsSession skin markdown s (events ++ listed told) asks new
 pause_more skin markdown s events asks mid told new h (step, goes) =
     let on : turn_told told mid ≢ Ends = λ e. let f : Goes ≡ Ends = sym goes ∙ e in absurd (cc) in
-    subst (λ (b : Bool). IsSession skin markdown s (events ++ told_events told) b new) (ap (λ (t : Turn). asks || asks_size t) goes ∙ or_false asks)
+    subst (λ (b : Bool). IsSession skin markdown s (events ++ listed told) b new) (ap (λ (t : Turn). asks || asks_size t) goes ∙ or_false asks)
     (told_done skin markdown s events asks mid told new h step on)
 
 -- Esc never ends a session
@@ -117,7 +118,7 @@ pause_goes (a ∷ b ∷ w) s = refl
 
 -- an event ends the session
 pub ended : (skin : MadSkin) (markdown w block : List ℕ) (i : ℕ) (s : State) (events : List Event) (asks : Bool) (mid : State) (told : Option Event) (left : List ℕ)
-    → AreTold w (take i block) (events ++ told_events told) left → IsSession skin markdown s events asks mid → turn_told told mid ≡ Ends → IsEndedIn skin markdown w block s
+    → BytesGive w (take i block) (events ++ listed told) left → IsSession skin markdown s events asks mid → turn_told told mid ≡ Ends → IsEndedIn skin markdown w block s
 ended skin markdown w block i s events asks mid None left read done ends = absurd (cc)
 ended skin markdown w block i s events asks mid (Some event) left read done ends = record {
   front = take i block;
@@ -134,20 +135,20 @@ ended skin markdown w block i s events asks mid (Some event) left read done ends
 }
 
 -- the block's byte of this index
-pub byte_read : (w block : List ℕ) (i : ℕ) (events : List Event) (left : List ℕ) (told : Option Event) (new : List ℕ) → i < length block → AreTold w (take i block) events left → ByteGives left (get_or block i 0) told new
-    → AreTold w (take (i + 1) block) (events ++ told_events told) new
+pub byte_read : (w block : List ℕ) (i : ℕ) (events : List Event) (left : List ℕ) (told : Option Event) (new : List ℕ) → i < length block → BytesGive w (take i block) events left → ByteGives left (get_or block i 0) told new
+    → BytesGive w (take (i + 1) block) (events ++ listed told) new
 byte_read w block i events left told new inside read gives =
-    subst (λ (l : List ℕ). AreTold w l (events ++ told_events told) new) (sym (take_more block i 0 inside)) (told_more w (take i block) (get_or block i 0) events left told new read gives)
+    subst (λ (l : List ℕ). BytesGive w l (events ++ listed told) new) (sym (take_more block i 0 inside)) (told_more w (take i block) (get_or block i 0) events left told new read gives)
 
 -- all of a block is read, and no pause comes
 pub block_read : (skin : MadSkin) (markdown w block : List ℕ) (i : ℕ) (s : State) (events : List Event) (left : List ℕ) (asks : Bool) (new : State) (pauses answer : Bool)
-    → length block ≤ i → pauses ≡ false → AreTold w (take i block) events left → IsSession skin markdown s events asks new → answer ≡ asks → IsBlockDone skin markdown w block pauses s left answer new
+    → length block ≤ i → pauses ≡ false → BytesGive w (take i block) events left → IsSession skin markdown s events asks new → answer ≡ asks → IsBlockDone skin markdown w block pauses s left answer new
 block_read skin markdown w block i s events left asks new pauses answer past unpaused read done same = record {
   events = events;
   told = record {
     before = left;
     own = events;
-    told = subst (λ (l : List ℕ). AreTold w l events left) (take_all i block past) read;
+    told = subst (λ (l : List ℕ). BytesGive w l events left) (take_all i block past) read;
     last = None;
     pause = λ is. let e : true ≡ false = sym is ∙ unpaused in absurd (cc);
     none = λ is. (refl, refl);
@@ -158,18 +159,18 @@ block_read skin markdown w block i s events left asks new pauses answer past unp
 
 -- or one comes
 pub block_paused : (skin : MadSkin) (markdown w block : List ℕ) (i : ℕ) (s : State) (events : List Event) (left : List ℕ) (asks : Bool) (mid : State) (pauses answer : Bool) (told : Option Event) (after : List ℕ) (new : State)
-    → length block ≤ i → pauses ≡ true → AreTold w (take i block) events left → IsSession skin markdown s events asks mid → answer ≡ asks → PauseGives left told after → IsToldDone skin markdown told mid new
+    → length block ≤ i → pauses ≡ true → BytesGive w (take i block) events left → IsSession skin markdown s events asks mid → answer ≡ asks → PauseGives left told after → IsToldDone skin markdown told mid new
     → IsBlockDone skin markdown w block pauses s after answer new
 block_paused skin markdown w block i s events left asks mid pauses answer told after new past paused read done same gives step = record {
-  events = events ++ told_events told;
+  events = events ++ listed told;
   told = record {
     before = left;
     own = events;
-    told = subst (λ (l : List ℕ). AreTold w l events left) (take_all i block past) read;
+    told = subst (λ (l : List ℕ). BytesGive w l events left) (take_all i block past) read;
     last = told;
     pause = λ is. gives;
     none = λ is. let e : true ≡ false = sym paused ∙ is in absurd (cc);
     all = refl;
   };
-  session = subst (λ (b : Bool). IsSession skin markdown s (events ++ told_events told) b new) (sym same) (pause_more skin markdown s events asks mid told new done step);
+  session = subst (λ (b : Bool). IsSession skin markdown s (events ++ listed told) b new) (sym same) (pause_more skin markdown s events asks mid told new done step);
 }

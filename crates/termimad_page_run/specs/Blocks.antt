@@ -1,7 +1,8 @@
 -- Blocks of keys: what they are read as, and what a session does of them.
 use Rattle.std.specs.Prelude.{◌≡◌, ◌≢◌, ℕ, ◌||◌, Bool, true, false, List, [], ◌∷◌, ◌++◌, Option, Some, None}
 use Rattle.mad_term.specs.declared.events.Event.{Event}
-use Rattle.mad_keys.specs.Decoding.{ByteGives, PauseGives}
+use Rattle.mad_keys.specs.Decoding.{BytesGive, PauseGives}
+use Rattle.mad_keys.specs.Readings.{listed}
 use Rattle.mad_layout.specs.declared.skin.MadSkin.{MadSkin}
 use Rattle.mad_pager.specs.Sessions.{State, IsEventStep, asks_size, turn_of}
 use Rattle.mad_pager.specs.declared.session.Turn.{Turn}
@@ -9,26 +10,15 @@ use Rattle.mad_pager.specs.declared.session.Turn.TheVariants.{Goes, Ends}
 
 -- ---- what is read
 
--- an event, if there is one
-abbrev pub told_events : Option Event → List Event
-told_events None = []
-told_events (Some event) = event ∷ []
-
--- what waited, the bytes after it, the events that these end, in order, and what waits then
-abbrev pub AreTold : List ℕ → List ℕ → List Event → List ℕ → Type 0
-AreTold w [] events left = (events ≡ []) × (left ≡ w)
-AreTold w (b ∷ bytes) events left =
-    (told : Option Event) × (mid : List ℕ) × (more : List Event) × ByteGives w b told mid × (events ≡ told_events told ++ more) × AreTold mid bytes more left
-
--- the same of a block, after which there is a pause, or none
+-- what waited, a block after which there is a pause, or none, the events that these end, in order, and what waits then
 pub record IsBlockTold (w block : List ℕ) (pauses : Bool) (events : List Event) (left : List ℕ) : Type 0 where
   pub before : List ℕ
   pub own : List Event
-  pub told : AreTold w block own before
+  pub told : BytesGive w block own before
   pub last : Option Event
   pub pause : pauses ≡ true → PauseGives before last left
   pub none : pauses ≡ false → (last ≡ None) × (left ≡ before)
-  pub all : events ≡ own ++ told_events last
+  pub all : events ≡ own ++ listed last
 
 -- ---- what is done
 
@@ -67,7 +57,7 @@ pub record IsEndedIn (skin : MadSkin) (markdown w block : List ℕ) (s : State) 
   pub events : List Event
   pub last : Event
   pub left : List ℕ
-  pub told : AreTold w front (events ++ last ∷ []) left
+  pub told : BytesGive w front (events ++ last ∷ []) left
   pub asks : Bool
   pub before : State
   pub session : IsSession skin markdown s events asks before

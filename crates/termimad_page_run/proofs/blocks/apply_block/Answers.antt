@@ -1,6 +1,7 @@
 use Rattle.std.proofs.Common.{◌≡◌, ◌+◌, [], ◌++◌, refl, sym, ap, ◌∙◌, true, false}
 use Rattle.mad_pager.specs.Sessions.{asks_size, ends, state_of}
-use Rattle.termimad_page_run.specs.Blocks.{told_events, turn_told}
+use Rattle.mad_keys.specs.Readings.{listed}
+use Rattle.termimad_page_run.specs.Blocks.{turn_told}
 use Rattle.termimad_page_run.proofs.BlockLemmas.{byte_read, session_more, step_along, same_text, ended, ends_is, goes_on, block_read, block_paused}
 use Rattle.termimad_page_run.proofs.blocks.apply_block.Goals as goal
 
@@ -12,7 +13,7 @@ loop-b-preserved c =
     let inv = c.loop-b.invariant in
     let goes : ends (turn_told c.byte-event.result (state_of c.loop-b.session)) ≡ false = ap ends (sym c.in_ok-turn.ensures.turn) ∙ (sym c.ends-ends.ensures ∙ c.if-ends.false) in
     record {
-      events = inv.events ++ told_events c.byte-event.result;
+      events = inv.events ++ listed c.byte-event.result;
       told = byte_read _ _ _ _ _ _ _ c.loop-b-test.true inv.told c.byte-event.ensures;
       session = session_more _ _ _ _ _ _ _ _ _ inv.session (step_along _ _ _ _ _ _ _ inv.text.skin inv.text.markdown c.in_ok-turn.ensures.step) (goes_on _ goes)
           (c.asks_size-asks.ensures ∙ ap asks_size c.in_ok-turn.ensures.turn);
