@@ -11,7 +11,7 @@ use Rattle.mad_columns.specs.Columns.{char_columns}
 use Rattle.mad_screen.specs.Glyph.{Glyph, Look}
 use Rattle.mad_screen.specs.Grid.{Grid, IsGrid, plain_pen, blank, empty_grid, is_tail}
 use Rattle.mad_screen.specs.Pictures.{same_look, row_cells}
-use Rattle.mad_frames.specs.Changes.{AddsCells}
+use Rattle.mad_frames.specs.Changes.{SameSize, RowsOf, AddsCells}
 use Rattle.mad_frames.specs.Mending.{begin_tails, begins_whole, space_in, mended_after, mended_row, mended_rows, mended}
 use Rattle.mad_frames.specs.Whole.{is_cell_text, is_writable, tails_of, are_whole_after, are_whole, IsWholeGrid}
 use Rattle.mad_frames.proofs.HalfwayLemmas.{row_length}
@@ -179,3 +179,16 @@ adds_mended r old new a b y n before after p q count =
 
 pub same_mended : {T E : Type 0} (r : Result T E) (old new a b : List Glyph) (before after : List ℕ) → a ≡ mended_row old → b ≡ mended_row new → OnOk r (a ≡ b → after ≡ before) → OnOk r (mended_row old ≡ mended_row new → after ≡ before)
 same_mended r old new a b before after p q = ok_as r (a ≡ b → after ≡ before) (mended_row old ≡ mended_row new → after ≡ before) (λ h e. h (p ∙ e ∙ sym q))
+
+-- rows of mended screens
+pub mended_rows_of : (old new : Grid) (y : ℕ) (a b : List Glyph) → SameSize old new → length old.cells ≡ old.height * old.width → length new.cells ≡ new.height * new.width → y < new.height → a ≡ row_cells old y → b ≡ row_cells new y → RowsOf (mended old) (mended new) y (mended_row a) (mended_row b)
+mended_rows_of old new y a b size full_old full below p q =
+    let place : old.height * old.width ≡ new.height * new.width = ap (λ h. h * old.width) size.height ∙ ap (λ w. new.height * w) size.width in
+    record {
+      size = record { width = size.width; height = size.height };
+      same = mended_full old full_old ∙ place ∙ sym (mended_full new full);
+      full = mended_full new full;
+      row = below;
+      old_row = ap mended_row p ∙ sym (mended_row_cells old y full_old (omega (arith, size.height)));
+      new_row = ap mended_row q ∙ sym (mended_row_cells new y full below);
+    }

@@ -19,13 +19,13 @@ loop-i-preserved c =
     let after : List Glyph = take (length row - (i + 1)) (drop (i + 1) row) in
     let cell : g ≡ get_or row i blank = get_or_read row i g (omega arith) c.index-row-i.is blank in
     elim c.if-tails-gt0.branch [
-      then-tails-gt0+in_ok-copied+in_ok-push w ↦
-        mended_now row done all c.if-tails-gt0.cells.items i (n - 1) c.if-tails-gt0.tails g (search rules) (search rules)
-        (mended_tail row done all i n g c.loop-i-test.true cell (search rules) c.loop-i.invariant)
+      | then-tails-gt0+in_ok-copied+in_ok-push w ↦
+          mended_now row done all c.if-tails-gt0.cells.items i (n - 1) c.if-tails-gt0.tails g (search rules) (search rules)
+          (mended_tail row done all i n g c.loop-i-test.true cell (search rules) c.loop-i.invariant)
       | else-tails-gt0+then-begins_whole+in_ok-copied-2+in_ok-push-2 w ↦
-        mended_now row done all c.if-tails-gt0.cells.items i (tails_of g.chars) c.if-tails-gt0.tails g (search rules) (search rules)
-        (mended_character row done all after i n (tails_of g.chars) g c.loop-i-test.true cell (take_rest row (i + 1)) (omega arith) refl (sym w.begins_whole.ensures ∙ w.if-begins_whole.true) c.loop-i.invariant)
+          mended_now row done all c.if-tails-gt0.cells.items i (tails_of g.chars) c.if-tails-gt0.tails g (search rules) (search rules)
+          (mended_character row done all after i n (tails_of g.chars) g c.loop-i-test.true cell (take_rest row (i + 1)) (omega arith) refl (sym w.begins_whole.ensures ∙ w.if-begins_whole.true) c.loop-i.invariant)
       | else-tails-gt0+else-begins_whole+in_ok-space_in+in_ok-push-3 w ↦
-        mended_now row done all c.if-tails-gt0.cells.items i n c.if-tails-gt0.tails (space_in g.pen) (search rules) (search rules)
-        (mended_half row done all after i n g (space_in g.pen) c.loop-i-test.true cell (take_rest row (i + 1)) (omega arith) refl (sym w.begins_whole.ensures ∙ w.if-begins_whole.false) c.loop-i.invariant)
+          mended_now row done all c.if-tails-gt0.cells.items i n c.if-tails-gt0.tails (space_in g.pen) (search rules) (search rules)
+          (mended_half row done all after i n g (space_in g.pen) c.loop-i-test.true cell (take_rest row (i + 1)) (omega arith) refl (sym w.begins_whole.ensures ∙ w.if-begins_whole.false) c.loop-i.invariant)
     ]
