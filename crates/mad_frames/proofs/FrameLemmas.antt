@@ -1,6 +1,6 @@
 -- What a present does to the bytes that a terminal has read.
 use Rattle.std.proofs.Common.{◌≡◌, ◌⊎◌, ⊎_elim, ℕ, zero, suc, ◌+◌, ◌-◌, ◌*◌, true, false, List, [], ◌∷◌, ◌++◌, length, take, drop, replicate, Option, Some, None, Result, Ok, Err, refl, ap, sym, ◌∙◌, subst, arith, lit<, append_assoc}
-use Rattle.std.specs.Prelude.{IfSome}
+use Rattle.std.specs.Prelude.{IfSome, IsErr}
 use Rattle.std.proofs.lemmas.Bool.{false≢true}
 use Rattle.std.proofs.lemmas.List.{append-nil, drop_all, take_all, take-append-drop, length-replicate}
 use Rattle.mad_term.specs.declared.commands.ClearType.TheVariants.{All}
@@ -14,11 +14,13 @@ use Rattle.mad_screen.proofs.CommandsRead.{command_read, sgr_read}
 use Rattle.mad_screen.proofs.Reading.{letter_screen}
 use Rattle.mad_screen.proofs.ReadingBack.{read_in_turn}
 use Rattle.mad_frames.specs.declared.errors.PresentError.{PresentError}
-use Rattle.mad_frames.specs.declared.errors.PresentError.TheVariants.{IO, Undefined, NotWhole, Memory}
+use Rattle.mad_frames.specs.declared.errors.PresentError.TheVariants.{IO, Undefined, Memory}
 use Rattle.mad_frames.specs.Changes.{SameSize, ShowsCells, LeadTo}
 use Rattle.mad_frames.specs.FrameLaws.{Step, IsDrawing, AreSteps, frame_after, taken_in}
 use Rattle.mad_frames.specs.Frames.{FrameState, IsInStep, MayShow, LeadsAll, KeepsInStep, IsSent, IsPresented, IsCut, IsKept, IsMessage, drawn_screen, Sends, IsRefused, Presents, unknown}
+use Rattle.mad_frames.specs.Mending.{mended}
 use Rattle.mad_frames.proofs.HalfwayLemmas.{over, no_bytes}
+use Rattle.mad_frames.proofs.MendLemmas.{empty_stays}
 
 -- what the device took, and what it has yet to take
 joined : (taken front rest unsent changes : List ℕ) → front ++ rest ≡ unsent ++ changes → (taken ++ front) ++ rest ≡ (taken ++ unsent) ++ changes
@@ -57,6 +59,11 @@ flush_sends old new before mid now bytes n (Ok t) sent all rest went flush =
 flush_sends old new before mid now bytes n (Err e) sent all rest went flush =
     record { front = take n bytes; sent = sent; went = flush ∙ ap failed (went ∙ ap (after before) (sym (take_all n bytes (omega arith)))) }
 
+-- or a part of it, and a fault
+pub cut_sends : {T E : Type 0} (old new : FrameState) (before now : Trace) (front : List ℕ) (r : Result T E) → IsErr r → IsSent old new front → now ≡ failed (after before front) → Sends old new before now r
+cut_sends old new before now front (Ok t) fault sent went = absurd (false≢true fault)
+cut_sends old new before now front (Err e) fault sent went = record { front = front; sent = sent; went = went }
+
 took_failed : (old new : Trace) (text : List ℕ) (P : List ℕ → Type 0) → new ≡ failed (after old text) → P text → TookWith old new P
 unfolding failed
 took_failed old new text P e h = subst (λ (t : Trace). TookWith old t P) (sym e) (took_with old (after old text) text P refl h)
@@ -76,7 +83,6 @@ kept_in_step old new before now h =
 refused_in_step : (old new : FrameState) (before now : Trace) (e : PresentError) → IsRefused old new before now e → TookWith before now (KeepsInStep old new)
 refused_in_step old new before now (IO e) h = cut_in_step old new before now h
 refused_in_step old new before now Undefined h = kept_in_step old new before now h.1
-refused_in_step old new before now NotWhole h = kept_in_step old new before now h.1
 refused_in_step old new before now Memory h = kept_in_step old new before now h
 
 -- and so does a present, whatever it answers
@@ -120,17 +126,23 @@ erased_shown f t may =
     }
 
 -- so the changes from an empty screen lead on
-pub cleared_leads : (f : FrameState) (new : Grid) (bytes all : List ℕ) → LeadTo (empty_grid f.base.width f.base.height) new bytes → all ≡ (sgr_bytes (0 ∷ []) ++ clear_bytes All) ++ bytes → LeadsAll f new all
+pub cleared_leads : (f : FrameState) (new : Grid) (bytes all : List ℕ) → LeadTo (mended (empty_grid f.base.width f.base.height)) (mended new) bytes → all ≡ (sgr_bytes (0 ∷ []) ++ clear_bytes All) ++ bytes → LeadsAll f new all
 cleared_leads f new bytes all leads e t may =
     let plain : Grid = record t { pen = plain_pen } in
     let empty : Grid = erased 0 (screen_end t) plain in
-    let s = leads empty (erased_shown f t may) in
+    let shows : ShowsCells (mended (empty_grid f.base.width f.base.height)) empty = subst (λ (g : Grid). ShowsCells g empty) (sym (empty_stays f.base.width f.base.height)) (erased_shown f t may) in
+    let s = leads empty shows in
     let reset : after_bytes t (sgr_bytes (0 ∷ [])) ≡ Some plain = sgr_read t (0 ∷ []) plain_pen (lit< tt, tt) refl in
-    let cleared : after_bytes t (sgr_bytes (0 ∷ []) ++ clear_bytes All) ≡ Some empty = read_in_turn t plain empty (sgr_bytes (0 ∷ [])) (clear_bytes All) reset (command_read plain empty (2 ∷ []) 74 (lit< tt, tt) letter_screen (lit< tt) refl) in (
+    let clear : after_bytes plain (clear_bytes All) ≡ Some empty = command_read plain empty (2 ∷ []) 74 (lit< tt, tt) letter_screen (lit< tt) refl in
+    let cleared : after_bytes t (sgr_bytes (0 ∷ []) ++ clear_bytes All) ≡ Some empty = read_in_turn t plain empty (sgr_bytes (0 ∷ [])) (clear_bytes All) reset clear in (
       s.0,
       ap (after_bytes t) e ∙ read_in_turn t empty s.0 (sgr_bytes (0 ∷ []) ++ clear_bytes All) bytes cleared s.1,
       s.2,
     )
+
+-- the changes from the screen that the terminal shows do so
+pub known_leads : (f : FrameState) (new : Grid) (bytes : List ℕ) → f.known ≡ true → LeadTo (mended f.base) (mended new) bytes → LeadsAll f new bytes
+known_leads f new bytes known leads t may = leads t (may.shows known)
 
 -- ---- many steps
 
@@ -149,7 +161,7 @@ drawing_in_step f s start taken d h =
       record {
         grid = h.2.grid;
         size = subst (λ (g : Grid). SameSize g h.0) (sym d.base) h.2.size;
-        shows = λ e. subst (λ (g : Grid). ShowsCells g h.0) (sym d.base) (h.2.shows (sym d.known ∙ e));
+        shows = λ e. subst (λ (g : Grid). ShowsCells (mended g) h.0) (sym d.base) (h.2.shows (sym d.known ∙ e));
       },
     )
 
@@ -159,7 +171,7 @@ steps_in_step f start taken (s ∷ ss) h are =
     let next : IsInStep s.frame start (taken ++ s.bytes) = ⊎_elim (λ (d : IsDrawing f s). drawing_in_step f s start taken d h) (λ (k : KeepsInStep f s.frame s.bytes). k start taken h) are.0 in
     subst (λ (l : List ℕ). IsInStep (frame_after s.frame ss) start l) (append_assoc taken s.bytes (taken_in ss)) (steps_in_step s.frame start (taken ++ s.bytes) ss next are.1)
 
-pub known_shown : (f : FrameState) (start : Grid) (taken : List ℕ) → IsInStep f start taken → f.known ≡ true → f.unsent ≡ [] → (t : Grid) × (after_bytes start taken ≡ Some t) × ShowsCells f.base t
+pub known_shown : (f : FrameState) (start : Grid) (taken : List ℕ) → IsInStep f start taken → f.known ≡ true → f.unsent ≡ [] → (t : Grid) × (after_bytes start taken ≡ Some t) × ShowsCells (mended f.base) t
 known_shown f start taken h known none = (
   h.0,
   ap (after_bytes start) (sym (ap (λ l. taken ++ l) none ∙ append-nil taken)) ∙ h.1,

@@ -1,6 +1,6 @@
 -- Screens whose halves are spaces are whole, and whole screens stay as they are.
-use Rattle.std.proofs.Common.{◌≡◌, ⊎_elim, ℕ, zero, suc, ◌+◌, ◌-◌, ◌*◌, ◌<◌, ◌≤◌, Bool, true, false, cond, ◌&&◌, nat_lt, List, [], ◌∷◌, ◌++◌, length, take, drop, replicate, Some, refl, ap, sym, ◌∙◌, subst, arith, length-append, length-drop}
-use Rattle.std.specs.Prelude.{unwrap_or}
+use Rattle.std.proofs.Common.{◌≡◌, ⊎_elim, ℕ, zero, suc, ◌+◌, ◌-◌, ◌*◌, ◌<◌, ◌≤◌, Bool, true, false, cond, ◌&&◌, nat_lt, List, [], ◌∷◌, ◌++◌, length, take, drop, replicate, Some, Result, Ok, Err, refl, ap, sym, ◌∙◌, subst, arith, length-append, length-drop}
+use Rattle.std.specs.Prelude.{OnOk}
 use Rattle.std.proofs.Math.Nat.{suc-mul}
 use Rattle.std.proofs.Math.Seq.{take-add}
 use Rattle.std.proofs.lemmas.Bool.{false≢true, cases_lt}
@@ -11,6 +11,7 @@ use Rattle.mad_columns.specs.Columns.{char_columns}
 use Rattle.mad_screen.specs.Glyph.{Glyph, Look}
 use Rattle.mad_screen.specs.Grid.{Grid, IsGrid, plain_pen, blank, empty_grid, is_tail}
 use Rattle.mad_screen.specs.Pictures.{same_look, row_cells}
+use Rattle.mad_frames.specs.Changes.{SameSize, RowsOf, AddsCells}
 use Rattle.mad_frames.specs.Mending.{begin_tails, begins_whole, space_in, mended_after, mended_row, mended_rows, mended}
 use Rattle.mad_frames.specs.Whole.{is_cell_text, is_writable, tails_of, are_whole_after, are_whole, IsWholeGrid}
 use Rattle.mad_frames.proofs.HalfwayLemmas.{row_length}
@@ -162,3 +163,32 @@ empty_whole width height y below =
 -- and so does an empty one
 pub empty_stays : (width height : ℕ) → mended (empty_grid width height) ≡ empty_grid width height
 empty_stays width height = whole_screen_stays (empty_grid width height) (length-replicate (height * width) blank) (empty_whole width height)
+
+-- ---- bytes of mended rows
+
+ok_as : {T E : Type 0} (r : Result T E) (P Q : Type 0) → (P → Q) → OnOk r P → OnOk r Q
+ok_as (Ok t) P Q f h = f h
+ok_as (Err e) P Q f h = tt
+
+-- bytes of the rows that two rows are mended to
+pub adds_mended : {T E : Type 0} (r : Result T E) (old new a b : List Glyph) (y n : ℕ) (before after : List ℕ) → a ≡ mended_row old → b ≡ mended_row new → n ≡ length new → OnOk r (AddsCells a b y (length b) before after) → OnOk r (AddsCells (mended_row old) (mended_row new) y n before after)
+adds_mended r old new a b y n before after p q count =
+    let columns : length b ≡ n = ap length q ∙ mended_length 0 new ∙ sym count in
+    ok_as r (AddsCells a b y (length b) before after) (AddsCells (mended_row old) (mended_row new) y n before after)
+    (λ h. subst (λ (l : List Glyph). AddsCells l (mended_row new) y n before after) p (subst (λ (l : List Glyph). AddsCells a l y n before after) q (subst (λ (k : ℕ). AddsCells a b y k before after) columns h)))
+
+pub same_mended : {T E : Type 0} (r : Result T E) (old new a b : List Glyph) (before after : List ℕ) → a ≡ mended_row old → b ≡ mended_row new → OnOk r (a ≡ b → after ≡ before) → OnOk r (mended_row old ≡ mended_row new → after ≡ before)
+same_mended r old new a b before after p q = ok_as r (a ≡ b → after ≡ before) (mended_row old ≡ mended_row new → after ≡ before) (λ h e. h (p ∙ e ∙ sym q))
+
+-- rows of mended screens
+pub mended_rows_of : (old new : Grid) (y : ℕ) (a b : List Glyph) → SameSize old new → length old.cells ≡ old.height * old.width → length new.cells ≡ new.height * new.width → y < new.height → a ≡ row_cells old y → b ≡ row_cells new y → RowsOf (mended old) (mended new) y (mended_row a) (mended_row b)
+mended_rows_of old new y a b size full_old full below p q =
+    let place : old.height * old.width ≡ new.height * new.width = ap (λ h. h * old.width) size.height ∙ ap (λ w. new.height * w) size.width in
+    record {
+      size = record { width = size.width; height = size.height };
+      same = mended_full old full_old ∙ place ∙ sym (mended_full new full);
+      full = mended_full new full;
+      row = below;
+      old_row = ap mended_row p ∙ sym (mended_row_cells old y full_old (omega (arith, size.height)));
+      new_row = ap mended_row q ∙ sym (mended_row_cells new y full below);
+    }

@@ -5,6 +5,8 @@ use Rattle.mad_screen.specs.Grid.{Grid, IsGrid}
 use Rattle.mad_screen.specs.Terminal.{after_bytes}
 use Rattle.mad_frames.specs.Changes.{SameSize, ShowsCells}
 use Rattle.mad_frames.specs.Frames.{FrameState, IsInStep, KeepsInStep}
+use Rattle.mad_frames.specs.Mending.{mended}
+use Rattle.mad_frames.specs.Whole.{IsWholeGrid}
 
 -- a step of a program: the bytes that the device took meanwhile, and the frame after it
 pub record Step : Type 0 where
@@ -33,8 +35,9 @@ abbrev pub taken_in : List Step → List ℕ
 taken_in = flat_map (λ s. s.bytes)
 
 -- A frame stays in step, whatever was done with it. Where it is known and all was taken, as after a present that answered Ok,
--- the terminal shows it.
+-- the terminal shows it: cell for cell where its characters are whole.
 pub record StaysInStep : Type 0 where
   pub begins : (f : FrameState) (start : Grid) → f.known ≡ false → f.unsent ≡ [] → IsGrid start → SameSize f.base start → IsInStep f start []
   pub stays : (f : FrameState) (start : Grid) (taken : List ℕ) (steps : List Step) → IsInStep f start taken → AreSteps f steps → IsInStep (frame_after f steps) start (taken ++ taken_in steps)
-  pub shown : (f : FrameState) (start : Grid) (taken : List ℕ) → IsInStep f start taken → f.known ≡ true → f.unsent ≡ [] → (t : Grid) × (after_bytes start taken ≡ Some t) × ShowsCells f.base t
+  pub shown : (f : FrameState) (start : Grid) (taken : List ℕ) → IsInStep f start taken → f.known ≡ true → f.unsent ≡ [] → (t : Grid) × (after_bytes start taken ≡ Some t) × ShowsCells (mended f.base) t
+  pub whole : (g : Grid) → IsGrid g → IsWholeGrid g → mended g ≡ g

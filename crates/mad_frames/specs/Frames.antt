@@ -4,9 +4,9 @@ use Rattle.mad_term.specs.Trace.{Trace, after, failed, flushed}
 use Rattle.mad_screen.specs.Grid.{Grid, IsGrid, empty_grid}
 use Rattle.mad_screen.specs.Terminal.{after_bytes}
 use Rattle.mad_frames.specs.declared.errors.PresentError.{PresentError}
-use Rattle.mad_frames.specs.declared.errors.PresentError.TheVariants.{IO, Undefined, NotWhole, Memory}
+use Rattle.mad_frames.specs.declared.errors.PresentError.TheVariants.{IO, Undefined, Memory}
 use Rattle.mad_frames.specs.Changes.{SameSize, ShowsCells}
-use Rattle.mad_frames.specs.Whole.{IsWholeGrid}
+use Rattle.mad_frames.specs.Mending.{mended}
 
 -- A frame: its screen as it was presented last, the bytes drawn since, and those that the device has yet to take of what was
 -- sent. It is known if the terminal shows that screen once it has read these. As a device a frame counts its own faults and
@@ -31,11 +31,11 @@ frame_trace f = record { bytes = Some f.drawn; faults = f.faults; flushes = f.fl
 abbrev pub drawn_screen : FrameState → Option Grid
 drawn_screen f = after_bytes f.base f.drawn
 
--- a terminal of the frame's size, which shows its screen if the frame is known
+-- a terminal of the frame's size, which shows its screen, each half of a wide character as a space, if the frame is known
 pub record MayShow (f : FrameState) (t : Grid) : Type 0 where
   pub grid : IsGrid t
   pub size : SameSize f.base t
-  pub shows : f.known ≡ true → ShowsCells f.base t
+  pub shows : f.known ≡ true → ShowsCells (mended f.base) t
 
 -- A terminal that was at `start` and has read `taken` shows the frame as it was last presented, once it has read what the
 -- device has yet to take. A frame that isn't known promises only that the bytes can be read.
@@ -44,11 +44,11 @@ IsInStep f start taken = (t : Grid) × (after_bytes start (taken ++ f.unsent) �
 
 -- bytes after which whatever terminal the frame may be shown by shows the new screen
 abbrev pub LeadsAll : FrameState → Grid → List ℕ → Type 0
-LeadsAll f new bytes = (t : Grid) → MayShow f t → (shown : Grid) × (after_bytes t bytes ≡ Some shown) × ShowsCells new shown
+LeadsAll f new bytes = (t : Grid) → MayShow f t → (shown : Grid) × (after_bytes t bytes ≡ Some shown) × ShowsCells (mended new) shown
 
 -- where the terminal shows the screen already, no bytes lead there
 abbrev pub AddsNothing : FrameState → Grid → List ℕ → Type 0
-AddsNothing f new bytes = f.known ≡ true → f.base.cells ≡ new.cells → bytes ≡ []
+AddsNothing f new bytes = f.known ≡ true → (mended f.base).cells ≡ (mended new).cells → bytes ≡ []
 
 -- a step keeps a frame in step, if the device takes these bytes meanwhile
 abbrev pub KeepsInStep : FrameState → FrameState → List ℕ → Type 0
@@ -60,13 +60,6 @@ pub record IsMessage (f : FrameState) (new : Grid) (bytes : List ℕ) : Type 0 w
   pub whole : bytes ≡ f.unsent ++ changes
   pub leads : LeadsAll f new changes
   pub quiet : AddsNothing f new changes
-
--- why there are no changes from one screen to another
-abbrev pub HasNoChanges : Grid → Grid → PresentError → Type 0
-HasNoChanges old new (IO e) = ⊥
-HasNoChanges old new Undefined = ⊥
-HasNoChanges old new NotWhole = ¬ (SameSize old new × IsWholeGrid new)
-HasNoChanges old new Memory = Unit {0}
 
 -- What was sent: the bytes that the device had yet to take, then the changes. A front of them went out, and the rest is left.
 pub record IsSent (old new : FrameState) (front : List ℕ) : Type 0 where
@@ -100,17 +93,10 @@ pub record IsKept (old new : FrameState) (before now : Trace) : Type 0 where
   pub frame : new ≡ old
   pub device : now ≡ before
 
--- the screen that is to be presented isn't whole characters
-pub record IsNotWhole (f : FrameState) : Type 0 where
-  pub screen : Grid
-  pub drawn : drawn_screen f ≡ Some screen
-  pub broken : HasNoChanges f.base screen NotWhole
-
 -- what a present does by which it is refused
 abbrev pub IsRefused : FrameState → FrameState → Trace → Trace → PresentError → Type 0
 IsRefused old new before now (IO e) = IsCut old new before now
 IsRefused old new before now Undefined = (drawn_screen old ≡ None) × IsKept old new before now
-IsRefused old new before now NotWhole = IsNotWhole old × IsKept old new before now
 IsRefused old new before now Memory = IsKept old new before now
 
 -- what a present does, whatever it answers

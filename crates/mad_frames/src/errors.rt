@@ -15,8 +15,6 @@ pub enum PresentError {
     IO(io::Error),
     /// The plain terminal can't read what was drawn.
     Undefined,
-    /// What was drawn leaves a half of a wide character, which no terminal shows.
-    NotWhole,
     /// A growth of a list or a text was refused.
     Memory,
 }
@@ -28,7 +26,6 @@ impl fmt::Display for PresentError {
         match self {
             PresentError::IO(e) => write!(f, "IO error: {e}"),
             PresentError::Undefined => write!(f, "not plain terminal output"),
-            PresentError::NotWhole => write!(f, "half of a wide character"),
             PresentError::Memory => write!(f, "want of memory"),
         }
     }

@@ -4,12 +4,11 @@ ghost use Rattle.std.specs.Prelude.{◌≡◌, ◌≤◌, ◌++◌, [], ◌∷�
 ghost use Rattle.mad_term.specs.declared.commands.ClearType.TheVariants.{All};
 ghost use Rattle.mad_term.specs.Commands.{clear_bytes, sgr_bytes};
 ghost use Rattle.mad_term.specs.Trace.{Trace, Puts, Flushes, TookWith};
-ghost use Rattle.mad_frames.specs.Changes.{SameSize, LeadTo};
-ghost use Rattle.mad_frames.specs.Whole.{IsWholeGrid};
-ghost use Rattle.mad_frames.specs.Frames.{new_frame, frame_trace, drawn_screen, unknown, LeadsAll, AddsNothing, HasNoChanges, IsMessage, KeepsInStep, Sends, Presents};
+ghost use Rattle.mad_frames.specs.Changes.{SameSize};
+ghost use Rattle.mad_frames.specs.Frames.{new_frame, frame_trace, drawn_screen, unknown, LeadsAll, AddsNothing, IsMessage, KeepsInStep, Sends, Presents};
 
 use crate::errors::PresentError;
-use crate::writing::changes;
+use crate::writing::mended_changes;
 use mad_screen::{NotPlain, Screen};
 use mad_term::{ClearType, Out, push_clear, put_counted};
 use std::alloc::{AllocError, Global};
@@ -57,18 +56,6 @@ fn clearing(alloc: Global) -> Result<String, AllocError>
     let mut bytes = String::from_str(alloc, "\x1b[0m")?;
     push_clear(&mut bytes, ClearType::All)?;
     Ok(bytes)
-}
-
-// The bytes from one screen to another, which has to be of whole characters.
-fn whole_changes(alloc: Global, old: &Screen, new: &Screen) -> Result<String, PresentError>
-    ensures leads { IfOk result (λ s. LeadTo old.now new.now (string_bytes s)) }
-    ensures same { IfOk result (λ s. old.now.cells ≡ new.now.cells → string_bytes s ≡ []) }
-    ensures err { IfErr result (HasNoChanges old.now new.now) }
-{
-    match changes(alloc, old, new)? {
-        Some(bytes) => Ok(bytes),
-        None => Err(PresentError::NotWhole),
-    }
 }
 
 impl Frame {
@@ -133,25 +120,25 @@ impl Frame {
     }
 
     // The bytes to a screen from what the terminal shows, or from whatever it shows.
-    fn changes_to(&self, alloc: Global, screen: &Screen) -> Result<String, PresentError>
+    fn changes_to(&self, alloc: Global, screen: &Screen) -> Result<String, AllocError>
+        requires size { SameSize self.now.base screen.now }
         ensures leads { IfOk result (λ s. LeadsAll self.now screen.now (string_bytes s)) }
         ensures quiet { IfOk result (λ s. AddsNothing self.now screen.now (string_bytes s)) }
-        ensures err { IfErr result (HasNoChanges self.now.base screen.now) }
     {
         if self.known {
-            return whole_changes(alloc, &self.base, screen);
+            return mended_changes(alloc, &self.base, screen);
         }
         let empty = Screen::new(alloc, self.base.width(), self.base.height())?;
-        let drawn = whole_changes(alloc, &empty, screen)?;
+        let drawn = mended_changes(alloc, &empty, screen)?;
         let mut bytes = clearing(alloc)?;
         bytes.push_str(drawn.as_str())?;
         Ok(bytes)
     }
 
     // What is to be sent to show a screen: what the device has yet to take, and the changes.
-    fn bytes_to(&self, alloc: Global, screen: &Screen) -> Result<Vec<u8>, PresentError>
-        ensures ok { IfOk result (λ bytes. IsMessage self.now screen.now bytes.items) }
-        ensures err { IfErr result (HasNoChanges self.now.base screen.now) }
+    fn bytes_to(&self, alloc: Global, screen: &Screen) -> Result<Vec<u8>, AllocError>
+        requires size { SameSize self.now.base screen.now }
+        ensures { IfOk result (λ bytes. IsMessage self.now screen.now bytes.items) }
     {
         let changes = self.changes_to(alloc, screen)?;
         let mut bytes = Vec::from_slice(alloc, &self.unsent)?;
@@ -186,16 +173,16 @@ impl Frame {
         Ok(())
     }
 
-    /// Shows what was drawn: sends what differs from the screen that was presented last, in one put sequence, and flushes. What the
-    /// device hadn't taken before comes first. The first present of a frame clears the terminal and sends all.
+    /// Shows what was drawn: sends what differs from the screen that was presented last, and flushes. What the device hadn't
+    /// taken before comes first, in the same put. The first present of a frame clears the terminal and sends all. Where
+    /// nothing is to be sent, there is no put, but a flush.
     ///
-    /// Equal screens send no byte, and one flush.
+    /// A half of a wide character is shown as a space in its pen, as terminals do.
     ///
     /// # Errors
     ///
-    /// - A fault of the device: the frame has then been presented, but the device hasn't taken all. The next present sends
-    ///   the rest.
-    /// - What was drawn is not plain terminal output, or leaves half a wide character; out of memory. Nothing is sent then, and
+    /// - `IO` for a fault of the device. The frame is presented then, and the next present sends the rest first.
+    /// - `Undefined` where the plain terminal can't read what was drawn, and `Memory` for out of memory. Nothing is sent, and
     ///   the frame is as it was.
     pub fn present<O: Out>(&mut self, alloc: Global, out: &mut O) -> Result<(), PresentError>
         ensures in_step { TookWith (O.seen out.old) (O.seen out.new) (KeepsInStep self.old self.new) }
@@ -208,7 +195,7 @@ impl Frame {
     ///
     /// # Errors
     ///
-    /// Those of [`Frame::present`]. After a refusal the next present clears the terminal.
+    /// Those of [`Frame::present`]. After `Undefined` or `Memory` the next present does what this one should have.
     pub fn redraw<O: Out>(&mut self, alloc: Global, out: &mut O) -> Result<(), PresentError>
         ensures in_step { TookWith (O.seen out.old) (O.seen out.new) (KeepsInStep self.old self.new) }
         ensures presents { Presents (unknown self.old) self.new (O.seen out.old) (O.seen out.new) result }
