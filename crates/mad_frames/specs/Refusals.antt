@@ -27,5 +27,4 @@ is_io _ = false
 abbrev pub IsErrorOf : PresentError → drawing.Error → Type 0
 IsErrorOf (IO e) r = r ≡ errors.IO e
 IsErrorOf Undefined r = is_io r ≡ true
-IsErrorOf NotWhole r = is_io r ≡ true
 IsErrorOf Memory r = r ≡ errors.Memory

@@ -70,9 +70,7 @@ impl From<PresentError> for Error {
     fn from(e: PresentError) -> Self {
         match e {
             PresentError::IO(e) => Error::IO(e),
-            PresentError::Undefined | PresentError::NotWhole => {
-                Error::IO(io::Error::from(io::ErrorKind::InvalidData))
-            }
+            PresentError::Undefined => Error::IO(io::Error::from(io::ErrorKind::InvalidData)),
             PresentError::Memory => Error::Memory,
         }
     }

@@ -30,7 +30,10 @@ fn parse_page(words: &[String]) -> Option<Call<'_>> {
     };
     Some(Call {
         file: file.as_str(),
-        screen: Some((parse_number(columns.as_str())?, parse_number(rows.as_str())?)),
+        screen: Some((
+            parse_number(columns.as_str())?,
+            parse_number(rows.as_str())?,
+        )),
         skin: skin_word(rest)?,
     })
 }
