@@ -4,8 +4,9 @@ use crate::screens::{bytes_of, push_pictures};
 use crate::words::{number, pair};
 use mad_frames::{Frame, PresentError};
 use mad_screen::{CutOut, Screen};
-use mad_term::{Out, put_all};
+use mad_term::{Error, Out, put_all};
 use std::alloc::{AllocError, Global};
+use test_devices::Writing;
 
 /// A frame of a width and a height, and its terminal, which is in the middle of some bytes where a device has failed.
 #[derive(Drop)]
@@ -13,6 +14,15 @@ struct Stage {
     frame: Frame,
     terminal: Screen,
     pending: Vec<u8>,
+}
+
+// A frame fails only where there is no memory.
+fn draw(alloc: Global, frame: &mut Frame, text: &str) -> Result<(), AllocError> {
+    let bytes = bytes_of(alloc, text)?;
+    if put_all(frame, &bytes).is_err() || frame.flush().is_err() {
+        return Err(AllocError);
+    }
+    Ok(())
 }
 
 impl Stage {
@@ -29,7 +39,7 @@ impl Stage {
     fn step(&mut self, alloc: Global, line: &str, answer: &mut String) -> Result<(), AllocError> {
         let (name, rest) = line.split_once(' ').unwrap_or((line, ""));
         match name {
-            "draw" => self.draw(alloc, rest, answer),
+            "draw" => draw(alloc, &mut self.frame, rest),
             "discard" => {
                 self.frame.discard();
                 Ok(())
@@ -47,14 +57,6 @@ impl Stage {
                 self.present(alloc, name, CutOut::new(alloc, 1000, room, false)?, answer)
             }
         }
-    }
-
-    fn draw(&mut self, alloc: Global, text: &str, answer: &mut String) -> Result<(), AllocError> {
-        let bytes = bytes_of(alloc, text)?;
-        if put_all(&mut self.frame, &bytes).is_err() || self.frame.flush().is_err() {
-            return answer.push_str("not drawn\n");
-        }
-        Ok(())
     }
 
     // Some bytes come to the terminal. It reads them once they end outside a sequence.
@@ -111,4 +113,33 @@ pub fn framed(alloc: Global, size: &str, text: &str) -> Result<String, AllocErro
     }
     push_pictures(&mut answer, &stage.terminal)?;
     Ok(answer)
+}
+
+/// Whether devices that fail get what they should of one present of all that the steps draw.
+pub fn tried(alloc: Global, size: &str, text: &str) -> Result<String, AllocError> {
+    test_devices::tried(alloc, &Presented { size, text })
+}
+
+// A present of all that steps draw.
+#[derive(Drop)]
+struct Presented<'a> {
+    size: &'a str,
+    text: &'a str,
+}
+
+impl Writing for Presented<'_> {
+    fn write(&self, alloc: Global, out: &mut CutOut) -> Result<(), Error> {
+        let (width, height) = pair(self.size);
+        let mut frame = Frame::new(alloc, width, height)?;
+        for line in self.text.split('\n') {
+            if let Some(text) = line.strip_prefix("draw ") {
+                draw(alloc, &mut frame, text)?;
+            }
+        }
+        match frame.present(alloc, out) {
+            Err(PresentError::IO(error)) => Err(Error::IO(error)),
+            Err(PresentError::Memory) => Err(Error::Memory),
+            _ => Ok(()),
+        }
+    }
 }

@@ -1,7 +1,7 @@
 //! What each call that writes in a style writes, and what it is refused by.
 
-use crate::devices;
 use crate::words::{number, style_of};
+use crate::{devices, frames};
 use mad_screen::CutOut;
 use mad_style::{CompoundStyle, LineStyle, StyledChar};
 use mad_term::{ClearType, Error};
@@ -101,6 +101,9 @@ fn is_too_long(text: &str, count: usize) -> bool {
 
 // Whether devices that fail get what they should of what a call writes.
 fn tried(alloc: Global, name: &str, rest: &str, text: &str) -> Result<String, AllocError> {
+    if name == "frame" {
+        return frames::tried(alloc, rest, text);
+    }
     let (first, words) = rest.split_once(' ').unwrap_or((rest, ""));
     let queued = Queued {
         name,

@@ -2,6 +2,7 @@
 
 use crate::bytes;
 use crate::words::style_of;
+use mad_frames::PresentError;
 use mad_parse::{
     ParseStyleTokenError, PushStyleTokens, StyleToken, parse_align, parse_attribute, parse_color,
     parse_compound_style, parse_line_style, parse_ordered_item_style, parse_style_token,
@@ -49,12 +50,9 @@ fn token(alloc: Global, text: &str) -> Result<String, AllocError> {
 
 // The texts of out of memory, of each kind of error.
 fn memory_texts(alloc: Global) -> Result<String, AllocError> {
-    let (error, style, screen) = (
-        Error::Memory,
-        ParseStyleTokenError::Memory,
-        NotPlain::Memory,
-    );
-    format!(in alloc; "{error}\n{style}\n{screen}")
+    let (error, style) = (Error::Memory, ParseStyleTokenError::Memory);
+    let (screen, frame) = (NotPlain::Memory, PresentError::Memory);
+    format!(in alloc; "{error}\n{style}\n{screen}\n{frame}")
 }
 
 fn refused(alloc: Global, error: ParseStyleTokenError) -> Result<String, AllocError> {
