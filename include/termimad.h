@@ -81,7 +81,7 @@ termimad_answer termimad_text(const char *text, size_t text_length, const char *
 
 /* The text as one line with its inline marks, and a newline: what `termimad-view inline` writes.
  *
- * A newline that ends the text goes first, with a carriage return before it.
+ * One newline at the end of the text is dropped before, with a carriage return before it.
  *
  *   termimad_inline("**done** in `3 s`", 17, "default", 7, buffer, sizeof buffer);
  */
