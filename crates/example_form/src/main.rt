@@ -1,53 +1,49 @@
-//! A form of two fields, driven by a script of events: after each step the screen is written as rows of text.
+//! A form of two fields and a button, driven by what a terminal sends: after each block of keys what has changed is sent to a terminal, whose
+//! screen is written as rows of text.
 //!
-//! 1. [`form`]: the fields, and which of them gets an event.
-//! 2. [`script`]: the events.
+//! 1. [`form`]: the fields and the button, and which of them gets an event.
+//! 2. [`script`]: the blocks of keys.
+//! 3. [`terminal`]: the terminal.
 #![tactic(auto)]
 
 mod form;
 mod script;
+mod terminal;
 
 use form::Form;
-use script::{Step, events_of};
-use std::alloc::{AllocError, Global};
-use std::io::{Error as IoError, ErrorKind};
-use termimad::screen::{NotPlain, Screen};
-use termimad::{CutOut, Error};
-
-// More bytes than the form takes.
-const ROOM: usize = 2000;
+use script::Step;
+use std::alloc::AllocError;
+use termimad::Error;
+use termimad::keys::Keys;
+use terminal::Terminal;
 
 fn main(rt: HostRuntime) -> Result<(), Error> {
     let alloc = rt.alloc();
     let mut form = Form::new(alloc)?;
+    let mut keys = Keys::new();
+    let mut terminal = Terminal::new(alloc)?;
     for step in &script::STEPS {
-        apply(alloc, &mut form, step)?;
-        let screen = screen_of(alloc, &form)?;
+        apply(&mut form, &mut keys, step)?;
+        let sent = terminal.show(alloc, &form)?;
+        let screen = terminal.screen();
         let looks = screen.looks()?;
         let caption = step.caption;
-        println!(rt; "{caption}\n{screen}{looks}")?;
+        println!(rt; "{caption}: {sent} bytes\n{screen}{looks}")?;
     }
     let (name, password) = form.texts()?;
     println!(rt; "name {name}, password {password}")?;
     Ok(())
 }
 
-// Applies the events of a step.
-fn apply(alloc: Global, form: &mut Form, step: &Step) -> Result<(), AllocError> {
-    for event in &events_of(alloc, step)? {
+// Applies the events of a block of keys, and of the pause after it.
+fn apply(form: &mut Form, keys: &mut Keys, step: &Step) -> Result<(), AllocError> {
+    for b in step.keys {
+        if let Some(event) = keys.byte(*b) {
+            form.apply(event)?;
+        }
+    }
+    if let Some(event) = keys.pause() {
         form.apply(event)?;
     }
     Ok(())
-}
-
-// What a screen shows of the form.
-fn screen_of(alloc: Global, form: &Form) -> Result<Screen, Error> {
-    let mut out = CutOut::new(alloc, ROOM, ROOM, false)?;
-    form.draw(alloc, &mut out)?;
-    let mut screen = Screen::new(alloc, 20, 4)?;
-    match screen.read_bytes(out.taken()) {
-        Ok(()) => Ok(screen),
-        Err(NotPlain::Memory) => Err(Error::Memory),
-        Err(NotPlain::Undefined) => Err(Error::IO(IoError::from(ErrorKind::InvalidData))),
-    }
 }

@@ -40,18 +40,12 @@ fn top_of(y: u16) -> u32
 #[derive(Clone, Copy)]
 pub struct Picture<'s> {
     screen: &'s Screen,
-    columns: u16,
-    rows: u16,
 }
 
 impl<'s> Picture<'s> {
-    /// The picture of a screen's first columns and rows.
-    pub fn new(screen: &'s Screen, columns: u16, rows: u16) -> Self {
-        Picture {
-            screen,
-            columns,
-            rows,
-        }
+    /// The picture of a screen.
+    pub fn new(screen: &'s Screen) -> Self {
+        Picture { screen }
     }
 
     // The pen of a cell, and whether its character takes two columns.
@@ -77,7 +71,7 @@ impl<'s> Picture<'s> {
     // The run that begins in this column.
     fn run_from(&self, start: u16, y: u16) -> Run<'s> {
         let mut end = start;
-        for x in start..self.columns {
+        for x in start..self.screen.width() {
             if x > start && self.begins_run(x, y) {
                 break;
             }
@@ -94,16 +88,19 @@ impl<'s> Picture<'s> {
 
 impl fmt::Display for Picture<'_> {
     fn fmt<W: fmt::Write>(&self, f: &mut fmt::Formatter<W>) -> fmt::Result {
-        let (width, height) = (left_of(self.columns) + MARGIN, top_of(self.rows) + MARGIN);
+        let (width, height) = (
+            left_of(self.screen.width()) + MARGIN,
+            top_of(self.screen.height()) + MARGIN,
+        );
         write!(
             f,
             "<svg xmlns=\"http://www.w3.org/2000/svg\" width=\"{width}\" height=\"{height}\">\n<desc>\n"
         )?;
-        for y in 0..self.rows {
+        for y in 0..self.screen.height() {
             let row = Run {
                 screen: self.screen,
                 start: 0,
-                end: self.columns,
+                end: self.screen.width(),
                 y,
             };
             write!(f, "{row}\n")?;
@@ -116,8 +113,8 @@ impl fmt::Display for Picture<'_> {
             f,
             "<g font-family=\"monospace\" font-size=\"15\" xml:space=\"preserve\">\n"
         )?;
-        for y in 0..self.rows {
-            for x in 0..self.columns {
+        for y in 0..self.screen.height() {
+            for x in 0..self.screen.width() {
                 if self.begins_run(x, y) {
                     let run = Shapes(self.run_from(x, y));
                     write!(f, "{run}")?;

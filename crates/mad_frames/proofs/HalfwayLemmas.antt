@@ -16,9 +16,9 @@ use Rattle.mad_screen.proofs.PaintingLemmas.{painted_is_grid}
 use Rattle.mad_screen.proofs.Paints.{read_leads}
 use Rattle.mad_screen.proofs.Reading.{nothing_leads}
 use Rattle.mad_screen.proofs.ReadingBack.{read_in_turn}
-use Rattle.mad_frames.specs.Changes.{SameSize, ShowsCells, LeadTo, halfway, AddsPaint}
+use Rattle.mad_frames.specs.Changes.{SameSize, ShowsCells, LeadTo, halfway, RowsOf, AddsCells, AddsPaint}
 
-over : (a b cs : List Glyph) → length cs ≤ length b → put_list (a ++ b) (length a) cs ≡ a ++ (cs ++ drop (length cs) b)
+pub over : (a b cs : List Glyph) → length cs ≤ length b → put_list (a ++ b) (length a) cs ≡ a ++ (cs ++ drop (length cs) b)
 over a b [] h = refl
 over a [] (c ∷ cs) h = absurd (omega arith)
 over a (d ∷ b) (c ∷ cs) h =
@@ -123,7 +123,7 @@ row_part g y x n fits =
     take_front (suc n) (suc m) [] h = refl
     take_front (suc n) (suc m) (g ∷ l) h = ap (λ (r : List Glyph). g ∷ r) (take_front n m l (omega arith))
 
-no_bytes : (t : Grid) → after_bytes t [] ≡ Some t
+pub no_bytes : (t : Grid) → after_bytes t [] ≡ Some t
 no_bytes t = read_leads t t [] IsUtf8-nil (subst (λ (cs : List ℕ). Leads (resting t) cs (resting t)) (sym chars-nil) (nothing_leads (resting t)))
 
 -- at first nothing has been written
@@ -189,3 +189,31 @@ written_leads old new y s e b bytes moved all size same full row b_is some withi
 pub same_rows : (old new : Grid) (y : ℕ) → SameSize old new → old.cells ≡ new.cells → row_cells old y ≡ row_cells new y
 same_rows old new y size cells =
     ap (λ (v : ℕ). take v (drop (y * v) old.cells)) size.width ∙ ap (λ (l : List Glyph). take new.width (drop (y * new.width) l)) cells
+
+-- ---- rows of whichever screens
+
+-- as many cells as columns
+row_columns : (old new : Grid) (y : ℕ) (a b : List Glyph) → RowsOf old new y a b → length b ≡ new.width
+row_columns old new y a b r = ap length r.new_row ∙ row_length new.cells y new.width new.height r.row r.full
+
+-- before a row
+pub cells_none : (a b : List Glyph) (y : ℕ) (before : List ℕ) → AddsCells a b y 0 before before
+cells_none a b y before old new r leads =
+    let place : y * new.width ≡ y * new.width + 0 = omega arith in
+    subst (λ (n : ℕ). LeadTo old (halfway old new n) before) place leads
+
+-- up to a column the row has not changed
+pub cells_same : (a b : List Glyph) (y x s : ℕ) (before bytes : List ℕ) → x ≤ s → s ≤ length b → ((i : ℕ) → x ≤ i → i < s → get_or a i blank ≡ get_or b i blank) → AddsCells a b y x before bytes → AddsCells a b y s before bytes
+cells_same a b y x s before bytes after within h adds old new r leads =
+    gap_leads old new y x s a b bytes r.size r.same r.full r.row r.old_row r.new_row after (omega (arith, row_columns old new y a b r)) h (adds old new r leads)
+
+-- up to a column the new cells are written
+pub cells_written : (a b : List Glyph) (y s e : ℕ) (before bytes moved all : List ℕ) → s < e → e ≤ length b → s < 2 ^ 16 → y < 2 ^ 16 → moved ≡ bytes ++ move_to_bytes s y → AddsPaint moved (take (e - s) (drop s b)) all → AddsCells a b y s before bytes → AddsCells a b y e before all
+cells_written a b y s e before bytes moved all some within small_x small_y is paints adds old new r leads =
+    written_leads old new y s e b bytes moved all r.size r.same r.full r.row r.new_row some (omega (arith, row_columns old new y a b r)) small_x small_y is paints (adds old new r leads)
+
+-- the whole row
+pub row_done : (old new : Grid) (y n : ℕ) (a b : List Glyph) (before after : List ℕ) → RowsOf old new y a b → n ≡ length b → AddsCells a b y n before after → LeadTo old (halfway old new (y * new.width)) before → LeadTo old (halfway old new ((y + 1) * new.width)) after
+row_done old new y n a b before after r count adds leads =
+    let place : y * new.width + n ≡ (y + 1) * new.width = ap (λ (k : ℕ). y * new.width + k) (count ∙ row_columns old new y a b r) ∙ next_row y new.width in
+    subst (λ (k : ℕ). LeadTo old (halfway old new k) after) place (adds old new r leads)

@@ -1,2 +1,6 @@
 pub mod Changes
+pub mod FrameLaws
+pub mod Frames
+pub mod Mending
+pub mod Refusals
 pub mod Whole

@@ -3,14 +3,23 @@
 //! In the order of the work:
 //!
 //! 1. [`whole`]: screens of whole characters, which bytes can lead to.
-//! 2. [`runs`]: where a row has changed.
-//! 3. [`pieces`]: cells written as pieces of styled text.
-//! 4. [`writing`]: the bytes from one screen to another.
+//! 2. [`mending`]: rows whose halves of wide characters are spaces.
+//! 3. [`runs`]: where a row has changed.
+//! 4. [`pieces`]: cells written as pieces of styled text.
+//! 5. [`writing`]: the bytes from one screen to another.
+//! 6. [`errors`], [`frame`]: screens that are drawn into and presented.
+//! 7. [`laws`]: what is true of a frame, whatever is done with it.
 #![tactic(auto)]
 
+mod errors;
+mod frame;
+pub mod laws;
+mod mending;
 mod pieces;
 mod runs;
 mod whole;
 mod writing;
 
+pub use errors::PresentError;
+pub use frame::Frame;
 pub use writing::changes;

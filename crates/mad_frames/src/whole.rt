@@ -23,8 +23,8 @@ fn is_kept(color: Option<Color>) -> bool
     }
 }
 
-// Whether one piece can write the pen.
-fn is_writable(pen: Pen) -> bool
+/// Whether one piece can write the pen.
+pub(crate) fn is_writable(pen: Pen) -> bool
     ensures { result ≡ is_writable (look_of pen) }
 {
     is_kept(pen.fg) && is_kept(pen.bg) && is_kept(pen.underline) && !pen.codes.has(Attribute::Reset)
@@ -54,8 +54,8 @@ fn is_cell_text(chars: &[char]) -> bool
     }
 }
 
-// The further columns of a cell's first character.
-fn tails_of(chars: &[char]) -> usize
+/// The further columns of a cell's first character.
+pub(crate) fn tails_of(chars: &[char]) -> usize
     ensures { result ≡ tails_of chars.now }
 {
     match chars {
@@ -64,22 +64,22 @@ fn tails_of(chars: &[char]) -> usize
     }
 }
 
-// Whether a cell begins a character that can be written.
-fn begins_character(cell: &Cell) -> bool
+/// Whether a cell begins a character that can be written.
+pub(crate) fn begins_character(cell: &Cell) -> bool
     ensures { result ≡ (is_cell_text cell.now.chars && is_writable cell.now.pen) }
 {
     is_cell_text(&cell.chars) && is_writable(cell.pen)
 }
 
-// Whether a cell is a tail in a pen.
-fn is_tail_in(cell: &Cell, pen: Pen) -> bool
+/// Whether a cell is a tail in a pen.
+pub(crate) fn is_tail_in(cell: &Cell, pen: Pen) -> bool
     ensures { result ≡ (is_tail cell.now && same_look cell.now.pen (look_of pen)) }
 {
     cell.is_tail() && same_pen(cell.pen, pen)
 }
 
-// Whether cells are whole characters.
-fn are_whole(cells: &[Cell]) -> bool
+/// Whether cells are whole characters.
+pub(crate) fn are_whole(cells: &[Cell]) -> bool
     ensures { result ≡ are_whole cells.now }
 {
     let mut tails = 0;

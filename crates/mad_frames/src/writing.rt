@@ -1,14 +1,15 @@
 //! The bytes from one screen to another.
 
-ghost use Rattle.std.specs.Prelude.{◌≡◌, ◌<◌, ◌+◌, ◌*◌, ◌↔◌, [], None, true, IfOk, IfSome, OnOk, length, string_bytes};
-ghost use Rattle.mad_screen.specs.Pictures.{row_cells};
-ghost use Rattle.mad_frames.specs.Changes.{SameSize, LeadTo, halfway};
+ghost use Rattle.std.specs.Prelude.{◌≡◌, ◌<◌, ◌^◌, ◌↔◌, [], None, true, IfOk, IfSome, OnOk, length, string_bytes};
+ghost use Rattle.mad_frames.specs.Changes.{SameSize, LeadTo, AddsCells};
+ghost use Rattle.mad_frames.specs.Mending.{mended_row, mended};
 ghost use Rattle.mad_frames.specs.Whole.{are_whole, IsWholeGrid};
 
+use crate::mending::mended_row;
 use crate::pieces::push_cells;
 use crate::runs::{change_end, change_start};
-use crate::whole::is_whole;
-use mad_screen::Screen;
+use crate::whole::{are_whole, is_whole};
+use mad_screen::{Cell, Screen};
 use mad_term::push_move;
 use std::alloc::{AllocError, Global};
 
@@ -16,32 +17,48 @@ use std::alloc::{AllocError, Global};
 fn push_row(
     alloc: Global,
     out: &mut String,
-    old: &Screen,
-    new: &Screen,
+    old: &[Cell],
+    new: &[Cell],
     y: u16,
 ) -> Result<(), AllocError>
-    requires size { SameSize old.now new.now }
-    requires full { length old.now.cells ≡ length new.now.cells }
-    requires row { y < new.now.height }
-    requires whole { are_whole (row_cells new.now y) ≡ true }
-    requires before { LeadTo old.now (halfway old.now new.now (y * new.now.width)) (string_bytes out.old) }
-    ensures leads { OnOk result (LeadTo old.now (halfway old.now new.now ((y + 1) * new.now.width)) (string_bytes out.new)) }
-    ensures same { OnOk result (old.now.cells ≡ new.now.cells → string_bytes out.new ≡ string_bytes out.old) }
+    requires same_length { length old.now ≡ length new.now }
+    requires columns { length new.now < 2 ^ 16 }
+    requires whole { are_whole new.now ≡ true }
+    ensures leads { OnOk result (AddsCells old.now new.now y (length new.now) (string_bytes out.old) (string_bytes out.new)) }
+    ensures same { OnOk result (old.now ≡ new.now → string_bytes out.new ≡ string_bytes out.old) }
 {
-    let width = usize::from(new.width());
-    let old_row = old.row(y);
-    let new_row = new.row(y);
     let mut x = 0;
-    while x < width {
-        let start = change_start(old_row, new_row, x);
+    while x < new.len() {
+        let start = change_start(old, new, x);
         x = start;
-        if start < width {
-            x = change_end(old_row, new_row, start, y);
+        if start < new.len() {
+            x = change_end(old, new, start, y);
             push_move(out, start as u16, y)?;
-            push_cells(alloc, out, &new_row[start..x])?;
+            push_cells(alloc, out, &new[start..x])?;
         }
     }
     Ok(())
+}
+
+// The same of rows whose halves are spaces.
+fn push_mended_row(
+    alloc: Global,
+    out: &mut String,
+    old: &[Cell],
+    new: &[Cell],
+    y: u16,
+) -> Result<(), AllocError>
+    requires same_length { length old.now ≡ length new.now }
+    requires columns { length new.now < 2 ^ 16 }
+    ensures leads { OnOk result (AddsCells (mended_row old.now) (mended_row new.now) y (length new.now) (string_bytes out.old) (string_bytes out.new)) }
+    ensures same { OnOk result (mended_row old.now ≡ mended_row new.now → string_bytes out.new ≡ string_bytes out.old) }
+{
+    if are_whole(old) && are_whole(new) {
+        return push_row(alloc, out, old, new, y);
+    }
+    let old = mended_row(alloc, old)?;
+    let new = mended_row(alloc, new)?;
+    push_row(alloc, out, &old, &new, y)
 }
 
 /// The bytes that lead a plain terminal from the screen `old` to the screen `new`: its cells, with their pens. The terminal
@@ -67,7 +84,26 @@ pub fn changes(alloc: Global, old: &Screen, new: &Screen) -> Result<Option<Strin
     }
     let mut out = String::new(alloc);
     for y in 0..new.height() {
-        push_row(alloc, &mut out, old, new, y)?;
+        push_row(alloc, &mut out, old.row(y), new.row(y), y)?;
     }
     Ok(Some(out))
+}
+
+/// The same of screens whose halves of wide characters are spaces, as terminals show them.
+pub(crate) fn mended_changes(
+    alloc: Global,
+    old: &Screen,
+    new: &Screen,
+) -> Result<String, AllocError>
+    requires size { SameSize old.now new.now }
+    ensures leads { IfOk result (λ s. LeadTo (mended old.now) (mended new.now) (string_bytes s)) }
+    ensures same { IfOk result (λ s. (mended old.now).cells ≡ (mended new.now).cells → string_bytes s ≡ []) }
+{
+    let is_one_width = old.width() == new.width();
+    prove!(is_one_width);
+    let mut out = String::new(alloc);
+    for y in 0..new.height() {
+        push_mended_row(alloc, &mut out, old.row(y), new.row(y), y)?;
+    }
+    Ok(out)
 }

@@ -63,7 +63,7 @@ numbers_some f bytes front letter ns e h = last_of f bytes front letter e ∙ ap
 
 -- ---- the event of bytes is one that they are
 
-pub split : {P : Type 0} (t : Bool) (x y : Option Event) (e : Event) → (t ≡ true → x ≡ Some e → P) → (t ≡ false → y ≡ Some e → P) → cond t x y ≡ Some e → P
+pub split : {A P : Type 0} (t : Bool) (x y : Option A) (e : A) → (t ≡ true → x ≡ Some e → P) → (t ≡ false → y ≡ Some e → P) → cond t x y ≡ Some e → P
 split true x y e p q h = p refl h
 split false x y e p q h = q refl h
 

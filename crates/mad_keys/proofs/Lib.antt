@@ -3,7 +3,11 @@ pub mod CharLemmas
 pub mod CutLemmas
 pub mod DecoderLemmas
 pub mod EventLemmas
+pub mod FormLemmas
+pub mod HeldLemmas
 pub mod KeptLemmas
 pub mod NumberLemmas
+pub mod PlainFoundLemmas
+pub mod PlainLemmas
 pub mod ReadingLemmas
 pub mod ShortLemmas

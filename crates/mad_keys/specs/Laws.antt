@@ -1,5 +1,5 @@
 -- What follows from the definitions.
-use Rattle.std.specs.Prelude.{◌≡◌, ◌≢◌, ℕ, ◌≤◌, List, [], ◌∷◌, ◌++◌, length, Option}
+use Rattle.std.specs.Prelude.{◌≡◌, ◌≢◌, ℕ, ◌≤◌, List, [], ◌∷◌, ◌++◌, length, Option, MatchOption}
 use Rattle.mad_term.specs.declared.events.Event.{Event}
 use Rattle.mad_keys.specs.Steps.{step_of}
 use Rattle.mad_keys.specs.EventBytes.{IsEventBytes}
@@ -56,3 +56,8 @@ CutsChangeNothing = (w first second : List ℕ) (events others : List Event) (be
 -- where nothing waits, the bytes of an event, alone in a block, are read as this event, and nothing waits then
 abbrev pub EventsAreRead : Type 0
 EventsAreRead = (bytes : List ℕ) (e : Event) → IsEventBytes e bytes → IsBlock [] bytes (e ∷ []) []
+
+-- bytes of an event, which are read as it and as nothing else where nothing waits; or none, where no bytes at all are the event
+abbrev pub IsWritten : Event → Option (List ℕ) → Type 0
+IsWritten event written =
+    MatchOption written ((bytes : List ℕ) → ¬ IsEventBytes event bytes) (λ bytes. IsEventBytes event bytes × IsBlock [] bytes (event ∷ []) [])

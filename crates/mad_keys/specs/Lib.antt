@@ -6,4 +6,6 @@ pub mod EventBytes
 pub mod Meanings
 pub mod Readings
 pub mod Decoding
+pub mod PlainBytes
+pub mod Forms
 pub mod Laws

@@ -1,8 +1,9 @@
 //! The keys of characters, and the modifiers held with a key.
 
-ghost use Rattle.std.specs.Prelude.{◌≡◌, ◌<◌};
+ghost use Rattle.std.specs.Prelude.{◌≡◌, ◌<◌, IfSome};
 ghost use Rattle.mad_keys.specs.Keys.{held, key_with, char_key};
 ghost use Rattle.mad_keys.specs.Meanings.{char_at};
+ghost use Rattle.mad_keys.specs.PlainBytes.{number_of};
 
 use mad_term::{KeyCode, KeyEvent, KeyModifiers};
 use std::str;
@@ -22,6 +23,19 @@ pub(crate) fn held(number: u8) -> KeyModifiers
         6 => KeyModifiers::ALT | KeyModifiers::CONTROL,
         _ => KeyModifiers::SHIFT | KeyModifiers::ALT | KeyModifiers::CONTROL,
     }
+}
+
+/// The number of modifiers, if they are no others than Shift, Control and Alt.
+pub(crate) fn number_of(modifiers: KeyModifiers) -> Option<u8>
+    ensures bound { IfSome result (λ number. number < 8) }
+    ensures is { result ≡ number_of modifiers }
+{
+    for number in 0..8 {
+        if modifiers == held(number) {
+            return Some(number);
+        }
+    }
+    None
 }
 
 /// A key with the modifiers of a number.

@@ -1,6 +1,7 @@
 //! The bytes of a block.
 
 use std::alloc::{AllocError, Global};
+use std::str;
 
 /// The bytes of a line: its characters, and those that `\` and two digits to base 16 are.
 pub fn bytes_of(alloc: Global, line: &str) -> Result<Vec<u8>, AllocError> {
@@ -16,4 +17,17 @@ pub fn bytes_of(alloc: Global, line: &str) -> Result<Vec<u8>, AllocError> {
         bytes.extend_from_slice(text.as_bytes())?;
     }
     Ok(bytes)
+}
+
+/// Appends the bytes of a block as such a line, but ESC as it is.
+pub fn push_line(answer: &mut String, block: &[u8]) -> Result<(), AllocError> {
+    for c in str::from_utf8(block).unwrap_or("no text").chars() {
+        if c.is_ascii_control() && c != '\u{1b}' {
+            let code = c as u32;
+            write!(answer, "\\{code:02x}")?;
+        } else {
+            answer.push(c)?;
+        }
+    }
+    answer.push('\n')
 }

@@ -3,19 +3,21 @@
 //! The rows are in the files of `data/`. Each line of a row's text is a block, with a pause after it. What can't be typed is `\` and two digits to base 16.
 //!
 //! 1. [`blocks`]: the bytes of a block.
-//! 2. [`events`]: an event as a word.
+//! 2. [`events`], [`words`]: an event as a word, and the event of a word.
 #![tactic(auto)]
 
 mod blocks;
 mod events;
+mod words;
 
-use blocks::bytes_of;
+use blocks::{bytes_of, push_line};
 use events::push_event;
-use mad_keys::Keys;
+use mad_keys::{Keys, event_bytes};
 use mad_term::Event;
 use std::alloc::{AllocError, Global};
 use std::io;
 use test_rows::Calls;
+use words::event_of;
 
 struct KeyCalls;
 
@@ -24,6 +26,7 @@ impl Calls for KeyCalls {
         let mut answer = String::new(alloc);
         match call.split_once(' ') {
             Some(("repeated", count)) => repeated(&mut answer, count, text)?,
+            _ if call == "write" => written(&mut answer, text)?,
             _ => read(&mut answer, text)?,
         }
         Ok(answer)
@@ -62,6 +65,17 @@ fn push_events(answer: &mut String, events: &[Event]) -> Result<(), AllocError> 
         push_event(answer, event)?;
     }
     answer.push('\n')
+}
+
+// The bytes of events: a line for each of them.
+fn written(answer: &mut String, text: &str) -> Result<(), AllocError> {
+    for line in text.lines() {
+        match event_bytes(*answer.allocator(), &event_of(line))? {
+            Some(bytes) => push_line(answer, &bytes)?,
+            None => answer.push_str("none\n")?,
+        }
+    }
+    Ok(())
 }
 
 // How many events one block is that has its second line `count` times, between the first and the third, and the last of them.

@@ -7,11 +7,13 @@
 //! 3. [`bytes`]: what a command, a piece and a repeated text are.
 //! 4. [`queued`]: what each writing call writes. [`devices`]: devices that fail, and those of the standard library.
 //! 5. [`screens`]: what a screen shows of bytes, and what leads from one screen to another.
-//! 6. [`tables`]: margins, indents and borders.
+//! 6. [`frames`]: what a frame sends.
+//! 7. [`tables`]: margins, indents and borders.
 #![tactic(auto)]
 
 mod bytes;
 mod devices;
+mod frames;
 mod queued;
 mod screens;
 mod tables;
@@ -30,6 +32,7 @@ impl Calls for TerminalCalls {
         match name {
             "screen" => screens::screen(alloc, rest, text, true),
             "changes" => screens::changed(alloc, rest, text),
+            "frame" => frames::framed(alloc, rest, text),
             "cursor" => screens::screen(alloc, rest, text, false),
             "margins" => tables::margins(alloc, rest),
             "written_margins" => tables::written_margins(alloc, rest),

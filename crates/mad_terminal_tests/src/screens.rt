@@ -84,8 +84,8 @@ pub fn changed(alloc: Global, size: &str, text: &str) -> Result<String, AllocErr
     Ok(answer)
 }
 
-// The bytes of a text in which `<ff>` is the byte of these hex digits.
-fn bytes_of(alloc: Global, text: &str) -> Result<Vec<u8>, AllocError> {
+/// The bytes of a text in which `<ff>` is the byte of these hex digits.
+pub fn bytes_of(alloc: Global, text: &str) -> Result<Vec<u8>, AllocError> {
     let mut bytes = Vec::new(alloc);
     for part in text.split('<') {
         let (digits, rest) = part.split_once('>').unwrap_or(("", part));
@@ -99,7 +99,8 @@ fn bytes_of(alloc: Global, text: &str) -> Result<Vec<u8>, AllocError> {
 
 const LETTERS: &str = "abcdefghijklmnopqrstuvwxyz";
 
-fn push_pictures(answer: &mut String, screen: &Screen) -> Result<(), AllocError> {
+/// Appends what a screen shows, and its looks where they aren't all plain.
+pub fn push_pictures(answer: &mut String, screen: &Screen) -> Result<(), AllocError> {
     write!(answer, "{screen}")?;
     let looks = screen.looks()?;
     if looks.pens().is_empty() {

@@ -200,3 +200,20 @@ pub use Rattle.mad_answers.specs.Replies
 pub use Rattle.mad_ask.specs.Asking
 pub use Rattle.mad_ask.specs.QuestionTexts
 pub use Rattle.mad_ask.specs.Questions
+pub use Rattle.mad_keys.specs.Decoding as KeyDecoding
+pub use Rattle.mad_keys.specs.Digits as KeyDigits
+pub use Rattle.mad_keys.specs.EventBytes
+pub use Rattle.mad_keys.specs.Forms as KeyForms
+pub use Rattle.mad_keys.specs.Keys as KeyCodes
+pub use Rattle.mad_keys.specs.Laws as KeyLaws
+pub use Rattle.mad_keys.specs.Meanings as KeyMeanings
+pub use Rattle.mad_keys.specs.PlainBytes as PlainEventBytes
+pub use Rattle.mad_keys.specs.Readings as KeyReadings
+pub use Rattle.mad_keys.specs.Sequences as KeySequences
+pub use Rattle.mad_keys.specs.Steps as KeySteps
+pub use Rattle.mad_frames.specs.Changes as FrameChanges
+pub use Rattle.mad_frames.specs.FrameLaws
+pub use Rattle.mad_frames.specs.Frames
+pub use Rattle.mad_frames.specs.Mending as MendedScreens
+pub use Rattle.mad_frames.specs.Refusals as PresentRefusals
+pub use Rattle.mad_frames.specs.Whole as WholeScreens

@@ -1,7 +1,7 @@
 //! Markdown for terminals: the names that a program needs, from the crates that have them.
 //!
 //! Most names are at the top. What a text is, what a terminal takes and shows, and each other subject has a module of its own, with more
-//! names and with laws: [`md`], [`term`], [`screen`], [`draw`], [`wrap`], [`layout`], [`widths`], [`parse`], [`edit`], [`field`], [`list`] and [`ask`].
+//! names and with laws: [`md`], [`term`], [`keys`], [`screen`], [`frames`], [`draw`], [`wrap`], [`layout`], [`widths`], [`parse`], [`edit`], [`field`], [`list`] and [`ask`].
 #![tactic(auto)]
 
 /// What a terminal takes, and what it shows.
@@ -122,10 +122,16 @@ pub use mad_fit::token_iter;
 pub use mad_fit::tokenize;
 pub use mad_format::Fitter;
 pub use mad_format::wrap_text;
+pub use mad_frames as frames;
+pub use mad_frames::Frame;
+pub use mad_frames::PresentError;
 pub use mad_json::ScrollBarStyleDef;
 pub use mad_json::SkinError;
 pub use mad_json::skin_from_value;
 pub use mad_json::skin_to_value;
+pub use mad_keys as keys;
+pub use mad_keys::Keys;
+pub use mad_keys::event_bytes;
 pub use mad_layout::CodeBlock;
 pub use mad_layout::DisplayableLine;
 pub use mad_layout::FmtComposite;

@@ -1,5 +1,5 @@
 -- The steps of a call: why it is refused, and what its inputs are.
-use Rattle.std.proofs.Common.{◌≡◌, ◌≢◌, ◌≤◌, ◌<◌, ℕ, List, [], ◌∷◌, length, Option, Some, None, MatchResult, Result, Ok, Err, IsUtf8, false, refl, ap, sym, ◌∙◌, subst, inl, inr, arith}
+use Rattle.std.proofs.Common.{◌≡◌, ◌≢◌, ◌≤◌, ◌<◌, ℕ, List, [], ◌∷◌, length, Option, Some, None, MatchResult, Result, Ok, Err, IsUtf8, false, refl, ap, sym, ◌∙◌, subst, inr, arith}
 use Rattle.std.specs.Result.{IsErrAnd}
 use Rattle.std.proofs.lemmas.Result.{err_from_is_err_and}
 use Rattle.termimad.specs.Fitting.{IsCompositeFitted}

@@ -20,6 +20,7 @@ mod writing;
 
 pub use call::Command;
 pub use failure::{Failure, refuse};
+pub use number::parse_number;
 pub use program::run;
 pub use skin::skin_of;
 pub use writing::write_call;

@@ -1,0 +1,67 @@
+//! Cities, which are the rows of the list; its filter, and its order.
+
+use std::alloc::{AllocError, Global};
+use std::cmp::Ordering;
+use termimad::{CellExtract, CompoundStyle, ListViewCell, RowFilter, RowOrder};
+
+/// A city, by its name.
+#[derive(Clone, Copy)]
+pub struct City(pub &'static str);
+
+/// Some cities on rivers.
+pub const CITIES: [City; 8] = [
+    City("Basel"),
+    City("Bonn"),
+    City("Bratislava"),
+    City("Budapest"),
+    City("Hamburg"),
+    City("Linz"),
+    City("Rotterdam"),
+    City("Wien"),
+];
+
+/// Shows the cities whose names have a text, by case.
+#[derive(Drop)]
+pub struct Having(pub String);
+
+impl RowFilter<City> for Having {
+    ghost use Rattle.std.specs.Prelude.{⊤};
+
+    ghost answers = { λ _ _ _. ⊤ };
+
+    fn accepts(&self, city: &City) -> bool {
+        city.0.contains(self.0.as_str())
+    }
+}
+
+/// Orders cities by their names.
+#[derive(Drop)]
+pub struct ByName;
+
+impl RowOrder<City> for ByName {
+    ghost use Rattle.std.specs.Prelude.{⊤};
+
+    ghost compares = { λ _ _ _ _. ⊤ };
+
+    fn compare(&self, a: &City, b: &City) -> Ordering {
+        a.0.cmp(b.0)
+    }
+}
+
+/// What the column shows of a city: its name.
+#[derive(Drop)]
+pub struct Name {
+    /// The allocator.
+    pub alloc: Global,
+}
+
+impl CellExtract<City> for Name {
+    ghost use Rattle.std.specs.Prelude.{⊤};
+
+    ghost extracts = { λ _ _ _. ⊤ };
+
+    fn cell(&self, city: &City) -> Result<ListViewCell, AllocError> {
+        let name = String::from_str(self.alloc, city.0)?;
+        Ok(ListViewCell::new(name, CompoundStyle::default()))
+    }
+}

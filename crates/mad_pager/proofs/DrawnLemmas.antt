@@ -1,0 +1,181 @@
+-- What is shown of what was drawn in turn, and what goes out of it.
+use Rattle.std.proofs.Common.{◌≡◌, ℕ, ◌-◌, ◌≤◌, ◌||◌, nat_lt, Bool, true, false, List, [], ◌∷◌, ◌++◌, Option, Some, None, option_map, IfSome, Result, Err, refl, ap, sym, ◌∙◌, subst, arith, append_assoc, take}
+use Rattle.std.proofs.lemmas.List.{append-nil, append_cancel_left}
+use Rattle.std.proofs.lemmas.Option.{same_Some}
+use Rattle.std.specs.Result.{IsErrAnd}
+use Rattle.std.specs.Prelude.{MatchResult}
+use Rattle.std.proofs.lemmas.Result.{err_from_is_err_and}
+use Rattle.std.specs.declared.io.Error as io
+use Rattle.mad_term.specs.Trace.{Trace, after, failed, flushed, CutShort, TookWith}
+use Rattle.mad_term.specs.declared.errors.Error.{Error}
+use Rattle.mad_term.specs.declared.errors.Error.TheVariants.{IO}
+use Rattle.mad_term.proofs.Traces.{took_both, cut_in_first, cut_in_second, flush_failed}
+use Rattle.mad_fit.specs.declared.area.Area.{Area}
+use Rattle.mad_draw.specs.BesideBar.{columns_beside}
+use Rattle.mad_draw.specs.DrawnRows.{AreRowsShown}
+use Rattle.mad_draw.specs.Panes.{Pane, AreApart, ArePanesShown}
+use Rattle.mad_draw.specs.declared.scroll_bars.ScrollBar.{ScrollBar}
+use Rattle.mad_draw.proofs.PaneLemmas.{panes_shown}
+use Rattle.mad_blocks.proofs.WrapKinds.{layout_fits, wrapped_at}
+use Rattle.mad_layout.specs.RowSkins.{row_skin}
+use Rattle.mad_layout.specs.ShownLayouts.{ShowsDrawable, ShowsLayout}
+use Rattle.mad_format.specs.declared.line.FmtLine.{FmtLine}
+use Rattle.mad_layout.specs.Drawable.{AreDrawable}
+use Rattle.mad_layout.specs.Shown.{area_row}
+use Rattle.mad_layout.specs.declared.skin.MadSkin.{MadSkin}
+use Rattle.mad_rows.specs.RowStyles.{line_rules}
+use Rattle.std.proofs.lemmas.Bool.{ltb-false}
+use Rattle.mad_pager.specs.Screens.{is_small, area_of, bar_of, text_pane, field_pane, status_pane, status_words, IsLineIn, IsStatusLine, KeepsTextPremises, AreLinesShown, IsFieldRow, IsLastRow, IsStatus, IsDrawing, IsPicture, IsTypingShown, IsStatusShown, IsShowing, IsShown, IsUnshown, question}
+use Rattle.mad_pager.specs.Sessions.{State, text_area, last_row}
+
+-- ---- what a device took
+
+-- what is known to have been taken has what it has under a premise
+known_at : (o n : Option (List ℕ)) (bytes : List ℕ) (A : Type 0) (P : List ℕ → Type 0) → n ≡ option_map (λ b. b ++ bytes) o
+    → (A → IfSome o (λ before. (text : List ℕ) × (n ≡ Some (before ++ text)) × P text))
+    → IfSome o (λ before. (text : List ℕ) × (n ≡ Some (before ++ text)) × (A → P text))
+known_at None n bytes A P e h = tt
+known_at (Some before) n bytes A P e h =
+    (bytes, e, λ a. let it = h a in subst P (append_cancel_left before it.0 bytes (same_Some _ _ (sym it.1 ∙ e))) it.2)
+
+pub known : (old new : Trace) (bytes : List ℕ) (A : Type 0) (P : List ℕ → Type 0) → new ≡ after old bytes → (A → TookWith old new P) → TookWith old new (λ text. A → P text)
+unfolding after
+known old new bytes A P e h = known_at old.bytes new.bytes bytes A P (ap (λ (t : Trace). t.bytes) e) h
+
+more_at : (o n : Option (List ℕ)) (P Q : List ℕ → Type 0) → ((text : List ℕ) → P text → Q text) → IfSome o (λ before. (text : List ℕ) × (n ≡ Some (before ++ text)) × P text)
+    → IfSome o (λ before. (text : List ℕ) × (n ≡ Some (before ++ text)) × Q text)
+more_at None n P Q more h = tt
+more_at (Some before) n P Q more h = (h.0, h.1, more h.0 h.2)
+
+-- what was taken has more
+pub took_so : (old new : Trace) (P Q : List ℕ → Type 0) → ((text : List ℕ) → P text → Q text) → TookWith old new P → TookWith old new Q
+took_so old new P Q more h = more_at old.bytes new.bytes P Q more h
+
+nothing_at : (o : Option (List ℕ)) (P : List ℕ → Type 0) → P [] → IfSome o (λ before. (text : List ℕ) × (o ≡ Some (before ++ text)) × P text)
+nothing_at None P h = tt
+nothing_at (Some before) P h = ([], ap Some (sym (append-nil before)), h)
+
+-- nothing was taken
+pub took_nothing : (old : Trace) (P : List ℕ → Type 0) → P [] → TookWith old old P
+took_nothing old P h = nothing_at old.bytes P h
+
+turn_at : (o m n : Option (List ℕ)) (P Q R : List ℕ → Type 0) → ((a b : List ℕ) → P a → Q b → R (a ++ b)) → IfSome o (λ before. (text : List ℕ) × (m ≡ Some (before ++ text)) × P text)
+    → IfSome m (λ before. (text : List ℕ) × (n ≡ Some (before ++ text)) × Q text)
+    → IfSome o (λ before. (text : List ℕ) × (n ≡ Some (before ++ text)) × R text)
+turn_at None m n P Q R joins h k = tt
+turn_at (Some before) m n P Q R joins (first, is, p) k =
+    let rest = subst (λ (o : Option (List ℕ)). IfSome o (λ b. (text : List ℕ) × (n ≡ Some (b ++ text)) × Q text)) is k in
+    (first ++ rest.0, rest.1 ∙ ap Some (append_assoc before first rest.0), joins first rest.0 p rest.2)
+
+-- what was taken in turn
+pub took_in_turn : (old mid new : Trace) (P Q R : List ℕ → Type 0) → ((a b : List ℕ) → P a → Q b → R (a ++ b)) → TookWith old mid P → TookWith mid new Q → TookWith old new R
+took_in_turn old mid new P Q R joins h k = turn_at old.bytes mid.bytes new.bytes P Q R joins h k
+
+from_empty_at : (o n : Option (List ℕ)) (P : List ℕ → Type 0) → o ≡ Some [] → IfSome o (λ before. (text : List ℕ) × (n ≡ Some (before ++ text)) × P text) → (text : List ℕ) × (n ≡ Some text) × P text
+from_empty_at o n P e h = subst (λ (o : Option (List ℕ)). IfSome o (λ before. (text : List ℕ) × (n ≡ Some (before ++ text)) × P text)) e h
+
+-- all that a device took that had taken nothing
+pub from_empty : (old new : Trace) (P : List ℕ → Type 0) → old.bytes ≡ Some [] → TookWith old new P → (text : List ℕ) × (new.bytes ≡ Some text) × P text
+from_empty old new P e h = from_empty_at old.bytes new.bytes P e h
+
+-- ---- what is shown
+
+-- the columns of a layout are drawn, beside a bar too
+drawn_wide : (bar : Option ScrollBar) (width : ℕ) → width - 1 ≤ columns_beside bar width
+drawn_wide None width = omega arith
+drawn_wide (Some bar) width = omega arith
+
+pub lines_shown : (skin : MadSkin) (s : State) (old new : Trace) → 5 ≤ s.page.columns → ShowsLayout (row_skin skin) (bar_of skin s) s.lines (area_of s) s.page.top old new
+    → KeepsTextPremises skin s → TookWith old new (AreRowsShown (text_pane skin s).row (area_of s))
+lines_shown skin s old new wide h keeps =
+    let rules = line_rules (row_skin skin) in
+    let width : ℕ = s.page.columns - 1 in
+    h keeps.text width (drawn_wide (bar_of skin s) s.page.columns) keeps.bar keeps.keeps (layout_fits rules width keeps.text s.lines (wrapped_at rules width keeps.text s.lines (omega arith) keeps.layout))
+
+neither : (a b : Bool) → (a || b) ≡ false → a ≡ false
+neither true b h = absurd (cc)
+neither false b h = refl
+
+-- a screen that shows something has five columns
+pub not_small : (s : State) → is_small s ≡ false → 5 ≤ s.page.columns
+not_small s h = ltb-false s.page.columns 5 (neither (nat_lt s.page.columns 5) (nat_lt s.page.rows 2) h)
+
+-- the text's area and the last row share no cell
+pub rows_apart : (columns rows : ℕ) → AreApart (text_area columns rows) (last_row columns rows)
+rows_apart columns rows x y a b = let low = a.to_bottom in let high = b.from_top in absurd (omega (arith, low, high))
+
+-- two panes that share no cell, drawn in turn
+pub both_shown : (p q : Pane) (a b : List ℕ) → AreApart p.area q.area → AreRowsShown p.row p.area a → AreRowsShown q.row q.area b → ArePanesShown (p ∷ q ∷ []) (a ++ b)
+both_shown p q a b apart here there =
+    panes_shown (p ∷ q ∷ []) (a ++ b) ((apart, tt), (tt, tt)) (a, b, refl, here, (b, [], sym (append-nil b), there, refl))
+
+typing_shown : (skin : MadSkin) (s : State) (a b : List ℕ) → AreLinesShown skin s a → IsFieldRow s b → IsTypingShown skin s (a ++ b)
+typing_shown skin s a b lines row keeps showable within is =
+    both_shown (text_pane skin s) (field_pane s) a b (subst (λ (x : Area). AreApart (area_of s) x) (sym is) (rows_apart s.page.columns s.page.rows)) (lines keeps) (row showable within)
+
+status_shown : (skin : MadSkin) (name : List ℕ) (s : State) (a b : List ℕ) → AreLinesShown skin s a → IsStatus name s b → IsStatusShown skin name s (a ++ b)
+status_shown skin name s a b lines row = record {
+  dress = row.dress;
+  line = row.line;
+  status = row.is;
+  shown = λ keeps drawable. both_shown (text_pane skin s) (status_pane (row_skin row.dress) row.line s) a b (rows_apart s.page.columns s.page.rows) (lines keeps) (row.shown drawable);
+}
+
+-- the text and the last row, drawn in turn
+pub screen_shown : (skin : MadSkin) (name : List ℕ) (s : State) (a b : List ℕ) → AreLinesShown skin s a → IsLastRow name s b → IsDrawing skin name s (a ++ b)
+screen_shown skin name s a b lines row = record {
+  typing = λ is. typing_shown skin s a b lines (row.typing is);
+  status = λ is. status_shown skin name s a b lines (row.status is);
+}
+
+-- a line that was drawn in an area of one row
+pub line_drawn : (dress : MadSkin) (line : FmtLine) (items : List FmtLine) (area : Area) (bytes : List ℕ) (old new : Trace)
+    → items ≡ line ∷ [] → area.height ≡ 1 → new ≡ after old bytes → ShowsDrawable (row_skin dress) None items area 0 old new → TookWith old new (IsLineIn (row_skin dress) line area)
+line_drawn dress line items area bytes old new are one took shown =
+    let here = subst (λ (l : List FmtLine). ShowsDrawable (row_skin dress) None l area 0 old new) are shown in
+    known old new bytes (AreDrawable (row_skin dress) area.width (line ∷ [])) (AreRowsShown (area_row (row_skin dress) None (line ∷ []) area 0) area) took
+    (λ drawable. here tt (subst (λ (n : ℕ). AreDrawable (row_skin dress) area.width (take n (line ∷ []))) (sym one) drawable))
+
+-- a status that was drawn in the last row
+pub status_drawn : (name words : List ℕ) (s : State) (dress : MadSkin) (line : FmtLine) (area : Area) (old new : Trace)
+    → words ≡ status_words name s → IsStatusLine dress words s.page.columns line → area ≡ last_row s.page.columns s.page.rows → TookWith old new (IsLineIn (row_skin dress) line area) → TookWith old new (IsStatus name s)
+status_drawn name words s dress line area old new said is at drawn =
+    took_so old new (IsLineIn (row_skin dress) line (last_row s.page.columns s.page.rows)) (IsStatus name s)
+    (λ text shown. record { dress = dress; line = line; is = subst (λ (w : List ℕ). IsStatusLine dress w s.page.columns line) said is; shown = shown })
+    (subst (λ (a : Area). TookWith old new (IsLineIn (row_skin dress) line a)) at drawn)
+
+-- ---- what goes out
+
+-- the question and the picture
+showing : (skin : MadSkin) (name : List ℕ) (asks : Bool) (s : State) (bytes : List ℕ) → IsPicture skin name s bytes → IsShowing skin name asks s (question asks ++ bytes)
+showing skin name asks s bytes h = record { picture = bytes; is = refl; shows = h }
+
+pub shown_whole : (skin : MadSkin) (name : List ℕ) (asks : Bool) (s : State) (bytes : List ℕ) (old mid new done : Trace)
+    → IsPicture skin name s bytes → mid ≡ after old (question asks) → new ≡ after mid bytes → done ≡ flushed new → IsShown skin name asks s old done
+shown_whole skin name asks s bytes old mid new done h a b c =
+    (question asks ++ bytes, showing skin name asks s bytes h, c ∙ ap flushed (took_both old mid new (question asks) bytes a b))
+
+-- a fault in the question
+pub unshown_in_question : (skin : MadSkin) (name : List ℕ) (asks : Bool) (s : State) (bytes : List ℕ) (old new : Trace) (e : io.Error)
+    → IsPicture skin name s bytes → CutShort old (question asks) new → IsUnshown skin name asks s old (IO e) new
+unshown_in_question skin name asks s bytes old new e h cut =
+    (question asks ++ bytes, showing skin name asks s bytes h, cut_in_first old new (question asks) bytes cut)
+
+-- or in the picture
+pub unshown_in_picture : (skin : MadSkin) (name : List ℕ) (asks : Bool) (s : State) (bytes : List ℕ) (old mid new : Trace) (e : io.Error)
+    → IsPicture skin name s bytes → mid ≡ after old (question asks) → CutShort mid bytes new → IsUnshown skin name asks s old (IO e) new
+unshown_in_picture skin name asks s bytes old mid new e h a cut =
+    (question asks ++ bytes, showing skin name asks s bytes h, cut_in_second old mid new (question asks) bytes a cut)
+
+-- or at the flush
+pub unshown_at_flush : (skin : MadSkin) (name : List ℕ) (asks : Bool) (s : State) (bytes : List ℕ) (old mid written new : Trace) (e : io.Error)
+    → IsPicture skin name s bytes → mid ≡ after old (question asks) → written ≡ after mid bytes → new ≡ failed written → IsUnshown skin name asks s old (IO e) new
+unshown_at_flush skin name asks s bytes old mid written new e h a b fault =
+    (question asks ++ bytes, showing skin name asks s bytes h, flush_failed old written new (question asks ++ bytes) (took_both old mid written (question asks) bytes a b) fault)
+
+-- what a `?` hands on that made this error
+pub unshown_exit : (skin : MadSkin) (name : List ℕ) (asks : Bool) (s : State) (old new : Trace) (r : Result Unit Error) (e : Error)
+    → IsErrAnd r (λ d. d ≡ e) → IsUnshown skin name asks s old e new → MatchResult r (λ _. IsShown skin name asks s old new) (λ d. IsUnshown skin name asks s old d new)
+unshown_exit skin name asks s old new r e is h =
+    let p = err_from_is_err_and r is in
+    subst (λ (t : Result Unit Error). MatchResult t (λ _. IsShown skin name asks s old new) (λ d. IsUnshown skin name asks s old d new)) (sym (p.1 ∙ ap Err p.2)) h

@@ -1,0 +1,2 @@
+pub mod DrawnLemmas
+pub mod StepLemmas

@@ -1,0 +1,60 @@
+-- What keys and events do, along what is equal.
+use Rattle.std.proofs.Common.{◌≡◌, ◌≢◌, ℕ, ◌-◌, List, Some, sym, subst, ap, ◌∙◌, false}
+use Rattle.mad_md.specs.declared.alignment.Alignment.{Alignment}
+use Rattle.mad_md.specs.declared.alignment.Alignment.TheVariants.{Left}
+use Rattle.mad_format.specs.Fitting.{IsCompositeFitted}
+use Rattle.mad_format.specs.declared.composite.FmtComposite.{FmtComposite}
+use Rattle.mad_term.specs.declared.keys.KeyEvent.{KeyEvent}
+use Rattle.mad_fit.specs.declared.area.Area.{Area}
+use Rattle.mad_format.specs.LineRules.{LineRules}
+use Rattle.mad_format.specs.declared.line.FmtLine.{FmtLine}
+use Rattle.mad_blocks.specs.Layouts.{IsMarkdownLayout}
+use Rattle.mad_field.specs.Fields.{Field}
+use Rattle.mad_field.specs.Scrolls.{rescrolled}
+use Rattle.mad_layout.specs.RowSkins.{row_skin}
+use Rattle.mad_layout.specs.declared.skin.MadSkin.{MadSkin}
+use Rattle.mad_rows.specs.RowStyles.{line_rules}
+use Rattle.mad_page.specs.PageKeys.{after_key}
+use Rattle.mad_page.specs.declared.keys.Ask.{Ask}
+use Rattle.mad_page.specs.declared.keys.Ask.TheVariants.{Next}
+use Rattle.mad_page.specs.declared.page.Page.{Page}
+use Rattle.mad_search.specs.KeptRows.{IsKeptRow}
+use Rattle.mad_search.specs.Searches.{IsNextRow, IsPreviousRow}
+use Rattle.mad_pager.specs.Sessions.{State, IsAsked, IsKeyStep, IsLaidFor, IsMovedTo, text_area}
+
+-- a key that asks for something
+pub asked_step : (key : KeyEvent) (s : State) (page : Page) (ask : Ask) (new : State) → page ≡ (after_key key s.page).page → ask ≡ (after_key key s.page).ask → IsAsked ask (record s { page = page }) new → IsKeyStep key s new
+asked_step key s page ask new same is h =
+    subst (λ (a : Ask). IsAsked a (record s { page = (after_key key s.page).page }) new) is (subst (λ (p : Page). IsAsked ask (record s { page = p }) new) same h)
+
+-- what was typed is sought
+pub sought_step : (s new : State) (bytes text : List ℕ) → bytes ≡ text → IsAsked Next (record s { is_typing = false; sought = bytes }) new → IsAsked Next (record s { is_typing = false; sought = text }) new
+sought_step s new bytes text e h = subst (λ (b : List ℕ). IsAsked Next (record s { is_typing = false; sought = b }) new) e h
+
+pub same_next : (a b : List ℕ) (l m : List FmtLine) (top row : ℕ) → a ≡ b → l ≡ m → IsNextRow a l top row → IsNextRow b m top row
+same_next a b l m top row e k h = subst (λ (x : List FmtLine). IsNextRow b x top row) k (subst (λ (x : List ℕ). IsNextRow x l top row) e h)
+
+pub same_previous : (a b : List ℕ) (l m : List FmtLine) (top row : ℕ) → a ≡ b → l ≡ m → IsPreviousRow a l top row → IsPreviousRow b m top row
+same_previous a b l m top row e k h = subst (λ (x : List FmtLine). IsPreviousRow b x top row) k (subst (λ (x : List ℕ). IsPreviousRow x l top row) e h)
+
+pub same_kept : (rules : LineRules) (markdown : List ℕ) (a b c d row kept : ℕ) → a ≡ b → c ≡ d → IsKeptRow rules markdown a c row kept → IsKeptRow rules markdown b d row kept
+same_kept rules markdown a b c d row kept e k h =
+    subst (λ (x : ℕ). IsKeptRow rules markdown b x row kept) k (subst (λ (x : ℕ). IsKeptRow rules markdown x c row kept) e h)
+
+-- a text laid out for an area is so for the screen
+pub laid_at : (skin : MadSkin) (markdown : List ℕ) (columns rows : ℕ) (area : Area) (lines : List FmtLine) → area ≡ text_area columns rows
+    → IsMarkdownLayout (line_rules (row_skin skin)) (Some (area.width - 1)) markdown lines → IsLaidFor skin markdown columns lines
+laid_at skin markdown columns rows area lines e h = subst (λ (a : Area). IsMarkdownLayout (line_rules (row_skin skin)) (Some (a.width - 1)) markdown lines) e h
+
+-- a field that was given this area
+pub moved : (area place : Area) (old new : Field) → area ≡ place → (area ≡ old.area → new ≡ old) → (area ≢ old.area → new ≡ rescrolled (record old { area = area })) → IsMovedTo place old new
+moved area place old new e same other = record {
+  same = λ is. same (e ∙ is);
+  other = λ differs. other (λ is. differs (sym e ∙ is)) ∙ ap (λ (a : Area). rescrolled (record old { area = a })) e;
+}
+
+-- a fitted composite, along what is equal
+pub fitted_along : (rules : LineRules) (align : Alignment) (width columns : ℕ) (before fitted after : FmtComposite) → align ≡ Left → width ≡ columns → after.compounds.items ≡ fitted.compounds.items
+    → IsCompositeFitted rules align width before fitted → IsCompositeFitted rules Left columns before after
+fitted_along rules align width columns before fitted after a w same h =
+    rw same (subst (λ (n : ℕ). IsCompositeFitted rules Left n before fitted) w (subst (λ (x : Alignment). IsCompositeFitted rules x width before fitted) a h))

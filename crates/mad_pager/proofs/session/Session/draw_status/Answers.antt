@@ -1,0 +1,17 @@
+use Rattle.std.proofs.Common.{◌∙◌, ap, sym, subst, arith}
+use Rattle.mad_fit.specs.Areas.{IsWithinLimits}
+use Rattle.mad_fit.specs.declared.area.Area.{Area}
+use Rattle.mad_pager.specs.Sessions.{state_of}
+use Rattle.mad_pager.proofs.DrawnLemmas.{status_drawn}
+use Rattle.mad_pager.proofs.session.Session.draw_status.Goals as goal
+
+pub draw_line-requires-clause-within : goal.draw_line-requires-clause-within
+draw_line-requires-clause-within g c = subst (λ (a : Area). IsWithinLimits a) (sym c.last_row-area.ensures) (record { columns = omega arith; rows = omega arith })
+
+pub draw_line-requires-clause-one : goal.draw_line-requires-clause-one
+draw_line-requires-clause-one g c = ap (λ (a : Area). a.height) c.last_row-area.ensures
+
+pub returns : goal.returns
+returns g c =
+    let self = c.args.self.now in
+    status_drawn self.name.now c.as_str.result.now (state_of self) c.status_skin-skin.result c.in_ok-line.line c.last_row-area.result (g.O.Out.seen c.args.out.now) (g.O.Out.seen c.draw_line.new.out) (c.as_str.ensures.value ∙ c.in_ok-words.ensures) c.in_ok-line.ensures c.last_row-area.ensures c.in_ok-draw_line.ensures

@@ -1,0 +1,3 @@
+pub mod Pictures
+pub mod Screens
+pub mod Sessions

@@ -1,0 +1,159 @@
+-- What the screen shows of a session.
+use Rattle.std.specs.Prelude.{◌≡◌, ℕ, ◌+◌, ◌-◌, ◌<◌, ◌≤◌, ◌++◌, nat_lt, ◌||◌, Bool, true, false, List, [], ◌∷◌, length, take, codes, decimal, Option, Some, None, IfSome, if◌then◌else◌}
+use Rattle.mad_md.specs.Lines.{LineContent}
+use Rattle.mad_md.specs.declared.alignment.Alignment.TheVariants.{Left}
+use Rattle.mad_style.specs.declared.kinds.CompositeKind.TheVariants.{Paragraph}
+use Rattle.mad_format.specs.Fitting.{IsCompositeFitted}
+use Rattle.mad_format.specs.Wraps.{IsMeasured}
+use Rattle.mad_format.specs.declared.composite.FmtComposite.{FmtComposite}
+use Rattle.mad_format.specs.declared.line.FmtLine.TheVariants.{Normal}
+use Rattle.mad_blocks.specs.Layouts.{IsLayoutAt}
+use Rattle.mad_blocks.specs.TextParts.{lines_in_parts}
+use Rattle.mad_layout.specs.Premises.{KeepsPremises}
+use Rattle.mad_rows.specs.RowStyles.{line_rules}
+use Rattle.mad_page.specs.Pages.{percent}
+use Rattle.mad_search.specs.Searches.{composite_text}
+use Rattle.mad_term.specs.Trace.{Trace, after, flushed, CutShort}
+use Rattle.mad_term.specs.declared.errors.Error.{Error}
+use Rattle.mad_term.specs.declared.errors.Error.TheVariants.{IO, InsufficientWidth, Memory}
+use Rattle.mad_fit.specs.Areas.{IsWithinLimits}
+use Rattle.mad_fit.specs.declared.area.Area.{Area}
+use Rattle.mad_format.specs.declared.line.FmtLine.{FmtLine}
+use Rattle.mad_draw.specs.BesideBar.{bar_beside, IsBarShown}
+use Rattle.mad_draw.specs.DrawnRows.{AreRowsShown}
+use Rattle.mad_draw.specs.Panes.{Pane, ArePanesShown}
+use Rattle.mad_draw.specs.declared.scroll_bars.ScrollBar.{ScrollBar}
+use Rattle.mad_field.specs.Drawn.{row_pieces}
+use Rattle.mad_field.specs.Shown.{IsShowable}
+use Rattle.mad_layout.specs.Drawable.{AreDrawable}
+use Rattle.mad_layout.specs.RowSkins.{row_skin}
+use Rattle.mad_layout.specs.Shown.{area_row}
+use Rattle.mad_layout.specs.declared.skin.MadSkin.{MadSkin}
+use Rattle.mad_rows.specs.declared.row_skin.RowSkin.{RowSkin}
+use Rattle.mad_pager.specs.Sessions.{State, last_row, text_area}
+
+-- a screen that shows nothing: it has under five columns or under two rows
+abbrev pub is_small : State → Bool
+is_small s = nat_lt s.page.columns 5 || nat_lt s.page.rows 2
+
+-- the area of the text
+abbrev pub area_of : State → Area
+area_of s = text_area s.page.columns s.page.rows
+
+-- the bar beside the text, if not all its rows fit
+abbrev pub bar_of : MadSkin → State → Option ScrollBar
+bar_of skin s = bar_beside (area_of s) s.page.top (length s.lines) skin.scrollbar
+
+-- the text's rows from the top one on, beside the bar
+abbrev pub text_pane : MadSkin → State → Pane
+text_pane skin s = record { area = area_of s; row = area_row (row_skin skin) (bar_of skin s) s.lines (area_of s) s.page.top }
+
+-- one line in the last row
+abbrev pub status_pane : RowSkin → FmtLine → State → Pane
+status_pane skin line s = record { area = last_row s.page.columns s.page.rows; row = area_row skin None (line ∷ []) (last_row s.page.columns s.page.rows) 0 }
+
+-- what is being typed, in the last row
+abbrev pub field_pane : State → Pane
+field_pane s = record { area = s.field.area; row = row_pieces s.field }
+
+-- ---- the status
+
+-- what is said of what is sought, where anything is
+abbrev pub sought_words : List ℕ → List ℕ
+sought_words [] = []
+sought_words (c ∷ cs) = codes "  /" ++ (c ∷ cs)
+
+-- what the status says: how much of the text was shown, its name, and what is sought
+abbrev pub status_words : List ℕ → State → List ℕ
+status_words name s = decimal (percent s.page) ++ codes "%  " ++ name ++ sought_words s.sought
+
+-- The line is a paragraph of these words, fitted to a place of these columns.
+pub record IsStatusLine (skin : MadSkin) (words : List ℕ) (columns : ℕ) (line : FmtLine) : Type 0 where
+  pub whole : FmtComposite
+  pub fitted : FmtComposite
+  pub is : line ≡ Normal fitted
+  pub text : composite_text whole ≡ words
+  pub fits : whole.visible_length ≤ columns → fitted.compounds.items ≡ whole.compounds.items
+  pub cut : columns < whole.visible_length → IsMeasured (line_rules (row_skin skin)) whole → IsCompositeFitted (line_rules (row_skin skin)) Left columns whole fitted
+  pub kind : fitted.kind ≡ Paragraph
+  pub place : fitted.spacing ≡ Some (record { width = columns; align = Left })
+  pub margins : fitted.margins ≡ Some (0, 0)
+
+-- these bytes show a line in an area of one row, where its words are shown and it fits
+abbrev pub IsLineIn : RowSkin → FmtLine → Area → List ℕ → Type 0
+IsLineIn skin line area bytes = AreDrawable skin area.width (line ∷ []) → AreRowsShown (area_row skin None (line ∷ []) area 0) area bytes
+
+-- These bytes are a status: its line in the last row, which shows it where the words of the line are shown.
+pub record IsStatus (name : List ℕ) (s : State) (bytes : List ℕ) : Type 0 where
+  pub dress : MadSkin
+  pub line : FmtLine
+  pub is : IsStatusLine dress (status_words name s) s.page.columns line
+  pub shown : IsLineIn (row_skin dress) line (last_row s.page.columns s.page.rows) bytes
+
+-- ---- what is shown
+
+-- What the text has to keep: the rows on the screen are a layout of a text that keeps the premises, as far as the screen reaches, and the
+-- characters of the bar, if there is one, take one column each.
+pub record KeepsTextPremises (skin : MadSkin) (s : State) : Type 0 where
+  pub text : List LineContent
+  pub layout : IsLayoutAt (line_rules (row_skin skin)) (Some (s.page.columns - 1)) text s.lines
+  pub keeps : KeepsPremises (row_skin skin) (s.page.columns - 1) (take (s.page.top + (s.page.rows - 1)) (lines_in_parts text))
+  pub bar : IfSome (bar_of skin s) (IsBarShown s.page.columns)
+
+-- these bytes show the text from its top row on, beside its bar
+abbrev pub AreLinesShown : MadSkin → State → List ℕ → Type 0
+AreLinesShown skin s bytes = KeepsTextPremises skin s → AreRowsShown (text_pane skin s).row (area_of s) bytes
+
+-- these bytes show what is being typed
+abbrev pub IsFieldRow : State → List ℕ → Type 0
+IsFieldRow s bytes = IsShowable s.field → IsWithinLimits s.field.area → AreRowsShown (row_pieces s.field) s.field.area bytes
+
+-- these bytes are what the last row has: what is being typed, or else the status
+pub record IsLastRow (name : List ℕ) (s : State) (bytes : List ℕ) : Type 0 where
+  pub typing : s.is_typing ≡ true → IsFieldRow s bytes
+  pub status : s.is_typing ≡ false → IsStatus name s bytes
+
+-- These bytes show a session while something is being typed: the text from its top row on, its bar, and in the last row the field. Every other
+-- cell is as before.
+abbrev pub IsTypingShown : MadSkin → State → List ℕ → Type 0
+IsTypingShown skin s bytes =
+    KeepsTextPremises skin s → IsShowable s.field → IsWithinLimits s.field.area → s.field.area ≡ last_row s.page.columns s.page.rows → ArePanesShown (text_pane skin s ∷ field_pane s ∷ []) bytes
+
+-- These bytes show it while nothing is being typed: in the last row is the status, where its words are shown.
+pub record IsStatusShown (skin : MadSkin) (name : List ℕ) (s : State) (bytes : List ℕ) : Type 0 where
+  pub dress : MadSkin
+  pub line : FmtLine
+  pub status : IsStatusLine dress (status_words name s) s.page.columns line
+  pub shown : KeepsTextPremises skin s → AreDrawable (row_skin dress) s.page.columns (line ∷ []) → ArePanesShown (text_pane skin s ∷ status_pane (row_skin dress) line s ∷ []) bytes
+
+-- these bytes show a session: one of these two
+pub record IsDrawing (skin : MadSkin) (name : List ℕ) (s : State) (bytes : List ℕ) : Type 0 where
+  pub typing : s.is_typing ≡ true → IsTypingShown skin s bytes
+  pub status : s.is_typing ≡ false → IsStatusShown skin name s bytes
+
+-- the picture of a session; on a screen that shows nothing it has no byte
+pub record IsPicture (skin : MadSkin) (name : List ℕ) (s : State) (bytes : List ℕ) : Type 0 where
+  pub small : is_small s ≡ true → bytes ≡ []
+  pub shown : is_small s ≡ false → IsDrawing skin name s bytes
+
+-- ---- what goes out
+
+-- the question for the size, if it is asked: the cursor goes far to the right and down (H), and the terminal is asked where it is (n). 27 is ESC.
+abbrev pub question : Bool → List ℕ
+question asks = if asks then 27 ∷ (codes "[999;999H" ++ 27 ∷ codes "[6n") else []
+
+-- these bytes are the question for the size, if it is asked, and the picture of a session
+pub record IsShowing (skin : MadSkin) (name : List ℕ) (asks : Bool) (s : State) (bytes : List ℕ) : Type 0 where
+  pub picture : List ℕ
+  pub is : bytes ≡ question asks ++ picture
+  pub shows : IsPicture skin name s picture
+
+-- the device took such bytes whole, and was flushed then
+abbrev pub IsShown : MadSkin → List ℕ → Bool → State → Trace → Trace → Type 0
+IsShown skin name asks s old new = (bytes : List ℕ) × IsShowing skin name asks s bytes × (new ≡ flushed (after old bytes))
+
+-- It failed within such bytes, or at the flush. Out of memory nothing went out. It refuses by nothing else.
+abbrev pub IsUnshown : MadSkin → List ℕ → Bool → State → Trace → Error → Trace → Type 0
+IsUnshown skin name asks s old (IO e) new = (bytes : List ℕ) × IsShowing skin name asks s bytes × CutShort old bytes new
+IsUnshown skin name asks s old (InsufficientWidth e) new = ⊥
+IsUnshown skin name asks s old Memory new = new ≡ old

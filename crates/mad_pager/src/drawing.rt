@@ -1,0 +1,120 @@
+//! The whole screen, drawn in memory and then put.
+
+ghost use Rattle.std.specs.Prelude.{◌≡◌, OnOk, IfOk, MatchResult, ℕ, List, Some, false};
+ghost use Rattle.mad_term.specs.Trace.{TookWith, Writes};
+ghost use Rattle.mad_pager.specs.Pictures.{picture_trace};
+ghost use Rattle.mad_pager.specs.Sessions.{state_of};
+ghost use Rattle.mad_pager.specs.Screens.{AreLinesShown, IsDrawing, IsFieldRow, IsLastRow, IsPicture, IsShown, IsUnshown, is_small, question};
+
+use crate::picture::Picture;
+use crate::session::{Session, text_area};
+use mad_layout::draw_text;
+use mad_term::{Error, Out, put_all};
+use std::alloc::{AllocError, Global};
+use std::io;
+
+// The least screen that shows something, in columns and rows.
+const LEAST_COLUMNS: u16 = 5;
+
+const LEAST_ROWS: u16 = 2;
+
+// Where the cursor is after a far move: a terminal answers it by the screen's last row and column.
+const SIZE_QUESTION: &[u8] = b"\x1b[999;999H\x1b[6n";
+
+impl Session<'_> {
+    /// Puts the whole screen in one put, as far as the device takes it, and flushes. Before that the terminal is asked for its size, if it
+    /// is to be asked.
+    ///
+    /// # Errors
+    ///
+    /// A fault of the device, or out of memory. Out of memory nothing went out.
+    pub fn show<O: Out>(&self, alloc: Global, out: &mut O, asks: bool) -> Result<(), Error>
+        ensures { MatchResult result (λ _. IsShown self.now.text.skin.now self.now.name.now asks (state_of self.now) (O.seen out.old) (O.seen out.new))
+            (λ e. IsUnshown self.now.text.skin.now self.now.name.now asks (state_of self.now) (O.seen out.old) e (O.seen out.new)) }
+    {
+        let picture = self.picture(alloc)?;
+        ask_size(out, asks)?;
+        put_all(out, picture.taken())?;
+        out.flush()?;
+        Ok(())
+    }
+
+    // The screen, drawn in memory. Nothing is drawn on one that is too small.
+    fn picture(&self, alloc: Global) -> Result<Picture, AllocError>
+        ensures { IfOk result (λ picture. (bytes : List ℕ) × ((picture_trace picture).bytes ≡ Some bytes) × IsPicture self.now.text.skin.now self.now.name.now (state_of self.now) bytes) }
+    {
+        let mut picture = Picture::new(alloc);
+        let is_small = self.is_small();
+        if is_small {
+            return Ok(picture);
+        }
+        // The only fault of memory is that there is none left.
+        match self.draw(alloc, &mut picture) {
+            Ok(()) => Ok(picture),
+            Err(_) => Err(AllocError),
+        }
+    }
+
+    // Whether the screen is too small to show something.
+    fn is_small(&self) -> bool
+        ensures { result ≡ is_small (state_of self.now) }
+    {
+        self.page.columns < LEAST_COLUMNS || self.page.rows < LEAST_ROWS
+    }
+
+    // Draws the text beside its bar, and in the last row what is typed or the status.
+    fn draw<O: Out>(&self, alloc: Global, out: &mut O) -> Result<(), Error>
+        requires { is_small (state_of self.now) ≡ false }
+        ensures { OnOk result (TookWith (O.seen out.old) (O.seen out.new) (IsDrawing self.now.text.skin.now self.now.name.now (state_of self.now))) }
+    {
+        self.draw_lines(alloc, out)?;
+        self.draw_last_row(alloc, out)?;
+        Ok(())
+    }
+
+    // Draws the text from its top row on, beside its bar.
+    fn draw_lines<O: Out>(&self, alloc: Global, out: &mut O) -> Result<(), Error>
+        requires { is_small (state_of self.now) ≡ false }
+        ensures { OnOk result (TookWith (O.seen out.old) (O.seen out.new) (AreLinesShown self.now.text.skin.now (state_of self.now))) }
+    {
+        let area = text_area(self.page.columns, self.page.rows);
+        draw_text(alloc, out, &self.text, &area, self.page.top, true)?;
+        Ok(())
+    }
+
+    // Draws what is typed, or else the status.
+    fn draw_last_row<O: Out>(&self, alloc: Global, out: &mut O) -> Result<(), Error>
+        ensures { OnOk result (TookWith (O.seen out.old) (O.seen out.new) (IsLastRow self.now.name.now (state_of self.now))) }
+    {
+        let is_typing = self.is_typing;
+        if is_typing {
+            self.draw_field(out)?;
+            return Ok(());
+        }
+        self.draw_status(alloc, out)?;
+        Ok(())
+    }
+
+    // Draws what is typed.
+    fn draw_field<O: Out>(&self, out: &mut O) -> Result<(), Error>
+        ensures { OnOk result (TookWith (O.seen out.old) (O.seen out.new) (IsFieldRow (state_of self.now))) }
+    {
+        // The session's field is in the last row of a screen, which is within the limits.
+        let is_within = self.field.area().is_within_limits();
+        if is_within {
+            self.field.display_on(out)?;
+            return Ok(());
+        }
+        Ok(())
+    }
+}
+
+// Asks for the size of the screen, if it is to be asked.
+fn ask_size<O: Out>(out: &mut O, asks: bool) -> io::Result<()>
+    ensures { Writes (O.seen out.old) (question asks) result (O.seen out.new) }
+{
+    if asks {
+        return put_all(out, SIZE_QUESTION);
+    }
+    Ok(())
+}

@@ -1,0 +1,98 @@
+//! The last row of the screen: how much of the text was shown, its name, and what is sought.
+
+ghost use Rattle.std.specs.Prelude.{◌≡◌, IfOk, OnOk, string_bytes};
+ghost use Rattle.mad_term.specs.Trace.{TookWith};
+ghost use Rattle.mad_fit.specs.Areas.{IsWithinLimits};
+ghost use Rattle.mad_layout.specs.RowSkins.{row_skin};
+ghost use Rattle.mad_pager.specs.Sessions.{state_of};
+ghost use Rattle.mad_pager.specs.Screens.{status_words, IsLineIn, IsStatus, IsStatusLine};
+
+use crate::session::{Session, last_row};
+use mad_fit::{Area, Spacing};
+use mad_format::{Fitter, FmtComposite, FmtLine};
+use mad_layout::{FmtText, MadSkin, draw_text};
+use mad_md::{Alignment, Compound};
+use mad_term::{Attribute, Error, Out};
+use std::alloc::{AllocError, Global};
+
+impl Session<'_> {
+    /// Draws the status in the screen's last row. Nothing is flushed.
+    ///
+    /// # Errors
+    ///
+    /// A fault of the device, or out of memory. What went out by then is a beginning of the whole.
+    pub fn draw_status<O: Out>(&self, alloc: Global, out: &mut O) -> Result<(), Error>
+        ensures { OnOk result (TookWith (O.seen out.old) (O.seen out.new) (IsStatus self.now.name.now (state_of self.now))) }
+    {
+        let words = self.status_words(alloc)?;
+        let skin = status_skin();
+        let line = status_line(alloc, words.as_str(), self.page.columns, &skin)?;
+        let area = last_row(self.page.columns, self.page.rows);
+        draw_line(alloc, out, line, &skin, &area)?;
+        Ok(())
+    }
+
+    // What the status says.
+    fn status_words(&self, alloc: Global) -> Result<String, AllocError>
+        ensures { IfOk result (λ words. string_bytes words ≡ status_words self.now.name.now (state_of self.now)) }
+    {
+        let percent = self.page.percent();
+        let mut words = format!(in alloc; "{percent}%  ")?;
+        words.push_str(self.name)?;
+        if !self.sought.is_empty() {
+            words.push_str("  /")?;
+            words.push_str(self.sought.as_str())?;
+        }
+        Ok(words)
+    }
+}
+
+// Draws a line in an area of one row.
+fn draw_line<O: Out>(
+    alloc: Global,
+    out: &mut O,
+    line: FmtLine,
+    skin: &MadSkin,
+    area: &Area,
+) -> Result<(), Error>
+    requires within { IsWithinLimits area.now }
+    requires one { area.now.height ≡ 1 }
+    ensures { OnOk result (TookWith (O.seen out.old) (O.seen out.new) (IsLineIn (row_skin skin.now) line.entry area.now)) }
+{
+    let mut lines = Vec::new(alloc);
+    lines.push(line)?;
+    let text = FmtText {
+        skin,
+        lines,
+        width: None,
+    };
+    draw_text(alloc, out, &text, area, 0, false)?;
+    Ok(())
+}
+
+// A text as a line of so many columns: what doesn't fit goes at its end, and blanks fill the rest.
+fn status_line<'w>(
+    alloc: Global,
+    words: &'w str,
+    columns: u16,
+    skin: &MadSkin,
+) -> Result<FmtLine<'w>, AllocError>
+    ensures { IfOk result (IsStatusLine skin.now words.now columns) }
+{
+    let width = usize::from(columns);
+    let mut line = FmtComposite::from_compound(alloc, Compound::raw_str(words))?;
+    Fitter::for_align(Alignment::Left).fit(&mut line, width, skin)?;
+    line.margins = Some((0, 0));
+    let place = Spacing {
+        width,
+        align: Alignment::Left,
+    };
+    Ok(FmtLine::Normal(line.in_place(place)))
+}
+
+// The skin of the status: reversed.
+fn status_skin() -> MadSkin {
+    let mut skin = MadSkin::no_style();
+    skin.paragraph.compound_style.add_attr(Attribute::Reverse);
+    skin
+}

@@ -1,0 +1,21 @@
+//! The program `termimad-page`: pages a Markdown file on the terminal, by keys of standard input.
+//!
+//! 1. [`call`]: what the arguments ask for.
+//! 2. [`failing`]: how a run fails.
+//! 3. [`running`]: reading the file, and a run.
+#![tactic(auto)]
+
+mod call;
+mod failing;
+mod running;
+
+use std::process::ExitCode;
+use termimad::Stream;
+
+fn main(rt: HostRuntime) -> ExitCode {
+    let mut err = Stream::new(rt.stderr());
+    match running::run_on_standard_streams(&rt) {
+        Ok(()) => ExitCode::from(0),
+        Err(failure) => ExitCode::from(failing::refuse(&mut err, failure)),
+    }
+}

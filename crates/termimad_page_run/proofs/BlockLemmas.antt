@@ -1,0 +1,176 @@
+-- Bytes that are read one after the other, and their events.
+use Rattle.std.proofs.Common.{◌≡◌, ◌≢◌, ℕ, ◌+◌, ◌<◌, ◌≤◌, ◌==◌, ◌||◌, Bool, true, false, List, [], ◌∷◌, ◌++◌, take, drop, length, get_or, Option, Some, None, refl, ap, sym, ◌∙◌, subst, append_assoc, if◌then◌else◌}
+use Rattle.std.proofs.lemmas.List.{append-nil, take_more, take_all, take-append-drop}
+use Rattle.mad_term.specs.declared.events.Event.{Event}
+use Rattle.mad_term.specs.declared.events.Event.TheVariants.{Key}
+use Rattle.mad_keys.specs.Decoding.{ByteGives, BytesGive, PauseGives}
+use Rattle.mad_keys.specs.Readings.{listed, lone_escape}
+use Rattle.mad_keys.specs.Keys.{escape_key}
+use Rattle.mad_layout.specs.declared.skin.MadSkin.{MadSkin}
+use Rattle.mad_pager.specs.Sessions.{State, IsEventStep, HasSameText, asks_size, ends, turn_of}
+use Rattle.mad_pager.specs.declared.session.Session.{Session}
+use Rattle.mad_pager.specs.declared.session.Turn.{Turn}
+use Rattle.mad_pager.specs.declared.session.Turn.TheVariants.{Goes, AsksSize, Ends}
+use Rattle.termimad_page_run.specs.Blocks.{IsToldStep, IsToldDone, turn_told, IsSession, IsBlockDone, IsEndedIn}
+
+-- ---- how a session goes on
+
+pub ends_is : (turn : Turn) → ends turn ≡ true → turn ≡ Ends
+ends_is Ends h = refl
+ends_is Goes h = absurd (cc)
+ends_is AsksSize h = absurd (cc)
+
+pub goes_on : (turn : Turn) → ends turn ≡ false → turn ≢ Ends
+goes_on turn h e = let f : ends Ends ≡ false = subst (λ (t : Turn). ends t ≡ false) e h in absurd (cc)
+
+-- the text stays the same
+pub same_text : (a b c : Session) → HasSameText a b → HasSameText b c → HasSameText a c
+same_text a b c h k = record { name = k.name ∙ h.name; markdown = k.markdown ∙ h.markdown; skin = k.skin ∙ h.skin }
+
+pub step_along : (skin dress : MadSkin) (markdown text : List ℕ) (told : Option Event) (s new : State) → dress ≡ skin → text ≡ markdown → IsToldStep dress text told s new → IsToldStep skin markdown told s new
+step_along skin dress markdown text told s new e k h =
+    subst (λ (d : MadSkin). IsToldStep d markdown told s new) e (subst (λ (m : List ℕ). IsToldStep dress m told s new) k h)
+
+-- ---- bytes
+
+-- a byte more is read
+pub told_more : (w bytes : List ℕ) (b : ℕ) (events : List Event) (left : List ℕ) (told : Option Event) (new : List ℕ)
+    → BytesGive w bytes events left → ByteGives left b told new → BytesGive w (bytes ++ b ∷ []) (events ++ listed told) new
+told_more w [] b events left told new (none, same) gives = (
+  told,
+  new,
+  [],
+  subst (λ (l : List ℕ). ByteGives l b told new) same gives,
+  (refl, refl),
+  ap (λ (l : List Event). l ++ listed told) none ∙ sym (append-nil (listed told)),
+)
+told_more w (x ∷ bytes) b events left told new (first, mid, more, one, rest, are) gives = (
+  first,
+  mid,
+  more ++ listed told,
+  one,
+  told_more mid bytes b more left told new rest gives,
+  ap (λ (l : List Event). l ++ listed told) are ∙ append_assoc (listed first) more (listed told),
+)
+
+or_false : (b : Bool) → (b || false) ≡ b
+or_false true = refl
+or_false false = refl
+
+or_assoc : (a b c : Bool) → ((a || b) || c) ≡ (a || (b || c))
+or_assoc true b c = refl
+or_assoc false b c = refl
+
+-- one event alone
+event_done : (skin : MadSkin) (markdown : List ℕ) (s : State) (event : Event) (new : State) (asks : Bool)
+    → IsEventStep skin markdown event s new → turn_of event s ≢ Ends → asks ≡ false → IsSession skin markdown s (event ∷ []) (asks || asks_size (turn_of event s)) new
+event_done skin markdown s event new asks step goes none =
+    (new, false, step, goes, ap (λ (b : Bool). b || asks_size (turn_of event s)) none ∙ sym (or_false (asks_size (turn_of event s))), (refl, refl))
+
+event_more : (skin : MadSkin) (markdown : List ℕ) (s : State) (events : List Event) (asks : Bool) (mid : State) (event : Event) (new : State)
+    → IsSession skin markdown s events asks mid → IsEventStep skin markdown event mid new → turn_of event mid ≢ Ends
+    → IsSession skin markdown s (events ++ event ∷ []) (asks || asks_size (turn_of event mid)) new
+event_more skin markdown s [] asks mid event new (none, same) step goes =
+    subst (λ (m : State). IsEventStep skin markdown event m new → turn_of event m ≢ Ends → IsSession skin markdown s (event ∷ []) (asks || asks_size (turn_of event m)) new) (sym same)
+    (λ first on. event_done skin markdown s event new asks first on none) step goes
+event_more skin markdown s (e ∷ events) asks mid event new (next, others, one, first, is, rest) step goes =
+    let x = asks_size (turn_of event mid) in (
+      next,
+      others || x,
+      one,
+      first,
+      ap (λ (b : Bool). b || x) is ∙ or_assoc (asks_size (turn_of e s)) others x,
+      event_more skin markdown next events others mid event new rest step goes,
+    )
+
+-- what was told is done too
+told_done : (skin : MadSkin) (markdown : List ℕ) (s : State) (events : List Event) (asks : Bool) (mid : State) (told : Option Event) (new : State)
+    → IsSession skin markdown s events asks mid → IsToldStep skin markdown told mid new → turn_told told mid ≢ Ends
+    → IsSession skin markdown s (events ++ listed told) (asks || asks_size (turn_told told mid)) new
+told_done skin markdown s events asks mid None new h same goes =
+    subst (λ (b : Bool). IsSession skin markdown s (events ++ []) b new) (sym (or_false asks))
+    (subst (λ (es : List Event). IsSession skin markdown s es asks new) (sym (append-nil events)) (subst (λ (n : State). IsSession skin markdown s events asks n) (sym same) h))
+told_done skin markdown s events asks mid (Some event) new h step goes = event_more skin markdown s events asks mid event new h step goes
+
+pub session_more : (skin : MadSkin) (markdown : List ℕ) (s : State) (events : List Event) (asks : Bool) (mid : State) (told : Option Event) (new : State) (asked : Bool)
+    → IsSession skin markdown s events asks mid → IsToldStep skin markdown told mid new → turn_told told mid ≢ Ends → asked ≡ asks_size (turn_told told mid)
+    → IsSession skin markdown s (events ++ listed told) (asks || asked) new
+session_more skin markdown s events asks mid told new asked h step goes is =
+    subst (λ (b : Bool). IsSession skin markdown s (events ++ listed told) (asks || b) new) (sym is) (told_done skin markdown s events asks mid told new h step goes)
+
+-- what a pause tells is done too, and asks for nothing
+pause_more : (skin : MadSkin) (markdown : List ℕ) (s : State) (events : List Event) (asks : Bool) (mid : State) (told : Option Event) (new : State)
+    → IsSession skin markdown s events asks mid → IsToldDone skin markdown told mid new → IsSession skin markdown s (events ++ listed told) asks new
+pause_more skin markdown s events asks mid told new h (step, goes) =
+    let on : turn_told told mid ≢ Ends = λ e. let f : Goes ≡ Ends = sym goes ∙ e in absurd (cc) in
+    subst (λ (b : Bool). IsSession skin markdown s (events ++ listed told) b new) (ap (λ (t : Turn). asks || asks_size t) goes ∙ or_false asks)
+    (told_done skin markdown s events asks mid told new h step on)
+
+-- Esc never ends a session
+escape_goes : (typing : Bool) → (if typing then Goes else Goes) ≡ Goes
+escape_goes true = refl
+escape_goes false = refl
+
+pub pause_goes : (w : List ℕ) (s : State) → turn_told (lone_escape w) s ≡ Goes
+pause_goes [] s = refl
+pause_goes (a ∷ []) s = elim (a == 27) as (λ b. turn_told (if b then Some (Key escape_key) else None) s ≡ Goes) [ true ↦ escape_goes s.is_typing | false ↦ refl ]
+pause_goes (a ∷ b ∷ w) s = refl
+
+-- an event ends the session
+pub ended : (skin : MadSkin) (markdown w block : List ℕ) (i : ℕ) (s : State) (events : List Event) (asks : Bool) (mid : State) (told : Option Event) (left : List ℕ)
+    → BytesGive w (take i block) (events ++ listed told) left → IsSession skin markdown s events asks mid → turn_told told mid ≡ Ends → IsEndedIn skin markdown w block s
+ended skin markdown w block i s events asks mid None left read done ends = absurd (cc)
+ended skin markdown w block i s events asks mid (Some event) left read done ends = record {
+  front = take i block;
+  rest = drop i block;
+  whole = take-append-drop i block;
+  events = events;
+  last = event;
+  left = left;
+  told = read;
+  asks = asks;
+  before = mid;
+  session = done;
+  ends = ends;
+}
+
+-- the block's byte of this index
+pub byte_read : (w block : List ℕ) (i : ℕ) (events : List Event) (left : List ℕ) (told : Option Event) (new : List ℕ) → i < length block → BytesGive w (take i block) events left → ByteGives left (get_or block i 0) told new
+    → BytesGive w (take (i + 1) block) (events ++ listed told) new
+byte_read w block i events left told new inside read gives =
+    subst (λ (l : List ℕ). BytesGive w l (events ++ listed told) new) (sym (take_more block i 0 inside)) (told_more w (take i block) (get_or block i 0) events left told new read gives)
+
+-- all of a block is read, and no pause comes
+pub block_read : (skin : MadSkin) (markdown w block : List ℕ) (i : ℕ) (s : State) (events : List Event) (left : List ℕ) (asks : Bool) (new : State) (pauses answer : Bool)
+    → length block ≤ i → pauses ≡ false → BytesGive w (take i block) events left → IsSession skin markdown s events asks new → answer ≡ asks → IsBlockDone skin markdown w block pauses s left answer new
+block_read skin markdown w block i s events left asks new pauses answer past unpaused read done same = record {
+  events = events;
+  told = record {
+    before = left;
+    own = events;
+    told = subst (λ (l : List ℕ). BytesGive w l events left) (take_all i block past) read;
+    last = None;
+    pause = λ is. let e : true ≡ false = sym is ∙ unpaused in absurd (cc);
+    none = λ is. (refl, refl);
+    all = sym (append-nil events);
+  };
+  session = subst (λ (b : Bool). IsSession skin markdown s events b new) (sym same) done;
+}
+
+-- or one comes
+pub block_paused : (skin : MadSkin) (markdown w block : List ℕ) (i : ℕ) (s : State) (events : List Event) (left : List ℕ) (asks : Bool) (mid : State) (pauses answer : Bool) (told : Option Event) (after : List ℕ) (new : State)
+    → length block ≤ i → pauses ≡ true → BytesGive w (take i block) events left → IsSession skin markdown s events asks mid → answer ≡ asks → PauseGives left told after → IsToldDone skin markdown told mid new
+    → IsBlockDone skin markdown w block pauses s after answer new
+block_paused skin markdown w block i s events left asks mid pauses answer told after new past paused read done same gives step = record {
+  events = events ++ listed told;
+  told = record {
+    before = left;
+    own = events;
+    told = subst (λ (l : List ℕ). BytesGive w l events left) (take_all i block past) read;
+    last = told;
+    pause = λ is. gives;
+    none = λ is. let e : true ≡ false = sym paused ∙ is in absurd (cc);
+    all = refl;
+  };
+  session = subst (λ (b : Bool). IsSession skin markdown s (events ++ listed told) b new) (sym same) (pause_more skin markdown s events asks mid told new done step);
+}

@@ -1,0 +1,130 @@
+//! A run: keys are read, and after each block of them the screen is drawn anew.
+
+ghost use Rattle.std.specs.Prelude.{◌≡◌, ◌≢◌, IfOk, IfErr, OnOk, MatchResult, List, ℕ, string_bytes};
+ghost use Rattle.mad_pager.specs.Sessions.{asks_size, state_of, HasSameText};
+ghost use Rattle.termimad_page_run.specs.Runs.{moment, name_row, paged_of, row_char, IsBrokenOff, IsBrokenRun, IsFaultyTurn, IsLastTurn, IsPaged, IsTurn, IsTurned};
+
+use crate::blocks::apply_block;
+use mad_fit::printable;
+use mad_keys::Keys;
+use mad_layout::MadSkin;
+use mad_pager::{Session, Turn};
+use mad_term::{Error, Out, Source};
+use std::alloc::{AllocError, Global};
+
+// How many bytes one fill is asked for.
+const BLOCK: usize = 1 << 10;
+
+/// What is paged, and where.
+#[derive(Drop)]
+pub struct Sheet<'s> {
+    /// The name of the text.
+    pub name: &'s str,
+    /// The text, as Markdown.
+    pub markdown: &'s str,
+    /// The skin that it is shown in.
+    pub skin: &'s MadSkin,
+    /// The columns of the screen.
+    pub columns: u16,
+    /// Its rows.
+    pub rows: u16,
+}
+
+/// Pages a text: draws its start, then reads blocks of keys, does what they say and draws the screen anew after each, until a key ends it
+/// or the input does.
+///
+/// Of the name and the text what is printable is shown. A block that fills the room for it whole is no pause.
+///
+/// # Errors
+///
+/// The first fault of a device, or out of memory. What went out by then is whole pictures, unless the output failed.
+pub fn run<I: Source, O: Out>(
+    alloc: Global,
+    sheet: &Sheet,
+    input: &mut I,
+    out: &mut O,
+) -> Result<(), Error>
+    ensures { MatchResult result (λ _. IsPaged sheet.now (I.seen input.old) (I.seen input.new) (O.seen out.old) (O.seen out.new))
+        (λ e. IsBrokenRun sheet.now e (I.seen input.old) (I.seen input.new) (O.seen out.old) (O.seen out.new)) }
+{
+    let markdown = printable(alloc, sheet.markdown)?;
+    let name = name_row(alloc, sheet.name)?;
+    let mut session = Session::new(
+        alloc,
+        name.as_str(),
+        &markdown,
+        sheet.skin,
+        sheet.columns,
+        sheet.rows,
+    )?;
+    turn_pages(alloc, &mut session, input, out)
+}
+
+// Makes one turn after the other.
+fn turn_pages<I: Source, O: Out>(
+    alloc: Global,
+    session: &mut Session,
+    input: &mut I,
+    out: &mut O,
+) -> Result<(), Error>
+    ensures { MatchResult result (λ _. IsTurned (paged_of session.old) (state_of session.old) (I.seen input.old) (I.seen input.new) (O.seen out.old) (O.seen out.new))
+        (λ e. IsBrokenOff (paged_of session.old) (state_of session.old) e (I.seen input.old) (I.seen input.new) (O.seen out.old) (O.seen out.new)) }
+{
+    let mut keys = Keys::new();
+    let mut asks = false;
+    for _turn in 0..u64::MAX {
+        let turn = turn_page(alloc, session, &mut keys, asks, input, out)?;
+        let ends = turn.ends();
+        if ends {
+            return Ok(());
+        }
+        asks = turn.asks_size();
+    }
+    Ok(())
+}
+
+// Draws the screen, reads a block of keys and does what it says.
+fn turn_page<I: Source, O: Out>(
+    alloc: Global,
+    session: &mut Session,
+    keys: &mut Keys,
+    asks: bool,
+    input: &mut I,
+    out: &mut O,
+) -> Result<Turn, Error>
+    ensures goes { IfOk result (λ turn. turn ≢ Turn.Ends → (block : List ℕ) × IsTurn (paged_of session.old) block
+        (moment session.old keys.old asks (I.seen input.old) (O.seen out.old)) (moment session.new keys.new (asks_size turn) (I.seen input.new) (O.seen out.new))) }
+    ensures ends { IfOk result (λ turn. turn ≡ Turn.Ends
+        → IsLastTurn (paged_of session.old) (moment session.old keys.old asks (I.seen input.old) (O.seen out.old)) (I.seen input.new) (O.seen out.new)) }
+    ensures text { OnOk result (HasSameText session.old session.new) }
+    ensures fault { IfErr result (λ e.
+        IsFaultyTurn (paged_of session.old) (moment session.old keys.old asks (I.seen input.old) (O.seen out.old)) e (I.seen input.new) (O.seen out.new)) }
+{
+    session.show(alloc, out, asks)?;
+    let mut block = [0; BLOCK];
+    let count = input.fill(&mut block)?;
+    if count == 0 {
+        return Ok(Turn::Ends);
+    }
+    let turn = apply_block(alloc, session, keys, &block[..count], count < BLOCK)?;
+    Ok(turn)
+}
+
+// A name as it is shown: what is printable of it, in one row.
+fn name_row(alloc: Global, name: &str) -> Result<String, AllocError>
+    ensures { IfOk result (λ row. string_bytes row ≡ name_row name.now) }
+{
+    let name = printable(alloc, name)?;
+    let mut row = String::new(alloc);
+    for c in name.chars() {
+        row.push(row_char(c))?;
+    }
+    Ok(row)
+}
+
+// A character of a name as it is shown: a space for a newline.
+fn row_char(c: char) -> char
+    ensures { result ≡ row_char c }
+{
+    if c == '\n' { ' ' } else { c }
+}

@@ -1,0 +1,116 @@
+//! What a session shows: a picture at its start, and one after each block.
+
+use crate::devices::{Blocks, Pictures};
+use mad_layout::MadSkin;
+use mad_screen::{NotPlain, Screen};
+use mad_term::Error;
+use std::alloc::{AllocError, Global};
+use termimad_page_run::{Sheet, run};
+
+// What is put where the size is asked for.
+const SIZE_QUESTION: &[u8] = b"\x1b[999;999H\x1b[6n";
+
+/// What a session shows. The call has the columns and rows of the screen, and the name; the text is Markdown, a line `==`, and a block a line.
+pub fn shown(alloc: Global, call: &str, text: &str) -> Result<String, AllocError> {
+    let mut words = call.splitn(3, ' ');
+    let columns = number(words.next());
+    let rows = number(words.next());
+    let name = words.next().unwrap_or("");
+    let (markdown, blocks) = text.split_once("\n==\n").unwrap_or((text, ""));
+    let blocks: String = blocks.chars().map(meant).collect(alloc)?;
+    let blocks = blocks.as_str();
+    let skin = MadSkin::default();
+    let sheet = Sheet {
+        name,
+        markdown,
+        skin: &skin,
+        columns,
+        rows,
+    };
+    let mut out = Pictures::new(alloc);
+    let ended = run(alloc, &sheet, &mut Blocks::new(blocks), &mut out);
+    let mut answer = String::new(alloc);
+    push_pictures(&mut answer, (columns, rows), blocks, &out)?;
+    match ended {
+        Ok(()) => answer.push_str("ended\n")?,
+        Err(Error::Memory) => return Err(AllocError),
+        Err(_) => answer.push_str("a fault\n")?,
+    }
+    Ok(answer)
+}
+
+// The character that a sign means: a form feed, which is Control-L, and what the key Backspace sends.
+fn meant(sign: char) -> char {
+    match sign {
+        '␌' => '\u{c}',
+        '␈' => '\u{7f}',
+        _ => sign,
+    }
+}
+
+// The sign of such a character.
+fn sign_of(c: char) -> char {
+    match c {
+        '\u{c}' => '␌',
+        '\u{7f}' => '␈',
+        _ => c,
+    }
+}
+
+fn number(word: Option<&str>) -> u16 {
+    word.and_then(|word| word.parse().ok()).unwrap_or(0)
+}
+
+// The picture before the first block, and that after each, under the block.
+fn push_pictures(
+    answer: &mut String,
+    size: (u16, u16),
+    blocks: &str,
+    out: &Pictures,
+) -> Result<(), AllocError> {
+    let mut screen = Screen::new(*answer.allocator(), size.0, size.1)?;
+    let mut blocks = blocks.split('\n');
+    for (index, picture) in out.each().iter().enumerate() {
+        if index > 0 {
+            let block = blocks.next().unwrap_or("");
+            for c in block.chars() {
+                answer.push(sign_of(c))?;
+            }
+            answer.push('\n')?;
+            if let Some((columns, rows)) = size_told(block) {
+                screen = Screen::new(*answer.allocator(), columns, rows)?;
+            }
+        }
+        push_picture(answer, &mut screen, picture.as_slice())?;
+    }
+    Ok(())
+}
+
+// What a screen shows after a picture.
+fn push_picture(
+    answer: &mut String,
+    screen: &mut Screen,
+    picture: &[u8],
+) -> Result<(), AllocError> {
+    let bytes = match picture.strip_prefix(SIZE_QUESTION) {
+        Some(bytes) => {
+            answer.push_str("asks for the size\n")?;
+            bytes
+        }
+        None => picture,
+    };
+    match screen.read_bytes(bytes) {
+        Ok(()) => write!(answer, "{screen}"),
+        Err(NotPlain::Memory) => Err(AllocError),
+        Err(NotPlain::Undefined) => answer.push_str("undefined\n"),
+    }
+}
+
+// The columns and rows that a block tells, if it tells them alone.
+fn size_told(block: &str) -> Option<(u16, u16)> {
+    let (rows, columns) = block
+        .strip_prefix("\u{1b}[")?
+        .strip_suffix('R')?
+        .split_once(';')?;
+    Some((columns.parse().ok()?, rows.parse().ok()?))
+}
