@@ -16,7 +16,7 @@
  * What is proved of each call: it reads only the bytes of its text and skin, and writes only those of its buffer. The result is what
  * termimad-view writes of that text, or what the call's own comment says. The count is the length of the whole result; the status is
  * TERMIMAD_DONE exactly where all of it is in the buffer. Of a result that is too long the buffer has the beginning. What is behind a
- * result stays, and all of the buffer where a call is refused.
+ * result stays, and all of the buffer where a call is refused. Where there are several reasons to refuse a call, it may tell any of them.
  *
  * What the caller must keep, which nothing checks: each pointer is not NULL, also where its length is 0, and is valid for its length.
  * The buffer shares no byte with the text or the skin, and no other thread touches these while the call runs. malloc, realloc and free
