@@ -77,12 +77,15 @@ impl<'k> Chooser<'k> {
         }
     }
 
-    /// Draws the field and the list. Nothing is flushed.
+    /// Draws the field and the list, each where its area is on a screen. Nothing is flushed.
     pub fn draw<O: Out>(&mut self, alloc: Global, out: &mut O) -> Result<(), Error> {
         if self.field.area().is_within_limits() {
             self.field.display_on(out)?;
         }
         self.list.update_dimensions();
-        self.list.write_on(alloc, out)
+        if self.list.area.is_within_limits() {
+            self.list.write_on(alloc, out)?;
+        }
+        Ok(())
     }
 }
