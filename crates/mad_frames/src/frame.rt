@@ -19,6 +19,10 @@ use std::marker::Model;
 /// A screen that is drawn into and presented. As an [`Out`] it keeps what is drawn, bytes that the plain terminal reads; a
 /// present sends what differs from the screen that was presented last.
 ///
+/// One draws over what was presented last. To draw a screen anew, clear the frame first (`queue_clear`): that costs no byte
+/// where the same is drawn again. Commands that the plain terminal can't read, such as hiding the cursor, go to the device
+/// itself.
+///
 /// What the device hasn't taken after a fault is sent first by the next present. So what a terminal shows is known after
 /// faults too.
 #[derive(Drop)]

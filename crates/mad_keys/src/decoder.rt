@@ -13,6 +13,9 @@ use std::marker::Model;
 
 /// A reader of what a terminal sends: it keeps the beginning of an event's bytes, until the rest of them comes.
 ///
+/// The answer to a question for the screen's size (`ESC [ 18 t`, or a move to its last cell and `ESC [ 6 n`) is read as
+/// [`Event::Resize`].
+///
 /// It never fails and takes no memory. At most 18 bytes wait: no event has more, and the bytes of a longer sequence are dropped
 /// as they come.
 #[derive(Drop)]
