@@ -1,6 +1,6 @@
 //! A source that hands out a block a line, and a device that knows its pictures apart.
 
-ghost use Rattle.std.specs.Prelude.{None};
+ghost use Rattle.std.specs.Prelude.{◌^◌, ◌-◌, None};
 
 use mad_term::{Out, Source};
 use std::alloc::Global;
@@ -22,6 +22,7 @@ impl<'s> Blocks<'s> {
 impl Source for Blocks<'_> {
     ghost seen = { λ _. record { bytes = None; faults = 0; flushes = 0 } };
 
+    #[tactic(auto, unfolding(mad_term::specs::Trace::ahead))]
     fn get(&mut self) -> io::Result<Option<u8>> {
         let mut byte = [0];
         let count = self.fill(&mut byte)?;
@@ -63,6 +64,7 @@ impl Pictures {
 impl Out for Pictures {
     ghost seen = { λ _. record { bytes = None; faults = 2 ^ 64 - 1; flushes = 2 ^ 64 - 1 } };
 
+    #[tactic(auto, unfolding(mad_term::specs::Trace::after, mad_term::specs::Trace::failed))]
     fn put(&mut self, bytes: &[u8]) -> io::Result<usize> {
         match self.last.extend_from_slice(bytes) {
             Ok(()) => Ok(bytes.len()),
@@ -70,6 +72,7 @@ impl Out for Pictures {
         }
     }
 
+    #[tactic(auto, unfolding(mad_term::specs::Trace::flushed, mad_term::specs::Trace::failed))]
     fn flush(&mut self) -> io::Result<()> {
         let alloc = *self.last.allocator();
         let taken = std::mem::replace(&mut self.last, Vec::new(alloc));
