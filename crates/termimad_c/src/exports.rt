@@ -3,7 +3,7 @@
 //! None requires anything of its arguments. What C has to keep is what the types say: each pointer is not null, what it points to has
 //! the length that is told, and the buffer shares no byte with the text or the skin.
 
-ghost use Rattle.std.specs.Prelude.{◌≡◌, ◌⊎◌, ◌≤◌, ◌^◌};
+ghost use Rattle.std.specs.Prelude.{◌≡◌, ◌⊎◌, ◌≤◌, ◌^◌, []};
 ghost use Rattle.termimad_run.specs.declared.call.Command.TheVariants.{Inline};
 ghost use Rattle.termimad_c.specs.Answers.{Answers, Counts};
 ghost use Rattle.termimad_c.specs.Inputs.{RefusesCall, IsNoArea, IsNoFit};
@@ -89,7 +89,7 @@ pub extern "C" fn termimad_fit(
 /// A text without what a terminal obeys: no character of it but newlines is a command.
 #[unsafe(no_mangle)]
 pub extern "C" fn termimad_printable(alloc: Global, text: &[u8], buffer: &mut [u8]) -> Answer
-    ensures { Answers (IsMadePrintable text.now) (RefusesCall ⊥ text.now text.now) buffer.old result buffer.new }
+    ensures { Answers (IsMadePrintable text.now) (RefusesCall ⊥ text.now []) buffer.old result buffer.new }
 {
     hand_out(printable_bytes(alloc, text), buffer)
 }

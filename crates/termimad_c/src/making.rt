@@ -1,6 +1,6 @@
 //! What each call makes of its inputs.
 
-ghost use Rattle.std.specs.Prelude.{◌≡◌, ◌≤◌, ◌^◌, MatchResult};
+ghost use Rattle.std.specs.Prelude.{◌≡◌, ◌≤◌, ◌^◌, [], MatchResult};
 ghost use Rattle.termimad_run.specs.Calls.{IsAllowed};
 ghost use Rattle.termimad_run.specs.declared.call.Command.TheVariants.{Inline};
 ghost use Rattle.termimad_c.specs.Inputs.{RefusesCall, IsNoArea, IsNoFit};
@@ -96,7 +96,7 @@ pub fn fitted_bytes(
 
 /// A text without what a terminal obeys.
 pub fn printable_bytes(alloc: Global, text: &[u8]) -> Result<Vec<u8>, Refusal>
-    ensures { MatchResult result (λ whole. IsMadePrintable text.now whole.items) (RefusesCall ⊥ text.now text.now) }
+    ensures { MatchResult result (λ whole. IsMadePrintable text.now whole.items) (RefusesCall ⊥ text.now []) }
 {
     let text = text_of(text)?;
     let shown = printable(alloc, text)?;
