@@ -242,9 +242,9 @@ moved_area columns rows s new at h =
     elim (cases_eq columns s.page.columns) [
       | inl wide ↦ elim (cases_eq (rows - 1) (s.page.rows - 1)) [
         | inl high ↦
-          let place : last_row columns rows ≡ s.field.area = cc in
-          let e = h.same place in
-          (ap (λ (f : Field). f.area) e ∙ sym place, ap (λ (f : Field). f.content) e)
+            let place : last_row columns rows ≡ s.field.area = cc in
+            let e = h.same place in
+            (ap (λ (f : Field). f.area) e ∙ sym place, ap (λ (f : Field). f.content) e)
         | inr low ↦ let e = h.other (λ place. low (ap (λ (a : Area). a.top) (place ∙ at))) in (ap (λ (f : Field). f.area) e, ap (λ (f : Field). f.content) e)
       ]
       | inr narrow ↦ let e = h.other (λ place. narrow (ap (λ (a : Area). a.width) (place ∙ at))) in (ap (λ (f : Field). f.area) e, ap (λ (f : Field). f.content) e)
