@@ -1,5 +1,5 @@
 -- What is shown of what was drawn in turn, and what goes out of it.
-use Rattle.std.proofs.Common.{◌≡◌, ℕ, ◌+◌, ◌-◌, ◌<◌, ◌≤◌, ◌||◌, nat_lt, Bool, true, false, List, [], ◌∷◌, ◌++◌, map, length, Option, Some, None, option_map, IfSome, Result, Err, refl, ap, sym, ◌∙◌, subst, arith, append_assoc, take}
+use Rattle.std.proofs.Common.{◌≡◌, ℕ, ◌-◌, ◌≤◌, ◌||◌, nat_lt, Bool, true, false, List, [], ◌∷◌, ◌++◌, Option, Some, None, option_map, IfSome, Result, Err, refl, ap, sym, ◌∙◌, subst, arith, append_assoc, take}
 use Rattle.std.proofs.lemmas.List.{append-nil, append_cancel_left}
 use Rattle.std.proofs.lemmas.Option.{same_Some}
 use Rattle.std.specs.Result.{IsErrAnd}
@@ -10,7 +10,6 @@ use Rattle.mad_term.specs.Trace.{Trace, after, failed, flushed, CutShort, TookWi
 use Rattle.mad_term.specs.declared.errors.Error.{Error}
 use Rattle.mad_term.specs.declared.errors.Error.TheVariants.{IO}
 use Rattle.mad_term.proofs.Traces.{took_both, cut_in_first, cut_in_second, flush_failed}
-use Rattle.mad_fit.specs.Areas.{HasPosition, IsWithinLimits}
 use Rattle.mad_fit.specs.declared.area.Area.{Area}
 use Rattle.mad_draw.specs.BesideBar.{columns_beside}
 use Rattle.mad_draw.specs.DrawnRows.{AreRowsShown}
@@ -18,7 +17,6 @@ use Rattle.mad_draw.specs.Panes.{Pane, AreApart, ArePanesShown}
 use Rattle.mad_draw.specs.declared.scroll_bars.ScrollBar.{ScrollBar}
 use Rattle.mad_draw.proofs.PaneLemmas.{panes_shown}
 use Rattle.mad_blocks.proofs.WrapKinds.{layout_fits, wrapped_at}
-use Rattle.mad_field.specs.Shown.{IsShowable}
 use Rattle.mad_layout.specs.RowSkins.{row_skin}
 use Rattle.mad_layout.specs.ShownLayouts.{ShowsDrawable, ShowsLayout}
 use Rattle.mad_format.specs.declared.line.FmtLine.{FmtLine}

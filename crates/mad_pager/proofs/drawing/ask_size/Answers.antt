@@ -1,4 +1,4 @@
-use Rattle.std.proofs.Common.{◌≡◌, ℕ, List, [], Bool, sym, ap, ◌∙◌}
+use Rattle.std.proofs.Common.{Bool, sym, ap, ◌∙◌}
 use Rattle.mad_term.specs.Trace.{after}
 use Rattle.mad_term.proofs.Traces.{took_none}
 use Rattle.mad_pager.specs.Screens.{question}

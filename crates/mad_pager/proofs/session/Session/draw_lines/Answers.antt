@@ -14,5 +14,7 @@ pub returns : goal.returns
 returns g c =
     let s = state_of c.args.self.now in
     let skin = c.args.self.now.text.skin.now in
+    let old = g.O.Out.seen c.args.out.now in
+    let new = g.O.Out.seen c.draw_text.new.out in
     let shown = rw c.text_area-area.ensures at c.in_ok-draw_text.ensures.shown_layout in
-    known _ _ _ (KeepsTextPremises skin s) (AreRowsShown (text_pane skin s).row (area_of s)) c.in_ok-draw_text.ensures.writes (λ keeps. lines_shown skin s _ _ (not_small s c.requires) shown keeps)
+    known old new _ (KeepsTextPremises skin s) (AreRowsShown (text_pane skin s).row (area_of s)) c.in_ok-draw_text.ensures.writes (λ keeps. lines_shown skin s old new (not_small s c.requires) shown keeps)
