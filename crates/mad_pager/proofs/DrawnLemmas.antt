@@ -1,5 +1,5 @@
 -- What is shown of what was drawn in turn, and what goes out of it.
-use Rattle.std.proofs.Common.{◌≡◌, ℕ, ◌-◌, ◌≤◌, ◌||◌, nat_lt, Bool, true, false, List, [], ◌∷◌, ◌++◌, Option, Some, None, option_map, IfSome, Result, Err, refl, ap, sym, ◌∙◌, subst, arith, append_assoc, take}
+use Rattle.std.proofs.Common.{◌≡◌, ℕ, ◌-◌, ◌<◌, ◌^◌, ◌≤◌, ◌||◌, ◌&&◌, ◌==◌, eq-eqb, nat_lt, Bool, true, false, List, [], ◌∷◌, ◌++◌, Option, Some, None, option_map, IfSome, Result, Err, refl, ap, sym, ◌∙◌, subst, arith, append_assoc, take}
 use Rattle.std.proofs.lemmas.List.{append-nil, append_cancel_left}
 use Rattle.std.proofs.lemmas.Option.{same_Some}
 use Rattle.std.specs.Result.{IsErrAnd}
@@ -10,8 +10,13 @@ use Rattle.mad_term.specs.Trace.{Trace, after, failed, flushed, CutShort, TookWi
 use Rattle.mad_term.specs.declared.errors.Error.{Error}
 use Rattle.mad_term.specs.declared.errors.Error.TheVariants.{IO}
 use Rattle.mad_term.proofs.Traces.{took_both, cut_in_first, cut_in_second, flush_failed}
+use Rattle.mad_fit.specs.Areas.{IsWithinLimits}
 use Rattle.mad_fit.specs.declared.area.Area.{Area}
 use Rattle.mad_draw.specs.BesideBar.{columns_beside}
+use Rattle.mad_columns.specs.Columns.{char_columns}
+use Rattle.mad_fit.proofs.AllLemmas.{all_each}
+use Rattle.mad_lines.specs.TextLines.{is_newline}
+use Rattle.mad_field.specs.Shown.{IsShowable}
 use Rattle.mad_draw.specs.DrawnRows.{AreRowsShown}
 use Rattle.mad_draw.specs.Panes.{Pane, AreApart, ArePanesShown}
 use Rattle.mad_draw.specs.declared.scroll_bars.ScrollBar.{ScrollBar}
@@ -24,8 +29,9 @@ use Rattle.mad_layout.specs.Drawable.{AreDrawable}
 use Rattle.mad_layout.specs.Shown.{area_row}
 use Rattle.mad_layout.specs.declared.skin.MadSkin.{MadSkin}
 use Rattle.mad_rows.specs.RowStyles.{line_rules}
-use Rattle.std.proofs.lemmas.Bool.{ltb-false}
-use Rattle.mad_pager.specs.Screens.{is_small, area_of, bar_of, text_pane, field_pane, status_pane, status_words, IsLineIn, IsStatusLine, KeepsTextPremises, AreLinesShown, IsFieldRow, IsLastRow, IsStatus, IsDrawing, IsPicture, IsTypingShown, IsStatusShown, IsShowing, IsShown, IsUnshown, question}
+use Rattle.std.proofs.lemmas.Bool.{ltb-false, and_parts}
+use Rattle.std.proofs.lemmas.Bool.Decides.{nat_tests}
+use Rattle.mad_pager.specs.Screens.{is_small, area_of, bar_of, text_pane, field_pane, status_pane, status_words, IsLineIn, IsStatusLine, KeepsTextPremises, AreLinesShown, IsFieldRow, IsLastRow, IsStatus, IsDrawing, IsPicture, IsTypingShown, IsStatusShown, IsFieldInRow, IsShowing, IsShown, IsUnshown, question}
 use Rattle.mad_pager.specs.Sessions.{State, text_area, last_row}
 
 -- ---- what a device took
@@ -109,9 +115,40 @@ pub both_shown : (p q : Pane) (a b : List ℕ) → AreApart p.area q.area → Ar
 both_shown p q a b apart here there =
     panes_shown (p ∷ q ∷ []) (a ++ b) ((apart, tt), (tt, tt)) (a, b, refl, here, (b, [], sym (append-nil b), there, refl))
 
-typing_shown : (skin : MadSkin) (s : State) (a b : List ℕ) → AreLinesShown skin s a → IsFieldRow s b → IsTypingShown skin s (a ++ b)
-typing_shown skin s a b lines row keeps showable within is =
-    both_shown (text_pane skin s) (field_pane s) a b (subst (λ (x : Area). AreApart (area_of s) x) (sym is) (rows_apart s.page.columns s.page.rows)) (lines keeps) (row showable within)
+-- whether two areas are the same, as it is tested
+abbrev same : Area → Area → Bool
+same a b = (a.left == b.left) && ((a.top == b.top) && ((a.width == b.width) && (a.height == b.height)))
+
+-- an area that is tested to be the last row of a screen is within the limits
+pub row_within : (area tested row : Area) (columns rows : ℕ) → columns < 2 ^ 16 → rows < 2 ^ 16 → tested ≡ area → row ≡ last_row columns rows → same tested row ≡ true → IsWithinLimits area
+row_within area tested row columns rows wide high is at h =
+    let here : same area (last_row columns rows) ≡ true = subst (λ (a : Area). same a (last_row columns rows) ≡ true) is (subst (λ (b : Area). same tested b ≡ true) at h) in
+    record { columns = grind (arith, nat_tests); rows = grind (arith, nat_tests) }
+
+-- one that isn't isn't that row
+pub row_elsewhere : (area tested row place : Area) → tested ≡ area → row ≡ place → same tested row ≡ false → area ≡ place → ⊥
+row_elsewhere area tested row place is at h e =
+    let same_place : tested ≡ row = is ∙ (e ∙ sym at) in
+    let left : (tested.left == row.left) ≡ true = eq-eqb _ _ (ap (λ (a : Area). a.left) same_place) in
+    let top : (tested.top == row.top) ≡ true = eq-eqb _ _ (ap (λ (a : Area). a.top) same_place) in
+    let width : (tested.width == row.width) ≡ true = eq-eqb _ _ (ap (λ (a : Area). a.width) same_place) in
+    let height : (tested.height == row.height) ≡ true = eq-eqb _ _ (ap (λ (a : Area). a.height) same_place) in
+    let all : same tested row ≡ true =
+    ap (λ (b : Bool). b && ((tested.top == row.top) && ((tested.width == row.width) && (tested.height == row.height)))) left
+    ∙ (ap (λ (b : Bool). b && ((tested.width == row.width) && (tested.height == row.height))) top ∙ (ap (λ (b : Bool). b && (tested.height == row.height)) width ∙ height)) in
+    let no : true ≡ false = sym all ∙ h in
+    cc
+
+-- a field in the last row of a screen that has a column is shown
+pub showable : (s : State) → 0 < s.page.columns → IsFieldInRow s → IsShowable s.field
+showable s some h = record {
+  some = subst (λ (a : Area). 0 < a.width) (sym h.area) some;
+  takes = λ plain. all_each (λ (c : ℕ). 0 < char_columns c) (λ (c : ℕ). is_newline c ≡ false → 0 < char_columns c) (λ c takes inside. takes) s.field.content.text h.typed;
+}
+
+typing_shown : (skin : MadSkin) (s : State) (a b : List ℕ) → 0 < s.page.columns → AreLinesShown skin s a → IsFieldRow s b → IsTypingShown skin s (a ++ b)
+typing_shown skin s a b some lines row keeps field =
+    both_shown (text_pane skin s) (field_pane s) a b (subst (λ (x : Area). AreApart (area_of s) x) (sym field.area) (rows_apart s.page.columns s.page.rows)) (lines keeps) (row some field)
 
 status_shown : (skin : MadSkin) (name : List ℕ) (s : State) (a b : List ℕ) → AreLinesShown skin s a → IsStatus name s b → IsStatusShown skin name s (a ++ b)
 status_shown skin name s a b lines row = record {
@@ -122,11 +159,14 @@ status_shown skin name s a b lines row = record {
 }
 
 -- the text and the last row, drawn in turn
-pub screen_shown : (skin : MadSkin) (name : List ℕ) (s : State) (a b : List ℕ) → AreLinesShown skin s a → IsLastRow name s b → IsDrawing skin name s (a ++ b)
-screen_shown skin name s a b lines row = record {
-  typing = λ is. typing_shown skin s a b lines (row.typing is);
-  status = λ is. status_shown skin name s a b lines (row.status is);
-}
+pub screen_shown : (skin : MadSkin) (name : List ℕ) (s : State) → is_small s ≡ false → (a b : List ℕ) → AreLinesShown skin s a → IsLastRow name s b → IsDrawing skin name s (a ++ b)
+screen_shown skin name s large a b lines row =
+    let wide = not_small s large in
+    let some : 0 < s.page.columns = omega (arith, wide) in
+    record {
+      typing = λ is. typing_shown skin s a b some lines (row.typing is);
+      status = λ is. status_shown skin name s a b lines (row.status is);
+    }
 
 -- a line that was drawn in an area of one row
 pub line_drawn : (dress : MadSkin) (line : FmtLine) (items : List FmtLine) (area : Area) (bytes : List ℕ) (old new : Trace)

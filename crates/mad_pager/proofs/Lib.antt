@@ -1,2 +1,3 @@
 pub mod DrawnLemmas
+pub mod OrderLemmas
 pub mod StepLemmas

@@ -16,7 +16,6 @@ use Rattle.mad_search.specs.Searches.{composite_text}
 use Rattle.mad_term.specs.Trace.{Trace, after, flushed, CutShort}
 use Rattle.mad_term.specs.declared.errors.Error.{Error}
 use Rattle.mad_term.specs.declared.errors.Error.TheVariants.{IO, InsufficientWidth, Memory}
-use Rattle.mad_fit.specs.Areas.{IsWithinLimits}
 use Rattle.mad_fit.specs.declared.area.Area.{Area}
 use Rattle.mad_format.specs.declared.line.FmtLine.{FmtLine}
 use Rattle.mad_draw.specs.BesideBar.{bar_beside, IsBarShown}
@@ -24,13 +23,14 @@ use Rattle.mad_draw.specs.DrawnRows.{AreRowsShown}
 use Rattle.mad_draw.specs.Panes.{Pane, ArePanesShown}
 use Rattle.mad_draw.specs.declared.scroll_bars.ScrollBar.{ScrollBar}
 use Rattle.mad_field.specs.Drawn.{row_pieces}
-use Rattle.mad_field.specs.Shown.{IsShowable}
 use Rattle.mad_layout.specs.Drawable.{AreDrawable}
 use Rattle.mad_layout.specs.RowSkins.{row_skin}
 use Rattle.mad_layout.specs.Shown.{area_row}
 use Rattle.mad_layout.specs.declared.skin.MadSkin.{MadSkin}
 use Rattle.mad_rows.specs.declared.row_skin.RowSkin.{RowSkin}
-use Rattle.mad_pager.specs.Sessions.{State, last_row, text_area}
+use Rattle.std.specs.List.{AllByRecursion}
+use Rattle.mad_columns.specs.Columns.{char_columns}
+use Rattle.mad_pager.specs.Sessions.{State, IsLaidFor, last_row, text_area}
 
 -- a screen that shows nothing: it has under five columns or under two rows
 abbrev pub is_small : State → Bool
@@ -90,6 +90,22 @@ pub record IsStatus (name : List ℕ) (s : State) (bytes : List ℕ) : Type 0 wh
   pub is : IsStatusLine dress (status_words name s) s.page.columns line
   pub shown : IsLineIn (row_skin dress) line (last_row s.page.columns s.page.rows) bytes
 
+-- ---- what a session keeps
+
+-- each character takes columns: none is a control character, a tab, a newline or a combining one
+abbrev pub TakeColumns : List ℕ → Type 0
+TakeColumns cs = AllByRecursion (λ c. 0 < char_columns c) cs
+
+-- The field is in the last row of the screen, and what is typed in it takes columns.
+pub record IsFieldInRow (s : State) : Type 0 where
+  pub area : s.field.area ≡ last_row s.page.columns s.page.rows
+  pub typed : TakeColumns s.field.content.text
+
+-- What a session keeps from its start on: its lines are a layout of the text for its screen, and its field is in the last row.
+pub record IsOrderly (skin : MadSkin) (markdown : List ℕ) (s : State) : Type 0 where
+  pub lines : IsLaidFor skin markdown s.page.columns s.lines
+  pub field : IsFieldInRow s
+
 -- ---- what is shown
 
 -- What the text has to keep: the rows on the screen are a layout of a text that keeps the premises, as far as the screen reaches, and the
@@ -104,9 +120,9 @@ pub record KeepsTextPremises (skin : MadSkin) (s : State) : Type 0 where
 abbrev pub AreLinesShown : MadSkin → State → List ℕ → Type 0
 AreLinesShown skin s bytes = KeepsTextPremises skin s → AreRowsShown (text_pane skin s).row (area_of s) bytes
 
--- these bytes show what is being typed
+-- these bytes show what is being typed, on a screen that has a column
 abbrev pub IsFieldRow : State → List ℕ → Type 0
-IsFieldRow s bytes = IsShowable s.field → IsWithinLimits s.field.area → AreRowsShown (row_pieces s.field) s.field.area bytes
+IsFieldRow s bytes = 0 < s.page.columns → IsFieldInRow s → AreRowsShown (row_pieces s.field) s.field.area bytes
 
 -- these bytes are what the last row has: what is being typed, or else the status
 pub record IsLastRow (name : List ℕ) (s : State) (bytes : List ℕ) : Type 0 where
@@ -116,8 +132,7 @@ pub record IsLastRow (name : List ℕ) (s : State) (bytes : List ℕ) : Type 0 w
 -- These bytes show a session while something is being typed: the text from its top row on, its bar, and in the last row the field. Every other
 -- cell is as before.
 abbrev pub IsTypingShown : MadSkin → State → List ℕ → Type 0
-IsTypingShown skin s bytes =
-    KeepsTextPremises skin s → IsShowable s.field → IsWithinLimits s.field.area → s.field.area ≡ last_row s.page.columns s.page.rows → ArePanesShown (text_pane skin s ∷ field_pane s ∷ []) bytes
+IsTypingShown skin s bytes = KeepsTextPremises skin s → IsFieldInRow s → ArePanesShown (text_pane skin s ∷ field_pane s ∷ []) bytes
 
 -- These bytes show it while nothing is being typed: in the last row is the status, where its words are shown.
 pub record IsStatusShown (skin : MadSkin) (name : List ℕ) (s : State) (bytes : List ℕ) : Type 0 where

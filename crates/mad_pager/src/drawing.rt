@@ -7,7 +7,7 @@ ghost use Rattle.mad_pager.specs.Sessions.{state_of};
 ghost use Rattle.mad_pager.specs.Screens.{AreLinesShown, IsDrawing, IsFieldRow, IsLastRow, IsPicture, IsShown, IsUnshown, is_small, question};
 
 use crate::picture::Picture;
-use crate::session::{Session, text_area};
+use crate::session::{Session, last_row, text_area};
 use mad_layout::draw_text;
 use mad_term::{Error, Out, put_all};
 use std::alloc::{AllocError, Global};
@@ -99,9 +99,10 @@ impl Session<'_> {
     fn draw_field<O: Out>(&self, out: &mut O) -> Result<(), Error>
         ensures { OnOk result (TookWith (O.seen out.old) (O.seen out.new) (IsFieldRow (state_of self.now))) }
     {
-        // The session's field is in the last row of a screen, which is within the limits.
-        let is_within = self.field.area().is_within_limits();
-        if is_within {
+        // A session's field is in the last row of its screen.
+        let row = last_row(self.page.columns, self.page.rows);
+        let is_there = *self.field.area() == row;
+        if is_there {
             self.field.display_on(out)?;
             return Ok(());
         }

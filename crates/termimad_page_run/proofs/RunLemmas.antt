@@ -7,10 +7,13 @@ use Rattle.std.proofs.lemmas.Result.{err_from_is_err_and}
 use Rattle.std.proofs.lemmas.Str.{encodes-append}
 use Rattle.mad_term.specs.Trace.{Trace, ahead_all, Filled}
 use Rattle.mad_term.specs.declared.errors.Error.{Error}
-use Rattle.mad_pager.specs.Screens.{IsShown}
+use Rattle.mad_term.specs.declared.events.Event.{Event}
+use Rattle.mad_layout.specs.declared.skin.MadSkin.{MadSkin}
+use Rattle.mad_pager.specs.Screens.{IsOrderly, IsShown}
+use Rattle.mad_pager.proofs.OrderLemmas.{event_order, start_order}
 use Rattle.mad_pager.specs.Sessions.{State, HasSameText, IsStart, state_of}
 use Rattle.mad_pager.specs.declared.session.Session.{Session}
-use Rattle.termimad_page_run.specs.Blocks.{IsBlockDone}
+use Rattle.termimad_page_run.specs.Blocks.{IsBlockDone, IsSession}
 use Rattle.termimad_page_run.specs.Runs.{AreTurns, EndsAtInput, IsBrokenOff, IsBrokenRun, IsPaged, IsTurn, IsTurned, Moment, Paged, block_room, moment, name_row, paged, paged_of, row_char, shown_text}
 use Rattle.termimad_page_run.specs.declared.program.Sheet.{Sheet}
 
@@ -54,6 +57,24 @@ ended_input old new buffer count none h some = record {
 pub same_paged : (old new : Session) → HasSameText old new → paged_of new ≡ paged_of old
 same_paged old new h = cc (h.name, h.markdown, h.skin)
 
+-- a session stays orderly
+session_order : (skin : MadSkin) (markdown : List ℕ) (events : List Event) (s : State) (asks : Bool) (new : State) → IsSession skin markdown s events asks new → IsOrderly skin markdown s → IsOrderly skin markdown new
+session_order skin markdown [] s asks new (none, same) h = subst (λ (x : State). IsOrderly skin markdown x) (sym same) h
+session_order skin markdown (event ∷ events) s asks new (mid, others, step, goes, is, rest) h = session_order skin markdown events mid others new rest (event_order skin markdown event s mid step h)
+
+pub turn_order : (old new : Session) (block : List ℕ) (before after : Moment) → HasSameText old new → IsTurn (paged_of old) block before after → IsOrderly new.text.skin.now new.markdown.now after.state
+turn_order old new block before after same turn =
+    let done = turn.done in
+    let orderly = session_order old.text.skin.now old.markdown.now done.events before.state after.asks after.state done.session turn.orderly in
+    subst (λ (skin : MadSkin). IsOrderly skin new.markdown.now after.state) (sym same.skin) (subst (λ (text : List ℕ). IsOrderly old.text.skin.now text after.state) (sym same.markdown) orderly)
+
+-- the start is orderly
+pub begun_order : (session : Session) (skin : MadSkin) (text : List ℕ) (columns rows : ℕ) → session.text.skin.now ≡ skin → session.markdown.now ≡ text → IsStart skin text columns rows (state_of session)
+    → IsOrderly session.text.skin.now session.markdown.now (state_of session)
+begun_order session skin text columns rows dressed marked start =
+    subst (λ (k : MadSkin). IsOrderly k session.markdown.now (state_of session)) (sym dressed)
+    (subst (λ (t : List ℕ). IsOrderly skin t (state_of session)) (sym marked) (start_order skin text columns rows (state_of session) start))
+
 -- one turn more
 turns_more : (p : Paged) (blocks : List (List ℕ)) (block : List ℕ) (old mid new : Moment) → AreTurns p blocks old mid → IsTurn p block mid new → AreTurns p (blocks ++ block ∷ []) old new
 turns_more p [] block old mid new same turn = (new, subst (λ (m : Moment). IsTurn p block m new) same turn, refl)
@@ -68,11 +89,12 @@ turn_made p q blocks block old mid session waits asks told input out same is tur
 
 -- a block that was read by one fill is done
 pub block_done : (p : Paged) (s new : State) (waits left block buffer : List ℕ) (count : ℕ) (asks : Bool) (old_input new_input old_out new_out : Trace) (before : Bool)
-    → IsShown p.skin p.name before s old_out new_out → Filled old_input buffer count new_input → 0 < count → block ≡ take count buffer → IsBlockDone p.skin p.text waits block (nat_lt count block_room) s left asks new
+    → IsOrderly p.skin p.text s → IsShown p.skin p.name before s old_out new_out → Filled old_input buffer count new_input → 0 < count → block ≡ take count buffer → IsBlockDone p.skin p.text waits block (nat_lt count block_room) s left asks new
     → IsTurn p block (record { state = s; waits = waits; asks = before; input = old_input; out = old_out }) (record { state = new; waits = left; asks = asks; input = new_input; out = new_out })
-block_done p s new waits left block buffer count asks old_input new_input old_out new_out before shown filled some is done =
+block_done p s new waits left block buffer count asks old_input new_input old_out new_out before orderly shown filled some is done =
     let long : length block ≡ count = ap length is ∙ length-take-le count buffer filled.within in
     record {
+      orderly = orderly;
       shown = shown;
       some = omega (arith, long);
       read = filled.handed_out ∙ ap (λ (b : List ℕ). ahead_all b new_input) (sym is);

@@ -5,7 +5,7 @@ use Rattle.mad_term.specs.declared.errors.Error.{Error}
 use Rattle.mad_term.specs.declared.errors.Error.TheVariants.{IO, InsufficientWidth, Memory}
 use Rattle.mad_fit.specs.Printable.{printable_text}
 use Rattle.mad_layout.specs.declared.skin.MadSkin.{MadSkin}
-use Rattle.mad_pager.specs.Screens.{IsShown, IsUnshown}
+use Rattle.mad_pager.specs.Screens.{IsOrderly, IsShown, IsUnshown}
 use Rattle.mad_pager.specs.Sessions.{State, IsStart, state_of}
 use Rattle.mad_pager.specs.declared.session.Session.{Session}
 use Rattle.termimad_page_run.specs.Blocks.{IsBlockDone, IsEndedIn}
@@ -58,8 +58,9 @@ pub record Moment : Type 0 where
 abbrev pub moment : Session → List ℕ → Bool → Trace → Trace → Moment
 moment s waits asks input out = record { state = state_of s; waits = waits; asks = asks; input = input; out = out }
 
--- The session is shown, a block of keys is read, and what it says is done. It doesn't end the session.
+-- The session is orderly and is shown, a block of keys is read, and what it says is done. It doesn't end the session.
 pub record IsTurn (p : Paged) (block : List ℕ) (old new : Moment) : Type 0 where
+  pub orderly : IsOrderly p.skin p.text old.state
   pub shown : IsShown p.skin p.name old.asks old.state old.out new.out
   pub some : 0 < length block
   pub read : old.input ≡ ahead_all block new.input
@@ -83,10 +84,11 @@ pub record EndsAtKey (p : Paged) (last : Moment) (new : Trace) : Type 0 where
   pub read : last.input ≡ ahead_all block new
   pub key : IsEndedIn p.skin p.text last.waits block last.state
 
--- the last turn: the session is shown, and the input ends or a key ends the session
-abbrev pub IsLastTurn : Paged → Moment → Trace → Trace → Type 0
-IsLastTurn p last new_input new_out =
-    IsShown p.skin p.name last.asks last.state last.out new_out × (EndsAtInput last.input new_input ⊎ EndsAtKey p last new_input)
+-- The last turn: the session is orderly and is shown, and the input ends or a key ends the session.
+pub record IsLastTurn (p : Paged) (last : Moment) (new_input new_out : Trace) : Type 0 where
+  pub orderly : IsOrderly p.skin p.text last.state
+  pub shown : IsShown p.skin p.name last.asks last.state last.out new_out
+  pub ends : EndsAtInput last.input new_input ⊎ EndsAtKey p last new_input
 
 -- what a fault leaves once the session is shown: the input failed, or there was no memory for what a block says
 abbrev pub IsUndone : Trace → Error → Trace → Type 0

@@ -2,6 +2,7 @@
 
 ghost use Rattle.std.specs.Prelude.{◌≡◌, ◌≢◌, IfOk, IfErr, OnOk, MatchResult, List, ℕ, string_bytes};
 ghost use Rattle.mad_pager.specs.Sessions.{asks_size, state_of, HasSameText};
+ghost use Rattle.mad_pager.specs.Screens.{IsOrderly};
 ghost use Rattle.termimad_page_run.specs.Runs.{moment, name_row, paged_of, row_char, IsBrokenOff, IsBrokenRun, IsFaultyTurn, IsLastTurn, IsPaged, IsTurn, IsTurned};
 
 use crate::blocks::apply_block;
@@ -67,6 +68,7 @@ fn turn_pages<I: Source, O: Out>(
     input: &mut I,
     out: &mut O,
 ) -> Result<(), Error>
+    requires { IsOrderly session.now.text.skin.now session.now.markdown.now (state_of session.now) }
     ensures { MatchResult result (λ _. IsTurned (paged_of session.old) (state_of session.old) (I.seen input.old) (I.seen input.new) (O.seen out.old) (O.seen out.new))
         (λ e. IsBrokenOff (paged_of session.old) (state_of session.old) e (I.seen input.old) (I.seen input.new) (O.seen out.old) (O.seen out.new)) }
 {
@@ -92,6 +94,7 @@ fn turn_page<I: Source, O: Out>(
     input: &mut I,
     out: &mut O,
 ) -> Result<Turn, Error>
+    requires { IsOrderly session.now.text.skin.now session.now.markdown.now (state_of session.now) }
     ensures goes { IfOk result (λ turn. turn ≢ Turn.Ends → (block : List ℕ) × IsTurn (paged_of session.old) block
         (moment session.old keys.old asks (I.seen input.old) (O.seen out.old)) (moment session.new keys.new (asks_size turn) (I.seen input.new) (O.seen out.new))) }
     ensures ends { IfOk result (λ turn. turn ≡ Turn.Ends

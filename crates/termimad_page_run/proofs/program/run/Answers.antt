@@ -1,6 +1,11 @@
 use Rattle.std.proofs.Common.{Bor, List, ℕ, ap, ◌∙◌}
-use Rattle.termimad_page_run.proofs.RunLemmas.{sheet_paged}
+use Rattle.termimad_page_run.proofs.RunLemmas.{begun_order, sheet_paged}
 use Rattle.termimad_page_run.proofs.program.run.Goals as goal
+
+pub turn_pages-requires : goal.turn_pages-requires
+turn_pages-requires g c =
+    let made = c.in_ok-session.ensures in
+    begun_order c.in_ok-session.session _ _ _ _ made.skin (ap (λ (b : Bor (List ℕ)). b.now) made.markdown) made.start
 
 pub returns : goal.returns
 returns g c =

@@ -4,10 +4,10 @@ use Rattle.termimad_page_run.proofs.program.turn_page.Goals as goal
 
 pub returns-then-count-eq0-clause-ends : goal.returns-then-count-eq0-clause-ends
 returns-then-count-eq0-clause-ends g c = λ is.
-    (c.in_ok-show.ensures, inl (ended_input _ _ _ _ c.if-count-eq0.true c.in_ok-count.ensures (omega arith)))
+    record { orderly = c.requires; shown = c.in_ok-show.ensures; ends = inl (ended_input _ _ _ _ c.if-count-eq0.true c.in_ok-count.ensures (omega arith)) }
 
 pub returns-clause-goes : goal.returns-clause-goes
 returns-clause-goes g c = λ goes. (
   take c.in_ok-count.count c.fill.new.buffer,
-  block_done _ _ _ _ _ _ c.fill.new.buffer c.in_ok-count.count _ _ _ _ _ _ c.in_ok-show.ensures c.in_ok-count.ensures (omega arith) refl (c.in_ok-turn.ensures.goes goes),
+  block_done _ _ _ _ _ _ c.fill.new.buffer c.in_ok-count.count _ _ _ _ _ _ c.requires c.in_ok-show.ensures c.in_ok-count.ensures (omega arith) refl (c.in_ok-turn.ensures.goes goes),
 )

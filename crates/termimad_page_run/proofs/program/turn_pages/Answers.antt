@@ -1,7 +1,7 @@
 use Rattle.std.proofs.Common.{◌∷◌, [], ◌++◌, length-append, inl, inr, refl, sym, ◌∙◌, subst, arith}
 use Rattle.termimad_page_run.specs.Runs.{IsFaultyTurn, IsLastTurn, Paged, moment}
 use Rattle.termimad_page_run.proofs.BlockLemmas.{ends_is, goes_on, same_text}
-use Rattle.termimad_page_run.proofs.RunLemmas.{broken_exit, same_paged, turn_made}
+use Rattle.termimad_page_run.proofs.RunLemmas.{broken_exit, same_paged, turn_made, turn_order}
 use Rattle.termimad_page_run.proofs.program.turn_pages.Goals as goal
 
 pub loop-turn-preserved : goal.loop-turn-preserved
@@ -13,6 +13,7 @@ loop-turn-preserved g c =
       count = omega (arith, length-append inv.blocks (it.0 ∷ []), inv.count);
       turns = turn_made _ _ inv.blocks it.0 _ _ c.turn_page.new.session c.turn_page.new.keys _ _ _ _ (same_paged _ _ inv.text) c.asks_size-asks.ensures inv.turns it.1;
       text = same_text _ _ _ inv.text c.in_ok-turn.ensures.text;
+      orderly = turn_order _ _ _ _ _ c.in_ok-turn.ensures.text it.1;
     }
 
 pub returns-in_err-turn : goal.returns-in_err-turn

@@ -1,4 +1,4 @@
-use Rattle.std.proofs.Common.{◌≡◌, true, false, sym, ◌∙◌, subst}
+use Rattle.std.proofs.Common.{◌≡◌, true, false, sym, ◌∙◌, subst, arith}
 use Rattle.mad_fit.specs.Areas.{IsWithinLimits}
 use Rattle.mad_fit.specs.declared.area.Area.{Area}
 use Rattle.mad_draw.specs.DrawnRows.{AreRowsShown}
@@ -6,23 +6,21 @@ use Rattle.mad_field.specs.Drawn.{row_pieces}
 use Rattle.mad_field.specs.Shown.{IsShowable}
 use Rattle.mad_pager.specs.Screens.{IsFieldRow}
 use Rattle.mad_pager.specs.Sessions.{state_of}
-use Rattle.mad_pager.proofs.DrawnLemmas.{known, took_so, took_nothing}
+use Rattle.mad_pager.proofs.DrawnLemmas.{known, row_elsewhere, row_within, showable, took_so, took_nothing}
 use Rattle.mad_pager.proofs.session.Session.draw_field.Goals as goal
 
 pub display_on-requires : goal.display_on-requires
-display_on-requires g c = subst (λ (a : Area). IsWithinLimits a) c.area.ensures (c.is_within_limits-is_within.ensures.0 c.if-is_within.true)
+display_on-requires g c = row_within _ _ _ _ _ (omega arith) (omega arith) c.area.ensures c.last_row-row.ensures (sym c.eq-is_there.ensures ∙ c.if-is_there.true)
 
-pub returns-then-is_within : goal.returns-then-is_within
-returns-then-is_within g c =
+pub returns-then-is_there : goal.returns-then-is_there
+returns-then-is_there g c =
+    let s = state_of c.args.self.now in
     let f = c.args.self.now.field in
     let old = g.O.Out.seen c.args.out.now in
     let new = g.O.Out.seen c.display_on.new.out in
-    took_so old new _ (IsFieldRow (state_of c.args.self.now)) (λ text shown showable within. shown showable)
+    took_so old new _ (IsFieldRow s) (λ text shown some row. shown (showable s some row))
     (known old new _ (IsShowable f) (AreRowsShown (row_pieces f) f.area) c.in_ok-display_on.ensures.writes c.in_ok-display_on.ensures.shown)
 
 pub returns : goal.returns
 returns g c =
-    took_nothing (g.O.Out.seen c.args.out.now) (IsFieldRow (state_of c.args.self.now)) (λ showable within.
-    let is : c.is_within_limits-is_within.result ≡ true = c.is_within_limits-is_within.ensures.1 (subst (λ (a : Area). IsWithinLimits a) (sym c.area.ensures) within) in
-    let e : true ≡ false = sym is ∙ c.if-is_within.false in
-    absurd (cc))
+    took_nothing (g.O.Out.seen c.args.out.now) (IsFieldRow (state_of c.args.self.now)) (λ some row. absurd (row_elsewhere _ _ _ _ c.area.ensures c.last_row-row.ensures (sym c.eq-is_there.ensures ∙ c.if-is_there.false) row.area))

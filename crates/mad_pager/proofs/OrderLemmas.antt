@@ -1,0 +1,285 @@
+-- What a session keeps, whatever events say.
+use Rattle.std.proofs.Common.{◌≡◌, ◌⊎◌, ℕ, ◌+◌, ◌-◌, ◌<◌, ◌==◌, inl, inr, Bool, true, false, List, [], ◌∷◌, ◌++◌, take, drop, filter, nat_lt, Some, length, min, refl, ap, sym, ◌∙◌, subst, arith, if◌then◌else◌}
+use Rattle.std.specs.List.{AllByRecursion}
+use Rattle.std.proofs.lemmas.List.{take-append-drop}
+use Rattle.std.proofs.lemmas.Bool.{cases_eq}
+use Rattle.std.proofs.lemmas.Bool.Decides.{nat_tests}
+use Rattle.mad_columns.specs.Columns.{char_columns}
+use Rattle.mad_term.specs.declared.events.Event.{Event}
+use Rattle.mad_term.specs.declared.events.Event.TheVariants.{Key, Mouse, Resize, FocusGained, FocusLost}
+use Rattle.mad_term.specs.declared.keys.KeyCode.{KeyCode}
+use Rattle.mad_term.specs.declared.keys.KeyCode.TheVariants.{Char, Enter, Esc, Backspace, Delete, Home, End, Up, Down, Left, Right, PageUp, PageDown, Insert, Tab, BackTab, F, Null}
+use Rattle.mad_term.specs.declared.keys.KeyEvent.{KeyEvent}
+use Rattle.mad_term.specs.declared.mouse.MouseEventKind.{MouseEventKind}
+use Rattle.mad_term.specs.declared.mouse.MouseEventKind.TheVariants.{ScrollDown, ScrollUp}
+use Rattle.mad_term.specs.Events.{modifier_bits}
+use Rattle.mad_fit.specs.declared.area.Area.{Area}
+use Rattle.mad_fit.proofs.AllLemmas.{all_front, all_back, all_joined}
+use Rattle.mad_lines.specs.TextLines.{is_accepted, accepted, lines}
+use Rattle.mad_edit.specs.Editor.{Editor, cursor_line, replaced, without}
+use Rattle.mad_field.specs.Fields.{Field, new_field}
+use Rattle.mad_field.specs.Edits.{Outcome, edited, edited_if, is_wide, left_alone, moved_down, moved_to_line, moved_up, selecting, selection_replaced, unselected, with_content}
+use Rattle.mad_field.specs.Keys.{key_outcome, moved_by, removal, selecting_if}
+use Rattle.mad_field.specs.Keys as keys
+use Rattle.mad_page.specs.PageKeys.{Turn, after_char, after_control, after_key, after_plain_key, after_wheel}
+use Rattle.mad_page.specs.declared.keys.Ask.{Ask}
+use Rattle.mad_page.specs.declared.keys.Ask.TheVariants.{Search, Next, Previous, Forget, Size, Quit, Nothing}
+use Rattle.mad_page.specs.declared.page.Page.{Page}
+use Rattle.mad_format.specs.declared.line.FmtLine.{FmtLine}
+use Rattle.mad_layout.specs.declared.skin.MadSkin.{MadSkin}
+use Rattle.mad_pager.specs.Screens.{IsFieldInRow, IsOrderly, TakeColumns}
+use Rattle.mad_pager.specs.Sessions.{State, IsAnyKeyStep, IsAsked, IsEventStep, IsKeyStep, IsLaidFor, IsMovedTo, IsResized, IsStart, IsTypeStep, last_row, typed}
+
+-- ---- what is typed
+
+front_takes : (n : ℕ) (cs : List ℕ) → TakeColumns cs → TakeColumns (take n cs)
+front_takes n cs h = all_front (λ (c : ℕ). 0 < char_columns c) (take n cs) (drop n cs) (subst TakeColumns (sym (take-append-drop n cs)) h)
+
+back_takes : (n : ℕ) (cs : List ℕ) → TakeColumns cs → TakeColumns (drop n cs)
+back_takes n cs h = all_back (λ (c : ℕ). 0 < char_columns c) (take n cs) (drop n cs) (subst TakeColumns (sym (take-append-drop n cs)) h)
+
+both_take : (a b : List ℕ) → TakeColumns a → TakeColumns b → TakeColumns (a ++ b)
+both_take a b h k = all_joined (λ (c : ℕ). 0 < char_columns c) a b h k
+
+without_takes : (cs : List ℕ) (from to : ℕ) → TakeColumns cs → TakeColumns (without cs from to)
+without_takes cs from to h = both_take (take from cs) (drop to cs) (front_takes from cs h) (back_takes to cs h)
+
+accepted_takes : (c : ℕ) (b : Bool) → 0 < char_columns c → TakeColumns (if b then c ∷ [] else [])
+accepted_takes c true h = (h, tt)
+accepted_takes c false h = tt
+
+replaced_takes : (cs new : List ℕ) (from to : ℕ) → TakeColumns cs → TakeColumns (accepted new) → TakeColumns (replaced cs from to new)
+replaced_takes cs new from to h k = both_take (take from cs) (accepted new ++ drop to cs) (front_takes from cs h) (both_take (accepted new) (drop to cs) k (back_takes to cs h))
+
+-- ---- fields
+
+-- the field has the same area, and what is typed in it takes columns
+record IsKept (old new : Field) : Type 0 where
+  area : new.area ≡ old.area
+  typed : TakeColumns new.content.text
+
+either : (b : Bool) (f : Field) (o p : Outcome) → IsKept f o.field → IsKept f p.field → IsKept f (if b then o else p).field
+either true f o p h k = h
+either false f o p h k = k
+
+either_field : (b : Bool) (f g h : Field) → IsKept f g → IsKept f h → IsKept f (if b then g else h)
+either_field true f g h a b = a
+either_field false f g h a b = b
+
+stays : (f : Field) → TakeColumns f.content.text → IsKept f f
+stays f h = record { area = refl; typed = h }
+
+same_text : (f : Field) (e : Editor) → e.text ≡ f.content.text → TakeColumns f.content.text → IsKept f (edited f e)
+same_text f e same h = record { area = refl; typed = subst TakeColumns (sym same) h }
+
+up_same : (b : Bool) (e other : Editor) → other.text ≡ e.text → (if b then e else other).text ≡ e.text
+up_same true e other h = refl
+up_same false e other h = h
+
+up_text : (n : ℕ) (e : Editor) → (moved_up n e).text ≡ e.text
+up_text n e = up_same (n == 0) e (moved_to_line e (cursor_line e - n)) refl
+
+down_text : (n : ℕ) (e : Editor) → (moved_down n e).text ≡ e.text
+down_text n e = up_same (n == 0) e (moved_to_line e (min (cursor_line e + n) (length (lines e.text) - 1))) refl
+
+selected : (shift : Bool) (f : Field) → (selecting_if shift f).content.text ≡ f.content.text
+selected true f = up_same _ f.content _ refl
+selected false f = refl
+
+moves : (can : Bool) (f g : Field) (e : Editor) → e.text ≡ g.content.text → g.area ≡ f.area → TakeColumns g.content.text → IsKept f (edited_if can g e).field
+moves true f g e same area h = record { area = area; typed = subst TakeColumns (sym same) h }
+moves false f g e same area h = record { area = area; typed = h }
+
+moved_kept : (code : KeyCode) (f g : Field) → g.area ≡ f.area → TakeColumns g.content.text → IsKept f (moved_by code g).field
+moved_kept Home f g area h = moves _ f g _ refl area h
+moved_kept End f g area h = moves _ f g _ refl area h
+moved_kept Up f g area h = moves (nat_lt 0 (cursor_line g.content)) f g (moved_up 1 g.content) (up_text 1 g.content) area h
+moved_kept Down f g area h = moves (nat_lt (cursor_line g.content + 1) (length (lines g.content.text))) f g (moved_down 1 g.content) (down_text 1 g.content) area h
+moved_kept Left f g area h = moves _ f g _ refl area h
+moved_kept Right f g area h = moves _ f g _ refl area h
+moved_kept PageUp f g area h = moves (nat_lt 0 (cursor_line g.content)) f g (moved_up g.area.height g.content) (up_text g.area.height g.content) area h
+moved_kept PageDown f g area h = moves (nat_lt (cursor_line g.content + 1) (length (lines g.content.text))) f g (moved_down g.area.height g.content) (down_text g.area.height g.content) area h
+moved_kept _ f g area h = record { area = area; typed = h }
+
+removal_kept : (f : Field) (from to : ℕ) → TakeColumns f.content.text → IsKept f (removal f from to).field
+removal_kept f from to h =
+    either (is_wide f.content) f _ _ (record { area = refl; typed = replaced_takes f.content.text [] _ _ h tt })
+    (either (nat_lt from to) f _ _ (record { area = refl; typed = without_takes f.content.text from to h }) (stays f h))
+
+char_kept : (f : Field) (c : ℕ) → 0 < char_columns c → TakeColumns f.content.text → IsKept f (keys.typed f c).field
+char_kept f c takes h =
+    either (is_wide f.content) f _ _ (record { area = refl; typed = replaced_takes f.content.text (c ∷ []) _ _ h (accepted_takes c (is_accepted c) takes) })
+    (either (is_accepted c) f _ _ (record { area = refl; typed = replaced_takes f.content.text (c ∷ []) _ _ h (accepted_takes c (is_accepted c) takes) }) (stays f h))
+
+key_kept : (code : KeyCode) (shift : Bool) (f : Field) → ((c : ℕ) → code ≡ Char c → 0 < char_columns c) → TakeColumns f.content.text → IsKept f (key_outcome code shift f).field
+key_kept Backspace shift f takes h = removal_kept f _ _ h
+key_kept Delete shift f takes h = removal_kept f _ _ h
+key_kept (Char c) shift f takes h = char_kept f c (takes c refl) h
+key_kept code shift f takes h = moved_kept code f (selecting_if shift f) refl (subst TakeColumns (sym (selected shift f)) h)
+
+typed_kept : (key : KeyEvent) (f : Field) → ((c : ℕ) → key.code ≡ Char c → 0 < char_columns c) → TakeColumns f.content.text → IsKept f (typed key f)
+typed_kept key f takes h =
+    either_field (modifier_bits key.modifiers == 0) f _ _ (key_kept key.code false f takes h)
+    (either_field (modifier_bits key.modifiers == 1) f _ _ (key_kept key.code true f takes h) (stays f h))
+
+-- ---- pages
+
+-- the page is on a screen of the same size
+record IsSamePlace (p q : Page) : Type 0 where
+  columns : q.columns ≡ p.columns
+  rows : q.rows ≡ p.rows
+
+either_place : (b : Bool) (p : Page) (x y : Turn) → IsSamePlace p x.page → IsSamePlace p y.page → IsSamePlace p (if b then x else y).page
+either_place true p x y h k = h
+either_place false p x y h k = k
+
+char_place : (c : ℕ) (p : Page) → IsSamePlace p (after_char c p).page
+char_place c p =
+    let here : IsSamePlace p p = record { columns = refl; rows = refl } in
+    either_place (c == 106) p _ _ (record { columns = refl; rows = refl })
+    (either_place (c == 107) p _ _ (record { columns = refl; rows = refl })
+    (either_place (c == 32) p _ _ (record { columns = refl; rows = refl })
+    (either_place (c == 98) p _ _ (record { columns = refl; rows = refl })
+    (either_place (c == 100) p _ _ (record { columns = refl; rows = refl })
+    (either_place (c == 117) p _ _ (record { columns = refl; rows = refl })
+    (either_place (c == 103) p _ _ (record { columns = refl; rows = refl })
+    (either_place (c == 71) p _ _ (record { columns = refl; rows = refl })
+    (either_place (c == 47) p _ _ here
+    (either_place (c == 110) p _ _ here
+    (either_place (c == 78) p _ _ here
+    (either_place (c == 113) p _ _ here here)))))))))))
+
+plain_place : (code : KeyCode) (p : Page) → IsSamePlace p (after_plain_key code p).page
+plain_place (Char c) p = char_place c p
+plain_place _ p = record { columns = refl; rows = refl }
+
+control_place : (code : KeyCode) (p : Page) → IsSamePlace p (after_control code p).page
+control_place (Char c) p = either_place (c == 108) p _ _ (record { columns = refl; rows = refl }) (record { columns = refl; rows = refl })
+control_place _ p = record { columns = refl; rows = refl }
+
+key_place : (key : KeyEvent) (p : Page) → IsSamePlace p (after_key key p).page
+key_place key p =
+    either_place (key.modifiers.0 == 0) p _ _ (plain_place key.code p)
+    (either_place (key.modifiers.0 == 2) p _ _ (control_place key.code p) (record { columns = refl; rows = refl }))
+
+wheel_place : (kind : MouseEventKind) (p : Page) → IsSamePlace p (after_wheel kind p)
+wheel_place ScrollDown p = record { columns = refl; rows = refl }
+wheel_place ScrollUp p = record { columns = refl; rows = refl }
+wheel_place _ p = record { columns = refl; rows = refl }
+
+-- ---- sessions
+
+kept_order : (skin : MadSkin) (markdown : List ℕ) (s new : State) → new.lines ≡ s.lines → IsSamePlace s.page new.page → IsKept s.field new.field → IsOrderly skin markdown s → IsOrderly skin markdown new
+kept_order skin markdown s new same place kept h = record {
+  lines = subst (λ (n : ℕ). IsLaidFor skin markdown n new.lines) (sym place.columns) (subst (λ (l : List FmtLine). IsLaidFor skin markdown s.page.columns l) (sym same) h.lines);
+  field = record {
+    area = kept.area ∙ (h.field.area ∙ (ap (λ (n : ℕ). last_row n s.page.rows) (sym place.columns) ∙ ap (λ (n : ℕ). last_row new.page.columns n) (sym place.rows)));
+    typed = kept.typed;
+  };
+}
+
+-- another page, or another thing that is sought
+same_order : (skin : MadSkin) (markdown : List ℕ) (s mid new : State) → new ≡ mid → mid.lines ≡ s.lines → IsSamePlace s.page mid.page → IsKept s.field mid.field → IsOrderly skin markdown s → IsOrderly skin markdown new
+same_order skin markdown s mid new e same place kept h = subst (λ (x : State). IsOrderly skin markdown x) (sym e) (kept_order skin markdown s mid same place kept h)
+
+still : (p : Page) → IsSamePlace p p
+still p = record { columns = refl; rows = refl }
+
+asked_order : (skin : MadSkin) (markdown : List ℕ) (ask : Ask) (s new : State) → IsAsked ask s new → IsOrderly skin markdown s → IsOrderly skin markdown new
+asked_order skin markdown Search s new e h = subst (λ (x : State). IsOrderly skin markdown x) (sym e) (record { lines = h.lines; field = record { area = refl; typed = tt } })
+asked_order skin markdown Next s new (row, next, e) h = same_order skin markdown s _ new e refl (record { columns = refl; rows = refl }) (stays s.field h.field.typed) h
+asked_order skin markdown Previous s new (row, next, e) h = same_order skin markdown s _ new e refl (record { columns = refl; rows = refl }) (stays s.field h.field.typed) h
+asked_order skin markdown Forget s new e h = same_order skin markdown s _ new e refl (still s.page) (stays s.field h.field.typed) h
+asked_order skin markdown _ s new e h = same_order skin markdown s s new e refl (still s.page) (stays s.field h.field.typed) h
+
+key_order : (skin : MadSkin) (markdown : List ℕ) (key : KeyEvent) (s new : State) → IsKeyStep key s new → IsOrderly skin markdown s → IsOrderly skin markdown new
+key_order skin markdown key s new step h =
+    asked_order skin markdown (after_key key s.page).ask (record s { page = (after_key key s.page).page }) new step
+    (kept_order skin markdown s (record s { page = (after_key key s.page).page }) refl (key_place key s.page) (stays s.field h.field.typed) h)
+
+-- a key that is no character
+other_order : (skin : MadSkin) (markdown : List ℕ) (code : KeyCode) (key : KeyEvent) (s new : State) → ((c : ℕ) → code ≡ Char c → ⊥) → key.code ≡ code → new ≡ record s { field = typed key s.field } → IsOrderly skin markdown s
+    → IsOrderly skin markdown new
+other_order skin markdown code key s new other is e h =
+    same_order skin markdown s (record s { field = typed key s.field }) new e refl (still s.page) (typed_kept key s.field (λ c at. absurd (other c (sym is ∙ at))) h.field.typed) h
+
+char_field : (c : ℕ) (key : KeyEvent) (f : Field) (b : Bool) → key.code ≡ Char c → (b ≡ false → 0 < char_columns c) → TakeColumns f.content.text → IsKept f (if b then f else typed key f)
+char_field c key f true is takes h = stays f h
+char_field c key f false is takes h = typed_kept key f (λ d at. let same : Char c ≡ Char d = sym is ∙ at in let e : c ≡ d = cc in subst (λ (n : ℕ). 0 < char_columns n) e (takes refl)) h
+
+takes_some : (c : ℕ) → (char_columns c == 0) ≡ false → 0 < char_columns c
+takes_some c e = grind (arith, nat_tests)
+
+type_order : (skin : MadSkin) (markdown : List ℕ) (code : KeyCode) (key : KeyEvent) (s new : State) → key.code ≡ code → IsTypeStep code key s new → IsOrderly skin markdown s → IsOrderly skin markdown new
+type_order skin markdown Enter key s new is step h =
+    asked_order skin markdown Next _ new step (record { lines = h.lines; field = record { area = h.field.area; typed = h.field.typed } })
+type_order skin markdown Esc key s new is e h = same_order skin markdown s _ new e refl (still s.page) (stays s.field h.field.typed) h
+type_order skin markdown (Char c) key s new is e h =
+    same_order skin markdown s _ new e refl (still s.page) (char_field c key s.field (char_columns c == 0) is (takes_some c) h.field.typed) h
+type_order skin markdown Backspace key s new is e h = other_order skin markdown Backspace key s new (λ c at. cc) is e h
+type_order skin markdown Delete key s new is e h = other_order skin markdown Delete key s new (λ c at. cc) is e h
+type_order skin markdown Insert key s new is e h = other_order skin markdown Insert key s new (λ c at. cc) is e h
+type_order skin markdown Tab key s new is e h = other_order skin markdown Tab key s new (λ c at. cc) is e h
+type_order skin markdown BackTab key s new is e h = other_order skin markdown BackTab key s new (λ c at. cc) is e h
+type_order skin markdown Home key s new is e h = other_order skin markdown Home key s new (λ c at. cc) is e h
+type_order skin markdown End key s new is e h = other_order skin markdown End key s new (λ c at. cc) is e h
+type_order skin markdown Up key s new is e h = other_order skin markdown Up key s new (λ c at. cc) is e h
+type_order skin markdown Down key s new is e h = other_order skin markdown Down key s new (λ c at. cc) is e h
+type_order skin markdown Left key s new is e h = other_order skin markdown Left key s new (λ c at. cc) is e h
+type_order skin markdown Right key s new is e h = other_order skin markdown Right key s new (λ c at. cc) is e h
+type_order skin markdown PageUp key s new is e h = other_order skin markdown PageUp key s new (λ c at. cc) is e h
+type_order skin markdown PageDown key s new is e h = other_order skin markdown PageDown key s new (λ c at. cc) is e h
+type_order skin markdown (F n) key s new is e h = other_order skin markdown (F n) key s new (λ c at. cc) is e h
+type_order skin markdown Null key s new is e h = other_order skin markdown Null key s new (λ c at. cc) is e h
+
+any_key_order : (skin : MadSkin) (markdown : List ℕ) (key : KeyEvent) (s new : State) (b : Bool) → s.is_typing ≡ b → IsAnyKeyStep key s new → IsOrderly skin markdown s → IsOrderly skin markdown new
+any_key_order skin markdown key s new true is step h = type_order skin markdown key.code key s new refl (step.typing is) h
+any_key_order skin markdown key s new false is step h = key_order skin markdown key s new (step.other is) h
+
+-- a field that was given the last row of another screen
+moved_area : (columns rows : ℕ) (s : State) (new : Field) → s.field.area ≡ last_row s.page.columns s.page.rows → IsMovedTo (last_row columns rows) s.field new → (new.area ≡ last_row columns rows) × (new.content ≡ s.field.content)
+moved_area columns rows s new at h =
+    elim (cases_eq columns s.page.columns) [
+      | inl wide ↦ elim (cases_eq (rows - 1) (s.page.rows - 1)) [
+        | inl high ↦
+            let place : last_row columns rows ≡ s.field.area = cc in
+            let e = h.same place in
+            (ap (λ (f : Field). f.area) e ∙ sym place, ap (λ (f : Field). f.content) e)
+        | inr low ↦ let e = h.other (λ place. low (ap (λ (a : Area). a.top) (place ∙ at))) in (ap (λ (f : Field). f.area) e, ap (λ (f : Field). f.content) e)
+      ]
+      | inr narrow ↦ let e = h.other (λ place. narrow (ap (λ (a : Area). a.width) (place ∙ at))) in (ap (λ (f : Field). f.area) e, ap (λ (f : Field). f.content) e)
+    ]
+
+resized_order : (skin : MadSkin) (markdown : List ℕ) (columns rows : ℕ) (s new : State) → IsResized skin markdown columns rows s new → IsOrderly skin markdown s → IsOrderly skin markdown new
+resized_order skin markdown columns rows s new step h =
+    let moved = moved_area columns rows s new.field h.field.area step.field in
+    let wide : new.page.columns ≡ columns = ap (λ (p : Page). p.columns) step.page in
+    let high : new.page.rows ≡ rows = ap (λ (p : Page). p.rows) step.page in
+    record {
+      lines = subst (λ (n : ℕ). IsLaidFor skin markdown n new.lines) (sym wide) step.lines;
+      field = record {
+        area = moved.0 ∙ (ap (λ (n : ℕ). last_row n rows) (sym wide) ∙ ap (λ (n : ℕ). last_row new.page.columns n) (sym high));
+        typed = subst (λ (e : Editor). TakeColumns e.text) (sym moved.1) h.field.typed;
+      };
+    }
+
+-- an event leaves a session orderly
+pub event_order : (skin : MadSkin) (markdown : List ℕ) (event : Event) (s new : State) → IsEventStep skin markdown event s new → IsOrderly skin markdown s → IsOrderly skin markdown new
+event_order skin markdown (Key key) s new step h = any_key_order skin markdown key s new s.is_typing refl step h
+event_order skin markdown (Mouse mouse) s new e h = same_order skin markdown s _ new e refl (wheel_place mouse.kind s.page) (stays s.field h.field.typed) h
+event_order skin markdown (Resize columns rows) s new step h = resized_order skin markdown columns rows s new step h
+event_order skin markdown FocusGained s new e h = same_order skin markdown s s new e refl (still s.page) (stays s.field h.field.typed) h
+event_order skin markdown FocusLost s new e h = same_order skin markdown s s new e refl (still s.page) (stays s.field h.field.typed) h
+
+-- a session is so from its start on
+pub start_order : (skin : MadSkin) (markdown : List ℕ) (columns rows : ℕ) (s : State) → IsStart skin markdown columns rows s → IsOrderly skin markdown s
+start_order skin markdown columns rows s h =
+    let wide : s.page.columns ≡ columns = ap (λ (p : Page). p.columns) h.page in
+    let high : s.page.rows ≡ rows = ap (λ (p : Page). p.rows) h.page in
+    record {
+      lines = subst (λ (n : ℕ). IsLaidFor skin markdown n s.lines) (sym wide) h.lines;
+      field = record {
+        area = ap (λ (f : Field). f.area) h.field ∙ (ap (λ (n : ℕ). last_row n rows) (sym wide) ∙ ap (λ (n : ℕ). last_row s.page.columns n) (sym high));
+        typed = subst (λ (f : Field). TakeColumns f.content.text) (sym h.field) tt;
+      };
+    }
