@@ -1,5 +1,5 @@
 -- What a present does to the bytes that a terminal has read.
-use Rattle.std.proofs.Common.{◌≡◌, ◌⊎◌, ⊎_elim, ℕ, zero, suc, ◌+◌, ◌-◌, ◌*◌, true, false, List, [], ◌∷◌, ◌++◌, length, take, drop, replicate, Option, Some, None, Result, Ok, Err, refl, ap, sym, ◌∙◌, subst, arith, lit<, append_assoc}
+use Rattle.std.proofs.Common.{◌≡◌, ⊎_elim, ℕ, ◌-◌, ◌*◌, true, false, List, [], ◌∷◌, ◌++◌, length, take, drop, replicate, Option, Some, None, Result, Ok, Err, refl, ap, sym, ◌∙◌, subst, arith, lit<, append_assoc}
 use Rattle.std.specs.Prelude.{IfSome, IsErr}
 use Rattle.std.proofs.lemmas.Bool.{false≢true}
 use Rattle.std.proofs.lemmas.List.{append-nil, drop_all, take_all, take-append-drop, length-replicate}
@@ -9,7 +9,7 @@ use Rattle.mad_term.specs.Trace.{Trace, after, failed, flushed, Flushes, TookWit
 use Rattle.mad_term.proofs.Traces.{after-nil, took_with, took_flushed}
 use Rattle.mad_screen.specs.Glyph.{Glyph}
 use Rattle.mad_screen.specs.Grid.{Grid, IsGrid, empty_grid, plain_pen, blank, put_list}
-use Rattle.mad_screen.specs.Terminal.{after_bytes, erased, screen_end, space_of}
+use Rattle.mad_screen.specs.Terminal.{after_bytes, erased, screen_end}
 use Rattle.mad_screen.proofs.CommandsRead.{command_read, sgr_read}
 use Rattle.mad_screen.proofs.Reading.{letter_screen}
 use Rattle.mad_screen.proofs.ReadingBack.{read_in_turn}

@@ -1,15 +1,15 @@
 -- Screens whose halves are spaces are whole, and whole screens stay as they are.
-use Rattle.std.proofs.Common.{◌≡◌, ⊎_elim, ℕ, zero, suc, ◌+◌, ◌-◌, ◌*◌, ◌<◌, ◌≤◌, Bool, true, false, cond, ◌&&◌, nat_lt, List, [], ◌∷◌, ◌++◌, length, take, drop, replicate, Some, Result, Ok, Err, refl, ap, sym, ◌∙◌, subst, arith, length-append, length-drop}
+use Rattle.std.proofs.Common.{◌≡◌, ⊎_elim, ℕ, zero, suc, ◌+◌, ◌-◌, ◌*◌, ◌<◌, ◌≤◌, Bool, true, false, cond, ◌&&◌, nat_lt, List, [], ◌∷◌, ◌++◌, length, take, drop, replicate, Result, Ok, Err, refl, ap, sym, ◌∙◌, subst, arith, length-append, length-drop}
 use Rattle.std.specs.Prelude.{OnOk}
 use Rattle.std.proofs.Math.Nat.{suc-mul}
 use Rattle.std.proofs.Math.Seq.{take-add}
 use Rattle.std.proofs.lemmas.Bool.{false≢true, cases_lt}
-use Rattle.std.proofs.lemmas.List.{length-replicate, length-take-le, take_all, take_at, take-append-le, drop_at, drop-append-le, take-replicate, drop-replicate, replicate-append-replicate}
+use Rattle.std.proofs.lemmas.List.{length-replicate, take_all, take-append-le, drop_at, drop-append-le, take-replicate, drop-replicate}
 use Rattle.std.proofs.lemmas.Nat.{row_fits}
 use Rattle.unicode_width.specs.Width.{char_width}
 use Rattle.mad_columns.specs.Columns.{char_columns}
 use Rattle.mad_screen.specs.Glyph.{Glyph, Look}
-use Rattle.mad_screen.specs.Grid.{Grid, IsGrid, plain_pen, blank, empty_grid, is_tail}
+use Rattle.mad_screen.specs.Grid.{Grid, plain_pen, blank, empty_grid, is_tail}
 use Rattle.mad_screen.specs.Pictures.{same_look, row_cells}
 use Rattle.mad_frames.specs.Changes.{SameSize, RowsOf, AddsCells}
 use Rattle.mad_frames.specs.Mending.{begin_tails, begins_whole, space_in, mended_after, mended_row, mended_rows, mended}

@@ -1,9 +1,9 @@
 -- No text changes the size of a screen.
-use Rattle.std.proofs.Common.{◌≡◌, ℕ, zero, suc, ◌+◌, ◌*◌, ◌-◌, Bool, true, false, cond, List, [], ◌∷◌, ◌++◌, Option, Some, None, refl, ap, sym, ◌∙◌, subst}
+use Rattle.std.proofs.Common.{◌≡◌, ℕ, zero, suc, ◌+◌, ◌*◌, ◌-◌, Bool, true, false, cond, List, [], ◌∷◌, ◌++◌, Option, Some, None, refl, ◌∙◌, subst}
 use Rattle.std.specs.Prelude.{IfSome, option_map, option_and_then, min, ◌==◌, ◌&&◌, nat_le, nat_lt}
 use Rattle.std.specs.Str.{chars, is_utf8}
 use Rattle.unicode_width.specs.Width.{char_width}
-use Rattle.mad_screen.specs.Glyph.{Glyph, Look}
+use Rattle.mad_screen.specs.Glyph.{Look}
 use Rattle.mad_screen.specs.Grid.{Grid, painted, glyphs}
 use Rattle.mad_screen.specs.Terminal.{Mode, Outside, Escape, Numbers, Reading, resting, numbers, put, put_wide, join_at, head_before, go_to, erased, row_start, row_end, screen_end, erase_screen, erase_row, restyled, perform, with_digit, is_digit, end_number, feed_in, feed_all, settled, settled_in, after_bytes}
 use Rattle.mad_frames.specs.Changes.{SameSize}

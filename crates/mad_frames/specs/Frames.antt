@@ -1,5 +1,5 @@
 -- What a frame keeps, what a present does with it, and that a terminal shows it.
-use Rattle.std.specs.Prelude.{◌≡◌, ℕ, Bool, true, false, List, [], ◌∷◌, ◌++◌, Option, Some, None, Result, MatchResult}
+use Rattle.std.specs.Prelude.{◌≡◌, ℕ, Bool, true, false, List, [], ◌++◌, Option, Some, None, Result, MatchResult}
 use Rattle.mad_term.specs.Trace.{Trace, after, failed, flushed}
 use Rattle.mad_screen.specs.Grid.{Grid, IsGrid, empty_grid}
 use Rattle.mad_screen.specs.Terminal.{after_bytes}

@@ -1,4 +1,4 @@
-use Rattle.std.proofs.Common.{◌≡◌, ◌*◌, ◌<◌, [], length, string_bytes, refl, ap, sym, ◌∙◌, rules, arith}
+use Rattle.std.proofs.Common.{◌≡◌, ◌*◌, ◌<◌, [], length, string_bytes, ap, sym, ◌∙◌, rules, arith}
 use Rattle.mad_frames.specs.Changes.{SameSize, RowsOf}
 use Rattle.mad_frames.specs.Mending.{mended, mended_row}
 use Rattle.mad_frames.proofs.HalfwayLemmas.{none_leads, row_done, same_rows, all_leads}

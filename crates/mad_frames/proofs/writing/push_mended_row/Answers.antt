@@ -1,4 +1,4 @@
-use Rattle.std.proofs.Common.{◌≡◌, true, length, string_bytes, refl, ap, sym, ◌∙◌, arith}
+use Rattle.std.proofs.Common.{◌≡◌, length, string_bytes, refl, ap, sym, ◌∙◌, arith}
 use Rattle.mad_screen.specs.Grid.{plain_pen}
 use Rattle.mad_frames.specs.Mending.{mended_row}
 use Rattle.mad_frames.specs.Whole.{are_whole}
