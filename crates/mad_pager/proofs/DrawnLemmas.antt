@@ -31,7 +31,7 @@ use Rattle.mad_layout.specs.declared.skin.MadSkin.{MadSkin}
 use Rattle.mad_rows.specs.RowStyles.{line_rules}
 use Rattle.std.proofs.lemmas.Bool.{ltb-false, and_parts}
 use Rattle.std.proofs.lemmas.Bool.Decides.{nat_tests}
-use Rattle.mad_pager.specs.Screens.{is_small, area_of, bar_of, text_pane, field_pane, status_pane, status_words, IsLineIn, IsStatusLine, KeepsTextPremises, AreLinesShown, IsFieldRow, IsLastRow, IsStatus, IsDrawing, IsPicture, IsTypingShown, IsStatusShown, IsFieldInRow, IsShowing, IsShown, IsUnshown, question}
+use Rattle.mad_pager.specs.Screens.{reversed_skin, is_small, area_of, bar_of, text_pane, field_pane, status_pane, status_words, IsLineIn, IsStatusLine, KeepsTextPremises, AreLinesShown, IsFieldRow, IsLastRow, IsStatus, IsDrawing, IsPicture, IsTypingShown, IsStatusShown, IsFieldInRow, IsShowing, IsShown, IsUnshown, question}
 use Rattle.mad_pager.specs.Sessions.{State, text_area, last_row}
 
 -- ---- what a device took
@@ -153,6 +153,7 @@ typing_shown skin s a b some lines row keeps field =
 status_shown : (skin : MadSkin) (name : List ℕ) (s : State) (a b : List ℕ) → AreLinesShown skin s a → IsStatus name s b → IsStatusShown skin name s (a ++ b)
 status_shown skin name s a b lines row = record {
   dress = row.dress;
+  dressed = row.dressed;
   line = row.line;
   status = row.is;
   shown = λ keeps drawable. both_shown (text_pane skin s) (status_pane (row_skin row.dress) row.line s) a b (rows_apart s.page.columns s.page.rows) (lines keeps) (row.shown drawable);
@@ -178,10 +179,10 @@ line_drawn dress line items area bytes old new are one took shown =
 
 -- a status that was drawn in the last row
 pub status_drawn : (name words : List ℕ) (s : State) (dress : MadSkin) (line : FmtLine) (area : Area) (old new : Trace)
-    → words ≡ status_words name s → IsStatusLine dress words s.page.columns line → area ≡ last_row s.page.columns s.page.rows → TookWith old new (IsLineIn (row_skin dress) line area) → TookWith old new (IsStatus name s)
-status_drawn name words s dress line area old new said is at drawn =
+    → dress ≡ reversed_skin → words ≡ status_words name s → IsStatusLine dress words s.page.columns line → area ≡ last_row s.page.columns s.page.rows → TookWith old new (IsLineIn (row_skin dress) line area) → TookWith old new (IsStatus name s)
+status_drawn name words s dress line area old new dressed said is at drawn =
     took_so old new (IsLineIn (row_skin dress) line (last_row s.page.columns s.page.rows)) (IsStatus name s)
-    (λ text shown. record { dress = dress; line = line; is = subst (λ (w : List ℕ). IsStatusLine dress w s.page.columns line) said is; shown = shown })
+    (λ text shown. record { dress = dress; dressed = dressed; line = line; is = subst (λ (w : List ℕ). IsStatusLine dress w s.page.columns line) said is; shown = shown })
     (subst (λ (a : Area). TookWith old new (IsLineIn (row_skin dress) line a)) at drawn)
 
 -- ---- what goes out

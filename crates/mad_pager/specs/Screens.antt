@@ -1,12 +1,18 @@
 -- What the screen shows of a session.
 use Rattle.std.specs.Prelude.{◌≡◌, ℕ, ◌+◌, ◌-◌, ◌<◌, ◌≤◌, ◌++◌, nat_lt, ◌||◌, Bool, true, false, List, [], ◌∷◌, length, take, codes, decimal, Option, Some, None, IfSome, if◌then◌else◌}
+use Rattle.std.specs.List.{flat_map}
+use Rattle.std.specs.Str.{chars}
+use Rattle.mad_md.specs.Flagged.{flagged, flagged_of, unflagged}
 use Rattle.mad_md.specs.Lines.{LineContent}
 use Rattle.mad_md.specs.declared.alignment.Alignment.TheVariants.{Left}
+use Rattle.mad_fit.specs.TextColumns.{width_of}
+use Rattle.mad_style.specs.CompoundStyles.{attribute_added}
 use Rattle.mad_style.specs.declared.kinds.CompositeKind.TheVariants.{Paragraph}
 use Rattle.mad_format.specs.Fitting.{IsCompositeFitted}
 use Rattle.mad_format.specs.Wraps.{IsMeasured}
 use Rattle.mad_format.specs.declared.composite.FmtComposite.{FmtComposite}
 use Rattle.mad_format.specs.declared.line.FmtLine.TheVariants.{Normal}
+use Rattle.mad_wrap.specs.WrapLines.{capped}
 use Rattle.mad_blocks.specs.Layouts.{IsLayoutAt}
 use Rattle.mad_blocks.specs.TextParts.{lines_in_parts}
 use Rattle.mad_layout.specs.Premises.{KeepsPremises}
@@ -14,6 +20,7 @@ use Rattle.mad_rows.specs.RowStyles.{line_rules}
 use Rattle.mad_page.specs.Pages.{percent}
 use Rattle.mad_search.specs.Searches.{composite_text}
 use Rattle.mad_term.specs.Trace.{Trace, after, flushed, CutShort}
+use Rattle.mad_term.specs.declared.attribute.Attribute.TheVariants.{Reverse}
 use Rattle.mad_term.specs.declared.errors.Error.{Error}
 use Rattle.mad_term.specs.declared.errors.Error.TheVariants.{IO, InsufficientWidth, Memory}
 use Rattle.mad_fit.specs.declared.area.Area.{Area}
@@ -25,6 +32,7 @@ use Rattle.mad_draw.specs.declared.scroll_bars.ScrollBar.{ScrollBar}
 use Rattle.mad_field.specs.Drawn.{row_pieces}
 use Rattle.mad_layout.specs.Drawable.{AreDrawable}
 use Rattle.mad_layout.specs.RowSkins.{row_skin}
+use Rattle.mad_layout.specs.Skins.{no_style_skin}
 use Rattle.mad_layout.specs.Shown.{area_row}
 use Rattle.mad_layout.specs.declared.skin.MadSkin.{MadSkin}
 use Rattle.mad_rows.specs.declared.row_skin.RowSkin.{RowSkin}
@@ -67,12 +75,19 @@ sought_words (c ∷ cs) = codes "  /" ++ (c ∷ cs)
 abbrev pub status_words : List ℕ → State → List ℕ
 status_words name s = decimal (percent s.page) ++ codes "%  " ++ name ++ sought_words s.sought
 
--- The line is a paragraph of these words, fitted to a place of these columns.
+-- the skin of the status: no style, but that its characters are reversed
+abbrev pub reversed_skin : MadSkin
+reversed_skin =
+    record no_style_skin { paragraph = record no_style_skin.paragraph { compound_style = attribute_added no_style_skin.paragraph.compound_style Reverse } }
+
+-- The line is a paragraph of these words without flags, fitted to a place of these columns.
 pub record IsStatusLine (skin : MadSkin) (words : List ℕ) (columns : ℕ) (line : FmtLine) : Type 0 where
   pub whole : FmtComposite
   pub fitted : FmtComposite
   pub is : line ≡ Normal fitted
   pub text : composite_text whole ≡ words
+  pub flags : flat_map flagged_of whole.compounds.items ≡ flagged unflagged (chars words)
+  pub length : whole.visible_length ≡ capped (width_of (flagged unflagged (chars words)))
   pub fits : whole.visible_length ≤ columns → fitted.compounds.items ≡ whole.compounds.items
   pub cut : columns < whole.visible_length → IsMeasured (line_rules (row_skin skin)) whole → IsCompositeFitted (line_rules (row_skin skin)) Left columns whole fitted
   pub kind : fitted.kind ≡ Paragraph
@@ -86,6 +101,7 @@ IsLineIn skin line area bytes = AreDrawable skin area.width (line ∷ []) → Ar
 -- These bytes are a status: its line in the last row, which shows it where the words of the line are shown.
 pub record IsStatus (name : List ℕ) (s : State) (bytes : List ℕ) : Type 0 where
   pub dress : MadSkin
+  pub dressed : dress ≡ reversed_skin
   pub line : FmtLine
   pub is : IsStatusLine dress (status_words name s) s.page.columns line
   pub shown : IsLineIn (row_skin dress) line (last_row s.page.columns s.page.rows) bytes
@@ -137,6 +153,7 @@ IsTypingShown skin s bytes = KeepsTextPremises skin s → IsFieldInRow s → Are
 -- These bytes show it while nothing is being typed: in the last row is the status, where its words are shown.
 pub record IsStatusShown (skin : MadSkin) (name : List ℕ) (s : State) (bytes : List ℕ) : Type 0 where
   pub dress : MadSkin
+  pub dressed : dress ≡ reversed_skin
   pub line : FmtLine
   pub status : IsStatusLine dress (status_words name s) s.page.columns line
   pub shown : KeepsTextPremises skin s → AreDrawable (row_skin dress) s.page.columns (line ∷ []) → ArePanesShown (text_pane skin s ∷ status_pane (row_skin dress) line s ∷ []) bytes

@@ -5,7 +5,7 @@ ghost use Rattle.mad_term.specs.Trace.{TookWith};
 ghost use Rattle.mad_fit.specs.Areas.{IsWithinLimits};
 ghost use Rattle.mad_layout.specs.RowSkins.{row_skin};
 ghost use Rattle.mad_pager.specs.Sessions.{state_of};
-ghost use Rattle.mad_pager.specs.Screens.{status_words, IsLineIn, IsStatus, IsStatusLine};
+ghost use Rattle.mad_pager.specs.Screens.{reversed_skin, status_words, IsLineIn, IsStatus, IsStatusLine};
 
 use crate::session::{Session, last_row};
 use mad_fit::{Area, Spacing};
@@ -91,7 +91,9 @@ fn status_line<'w>(
 }
 
 // The skin of the status: reversed.
-fn status_skin() -> MadSkin {
+fn status_skin() -> MadSkin
+    ensures { result ≡ reversed_skin }
+{
     let mut skin = MadSkin::no_style();
     skin.paragraph.compound_style.add_attr(Attribute::Reverse);
     skin

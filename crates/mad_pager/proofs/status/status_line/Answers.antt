@@ -4,6 +4,9 @@ use Rattle.std.specs.List.{flat_map}
 use Rattle.std.proofs.lemmas.List.{append-nil}
 use Rattle.mad_md.specs.declared.alignment.Alignment.TheVariants.{Left}
 use Rattle.mad_md.specs.declared.compound.Compound.{Compound}
+use Rattle.mad_md.specs.Flagged.{flagged_of}
+use Rattle.mad_fit.specs.TextColumns.{width_of}
+use Rattle.mad_wrap.specs.WrapLines.{capped}
 use Rattle.mad_fit.specs.declared.spacing.Spacing.{Spacing}
 use Rattle.mad_format.specs.declared.composite.FmtComposite.{FmtComposite}
 use Rattle.mad_format.specs.declared.fitter.Fitter.{Fitter}
@@ -18,6 +21,8 @@ returns c = record {
   fitted = c.in_place.result;
   is = refl;
   text = ap (flat_map (λ (k : Compound). k.src.now)) c.in_ok-line.ensures.text ∙ (append-nil _ ∙ ap (λ (k : Compound). k.src.now) c.raw_str.ensures);
+  flags = ap (flat_map flagged_of) c.in_ok-line.ensures.text ∙ (append-nil _ ∙ ap flagged_of c.raw_str.ensures);
+  length = c.in_ok-line.ensures.length ∙ ap (λ (k : Compound). capped (width_of (flagged_of k))) c.raw_str.ensures;
   fits = λ h. ap (λ (l : FmtComposite). l.compounds.items) c.in_place.ensures ∙ ap (λ (l : FmtComposite). l.compounds.items) (c.in_ok-fit.ensures.fits (omega arith)).1;
   cut = λ h measured.
       fitted_along (line_rules (row_skin c.args.skin.now)) _ _ _ c.in_ok-line.line c.fit.new.composite c.in_place.result (ap (λ (f : Fitter). f.align) c.for_align.ensures) c.from-width.ensures (ap (λ (l : FmtComposite). l.compounds.items) c.in_place.ensures) (c.in_ok-fit.ensures.fitted (omega arith) measured);
