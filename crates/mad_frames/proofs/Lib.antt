@@ -1,3 +1,4 @@
+pub mod BoundLemmas
 pub mod FrameLemmas
 pub mod HalfwayLemmas
 pub mod LooksLemmas

@@ -1,10 +1,11 @@
 -- What a frame keeps, what a present does with it, and that a terminal shows it.
-use Rattle.std.specs.Prelude.{◌≡◌, ℕ, Bool, true, false, List, [], ◌++◌, Option, Some, None, Result, MatchResult}
+use Rattle.std.specs.Prelude.{◌≡◌, ℕ, ◌≤◌, Bool, true, false, List, [], ◌++◌, length, Option, Some, None, Result, MatchResult}
 use Rattle.mad_term.specs.Trace.{Trace, after, failed, flushed}
 use Rattle.mad_screen.specs.Grid.{Grid, IsGrid, empty_grid}
 use Rattle.mad_screen.specs.Terminal.{after_bytes}
 use Rattle.mad_frames.specs.declared.errors.PresentError.{PresentError}
 use Rattle.mad_frames.specs.declared.errors.PresentError.TheVariants.{IO, Undefined, Memory}
+use Rattle.mad_frames.specs.Bound.{most_bytes}
 use Rattle.mad_frames.specs.Changes.{SameSize, ShowsCells}
 use Rattle.mad_frames.specs.Mending.{mended}
 
@@ -50,6 +51,10 @@ LeadsAll f new bytes = (t : Grid) → MayShow f t → (shown : Grid) × (after_b
 abbrev pub AddsNothing : FrameState → Grid → List ℕ → Type 0
 AddsNothing f new bytes = f.known ≡ true → (mended f.base).cells ≡ (mended new).cells → bytes ≡ []
 
+-- where the terminal shows the screen that was presented last, the changed cells alone take bytes, and no more than they may
+abbrev pub IsBounded : FrameState → Grid → List ℕ → Type 0
+IsBounded f new bytes = f.known ≡ true → length bytes ≤ most_bytes (mended f.base).cells (mended new).cells
+
 -- a step keeps a frame in step, if the device takes these bytes meanwhile
 abbrev pub KeepsInStep : FrameState → FrameState → List ℕ → Type 0
 KeepsInStep old new bytes = (start : Grid) (taken : List ℕ) → IsInStep old start taken → IsInStep new start (taken ++ bytes)
@@ -60,6 +65,7 @@ pub record IsMessage (f : FrameState) (new : Grid) (bytes : List ℕ) : Type 0 w
   pub whole : bytes ≡ f.unsent ++ changes
   pub leads : LeadsAll f new changes
   pub quiet : AddsNothing f new changes
+  pub bound : IsBounded f new changes
 
 -- What was sent: the bytes that the device had yet to take, then the changes. A front of them went out, and the rest is left.
 pub record IsSent (old new : FrameState) (front : List ℕ) : Type 0 where
@@ -67,6 +73,7 @@ pub record IsSent (old new : FrameState) (front : List ℕ) : Type 0 where
   pub whole : front ++ new.unsent ≡ old.unsent ++ changes
   pub leads : LeadsAll old new.base changes
   pub quiet : AddsNothing old new.base changes
+  pub bound : IsBounded old new.base changes
   pub read : drawn_screen old ≡ Some new.base
   pub drawn : new.drawn ≡ []
   pub known : new.known ≡ true

@@ -1,3 +1,4 @@
+pub mod Bound
 pub mod Changes
 pub mod FrameLaws
 pub mod Frames

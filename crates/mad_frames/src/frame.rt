@@ -5,7 +5,7 @@ ghost use Rattle.mad_term.specs.declared.commands.ClearType.TheVariants.{All};
 ghost use Rattle.mad_term.specs.Commands.{clear_bytes, sgr_bytes};
 ghost use Rattle.mad_term.specs.Trace.{Trace, Puts, Flushes, TookWith};
 ghost use Rattle.mad_frames.specs.Changes.{SameSize};
-ghost use Rattle.mad_frames.specs.Frames.{new_frame, frame_trace, drawn_screen, unknown, LeadsAll, AddsNothing, IsMessage, KeepsInStep, Sends, Presents};
+ghost use Rattle.mad_frames.specs.Frames.{new_frame, frame_trace, drawn_screen, unknown, LeadsAll, AddsNothing, IsBounded, IsMessage, KeepsInStep, Sends, Presents};
 
 use crate::errors::PresentError;
 use crate::writing::mended_changes;
@@ -128,6 +128,7 @@ impl Frame {
         requires size { SameSize self.now.base screen.now }
         ensures leads { IfOk result (λ s. LeadsAll self.now screen.now (string_bytes s)) }
         ensures quiet { IfOk result (λ s. AddsNothing self.now screen.now (string_bytes s)) }
+        ensures bound { IfOk result (λ s. IsBounded self.now screen.now (string_bytes s)) }
     {
         if self.known {
             return mended_changes(alloc, &self.base, screen);

@@ -1,10 +1,12 @@
 //! Cells written as pieces of styled text.
 
-ghost use Rattle.std.specs.Prelude.{◌≡◌, ◌<◌, ◌≤◌, ◌⊎◌, ℕ, true, false, IfOk, OnOk, IsTrue, length, string_bytes, slice_index_or};
+ghost use Rattle.std.specs.Prelude.{◌≡◌, ◌<◌, ◌≤◌, ◌+◌, ◌⊎◌, ℕ, List, true, false, IfOk, OnOk, IsTrue, length, string_bytes, slice_index_or};
+ghost use Rattle.mad_term.specs.Styles.{IsStyle, piece_bytes};
 ghost use Rattle.mad_screen.specs.Glyph.{look_of};
-ghost use Rattle.mad_screen.specs.Grid.{blank, is_tail};
+ghost use Rattle.mad_screen.specs.Grid.{blank, plain_pen, is_tail};
 ghost use Rattle.mad_screen.specs.Painting.{look_of_style};
-ghost use Rattle.mad_screen.specs.Pictures.{row_text};
+ghost use Rattle.mad_screen.specs.Pictures.{same_look, row_text};
+ghost use Rattle.mad_frames.specs.Bound.{pen_bytes, pieces_to};
 ghost use Rattle.mad_frames.specs.Changes.{AddsPaint};
 ghost use Rattle.mad_frames.specs.Whole.{is_writable, are_whole};
 
@@ -15,7 +17,8 @@ use std::alloc::{AllocError, Global};
 
 // The style that writes with a pen.
 fn style_of(pen: Pen) -> ContentStyle
-    ensures { is_writable (look_of pen) ≡ true → look_of_style result ≡ look_of pen }
+    ensures look { is_writable (look_of pen) ≡ true → look_of_style result ≡ look_of pen }
+    ensures bytes { is_writable (look_of pen) ≡ true → IsStyle result → (text : List ℕ) → length (piece_bytes result text) ≤ pen_bytes plain_pen (look_of pen) + length text }
 {
     ContentStyle {
         foreground_color: pen.fg,
@@ -40,6 +43,7 @@ fn text_of(alloc: Global, cells: &[Cell]) -> Result<String, AllocError>
 fn continues(cell: &Cell, pen: Pen) -> bool
     ensures joins { IsTrue result → (is_tail cell.now ≡ true) ⊎ (cell.now.pen ≡ look_of pen) }
     ensures head { result ≡ false → is_tail cell.now ≡ false }
+    ensures other { result ≡ false → same_look cell.now.pen (look_of pen) ≡ false }
 {
     if cell.is_tail() {
         return true;
@@ -53,6 +57,7 @@ fn piece_length(cells: &[Cell]) -> usize
     ensures some { 0 < result }
     ensures within { result ≤ length cells.now }
     ensures head { result < length cells.now → is_tail (slice_index_or cells.now result blank) ≡ false }
+    ensures other { result < length cells.now → same_look (slice_index_or cells.now result blank).pen (slice_index_or cells.now 0 blank).pen ≡ false }
     ensures pen { (i : ℕ) → i < result → (is_tail (slice_index_or cells.now i blank) ≡ true) ⊎ ((slice_index_or cells.now i blank).pen ≡ (slice_index_or cells.now 0 blank).pen) }
 {
     let first = &cells[0];
@@ -68,7 +73,8 @@ fn piece_length(cells: &[Cell]) -> usize
 /// Appends cells that are whole characters: a piece for each part of them in one pen.
 pub(crate) fn push_cells(alloc: Global, out: &mut String, cells: &[Cell]) -> Result<(), AllocError>
     requires { are_whole cells.now ≡ true }
-    ensures { OnOk result (AddsPaint (string_bytes out.old) cells.now (string_bytes out.new)) }
+    ensures paints { OnOk result (AddsPaint (string_bytes out.old) cells.now (string_bytes out.new)) }
+    ensures bytes { OnOk result (length (string_bytes out.new) ≤ length (string_bytes out.old) + pieces_to cells.now (length cells.now)) }
 {
     let mut from = 0;
     while from < cells.len() {

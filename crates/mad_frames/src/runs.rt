@@ -1,7 +1,11 @@
 //! Where a row has changed.
 
-ghost use Rattle.std.specs.Prelude.{◌≡◌, ◌<◌, ◌≤◌, ◌↔◌, ℕ, false, IsTrue, length, slice_index_or};
+ghost use Rattle.std.specs.Prelude.{◌≡◌, ◌<◌, ◌≤◌, ◌↔◌, ◌^◌, ◌-◌, ℕ, true, false, IfSome, IsTrue, length, slice_index_or};
+ghost use Rattle.mad_screen.specs.Glyph.{look_of};
 ghost use Rattle.mad_screen.specs.Grid.{blank, is_tail};
+ghost use Rattle.mad_screen.specs.Pictures.{cell_text};
+ghost use Rattle.mad_frames.specs.Bound.{BeginsChange, EndsGap, IsPaid, pen_bytes};
+ghost use Rattle.mad_frames.specs.Whole.{are_whole};
 
 use crate::whole::same_pen;
 use mad_screen::{Cell, Pen};
@@ -19,6 +23,7 @@ fn character_end(row: &[Cell], x: usize) -> usize
     ensures after { x < result }
     ensures within { result ≤ length row.now }
     ensures head { result < length row.now → is_tail (slice_index_or row.now result blank) ≡ false }
+    ensures tails { (i : ℕ) → x < i → i < result → is_tail (slice_index_or row.now i blank) ≡ true }
 {
     for end in x + 1..row.len() {
         if !row[end].is_tail() {
@@ -52,6 +57,7 @@ pub(crate) fn change_start(old: &[Cell], new: &[Cell], x: usize) -> usize
     ensures head { result < length new.now → is_tail (slice_index_or new.now result blank) ≡ false }
     ensures same { (i : ℕ) → x ≤ i → i < result → slice_index_or old.now i blank ≡ slice_index_or new.now i blank }
     ensures none { old.now ≡ new.now → result ≡ length new.now }
+    ensures changed { result < length new.now → BeginsChange old.now new.now result }
 {
     let mut start = x;
     while start < new.len() {
@@ -81,12 +87,16 @@ fn digits(n: usize) -> usize
 }
 
 // The bytes of the move to column `x` of row `y`, both counted from zero.
-fn move_bytes(x: usize, y: u16) -> usize {
+fn move_bytes(x: usize, y: u16) -> usize
+    ensures { result ≤ 14 }
+{
     4 + digits(usize::from(y) + 1) + digits(x.saturating_add(1))
 }
 
 // The bytes of a cell's characters.
-fn text_bytes(cell: &Cell) -> usize {
+fn text_bytes(cell: &Cell) -> usize
+    ensures { result < 2 ^ 64 - 1 → result ≡ length (cell_text cell.now) }
+{
     let mut bytes = 0usize;
     for c in &cell.chars {
         bytes = bytes.saturating_add(c.len_utf8());
@@ -96,35 +106,35 @@ fn text_bytes(cell: &Cell) -> usize {
 
 // Whether a cell after another asks for no more than its characters: its pen is the plain one, which is back after each
 // piece, or that of the cell before.
-fn is_free(before: &Cell, cell: &Cell) -> bool {
+fn is_free(before: &Cell, cell: &Cell) -> bool
+    ensures { IsTrue result → pen_bytes before.now.pen cell.now.pen ≡ 0 }
+{
     same_pen(cell.pen, Pen::default()) || same_pen(cell.pen, before.pen)
 }
 
 // The column of the next changed character, if the unchanged ones from `end` up to it take no more bytes than the move that
-// they spare; else `end`.
-fn gap_end(old: &[Cell], new: &[Cell], end: usize, y: u16) -> usize
+// they spare.
+fn next_in_run(old: &[Cell], new: &[Cell], end: usize, y: u16) -> Option<usize>
     requires same_length { length old.now ≡ length new.now }
     requires some { 0 < end }
-    requires within { end < length new.now }
-    requires head { is_tail (slice_index_or new.now end blank) ≡ false }
-    ensures after { end ≤ result }
-    ensures within { result ≤ length new.now }
-    ensures head { result < length new.now → is_tail (slice_index_or new.now result blank) ≡ false }
+    requires within { end ≤ length new.now }
+    requires head { end < length new.now → is_tail (slice_index_or new.now end blank) ≡ false }
+    ensures { IfSome result (λ x. EndsGap old.now new.now end x) }
 {
     let mut at = end;
     let mut spent = 0usize;
     while at < new.len() && spent <= LONGEST_MOVE {
         let next = character_end(new, at);
         if !same_cells(old, new, at, next) {
-            return if spent <= move_bytes(at, y) { at } else { end };
+            return (spent <= move_bytes(at, y)).then_some(at);
         }
         if !is_free(&new[at - 1], &new[at]) {
-            return end;
+            return None;
         }
         spent = spent.saturating_add(text_bytes(&new[at]));
         at = next;
     }
-    end
+    None
 }
 
 /// The column where the run of characters to write that begins at `start` ends: that of the first unchanged one, or the row's
@@ -132,22 +142,16 @@ fn gap_end(old: &[Cell], new: &[Cell], end: usize, y: u16) -> usize
 pub(crate) fn change_end(old: &[Cell], new: &[Cell], start: usize, y: u16) -> usize
     requires same_length { length old.now ≡ length new.now }
     requires within { start < length new.now }
+    requires head { is_tail (slice_index_or new.now start blank) ≡ false }
+    requires changed { BeginsChange old.now new.now start }
     ensures after { start < result }
     ensures within { result ≤ length new.now }
     ensures head { result < length new.now → is_tail (slice_index_or new.now result blank) ≡ false }
+    ensures paid { are_whole old.now ≡ true → are_whole new.now ≡ true → IsPaid old.now new.now start result }
 {
     let mut end = character_end(new, start);
-    while end < new.len() {
-        let next = character_end(new, end);
-        if !same_cells(old, new, end, next) {
-            end = next;
-            continue;
-        }
-        let gap = gap_end(old, new, end, y);
-        if gap == end {
-            return end;
-        }
-        end = gap;
+    while let Some(next) = next_in_run(old, new, end, y) {
+        end = character_end(new, next);
     }
     end
 }

@@ -1,6 +1,7 @@
 //! The bytes from one screen to another.
 
-ghost use Rattle.std.specs.Prelude.{◌≡◌, ◌<◌, ◌^◌, ◌↔◌, [], None, true, IfOk, IfSome, OnOk, length, string_bytes};
+ghost use Rattle.std.specs.Prelude.{◌≡◌, ◌<◌, ◌≤◌, ◌+◌, ◌^◌, ◌↔◌, [], None, true, IfOk, IfSome, OnOk, length, string_bytes};
+ghost use Rattle.mad_frames.specs.Bound.{most_bytes, most_to};
 ghost use Rattle.mad_frames.specs.Changes.{SameSize, LeadTo, AddsCells};
 ghost use Rattle.mad_frames.specs.Mending.{mended_row, mended};
 ghost use Rattle.mad_frames.specs.Whole.{are_whole, IsWholeGrid};
@@ -26,6 +27,7 @@ fn push_row(
     requires whole { are_whole new.now ≡ true }
     ensures leads { OnOk result (AddsCells old.now new.now y (length new.now) (string_bytes out.old) (string_bytes out.new)) }
     ensures same { OnOk result (old.now ≡ new.now → string_bytes out.new ≡ string_bytes out.old) }
+    ensures bound { OnOk result (are_whole old.now ≡ true → length (string_bytes out.new) ≤ length (string_bytes out.old) + most_to old.now new.now (length new.now)) }
 {
     let mut x = 0;
     while x < new.len() {
@@ -52,6 +54,7 @@ fn push_mended_row(
     requires columns { length new.now < 2 ^ 16 }
     ensures leads { OnOk result (AddsCells (mended_row old.now) (mended_row new.now) y (length new.now) (string_bytes out.old) (string_bytes out.new)) }
     ensures same { OnOk result (mended_row old.now ≡ mended_row new.now → string_bytes out.new ≡ string_bytes out.old) }
+    ensures bound { OnOk result (length (string_bytes out.new) ≤ length (string_bytes out.old) + most_to (mended_row old.now) (mended_row new.now) (length new.now)) }
 {
     if are_whole(old) && are_whole(new) {
         return push_row(alloc, out, old, new, y);
@@ -78,6 +81,9 @@ pub fn changes(alloc: Global, old: &Screen, new: &Screen) -> Result<Option<Strin
     ensures leads { IfOk result (λ o. IfSome o (λ s. LeadTo old.now new.now (string_bytes s))) }
     ensures none { IfOk result (λ o. o ≡ None ↔ ¬ (SameSize old.now new.now × IsWholeGrid new.now)) }
     ensures same { IfOk result (λ o. IfSome o (λ s. old.now.cells ≡ new.now.cells → string_bytes s ≡ [])) }
+
+    // A changed cell takes 181 bytes and those of its characters at most, and one that stays none.
+    ensures bound { IfOk result (λ o. IfSome o (λ s. IsWholeGrid old.now → length (string_bytes s) ≤ most_bytes old.now.cells new.now.cells)) }
 {
     if old.width() != new.width() || old.height() != new.height() || !is_whole(new) {
         return Ok(None);
@@ -98,6 +104,7 @@ pub(crate) fn mended_changes(
     requires size { SameSize old.now new.now }
     ensures leads { IfOk result (λ s. LeadTo (mended old.now) (mended new.now) (string_bytes s)) }
     ensures same { IfOk result (λ s. (mended old.now).cells ≡ (mended new.now).cells → string_bytes s ≡ []) }
+    ensures bound { IfOk result (λ s. length (string_bytes s) ≤ most_bytes (mended old.now).cells (mended new.now).cells) }
 {
     let is_one_width = old.width() == new.width();
     prove!(is_one_width);
