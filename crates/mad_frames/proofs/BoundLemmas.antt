@@ -74,7 +74,7 @@ tail_text : (cs : List ℕ) (p : Look) → has_none cs ≡ true → length (cell
 tail_text [] p h = refl
 tail_text (c ∷ cs) p h = absurd (false≢true h)
 
-same_pen_bytes : (before pen : Look) → pen ≡ before → pen_bytes before pen ≡ 0
+pub same_pen_bytes : (before pen : Look) → pen ≡ before → pen_bytes before pen ≡ 0
 same_pen_bytes before pen e =
     ap (λ b. bytes_if (same_look pen plain_pen || b)) (ap (same_look pen) (sym e) ∙ same_look_refl pen) ∙ either (same_look pen plain_pen)
   where

@@ -4,6 +4,8 @@ pub mod HalfwayLemmas
 pub mod LooksLemmas
 pub mod MendLemmas
 pub mod MendSteps
+pub mod PieceBytes
 pub mod PieceLemmas
 pub mod SizeLemmas
+pub mod StyleBytes
 pub mod WholeLemmas
