@@ -6,6 +6,7 @@ pub mod MendLemmas
 pub mod MendSteps
 pub mod PieceBytes
 pub mod PieceLemmas
+pub mod RowBytes
 pub mod SizeLemmas
 pub mod StyleBytes
 pub mod WholeLemmas

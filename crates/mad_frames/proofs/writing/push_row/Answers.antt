@@ -1,6 +1,9 @@
-use Rattle.std.proofs.Common.{string_bytes, arith}
+use Rattle.std.proofs.Common.{length, string_bytes, arith}
+use Rattle.mad_term.specs.Commands.{move_to_bytes}
 use Rattle.mad_screen.specs.Grid.{plain_pen}
 use Rattle.mad_frames.proofs.HalfwayLemmas.{cells_same, cells_written}
+use Rattle.mad_frames.proofs.RowBytes.{run_bound, same_bound}
+use Rattle.mad_frames.proofs.StyleBytes.{move_most}
 use Rattle.mad_frames.proofs.WholeLemmas.{whole_between}
 use Rattle.mad_frames.proofs.writing.push_row.Goals as goal
 
@@ -21,8 +24,10 @@ loop-x-preserved-in-Continue-branch-2 c =
       within = c.change_end-x.ensures.within;
       head = c.change_end-x.ensures.head;
       leads = cells_written a b y s c.change_end-x.result before bytes (string_bytes c.push_move.new.row) (string_bytes c.push_cells.new.out)
-          c.change_end-x.ensures.after c.change_end-x.ensures.within (omega arith) (omega arith) c.in_ok-push_move.ensures c.in_ok-push_cells.ensures
+          c.change_end-x.ensures.after c.change_end-x.ensures.within (omega arith) (omega arith) c.in_ok-push_move.ensures c.in_ok-push_cells.ensures.paints
           (cells_same a b y c.loop-x.x s before bytes c.change_start-start.ensures.after c.change_start-start.ensures.within c.change_start-start.ensures.same c.loop-x.invariant.leads);
+      bound = λ h. run_bound a b c.loop-x.x s c.change_end-x.result (length before) bytes (string_bytes c.push_move.new.row) (string_bytes c.push_cells.new.out) (move_to_bytes s y)
+          c.change_end-x.ensures.after c.change_end-x.ensures.within c.change_start-start.ensures.after (c.change_end-x.ensures.paid h c.requires.whole) c.in_ok-push_move.ensures (move_most s y (omega arith) (omega arith)) c.in_ok-push_cells.ensures.bytes (c.loop-x.invariant.bound h);
       same = λ e. absurd (omega (arith, c.if-start-new.true, c.change_start-start.ensures.none e));
     }
 
@@ -33,5 +38,6 @@ loop-x-preserved c =
       head = c.change_start-start.ensures.head;
       leads = cells_same c.args.old.now c.args.new.now c.args.y c.loop-x.x c.change_start-start.result (string_bytes c.args.out.now) (string_bytes c.loop-x.out)
           c.change_start-start.ensures.after c.change_start-start.ensures.within c.change_start-start.ensures.same c.loop-x.invariant.leads;
+      bound = λ h. same_bound c.args.old.now c.args.new.now c.loop-x.x c.change_start-start.result (length (string_bytes c.args.out.now)) (string_bytes c.loop-x.out) c.change_start-start.ensures.after (c.loop-x.invariant.bound h);
       same = c.loop-x.invariant.same;
     }
