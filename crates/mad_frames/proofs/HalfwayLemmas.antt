@@ -193,7 +193,7 @@ same_rows old new y size cells =
 -- ---- rows of whichever screens
 
 -- as many cells as columns
-row_columns : (old new : Grid) (y : ℕ) (a b : List Glyph) → RowsOf old new y a b → length b ≡ new.width
+pub row_columns : (old new : Grid) (y : ℕ) (a b : List Glyph) → RowsOf old new y a b → length b ≡ new.width
 row_columns old new y a b r = ap length r.new_row ∙ row_length new.cells y new.width new.height r.row r.full
 
 -- before a row
