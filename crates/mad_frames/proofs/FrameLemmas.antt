@@ -42,6 +42,7 @@ front_sent old new bytes n m read rest drawn known = record {
   whole = ap (λ l. take n bytes ++ l) rest ∙ take-append-drop n bytes ∙ m.whole;
   leads = m.leads;
   quiet = m.quiet;
+  bound = m.bound;
   read = read;
   drawn = drawn;
   known = known;

@@ -2,7 +2,7 @@ use Rattle.std.proofs.Common.{◌≡◌, length, string_bytes, refl, ap, sym, �
 use Rattle.mad_screen.specs.Grid.{plain_pen}
 use Rattle.mad_frames.specs.Mending.{mended_row}
 use Rattle.mad_frames.specs.Whole.{are_whole}
-use Rattle.mad_frames.proofs.MendLemmas.{adds_mended, same_mended, mended_length, mended_whole, whole_stays}
+use Rattle.mad_frames.proofs.MendLemmas.{adds_mended, same_mended, bound_mended, mended_length, mended_whole, whole_stays}
 use Rattle.mad_frames.proofs.writing.push_mended_row.Goals as goal
 
 pub returns-then-are_whole-2-clause-leads : goal.returns-then-are_whole-2-clause-leads
@@ -41,3 +41,17 @@ returns-clause-leads c =
     let a : c.deref.result.now ≡ mended_row c.args.old.now = c.deref.ensures.value ∙ c.in_ok-old.ensures in
     let b : c.deref-2.result.now ≡ mended_row c.args.new.now = c.deref-2.ensures.value ∙ c.in_ok-new.ensures in
     adds_mended _ c.args.old.now c.args.new.now c.deref.result.now c.deref-2.result.now c.args.y (length c.args.new.now) (string_bytes c.args.out.now) (string_bytes c.push_row-2.new.out) a b refl c.push_row-2.ensures.leads
+
+pub returns-then-are_whole-2-clause-bound : goal.returns-then-are_whole-2-clause-bound
+returns-then-are_whole-2-clause-bound c =
+    let old = c.args.old.now in
+    let new = c.args.new.now in
+    let a : old ≡ mended_row old = sym (whole_stays 0 plain_pen old (sym c.are_whole.ensures ∙ c.if-are_whole.true)) in
+    let b : new ≡ mended_row new = sym (whole_stays 0 plain_pen new (sym c.are_whole-then-are_whole.ensures ∙ c.if-are_whole-2.true)) in
+    bound_mended _ old new old new (length new) (string_bytes c.args.out.now) (string_bytes c.push_row.new.out) a b refl c.push_row.ensures.bound
+
+pub returns-clause-bound : goal.returns-clause-bound
+returns-clause-bound c =
+    let a : c.deref.result.now ≡ mended_row c.args.old.now = c.deref.ensures.value ∙ c.in_ok-old.ensures in
+    let b : c.deref-2.result.now ≡ mended_row c.args.new.now = c.deref-2.ensures.value ∙ c.in_ok-new.ensures in
+    bound_mended _ c.args.old.now c.args.new.now c.deref.result.now c.deref-2.result.now (length c.args.new.now) (string_bytes c.args.out.now) (string_bytes c.push_row-2.new.out) a b refl c.push_row-2.ensures.bound
