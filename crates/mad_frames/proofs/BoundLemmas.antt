@@ -1,18 +1,16 @@
 -- What cells take as bytes, and what a change may take.
-use Rattle.std.proofs.Common.{◌≡◌, ⊎_elim, ℕ, zero, suc, ◌+◌, ◌-◌, ◌<◌, ◌≤◌, Bool, true, false, cond, ◌&&◌, ◌||◌, nat_eq, List, [], ◌∷◌, ◌++◌, length, get_or, take, drop, refl, ap, sym, ◌∙◌, subst, arith, length-append, length-drop}
+use Rattle.std.proofs.Common.{◌≡◌, ℕ, zero, suc, ◌+◌, ◌-◌, ◌<◌, ◌≤◌, Bool, true, false, cond, ◌||◌, nat_eq, List, [], ◌∷◌, length, get_or, drop, refl, ap, sym, ◌∙◌, subst, arith, length-drop}
 use Rattle.std.specs.Prelude.{IfSome}
 use Rattle.std.specs.Bool.{then_some}
-use Rattle.std.specs.List.{flat_map}
 use Rattle.std.specs.Cmp.Lexicographic.{pointwise, bytes_decides}
-use Rattle.std.proofs.lemmas.Bool.{false≢true, cases_lt}
-use Rattle.std.proofs.lemmas.List.{take_more, get_or-take, get_or-drop, length-take-le}
+use Rattle.std.proofs.lemmas.Bool.{false≢true}
+use Rattle.std.proofs.lemmas.List.{get_or-drop}
 use Rattle.mad_screen.specs.Glyph.{Glyph, Look}
-use Rattle.mad_screen.specs.Grid.{Grid, blank, plain_pen, has_none, is_tail}
-use Rattle.mad_screen.specs.Pictures.{same_look, cell_text, row_text, row_cells}
-use Rattle.mad_frames.specs.Bound.{is_same_cell, change_bytes, most_bytes, most_to, pen_bytes, pen_before, pieces_to, BeginsChange, EndsGap, IsPaid}
-use Rattle.mad_frames.specs.Changes.{SameSize}
+use Rattle.mad_screen.specs.Grid.{blank, plain_pen, has_none, is_tail}
+use Rattle.mad_screen.specs.Pictures.{same_look, cell_text}
+use Rattle.mad_frames.specs.Bound.{is_same_cell, change_bytes, cell_bytes, most_to, pen_bytes, pen_before, pieces_to, BeginsChange, EndsGap, IsPaid}
 use Rattle.mad_frames.specs.Whole.{is_cell_text, is_writable, tails_of, are_whole_after, are_whole}
-use Rattle.mad_frames.proofs.LooksLemmas.{both_true, true_both, same_glyph, same_look_true, same_look_refl}
+use Rattle.mad_frames.proofs.LooksLemmas.{both_true, same_glyph, same_look_true, same_look_refl}
 use Rattle.mad_frames.proofs.WholeLemmas.{whole_cut}
 
 -- ---- equal cells
@@ -27,7 +25,7 @@ cost_of : (b : Bool) (n : ℕ) → ((b ≡ true) → ⊥) → cond b 0 n ≡ n
 cost_of true n h = absurd (h refl)
 cost_of false n h = refl
 
-pub changed_cell : (o n : Glyph) → ((o ≡ n) → ⊥) → cond (is_same_cell o n) 0 (change_bytes + length (cell_text n)) ≡ change_bytes + length (cell_text n)
+pub changed_cell : (o n : Glyph) → ((o ≡ n) → ⊥) → cell_bytes o n ≡ change_bytes + length (cell_text n)
 changed_cell o n h = cost_of (is_same_cell o n) (change_bytes + length (cell_text n)) (λ e. h (same_cell_true o n e))
 
 -- ---- tails
@@ -80,6 +78,7 @@ same_pen_bytes before pen e =
   where
     bytes_if : Bool → ℕ
     bytes_if b = cond b 0 167
+
     either : (b : Bool) → bytes_if (b || true) ≡ zero
     either true = refl
     either false = refl
@@ -160,6 +159,7 @@ same_tails (suc n) p (o ∷ os) (c ∷ ns) k h j below t =
     none_alike [] [] x y = refl
     none_alike [] (b ∷ bs) x y = absurd (false≢true y)
     none_alike (a ∷ more) b x y = absurd (false≢true x)
+
     at : (k : ℕ) → k < length (c ∷ ns) → ((i : ℕ) → i ≤ k → is_tail (get_or (c ∷ ns) i blank) ≡ true) → o ≡ c → ((j : ℕ) → j < length ns → ((i : ℕ) → i ≤ j → is_tail (get_or ns i blank) ≡ true) → get_or os j blank ≡ get_or ns j blank) → get_or (o ∷ os) k blank ≡ get_or (c ∷ ns) k blank
     at zero below t first more = first
     at (suc k) below t first more = more k (omega arith) (λ i l. t (suc i) (omega arith))
@@ -185,11 +185,12 @@ head_changes os ns x h j same below head b first =
     let place : x + k ≡ i = omega arith in
     sym (at os k ∙ ap (λ n. get_or os n blank) place)
     ∙ same_rest (drop x os) (drop x ns) k old new (omega (arith, length-drop x ns, b.within)) begin
-      (λ m some le. ap is_tail (at ns m) ∙ b.tails (x + m) (omega arith) (omega arith)) (omega (arith, length-drop x os, same))
+    (λ m some le. ap is_tail (at ns m) ∙ b.tails (x + m) (omega arith) (omega arith)) (omega (arith, length-drop x os, same))
     ∙ (at ns k ∙ ap (λ n. get_or ns n blank) place))
   where
     none : x + 0 ≡ x
     none = omega arith
+
     at : (l : List Glyph) (k : ℕ) → get_or (drop x l) k blank ≡ get_or l (x + k) blank
     at l k = get_or-drop x l k blank
 

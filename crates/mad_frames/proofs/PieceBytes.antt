@@ -1,6 +1,5 @@
 -- Cells in one pen take it once.
 use Rattle.std.proofs.Common.{◌≡◌, ◌⊎◌, ⊎_elim, ℕ, zero, suc, ◌+◌, ◌-◌, ◌<◌, ◌≤◌, Bool, true, false, cond, ◌||◌, List, [], ◌∷◌, ◌++◌, length, get_or, take, drop, refl, ap, sym, ◌∙◌, subst, arith, length-append, length-drop}
-use Rattle.std.specs.List.{flat_map}
 use Rattle.std.proofs.lemmas.Grind.{flat_map-append}
 use Rattle.std.proofs.lemmas.List.{take_more, get_or-drop, append-nil}
 use Rattle.mad_screen.specs.Glyph.{Glyph, Look}
@@ -8,7 +7,7 @@ use Rattle.mad_screen.specs.Grid.{blank, plain_pen, is_tail}
 use Rattle.mad_screen.specs.Pictures.{same_look, cell_text, row_text}
 use Rattle.mad_frames.specs.Bound.{pen_bytes, pen_before, pieces_to}
 use Rattle.mad_frames.specs.Whole.{are_whole}
-use Rattle.mad_frames.proofs.BoundLemmas.{tail_pen, same_pen_bytes, before_at}
+use Rattle.mad_frames.proofs.BoundLemmas.{tail_pen, same_pen_bytes}
 
 -- from a cell on, `n` cells are tails or in a pen
 abbrev pub FromInPen : List Glyph → ℕ → ℕ → Look → Type 0
@@ -44,7 +43,7 @@ pen_taken_once gs from n p h within pens zero below =
     ap (pieces_to gs) place
     ∙ ap (λ (q : Look). pieces_to gs from + (pen_bytes (pen_before gs from) q + length (cell_text (get_or gs from blank)))) pen
     ∙ sums (pieces_to gs from) (pen_bytes (pen_before gs from) p) (length (cell_text (get_or gs from blank))) (length (cell_text (get_or gs (from + zero) blank))) (length (row_text (take (zero + 1) (drop from gs))))
-      (ap (λ i. length (cell_text (get_or gs i blank))) (sym here)) (text_more gs from zero (omega arith))
+    (ap (λ i. length (cell_text (get_or gs i blank))) (sym here)) (text_more gs from zero (omega arith))
   where
     sums : (a b c d e : ℕ) → c ≡ d → e ≡ 0 + d → a + (b + c) ≡ a + b + e
     sums a b c d e r s = omega arith
@@ -58,10 +57,10 @@ pen_taken_once gs from n p h within pens (suc k) below =
     let pen : (get_or gs i blank).pen ≡ pen_before gs i = pens (suc k) below ∙ sym (pens k (omega arith)) ∙ sym (ap (pen_before gs) last) in
     ap (pieces_to gs) place
     ∙ sums (pieces_to gs i) (pen_bytes (pen_before gs i) (get_or gs i blank).pen) (length (cell_text (get_or gs i blank))) (pieces_to gs from + pen_bytes (pen_before gs from) p)
-      (length (row_text (take (k + 1) (drop from gs)))) (length (row_text (take (suc k + 1) (drop from gs))))
-      (same_pen_bytes (pen_before gs i) (get_or gs i blank).pen pen)
-      (sym (ap (pieces_to gs) end) ∙ pen_taken_once gs from n p h within pens k (omega arith))
-      (ap (λ m. length (row_text (take m (drop from gs)))) count ∙ text_more gs from (k + 1) (omega arith) ∙ ap (λ j. length (row_text (take (k + 1) (drop from gs))) + length (cell_text (get_or gs j blank))) at)
+    (length (row_text (take (k + 1) (drop from gs)))) (length (row_text (take (suc k + 1) (drop from gs))))
+    (same_pen_bytes (pen_before gs i) (get_or gs i blank).pen pen)
+    (sym (ap (pieces_to gs) end) ∙ pen_taken_once gs from n p h within pens k (omega arith))
+    (ap (λ m. length (row_text (take m (drop from gs)))) count ∙ text_more gs from (k + 1) (omega arith) ∙ ap (λ j. length (row_text (take (k + 1) (drop from gs))) + length (cell_text (get_or gs j blank))) at)
   where
     sums : (a b c d e f : ℕ) → b ≡ 0 → a ≡ d + e → f ≡ e + c → a + (b + c) ≡ d + f
     sums a b c d e f r s t = omega arith
@@ -73,6 +72,7 @@ first_taken gs (suc from) p other = by (same_look p plain_pen) (same_look p (pen
   where
     bytes_if : Bool → ℕ
     bytes_if t = cond t 0 167
+
     by : (a b : Bool) → b ≡ false → bytes_if (a || b) ≡ bytes_if (a || a)
     by true b e = refl
     by false b e = ap bytes_if e

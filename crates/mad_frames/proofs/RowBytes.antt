@@ -1,12 +1,11 @@
 -- What the changes of a row, and of all rows, may take.
-use Rattle.std.proofs.Common.{◌≡◌, ℕ, zero, suc, ◌+◌, ◌*◌, ◌-◌, ◌<◌, ◌≤◌, Bool, true, false, cond, List, [], ◌∷◌, ◌++◌, length, get_or, take, drop, refl, ap, sym, ◌∙◌, subst, arith, length-append, length-drop}
+use Rattle.std.proofs.Common.{◌≡◌, ℕ, zero, suc, ◌+◌, ◌*◌, ◌-◌, ◌<◌, ◌≤◌, List, [], ◌∷◌, ◌++◌, length, get_or, take, drop, refl, ap, sym, ◌∙◌, subst, arith, length-append, length-drop}
 use Rattle.std.proofs.lemmas.List.{get_or-take, get_or-drop, length-take-le}
 use Rattle.mad_screen.specs.Glyph.{Glyph, Look}
 use Rattle.mad_screen.specs.Grid.{Grid, blank, plain_pen}
-use Rattle.mad_screen.specs.Pictures.{cell_text, row_cells}
-use Rattle.mad_frames.specs.Bound.{is_same_cell, change_bytes, most_bytes, most_to, pen_bytes, pen_before, pieces_to, IsPaid}
-use Rattle.mad_frames.specs.Changes.{SameSize, RowsOf}
-use Rattle.mad_frames.specs.Whole.{are_whole, IsWholeGrid}
+use Rattle.mad_screen.specs.Pictures.{cell_text}
+use Rattle.mad_frames.specs.Bound.{change_bytes, cell_bytes, most_bytes, most_to, pen_bytes, pen_before, pieces_to, IsPaid}
+use Rattle.mad_frames.specs.Changes.{RowsOf}
 use Rattle.mad_frames.proofs.BoundLemmas.{pen_most, most_up}
 use Rattle.mad_frames.proofs.HalfwayLemmas.{row_cell, row_columns, next_row}
 
@@ -81,8 +80,6 @@ row_of_screen old new y (suc x) a b r within =
     ∙ ap (λ (g : Glyph). most_to old.cells new.cells i + cell_bytes (get_or a x blank) g) (sym cell_new)
     ∙ sums (most_to old.cells new.cells i) (most_to old.cells new.cells (y * new.width)) (most_to a b x) (cell_bytes (get_or a x blank) (get_or b x blank)) (row_of_screen old new y x a b r (omega arith))
   where
-    cell_bytes : Glyph → Glyph → ℕ
-    cell_bytes o n = cond (is_same_cell o n) 0 (change_bytes + length (cell_text n))
     sums : (m n k c : ℕ) → m ≡ n + k → m + c ≡ n + (k + c)
     sums m n k c e = omega arith
 
@@ -99,12 +96,12 @@ row_bound old new y n a b before after r count row bound =
 
 -- ---- all cells
 
-first_most : (o n : Glyph) (os ns : List Glyph) (k : ℕ) → most_to (o ∷ os) (n ∷ ns) (suc k) ≡ cond (is_same_cell o n) 0 (change_bytes + length (cell_text n)) + most_to os ns k
-first_most o n os ns zero = plus_none (cond (is_same_cell o n) 0 (change_bytes + length (cell_text n)))
+first_most : (o n : Glyph) (os ns : List Glyph) (k : ℕ) → most_to (o ∷ os) (n ∷ ns) (suc k) ≡ cell_bytes o n + most_to os ns k
+first_most o n os ns zero = plus_none (cell_bytes o n)
   where
     plus_none : (m : ℕ) → zero + m ≡ m + zero
     plus_none m = omega arith
-first_most o n os ns (suc k) = sums (most_to (o ∷ os) (n ∷ ns) (suc k)) (cond (is_same_cell o n) 0 (change_bytes + length (cell_text n))) (most_to os ns k) _ (first_most o n os ns k)
+first_most o n os ns (suc k) = sums (most_to (o ∷ os) (n ∷ ns) (suc k)) (cell_bytes o n) (most_to os ns k) _ (first_most o n os ns k)
   where
     sums : (m c t d : ℕ) → m ≡ c + t → m + d ≡ c + (t + d)
     sums m c t d e = omega arith
@@ -113,7 +110,7 @@ all_most : (os ns : List Glyph) → length os ≡ length ns → most_to os ns (l
 all_most [] [] same = refl
 all_most [] (n ∷ ns) same = absurd (omega arith)
 all_most (o ∷ os) [] same = absurd (omega arith)
-all_most (o ∷ os) (n ∷ ns) same = first_most o n os ns (length ns) ∙ ap (λ m. cond (is_same_cell o n) 0 (change_bytes + length (cell_text n)) + m) (all_most os ns (omega arith))
+all_most (o ∷ os) (n ∷ ns) same = first_most o n os ns (length ns) ∙ ap (λ m. cell_bytes o n + m) (all_most os ns (omega arith))
 
 -- once all rows are written
 pub all_bound : (old new : Grid) (n : ℕ) (bytes : List ℕ) → length old.cells ≡ length new.cells → n ≡ length new.cells → length bytes ≤ most_to old.cells new.cells n → length bytes ≤ most_bytes old.cells new.cells

@@ -1,5 +1,5 @@
 -- How many bytes the commands of a piece may take.
-use Rattle.std.proofs.Common.{◌≡◌, ℕ, zero, suc, ◌+◌, ◌-◌, ◌<◌, ◌≤◌, ◌^◌, Bool, true, false, cond, ◌&&◌, ◌||◌, not, eqb, nat_lt, List, [], ◌∷◌, ◌++◌, length, decimal, Option, Some, None, refl, ap, sym, ◌∙◌, subst, arith, length-append}
+use Rattle.std.proofs.Common.{◌≡◌, ℕ, ◌+◌, ◌<◌, ◌≤◌, ◌^◌, Bool, true, false, cond, ◌||◌, not, eqb, nat_lt, List, [], ◌∷◌, ◌++◌, length, decimal, Option, Some, None, refl, ap, sym, ◌∙◌, arith, length-append}
 use Rattle.std.specs.Prelude.{is_some}
 use Rattle.std.specs.Int.{bit_at}
 use Rattle.std.specs.List.{flat_map, list_all}
@@ -11,9 +11,9 @@ use Rattle.mad_term.specs.declared.color.Color.{Color}
 use Rattle.mad_term.specs.declared.color.Color.TheVariants.{Rgb, AnsiValue}
 use Rattle.mad_term.specs.declared.styles.ContentStyle.{ContentStyle}
 use Rattle.mad_term.specs.Attribute.{all_attributes, attribute_code, attribute_index}
-use Rattle.mad_term.specs.Attributes.{attribute_bits, has_attribute}
+use Rattle.mad_term.specs.Attributes.{attribute_bits}
 use Rattle.mad_term.specs.Color.{IsColor, IsColorOrNone}
-use Rattle.mad_term.specs.Commands.{sgr_bytes, move_to_bytes, numbers_bytes, command_bytes}
+use Rattle.mad_term.specs.Commands.{sgr_bytes, move_to_bytes, command_bytes}
 use Rattle.mad_term.specs.Styles.{IsStyle, color_bytes, present_bytes, attribute_bytes, attributes_bytes, opening_bytes, closing_bytes, piece_bytes}
 use Rattle.mad_screen.specs.Glyph.{Look}
 use Rattle.mad_screen.specs.Grid.{plain_pen}
@@ -39,8 +39,7 @@ further_more n ns = omega (arith, length-append (59 ∷ decimal n) (further ns))
 -- a move to a row and a column of five digits each
 pub move_most : (x y : ℕ) → x < 2 ^ 16 → y < 2 ^ 16 → length (move_to_bytes x y) ≤ 14
 move_most x y small_x small_y =
-    omega
-    (
+    omega (
       arith,
       command_most (y + 1) ((x + 1) ∷ []) 72,
       further_more (x + 1) [],
@@ -50,8 +49,7 @@ move_most x y small_x small_y =
 
 color_most : (kind : ℕ) (c : Color) → kind < 100 → IsColor c → is_kept (Some c) ≡ true → length (color_bytes kind c) ≤ 19
 color_most kind (Rgb r g b) small is kept =
-    omega
-    (
+    omega (
       arith,
       command_most kind (2 ∷ r ∷ g ∷ b ∷ []) 109,
       further_more 2 (r ∷ g ∷ b ∷ []),
@@ -65,8 +63,7 @@ color_most kind (Rgb r g b) small is kept =
       digits_most 3 b (omega arith) (omega (arith, is.2)) is.2,
     )
 color_most kind (AnsiValue n) small is kept =
-    omega
-    (
+    omega (
       arith,
       command_most kind (5 ∷ n ∷ []) 109,
       further_more 5 (n ∷ []),
@@ -115,8 +112,7 @@ codes_most : (bits : ℕ) (all : List Attribute) → have_two_digits all ≡ tru
 codes_most bits [] h = omega arith
 codes_most bits (a ∷ rest) h =
     let s = both_true (nat_lt (attribute_code a) 100) (have_two_digits rest) h in
-    omega
-    (
+    omega (
       arith,
       length-append (set_bytes bits a) (flat_map (set_bytes bits) rest),
       present_or_none (eqb (bit_at bits (attribute_index a)) 1) (attribute_bytes a),
@@ -157,8 +153,7 @@ opening_most s h is =
     let b = present_bytes (color_bytes 38) s.foreground_color in
     let c = present_bytes (color_bytes 58) s.underline_color in
     let d = attributes_bytes s.attributes in
-    omega
-    (
+    omega (
       arith,
       length-append a (b ++ (c ++ d)),
       length-append b (c ++ d),
@@ -182,8 +177,7 @@ dressed_most s h is = by (is_some s.underline_color || not (eqb (attribute_bits 
     by false e =
         let a = present_bytes (λ _. sgr_bytes (49 ∷ [])) s.background_color in
         let b = present_bytes (λ _. sgr_bytes (39 ∷ [])) s.foreground_color in
-        omega
-        (
+        omega (
           arith,
           opening_most s h is,
           no_color s.underline_color (not (eqb (attribute_bits s.attributes) 0)) e,
@@ -214,8 +208,7 @@ plain_dressed s e =
     let m = present_bytes (λ _. sgr_bytes (49 ∷ [])) s.background_color in
     let n = present_bytes (λ _. sgr_bytes (39 ∷ [])) s.foreground_color in
     let ends : length (m ++ n) ≡ 0 = omega (arith, length-append m n, none_written (λ _. sgr_bytes (49 ∷ [])) s.background_color bg, none_written (λ _. sgr_bytes (39 ∷ [])) s.foreground_color fg) in
-    omega
-    (
+    omega (
       arith,
       length-append a (b ++ (c ++ d)),
       length-append b (c ++ d),
@@ -233,6 +226,7 @@ piece_most s h is text = by (same_look (pen_of s) plain_pen) refl
   where
     count : length (piece_bytes s text) ≡ length (opening_bytes s) + length (closing_bytes s) + length text
     count = omega (arith, length-append (opening_bytes s) (text ++ closing_bytes s), length-append text (closing_bytes s))
+
     by : (b : Bool) → same_look (pen_of s) plain_pen ≡ b → length (piece_bytes s text) ≤ cond (b || b) 0 167 + length text
     by true e = omega (arith, count, plain_dressed s (same_look_true (pen_of s) plain_pen e))
     by false e = omega (arith, count, dressed_most s h is)

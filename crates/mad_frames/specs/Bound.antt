@@ -1,5 +1,5 @@
 -- How many bytes a change may take.
-use Rattle.std.specs.Prelude.{◌≡◌, ℕ, zero, suc, ◌+◌, ◌<◌, ◌≤◌, ◌&&◌, ◌||◌, nat_eq, Bool, true, false, if◌then◌else◌, List, [], ◌∷◌, length, slice_index_or}
+use Rattle.std.specs.Prelude.{◌≡◌, ℕ, zero, suc, ◌+◌, ◌<◌, ◌≤◌, ◌&&◌, ◌||◌, nat_eq, Bool, true, false, if◌then◌else◌, List, ◌∷◌, length, slice_index_or}
 use Rattle.std.specs.Cmp.Lexicographic.{pointwise}
 use Rattle.mad_screen.specs.Glyph.{Glyph, Look}
 use Rattle.mad_screen.specs.Grid.{blank, plain_pen, is_tail}
@@ -14,9 +14,13 @@ is_same_cell a b = pointwise nat_eq a.chars b.chars && same_look a.pen b.pen
 abbrev pub change_bytes : ℕ
 change_bytes = 181
 
--- what the cells of a screen may take, written over others: nothing where one stays
+-- what a cell may take where it is to show another: nothing if it shows the same
+abbrev pub cell_bytes : Glyph → Glyph → ℕ
+cell_bytes old new = if is_same_cell old new then 0 else change_bytes + length (cell_text new)
+
+-- what all cells of a screen may take
 abbrev pub most_bytes : List Glyph → List Glyph → ℕ
-most_bytes (o ∷ os) (n ∷ ns) = (if is_same_cell o n then 0 else change_bytes + length (cell_text n)) + most_bytes os ns
+most_bytes (o ∷ os) (n ∷ ns) = cell_bytes o n + most_bytes os ns
 most_bytes _ _ = 0
 
 -- ---- within a row
@@ -24,10 +28,7 @@ most_bytes _ _ = 0
 -- the same of the first cells alone, `n` of them
 abbrev pub most_to : List Glyph → List Glyph → ℕ → ℕ
 most_to os ns zero = 0
-most_to os ns (suc n) =
-    let old : Glyph = slice_index_or os n blank in
-    let new : Glyph = slice_index_or ns n blank in
-    most_to os ns n + (if is_same_cell old new then 0 else change_bytes + length (cell_text new))
+most_to os ns (suc n) = most_to os ns n + cell_bytes (slice_index_or os n blank) (slice_index_or ns n blank)
 
 -- what a cell's pen takes after a cell in another: nothing if it is the plain one, which is back after each piece
 abbrev pub pen_bytes : Look → Look → ℕ

@@ -70,6 +70,7 @@ fn push_mended_row(
 /// Only what has changed is written: each run of changed characters, after a move to its first column, as a piece for each
 /// part in one pen. A few unchanged characters between two changed ones are written over, where they take no more bytes than
 /// the move that they spare. A character has changed if any of its cells has. Equal screens give no bytes.
+/// Where `old` is whole characters too, a changed cell takes 181 bytes and those of its characters at most.
 ///
 /// `None` where the sizes differ, or where a row of `new` isn't whole characters, each with its tails in its pen. Reading can
 /// leave halves of wide characters, and no terminal shows these. `old` may have halves.
@@ -81,8 +82,6 @@ pub fn changes(alloc: Global, old: &Screen, new: &Screen) -> Result<Option<Strin
     ensures leads { IfOk result (λ o. IfSome o (λ s. LeadTo old.now new.now (string_bytes s))) }
     ensures none { IfOk result (λ o. o ≡ None ↔ ¬ (SameSize old.now new.now × IsWholeGrid new.now)) }
     ensures same { IfOk result (λ o. IfSome o (λ s. old.now.cells ≡ new.now.cells → string_bytes s ≡ [])) }
-
-    // A changed cell takes 181 bytes and those of its characters at most, and one that stays none.
     ensures bound { IfOk result (λ o. IfSome o (λ s. IsWholeGrid old.now → length (string_bytes s) ≤ most_bytes old.now.cells new.now.cells)) }
 {
     if old.width() != new.width() || old.height() != new.height() || !is_whole(new) {
