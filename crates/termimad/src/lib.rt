@@ -74,7 +74,8 @@ pub mod field {
 /// Lists without a skin: their rows, what is written of them, and what that changes on a screen.
 pub mod list {
     pub use mad_list::{
-        CellExtract, ListRow, ListRows, ListView, ListViewCell, ListViewColumn, RowFilter, RowOrder,
+        CellExtract, ListRow, ListRows, ListView, ListViewCell, ListViewColumn, NoFilter, NoOrder,
+        RowFilter, RowOrder,
     };
     pub use mad_list_columns::{ListStyle, body_height, fit_columns, laws, list_bar, push_list};
 }
@@ -159,6 +160,8 @@ pub use mad_list::CellExtract;
 pub use mad_list::ListView;
 pub use mad_list::ListViewCell;
 pub use mad_list::ListViewColumn;
+pub use mad_list::NoFilter;
+pub use mad_list::NoOrder;
 pub use mad_list::RowFilter;
 pub use mad_list::RowOrder;
 pub use mad_md as md;
