@@ -8,7 +8,8 @@ use Rattle.std.proofs.lemmas.List.{get_or-drop}
 use Rattle.mad_screen.specs.Glyph.{Glyph, Look}
 use Rattle.mad_screen.specs.Grid.{blank, plain_pen, has_none, is_tail}
 use Rattle.mad_screen.specs.Pictures.{same_look, cell_text}
-use Rattle.mad_frames.specs.Bound.{is_same_cell, change_bytes, cell_bytes, most_to, pen_bytes, pen_before, pieces_to, BeginsChange, EndsGap, IsPaid}
+use Rattle.mad_frames.specs.Bound.{is_same_cell, longest_move, longest_style, change_bytes, cell_bytes}
+use Rattle.mad_frames.specs.RunBytes.{most_to, style_bytes, pen_bytes, pen_before, pieces_to, BeginsChange, EndsGap, IsPaid}
 use Rattle.mad_frames.specs.Whole.{is_cell_text, is_writable, tails_of, are_whole_after, are_whole}
 use Rattle.mad_frames.proofs.LooksLemmas.{both_true, same_glyph, same_look_true, same_look_refl}
 use Rattle.mad_frames.proofs.WholeLemmas.{whole_cut}
@@ -20,13 +21,14 @@ same_cell_true a b h =
     let s = both_true (pointwise nat_eq a.chars b.chars) (same_look a.pen b.pen) h in
     same_glyph a.chars b.chars a.pen b.pen ((bytes_decides a.chars b.chars).0 s.0) (same_look_true a.pen b.pen s.1)
 
--- a changed cell may take this
+-- the first cell of a changed character may take this
 cost_of : (b : Bool) (n : ℕ) → ((b ≡ true) → ⊥) → cond b 0 n ≡ n
 cost_of true n h = absurd (h refl)
 cost_of false n h = refl
 
-pub changed_cell : (o n : Glyph) → ((o ≡ n) → ⊥) → cell_bytes o n ≡ change_bytes + length (cell_text n)
-changed_cell o n h = cost_of (is_same_cell o n) (change_bytes + length (cell_text n)) (λ e. h (same_cell_true o n e))
+pub changed_cell : (o n : Glyph) → is_tail n ≡ false → ((o ≡ n) → ⊥) → cell_bytes o n ≡ change_bytes + length (cell_text n)
+changed_cell o n head h =
+    cost_of (is_tail n || is_same_cell o n) (change_bytes + length (cell_text n)) (λ e. h (same_cell_true o n (sym (ap (λ t. t || is_same_cell o n) head) ∙ e)))
 
 -- ---- tails
 
@@ -74,14 +76,11 @@ tail_text (c ∷ cs) p h = absurd (false≢true h)
 
 pub same_pen_bytes : (before pen : Look) → pen ≡ before → pen_bytes before pen ≡ 0
 same_pen_bytes before pen e =
-    ap (λ b. bytes_if (same_look pen plain_pen || b)) (ap (same_look pen) (sym e) ∙ same_look_refl pen) ∙ either (same_look pen plain_pen)
+    let same : same_look pen before ≡ true = ap (same_look pen) (sym e) ∙ same_look_refl pen in
+    ap (λ b. bytes_if b) same
   where
     bytes_if : Bool → ℕ
-    bytes_if b = cond b 0 167
-
-    either : (b : Bool) → bytes_if (b || true) ≡ zero
-    either true = refl
-    either false = refl
+    bytes_if b = cond b 0 (style_bytes pen)
 
 adds_zero : (a b c : ℕ) → b ≡ 0 → c ≡ 0 → a + (b + c) ≡ a
 adds_zero a b c p q = omega arith
@@ -104,13 +103,14 @@ tails_free gs x (suc n) h fits t =
 
 -- ---- sums
 
--- a pen takes no more than 167 bytes
+-- no pen takes more than the longest style
 pub pen_most : (before pen : Look) → pen_bytes before pen ≤ 167
-pen_most before pen = by (same_look pen plain_pen || same_look pen before)
+pen_most before pen = by (same_look pen before) (same_look pen plain_pen)
   where
-    by : (b : Bool) → cond b 0 167 ≤ 167
-    by true = omega arith
-    by false = omega arith
+    by : (a b : Bool) → cond a 0 (cond b 0 longest_style) ≤ 167
+    by true b = omega arith
+    by false true = omega arith
+    by false false = omega arith
 
 next_most : (a b c : ℕ) → b ≤ 167 → a + (b + c) ≤ a + 167 + c
 next_most a b c h = omega arith
@@ -198,12 +198,12 @@ head_changes os ns x h j same below head b first =
 pub character_may : (os ns : List Glyph) (x : ℕ) → are_whole os ≡ true → are_whole ns ≡ true → length os ≡ length ns → x < length ns → is_tail (get_or ns x blank) ≡ false → BeginsChange os ns x → most_to os ns (x + 1) ≡ most_to os ns x + (change_bytes + length (cell_text (get_or ns x blank)))
 character_may os ns x h j same below head b =
     let place : x + 1 ≡ suc x = omega arith in
-    ap (most_to os ns) place ∙ ap (λ k. most_to os ns x + k) (changed_cell (get_or os x blank) (get_or ns x blank) (head_changes os ns x h j same below head b))
+    ap (most_to os ns) place ∙ ap (λ k. most_to os ns x + k) (changed_cell (get_or os x blank) (get_or ns x blank) head (head_changes os ns x h j same below head b))
 
 -- ---- gaps and runs
 
-pub some_of : (b : Bool) (x : ℕ) (P : ℕ → Type 0) → P x → IfSome (then_some b x) P
-some_of true x P h = h
+pub some_of : (b : Bool) (x : ℕ) (P : ℕ → Type 0) → ((b ≡ true) → P x) → IfSome (then_some b x) P
+some_of true x P h = h refl
 some_of false x P h = tt
 
 -- the cells of a character, which begins at `x` and ends at `e`
@@ -219,15 +219,14 @@ before_at gs (suc x) some =
     let place : x ≡ suc x - 1 = omega arith in
     ap (λ (n : ℕ). (get_or gs n blank).pen) place
 
--- one more character that asks for its bytes alone
-pub gap_more : (gs : List Glyph) (end x e spent sum : ℕ) → are_whole gs ≡ true → x < e → e ≤ length gs → ((i : ℕ) → x < i → i < e → is_tail (get_or gs i blank) ≡ true) → pen_bytes (pen_before gs x) (get_or gs x blank).pen ≡ 0 → pieces_to gs x ≤ pieces_to gs end + spent → spent + length (cell_text (get_or gs x blank)) ≤ sum → pieces_to gs e ≤ pieces_to gs end + sum
-gap_more gs end x e spent sum h some within t free before fits =
+-- one more cell that takes its bytes alone
+pub free_cell : (gs : List Glyph) (x : ℕ) → pen_bytes (pen_before gs x) (get_or gs x blank).pen ≡ 0 → pieces_to gs (x + 1) ≡ pieces_to gs x + length (cell_text (get_or gs x blank))
+free_cell gs x free =
     let place : x + 1 ≡ suc x = omega arith in
-    let whole : pieces_to gs e ≡ pieces_to gs x + (pen_bytes (pen_before gs x) (get_or gs x blank).pen + length (cell_text (get_or gs x blank))) = character_to gs x e h some within t ∙ ap (pieces_to gs) place in
-    sums (pieces_to gs e) (pieces_to gs x) (pen_bytes (pen_before gs x) (get_or gs x blank).pen) (length (cell_text (get_or gs x blank))) (pieces_to gs end) whole free before fits
+    ap (pieces_to gs) place ∙ sums (pieces_to gs x) (pen_bytes (pen_before gs x) (get_or gs x blank).pen) (length (cell_text (get_or gs x blank))) free
   where
-    sums : (a b c d f : ℕ) → a ≡ b + (c + d) → c ≡ 0 → b ≤ f + spent → spent + d ≤ sum → a ≤ f + sum
-    sums a b c d f p q r u = omega arith
+    sums : (a b c : ℕ) → b ≡ 0 → a + (b + c) ≡ a + c
+    sums a b c h = omega arith
 
 -- the first character of a run
 pub first_paid : (os ns : List Glyph) (s e : ℕ) → are_whole os ≡ true → are_whole ns ≡ true → length os ≡ length ns → s < e → e ≤ length ns → is_tail (get_or ns s blank) ≡ false → ((i : ℕ) → s < i → i < e → is_tail (get_or ns i blank) ≡ true) → BeginsChange os ns s → IsPaid os ns s e
@@ -242,7 +241,7 @@ first_paid os ns s e h j same some within head t b =
 pub more_paid : (os ns : List Glyph) (s end x e : ℕ) → are_whole os ≡ true → are_whole ns ≡ true → length os ≡ length ns → EndsGap os ns end x → x < e → e ≤ length ns → ((i : ℕ) → x < i → i < e → is_tail (get_or ns i blank) ≡ true) → IsPaid os ns s end → IsPaid os ns s e
 more_paid os ns s end x e h j same g some within t paid =
     sums (length (cell_text (get_or ns s blank))) (length (cell_text (get_or ns x blank))) (pieces_to ns e) (pieces_to ns (x + 1)) (pieces_to ns x) (pieces_to ns end) (pieces_to ns (s + 1)) (most_to os ns s) (most_to os ns end) (most_to os ns x) (most_to os ns (x + 1)) (most_to os ns e)
-    (character_to ns x e j some within t) (character_most ns x) (g.gap j) (most_up os ns end x g.after) (character_may os ns x h j same g.within g.head g.begins) (most_up os ns (x + 1) e (omega arith)) paid
+    (character_to ns x e j some within t) (character_most ns x) g.gap (most_up os ns end x g.after) (character_may os ns x h j same g.within g.head g.begins) (most_up os ns (x + 1) e (omega arith)) paid
   where
-    sums : (text here a b c d f k l m n o : ℕ) → a ≡ b → b ≤ c + 167 + here → c ≤ d + 14 → l ≤ m → n ≡ m + (change_bytes + here) → n ≤ o → change_bytes + text + d + k ≤ f + l → change_bytes + text + a + k ≤ f + o
+    sums : (text here a b c d f k l m n o : ℕ) → a ≡ b → b ≤ c + 167 + here → c ≤ d + longest_move → l ≤ m → n ≡ m + (change_bytes + here) → n ≤ o → change_bytes + text + d + k ≤ f + l → change_bytes + text + a + k ≤ f + o
     sums text here a b c d f k l m n o p q r u v w z = omega arith

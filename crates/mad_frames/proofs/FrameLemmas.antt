@@ -1,5 +1,5 @@
 -- What a present does to the bytes that a terminal has read.
-use Rattle.std.proofs.Common.{◌≡◌, ⊎_elim, ℕ, ◌-◌, ◌*◌, true, false, List, [], ◌∷◌, ◌++◌, length, take, drop, replicate, Option, Some, None, Result, Ok, Err, refl, ap, sym, ◌∙◌, subst, arith, lit<, append_assoc}
+use Rattle.std.proofs.Common.{◌≡◌, ⊎_elim, ℕ, ◌-◌, ◌*◌, true, false, List, [], ◌∷◌, ◌++◌, length, take, drop, replicate, Option, Some, None, Result, Ok, Err, refl, ap, sym, ◌∙◌, subst, arith, lit<, append_assoc, ◌≤◌, ◌+◌, Bool, cond, length-append}
 use Rattle.std.specs.Prelude.{IfSome, IsErr}
 use Rattle.std.proofs.lemmas.Bool.{false≢true}
 use Rattle.std.proofs.lemmas.List.{append-nil, drop_all, take_all, take-append-drop, length-replicate}
@@ -15,12 +15,14 @@ use Rattle.mad_screen.proofs.Reading.{letter_screen}
 use Rattle.mad_screen.proofs.ReadingBack.{read_in_turn}
 use Rattle.mad_frames.specs.declared.errors.PresentError.{PresentError}
 use Rattle.mad_frames.specs.declared.errors.PresentError.TheVariants.{IO, Undefined, Memory}
+use Rattle.mad_frames.specs.Bound.{most_bytes}
 use Rattle.mad_frames.specs.Changes.{SameSize, ShowsCells, LeadTo}
 use Rattle.mad_frames.specs.FrameLaws.{Step, IsDrawing, AreSteps, frame_after, taken_in}
-use Rattle.mad_frames.specs.Frames.{FrameState, IsInStep, MayShow, LeadsAll, KeepsInStep, IsSent, IsPresented, IsCut, IsKept, IsMessage, drawn_screen, Sends, IsRefused, Presents, unknown}
+use Rattle.mad_frames.specs.Frames.{FrameState, IsInStep, MayShow, LeadsAll, KeepsInStep, IsSent, IsPresented, IsCut, IsKept, IsMessage, IsBounded, drawn_screen, Sends, IsRefused, Presents, unknown}
 use Rattle.mad_frames.specs.Mending.{mended}
 use Rattle.mad_frames.proofs.HalfwayLemmas.{over, no_bytes}
 use Rattle.mad_frames.proofs.MendLemmas.{empty_stays}
+use Rattle.mad_frames.proofs.StyleBytes.{clearing_most}
 
 -- what the device took, and what it has yet to take
 joined : (taken front rest unsent changes : List ℕ) → front ++ rest ≡ unsent ++ changes → (taken ++ front) ++ rest ≡ (taken ++ unsent) ++ changes
@@ -178,3 +180,25 @@ known_shown f start taken h known none = (
   ap (after_bytes start) (sym (ap (λ l. taken ++ l) none ∙ append-nil taken)) ∙ h.1,
   h.2.shows known,
 )
+
+-- ---- how many bytes there are
+
+-- a known frame's changes
+pub known_bounded : (f : FrameState) (new : Grid) (bytes : List ℕ) → f.known ≡ true → length bytes ≤ most_bytes (mended f.base).cells (mended new).cells → IsBounded f new bytes
+known_bounded f new bytes known h =
+    subst (λ (k : Bool). length bytes ≤ cond k 0 8 + most_bytes (cond k (mended f.base) (empty_grid f.base.width f.base.height)).cells (mended new).cells) (sym known) (plus_none (most_bytes (mended f.base).cells (mended new).cells) h)
+  where
+    plus_none : (n : ℕ) → length bytes ≤ n → length bytes ≤ 0 + n
+    plus_none n k = omega arith
+
+-- those of another, after what clears the terminal
+pub cleared_bounded : (f : FrameState) (new : Grid) (drawn bytes : List ℕ) → f.known ≡ false → length drawn ≤ most_bytes (mended (empty_grid f.base.width f.base.height)).cells (mended new).cells → bytes ≡ (sgr_bytes (0 ∷ []) ++ clear_bytes All) ++ drawn → IsBounded f new bytes
+cleared_bounded f new drawn bytes known h is =
+    let empty = empty_grid f.base.width f.base.height in
+    let fits : length drawn ≤ most_bytes empty.cells (mended new).cells = subst (λ (g : Grid). length drawn ≤ most_bytes g.cells (mended new).cells) (empty_stays f.base.width f.base.height) h in
+    let count : length bytes ≡ length (sgr_bytes (0 ∷ []) ++ clear_bytes All) + length drawn = ap length is ∙ length-append (sgr_bytes (0 ∷ []) ++ clear_bytes All) drawn in
+    subst (λ (k : Bool). length bytes ≤ cond k 0 8 + most_bytes (cond k (mended f.base) empty).cells (mended new).cells) (sym known)
+    (sums (length bytes) (length (sgr_bytes (0 ∷ []) ++ clear_bytes All)) (length drawn) (most_bytes empty.cells (mended new).cells) count clearing_most fits)
+  where
+    sums : (a b c d : ℕ) → a ≡ b + c → b ≤ 8 → c ≤ d → a ≤ 8 + d
+    sums a b c d p q r = omega arith

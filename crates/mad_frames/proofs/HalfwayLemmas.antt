@@ -196,6 +196,11 @@ same_rows old new y size cells =
 pub row_columns : (old new : Grid) (y : ℕ) (a b : List Glyph) → RowsOf old new y a b → length b ≡ new.width
 row_columns old new y a b r = ap length r.new_row ∙ row_length new.cells y new.width new.height r.row r.full
 
+pub old_columns : (old new : Grid) (y : ℕ) (a b : List Glyph) → RowsOf old new y a b → length a ≡ new.width
+old_columns old new y a b r =
+    let full : length old.cells ≡ old.height * old.width = r.same ∙ r.full ∙ ap (λ h. h * new.width) (sym r.size.height) ∙ ap (λ w. old.height * w) (sym r.size.width) in
+    ap length r.old_row ∙ row_length old.cells y old.width old.height (omega (arith, r.row, r.size.height)) full ∙ r.size.width
+
 -- before a row
 pub cells_none : (a b : List Glyph) (y : ℕ) (before : List ℕ) → AddsCells a b y 0 before before
 cells_none a b y before old new r leads =

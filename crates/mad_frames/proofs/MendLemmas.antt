@@ -11,7 +11,7 @@ use Rattle.mad_columns.specs.Columns.{char_columns}
 use Rattle.mad_screen.specs.Glyph.{Glyph, Look}
 use Rattle.mad_screen.specs.Grid.{Grid, plain_pen, blank, empty_grid, is_tail}
 use Rattle.mad_screen.specs.Pictures.{same_look, row_cells}
-use Rattle.mad_frames.specs.Bound.{most_to}
+use Rattle.mad_frames.specs.Bound.{most_bytes}
 use Rattle.mad_frames.specs.Changes.{SameSize, RowsOf, AddsCells}
 use Rattle.mad_frames.specs.Mending.{begin_tails, begins_whole, space_in, mended_after, mended_row, mended_rows, mended}
 use Rattle.mad_frames.specs.Whole.{is_cell_text, is_writable, tails_of, are_whole_after, are_whole, IsWholeGrid}
@@ -181,12 +181,11 @@ adds_mended r old new a b y n before after p q count =
 pub same_mended : {T E : Type 0} (r : Result T E) (old new a b : List Glyph) (before after : List ℕ) → a ≡ mended_row old → b ≡ mended_row new → OnOk r (a ≡ b → after ≡ before) → OnOk r (mended_row old ≡ mended_row new → after ≡ before)
 same_mended r old new a b before after p q = ok_as r (a ≡ b → after ≡ before) (mended_row old ≡ mended_row new → after ≡ before) (λ h e. h (p ∙ e ∙ sym q))
 
-pub bound_mended : {T E : Type 0} (r : Result T E) (old new a b : List Glyph) (n : ℕ) (before after : List ℕ) → a ≡ mended_row old → b ≡ mended_row new → n ≡ length new → OnOk r (are_whole a ≡ true → length after ≤ length before + most_to a b (length b)) → OnOk r (length after ≤ length before + most_to (mended_row old) (mended_row new) n)
-bound_mended r old new a b n before after p q count =
-    let columns : length b ≡ n = ap length q ∙ mended_length 0 new ∙ sym count in
+pub bound_mended : {T E : Type 0} (r : Result T E) (old new a b : List Glyph) (before after : List ℕ) → a ≡ mended_row old → b ≡ mended_row new → OnOk r (are_whole a ≡ true → length after ≤ length before + most_bytes a b) → OnOk r (length after ≤ length before + most_bytes (mended_row old) (mended_row new))
+bound_mended r old new a b before after p q =
     let whole : are_whole a ≡ true = ap are_whole p ∙ mended_whole 0 plain_pen old refl in
-    ok_as r (are_whole a ≡ true → length after ≤ length before + most_to a b (length b)) (length after ≤ length before + most_to (mended_row old) (mended_row new) n)
-    (λ h. subst (λ (l : List Glyph). length after ≤ length before + most_to l (mended_row new) n) p (subst (λ (l : List Glyph). length after ≤ length before + most_to a l n) q (subst (λ (k : ℕ). length after ≤ length before + most_to a b k) columns (h whole))))
+    ok_as r (are_whole a ≡ true → length after ≤ length before + most_bytes a b) (length after ≤ length before + most_bytes (mended_row old) (mended_row new))
+    (λ h. subst (λ (l : List Glyph). length after ≤ length before + most_bytes l (mended_row new)) p (subst (λ (l : List Glyph). length after ≤ length before + most_bytes a l) q (h whole)))
 
 -- rows of mended screens
 pub mended_rows_of : (old new : Grid) (y : ℕ) (a b : List Glyph) → SameSize old new → length old.cells ≡ old.height * old.width → length new.cells ≡ new.height * new.width → y < new.height → a ≡ row_cells old y → b ≡ row_cells new y → RowsOf (mended old) (mended new) y (mended_row a) (mended_row b)

@@ -5,7 +5,8 @@ use Rattle.std.proofs.lemmas.List.{take_more, get_or-drop, append-nil}
 use Rattle.mad_screen.specs.Glyph.{Glyph, Look}
 use Rattle.mad_screen.specs.Grid.{blank, plain_pen, is_tail}
 use Rattle.mad_screen.specs.Pictures.{same_look, cell_text, row_text}
-use Rattle.mad_frames.specs.Bound.{pen_bytes, pen_before, pieces_to}
+use Rattle.mad_frames.specs.Bound.{longest_style}
+use Rattle.mad_frames.specs.RunBytes.{style_bytes, pen_bytes, pen_before, pieces_to}
 use Rattle.mad_frames.specs.Whole.{are_whole}
 use Rattle.mad_frames.proofs.BoundLemmas.{tail_pen, same_pen_bytes}
 
@@ -65,17 +66,17 @@ pen_taken_once gs from n p h within pens (suc k) below =
     sums : (a b c d e f : ℕ) → b ≡ 0 → a ≡ d + e → f ≡ e + c → a + (b + c) ≡ d + f
     sums a b c d e f r s t = omega arith
 
--- a pen is taken as after the plain one, where the cell before has another
-pub first_taken : (gs : List Glyph) (from : ℕ) (p : Look) → (0 < from → same_look p (pen_before gs from) ≡ false) → pen_bytes (pen_before gs from) p ≡ pen_bytes plain_pen p
-first_taken gs zero p other = refl
-first_taken gs (suc from) p other = by (same_look p plain_pen) (same_look p (pen_before gs (suc from))) (other (omega arith))
+-- a pen is taken whole, where the cell before has another
+pub first_taken : (gs : List Glyph) (from : ℕ) (p : Look) → (0 < from → same_look p (pen_before gs from) ≡ false) → pen_bytes (pen_before gs from) p ≡ style_bytes p
+first_taken gs zero p other = twice (same_look p plain_pen) longest_style
+  where
+    twice : (b : Bool) (n : ℕ) → cond b 0 (cond b 0 n) ≡ cond b 0 n
+    twice true n = refl
+    twice false n = refl
+first_taken gs (suc from) p other = ap (λ b. bytes_if b) (other (omega arith))
   where
     bytes_if : Bool → ℕ
-    bytes_if t = cond t 0 167
-
-    by : (a b : Bool) → b ≡ false → bytes_if (a || b) ≡ bytes_if (a || a)
-    by true b e = refl
-    by false b e = ap bytes_if e
+    bytes_if b = cond b 0 (style_bytes p)
 
 -- ---- one piece after others
 
@@ -104,7 +105,7 @@ piece_pens cells rest from n p =
     (λ k below. subst (λ (g : Glyph). (is_tail g ≡ true) ⊎ (g.pen ≡ (get_or rest 0 blank).pen)) (cell_at cells rest from k p.after) (p.pen k below))
 
 -- its bytes
-pub piece_taken : (cells rest : List Glyph) (from n : ℕ) (out next piece text : List ℕ) (before : ℕ) → IsPiece cells rest from n → (0 < from → same_look (get_or cells from blank).pen (pen_before cells from) ≡ false) → text ≡ row_text (take n rest) → length piece ≤ pen_bytes plain_pen (get_or rest 0 blank).pen + length text → next ≡ out ++ piece → length out ≤ before + pieces_to cells from → length next ≤ before + pieces_to cells (from + n)
+pub piece_taken : (cells rest : List Glyph) (from n : ℕ) (out next piece text : List ℕ) (before : ℕ) → IsPiece cells rest from n → (0 < from → same_look (get_or cells from blank).pen (pen_before cells from) ≡ false) → text ≡ row_text (take n rest) → length piece ≤ style_bytes (get_or rest 0 blank).pen + length text → next ≡ out ++ piece → length out ≤ before + pieces_to cells from → length next ≤ before + pieces_to cells (from + n)
 piece_taken cells rest from n out next piece text before p other written bytes is fits =
     let pen = (get_or rest 0 blank).pen in
     let place : from + (n - 1) + 1 ≡ from + n = omega (arith, p.some) in
@@ -113,9 +114,9 @@ piece_taken cells rest from n out next piece text before p other written bytes i
     let taken : pieces_to cells (from + n) ≡ pieces_to cells from + pen_bytes (pen_before cells from) pen + length (row_text (take n (drop from cells))) =
     ap (pieces_to cells) (sym place) ∙ pen_taken_once cells from n pen p.whole (piece_fits cells rest from n p) (piece_pens cells rest from n p) (n - 1) (omega (arith, p.some))
     ∙ ap (λ m. pieces_to cells from + pen_bytes (pen_before cells from) pen + length (row_text (take m (drop from cells)))) count in
-    let alone : pen_bytes (pen_before cells from) pen ≡ pen_bytes plain_pen pen = first_taken cells from pen (λ some. ap (λ (q : Look). same_look q (pen_before cells from)) first ∙ other some) in
+    let alone : pen_bytes (pen_before cells from) pen ≡ style_bytes pen = first_taken cells from pen (λ some. ap (λ (q : Look). same_look q (pen_before cells from)) first ∙ other some) in
     let text_is : length text ≡ length (row_text (take n (drop from cells))) = ap length written ∙ ap (λ (l : List Glyph). length (row_text (take n l))) p.after in
-    sums (length next) (length out) (length piece) (length text) (length (row_text (take n (drop from cells)))) (pieces_to cells from) (pieces_to cells (from + n)) (pen_bytes (pen_before cells from) pen) (pen_bytes plain_pen pen)
+    sums (length next) (length out) (length piece) (length text) (length (row_text (take n (drop from cells)))) (pieces_to cells from) (pieces_to cells (from + n)) (pen_bytes (pen_before cells from) pen) (style_bytes pen)
     (ap length is ∙ length-append out piece) taken alone text_is bytes fits
   where
     sums : (a b c d e f g h i : ℕ) → a ≡ b + c → g ≡ f + h + e → h ≡ i → d ≡ e → c ≤ i + d → b ≤ before + f → a ≤ before + g

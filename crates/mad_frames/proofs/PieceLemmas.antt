@@ -1,5 +1,5 @@
 -- Cells that are whole characters in one pen, read back from the piece that writes them.
-use Rattle.std.proofs.Common.{◌≡◌, ◌⊎◌, ⊎_elim, ℕ, zero, suc, ◌+◌, ◌-◌, ◌<◌, ◌≤◌, true, false, nat_lt, eqb, List, [], ◌∷◌, ◌++◌, length, get_or, take, drop, replicate, Option, Some, None, refl, ap, sym, ◌∙◌, subst, arith, append_assoc, IsUtf8}
+use Rattle.std.proofs.Common.{◌≡◌, ◌⊎◌, ⊎_elim, inl, inr, ℕ, zero, suc, ◌+◌, ◌-◌, ◌<◌, ◌≤◌, true, false, nat_lt, eqb, List, [], ◌∷◌, ◌++◌, length, get_or, take, drop, replicate, Option, Some, None, refl, ap, sym, ◌∙◌, subst, arith, append_assoc, IsUtf8, Bool, ◌||◌}
 use Rattle.std.specs.Prelude.{IsSome, unwrap_or}
 use Rattle.std.specs.List.{flat_map}
 use Rattle.std.specs.Option.{option_eq}
@@ -149,3 +149,11 @@ in_pen_front gs n p within h i below =
     let count : length (take n gs) ≡ n = length-take-le n gs within in
     let inside : i < n = omega arith in
     subst (λ (g : Glyph). (is_tail g ≡ true) ⊎ (g.pen ≡ p)) (sym (get_or-take n gs i blank inside)) (h i inside)
+
+-- a cell that a piece goes on with
+pub tail_or_in_pen : (g : Glyph) (p : Look) → (is_tail g || same_look g.pen p) ≡ true → (is_tail g ≡ true) ⊎ (g.pen ≡ p)
+tail_or_in_pen g p h = by (is_tail g) h
+  where
+    by : (t : Bool) → (t || same_look g.pen p) ≡ true → (t ≡ true) ⊎ (g.pen ≡ p)
+    by true k = inl refl
+    by false k = inr (same_look_true g.pen p k)

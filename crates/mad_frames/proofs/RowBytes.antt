@@ -4,10 +4,11 @@ use Rattle.std.proofs.lemmas.List.{get_or-take, get_or-drop, length-take-le}
 use Rattle.mad_screen.specs.Glyph.{Glyph, Look}
 use Rattle.mad_screen.specs.Grid.{Grid, blank, plain_pen}
 use Rattle.mad_screen.specs.Pictures.{cell_text}
-use Rattle.mad_frames.specs.Bound.{change_bytes, cell_bytes, most_bytes, most_to, pen_bytes, pen_before, pieces_to, IsPaid}
+use Rattle.mad_frames.specs.Bound.{longest_move, change_bytes, cell_bytes, most_bytes}
+use Rattle.mad_frames.specs.RunBytes.{most_to, pen_bytes, pen_before, pieces_to, IsPaid}
 use Rattle.mad_frames.specs.Changes.{RowsOf}
 use Rattle.mad_frames.proofs.BoundLemmas.{pen_most, most_up}
-use Rattle.mad_frames.proofs.HalfwayLemmas.{row_cell, row_columns, next_row}
+use Rattle.mad_frames.proofs.HalfwayLemmas.{row_cell, row_columns, old_columns, next_row}
 
 -- ---- a run
 
@@ -43,7 +44,7 @@ slice_most gs s n (suc k) below =
     sums a b c d e f g h p q r = omega arith
 
 -- a run after unchanged cells
-pub run_bound : (os ns : List Glyph) (x s e before : ℕ) (out moved all move : List ℕ) → s < e → e ≤ length ns → x ≤ s → IsPaid os ns s e → moved ≡ out ++ move → length move ≤ 14 → length all ≤ length moved + pieces_to (take (e - s) (drop s ns)) (length (take (e - s) (drop s ns))) → length out ≤ before + most_to os ns x → length all ≤ before + most_to os ns e
+pub run_bound : (os ns : List Glyph) (x s e before : ℕ) (out moved all move : List ℕ) → s < e → e ≤ length ns → x ≤ s → IsPaid os ns s e → moved ≡ out ++ move → length move ≤ longest_move → length all ≤ length moved + pieces_to (take (e - s) (drop s ns)) (length (take (e - s) (drop s ns))) → length out ≤ before + most_to os ns x → length all ≤ before + most_to os ns e
 run_bound os ns x s e before out moved all move some within after paid is short cells bound =
     let n = e - s in
     let count : length (take n (drop s ns)) ≡ n = length-take-le n (drop s ns) (omega (arith, length-drop s ns)) in
@@ -53,7 +54,7 @@ run_bound os ns x s e before out moved all move some within after paid is short 
     (pieces_to ns (s + 1)) (pieces_to ns (s + suc (n - 1))) (pieces_to ns e) (length (cell_text (get_or ns s blank))) (most_to os ns x) (most_to os ns s) (most_to os ns e)
     (ap length is ∙ length-append out move) short cells (ap (pieces_to (take n (drop s ns))) (count ∙ last)) (slice_most ns s n (n - 1) (omega arith)) (ap (pieces_to ns) place) paid (most_up os ns x s after) bound
   where
-    sums : (a b c d f g h i j k l m o : ℕ) → c ≡ a + b → b ≤ 14 → d ≤ c + f → f ≡ g → g + h ≤ i + 167 + k → i ≡ j → change_bytes + k + j + m ≤ h + o → l ≤ m → a ≤ before + l → d ≤ before + o
+    sums : (a b c d f g h i j k l m o : ℕ) → c ≡ a + b → b ≤ longest_move → d ≤ c + f → f ≡ g → g + h ≤ i + 167 + k → i ≡ j → change_bytes + k + j + m ≤ h + o → l ≤ m → a ≤ before + l → d ≤ before + o
     sums a b c d f g h i j k l m o p q r t u v w y z = omega arith
 
 -- up to a column where nothing has changed
@@ -83,17 +84,6 @@ row_of_screen old new y (suc x) a b r within =
     sums : (m n k c : ℕ) → m ≡ n + k → m + c ≡ n + (k + c)
     sums m n k c e = omega arith
 
--- one more row
-pub row_bound : (old new : Grid) (y n : ℕ) (a b : List Glyph) (before after : List ℕ) → RowsOf old new y a b → n ≡ length b → length after ≤ length before + most_to a b n → length before ≤ most_to old.cells new.cells (y * new.width) → length after ≤ most_to old.cells new.cells ((y + 1) * new.width)
-row_bound old new y n a b before after r count row bound =
-    let columns : n ≡ new.width = count ∙ row_columns old new y a b r in
-    let place : y * new.width + n ≡ (y + 1) * new.width = ap (λ k. y * new.width + k) columns ∙ next_row y new.width in
-    sums (most_to old.cells new.cells (y * new.width)) (most_to a b n) (most_to old.cells new.cells (y * new.width + n)) (most_to old.cells new.cells ((y + 1) * new.width))
-    (row_of_screen old new y n a b r (omega arith)) (ap (most_to old.cells new.cells) place) row bound
-  where
-    sums : (m k s t : ℕ) → s ≡ m + k → s ≡ t → length after ≤ length before + k → length before ≤ m → length after ≤ t
-    sums m k s t p q h g = omega arith
-
 -- ---- all cells
 
 first_most : (o n : Glyph) (os ns : List Glyph) (k : ℕ) → most_to (o ∷ os) (n ∷ ns) (suc k) ≡ cell_bytes o n + most_to os ns k
@@ -106,11 +96,25 @@ first_most o n os ns (suc k) = sums (most_to (o ∷ os) (n ∷ ns) (suc k)) (cel
     sums : (m c t d : ℕ) → m ≡ c + t → m + d ≡ c + (t + d)
     sums m c t d e = omega arith
 
-all_most : (os ns : List Glyph) → length os ≡ length ns → most_to os ns (length ns) ≡ most_bytes os ns
+pub all_most : (os ns : List Glyph) → length os ≡ length ns → most_to os ns (length ns) ≡ most_bytes os ns
 all_most [] [] same = refl
 all_most [] (n ∷ ns) same = absurd (omega arith)
 all_most (o ∷ os) [] same = absurd (omega arith)
 all_most (o ∷ os) (n ∷ ns) same = first_most o n os ns (length ns) ∙ ap (λ m. cell_bytes o n + m) (all_most os ns (omega arith))
+
+-- ---- rows
+
+-- one more row
+pub row_bound : (old new : Grid) (y : ℕ) (a b : List Glyph) (before after : List ℕ) → RowsOf old new y a b → length after ≤ length before + most_bytes a b → length before ≤ most_to old.cells new.cells (y * new.width) → length after ≤ most_to old.cells new.cells ((y + 1) * new.width)
+row_bound old new y a b before after r row bound =
+    let columns : length b ≡ new.width = row_columns old new y a b r in
+    let same : length a ≡ length b = old_columns old new y a b r ∙ sym columns in
+    let place : y * new.width + length b ≡ (y + 1) * new.width = ap (λ k. y * new.width + k) columns ∙ next_row y new.width in
+    sums (most_to old.cells new.cells (y * new.width)) (most_to a b (length b)) (most_bytes a b) (most_to old.cells new.cells (y * new.width + length b)) (most_to old.cells new.cells ((y + 1) * new.width))
+    (row_of_screen old new y (length b) a b r (omega arith)) (all_most a b same) (ap (most_to old.cells new.cells) place) row bound
+  where
+    sums : (m k l s t : ℕ) → s ≡ m + k → k ≡ l → s ≡ t → length after ≤ length before + l → length before ≤ m → length after ≤ t
+    sums m k l s t p e q h g = omega arith
 
 -- once all rows are written
 pub all_bound : (old new : Grid) (n : ℕ) (bytes : List ℕ) → length old.cells ≡ length new.cells → n ≡ length new.cells → length bytes ≤ most_to old.cells new.cells n → length bytes ≤ most_bytes old.cells new.cells

@@ -9,16 +9,18 @@ use Rattle.mad_term.specs.declared.attribute.Attribute.{Attribute}
 use Rattle.mad_term.specs.declared.attribute.Attribute.TheVariants.{Reset}
 use Rattle.mad_term.specs.declared.color.Color.{Color}
 use Rattle.mad_term.specs.declared.color.Color.TheVariants.{Rgb, AnsiValue}
+use Rattle.mad_term.specs.declared.commands.ClearType.TheVariants.{All}
 use Rattle.mad_term.specs.declared.styles.ContentStyle.{ContentStyle}
 use Rattle.mad_term.specs.Attribute.{all_attributes, attribute_code, attribute_index}
 use Rattle.mad_term.specs.Attributes.{attribute_bits}
 use Rattle.mad_term.specs.Color.{IsColor, IsColorOrNone}
-use Rattle.mad_term.specs.Commands.{sgr_bytes, move_to_bytes, command_bytes}
+use Rattle.mad_term.specs.Commands.{sgr_bytes, move_to_bytes, clear_bytes, command_bytes}
 use Rattle.mad_term.specs.Styles.{IsStyle, color_bytes, present_bytes, attribute_bytes, attributes_bytes, opening_bytes, closing_bytes, piece_bytes}
 use Rattle.mad_screen.specs.Glyph.{Look}
 use Rattle.mad_screen.specs.Grid.{plain_pen}
 use Rattle.mad_screen.specs.Pictures.{same_look}
-use Rattle.mad_frames.specs.Bound.{pen_bytes}
+use Rattle.mad_frames.specs.Bound.{longest_move, longest_style}
+use Rattle.mad_frames.specs.RunBytes.{style_bytes}
 use Rattle.mad_frames.specs.Whole.{is_kept, is_writable}
 use Rattle.mad_frames.proofs.LooksLemmas.{both_true, same_look_true}
 
@@ -27,17 +29,17 @@ use Rattle.mad_frames.proofs.LooksLemmas.{both_true, same_look_true}
 abbrev further : List ℕ → List ℕ
 further = flat_map (λ m. 59 ∷ decimal m)
 
-digits_most : (k n : ℕ) → 0 < k → n < 10 ^ k → n < 256 → length (decimal n) ≤ k
+pub digits_most : (k n : ℕ) → 0 < k → n < 10 ^ k → n < 256 → length (decimal n) ≤ k
 digits_most k n some fits small = length-decimal-le k n some fits (omega arith)
 
-command_most : (n : ℕ) (ns : List ℕ) (letter : ℕ) → length (command_bytes (n ∷ ns) letter) ≡ 3 + length (decimal n) + length (further ns)
+pub command_most : (n : ℕ) (ns : List ℕ) (letter : ℕ) → length (command_bytes (n ∷ ns) letter) ≡ 3 + length (decimal n) + length (further ns)
 command_most n ns letter = omega (arith, length-append (decimal n ++ further ns) (letter ∷ []), length-append (decimal n) (further ns))
 
 further_more : (n : ℕ) (ns : List ℕ) → length (further (n ∷ ns)) ≡ 1 + length (decimal n) + length (further ns)
 further_more n ns = omega (arith, length-append (59 ∷ decimal n) (further ns))
 
 -- a move to a row and a column of five digits each
-pub move_most : (x y : ℕ) → x < 2 ^ 16 → y < 2 ^ 16 → length (move_to_bytes x y) ≤ 14
+pub move_most : (x y : ℕ) → x < 2 ^ 16 → y < 2 ^ 16 → length (move_to_bytes x y) ≤ longest_move
 move_most x y small_x small_y =
     omega (
       arith,
@@ -120,9 +122,9 @@ codes_most bits (a ∷ rest) h =
       codes_most bits rest s.1,
     )
 
-abbrev tail_of : List Attribute → List Attribute
-tail_of [] = []
-tail_of (a ∷ rest) = rest
+abbrev all_but_first : List Attribute → List Attribute
+all_but_first [] = []
+all_but_first (a ∷ rest) = rest
 
 not_reset : (bits : ℕ) → not (eqb (bit_at bits 0) 1) ≡ true → set_bytes bits Reset ≡ []
 not_reset bits h = by (eqb (bit_at bits 0) 1) h
@@ -134,7 +136,7 @@ not_reset bits h = by (eqb (bit_at bits 0) 1) h
 -- those of a pen: all but Reset, nine of four bytes and fourteen of five
 attributes_most : (bits : ℕ) → not (eqb (bit_at bits 0) 1) ≡ true → length (flat_map (set_bytes bits) all_attributes) ≤ 106
 attributes_most bits h =
-    let rest = tail_of all_attributes in
+    let rest = all_but_first all_attributes in
     let first : flat_map (set_bytes bits) all_attributes ≡ flat_map (set_bytes bits) rest = ap (λ l. l ++ flat_map (set_bytes bits) rest) (not_reset bits h) in
     omega (arith, ap length first, codes_most bits rest refl)
 
@@ -167,8 +169,8 @@ no_color : (o : Option Color) (c : Bool) → (is_some o || c) ≡ false → leng
 no_color None c h = refl
 no_color (Some o) c h = absurd (false≢true (sym h))
 
-dressed_most : (s : ContentStyle) → is_writable (pen_of s) ≡ true → IsStyle s → length (opening_bytes s) + length (closing_bytes s) ≤ 167
-dressed_most s h is = by (is_some s.underline_color || not (eqb (attribute_bits s.attributes) 0)) refl
+commands_most : (s : ContentStyle) → is_writable (pen_of s) ≡ true → IsStyle s → length (opening_bytes s) + length (closing_bytes s) ≤ 167
+commands_most s h is = by (is_some s.underline_color || not (eqb (attribute_bits s.attributes) 0)) refl
   where
     by : (b : Bool) → (is_some s.underline_color || not (eqb (attribute_bits s.attributes) 0)) ≡ b → length (opening_bytes s) + length (cond b (sgr_bytes (0 ∷ [])) (present_bytes (λ _. sgr_bytes (49 ∷ [])) s.background_color ++ present_bytes (λ _. sgr_bytes (39 ∷ [])) s.foreground_color)) ≤ 167
     by true e =
@@ -194,8 +196,8 @@ none_closed : (o : Option Color) (bits : ℕ) (l m : List ℕ) → o ≡ None �
 none_closed None bits l m e f h = ap (λ n. length (cond (not (eqb n 0)) l m)) f ∙ h
 none_closed (Some c) bits l m e f h = absurd (false≢true (ap is_some (sym e)))
 
-plain_dressed : (s : ContentStyle) → pen_of s ≡ plain_pen → length (opening_bytes s) + length (closing_bytes s) ≡ 0
-plain_dressed s e =
+plain_commands : (s : ContentStyle) → pen_of s ≡ plain_pen → length (opening_bytes s) + length (closing_bytes s) ≡ 0
+plain_commands s e =
     let fg : s.foreground_color ≡ None = ap (λ (p : Look). p.fg) e in
     let bg : s.background_color ≡ None = ap (λ (p : Look). p.bg) e in
     let ul : s.underline_color ≡ None = ap (λ (p : Look). p.underline) e in
@@ -221,12 +223,25 @@ plain_dressed s e =
     )
 
 -- a piece takes the bytes of its pen and those of its text at most
-pub piece_most : (s : ContentStyle) → is_writable (pen_of s) ≡ true → IsStyle s → (text : List ℕ) → length (piece_bytes s text) ≤ pen_bytes plain_pen (pen_of s) + length text
+pub piece_most : (s : ContentStyle) → is_writable (pen_of s) ≡ true → IsStyle s → (text : List ℕ) → length (piece_bytes s text) ≤ style_bytes (pen_of s) + length text
 piece_most s h is text = by (same_look (pen_of s) plain_pen) refl
   where
     count : length (piece_bytes s text) ≡ length (opening_bytes s) + length (closing_bytes s) + length text
     count = omega (arith, length-append (opening_bytes s) (text ++ closing_bytes s), length-append text (closing_bytes s))
 
-    by : (b : Bool) → same_look (pen_of s) plain_pen ≡ b → length (piece_bytes s text) ≤ cond (b || b) 0 167 + length text
-    by true e = omega (arith, count, plain_dressed s (same_look_true (pen_of s) plain_pen e))
-    by false e = omega (arith, count, dressed_most s h is)
+    by : (b : Bool) → same_look (pen_of s) plain_pen ≡ b → length (piece_bytes s text) ≤ cond b 0 longest_style + length text
+    by true e = omega (arith, count, plain_commands s (same_look_true (pen_of s) plain_pen e))
+    by false e = omega (arith, count, commands_most s h is)
+
+-- what clears a terminal
+pub clearing_most : length (sgr_bytes (0 ∷ []) ++ clear_bytes All) ≤ 8
+clearing_most =
+    omega
+    (
+      arith,
+      length-append (sgr_bytes (0 ∷ [])) (clear_bytes All),
+      command_most 0 [] 109,
+      command_most 2 [] 74,
+      digits_most 1 0 (omega arith) (omega arith) (omega arith),
+      digits_most 1 2 (omega arith) (omega arith) (omega arith),
+    )

@@ -1,5 +1,5 @@
 -- What a frame keeps, what a present does with it, and that a terminal shows it.
-use Rattle.std.specs.Prelude.{◌≡◌, ℕ, ◌≤◌, Bool, true, false, List, [], ◌++◌, length, Option, Some, None, Result, MatchResult}
+use Rattle.std.specs.Prelude.{◌≡◌, ℕ, ◌+◌, ◌≤◌, Bool, true, false, if◌then◌else◌, List, [], ◌++◌, length, Option, Some, None, Result, MatchResult}
 use Rattle.mad_term.specs.Trace.{Trace, after, failed, flushed}
 use Rattle.mad_screen.specs.Grid.{Grid, IsGrid, empty_grid}
 use Rattle.mad_screen.specs.Terminal.{after_bytes}
@@ -51,9 +51,17 @@ LeadsAll f new bytes = (t : Grid) → MayShow f t → (shown : Grid) × (after_b
 abbrev pub AddsNothing : FrameState → Grid → List ℕ → Type 0
 AddsNothing f new bytes = f.known ≡ true → (mended f.base).cells ≡ (mended new).cells → bytes ≡ []
 
--- where the terminal shows the screen that was presented last, the changed cells alone take bytes, and no more than they may
+-- the screen that a present changes: what a known frame shows, and else an empty one
+abbrev pub changed_from : FrameState → Grid
+changed_from f = if f.known then mended f.base else empty_grid f.base.width f.base.height
+
+-- what clears a terminal of which nothing is known
+abbrev pub clear_length : FrameState → ℕ
+clear_length f = if f.known then 0 else 8
+
+-- no more bytes than the changed characters may take, and those that clear the terminal where the frame isn't known
 abbrev pub IsBounded : FrameState → Grid → List ℕ → Type 0
-IsBounded f new bytes = f.known ≡ true → length bytes ≤ most_bytes (mended f.base).cells (mended new).cells
+IsBounded f new bytes = length bytes ≤ clear_length f + most_bytes (changed_from f).cells (mended new).cells
 
 -- a step keeps a frame in step, if the device takes these bytes meanwhile
 abbrev pub KeepsInStep : FrameState → FrameState → List ℕ → Type 0

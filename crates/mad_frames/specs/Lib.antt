@@ -4,4 +4,5 @@ pub mod FrameLaws
 pub mod Frames
 pub mod Mending
 pub mod Refusals
+pub mod RunBytes
 pub mod Whole

@@ -180,7 +180,9 @@ impl Frame {
 
     /// Shows what was drawn: sends what differs from the screen that was presented last, and flushes. What the device hadn't
     /// taken before comes first, in the same put. The first present of a frame clears the terminal and sends all. Where
-    /// nothing is to be sent, there is no put, but a flush. A changed cell takes 181 bytes and those of its characters at most.
+    /// nothing is to be sent, there is no put, but a flush.
+    ///
+    /// The changes are 181 bytes at most for each changed character, beside its own; where the terminal is cleared, 8 more.
     ///
     /// A half of a wide character is shown as a space in its pen, as terminals do.
     ///

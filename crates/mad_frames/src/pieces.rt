@@ -1,12 +1,12 @@
 //! Cells written as pieces of styled text.
 
-ghost use Rattle.std.specs.Prelude.{◌≡◌, ◌<◌, ◌≤◌, ◌+◌, ◌⊎◌, ℕ, List, true, false, IfOk, OnOk, IsTrue, length, string_bytes, slice_index_or};
+ghost use Rattle.std.specs.Prelude.{◌≡◌, ◌<◌, ◌≤◌, ◌+◌, ◌||◌, ◌⊎◌, ℕ, List, true, false, IfOk, OnOk, length, string_bytes, slice_index_or};
 ghost use Rattle.mad_term.specs.Styles.{IsStyle, piece_bytes};
 ghost use Rattle.mad_screen.specs.Glyph.{look_of};
-ghost use Rattle.mad_screen.specs.Grid.{blank, plain_pen, is_tail};
+ghost use Rattle.mad_screen.specs.Grid.{blank, is_tail};
 ghost use Rattle.mad_screen.specs.Painting.{look_of_style};
 ghost use Rattle.mad_screen.specs.Pictures.{same_look, row_text};
-ghost use Rattle.mad_frames.specs.Bound.{pen_bytes, pieces_to};
+ghost use Rattle.mad_frames.specs.RunBytes.{style_bytes, pieces_to};
 ghost use Rattle.mad_frames.specs.Changes.{AddsPaint};
 ghost use Rattle.mad_frames.specs.Whole.{is_writable, are_whole};
 
@@ -18,7 +18,9 @@ use std::alloc::{AllocError, Global};
 // The style that writes with a pen.
 fn style_of(pen: Pen) -> ContentStyle
     ensures look { is_writable (look_of pen) ≡ true → look_of_style result ≡ look_of pen }
-    ensures bytes { is_writable (look_of pen) ≡ true → IsStyle result → (text : List ℕ) → length (piece_bytes result text) ≤ pen_bytes plain_pen (look_of pen) + length text }
+
+    // `IsStyle` is what `push_styled` promises of it.
+    ensures bound { is_writable (look_of pen) ≡ true → IsStyle result → (text : List ℕ) → length (piece_bytes result text) ≤ style_bytes (look_of pen) + length text }
 {
     ContentStyle {
         foreground_color: pen.fg,
@@ -41,14 +43,9 @@ fn text_of(alloc: Global, cells: &[Cell]) -> Result<String, AllocError>
 
 // Whether a cell can be in a piece in the pen: a tail, which is in that of its character, or a cell in this pen.
 fn continues(cell: &Cell, pen: Pen) -> bool
-    ensures joins { IsTrue result → (is_tail cell.now ≡ true) ⊎ (cell.now.pen ≡ look_of pen) }
-    ensures head { result ≡ false → is_tail cell.now ≡ false }
-    ensures other { result ≡ false → same_look cell.now.pen (look_of pen) ≡ false }
+    ensures { result ≡ (is_tail cell.now || same_look cell.now.pen (look_of pen)) }
 {
-    if cell.is_tail() {
-        return true;
-    }
-    same_pen(cell.pen, pen)
+    cell.is_tail() || same_pen(cell.pen, pen)
 }
 
 // How many of the cells are characters in the pen of the first one.
@@ -74,7 +71,7 @@ fn piece_length(cells: &[Cell]) -> usize
 pub(crate) fn push_cells(alloc: Global, out: &mut String, cells: &[Cell]) -> Result<(), AllocError>
     requires { are_whole cells.now ≡ true }
     ensures paints { OnOk result (AddsPaint (string_bytes out.old) cells.now (string_bytes out.new)) }
-    ensures bytes { OnOk result (length (string_bytes out.new) ≤ length (string_bytes out.old) + pieces_to cells.now (length cells.now)) }
+    ensures bound { OnOk result (length (string_bytes out.new) ≤ length (string_bytes out.old) + pieces_to cells.now (length cells.now)) }
 {
     let mut from = 0;
     while from < cells.len() {

@@ -1,10 +1,10 @@
 //! Where a row has changed.
 
 ghost use Rattle.std.specs.Prelude.{◌≡◌, ◌<◌, ◌≤◌, ◌↔◌, ◌^◌, ◌-◌, ℕ, true, false, IfSome, IsTrue, length, slice_index_or};
-ghost use Rattle.mad_screen.specs.Glyph.{look_of};
 ghost use Rattle.mad_screen.specs.Grid.{blank, is_tail};
 ghost use Rattle.mad_screen.specs.Pictures.{cell_text};
-ghost use Rattle.mad_frames.specs.Bound.{BeginsChange, EndsGap, IsPaid, pen_bytes};
+ghost use Rattle.mad_frames.specs.Bound.{is_same_cell, longest_move};
+ghost use Rattle.mad_frames.specs.RunBytes.{BeginsChange, EndsGap, IsPaid, pen_bytes};
 ghost use Rattle.mad_frames.specs.Whole.{are_whole};
 
 use crate::whole::same_pen;
@@ -12,7 +12,8 @@ use mad_screen::{Cell, Pen};
 
 // Whether two cells show the same, in the same pen.
 fn same_cell(a: &Cell, b: &Cell) -> bool
-    ensures { IsTrue result ↔ a.now ≡ b.now }
+    ensures value { result ≡ is_same_cell a.now b.now }
+    ensures equal { IsTrue result ↔ a.now ≡ b.now }
 {
     a.chars.as_slice() == b.chars.as_slice() && same_pen(a.pen, b.pen)
 }
@@ -70,9 +71,6 @@ pub(crate) fn change_start(old: &[Cell], new: &[Cell], x: usize) -> usize
     start
 }
 
-// The most bytes that a move can take: a row and a column of five digits each.
-const LONGEST_MOVE: usize = 14;
-
 // How many digits a row or a column has.
 fn digits(n: usize) -> usize
     ensures { result ≤ 5 }
@@ -88,7 +86,7 @@ fn digits(n: usize) -> usize
 
 // The bytes of the move to column `x` of row `y`, both counted from zero.
 fn move_bytes(x: usize, y: u16) -> usize
-    ensures { result ≤ 14 }
+    ensures { result ≤ longest_move }
 {
     4 + digits(usize::from(y) + 1) + digits(x.saturating_add(1))
 }
@@ -104,16 +102,15 @@ fn text_bytes(cell: &Cell) -> usize
     bytes
 }
 
-// Whether a cell after another asks for no more than its characters: its pen is the plain one, which is back after each
-// piece, or that of the cell before.
+// Whether a cell takes no more than its characters after another. Its pen is that of the cell before, or the plain one, which is
+// back after each piece.
 fn is_free(before: &Cell, cell: &Cell) -> bool
     ensures { IsTrue result → pen_bytes before.now.pen cell.now.pen ≡ 0 }
 {
-    same_pen(cell.pen, Pen::default()) || same_pen(cell.pen, before.pen)
+    same_pen(cell.pen, before.pen) || same_pen(cell.pen, Pen::default())
 }
 
-// The column of the next changed character, if the unchanged ones from `end` up to it take no more bytes than the move that
-// they spare.
+// The column of the next changed character, if the unchanged ones before it take no more bytes than a move to it.
 fn next_in_run(old: &[Cell], new: &[Cell], end: usize, y: u16) -> Option<usize>
     requires same_length { length old.now ≡ length new.now }
     requires some { 0 < end }
@@ -121,20 +118,18 @@ fn next_in_run(old: &[Cell], new: &[Cell], end: usize, y: u16) -> Option<usize>
     requires head { end < length new.now → is_tail (slice_index_or new.now end blank) ≡ false }
     ensures { IfSome result (λ x. EndsGap old.now new.now end x) }
 {
-    let mut at = end;
+    let next = change_start(old, new, end);
+    if next == new.len() {
+        return None;
+    }
     let mut spent = 0usize;
-    while at < new.len() && spent <= LONGEST_MOVE {
-        let next = character_end(new, at);
-        if !same_cells(old, new, at, next) {
-            return (spent <= move_bytes(at, y)).then_some(at);
-        }
-        if !is_free(&new[at - 1], &new[at]) {
+    for i in end..next {
+        if !is_free(&new[i - 1], &new[i]) {
             return None;
         }
-        spent = spent.saturating_add(text_bytes(&new[at]));
-        at = next;
+        spent = spent.saturating_add(text_bytes(&new[i]));
     }
-    None
+    (spent <= move_bytes(next, y)).then_some(next)
 }
 
 /// The column where the run of characters to write that begins at `start` ends: that of the first unchanged one, or the row's

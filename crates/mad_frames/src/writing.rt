@@ -1,7 +1,7 @@
 //! The bytes from one screen to another.
 
 ghost use Rattle.std.specs.Prelude.{◌≡◌, ◌<◌, ◌≤◌, ◌+◌, ◌^◌, ◌↔◌, [], None, true, IfOk, IfSome, OnOk, length, string_bytes};
-ghost use Rattle.mad_frames.specs.Bound.{most_bytes, most_to};
+ghost use Rattle.mad_frames.specs.Bound.{most_bytes};
 ghost use Rattle.mad_frames.specs.Changes.{SameSize, LeadTo, AddsCells};
 ghost use Rattle.mad_frames.specs.Mending.{mended_row, mended};
 ghost use Rattle.mad_frames.specs.Whole.{are_whole, IsWholeGrid};
@@ -27,7 +27,7 @@ fn push_row(
     requires whole { are_whole new.now ≡ true }
     ensures leads { OnOk result (AddsCells old.now new.now y (length new.now) (string_bytes out.old) (string_bytes out.new)) }
     ensures same { OnOk result (old.now ≡ new.now → string_bytes out.new ≡ string_bytes out.old) }
-    ensures bound { OnOk result (are_whole old.now ≡ true → length (string_bytes out.new) ≤ length (string_bytes out.old) + most_to old.now new.now (length new.now)) }
+    ensures bound { OnOk result (are_whole old.now ≡ true → length (string_bytes out.new) ≤ length (string_bytes out.old) + most_bytes old.now new.now) }
 {
     let mut x = 0;
     while x < new.len() {
@@ -54,7 +54,7 @@ fn push_mended_row(
     requires columns { length new.now < 2 ^ 16 }
     ensures leads { OnOk result (AddsCells (mended_row old.now) (mended_row new.now) y (length new.now) (string_bytes out.old) (string_bytes out.new)) }
     ensures same { OnOk result (mended_row old.now ≡ mended_row new.now → string_bytes out.new ≡ string_bytes out.old) }
-    ensures bound { OnOk result (length (string_bytes out.new) ≤ length (string_bytes out.old) + most_to (mended_row old.now) (mended_row new.now) (length new.now)) }
+    ensures bound { OnOk result (length (string_bytes out.new) ≤ length (string_bytes out.old) + most_bytes (mended_row old.now) (mended_row new.now)) }
 {
     if are_whole(old) && are_whole(new) {
         return push_row(alloc, out, old, new, y);
@@ -69,8 +69,8 @@ fn push_mended_row(
 ///
 /// Only what has changed is written: each run of changed characters, after a move to its first column, as a piece for each
 /// part in one pen. A few unchanged characters between two changed ones are written over, where they take no more bytes than
-/// the move that they spare. A character has changed if any of its cells has. Equal screens give no bytes.
-/// Where `old` is whole characters too, a changed cell takes 181 bytes and those of its characters at most.
+/// the move that they spare. A character has changed if any of its cells has. Equal screens give no bytes. Where `old` is whole
+/// characters too, there are 181 bytes at most for each changed character, beside its own.
 ///
 /// `None` where the sizes differ, or where a row of `new` isn't whole characters, each with its tails in its pen. Reading can
 /// leave halves of wide characters, and no terminal shows these. `old` may have halves.

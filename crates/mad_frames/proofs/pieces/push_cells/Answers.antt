@@ -5,7 +5,7 @@ use Rattle.mad_screen.specs.Glyph.{Glyph, Look, look_of}
 use Rattle.mad_screen.specs.Grid.{blank, plain_pen}
 use Rattle.mad_screen.specs.Painting.{look_of_style, Paints}
 use Rattle.mad_screen.specs.Pictures.{row_text}
-use Rattle.mad_frames.specs.Bound.{pen_bytes}
+use Rattle.mad_frames.specs.RunBytes.{style_bytes}
 use Rattle.mad_frames.specs.Whole.{are_whole, is_writable}
 use Rattle.mad_frames.proofs.PieceLemmas.{adds_none, adds_more, piece_painted, in_pen_front}
 use Rattle.mad_frames.proofs.WholeLemmas.{whole_cut, first_writable}
@@ -38,8 +38,8 @@ loop-from-preserved c =
     (in_pen_front rest n p within c.piece_length-length.ensures.pen) in
     let piece = piece_bytes c.style_of.result c.as_str.result.now in
     let is : IsPiece cells rest from n = record { after = rest_is; whole = c.requires; some = c.piece_length-length.ensures.some; within = within; pen = c.piece_length-length.ensures.pen } in
-    let bytes : length piece ≤ pen_bytes plain_pen p + length c.as_str.result.now =
-    subst (λ (q : Look). length piece ≤ pen_bytes plain_pen q + length c.as_str.result.now) pen (c.style_of.ensures.bytes (ap is_writable pen ∙ writable) c.push_styled.ensures.bytes c.as_str.result.now) in
+    let bytes : length piece ≤ style_bytes p + length c.as_str.result.now =
+    subst (λ (q : Look). length piece ≤ style_bytes q + length c.as_str.result.now) pen (c.style_of.ensures.bound (ap is_writable pen ∙ writable) c.push_styled.ensures.bytes c.as_str.result.now) in
     record {
       within = omega arith;
       bytes = piece_taken cells rest from n (string_bytes c.loop-from.out) (string_bytes c.push_styled.new.row) piece c.as_str.result.now (length (string_bytes c.args.out.now)) is

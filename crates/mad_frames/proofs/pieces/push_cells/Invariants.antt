@@ -1,7 +1,7 @@
 use Rattle.std.proofs.Common.{length, ◌-◌, ◌≡◌, ◌≤◌, ◌<◌, ◌+◌, true, false, string_bytes, get_or, take, drop}
 use Rattle.mad_screen.specs.Grid.{blank}
 use Rattle.mad_screen.specs.Pictures.{same_look}
-use Rattle.mad_frames.specs.Bound.{pen_before, pieces_to}
+use Rattle.mad_frames.specs.RunBytes.{pen_before, pieces_to}
 use Rattle.mad_frames.specs.Changes.{AddsPaint}
 use Rattle.mad_frames.specs.Whole.{are_whole}
 use Rattle.mad_frames.proofs.pieces.push_cells.Given as goal

@@ -1,6 +1,6 @@
 use Rattle.std.proofs.Common.{length, ◌-◌, ◌≡◌, ◌<◌, ◌≤◌, true, false, slice_index_or}
 use Rattle.mad_screen.specs.Grid.{blank, is_tail}
-use Rattle.mad_frames.specs.Bound.{IsPaid}
+use Rattle.mad_frames.specs.RunBytes.{IsPaid}
 use Rattle.mad_frames.specs.Whole.{are_whole}
 use Rattle.mad_frames.proofs.runs.change_end.Given as goal
 

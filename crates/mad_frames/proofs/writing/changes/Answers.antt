@@ -22,7 +22,7 @@ loop-y-preserved c =
     let rows : RowsOf old new y c.row.result.now c.row-in-loop-y.result.now = record { size = size; same = cells; full = c.width-2.ensures.full; row = row; old_row = c.row.ensures; new_row = c.row-in-loop-y.ensures } in
     record {
       leads = row_done old new y (length c.row-in-loop-y.result.now) c.row.result.now c.row-in-loop-y.result.now (string_bytes c.loop-y.out) (string_bytes c.push_row.new.out) rows refl c.in_ok-push_row.ensures.leads c.loop-y.invariant.leads;
-      bound = λ h. row_bound old new y (length c.row-in-loop-y.result.now) c.row.result.now c.row-in-loop-y.result.now (string_bytes c.loop-y.out) (string_bytes c.push_row.new.out) rows refl
+      bound = λ h. row_bound old new y c.row.result.now c.row-in-loop-y.result.now (string_bytes c.loop-y.out) (string_bytes c.push_row.new.out) rows
           (c.in_ok-push_row.ensures.bound (ap are_whole c.row.ensures ∙ h y (omega (arith, size.height)))) (c.loop-y.invariant.bound h);
       same = λ e. c.in_ok-push_row.ensures.same (c.row.ensures ∙ same_rows old new y size e ∙ sym c.row-in-loop-y.ensures) ∙ c.loop-y.invariant.same e;
     }

@@ -1,5 +1,5 @@
 use Rattle.std.proofs.Common.{◌≡◌, ◌*◌, ◌≤◌, [], length, string_bytes}
-use Rattle.mad_frames.specs.Bound.{most_to}
+use Rattle.mad_frames.specs.RunBytes.{most_to}
 use Rattle.mad_frames.specs.Changes.{LeadTo, halfway}
 use Rattle.mad_frames.specs.Whole.{IsWholeGrid}
 use Rattle.mad_frames.proofs.writing.changes.Given as goal

@@ -23,7 +23,7 @@ loop-y-preserved c =
     let rows : RowsOf (mended old) (mended new) y (mended_row a) (mended_row b) = mended_rows_of old new y a b c.requires.size c.width.ensures.full c.width-2.ensures.full row c.row.ensures c.row-in-loop-y.ensures in
     record {
       leads = row_done (mended old) (mended new) y (length b) (mended_row a) (mended_row b) (string_bytes c.loop-y.out) (string_bytes c.push_mended_row.new.out) rows (sym (mended_length 0 b)) c.in_ok-push_mended_row.ensures.leads c.loop-y.invariant.leads;
-      bound = row_bound (mended old) (mended new) y (length b) (mended_row a) (mended_row b) (string_bytes c.loop-y.out) (string_bytes c.push_mended_row.new.out) rows (sym (mended_length 0 b)) c.in_ok-push_mended_row.ensures.bound c.loop-y.invariant.bound;
+      bound = row_bound (mended old) (mended new) y (mended_row a) (mended_row b) (string_bytes c.loop-y.out) (string_bytes c.push_mended_row.new.out) rows c.in_ok-push_mended_row.ensures.bound c.loop-y.invariant.bound;
       same = λ e. c.in_ok-push_mended_row.ensures.same (rows.old_row ∙ same_rows (mended old) (mended new) y rows.size e ∙ sym rows.new_row) ∙ c.loop-y.invariant.same e;
     }
 

@@ -48,10 +48,10 @@ returns-then-are_whole-2-clause-bound c =
     let new = c.args.new.now in
     let a : old ≡ mended_row old = sym (whole_stays 0 plain_pen old (sym c.are_whole.ensures ∙ c.if-are_whole.true)) in
     let b : new ≡ mended_row new = sym (whole_stays 0 plain_pen new (sym c.are_whole-then-are_whole.ensures ∙ c.if-are_whole-2.true)) in
-    bound_mended _ old new old new (length new) (string_bytes c.args.out.now) (string_bytes c.push_row.new.out) a b refl c.push_row.ensures.bound
+    bound_mended _ old new old new (string_bytes c.args.out.now) (string_bytes c.push_row.new.out) a b c.push_row.ensures.bound
 
 pub returns-clause-bound : goal.returns-clause-bound
 returns-clause-bound c =
     let a : c.deref.result.now ≡ mended_row c.args.old.now = c.deref.ensures.value ∙ c.in_ok-old.ensures in
     let b : c.deref-2.result.now ≡ mended_row c.args.new.now = c.deref-2.ensures.value ∙ c.in_ok-new.ensures in
-    bound_mended _ c.args.old.now c.args.new.now c.deref.result.now c.deref-2.result.now (length c.args.new.now) (string_bytes c.args.out.now) (string_bytes c.push_row-2.new.out) a b refl c.push_row-2.ensures.bound
+    bound_mended _ c.args.old.now c.args.new.now c.deref.result.now c.deref-2.result.now (string_bytes c.args.out.now) (string_bytes c.push_row-2.new.out) a b c.push_row-2.ensures.bound

@@ -1,6 +1,6 @@
 use Rattle.std.proofs.Common.{◌-◌, ◌≡◌, ◌<◌, ◌≤◌, ◌+◌, true, false, length, string_bytes, slice_index_or}
 use Rattle.mad_screen.specs.Grid.{blank, is_tail}
-use Rattle.mad_frames.specs.Bound.{most_to}
+use Rattle.mad_frames.specs.RunBytes.{most_to}
 use Rattle.mad_frames.specs.Changes.{AddsCells}
 use Rattle.mad_frames.specs.Whole.{are_whole}
 use Rattle.mad_frames.proofs.writing.push_row.Given as goal
