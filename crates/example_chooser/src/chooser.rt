@@ -1,9 +1,10 @@
 //! The list, what is typed, and what a key does.
 
-use crate::cities::{ByName, CITIES, City, Having, Name};
+use crate::cities::{CITIES, City, Having, Name};
 use std::alloc::{AllocError, Global};
 use termimad::{
-    Alignment, Area, Error, InputField, KeyCode, KeyEvent, ListView, ListViewColumn, MadSkin, Out,
+    Alignment, Area, Error, InputField, KeyCode, KeyEvent, ListView, ListViewColumn, MadSkin, NoOrder,
+    Out,
 };
 
 /// How a chooser goes on after a key.
@@ -21,7 +22,7 @@ pub enum Turn {
 #[derive(Drop)]
 pub struct Chooser<'k> {
     field: InputField,
-    list: ListView<'k, City, Name, Having, ByName>,
+    list: ListView<'k, City, Name, Having, NoOrder>,
     turn: Turn,
 }
 

@@ -1,8 +1,7 @@
-//! Cities, which are the rows of the list; its filter, and its order.
+//! Cities, which are the rows of the list; its filter, and what it shows of them.
 
 use std::alloc::{AllocError, Global};
-use std::cmp::Ordering;
-use termimad::{CellExtract, CompoundStyle, ListViewCell, RowFilter, RowOrder};
+use termimad::{CellExtract, CompoundStyle, ListViewCell, RowFilter};
 
 /// A city, by its name.
 #[derive(Clone, Copy)]
@@ -31,20 +30,6 @@ impl RowFilter<City> for Having {
 
     fn accepts(&self, city: &City) -> bool {
         city.0.contains(self.0.as_str())
-    }
-}
-
-/// Orders cities by their names.
-#[derive(Drop)]
-pub struct ByName;
-
-impl RowOrder<City> for ByName {
-    ghost use Rattle.std.specs.Prelude.{⊤};
-
-    ghost compares = { λ _ _ _ _. ⊤ };
-
-    fn compare(&self, a: &City, b: &City) -> Ordering {
-        a.0.cmp(b.0)
     }
 }
 
