@@ -236,8 +236,7 @@ piece_most s h is text = by (same_look (pen_of s) plain_pen) refl
 -- what clears a terminal
 pub clearing_most : length (sgr_bytes (0 ∷ []) ++ clear_bytes All) ≤ 8
 clearing_most =
-    omega
-    (
+    omega (
       arith,
       length-append (sgr_bytes (0 ∷ [])) (clear_bytes All),
       command_most 0 [] 109,

@@ -5,7 +5,7 @@ use Rattle.mad_screen.specs.Grid.{empty_grid}
 use Rattle.mad_frames.specs.Bound.{most_bytes}
 use Rattle.mad_frames.specs.Changes.{LeadTo}
 use Rattle.mad_frames.specs.Mending.{mended}
-use Rattle.mad_frames.proofs.FrameLemmas.{cleared_leads, known_bounded, cleared_bounded}
+use Rattle.mad_frames.proofs.FrameLemmas.{cleared_leads, cleared_bounded}
 use Rattle.mad_frames.proofs.frame.Frame.changes_to.Goals as goal
 
 pub returns-clause-leads : goal.returns-clause-leads
