@@ -79,7 +79,7 @@ IsNowhere sought lines = (0 < length sought) × NoneFrom sought lines 0
 abbrev pub IsMissingAt : List ℕ → List FmtLine → ℕ → Type 0
 IsMissingAt sought lines row = (0 < length sought) × ¬ HasText sought lines row
 
--- the same with another row on top, after a search of which it is said whether it found none
+-- the same after a search: with this row on top, and with whether no row was found
 abbrev pub at_row : ℕ → Bool → State → State
 at_row row missing s = record s { page = record s.page { top = row }; is_missing = missing }
 
