@@ -1,6 +1,6 @@
 -- What a session keeps, whatever events say.
-use Rattle.std.proofs.Common.{◌≡◌, ◌⊎◌, ℕ, ◌+◌, ◌-◌, ◌<◌, ◌==◌, inl, inr, Bool, true, false, List, [], ◌∷◌, ◌++◌, take, drop, filter, nat_lt, Some, length, min, refl, ap, sym, ◌∙◌, subst, arith, if◌then◌else◌}
-use Rattle.std.specs.List.{AllByRecursion}
+use Rattle.std.proofs.Common.{◌≡◌, ℕ, ◌+◌, ◌-◌, ◌<◌, ◌==◌, inl, inr, Bool, true, false, List, [], ◌∷◌, ◌++◌, take, drop, nat_lt, length, min, refl, ap, sym, ◌∙◌, subst, arith, if◌then◌else◌}
+use Rattle.std.specs.Prelude.{encode_utf8_all}
 use Rattle.std.proofs.lemmas.List.{take-append-drop}
 use Rattle.std.proofs.lemmas.Bool.{cases_eq}
 use Rattle.std.proofs.lemmas.Bool.Decides.{nat_tests}
@@ -17,17 +17,17 @@ use Rattle.mad_fit.specs.declared.area.Area.{Area}
 use Rattle.mad_fit.proofs.AllLemmas.{all_front, all_back, all_joined}
 use Rattle.mad_lines.specs.TextLines.{is_accepted, accepted, lines}
 use Rattle.mad_edit.specs.Editor.{Editor, cursor_line, replaced, without}
-use Rattle.mad_field.specs.Fields.{Field, new_field}
-use Rattle.mad_field.specs.Edits.{Outcome, edited, edited_if, is_wide, left_alone, moved_down, moved_to_line, moved_up, selecting, selection_replaced, unselected, with_content}
+use Rattle.mad_field.specs.Fields.{Field}
+use Rattle.mad_field.specs.Edits.{Outcome, edited, edited_if, is_wide, moved_down, moved_to_line, moved_up}
 use Rattle.mad_field.specs.Keys.{key_outcome, moved_by, removal, selecting_if}
 use Rattle.mad_field.specs.Keys as keys
 use Rattle.mad_page.specs.PageKeys.{Turn, after_char, after_control, after_key, after_plain_key, after_wheel}
 use Rattle.mad_page.specs.declared.keys.Ask.{Ask}
-use Rattle.mad_page.specs.declared.keys.Ask.TheVariants.{Search, Next, Previous, Forget, Size, Quit, Nothing}
+use Rattle.mad_page.specs.declared.keys.Ask.TheVariants.{Search, Next, Previous, Forget}
 use Rattle.mad_page.specs.declared.page.Page.{Page}
 use Rattle.mad_format.specs.declared.line.FmtLine.{FmtLine}
 use Rattle.mad_layout.specs.declared.skin.MadSkin.{MadSkin}
-use Rattle.mad_pager.specs.Screens.{IsFieldInRow, IsOrderly, TakeColumns}
+use Rattle.mad_pager.specs.Screens.{IsOrderly, TakeColumns}
 use Rattle.mad_pager.specs.Sessions.{State, IsAnyKeyStep, IsAsked, IsEventStep, IsKeyStep, IsLaidFor, IsMovedTo, IsResized, IsStart, IsTypeStep, last_row, typed}
 
 -- ---- what is typed
@@ -187,8 +187,8 @@ still p = record { columns = refl; rows = refl }
 
 asked_order : (skin : MadSkin) (markdown : List ℕ) (ask : Ask) (s new : State) → IsAsked ask s new → IsOrderly skin markdown s → IsOrderly skin markdown new
 asked_order skin markdown Search s new e h = subst (λ (x : State). IsOrderly skin markdown x) (sym e) (record { lines = h.lines; field = record { area = refl; typed = tt } })
-asked_order skin markdown Next s new (row, next, e) h = same_order skin markdown s _ new e refl (record { columns = refl; rows = refl }) (stays s.field h.field.typed) h
-asked_order skin markdown Previous s new (row, next, e) h = same_order skin markdown s _ new e refl (record { columns = refl; rows = refl }) (stays s.field h.field.typed) h
+asked_order skin markdown Next s new (row, missing, next, said, e) h = same_order skin markdown s _ new e refl (record { columns = refl; rows = refl }) (stays s.field h.field.typed) h
+asked_order skin markdown Previous s new (row, missing, previous, said, e) h = same_order skin markdown s _ new e refl (record { columns = refl; rows = refl }) (stays s.field h.field.typed) h
 asked_order skin markdown Forget s new e h = same_order skin markdown s _ new e refl (still s.page) (stays s.field h.field.typed) h
 asked_order skin markdown _ s new e h = same_order skin markdown s s new e refl (still s.page) (stays s.field h.field.typed) h
 
@@ -212,7 +212,7 @@ takes_some c e = grind (arith, nat_tests)
 
 type_order : (skin : MadSkin) (markdown : List ℕ) (code : KeyCode) (key : KeyEvent) (s new : State) → key.code ≡ code → IsTypeStep code key s new → IsOrderly skin markdown s → IsOrderly skin markdown new
 type_order skin markdown Enter key s new is step h =
-    asked_order skin markdown Next _ new step (record { lines = h.lines; field = record { area = h.field.area; typed = h.field.typed } })
+    asked_order skin markdown Next (record s { is_typing = false; sought = encode_utf8_all s.field.content.text }) new step (record { lines = h.lines; field = record { area = h.field.area; typed = h.field.typed } })
 type_order skin markdown Esc key s new is e h = same_order skin markdown s _ new e refl (still s.page) (stays s.field h.field.typed) h
 type_order skin markdown (Char c) key s new is e h =
     same_order skin markdown s _ new e refl (still s.page) (char_field c key s.field (char_columns c == 0) is (takes_some c) h.field.typed) h

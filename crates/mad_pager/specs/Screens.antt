@@ -66,14 +66,14 @@ field_pane s = record { area = s.field.area; row = row_pieces s.field }
 
 -- ---- the status
 
--- what is said of what is sought, where anything is
-abbrev pub sought_words : List ℕ → List ℕ
-sought_words [] = []
-sought_words (c ∷ cs) = codes "  /" ++ (c ∷ cs)
+-- what is said of what is sought, where anything is; where the last search found no row, that too
+abbrev pub sought_words : Bool → List ℕ → List ℕ
+sought_words missing [] = []
+sought_words missing (c ∷ cs) = codes "  /" ++ (c ∷ cs) ++ (if missing then codes "  not found" else [])
 
--- what the status says: how much of the text was shown, its name, and what is sought
+-- what the status says: how much of the text was shown, its name, what is sought, and whether it wasn't found
 abbrev pub status_words : List ℕ → State → List ℕ
-status_words name s = decimal (percent s.page) ++ codes "%  " ++ name ++ sought_words s.sought
+status_words name s = decimal (percent s.page) ++ codes "%  " ++ name ++ sought_words s.is_missing s.sought
 
 -- the skin of the status: no style, but that its characters are reversed
 abbrev pub reversed_skin : MadSkin

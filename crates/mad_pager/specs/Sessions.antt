@@ -1,5 +1,5 @@
 -- A session of the pager: what is shown and sought, and what an event does.
-use Rattle.std.specs.Prelude.{◌≡◌, ◌≢◌, ℕ, ◌-◌, ◌==◌, Bool, true, false, List, [], Some, length, encode_utf8_all, string_bytes, if◌then◌else◌}
+use Rattle.std.specs.Prelude.{◌≡◌, ◌≢◌, ℕ, ◌-◌, ◌<◌, ◌==◌, ◌↔◌, Bool, true, false, IsTrue, List, [], Some, length, encode_utf8_all, string_bytes, if◌then◌else◌}
 use Rattle.mad_columns.specs.Columns.{char_columns}
 use Rattle.mad_term.specs.declared.events.Event.{Event}
 use Rattle.mad_term.specs.declared.events.Event.TheVariants.{Key, Mouse, Resize}
@@ -21,24 +21,26 @@ use Rattle.mad_page.specs.declared.keys.Ask.{Ask}
 use Rattle.mad_page.specs.declared.keys.Ask.TheVariants.{Search, Next, Previous, Forget, Size, Quit}
 use Rattle.mad_page.specs.declared.page.Page.{Page}
 use Rattle.mad_search.specs.KeptRows.{IsKeptRow}
-use Rattle.mad_search.specs.Searches.{IsNextRow, IsPreviousRow}
+use Rattle.mad_search.specs.Searches.{HasText, IsNextRow, IsPreviousRow, NoneFrom}
 use Rattle.mad_pager.specs.declared.session.Session.{Session}
 use Rattle.mad_pager.specs.declared.session.Turn.{Turn}
 use Rattle.mad_pager.specs.declared.session.Turn.TheVariants.{Goes, AsksSize, Ends}
 
 -- ---- what it is of
 
--- What is shown and sought: which row is on top of which lines, what is being typed, if it is, and what is sought.
+-- What is shown and sought: which row is on top of which lines, what is being typed, if it is, what is sought, and whether the last search found
+-- no row.
 pub record State : Type 0 where
   pub page : Page
   pub lines : List FmtLine
   pub field : Field
   pub is_typing : Bool
   pub sought : List ℕ
+  pub is_missing : Bool
 
 -- the state of a session
 abbrev pub state_of : Session → State
-state_of s = record { page = s.page; lines = s.text.lines.items; field = s.field; is_typing = s.is_typing; sought = string_bytes s.sought }
+state_of s = record { page = s.page; lines = s.text.lines.items; field = s.field; is_typing = s.is_typing; sought = string_bytes s.sought; is_missing = s.is_missing }
 
 -- what stays the same in a session: its text and its skin, in which the lines are laid out
 pub record HasSameText (old new : Session) : Type 0 where
@@ -65,19 +67,30 @@ pub record IsStart (skin : MadSkin) (markdown : List ℕ) (columns rows : ℕ) (
   pub field : s.field ≡ new_field (last_row columns rows)
   pub is_typing : s.is_typing ≡ false
   pub sought : s.sought ≡ []
+  pub is_missing : s.is_missing ≡ false
 
 -- ---- what keys do
 
--- the same with another row on top
-abbrev pub at_row : ℕ → State → State
-at_row row s = record s { page = record s.page { top = row } }
+-- something is sought, and no row of the lines has it
+abbrev pub IsNowhere : List ℕ → List FmtLine → Type 0
+IsNowhere sought lines = (0 < length sought) × NoneFrom sought lines 0
 
--- what is asked for is done
+-- something is sought, and this row doesn't have it
+abbrev pub IsMissingAt : List ℕ → List FmtLine → ℕ → Type 0
+IsMissingAt sought lines row = (0 < length sought) × ¬ HasText sought lines row
+
+-- the same after a search: with this row on top, and with whether no row was found
+abbrev pub at_row : ℕ → Bool → State → State
+at_row row missing s = record s { page = record s.page { top = row }; is_missing = missing }
+
+-- What is asked for is done. A search says that it found no row exactly where something is sought and no row has it.
 abbrev pub IsAsked : Ask → State → State → Type 0
 IsAsked Search s new = new ≡ record s { field = new_field (last_row s.page.columns s.page.rows); is_typing = true }
-IsAsked Next s new = (row : ℕ) × IsNextRow s.sought s.lines s.page.top row × (new ≡ at_row row s)
-IsAsked Previous s new = (row : ℕ) × IsPreviousRow s.sought s.lines s.page.top row × (new ≡ at_row row s)
-IsAsked Forget s new = new ≡ record s { sought = [] }
+IsAsked Next s new =
+    (row : ℕ) × (missing : Bool) × IsNextRow s.sought s.lines s.page.top row × (IsTrue missing ↔ IsNowhere s.sought s.lines) × (new ≡ at_row row missing s)
+IsAsked Previous s new =
+    (row : ℕ) × (missing : Bool) × IsPreviousRow s.sought s.lines s.page.top row × (IsTrue missing ↔ IsNowhere s.sought s.lines) × (new ≡ at_row row missing s)
+IsAsked Forget s new = new ≡ record s { sought = []; is_missing = false }
 IsAsked ask s new = new ≡ s
 
 -- what a key does while nothing is being typed
@@ -117,6 +130,7 @@ pub record IsResized (skin : MadSkin) (markdown : List ℕ) (columns rows : ℕ)
   pub field : IsMovedTo (last_row columns rows) old.field new.field
   pub is_typing : new.is_typing ≡ old.is_typing
   pub sought : new.sought ≡ old.sought
+  pub is_missing : new.is_missing ≡ old.is_missing
 
 -- what a key does
 pub record IsAnyKeyStep (key : KeyEvent) (s new : State) : Type 0 where

@@ -1,6 +1,6 @@
 //! A session: a text on a screen, what is sought in it, and what an event does.
 
-ghost use Rattle.std.specs.Prelude.{◌≡◌, ◌==◌, ◌-◌, true, if◌then◌else◌, IfOk, OnOk, length, string_bytes, encode_utf8_all};
+ghost use Rattle.std.specs.Prelude.{◌≡◌, ◌==◌, ◌-◌, true, if◌then◌else◌, IfOk, OnOk, IsTrue, ◌↔◌, length, string_bytes, encode_utf8_all};
 ghost use Rattle.mad_columns.specs.Columns.{char_columns};
 ghost use Rattle.mad_field.specs.Fields.{new_field};
 ghost use Rattle.mad_page.specs.PageKeys.{after_key};
@@ -8,14 +8,14 @@ ghost use Rattle.mad_layout.specs.RowSkins.{row_skin};
 ghost use Rattle.mad_rows.specs.RowStyles.{line_rules};
 ghost use Rattle.mad_search.specs.KeptRows.{IsKeptRow};
 ghost use Rattle.mad_search.specs.Searches.{IsNextRow, IsPreviousRow};
-ghost use Rattle.mad_pager.specs.Sessions.{asks_size, ends, state_of, text_area, last_row, typed, turn_of, turn_of_key, turn_asked, HasSameText, IsLaidFor, IsAsked, IsAnyKeyStep, IsKeyStep, IsTypeStep, IsEventStep, IsResized, IsSought, IsStart};
+ghost use Rattle.mad_pager.specs.Sessions.{asks_size, ends, state_of, text_area, last_row, typed, turn_of, turn_of_key, turn_asked, HasSameText, IsLaidFor, IsMissingAt, IsAsked, IsAnyKeyStep, IsKeyStep, IsTypeStep, IsEventStep, IsResized, IsSought, IsStart};
 
 use mad_columns::char_columns;
 use mad_field::InputField;
 use mad_fit::Area;
 use mad_layout::{FmtText, MadSkin};
 use mad_page::{Ask, Page};
-use mad_search::{kept_row, next_row, previous_row};
+use mad_search::{has_text_at, kept_row, next_row, previous_row};
 use mad_term::{Event, KeyCode, KeyEvent, KeyModifiers};
 use std::alloc::{AllocError, Global};
 
@@ -63,6 +63,8 @@ pub struct Session<'s> {
     pub is_typing: bool,
     /// What is sought; nothing, where it is empty.
     pub sought: String,
+    /// Whether the last search found no row.
+    pub is_missing: bool,
 }
 
 impl<'s> Session<'s> {
@@ -100,6 +102,7 @@ impl<'s> Session<'s> {
             field,
             is_typing: false,
             sought: String::new(alloc),
+            is_missing: false,
         })
     }
 
@@ -174,6 +177,7 @@ impl<'s> Session<'s> {
             }
             Ask::Forget => {
                 self.sought.clear();
+                self.is_missing = false;
                 Ok(Turn::Goes)
             }
             Ask::Size => Ok(Turn::AsksSize),
@@ -261,7 +265,9 @@ impl<'s> Session<'s> {
         ensures text { OnOk result (HasSameText self.old self.new) }
     {
         let row = self.row_after(alloc)?;
+        let is_missing = self.is_missing_at(alloc, row)?;
         self.page.top = row;
+        self.is_missing = is_missing;
         Ok(())
     }
 
@@ -271,7 +277,9 @@ impl<'s> Session<'s> {
         ensures text { OnOk result (HasSameText self.old self.new) }
     {
         let row = self.row_before(alloc)?;
+        let is_missing = self.is_missing_at(alloc, row)?;
         self.page.top = row;
+        self.is_missing = is_missing;
         Ok(())
     }
 
@@ -299,6 +307,17 @@ impl<'s> Session<'s> {
             self.page.top,
         )?;
         Ok(row)
+    }
+
+    // Whether something is sought that the row of an index doesn't have.
+    fn is_missing_at(&self, alloc: Global, row: usize) -> Result<bool, AllocError>
+        ensures { IfOk result (λ missing. IsTrue missing ↔ IsMissingAt (string_bytes self.now.sought) self.now.text.lines.items row) }
+    {
+        if self.sought.is_empty() {
+            return Ok(false);
+        }
+        let has = has_text_at(alloc, self.text.lines.as_slice(), self.sought.as_str(), row)?;
+        Ok(!has)
     }
 
     // The row that stays on top where the screen has these columns.

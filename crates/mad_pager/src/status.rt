@@ -1,11 +1,11 @@
-//! The last row of the screen: how much of the text was shown, its name, and what is sought.
+//! The last row of the screen: how much of the text was shown, its name, what is sought, and whether it wasn't found.
 
-ghost use Rattle.std.specs.Prelude.{◌≡◌, IfOk, OnOk, string_bytes};
+ghost use Rattle.std.specs.Prelude.{◌≡◌, ◌++◌, IfOk, OnOk, string_bytes};
 ghost use Rattle.mad_term.specs.Trace.{TookWith};
 ghost use Rattle.mad_fit.specs.Areas.{IsWithinLimits};
 ghost use Rattle.mad_layout.specs.RowSkins.{row_skin};
 ghost use Rattle.mad_pager.specs.Sessions.{state_of};
-ghost use Rattle.mad_pager.specs.Screens.{reversed_skin, status_words, IsLineIn, IsStatus, IsStatusLine};
+ghost use Rattle.mad_pager.specs.Screens.{reversed_skin, sought_words, status_words, IsLineIn, IsStatus, IsStatusLine};
 
 use crate::session::{Session, last_row};
 use mad_fit::{Area, Spacing};
@@ -39,11 +39,24 @@ impl Session<'_> {
         let percent = self.page.percent();
         let mut words = format!(in alloc; "{percent}%  ")?;
         words.push_str(self.name)?;
-        if !self.sought.is_empty() {
-            words.push_str("  /")?;
-            words.push_str(self.sought.as_str())?;
-        }
+        self.push_sought(&mut words)?;
         Ok(words)
+    }
+
+    // Puts what is sought after a text, if anything is, and that the last search didn't find it.
+    fn push_sought(&self, words: &mut String) -> Result<(), AllocError>
+        ensures { OnOk result (string_bytes words.new ≡ string_bytes words.old ++ sought_words self.now.is_missing (string_bytes self.now.sought)) }
+    {
+        let sought = self.sought.as_str();
+        if sought.is_empty() {
+            return Ok(());
+        }
+        words.push_str("  /")?;
+        words.push_str(sought)?;
+        if self.is_missing {
+            words.push_str("  not found")?;
+        }
+        Ok(())
     }
 }
 

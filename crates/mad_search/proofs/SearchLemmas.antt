@@ -1,15 +1,13 @@
 -- Texts of lines, put together piece by piece, and rows that have a text, row by row.
-use Rattle.std.proofs.Common.{◌≡◌, ◌⊎◌, ℕ, ◌+◌, ◌-◌, ◌<◌, ◌≤◌, ◌==◌, min, Bool, true, false, List, [], ◌∷◌, ◌++◌, drop, length, get_or, slice_get, Option, Some, None, MatchOption, unwrap_or, below_more, refl, ap, sym, ◌∙◌, subst, inl, inr, arith, append_assoc}
-use Rattle.std.specs.Prelude.{◌↔◌}
+use Rattle.std.proofs.Common.{◌≡◌, ℕ, ◌+◌, ◌<◌, ◌≤◌, ◌==◌, min, Bool, true, false, List, [], ◌∷◌, ◌++◌, drop, length, get_or, Option, Some, None, MatchOption, unwrap_or, below_more, ap, sym, ◌∙◌, subst, inl, inr, arith, append_assoc}
 use Rattle.std.specs.List.{flat_map}
-use Rattle.std.specs.Str.Iter.{HasSubslice}
 use Rattle.std.proofs.Math.Nat.{eq-or-lt_of_le}
 use Rattle.std.proofs.lemmas.List.{drop_more}
 use Rattle.std.proofs.lemmas.List.Concat.{flat_map-cons}
-use Rattle.std.proofs.lemmas.Option.{slice_get_read, slice_get_past, same_Some}
+use Rattle.std.proofs.lemmas.Option.{slice_get_past}
 use Rattle.mad_format.specs.declared.composite.FmtComposite.{FmtComposite}
 use Rattle.mad_format.specs.declared.line.FmtLine.{FmtLine}
-use Rattle.mad_search.specs.Searches.{composite_text, cells_text, line_text, HasText, NoneBetween, NoneFrom, IsFirstFrom, IsLastBefore, IsNextRow, IsPreviousRow}
+use Rattle.mad_search.specs.Searches.{composite_text, cells_text, HasText, NoneBetween, NoneFrom, IsFirstFrom, IsLastBefore, IsNextRow, IsPreviousRow}
 
 -- a piece more is put after a text, of those that are left
 pub piece_put : {X : Type 0} (f : X → List ℕ) (xs : List X) (i : ℕ) (d : X) (whole text new : List ℕ) → i < length xs → text ++ flat_map f (drop i xs) ≡ whole → new ≡ text ++ f (get_or xs i d) → new ++ flat_map f (drop (i + 1) xs) ≡ whole
@@ -25,14 +23,6 @@ cell_put xs i x whole text mid new inside is h e k =
     let part : FmtComposite → List ℕ = λ cell. composite_text cell ++ 10 ∷ [] in
     let put : new ≡ text ++ part (get_or xs i x) = k ∙ ap (λ (l : List ℕ). l ++ 10 ∷ []) e ∙ append_assoc text (composite_text x) (10 ∷ []) ∙ ap (λ (c : FmtComposite). text ++ part c) is in
     piece_put part xs i x whole text new inside h put
-
--- a row has the text where its line has
-pub has_at : (sought : List ℕ) (lines : List FmtLine) (row : ℕ) (x : FmtLine) (b : Bool) → row < length lines → x ≡ get_or lines row x → (b ≡ true) ↔ HasSubslice (line_text x) sought → (b ≡ true) ↔ HasText sought lines row
-has_at sought lines row x b inside is (to, from) =
-    let here : slice_get lines row ≡ Some x = slice_get_read lines (length lines) row x refl inside is in (
-      λ t. record { line = x; is = here; has = to t },
-      λ h. from (subst (λ (l : FmtLine). HasSubslice (line_text l) sought) (same_Some h.line x (sym h.is ∙ here)) h.has),
-    )
 
 -- there is a row that has it
 pub row_within : (sought : List ℕ) (lines : List FmtLine) (row : ℕ) → HasText sought lines row → ¬ (length lines ≤ row)

@@ -8,4 +8,4 @@ mod kept;
 mod search;
 
 pub use kept::kept_row;
-pub use search::{next_row, previous_row};
+pub use search::{has_text_at, next_row, previous_row};

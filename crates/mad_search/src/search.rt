@@ -57,6 +57,26 @@ pub fn previous_row(
     Ok(around.unwrap_or(row))
 }
 
+/// Whether the row of an index has a text. Past the last row none has it.
+///
+/// # Errors
+///
+/// Out of memory is the only error.
+pub fn has_text_at(
+    alloc: Global,
+    lines: &[FmtLine],
+    sought: &str,
+    row: usize,
+) -> Result<bool, AllocError>
+    ensures { IfOk result (λ has. IsTrue has ↔ HasText sought.now lines.now row) }
+{
+    let Some(line) = lines.get(row) else {
+        return Ok(false);
+    };
+    let has = has_text(alloc, line, sought)?;
+    Ok(has)
+}
+
 // The first row from this index on that has what is sought.
 fn first_row(
     alloc: Global,
@@ -94,20 +114,6 @@ fn last_row(
         }
     }
     Ok(None)
-}
-
-// Whether the row of an index has a text.
-fn has_text_at(
-    alloc: Global,
-    lines: &[FmtLine],
-    sought: &str,
-    row: usize,
-) -> Result<bool, AllocError>
-    requires { row < length lines.now }
-    ensures { IfOk result (λ has. IsTrue has ↔ HasText sought.now lines.now row) }
-{
-    let has = has_text(alloc, &lines[row], sought)?;
-    Ok(has)
 }
 
 // Whether a line has a text.

@@ -1,4 +1,3 @@
-use Rattle.std.proofs.Common.{ℕ}
 use Rattle.mad_search.specs.Searches.{NoneBetween}
 use Rattle.mad_search.proofs.search.first_row.Given as goal
 

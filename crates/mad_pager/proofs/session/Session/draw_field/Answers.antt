@@ -1,6 +1,4 @@
-use Rattle.std.proofs.Common.{◌≡◌, true, false, sym, ◌∙◌, subst, arith}
-use Rattle.mad_fit.specs.Areas.{IsWithinLimits}
-use Rattle.mad_fit.specs.declared.area.Area.{Area}
+use Rattle.std.proofs.Common.{sym, ◌∙◌, arith}
 use Rattle.mad_draw.specs.DrawnRows.{AreRowsShown}
 use Rattle.mad_field.specs.Drawn.{row_pieces}
 use Rattle.mad_field.specs.Shown.{IsShowable}

@@ -11,4 +11,5 @@ returns-clause-start c = record {
   field = c.in_ok-field.ensures ∙ ap new_field c.last_row.ensures;
   is_typing = refl;
   sought = search rules;
+  is_missing = refl;
 }

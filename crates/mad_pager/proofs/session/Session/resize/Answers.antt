@@ -11,4 +11,5 @@ returns-clause-step c = record {
   field = moved _ _ _ _ c.last_row.ensures c.set_area.ensures.same c.set_area.ensures.changed;
   is_typing = refl;
   sought = refl;
+  is_missing = refl;
 }
