@@ -3,8 +3,8 @@
 use crate::cities::{CITIES, City, Having, Name};
 use std::alloc::{AllocError, Global};
 use termimad::{
-    Alignment, Area, Error, InputField, KeyCode, KeyEvent, ListView, ListViewColumn, MadSkin, NoOrder,
-    Out,
+    Alignment, Area, Error, InputField, KeyCode, KeyEvent, ListView, ListViewColumn, MadSkin,
+    NoOrder, Out,
 };
 
 /// How a chooser goes on after a key.
