@@ -6,6 +6,7 @@ use Rattle.mad_style.specs.declared.line_styles.LineStyle.{LineStyle}
 use Rattle.mad_fit.specs.declared.spacing.Spacing.{Spacing}
 use Rattle.mad_style.specs.declared.kinds.CompositeKind.TheVariants.{Code}
 use Rattle.mad_wrap.specs.WrapLines.{HasRoom}
+use Rattle.mad_wrap.proofs.WrapModes.{by_fits}
 use Rattle.mad_format.specs.CompositeWraps.{IsCompositeWrap}
 use Rattle.mad_format.specs.Indents.{indent, room_of}
 use Rattle.mad_blocks.specs.LayoutExamples.{MarginsTestedAgainAreRefused, LongLineLeftIsRefused, LastLinesWidthIsRefused}
@@ -49,7 +50,7 @@ first_length _ = 0
 first_fits : (skin : LineRules) (width : ℕ) (l : FmtComposite) (wrap : List FmtComposite) (n : ℕ) (margins : ℕ × ℕ) → HasRoom (room_of skin l.kind width) (text_of l) → IsCompositeWrap skin width l wrap → n ≡ first_length (map (line_with margins) wrap) → n ≤ width
 first_fits skin width l [] n margins room wraps is = omega (arith, is)
 first_fits skin width l (x ∷ xs) n margins room wraps is =
-    let fits = (wraps.wrap.fits room).0 in
+    let fits = (by_fits skin.whole_words _ _ _ wraps.wrap room).0 in
     let kind = ap (indent skin.list_items_indentation_mode) wraps.made.kinds.0 in
     omega (arith, is, wraps.made.measured.0, fits, kind)
 

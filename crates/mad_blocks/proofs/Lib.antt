@@ -11,3 +11,4 @@ pub mod TableWidths
 pub mod WideLayouts
 pub mod WorkedTables
 pub mod WrapKinds
+pub mod FittingLemmas

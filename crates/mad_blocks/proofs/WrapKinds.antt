@@ -4,6 +4,7 @@ use Rattle.std.proofs.lemmas.Bool.Decides.{nat_tests}
 use Rattle.std.specs.Prelude.{length, nat_lt, ◌==◌}
 use Rattle.mad_md.specs.Lines.{LineContent}
 use Rattle.mad_fit.specs.declared.spacing.Spacing.{Spacing}
+use Rattle.mad_wrap.proofs.WrapModes.{by_keeps, by_fits, by_parts}
 use Rattle.mad_format.specs.CompositeWraps.{IsCompositeWrap}
 use Rattle.mad_blocks.specs.FittingLayouts.{IsFittingWrap, IsFittingLayout, IsFittingLayoutAt}
 use Rattle.mad_blocks.specs.Layouts.{IsLayoutAt, IsLayoutBy}
@@ -69,9 +70,9 @@ table_by wraps others each skin n width source lines (inr (columns, place, (widt
 
 pub wrap_fits : (skin : LineRules) (width : ℕ) (source : FmtComposite) (lines : List FmtComposite) → IsCompositeWrap skin width source lines → IsFittingWrap skin width source lines
 wrap_fits skin width source lines wrap = record {
-  keeps = wrap.wrap.keeps;
-  fits = wrap.wrap.fits;
-  parts = λ ts tokens. (wrap.wrap.least ts tokens).parts;
+  keeps = by_keeps skin.whole_words _ _ _ wrap.wrap;
+  fits = by_fits skin.whole_words _ _ _ wrap.wrap;
+  parts = λ ts tokens. by_parts skin.whole_words _ _ _ ts wrap.wrap tokens;
   made = wrap.made;
 }
 

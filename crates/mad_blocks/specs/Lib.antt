@@ -10,3 +10,4 @@ pub mod TableLaws
 pub mod TableRows
 pub mod Tables
 pub mod TextParts
+pub mod FittingRows

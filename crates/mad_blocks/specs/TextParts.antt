@@ -1,5 +1,5 @@
 -- The parts of a text, and the position of each line in its part.
-use Rattle.std.specs.Prelude.{ℕ, ◌==◌, Bool, true, false, ◌&&◌, ◌||◌, List, [], ◌∷◌, length, Option, Some, None, if◌then◌else◌}
+use Rattle.std.specs.Prelude.{ℕ, ◌==◌, Bool, true, false, not, ◌&&◌, ◌||◌, List, [], ◌∷◌, length, Option, Some, None, if◌then◌else◌}
 use Rattle.std.specs.List.{flat_map}
 use Rattle.mad_md.specs.Lines.{LineContent, normal, table_row, table_rule, horizontal_rule}
 use Rattle.mad_md.specs.declared.alignment.Alignment.{Alignment}
@@ -14,6 +14,11 @@ use Rattle.mad_format.specs.declared.table.RelativePosition.TheVariants.{Other}
 abbrev pub is_code : LineContent → Bool
 is_code (normal line) = is_code_kind (kind_of line.style)
 is_code _ = false
+
+-- the line is a composite, and no code
+abbrev pub is_text : LineContent → Bool
+is_text (normal line) = not (is_code_kind (kind_of line.style))
+is_text _ = false
 
 -- the line is one of a table
 abbrev pub is_table : LineContent → Bool

@@ -128,7 +128,7 @@ fn push_at<'s, S: LineSkin>(
 
 /// Puts what becomes of a composite that was read after the lines that are there: it is wrapped at a width in columns, if there is one.
 /// Only out of memory is an error.
-pub(crate) fn push_read_at<'s, S: LineSkin>(
+pub fn push_read_at<'s, S: LineSkin>(
     alloc: Global,
     lines: &mut Vec<FmtLine<'s>>,
     composite: Composite<'s>,

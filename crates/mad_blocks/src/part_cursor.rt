@@ -2,11 +2,11 @@
 
 ghost use Rattle.std.specs.Prelude.{◌≡◌, ◌++◌, ◌∷◌, [], true, false, None, IfOk, IsSome, OnOk, MatchOption};
 ghost use Rattle.mad_md.specs.Lines.{content_of, contents, normal, styled_runs};
-ghost use Rattle.mad_md.specs.Reading.{IsRead, unread_text};
+ghost use Rattle.mad_md.specs.Reading.{IsRead, resumed_text, unread_text};
 ghost use Rattle.mad_md.specs.Scan.{lines_of};
 ghost use Rattle.mad_format.specs.FmtLines.{IsLineRead};
 ghost use Rattle.mad_blocks.specs.PartCursors.{lines_left, HasUnmarkedNext, IsNextLine, IsNextWhere, LaidPart, LaysPart, IsUnmarkedRead};
-ghost use Rattle.mad_blocks.specs.TextParts.{is_code, is_table};
+ghost use Rattle.mad_blocks.specs.TextParts.{is_code, is_table, is_text};
 ghost use Rattle.mad_format.specs.declared.line.FmtLine.{FmtLine};
 
 use crate::laying::{is_code_kind, push_block, push_read_at, table_width, wrap_width};
@@ -41,6 +41,16 @@ impl<'s> PartCursor<'s> {
         let cursor = LineCursor::new(src, ParseOptions::default());
         PartCursor {
             lines: SourceLines::Unread(cursor),
+            waiting: None,
+        }
+    }
+
+    /// A cursor before the first part of what is left of a Markdown text, where a fence is open before it or not.
+    pub fn resumed(src: &'s str, fenced: bool) -> Self
+        ensures { lines_left result ≡ lines_of (resumed_text fenced src.entry.now) }
+    {
+        PartCursor {
+            lines: SourceLines::Unread(LineCursor::resumed(src, fenced)),
             waiting: None,
         }
     }
@@ -90,6 +100,20 @@ impl<'s> PartCursor<'s> {
         match &mut self.lines {
             SourceLines::Unread(cursor) => cursor.next_unmarked(most),
             SourceLines::Read(_) => None,
+        }
+    }
+
+    /// Reads the next line, where it is a composite that isn't code; another one waits. Only out of memory is an error.
+    pub fn next_text(&mut self, alloc: Global) -> Result<Option<Composite<'s>>, AllocError>
+        ensures { IfOk result (λ next. IsNextWhere is_text (λ composite. normal (styled_runs composite)) (lines_left self.old) next (lines_left self.new)) }
+    {
+        match self.next_line(alloc)? {
+            Some(Line::Normal(composite)) if !is_code_kind(CompositeKind::from(composite.style)) =>
+                { Ok(Some(composite)) }
+            other => {
+                self.waiting = other;
+                Ok(None)
+            }
         }
     }
 

@@ -1,10 +1,14 @@
 //! Layout of tables, in one pass from front to back.
 
-ghost use Rattle.std.specs.Prelude.{◌≡◌, ◌≤◌, ◌<◌, ◌+◌, ◌++◌, true, List, map, length, take, drop, IfOk, OnOk};
+ghost use Rattle.std.specs.Prelude.{◌≡◌, ◌≤◌, ◌<◌, ◌+◌, ◌++◌, true, List, map, length, take, drop, IfOk, IsTrue, OnOk};
 ghost use Rattle.std.specs.Vec.Iter.{into_iter_items};
 ghost use Rattle.mad_format.specs.CompositeWraps.{IsCompositeWrap};
 ghost use Rattle.mad_blocks.specs.LayoutParts.{AreTablesLaidOut};
-ghost use Rattle.mad_blocks.specs.Tables.{centered, columns_count, position_at, IsRuleLaidOut, IsTableLineBy, AreTableLinesBy, IsTableLaidOutBy};
+ghost use Rattle.std.specs.List.{AllByRecursion};
+ghost use Rattle.mad_blocks.specs.FittingRows.{AllFit, ArePlaced};
+ghost use Rattle.mad_format.specs.Wraps.{IsMeasured};
+ghost use Rattle.mad_format.specs.declared.table.FmtTableRow.{FmtTableRow};
+ghost use Rattle.mad_blocks.specs.Tables.{centered, columns_count, position_at, IsRuleLaidOut, IsRowLaidOutBy, IsTableLineBy, AreTableLinesBy, IsTableLaidOutBy};
 ghost use Rattle.mad_format.specs.WrappedLines.{AllMeasured, IsLineMeasured};
 ghost use Rattle.mad_format.specs.declared.line.FmtLine.{FmtLine};
 ghost use Rattle.mad_format.specs.declared.line.FmtLine.TheVariants.{TableRow};
@@ -12,7 +16,9 @@ ghost use Rattle.mad_format.specs.declared.line.FmtLine.TheVariants.{TableRow};
 use crate::table_columns::{centered, columns_count, columns_from, kept_widths};
 use crate::table_rows::lay_row_in;
 use mad_fit::Spacing;
-use mad_format::{FmtLine, FmtTableRow, FmtTableRule, LineSkin, RelativePosition, put_line};
+use mad_format::{
+    FmtComposite, FmtLine, FmtTableRow, FmtTableRule, LineSkin, RelativePosition, put_line,
+};
 use std::alloc::{AllocError, Global};
 use std::mem;
 use std::vec::IntoIter;
@@ -204,13 +210,61 @@ fn push_table_line<'s, S: LineSkin>(
     ensures { OnOk result ((own : List FmtLine) × (lines.new.items ≡ lines.old.items ++ own) × IsTableLineBy IsCompositeWrap (S.rules skin.now) columns.now position line.entry own) }
 {
     match line {
-        FmtLine::TableRow(row) => push_rows(lines, lay_row_in(alloc, row, columns, skin)?),
+        FmtLine::TableRow(row) => push_row(alloc, lines, row, columns, skin),
         FmtLine::TableRule(_) => {
             let rule = rule_across(alloc, columns, position)?;
             put_line(lines, FmtLine::TableRule(rule))
         }
         other => put_line(lines, other),
     }
+}
+
+// Puts the rows that a row becomes in these columns. One whose cells all fit stays, with their places.
+fn push_row<'s, S: LineSkin>(
+    alloc: Global,
+    lines: &mut Vec<FmtLine<'s>>,
+    row: FmtTableRow<'s>,
+    columns: &[Spacing],
+    skin: &S,
+) -> Result<(), AllocError>
+    requires { AllByRecursion (IsMeasured (S.rules skin.now)) row.cells.items }
+    ensures { OnOk result ((rows : List FmtTableRow) × (lines.new.items ≡ lines.old.items ++ map TableRow rows) × IsRowLaidOutBy IsCompositeWrap (S.rules skin.now) columns.now row.entry.cells.items rows) }
+{
+    if all_fit(&row.cells, columns) {
+        return put_line(lines, FmtLine::TableRow(placed(row, columns)));
+    }
+    push_rows(lines, lay_row_in(alloc, row, columns, skin)?)
+}
+
+// Whether there is a cell for each column and no other, and each is as wide as its column at most.
+fn all_fit(cells: &[FmtComposite], columns: &[Spacing]) -> bool
+    ensures { IsTrue result → AllFit columns.now cells.now }
+{
+    if cells.len() != columns.len() {
+        return false;
+    }
+    let mut i = 0;
+    while i < columns.len() {
+        if columns[i].width < cells[i].visible_length {
+            return false;
+        }
+        i += 1;
+    }
+    true
+}
+
+// The row with each cell at its place in its column.
+fn placed<'s>(row: FmtTableRow<'s>, columns: &[Spacing]) -> FmtTableRow<'s>
+    requires { length row.cells.items ≡ length columns.now }
+    ensures { ArePlaced columns.now row.entry.cells.items result.cells.items }
+{
+    let mut cells = row.cells;
+    let mut i = 0;
+    while i < columns.len() {
+        cells[i].spacing = Some(columns[i]);
+        i += 1;
+    }
+    FmtTableRow { cells }
 }
 
 fn push_rows<'s>(lines: &mut Vec<FmtLine<'s>>, rows: Vec<FmtTableRow<'s>>) -> Result<(), AllocError>

@@ -1,1 +1,2 @@
 pub mod CharColumns
+pub mod WideColumns

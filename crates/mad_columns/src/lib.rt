@@ -2,5 +2,7 @@
 #![tactic(auto)]
 
 mod columns;
+mod wide;
 
 pub use columns::char_columns;
+pub use wide::is_known_wide;

@@ -73,7 +73,7 @@ grow_all (c ∷ cs) max f bs e utf8 some =
     grow cs max f bs (0 + len_utf8 c) (0 + char_columns c) b (left_after bs 0 c cs utf8 e) front (omega (arith, (len_utf8_bounds c).0))
 
 -- a text that isn't at its end has a token there
-token_there : (max start : ℕ) (p : Compound) → start < length p.src.now → IsUtf8 p.src.now → IsCharBoundary p.src.now start → (t : Token) × IsTokenAt max p start t
+pub token_there : (max start : ℕ) (p : Compound) → start < length p.src.now → IsUtf8 p.src.now → IsCharBoundary p.src.now start → (t : Token) × IsTokenAt max p start t
 token_there max start p inside utf8 border =
     let bs = p.src.now in
     let f = flags_of p in
@@ -85,7 +85,7 @@ token_there max start p inside utf8 border =
           (subst (λ n. StopsBefore max g.blank g.width (flagged f (chars (drop n (drop start bs))))) size g.stops) refl,
     )
 
-tokens_there : (fuel max start : ℕ) (p : Compound) → length p.src.now ≤ start + fuel → start ≤ length p.src.now → IsUtf8 p.src.now → IsCharBoundary p.src.now start → (ts : List Token) × AreTokensFrom max p start ts
+pub tokens_there : (fuel max start : ℕ) (p : Compound) → length p.src.now ≤ start + fuel → start ≤ length p.src.now → IsUtf8 p.src.now → IsCharBoundary p.src.now start → (ts : List Token) × AreTokensFrom max p start ts
 tokens_there zero max start p l inside utf8 border = ([], omega arith)
 tokens_there (suc fuel) max start p l inside utf8 border = elim (cases_lt start (length p.src.now)) as (λ _. (ts : List Token) × AreTokensFrom max p start ts) [
   | inr past ↦ ([], omega arith)

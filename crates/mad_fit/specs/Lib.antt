@@ -1,5 +1,6 @@
 pub mod Areas
 pub mod Ascii
+pub mod Chunks
 pub mod Thumbs
 pub mod RunningWidths
 pub mod TextColumns

@@ -1,7 +1,9 @@
 //! Fronts of a text that are graphic ASCII, told by their bytes.
 
-ghost use Rattle.std.specs.Prelude.{◌≡◌, ◌≤◌, ◌<◌, ◌+◌, ◌^◌, length, IsTrue};
+ghost use Rattle.std.specs.Prelude.{◌≡◌, ◌≤◌, ◌<◌, ◌+◌, ◌^◌, length};
 ghost use Rattle.mad_fit.specs.Ascii.{AreGraphic, AreSpacesOrGraphic, is_end_of_word, is_lone_space};
+
+use crate::chunks::plain_end;
 
 /// How many bytes from `start` on are graphic ASCII characters, counted up to `most`.
 ///
@@ -31,17 +33,8 @@ pub(crate) fn ascii_front(text: &str, most: usize) -> usize
     ensures within { result ≤ most }
 {
     let bytes = text.as_bytes();
-    let mut count = 0;
-    while count < most && count < bytes.len() && is_space_or_graphic(bytes[count]) {
-        count += 1;
-    }
-    count
-}
-
-fn is_space_or_graphic(byte: u8) -> bool
-    ensures { IsTrue result → (31 < byte) × (byte < 127) }
-{
-    (b' '..0x7f).contains(&byte)
+    let room = most.min(bytes.len());
+    plain_end(&bytes[..room], 0)
 }
 
 /// Whether the text ends at this byte, or has a space there that isn't code.

@@ -10,7 +10,7 @@ use Rattle.mad_style.specs.LineStyles.{margins_at}
 use Rattle.mad_style.specs.declared.line_styles.LineStyle.{LineStyle}
 use Rattle.mad_style.specs.declared.kinds.CompositeKind.{CompositeKind}
 use Rattle.mad_fit.specs.TextColumns.{width_of}
-use Rattle.mad_wrap.specs.LeastWrap.{IsWrap}
+use Rattle.mad_wrap.specs.LeastWords.{IsWrapOf}
 use Rattle.mad_wrap.specs.WrapLines.{capped, compounds_of, AreCounted}
 use Rattle.mad_wrap.specs.declared.room.Room.{Room}
 use Rattle.mad_wrap.specs.declared.wrapped_line.WrappedLine.{WrappedLine}
@@ -32,7 +32,7 @@ margins-le style width = grind (arith, nat_tests)
 -- a composite that is too wide, by its cached length
 pub pushed_wrap : (skin : LineRules) (width : ℕ) (source : FmtComposite) (margins : ℕ × ℕ) (r : Room) (wrapped : List WrappedLine) (old new : List FmtLine)
     → margins ≡ style_margins skin width source → r ≡ room_of skin source.kind (width - margins.0 - margins.1) → width - margins.0 - margins.1 < source.visible_length
-    → IsWrap r source.compounds.items (compounds_of wrapped) → AreCounted wrapped → PutsLines r source.kind source.spacing margins wrapped old new
+    → IsWrapOf r source.compounds.items (compounds_of wrapped) → AreCounted wrapped → PutsLines r source.kind source.spacing margins wrapped old new
     → (own : List FmtLine) × (new ≡ old ++ own) × IsWrapped skin width source own
 pushed_wrap skin width source margins r wrapped old new margins_are room_is wide wrap counted (composites, pushed, are) =
     let own : ℕ × ℕ = style_margins skin width source in
@@ -45,7 +45,7 @@ pushed_wrap skin width source margins r wrapped old new margins_are room_is wide
         wider,
         (
           composites,
-          composite_wrap skin (width - own.0 - own.1) source wrapped composites (subst (λ (q : Room). IsWrap q source.compounds.items (compounds_of wrapped)) room wrap) counted
+          composite_wrap skin (width - own.0 - own.1) source wrapped composites (subst (λ (q : Room). IsWrapOf q source.compounds.items (compounds_of wrapped)) room wrap) counted
               (subst (λ (q : Room). AreComposites source.kind (follow_up source.kind) q.first q.other source.spacing wrapped composites) room are),
           ap (λ (m : ℕ × ℕ). map (line_with m) composites) margins_are,
         ),
@@ -84,7 +84,7 @@ read_fits skin width columns style kind compounds margins r old new kind_is marg
 pub read_wraps : (skin : LineRules) (width : ℕ) (style : CompositeStyle) (kind : CompositeKind) (compounds : Vec Compound Global) (margins : ℕ × ℕ) (r : Room) (wrapped : List WrappedLine) (old new : List FmtLine)
     → kind ≡ kind_of style → margins ≡ margins_at (skin.line_style kind) (Some width) → r ≡ room_of skin kind (width - margins.0 - margins.1)
     → r.width < r.first + width_of (flagged_text compounds.items) → width < 2 ^ 64 - 1
-    → IsWrap r compounds.items (compounds_of wrapped) → AreCounted wrapped → PutsLines r kind None margins wrapped old new
+    → IsWrapOf r compounds.items (compounds_of wrapped) → AreCounted wrapped → PutsLines r kind None margins wrapped old new
     → IsReadAndPushed skin width (said_by style compounds) old new
 read_wraps skin width style kind compounds margins r wrapped old new kind_is margins_are room_is wide range wrap counted are =
     let length = (room_of skin kind width).first + width_of (flagged_text compounds.items) in

@@ -7,7 +7,7 @@ use Rattle.mad_style.specs.declared.kinds.CompositeKind.{CompositeKind}
 use Rattle.mad_style.specs.declared.kinds.CompositeKind.TheVariants.{Paragraph, Header, ListItem, ListItemFollowUp, OrderedListItem, OrderedListItemFollowUp, Code, Quote}
 use Rattle.mad_fit.specs.TextColumns.{width_of}
 use Rattle.mad_fit.specs.declared.spacing.Spacing.{Spacing}
-use Rattle.mad_wrap.specs.LeastWrap.{IsWrap}
+use Rattle.mad_wrap.specs.LeastWords.{IsWrapOf}
 use Rattle.mad_wrap.specs.WrapLines.{capped, compounds_of, AreCounted}
 use Rattle.mad_wrap.specs.declared.wrapped_line.WrappedLine.{WrappedLine}
 use Rattle.mad_format.specs.CompositeWraps.{line_compounds, HaveKinds, IsCompositeWrap, composite_of, AreComposites}
@@ -72,12 +72,12 @@ measured_are skin kind other i n spacing [] cs first next counted h = subst (All
 measured_are skin kind other i n spacing (l ∷ ls) [] first next counted h = absurd h
 measured_are skin kind other i n spacing (l ∷ ls) (c ∷ cs) first next counted h = (measured_one skin kind l c i spacing first counted.0 h.0, measured_are skin other other n n spacing ls cs next next counted.1 h.1)
 
-pub composite_wrap : (skin : LineRules) (width : ℕ) (source : FmtComposite) (lines : List WrappedLine) (cs : List FmtComposite) → IsWrap (room_of skin source.kind width) source.compounds.items (compounds_of lines) → AreCounted lines
+pub composite_wrap : (skin : LineRules) (width : ℕ) (source : FmtComposite) (lines : List WrappedLine) (cs : List FmtComposite) → IsWrapOf (room_of skin source.kind width) source.compounds.items (compounds_of lines) → AreCounted lines
     → AreComposites source.kind (follow_up source.kind) (room_of skin source.kind width).first (room_of skin source.kind width).other source.spacing lines cs → IsCompositeWrap skin width source cs
 composite_wrap skin width source lines cs wrap counted h =
     let r = room_of skin source.kind width in
     record {
-      wrap = subst (IsWrap r source.compounds.items) (sym (same_compounds source.kind (follow_up source.kind) r.first r.other source.spacing lines cs h)) wrap;
+      wrap = subst (IsWrapOf r source.compounds.items) (sym (same_compounds source.kind (follow_up source.kind) r.first r.other source.spacing lines cs h)) wrap;
       made = record {
         kinds = kinds_are source.kind (follow_up source.kind) r.first r.other source.spacing lines cs h;
         measured = measured_are skin source.kind (follow_up source.kind) r.first r.other source.spacing lines cs refl refl counted h;

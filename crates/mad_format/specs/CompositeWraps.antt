@@ -4,7 +4,7 @@ use Rattle.std.specs.List.{AllByRecursion}
 use Rattle.mad_md.specs.declared.compound.Compound.{Compound}
 use Rattle.mad_style.specs.declared.kinds.CompositeKind.{CompositeKind}
 use Rattle.mad_fit.specs.declared.spacing.Spacing.{Spacing}
-use Rattle.mad_wrap.specs.LeastWrap.{IsWrap}
+use Rattle.mad_wrap.specs.LeastWords.{IsWrapOf}
 use Rattle.mad_wrap.specs.WrapLines.{capped}
 use Rattle.mad_wrap.specs.declared.wrapped_line.WrappedLine.{WrappedLine}
 use Rattle.mad_format.specs.Indents.{follow_up, room_of}
@@ -31,7 +31,7 @@ pub record AreLinesOf (skin : LineRules) (source : FmtComposite) (lines : List F
 
 -- The lines are the composite wrapped at a width: its compounds are wrapped in the room of its kind.
 pub record IsCompositeWrap (skin : LineRules) (width : ℕ) (source : FmtComposite) (lines : List FmtComposite) : Type 0 where
-  pub wrap : IsWrap (room_of skin source.kind width) source.compounds.items (line_compounds lines)
+  pub wrap : IsWrapOf (room_of skin source.kind width) source.compounds.items (line_compounds lines)
   pub made : AreLinesOf skin source lines
 
 -- a wrapped line as a composite of this kind, with the columns in front of it

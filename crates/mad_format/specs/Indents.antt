@@ -31,4 +31,4 @@ indent mode _ = 0
 
 -- the room of a composite of this kind: the columns in front of its first line, those in front of its others, and the lines' width
 abbrev pub room_of : LineRules → CompositeKind → ℕ → Room
-room_of skin kind width = record { first = indent skin.list_items_indentation_mode kind; other = indent skin.list_items_indentation_mode (follow_up kind); width = width }
+room_of skin kind width = record { first = indent skin.list_items_indentation_mode kind; other = indent skin.list_items_indentation_mode (follow_up kind); width = width; whole_words = skin.whole_words }

@@ -1,5 +1,5 @@
 -- Wrapping a plain text: each of its lines by itself, as one compound without flags, in lines without indents.
-use Rattle.std.specs.Prelude.{◌≡◌, ℕ, ◌<◌, ◌≤◌, List, [], ◌∷◌, ◌++◌, map, chars, length}
+use Rattle.std.specs.Prelude.{◌≡◌, ℕ, ◌<◌, ◌≤◌, false, List, [], ◌∷◌, ◌++◌, map, chars, length}
 use Rattle.std.specs.List.{AllByRecursion, flat_map}
 use Rattle.std.specs.Str.{skip_leading_whitespace}
 use Rattle.mad_columns.specs.Columns.{char_columns}
@@ -18,7 +18,7 @@ use Rattle.mad_format.specs.Lists.{EachBecomes}
 
 -- the room of lines without indents
 abbrev pub plain_room : ℕ → Room
-plain_room width = record { first = 0; other = 0; width = width }
+plain_room width = record { first = 0; other = 0; width = width; whole_words = false }
 
 -- The lines are a plain text's line, wrapped at a width. It is read as the compound `source`, without flags.
 pub record IsPlainWrap (width : ℕ) (line : List ℕ) (lines : List (List ℕ)) : Type 0 where

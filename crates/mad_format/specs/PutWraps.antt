@@ -3,7 +3,7 @@ use Rattle.std.specs.Prelude.{◌≡◌, ℕ, List, ◌++◌, map, Option}
 use Rattle.mad_md.specs.declared.compound.Compound.{Compound}
 use Rattle.mad_style.specs.declared.kinds.CompositeKind.{CompositeKind}
 use Rattle.mad_fit.specs.declared.spacing.Spacing.{Spacing}
-use Rattle.mad_wrap.specs.LeastWrap.{IsWrap}
+use Rattle.mad_wrap.specs.LeastWords.{IsWrapOf}
 use Rattle.mad_wrap.specs.WrapLines.{compounds_of, AreCounted}
 use Rattle.mad_wrap.specs.declared.room.Room.{Room}
 use Rattle.mad_wrap.specs.declared.wrapped_line.WrappedLine.{WrappedLine}
@@ -22,4 +22,4 @@ PutsLines room kind spacing margins wrapped old new =
 -- so do the lines that these compounds are wrapped into in their room
 abbrev pub PutsWrap : Room → List Compound → CompositeKind → Option Spacing → ℕ × ℕ → List FmtLine → List FmtLine → Type 0
 PutsWrap room compounds kind spacing margins old new =
-    (wrapped : List WrappedLine) × IsWrap room compounds (compounds_of wrapped) × AreCounted wrapped × PutsLines room kind spacing margins wrapped old new
+    (wrapped : List WrappedLine) × IsWrapOf room compounds (compounds_of wrapped) × AreCounted wrapped × PutsLines room kind spacing margins wrapped old new

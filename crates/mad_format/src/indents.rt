@@ -39,7 +39,7 @@ pub fn composite_columns(
 }
 
 /// The kind of the lines after the first: of an item its own follow-up, any other kind stays.
-pub(crate) fn follow_up(kind: CompositeKind) -> CompositeKind
+pub fn follow_up(kind: CompositeKind) -> CompositeKind
     ensures { result ≡ follow_up kind }
 {
     match kind {

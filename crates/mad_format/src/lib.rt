@@ -27,7 +27,7 @@ pub mod wrap;
 pub use bound::{WrapBound, check_wrap_bound, wrap_bound};
 pub use composite::FmtComposite;
 pub use fitter::Fitter;
-pub use indents::{composite_columns, composite_kind_widths, indent_of};
+pub use indents::{composite_columns, composite_kind_widths, follow_up, indent_of};
 pub use line::{FmtLine, put_line, rule_columns};
 pub use line_skin::LineSkin;
 pub use plain::wrap_text;

@@ -7,12 +7,16 @@ use mad_style::{CompositeKind, LineStyle, ListItemsIndentationMode};
 
 /// A skin, as far as lines are laid out by it. Its colors and characters count only where the lines are written.
 pub trait LineSkin {
-    /// How items are indented, and how each kind of line looks.
+    /// How items are indented, whether words stay whole, and how each kind of line looks.
     ghost rules: { Self → LineRules };
 
     /// How the lines of a list's items are indented.
     fn items_indentation(&self) -> ListItemsIndentationMode
         ensures { result ≡ (rules self.now).list_items_indentation_mode };
+
+    /// Whether a word that fits on a line stays whole, over compounds.
+    fn whole_words(&self) -> bool
+        ensures { result ≡ (rules self.now).whole_words };
 
     /// The style of a line of this kind, which has its margins.
     fn style_of(&self, kind: CompositeKind) -> &LineStyle

@@ -73,6 +73,7 @@ fn push_wrap<'s>(
         first: 0,
         other: 0,
         width,
+        whole_words: false,
     };
     let wrap = wrap_compounds(alloc, &[Compound::raw_str(line)], room)?;
     push_fronts(lines, line, wrap)

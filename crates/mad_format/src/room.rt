@@ -19,6 +19,7 @@ pub fn room_of<S: LineSkin>(skin: &S, kind: CompositeKind, width: usize) -> Room
         first,
         other,
         width,
+        whole_words: skin.whole_words(),
     }
 }
 

@@ -1,5 +1,5 @@
 -- A whole skin reads back from what it is written as.
-use Rattle.std.proofs.Common.{◌≡◌, ℕ, false, List, [], length, map, refl, sym, ap, ◌∙◌, Option, Some, None, Ok}
+use Rattle.std.proofs.Common.{◌≡◌, ℕ, Bool, false, List, [], length, map, refl, sym, ap, ◌∙◌, Option, Some, None, Ok}
 use Rattle.std.specs.Prelude.{codes, unwrap_or}
 use Rattle.std.specs.List.{All}
 use Rattle.std.proofs.lemmas.Bool.{cond-false}
@@ -180,6 +180,7 @@ written_skin skin name named a m l i h =
     ∙ part_read (codes "strikeout") (style_data skin.strikeout) Strikeout f13 s14 m14 refl refl (refl) (ap (made (λ x. record s13 { strikeout = x })) (style_said _ a.strikeout h.strikeout))
     ∙ part_read (codes "table") (line_data skin.table) Table f14 s15 m15 refl refl (refl) (ap (made (λ x. record s14 { table = x })) (line_said _ l.table h.table))
     ∙ part_read (codes "table_border_chars") (string name) TableBorders f15 s16 m16 refl refl (refl) (ap (λ o. let s : MadSkin = record s15 { table_border_chars = unwrap_or o s15.table_border_chars } in Ok s) named))
+    ∙ ap (λ (b : Bool). Ok (record skin { whole_words = b }, [])) (sym h.whole_words)
 
 pub skin_back : (skin : MadSkin) (name : Option (List ℕ)) (d : Data) → IsNameOf skin.table_border_chars name → d ≡ skin_data skin name → ReadBackAdditions skin → ReadBackChars skin → ReadBackLines skin → ReadBackItems skin → SkinReadsBack skin d
 skin_back skin None d unnamed is a m l i h = absurd (unnamed h.borders.0 h.borders.1)

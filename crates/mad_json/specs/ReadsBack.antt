@@ -1,5 +1,5 @@
 -- The skins that read back equal from the values that they are written as.
-use Rattle.std.specs.Prelude.{◌≡◌, ℕ, List, [], length, true, Some, IsSome, Ok}
+use Rattle.std.specs.Prelude.{◌≡◌, ℕ, List, [], length, true, false, Some, IsSome, Ok}
 use Rattle.std.specs.List.{All}
 use Rattle.mad_term.specs.AttributeSets.{no_attributes}
 use Rattle.mad_style.specs.Borders.{borders_named}
@@ -35,7 +35,7 @@ pub record IsReadBackBar (bar : ScrollBarStyle) : Type 0 where
 abbrev pub AreNamed : TableBorderChars → Type 0
 AreNamed borders = (name : List ℕ) × (borders_named name ≡ Some borders)
 
--- A skin of such parts, in any indentation mode.
+-- A skin of such parts, in any indentation mode. That words stay whole isn't written, and so not read back.
 pub record IsReadBackSkin (skin : MadSkin) : Type 0 where
   pub paragraph : IsReadBackLine skin.paragraph
   pub bold : IsReadBackStyle skin.bold
@@ -52,6 +52,7 @@ pub record IsReadBackSkin (skin : MadSkin) : Type 0 where
   pub horizontal_rule : IsReadBackChar skin.horizontal_rule
   pub ellipsis : IsReadBackStyle skin.ellipsis
   pub borders : AreNamed skin.table_border_chars
+  pub whole_words : skin.whole_words ≡ false
 
 -- such a skin is read of that value, and no key of it is unknown
 abbrev pub SkinReadsBack : MadSkin → Data → Type 0

@@ -24,6 +24,7 @@ pub mod RunLemmas
 pub mod ShownLemmas
 pub mod SourceLemmas
 pub mod TablesAcross
+pub mod TakenParts
 pub mod TextParts
 pub mod WholeTokens
 pub mod WordLemmas

@@ -12,6 +12,7 @@ use Rattle.mad_style.specs.declared.kinds.CompositeKind.{CompositeKind}
 use Rattle.mad_style.specs.declared.kinds.CompositeKind.TheVariants.{Paragraph, Header, Code}
 use Rattle.mad_fit.specs.TextColumns.{width_of}
 use Rattle.mad_fit.specs.declared.spacing.Spacing.{Spacing}
+use Rattle.mad_wrap.proofs.WrapModes.{by_fits, by_keeps}
 use Rattle.mad_wrap.specs.Keeps.{Keeps}
 use Rattle.mad_wrap.specs.WrapLines.{HasRoom, LinesFit}
 use Rattle.mad_wrap.specs.declared.room.Room.{Room}
@@ -171,14 +172,14 @@ kind_rows skin width drawn part said l own bound printable read (inr (wide, (wra
     let r : Room = room_of (line_rules skin) k inner in
     let room : HasRoom r (text_of source) = has_room skin width said source printable (placed_for skin width part said l read) wide in
     let passes : r.width < r.first + width_of (flagged_text l.compounds.items) = omega (arith, wide, read.measured, margins-le (line_style skin k) width) in
-    let fits : LinesFit r.first r (map flagged_text (line_compounds wrap)) = wraps.wrap.fits room in
+    let fits : LinesFit r.first r (map flagged_text (line_compounds wrap)) = by_fits r.whole_words r l.compounds.items (line_compounds wrap) wraps.wrap room in
     let text : width_of (runs_text said.runs) ≡ width_of (text_of l) = ap width_of (ap runs_text (sym read.text) ∙ runs_are l.compounds.items) in
     let most : is_code_kind k ≡ true → inner ≤ widest_in part = λ on. omega (arith, text, read.widest on, code_indent skin k on, read.measured, wide, margins-le (line_style skin k) width) in
     let spacing : AllByRecursion (λ (x : FmtComposite). x.spacing ≡ place_for (is_code_kind k) (min (widest_in part) inner)) wrap =
     subst (λ (s : Option Spacing). AllByRecursion (λ (x : FmtComposite). x.spacing ≡ s) wrap) read.spacing wraps.made.spacing in
     let parts : marked_parts said ≡ map flagged_of l.compounds.items = ap (map (λ (r : Run). flagged r.flags (chars r.text))) (sym read.text) ∙ parts_are l.compounds.items in
     let some : 0 < length wrap = not_none wrap (λ e.
-    let none : flagged_text l.compounds.items ≡ [] = subst (λ (xs : List FmtComposite). Keeps (flagged_text l.compounds.items) (map flagged_text (line_compounds xs))) e wraps.wrap.keeps in
+    let none : flagged_text l.compounds.items ≡ [] = subst (λ (xs : List FmtComposite). Keeps (flagged_text l.compounds.items) (map flagged_text (line_compounds xs))) e (by_keeps r.whole_words r l.compounds.items (line_compounds wrap) wraps.wrap) in
     omega (arith, wide, read.measured, room.indent, ap width_of none, margins-le (line_style skin k) width)) in
     let count : length own ≡ length (map (line_with (style_margins (line_rules skin) width source)) wrap) = ap length same in (
       omega (arith, count, some, length-map wrap (line_with (style_margins (line_rules skin) width source))),

@@ -315,5 +315,5 @@ rows_exist r parts =
       filled = λ room some each.
           let within = tokens_of_within r parts (each_narrow r (whole parts) room.each) in
           first_filled r (tokens_of r parts) room.indent (subst IsSome (sym (whole_tokens_of r parts)) (whole_some parts some each)) within (tokens_of_some r parts);
-      least = λ breaks b. rows_least r parts breaks b;
+      least = λ off breaks b. rows_least r parts breaks b;
     }

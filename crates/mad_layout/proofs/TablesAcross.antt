@@ -11,6 +11,7 @@ use Rattle.mad_style.specs.declared.kinds.CompositeKind.{CompositeKind}
 use Rattle.mad_widths.specs.ColumnWidths.{needs_of, column_widths, after_second}
 use Rattle.mad_fit.specs.TextColumns.{width_of}
 use Rattle.mad_fit.specs.declared.spacing.Spacing.{Spacing}
+use Rattle.mad_wrap.proofs.WrapModes.{by_fits}
 use Rattle.mad_wrap.specs.WrapLines.{HasRoom, LinesFit}
 use Rattle.mad_wrap.specs.declared.room.Room.{Room}
 use Rattle.mad_format.specs.CompositeWraps.{line_compounds, HaveKinds, IsCompositeWrap}
@@ -89,7 +90,7 @@ cell_rows skin c cell ls bound measured printable (inr (wide, wraps)) =
     let room_where : premise (text_of cell) = subst premise (runs_are ps) printable.room in
     let room : HasRoom r (text_of cell) = room_where (omega (arith, measured, wide)) in
     let passes : r.width < r.first + width_of (flagged_text ps) = omega (arith, measured, wide) in
-    (map flagged_text (line_compounds ls), wrapped_rows r ps (line_compounds ls) passes wraps.wrap, wrap_in_column skin c cell.kind ls bound printable.prefix wraps.made.kinds wraps.made.measured (wraps.wrap.fits room))
+    (map flagged_text (line_compounds ls), wrapped_rows r ps (line_compounds ls) passes wraps.wrap, wrap_in_column skin c cell.kind ls bound printable.prefix wraps.made.kinds wraps.made.measured (by_fits r.whole_words r ps (line_compounds ls) wraps.wrap room))
 
 said_cell : (skin : RowSkin) (c : Spacing) (said : StyledRuns) (cell : FmtComposite) (ls : List FmtComposite) → IsCompositeRead (line_rules skin) said cell → HasRowsIn skin c cell.kind (map flagged_of cell.compounds.items) ls
     → HasRowsIn skin c (kind_of said.style) (marked_parts said) ls

@@ -1,5 +1,5 @@
 -- The rows of a line that is wrapped, and of one that stays.
-use Rattle.std.proofs.Common.{◌≡◌, ℕ, ◌+◌, ◌<◌, ◌≤◌, Bool, true, not, ◌&&◌, List, [], ◌∷◌, ◌++◌, map, length, chars, Option, Some, None, if◌then◌else◌, refl, ap, sym, ◌∙◌, subst, arith}
+use Rattle.std.proofs.Common.{◌≡◌, ℕ, ◌+◌, ◌<◌, ◌≤◌, Bool, true, false, not, ◌&&◌, List, [], ◌∷◌, ◌++◌, map, length, chars, Option, Some, None, if◌then◌else◌, refl, ap, sym, ◌∙◌, subst, arith}
 use Rattle.std.specs.Prelude.{is_some}
 use Rattle.std.specs.List.{AllByRecursion}
 use Rattle.std.specs.Char.{is_whitespace}
@@ -17,6 +17,7 @@ use Rattle.mad_fit.proofs.TokenTexts.{IsHonest, all_honest}
 use Rattle.mad_wrap.specs.Breaks.{LineAndGap, lines_and_gaps, AllBlank}
 use Rattle.mad_wrap.specs.CleanCut.{clean_cut, drops_middle, is_white, both_fit}
 use Rattle.mad_wrap.specs.Keeps.{Keeps, AllWhite}
+use Rattle.mad_wrap.specs.LeastWords.{IsWordWrap, IsWrapBy, IsWrapOf}
 use Rattle.mad_wrap.specs.LeastWrap.{IsWrap}
 use Rattle.mad_wrap.specs.Placings.{GapsForced, ArePlaced}
 use Rattle.mad_wrap.specs.Rooms.{token_limit}
@@ -135,13 +136,13 @@ kept_rows r text parts same fits = record {
   alone = λ within. ap (λ l. l ∷ []) (sym same);
   fits = λ room. (fits, tt);
   filled = λ room some each. (subst IsSome same (whole_some parts some each), tt);
-  least = λ breaks b. b.some;
+  least = λ off breaks b. b.some;
 }
 
--- the lines of a wrap are the rows of what was wrapped
-pub wrapped_rows : (r : Room) (ps : List Compound) (lines : List (List Compound)) → r.width < r.first + width_of (flagged_text ps) → IsWrap r ps lines
+-- the lines of a wrap at tokens are the rows of what was wrapped
+token_rows : (r : Room) (ps : List Compound) (lines : List (List Compound)) → r.width < r.first + width_of (flagged_text ps) → IsWrap r ps lines
     → AreRowsOf r (map flagged_of ps) (map flagged_text lines)
-wrapped_rows r ps lines wide wrap =
+token_rows r ps lines wide wrap =
     let same : whole (map flagged_of ps) ≡ flagged_text ps = whole_parts ps in
     let ts = wrap.tokenized.tokens in
     let cut = wrap.tokenized.cut in
@@ -153,8 +154,35 @@ wrapped_rows r ps lines wide wrap =
       alone = λ within. absurd (omega (arith, wide, within, ap width_of same));
       fits = λ room. wrap.fits (subst (HasRoom r) same room);
       filled = λ room some each. filled_lines lines (wrap.some (subst (HasRoom r) same room) (none_empty ps each));
-      least = λ breaks b.
+      least = λ off breaks b.
           let lifted = break_lifts r ps ts breaks cut b in
           let fewest = best.least lifted.0 lifted.1 in
           omega (arith, fewest, lifted.2, length-map lines flagged_text);
     }
+
+-- so are those of a wrap with whole words
+word_rows : (r : Room) (ps : List Compound) (lines : List (List Compound)) → r.whole_words ≡ true → r.width < r.first + width_of (flagged_text ps) → IsWordWrap r ps lines
+    → AreRowsOf r (map flagged_of ps) (map flagged_text lines)
+word_rows r ps lines on wide wrap =
+    let same : whole (map flagged_of ps) ≡ flagged_text ps = whole_parts ps in
+    let ts = wrap.tokenized.tokens in
+    let cut = wrap.tokenized.cut in
+    let best = wrap.least ts cut in
+    record {
+      keeps = subst (λ l. Keeps l (map flagged_text lines)) (sym same) wrap.keeps;
+      broken = placed_broken r ps ts (map flagged_text lines) cut best.placed;
+      alone = λ within. absurd (omega (arith, wide, within, ap width_of same));
+      fits = λ room. wrap.fits (subst (HasRoom r) same room);
+      filled = λ room some each. filled_lines lines (wrap.some (subst (HasRoom r) same room));
+      least = λ off breaks b. absurd (cc);
+    }
+
+rows_by : (b : Bool) (r : Room) (ps : List Compound) (lines : List (List Compound)) → r.whole_words ≡ b → r.width < r.first + width_of (flagged_text ps) → IsWrapBy b r ps lines
+    → AreRowsOf r (map flagged_of ps) (map flagged_text lines)
+rows_by true r ps lines is wide wrap = word_rows r ps lines is wide wrap
+rows_by false r ps lines is wide wrap = token_rows r ps lines wide wrap
+
+-- the lines of a wrap are the rows of what was wrapped
+pub wrapped_rows : (r : Room) (ps : List Compound) (lines : List (List Compound)) → r.width < r.first + width_of (flagged_text ps) → IsWrapOf r ps lines
+    → AreRowsOf r (map flagged_of ps) (map flagged_text lines)
+wrapped_rows r ps lines wide wrap = rows_by r.whole_words r ps lines refl wide wrap

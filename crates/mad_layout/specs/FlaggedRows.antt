@@ -1,5 +1,5 @@
 -- The rows of a line, in the subject's own words: lists of flagged characters.
-use Rattle.std.specs.Prelude.{◌≡◌, ℕ, ◌+◌, ◌<◌, ◌≤◌, Bool, true, ◌&&◌, nat_le, not, List, [], ◌∷◌, ◌++◌, map, length, if◌then◌else◌}
+use Rattle.std.specs.Prelude.{◌≡◌, ℕ, ◌+◌, ◌<◌, ◌≤◌, Bool, true, false, ◌&&◌, nat_le, not, List, [], ◌∷◌, ◌++◌, map, length, if◌then◌else◌}
 use Rattle.std.specs.List.{AllByRecursion, flat_map}
 use Rattle.mad_columns.specs.Columns.{char_columns}
 use Rattle.mad_md.specs.Flagged.{FlaggedChar, is_blank}
@@ -46,12 +46,12 @@ pub record AreBroken (r : Room) (parts rows : List (List FlaggedChar)) : Type 0 
   pub dropped : AllByRecursion (λ p. AllWhite (whole p.gap)) breaks
 
 -- The rows of a line: they keep its characters but whitespace at breaks and ends, they are broken at borders of its tokens, they fit
--- where there is room, and no fitting break has fewer lines. A line that fits is its one row, whole. With room, and where the line has parts
--- and none is empty, no row is.
+-- where there is room, and no fitting break has fewer lines, if words needn't stay whole. A line that fits is its one row, whole. With room,
+-- and where the line has parts and none is empty, no row is.
 pub record AreRowsOf (r : Room) (parts rows : List (List FlaggedChar)) : Type 0 where
   pub keeps : Keeps (whole parts) rows
   pub broken : AreBroken r parts rows
   pub alone : r.first + width_of (whole parts) ≤ r.width → rows ≡ whole parts ∷ []
   pub fits : HasRoom r (whole parts) → LinesFit r.first r rows
   pub filled : HasRoom r (whole parts) → 0 < length parts → AllByRecursion (λ p. 0 < length p) parts → AllByRecursion (λ row. 0 < length row) rows
-  pub least : (breaks : List (LineAndGap (List FlaggedChar))) → IsFittingBreak r parts breaks → length rows ≤ length breaks
+  pub least : r.whole_words ≡ false → (breaks : List (LineAndGap (List FlaggedChar))) → IsFittingBreak r parts breaks → length rows ≤ length breaks

@@ -21,4 +21,5 @@ row_skin skin =
       ellipsis = skin.ellipsis;
       table_border_chars = skin.table_border_chars;
       list_items_indentation_mode = skin.list_items_indentation_mode;
+      whole_words = skin.whole_words;
     }

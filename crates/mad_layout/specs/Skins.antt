@@ -1,5 +1,5 @@
 -- The skins that are made.
-use Rattle.std.specs.Prelude.{None, replicate}
+use Rattle.std.specs.Prelude.{None, false, replicate}
 use Rattle.mad_term.specs.declared.attribute.Attribute.TheVariants as attribute
 use Rattle.mad_term.specs.declared.color.Color.TheVariants.{AnsiValue}
 use Rattle.mad_md.specs.declared.alignment.Alignment.TheVariants.{Unspecified}
@@ -35,6 +35,7 @@ default_skin =
       ellipsis = unstyled;
       table_border_chars = standard_borders;
       list_items_indentation_mode = Block;
+      whole_words = false;
     }
 
 -- the same characters without style; the scroll bar alone stays as it is
@@ -57,4 +58,5 @@ no_style_skin =
       ellipsis = unstyled;
       table_border_chars = standard_borders;
       list_items_indentation_mode = Block;
+      whole_words = false;
     }

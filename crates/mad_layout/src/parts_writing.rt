@@ -1,20 +1,25 @@
 //! Writing a text part by part: each part is laid out, written and dropped.
 
-ghost use Rattle.std.specs.Prelude.{◌≡◌, ◌≤◌, ◌++◌, [], ℕ, length, IfSome, IsTrue, OnOk, string_bytes};
-ghost use Rattle.mad_fit.specs.Completions.{left_completion};
+ghost use Rattle.std.specs.Prelude.{◌≡◌, ◌≤◌, ◌++◌, [], List, length, IfOk, IfSome, OnOk, string_bytes};
+ghost use Rattle.mad_md.specs.Lines.{styled_runs};
+ghost use Rattle.mad_md.specs.Reading.{resumed_text};
+ghost use Rattle.mad_md.specs.Scan.{lines_of};
 ghost use Rattle.mad_blocks.specs.PartCursors.{lines_left};
 ghost use Rattle.mad_layout.specs.UnmarkedRows.{IsUnmarkedWidth, HandsOnUnmarked};
+ghost use Rattle.mad_blocks.specs.Layouts.{IsLayoutAt};
+ghost use Rattle.mad_format.specs.declared.line.FmtLine.{FmtLine};
+ghost use Rattle.mad_rows.specs.RowStyles.{line_rules};
 ghost use Rattle.mad_rows.specs.Rows.{text_bytes};
-ghost use Rattle.mad_layout.specs.WrittenParts.{HandsOn, WritesParts, WritesPartsOf};
+ghost use Rattle.mad_layout.specs.WrittenParts.{HandsOn, TakesPart, TakesRead, TakesReadOrNone, WritesParts, WritesPartsOf};
 ghost use Rattle.mad_layout.specs.RowSkins.{row_skin};
 
 use crate::skin::MadSkin;
-use mad_blocks::{PartCursor, wrap_width};
+use mad_blocks::{PartCursor, push_read_at, wrap_width};
 use mad_format::FmtLine;
-use mad_md::Alignment;
-use mad_rows::{RowSkin, append_line};
+use mad_md::Composite;
+use mad_rows::{RowSkin, append_line, append_lines, append_read, is_aligned_left};
 use mad_term::{Error, Out, put_all};
-use std::alloc::Global;
+use std::alloc::{AllocError, Global};
 
 // Rows are kept until they have these many bytes.
 const ROWS_TO_SEND: usize = 16384;
@@ -42,6 +47,30 @@ impl MadSkin {
     }
 }
 
+/// Writes what is left of a Markdown text, where a fence is open before it or not, as [`MadSkin::write_parts_on`] writes a text.
+///
+/// # Errors
+///
+/// A fault of the device, or out of memory. What went out by then is a beginning of the rows of the text's first parts.
+pub fn write_rest_on<O: Out>(
+    alloc: Global,
+    out: &mut O,
+    rest: &str,
+    fenced: bool,
+    width: Option<usize>,
+    skin: &RowSkin,
+) -> Result<(), Error>
+    ensures { WritesPartsOf skin.now width (lines_of (resumed_text fenced rest.now)) (O.seen out.old) result (O.seen out.new) }
+{
+    write_parts(
+        alloc,
+        out,
+        &mut PartCursor::resumed(rest, fenced),
+        width,
+        skin,
+    )
+}
+
 // Writes the parts of a text that are left.
 fn write_parts<O: Out>(
     alloc: Global,
@@ -54,11 +83,84 @@ fn write_parts<O: Out>(
 {
     let mut rows = String::new(alloc);
     let mut lines = Vec::new(alloc);
-    while parts.lay_next(alloc, &mut lines, width, skin)? {
+    while take_next(alloc, &mut rows, &mut lines, parts, width, skin)? {
         hand_on_unmarked(out, &mut rows, &mut lines, parts, width, skin)?;
     }
     put_all(out, rows.as_bytes())?;
     Ok(())
+}
+
+/// Puts the rows of the parts of a text that are left after the rows that are there.
+pub(crate) fn append_parts(
+    alloc: Global,
+    rows: &mut String,
+    parts: &mut PartCursor,
+    width: Option<usize>,
+    skin: &RowSkin,
+) -> Result<(), AllocError>
+    ensures { OnOk result ((lines : List FmtLine) × IsLayoutAt (line_rules skin.now) width (lines_left parts.old) lines × (string_bytes rows.new ≡ string_bytes rows.old ++ text_bytes skin.now width lines)) }
+{
+    let mut lines = Vec::new(alloc);
+    while take_next(alloc, rows, &mut lines, parts, width, skin)? {
+        append_lines(rows, lines.as_slice(), width, skin)?;
+        lines.clear();
+    }
+    Ok(())
+}
+
+// Takes the next part: its rows are put after those that are kept, or it is laid out in lines. Says whether there was one.
+fn take_next<'s>(
+    alloc: Global,
+    rows: &mut String,
+    lines: &mut Vec<FmtLine<'s>>,
+    parts: &mut PartCursor<'s>,
+    width: Option<usize>,
+    skin: &RowSkin,
+) -> Result<bool, AllocError>
+    requires { lines.old.items ≡ [] }
+    ensures { IfOk result (λ found. TakesPart skin.now width (lines_left parts.old) (string_bytes rows.old) found (lines_left parts.new) (string_bytes rows.new) lines.new.items) }
+{
+    match parts.next_text(alloc)? {
+        Some(composite) => {
+            take_read(alloc, rows, lines, composite, width, skin)?;
+            Ok(true)
+        }
+        None => parts.lay_next(alloc, lines, width, skin),
+    }
+}
+
+// Puts the rows of a composite that was read after those that are kept, or what becomes of it after lines.
+fn take_read<'s>(
+    alloc: Global,
+    rows: &mut String,
+    lines: &mut Vec<FmtLine<'s>>,
+    composite: Composite<'s>,
+    width: Option<usize>,
+    skin: &RowSkin,
+) -> Result<(), AllocError>
+    requires { lines.old.items ≡ [] }
+    ensures { OnOk result (TakesRead skin.now width (styled_runs composite.entry) (string_bytes rows.old) (string_bytes rows.new) lines.new.items) }
+{
+    if append_at(alloc, rows, &composite, width, skin)? {
+        return Ok(());
+    }
+    push_read_at(alloc, lines, composite, wrap_width(width), skin)
+}
+
+// Puts the rows of a composite that was read after those that are kept, where it is known how.
+fn append_at(
+    alloc: Global,
+    rows: &mut String,
+    composite: &Composite,
+    width: Option<usize>,
+    skin: &RowSkin,
+) -> Result<bool, AllocError>
+    ensures { IfOk result (λ done. TakesReadOrNone skin.now width (styled_runs composite.now) (string_bytes rows.old) done (string_bytes rows.new)) }
+{
+    match wrap_width(width) {
+        Some(columns) => append_read(alloc, rows, composite, columns, skin),
+        None => Ok(false),
+    }
 }
 
 // Writes lines as [`send_lines`] does, and drops them.
@@ -146,11 +248,4 @@ fn unmarked_width(width: Option<usize>, skin: &RowSkin) -> Option<usize>
     } else {
         None
     }
-}
-
-// Whether no columns are left of a text in a wider place.
-fn is_aligned_left(align: Alignment) -> bool
-    ensures { IsTrue result → (rest : ℕ) → left_completion align rest ≡ 0 }
-{
-    matches!(align, Alignment::Left | Alignment::Unspecified)
 }

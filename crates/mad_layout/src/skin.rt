@@ -57,6 +57,8 @@ pub struct MadSkin {
     pub table_border_chars: TableBorderChars,
     /// How the lines of an item after its first are indented.
     pub list_items_indentation_mode: ListItemsIndentationMode,
+    /// Whether a word that fits on a line stays whole, over compounds.
+    pub whole_words: bool,
 }
 
 impl Default for MadSkin {
@@ -85,6 +87,7 @@ impl Default for MadSkin {
             ellipsis: CompoundStyle::default(),
             table_border_chars: STANDARD_TABLE_BORDER_CHARS,
             list_items_indentation_mode: ListItemsIndentationMode::default(),
+            whole_words: false,
         }
     }
 }
@@ -163,6 +166,7 @@ impl MadSkin {
             ellipsis: CompoundStyle::default(),
             table_border_chars: STANDARD_TABLE_BORDER_CHARS,
             list_items_indentation_mode: ListItemsIndentationMode::default(),
+            whole_words: false,
         }
     }
 
@@ -221,6 +225,7 @@ impl MadSkin {
             ellipsis: self.ellipsis,
             table_border_chars: self.table_border_chars,
             list_items_indentation_mode: self.list_items_indentation_mode,
+            whole_words: self.whole_words,
         }
     }
 }
@@ -232,6 +237,10 @@ impl LineSkin for MadSkin {
 
     fn items_indentation(&self) -> ListItemsIndentationMode {
         self.list_items_indentation_mode
+    }
+
+    fn whole_words(&self) -> bool {
+        self.whole_words
     }
 
     fn style_of(&self, kind: CompositeKind) -> &LineStyle {

@@ -1,20 +1,24 @@
 //! The writing calls of whole texts and of their lines.
 
-ghost use Rattle.std.specs.Prelude.{◌≡◌, IsErrOf};
+ghost use Rattle.std.specs.Prelude.{◌≡◌, IfOk, IsErrOf, List, string_bytes};
 ghost use Rattle.mad_draw.specs.Pieces.{pieces_bytes};
 ghost use Rattle.mad_format.specs.declared.line.FmtLine.TheVariants.{Normal};
 ghost use Rattle.mad_term.specs.Draws.{Draws, AndFlushes};
 ghost use Rattle.mad_term.specs.declared.errors.Error.TheVariants.{Memory};
+ghost use Rattle.mad_blocks.specs.Layouts.{IsMarkdownLayout};
+ghost use Rattle.mad_format.specs.declared.line.FmtLine.{FmtLine};
+ghost use Rattle.mad_rows.specs.RowStyles.{line_rules};
 ghost use Rattle.mad_layout.specs.Texts.{WritesMarkdown};
 ghost use Rattle.mad_rows.specs.Rows.{line_pieces, text_bytes};
 ghost use Rattle.mad_layout.specs.RowSkins.{row_skin};
 
-use crate::fmt_text::FmtText;
+use crate::parts_writing::append_parts;
 use crate::skin::MadSkin;
+use mad_blocks::PartCursor;
 use mad_format::{FmtComposite, FmtLine};
-use mad_rows::{PlacedComposite, PlacedLine, append_lines, composite_blanks, line_blanks};
+use mad_rows::{PlacedComposite, PlacedLine, RowSkin, composite_blanks, line_blanks};
 use mad_term::{Error, Out, put_displayed, put_text};
-use std::alloc::Global;
+use std::alloc::{AllocError, Global};
 
 impl MadSkin {
     /// Writes a composite at a width, in columns, if there is one, with its margins; the columns right of it are filled up where that is
@@ -83,8 +87,9 @@ impl MadSkin {
         ensures writes { WritesMarkdown (row_skin self.now) width markdown.now (O.seen out.old) result (O.seen out.new) }
         ensures early { IsErrOf result Memory → O.seen out.new ≡ O.seen out.old }
     {
-        let text = self.text(alloc, markdown, width)?;
-        write_lines(alloc, out, &text)
+        let skin = self.row_skin();
+        let rows = text_rows(alloc, markdown, width, &skin)?;
+        put_text(out, &rows)
     }
 
     /// Writes a Markdown text, as [`MadSkin::write_text_on`] does.
@@ -145,13 +150,22 @@ pub fn print_text<O: Out>(
     skin.print_text(alloc, out, markdown, width)
 }
 
-// Writes the lines of a text, each with a newline.
-fn write_lines<O: Out>(alloc: Global, out: &mut O, text: &FmtText) -> Result<(), Error>
-    ensures writes { Draws (O.seen out.old) (text_bytes (row_skin text.now.skin.now) text.now.width text.now.lines.items) result (O.seen out.new) }
-    ensures early { IsErrOf result Memory → O.seen out.new ≡ O.seen out.old }
+// The rows of a Markdown text: those of its lines, each with a newline.
+fn text_rows(
+    alloc: Global,
+    markdown: &str,
+    width: Option<usize>,
+    skin: &RowSkin,
+) -> Result<String, AllocError>
+    ensures { IfOk result (λ rows. (lines : List FmtLine) × IsMarkdownLayout (line_rules skin.now) width markdown.now lines × (string_bytes rows ≡ text_bytes skin.now width lines)) }
 {
     let mut rows = String::new(alloc);
-    let skin = text.skin.row_skin();
-    append_lines(&mut rows, text.lines.as_slice(), text.width, &skin)?;
-    put_text(out, &rows)
+    append_parts(
+        alloc,
+        &mut rows,
+        &mut PartCursor::new(markdown),
+        width,
+        skin,
+    )?;
+    Ok(rows)
 }

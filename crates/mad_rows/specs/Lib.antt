@@ -1,2 +1,3 @@
+pub mod ReadRows
 pub mod Rows
 pub mod RowStyles

@@ -14,11 +14,11 @@ use mad_style::{CompositeKind, LineStyle};
 use mad_term::StyledNumber;
 use std::fmt::{self, Display};
 
-// What is in front of a line's text.
+/// What is in front of a line's text.
 #[derive(Clone, Copy)]
-struct Prefix<'a> {
-    skin: &'a RowSkin,
-    kind: CompositeKind,
+pub(crate) struct Prefix<'a> {
+    pub skin: &'a RowSkin,
+    pub kind: CompositeKind,
 }
 
 impl Prefix<'_> {
@@ -70,11 +70,11 @@ impl fmt::Display for Prefix<'_> {
 /// What is in front of a composite's compounds in its row: blanks outside of its place and in it, and its prefix.
 #[derive(Clone, Copy)]
 pub(crate) struct CompositeFront<'a> {
-    skin: &'a RowSkin,
-    style: &'a LineStyle,
-    kind: CompositeKind,
-    outer: usize,
-    inner: usize,
+    pub skin: &'a RowSkin,
+    pub style: &'a LineStyle,
+    pub kind: CompositeKind,
+    pub outer: usize,
+    pub inner: usize,
 }
 
 impl CompositeFront<'_> {

@@ -6,10 +6,12 @@
 //! 2. [`rows`]: where a line is in its row, and the columns that no text fills.
 //! 3. [`composites`], [`tables`], [`lines`]: a composite, a line of a table, and any line or row as displayed values.
 //! 4. [`row_writing`]: lines and rows put after a string.
+//! 5. [`read_rows`]: rows of composites that were read, without a layout in between.
 #![tactic(auto)]
 
 pub mod composites;
 pub mod lines;
+pub mod read_rows;
 pub mod row_skin;
 pub mod row_writing;
 pub mod rows;
@@ -17,6 +19,7 @@ pub mod tables;
 
 pub use composites::{FreeComposite, PlacedComposite};
 pub use lines::{PlacedLine, PlacedLines, PlacedRow};
+pub use read_rows::{append_read, is_aligned_left};
 pub use row_skin::{
     FlagStyles, HeaderStyles, OrderedItemStyles, RowSkin, item_style_at, style_of_compound,
     style_of_kind,

@@ -2,7 +2,8 @@
 
 ghost use Rattle.std.specs.Prelude.{◌≡◌, IsTrue};
 ghost use Rattle.mad_md.specs.Flagged.{run_of};
-ghost use Rattle.mad_rows.specs.RowStyles.{compound_style, item_style_at, line_style, ordered_item_style, style_of_compound, style_of_kind};
+ghost use Rattle.std.specs.Str.{bytes_eq};
+ghost use Rattle.mad_rows.specs.RowStyles.{compound_style, ellipsis_bytes, item_style_at, line_style, ordered_item_style, style_of_compound, style_of_kind};
 
 use mad_draw::Spaces;
 use mad_format::LineSkin;
@@ -54,6 +55,8 @@ pub struct RowSkin {
     pub table_border_chars: TableBorderChars,
     /// How the lines of an item after its first are indented.
     pub list_items_indentation_mode: ListItemsIndentationMode,
+    /// Whether a word that fits on a line stays whole, over compounds.
+    pub whole_words: bool,
 }
 
 impl RowSkin {
@@ -102,6 +105,10 @@ impl LineSkin for RowSkin {
 
     fn items_indentation(&self) -> ListItemsIndentationMode {
         self.list_items_indentation_mode
+    }
+
+    fn whole_words(&self) -> bool {
+        self.whole_words
     }
 
     fn style_of(&self, kind: CompositeKind) -> &LineStyle {
@@ -174,6 +181,13 @@ pub fn style_of_compound(
         style.overwrite_with(added.code);
     }
     style
+}
+
+/// Whether a text is an ellipsis.
+pub(crate) fn is_ellipsis(text: &str) -> bool
+    ensures { result ≡ bytes_eq text.now ellipsis_bytes }
+{
+    text == ELLIPSIS
 }
 
 /// Whether a compound looks as its line does: it has no flag, and isn't an ellipsis.

@@ -82,7 +82,7 @@ fn append_composite(
 }
 
 // The compounds of a line of that style.
-fn append_compounds(
+pub(crate) fn append_compounds(
     rows: &mut String,
     compounds: &[Compound],
     style: &LineStyle,

@@ -10,5 +10,6 @@ kind_of style.Paragraph = kind.Paragraph
 kind_of (style.Header level) = kind.Header level
 kind_of (style.ListItem level) = kind.ListItem level
 kind_of (style.OrderedListItem level index) = kind.OrderedListItem level index
+kind_of (style.ListItemFollowUp level) = kind.ListItemFollowUp level
 kind_of style.Code = kind.Code
 kind_of style.Quote = kind.Quote

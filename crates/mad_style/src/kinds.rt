@@ -36,6 +36,7 @@ impl From<CompositeStyle> for CompositeKind {
                 level,
                 index,
             },
+            CompositeStyle::ListItemFollowUp(level) => Self::ListItemFollowUp(level),
             CompositeStyle::Code => Self::Code,
             CompositeStyle::Quote => Self::Quote,
         }

@@ -42,5 +42,6 @@ pub use queue::{
 pub use repeats::StyledRepeat;
 pub use streams::Stream;
 pub use styles::{
-    ContentStyle, StyledContent, StyledNumber, push_background, push_foreground, push_styled,
+    ContentStyle, StyleOpening, StyledContent, StyledNumber, closing_text, push_background,
+    push_foreground, push_styled,
 };

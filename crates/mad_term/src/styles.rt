@@ -145,9 +145,9 @@ impl fmt::Display for AttributeCommands {
     }
 }
 
-// What a style writes before a text.
+/// What a style writes before a text.
 #[derive(Clone, Copy)]
-pub(crate) struct StyleOpening(pub(crate) ContentStyle);
+pub struct StyleOpening(pub ContentStyle);
 
 impl fmt::Display for StyleOpening {
     ghost use Rattle.std.specs.Prelude.{Some};
@@ -175,7 +175,7 @@ impl fmt::Display for StyleOpening {
 
 /// What makes the pen plain again after a text in this style.
 #[tactic(auto, using(std::proofs::lemmas::Fmt::decimal_digit))]
-pub(crate) fn closing_text(style: ContentStyle) -> &'static str
+pub fn closing_text(style: ContentStyle) -> &'static str
     ensures { result.now ≡ closing_bytes style }
 {
     if style.underline_color.is_some() || !style.attributes.is_empty() {

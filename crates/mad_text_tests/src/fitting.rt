@@ -90,9 +90,33 @@ pub(crate) fn draw_wrap(
         first,
         other,
         width,
+        whole_words: false,
     };
     let compounds = compounds(*picture.allocator(), text)?;
     draw_wrapped(picture, &compounds, room)
+}
+
+/// The lines of compounds that are too wide, words whole.
+pub(crate) fn draw_words(
+    picture: &mut String,
+    numbers: &[usize],
+    text: &str,
+) -> Result<(), AllocError> {
+    let [first, other, width] = *numbers else {
+        return Ok(());
+    };
+    let room = Room {
+        first,
+        other,
+        width,
+        whole_words: true,
+    };
+    let alloc = *picture.allocator();
+    let compounds = compounds(alloc, text)?;
+    if fit_columns(&compounds, room).is_none() {
+        draw_lines(picture, &wrap_compounds(alloc, &compounds, room)?)?;
+    }
+    Ok(())
 }
 
 /// Whether starts pass the check.
@@ -107,6 +131,7 @@ pub(crate) fn draw_check(
         first: 0,
         other: 0,
         width: *width,
+        whole_words: false,
     };
     write!(picture, "{}", check_starts(&compounds, room, starts))
 }

@@ -82,6 +82,7 @@ fn draw_answer(
         "columns" => fitting::draw_columns(picture, text),
         "tokens" => fitting::draw_tokens(picture, numbers, text),
         "wrap" => fitting::draw_wrap(picture, numbers, text),
+        "words" => fitting::draw_words(picture, numbers, text),
         "starts" => fitting::draw_check(picture, numbers, text),
         "completions" => fitting::draw_completions(picture, numbers, after),
         "front" => fitting::draw_front(picture, numbers, text),

@@ -3,6 +3,7 @@ pub mod CheckLemmas
 pub mod CheckerSteps
 pub mod ClosedBreaks
 pub mod CutLemmas
+pub mod EndLemmas
 pub mod ExampleLemmas
 pub mod FitLemmas
 pub mod KeepLemmas
@@ -13,6 +14,15 @@ pub mod PassLemmas
 pub mod PastLemmas
 pub mod PlacingLemmas
 pub mod PromisedStarts
+pub mod SpanLemmas
+pub mod SpanSteps
 pub mod StartLemmas
 pub mod UniqueLemmas
+pub mod WordLineLemmas
+pub mod WordLaws
+pub mod WordLemmas
+pub mod WordSteps
+pub mod WordWraps
 pub mod WrapLemmas
+pub mod WrapModes
+pub mod WritingLemmas

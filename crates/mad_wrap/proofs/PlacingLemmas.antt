@@ -76,7 +76,7 @@ pub forced_push : (r : Room) (ps : List (LineAndGap Token)) (p : LineAndGap Toke
 forced_push r [] p h b l = (b, l, tt)
 forced_push r (q ∷ ps) p h b l = (h.0, h.1, forced_from_other r ps p h.2 b l)
 
-holds_push : (ps : List (LineAndGap Token)) (ls : List WrappedLine) (p : LineAndGap Token) (l : WrappedLine) → HoldBreak ps ls → HoldsTokens p.line l → HoldBreak (ps ++ p ∷ []) (ls ++ l ∷ [])
+pub holds_push : (ps : List (LineAndGap Token)) (ls : List WrappedLine) (p : LineAndGap Token) (l : WrappedLine) → HoldBreak ps ls → HoldsTokens p.line l → HoldBreak (ps ++ p ∷ []) (ls ++ l ∷ [])
 holds_push [] [] p l h g = (g, tt)
 holds_push (q ∷ ps) (m ∷ ls) p l h g = (h.0, holds_push ps ls p l h.1 g)
 holds_push _ _ p l h g = absurd h

@@ -11,7 +11,7 @@ use Rattle.mad_wrap.specs.declared.room.Room.{Room}
 
 -- lines of this width, without indents
 abbrev pub lines_of : ℕ → Room
-lines_of width = record { first = 0; other = 0; width = width }
+lines_of width = record { first = 0; other = 0; width = width; whole_words = false }
 
 -- a token of this many columns that isn't blank
 pub record IsWord (columns : ℕ) (t : Token) : Type 0 where

@@ -7,6 +7,7 @@ use Rattle.mad_fit.specs.declared.tokens.Token.{Token}
 use Rattle.mad_wrap.specs.Breaks.{LineAndGap, EndsWithLine}
 use Rattle.mad_wrap.specs.CleanCut.{is_cut_clean}
 use Rattle.mad_wrap.specs.LeastBound.{AreStartsOf}
+use Rattle.mad_wrap.specs.LeastWords.{IsWordWrap}
 use Rattle.mad_wrap.specs.LeastWrap.{AreTokensIn, IsWrap}
 use Rattle.mad_wrap.specs.Placings.{IsFirstFit}
 use Rattle.mad_wrap.specs.WrapLines.{runs_of, HasRoom}
@@ -19,6 +20,10 @@ OneFirstFit = (r : Room) (ts : List Token) (ps qs : List (LineAndGap Token)) →
 -- compounds have one wrap
 abbrev pub OneWrap : Type 0
 OneWrap = (r : Room) (ps : List Compound) (lines others : List (List Compound)) → IsWrap r ps lines → IsWrap r ps others → map runs_of lines ≡ map runs_of others
+
+-- compounds have one wrap with whole words
+abbrev pub OneWordWrap : Type 0
+OneWordWrap = (r : Room) (ps : List Compound) (lines others : List (List Compound)) → IsWordWrap r ps lines → IsWordWrap r ps others → map runs_of lines ≡ map runs_of others
 
 -- There are as many starts as lines. Where the first fit drops blanks after its last line, there is one start more.
 pub record CountLines (r : Room) (ps : List Compound) (lines : List (List Compound)) (starts : List ℕ) : Type 0 where

@@ -6,10 +6,15 @@ pub mod FirstFit
 pub mod Keeps
 pub mod Laws
 pub mod LeastBound
+pub mod LeastWords
 pub mod LeastWrap
 pub mod LineRoom
 pub mod LineStarts
 pub mod TokenLines
 pub mod Placings
 pub mod Rooms
+pub mod Spans
+pub mod WordLines
+pub mod Words
 pub mod WrapLines
+pub mod Writings

@@ -8,7 +8,7 @@ use mad_fit::Token;
 
 /// Where first fit puts a token.
 #[derive(Clone, Copy)]
-pub(crate) enum Put {
+pub enum Put {
     /// On the line, after its tokens.
     OnLine,
     /// On the next line, as its first token.
@@ -20,19 +20,19 @@ pub(crate) enum Put {
 /// First fit: a token goes on the line while it fits. A blank one that doesn't ends the line, and is dropped with the
 /// blanks after it. Any other begins the next line, whether it fits there or not.
 #[derive(Clone, Copy)]
-pub(crate) struct FirstFit {
-    room: Room,
+pub struct FirstFit {
+    pub(crate) room: Room,
     // The columns left on the line; none where its tokens don't fit.
-    room_left: Option<usize>,
+    pub(crate) room_left: Option<usize>,
     // Whether a gap has begun after the line.
-    ended: bool,
+    pub(crate) ended: bool,
 }
 
 impl FirstFit {
     ghost use Rattle.mad_wrap.specs.FirstFit.{Puts, at_first};
 
     /// At the beginning of the first line.
-    pub(crate) fn new(room: Room) -> Self
+    pub fn new(room: Room) -> Self
         ensures { result ≡ at_first room }
     {
         FirstFit {
@@ -43,7 +43,7 @@ impl FirstFit {
     }
 
     /// Puts the next token.
-    pub(crate) fn put(&mut self, token: Token) -> Put
+    pub fn put(&mut self, token: Token) -> Put
         ensures { Puts self.old token.entry result self.new }
     {
         if let Some(after) = left_with(self.room_left, self.ended, token.width) {

@@ -1,10 +1,11 @@
 //! Laws: functions without code, whose contracts say what follows from the definitions alone.
 
-ghost use Rattle.mad_wrap.specs.Laws.{OneFirstFit, OneWrap, StartsCountLines};
+ghost use Rattle.mad_wrap.specs.Laws.{OneFirstFit, OneWordWrap, OneWrap, StartsCountLines};
 
-/// Compounds are wrapped in one way only, and first fit places tokens in one way only.
+/// Compounds are wrapped in one way only, with whole words in one way too, and first fit places tokens in one way only.
 pub fn one_wrap()
     ensures wrap { OneWrap }
+    ensures words { OneWordWrap }
     ensures first_fit { OneFirstFit }
 {}
 

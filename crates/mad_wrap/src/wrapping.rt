@@ -1,14 +1,16 @@
 //! Wrapping compounds.
 
-ghost use Rattle.std.specs.Prelude.{◌<◌, ◌+◌, IfOk};
+ghost use Rattle.std.specs.Prelude.{◌≡◌, ◌<◌, ◌+◌, IfOk};
 ghost use Rattle.mad_md.specs.Flagged.{flagged_text};
 ghost use Rattle.mad_fit.specs.TextColumns.{width_of};
-ghost use Rattle.mad_wrap.specs.LeastWrap.{IsWrap};
+ghost use Rattle.mad_wrap.specs.CleanCut.{is_cut_clean};
+ghost use Rattle.mad_wrap.specs.LeastWords.{IsWrapOf};
 ghost use Rattle.mad_wrap.specs.WrapLines.{compounds_of, AreCounted};
 ghost use Rattle.mad_wrap.specs.TokenLines.{AreTwoLines};
 
 use crate::clean_cut::clean_cut;
 use crate::placing::place;
+use crate::placing_words::place_words;
 use crate::room::Room;
 use crate::wrapped_line::WrappedLine;
 use mad_fit::{columns, token_iter};
@@ -28,13 +30,23 @@ pub fn wrap_compounds<'s>(
     room: Room,
 ) -> Result<Vec<WrappedLine<'s>>, AllocError>
     requires wider { room.width < room.first + width_of (flagged_text compounds.now) }
-    ensures wrapped { IfOk result (λ lines. IsWrap room compounds.now (compounds_of lines.items)) }
+    ensures wrapped { IfOk result (λ lines. IsWrapOf room compounds.now (compounds_of lines.items)) }
     ensures counted { IfOk result (λ lines. AreCounted lines.items) }
 {
+    if room.whole_words {
+        return place_words(alloc, compounds, room);
+    }
     match clean_cut(compounds, room) {
         Some((front, back)) => cut_lines(alloc, front, back),
         None => place(alloc, token_iter(compounds, room.token_limit()), room),
     }
+}
+
+/// Whether a clean cut puts two of the compounds on a line each: two that fit there, with or without one of whitespace between them.
+pub fn is_cut_clean(compounds: &[Compound], room: Room) -> bool
+    ensures { result ≡ is_cut_clean room compounds.now }
+{
+    clean_cut(compounds, room).is_some()
 }
 
 // The two lines of a clean cut.

@@ -9,6 +9,7 @@ use crate::failure::{Failure, refuse};
 use crate::input::read_all;
 use crate::notice::say_unknown;
 use crate::writing::write_call;
+use mad_decoding::text_of;
 use std::alloc::Global;
 use termimad::{Out, Source};
 
@@ -51,7 +52,7 @@ fn execute<I: Source, O: Out, E: Out>(
 {
     let call = start(alloc, args, err)?;
     let bytes = read_all(alloc, input)?;
-    let Ok(text) = str::from_utf8(bytes.as_slice()) else {
+    let Some(text) = text_of(bytes.as_slice()) else {
         return Err(Failure::NotUtf8);
     };
     write_call(alloc, out, &call.skin, &call.command, text)?;

@@ -4,10 +4,8 @@ use Rattle.mad_format.proofs.WrapLemmas.{then_ok}
 use Rattle.mad_blocks.proofs.TableLemmas.{other_stays}
 use Rattle.mad_blocks.proofs.table_layout.push_table_line.Goals as goal
 
-pub returns-in_ok-lay_row_in-in-TableRow : goal.returns-in_ok-lay_row_in-in-TableRow
-returns-in_ok-lay_row_in-in-TableRow g c =
-    let rows = c.in_ok-lay_row_in-in-TableRow.field-0.items in
-    then_ok _ _ c.push_rows.result (λ pushed. rw c.in-TableRow.is (map TableRow rows, pushed, (rows, refl, c.in_ok-lay_row_in-in-TableRow.ensures))) c.push_rows.ensures
+pub returns-in-TableRow : goal.returns-in-TableRow
+returns-in-TableRow g c = then_ok _ _ c.push_row.result (λ laid. rw c.in-TableRow.is (map TableRow laid.0, laid.1, (laid.0, refl, laid.2))) c.push_row.ensures
 
 pub returns-in_ok-rule-in-TableRule : goal.returns-in_ok-rule-in-TableRule
 returns-in_ok-rule-in-TableRule g c =

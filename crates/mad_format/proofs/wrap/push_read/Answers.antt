@@ -1,7 +1,7 @@
 use Rattle.std.proofs.Common.{◌<◌, ◌+◌, map, ap, ◌∙◌, arith, subst}
 use Rattle.mad_md.specs.Flagged.{run_of, flagged_text}
 use Rattle.mad_fit.specs.TextColumns.{width_of}
-use Rattle.mad_wrap.specs.LeastWrap.{IsWrap}
+use Rattle.mad_wrap.specs.LeastWords.{IsWrapOf}
 use Rattle.mad_wrap.specs.WrapLines.{compounds_of}
 use Rattle.mad_format.specs.Indents.{room_of}
 use Rattle.mad_format.proofs.WrapLemmas.{then_ok}
@@ -15,7 +15,7 @@ pub returns-in_default : goal.returns-in_default
 returns-in_default g c =
     then_ok _ _ c.push_wrap.result (λ put. read_wraps (g.S.LineSkin.rules c.args.skin.now) c.args.width c.args.composite.style c.from-kind.result c.args.composite.compounds c.margins_and_rest-inner.result.0 c.room_of-room.result put.0 c.args.lines.now.items c.push_wrap.new.lines.items
     c.from-kind.ensures c.margins_and_rest-inner.ensures.margins (c.room_of-room.ensures ∙ ap (room_of (g.S.LineSkin.rules c.args.skin.now) c.from-kind.result) c.margins_and_rest-inner.ensures.inner) (subst (λ ps. c.room_of-room.result.width < c.room_of-room.result.first + width_of (flagged_text ps)) c.deref.ensures.value c.in_default.ensures) (omega (arith, c.if-width-eq18446744073709551615.false, c.ranges.width.fits))
-    (subst (λ ps. IsWrap c.room_of-room.result ps (compounds_of put.0)) c.deref-in_default.ensures.value put.1) put.2 put.3) c.push_wrap.ensures
+    (subst (λ ps. IsWrapOf c.room_of-room.result ps (compounds_of put.0)) c.deref-in_default.ensures.value put.1) put.2 put.3) c.push_wrap.ensures
 
 pub returns : goal.returns
 returns g c =

@@ -20,44 +20,44 @@ read r ps s max limit made ts left = subst (λ n. AreTokensOf n ps ts) limit (ma
 pub returns-in-Some-clause-tokenized : goal.returns-in-Some-clause-tokenized
 returns-in-Some-clause-tokenized c =
     let on = ap is_some (sym c.clean_cut.ensures.value ∙ c.in-Some.is) in
-    IfOk-weaker c.cut_starts.result _ _ (λ starts h. let all = h (cut_has_room _ _ on) in one_list _ _ all.0 (read _ _ _ _ c.token_limit.ensures c.token_iter-tokens.ensures.tokens all.0 all.1)) c.cut_starts.ensures
+    IfOk-weaker c.cut_starts.result _ _ (λ starts h. let all = h (cut_has_room c.args.room c.args.compounds.now on) in one_list c.args.room c.args.compounds.now all.0 (read c.args.room c.args.compounds.now _ _ c.token_limit.ensures c.token_iter-tokens.ensures.tokens all.0 all.1)) c.cut_starts.ensures
 
 pub returns-in-Some-clause-checked : goal.returns-in-Some-clause-checked
 returns-in-Some-clause-checked c =
     let on = ap is_some (sym c.clean_cut.ensures.value ∙ c.in-Some.is) in
-    IfOk-weaker c.cut_starts.result _ _ (λ starts h. let all = h (cut_has_room _ _ on) in cut_checked _ _ all.0 starts.items (read _ _ _ _ c.token_limit.ensures c.token_iter-tokens.ensures.tokens all.0 all.1) all.2) c.cut_starts.ensures
+    IfOk-weaker c.cut_starts.result _ _ (λ starts h. let all = h (cut_has_room c.args.room c.args.compounds.now on) in cut_checked c.args.room c.args.compounds.now all.0 starts.items (read c.args.room c.args.compounds.now _ _ c.token_limit.ensures c.token_iter-tokens.ensures.tokens all.0 all.1) all.2) c.cut_starts.ensures
 
 pub returns-in-Some-clause-bound : goal.returns-in-Some-clause-bound
 returns-in-Some-clause-bound c =
     let on = ap is_some (sym c.clean_cut.ensures.value ∙ c.in-Some.is) in
-    IfOk-weaker c.cut_starts.result _ _ (λ starts h. let all = h (cut_has_room _ _ on) in checked_bound _ _ starts.items (cut_checked _ _ all.0 starts.items (read _ _ _ _ c.token_limit.ensures c.token_iter-tokens.ensures.tokens all.0 all.1) all.2)) c.cut_starts.ensures
+    IfOk-weaker c.cut_starts.result _ _ (λ starts h. let all = h (cut_has_room c.args.room c.args.compounds.now on) in checked_bound c.args.room c.args.compounds.now starts.items (cut_checked c.args.room c.args.compounds.now all.0 starts.items (read c.args.room c.args.compounds.now _ _ c.token_limit.ensures c.token_iter-tokens.ensures.tokens all.0 all.1) all.2)) c.cut_starts.ensures
 
 pub returns-in-Some-clause-starts : goal.returns-in-Some-clause-starts
 returns-in-Some-clause-starts c =
     let on = ap is_some (sym c.clean_cut.ensures.value ∙ c.in-Some.is) in
-    IfOk-weaker c.cut_starts.result _ _ (λ starts h. let all = h (cut_has_room _ _ on) in cut_starts_of _ _ all.0 starts.items (read _ _ _ _ c.token_limit.ensures c.token_iter-tokens.ensures.tokens all.0 all.1) on all.2) c.cut_starts.ensures
+    IfOk-weaker c.cut_starts.result _ _ (λ starts h. let all = h (cut_has_room c.args.room c.args.compounds.now on) in cut_starts_of c.args.room c.args.compounds.now all.0 starts.items (read c.args.room c.args.compounds.now _ _ c.token_limit.ensures c.token_iter-tokens.ensures.tokens all.0 all.1) on all.2) c.cut_starts.ensures
 
 pub returns-in-Some-clause-fewest : goal.returns-in-Some-clause-fewest
 returns-in-Some-clause-fewest c space =
     let on = ap is_some (sym c.clean_cut.ensures.value ∙ c.in-Some.is) in
-    IfOk-weaker c.cut_starts.result _ _ (λ starts h. let all = h (cut_has_room _ _ on) in cut_fewest _ _ all.0 starts.items (read _ _ _ _ c.token_limit.ensures c.token_iter-tokens.ensures.tokens all.0 all.1) on all.2 space) c.cut_starts.ensures
+    IfOk-weaker c.cut_starts.result _ _ (λ starts h. let all = h (cut_has_room c.args.room c.args.compounds.now on) in cut_fewest c.args.room c.args.compounds.now all.0 starts.items (read c.args.room c.args.compounds.now _ _ c.token_limit.ensures c.token_iter-tokens.ensures.tokens all.0 all.1) on all.2 space) c.cut_starts.ensures
 
 pub returns-in-None-clause-tokenized : goal.returns-in-None-clause-tokenized
 returns-in-None-clause-tokenized c =
-    IfOk-weaker c.line_starts.result _ _ (λ starts all. one_list _ _ all.0 (read _ _ _ _ c.token_limit.ensures c.token_iter-tokens.ensures.tokens all.0 all.1)) c.line_starts.ensures
+    IfOk-weaker c.line_starts.result _ _ (λ starts all. one_list c.args.room c.args.compounds.now all.0 (read c.args.room c.args.compounds.now _ _ c.token_limit.ensures c.token_iter-tokens.ensures.tokens all.0 all.1)) c.line_starts.ensures
 
 pub returns-in-None-clause-checked : goal.returns-in-None-clause-checked
 returns-in-None-clause-checked c =
-    IfOk-weaker c.line_starts.result _ _ (λ starts all. placed_checked _ _ all.0 starts.items (read _ _ _ _ c.token_limit.ensures c.token_iter-tokens.ensures.tokens all.0 all.1) all.2) c.line_starts.ensures
+    IfOk-weaker c.line_starts.result _ _ (λ starts all. placed_checked c.args.room c.args.compounds.now all.0 starts.items (read c.args.room c.args.compounds.now _ _ c.token_limit.ensures c.token_iter-tokens.ensures.tokens all.0 all.1) all.2) c.line_starts.ensures
 
 pub returns-in-None-clause-bound : goal.returns-in-None-clause-bound
 returns-in-None-clause-bound c =
-    IfOk-weaker c.line_starts.result _ _ (λ starts all. checked_bound _ _ starts.items (placed_checked _ _ all.0 starts.items (read _ _ _ _ c.token_limit.ensures c.token_iter-tokens.ensures.tokens all.0 all.1) all.2)) c.line_starts.ensures
+    IfOk-weaker c.line_starts.result _ _ (λ starts all. checked_bound c.args.room c.args.compounds.now starts.items (placed_checked c.args.room c.args.compounds.now all.0 starts.items (read c.args.room c.args.compounds.now _ _ c.token_limit.ensures c.token_iter-tokens.ensures.tokens all.0 all.1) all.2)) c.line_starts.ensures
 
 pub returns-in-None-clause-starts : goal.returns-in-None-clause-starts
 returns-in-None-clause-starts c =
-    IfOk-weaker c.line_starts.result _ _ (λ starts all. placed_starts_of _ _ all.0 starts.items (read _ _ _ _ c.token_limit.ensures c.token_iter-tokens.ensures.tokens all.0 all.1) (sym c.clean_cut.ensures.value ∙ c.in-None.is) all.2) c.line_starts.ensures
+    IfOk-weaker c.line_starts.result _ _ (λ starts all. placed_starts_of c.args.room c.args.compounds.now all.0 starts.items (read c.args.room c.args.compounds.now _ _ c.token_limit.ensures c.token_iter-tokens.ensures.tokens all.0 all.1) (sym c.clean_cut.ensures.value ∙ c.in-None.is) all.2) c.line_starts.ensures
 
 pub returns-in-None-clause-fewest : goal.returns-in-None-clause-fewest
 returns-in-None-clause-fewest c space =
-    IfOk-weaker c.line_starts.result _ _ (λ starts all. placed_fewest _ _ all.0 starts.items (read _ _ _ _ c.token_limit.ensures c.token_iter-tokens.ensures.tokens all.0 all.1) (sym c.clean_cut.ensures.value ∙ c.in-None.is) all.2 space) c.line_starts.ensures
+    IfOk-weaker c.line_starts.result _ _ (λ starts all. placed_fewest c.args.room c.args.compounds.now all.0 starts.items (read c.args.room c.args.compounds.now _ _ c.token_limit.ensures c.token_iter-tokens.ensures.tokens all.0 all.1) (sym c.clean_cut.ensures.value ∙ c.in-None.is) all.2 space) c.line_starts.ensures

@@ -1,0 +1,2 @@
+pub mod DecodingLemmas
+pub mod LaneLemmas

@@ -1,0 +1,467 @@
+//! Rows of composites that were read, put after a string without a layout in between.
+
+ghost use Rattle.std.specs.Prelude.{◌≡◌, ◌<◌, ◌≤◌, ◌++◌, ◌∷◌, ◌^◌, ℕ, [], List, IfOk, OnOk, IsTrue, length, map, slice_range, string_bytes};
+ghost use Rattle.std.specs.Prelude.{false};
+ghost use Rattle.std.specs.Str.{bytes_eq};
+ghost use Rattle.mad_md.specs.Flagged.{flags_of, run_of};
+ghost use Rattle.mad_md.specs.declared.compound.Compound.{Compound};
+ghost use Rattle.mad_md.specs.Lines.{styled_runs};
+ghost use Rattle.mad_fit.specs.Chunks.{ArePlain};
+ghost use Rattle.mad_fit.specs.Completions.{left_completion};
+ghost use Rattle.mad_fit.specs.TokenPositions.{bytes_of};
+ghost use Rattle.mad_fit.specs.declared.tokens.Token.{Token};
+ghost use Rattle.mad_wrap.specs.Writings.{IsWrittenBare, WritesBefore, WritesUpTo, put_bytes};
+ghost use Rattle.mad_wrap.specs.declared.first_fit.FirstFit.{FirstFit};
+ghost use Rattle.mad_style.specs.declared.kinds.CompositeKind.TheVariants.{ListItem};
+ghost use Rattle.mad_term.specs.Styles.{IsUnstyled};
+ghost use Rattle.mad_draw.specs.Pieces.{pieces_bytes, single_spaces};
+ghost use Rattle.mad_rows.specs.Rows.{compound_piece, prefix_pieces};
+ghost use Rattle.mad_rows.specs.RowStyles.{compound_style, ellipsis_bytes};
+ghost use Rattle.mad_rows.specs.ReadRows.{HasPlainMarks, front_bytes, IsBetween, run_bytes, token_bytes, IsPlainIn, PutsReadOrNone, WritesWrap};
+
+use crate::composites::{CompositeFront, PlacedCompound, Prefix};
+use crate::row_skin::{RowSkin, is_bare, is_ellipsis};
+use crate::row_writing::append_compounds;
+use mad_fit::{plain_end, token_at};
+use mad_format::{follow_up, margins_and_rest, room_of};
+use mad_md::{Alignment, Composite, Compound};
+use mad_style::{CompositeKind, CompoundStyle, LineStyle};
+use mad_term::{StyleOpening, closing_text};
+use mad_wrap::{FirstFit, Put, Room, fit_columns, is_cut_clean, next_span};
+use std::alloc::{AllocError, Global};
+
+// Compounds of more bytes than these are laid out first.
+const MOST_BYTES: usize = 0x4000_0000_0000_0000;
+
+/// Puts the rows of what a composite that was read becomes at a width, in columns, after the rows that are there. Where it isn't known how
+/// without its lines, it puts none; it says whether it did.
+///
+/// # Errors
+///
+/// Out of memory; what the rows then end with is open.
+pub fn append_read(
+    alloc: Global,
+    rows: &mut String,
+    composite: &Composite,
+    width: usize,
+    skin: &RowSkin,
+) -> Result<bool, AllocError>
+    ensures { IfOk result (λ done. PutsReadOrNone skin.now width (styled_runs composite.now) (string_bytes rows.old) done (string_bytes rows.new)) }
+{
+    let kind = CompositeKind::from(composite.style);
+    let style = skin.line_style(kind);
+    if width == usize::MAX || !is_aligned_left(style.align) {
+        return Ok(false);
+    }
+    let ((margin, _), inner) = margins_and_rest(skin, kind, width);
+    let room = room_of(skin, kind, inner);
+    let front = CompositeFront {
+        skin,
+        style,
+        kind,
+        outer: margin,
+        inner: 0,
+    };
+    let compounds = composite.compounds.as_slice();
+    if let Some(_columns) = fit_columns(compounds, room) {
+        append_whole(rows, front, compounds)?;
+        return Ok(true);
+    }
+    if room.whole_words {
+        return Ok(false);
+    }
+    if !are_short(compounds) || is_cut_clean(compounds, room) {
+        return Ok(false);
+    }
+    append_wrap(alloc, rows, front, compounds, room)?;
+    Ok(true)
+}
+
+// A line that fits.
+fn append_whole(
+    rows: &mut String,
+    front: CompositeFront,
+    compounds: &[Compound],
+) -> Result<(), AllocError>
+    ensures { OnOk result (string_bytes rows.new ≡ string_bytes rows.old ++ (front_bytes front.entry ++ (pieces_bytes (map (compound_piece front.entry.skin.now front.entry.style.now) compounds.now) ++ 10 ∷ []))) }
+{
+    append_front(rows, front)?;
+    append_compounds(rows, compounds, front.style, front.skin)?;
+    rows.push_str("\n")
+}
+
+// What is in front of a row's text.
+fn append_front(rows: &mut String, front: CompositeFront) -> Result<(), AllocError>
+    ensures { OnOk result (string_bytes rows.new ≡ string_bytes rows.old ++ front_bytes front.entry) }
+{
+    if front.outer == 0 && front.inner == 0 {
+        return append_prefix(rows, front.kind, front.skin);
+    }
+    rows.reserve(front.columns())?;
+    write!(rows, "{front}")
+}
+
+// The prefix of a line of this kind.
+fn append_prefix(rows: &mut String, kind: CompositeKind, skin: &RowSkin) -> Result<(), AllocError>
+    ensures { OnOk result (string_bytes rows.new ≡ string_bytes rows.old ++ pieces_bytes (prefix_pieces skin.now kind)) }
+{
+    match kind {
+        CompositeKind::Paragraph | CompositeKind::Header(_) | CompositeKind::Code => Ok(()),
+        CompositeKind::ListItem(depth) if has_plain_marks(skin) => {
+            append_plain_mark(rows, depth as usize, skin)
+        }
+        kind => {
+            let prefix = Prefix { skin, kind };
+            write!(rows, "{prefix}")
+        }
+    }
+}
+
+// Whether bullets, and the spaces beside them, need no commands.
+fn has_plain_marks(skin: &RowSkin) -> bool
+    ensures { IsTrue result → HasPlainMarks skin.now }
+{
+    let bullet = skin.bullet;
+    skin.paragraph.compound_style.object_style.is_unstyled()
+        && bullet.compound_style().object_style.is_unstyled()
+}
+
+// The bullet of an item of this depth.
+fn append_plain_mark(rows: &mut String, depth: usize, skin: &RowSkin) -> Result<(), AllocError>
+    requires { HasPlainMarks skin.now }
+    ensures { OnOk result (string_bytes rows.new ≡ string_bytes rows.old ++ pieces_bytes (prefix_pieces skin.now (ListItem depth))) }
+{
+    append_plain_spaces(rows, depth, &skin.paragraph.compound_style)?;
+    rows.push(skin.bullet.nude_char())?;
+    rows.push_str(" ")?;
+    Ok(())
+}
+
+// Single spaces in a style that needs no commands.
+fn append_plain_spaces(
+    rows: &mut String,
+    count: usize,
+    style: &CompoundStyle,
+) -> Result<(), AllocError>
+    requires { IsUnstyled style.now.object_style }
+    ensures { OnOk result (string_bytes rows.new ≡ string_bytes rows.old ++ pieces_bytes (single_spaces style.now count)) }
+{
+    for _done in 0..count {
+        rows.push_str(" ")?;
+    }
+    Ok(())
+}
+
+// Lines that are wrapped.
+fn append_wrap(
+    alloc: Global,
+    rows: &mut String,
+    front: CompositeFront,
+    compounds: &[Compound],
+    room: Room,
+) -> Result<(), AllocError>
+    ensures { OnOk result (WritesWrap front.entry room compounds.now (string_bytes rows.old) (string_bytes rows.new)) }
+{
+    let mut later = String::new(alloc);
+    append_front(
+        &mut later,
+        CompositeFront {
+            kind: follow_up(front.kind),
+            ..front
+        },
+    )?;
+    append_front(rows, front)?;
+    let fit = FirstFit::new(room);
+    let max = room.token_limit();
+    let style = front.style;
+    append_tokens(alloc, rows, fit, compounds, max, &later, style, front.skin)?;
+    rows.push_str("\n")?;
+    Ok(())
+}
+
+// The tokens of the compounds.
+fn append_tokens(
+    alloc: Global,
+    rows: &mut String,
+    fit: FirstFit,
+    compounds: &[Compound],
+    max: usize,
+    later: &str,
+    style: &LineStyle,
+    skin: &RowSkin,
+) -> Result<(), AllocError>
+    ensures { OnOk result ((after : FirstFit) × WritesBefore (token_bytes skin.now style.now) later.now max compounds.now [] fit (string_bytes rows.old) after (string_bytes rows.new)) }
+{
+    let mut fit = fit;
+    for compound in compounds {
+        fit = append_compound(alloc, rows, fit, *compound, max, later, style, skin)?;
+    }
+    Ok(())
+}
+
+// The tokens of a compound.
+fn append_compound(
+    alloc: Global,
+    rows: &mut String,
+    fit: FirstFit,
+    compound: Compound,
+    max: usize,
+    later: &str,
+    style: &LineStyle,
+    skin: &RowSkin,
+) -> Result<FirstFit, AllocError>
+    ensures { IfOk result (λ after. WritesUpTo (token_bytes skin.now style.now) later.now max compound.entry (length compound.entry.src.now) fit (string_bytes rows.old) after (string_bytes rows.new)) }
+{
+    if is_plain(compound, style, skin) {
+        return append_spans(rows, fit, compound, max, later);
+    }
+    if is_ellipsis(compound.src) {
+        return append_styled(rows, fit, compound, max, later, style, skin);
+    }
+    append_marked(alloc, rows, fit, compound, max, later, style, skin)
+}
+
+// The tokens of a compound that isn't an ellipsis; its commands are made once.
+fn append_marked(
+    alloc: Global,
+    rows: &mut String,
+    fit: FirstFit,
+    compound: Compound,
+    max: usize,
+    later: &str,
+    style: &LineStyle,
+    skin: &RowSkin,
+) -> Result<FirstFit, AllocError>
+    requires { bytes_eq compound.src.now ellipsis_bytes ≡ false }
+    ensures { IfOk result (λ after. WritesUpTo (token_bytes skin.now style.now) later.now max compound.entry (length compound.entry.src.now) fit (string_bytes rows.old) after (string_bytes rows.new)) }
+{
+    let own = skin.compound_style(style, &compound).object_style;
+    let mut opening = String::new(alloc);
+    let commands = StyleOpening(own);
+    write!(opening, "{commands}")?;
+    let closing = closing_text(own);
+    append_between(
+        rows, fit, compound, max, later, &opening, closing, style, skin,
+    )
+}
+
+// The tokens of a compound, each but an ellipsis between these commands.
+fn append_between(
+    rows: &mut String,
+    fit: FirstFit,
+    compound: Compound,
+    max: usize,
+    later: &str,
+    opening: &str,
+    closing: &str,
+    style: &LineStyle,
+    skin: &RowSkin,
+) -> Result<FirstFit, AllocError>
+    requires { (part : Compound) → flags_of part ≡ flags_of compound → IsBetween skin.now style.now opening.now closing.now part }
+    ensures { IfOk result (λ after. WritesUpTo (token_bytes skin.now style.now) later.now max compound.entry (length compound.entry.src.now) fit (string_bytes rows.old) after (string_bytes rows.new)) }
+{
+    let mut fit = fit;
+    let mut at = 0;
+    while at < compound.src.len() {
+        let token = token_at(compound, at, max);
+        let put = fit.put(token);
+        let part = token.to_compound();
+        append_token(rows, &part, put, later, opening, closing, style, skin)?;
+        at = token.end_in_compound;
+    }
+    Ok(fit)
+}
+
+// A part of a compound where it is put, between these commands if it isn't an ellipsis.
+fn append_token(
+    rows: &mut String,
+    part: &Compound,
+    put: Put,
+    later: &str,
+    opening: &str,
+    closing: &str,
+    style: &LineStyle,
+    skin: &RowSkin,
+) -> Result<(), AllocError>
+    requires { IsBetween skin.now style.now opening.now closing.now part.now }
+    ensures { OnOk result (string_bytes rows.new ≡ string_bytes rows.old ++ put_bytes later.now put (run_bytes skin.now style.now (run_of part.now))) }
+{
+    if is_ellipsis(part.src) {
+        append_part(rows, part, put, later, style, skin)
+    } else {
+        append_piece(rows, part.src, put, later, opening, closing)
+    }
+}
+
+// A text between commands where it is put.
+fn append_piece(
+    rows: &mut String,
+    text: &str,
+    put: Put,
+    later: &str,
+    opening: &str,
+    closing: &str,
+) -> Result<(), AllocError>
+    ensures { OnOk result (string_bytes rows.new ≡ string_bytes rows.old ++ put_bytes later.now put (opening.now ++ (text.now ++ closing.now))) }
+{
+    match put {
+        Put::OnLine => append_three(rows, opening, text, closing),
+        Put::OnNext => {
+            rows.push_str("\n")?;
+            rows.push_str(later)?;
+            append_three(rows, opening, text, closing)
+        }
+        Put::InGap => Ok(()),
+    }
+}
+
+fn append_three(
+    rows: &mut String,
+    opening: &str,
+    text: &str,
+    closing: &str,
+) -> Result<(), AllocError>
+    ensures { OnOk result (string_bytes rows.new ≡ string_bytes rows.old ++ (opening.now ++ (text.now ++ closing.now))) }
+{
+    rows.push_str(opening)?;
+    rows.push_str(text)?;
+    rows.push_str(closing)
+}
+
+// The tokens of a compound that needs no commands, span by span.
+fn append_spans(
+    rows: &mut String,
+    fit: FirstFit,
+    compound: Compound,
+    max: usize,
+    later: &str,
+) -> Result<FirstFit, AllocError>
+    ensures { IfOk result (λ after. (write : Token → List ℕ) → IsWrittenBare write compound.entry → WritesUpTo write later.now max compound.entry (length compound.entry.src.now) fit (string_bytes rows.old) after (string_bytes rows.new)) }
+{
+    let bytes = compound.src.as_bytes();
+    let mut fit = fit;
+    let mut at = 0;
+    let mut plain = plain_end(bytes, 0);
+    while at < bytes.len() {
+        plain = plain_past(bytes, at, plain);
+        let span = next_span(fit, compound, at, plain, max);
+        append_text(rows, &compound.src[at..span.end], span.put, later)?;
+        fit = span.after;
+        at = span.end;
+    }
+    Ok(fit)
+}
+
+// Where the spaces and graphic ASCII characters that begin at `at` end, if that was known before to be no further than `plain`.
+fn plain_past(bytes: &[u8], at: usize, plain: usize) -> usize
+    requires plain { ArePlain bytes.now at plain }
+    requires inside { plain ≤ length bytes.now }
+    requires at { at ≤ length bytes.now }
+    ensures plain { ArePlain bytes.now at result }
+    ensures inside { result ≤ length bytes.now }
+{
+    if plain < at {
+        plain_end(bytes, at)
+    } else {
+        plain
+    }
+}
+
+// A text where it is put.
+fn append_text(rows: &mut String, text: &str, put: Put, later: &str) -> Result<(), AllocError>
+    ensures { OnOk result (string_bytes rows.new ≡ string_bytes rows.old ++ put_bytes later.now put text.now) }
+{
+    match put {
+        Put::OnLine => rows.push_str(text),
+        Put::OnNext => {
+            rows.push_str("\n")?;
+            rows.push_str(later)?;
+            rows.push_str(text)
+        }
+        Put::InGap => Ok(()),
+    }
+}
+
+// The tokens of any compound, one by one.
+fn append_styled(
+    rows: &mut String,
+    fit: FirstFit,
+    compound: Compound,
+    max: usize,
+    later: &str,
+    style: &LineStyle,
+    skin: &RowSkin,
+) -> Result<FirstFit, AllocError>
+    ensures { IfOk result (λ after. WritesUpTo (token_bytes skin.now style.now) later.now max compound.entry (length compound.entry.src.now) fit (string_bytes rows.old) after (string_bytes rows.new)) }
+{
+    let mut fit = fit;
+    let mut at = 0;
+    while at < compound.src.len() {
+        let token = token_at(compound, at, max);
+        let put = fit.put(token);
+        append_part(rows, &token.to_compound(), put, later, style, skin)?;
+        at = token.end_in_compound;
+    }
+    Ok(fit)
+}
+
+// A part of a compound where it is put.
+fn append_part(
+    rows: &mut String,
+    part: &Compound,
+    put: Put,
+    later: &str,
+    style: &LineStyle,
+    skin: &RowSkin,
+) -> Result<(), AllocError>
+    ensures { OnOk result (string_bytes rows.new ≡ string_bytes rows.old ++ put_bytes later.now put (run_bytes skin.now style.now (run_of part.now))) }
+{
+    let placed = PlacedCompound {
+        skin,
+        style,
+        compound: part,
+    };
+    match put {
+        Put::OnLine => write!(rows, "{placed}"),
+        Put::OnNext => write!(rows, "\n{later}{placed}"),
+        Put::InGap => Ok(()),
+    }
+}
+
+// Whether each part of the compound needs no commands in a line of that style.
+fn is_plain(compound: Compound, style: &LineStyle, skin: &RowSkin) -> bool
+    ensures { IsTrue result → IsPlainIn skin.now style.now compound.entry }
+{
+    skin.ellipsis.object_style.is_unstyled()
+        && !is_ellipsis(compound.src)
+        && style_in(compound, style, skin).object_style.is_unstyled()
+}
+
+// The style of a compound in a line of that style. Most have no flag.
+fn style_in(compound: Compound, style: &LineStyle, skin: &RowSkin) -> CompoundStyle
+    ensures { result ≡ compound_style skin.now style.now (run_of compound.entry) }
+{
+    if is_bare(&compound) {
+        style.compound_style
+    } else {
+        skin.compound_style(style, &compound)
+    }
+}
+
+// Whether the compounds have no more bytes than are taken.
+fn are_short(compounds: &[Compound]) -> bool
+    ensures { IsTrue result → bytes_of compounds.now < 2 ^ 62 }
+{
+    let mut bytes: usize = 0;
+    for compound in compounds {
+        bytes = bytes.saturating_add(compound.src.len());
+    }
+    bytes < MOST_BYTES
+}
+
+/// Whether no columns are left of a text in a wider place.
+pub fn is_aligned_left(align: Alignment) -> bool
+    ensures { IsTrue result → (rest : ℕ) → left_completion align rest ≡ 0 }
+{
+    matches!(align, Alignment::Left | Alignment::Unspecified)
+}

@@ -1,0 +1,74 @@
+-- What is shown of a leaf's text: of each piece its characters, one after another. All of a piece look the same.
+use Rattle.std.specs.Prelude.{ℕ, ◌+◌, Bool, true, false, List, [], ◌∷◌, ◌++◌, length, map, Option, Some, None}
+use Rattle.std.specs.List.{list_all, range_with_len}
+use Rattle.markdown_emphasis.specs.declared.runs.Pair.{Pair}
+use Rattle.markdown_emphasis.specs.declared.flags.Flags.{Flags}
+use Rattle.markdown_emphasis.specs.Flags.{flags_of}
+use Rattle.markdown_pieces.specs.declared.pieces.Kind.{Kind}
+use Rattle.markdown_pieces.specs.declared.pieces.Kind.TheVariants.{Code as CodeKind, Closing}
+use Rattle.markdown_pieces.specs.declared.pieces.Piece.{Piece}
+use Rattle.markdown_pieces.specs.Cut.{CutText, cut_text}
+use Rattle.markdown_inlines.specs.declared.looks.Look.{Look}
+use Rattle.markdown_inlines.specs.declared.links.Over.{Over}
+use Rattle.markdown_inlines.specs.declared.inlines.LinkTarget.{LinkTarget}
+use Rattle.markdown_inlines.specs.Looks.{look_of}
+use Rattle.markdown_inlines.specs.Links.{overs_of}
+use Rattle.markdown_inlines.specs.Left.{left_at}
+use Rattle.markdown_inlines.specs.Printable.{is_shown}
+use Rattle.markdown_inlines.specs.Parts.{characters}
+use Rattle.markdown_inlines.specs.Styled.{Shown, shown_with}
+
+abbrev pub is_code : Kind → Bool
+is_code (CodeKind code) = true
+is_code _ = false
+
+-- bold, italic and struck out as pairs are over the piece; code; the nearest link over it
+abbrev pub look_at : Flags → Piece → Over → Look
+look_at flags p over = look_of flags (is_code p.kind) over.link
+
+abbrev pub shown_piece : List ℕ → ℕ → Piece → Flags → ℕ → Over → List Shown
+shown_piece text at p flags left over = map (shown_with (look_at flags p over)) (characters text at p left over.opens)
+
+-- Of the pieces from a place on: each with its flags, how many of its marks are left, and what links have to do with it.
+unfoldable pub shown_from : List ℕ → ℕ → List Piece → List Flags → List ℕ → List Over → List Shown
+shown_from text at [] flags left overs = []
+shown_from text at (p ∷ ps) [] left overs = []
+shown_from text at (p ∷ ps) (f ∷ fs) [] overs = []
+shown_from text at (p ∷ ps) (f ∷ fs) (n ∷ ns) [] = []
+shown_from text at (p ∷ ps) (f ∷ fs) (n ∷ ns) (o ∷ os) = shown_piece text at p f n o ++ shown_from text (at + (p.more + 1)) ps fs ns os
+
+-- how many marks of each piece pairs leave
+abbrev pub left_of : List Pair → List Piece → List ℕ
+left_of pairs pieces = map (left_at pairs pieces) (range_with_len 0 (length pieces))
+
+abbrev pub shown_cut : CutText → List ℕ → List Shown
+shown_cut cut text = shown_from text 0 cut.pieces (flags_of (length cut.pieces) cut.pairs) (left_of cut.pairs cut.pieces) (overs_of cut.pieces)
+
+-- what is shown of a leaf's text, where these are defined
+abbrev pub leaf_text : List (List ℕ) → List ℕ → List Shown
+leaf_text labels text = shown_cut (cut_text labels text) text
+
+abbrev pub char_of : Shown → ℕ
+char_of s = s.char
+
+-- nothing but breaks of lines and printable characters
+abbrev pub are_shown : List Shown → Bool
+are_shown shown = list_all is_shown (map char_of shown)
+
+-- ---- links
+
+abbrev pub link_target : Kind → ℕ → Option LinkTarget
+link_target (Closing (Some link)) at = Some (record { image = link.image; at = at + 1; target = link.target })
+link_target _ at = None
+
+abbrev pub with_link : Option LinkTarget → List LinkTarget → List LinkTarget
+with_link None links = links
+with_link (Some link) links = link ∷ links
+
+-- the links of the pieces from a place on, in the order in which they close
+unfoldable pub links_from : ℕ → List Piece → List LinkTarget
+links_from at [] = []
+links_from at (p ∷ ps) = with_link (link_target p.kind at) (links_from (at + (p.more + 1)) ps)
+
+abbrev pub leaf_links : List (List ℕ) → List ℕ → List LinkTarget
+leaf_links labels text = links_from 0 (cut_text labels text).pieces

@@ -1,0 +1,59 @@
+-- Over which pieces links and images are. A link goes from its opening bracket to its closing one.
+use Rattle.std.specs.Prelude.{ℕ, ◌+◌, ◌==◌, ◌&&◌, Bool, true, false, if◌then◌else◌, List, [], ◌∷◌, drop, Option, Some, None}
+use Rattle.markdown_pieces.specs.declared.pieces.Kind.{Kind}
+use Rattle.markdown_pieces.specs.declared.pieces.Kind.TheVariants.{Opening, Closing}
+use Rattle.markdown_pieces.specs.declared.pieces.Piece.{Piece}
+use Rattle.markdown_inlines.specs.declared.links.Over.{Over}
+use Rattle.markdown_inlines.specs.declared.links.Ahead.{Ahead}
+
+abbrev pub is_link : Kind → Bool
+is_link (Closing (Some link)) = true
+is_link _ = false
+
+-- one, if it is a link
+abbrev pub links_in : Kind → ℕ
+links_in kind = if is_link kind then 1 else 0
+
+-- how many links there are
+unfoldable pub link_count : List Piece → ℕ
+link_count [] = 0
+link_count (p ∷ ps) = links_in p.kind + link_count ps
+
+-- the nearest link whose closing bracket is ahead
+abbrev pub nearest : List Ahead → Option ℕ
+nearest [] = None
+nearest (a ∷ others) = Some a.number
+
+-- whether it begins at a piece
+abbrev pub opens_at : ℕ → List Ahead → Bool
+opens_at index [] = false
+opens_at index (a ∷ others) = a.opener == index
+
+abbrev pub is_opening : Kind → Bool
+is_opening (Opening image) = true
+is_opening _ = false
+
+abbrev pub over_of : ℕ → Kind → List Ahead → Over
+over_of index kind ahead = record { link = nearest ahead; opens = is_opening kind && opens_at index ahead }
+
+-- one piece back: a link's closing bracket comes ahead, and goes at its opening bracket
+abbrev pub stepped_back : ℕ → ℕ → Kind → List Ahead → List Ahead
+stepped_back index number (Closing (Some link)) ahead = record { number = number; opener = link.opener } ∷ ahead
+stepped_back index number (Opening image) ahead = if opens_at index ahead then drop 1 ahead else ahead
+stepped_back index number _ ahead = ahead
+
+-- of some pieces: what links have to do with each, and the links that are ahead of all of them, the nearest first
+pub record Overs : Type 0 where
+  pub overs : List Over
+  pub ahead : List Ahead
+
+abbrev pub one_back : ℕ → ℕ → Kind → Overs → Overs
+one_back index number kind o = record { overs = over_of index kind o.ahead ∷ o.overs; ahead = stepped_back index number kind o.ahead }
+
+-- the first of them has this index, and before it are so many links
+unfoldable pub overs_from : (index number : ℕ) → List Piece → Overs
+overs_from index number [] = record { overs = []; ahead = [] }
+overs_from index number (p ∷ ps) = one_back index number p.kind (overs_from (index + 1) (number + links_in p.kind) ps)
+
+abbrev pub overs_of : List Piece → List Over
+overs_of pieces = (overs_from 0 0 pieces).overs

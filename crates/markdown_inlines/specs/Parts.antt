@@ -1,0 +1,55 @@
+-- What is shown of one piece.
+use Rattle.std.specs.Prelude.{ℕ, ◌+◌, Bool, if◌then◌else◌, List, [], ◌∷◌, take, drop, map, replicate, chars, Option, Some, None}
+use Rattle.markdown_emphasis.specs.declared.runs.Sign.{Sign}
+use Rattle.markdown_emphasis.specs.declared.runs.Sign.TheVariants.{Star, Underscore, Tilde}
+use Rattle.markdown_brackets.specs.declared.brackets.Link.{Link}
+use Rattle.markdown_spans.specs.Code.{unpadded}
+use Rattle.markdown_pieces.specs.declared.pieces.Kind.{Kind}
+use Rattle.markdown_pieces.specs.declared.pieces.Kind.TheVariants.{Plain, Shown, Code as CodeKind, Address, Tag, Soft, Hard, Run as RunKind, Opening, Closing}
+use Rattle.markdown_pieces.specs.declared.pieces.Piece.{Piece}
+use Rattle.markdown_inlines.specs.Printable.{shown_char}
+
+abbrev pub sign_char : Sign → ℕ
+sign_char Star = 42
+sign_char Underscore = 95
+sign_char Tilde = 126
+
+-- of a text, each of its characters
+abbrev pub shown_text : List ℕ → List ℕ
+shown_text text = map shown_char (chars text)
+
+-- one character or two
+abbrev pub character_shown : ℕ → Option ℕ → List ℕ
+character_shown c None = shown_char c ∷ []
+character_shown c (Some d) = shown_char c ∷ shown_char d ∷ []
+
+-- so many bytes from a place on
+abbrev pub part : List ℕ → ℕ → ℕ → List ℕ
+part text at len = take len (drop at text)
+
+-- of a tag of html
+abbrev pub tag_shown : Bool → List ℕ
+tag_shown breaks = if breaks then 10 ∷ [] else []
+
+abbrev pub opening_shown : (image opens : Bool) → List ℕ
+opening_shown image opens = if opens then [] else if image then 33 ∷ 91 ∷ [] else 91 ∷ []
+
+abbrev pub closing_shown : Option Link → List ℕ
+closing_shown None = 93 ∷ []
+closing_shown (Some link) = []
+
+-- of a piece of a text at a place: so many of its marks are left; it opens a link or doesn't
+abbrev pub kind_characters : Kind → List ℕ → (at more left : ℕ) → Bool → List ℕ
+kind_characters Plain text at more left opens = shown_text (part text at (more + 1))
+kind_characters (Shown c second) text at more left opens = character_shown c second
+kind_characters (CodeKind code) text at more left opens = shown_text (unpadded (part text (at + code.marks) code.len))
+kind_characters (Address len) text at more left opens = shown_text (part text (at + 1) len)
+kind_characters (Tag breaks) text at more left opens = tag_shown breaks
+kind_characters Soft text at more left opens = 32 ∷ []
+kind_characters Hard text at more left opens = 10 ∷ []
+kind_characters (RunKind run) text at more left opens = replicate left (sign_char run.sign)
+kind_characters (Opening image) text at more left opens = opening_shown image opens
+kind_characters (Closing link) text at more left opens = closing_shown link
+
+abbrev pub characters : List ℕ → ℕ → Piece → ℕ → Bool → List ℕ
+characters text at p left opens = kind_characters p.kind text at p.more left opens

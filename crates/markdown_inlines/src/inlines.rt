@@ -1,0 +1,125 @@
+//! The inlines of a leaf's text.
+
+ghost use Rattle.std.specs.Prelude.{◌≡◌, ◌<◌, ◌^◌, ◌++◌, List, true, IfOk, OnOk, length, map};
+ghost use Rattle.markdown_pieces.specs.Places.{AreCut};
+ghost use Rattle.markdown_inlines.specs.declared.inlines.LinkTarget.{LinkTarget};
+ghost use Rattle.markdown_inlines.specs.Looks.{look_of};
+ghost use Rattle.markdown_inlines.specs.Inlines.{is_code, link_target, with_link, links_from, shown_from, leaf_text, are_shown, leaf_links};
+ghost use Rattle.markdown_inlines.specs.Styled.{spelled_of, IsStyled};
+
+use crate::left::left_of;
+use crate::links::{Over, overs_of};
+use crate::looks::{Look, look_of};
+use crate::parts::push_piece;
+use crate::styled::Styled;
+use markdown_brackets::targets::Target;
+use markdown_emphasis::{Flags, flag_pieces};
+use markdown_pieces::cut::cut_text;
+use markdown_pieces::pieces::{Kind, Piece};
+use std::alloc::{AllocError, Global};
+
+/// A link or an image.
+#[derive(Debug, Clone, Copy)]
+pub struct LinkTarget {
+    pub image: bool,
+    /// Where in the leaf's text its closing bracket ends: its destination follows, if it has one of its own.
+    pub at: usize,
+    pub target: Target,
+}
+
+/// What is shown of a leaf.
+#[derive(Drop)]
+pub struct LeafText {
+    pub styled: Styled,
+    /// The links and images, in the order in which they close. The runs say their numbers.
+    pub links: Vec<LinkTarget>,
+}
+
+fn link_target(kind: &Kind, at: usize) -> Option<LinkTarget>
+    requires { at < 2 ^ 63 }
+    ensures { result ≡ link_target kind.now at }
+{
+    match kind {
+        Kind::Closing(Some(link)) => Some(LinkTarget {
+            image: link.image,
+            at: at + 1,
+            target: link.target,
+        }),
+        _ => None,
+    }
+}
+
+fn look_at(flags: &Flags, kind: &Kind, link: Option<usize>) -> Look
+    ensures { result ≡ look_of flags.now (is_code kind.now) link }
+{
+    look_of(flags, matches!(kind, Kind::Code(_)), link)
+}
+
+// Writes down the link that a piece closes.
+fn add_link(links: &mut Vec<LinkTarget>, kind: &Kind, at: usize) -> Result<(), AllocError>
+    requires { at < 2 ^ 63 }
+    ensures { OnOk result ((more : List LinkTarget) → links.new.items ++ more ≡ links.old.items ++ with_link (link_target kind.now at) more) }
+{
+    if let Some(link) = link_target(kind, at) {
+        links.push(link)?;
+    }
+    Ok(())
+}
+
+// What is shown of pieces, one after another.
+fn shown_pieces(
+    alloc: Global,
+    text: &str,
+    pieces: &[Piece],
+    flags: &[Flags],
+    left: &[usize],
+    overs: &[Over],
+) -> Result<LeafText, AllocError>
+    requires cut { AreCut text.now 0 pieces.now }
+    requires flags { length flags.now ≡ length pieces.now }
+    requires left { length left.now ≡ length pieces.now }
+    requires overs { length overs.now ≡ length pieces.now }
+    ensures shown { IfOk result (λ leaf. spelled_of leaf.styled ≡ shown_from text.now 0 pieces.now flags.now left.now overs.now) }
+    ensures styled { IfOk result (λ leaf. IsStyled leaf.styled) }
+    ensures links { IfOk result (λ leaf. leaf.links.items ≡ links_from 0 pieces.now) }
+{
+    let mut styled = Styled::new(alloc);
+    let mut links = Vec::new(alloc);
+    let mut at = 0;
+    for index in 0..pieces.len() {
+        let piece = pieces[index];
+        let look = look_at(&flags[index], &piece.kind, overs[index].link);
+        push_piece(
+            &mut styled,
+            text,
+            at,
+            &piece,
+            left[index],
+            overs[index].opens,
+            &look,
+        )?;
+        add_link(&mut links, &piece.kind, at)?;
+        at += piece.more + 1;
+    }
+    Ok(LeafText { styled, links })
+}
+
+/// What is shown of a leaf's text, with links to these definitions. It has no control character but the newlines that break its lines,
+/// and none that turns the direction of writing.
+///
+/// # Errors
+///
+/// Out of memory is the only error.
+pub fn leaf_text(alloc: Global, labels: &[&str], text: &str) -> Result<LeafText, AllocError>
+    ensures shown { IfOk result (λ leaf. spelled_of leaf.styled ≡ leaf_text (map (λ l. l.now) labels.now) text.now) }
+    ensures printable { IfOk result (λ leaf. are_shown (spelled_of leaf.styled) ≡ true) }
+    ensures styled { IfOk result (λ leaf. IsStyled leaf.styled) }
+    ensures links { IfOk result (λ leaf. leaf.links.items ≡ leaf_links (map (λ l. l.now) labels.now) text.now) }
+{
+    let cut = cut_text(alloc, labels, text)?;
+    let flags = flag_pieces(alloc, &cut.pairs, cut.pieces.len())?;
+    let left = left_of(alloc, &cut.pieces, &cut.pairs)?;
+    let overs = overs_of(alloc, &cut.pieces)?;
+    let leaf = shown_pieces(alloc, text, &cut.pieces, &flags, &left, &overs)?;
+    Ok(leaf)
+}

@@ -1,0 +1,58 @@
+//! How a text looks.
+
+ghost use Rattle.std.specs.Prelude.{◌≡◌};
+ghost use Rattle.markdown_inlines.specs.Looks.{is_same, is_same_link, is_same_look, look_of};
+
+use markdown_emphasis::Flags;
+
+/// How a text looks.
+#[derive(Debug, Clone, Copy)]
+pub struct Look {
+    pub bold: bool,
+    pub italic: bool,
+    pub strikeout: bool,
+    pub code: bool,
+    /// The number of the link or image that it belongs to.
+    pub link: Option<usize>,
+}
+
+// Whether both hold, or none.
+fn is_same(a: bool, b: bool) -> bool
+    ensures { result ≡ is_same a b }
+{
+    if a { b } else { !b }
+}
+
+fn is_same_link(a: Option<usize>, b: Option<usize>) -> bool
+    ensures { result ≡ is_same_link a b }
+{
+    match (a, b) {
+        (Some(a), Some(b)) => a == b,
+        (None, None) => true,
+        _ => false,
+    }
+}
+
+/// Whether two looks are one.
+pub fn is_same_look(a: &Look, b: &Look) -> bool
+    ensures { result ≡ is_same_look a.now b.now }
+{
+    is_same(a.bold, b.bold)
+        && is_same(a.italic, b.italic)
+        && is_same(a.strikeout, b.strikeout)
+        && is_same(a.code, b.code)
+        && is_same_link(a.link, b.link)
+}
+
+/// The look of a text with these flags.
+pub fn look_of(flags: &Flags, code: bool, link: Option<usize>) -> Look
+    ensures { result ≡ look_of flags.now code link }
+{
+    Look {
+        bold: flags.bold,
+        italic: flags.italic,
+        strikeout: flags.strikeout,
+        code,
+        link,
+    }
+}

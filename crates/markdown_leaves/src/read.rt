@@ -1,0 +1,47 @@
+//! Reading the blocks of a text with their lines.
+
+ghost use Rattle.std.specs.Prelude.{◌≡◌, ◌≤◌, IfOk, map, length, drop};
+ghost use Rattle.markdown_blocks.specs.Events.{unread, IsRead};
+ghost use Rattle.markdown_leaves.specs.Parts.{part_of};
+ghost use Rattle.markdown_leaves.specs.Told.{parts_of};
+
+use crate::gather::Gatherer;
+use crate::parts::Part;
+use markdown_blocks::{BlockCursor, Container};
+use std::alloc::{AllocError, Global};
+
+// The containers after so many.
+fn those_after(containers: &[Container], count: usize) -> &[Container]
+    requires { count ≤ length containers.now }
+    ensures { result.now ≡ drop count containers.now }
+{
+    let (_, after) = containers.split_at(count);
+    after
+}
+
+/// The parts of a text, in the order of the source.
+///
+/// # Errors
+///
+/// Out of memory is the only error.
+pub fn read_parts<'s>(alloc: Global, text: &'s [u8]) -> Result<Vec<Part<'s>>, AllocError>
+    ensures { IfOk result (λ parts. map part_of parts.items ≡ parts_of text.entry.now) }
+{
+    let mut cursor = BlockCursor::new(alloc, text);
+    let mut gatherer = Gatherer::new(alloc);
+    loop {
+        let before = cursor.containers().len();
+        match cursor.next_line()? {
+            None => {
+                gatherer.leave_all(alloc, before)?;
+                gatherer.close(alloc)?;
+                return Ok(gatherer.into_parts());
+            }
+            Some(read) => {
+                gatherer.leave_all(alloc, before - read.kept)?;
+                gatherer.enter_all(alloc, those_after(cursor.containers(), read.kept))?;
+                gatherer.line(alloc, read.deed, read.text)?;
+            }
+        }
+    }
+}

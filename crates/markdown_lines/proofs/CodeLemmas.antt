@@ -1,0 +1,58 @@
+-- Spaces and characters of code, one after the other.
+use Rattle.std.proofs.Common.{◌≡◌, ℕ, suc, ◌-◌, ◌<◌, List, [], ◌∷◌, ◌++◌, length, refl, sym, ap, ◌∙◌, arith, append_assoc, append-nil}
+use Rattle.std.specs.Prelude.{chars, encode_utf8_all}
+use Rattle.std.specs.Char.{encode_utf8}
+use Rattle.std.specs.Str.{IsUtf8}
+use Rattle.std.proofs.StrCases.{chars_of_empty}
+use Rattle.std.proofs.lemmas.Str.{chars_past_char, encodes-append}
+use Rattle.markdown_marks.specs.Remaining.{Remaining}
+use Rattle.std.specs.Str.Lossy.{utf8_lossy}
+use Rattle.markdown_lines.specs.Code.{spaces, expanded_char, next_column, expanded, code_text}
+
+spaces_next : (n : ℕ) → encode_utf8_all (spaces (suc n)) ≡ encode_utf8 32 ++ encode_utf8_all (spaces n)
+unfolding spaces
+spaces_next n = refl
+
+expanded_next : (column c : ℕ) (cs : List ℕ) → expanded column (c ∷ cs) ≡ expanded_char column c ++ expanded (next_column column c) cs
+unfolding expanded
+expanded_next column c cs = refl
+
+pub spaces_more : (done now : List ℕ) (more : ℕ) → 0 < more → now ≡ done ++ encode_utf8 32 → now ++ encode_utf8_all (spaces (more - 1)) ≡ done ++ encode_utf8_all (spaces more)
+spaces_more done now more some is =
+    let e : more ≡ suc (more - 1) = omega arith in
+    ap (λ (bs : List ℕ). bs ++ encode_utf8_all (spaces (more - 1))) is
+    ∙ append_assoc done (encode_utf8 32) (encode_utf8_all (spaces (more - 1)))
+    ∙ ap (λ (bs : List ℕ). done ++ bs) (sym (spaces_next (more - 1)))
+    ∙ ap (λ (n : ℕ). done ++ encode_utf8_all (spaces n)) (sym e)
+
+pub spaces_done : (now : List ℕ) (more : ℕ) → more ≡ 0 → now ++ encode_utf8_all (spaces more) ≡ now
+unfolding spaces
+spaces_done now more e = ap (λ (n : ℕ). now ++ encode_utf8_all (spaces n)) e ∙ append-nil now
+
+pub expanded_more : (done shown rest more all : List ℕ) (c column next : ℕ) → IsUtf8 rest → rest ≡ encode_utf8 c ++ more → shown ≡ done ++ encode_utf8_all (expanded_char column c) → next ≡ next_column column c
+    → done ++ encode_utf8_all (expanded column (chars rest)) ≡ all → shown ++ encode_utf8_all (expanded next (chars more)) ≡ all
+expanded_more done shown rest more all c column next utf8 parts is next_is h =
+    let here : List ℕ = expanded_char column c in
+    let others : List ℕ = expanded (next_column column c) (chars more) in
+    ap (λ (n : ℕ). shown ++ encode_utf8_all (expanded n (chars more))) next_is
+    ∙ ap (λ (bs : List ℕ). bs ++ encode_utf8_all others) is
+    ∙ append_assoc done (encode_utf8_all here) (encode_utf8_all others)
+    ∙ ap (λ (bs : List ℕ). done ++ bs) (sym (encodes-append here others))
+    ∙ ap (λ (cs : List ℕ). done ++ encode_utf8_all cs) (sym (expanded_next column c (chars more)))
+    ∙ ap (λ (cs : List ℕ). done ++ encode_utf8_all (expanded column cs)) (sym (chars_past_char rest more c utf8 parts))
+    ∙ h
+
+pub expanded_all : (shown rest all : List ℕ) (column : ℕ) → length rest ≡ 0 → shown ++ encode_utf8_all (expanded column (chars rest)) ≡ all → shown ≡ all
+unfolding expanded
+expanded_all shown rest all column none h = sym (append-nil shown) ∙ sym (ap (λ (cs : List ℕ). shown ++ encode_utf8_all (expanded column cs)) (chars_of_empty rest none)) ∙ h
+
+pub code_is : (zero_text one two three text : List ℕ) (column : ℕ) (line : Remaining) → zero_text ≡ [] → one ≡ zero_text ++ encode_utf8_all (spaces column) → two ≡ one ++ encode_utf8_all (spaces line.pending)
+    → text ≡ utf8_lossy line.bytes → three ≡ two ++ encode_utf8_all (expanded line.pending (chars text)) → three ≡ code_text column line
+unfolding code_text
+code_is zero_text one two three text column line zero_is one_is two_is text_is three_is =
+    let cs = expanded line.pending (chars (utf8_lossy line.bytes)) in
+    three_is
+    ∙ ap (λ (t : List ℕ). two ++ encode_utf8_all (expanded line.pending (chars t))) text_is
+    ∙ ap (λ (t : List ℕ). t ++ encode_utf8_all cs) (two_is ∙ ap (λ (t : List ℕ). t ++ encode_utf8_all (spaces line.pending)) (one_is ∙ ap (λ (t : List ℕ). t ++ encode_utf8_all (spaces column)) zero_is))
+    ∙ ap (λ (t : List ℕ). t ++ encode_utf8_all cs) (sym (encodes-append (spaces column) (spaces line.pending)))
+    ∙ sym (encodes-append (spaces column ++ spaces line.pending) cs)

@@ -1,0 +1,26 @@
+use Rattle.std.proofs.Common.{◌∙◌, ap, arith, map}
+use Rattle.markdown_lines.specs.Lines.{cell_said}
+use Rattle.markdown_lines.specs.Said.{said}
+use Rattle.markdown_lines.specs.Shown.{shown}
+use Rattle.markdown_lines.specs.Tables.{cells}
+use Rattle.markdown_lines.proofs.TableLemmas.{cells_next, ranges_next, lines_kept, row_done}
+use Rattle.markdown_lines.proofs.lines.Lines.push_table_row.Goals as goal
+
+pub loop-more-preserved : goal.loop-more-preserved
+loop-more-preserved c =
+    let all = said c.loop-more.self.runs in
+    let added = said c.in_ok-runs.runs in
+    let whole = said c.add_runs.new.self.runs in
+    let held = c.loop-more.invariant in
+    let adds = c.in_ok-range.ensures in
+    record {
+      same = lines_kept all added whole c.loop-more.self.lines.items c.add_runs.new.self.lines.items c.loop-more.self.within adds.runs (ap (λ v. v.items) adds.lines) ∙ held.same;
+      within = ranges_next all added whole c.loop-more.ranges.items c.push.new.self.items c.in_ok-range.range held.within adds.runs adds.range c.in_ok-push.ensures.items;
+      so_far = cells_next (map (λ l. l.now) c.args.labels.now) c.args.bold all added whole c.loop-more.ranges.items c.push.new.self.items c.in_ok-range.range c.loop-more.rest.now c.after_cell-rest.result.now c.loop-more.more (omega arith)
+          held.within adds.runs adds.range c.in_ok-push.ensures.items c.in_ok-runs.ensures c.after_cell-rest.ensures ∙ held.so_far;
+    }
+
+pub returns : goal.returns
+returns c =
+    row_done (map (λ l. l.now) c.args.labels.now) c.args.bold (shown c.loop-more.self) (shown c.add_line.new.self) (shown c.args.self.now) (map (cell_said (said c.loop-more.self.runs)) c.loop-more.ranges.items)
+    (cells (map (λ l. l.now) c.args.labels.now) c.args.bold c.args.columns c.args.row.now) c.loop-more.rest.now c.loop-more.more (omega arith) c.in_ok-add_line.ensures c.loop-more.invariant.same c.loop-more.invariant.so_far

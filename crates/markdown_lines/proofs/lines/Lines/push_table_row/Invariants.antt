@@ -1,0 +1,17 @@
+use Rattle.std.proofs.Common.{◌≡◌, ◌++◌, map, length, true}
+use Rattle.std.specs.List.{list_all}
+use Rattle.markdown_lines.specs.Lines.{cell_said, is_within}
+use Rattle.markdown_lines.specs.Said.{said}
+use Rattle.markdown_lines.specs.Shown.{shown}
+use Rattle.markdown_lines.specs.Tables.{cells}
+use Rattle.markdown_lines.proofs.lines.Lines.push_table_row.Given as goal
+
+abbrev pub invariant-loop-more : goal.invariant-loop-more
+invariant-loop-more l = record {
+  same : shown l.self ≡ shown l.fn.self;
+  within : list_all (is_within (length (said l.self.runs))) l.ranges.items ≡ true;
+  so_far : map (cell_said (said l.self.runs)) l.ranges.items ++ cells (map (λ l. l.now) l.labels) l.bold l.more l.rest ≡ cells (map (λ l. l.now) l.labels) l.bold l.columns l.row;
+}
+
+abbrev pub decreases-loop-more : goal.decreases-loop-more
+decreases-loop-more l = l.more

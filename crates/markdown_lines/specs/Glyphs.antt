@@ -1,0 +1,59 @@
+-- Characters of a leaf, each with its flags.
+use Rattle.std.specs.Prelude.{ℕ, ◌-◌, Bool, false, not, ◌||◌, ◌&&◌, ◌==◌, List, [], ◌∷◌, ◌++◌, length, take, map, encode_utf8, if◌then◌else◌}
+use Rattle.std.specs.List.{suffix_len}
+use Rattle.markdown_inlines.specs.Looks.{is_same}
+use Rattle.markdown_inlines.specs.Styled.{Shown}
+use Rattle.markdown_inlines.specs.Inlines.{leaf_text}
+use Rattle.mad_md.specs.Flagged.{Run}
+use Rattle.markdown_lines.specs.Runs.{flags_said}
+use Rattle.markdown_lines.specs.declared.glyphs.Glyph.{Glyph}
+use Rattle.markdown_lines.specs.declared.places.RunFlags.{RunFlags}
+
+-- a character that is shown, bold where all are
+abbrev pub glyph_of : Bool → Shown → Glyph
+glyph_of bold s = record { c = s.char; flags = record { bold = bold || s.look.bold; italic = s.look.italic; code = s.look.code; strikeout = s.look.strikeout } }
+
+-- the characters that are shown of a leaf with this text, with links to definitions with these labels
+abbrev pub leaf_glyphs : List (List ℕ) → Bool → List ℕ → List Glyph
+leaf_glyphs labels bold text = map (glyph_of bold) (leaf_text labels text)
+
+-- a break, and a space but in code: it isn't shown at the ends of a row
+abbrev pub is_edge : Glyph → Bool
+is_edge g = (g.c == 10) || ((g.c == 32) && not g.flags.code)
+
+unfoldable pub without_front : List Glyph → List Glyph
+without_front [] = []
+without_front (g ∷ gs) = if is_edge g then without_front gs else g ∷ gs
+
+unfoldable pub without_back : List Glyph → List Glyph
+without_back gs = take (length gs - suffix_len is_edge gs) gs
+
+-- without the breaks and spaces at the ends
+abbrev pub trimmed : List Glyph → List Glyph
+trimmed gs = without_back (without_front gs)
+
+abbrev pub space : Bool → Glyph
+space bold = record { c = 32; flags = record { bold = bold; italic = false; code = false; strikeout = false } }
+
+-- some characters, those of a row that has begun, and then these, with a space for each break
+unfoldable pub spaced_from : Bool → List Glyph → List Glyph → List Glyph → List Glyph
+spaced_from bold shown row [] = shown ++ trimmed row
+spaced_from bold shown row (g ∷ gs) = if g.c == 10 then spaced_from bold ((shown ++ trimmed row) ++ space bold ∷ []) [] gs else spaced_from bold shown (row ++ g ∷ []) gs
+
+-- ---- characters as runs
+
+abbrev pub is_same_flags : RunFlags → RunFlags → Bool
+is_same_flags a b = is_same a.bold b.bold && is_same a.italic b.italic && is_same a.code b.code && is_same a.strikeout b.strikeout
+
+abbrev pub run_with : RunFlags → List ℕ → Run
+run_with flags text = record { flags = flags_said flags; text = text }
+
+-- a run that has begun, and then these characters
+unfoldable pub runs_from : RunFlags → List ℕ → List Glyph → List Run
+runs_from flags text [] = run_with flags text ∷ []
+runs_from flags text (g ∷ gs) = if is_same_flags flags g.flags then runs_from flags (text ++ encode_utf8 g.c) gs else run_with flags text ∷ runs_from g.flags (encode_utf8 g.c) gs
+
+-- characters as runs: neighbours that have the same flags are one
+abbrev pub runs_of : List Glyph → List Run
+runs_of [] = []
+runs_of (g ∷ gs) = runs_from g.flags (encode_utf8 g.c) gs

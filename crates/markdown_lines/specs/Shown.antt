@@ -1,0 +1,9 @@
+-- What lines show, whatever the places of their runs.
+use Rattle.std.specs.Prelude.{List}
+use Rattle.mad_md.specs.Lines.{LineContent}
+use Rattle.markdown_lines.specs.Lines.{lines_said}
+use Rattle.markdown_lines.specs.Said.{said}
+use Rattle.markdown_lines.specs.declared.lines.Lines.{Lines}
+
+abbrev pub shown : Lines → List LineContent
+shown lines = lines_said (said lines.runs) lines.lines.items

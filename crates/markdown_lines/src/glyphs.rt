@@ -1,0 +1,160 @@
+//! Characters of a leaf, each with its flags.
+
+ghost use Rattle.std.specs.Prelude.{◌≡◌, ◌++◌, ◌∷◌, [], IfOk, OnOk, map, chars, reverse};
+ghost use Rattle.markdown_inlines.specs.Styled.{shown_with, spelled_of, IsStyled};
+ghost use Rattle.markdown_lines.specs.Glyphs.{glyph_of, leaf_glyphs, is_edge, without_front, without_back, trimmed, space, spaced_from};
+
+use crate::places::RunFlags;
+use markdown_inlines::inlines::leaf_text;
+use markdown_inlines::looks::Look;
+use markdown_inlines::styled::Styled;
+use std::alloc::{AllocError, Global};
+
+/// A character that is shown, and how.
+#[derive(Debug, Clone, Copy, PartialEq, Eq)]
+pub struct Glyph {
+    pub c: char,
+    pub flags: RunFlags,
+}
+
+// A character of this look, bold where all are.
+fn glyph_of(bold: bool, look: &Look, c: char) -> Glyph
+    ensures { result ≡ glyph_of bold (shown_with look.now c) }
+{
+    Glyph {
+        c,
+        flags: RunFlags {
+            bold: bold || look.bold,
+            italic: look.italic,
+            code: look.code,
+            strikeout: look.strikeout,
+        },
+    }
+}
+
+// Adds the characters of a run, the last one first.
+fn push_back(glyphs: &mut Vec<Glyph>, bold: bool, look: &Look, text: &str) -> Result<(), AllocError>
+    ensures { OnOk result (reverse glyphs.new.items ≡ map (glyph_of bold) (map (shown_with look.now) (chars text.now)) ++ reverse glyphs.old.items) }
+{
+    let mut rest = text.chars();
+    while let Some(c) = rest.next_back() {
+        // What is before it is a text too.
+        let _before = rest.as_str();
+        glyphs.push(glyph_of(bold, look, c))?;
+    }
+    Ok(())
+}
+
+// The characters of a text of runs.
+fn glyphs_of(alloc: Global, bold: bool, styled: &Styled) -> Result<Vec<Glyph>, AllocError>
+    requires { IsStyled styled.now }
+    ensures { IfOk result (λ glyphs. glyphs.items ≡ map (glyph_of bold) (spelled_of styled.now)) }
+{
+    let mut glyphs = Vec::new(alloc);
+    let mut text = styled.text.as_str();
+    let mut count = styled.runs.as_slice().len();
+    while count > 0 {
+        count -= 1;
+        let run = styled.runs[count];
+        push_back(&mut glyphs, bold, &run.look, &text[run.start..])?;
+        text = &text[..run.start];
+    }
+    glyphs.reverse();
+    Ok(glyphs)
+}
+
+/// The characters that are shown of a leaf with this text, and with links to definitions with these labels.
+pub fn leaf_glyphs(
+    alloc: Global,
+    labels: &[&str],
+    bold: bool,
+    text: &str,
+) -> Result<Vec<Glyph>, AllocError>
+    ensures { IfOk result (λ glyphs. glyphs.items ≡ leaf_glyphs (map (λ l. l.now) labels.now) bold text.now) }
+{
+    let leaf = leaf_text(alloc, labels, text)?;
+    let glyphs = glyphs_of(alloc, bold, &leaf.styled)?;
+    Ok(glyphs)
+}
+
+// Whether it isn't shown at the ends of a row: a break, and a space but in code.
+fn is_edge(glyph: Glyph) -> bool
+    ensures { result ≡ is_edge glyph }
+{
+    glyph.c == '\n' || (glyph.c == ' ' && !glyph.flags.code)
+}
+
+#[tactic(auto, unfolding(crate::specs::Glyphs::without_front))]
+fn without_front(glyphs: &[Glyph]) -> &[Glyph]
+    ensures { result.now ≡ without_front glyphs.entry.now }
+{
+    let mut rest = glyphs;
+    while let [glyph, next @ ..] = rest {
+        if !is_edge(*glyph) {
+            return rest;
+        }
+        rest = next;
+    }
+    rest
+}
+
+fn without_back(glyphs: &[Glyph]) -> &[Glyph]
+    ensures { result.now ≡ without_back glyphs.entry.now }
+{
+    let mut len = glyphs.len();
+    while len > 0 && is_edge(glyphs[len - 1]) {
+        len -= 1;
+    }
+    &glyphs[..len]
+}
+
+/// Without the breaks and spaces at the ends.
+pub fn trimmed(glyphs: &[Glyph]) -> &[Glyph]
+    ensures { result.now ≡ trimmed glyphs.entry.now }
+{
+    without_back(without_front(glyphs))
+}
+
+fn space(bold: bool) -> Glyph
+    ensures { result ≡ space bold }
+{
+    Glyph {
+        c: ' ',
+        flags: RunFlags {
+            bold,
+            italic: false,
+            code: false,
+            strikeout: false,
+        },
+    }
+}
+
+// Adds a row without the spaces at its ends.
+fn push_trimmed(glyphs: &mut Vec<Glyph>, row: &[Glyph]) -> Result<(), AllocError>
+    ensures { OnOk result (glyphs.new.items ≡ glyphs.old.items ++ trimmed row.now) }
+{
+    glyphs.extend_from_slice(trimmed(row))?;
+    Ok(())
+}
+
+/// The characters of rows as one row: a space for each break.
+#[tactic(auto, unfolding(crate::specs::Glyphs::spaced_from))]
+pub fn spaced(alloc: Global, bold: bool, glyphs: &[Glyph]) -> Result<Vec<Glyph>, AllocError>
+    ensures { IfOk result (λ spaced. spaced.items ≡ spaced_from bold [] [] glyphs.now) }
+{
+    let mut shown = Vec::new(alloc);
+    let mut row = Vec::new(alloc);
+    let mut rest = glyphs;
+    while let [glyph, next @ ..] = rest {
+        rest = next;
+        if glyph.c == '\n' {
+            push_trimmed(&mut shown, row.as_slice())?;
+            shown.push(space(bold))?;
+            row.clear();
+            continue;
+        }
+        row.push(*glyph)?;
+    }
+    push_trimmed(&mut shown, row.as_slice())?;
+    Ok(shown)
+}

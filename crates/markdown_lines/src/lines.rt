@@ -1,0 +1,228 @@
+//! Lines of runs.
+
+ghost use Rattle.std.specs.Prelude.{◌≡◌, ◌≤◌, ◌+◌, ◌==◌, true, [], ◌∷◌, ◌++◌, IfOk, OnOk, map, length, false};
+ghost use Rattle.std.specs.Str.Lossy.{utf8_lossy};
+ghost use Rattle.markdown_lines.specs.Glyphs.{runs_of};
+ghost use Rattle.markdown_lines.specs.Leaf.{cell_runs};
+ghost use Rattle.markdown_lines.specs.Tables.{cell_of, unbarred, cells};
+ghost use Rattle.markdown_lines.specs.Lines.{line_said, range_of, line_within, all_within};
+ghost use Rattle.markdown_lines.specs.Restyled.{restyled};
+ghost use Rattle.markdown_lines.specs.Said.{said, range_said};
+ghost use Rattle.mad_md.specs.Flagged.{unflagged};
+ghost use Rattle.mad_md.specs.Lines.{content_of, normal, table_row, table_rule, horizontal_rule};
+
+use crate::cells::{after_cell, cell_of, cell_text};
+use crate::glyphs::Glyph;
+use crate::leaf::cell_runs;
+use crate::places::{RunFlags, RunRange};
+use crate::runs::Runs;
+use crate::text::make_line;
+use mad_md::{Alignment, CompositeStyle, Line};
+use std::alloc::{AllocError, Global};
+
+/// A line, and its runs.
+#[derive(Debug, Drop)]
+pub enum MarkdownLine {
+    Normal(CompositeStyle, RunRange),
+    /// A row of a table, by the runs of its cells.
+    Row(Vec<RunRange>),
+    Rule(Vec<Alignment>),
+    HorizontalRule,
+}
+
+/// Lines, and the runs of all of them.
+#[derive(Debug, Drop)]
+pub struct Lines {
+    runs: Runs,
+    lines: Vec<MarkdownLine>,
+    ghost within: { all_within (length (said runs)) lines.items ≡ true },
+}
+
+// The runs of the first cell of a row.
+fn runs_of_cell(alloc: Global, labels: &[&str], bold: bool, row: &[u8]) -> Result<Runs, AllocError>
+    ensures { IfOk result (λ runs. said runs ≡ cell_runs (map (λ l. l.now) labels.now) bold (utf8_lossy (unbarred [] false (cell_of row.now)))) }
+{
+    let text = cell_text(alloc, cell_of(row))?;
+    let shown = String::from_utf8_lossy(alloc, text.as_slice())?;
+    let runs = cell_runs(alloc, labels, bold, shown.as_str())?;
+    Ok(runs)
+}
+
+// The runs of a row.
+fn range_of(line: &MarkdownLine) -> RunRange
+    ensures { result ≡ range_of line.now }
+{
+    match line {
+        MarkdownLine::Normal(_, range) => *range,
+        MarkdownLine::Row(_) | MarkdownLine::Rule(_) | MarkdownLine::HorizontalRule => {
+            RunRange { start: 0, count: 0 }
+        }
+    }
+}
+
+impl Lines {
+    ghost use Rattle.markdown_lines.specs.Shown.{shown};
+
+    /// No lines.
+    pub fn new(alloc: Global) -> Lines
+        ensures { shown result ≡ [] }
+    {
+        Lines {
+            runs: Runs::new(alloc),
+            lines: Vec::new(alloc),
+        }
+    }
+
+    // Adds a line of runs that are there.
+    fn add_line(&mut self, line: MarkdownLine) -> Result<(), AllocError>
+        requires { line_within (length (said self.old.runs)) line ≡ true }
+        ensures { OnOk result (shown self.new ≡ shown self.old ++ line_said (said self.old.runs) line ∷ []) }
+    {
+        self.lines.push(line)?;
+        Ok(())
+    }
+
+    /// Adds a line of some runs.
+    pub fn push_row(
+        &mut self,
+        style: CompositeStyle,
+        from: &Runs,
+        range: RunRange,
+    ) -> Result<(), AllocError>
+        ensures { OnOk result (shown self.new ≡ shown self.old ++ normal (record { style = style; runs = range_said (said from.now) range }) ∷ []) }
+    {
+        let start = self.runs.count();
+        self.runs.add(from, range)?;
+        let count = self.runs.count() - start;
+        self.add_line(MarkdownLine::Normal(style, RunRange { start, count }))?;
+        Ok(())
+    }
+
+    /// Adds a paragraph's line of these characters.
+    pub fn push_glyphs(&mut self, alloc: Global, glyphs: &[Glyph]) -> Result<(), AllocError>
+        ensures { OnOk result (shown self.new ≡ shown self.old ++ normal (record { style = CompositeStyle.Paragraph; runs = runs_of glyphs.now }) ∷ []) }
+    {
+        let start = self.runs.count();
+        self.runs.push_glyphs(alloc, glyphs)?;
+        let count = self.runs.count() - start;
+        self.add_line(MarkdownLine::Normal(CompositeStyle::Paragraph, RunRange { start, count }))?;
+        Ok(())
+    }
+
+    /// Adds a line without text.
+    pub fn push_empty(&mut self, style: CompositeStyle) -> Result<(), AllocError>
+        ensures { OnOk result (shown self.new ≡ shown self.old ++ normal (record { style = style; runs = [] }) ∷ []) }
+    {
+        self.add_line(MarkdownLine::Normal(style, RunRange { start: 0, count: 0 }))?;
+        Ok(())
+    }
+
+    /// Adds a line of one run without flags.
+    pub fn push_text(&mut self, style: CompositeStyle, text: &str) -> Result<(), AllocError>
+        ensures { OnOk result (shown self.new ≡ shown self.old ++ normal (record { style = style; runs = record { flags = unflagged; text = text.now } ∷ [] }) ∷ []) }
+    {
+        let start = self.runs.count();
+        self.runs.push(RunFlags::NONE, text)?;
+        self.add_line(MarkdownLine::Normal(style, RunRange { start, count: 1 }))?;
+        Ok(())
+    }
+
+    /// Whether there are none.
+    pub fn is_empty(&self) -> bool
+        ensures { result ≡ (length (shown self.now) == 0) }
+    {
+        self.lines.as_slice().is_empty()
+    }
+
+    /// Adds a line for each of these rows, the first of them in its own style.
+    pub fn push_rows(
+        &mut self,
+        first: CompositeStyle,
+        others: CompositeStyle,
+        rows: &Lines,
+    ) -> Result<(), AllocError>
+        ensures { OnOk result (shown self.new ≡ shown self.old ++ restyled first others (shown rows.now)) }
+    {
+        let mut style = first;
+        let mut index = 0;
+        while index < rows.lines.as_slice().len() {
+            let range = range_of(&rows.lines[index]);
+            self.push_row(style, &rows.runs, range)?;
+            style = others;
+            index += 1;
+        }
+        Ok(())
+    }
+
+    // Adds the runs of a cell, and says which they are.
+    fn add_runs(&mut self, from: &Runs) -> Result<RunRange, AllocError>
+        ensures runs { OnOk result (said self.new.runs ≡ said self.old.runs ++ said from.now) }
+        ensures lines { self.new.lines ≡ self.old.lines }
+        ensures range { IfOk result (λ range. range ≡ record { start = length (said self.old.runs); count = length (said from.now) }) }
+    {
+        let start = self.runs.count();
+        let count = from.count();
+        self.runs.add(from, RunRange { start: 0, count })?;
+        Ok(RunRange { start, count })
+    }
+
+    /// Adds a row of a table.
+    pub fn push_table_row(
+        &mut self,
+        alloc: Global,
+        labels: &[&str],
+        columns: usize,
+        bold: bool,
+        row: &[u8],
+    ) -> Result<(), AllocError>
+        ensures { OnOk result (shown self.new ≡ shown self.old ++ table_row (cells (map (λ l. l.now) labels.now) bold columns row.now) ∷ []) }
+    {
+        let mut ranges = Vec::new(alloc);
+        let mut rest = row;
+        let mut more = columns;
+        while more > 0 {
+            let runs = runs_of_cell(alloc, labels, bold, rest)?;
+            let range = self.add_runs(&runs)?;
+            ranges.push(range)?;
+            rest = after_cell(rest);
+            more -= 1;
+        }
+        self.add_line(MarkdownLine::Row(ranges))?;
+        Ok(())
+    }
+
+    /// Adds a rule of a table.
+    pub fn push_table_rule(
+        &mut self,
+        alloc: Global,
+        alignments: &[Alignment],
+    ) -> Result<(), AllocError>
+        ensures { OnOk result (shown self.new ≡ shown self.old ++ table_rule alignments.now ∷ []) }
+    {
+        let rule = Vec::from_slice(alloc, alignments)?;
+        self.add_line(MarkdownLine::Rule(rule))?;
+        Ok(())
+    }
+
+    /// Adds a rule across the page.
+    pub fn push_horizontal_rule(&mut self) -> Result<(), AllocError>
+        ensures { OnOk result (shown self.new ≡ shown self.old ++ horizontal_rule ∷ []) }
+    {
+        self.add_line(MarkdownLine::HorizontalRule)?;
+        Ok(())
+    }
+
+    /// The lines as the library has them.
+    pub fn text_lines(&self, alloc: Global) -> Result<Vec<Line<'_>>, AllocError>
+        ensures { IfOk result (λ made. map content_of made.items ≡ shown self.now) }
+    {
+        let mut made = Vec::new(alloc);
+        let mut index = 0;
+        while index < self.lines.as_slice().len() {
+            let line = make_line(alloc, &self.runs, &self.lines[index])?;
+            made.push(line)?;
+            index += 1;
+        }
+        Ok(made)
+    }
+}

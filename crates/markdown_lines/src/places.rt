@@ -1,0 +1,72 @@
+//! Where runs are.
+
+ghost use Rattle.std.specs.Prelude.{◌≡◌};
+ghost use Rattle.mad_md.specs.Flagged;
+ghost use Rattle.markdown_inlines.specs.Looks.{is_same};
+ghost use Rattle.markdown_lines.specs.Glyphs.{is_same_flags};
+ghost use Rattle.markdown_lines.specs.Runs.{flags_said};
+
+use mad_md::Compound;
+
+/// The flags of a run.
+#[derive(Debug, Clone, Copy, PartialEq, Eq)]
+pub struct RunFlags {
+    pub bold: bool,
+    pub italic: bool,
+    pub code: bool,
+    pub strikeout: bool,
+}
+
+impl RunFlags {
+    /// No flag is on.
+    pub const NONE: RunFlags = RunFlags {
+        bold: false,
+        italic: false,
+        code: false,
+        strikeout: false,
+    };
+}
+
+/// Where a run is in a text, in bytes, and its flags.
+#[derive(Debug, Clone, Copy, PartialEq, Eq)]
+pub struct RunPlace {
+    pub flags: RunFlags,
+    pub start: usize,
+    pub end: usize,
+}
+
+/// Some of the runs, one after the other.
+#[derive(Debug, Clone, Copy, PartialEq, Eq)]
+pub struct RunRange {
+    pub start: usize,
+    pub count: usize,
+}
+
+// The flags of a compound.
+pub(crate) fn flags_of(compound: Compound<'_>) -> RunFlags
+    ensures { flags_said result ≡ Flagged.flags_of compound.entry }
+{
+    RunFlags {
+        bold: compound.bold,
+        italic: compound.italic,
+        code: compound.code,
+        strikeout: compound.strikeout,
+    }
+}
+
+// Whether both hold, or none.
+fn is_same(a: bool, b: bool) -> bool
+    ensures { result ≡ is_same a b }
+{
+    if a { b } else { !b }
+}
+
+// Whether the flags are the same.
+pub(crate) fn is_same_flags(a: RunFlags, b: RunFlags) -> bool
+    ensures { result ≡ is_same_flags a b }
+{
+    is_same(a.bold, b.bold)
+        && is_same(a.italic, b.italic)
+        && is_same(a.code, b.code)
+        && is_same(a.strikeout, b.strikeout)
+}

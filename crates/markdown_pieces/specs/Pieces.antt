@@ -1,0 +1,118 @@
+-- What a rest of a text begins with, where it is no bracket.
+use Rattle.std.specs.Prelude.{ℕ, ◌+◌, ◌-◌, ◌==◌, ◌||◌, ◌&&◌, not, nat_le, Bool, if◌then◌else◌, List, [], ◌∷◌, drop, take, slice_index, chars, Option, Some, None}
+use Rattle.std.specs.List.{prefix_len}
+use Rattle.markdown_emphasis.specs.declared.runs.Sign.{Sign}
+use Rattle.markdown_emphasis.specs.declared.runs.Sign.TheVariants.{Star, Underscore, Tilde}
+use Rattle.markdown_runs.specs.declared.flanking.Neighbor.{Neighbor}
+use Rattle.markdown_runs.specs.Flanking.{beside, run_of}
+use Rattle.markdown_marks.specs.Bytes.{first, is_blank_byte, count_in_front}
+use Rattle.markdown_spans.specs.declared.code.Code.{Code}
+use Rattle.markdown_spans.specs.declared.entities.Escape.{Escape}
+use Rattle.markdown_spans.specs.declared.entities.Escape.TheVariants.{Sign as SignEscape, Break, Itself}
+use Rattle.markdown_spans.specs.declared.entities.Entity.{Entity}
+use Rattle.markdown_spans.specs.Code.{code_of}
+use Rattle.markdown_spans.specs.Entities.{escape_of, entity_of}
+use Rattle.markdown_spans.specs.Addresses.{address_len}
+use Rattle.markdown_spans.specs.Tags.{tag_len, is_break}
+use Rattle.markdown_pieces.specs.declared.pieces.Kind.{Kind}
+use Rattle.markdown_pieces.specs.declared.pieces.Kind.TheVariants.{Plain, Shown, Code as CodeKind, Address, Tag, Soft, Hard, Run as RunKind}
+use Rattle.markdown_pieces.specs.declared.pieces.Piece.{Piece}
+
+abbrev pub piece : Kind → ℕ → Piece
+piece kind more = record { kind = kind; more = more }
+
+-- nothing but itself: none of ` * _ ~ \ & < [ ] !, and no blank or end of a line
+abbrev pub is_plain : ℕ → Bool
+is_plain b = not ((b == 96) || (b == 42) || (b == 95) || (b == 126) || (b == 92) || (b == 38) || (b == 60) || (b == 91) || (b == 93) || (b == 33) || (b == 10) || (b == 32) || (b == 9))
+
+-- the last character, and the first
+abbrev pub last_after : ℕ → List ℕ → ℕ
+last_after c [] = c
+last_after c (d ∷ ds) = last_after d ds
+
+abbrev pub last_char : List ℕ → Option ℕ
+last_char [] = None
+last_char (c ∷ cs) = Some (last_after c cs)
+
+abbrev pub first_char : List ℕ → Option ℕ
+first_char [] = None
+first_char (c ∷ cs) = Some c
+
+-- what stands before a place, and after it
+abbrev pub before_at : List ℕ → ℕ → Neighbor
+before_at text at = beside (last_char (chars (take at text)))
+
+abbrev pub after_at : List ℕ → ℕ → Neighbor
+after_at text at = beside (first_char (chars (drop at text)))
+
+abbrev pub run_piece : Sign → List ℕ → ℕ → List ℕ → Piece
+run_piece sign text at rest =
+    let count = count_in_front (first rest) rest in
+    piece (RunKind (run_of sign count (before_at text at) (after_at text (at + count)))) (count - 1)
+
+abbrev pub code_by : List ℕ → Option Code → Piece
+code_by rest None = piece Plain (count_in_front 96 rest - 1)
+code_by rest (Some code) = piece (CodeKind code) ((code.marks + code.len + code.marks) - 1)
+
+-- a code span, or a run of backquotes without a partner
+abbrev pub code_piece : List ℕ → Piece
+code_piece rest = code_by rest (code_of rest)
+
+abbrev pub escape_by : Escape → Piece
+escape_by (SignEscape b) = piece (Shown b None) 1
+escape_by Break = piece Hard 1
+escape_by Itself = piece Plain 0
+
+abbrev pub escape_piece : List ℕ → Piece
+escape_piece after = escape_by (escape_of after)
+
+abbrev pub entity_by : Option Entity → Piece
+entity_by None = piece Plain 0
+entity_by (Some entity) = piece (Shown entity.shown entity.second) entity.len
+
+abbrev pub entity_piece : List ℕ → Piece
+entity_piece after = entity_by (entity_of after)
+
+abbrev pub tag_by : List ℕ → Option ℕ → Piece
+tag_by after None = piece Plain 0
+tag_by after (Some len) = piece (Tag (is_break after)) len
+
+-- a tag, or an angle bracket
+abbrev pub tag_piece : List ℕ → Piece
+tag_piece after = tag_by after (tag_len after)
+
+abbrev pub angle_by : List ℕ → Option ℕ → Piece
+angle_by after None = tag_piece after
+angle_by after (Some len) = piece (Address len) (len + 1)
+
+-- an address, a tag, or an angle bracket
+abbrev pub angle_piece : List ℕ → Piece
+angle_piece after = angle_by after (address_len after)
+
+-- blanks that end with two spaces
+abbrev pub is_hard : List ℕ → ℕ → Bool
+is_hard rest blanks = nat_le 2 blanks && (slice_index rest (blanks - 1) == 32) && (slice_index rest (blanks - 2) == 32)
+
+-- blanks, and the end of a line if it follows
+abbrev pub blank_piece : List ℕ → Piece
+blank_piece rest =
+    let blanks = prefix_len is_blank_byte rest in
+    if first (drop blanks rest) == 10 then (if is_hard rest blanks then piece Hard blanks else piece Soft blanks) else piece Plain (blanks - 1)
+
+abbrev pub no_mark_piece : ℕ → List ℕ → Piece
+no_mark_piece b rest = if (b == 32) || (b == 9) || (b == 10) then blank_piece rest else piece Plain (prefix_len is_plain (drop 1 rest))
+
+-- what the text from a place on begins with, where it is no bracket
+abbrev pub piece_by : ℕ → List ℕ → ℕ → List ℕ → Piece
+piece_by b text at rest =
+    if b == 96 then code_piece rest
+    else if b == 42 then run_piece Star text at rest
+    else if b == 95 then run_piece Underscore text at rest
+    else if b == 126 then run_piece Tilde text at rest
+    else if b == 92 then escape_piece (drop 1 rest)
+    else if b == 38 then entity_piece (drop 1 rest)
+    else if b == 60 then angle_piece (drop 1 rest)
+    else no_mark_piece b rest
+
+abbrev pub piece_at : List ℕ → ℕ → List ℕ → Piece
+piece_at text at rest = piece_by (slice_index text at) text at rest

@@ -1,0 +1,7 @@
+-- What a mapper has shown.
+use Rattle.markdown_reader.specs.Mapping.{Mapping}
+use Rattle.markdown_lines.specs.Shown.{shown}
+use Rattle.markdown_reader.specs.declared.mapper.Mapper.{Mapper}
+
+abbrev pub mapping_of : Mapper → Mapping
+mapping_of m = record { lines = shown m.lines; places = m.places.items; marks = m.marks.items; mark_apart = m.mark_apart; since = m.since; apart = m.apart; before = m.before }

@@ -1,0 +1,92 @@
+//! Code spans.
+
+ghost use Rattle.std.specs.Prelude.{◌≡◌, ◌+◌, ◌≤◌, IfOk, IfSome, length, drop};
+ghost use Rattle.std.specs.List.{list_all};
+ghost use Rattle.markdown_spans.specs.Ticks.{AreLasts};
+ghost use Rattle.markdown_spans.specs.Code.{code_of, spaced, is_space, is_padded, inner, unpadded, code_text};
+
+use crate::ticks::first_run;
+use markdown_marks::bytes::{count_in_front, tail};
+use std::alloc::{AllocError, Global};
+
+/// A code span at the beginning of a rest.
+#[derive(Debug, Clone, Copy)]
+pub struct Code {
+    /// How many backquotes it begins and ends with.
+    pub marks: usize,
+    /// How many bytes are between them.
+    pub len: usize,
+}
+
+/// The code span that a run of backquotes begins, if one of the same length follows.
+pub fn code_at(lasts: &[usize], text: &[u8], at: usize) -> Option<Code>
+    requires lasts { AreLasts lasts.now text.now }
+    requires within { at ≤ length text.now }
+    ensures value { result ≡ code_of (drop at text.now) }
+    ensures within { IfSome result (λ code. at + code.marks + code.len + code.marks ≤ length text.now) }
+{
+    let marks = count_in_front(tail(text, at), b'`');
+    if marks == 0 {
+        return None;
+    }
+    match first_run(lasts, text, at + marks, marks) {
+        Some(len) => Some(Code { marks, len }),
+        None => None,
+    }
+}
+
+// The end of a line is a space in code.
+pub(crate) fn spaced(b: u8) -> u8
+    ensures { result ≡ spaced b }
+{
+    if b == b'\n' { b' ' } else { b }
+}
+
+// Whether it is nothing but spaces and ends of lines.
+fn is_space_alone(bytes: &[u8]) -> bool
+    ensures { result ≡ list_all is_space bytes.now }
+{
+    bytes.iter().all(|b| spaced(*b) == b' ')
+}
+
+/// Whether there's a space at both ends that doesn't belong to it.
+pub fn is_padded(bytes: &[u8]) -> bool
+    ensures { result ≡ is_padded bytes.now }
+{
+    !bytes.is_empty()
+        && spaced(bytes[0]) == b' '
+        && spaced(bytes[bytes.len() - 1]) == b' '
+        && !is_space_alone(bytes)
+}
+
+// Without the first byte and the last.
+fn inner(bytes: &[u8]) -> &[u8]
+    ensures { result.now ≡ inner bytes.now }
+{
+    if bytes.len() < 2 {
+        bytes
+    } else {
+        &bytes[1..bytes.len() - 1]
+    }
+}
+
+fn unpadded(bytes: &[u8]) -> &[u8]
+    ensures { result.now ≡ unpadded bytes.now }
+{
+    if is_padded(bytes) {
+        inner(bytes)
+    } else {
+        bytes
+    }
+}
+
+/// The text of a code span, from what is between its marks.
+///
+/// # Errors
+///
+/// Out of memory is the only error.
+pub fn code_text(alloc: Global, bytes: &[u8]) -> Result<Vec<u8>, AllocError>
+    ensures { IfOk result (λ text. text.items ≡ code_text bytes.now) }
+{
+    unpadded(bytes).iter().map(|b| spaced(*b)).collect(alloc)
+}
