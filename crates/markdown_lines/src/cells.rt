@@ -3,9 +3,9 @@
 ghost use Rattle.std.specs.Prelude.{◌≡◌, ◌≤◌, ◌==◌, ◌&&◌, [], ◌∷◌, ◌++◌, false, not, IfOk, OnOk, length, drop, if◌then◌else◌};
 ghost use Rattle.markdown_lines.specs.Tables.{row_of, cell_len, cell_of, after_cell, with_waiting, with_byte, unbarred, last_byte, alignment, alignment_of, alignments};
 
+use mad_md::Alignment;
 use markdown_marks::bytes::{first, tail, without_blanks};
 use markdown_marks::headings::without_end;
-use mad_md::Alignment;
 use std::alloc::{AllocError, Global};
 
 /// A row without the blanks in front and the bar after them.

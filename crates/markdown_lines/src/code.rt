@@ -6,9 +6,9 @@ ghost use Rattle.markdown_lines.specs.Code.{spaces, expanded_char, next_column, 
 ghost use Rattle.markdown_lines.specs.Shown.{shown};
 
 use crate::lines::Lines;
+use mad_md::CompositeStyle;
 use markdown_inlines::printable::shown_char;
 use markdown_marks::rest::Rest;
-use mad_md::CompositeStyle;
 use std::alloc::{AllocError, Global};
 
 fn push_spaces(text: &mut String, count: usize) -> Result<(), AllocError>

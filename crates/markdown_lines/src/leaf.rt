@@ -11,10 +11,10 @@ ghost use Rattle.markdown_lines.specs.Shown.{shown};
 use crate::glyphs::{Glyph, leaf_glyphs, spaced, trimmed};
 use crate::lines::Lines;
 use crate::runs::Runs;
+use mad_md::CompositeStyle;
 use markdown_inlines::printable::shown_char;
 use markdown_marks::bytes::{is_blank, without_blanks};
 use markdown_marks::rest::Rest;
-use mad_md::CompositeStyle;
 use std::alloc::{AllocError, Global};
 
 /// The text, each character as it is shown.

@@ -7,9 +7,9 @@ ghost use Rattle.markdown_lines.specs.Tables.{shown_cells, row_said, body, ruled
 
 use crate::cells::{alignments, row_of};
 use crate::lines::Lines;
+use mad_md::Alignment;
 use markdown_marks::rest::Rest;
 use markdown_marks::tables::cell_count;
-use mad_md::Alignment;
 use std::alloc::{AllocError, Global};
 
 // How many cells are shown of a row.

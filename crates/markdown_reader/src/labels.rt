@@ -9,9 +9,9 @@ ghost use Rattle.markdown_reader.specs.Labels.{label_of, with_label, labels_in, 
 use markdown_brackets::labels::normal;
 use markdown_leaves::defining::joined;
 use markdown_leaves::{Kind, Part};
+use markdown_lines::cells::without_first;
 use markdown_marks::definitions::{after_definition, after_label};
 use markdown_marks::rest::Rest;
-use markdown_lines::cells::without_first;
 use std::alloc::{AllocError, Global};
 
 // So many of the first bytes.

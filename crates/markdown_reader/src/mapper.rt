@@ -11,16 +11,16 @@ ghost use Rattle.markdown_lines.specs.Restyled.{empty_line};
 ghost use Rattle.markdown_lines.specs.Shown.{shown};
 ghost use Rattle.markdown_lines.specs.Tables.{table_lines};
 
+use mad_md::CompositeStyle;
 use markdown_blocks::Container;
 use markdown_leaves::defining::joined;
 use markdown_leaves::{Kind, Part};
-use markdown_marks::headings::without_end;
-use markdown_marks::rest::Rest;
-use mad_md::CompositeStyle;
 use markdown_lines::code::push_code_lines;
 use markdown_lines::leaf::{html_rows, leaf_rows};
 use markdown_lines::lines::Lines;
 use markdown_lines::tables::push_table;
+use markdown_marks::headings::without_end;
+use markdown_marks::rest::Rest;
 use std::alloc::{AllocError, Global};
 
 /// Where a leaf stands.

@@ -8,8 +8,8 @@ ghost use Rattle.markdown_reader.specs.Printed.{ArePrinted};
 
 use crate::labels::{labels_of, texts_of};
 use crate::mapper::Mapper;
-use markdown_leaves::read_parts;
 use mad_md::Text;
+use markdown_leaves::read_parts;
 use markdown_lines::lines::Lines;
 use std::alloc::{AllocError, Global};
 

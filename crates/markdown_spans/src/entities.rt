@@ -5,8 +5,8 @@ ghost use Rattle.std.specs.List.{prefix_len};
 ghost use Rattle.std.specs.Char.{is_ascii_hexdigit, is_ascii_alphanumeric};
 ghost use Rattle.markdown_spans.specs.Entities.{escape_of, digit, value_after, char_of, hexadecimal, decimal, numeric, named, entity_of};
 
-use markdown_marks::bytes::{digits_in_front, first, number, tail};
 use markdown_entities::characters_named;
+use markdown_marks::bytes::{digits_in_front, first, number, tail};
 
 /// What a backslash is, by what follows it.
 #[derive(Debug, Clone, Copy)]
