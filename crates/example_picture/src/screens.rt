@@ -4,7 +4,7 @@ use std::alloc::Global;
 use std::io::{Error as IoError, ErrorKind};
 use termimad::screen::{NotPlain, Screen};
 use termimad::{Area, CutOut, Error, MadSkin, ScriptSource, TextView};
-use termimad_page_run::{Sheet, run};
+use termimad_page_run::{Grammar, Sheet, run};
 
 const COLUMNS: u16 = 60;
 
@@ -33,7 +33,8 @@ pub fn page_screen(alloc: Global, text: &str) -> Result<Screen, Error> {
     let skin = MadSkin::default();
     let sheet = Sheet {
         name: "help.md",
-        markdown: text,
+        text,
+        grammar: Grammar::Lines,
         skin: &skin,
         columns: COLUMNS,
         rows: PAGE_ROWS,

@@ -169,9 +169,9 @@ wheel_place _ p = record { columns = refl; rows = refl }
 
 -- ---- sessions
 
-kept_order : (skin : MadSkin) (markdown : List ℕ) (s new : State) → new.lines ≡ s.lines → IsSamePlace s.page new.page → IsKept s.field new.field → IsOrderly skin markdown s → IsOrderly skin markdown new
-kept_order skin markdown s new same place kept h = record {
-  lines = subst (λ (n : ℕ). IsLaidFor skin markdown n new.lines) (sym place.columns) (subst (λ (l : List FmtLine). IsLaidFor skin markdown s.page.columns l) (sym same) h.lines);
+kept_order : (skin : MadSkin) (text : List LineContent) (s new : State) → new.lines ≡ s.lines → IsSamePlace s.page new.page → IsKept s.field new.field → IsOrderly skin text s → IsOrderly skin text new
+kept_order skin text s new same place kept h = record {
+  lines = subst (λ (n : ℕ). IsLaidFor skin text n new.lines) (sym place.columns) (subst (λ (l : List FmtLine). IsLaidFor skin text s.page.columns l) (sym same) h.lines);
   field = record {
     area = kept.area ∙ (h.field.area ∙ (ap (λ (n : ℕ). last_row n s.page.rows) (sym place.columns) ∙ ap (λ (n : ℕ). last_row new.page.columns n) (sym place.rows)));
     typed = kept.typed;
@@ -179,29 +179,29 @@ kept_order skin markdown s new same place kept h = record {
 }
 
 -- another page, or another thing that is sought
-same_order : (skin : MadSkin) (markdown : List ℕ) (s mid new : State) → new ≡ mid → mid.lines ≡ s.lines → IsSamePlace s.page mid.page → IsKept s.field mid.field → IsOrderly skin markdown s → IsOrderly skin markdown new
-same_order skin markdown s mid new e same place kept h = subst (λ (x : State). IsOrderly skin markdown x) (sym e) (kept_order skin markdown s mid same place kept h)
+same_order : (skin : MadSkin) (text : List LineContent) (s mid new : State) → new ≡ mid → mid.lines ≡ s.lines → IsSamePlace s.page mid.page → IsKept s.field mid.field → IsOrderly skin text s → IsOrderly skin text new
+same_order skin text s mid new e same place kept h = subst (λ (x : State). IsOrderly skin text x) (sym e) (kept_order skin text s mid same place kept h)
 
 still : (p : Page) → IsSamePlace p p
 still p = record { columns = refl; rows = refl }
 
-asked_order : (skin : MadSkin) (markdown : List ℕ) (ask : Ask) (s new : State) → IsAsked ask s new → IsOrderly skin markdown s → IsOrderly skin markdown new
-asked_order skin markdown Search s new e h = subst (λ (x : State). IsOrderly skin markdown x) (sym e) (record { lines = h.lines; field = record { area = refl; typed = tt } })
-asked_order skin markdown Next s new (row, missing, next, said, e) h = same_order skin markdown s _ new e refl (record { columns = refl; rows = refl }) (stays s.field h.field.typed) h
-asked_order skin markdown Previous s new (row, missing, previous, said, e) h = same_order skin markdown s _ new e refl (record { columns = refl; rows = refl }) (stays s.field h.field.typed) h
-asked_order skin markdown Forget s new e h = same_order skin markdown s _ new e refl (still s.page) (stays s.field h.field.typed) h
-asked_order skin markdown _ s new e h = same_order skin markdown s s new e refl (still s.page) (stays s.field h.field.typed) h
+asked_order : (skin : MadSkin) (text : List LineContent) (ask : Ask) (s new : State) → IsAsked ask s new → IsOrderly skin text s → IsOrderly skin text new
+asked_order skin text Search s new e h = subst (λ (x : State). IsOrderly skin text x) (sym e) (record { lines = h.lines; field = record { area = refl; typed = tt } })
+asked_order skin text Next s new (row, missing, next, said, e) h = same_order skin text s _ new e refl (record { columns = refl; rows = refl }) (stays s.field h.field.typed) h
+asked_order skin text Previous s new (row, missing, previous, said, e) h = same_order skin text s _ new e refl (record { columns = refl; rows = refl }) (stays s.field h.field.typed) h
+asked_order skin text Forget s new e h = same_order skin text s _ new e refl (still s.page) (stays s.field h.field.typed) h
+asked_order skin text _ s new e h = same_order skin text s s new e refl (still s.page) (stays s.field h.field.typed) h
 
-key_order : (skin : MadSkin) (markdown : List ℕ) (key : KeyEvent) (s new : State) → IsKeyStep key s new → IsOrderly skin markdown s → IsOrderly skin markdown new
-key_order skin markdown key s new step h =
-    asked_order skin markdown (after_key key s.page).ask (record s { page = (after_key key s.page).page }) new step
-    (kept_order skin markdown s (record s { page = (after_key key s.page).page }) refl (key_place key s.page) (stays s.field h.field.typed) h)
+key_order : (skin : MadSkin) (text : List LineContent) (key : KeyEvent) (s new : State) → IsKeyStep key s new → IsOrderly skin text s → IsOrderly skin text new
+key_order skin text key s new step h =
+    asked_order skin text (after_key key s.page).ask (record s { page = (after_key key s.page).page }) new step
+    (kept_order skin text s (record s { page = (after_key key s.page).page }) refl (key_place key s.page) (stays s.field h.field.typed) h)
 
 -- a key that is no character
-other_order : (skin : MadSkin) (markdown : List ℕ) (code : KeyCode) (key : KeyEvent) (s new : State) → ((c : ℕ) → code ≡ Char c → ⊥) → key.code ≡ code → new ≡ record s { field = typed key s.field } → IsOrderly skin markdown s
-    → IsOrderly skin markdown new
-other_order skin markdown code key s new other is e h =
-    same_order skin markdown s (record s { field = typed key s.field }) new e refl (still s.page) (typed_kept key s.field (λ c at. absurd (other c (sym is ∙ at))) h.field.typed) h
+other_order : (skin : MadSkin) (text : List LineContent) (code : KeyCode) (key : KeyEvent) (s new : State) → ((c : ℕ) → code ≡ Char c → ⊥) → key.code ≡ code → new ≡ record s { field = typed key s.field } → IsOrderly skin text s
+    → IsOrderly skin text new
+other_order skin text code key s new other is e h =
+    same_order skin text s (record s { field = typed key s.field }) new e refl (still s.page) (typed_kept key s.field (λ c at. absurd (other c (sym is ∙ at))) h.field.typed) h
 
 char_field : (c : ℕ) (key : KeyEvent) (f : Field) (b : Bool) → key.code ≡ Char c → (b ≡ false → 0 < char_columns c) → TakeColumns f.content.text → IsKept f (if b then f else typed key f)
 char_field c key f true is takes h = stays f h
@@ -210,31 +210,31 @@ char_field c key f false is takes h = typed_kept key f (λ d at. let same : Char
 takes_some : (c : ℕ) → (char_columns c == 0) ≡ false → 0 < char_columns c
 takes_some c e = grind (arith, nat_tests)
 
-type_order : (skin : MadSkin) (markdown : List ℕ) (code : KeyCode) (key : KeyEvent) (s new : State) → key.code ≡ code → IsTypeStep code key s new → IsOrderly skin markdown s → IsOrderly skin markdown new
-type_order skin markdown Enter key s new is step h =
-    asked_order skin markdown Next (record s { is_typing = false; sought = encode_utf8_all s.field.content.text }) new step (record { lines = h.lines; field = record { area = h.field.area; typed = h.field.typed } })
-type_order skin markdown Esc key s new is e h = same_order skin markdown s _ new e refl (still s.page) (stays s.field h.field.typed) h
-type_order skin markdown (Char c) key s new is e h =
-    same_order skin markdown s _ new e refl (still s.page) (char_field c key s.field (char_columns c == 0) is (takes_some c) h.field.typed) h
-type_order skin markdown Backspace key s new is e h = other_order skin markdown Backspace key s new (λ c at. cc) is e h
-type_order skin markdown Delete key s new is e h = other_order skin markdown Delete key s new (λ c at. cc) is e h
-type_order skin markdown Insert key s new is e h = other_order skin markdown Insert key s new (λ c at. cc) is e h
-type_order skin markdown Tab key s new is e h = other_order skin markdown Tab key s new (λ c at. cc) is e h
-type_order skin markdown BackTab key s new is e h = other_order skin markdown BackTab key s new (λ c at. cc) is e h
-type_order skin markdown Home key s new is e h = other_order skin markdown Home key s new (λ c at. cc) is e h
-type_order skin markdown End key s new is e h = other_order skin markdown End key s new (λ c at. cc) is e h
-type_order skin markdown Up key s new is e h = other_order skin markdown Up key s new (λ c at. cc) is e h
-type_order skin markdown Down key s new is e h = other_order skin markdown Down key s new (λ c at. cc) is e h
-type_order skin markdown Left key s new is e h = other_order skin markdown Left key s new (λ c at. cc) is e h
-type_order skin markdown Right key s new is e h = other_order skin markdown Right key s new (λ c at. cc) is e h
-type_order skin markdown PageUp key s new is e h = other_order skin markdown PageUp key s new (λ c at. cc) is e h
-type_order skin markdown PageDown key s new is e h = other_order skin markdown PageDown key s new (λ c at. cc) is e h
-type_order skin markdown (F n) key s new is e h = other_order skin markdown (F n) key s new (λ c at. cc) is e h
-type_order skin markdown Null key s new is e h = other_order skin markdown Null key s new (λ c at. cc) is e h
+type_order : (skin : MadSkin) (text : List LineContent) (code : KeyCode) (key : KeyEvent) (s new : State) → key.code ≡ code → IsTypeStep code key s new → IsOrderly skin text s → IsOrderly skin text new
+type_order skin text Enter key s new is step h =
+    asked_order skin text Next (record s { is_typing = false; sought = encode_utf8_all s.field.content.text }) new step (record { lines = h.lines; field = record { area = h.field.area; typed = h.field.typed } })
+type_order skin text Esc key s new is e h = same_order skin text s _ new e refl (still s.page) (stays s.field h.field.typed) h
+type_order skin text (Char c) key s new is e h =
+    same_order skin text s _ new e refl (still s.page) (char_field c key s.field (char_columns c == 0) is (takes_some c) h.field.typed) h
+type_order skin text Backspace key s new is e h = other_order skin text Backspace key s new (λ c at. cc) is e h
+type_order skin text Delete key s new is e h = other_order skin text Delete key s new (λ c at. cc) is e h
+type_order skin text Insert key s new is e h = other_order skin text Insert key s new (λ c at. cc) is e h
+type_order skin text Tab key s new is e h = other_order skin text Tab key s new (λ c at. cc) is e h
+type_order skin text BackTab key s new is e h = other_order skin text BackTab key s new (λ c at. cc) is e h
+type_order skin text Home key s new is e h = other_order skin text Home key s new (λ c at. cc) is e h
+type_order skin text End key s new is e h = other_order skin text End key s new (λ c at. cc) is e h
+type_order skin text Up key s new is e h = other_order skin text Up key s new (λ c at. cc) is e h
+type_order skin text Down key s new is e h = other_order skin text Down key s new (λ c at. cc) is e h
+type_order skin text Left key s new is e h = other_order skin text Left key s new (λ c at. cc) is e h
+type_order skin text Right key s new is e h = other_order skin text Right key s new (λ c at. cc) is e h
+type_order skin text PageUp key s new is e h = other_order skin text PageUp key s new (λ c at. cc) is e h
+type_order skin text PageDown key s new is e h = other_order skin text PageDown key s new (λ c at. cc) is e h
+type_order skin text (F n) key s new is e h = other_order skin text (F n) key s new (λ c at. cc) is e h
+type_order skin text Null key s new is e h = other_order skin text Null key s new (λ c at. cc) is e h
 
-any_key_order : (skin : MadSkin) (markdown : List ℕ) (key : KeyEvent) (s new : State) (b : Bool) → s.is_typing ≡ b → IsAnyKeyStep key s new → IsOrderly skin markdown s → IsOrderly skin markdown new
-any_key_order skin markdown key s new true is step h = type_order skin markdown key.code key s new refl (step.typing is) h
-any_key_order skin markdown key s new false is step h = key_order skin markdown key s new (step.other is) h
+any_key_order : (skin : MadSkin) (text : List LineContent) (key : KeyEvent) (s new : State) (b : Bool) → s.is_typing ≡ b → IsAnyKeyStep key s new → IsOrderly skin text s → IsOrderly skin text new
+any_key_order skin text key s new true is step h = type_order skin text key.code key s new refl (step.typing is) h
+any_key_order skin text key s new false is step h = key_order skin text key s new (step.other is) h
 
 -- a field that was given the last row of another screen
 moved_area : (columns rows : ℕ) (s : State) (new : Field) → s.field.area ≡ last_row s.page.columns s.page.rows → IsMovedTo (last_row columns rows) s.field new → (new.area ≡ last_row columns rows) × (new.content ≡ s.field.content)
@@ -250,13 +250,13 @@ moved_area columns rows s new at h =
       | inr narrow ↦ let e = h.other (λ place. narrow (ap (λ (a : Area). a.width) (place ∙ at))) in (ap (λ (f : Field). f.area) e, ap (λ (f : Field). f.content) e)
     ]
 
-resized_order : (skin : MadSkin) (markdown : List ℕ) (columns rows : ℕ) (s new : State) → IsResized skin markdown columns rows s new → IsOrderly skin markdown s → IsOrderly skin markdown new
-resized_order skin markdown columns rows s new step h =
+resized_order : (skin : MadSkin) (text : List LineContent) (columns rows : ℕ) (s new : State) → IsResized skin text columns rows s new → IsOrderly skin text s → IsOrderly skin text new
+resized_order skin text columns rows s new step h =
     let moved = moved_area columns rows s new.field h.field.area step.field in
     let wide : new.page.columns ≡ columns = ap (λ (p : Page). p.columns) step.page in
     let high : new.page.rows ≡ rows = ap (λ (p : Page). p.rows) step.page in
     record {
-      lines = subst (λ (n : ℕ). IsLaidFor skin markdown n new.lines) (sym wide) step.lines;
+      lines = subst (λ (n : ℕ). IsLaidFor skin text n new.lines) (sym wide) step.lines;
       field = record {
         area = moved.0 ∙ (ap (λ (n : ℕ). last_row n rows) (sym wide) ∙ ap (λ (n : ℕ). last_row new.page.columns n) (sym high));
         typed = subst (λ (e : Editor). TakeColumns e.text) (sym moved.1) h.field.typed;
@@ -264,20 +264,20 @@ resized_order skin markdown columns rows s new step h =
     }
 
 -- an event leaves a session orderly
-pub event_order : (skin : MadSkin) (markdown : List ℕ) (event : Event) (s new : State) → IsEventStep skin markdown event s new → IsOrderly skin markdown s → IsOrderly skin markdown new
-event_order skin markdown (Key key) s new step h = any_key_order skin markdown key s new s.is_typing refl step h
-event_order skin markdown (Mouse mouse) s new e h = same_order skin markdown s _ new e refl (wheel_place mouse.kind s.page) (stays s.field h.field.typed) h
-event_order skin markdown (Resize columns rows) s new step h = resized_order skin markdown columns rows s new step h
-event_order skin markdown FocusGained s new e h = same_order skin markdown s s new e refl (still s.page) (stays s.field h.field.typed) h
-event_order skin markdown FocusLost s new e h = same_order skin markdown s s new e refl (still s.page) (stays s.field h.field.typed) h
+pub event_order : (skin : MadSkin) (text : List LineContent) (event : Event) (s new : State) → IsEventStep skin text event s new → IsOrderly skin text s → IsOrderly skin text new
+event_order skin text (Key key) s new step h = any_key_order skin text key s new s.is_typing refl step h
+event_order skin text (Mouse mouse) s new e h = same_order skin text s _ new e refl (wheel_place mouse.kind s.page) (stays s.field h.field.typed) h
+event_order skin text (Resize columns rows) s new step h = resized_order skin text columns rows s new step h
+event_order skin text FocusGained s new e h = same_order skin text s s new e refl (still s.page) (stays s.field h.field.typed) h
+event_order skin text FocusLost s new e h = same_order skin text s s new e refl (still s.page) (stays s.field h.field.typed) h
 
 -- a session is so from its start on
-pub start_order : (skin : MadSkin) (markdown : List ℕ) (columns rows : ℕ) (s : State) → IsStart skin markdown columns rows s → IsOrderly skin markdown s
-start_order skin markdown columns rows s h =
+pub start_order : (skin : MadSkin) (text : List LineContent) (columns rows : ℕ) (s : State) → IsStart skin text columns rows s → IsOrderly skin text s
+start_order skin text columns rows s h =
     let wide : s.page.columns ≡ columns = ap (λ (p : Page). p.columns) h.page in
     let high : s.page.rows ≡ rows = ap (λ (p : Page). p.rows) h.page in
     record {
-      lines = subst (λ (n : ℕ). IsLaidFor skin markdown n s.lines) (sym wide) h.lines;
+      lines = subst (λ (n : ℕ). IsLaidFor skin text n s.lines) (sym wide) h.lines;
       field = record {
         area = ap (λ (f : Field). f.area) h.field ∙ (ap (λ (n : ℕ). last_row n rows) (sym wide) ∙ ap (λ (n : ℕ). last_row s.page.columns n) (sym high));
         typed = subst (λ (f : Field). TakeColumns f.content.text) (sym h.field) tt;

@@ -9,7 +9,7 @@ use Rattle.mad_term.specs.declared.keys.KeyEvent.{KeyEvent}
 use Rattle.mad_fit.specs.declared.area.Area.{Area}
 use Rattle.mad_format.specs.LineRules.{LineRules}
 use Rattle.mad_format.specs.declared.line.FmtLine.{FmtLine}
-use Rattle.mad_blocks.specs.Layouts.{IsMarkdownLayout}
+use Rattle.mad_blocks.specs.Layouts.{IsLayoutAt}
 use Rattle.mad_field.specs.Fields.{Field}
 use Rattle.mad_field.specs.Scrolls.{rescrolled}
 use Rattle.mad_layout.specs.RowSkins.{row_skin}
@@ -58,14 +58,13 @@ nowhere_next s l top row b h (to, from) = (λ t. let lacks = to t in (lacks.0, n
 pub nowhere_previous : (s : List ℕ) (l : List FmtLine) (top row : ℕ) (b : Bool) → IsPreviousRow s l top row → IsTrue b ↔ IsMissingAt s l row → IsTrue b ↔ IsNowhere s l
 nowhere_previous s l top row b h (to, from) = (λ t. let lacks = to t in (lacks.0, none_previous s l top row (h.previous lacks.0) lacks.1), λ none. from (none.0, none.1 row (omega arith)))
 
-pub same_kept : (rules : LineRules) (markdown : List ℕ) (a b c d row kept : ℕ) → a ≡ b → c ≡ d → IsKeptRow rules markdown a c row kept → IsKeptRow rules markdown b d row kept
-same_kept rules markdown a b c d row kept e k h =
-    subst (λ (x : ℕ). IsKeptRow rules markdown b x row kept) k (subst (λ (x : ℕ). IsKeptRow rules markdown x c row kept) e h)
+pub same_kept : (rules : LineRules) (text : List LineContent) (a b c d row kept : ℕ) → a ≡ b → c ≡ d → IsKeptRow rules text a c row kept → IsKeptRow rules text b d row kept
+same_kept rules text a b c d row kept e k h =
+    subst (λ (x : ℕ). IsKeptRow rules text b x row kept) k (subst (λ (x : ℕ). IsKeptRow rules text x c row kept) e h)
 
--- a text laid out for an area is so for the screen
-pub laid_at : (skin : MadSkin) (markdown : List ℕ) (columns rows : ℕ) (area : Area) (lines : List FmtLine) → area ≡ text_area columns rows
-    → IsMarkdownLayout (line_rules (row_skin skin)) (Some (area.width - 1)) markdown lines → IsLaidFor skin markdown columns lines
-laid_at skin markdown columns rows area lines e h = subst (λ (a : Area). IsMarkdownLayout (line_rules (row_skin skin)) (Some (a.width - 1)) markdown lines) e h
+-- a text laid out at the width of a screen is so for the screen
+pub laid_at : (skin : MadSkin) (text : List LineContent) (columns width : ℕ) (lines : List FmtLine) → width ≡ columns - 1 → IsLayoutAt (line_rules (row_skin skin)) (Some width) text lines → IsLaidFor skin text columns lines
+laid_at skin text columns width lines e h = subst (λ (n : ℕ). IsLayoutAt (line_rules (row_skin skin)) (Some n) text lines) e h
 
 -- a field that was given this area
 pub moved : (area place : Area) (old new : Field) → area ≡ place → (area ≡ old.area → new ≡ old) → (area ≢ old.area → new ≡ rescrolled (record old { area = area })) → IsMovedTo place old new

@@ -118,8 +118,8 @@ pub record IsFieldInRow (s : State) : Type 0 where
   pub typed : TakeColumns s.field.content.text
 
 -- What a session keeps from its start on: its lines are a layout of the text for its screen, and its field is in the last row.
-pub record IsOrderly (skin : MadSkin) (markdown : List ℕ) (s : State) : Type 0 where
-  pub lines : IsLaidFor skin markdown s.page.columns s.lines
+pub record IsOrderly (skin : MadSkin) (text : List LineContent) (s : State) : Type 0 where
+  pub lines : IsLaidFor skin text s.page.columns s.lines
   pub field : IsFieldInRow s
 
 -- ---- what is shown

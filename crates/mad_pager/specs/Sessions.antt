@@ -1,6 +1,7 @@
 -- A session of the pager: what is shown and sought, and what an event does.
 use Rattle.std.specs.Prelude.{◌≡◌, ◌≢◌, ℕ, ◌-◌, ◌<◌, ◌==◌, ◌↔◌, Bool, true, false, IsTrue, List, [], Some, length, encode_utf8_all, string_bytes, if◌then◌else◌}
 use Rattle.mad_columns.specs.Columns.{char_columns}
+use Rattle.mad_md.specs.Lines.{LineContent}
 use Rattle.mad_term.specs.declared.events.Event.{Event}
 use Rattle.mad_term.specs.declared.events.Event.TheVariants.{Key, Mouse, Resize}
 use Rattle.mad_term.specs.declared.keys.KeyCode.{KeyCode}
@@ -12,7 +13,7 @@ use Rattle.mad_format.specs.declared.line.FmtLine.{FmtLine}
 use Rattle.mad_field.specs.Fields.{Field, new_field}
 use Rattle.mad_field.specs.Keys.{key_outcome}
 use Rattle.mad_field.specs.Scrolls.{rescrolled}
-use Rattle.mad_blocks.specs.Layouts.{IsMarkdownLayout}
+use Rattle.mad_blocks.specs.Layouts.{IsLayoutAt}
 use Rattle.mad_layout.specs.RowSkins.{row_skin}
 use Rattle.mad_layout.specs.declared.skin.MadSkin.{MadSkin}
 use Rattle.mad_rows.specs.RowStyles.{line_rules}
@@ -45,7 +46,7 @@ state_of s = record { page = s.page; lines = s.text.lines.items; field = s.field
 -- what stays the same in a session: its text and its skin, in which the lines are laid out
 pub record HasSameText (old new : Session) : Type 0 where
   pub name : new.name.now ≡ old.name.now
-  pub markdown : new.markdown.now ≡ old.markdown.now
+  pub source : new.source ≡ old.source
   pub skin : new.text.skin.now ≡ old.text.skin.now
 
 -- the area of the text on a screen of this size: all rows but the last
@@ -56,13 +57,13 @@ text_area columns rows = record { left = 0; top = 0; width = columns; height = r
 abbrev pub last_row : ℕ → ℕ → Area
 last_row columns rows = record { left = 0; top = rows - 1; width = columns; height = 1 }
 
--- these lines are a layout of a Markdown text for a screen of these columns
-abbrev pub IsLaidFor : MadSkin → List ℕ → ℕ → List FmtLine → Type 0
-IsLaidFor skin markdown columns lines = IsMarkdownLayout (line_rules (row_skin skin)) (Some (columns - 1)) markdown lines
+-- these lines are a layout of a text for a screen of these columns
+abbrev pub IsLaidFor : MadSkin → List LineContent → ℕ → List FmtLine → Type 0
+IsLaidFor skin text columns lines = IsLayoutAt (line_rules (row_skin skin)) (Some (columns - 1)) text lines
 
 -- the start of a text on a screen of this size: its first row is on top, nothing is being typed and nothing is sought
-pub record IsStart (skin : MadSkin) (markdown : List ℕ) (columns rows : ℕ) (s : State) : Type 0 where
-  pub lines : IsLaidFor skin markdown columns s.lines
+pub record IsStart (skin : MadSkin) (text : List LineContent) (columns rows : ℕ) (s : State) : Type 0 where
+  pub lines : IsLaidFor skin text columns s.lines
   pub page : s.page ≡ record { columns = columns; rows = rows; height = length s.lines; top = 0 }
   pub field : s.field ≡ new_field (last_row columns rows)
   pub is_typing : s.is_typing ≡ false
@@ -123,10 +124,10 @@ pub record IsMovedTo (area : Area) (old new : Field) : Type 0 where
   pub other : area ≢ old.area → new ≡ rescrolled (record old { area = area })
 
 -- The screen has another size: the lines are a layout for it, and what was on top stays there.
-pub record IsResized (skin : MadSkin) (markdown : List ℕ) (columns rows : ℕ) (old new : State) : Type 0 where
-  pub lines : IsLaidFor skin markdown columns new.lines
+pub record IsResized (skin : MadSkin) (text : List LineContent) (columns rows : ℕ) (old new : State) : Type 0 where
+  pub lines : IsLaidFor skin text columns new.lines
   pub page : new.page ≡ record { columns = columns; rows = rows; height = length new.lines; top = new.page.top }
-  pub kept : IsKeptRow (line_rules (row_skin skin)) markdown (old.page.columns - 1) (columns - 1) old.page.top new.page.top
+  pub kept : IsKeptRow (line_rules (row_skin skin)) text (old.page.columns - 1) (columns - 1) old.page.top new.page.top
   pub field : IsMovedTo (last_row columns rows) old.field new.field
   pub is_typing : new.is_typing ≡ old.is_typing
   pub sought : new.sought ≡ old.sought
@@ -138,11 +139,11 @@ pub record IsAnyKeyStep (key : KeyEvent) (s new : State) : Type 0 where
   pub other : s.is_typing ≡ false → IsKeyStep key s new
 
 -- what an event does
-abbrev pub IsEventStep : MadSkin → List ℕ → Event → State → State → Type 0
-IsEventStep skin markdown (Key key) s new = IsAnyKeyStep key s new
-IsEventStep skin markdown (Mouse mouse) s new = new ≡ record s { page = after_wheel mouse.kind s.page }
-IsEventStep skin markdown (Resize columns rows) s new = IsResized skin markdown columns rows s new
-IsEventStep skin markdown event s new = new ≡ s
+abbrev pub IsEventStep : MadSkin → List LineContent → Event → State → State → Type 0
+IsEventStep skin text (Key key) s new = IsAnyKeyStep key s new
+IsEventStep skin text (Mouse mouse) s new = new ≡ record s { page = after_wheel mouse.kind s.page }
+IsEventStep skin text (Resize columns rows) s new = IsResized skin text columns rows s new
+IsEventStep skin text event s new = new ≡ s
 
 -- how the session goes on after what is asked for
 abbrev pub turn_asked : Ask → Turn

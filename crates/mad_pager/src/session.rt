@@ -7,6 +7,7 @@ ghost use Rattle.mad_page.specs.PageKeys.{after_key};
 ghost use Rattle.mad_layout.specs.RowSkins.{row_skin};
 ghost use Rattle.mad_rows.specs.RowStyles.{line_rules};
 ghost use Rattle.mad_search.specs.KeptRows.{IsKeptRow};
+ghost use Rattle.mad_search.specs.PagedTexts.{paged_lines};
 ghost use Rattle.mad_search.specs.Searches.{IsNextRow, IsPreviousRow};
 ghost use Rattle.mad_pager.specs.Sessions.{asks_size, ends, state_of, text_area, last_row, typed, turn_of, turn_of_key, turn_asked, HasSameText, IsLaidFor, IsMissingAt, IsAsked, IsAnyKeyStep, IsKeyStep, IsTypeStep, IsEventStep, IsResized, IsSought, IsStart};
 
@@ -15,7 +16,7 @@ use mad_field::InputField;
 use mad_fit::Area;
 use mad_layout::{FmtText, MadSkin};
 use mad_page::{Ask, Page};
-use mad_search::{has_text_at, kept_row, next_row, previous_row};
+use mad_search::{PagedText, has_text_at, kept_row, next_row, previous_row};
 use mad_term::{Event, KeyCode, KeyEvent, KeyModifiers};
 use std::alloc::{AllocError, Global};
 
@@ -51,8 +52,8 @@ impl Turn {
 pub struct Session<'s> {
     /// The name of the text.
     pub name: &'s str,
-    /// The text as Markdown.
-    pub markdown: &'s str,
+    /// The text, before it is laid out.
+    pub source: PagedText<'s>,
     /// The text, laid out for the screen in its skin.
     pub text: FmtText<'s, 's>,
     /// Which of its rows is on top.
@@ -76,17 +77,17 @@ impl<'s> Session<'s> {
     pub fn new(
         alloc: Global,
         name: &'s str,
-        markdown: &'s str,
+        source: PagedText<'s>,
         skin: &'s MadSkin,
         columns: u16,
         rows: u16,
     ) -> Result<Self, AllocError>
         ensures name { IfOk result (λ s. s.name ≡ name.entry) }
-        ensures markdown { IfOk result (λ s. s.markdown ≡ markdown.entry) }
+        ensures source { IfOk result (λ s. s.source ≡ source.entry) }
         ensures skin { IfOk result (λ s. s.text.skin.now ≡ skin.now) }
-        ensures start { IfOk result (λ s. IsStart skin.now markdown.now columns rows (state_of s)) }
+        ensures start { IfOk result (λ s. IsStart skin.now (paged_lines source.entry) columns rows (state_of s)) }
     {
-        let text = skin.area_text(alloc, markdown, &text_area(columns, rows))?;
+        let text = lay(alloc, skin, source, columns)?;
         let page = Page {
             columns,
             rows,
@@ -96,7 +97,7 @@ impl<'s> Session<'s> {
         let field = InputField::new(alloc, last_row(columns, rows))?;
         Ok(Session {
             name,
-            markdown,
+            source,
             text,
             page,
             field,
@@ -112,7 +113,7 @@ impl<'s> Session<'s> {
     ///
     /// Out of memory is the only error.
     pub fn apply(&mut self, alloc: Global, event: Event) -> Result<Turn, AllocError>
-        ensures step { OnOk result (IsEventStep self.old.text.skin.now self.old.markdown.now event (state_of self.old) (state_of self.new)) }
+        ensures step { OnOk result (IsEventStep self.old.text.skin.now (paged_lines self.old.source) event (state_of self.old) (state_of self.new)) }
         ensures turn { IfOk result (λ turn. turn ≡ turn_of event (state_of self.old)) }
         ensures text { OnOk result (HasSameText self.old self.new) }
     {
@@ -322,12 +323,12 @@ impl<'s> Session<'s> {
 
     // The row that stays on top where the screen has these columns.
     fn row_kept(&self, alloc: Global, columns: u16) -> Result<usize, AllocError>
-        ensures { IfOk result (IsKeptRow (line_rules (row_skin self.now.text.skin.now)) self.now.markdown.now (self.now.page.columns - 1) (columns - 1) self.now.page.top) }
+        ensures { IfOk result (IsKeptRow (line_rules (row_skin self.now.text.skin.now)) (paged_lines self.now.source) (self.now.page.columns - 1) (columns - 1) self.now.page.top) }
     {
         let row = kept_row(
             alloc,
             self.text.skin,
-            self.markdown,
+            self.source,
             layout_width(self.page.columns),
             layout_width(columns),
             self.page.top,
@@ -335,30 +336,22 @@ impl<'s> Session<'s> {
         Ok(row)
     }
 
-    // The text, laid out for a screen of this size.
-    fn laid_for(
-        &self,
-        alloc: Global,
-        columns: u16,
-        rows: u16,
-    ) -> Result<FmtText<'s, 's>, AllocError>
+    // The text, laid out for a screen of these columns.
+    fn laid_for(&self, alloc: Global, columns: u16) -> Result<FmtText<'s, 's>, AllocError>
         ensures skin { IfOk result (λ text. text.skin.now ≡ self.now.text.skin.now) }
-        ensures lines { IfOk result (λ text. IsLaidFor self.now.text.skin.now self.now.markdown.now columns text.lines.items) }
+        ensures lines { IfOk result (λ text. IsLaidFor self.now.text.skin.now (paged_lines self.now.source) columns text.lines.items) }
     {
-        let text = self
-            .text
-            .skin
-            .area_text(alloc, self.markdown, &text_area(columns, rows))?;
+        let text = lay(alloc, self.text.skin, self.source, columns)?;
         Ok(text)
     }
 
     // The screen has another size: the text is laid out for it, and what was on top stays there.
     fn resize(&mut self, alloc: Global, columns: u16, rows: u16) -> Result<(), AllocError>
-        ensures step { OnOk result (IsResized self.old.text.skin.now self.old.markdown.now columns rows (state_of self.old) (state_of self.new)) }
+        ensures step { OnOk result (IsResized self.old.text.skin.now (paged_lines self.old.source) columns rows (state_of self.old) (state_of self.new)) }
         ensures text { OnOk result (HasSameText self.old self.new) }
     {
         let top = self.row_kept(alloc, columns)?;
-        let text = self.laid_for(alloc, columns, rows)?;
+        let text = self.laid_for(alloc, columns)?;
         self.page = Page {
             columns,
             rows,
@@ -393,6 +386,21 @@ pub(crate) fn last_row(columns: u16, rows: u16) -> Area
         width: columns,
         height: 1,
     }
+}
+
+// A text, laid out for a screen of these columns, one of which the bar has.
+fn lay<'s>(
+    alloc: Global,
+    skin: &'s MadSkin,
+    source: PagedText<'s>,
+    columns: u16,
+) -> Result<FmtText<'s, 's>, AllocError>
+    ensures skin { IfOk result (λ text. text.skin.now ≡ skin.now) }
+    ensures lines { IfOk result (λ text. IsLaidFor skin.now (paged_lines source.entry) columns text.lines.items) }
+{
+    let width = Some(layout_width(columns));
+    let lines = source.lay(alloc, skin, width)?;
+    Ok(FmtText { skin, lines, width })
 }
 
 // How many lines a text has.

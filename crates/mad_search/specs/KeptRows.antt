@@ -1,7 +1,6 @@
 -- Which row stays on top where the width changes.
-use Rattle.std.specs.Prelude.{◌≡◌, ◌≢◌, ℕ, ◌+◌, ◌-◌, nat_le, false, min, max, List, [], ◌∷◌, length, count_by, Some, slice_index}
+use Rattle.std.specs.Prelude.{◌≡◌, ◌≢◌, ℕ, ◌+◌, ◌-◌, nat_le, min, max, List, [], ◌∷◌, length, count_by, Some, slice_index}
 use Rattle.mad_md.specs.Lines.{LineContent}
-use Rattle.mad_md.specs.Reading.{IsRead, unread_text}
 use Rattle.mad_format.specs.LineRules.{LineRules}
 use Rattle.mad_format.specs.declared.line.FmtLine.{FmtLine}
 use Rattle.mad_blocks.specs.Layouts.{IsLayoutAt}
@@ -13,9 +12,9 @@ AreStartsFrom rules width [] row starts = starts ≡ row ∷ []
 AreStartsFrom rules width (part ∷ parts) row starts =
     (lines : List FmtLine) × (more : List ℕ) × IsLayoutAt rules (Some width) part lines × (starts ≡ row ∷ more) × AreStartsFrom rules width parts (row + length lines) more
 
--- the rows in which the parts of a Markdown text begin, laid out at a width, and last the count of all rows
-abbrev pub ArePartStarts : LineRules → ℕ → List ℕ → List ℕ → Type 0
-ArePartStarts rules width markdown starts = (text : List LineContent) × IsRead (unread_text false markdown) text × AreStartsFrom rules width (text_parts text) 0 starts
+-- the rows in which the parts of a text begin, laid out at a width, and last the count of all rows
+abbrev pub ArePartStarts : LineRules → ℕ → List LineContent → List ℕ → Type 0
+ArePartStarts rules width text starts = AreStartsFrom rules width (text_parts text) 0 starts
 
 -- the index of the part that has a row, by the rows in which parts begin; past the last one that of the last
 abbrev pub part_of : List ℕ → ℕ → ℕ
@@ -28,7 +27,7 @@ row_in_parts old new row =
     min (slice_index new part + (row - slice_index old part)) (max (slice_index new (part + 1) - 1) (slice_index new part))
 
 -- The row that is kept on top where a text is laid out at another width; at the same width it is the same.
-pub record IsKeptRow (rules : LineRules) (markdown : List ℕ) (old_width new_width row kept : ℕ) : Type 0 where
+pub record IsKeptRow (rules : LineRules) (text : List LineContent) (old_width new_width row kept : ℕ) : Type 0 where
   pub same : old_width ≡ new_width → kept ≡ row
   pub other : old_width ≢ new_width
-      → (old : List ℕ) × (new : List ℕ) × ArePartStarts rules old_width markdown old × ArePartStarts rules new_width markdown new × (kept ≡ row_in_parts old new row)
+      → (old : List ℕ) × (new : List ℕ) × ArePartStarts rules old_width text old × ArePartStarts rules new_width text new × (kept ≡ row_in_parts old new row)

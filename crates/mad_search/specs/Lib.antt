@@ -1,2 +1,3 @@
 pub mod KeptRows
+pub mod PagedTexts
 pub mod Searches

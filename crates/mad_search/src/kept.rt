@@ -2,8 +2,9 @@
 
 ghost use Rattle.std.specs.Prelude.{◌≡◌, [], ◌∷◌, IfOk, length, slice_index};
 ghost use Rattle.mad_search.specs.KeptRows.{ArePartStarts, IsKeptRow, part_of, row_in_parts};
+ghost use Rattle.mad_search.specs.PagedTexts.{paged_lines};
 
-use mad_blocks::PartCursor;
+use crate::paged::PagedText;
 use mad_format::{FmtLine, LineSkin};
 use std::alloc::{AllocError, Global};
 
@@ -16,19 +17,19 @@ use std::alloc::{AllocError, Global};
 pub fn kept_row<S: LineSkin>(
     alloc: Global,
     skin: &S,
-    markdown: &str,
+    text: PagedText,
     old_width: usize,
     new_width: usize,
     row: usize,
 ) -> Result<usize, AllocError>
-    ensures { IfOk result (IsKeptRow (S.rules skin.now) markdown.now old_width new_width row) }
+    ensures { IfOk result (IsKeptRow (S.rules skin.now) (paged_lines text) old_width new_width row) }
 {
     let is_same = old_width == new_width;
     if is_same {
         return Ok(row);
     }
-    let old = part_starts(alloc, skin, markdown, old_width)?;
-    let new = part_starts(alloc, skin, markdown, new_width)?;
+    let old = part_starts(alloc, skin, text, old_width)?;
+    let new = part_starts(alloc, skin, text, new_width)?;
     Ok(row_in_parts(old.as_slice(), new.as_slice(), row))
 }
 
@@ -36,12 +37,12 @@ pub fn kept_row<S: LineSkin>(
 fn part_starts<S: LineSkin>(
     alloc: Global,
     skin: &S,
-    markdown: &str,
+    text: PagedText,
     width: usize,
 ) -> Result<Vec<usize>, AllocError>
-    ensures { IfOk result (λ starts. ArePartStarts (S.rules skin.now) width markdown.now starts.items) }
+    ensures { IfOk result (λ starts. ArePartStarts (S.rules skin.now) width (paged_lines text) starts.items) }
 {
-    let mut parts = PartCursor::new(markdown);
+    let mut parts = text.parts(alloc)?;
     let mut lines = Vec::new(alloc);
     let mut starts = first_start(alloc)?;
     'starts: while parts.lay_next(alloc, &mut lines, Some(width), skin)? {

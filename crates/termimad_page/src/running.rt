@@ -3,8 +3,8 @@
 use crate::call::{Call, parse_call};
 use std::io::{BufWriter, Error as IoError, ErrorKind};
 use std::{env, fs, io};
-use termimad::{MadSkin, Stream, printable};
-use termimad_page_run::{Sheet, run};
+use termimad::{MadSkin, Stream, printable, write_markdown_on};
+use termimad_page_run::{Grammar, Sheet, run};
 use termimad_run::{Failure, skin_of};
 
 // The columns at which a whole text is written.
@@ -18,12 +18,13 @@ const WHOLE_COLUMNS: usize = 80;
 pub fn run_on_standard_streams(rt: &HostRuntime) -> Result<(), Failure> {
     let words = arguments(rt)?;
     let call = parse_call(words.as_slice()).ok_or(Failure::Usage)?;
-    let (skin, _) = skin_of(rt.alloc(), Some(call.skin.unwrap_or("default")))?;
-    let markdown = read(rt, call.file)?;
-    let markdown = str::from_utf8(markdown.as_slice()).map_err(|_| Failure::NotUtf8)?;
+    let (mut skin, _) = skin_of(rt.alloc(), Some(call.skin.unwrap_or("default")))?;
+    skin.whole_words = call.grammar == Grammar::Markdown;
+    let bytes = read(rt, call.file)?;
+    let text = str::from_utf8(bytes.as_slice()).map_err(|_| Failure::NotUtf8)?;
     match call.screen {
-        Some(size) => page(rt, &call, markdown, &skin, size),
-        None => write_whole(rt, markdown, &skin),
+        Some(size) => page(rt, &call, text, &skin, size),
+        None => write_whole(rt, text, call.grammar, &skin),
     }
 }
 
@@ -31,13 +32,14 @@ pub fn run_on_standard_streams(rt: &HostRuntime) -> Result<(), Failure> {
 fn page(
     rt: &HostRuntime,
     call: &Call,
-    markdown: &str,
+    text: &str,
     skin: &MadSkin,
     size: (u16, u16),
 ) -> Result<(), Failure> {
     let sheet = Sheet {
         name: call.file,
-        markdown,
+        text,
+        grammar: call.grammar,
         skin,
         columns: size.0,
         rows: size.1,
@@ -48,12 +50,24 @@ fn page(
     Ok(())
 }
 
-// Writes the whole text, laid out part by part.
-fn write_whole(rt: &HostRuntime, markdown: &str, skin: &MadSkin) -> Result<(), Failure> {
+// Writes the whole text.
+fn write_whole(
+    rt: &HostRuntime,
+    text: &str,
+    grammar: Grammar,
+    skin: &MadSkin,
+) -> Result<(), Failure> {
     let writer = BufWriter::new(rt.alloc(), io::writer(rt)).map_err(|_| Failure::Memory)?;
     let mut out = Stream::new(writer);
-    let markdown = printable(rt.alloc(), markdown)?;
-    skin.write_parts_on(rt.alloc(), &mut out, &markdown, Some(WHOLE_COLUMNS))?;
+    match grammar {
+        Grammar::Lines => {
+            let text = printable(rt.alloc(), text)?;
+            skin.write_parts_on(rt.alloc(), &mut out, &text, Some(WHOLE_COLUMNS))?;
+        }
+        Grammar::Markdown => {
+            write_markdown_on(rt.alloc(), &mut out, skin, text, Some(WHOLE_COLUMNS))?;
+        }
+    }
     termimad::Out::flush(&mut out)?;
     Ok(())
 }

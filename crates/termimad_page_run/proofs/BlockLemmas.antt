@@ -7,6 +7,7 @@ use Rattle.mad_keys.specs.Decoding.{ByteGives, BytesGive, PauseGives}
 use Rattle.mad_keys.specs.Readings.{listed, lone_escape}
 use Rattle.mad_keys.specs.Keys.{escape_key}
 use Rattle.mad_layout.specs.declared.skin.MadSkin.{MadSkin}
+use Rattle.mad_md.specs.Lines.{LineContent}
 use Rattle.mad_pager.specs.Sessions.{State, IsEventStep, HasSameText, asks_size, ends, turn_of}
 use Rattle.mad_pager.specs.declared.session.Session.{Session}
 use Rattle.mad_pager.specs.declared.session.Turn.{Turn}
@@ -25,11 +26,11 @@ goes_on turn h e = let f : ends Ends ≡ false = subst (λ (t : Turn). ends t �
 
 -- the text stays the same
 pub same_text : (a b c : Session) → HasSameText a b → HasSameText b c → HasSameText a c
-same_text a b c h k = record { name = k.name ∙ h.name; markdown = k.markdown ∙ h.markdown; skin = k.skin ∙ h.skin }
+same_text a b c h k = record { name = k.name ∙ h.name; source = k.source ∙ h.source; skin = k.skin ∙ h.skin }
 
-pub step_along : (skin dress : MadSkin) (markdown text : List ℕ) (told : Option Event) (s new : State) → dress ≡ skin → text ≡ markdown → IsToldStep dress text told s new → IsToldStep skin markdown told s new
-step_along skin dress markdown text told s new e k h =
-    subst (λ (d : MadSkin). IsToldStep d markdown told s new) e (subst (λ (m : List ℕ). IsToldStep dress m told s new) k h)
+pub step_along : (skin dress : MadSkin) (lines text : List LineContent) (told : Option Event) (s new : State) → dress ≡ skin → text ≡ lines → IsToldStep dress text told s new → IsToldStep skin lines told s new
+step_along skin dress lines text told s new e k h =
+    subst (λ (d : MadSkin). IsToldStep d lines told s new) e (subst (λ (m : List LineContent). IsToldStep dress m told s new) k h)
 
 -- ---- bytes
 
@@ -62,49 +63,49 @@ or_assoc true b c = refl
 or_assoc false b c = refl
 
 -- one event alone
-event_done : (skin : MadSkin) (markdown : List ℕ) (s : State) (event : Event) (new : State) (asks : Bool)
-    → IsEventStep skin markdown event s new → turn_of event s ≢ Ends → asks ≡ false → IsSession skin markdown s (event ∷ []) (asks || asks_size (turn_of event s)) new
-event_done skin markdown s event new asks step goes none =
+event_done : (skin : MadSkin) (lines : List LineContent) (s : State) (event : Event) (new : State) (asks : Bool)
+    → IsEventStep skin lines event s new → turn_of event s ≢ Ends → asks ≡ false → IsSession skin lines s (event ∷ []) (asks || asks_size (turn_of event s)) new
+event_done skin lines s event new asks step goes none =
     (new, false, step, goes, ap (λ (b : Bool). b || asks_size (turn_of event s)) none ∙ sym (or_false (asks_size (turn_of event s))), (refl, refl))
 
-event_more : (skin : MadSkin) (markdown : List ℕ) (s : State) (events : List Event) (asks : Bool) (mid : State) (event : Event) (new : State)
-    → IsSession skin markdown s events asks mid → IsEventStep skin markdown event mid new → turn_of event mid ≢ Ends
-    → IsSession skin markdown s (events ++ event ∷ []) (asks || asks_size (turn_of event mid)) new
-event_more skin markdown s [] asks mid event new (none, same) step goes =
-    subst (λ (m : State). IsEventStep skin markdown event m new → turn_of event m ≢ Ends → IsSession skin markdown s (event ∷ []) (asks || asks_size (turn_of event m)) new) (sym same)
-    (λ first on. event_done skin markdown s event new asks first on none) step goes
-event_more skin markdown s (e ∷ events) asks mid event new (next, others, one, first, is, rest) step goes =
+event_more : (skin : MadSkin) (lines : List LineContent) (s : State) (events : List Event) (asks : Bool) (mid : State) (event : Event) (new : State)
+    → IsSession skin lines s events asks mid → IsEventStep skin lines event mid new → turn_of event mid ≢ Ends
+    → IsSession skin lines s (events ++ event ∷ []) (asks || asks_size (turn_of event mid)) new
+event_more skin lines s [] asks mid event new (none, same) step goes =
+    subst (λ (m : State). IsEventStep skin lines event m new → turn_of event m ≢ Ends → IsSession skin lines s (event ∷ []) (asks || asks_size (turn_of event m)) new) (sym same)
+    (λ first on. event_done skin lines s event new asks first on none) step goes
+event_more skin lines s (e ∷ events) asks mid event new (next, others, one, first, is, rest) step goes =
     let x = asks_size (turn_of event mid) in (
       next,
       others || x,
       one,
       first,
       ap (λ (b : Bool). b || x) is ∙ or_assoc (asks_size (turn_of e s)) others x,
-      event_more skin markdown next events others mid event new rest step goes,
+      event_more skin lines next events others mid event new rest step goes,
     )
 
 -- what was told is done too
-told_done : (skin : MadSkin) (markdown : List ℕ) (s : State) (events : List Event) (asks : Bool) (mid : State) (told : Option Event) (new : State)
-    → IsSession skin markdown s events asks mid → IsToldStep skin markdown told mid new → turn_told told mid ≢ Ends
-    → IsSession skin markdown s (events ++ listed told) (asks || asks_size (turn_told told mid)) new
-told_done skin markdown s events asks mid None new h same goes =
-    subst (λ (b : Bool). IsSession skin markdown s (events ++ []) b new) (sym (or_false asks))
-    (subst (λ (es : List Event). IsSession skin markdown s es asks new) (sym (append-nil events)) (subst (λ (n : State). IsSession skin markdown s events asks n) (sym same) h))
-told_done skin markdown s events asks mid (Some event) new h step goes = event_more skin markdown s events asks mid event new h step goes
+told_done : (skin : MadSkin) (lines : List LineContent) (s : State) (events : List Event) (asks : Bool) (mid : State) (told : Option Event) (new : State)
+    → IsSession skin lines s events asks mid → IsToldStep skin lines told mid new → turn_told told mid ≢ Ends
+    → IsSession skin lines s (events ++ listed told) (asks || asks_size (turn_told told mid)) new
+told_done skin lines s events asks mid None new h same goes =
+    subst (λ (b : Bool). IsSession skin lines s (events ++ []) b new) (sym (or_false asks))
+    (subst (λ (es : List Event). IsSession skin lines s es asks new) (sym (append-nil events)) (subst (λ (n : State). IsSession skin lines s events asks n) (sym same) h))
+told_done skin lines s events asks mid (Some event) new h step goes = event_more skin lines s events asks mid event new h step goes
 
-pub session_more : (skin : MadSkin) (markdown : List ℕ) (s : State) (events : List Event) (asks : Bool) (mid : State) (told : Option Event) (new : State) (asked : Bool)
-    → IsSession skin markdown s events asks mid → IsToldStep skin markdown told mid new → turn_told told mid ≢ Ends → asked ≡ asks_size (turn_told told mid)
-    → IsSession skin markdown s (events ++ listed told) (asks || asked) new
-session_more skin markdown s events asks mid told new asked h step goes is =
-    subst (λ (b : Bool). IsSession skin markdown s (events ++ listed told) (asks || b) new) (sym is) (told_done skin markdown s events asks mid told new h step goes)
+pub session_more : (skin : MadSkin) (lines : List LineContent) (s : State) (events : List Event) (asks : Bool) (mid : State) (told : Option Event) (new : State) (asked : Bool)
+    → IsSession skin lines s events asks mid → IsToldStep skin lines told mid new → turn_told told mid ≢ Ends → asked ≡ asks_size (turn_told told mid)
+    → IsSession skin lines s (events ++ listed told) (asks || asked) new
+session_more skin lines s events asks mid told new asked h step goes is =
+    subst (λ (b : Bool). IsSession skin lines s (events ++ listed told) (asks || b) new) (sym is) (told_done skin lines s events asks mid told new h step goes)
 
 -- what a pause tells is done too, and asks for nothing
-pause_more : (skin : MadSkin) (markdown : List ℕ) (s : State) (events : List Event) (asks : Bool) (mid : State) (told : Option Event) (new : State)
-    → IsSession skin markdown s events asks mid → IsToldDone skin markdown told mid new → IsSession skin markdown s (events ++ listed told) asks new
-pause_more skin markdown s events asks mid told new h (step, goes) =
+pause_more : (skin : MadSkin) (lines : List LineContent) (s : State) (events : List Event) (asks : Bool) (mid : State) (told : Option Event) (new : State)
+    → IsSession skin lines s events asks mid → IsToldDone skin lines told mid new → IsSession skin lines s (events ++ listed told) asks new
+pause_more skin lines s events asks mid told new h (step, goes) =
     let on : turn_told told mid ≢ Ends = λ e. let f : Goes ≡ Ends = sym goes ∙ e in absurd (cc) in
-    subst (λ (b : Bool). IsSession skin markdown s (events ++ listed told) b new) (ap (λ (t : Turn). asks || asks_size t) goes ∙ or_false asks)
-    (told_done skin markdown s events asks mid told new h step on)
+    subst (λ (b : Bool). IsSession skin lines s (events ++ listed told) b new) (ap (λ (t : Turn). asks || asks_size t) goes ∙ or_false asks)
+    (told_done skin lines s events asks mid told new h step on)
 
 -- Esc never ends a session
 escape_goes : (typing : Bool) → (if typing then Goes else Goes) ≡ Goes
@@ -117,10 +118,10 @@ pause_goes (a ∷ []) s = elim (a == 27) as (λ b. turn_told (if b then Some (Ke
 pause_goes (a ∷ b ∷ w) s = refl
 
 -- an event ends the session
-pub ended : (skin : MadSkin) (markdown w block : List ℕ) (i : ℕ) (s : State) (events : List Event) (asks : Bool) (mid : State) (told : Option Event) (left : List ℕ)
-    → BytesGive w (take i block) (events ++ listed told) left → IsSession skin markdown s events asks mid → turn_told told mid ≡ Ends → IsEndedIn skin markdown w block s
-ended skin markdown w block i s events asks mid None left read done ends = absurd (cc)
-ended skin markdown w block i s events asks mid (Some event) left read done ends = record {
+pub ended : (skin : MadSkin) (lines : List LineContent) (w block : List ℕ) (i : ℕ) (s : State) (events : List Event) (asks : Bool) (mid : State) (told : Option Event) (left : List ℕ)
+    → BytesGive w (take i block) (events ++ listed told) left → IsSession skin lines s events asks mid → turn_told told mid ≡ Ends → IsEndedIn skin lines w block s
+ended skin lines w block i s events asks mid None left read done ends = absurd (cc)
+ended skin lines w block i s events asks mid (Some event) left read done ends = record {
   front = take i block;
   rest = drop i block;
   whole = take-append-drop i block;
@@ -141,9 +142,9 @@ byte_read w block i events left told new inside read gives =
     subst (λ (l : List ℕ). BytesGive w l (events ++ listed told) new) (sym (take_more block i 0 inside)) (told_more w (take i block) (get_or block i 0) events left told new read gives)
 
 -- all of a block is read, and no pause comes
-pub block_read : (skin : MadSkin) (markdown w block : List ℕ) (i : ℕ) (s : State) (events : List Event) (left : List ℕ) (asks : Bool) (new : State) (pauses answer : Bool)
-    → length block ≤ i → pauses ≡ false → BytesGive w (take i block) events left → IsSession skin markdown s events asks new → answer ≡ asks → IsBlockDone skin markdown w block pauses s left answer new
-block_read skin markdown w block i s events left asks new pauses answer past unpaused read done same = record {
+pub block_read : (skin : MadSkin) (lines : List LineContent) (w block : List ℕ) (i : ℕ) (s : State) (events : List Event) (left : List ℕ) (asks : Bool) (new : State) (pauses answer : Bool)
+    → length block ≤ i → pauses ≡ false → BytesGive w (take i block) events left → IsSession skin lines s events asks new → answer ≡ asks → IsBlockDone skin lines w block pauses s left answer new
+block_read skin lines w block i s events left asks new pauses answer past unpaused read done same = record {
   events = events;
   told = record {
     before = left;
@@ -154,14 +155,14 @@ block_read skin markdown w block i s events left asks new pauses answer past unp
     none = λ is. (refl, refl);
     all = sym (append-nil events);
   };
-  session = subst (λ (b : Bool). IsSession skin markdown s events b new) (sym same) done;
+  session = subst (λ (b : Bool). IsSession skin lines s events b new) (sym same) done;
 }
 
 -- or one comes
-pub block_paused : (skin : MadSkin) (markdown w block : List ℕ) (i : ℕ) (s : State) (events : List Event) (left : List ℕ) (asks : Bool) (mid : State) (pauses answer : Bool) (told : Option Event) (after : List ℕ) (new : State)
-    → length block ≤ i → pauses ≡ true → BytesGive w (take i block) events left → IsSession skin markdown s events asks mid → answer ≡ asks → PauseGives left told after → IsToldDone skin markdown told mid new
-    → IsBlockDone skin markdown w block pauses s after answer new
-block_paused skin markdown w block i s events left asks mid pauses answer told after new past paused read done same gives step = record {
+pub block_paused : (skin : MadSkin) (lines : List LineContent) (w block : List ℕ) (i : ℕ) (s : State) (events : List Event) (left : List ℕ) (asks : Bool) (mid : State) (pauses answer : Bool) (told : Option Event) (after : List ℕ) (new : State)
+    → length block ≤ i → pauses ≡ true → BytesGive w (take i block) events left → IsSession skin lines s events asks mid → answer ≡ asks → PauseGives left told after → IsToldDone skin lines told mid new
+    → IsBlockDone skin lines w block pauses s after answer new
+block_paused skin lines w block i s events left asks mid pauses answer told after new past paused read done same gives step = record {
   events = events ++ listed told;
   told = record {
     before = left;
@@ -172,5 +173,5 @@ block_paused skin markdown w block i s events left asks mid pauses answer told a
     none = λ is. let e : true ≡ false = sym paused ∙ is in absurd (cc);
     all = refl;
   };
-  session = subst (λ (b : Bool). IsSession skin markdown s (events ++ listed told) b new) (sym same) (pause_more skin markdown s events asks mid told new done step);
+  session = subst (λ (b : Bool). IsSession skin lines s (events ++ listed told) b new) (sym same) (pause_more skin lines s events asks mid told new done step);
 }

@@ -9,12 +9,15 @@ use Rattle.mad_term.specs.Trace.{Trace, ahead_all, Filled}
 use Rattle.mad_term.specs.declared.errors.Error.{Error}
 use Rattle.mad_term.specs.declared.events.Event.{Event}
 use Rattle.mad_layout.specs.declared.skin.MadSkin.{MadSkin}
+use Rattle.mad_md.specs.Lines.{LineContent}
+use Rattle.mad_search.specs.PagedTexts.{paged_lines}
+use Rattle.mad_search.specs.declared.paged.PagedText.{PagedText}
 use Rattle.mad_pager.specs.Screens.{IsOrderly, IsShown}
 use Rattle.mad_pager.proofs.OrderLemmas.{event_order, start_order}
 use Rattle.mad_pager.specs.Sessions.{State, HasSameText, IsStart, state_of}
 use Rattle.mad_pager.specs.declared.session.Session.{Session}
 use Rattle.termimad_page_run.specs.Blocks.{IsBlockDone, IsSession}
-use Rattle.termimad_page_run.specs.Runs.{AreTurns, EndsAtInput, IsBrokenOff, IsBrokenRun, IsPaged, IsTurn, IsTurned, Moment, Paged, block_room, moment, name_row, paged, paged_of, row_char, shown_text}
+use Rattle.termimad_page_run.specs.Runs.{AreTurns, EndsAtInput, IsBrokenOff, IsBrokenRun, IsPaged, IsTurn, IsTurned, Moment, Paged, block_room, moment, name_row, paged, paged_of, row_char, sheet_lines, shown_text}
 use Rattle.termimad_page_run.specs.declared.program.Sheet.{Sheet}
 
 -- ---- names
@@ -55,25 +58,25 @@ ended_input old new buffer count none h some = record {
 
 -- the same is paged where the text is the same
 pub same_paged : (old new : Session) → HasSameText old new → paged_of new ≡ paged_of old
-same_paged old new h = cc (h.name, h.markdown, h.skin)
+same_paged old new h = cc (h.name, h.source, h.skin)
 
 -- a session stays orderly
-session_order : (skin : MadSkin) (markdown : List ℕ) (events : List Event) (s : State) (asks : Bool) (new : State) → IsSession skin markdown s events asks new → IsOrderly skin markdown s → IsOrderly skin markdown new
+session_order : (skin : MadSkin) (markdown : List LineContent) (events : List Event) (s : State) (asks : Bool) (new : State) → IsSession skin markdown s events asks new → IsOrderly skin markdown s → IsOrderly skin markdown new
 session_order skin markdown [] s asks new (none, same) h = subst (λ (x : State). IsOrderly skin markdown x) (sym same) h
 session_order skin markdown (event ∷ events) s asks new (mid, others, step, goes, is, rest) h = session_order skin markdown events mid others new rest (event_order skin markdown event s mid step h)
 
-pub turn_order : (old new : Session) (block : List ℕ) (before after : Moment) → HasSameText old new → IsTurn (paged_of old) block before after → IsOrderly new.text.skin.now new.markdown.now after.state
+pub turn_order : (old new : Session) (block : List ℕ) (before after : Moment) → HasSameText old new → IsTurn (paged_of old) block before after → IsOrderly new.text.skin.now (paged_lines new.source) after.state
 turn_order old new block before after same turn =
     let done = turn.done in
-    let orderly = session_order old.text.skin.now old.markdown.now done.events before.state after.asks after.state done.session turn.orderly in
-    subst (λ (skin : MadSkin). IsOrderly skin new.markdown.now after.state) (sym same.skin) (subst (λ (text : List ℕ). IsOrderly old.text.skin.now text after.state) (sym same.markdown) orderly)
+    let orderly = session_order old.text.skin.now (paged_lines old.source) done.events before.state after.asks after.state done.session turn.orderly in
+    subst (λ (skin : MadSkin). IsOrderly skin (paged_lines new.source) after.state) (sym same.skin) (subst (λ (text : PagedText). IsOrderly old.text.skin.now (paged_lines text) after.state) (sym same.source) orderly)
 
 -- the start is orderly
-pub begun_order : (session : Session) (skin : MadSkin) (text : List ℕ) (columns rows : ℕ) → session.text.skin.now ≡ skin → session.markdown.now ≡ text → IsStart skin text columns rows (state_of session)
-    → IsOrderly session.text.skin.now session.markdown.now (state_of session)
+pub begun_order : (session : Session) (skin : MadSkin) (text : PagedText) (columns rows : ℕ) → session.text.skin.now ≡ skin → session.source ≡ text → IsStart skin (paged_lines text) columns rows (state_of session)
+    → IsOrderly session.text.skin.now (paged_lines session.source) (state_of session)
 begun_order session skin text columns rows dressed marked start =
-    subst (λ (k : MadSkin). IsOrderly k session.markdown.now (state_of session)) (sym dressed)
-    (subst (λ (t : List ℕ). IsOrderly skin t (state_of session)) (sym marked) (start_order skin text columns rows (state_of session) start))
+    subst (λ (k : MadSkin). IsOrderly k (paged_lines session.source) (state_of session)) (sym dressed)
+    (subst (λ (t : PagedText). IsOrderly skin (paged_lines t) (state_of session)) (sym marked) (start_order skin (paged_lines text) columns rows (state_of session) start))
 
 -- one turn more
 turns_more : (p : Paged) (blocks : List (List ℕ)) (block : List ℕ) (old mid new : Moment) → AreTurns p blocks old mid → IsTurn p block mid new → AreTurns p (blocks ++ block ∷ []) old new
@@ -111,22 +114,24 @@ broken_exit p s old_input new_input old_out new_out r e is h =
     subst (λ (t : Result Unit Error). MatchResult t (λ _. IsTurned p s old_input new_input old_out new_out) (λ d. IsBrokenOff p s d old_input new_input old_out new_out)) (sym (q.1 ∙ ap Err q.2)) h
 
 -- a run from the start of a sheet's text
-pub sheet_paged : (sheet : Sheet) (session : Session) (name text : List ℕ) (r : Result Unit Error) (old_input new_input old_out new_out : Trace)
-    → session.name.now ≡ name → name ≡ name_row sheet.name.now → session.markdown.now ≡ text → text ≡ shown_text sheet.markdown.now → session.text.skin.now ≡ sheet.skin.now
-    → IsStart sheet.skin.now text sheet.columns sheet.rows (state_of session)
+pub sheet_paged : (sheet : Sheet) (session : Session) (name : List ℕ) (text : PagedText) (r : Result Unit Error) (old_input new_input old_out new_out : Trace)
+    → session.name.now ≡ name → name ≡ name_row sheet.name.now → session.source ≡ text → paged_lines text ≡ sheet_lines sheet → session.text.skin.now ≡ sheet.skin.now
+    → IsStart sheet.skin.now (paged_lines text) sheet.columns sheet.rows (state_of session)
     → MatchResult r (λ _. IsTurned (paged_of session) (state_of session) old_input new_input old_out new_out) (λ e. IsBrokenOff (paged_of session) (state_of session) e old_input new_input old_out new_out)
     → MatchResult r (λ _. IsPaged sheet old_input new_input old_out new_out) (λ e. IsBrokenRun sheet e old_input new_input old_out new_out)
-sheet_paged sheet session name text (Ok _) old_input new_input old_out new_out named row marked shown skin start h =
-    let same : paged_of session ≡ paged sheet = cc (named, row, marked, shown, skin) in
+sheet_paged sheet session name text (Ok _) old_input new_input old_out new_out named row from said skin start h =
+    let lines : paged_lines session.source ≡ sheet_lines sheet = ap paged_lines from ∙ said in
+    let same : paged_of session ≡ paged sheet = cc (named, row, lines, skin) in
     record {
       start = state_of session;
-      is = subst (λ (t : List ℕ). IsStart sheet.skin.now t sheet.columns sheet.rows (state_of session)) shown start;
+      is = subst (λ (t : List LineContent). IsStart sheet.skin.now t sheet.columns sheet.rows (state_of session)) said start;
       turned = subst (λ (p : Paged). IsTurned p (state_of session) old_input new_input old_out new_out) same h;
     }
-sheet_paged sheet session name text (Err e) old_input new_input old_out new_out named row marked shown skin start h =
-    let same : paged_of session ≡ paged sheet = cc (named, row, marked, shown, skin) in
+sheet_paged sheet session name text (Err e) old_input new_input old_out new_out named row from said skin start h =
+    let lines : paged_lines session.source ≡ sheet_lines sheet = ap paged_lines from ∙ said in
+    let same : paged_of session ≡ paged sheet = cc (named, row, lines, skin) in
     inl (record {
       start = state_of session;
-      is = subst (λ (t : List ℕ). IsStart sheet.skin.now t sheet.columns sheet.rows (state_of session)) shown start;
+      is = subst (λ (t : List LineContent). IsStart sheet.skin.now t sheet.columns sheet.rows (state_of session)) said start;
       turned = subst (λ (p : Paged). IsBrokenOff p (state_of session) e old_input new_input old_out new_out) same h;
     })

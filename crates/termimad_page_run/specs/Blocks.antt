@@ -1,6 +1,7 @@
 -- Blocks of keys: what they are read as, and what a session does of them.
 use Rattle.std.specs.Prelude.{◌≡◌, ◌≢◌, ℕ, ◌||◌, Bool, true, false, List, [], ◌∷◌, ◌++◌, Option, Some, None}
 use Rattle.mad_term.specs.declared.events.Event.{Event}
+use Rattle.mad_md.specs.Lines.{LineContent}
 use Rattle.mad_keys.specs.Decoding.{BytesGive, PauseGives}
 use Rattle.mad_keys.specs.Readings.{listed}
 use Rattle.mad_layout.specs.declared.skin.MadSkin.{MadSkin}
@@ -23,9 +24,9 @@ pub record IsBlockTold (w block : List ℕ) (pauses : Bool) (events : List Event
 -- ---- what is done
 
 -- what is done of an event, if one was told
-abbrev pub IsToldStep : MadSkin → List ℕ → Option Event → State → State → Type 0
-IsToldStep skin markdown None s new = new ≡ s
-IsToldStep skin markdown (Some event) s new = IsEventStep skin markdown event s new
+abbrev pub IsToldStep : MadSkin → List LineContent → Option Event → State → State → Type 0
+IsToldStep skin text None s new = new ≡ s
+IsToldStep skin text (Some event) s new = IsEventStep skin text event s new
 
 -- how the session goes on after it
 abbrev pub turn_told : Option Event → State → Turn
@@ -33,24 +34,24 @@ turn_told None s = Goes
 turn_told (Some event) s = turn_of event s
 
 -- it is done, and the session just goes on
-abbrev pub IsToldDone : MadSkin → List ℕ → Option Event → State → State → Type 0
-IsToldDone skin markdown told s new = IsToldStep skin markdown told s new × (turn_told told s ≡ Goes)
+abbrev pub IsToldDone : MadSkin → List LineContent → Option Event → State → State → Type 0
+IsToldDone skin text told s new = IsToldStep skin text told s new × (turn_told told s ≡ Goes)
 
 -- events are done one after the other, and none of them ends the session; and whether one of them asks for the size of the screen
-abbrev pub IsSession : MadSkin → List ℕ → State → List Event → Bool → State → Type 0
-IsSession skin markdown s [] asks new = (asks ≡ false) × (new ≡ s)
-IsSession skin markdown s (event ∷ events) asks new =
-    (mid : State) × (others : Bool) × IsEventStep skin markdown event s mid × (turn_of event s ≢ Ends) × (asks ≡ (asks_size (turn_of event s) || others))
-    × IsSession skin markdown mid events others new
+abbrev pub IsSession : MadSkin → List LineContent → State → List Event → Bool → State → Type 0
+IsSession skin text s [] asks new = (asks ≡ false) × (new ≡ s)
+IsSession skin text s (event ∷ events) asks new =
+    (mid : State) × (others : Bool) × IsEventStep skin text event s mid × (turn_of event s ≢ Ends) × (asks ≡ (asks_size (turn_of event s) || others))
+    × IsSession skin text mid events others new
 
 -- The events of a block are done, and none of them ends the session; and whether one of them asks for the size of the screen.
-pub record IsBlockDone (skin : MadSkin) (markdown w block : List ℕ) (pauses : Bool) (s : State) (left : List ℕ) (asks : Bool) (new : State) : Type 0 where
+pub record IsBlockDone (skin : MadSkin) (text : List LineContent) (w block : List ℕ) (pauses : Bool) (s : State) (left : List ℕ) (asks : Bool) (new : State) : Type 0 where
   pub events : List Event
   pub told : IsBlockTold w block pauses events left
-  pub session : IsSession skin markdown s events asks new
+  pub session : IsSession skin text s events asks new
 
 -- The events of the front of a block are done, and the last of them ends the session. The rest of the block isn't read.
-pub record IsEndedIn (skin : MadSkin) (markdown w block : List ℕ) (s : State) : Type 0 where
+pub record IsEndedIn (skin : MadSkin) (text : List LineContent) (w block : List ℕ) (s : State) : Type 0 where
   pub front : List ℕ
   pub rest : List ℕ
   pub whole : front ++ rest ≡ block
@@ -60,5 +61,5 @@ pub record IsEndedIn (skin : MadSkin) (markdown w block : List ℕ) (s : State) 
   pub told : BytesGive w front (events ++ last ∷ []) left
   pub asks : Bool
   pub before : State
-  pub session : IsSession skin markdown s events asks before
+  pub session : IsSession skin text s events asks before
   pub ends : turn_of last before ≡ Ends

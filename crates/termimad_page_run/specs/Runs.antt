@@ -4,11 +4,18 @@ use Rattle.mad_term.specs.Trace.{Trace, ahead_all, failed, IsAtItsEnd}
 use Rattle.mad_term.specs.declared.errors.Error.{Error}
 use Rattle.mad_term.specs.declared.errors.Error.TheVariants.{IO, InsufficientWidth, Memory}
 use Rattle.mad_fit.specs.Printable.{printable_text}
+use Rattle.mad_md.specs.Lines.{LineContent}
+use Rattle.mad_md.specs.Reading.{unread_text}
+use Rattle.mad_md.specs.Scan.{lines_of}
+use Rattle.mad_search.specs.PagedTexts.{paged_lines}
+use Rattle.markdown_reader.specs.Markdown.{markdown_lines}
 use Rattle.mad_layout.specs.declared.skin.MadSkin.{MadSkin}
 use Rattle.mad_pager.specs.Screens.{IsOrderly, IsShown, IsUnshown}
 use Rattle.mad_pager.specs.Sessions.{State, IsStart, state_of}
 use Rattle.mad_pager.specs.declared.session.Session.{Session}
 use Rattle.termimad_page_run.specs.Blocks.{IsBlockDone, IsEndedIn}
+use Rattle.termimad_page_run.specs.declared.program.Grammar.{Grammar}
+use Rattle.termimad_page_run.specs.declared.program.Grammar.TheVariants.{Lines, Markdown}
 use Rattle.termimad_page_run.specs.declared.program.Sheet.{Sheet}
 
 -- how many bytes a block has at most; after one that has as many there may be more, so that it is no pause
@@ -29,19 +36,28 @@ row_char c = if c == 10 then 32 else c
 abbrev pub name_row : List ℕ → List ℕ
 name_row name = encode_utf8_all (map row_char (chars (shown_text name)))
 
--- What is paged: the skin, the name and the text, as they are shown.
+-- the lines of a text: those of what is printable of it, or those of Markdown as people write it
+abbrev pub lines_in : Grammar → List ℕ → List LineContent
+lines_in Lines text = lines_of (unread_text false (shown_text text))
+lines_in Markdown text = markdown_lines text
+
+-- the lines of a sheet's text
+abbrev pub sheet_lines : Sheet → List LineContent
+sheet_lines sheet = lines_in sheet.grammar sheet.text.now
+
+-- What is paged: the skin, the name as it is shown, and the lines of the text.
 pub record Paged : Type 0 where
   pub skin : MadSkin
   pub name : List ℕ
-  pub text : List ℕ
+  pub text : List LineContent
 
 -- what is paged of a sheet
 abbrev pub paged : Sheet → Paged
-paged sheet = record { skin = sheet.skin.now; name = name_row sheet.name.now; text = shown_text sheet.markdown.now }
+paged sheet = record { skin = sheet.skin.now; name = name_row sheet.name.now; text = sheet_lines sheet }
 
 -- what is paged in a session
 abbrev pub paged_of : Session → Paged
-paged_of s = record { skin = s.text.skin.now; name = s.name.now; text = s.markdown.now }
+paged_of s = record { skin = s.text.skin.now; name = s.name.now; text = paged_lines s.source }
 
 -- ---- turns
 
@@ -122,16 +138,16 @@ pub record IsBrokenOff (p : Paged) (s : State) (e : Error) (old_input new_input 
   pub turns : AreTurns p blocks (record { state = s; waits = []; asks = false; input = old_input; out = old_out }) last
   pub fault : IsFaultyTurn p last e new_input new_out
 
--- The text is paged from its start on, and what is printable of it and of its name is shown.
+-- The text is paged from its start on, and what is printable of its name is shown.
 pub record IsPaged (sheet : Sheet) (old_input new_input old_out new_out : Trace) : Type 0 where
   pub start : State
-  pub is : IsStart sheet.skin.now (shown_text sheet.markdown.now) sheet.columns sheet.rows start
+  pub is : IsStart sheet.skin.now (sheet_lines sheet) sheet.columns sheet.rows start
   pub turned : IsTurned (paged sheet) start old_input new_input old_out new_out
 
 -- The same up to a fault.
 pub record IsPagedSoFar (sheet : Sheet) (e : Error) (old_input new_input old_out new_out : Trace) : Type 0 where
   pub start : State
-  pub is : IsStart sheet.skin.now (shown_text sheet.markdown.now) sheet.columns sheet.rows start
+  pub is : IsStart sheet.skin.now (sheet_lines sheet) sheet.columns sheet.rows start
   pub turned : IsBrokenOff (paged sheet) start e old_input new_input old_out new_out
 
 -- nothing was read or drawn, since there was no memory

@@ -4,6 +4,7 @@ ghost use Rattle.std.specs.Prelude.{◌≡◌, ◌≢◌, IfOk, OnOk, Option};
 ghost use Rattle.mad_term.specs.declared.events.Event.{Event};
 ghost use Rattle.mad_keys.specs.Decoding.{PauseGives};
 ghost use Rattle.mad_pager.specs.Sessions.{asks_size, state_of, HasSameText};
+ghost use Rattle.mad_search.specs.PagedTexts.{paged_lines};
 ghost use Rattle.termimad_page_run.specs.Blocks.{IsBlockDone, IsEndedIn, IsToldDone, IsToldStep, turn_told};
 
 use mad_keys::Keys;
@@ -24,8 +25,8 @@ pub(crate) fn apply_block(
     block: &[u8],
     pauses: bool,
 ) -> Result<Turn, AllocError>
-    ensures goes { IfOk result (λ turn. turn ≢ Turn.Ends → IsBlockDone session.old.text.skin.now session.old.markdown.now keys.old block.now pauses (state_of session.old) keys.new (asks_size turn) (state_of session.new)) }
-    ensures ends { IfOk result (λ turn. turn ≡ Turn.Ends → IsEndedIn session.old.text.skin.now session.old.markdown.now keys.old block.now (state_of session.old)) }
+    ensures goes { IfOk result (λ turn. turn ≢ Turn.Ends → IsBlockDone session.old.text.skin.now (paged_lines session.old.source) keys.old block.now pauses (state_of session.old) keys.new (asks_size turn) (state_of session.new)) }
+    ensures ends { IfOk result (λ turn. turn ≡ Turn.Ends → IsEndedIn session.old.text.skin.now (paged_lines session.old.source) keys.old block.now (state_of session.old)) }
     ensures text { OnOk result (HasSameText session.old session.new) }
 {
     let mut asks = false;
@@ -56,7 +57,7 @@ fn turn_after(asks: bool) -> Turn
 
 // Does what a pause says: a lone ESC is Esc, which never ends a session.
 fn apply_pause(alloc: Global, session: &mut Session, keys: &mut Keys) -> Result<(), AllocError>
-    ensures told { OnOk result ((told : Option Event) × PauseGives keys.old told keys.new × IsToldDone session.old.text.skin.now session.old.markdown.now told (state_of session.old) (state_of session.new)) }
+    ensures told { OnOk result ((told : Option Event) × PauseGives keys.old told keys.new × IsToldDone session.old.text.skin.now (paged_lines session.old.source) told (state_of session.old) (state_of session.new)) }
     ensures text { OnOk result (HasSameText session.old session.new) }
 {
     let event = keys.pause();
@@ -70,7 +71,7 @@ fn apply_told(
     session: &mut Session,
     event: Option<Event>,
 ) -> Result<Turn, AllocError>
-    ensures step { OnOk result (IsToldStep session.old.text.skin.now session.old.markdown.now event (state_of session.old) (state_of session.new)) }
+    ensures step { OnOk result (IsToldStep session.old.text.skin.now (paged_lines session.old.source) event (state_of session.old) (state_of session.new)) }
     ensures turn { IfOk result (λ turn. turn ≡ turn_told event (state_of session.old)) }
     ensures text { OnOk result (HasSameText session.old session.new) }
 {

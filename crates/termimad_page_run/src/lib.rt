@@ -7,4 +7,4 @@
 mod blocks;
 mod program;
 
-pub use program::{Sheet, run};
+pub use program::{Grammar, Sheet, run};

@@ -3,26 +3,40 @@
 ghost use Rattle.std.specs.Prelude.{◌≡◌, ◌≢◌, IfOk, IfErr, OnOk, MatchResult, List, ℕ, string_bytes};
 ghost use Rattle.mad_pager.specs.Sessions.{asks_size, state_of, HasSameText};
 ghost use Rattle.mad_pager.specs.Screens.{IsOrderly};
-ghost use Rattle.termimad_page_run.specs.Runs.{moment, name_row, paged_of, row_char, IsBrokenOff, IsBrokenRun, IsFaultyTurn, IsLastTurn, IsPaged, IsTurn, IsTurned};
+ghost use Rattle.mad_search.specs.PagedTexts.{paged_lines};
+ghost use Rattle.termimad_page_run.specs.Runs.{moment, name_row, paged_of, row_char, sheet_lines, IsBrokenOff, IsBrokenRun, IsFaultyTurn, IsLastTurn, IsPaged, IsTurn, IsTurned};
 
 use crate::blocks::apply_block;
 use mad_fit::printable;
 use mad_keys::Keys;
 use mad_layout::MadSkin;
 use mad_pager::{Session, Turn};
+use mad_search::PagedText;
 use mad_term::{Error, Out, Source};
+use markdown_reader::Markdown;
 use std::alloc::{AllocError, Global};
 
 // How many bytes one fill is asked for.
 const BLOCK: usize = 1 << 10;
+
+/// How a text is read.
+#[derive(Clone, Copy, Debug, PartialEq, Eq)]
+pub enum Grammar {
+    /// Its lines stand for themselves, as [`mad_md::parse_text`] reads them.
+    Lines,
+    /// As Markdown that people write.
+    Markdown,
+}
 
 /// What is paged, and where.
 #[derive(Drop)]
 pub struct Sheet<'s> {
     /// The name of the text.
     pub name: &'s str,
-    /// The text, as Markdown.
-    pub markdown: &'s str,
+    /// The text.
+    pub text: &'s str,
+    /// How it is read.
+    pub grammar: Grammar,
     /// The skin that it is shown in.
     pub skin: &'s MadSkin,
     /// The columns of the screen.
@@ -34,7 +48,7 @@ pub struct Sheet<'s> {
 /// Pages a text: draws its start, then reads blocks of keys, does what they say and draws the screen anew after each, until a key ends it
 /// or the input does.
 ///
-/// Of the name and the text what is printable is shown. A block that fills the room for it whole is no pause.
+/// What is printable of the name and of the text is shown; of Markdown that people write, what is printable of what it is read as. A block that fills the room for it whole is no pause.
 ///
 /// # Errors
 ///
@@ -48,16 +62,42 @@ pub fn run<I: Source, O: Out>(
     ensures { MatchResult result (λ _. IsPaged sheet.now (I.seen input.old) (I.seen input.new) (O.seen out.old) (O.seen out.new))
         (λ e. IsBrokenRun sheet.now e (I.seen input.old) (I.seen input.new) (O.seen out.old) (O.seen out.new)) }
 {
-    let markdown = printable(alloc, sheet.markdown)?;
     let name = name_row(alloc, sheet.name)?;
-    let mut session = Session::new(
-        alloc,
-        name.as_str(),
-        &markdown,
-        sheet.skin,
-        sheet.columns,
-        sheet.rows,
-    )?;
+    match sheet.grammar {
+        Grammar::Lines => {
+            let text = printable(alloc, sheet.text)?;
+            page(
+                alloc,
+                sheet,
+                name.as_str(),
+                PagedText::Lines(&text),
+                input,
+                out,
+            )
+        }
+        Grammar::Markdown => {
+            let markdown = Markdown::read(alloc, sheet.text)?;
+            let text = PagedText::Markdown(&markdown);
+            page(alloc, sheet, name.as_str(), text, input, out)
+        }
+    }
+}
+
+// Pages the text of a sheet, whose name and text are handed over as they are shown.
+fn page<I: Source, O: Out>(
+    alloc: Global,
+    sheet: &Sheet,
+    name: &str,
+    text: PagedText,
+    input: &mut I,
+    out: &mut O,
+) -> Result<(), Error>
+    requires name { name.now ≡ name_row sheet.now.name.now }
+    requires text { paged_lines text ≡ sheet_lines sheet.now }
+    ensures { MatchResult result (λ _. IsPaged sheet.now (I.seen input.old) (I.seen input.new) (O.seen out.old) (O.seen out.new))
+        (λ e. IsBrokenRun sheet.now e (I.seen input.old) (I.seen input.new) (O.seen out.old) (O.seen out.new)) }
+{
+    let mut session = Session::new(alloc, name, text, sheet.skin, sheet.columns, sheet.rows)?;
     turn_pages(alloc, &mut session, input, out)
 }
 
@@ -68,7 +108,7 @@ fn turn_pages<I: Source, O: Out>(
     input: &mut I,
     out: &mut O,
 ) -> Result<(), Error>
-    requires { IsOrderly session.now.text.skin.now session.now.markdown.now (state_of session.now) }
+    requires { IsOrderly session.now.text.skin.now (paged_lines session.now.source) (state_of session.now) }
     ensures { MatchResult result (λ _. IsTurned (paged_of session.old) (state_of session.old) (I.seen input.old) (I.seen input.new) (O.seen out.old) (O.seen out.new))
         (λ e. IsBrokenOff (paged_of session.old) (state_of session.old) e (I.seen input.old) (I.seen input.new) (O.seen out.old) (O.seen out.new)) }
 {
@@ -94,7 +134,7 @@ fn turn_page<I: Source, O: Out>(
     input: &mut I,
     out: &mut O,
 ) -> Result<Turn, Error>
-    requires { IsOrderly session.now.text.skin.now session.now.markdown.now (state_of session.now) }
+    requires { IsOrderly session.now.text.skin.now (paged_lines session.now.source) (state_of session.now) }
     ensures goes { IfOk result (λ turn. turn ≢ Turn.Ends → (block : List ℕ) × IsTurn (paged_of session.old) block
         (moment session.old keys.old asks (I.seen input.old) (O.seen out.old)) (moment session.new keys.new (asks_size turn) (I.seen input.new) (O.seen out.new))) }
     ensures ends { IfOk result (λ turn. turn ≡ Turn.Ends

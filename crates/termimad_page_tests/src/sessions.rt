@@ -5,24 +5,30 @@ use mad_layout::MadSkin;
 use mad_screen::{NotPlain, Screen};
 use mad_term::Error;
 use std::alloc::{AllocError, Global};
-use termimad_page_run::{Sheet, run};
+use termimad_page_run::{Grammar, Sheet, run};
 
 // What is put where the size is asked for.
 const SIZE_QUESTION: &[u8] = b"\x1b[999;999H\x1b[6n";
 
-/// What a session shows. The call has the columns and rows of the screen, and the name; the text is Markdown, a line `==`, and a block a line.
+/// What a session shows. The call has the columns and rows of the screen, and the name, after the word `markdown` where the text is read as
+/// people write Markdown. The text comes first, then a line `==`, and a block a line.
 pub fn shown(alloc: Global, call: &str, text: &str) -> Result<String, AllocError> {
+    let (grammar, call) = match call.strip_prefix("markdown ") {
+        Some(call) => (Grammar::Markdown, call),
+        None => (Grammar::Lines, call),
+    };
     let mut words = call.splitn(3, ' ');
     let columns = number(words.next());
     let rows = number(words.next());
     let name = words.next().unwrap_or("");
-    let (markdown, blocks) = text.split_once("\n==\n").unwrap_or((text, ""));
+    let (text, blocks) = text.split_once("\n==\n").unwrap_or((text, ""));
     let blocks: String = blocks.chars().map(meant).collect(alloc)?;
     let blocks = blocks.as_str();
     let skin = MadSkin::default();
     let sheet = Sheet {
         name,
-        markdown,
+        text,
+        grammar,
         skin: &skin,
         columns,
         rows,

@@ -11,4 +11,4 @@ starts-preserved g c =
     starts_more _ _ _ _ _ _ _ _ _ c.starts.invariant (rw c.if-branch.true at c.in_ok-lay_next.ensures) (c.in_ok-push.ensures.items ∙ ap (λ (n : ℕ). c.starts.starts.items ++ n ∷ []) c.count_of.ensures)
 
 pub returns : goal.returns
-returns g c = (lines_left c.new-parts.result, c.new-parts.ensures.reading, starts_whole _ _ _ _ _ _ c.starts.invariant (rw c.if-branch.false at c.in_ok-lay_next.ensures).0)
+returns g c = starts_whole _ _ _ _ _ _ c.starts.invariant (rw c.if-branch.false at c.in_ok-lay_next.ensures).0
