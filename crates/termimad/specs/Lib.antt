@@ -217,3 +217,13 @@ pub use Rattle.mad_frames.specs.Frames
 pub use Rattle.mad_frames.specs.Mending as MendedScreens
 pub use Rattle.mad_frames.specs.Refusals as PresentRefusals
 pub use Rattle.mad_frames.specs.Whole as WholeScreens
+pub use Rattle.mad_live.specs.LiveRows
+pub use Rattle.mad_live.specs.PaintedRows
+pub use Rattle.mad_live.specs.PaperLaws
+pub use Rattle.mad_live.specs.Papers
+pub use Rattle.mad_stream.specs.FittingRows
+pub use Rattle.mad_stream.specs.LiveTexts
+pub use Rattle.mad_stream.specs.Streams
+pub use Rattle.markdown_layout.specs.WrittenMarkdown
+pub use Rattle.markdown_reader.specs.Markdown
+pub use Rattle.markdown_reader.specs.Printed

@@ -1,7 +1,7 @@
 //! Markdown for terminals: the names that a program needs, from the crates that have them.
 //!
 //! Most names are at the top. What a text is, what a terminal takes and shows, and each other subject has a module of its own, with more
-//! names and with laws: [`md`], [`term`], [`keys`], [`screen`], [`frames`], [`draw`], [`wrap`], [`layout`], [`widths`], [`parse`], [`edit`], [`field`], [`list`] and [`ask`].
+//! names and with laws: [`md`], [`term`], [`keys`], [`screen`], [`frames`], [`draw`], [`wrap`], [`layout`], [`widths`], [`parse`], [`edit`], [`field`], [`list`], [`live`] and [`ask`].
 #![tactic(auto)]
 
 /// What a terminal takes, and what it shows.
@@ -78,6 +78,12 @@ pub mod list {
         RowFilter, RowOrder,
     };
     pub use mad_list_columns::{ListStyle, body_height, fit_columns, laws, list_bar, push_list};
+}
+
+/// Laws of texts that come in pieces, on a terminal that scrolls.
+pub mod live {
+    pub use mad_live::laws;
+    pub use mad_stream::laws as text_laws;
 }
 
 /// Questions, and what can be answered.
@@ -180,6 +186,11 @@ pub use mad_md::parse_text;
 pub use mad_md::parse_text_with;
 pub use mad_screen::CutOut;
 pub use mad_screen::ScriptSource;
+pub use mad_stream::LiveText;
+pub use mad_stream::TextStream;
+pub use mad_stream::cut_text;
+pub use mad_stream::show_pieces_on;
+pub use mad_stream::write_pieces_on;
 pub use mad_style::ASCII_TABLE_BORDER_CHARS;
 pub use mad_style::ATTRIBUTES;
 pub use mad_style::CompositeKind;
@@ -237,3 +248,5 @@ pub use mad_view::TextView;
 pub use mad_view::draw_views;
 pub use mad_widths::TblFit;
 pub use mad_widths::TblFitResult;
+pub use markdown_layout::write_markdown_on;
+pub use markdown_reader::Markdown;

@@ -7,7 +7,7 @@ use Rattle.mad_term.specs.declared.errors.Error.{Error}
 use Rattle.mad_term.specs.declared.errors.Error.TheVariants.{IO, InsufficientWidth, Memory as NoMemory}
 use Rattle.termimad.specs.declared.MadSkin.{MadSkin}
 use Rattle.termimad_run.specs.declared.call.Command.{Command}
-use Rattle.termimad_run.specs.declared.call.Command.TheVariants.{InArea, AtWidth, Inline}
+use Rattle.termimad_run.specs.declared.call.Command.TheVariants.{InArea, AtWidth, AsMarkdown, Inline}
 use Rattle.mad_term.proofs.Traces.{took_flushed}
 use Rattle.termimad.specs.Headline.{AreShownAcross}
 use Rattle.termimad.specs.RowSkins.{row_skin}
@@ -95,4 +95,5 @@ still_shown skin (InArea area) text old written new (headline, h) is = (
   },
 )
 still_shown skin (AtWidth width) text old written new h is = tt
+still_shown skin (AsMarkdown width) text old written new h is = tt
 still_shown skin Inline text old written new h is = tt

@@ -2,7 +2,7 @@
 use Rattle.std.proofs.Common.{◌≡◌, ℕ, List, [], ◌∷◌, get_or, ◌⊎◌, Option, Some, None, inl, inr, Err, refl, ap, sym, ◌∙◌, subst, arith}
 use Rattle.termimad.specs.declared.MadSkin.{MadSkin}
 use Rattle.termimad_run.specs.declared.call.Command.{Command}
-use Rattle.termimad_run.specs.declared.call.Command.TheVariants.{InArea, AtWidth, Inline}
+use Rattle.termimad_run.specs.declared.call.Command.TheVariants.{InArea, AtWidth, AsMarkdown, Inline}
 use Rattle.termimad_run.specs.declared.failure.Failure.{Failure}
 use Rattle.termimad_run.specs.declared.failure.Failure.TheVariants.{Io, Usage, NotUtf8, Skin, Memory}
 use Rattle.mad_term.specs.Trace.{Trace}
@@ -22,13 +22,20 @@ first_byte m n name xs ys h k = ap (λ (l : List ℕ). get_or l 0 0) (sym h ∙ 
 asked_once : (words : List (List ℕ)) (c d : Command) (a b : Option (List ℕ)) → Asks words c a → Asks words d b → a ≡ b
 asked_once [] c d a b h k = absurd h
 asked_once (name ∷ l ∷ t ∷ w ∷ e ∷ rest) (InArea x) (InArea y) a b h k = one_word rest a b h.1.1 k.1.1
-asked_once (name ∷ words) (InArea x) (AtWidth n) a b h k = absurd (let e : 97 ≡ 116 = first_byte 97 116 name _ _ h.0 k.0 in omega (arith, e))
+asked_once (name ∷ words) (InArea x) (AtWidth m) a b h k = absurd (let e : 97 ≡ 116 = first_byte 97 116 name _ _ h.0 k.0 in omega (arith, e))
+asked_once (name ∷ words) (InArea x) (AsMarkdown m) a b h k = absurd (let e : 97 ≡ 109 = first_byte 97 109 name _ _ h.0 k.0 in omega (arith, e))
 asked_once (name ∷ words) (InArea x) Inline a b h k = absurd (let e : 97 ≡ 105 = first_byte 97 105 name _ _ h.0 k.0 in omega (arith, e))
-asked_once (name ∷ words) (AtWidth n) (InArea x) a b h k = absurd (let e : 116 ≡ 97 = first_byte 116 97 name _ _ h.0 k.0 in omega (arith, e))
+asked_once (name ∷ words) (AtWidth n) (InArea y) a b h k = absurd (let e : 116 ≡ 97 = first_byte 116 97 name _ _ h.0 k.0 in omega (arith, e))
 asked_once (name ∷ w ∷ rest) (AtWidth n) (AtWidth m) a b h k = one_word rest a b h.1.1 k.1.1
+asked_once (name ∷ words) (AtWidth n) (AsMarkdown m) a b h k = absurd (let e : 116 ≡ 109 = first_byte 116 109 name _ _ h.0 k.0 in omega (arith, e))
 asked_once (name ∷ words) (AtWidth n) Inline a b h k = absurd (let e : 116 ≡ 105 = first_byte 116 105 name _ _ h.0 k.0 in omega (arith, e))
-asked_once (name ∷ words) Inline (InArea x) a b h k = absurd (let e : 105 ≡ 97 = first_byte 105 97 name _ _ h.0 k.0 in omega (arith, e))
-asked_once (name ∷ words) Inline (AtWidth n) a b h k = absurd (let e : 105 ≡ 116 = first_byte 105 116 name _ _ h.0 k.0 in omega (arith, e))
+asked_once (name ∷ words) (AsMarkdown n) (InArea y) a b h k = absurd (let e : 109 ≡ 97 = first_byte 109 97 name _ _ h.0 k.0 in omega (arith, e))
+asked_once (name ∷ words) (AsMarkdown n) (AtWidth m) a b h k = absurd (let e : 109 ≡ 116 = first_byte 109 116 name _ _ h.0 k.0 in omega (arith, e))
+asked_once (name ∷ w ∷ rest) (AsMarkdown n) (AsMarkdown m) a b h k = one_word rest a b h.1.1 k.1.1
+asked_once (name ∷ words) (AsMarkdown n) Inline a b h k = absurd (let e : 109 ≡ 105 = first_byte 109 105 name _ _ h.0 k.0 in omega (arith, e))
+asked_once (name ∷ words) Inline (InArea y) a b h k = absurd (let e : 105 ≡ 97 = first_byte 105 97 name _ _ h.0 k.0 in omega (arith, e))
+asked_once (name ∷ words) Inline (AtWidth m) a b h k = absurd (let e : 105 ≡ 116 = first_byte 105 116 name _ _ h.0 k.0 in omega (arith, e))
+asked_once (name ∷ words) Inline (AsMarkdown m) a b h k = absurd (let e : 105 ≡ 109 = first_byte 105 109 name _ _ h.0 k.0 in omega (arith, e))
 asked_once (name ∷ words) Inline Inline a b h k = one_word words a b h.1 k.1
 asked_once _ _ _ a b h k = absurd h.1
 

@@ -8,11 +8,13 @@ use Rattle.termimad.specs.declared.Error.{Error}
 use Rattle.termimad.specs.Headline.{ShowsHeadline}
 use Rattle.termimad.specs.InArea.{WritesInArea, ShowsText}
 use Rattle.termimad.specs.Inlines.{inline_bytes}
+use Rattle.termimad.specs.Markdown.{markdown_lines}
 use Rattle.termimad.specs.RowSkins.{row_skin}
+use Rattle.termimad.specs.WrittenMarkdown.{whole_word_skin, WritesLines}
 use Rattle.termimad.specs.WrittenParts.{WritesParts}
 use Rattle.termimad.specs.declared.MadSkin.{MadSkin}
 use Rattle.termimad_run.specs.declared.call.Command.{Command}
-use Rattle.termimad_run.specs.declared.call.Command.TheVariants.{InArea, AtWidth, Inline}
+use Rattle.termimad_run.specs.declared.call.Command.TheVariants.{InArea, AtWidth, AsMarkdown, Inline}
 use Rattle.termimad_run.specs.declared.failure.Failure.{Failure}
 use Rattle.termimad_run.specs.declared.failure.Failure.TheVariants.{Io, Usage, NotUtf8, Skin, Memory}
 use Rattle.termimad_run.specs.Calls.{IsCall, IsNoCall, AsksRefusedSkin, AsksJson, RefusesWords}
@@ -48,11 +50,12 @@ pub record Started (words : List (List ℕ)) (old new : Trace) : Type 0 where
 abbrev pub WritesLine : {T : Type 0} → MadSkin → List ℕ → Trace → Result T Error → Trace → Type 0
 WritesLine skin line old r new = DrawsSome (IsInlineReading line) (λ items. inline_bytes (row_skin skin) line items ++ (10 ∷ [])) old r new
 
--- What the output is asked to take of a text. It is the text in its area, or its lines, laid out at a width part by part. Of `inline`
--- it is the line without its end, and a newline.
+-- What the output is asked to take of a text. It is the text in its area, or its lines, laid out at a width part by part. Of `markdown`
+-- it is what the text is read as, laid out with whole words; of `inline` the line without its end, and a newline.
 abbrev pub WritesCall : {T : Type 0} → MadSkin → Command → List ℕ → Trace → Result T Error → Trace → Type 0
 WritesCall skin (InArea area) text old r new = WritesInArea (row_skin skin) text area old r new
 WritesCall skin (AtWidth width) text old r new = WritesParts (row_skin skin) (Some width) text old r new
+WritesCall skin (AsMarkdown width) text old r new = WritesLines (whole_word_skin skin) (Some width) (markdown_lines text) old r new
 WritesCall skin Inline text old r new = (line : List ℕ) × IsWithoutLineEnd text line × WritesLine skin line old r new
 
 -- What a plain terminal shows that reads what was written. It is the first rows of the text in its area, by its characters and by a
@@ -61,6 +64,7 @@ abbrev pub ShowsCall : MadSkin → Command → List ℕ → Trace → Trace → 
 ShowsCall skin (InArea area) text old new =
     ShowsHeadline (row_skin skin) text area old new × ShowsText (row_skin skin) text area old new
 ShowsCall skin (AtWidth width) text old new = ⊤
+ShowsCall skin (AsMarkdown width) text old new = ⊤
 ShowsCall skin Inline text old new = ⊤
 
 -- The input was read whole and is a text.

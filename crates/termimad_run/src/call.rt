@@ -20,6 +20,8 @@ pub enum Command {
     InArea(Area),
     /// `text W`: the text, laid out at that width, in columns.
     AtWidth(u16),
+    /// `markdown W`: the text, read as people write Markdown and laid out at that width, in columns.
+    AsMarkdown(u16),
     /// `inline`: the text, as one line.
     Inline,
 }
@@ -35,7 +37,7 @@ pub struct Call {
     pub unknown: Vec<String>,
 }
 
-/// The call that the words after the program's name are: `area L T W H [SKIN]`, `text W [SKIN]` or `inline [SKIN]`.
+/// The call that the words after the program's name are: `area L T W H [SKIN]`, `text W [SKIN]`, `markdown W [SKIN]` or `inline [SKIN]`.
 ///
 /// # Errors
 ///
@@ -68,6 +70,10 @@ fn parse_words(words: &[String]) -> Option<(Command, Option<&str>)>
             let (width, word) = parse_text_call(words)?;
             Some((Command::AtWidth(width), word))
         }
+        "markdown" => {
+            let (width, word) = parse_text_call(words)?;
+            Some((Command::AsMarkdown(width), word))
+        }
         "inline" => Some((Command::Inline, skin_word(words)?)),
         _ => None,
     }
@@ -85,7 +91,7 @@ fn parse_area_call(words: &[String]) -> Option<(Area, Option<&str>)>
     Some((area, skin_word(rest)?))
 }
 
-// What the words after `text` ask for.
+// What the words after `text` or `markdown` ask for.
 fn parse_text_call(words: &[String]) -> Option<(u16, Option<&str>)>
     ensures { MatchOption result ((width : ℕ) (word : Option (List ℕ)) → ¬ (AsksWidth (map string_bytes words.now) width word))
         (λ asked. AsksWidth (map string_bytes words.now) asked.0 (option_map (λ word. word.now) asked.1)) }

@@ -7,9 +7,10 @@ ghost use Rattle.termimad_run.specs.ProgramRuns.{WritesCall, ShowsCall, WritesLi
 
 use crate::call::Command;
 use std::alloc::Global;
-use termimad::{Error, MadSkin, Out, put_all};
+use termimad::{Error, MadSkin, Out, put_all, write_markdown_on};
 
-/// Writes a text in an area, or laid out at a width, or as one line with inline marks and a newline. Nothing is flushed.
+/// Writes a text in an area, or laid out at a width, or read as people write Markdown and laid out, or as one line with inline marks and a
+/// newline. Nothing is flushed.
 ///
 /// An area has to have four columns at least and lie within the limits of a screen: its right and bottom fit a `u16`.
 ///
@@ -32,6 +33,9 @@ pub fn write_call<O: Out>(
         Command::InArea(area) => skin.write_in_area_on(alloc, out, text, area),
         Command::AtWidth(width) => {
             skin.write_parts_on(alloc, out, text, Some(usize::from(*width)))
+        }
+        Command::AsMarkdown(width) => {
+            write_markdown_on(alloc, out, skin, text, Some(usize::from(*width)))
         }
         Command::Inline => write_line(alloc, out, skin, without_line_end(text)),
     }
