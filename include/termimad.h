@@ -79,6 +79,16 @@ termimad_answer termimad_area(const char *text, size_t text_length, const char *
 termimad_answer termimad_text(const char *text, size_t text_length, const char *skin, size_t skin_length,
                               size_t width, char *buffer, size_t capacity);
 
+/* The text, read as people write Markdown and laid out in WIDTH columns, each row with a newline: what `termimad-view markdown WIDTH`
+ * writes. Nothing of the text reaches the terminal that it obeys. Words stay whole.
+ *
+ * WIDTH is at most 65535, else TERMIMAD_CONDITION. Under 3 nothing is wrapped.
+ *
+ *   termimad_markdown("Two lines\nof a [paragraph](x)", 29, "", 0, 40, buffer, sizeof buffer);
+ */
+termimad_answer termimad_markdown(const char *text, size_t text_length, const char *skin, size_t skin_length,
+                                  size_t width, char *buffer, size_t capacity);
+
 /* The text as one line with its inline marks, and a newline: what `termimad-view inline` writes.
  *
  * One newline at the end of the text is dropped before, with a carriage return before it.

@@ -101,7 +101,7 @@ static bytes random_text(void)
 
 static call random_call(void)
 {
-    call it = { .kind = (unsigned)next(6), .text = random_text() };
+    call it = { .kind = (unsigned)next(7), .text = random_text() };
     const char *skin = skins[next(COUNT(skins))];
     it.skin = copy_of(skin, strlen(skin));
     for (int n = 0; n < 4; n++)
@@ -126,6 +126,7 @@ static termimad_answer answer_of(const call *c, char *buffer, size_t capacity)
     case 2: return termimad_inline(text, length, skin, skin_length, buffer, capacity);
     case 3: return termimad_rows(text, length, skin, skin_length, n[0]);
     case 4: return termimad_fit(text, length, skin, skin_length, n[0], n[1], buffer, capacity);
+    case 5: return termimad_markdown(text, length, skin, skin_length, n[0], buffer, capacity);
     default: return termimad_printable(text, length, buffer, capacity);
     }
 }

@@ -66,6 +66,7 @@ _BYTES = [ctypes.c_char_p, ctypes.c_size_t]
 _PARAMETERS = {
     "termimad_area": _BYTES * 2 + [ctypes.c_size_t] * 4 + _BYTES,
     "termimad_text": _BYTES * 2 + [ctypes.c_size_t] + _BYTES,
+    "termimad_markdown": _BYTES * 2 + [ctypes.c_size_t] + _BYTES,
     "termimad_inline": _BYTES * 3,
     "termimad_rows": _BYTES * 2 + [ctypes.c_size_t],
     "termimad_fit": _BYTES * 2 + [ctypes.c_size_t] * 2 + _BYTES,
@@ -84,6 +85,11 @@ def area(markdown, left, top, width, height, skin=""):
 def text(markdown, width, skin=""):
     """The text, laid out in `width` columns, each row with a newline."""
     return _result("termimad_text", [markdown, skin], [width])
+
+
+def markdown(text, width, skin=""):
+    """The text, read as people write Markdown and laid out in `width` columns, each row with a newline."""
+    return _result("termimad_markdown", [text, skin], [width])
 
 
 def inline(line, skin=""):

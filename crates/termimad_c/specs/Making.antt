@@ -16,7 +16,7 @@ use Rattle.termimad.specs.declared.FmtLine.{FmtLine}
 use Rattle.termimad.specs.declared.MadSkin.{MadSkin}
 use Rattle.termimad_run.specs.ProgramRuns.{WritesCall, ShowsCall}
 use Rattle.termimad_run.specs.declared.call.Command.{Command}
-use Rattle.termimad_run.specs.declared.call.Command.TheVariants.{InArea, AtWidth}
+use Rattle.termimad_run.specs.declared.call.Command.TheVariants.{InArea, AtWidth, AsMarkdown}
 use Rattle.termimad_c.specs.Gathered.{untouched}
 use Rattle.termimad_c.specs.Inputs.{IsSkinOf, IsAreaOf, alignment_number}
 
@@ -38,6 +38,10 @@ IsAreaWritten text word left top width height whole = (area : Area) × IsAreaOf 
 -- so it writes the text at a width
 abbrev pub IsTextWritten : List ℕ → List ℕ → ℕ → List ℕ → Type 0
 IsTextWritten text word width whole = (width < 2 ^ 16) × IsWritten text word (AtWidth width) whole
+
+-- so it writes what the text is as Markdown that people write
+abbrev pub IsMarkdownWritten : List ℕ → List ℕ → ℕ → List ℕ → Type 0
+IsMarkdownWritten text word width whole = (width < 2 ^ 16) × IsWritten text word (AsMarkdown width) whole
 
 -- The text has a layout of so many lines at this width, in the skin of this word. Each is one row.
 pub record IsRowCount (text word : List ℕ) (width count : ℕ) : Type 0 where

@@ -7,11 +7,11 @@ ghost use Rattle.std.specs.Prelude.{◌≡◌, ◌⊎◌, ◌≤◌, ◌^◌, []
 ghost use Rattle.termimad_run.specs.declared.call.Command.TheVariants.{Inline};
 ghost use Rattle.termimad_c.specs.Answers.{Answers, Counts};
 ghost use Rattle.termimad_c.specs.Inputs.{RefusesCall, IsNoArea, IsNoFit};
-ghost use Rattle.termimad_c.specs.Making.{IsWritten, IsAreaWritten, IsTextWritten, IsRowCount, IsFittedLine, IsMadePrintable};
+ghost use Rattle.termimad_c.specs.Making.{IsWritten, IsAreaWritten, IsTextWritten, IsMarkdownWritten, IsRowCount, IsFittedLine, IsMadePrintable};
 
 use crate::answer::{Answer, count_out, hand_out};
 use crate::making::{
-    area_bytes, fitted_bytes, inline_bytes, printable_bytes, rows_count, text_bytes,
+    area_bytes, fitted_bytes, inline_bytes, markdown_bytes, printable_bytes, rows_count, text_bytes,
 };
 use std::alloc::Global;
 
@@ -46,6 +46,20 @@ pub extern "C" fn termimad_text(
     ensures { Answers (IsTextWritten text.now skin.now width) (RefusesCall (2 ^ 16 ≤ width) text.now skin.now) buffer.old result buffer.new }
 {
     hand_out(text_bytes(alloc, text, skin, width), buffer)
+}
+
+/// A text of Markdown as people write it, laid out at a width, in columns: what `termimad-view markdown` writes.
+#[unsafe(no_mangle)]
+pub extern "C" fn termimad_markdown(
+    alloc: Global,
+    text: &[u8],
+    skin: &[u8],
+    width: usize,
+    buffer: &mut [u8],
+) -> Answer
+    ensures { Answers (IsMarkdownWritten text.now skin.now width) (RefusesCall (2 ^ 16 ≤ width) text.now skin.now) buffer.old result buffer.new }
+{
+    hand_out(markdown_bytes(alloc, text, skin, width), buffer)
 }
 
 /// A text as one line with its inline marks, and a newline: what `termimad-view inline` writes.

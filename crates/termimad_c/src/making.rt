@@ -4,7 +4,7 @@ ghost use Rattle.std.specs.Prelude.{◌≡◌, ◌≤◌, ◌^◌, [], MatchResu
 ghost use Rattle.termimad_run.specs.Calls.{IsAllowed};
 ghost use Rattle.termimad_run.specs.declared.call.Command.TheVariants.{Inline};
 ghost use Rattle.termimad_c.specs.Inputs.{RefusesCall, IsNoArea, IsNoFit};
-ghost use Rattle.termimad_c.specs.Making.{IsWritten, IsAreaWritten, IsTextWritten, IsRowCount, IsFittedLine, IsMadePrintable};
+ghost use Rattle.termimad_c.specs.Making.{IsWritten, IsAreaWritten, IsTextWritten, IsMarkdownWritten, IsRowCount, IsFittedLine, IsMadePrintable};
 
 use crate::answer::Refusal;
 use crate::gathered::Gathered;
@@ -39,6 +39,21 @@ pub fn text_bytes(alloc: Global, text: &[u8], skin: &[u8], width: usize) -> Resu
 {
     let width = number_of(width)?;
     written(alloc, text, skin, &Command::AtWidth(width))
+}
+
+/// A text of Markdown as people write it, at a width: the bytes of `termimad-view markdown`.
+#[tactic(auto, using(crate::proofs::Steps::call_refused))]
+pub fn markdown_bytes(
+    alloc: Global,
+    text: &[u8],
+    skin: &[u8],
+    width: usize,
+) -> Result<Vec<u8>, Refusal>
+    ensures { MatchResult result (λ whole. IsMarkdownWritten text.now skin.now width whole.items)
+        (RefusesCall (2 ^ 16 ≤ width) text.now skin.now) }
+{
+    let width = number_of(width)?;
+    written(alloc, text, skin, &Command::AsMarkdown(width))
 }
 
 /// A text as one line: the bytes of `termimad-view inline`.

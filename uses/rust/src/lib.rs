@@ -36,6 +36,15 @@ extern "C" {
         buffer: *mut u8,
         capacity: usize,
     ) -> Answer;
+    fn termimad_markdown(
+        text: *const u8,
+        text_length: usize,
+        skin: *const u8,
+        skin_length: usize,
+        width: usize,
+        buffer: *mut u8,
+        capacity: usize,
+    ) -> Answer;
     fn termimad_inline(
         text: *const u8,
         text_length: usize,
@@ -142,6 +151,21 @@ pub fn area(text: &str, area: Area, skin: &str) -> Result<String, Refused> {
 pub fn text(text: &str, width: usize, skin: &str) -> Result<String, Refused> {
     filled(|buffer| unsafe {
         termimad_text(
+            text.as_ptr(),
+            text.len(),
+            skin.as_ptr(),
+            skin.len(),
+            width,
+            buffer.as_mut_ptr(),
+            buffer.len(),
+        )
+    })
+}
+
+/// A text of Markdown as people write it, laid out at a width, in columns.
+pub fn markdown(text: &str, width: usize, skin: &str) -> Result<String, Refused> {
+    filled(|buffer| unsafe {
+        termimad_markdown(
             text.as_ptr(),
             text.len(),
             skin.as_ptr(),
