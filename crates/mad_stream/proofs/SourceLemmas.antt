@@ -1,7 +1,7 @@
 -- How the steps of a source join that is written as it comes.
-use Rattle.std.proofs.Common.{◌≡◌, ◌≢◌, ◌⊎◌, inl, inr, ℕ, zero, suc, ◌+◌, ◌-◌, ◌^◌, ◌<◌, ◌≤◌, ◌==◌, Bool, true, false, List, [], ◌∷◌, ◌++◌, length, take, drop, Option, Some, None, option_map, Result, Ok, Err, refl, sym, ap, ◌∙◌, subst, arith, append_assoc, string_bytes}
+use Rattle.std.proofs.Common.{◌≡◌, ◌≢◌, inl, inr, ℕ, zero, suc, ◌+◌, ◌-◌, ◌<◌, ◌≤◌, ◌==◌, Bool, true, false, List, [], ◌∷◌, ◌++◌, length, take, drop, Option, Some, None, option_map, Result, Ok, Err, refl, sym, ap, ◌∙◌, subst, arith, append_assoc, string_bytes}
 use Rattle.std.specs.Prelude.{IsUtf8, MatchResult}
-use Rattle.std.specs.List.{AllByRecursion, copy_within}
+use Rattle.std.specs.List.{copy_within}
 use Rattle.std.specs.Result.{IsErrAnd}
 use Rattle.std.specs.declared.io.Error.{Error as IoError}
 use Rattle.std.proofs.lemmas.List.Edits.{take-paste}
@@ -11,28 +11,25 @@ use Rattle.std.proofs.lemmas.Str.{IsUtf8-append, IsUtf8-nil}
 use Rattle.std.proofs.Math.Seq.{take-append_seam}
 use Rattle.std.proofs.lemmas.Bool.{true≢false}
 use Rattle.mad_md.specs.Lines.{LineContent}
-use Rattle.mad_md.specs.LineKinds.{told_kind}
 use Rattle.mad_md.specs.Reading.{resumed_text, unread_text}
 use Rattle.mad_md.specs.Scan.{lines_of}
 use Rattle.mad_md.specs.declared.line_kinds.LineKind.{LineKind}
 use Rattle.mad_md.specs.declared.line_kinds.LineKind.TheVariants.{Fence, Code, Table, Alone}
 use Rattle.mad_md.proofs.PartsLemmas.{test_true, true_test}
-use Rattle.mad_term.specs.Draws.{Draws}
-use Rattle.mad_term.specs.Trace.{Trace, after, failed, flushed, ahead_all, IsAtItsEnd}
+use Rattle.mad_term.specs.Trace.{Trace, after, failed, flushed, ahead_all}
 use Rattle.mad_term.specs.declared.errors.Error.{Error}
 use Rattle.mad_term.specs.declared.errors.Error.TheVariants as writing
 use Rattle.mad_term.proofs.Traces.{after-append, after-nil}
 use Rattle.mad_blocks.specs.Layouts.{IsLayoutAt}
 use Rattle.mad_blocks.specs.TextParts.{text_parts}
 use Rattle.mad_blocks.proofs.LayoutJoins.{apart_parts}
-use Rattle.mad_rows.specs.Rows.{text_bytes}
 use Rattle.mad_rows.specs.RowStyles.{line_rules}
 use Rattle.mad_rows.specs.declared.row_skin.RowSkin.{RowSkin}
 use Rattle.mad_stream.specs.LiveTexts.{IsLaidOut}
 use Rattle.mad_stream.specs.SourceErrors.{refusal_of}
-use Rattle.mad_stream.specs.Sources.{AreCompleteRows, BeginsRows, IsNoText, WritesAllRows, IsReadOut, MayGoOn, Streamed, StreamsSource, flushed_times}
+use Rattle.mad_stream.specs.Sources.{AreCompleteRows, BeginsRows, IsNoText, IsReadOut, MayGoOn, Streamed, StreamsSource, flushed_times}
 use Rattle.mad_stream.specs.SourceSteps.{EndsFlushed, EndsText, EndsWhole, FeedsBlock, FlushesOut, StopsInBlock}
-use Rattle.mad_stream.specs.Streams.{AreHeld, Finishes, Holds, IsInStep, IsPrompt, Steps, lines_ahead}
+use Rattle.mad_stream.specs.Streams.{AreHeld, Finishes, IsInStep, IsPrompt, Steps, lines_ahead}
 use Rattle.mad_stream.specs.TextFronts.{BeginNoText, IsTextFront}
 use Rattle.mad_stream.specs.declared.source_error.SourceError.{SourceError}
 use Rattle.mad_stream.specs.declared.source_error.SourceError.TheVariants.{Source, Device, NotUtf8, Memory}
@@ -152,6 +149,7 @@ complete_rows read sent s h p =
       parts = ap text_parts both ∙ apart_parts h.way.front (lines_ahead s line) (ended_apart read sent s h) ∙ ap (λ ls. text_parts h.way.front ++ text_parts ls) held;
       one = held_may_go_on s.last h.holds.own h.holds.kind p.complete;
       line = h.holds.line;
+      ends = h.begun;
       lines = h.way.lines;
       layout = h.way.layout;
       rows = sym (h.way.rows ∙ ap (λ (b : List ℕ). sent ++ b) p.sent ∙ append-nil sent);

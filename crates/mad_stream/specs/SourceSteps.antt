@@ -1,8 +1,7 @@
 -- The steps of a source that is written as it comes.
-use Rattle.std.specs.Prelude.{◌≡◌, ℕ, ◌+◌, ◌≤◌, Bool, true, false, List, ◌++◌, length, take, Option, Result, Ok, Err}
+use Rattle.std.specs.Prelude.{◌≡◌, ℕ, ◌+◌, ◌≤◌, Bool, true, false, List, ◌++◌, length, take, Result, Ok, Err}
 use Rattle.mad_term.specs.Trace.{Trace, after, failed, flushed}
 use Rattle.mad_term.specs.declared.errors.Error.{Error}
-use Rattle.mad_rows.specs.declared.row_skin.RowSkin.{RowSkin}
 use Rattle.mad_stream.specs.LiveTexts.{IsLaidOut}
 use Rattle.mad_stream.specs.Sources.{BeginsRows}
 use Rattle.mad_stream.specs.SourceErrors.{refusal_of}

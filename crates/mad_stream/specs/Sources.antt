@@ -1,12 +1,11 @@
 -- Sources whose Markdown text is written as it comes.
-use Rattle.std.specs.Prelude.{◌≡◌, ◌⊎◌, ℕ, zero, suc, ◌-◌, ◌^◌, ◌<◌, ◌≤◌, Bool, true, false, List, [], ◌++◌, length, Option, Result, Ok, Err, IsUtf8}
+use Rattle.std.specs.Prelude.{◌≡◌, ◌⊎◌, ℕ, zero, suc, ◌-◌, ◌^◌, ◌<◌, ◌≤◌, Bool, false, List, ◌++◌, length, Option, Result, Ok, Err, IsUtf8}
 use Rattle.std.specs.List.{AllByRecursion}
 use Rattle.mad_md.specs.LineKinds.{told_kind}
 use Rattle.mad_md.specs.Lines.{LineContent}
 use Rattle.mad_md.specs.Parts.{HasNoNewline}
 use Rattle.mad_md.specs.Reading.{resumed_text, unread_text}
 use Rattle.mad_md.specs.Scan.{lines_of}
-use Rattle.mad_md.specs.declared.line_kinds.LineKind.{LineKind}
 use Rattle.mad_md.specs.declared.line_kinds.LineKind.TheVariants.{Code, Table}
 use Rattle.mad_term.specs.Trace.{Trace, after, failed, flushed, ahead_all, IsAtItsEnd}
 use Rattle.mad_blocks.specs.Layouts.{IsLayoutAt}
@@ -16,6 +15,7 @@ use Rattle.mad_rows.specs.Rows.{text_bytes}
 use Rattle.mad_rows.specs.RowStyles.{line_rules}
 use Rattle.mad_rows.specs.declared.row_skin.RowSkin.{RowSkin}
 use Rattle.mad_stream.specs.LiveTexts.{IsLaidOut}
+use Rattle.mad_stream.specs.Streams.{EndsIn}
 use Rattle.mad_stream.specs.TextFronts.{IsTextFront, BeginNoText}
 use Rattle.mad_stream.specs.declared.source_error.SourceError.{SourceError}
 use Rattle.mad_stream.specs.declared.source_error.SourceError.TheVariants.{Source, Device, NotUtf8, Memory}
@@ -37,8 +37,7 @@ pub record BeginsRows (skin : RowSkin) (width : Option ℕ) (text bytes : List �
 abbrev pub MayGoOn : List LineContent → Type 0
 MayGoOn lines = AllByRecursion (λ l. told_kind l ≡ Table) lines ⊎ AllByRecursion (λ l. told_kind l ≡ Code) lines
 
--- These bytes are all rows of a text's complete parts. What is left of it is one part that may go on, and the line that has begun: what came after the
--- last newline.
+-- These bytes are all rows of a text's complete parts. What is left of it is one part that may go on, and the line that has begun.
 pub record AreCompleteRows (skin : RowSkin) (width : Option ℕ) (text bytes : List ℕ) : Type 0 where
   pub front : List LineContent
   pub held : List LineContent
@@ -48,6 +47,7 @@ pub record AreCompleteRows (skin : RowSkin) (width : Option ℕ) (text bytes : L
   pub parts : text_parts (lines_of (unread_text false text)) ≡ text_parts front ++ text_parts (held ++ lines_of (resumed_text fenced begun))
   pub one : MayGoOn held
   pub line : HasNoNewline begun
+  pub ends : EndsIn text begun
   pub lines : List FmtLine
   pub layout : IsLayoutAt (line_rules skin) width front lines
   pub rows : bytes ≡ text_bytes skin width lines

@@ -1,4 +1,4 @@
-use Rattle.std.proofs.Common.{◌≡◌, Err, Result, sym, subst}
+use Rattle.std.proofs.Common.{Err, Result, sym, subst}
 use Rattle.mad_term.specs.declared.errors.Error.{Error}
 use Rattle.mad_stream.specs.SourceSteps.{EndsText}
 use Rattle.mad_stream.specs.Streams.{Finishes}

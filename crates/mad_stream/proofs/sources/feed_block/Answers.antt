@@ -1,9 +1,9 @@
-use Rattle.std.proofs.Common.{◌≡◌, ◌∙◌, Result, OnOk, length, sym, take, subst, arith}
+use Rattle.std.proofs.Common.{◌≡◌, Result, OnOk, length, take, subst, arith}
 use Rattle.std.proofs.lemmas.List.{take_all}
 use Rattle.mad_term.specs.declared.errors.Error.{Error}
-use Rattle.mad_stream.specs.SourceSteps.{FeedsBlock, StopsInBlock}
-use Rattle.mad_stream.specs.Streams.{Steps, IsPrompt}
-use Rattle.mad_stream.proofs.SourceLemmas.{feeds_block, refused_exit, stops_at_flush, stops_at_rows}
+use Rattle.mad_stream.specs.SourceSteps.{StopsInBlock}
+use Rattle.mad_stream.specs.Streams.{Steps}
+use Rattle.mad_stream.proofs.SourceLemmas.{refused_exit, stops_at_flush, stops_at_rows}
 use Rattle.mad_stream.proofs.sources.feed_block.Goals as goal
 
 pub returns-in-Err : goal.returns-in-Err

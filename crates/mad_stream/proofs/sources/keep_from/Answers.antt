@@ -1,4 +1,3 @@
-use Rattle.std.proofs.Common.{◌≡◌, ◌∙◌, ap}
 use Rattle.mad_stream.proofs.SourceLemmas.{kept_front}
 use Rattle.mad_stream.proofs.sources.keep_from.Goals as goal
 

@@ -1,4 +1,4 @@
-use Rattle.std.proofs.Common.{◌≡◌, ◌+◌, ◌++◌, [], List, ℕ, false, inl, inr, length, take, drop, refl, ap, rules, arith}
+use Rattle.std.proofs.Common.{◌≡◌, [], false, inl, inr, length, take, refl, ap, rules, arith}
 use Rattle.std.proofs.lemmas.List.{length-append, length-take-le}
 use Rattle.mad_layout.specs.RowSkins.{row_skin}
 use Rattle.mad_stream.proofs.SourceLemmas.{block_come, block_stopped, none_waits, read_out, some_came, some_wait, source_ended, source_failed, source_more, source_start, text_ended}
