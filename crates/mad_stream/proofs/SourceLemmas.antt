@@ -207,23 +207,6 @@ ends_whole {T} x s before written now finishes flush = record { written = writte
 
 -- ---- a block
 
-pub feeds_block : {T : Type 0} (x : T) (old : TextStream) (block text taken : List ℕ) (is_wrong : Bool) (new : TextStream) (before between now : Trace) → IsTextFront block text → (is_wrong ≡ false → length block ≤ length text + 3) → (is_wrong ≡ true → BeginNoText block)
-    → taken ≡ text → Steps {T = T} old taken new before (Ok x) between → now ≡ flushed between → IsPrompt new → new.skin ≡ old.skin → new.width ≡ old.width → FeedsBlock old block (length text) is_wrong new before now
-feeds_block {T} x old block text taken is_wrong new before between now front short wrong all fed went prompt skin width =
-    let is : take (length text) block ≡ text = ap (take (length text)) front.joins ∙ take-append_seam text front.rest in
-    record {
-      within = omega (arith, ap length front.joins, length-append text front.rest);
-      front = subst (λ (t : List ℕ). IsTextFront block t) (sym is) front;
-      short = short;
-      wrong = wrong;
-      between = between;
-      fed = subst (λ (t : List ℕ). Steps {T = Unit {0}} old t new before (Ok (tt {0})) between) (all ∙ sym is) (record { bytes = fed.bytes; went = fed.went; keeps = fed.keeps });
-      went = went;
-      prompt = prompt;
-      skin = skin;
-      width = width;
-    }
-
 pub stops_at_rows : {T : Type 0} (old : TextStream) (block text : List ℕ) (n : ℕ) (new : TextStream) (before : Trace) (cause : Error) (e : SourceError) (now : Trace) → IsTextFront block text → e ≡ refusal_of cause → Steps {T = T} old (take n text) new before (Err cause) now
     → new.skin ≡ old.skin → new.width ≡ old.width → StopsInBlock old block new before e now
 stops_at_rows {T} old block text n new before cause e now front told fed skin width = record {
