@@ -13,19 +13,19 @@ use mad_layout::MadSkin;
 use mad_term::{Error, Out, Source};
 use std::alloc::Global;
 
-// How many bytes one fill is asked for, and those that wait in front of them.
+// How many bytes a block has: those that wait, and those that one fill is asked for.
 const BLOCK: usize = 1 << 14;
 
-/// Reads a source to its end and writes the Markdown text that it has as it comes, in a skin and at a width, in columns, if there is one.
+/// Reads a source to its end, and writes its Markdown text as it comes, in a skin and at a width, in columns, if there is one.
 ///
-/// It reads in blocks of at most 16 KiB, each as large as the source gives it at once. After each block the rows of all parts that are
-/// complete are written and flushed, and at the end those of what is left: in all what [`MadSkin::write_parts_on`] writes of the whole text.
-/// A source is taken to end after 2^64 - 1 blocks. It takes memory for the largest part.
+/// It reads blocks of at most 16 KiB, as much of each as the source gives at once. After each block all rows of complete parts are written
+/// and flushed; at the end come the rows of what is left, and a flush. In all they are what [`MadSkin::write_parts_on`] writes of the text.
+/// It takes memory for the largest part. A source is taken to end after 2^64 - 1 blocks.
 ///
 /// # Errors
 ///
-/// The first fault of the source or of the device, or out of memory: then a beginning of the rows went out, and after a fault of the source all
-/// rows of complete parts. Bytes that aren't UTF-8: then all rows of the text before them were written and flushed.
+/// The first fault of the source or of the device, or out of memory: a beginning of the rows of the text's first parts went out. Where the
+/// source failed, these are all rows of complete parts. Or bytes that aren't UTF-8: all rows of the text before them went out, and were flushed.
 pub fn write_source_on<I: Source, O: Out>(
     alloc: Global,
     input: &mut I,
@@ -57,8 +57,7 @@ pub fn write_source_on<I: Source, O: Out>(
     end_text(alloc, stream, out, waiting == 0)
 }
 
-// Feeds the text at the front of a block, and flushes. Answers how many bytes it has, and whether those after it are no text, whatever
-// comes.
+// Feeds the text at the front of a block, and flushes. Answers how many bytes it has, and whether no text begins with the block.
 fn feed_block<O: Out>(
     alloc: Global,
     stream: &mut TextStream,
@@ -78,7 +77,7 @@ fn feed_block<O: Out>(
     Ok((text.len(), is_wrong))
 }
 
-// The text is at its end: writes the rows of what is left, and flushes. Bytes after it that are no text are refused then.
+// The text is at its end: writes the rows of what is left, and flushes. Where it isn't all that was read, that is refused then.
 fn end_text<O: Out>(
     alloc: Global,
     stream: TextStream,
@@ -109,7 +108,7 @@ fn keep_from(block: &mut [u8], from: usize, to: usize)
     block.copy_within(from..to, 0);
 }
 
-// What the device keeps back goes out.
+// Has the device hand on what it keeps back.
 fn flush<O: Out>(out: &mut O) -> Result<(), SourceError>
     ensures { FlushesOut (O.seen out.old) result (O.seen out.new) }
 {
