@@ -39,7 +39,7 @@ abbrev pub pieces_from : ℕ → List (List FlaggedChar) → List (List FlaggedC
 pieces_from limit word [] = pieces_of_word limit word
 pieces_from limit word (t ∷ ts) = if list_all is_blank t then pieces_of_word limit word ++ (t ∷ pieces_from limit [] ts) else pieces_from limit (word ++ t ∷ []) ts
 
--- What isn't parted of a line: its tokens, or where words stay whole its blank tokens, its words, and the tokens of a word that fits on no line.
+-- What isn't parted of a line: its tokens, or where words stay whole its blank tokens, its words, and the tokens of a word that is wider than a line.
 abbrev pub pieces_of_line : Room → List (List FlaggedChar) → List (List FlaggedChar)
 pieces_of_line r parts = if r.whole_words then pieces_from (token_limit r) [] (tokens_of r parts) else tokens_of r parts
 
