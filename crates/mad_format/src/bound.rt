@@ -33,6 +33,9 @@ pub struct WrapBound {
 /// Of a clean cut they are 0 and the first token that passes the first line, if one does. Where each character has room, some
 /// fitting break has as many lines, unless a clean cut drops a middle in code; a composite that fits has one start.
 ///
+/// All this is of a skin in which words may be parted. One that keeps them whole gets the same starts: each line count of its
+/// breaks is at least theirs, and `hard_wrap_composite` may give more lines.
+///
 /// The time is linear in the text.
 ///
 /// # Errors

@@ -30,10 +30,13 @@ use std::vec::IntoIter;
 
 /// Wraps a composite that is wider than `width` columns, in the fewest lines.
 ///
-/// The lines keep the composite's text but for whitespace between them and after the last, and no fitting break has fewer.
-/// Where each character has room after the greater indent, each line fits. Two compounds that fit on a line each, with or
-/// without one of whitespace between them, are cut there. Any other text is cut into tokens, which are placed one after the
-/// other. The first line has the composite's kind, and the others the kind that follows it; all have its spacing, and no margins.
+/// The lines keep the composite's text but for whitespace between them and after the last. Where each character has room
+/// after the greater indent, each line fits. The text is cut into tokens, which are placed one after the other, and no fitting
+/// break has fewer lines. Two compounds that fit on a line each, with or without one of whitespace between them, are cut there.
+/// The first line has the composite's kind, and the others the kind that follows it; all have its spacing, and no margins.
+///
+/// Where the skin keeps words whole, a word that fits on each line is placed as one, over compounds. No fitting break that
+/// parts no such word has fewer lines, and nothing else is cut.
 ///
 /// The composite has to be wider than the width, and its cached length right. The time is linear in the text; no character is
 /// copied.

@@ -43,6 +43,7 @@ fn push_answer(
 ) -> Result<(), Error> {
     match name {
         "wrap" => wraps::wrap(alloc, picture, words, text),
+        "words" => wraps::words(alloc, picture, words, text),
         "plain" => plain::plain(alloc, picture, words, text),
         "plains" => plain::plains(alloc, picture, words, text),
         "check" => wraps::check(alloc, picture, words, text),
@@ -54,6 +55,7 @@ fn push_answer(
         "fill" => fits::fill(alloc, picture, words, text),
         "zones" => fits::zones(alloc, picture, words, text),
         "lay" => tables::lay(alloc, picture, words, text),
+        "lay_words" => tables::lay_words(alloc, picture, words, text),
         "fix" => tables::fix(alloc, picture, words, text),
         "tables" => tables::tables(alloc, picture, words, text),
         "rules" => tables::rules(alloc, picture, words, text),

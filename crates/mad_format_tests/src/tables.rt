@@ -2,11 +2,12 @@
 
 use crate::lines::read_lines;
 use crate::pictures::{push_lines, push_row};
-use crate::skins::unstyled_skin;
+use crate::skins::{unstyled_skin, word_skin};
 use crate::words::{aligns, number, numbers};
 use mad_blocks::{Table, fix_all_tables, lay_row, lay_source};
 use mad_format::FmtLine;
 use mad_md::Alignment;
+use mad_style::ListItemsIndentationMode;
 use mad_term::Error;
 use std::alloc::Global;
 use std::fmt::Write;
@@ -14,6 +15,18 @@ use std::fmt::Write;
 /// The lines of a text at a width, or at none.
 pub fn lay(alloc: Global, picture: &mut String, width: &str, text: &str) -> Result<(), Error> {
     let lines = lay_source(alloc, &unstyled_skin(), text, width.parse().ok())?;
+    Ok(push_lines(picture, &lines)?)
+}
+
+/// The lines of a text at a width, or at none, words whole.
+pub fn lay_words(
+    alloc: Global,
+    picture: &mut String,
+    width: &str,
+    text: &str,
+) -> Result<(), Error> {
+    let skin = word_skin(ListItemsIndentationMode::Block);
+    let lines = lay_source(alloc, &skin, text, width.parse().ok())?;
     Ok(push_lines(picture, &lines)?)
 }
 

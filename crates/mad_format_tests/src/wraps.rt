@@ -3,7 +3,7 @@
 ghost use Rattle.mad_format.specs.Wraps.{IsMeasured};
 
 use crate::pictures::push_compounds;
-use crate::skins::{TestSkin, skin_with, unstyled_skin};
+use crate::skins::{TestSkin, skin_with, unstyled_skin, word_skin};
 use crate::words::{mode, number, numbers, style};
 use mad_format::{
     FmtComposite, LineSkin, WrapBound, check_wrap_bound, hard_wrap_composite, wrap_bound,
@@ -21,6 +21,17 @@ pub fn wrap(alloc: Global, picture: &mut String, words: &str, text: &str) -> Res
     let skin = skin_with(0, 0, mode(&mut words));
     let compounds = Composite::from_inline(alloc, text)?.compounds;
     push_both(alloc, picture, Composite { style, compounds }, width, &skin)
+}
+
+/// The lines of a text with inline marks, words whole, of a kind and in a mode of items.
+pub fn words(alloc: Global, picture: &mut String, words: &str, text: &str) -> Result<(), Error> {
+    let mut words = words.split_whitespace();
+    let width = number(&mut words);
+    let style = style(&mut words);
+    let skin = word_skin(mode(&mut words));
+    let compounds = Composite::from_inline(alloc, text)?.compounds;
+    let composite = FmtComposite::from(Composite { style, compounds }, &skin);
+    push_wrap(alloc, picture, &composite, width, &skin)
 }
 
 // The lines that a composite is wrapped into, and where those of its bound start.

@@ -1,5 +1,5 @@
 -- A fitting break of flagged tokens is one of the tokens.
-use Rattle.std.proofs.Common.{◌≡◌, ℕ, ◌+◌, true, List, [], ◌∷◌, ◌++◌, map, length, refl, sym, ap, ◌∙◌, subst, arith}
+use Rattle.std.proofs.Common.{◌≡◌, ℕ, ◌+◌, true, false, if◌then◌else◌, List, [], ◌∷◌, ◌++◌, map, length, refl, sym, ap, ◌∙◌, subst, arith}
 use Rattle.std.specs.List.{AllByRecursion}
 use Rattle.std.proofs.lemmas.List.{length-map, map-append}
 use Rattle.mad_wrap.proofs.PromisedStarts.{blank_token}
@@ -13,7 +13,7 @@ use Rattle.mad_fit.proofs.FlaggedLemmas.{width_of-append}
 use Rattle.mad_fit.proofs.TokenTexts.{IsHonest, all_honest, some_flagged}
 use Rattle.mad_wrap.specs.Breaks.{LineAndGap, lines_and_gaps, total_width, AllBlank, FitsFrom, FittingBreak, EndsWithLine}
 use Rattle.mad_wrap.specs.Rooms.{token_limit}
-use Rattle.mad_layout.specs.FlaggedRows.{whole, IsFittingBreak}
+use Rattle.mad_layout.specs.FlaggedRows.{whole, tokens_of, pieces_from, pieces_of_line, IsFittingBreak}
 use Rattle.mad_wrap.specs.WrapLines.{LinesFit}
 use Rattle.mad_wrap.specs.declared.room.Room.{Room}
 use Rattle.mad_layout.proofs.FlaggedTokens.{tokens_agree}
@@ -40,23 +40,24 @@ joined_by f (q ∷ qs) =
 abbrev pub flagged_piece : LineAndGap Token → LineAndGap (List FlaggedChar)
 flagged_piece q = piece_by flagged_token q
 
-same_piece : (p q : LineAndGap (List FlaggedChar)) → p.line ≡ q.line → p.gap ≡ q.gap → p ≡ q
+same_piece : {A : Type 0} (p q : LineAndGap A) → p.line ≡ q.line → p.gap ≡ q.gap → p ≡ q
 same_piece p q line gap = ap (λ l. record { line = l; gap = p.gap }) line ∙ ap (λ g. record { line = q.line; gap = g }) gap
 
-lift : (ps : List (LineAndGap (List FlaggedChar))) (ts : List Token) → map flagged_token ts ≡ lines_and_gaps ps → (qs : List (LineAndGap Token)) × (lines_and_gaps qs ≡ ts) × (map flagged_piece qs ≡ ps)
-lift [] [] e = ([], refl, refl)
-lift [] (t ∷ ts) e = absurd (cc)
-lift (p ∷ ps) ts e =
-    let line = cut_first flagged_token p.line (p.gap ++ lines_and_gaps ps) ts e in
-    let gap = cut_first flagged_token p.gap (lines_and_gaps ps) line.1 line.4 in
-    let more = lift ps gap.1 gap.4 in
-    let q : LineAndGap Token = record { line = line.0; gap = gap.0 } in (
+-- a break of a list that was mapped is one of the list
+pub lift : {A B : Type 0} (f : A → B) (ps : List (LineAndGap B)) (ts : List A) → map f ts ≡ lines_and_gaps ps → (qs : List (LineAndGap A)) × (lines_and_gaps qs ≡ ts) × (map (piece_by f) qs ≡ ps)
+lift f [] [] e = ([], refl, refl)
+lift f [] (t ∷ ts) e = absurd (cc)
+lift {A = A} f (p ∷ ps) ts e =
+    let line = cut_first f p.line (p.gap ++ lines_and_gaps ps) ts e in
+    let gap = cut_first f p.gap (lines_and_gaps ps) line.1 line.4 in
+    let more = lift f ps gap.1 gap.4 in
+    let q : LineAndGap A = record { line = line.0; gap = gap.0 } in (
       q ∷ more.0,
       ap (λ l. line.0 ++ (gap.0 ++ l)) more.1 ∙ ap (λ l. line.0 ++ l) (sym gap.2) ∙ sym line.2,
-      ap (λ x. x ∷ map flagged_piece more.0) (same_piece (flagged_piece q) p line.3 gap.3) ∙ ap (λ l. p ∷ l) more.2,
+      ap (λ x. x ∷ map (piece_by f) more.0) (same_piece (piece_by f q) p line.3 gap.3) ∙ ap (λ l. p ∷ l) more.2,
     )
 
-width_of-tokens : (max : ℕ) (ts : List Token) → AllByRecursion (IsHonest max) ts → width_of (whole (map flagged_token ts)) ≡ total_width ts
+pub width_of-tokens : (max : ℕ) (ts : List Token) → AllByRecursion (IsHonest max) ts → width_of (whole (map flagged_token ts)) ≡ total_width ts
 width_of-tokens max [] h = refl
 width_of-tokens max (t ∷ ts) h =
     width_of-append (flagged_token t) (whole (map flagged_token ts)) ∙ ap (λ n. n + width_of (whole (map flagged_token ts))) (sym h.0.alike.counts)
@@ -69,7 +70,7 @@ blank_tokens max (t ∷ ts) h on =
     let rest : List FlaggedChar = whole (map flagged_token ts) in
     (blank_token t.blank (flagged_token t) (some_flagged t h.0.within) h.0.alike.alike (all_front is (flagged_token t) rest on), blank_tokens max ts h.1 (all_back is (flagged_token t) rest on))
 
-fits_back : (max indent : ℕ) (r : Room) (qs : List (LineAndGap Token)) → AllByRecursion (IsHonest max) (lines_and_gaps qs) → LinesFit indent r (map (λ p. whole p.line) (map flagged_piece qs))
+pub fits_back : (max indent : ℕ) (r : Room) (qs : List (LineAndGap Token)) → AllByRecursion (IsHonest max) (lines_and_gaps qs) → LinesFit indent r (map (λ p. whole p.line) (map flagged_piece qs))
     → AllByRecursion (λ p. AllByRecursion (λ x. is_blank x ≡ true) (whole p.gap)) (map flagged_piece qs) → FitsFrom indent r qs
 fits_back max indent r [] honest fits dropped = tt
 fits_back max indent r (q ∷ qs) honest fits dropped =
@@ -87,12 +88,16 @@ ends_back [] h = tt
 ends_back (q ∷ []) h = no_tokens q.gap h
 ends_back (q ∷ q' ∷ qs) h = ends_back (q' ∷ qs) h
 
--- a fitting break of the flagged tokens has as many lines as some fitting break of the tokens
-pub break_lifts : (r : Room) (ps : List Compound) (ts : List Token) (breaks : List (LineAndGap (List FlaggedChar))) → AreTokensOf (token_limit r) ps ts
+-- where words may be parted, the pieces are the tokens
+pub token_pieces : (r : Room) (parts : List (List FlaggedChar)) → r.whole_words ≡ false → pieces_of_line r parts ≡ tokens_of r parts
+token_pieces r parts off = ap (λ b. if b then pieces_from (token_limit r) [] (tokens_of r parts) else tokens_of r parts) off
+
+-- there a fitting break has as many lines as some fitting break of the tokens
+pub break_lifts : (r : Room) (ps : List Compound) (ts : List Token) (breaks : List (LineAndGap (List FlaggedChar))) → r.whole_words ≡ false → AreTokensOf (token_limit r) ps ts
     → IsFittingBreak r (map flagged_of ps) breaks → (qs : List (LineAndGap Token)) × FittingBreak r ts qs × (length qs ≡ length breaks)
-break_lifts r ps ts breaks cut b =
+break_lifts r ps ts breaks off cut b =
     let max : ℕ = token_limit r in
-    let lifted = lift breaks ts (tokens_agree r ps ts cut ∙ sym b.covers) in
+    let lifted = lift flagged_token breaks ts (tokens_agree r ps ts cut ∙ sym (token_pieces r (map flagged_of ps) off) ∙ sym b.covers) in
     let qs = lifted.0 in
     let same : breaks ≡ map flagged_piece qs = sym lifted.2 in
     let count : length qs ≡ length breaks = sym (length-map qs flagged_piece) ∙ ap length lifted.2 in (

@@ -5,6 +5,7 @@ pub mod DrawableTables
 pub mod DrawnLayouts
 pub mod DrawnParts
 pub mod FlaggedBreaks
+pub mod FlaggedPieces
 pub mod FlaggedTokens
 pub mod HeaderLemmas
 pub mod HeadlineLemmas

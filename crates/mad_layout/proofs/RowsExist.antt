@@ -3,13 +3,14 @@ use Rattle.std.proofs.Common.{◌≡◌, ℕ, ◌+◌, ◌<◌, ◌≤◌, Bool,
 use Rattle.std.specs.Prelude.{not, ◌&&◌}
 use Rattle.std.specs.List.{AllByRecursion, list_all}
 use Rattle.std.specs.Char.{is_whitespace}
+use Rattle.std.proofs.lemmas.Bool.{leb-true}
 use Rattle.std.proofs.lemmas.Bool.Decides.{nat_tests}
 use Rattle.std.proofs.lemmas.List.{append-nil, length-map}
 use Rattle.std.proofs.lemmas.List.Concat.{flat_map-append}
 use Rattle.mad_columns.specs.Columns.{char_columns}
 use Rattle.mad_md.specs.Flagged.{FlaggedChar, is_blank}
 use Rattle.mad_fit.specs.TextColumns.{width_of}
-use Rattle.mad_fit.proofs.AllLemmas.{all_front, all_back, all_joined}
+use Rattle.mad_fit.proofs.AllLemmas.{all_push, all_front, all_back, all_joined}
 use Rattle.mad_fit.proofs.FlaggedLemmas.{width_of-append}
 use Rattle.mad_fit.specs.declared.tokens.Token.{Token}
 use Rattle.mad_wrap.proofs.LeastLemmas.{least_from}
@@ -19,14 +20,14 @@ use Rattle.mad_wrap.specs.Placings.{LinesForced}
 use Rattle.mad_wrap.specs.Rooms.{most_indent, token_limit}
 use Rattle.mad_wrap.specs.WrapLines.{LinesFit}
 use Rattle.mad_wrap.specs.declared.room.Room.{Room}
-use Rattle.mad_layout.specs.FlaggedRows.{whole, goes_on, tokens_from, tokens_of, IsFittingBreak, AreRowsOf}
+use Rattle.mad_layout.specs.FlaggedRows.{whole, goes_on, tokens_from, tokens_of, pieces_of_word, pieces_from, pieces_of_line, IsFittingBreak, AreRowsOf}
 use Rattle.mad_layout.proofs.FlaggedBreaks.{piece_by, joined_by}
 use Rattle.mad_blocks.proofs.LayoutJoins.{by_bool}
 
 abbrev pub all_blank : List FlaggedChar → Bool
 all_blank t = list_all is_blank t
 
--- the rows of tokens, of which the first is after an indent and has begun; it has ended where a blank didn't fit
+-- the rows of pieces, of which the first is after an indent and has begun; it has ended where a blank didn't fit
 abbrev pub rows : Room → ℕ → List FlaggedChar → Bool → List (List FlaggedChar) → List (List FlaggedChar)
 rows r i line ended [] = line ∷ []
 rows r i line true (t ∷ ts) = if all_blank t then rows r i line true ts else line ∷ rows r r.other t false ts
@@ -36,7 +37,7 @@ rows r i line false (t ∷ ts) =
 
 -- the rows of a line's parts
 abbrev pub rows_of : Room → List (List FlaggedChar) → List (List FlaggedChar)
-rows_of r parts = rows r r.first [] false (tokens_of r parts)
+rows_of r parts = rows r r.first [] false (pieces_of_line r parts)
 
 and_both : (a b : Bool) → (a && b) ≡ true → (a ≡ true) × (b ≡ true)
 and_both true true e = (refl, refl)
@@ -85,7 +86,25 @@ whole_tokens_of r (p ∷ ps) =
     flat_map-append (λ (t : List FlaggedChar). t) (tokens_from (token_limit r) [] p) (tokens_of r ps) ∙ ap (λ l. l ++ whole (tokens_of r ps)) (whole_tokens (token_limit r) [] p)
     ∙ ap (λ l. p ++ l) (whole_tokens_of r ps)
 
--- ---- they are lines of tokens
+whole_of_word : (limit : ℕ) (word : List (List FlaggedChar)) → whole (pieces_of_word limit word) ≡ whole word
+whole_of_word limit [] = refl
+whole_of_word limit (t ∷ ts) =
+    by_bool (λ b. whole (if b then whole (t ∷ ts) ∷ [] else t ∷ ts) ≡ whole (t ∷ ts)) (nat_le (width_of (whole (t ∷ ts))) limit) (λ on. append-nil (whole (t ∷ ts))) (λ off. refl)
+
+whole_from : (limit : ℕ) (word ts : List (List FlaggedChar)) → whole (pieces_from limit word ts) ≡ whole word ++ whole ts
+whole_from limit word [] = whole_of_word limit word ∙ sym (append-nil (whole word))
+whole_from limit word (t ∷ ts) =
+    by_bool (λ b. whole (if b then pieces_of_word limit word ++ (t ∷ pieces_from limit [] ts) else pieces_from limit (word ++ t ∷ []) ts) ≡ whole word ++ (t ++ whole ts)) (list_all is_blank t)
+    (λ on. flat_map-append (λ (t : List FlaggedChar). t) (pieces_of_word limit word) (t ∷ pieces_from limit [] ts) ∙ ap (λ l. l ++ (t ++ whole (pieces_from limit [] ts))) (whole_of_word limit word)
+    ∙ ap (λ l. whole word ++ (t ++ l)) (whole_from limit [] ts))
+    (λ off. whole_from limit (word ++ t ∷ []) ts ∙ ap (λ l. l ++ whole ts) (flat_map-append (λ (t : List FlaggedChar). t) word (t ∷ []) ∙ ap (λ l. whole word ++ l) (append-nil t)) ∙ append_assoc (whole word) t (whole ts))
+
+pub whole_pieces : (r : Room) (parts : List (List FlaggedChar)) → whole (pieces_of_line r parts) ≡ whole parts
+whole_pieces r parts =
+    by_bool (λ b. whole (if b then pieces_from (token_limit r) [] (tokens_of r parts) else tokens_of r parts) ≡ whole parts) r.whole_words
+    (λ on. whole_from (token_limit r) [] (tokens_of r parts) ∙ whole_tokens_of r parts) (λ off. whole_tokens_of r parts)
+
+-- ---- they are lines of pieces
 
 abbrev pub line_text : LineAndGap (List FlaggedChar) → List FlaggedChar
 line_text p = whole p.line
@@ -93,7 +112,7 @@ line_text p = whole p.line
 abbrev pub WhiteGaps : List (LineAndGap (List FlaggedChar)) → Type 0
 WhiteGaps ps = AllByRecursion (λ p. AllWhite (whole p.gap)) ps
 
--- what breaking looks at of a token: its columns, and whether it is blank
+-- what breaking looks at of a piece: its columns, and whether it is blank
 abbrev sized : List FlaggedChar → Token
 sized t = record { compound = record { src = record { ref_ptr = (0, 0); now = [] }; bold = false; italic = false; code = false; strikeout = false }; blank = all_blank t; width = width_of t; start_in_compound = 0; end_in_compound = 0 }
 
@@ -104,7 +123,7 @@ sizes_wide : (ts : List (List FlaggedChar)) → total_width (map sized ts) ≡ w
 sizes_wide [] = refl
 sizes_wide (t ∷ ts) = ap (λ n. width_of t + n) (sizes_wide ts) ∙ sym (width_of-append t (whole ts))
 
--- The rows are lines of tokens, the first of which begins with these. Each line but the first begins where the one before has no room.
+-- The rows are lines of pieces, the first of which begins with these. Each line but the first begins where the one before has no room.
 record Broken (r : Room) (i : ℕ) (begun ts rs : List (List FlaggedChar)) : Type 0 where
   first : LineAndGap (List FlaggedChar)
   others : List (LineAndGap (List FlaggedChar))
@@ -118,7 +137,7 @@ record Broken (r : Room) (i : ℕ) (begun ts rs : List (List FlaggedChar)) : Typ
 whole_more : (ts : List (List FlaggedChar)) (t : List FlaggedChar) → whole (ts ++ t ∷ []) ≡ whole ts ++ t
 whole_more ts t = flat_map-append (λ (t : List FlaggedChar). t) ts (t ∷ []) ∙ ap (λ l. whole ts ++ l) (append-nil t)
 
--- a token that isn't blank and doesn't fit begins the next line
+-- a piece that isn't blank and doesn't fit begins the next line
 line_ends : (r : Room) (i : ℕ) (line gap : List (List FlaggedChar)) (t : List FlaggedChar) (ts : List (List FlaggedChar)) → AllWhite (whole gap) → all_blank t ≡ false → r.width < i + width_of (whole line) + width_of (whole gap) + width_of t
     → Broken r r.other (t ∷ []) (t ∷ ts) (rows r r.other (whole (t ∷ [])) false ts) → Broken r i line (line ++ (gap ++ t ∷ ts)) (whole line ∷ rows r r.other t false ts)
 line_ends r i line gap t ts white solid past next = record {
@@ -169,8 +188,33 @@ rows_broken r i line gap false (t ∷ ts) white none past =
     (λ solid. line_ends r i line gap t ts white solid (omega (arith, past)) (rows_broken r r.other (t ∷ []) [] false ts tt (λ e. refl) (λ e. absurd (cc)))))
     refl
 
-lines_broken : (r : Room) (parts : List (List FlaggedChar)) → Broken r r.first [] (tokens_of r parts) (rows_of r parts)
-lines_broken r parts = rows_broken r r.first [] [] false (tokens_of r parts) tt (λ e. refl) (λ e. absurd (cc))
+lines_broken : (r : Room) (parts : List (List FlaggedChar)) → Broken r r.first [] (pieces_of_line r parts) (rows_of r parts)
+lines_broken r parts = rows_broken r r.first [] [] false (pieces_of_line r parts) tt (λ e. refl) (λ e. absurd (cc))
+
+-- ---- what holds of each piece
+
+-- what holds of each token, and then of a word of some that is within the limit
+IsOfWords : (List FlaggedChar → Type 0) → ℕ → Type 0
+IsOfWords P limit = (t : List FlaggedChar) (ts : List (List FlaggedChar)) → P t → width_of (whole (t ∷ ts)) ≤ limit → P (whole (t ∷ ts))
+
+each_of_word : (P : List FlaggedChar → Type 0) (limit : ℕ) → IsOfWords P limit → (word : List (List FlaggedChar)) → AllByRecursion P word → AllByRecursion P (pieces_of_word limit word)
+unfolding IsOfWords
+each_of_word P limit words [] h = tt
+each_of_word P limit words (t ∷ ts) h =
+    by_bool (λ b. AllByRecursion P (if b then whole (t ∷ ts) ∷ [] else t ∷ ts)) (nat_le (width_of (whole (t ∷ ts))) limit)
+    (λ on. (words t ts h.0 (leb-true (width_of (whole (t ∷ ts))) limit on), tt)) (λ off. h)
+
+each_from : (P : List FlaggedChar → Type 0) (limit : ℕ) → IsOfWords P limit → (word ts : List (List FlaggedChar)) → AllByRecursion P word → AllByRecursion P ts → AllByRecursion P (pieces_from limit word ts)
+each_from P limit words word [] begun each = each_of_word P limit words word begun
+each_from P limit words word (t ∷ ts) begun each =
+    by_bool (λ b. AllByRecursion P (if b then pieces_of_word limit word ++ (t ∷ pieces_from limit [] ts) else pieces_from limit (word ++ t ∷ []) ts)) (list_all is_blank t)
+    (λ on. all_joined P (pieces_of_word limit word) (t ∷ pieces_from limit [] ts) (each_of_word P limit words word begun) (each.0, each_from P limit words [] ts tt each.1))
+    (λ off. each_from P limit words (word ++ t ∷ []) ts (all_push P word t begun each.0) each.1)
+
+each_piece : (P : List FlaggedChar → Type 0) (r : Room) (parts : List (List FlaggedChar)) → IsOfWords P (token_limit r) → AllByRecursion P (tokens_of r parts) → AllByRecursion P (pieces_of_line r parts)
+each_piece P r parts words each =
+    by_bool (λ b. AllByRecursion P (if b then pieces_from (token_limit r) [] (tokens_of r parts) else tokens_of r parts)) r.whole_words
+    (λ on. each_from P (token_limit r) words [] (tokens_of r parts) tt each) (λ off. each)
 
 -- ---- they fit
 
@@ -208,6 +252,10 @@ tokens_of_within r (p ∷ ps) narrow =
     let is : FlaggedChar → Type 0 = λ x. char_columns x.char ≤ limit in
     all_joined (λ (t : List FlaggedChar). width_of t ≤ limit) (tokens_from limit [] p) (tokens_of r ps)
     (tokens_within limit [] p (omega arith) (all_front is p (whole ps) narrow)) (tokens_of_within r ps (all_back is p (whole ps) narrow))
+
+pieces_within : (r : Room) (parts : List (List FlaggedChar)) → AllByRecursion (λ x. char_columns x.char ≤ token_limit r) (whole parts) → AllByRecursion (λ t. width_of t ≤ token_limit r) (pieces_of_line r parts)
+unfolding IsOfWords
+pieces_within r parts narrow = each_piece (λ t. width_of t ≤ token_limit r) r parts (λ t ts own within. within) (tokens_of_within r parts narrow)
 
 -- ---- no fitting break has fewer lines
 
@@ -274,6 +322,10 @@ tokens_of_some : (r : Room) (parts : List (List FlaggedChar)) → AllByRecursion
 tokens_of_some r [] = tt
 tokens_of_some r (p ∷ ps) = all_joined IsSome (tokens_from (token_limit r) [] p) (tokens_of r ps) (tokens_some (token_limit r) [] p) (tokens_of_some r ps)
 
+pieces_of_some : (r : Room) (parts : List (List FlaggedChar)) → AllByRecursion IsSome (pieces_of_line r parts)
+unfolding IsOfWords
+pieces_of_some r parts = each_piece IsSome r parts (λ t ts own within. omega (arith, own, length-append t (whole ts))) (tokens_of_some r parts)
+
 pub whole_some : (parts : List (List FlaggedChar)) → 0 < length parts → AllByRecursion IsSome parts → IsSome (whole parts)
 whole_some [] some each = absurd (omega (arith, some))
 whole_some (p ∷ ps) some each = omega (arith, each.0, length-append p (whole ps))
@@ -298,9 +350,11 @@ each_fits r (t ∷ ts) some h = (omega (arith, some, h.0), each_fits r ts some h
 
 pub rows_exist : (r : Room) (parts : List (List FlaggedChar)) → AreRowsOf r parts (rows_of r parts)
 rows_exist r parts =
+    let pieces = pieces_of_line r parts in
+    let same = whole_pieces r parts in
     let broken = lines_broken r parts in
     record {
-      keeps = subst (λ l. Keeps l (rows_of r parts)) (whole_tokens_of r parts) (rows_keep r r.first [] [] false (tokens_of r parts) tt (λ e. refl));
+      keeps = subst (λ l. Keeps l (rows_of r parts)) same (rows_keep r r.first [] [] false pieces tt (λ e. refl));
       broken = record {
         breaks = broken.first ∷ broken.others;
         some = omega arith;
@@ -308,12 +362,10 @@ rows_exist r parts =
         rows_are = broken.rows_are;
         dropped = broken.dropped;
       };
-      alone = λ fits.
-          let same = whole_tokens_of r parts in
-          rows_alone r r.first [] (tokens_of r parts) (omega (arith, fits, ap width_of same)) ∙ ap (λ l. l ∷ []) same;
-      fits = λ room. rows_fit r r.first [] false (tokens_of r parts) (omega (arith, room.indent)) (each_fits r (tokens_of r parts) room.indent (tokens_of_within r parts (each_narrow r (whole parts) room.each)));
+      alone = λ fits. rows_alone r r.first [] pieces (omega (arith, fits, ap width_of same)) ∙ ap (λ l. l ∷ []) same;
+      fits = λ room. rows_fit r r.first [] false pieces (omega (arith, room.indent)) (each_fits r pieces room.indent (pieces_within r parts (each_narrow r (whole parts) room.each)));
       filled = λ room some each.
-          let within = tokens_of_within r parts (each_narrow r (whole parts) room.each) in
-          first_filled r (tokens_of r parts) room.indent (subst IsSome (sym (whole_tokens_of r parts)) (whole_some parts some each)) within (tokens_of_some r parts);
-      least = λ off breaks b. rows_least r parts breaks b;
+          let within = pieces_within r parts (each_narrow r (whole parts) room.each) in
+          first_filled r pieces room.indent (subst IsSome (sym same) (whole_some parts some each)) within (pieces_of_some r parts);
+      least = λ breaks b. rows_least r parts breaks b;
     }

@@ -21,7 +21,8 @@ use std::alloc::{AllocError, Global};
 /// Starts that show how many lines each fitting break of the compounds has at least.
 ///
 /// They are the numbers of the tokens that begin the lines of the wrap. Where blanks are dropped after the last line, the first of
-/// these is a start too. Of a clean cut they are 0 and the first token that passes the first line.
+/// these is a start too. Of a clean cut they are 0 and the first token that passes the first line. They are those of a wrap in which
+/// words may be parted, also in a room that keeps them whole: its wrap may have more lines.
 ///
 /// The time is linear in the text. The only error is out of memory, which also answers a text of 2^64 tokens or more: only
 /// overlapping slices can be one.

@@ -19,9 +19,12 @@ use std::alloc::{AllocError, Global};
 
 /// Breaks compounds that are wider than the first line into the fewest lines.
 ///
-/// The lines keep the text but for whitespace between them and after the last, and no fitting break has fewer. Where each
-/// character has room after the greater indent, each line fits. Two compounds that fit on a line each, with or without one
-/// of whitespace between them, are cut there. Any other text is cut into tokens, which are placed one after the other.
+/// The lines keep the text but for whitespace between them and after the last. Where each character has room after the
+/// greater indent, each line fits. The text is cut into tokens, which are placed one after the other, and no fitting break
+/// has fewer lines. Two compounds that fit on a line each, with or without one of whitespace between them, are cut there.
+///
+/// Where the room keeps words whole, a word that fits on each line is placed as one, over compounds. No fitting break that
+/// parts no such word has fewer lines, and nothing else is cut.
 ///
 /// The time is linear in the text. No character is copied, and no list of tokens is made. The only error is out of memory.
 pub fn wrap_compounds<'s>(
