@@ -1,6 +1,6 @@
 use Rattle.std.proofs.Common.{◌≡◌, length}
-use Rattle.markdown_marks.specs.Html.{contains}
-use Rattle.markdown_marks.proofs.html.contains.Given as goal
+use Rattle.markdown_html.specs.Ends.{contains}
+use Rattle.markdown_html.proofs.ends.contains.Given as goal
 
 abbrev pub invariant-loop-rest : goal.invariant-loop-rest
 invariant-loop-rest l = contains l.needle l.rest ≡ contains l.needle l.bytes
