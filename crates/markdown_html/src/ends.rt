@@ -22,6 +22,7 @@ fn contains(needle: &[u8], bytes: &[u8]) -> bool
     false
 }
 
+// Whether a name whose content is raw is in front, and `>` behind it.
 fn ends_tag(bytes: &[u8]) -> bool
     ensures { result ≡ ends_tag bytes.now }
 {
@@ -36,6 +37,7 @@ fn closes_raw(bytes: &[u8]) -> bool
     begins(bytes, b"</") && ends_tag(tail(bytes, 2))
 }
 
+// Whether such a closing tag is somewhere.
 #[tactic(auto, unfolding(crate::specs::Ends::has_raw_end))]
 fn has_raw_end(bytes: &[u8]) -> bool
     ensures { result ≡ has_raw_end bytes.now }
@@ -50,7 +52,7 @@ fn has_raw_end(bytes: &[u8]) -> bool
     false
 }
 
-/// Whether the block ends with this line, which belongs to it.
+/// Whether the block ends with this line, which belongs to it. A blank line, which doesn't, is no such end.
 #[tactic(auto, unfolding(crate::specs::Ends::ends_html))]
 pub fn ends_html(ending: Ending, bytes: &[u8]) -> bool
     ensures { result ≡ ends_html ending bytes.now }

@@ -103,7 +103,7 @@ fn is_among(names: &[&str], word: &[u8]) -> bool
     names.iter().any(|name| same_letters(name.as_bytes(), word))
 }
 
-// Whether the word names a tag whose content is raw.
+/// Whether the word names a tag whose content is raw.
 #[tactic(auto, unfolding(crate::specs::Names::raw_names))]
 pub(crate) fn is_raw_name(word: &[u8]) -> bool
     ensures { result ≡ is_among raw_names word.now }
@@ -111,7 +111,7 @@ pub(crate) fn is_raw_name(word: &[u8]) -> bool
     is_among(&RAW_NAMES, word)
 }
 
-// Whether the word names a tag of a block.
+/// Whether the word names a tag of a block.
 #[tactic(auto, unfolding(crate::specs::Names::block_names))]
 pub(crate) fn is_block_name(word: &[u8]) -> bool
     ensures { result ≡ is_among block_names word.now }
@@ -131,7 +131,7 @@ fn word_len(bytes: &[u8]) -> usize
     i
 }
 
-// The letters and digits in front, and what follows them.
+/// The letters and digits in front, and what follows them.
 pub(crate) fn cut_word(bytes: &[u8]) -> (&[u8], &[u8])
     ensures word { result.0.now ≡ word bytes.entry.now }
     ensures after { result.1.now ≡ after_word bytes.entry.now }
@@ -140,7 +140,7 @@ pub(crate) fn cut_word(bytes: &[u8]) -> (&[u8], &[u8])
     (&bytes[..len], tail(bytes, len))
 }
 
-// Whether the name of a tag ends here.
+/// Whether the name of a tag ends here: a blank, `>` or nothing follows, or, where a slash may stand, `/>`.
 pub(crate) fn ends_name(slash: bool, bytes: &[u8]) -> bool
     ensures { result ≡ ends_name slash bytes.now }
 {

@@ -14,15 +14,21 @@ use markdown_marks::tags::is_tag_alone;
 /// What ends a block of html.
 #[derive(Debug, Clone, Copy, PartialEq, Eq)]
 pub enum Ending {
-    /// A closing tag whose content is raw.
+    /// A closing tag whose content is raw: `</script>`, `</pre>`, `</style>` or `</textarea>`.
     RawTag,
+    /// `-->`
     Comment,
+    /// `?>`
     Instruction,
+    /// `>`
     Declaration,
+    /// `]]>`
     Cdata,
+    /// A blank line, which isn't part of the block.
     BlankLine,
 }
 
+// Whether the name of a tag is in front whose content is raw.
 fn is_raw_tag(bytes: &[u8]) -> bool
     ensures { result ≡ is_raw_tag bytes.now }
 {
@@ -30,6 +36,7 @@ fn is_raw_tag(bytes: &[u8]) -> bool
     is_raw_name(word) && ends_name(false, after)
 }
 
+// Whether the name of a tag of a block is in front.
 fn is_block_tag(bytes: &[u8]) -> bool
     ensures { result ≡ is_block_tag bytes.now }
 {
@@ -37,6 +44,7 @@ fn is_block_tag(bytes: &[u8]) -> bool
     is_block_name(word) && ends_name(true, after)
 }
 
+// The bytes without a slash in front.
 fn without_slash(bytes: &[u8]) -> &[u8]
     ensures { result.now ≡ without_slash bytes.entry.now }
 {
@@ -47,6 +55,7 @@ fn without_slash(bytes: &[u8]) -> &[u8]
     }
 }
 
+/// Whether the bytes begin with these.
 pub(crate) fn begins(bytes: &[u8], prefix: &[u8]) -> bool
     ensures value { result ≡ starts_with nat_eq bytes.now prefix.now }
     ensures within { IsTrue result → length prefix.now ≤ length bytes.now }
@@ -54,6 +63,7 @@ pub(crate) fn begins(bytes: &[u8], prefix: &[u8]) -> bool
     bytes.starts_with(prefix)
 }
 
+// Whether a declaration begins here: `!` and a letter.
 fn is_declaration(bytes: &[u8]) -> bool
     ensures { result ≡ (begins bytes.now (codes "!") && is_ascii_alphabetic (first (drop 1 bytes.now))) }
 {
@@ -92,7 +102,7 @@ fn ending_after(in_paragraph: bool, bytes: &[u8]) -> Option<Ending>
     blank_ending(is_block_tag(without_slash(bytes)) || (!in_paragraph && is_tag_alone(bytes)))
 }
 
-/// What ends the block of html that begins here, which may be a paragraph's next line.
+/// What ends the block of html that begins here, if one does. In a paragraph's next line a tag that is alone begins none, unless it is a block's.
 #[tactic(auto, unfolding(crate::specs::Starts::html_start))]
 pub fn html_start(in_paragraph: bool, bytes: &[u8]) -> Option<Ending>
     ensures { result ≡ html_start in_paragraph bytes.now }
