@@ -1,5 +1,5 @@
 -- Where blocks of html end.
-use Rattle.std.specs.Prelude.{ℕ, Bool, true, false, ◌||◌, ◌&&◌, ◌==◌, List, [], ◌∷◌, drop, codes}
+use Rattle.std.specs.Prelude.{ℕ, Bool, false, ◌||◌, ◌&&◌, ◌==◌, List, [], ◌∷◌, drop, codes}
 use Rattle.markdown_marks.specs.Bytes.{first}
 use Rattle.markdown_html.specs.Names.{raw_names, is_among, word, after_word}
 use Rattle.markdown_html.specs.Starts.{begins}

@@ -3,7 +3,7 @@ use Rattle.std.proofs.Common.{◌≡◌, ℕ, suc, ◌+◌, ◌<◌, Bool, true,
 use Rattle.std.specs.List.{list_all}
 use Rattle.memchr.specs.Find.{IsFirstByte, is_byte}
 use Rattle.markdown_marks.specs.Bytes.{is_blank_byte, is_blank}
-use Rattle.markdown_marks.specs.Tables.{last_cell, cells_from, next_spot, is_nowhere, columns_from}
+use Rattle.markdown_marks.specs.Tables.{last_cell, cells_from, is_nowhere, columns_from}
 use Rattle.markdown_marks.specs.declared.tables.Spot.{Spot}
 use Rattle.markdown_marks.specs.declared.tables.Spot.TheVariants.{Front, Colon, Hyphens, Back, Nowhere}
 
