@@ -1,8 +1,9 @@
 -- One container more: matching those that are open, and opening others.
-use Rattle.std.proofs.Common.{◌≡◌, ℕ, suc, ◌<◌, ◌+◌, Bool, false, ◌&&◌, ◌==◌, List, [], ◌∷◌, ◌++◌, length, drop, get_or, Option, Some, None, refl, sym, ap, ◌∙◌, append_assoc}
-use Rattle.std.proofs.lemmas.List.{drop_more}
+use Rattle.std.proofs.Common.{◌≡◌, ℕ, suc, ◌<◌, ◌≤◌, ◌+◌, Bool, false, ◌&&◌, ◌==◌, List, [], ◌∷◌, ◌++◌, length, take, drop, get_or, Option, Some, None, refl, sym, ap, ◌∙◌, append_assoc}
+use Rattle.std.proofs.lemmas.List.{drop_more, take-append-le}
 use Rattle.markdown_marks.specs.Remaining.{Remaining}
 use Rattle.markdown_blocks.specs.Containers.{match_more, goes_on, matched, Opened, open_more, container_start, opened, is_item, ends_in_item}
+use Rattle.markdown_blocks.specs.Laws.{HasFront}
 use Rattle.markdown_blocks.specs.declared.containers.Container.{Container}
 
 -- ---- matching
@@ -35,6 +36,10 @@ goes_on_more bare bare_here containers at d rest next within here is =
 
 pub pushed : (xs : List Container) (x : Container) (ys : List Container) → (xs ++ x ∷ []) ++ ys ≡ xs ++ x ∷ ys
 pushed xs x ys = append_assoc xs (x ∷ []) ys
+
+-- what was in front is there still
+pub front_pushed : (front xs new : List Container) (x : Container) → new ≡ xs ++ x ∷ [] → length front ≤ length xs → HasFront front xs → HasFront front new
+front_pushed front xs new x new_is more h = ap (take (length front)) new_is ∙ take-append-le (length front) xs (x ∷ []) more ∙ h
 
 pub opened_next : (room more : ℕ) (in_paragraph : Bool) (rest : Remaining) (found : Opened) → more ≡ suc room → container_start in_paragraph rest ≡ Some found
     → opened more in_paragraph rest ≡ record { containers = found.container ∷ (opened room false found.rest).containers; rest = (opened room false found.rest).rest }

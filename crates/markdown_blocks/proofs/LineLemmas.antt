@@ -1,6 +1,7 @@
 -- A line that the open leaf doesn't take unseen, put together from its parts.
-use Rattle.std.proofs.Common.{◌≡◌, ℕ, ◌-◌, Bool, true, false, not, ◌&&◌, ◌==◌, List, [], ◌∷◌, ◌++◌, length, take, refl, sym, ap, ◌∙◌, arith, append-nil, if◌then◌else◌}
-use Rattle.std.proofs.lemmas.Bool.Decides.{nat_tests}
+use Rattle.std.proofs.Common.{◌≡◌, ℕ, ◌-◌, ◌≤◌, Bool, true, false, not, ◌&&◌, ◌==◌, List, ◌++◌, length, take, drop, refl, ap, ◌∙◌, arith}
+use Rattle.std.proofs.lemmas.List.{length-append, take-append-le}
+use Rattle.std.proofs.Math.Seq.{drop-append_seam}
 use Rattle.markdown_marks.specs.Remaining.{Remaining}
 use Rattle.markdown_blocks.specs.Containers.{opened, ends_in_item}
 use Rattle.markdown_blocks.specs.Leaves.{is_paragraph, is_table, Beginning, joining_or_row, leaf_start, deed_at, deed_of, leaf_after, only_defines, defining_after, cells_after}
@@ -42,20 +43,17 @@ begun_keeps none table paragraph joins all start cells text count len e =
     ap (λ (n : Bool). kept_after (deed_at (joins_where n table paragraph joins all) cells text start) count len) e
     ∙ ap (λ (j : Joining). kept_after (deed_at j cells text start) count len) (not_joined table paragraph joins all) ∙ apart_keeps start cells text count len
 
--- the containers that are open after the line
-pub kept_items : (new middle old opens : List Container) (table paragraph joins all : Bool) (count len opened kept : ℕ) (start : Start) (cells : ℕ) (text : Remaining) → opened ≡ length opens
-    → middle ≡ (if opened == 0 then old else take count old ++ opens)
-    → kept ≡ kept_after (deed_at (joins_where (length opens == 0) table paragraph joins all) cells text start) count len
-    → new ≡ (if opened == 0 then take kept middle else middle) → new ≡ take kept old ++ opens
-kept_items new middle old [] table paragraph joins all count len opened kept start cells text opened_is middle_is kept_is new_is =
-    new_is ∙ ap (λ n. if n == 0 then take kept middle else middle) opened_is
-    ∙ ap (take kept) (middle_is ∙ ap (λ n. if n == 0 then old else take count old ++ []) opened_is) ∙ sym (append-nil (take kept old))
-kept_items new middle old (x ∷ xs) table paragraph joins all count len opened kept start cells text opened_is middle_is kept_is new_is =
-    let some : (length (x ∷ xs) == 0) ≡ false = grind (arith, nat_tests) in
-    let none : (opened == 0) ≡ false = ap (λ n. n == 0) opened_is ∙ some in
-    let stays : kept ≡ count = kept_is ∙ begun_keeps (length (x ∷ xs) == 0) table paragraph joins all start cells text count len some in
-    new_is ∙ ap (λ b. if b then take kept middle else middle) none
-    ∙ middle_is ∙ ap (λ b. if b then old else take count old ++ x ∷ xs) none ∙ ap (λ n. take n old ++ x ∷ xs) (sym stays)
+-- the containers that stay, and those that begin, which were put behind all
+pub kept_items : (new grown old opens : List Container) (kept all : ℕ) → grown ≡ old ++ opens → all ≡ length old → kept ≤ all → new ≡ take kept grown ++ drop all grown → new ≡ take kept old ++ opens
+kept_items new grown old opens kept all grown_is all_is within new_is =
+    new_is ∙ ap (λ (g : List Container). take kept g ++ drop all g) grown_is
+    ∙ ap (λ (front : List Container). front ++ drop all (old ++ opens)) (take-append-le kept old opens (omega (arith, within, all_is)))
+    ∙ ap (λ (n : ℕ). take kept old ++ drop n (old ++ opens)) all_is
+    ∙ ap (λ (back : List Container). take kept old ++ back) (drop-append_seam old opens)
+
+-- how many of them begin
+pub begun_count : (seen grown old opens : List Container) (before : ℕ) → seen ≡ grown → grown ≡ old ++ opens → before ≡ length old → length seen - before ≡ length opens
+begun_count seen grown old opens before seen_is grown_is before_is = omega (arith, ap length (seen_is ∙ grown_is), length-append old opens, before_is)
 
 -- a step with these parts
 abbrev pub made : List Container → Leaf → List ℕ → ℕ → ℕ → ℕ → Deed → Remaining → Step
@@ -66,7 +64,7 @@ pub begun_line_is : (state : State) (count : ℕ) (rest left : Remaining) (in_pa
     → all ≡ (count == length state.containers) → in_paragraph ≡ (is_paragraph state.leaf && all)
     → begun ≡ length (opened (64 - count) in_paragraph rest).containers → bare ≡ ends_in_item false (opened (64 - count) in_paragraph rest).containers → left ≡ (opened (64 - count) in_paragraph rest).rest
     → defines ≡ only_defines state.defining all left → may_join ≡ (is_paragraph state.leaf && (begun == 0) && not defines) → row ≡ (is_table state.leaf && (begun == 0) && all) → joining ≡ joining_or_row row may_join all → record { start = start; text = text } ≡ leaf_start joining left
-    → deed ≡ deed_of joining state.cells (record { start = start; text = text }) → kept ≡ kept_after deed count (length state.containers) → leaf ≡ leaf_after bare state.leaf deed → defining ≡ defining_after deed state.defining text → cells ≡ cells_after deed text
+    → deed ≡ deed_of joining state.cells (record { start = start; text = text }) → kept ≡ kept_after deed count (length state.containers) → leaf ≡ leaf_after bare state.leaf deed → defining ≡ defining_after deed state.defining text → cells ≡ cells_after leaf text
     → items ≡ take kept state.containers ++ (opened (64 - count) in_paragraph rest).containers
     → made items leaf defining cells kept begun deed text ≡ begun_line state (record { count = count; rest = rest })
 unfolding begun_line
@@ -77,7 +75,7 @@ begun_line_is state count rest left in_paragraph may_join row all defines bare j
     let stays = kept_after deed count len in
     let after = leaf_after (ends_in_item false opens.containers) state.leaf deed in
     let keeps = defining_after deed state.defining text in
-    let counts = cells_after deed text in
+    let counts = cells_after after text in
     let none = length opens.containers == 0 in
     let items_at : ℕ → List Container = λ (n : ℕ). take n state.containers ++ opens.containers in
     let line_at : Joining → Beginning → Step = λ (j : Joining) (b : Beginning). line_done state count opens (deed_of j state.cells b) b.text in
@@ -92,9 +90,9 @@ begun_line_is state count rest left in_paragraph may_join row all defines bare j
     ∙ ap (λ (a : Bool). joining_or_row (is_table state.leaf && none && (count == len)) (paragraph && none && not (only_defines state.defining (count == len) opens.rest)) a) all_is in
     ap (λ (is : List Container). made is leaf defining cells kept begun deed text) items_is
     ∙ ap (λ (k : ℕ). made (items_at k) leaf defining cells k begun deed text) kept_is
-    ∙ ap (λ (l : Leaf). made (items_at stays) l defining cells stays begun deed text) (leaf_is ∙ ap (λ (b : Bool). leaf_after b state.leaf deed) bare_is)
-    ∙ ap (λ (d : List ℕ). made (items_at stays) after d cells stays begun deed text) defining_is
-    ∙ ap (λ (n : ℕ). made (items_at stays) after keeps n stays begun deed text) cells_is
+    ∙ ap (λ (n : ℕ). made (items_at stays) leaf defining n stays begun deed text) cells_is
+    ∙ ap (λ (l : Leaf). made (items_at stays) l defining (cells_after l text) stays begun deed text) (leaf_is ∙ ap (λ (b : Bool). leaf_after b state.leaf deed) bare_is)
+    ∙ ap (λ (d : List ℕ). made (items_at stays) after d counts stays begun deed text) defining_is
     ∙ ap (λ (n : ℕ). made (items_at stays) after keeps counts stays n deed text) begun_is
     ∙ ap (λ (d : Deed). line_done state count opens d text) deed_is
     ∙ ap (line_at joining) started

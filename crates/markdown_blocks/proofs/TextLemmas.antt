@@ -1,6 +1,9 @@
 -- The first line of a text, and those after it.
-use Rattle.std.proofs.Common.{◌≡◌, ℕ, suc, ◌<◌, ◌+◌, Bool, true, false, not, ◌||◌, ◌&&◌, ◌==◌, List, [], ◌∷◌, length, take, drop, refl, sym, ap, subst, ◌∙◌, arith, cond, if◌then◌else◌}
+use Rattle.std.proofs.Common.{◌≡◌, ℕ, suc, ◌<◌, ◌+◌, Bool, true, false, not, ◌||◌, ◌&&◌, ◌==◌, List, [], ◌∷◌, length, take, drop, slice_index, Option, Some, None, refl, sym, ap, subst, ◌∙◌, arith, cond, if◌then◌else◌}
+use Rattle.std.specs.Prelude.{unwrap_or}
 use Rattle.std.specs.List.{prefix_len, onto_first}
+use Rattle.std.proofs.lemmas.List.Sums.{position_or_len_is}
+use Rattle.memchr.specs.Find.{IsFirstByte, is_byte2}
 use Rattle.std.proofs.lemmas.Bool.Decides.{nat_tests}
 use Rattle.markdown_blocks.specs.Lines.{is_line_end, is_pair, text_lines, end_len}
 
@@ -64,3 +67,16 @@ line_front [] l = absurd (omega arith)
 line_front (b ∷ []) l = with_last b (is_line_end b) refl
 line_front (b ∷ x ∷ xs) l =
     with_more b (x ∷ xs) (is_line_end b) (prefix_len (λ b. not (is_line_end b)) (x ∷ xs)) (1 + prefix_len (λ b. not (is_line_end b)) (x ∷ xs)) refl (omega arith) (line_front (x ∷ xs) (omega arith))
+
+-- ---- where the first end is
+
+is_false : (b : Bool) → (b ≡ true → ⊥) → b ≡ false
+is_false true h = absurd (h refl)
+is_false false h = refl
+
+-- where `memchr2` finds it, or the length where there is none
+pub end_position : (bytes : List ℕ) (found : Option ℕ) → IsFirstByte (is_byte2 10 13) bytes found → prefix_len (λ b. not (is_line_end b)) bytes ≡ unwrap_or found (length bytes)
+end_position bytes None h =
+    position_or_len_is is_line_end bytes (length bytes) 0 (omega arith) (λ k below. is_false (is_line_end (slice_index bytes k)) (h k (omega arith) below)) (λ inside. absurd (omega (arith, inside)))
+end_position bytes (Some i) h =
+    position_or_len_is is_line_end bytes i 0 (omega (arith, h.0.high)) (λ k below. is_false (is_line_end (slice_index bytes k)) (h.0.before k (omega arith) below)) (λ _. h.1)

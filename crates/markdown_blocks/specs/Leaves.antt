@@ -1,13 +1,14 @@
 -- What a line does to the leaves.
 use Rattle.std.specs.Prelude.{ℕ, Bool, true, false, not, ◌||◌, ◌&&◌, ◌==◌, nat_lt, List, [], ◌∷◌, ◌++◌, length, Option, Some, None, is_some, if◌then◌else◌}
+use Rattle.markdown_html.specs.Ends.{ends_html}
+use Rattle.markdown_html.specs.Starts.{html_start}
+use Rattle.markdown_html.specs.declared.starts.Ending.{Ending}
+use Rattle.markdown_html.specs.declared.starts.Ending.TheVariants.{BlankLine as BlankEnding}
 use Rattle.markdown_marks.specs.Bytes.{first, is_blank, is_run_alone, without_blanks}
 use Rattle.markdown_marks.specs.Definitions.{are_definitions}
-use Rattle.markdown_marks.specs.Html.{html_start, ends_html}
 use Rattle.markdown_marks.specs.Marks.{heading_level, fence_start, underline_level, is_rule}
 use Rattle.markdown_marks.specs.Remaining.{Remaining, remaining, take_columns, columns_in_front, skip}
 use Rattle.markdown_marks.specs.Tables.{cell_count, delimited_columns}
-use Rattle.markdown_marks.specs.declared.html.Ending.{Ending}
-use Rattle.markdown_marks.specs.declared.html.Ending.TheVariants.{BlankLine as BlankEnding}
 use Rattle.markdown_marks.specs.declared.marks.Fence.{Fence}
 use Rattle.markdown_blocks.specs.declared.leaves.Leaf.{Leaf}
 use Rattle.markdown_blocks.specs.declared.leaves.Leaf.TheVariants.{Nothing, Bare, Paragraph, Indented, Fenced, Html, Table}
@@ -183,11 +184,9 @@ leaf_after bare leaf GoesOn = leaf
 leaf_after bare leaf (Tabulates columns) = Table
 leaf_after bare leaf _ = Nothing
 
--- how many cells the last line of the open paragraph has
-abbrev pub cells_after : Deed → Remaining → ℕ
-cells_after (Begins leaf) text = if is_paragraph leaf then cell_count text.bytes else 0
-cells_after GoesOn text = cell_count text.bytes
-cells_after _ text = 0
+-- how many cells the last line of the open paragraph has; this is the leaf that the line left open, and its text
+abbrev pub cells_after : Leaf → Remaining → ℕ
+cells_after leaf text = if is_paragraph leaf then cell_count text.bytes else 0
 
 -- The text of the open paragraph, its lines joined by newlines, if it begins with a bracket: it may be definitions alone. Else nothing.
 abbrev pub defining_after : Deed → List ℕ → Remaining → List ℕ

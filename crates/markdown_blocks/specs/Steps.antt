@@ -54,7 +54,12 @@ kept_after _ count all = count
 -- a line that does this
 abbrev pub line_done : State → ℕ → Opens → Deed → Remaining → Step
 line_done state count opens deed text = record {
-  state = record { containers = take (kept_after deed count (length state.containers)) state.containers ++ opens.containers; leaf = leaf_after (ends_in_item false opens.containers) state.leaf deed; defining = defining_after deed state.defining text; cells = cells_after deed text };
+  state = record {
+    containers = take (kept_after deed count (length state.containers)) state.containers ++ opens.containers;
+    leaf = leaf_after (ends_in_item false opens.containers) state.leaf deed;
+    defining = defining_after deed state.defining text;
+    cells = cells_after (leaf_after (ends_in_item false opens.containers) state.leaf deed) text;
+  };
   line = record { kept = kept_after deed count (length state.containers); opened = length opens.containers; deed = deed; text = text };
 }
 

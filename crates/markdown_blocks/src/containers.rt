@@ -1,7 +1,8 @@
 //! Which containers go on in a line, and which begin in it.
 
-ghost use Rattle.std.specs.Prelude.{◌≡◌, ◌≤◌, ◌<◌, ◌+◌, ◌-◌, ◌==◌, ◌&&◌, ◌++◌, length, drop, option_map, false, IfOk, vec_len};
+ghost use Rattle.std.specs.Prelude.{◌≡◌, ◌≤◌, ◌<◌, ◌+◌, ◌-◌, ◌==◌, ◌&&◌, ◌++◌, length, drop, option_map, false, IfOk, OnErr};
 ghost use Rattle.markdown_marks.specs.Remaining.{remaining};
+ghost use Rattle.markdown_blocks.specs.Laws.{HasFront};
 ghost use Rattle.markdown_blocks.specs.Containers.{quote_goes_on, item_goes_on, goes_on, match_more, matched, opened_by, gap_after, item_before, item_of, item_start, container_after, container_start, opened, is_item, ends_in_item, after_quote};
 
 use markdown_marks::bytes::{first, is_blank};
@@ -10,17 +11,21 @@ use markdown_marks::marks::{is_rule, underline_level};
 use markdown_marks::rest::Rest;
 use std::alloc::AllocError;
 
-/// How many containers can be open. A marker beyond them is text.
+/// How many containers can be open, one in the other. A sign of a further one is text.
 pub const MAX_CONTAINERS: usize = 64;
 
 /// A container of blocks.
 #[derive(Debug, Clone, Copy, PartialEq, Eq)]
 pub enum Container {
+    /// A block quote.
     Quote,
-    /// An item of a list: its bullet, or the sign after its number, and the column of its content.
+    /// An item of a list. Neighbouring items with one sign are a list.
     Item {
+        /// The bullet `-`, `+` or `*`, or what stands after a number: `.` or `)`.
         sign: u8,
+        /// The number, which has at most nine digits; 0 after a bullet.
         number: u32,
+        /// How many columns its content is indented by, counted from the content of the container that it is in.
         content: usize,
     },
 }
@@ -203,24 +208,35 @@ pub(crate) fn container_start<'s>(in_paragraph: bool, rest: Rest<'s>) -> Option<
     container_after(in_paragraph, columns, after)
 }
 
-/// Opens the containers that begin in the rest, after another one. Says whether the last that is open is an item, and what is left.
-pub(crate) fn open_more<'s>(
+/// Opens the containers that begin in the rest, at most `most`, after those that are open. The rest may be a paragraph's next line. Says whether
+/// the last that began is an item, and what is left of the line.
+///
+/// # Errors
+///
+/// Out of memory. Some may have begun then.
+pub(crate) fn open_containers<'s>(
     containers: &mut Vec<Container>,
-    bare: bool,
+    most: usize,
+    in_paragraph: bool,
     rest: Rest<'s>,
 ) -> Result<(bool, Rest<'s>), AllocError>
-    ensures items { IfOk result (λ _. containers.new.items ≡ containers.old.items ++ (opened (64 - vec_len containers.old) false (remaining rest.entry)).containers) }
-    ensures bare { IfOk result (λ end. end.0 ≡ ends_in_item bare (opened (64 - vec_len containers.old) false (remaining rest.entry)).containers) }
-    ensures rest { IfOk result (λ end. remaining end.1 ≡ (opened (64 - vec_len containers.old) false (remaining rest.entry)).rest) }
+    ensures items { IfOk result (λ _. containers.new.items ≡ containers.old.items ++ (opened most in_paragraph (remaining rest.entry)).containers) }
+    ensures bare { IfOk result (λ end. end.0 ≡ ends_in_item false (opened most in_paragraph (remaining rest.entry)).containers) }
+    ensures rest { IfOk result (λ end. remaining end.1 ≡ (opened most in_paragraph (remaining rest.entry)).rest) }
+    ensures err { OnErr result (HasFront containers.old.items containers.new.items) }
 {
     let mut left = rest;
-    let mut is_bare = bare;
-    while containers.len() < MAX_CONTAINERS {
-        match container_start(false, left) {
+    let mut room = most;
+    let mut interrupts = in_paragraph;
+    let mut is_bare = false;
+    while room > 0 {
+        match container_start(interrupts, left) {
             Some(opening) => {
                 containers.push(opening.container)?;
                 is_bare = is_item(opening.container);
                 left = opening.rest;
+                room -= 1;
+                interrupts = false;
             }
             None => return Ok((is_bare, left)),
         }

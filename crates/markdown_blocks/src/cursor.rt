@@ -1,6 +1,6 @@
 //! Reading the blocks of a text.
 
-ghost use Rattle.std.specs.Prelude.{◌≡◌, [], IfOk};
+ghost use Rattle.std.specs.Prelude.{◌≡◌, [], IfOk, OnErr};
 ghost use Rattle.markdown_blocks.specs.Events.{unread, IsRead};
 ghost use Rattle.markdown_blocks.specs.Steps.{state_of};
 
@@ -10,7 +10,7 @@ use crate::lines::cut_line;
 use crate::reader::{BlockReader, LineRead};
 use std::alloc::{AllocError, Global};
 
-/// A position in a text, from which its blocks are read line by line.
+/// A position in a text, from which its blocks are read line by line, each line once. A line ends with a newline, a return, or both together.
 #[derive(Debug, Drop)]
 pub struct BlockCursor<'s> {
     rest: &'s [u8],
@@ -35,13 +35,14 @@ impl<'s> BlockCursor<'s> {
         self.reader.containers()
     }
 
-    /// Reads the next line, and moves on after it; none if there is no more.
+    /// Reads the next line, and moves on after it; none if there is no more. At the end the containers and the leaf that are open end.
     ///
     /// # Errors
     ///
-    /// Out of memory is the only error. The cursor is of no use after it.
+    /// Out of memory is the only error. The cursor is then as it was, before that line.
     pub fn next_line(&mut self) -> Result<Option<LineRead<'s>>, AllocError>
-        ensures { IfOk result (λ read. IsRead (unread self.old) read (unread self.new)) }
+        ensures ok { IfOk result (λ read. IsRead (unread self.old) read (unread self.new)) }
+        ensures err { OnErr result (unread self.new ≡ unread self.old) }
     {
         if self.rest.is_empty() {
             return Ok(None);

@@ -1,15 +1,15 @@
 //! What a line does to the leaves.
 
-ghost use Rattle.std.specs.Prelude.{◌≡◌, ◌==◌, ◌&&◌, not, [], ◌∷◌, ◌++◌, OnOk, length, if◌then◌else◌};
+ghost use Rattle.std.specs.Prelude.{◌≡◌, ◌==◌, ◌&&◌, not, [], ◌∷◌, ◌++◌, OnOk, OnErr, length, if◌then◌else◌};
 ghost use Rattle.markdown_marks.specs.Bytes.{first};
-ghost use Rattle.markdown_marks.specs.Html.{html_start};
+ghost use Rattle.markdown_html.specs.Starts.{html_start};
 ghost use Rattle.markdown_marks.specs.Remaining.{remaining};
 ghost use Rattle.markdown_marks.specs.Tables.{delimited_columns};
 ghost use Rattle.markdown_blocks.specs.Leaves.{is_paragraph, is_table, joining_or_row, words_deed, cells_after, is_bare, closes_fence, ends_by_blank, html_going, or_underline, going_on, margin, joining_of, underlines, only_defines, defining_after, joins, beginning, code_start, rule_start, underline_start, mark_start, leaf_start, joins_or, deed_of, leaf_after};
 
+use markdown_html::{Ending, ends_html, html_start};
 use markdown_marks::bytes::{first, is_blank, is_run_alone, without_blanks};
 use markdown_marks::definitions::are_definitions;
-use markdown_marks::html::{Ending, ends_html, html_start};
 use markdown_marks::marks::{fence_start, heading_level, is_rule, underline_level};
 use markdown_marks::rest::Rest;
 use markdown_marks::tables::{cell_count, delimited_columns};
@@ -18,26 +18,33 @@ use std::alloc::AllocError;
 /// The leaf that is open in the last container.
 #[derive(Debug, Clone, Copy, PartialEq, Eq)]
 pub enum Leaf {
+    /// There is none.
     Nothing,
-    /// None, in an item whose first line was blank, and that has nothing yet.
+    /// There is none, in an item whose first line was blank and that has nothing yet.
     Bare,
+    /// A paragraph, which may turn out to be a heading, definitions of links, or a table's head.
     Paragraph,
+    /// Code behind four blank columns.
     Indented,
-    /// Code after a fence: its sign, how often it stands there, and after how many columns.
+    /// Code between fences.
     Fenced {
+        /// The first fence's sign: a backquote or a tilde.
         sign: u8,
+        /// How many times the sign is repeated; the last fence has at least as many.
         length: usize,
+        /// The blank columns before the first fence, three at most. Each line of code loses so many.
         indent: usize,
     },
     /// A block of html, and what ends it.
     Html(Ending),
+    /// A table, below its row of delimiters.
     Table,
 }
 
-/// What a line does to the leaves. But for `GoesOn`, `Closes` and `Underlines` the leaf that was open ends before it.
+/// What a line does to the leaves. The leaf that was open ends before it, but for `GoesOn`, `Closes`, `Underlines` and `Tabulates`.
 #[derive(Debug, Clone, Copy, PartialEq, Eq)]
 pub enum Deed {
-    /// A blank line.
+    /// A blank line, or an item that begins with nothing behind its marker.
     Blank,
     /// A leaf begins. The text is its first line, or what stands behind a fence.
     Begins(Leaf),
@@ -47,11 +54,11 @@ pub enum Deed {
     GoesOn,
     /// A fence ends the open leaf.
     Closes,
-    /// The open paragraph was a heading of this level, and ends.
+    /// The open paragraph was a heading of this level, 1 or 2, and ends.
     Underlines(usize),
     /// The last line of the open paragraph was a table's head, of so many columns, and this is the row of delimiters below it.
     Tabulates(usize),
-    /// The text is a heading of this level.
+    /// The text is a heading of this level, 1 to 6, with the signs that may close it.
     Heading(usize),
     /// A thematic break.
     Rule,
@@ -452,34 +459,43 @@ pub(crate) fn leaf_after(bare: bool, leaf: Leaf, deed: Deed) -> Leaf
 
 // A leaf begins with this text.
 fn begin_defining(defining: &mut Vec<u8>, leaf: Leaf, text: &[u8]) -> Result<(), AllocError>
-    ensures { OnOk result (defining.new.items ≡ (if is_paragraph leaf && (first text.now == 91) then text.now else [])) }
+    ensures ok { OnOk result (defining.new.items ≡ (if is_paragraph leaf && (first text.now == 91) then text.now else [])) }
+    ensures err { OnErr result (defining.new.items ≡ defining.old.items) }
 {
-    defining.clear();
     if is_paragraph(leaf) && first(text) == b'[' {
-        defining.extend_from_slice(text)?;
+        *defining = Vec::from_slice(*defining.allocator(), text)?;
+    } else {
+        defining.clear();
     }
     Ok(())
 }
 
 // The leaf goes on with this text.
 fn go_on_defining(defining: &mut Vec<u8>, text: &[u8]) -> Result<(), AllocError>
-    ensures { OnOk result (defining.new.items ≡ (if length defining.old.items == 0 then [] else defining.old.items ++ 10 ∷ text.now)) }
+    ensures ok { OnOk result (defining.new.items ≡ (if length defining.old.items == 0 then [] else defining.old.items ++ 10 ∷ text.now)) }
+    ensures err { OnErr result (defining.new.items ≡ defining.old.items) }
 {
     if defining.as_slice().is_empty() {
         return Ok(());
     }
+    defining.reserve(text.len() + 1)?;
     defining.push(b'\n')?;
     defining.extend_from_slice(text)?;
     Ok(())
 }
 
 /// Keeps the text of a paragraph that may be definitions alone.
+///
+/// # Errors
+///
+/// Out of memory. The text is as it was then.
 pub(crate) fn keep_defining(
     defining: &mut Vec<u8>,
     deed: Deed,
     text: Rest<'_>,
 ) -> Result<(), AllocError>
-    ensures { OnOk result (defining.new.items ≡ defining_after deed defining.old.items (remaining text.entry)) }
+    ensures ok { OnOk result (defining.new.items ≡ defining_after deed defining.old.items (remaining text.entry)) }
+    ensures err { OnErr result (defining.new.items ≡ defining.old.items) }
 {
     match deed {
         Deed::Begins(leaf) => begin_defining(defining, leaf, text.bytes),
@@ -497,25 +513,13 @@ pub(crate) fn keep_defining(
     }
 }
 
-/// How many cells the last line of the open paragraph has.
-pub(crate) fn cells_after(deed: Deed, text: Rest<'_>) -> usize
-    ensures { result ≡ cells_after deed (remaining text.entry) }
+/// How many cells the last line of the open paragraph has. A row of delimiters below it needs as many. This is what the line left open, and its text.
+pub(crate) fn cells_after(leaf: Leaf, text: Rest<'_>) -> usize
+    ensures { result ≡ cells_after leaf (remaining text.entry) }
 {
-    match deed {
-        Deed::Begins(leaf) => {
-            if is_paragraph(leaf) {
-                cell_count(text.bytes)
-            } else {
-                0
-            }
-        }
-        Deed::GoesOn => cell_count(text.bytes),
-        Deed::Blank
-        | Deed::Html
-        | Deed::Closes
-        | Deed::Underlines(_)
-        | Deed::Tabulates(_)
-        | Deed::Heading(_)
-        | Deed::Rule => 0,
+    if is_paragraph(leaf) {
+        cell_count(text.bytes)
+    } else {
+        0
     }
 }

@@ -5,23 +5,14 @@ ghost use Rattle.std.specs.List.{prefix_len};
 ghost use Rattle.markdown_blocks.specs.Lines.{is_line_end, text_lines, end_len};
 
 use markdown_marks::bytes::tail;
-
-fn is_line_end(byte: u8) -> bool
-    ensures { result ≡ is_line_end byte }
-{
-    byte == b'\n' || byte == b'\r'
-}
+use memchr::memchr2;
 
 // How many bytes are before the first end of a line, or in all.
 fn line_len(text: &[u8]) -> usize
     ensures value { result ≡ prefix_len (λ b. not (is_line_end b)) text.now }
     ensures within { result ≤ length text.now }
 {
-    let mut i = 0;
-    while i < text.len() && !is_line_end(text[i]) {
-        i += 1;
-    }
-    i
+    memchr2(b'\n', b'\r', text).unwrap_or(text.len())
 }
 
 // How many bytes of an end of a line are in front.

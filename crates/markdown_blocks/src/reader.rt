@@ -1,13 +1,12 @@
 //! Reading the blocks of a text line by line.
 
-ghost use Rattle.std.specs.Prelude.{◌≡◌, ◌≤◌, ◌-◌, ◌==◌, ◌++◌, ◌&&◌, Bool, false, [], length, take, IfOk, vec_len, if◌then◌else◌};
-ghost use Rattle.markdown_marks.specs.Remaining.{remaining, whole};
-ghost use Rattle.markdown_blocks.specs.Containers.{opened, ends_in_item, Matched};
-ghost use Rattle.markdown_blocks.specs.Leaves.{is_paragraph};
-ghost use Rattle.markdown_blocks.specs.Laws.{IsPlaced};
+ghost use Rattle.std.specs.Prelude.{◌≡◌, ◌≤◌, ◌++◌, ◌&&◌, [], take, drop, IfOk, OnErr, vec_len};
+ghost use Rattle.markdown_marks.specs.Remaining.{remaining};
+ghost use Rattle.markdown_blocks.specs.Containers.{Matched};
+ghost use Rattle.markdown_blocks.specs.Laws.{IsPlaced, IsGrown};
 ghost use Rattle.markdown_blocks.specs.Steps.{state_of, line_of, kept_after, begun_line, step};
 
-use crate::containers::{Container, MAX_CONTAINERS, container_start, is_item, matched, open_more};
+use crate::containers::{Container, MAX_CONTAINERS, matched, open_containers};
 use crate::leaves::{
     Deed, Going, Leaf, cells_after, deed_of, going_on, is_bare, is_paragraph, is_table,
     joining_or_row, keep_defining, leaf_after, leaf_start, margin, only_defines,
@@ -15,20 +14,21 @@ use crate::leaves::{
 use markdown_marks::rest::Rest;
 use std::alloc::{AllocError, Global};
 
-/// What a line of a text is.
+/// What a line of a text is, in the order in which it happens.
 #[derive(Debug, Clone, Copy)]
 pub struct LineRead<'s> {
-    /// How many of the containers that were open stay so. The others end, the innermost first.
+    /// How many of the containers that were open stay open, from the outermost on. The others end, the innermost first.
     pub kept: usize,
     /// How many containers begin after them. They are the last that are open now.
     pub opened: usize,
     /// What the line does to the leaves.
     pub deed: Deed,
-    /// The text that it has for the leaf.
+    /// What the line has for the leaf: without the signs and blanks of containers, and without the leaf's own indent.
     pub text: Rest<'s>,
 }
 
-/// The containers and the leaf that are open between two lines.
+/// The containers and the leaf that are open between two lines. Beside these it keeps the text of a paragraph that begins with a bracket, and
+/// nothing else of the lines.
 #[derive(Debug, Drop)]
 pub struct BlockReader {
     containers: Vec<Container>,
@@ -37,14 +37,6 @@ pub struct BlockReader {
     defining: Vec<u8>,
     // how many cells the last line of a paragraph has
     cells: usize,
-}
-
-// What begins in a line: how many containers, whether the last of them is an item, and what is left.
-#[derive(Debug, Clone, Copy)]
-struct Begins<'s> {
-    opened: usize,
-    bare: bool,
-    rest: Rest<'s>,
 }
 
 impl BlockReader {
@@ -71,19 +63,27 @@ impl BlockReader {
     ///
     /// # Errors
     ///
-    /// Out of memory is the only error. The reader is of no use after it.
+    /// Out of memory is the only error. The reader is then as it was before the line.
     pub fn read_line<'s>(&mut self, line: &'s [u8]) -> Result<LineRead<'s>, AllocError>
-        ensures step { IfOk result (λ read. record { state = state_of self.new; line = line_of read } ≡ step (state_of self.old) line.entry.now) }
+        ensures ok { IfOk result (λ read. record { state = state_of self.new; line = line_of read } ≡ step (state_of self.old) line.entry.now) }
         ensures placed { IfOk result (λ read. IsPlaced (state_of self.old) (record { state = state_of self.new; line = line_of read })) }
+        ensures err { OnErr result (state_of self.new ≡ state_of self.old) }
     {
-        let read = self.step(line)?;
-        Ok(read)
+        let before = self.containers.as_slice().len();
+        match self.step(line) {
+            Ok(read) => Ok(read),
+            Err(error) => {
+                self.containers.truncate(before);
+                Err(error)
+            }
+        }
     }
 
-    // One line.
+    // One line. Where memory runs out, containers may have been added.
     #[tactic(auto, unfolding(crate::specs::Steps::step, crate::specs::Steps::line_step))]
     fn step<'s>(&mut self, line: &'s [u8]) -> Result<LineRead<'s>, AllocError>
-        ensures { IfOk result (λ read. record { state = state_of self.new; line = line_of read } ≡ step (state_of self.old) line.entry.now) }
+        ensures ok { IfOk result (λ read. record { state = state_of self.new; line = line_of read } ≡ step (state_of self.old) line.entry.now) }
+        ensures err { OnErr result (IsGrown (state_of self.old) (state_of self.new)) }
     {
         let (count, rest) = matched(&self.containers, is_bare(self.leaf), Rest::whole(line));
         if count < self.containers.len() {
@@ -119,32 +119,36 @@ impl BlockReader {
         }
     }
 
-    // A line that the open leaf doesn't take unseen, in which so many containers go on.
+    // A line that the open leaf doesn't take unseen, in which so many containers go on. Those that begin are put behind all that are open, so that
+    // these are there still where memory runs out.
     fn begun_line<'s>(&mut self, count: usize, rest: Rest<'s>) -> Result<LineRead<'s>, AllocError>
         requires { count ≤ vec_len self.old.containers }
-        ensures { IfOk result (λ read. record { state = state_of self.new; line = line_of read } ≡ begun_line (state_of self.old) (record { count = count; rest = remaining rest.entry })) }
+        ensures ok { IfOk result (λ read. record { state = state_of self.new; line = line_of read } ≡ begun_line (state_of self.old) (record { count = count; rest = remaining rest.entry })) }
+        ensures err { OnErr result (IsGrown (state_of self.old) (state_of self.new)) }
     {
         let before = self.containers.as_slice().len();
         let all = count == before;
         let in_paragraph = both(is_paragraph(self.leaf), all);
-        let begins = open_containers(&mut self.containers, count, in_paragraph, rest)?;
+        let room = MAX_CONTAINERS.saturating_sub(count);
+        let (bare, rest) = open_containers(&mut self.containers, room, in_paragraph, rest)?;
+        let opened = self.containers.as_slice().len() - before;
         let defining = self.defining.as_slice();
-        let defines = only_defines(defining, all, begins.rest);
-        let alone = both(is_paragraph(self.leaf), begins.opened == 0);
+        let defines = only_defines(defining, all, rest);
+        let alone = both(is_paragraph(self.leaf), opened == 0);
         let may_join = both(alone, !defines);
-        let in_table = both(is_table(self.leaf), begins.opened == 0);
+        let in_table = both(is_table(self.leaf), opened == 0);
         let row = both(in_table, all);
         let joining = joining_or_row(row, may_join, all);
-        let begun = leaf_start(joining, begins.rest);
+        let begun = leaf_start(joining, rest);
         let deed = deed_of(joining, self.cells, begun);
         let kept = kept_after(deed, count, before);
-        keep_containers(&mut self.containers, begins.opened, kept);
         keep_defining(&mut self.defining, deed, begun.text)?;
-        self.leaf = leaf_after(begins.bare, self.leaf, deed);
-        self.cells = cells_after(deed, begun.text);
+        drop_between(&mut self.containers, kept, before);
+        self.leaf = leaf_after(bare, self.leaf, deed);
+        self.cells = cells_after(self.leaf, begun.text);
         Ok(LineRead {
             kept,
-            opened: begins.opened,
+            opened,
             deed,
             text: begun.text,
         })
@@ -158,18 +162,20 @@ fn both(first: bool, second: bool) -> bool
     first && second
 }
 
-// Where no container began, those that don't stay end.
-fn keep_containers(containers: &mut Vec<Container>, opened: usize, kept: usize)
-    ensures { containers.new.items ≡ (if opened == 0 then take kept containers.old.items else containers.old.items) }
+// Drops the containers from one position up to another.
+fn drop_between(containers: &mut Vec<Container>, from: usize, to: usize)
+    requires order { from ≤ to }
+    requires within { to ≤ vec_len containers.old }
+    ensures { containers.new.items ≡ take from containers.old.items ++ drop to containers.old.items }
 {
-    if opened == 0 {
-        containers.truncate(kept);
-    }
+    drop(containers.drain(from..to));
 }
 
 // A paragraph that goes on keeps all containers.
 fn kept_after(deed: Deed, count: usize, all: usize) -> usize
-    ensures { result ≡ kept_after deed count all }
+    requires { count ≤ all }
+    ensures value { result ≡ kept_after deed count all }
+    ensures within { result ≤ all }
 {
     match deed {
         Deed::GoesOn => all,
@@ -181,44 +187,5 @@ fn kept_after(deed: Deed, count: usize, all: usize) -> usize
         | Deed::Tabulates(_)
         | Deed::Heading(_)
         | Deed::Rule => count,
-    }
-}
-
-// Opens the containers that begin in the rest of a line, after the first of those that were open. If none begins, all stay.
-fn open_containers<'s>(
-    containers: &mut Vec<Container>,
-    count: usize,
-    in_paragraph: bool,
-    rest: Rest<'s>,
-) -> Result<Begins<'s>, AllocError>
-    requires { count ≤ vec_len containers.old }
-    ensures items { IfOk result (λ begins. containers.new.items ≡ (if begins.opened == 0 then containers.old.items else take count containers.old.items ++ (opened (64 - count) in_paragraph (remaining rest.entry)).containers)) }
-    ensures opened { IfOk result (λ begins. begins.opened ≡ length (opened (64 - count) in_paragraph (remaining rest.entry)).containers) }
-    ensures bare { IfOk result (λ begins. begins.bare ≡ ends_in_item false (opened (64 - count) in_paragraph (remaining rest.entry)).containers) }
-    ensures rest { IfOk result (λ begins. remaining begins.rest ≡ (opened (64 - count) in_paragraph (remaining rest.entry)).rest) }
-{
-    if count >= MAX_CONTAINERS {
-        return Ok(Begins {
-            opened: 0,
-            bare: false,
-            rest,
-        });
-    }
-    match container_start(in_paragraph, rest) {
-        None => Ok(Begins {
-            opened: 0,
-            bare: false,
-            rest,
-        }),
-        Some(opening) => {
-            containers.truncate(count);
-            containers.push(opening.container)?;
-            let (bare, rest) = open_more(containers, is_item(opening.container), opening.rest)?;
-            Ok(Begins {
-                opened: containers.as_slice().len() - count,
-                bare,
-                rest,
-            })
-        }
     }
 }

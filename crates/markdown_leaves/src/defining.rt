@@ -20,6 +20,10 @@ fn add_line(text: &mut Vec<u8>, line: &[u8]) -> Result<(), AllocError>
 }
 
 /// The lines as one text, with newlines between them.
+///
+/// # Errors
+///
+/// Out of memory.
 #[tactic(auto, unfolding(crate::specs::Defining::joined))]
 pub fn joined(alloc: Global, lines: &[Rest<'_>]) -> Result<Vec<u8>, AllocError>
     ensures { IfOk result (λ text. text.items ≡ joined [] (map remaining lines.now)) }
@@ -33,7 +37,7 @@ pub fn joined(alloc: Global, lines: &[Rest<'_>]) -> Result<Vec<u8>, AllocError>
     Ok(text)
 }
 
-/// What follows the definitions in front.
+/// What follows the definitions of links that are in front.
 #[tactic(auto, unfolding(crate::specs::Defining::after_definitions))]
 pub fn after_definitions(text: &[u8]) -> &[u8]
     ensures { result.now ≡ after_definitions (length text.now) text.entry.now }
@@ -92,7 +96,11 @@ fn kept_lines(alloc: Global, lines: &[Rest<'_>]) -> Result<usize, AllocError>
     Ok(lines_in(after_definitions(text.as_slice()), lines.len()))
 }
 
-/// How many of the first lines are definitions.
+/// How many of a paragraph's first lines are definitions of links.
+///
+/// # Errors
+///
+/// Out of memory.
 pub fn cut_lines(alloc: Global, lines: &[Rest<'_>]) -> Result<usize, AllocError>
     ensures value { IfOk result (λ cut. cut ≡ cut_lines (map remaining lines.now)) }
     ensures few { IfOk result (λ cut. cut ≤ length lines.now) }

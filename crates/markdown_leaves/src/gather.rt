@@ -16,7 +16,7 @@ use markdown_marks::headings::{heading_text, without_end};
 use markdown_marks::rest::Rest;
 use std::alloc::{AllocError, Global};
 
-/// The parts of a text so far, and the leaf that is open.
+/// The parts of a text so far, and the leaf that is open. Out of memory is the only error of its methods, and it is of no use after one.
 #[derive(Debug, Drop)]
 pub struct Gatherer<'s> {
     parts: Vec<Part<'s>>,
@@ -205,7 +205,7 @@ impl<'s> Gatherer<'s> {
         }
     }
 
-    /// The parts.
+    /// The parts so far. The open leaf isn't among them.
     pub fn into_parts(self) -> Vec<Part<'s>>
         ensures { map part_of result.items ≡ (gathering_of self.entry).parts }
     {
@@ -253,6 +253,10 @@ impl<'s> Gatherer<'s> {
     }
 
     /// The open leaf ends.
+    ///
+    /// # Errors
+    ///
+    /// Out of memory.
     #[tactic(auto, unfolding(crate::specs::Gather::closed))]
     pub fn close(&mut self, alloc: Global) -> Result<(), AllocError>
         ensures { OnOk result (gathering_of self.new ≡ closed (gathering_of self.old)) }
@@ -343,7 +347,11 @@ impl<'s> Gatherer<'s> {
         }
     }
 
-    /// A line does this to the leaves.
+    /// A line does this to the leaves, with this text.
+    ///
+    /// # Errors
+    ///
+    /// Out of memory.
     pub fn line(&mut self, alloc: Global, deed: Deed, text: Rest<'s>) -> Result<(), AllocError>
         ensures { OnOk result (gathering_of self.new ≡ record (line_done deed (remaining text.entry) (gathering_of self.old)) { fresh = false }) }
     {
@@ -372,7 +380,11 @@ impl<'s> Gatherer<'s> {
         Ok(())
     }
 
-    /// These containers begin.
+    /// These containers begin, one in the other.
+    ///
+    /// # Errors
+    ///
+    /// Out of memory.
     #[tactic(auto, unfolding(crate::specs::Told::told))]
     pub fn enter_all(&mut self, alloc: Global, containers: &[Container]) -> Result<(), AllocError>
         ensures { OnOk result (gathering_of self.new ≡ told (gathering_of self.old) (map enter containers.now)) }
@@ -385,7 +397,11 @@ impl<'s> Gatherer<'s> {
         Ok(())
     }
 
-    /// So many containers end.
+    /// The last `count` containers that are open end, the innermost first.
+    ///
+    /// # Errors
+    ///
+    /// Out of memory.
     #[tactic(auto, unfolding(crate::specs::Told::told))]
     pub fn leave_all(&mut self, alloc: Global, count: usize) -> Result<(), AllocError>
         ensures { OnOk result (gathering_of self.new ≡ told (gathering_of self.old) (leaves count)) }

@@ -8,16 +8,19 @@ use markdown_marks::rest::Rest;
 pub enum Kind {
     /// There is no leaf.
     Nothing,
+    /// A paragraph. Its lines have no blanks in front.
     Paragraph,
-    /// A heading of this level.
+    /// A heading of this level, 1 to 6. One that is underlined may have several lines.
     Heading(usize),
-    /// Code after four columns. It doesn't end with a blank line.
+    /// Code behind four blank columns, without them. It doesn't end with a blank line.
     Indented,
-    /// Code between fences. Its first line is what stands behind the first fence.
+    /// Code between fences. Its first line is what stands behind the first fence, without blanks at both ends.
     Fenced,
+    /// A block of html, with the blanks in front of its lines.
     Html,
     /// A table of so many columns. Its first line is the head, its second the row of delimiters.
     Table(usize),
+    /// A thematic break, with the line that it is.
     Rule,
     /// The lines of a paragraph that are definitions of links.
     Definitions,
@@ -26,9 +29,11 @@ pub enum Kind {
 /// A leaf and its lines.
 #[derive(Debug, Drop)]
 pub struct Block<'s> {
+    /// What the leaf is.
     pub kind: Kind,
     /// Whether blank lines are before it, since the last leaf ended or the last container began.
     pub apart: bool,
+    /// Its lines, each without what belongs to containers.
     pub lines: Vec<Rest<'s>>,
 }
 

@@ -19,7 +19,7 @@ fn those_after(containers: &[Container], count: usize) -> &[Container]
     after
 }
 
-/// The parts of a text, in the order of the source.
+/// The parts of a text, in the order of the source: containers that begin and end, and leaves with their lines. Each line is read once.
 ///
 /// # Errors
 ///

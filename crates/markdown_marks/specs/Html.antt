@@ -1,47 +1,9 @@
--- How blocks of html begin and end.
-use Rattle.std.specs.Prelude.{ℕ, Bool, true, false, not, ◌||◌, ◌&&◌, ◌==◌, nat_eq, List, [], ◌∷◌, take, drop, Option, Some, None, if◌then◌else◌, codes}
-use Rattle.std.specs.Char.{is_ascii_alphabetic, is_ascii_alphanumeric, to_ascii_lowercase}
-use Rattle.std.specs.List.{starts_with, list_any, prefix_len}
+-- Tags of html: one alone in a line, byte by byte.
+use Rattle.std.specs.Prelude.{ℕ, Bool, true, false, not, ◌||◌, ◌&&◌, ◌==◌, List, [], ◌∷◌, if◌then◌else◌}
+use Rattle.std.specs.Char.{is_ascii_alphabetic, is_ascii_alphanumeric}
 use Rattle.markdown_marks.specs.Bytes.{is_blank_byte, first}
-use Rattle.markdown_marks.specs.declared.html.Ending.{Ending}
-use Rattle.markdown_marks.specs.declared.html.Ending.TheVariants.{RawTag, Comment, Instruction, Declaration, Cdata, BlankLine}
 use Rattle.markdown_marks.specs.declared.tags.Place.{Place}
 use Rattle.markdown_marks.specs.declared.tags.Place.TheVariants.{Name, Gap, Attribute, AfterAttribute, BeforeValue, Plain, Single, Double, AfterValue, Slash, CloseName, CloseGap, After, Nowhere}
-
-abbrev pub begins : List ℕ → List ℕ → Bool
-begins bytes prefix = starts_with nat_eq bytes prefix
-
--- the letters and digits in front
-abbrev pub word_len : List ℕ → ℕ
-word_len bytes = prefix_len is_ascii_alphanumeric bytes
-
--- a name in small letters, and a word in any
-unfoldable pub same_letters : List ℕ → List ℕ → Bool
-same_letters [] [] = true
-same_letters [] (w ∷ ws) = false
-same_letters (n ∷ ns) [] = false
-same_letters (n ∷ ns) (w ∷ ws) = (n == to_ascii_lowercase w) && same_letters ns ws
-
-abbrev pub is_among : List (List ℕ) → List ℕ → Bool
-is_among names word = list_any (λ name. same_letters name word) names
-
--- the names of the tags whose content is raw
-unfoldable pub raw_names : List (List ℕ)
-raw_names = codes "script" ∷ codes "pre" ∷ codes "style" ∷ codes "textarea" ∷ []
-
--- the names of the tags of blocks
-unfoldable pub block_names : List (List ℕ)
-block_names =
-    codes "address" ∷ codes "article" ∷ codes "aside" ∷ codes "base" ∷ codes "basefont" ∷ codes "blockquote" ∷ codes "body" ∷ codes "caption" ∷
-    codes "center" ∷ codes "col" ∷ codes "colgroup" ∷ codes "dd" ∷ codes "details" ∷ codes "dialog" ∷ codes "dir" ∷ codes "div" ∷
-    codes "dl" ∷ codes "dt" ∷ codes "fieldset" ∷ codes "figcaption" ∷ codes "figure" ∷ codes "footer" ∷ codes "form" ∷ codes "frame" ∷
-    codes "frameset" ∷ codes "h1" ∷ codes "h2" ∷ codes "h3" ∷ codes "h4" ∷ codes "h5" ∷ codes "h6" ∷ codes "head" ∷
-    codes "header" ∷ codes "hr" ∷ codes "html" ∷ codes "iframe" ∷ codes "legend" ∷ codes "li" ∷ codes "link" ∷ codes "main" ∷
-    codes "menu" ∷ codes "menuitem" ∷ codes "nav" ∷ codes "noframes" ∷ codes "ol" ∷ codes "optgroup" ∷ codes "option" ∷ codes "p" ∷
-    codes "param" ∷ codes "section" ∷ codes "source" ∷ codes "summary" ∷ codes "table" ∷ codes "tbody" ∷ codes "td" ∷ codes "tfoot" ∷
-    codes "th" ∷ codes "thead" ∷ codes "title" ∷ codes "tr" ∷ codes "track" ∷ codes "ul" ∷ []
-
--- ---- a tag alone in a line
 
 abbrev pub is_attribute_start : ℕ → Bool
 is_attribute_start b = is_ascii_alphabetic b || (b == 95) || (b == 58)
@@ -104,74 +66,3 @@ ends_alone place (b ∷ bs) = ends_alone (next_place place b) bs
 abbrev pub is_tag_alone : List ℕ → Bool
 is_tag_alone [] = false
 is_tag_alone (b ∷ bs) = if is_ascii_alphabetic b then ends_alone Name bs else (b == 47) && is_ascii_alphabetic (first bs) && ends_alone CloseName bs
-
--- ---- beginnings
-
--- the letters and digits in front, and what follows them
-abbrev pub word : List ℕ → List ℕ
-word bytes = take (word_len bytes) bytes
-
-abbrev pub after_word : List ℕ → List ℕ
-after_word bytes = drop (word_len bytes) bytes
-
--- A name of a tag ends here: a blank, > or nothing follows, or, where a slash may stand, />.
-abbrev pub ends_name : Bool → List ℕ → Bool
-ends_name slash [] = true
-ends_name slash (b ∷ bs) = is_blank_byte b || (b == 62) || (slash && (b == 47) && (first bs == 62))
-
--- the name of a tag whose content isn't read as html
-abbrev pub is_raw_tag : List ℕ → Bool
-is_raw_tag bytes = is_among raw_names (word bytes) && ends_name false (after_word bytes)
-
--- without a slash in front
-abbrev pub without_slash : List ℕ → List ℕ
-without_slash bytes = if first bytes == 47 then drop 1 bytes else bytes
-
--- the name of a tag of a block
-abbrev pub is_block_tag : List ℕ → Bool
-is_block_tag bytes = is_among block_names (word bytes) && ends_name true (after_word bytes)
-
-abbrev pub blank_ending : Bool → Option Ending
-blank_ending begins_html = if begins_html then Some BlankLine else None
-
--- after the sign <: a tag whose content is raw, an instruction, a comment, a CDATA section, a declaration, a block's tag, or any other tag
-abbrev pub ending_after : Bool → List ℕ → Option Ending
-ending_after in_paragraph bytes =
-    if is_raw_tag bytes then Some RawTag
-    else if begins bytes (codes "!--") then Some Comment
-    else if begins bytes (codes "?") then Some Instruction
-    else if begins bytes (codes "![CDATA[") then Some Cdata
-    else if begins bytes (codes "!") && is_ascii_alphabetic (first (drop 1 bytes)) then Some Declaration
-    else blank_ending (is_block_tag (without_slash bytes) || (not in_paragraph && is_tag_alone bytes))
-
--- what ends the block of html that begins here; a tag alone that is no block's can't interrupt a paragraph
-unfoldable pub html_start : Bool → List ℕ → Option Ending
-html_start in_paragraph bytes = if first bytes == 60 then ending_after in_paragraph (drop 1 bytes) else None
-
--- ---- ends
-
--- whether these bytes are somewhere
-unfoldable pub contains : List ℕ → List ℕ → Bool
-contains needle [] = false
-contains needle (b ∷ bs) = begins (b ∷ bs) needle || contains needle bs
-
--- a name, and >
-abbrev pub ends_tag : List ℕ → Bool
-ends_tag bytes = is_among raw_names (word bytes) && (first (after_word bytes) == 62)
-
--- a closing tag in front, of those whose content is raw
-abbrev pub closes_raw : List ℕ → Bool
-closes_raw bytes = begins bytes (codes "</") && ends_tag (drop 2 bytes)
-
-unfoldable pub has_raw_end : List ℕ → Bool
-has_raw_end [] = false
-has_raw_end (b ∷ bs) = closes_raw (b ∷ bs) || has_raw_end bs
-
--- Whether the block ends with this line, which belongs to it. A blank line, which doesn't, is no such end.
-unfoldable pub ends_html : Ending → List ℕ → Bool
-ends_html RawTag bytes = has_raw_end bytes
-ends_html Comment bytes = contains (codes "-->") bytes
-ends_html Instruction bytes = contains (codes "?>") bytes
-ends_html Declaration bytes = contains (codes ">") bytes
-ends_html Cdata bytes = contains (codes "]]>") bytes
-ends_html BlankLine bytes = false

@@ -46,6 +46,11 @@ ends_cell Hyphens = true
 ends_cell Back = true
 ends_cell _ = false
 
+-- this is no row of delimiters
+abbrev pub is_nowhere : Spot → Bool
+is_nowhere Nowhere = true
+is_nowhere _ = false
+
 -- how many columns there are at the end of the row, none if it is no such row
 abbrev pub columns_at_end : Spot → ℕ → ℕ
 columns_at_end Front count = count

@@ -28,7 +28,7 @@ pub fn first(bytes: &[u8]) -> u8
     if bytes.is_empty() { 0 } else { bytes[0] }
 }
 
-/// How often the byte is repeated in front.
+/// How many times the byte is repeated in front.
 #[tactic(auto, unfolding(crate::specs::Bytes::count_in_front))]
 pub fn count_in_front(bytes: &[u8], byte: u8) -> usize
     ensures value { result ≡ count_in_front byte bytes.now }
@@ -65,7 +65,7 @@ pub fn blanks_in_front(bytes: &[u8]) -> usize
     i
 }
 
-/// The bytes from this one on.
+/// The bytes from position `from` on.
 pub fn tail(bytes: &[u8], from: usize) -> &[u8]
     requires { from ≤ length bytes.now }
     ensures { result.now ≡ drop from bytes.now }
@@ -73,14 +73,14 @@ pub fn tail(bytes: &[u8], from: usize) -> &[u8]
     &bytes[from..]
 }
 
-/// Whether a sign ends here: nothing follows it, or a blank does.
+/// Whether a sign ends before these bytes: there are none, or a blank is first.
 pub fn ends_sign(bytes: &[u8]) -> bool
     ensures { result ≡ ends_sign bytes.now }
 {
     bytes.is_empty() || is_blank_byte(first(bytes))
 }
 
-/// Whether there are at least so many of the byte, and then nothing but blanks.
+/// Whether the bytes are at least `least` times this byte, and then nothing but blanks.
 #[tactic(auto, unfolding(crate::specs::Bytes::is_run_alone))]
 pub fn is_run_alone(bytes: &[u8], byte: u8, least: usize) -> bool
     ensures { result ≡ is_run_alone byte least bytes.now }

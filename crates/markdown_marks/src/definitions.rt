@@ -1,4 +1,6 @@
-//! Definitions of links at the beginning of a paragraph, whose lines are joined by newlines.
+//! Definitions of links at the beginning of a paragraph, as `[label]: destination "title"`. A text is given with its lines joined by newlines.
+//!
+//! Each function whose name begins with `after` answers what follows, and none where the part that it names isn't in front.
 
 ghost use Rattle.std.specs.Prelude.{◌≡◌, ◌||◌, ◌≤◌, false, length};
 ghost use Rattle.std.specs.Option.{option_copied};
@@ -6,12 +8,14 @@ ghost use Rattle.markdown_marks.specs.Definitions.{is_space_byte, is_mark_byte, 
 
 use crate::bytes::{first, is_blank_byte, tail, without_blanks};
 
+/// Whether the byte is a space, a tab or a newline.
 pub fn is_space_byte(b: u8) -> bool
     ensures { result ≡ is_space_byte b }
 {
     is_blank_byte(b) || b == b'\n'
 }
 
+// Whether the byte is ASCII punctuation.
 fn is_mark_byte(b: u8) -> bool
     ensures { result ≡ is_mark_byte b }
 {
@@ -33,7 +37,8 @@ fn either(first: bool, second: bool) -> bool
     first || second
 }
 
-/// What follows a label, after its opening bracket.
+/// What follows a label's closing bracket. The bytes are those after the opening one. A label has at most 999 characters or escapes, no
+/// bracket but escaped ones, and is not blank.
 #[tactic(auto, unfolding(crate::specs::Definitions::after_label))]
 pub fn after_label(bytes: &[u8]) -> Option<&[u8]>
     ensures { option_copied result ≡ after_label 0 false false bytes.entry.now }
@@ -91,13 +96,14 @@ fn after_angle(bytes: &[u8]) -> Option<&[u8]>
     None
 }
 
+// What is left at the end of a bare destination, if all its parentheses are closed.
 fn bare_end(depth: usize, rest: &[u8]) -> Option<&[u8]>
     ensures { option_copied result ≡ bare_end depth rest.entry.now }
 {
     if depth == 0 { Some(rest) } else { None }
 }
 
-// What follows a destination without `<` and `>`.
+// What follows a bare destination: it ends before a blank or a control character, and nests at most 32 parentheses.
 #[tactic(auto, unfolding(crate::specs::Definitions::after_bare))]
 fn after_bare(bytes: &[u8]) -> Option<&[u8]>
     ensures { option_copied result ≡ after_bare 0 false bytes.entry.now }
@@ -138,6 +144,7 @@ fn after_bare(bytes: &[u8]) -> Option<&[u8]>
     bare_end(depth, rest)
 }
 
+/// What follows the destination of a link: in one line between `<` and `>`, or bare and of some bytes.
 pub fn after_destination(text: &[u8]) -> Option<&[u8]>
     ensures { option_copied result ≡ after_destination text.entry.now }
 {
@@ -181,6 +188,7 @@ fn after_title(close: u8, bytes: &[u8]) -> Option<&[u8]>
     None
 }
 
+/// What follows the title of a link, which is in double or single quotes or in parentheses.
 pub fn title_after(text: &[u8]) -> Option<&[u8]>
     ensures { option_copied result ≡ title_after text.entry.now }
 {
@@ -192,6 +200,7 @@ pub fn title_after(text: &[u8]) -> Option<&[u8]>
     }
 }
 
+// What follows the end of a line that is in front, which the end of the text is too.
 fn line_ended(text: &[u8]) -> Option<&[u8]>
     ensures { option_copied result ≡ line_ended text.entry.now }
 {
@@ -209,6 +218,7 @@ fn after_line(text: &[u8]) -> Option<&[u8]>
     line_ended(without_blanks(text))
 }
 
+// Without the end of a line in front, and the blanks after it.
 fn after_newline(text: &[u8]) -> &[u8]
     ensures { result.now ≡ after_newline text.entry.now }
 {
@@ -218,7 +228,7 @@ fn after_newline(text: &[u8]) -> &[u8]
     }
 }
 
-// Without the blanks in front, among which may be the end of one line.
+/// The text without the blanks in front, among which may be the end of one line.
 pub fn after_space(text: &[u8]) -> &[u8]
     ensures { result.now ≡ after_space text.entry.now }
 {
@@ -239,6 +249,7 @@ fn titled(text: &[u8]) -> Option<&[u8]>
     }
 }
 
+// What follows a destination: a title, or nothing more in this line.
 fn after_target(text: &[u8]) -> Option<&[u8]>
     ensures { option_copied result ≡ after_target text.entry.now }
 {
@@ -248,6 +259,7 @@ fn after_target(text: &[u8]) -> Option<&[u8]>
     }
 }
 
+// What follows a label: a colon, and the rest of the definition.
 fn after_colon(text: &[u8]) -> Option<&[u8]>
     ensures { option_copied result ≡ after_colon text.entry.now }
 {
@@ -260,7 +272,7 @@ fn after_colon(text: &[u8]) -> Option<&[u8]>
     }
 }
 
-/// What follows the definition that some bytes of the text are.
+/// What follows the definition of a link that the text begins with, from the next line on.
 #[tactic(auto, unfolding(crate::specs::Definitions::after_definition))]
 pub fn after_definition(text: &[u8]) -> Option<&[u8]>
     ensures { option_copied result ≡ after_definition text.entry.now }

@@ -11,7 +11,7 @@ fn is_either(first: u8, second: u8, b: u8) -> bool
     b == first || b == second
 }
 
-/// Without those of these two bytes that are at the end.
+/// The bytes without all at the end that are one of these two.
 pub fn without_end(first: u8, second: u8, bytes: &[u8]) -> &[u8]
     ensures { result.now ≡ without_end first second bytes.entry.now }
 {
@@ -34,7 +34,7 @@ fn without_closing(text: &[u8]) -> &[u8]
     }
 }
 
-/// What stands in a heading after its level.
+/// The text of a heading: what follows its level, without blanks at both ends and without the signs that close it.
 #[tactic(auto, unfolding(crate::specs::Headings::heading_text))]
 pub fn heading_text(bytes: &[u8]) -> &[u8]
     ensures { result.now ≡ heading_text bytes.entry.now }

@@ -7,15 +7,18 @@ ghost use Rattle.markdown_marks.specs.Items.{marker_start, ordered_of, may_inter
 
 use crate::bytes::{digits_in_front, ends_sign, first, is_blank, number, tail};
 
-/// The marker of an item: its bullet, or the sign after its number; and of how many bytes it is.
+/// The marker of an item.
 #[derive(Debug, Clone, Copy, PartialEq, Eq)]
 pub struct Marker {
+    /// The bullet `-`, `+` or `*`, or what stands after a number: `.` or `)`.
     pub sign: u8,
+    /// The number, which has at most nine digits; 0 after a bullet.
     pub number: u32,
+    /// How many bytes the marker has.
     pub length: usize,
 }
 
-/// The marker in front of an item.
+/// The marker of the item that begins here, if one does. A blank follows a marker, or nothing.
 pub fn marker_start(bytes: &[u8]) -> Option<Marker>
     ensures value { result ≡ marker_start bytes.now }
     ensures within { IfSome result (λ marker. marker.length ≤ length bytes.now) }
@@ -65,7 +68,7 @@ fn ordered_of(bytes: &[u8]) -> Option<Marker>
     })
 }
 
-/// Whether an item with this marker, the first bytes of these, may begin in a paragraph's next line.
+/// Whether an item may begin in a paragraph's next line. The bytes begin with its marker. Such an item isn't empty, and a number is 1.
 pub fn may_interrupt(marker: Marker, bytes: &[u8]) -> bool
     requires { marker.length ≤ length bytes.now }
     ensures { result ≡ may_interrupt marker bytes.now }

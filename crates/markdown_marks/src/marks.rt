@@ -7,14 +7,16 @@ ghost use Rattle.markdown_marks.specs.Marks.{is_rule_of, is_rule, heading_level,
 
 use crate::bytes::{count_in_front, ends_sign, first, is_run_alone, tail};
 
-/// The sign of a fence, and how often it stands there.
+/// A fence of a block of code.
 #[derive(Debug, Clone, Copy, PartialEq, Eq)]
 pub struct Fence {
+    /// A backquote or a tilde.
     pub sign: u8,
+    /// How many times it is repeated, three at least.
     pub length: usize,
 }
 
-/// Whether the line is a thematic break.
+/// Whether the line is a thematic break: three or more of one of the signs `*`, `-` and `_`, with nothing but blanks between them.
 #[tactic(auto, unfolding(crate::specs::Marks::is_rule))]
 pub fn is_rule(bytes: &[u8]) -> bool
     ensures { result ≡ is_rule bytes.now }
@@ -46,7 +48,7 @@ fn count_of(bytes: &[u8], sign: u8) -> usize
     bytes.iter().filter(|byte| **byte == sign).count()
 }
 
-/// The level of the heading that begins with signs `#`.
+/// The level of the heading that begins here, if one does: how many signs `#` there are, one to six. A blank follows them, or nothing.
 #[tactic(auto, unfolding(crate::specs::Marks::heading_level))]
 pub fn heading_level(bytes: &[u8]) -> Option<usize>
     ensures value { result ≡ heading_level bytes.now }
@@ -60,7 +62,7 @@ pub fn heading_level(bytes: &[u8]) -> Option<usize>
     Some(level)
 }
 
-/// The fence that begins here.
+/// The fence that begins a block of code here, if one does. After backquotes there is no further one in the line.
 #[tactic(auto, unfolding(crate::specs::Marks::fence_start))]
 pub fn fence_start(bytes: &[u8]) -> Option<Fence>
     ensures value { result ≡ fence_start bytes.now }
@@ -82,7 +84,7 @@ fn has_backquote(bytes: &[u8]) -> bool
     bytes.iter().any(|byte| *byte == b'`')
 }
 
-/// The level of the heading that this line makes of the paragraph before it.
+/// The level of the heading that this line makes of the paragraph before it: 1 where it is of `=` alone, 2 where of `-`. Blanks may follow.
 #[tactic(auto, unfolding(crate::specs::Marks::underline_level))]
 pub fn underline_level(bytes: &[u8]) -> Option<usize>
     ensures { result ≡ underline_level bytes.now }

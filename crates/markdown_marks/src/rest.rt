@@ -56,7 +56,7 @@ impl<'s> Rest<'s> {
         }
     }
 
-    /// How many blank columns are in front, at most so many, and the rest without them.
+    /// How many blank columns are in front, at most `most`, and the rest without them.
     pub fn indent(self, most: usize) -> (usize, Rest<'s>)
         ensures columns { result.0 ≡ columns_in_front most (remaining self.entry) }
         ensures rest { remaining result.1 ≡ take_columns most (remaining self.entry) }
@@ -76,7 +76,7 @@ impl<'s> Rest<'s> {
         (columns, rest)
     }
 
-    /// The rest without the blank columns in front, at most so many.
+    /// The rest without the blank columns in front, at most `most` of them.
     pub fn take_columns(self, most: usize) -> Rest<'s>
         ensures { remaining result ≡ take_columns most (remaining self.entry) }
     {
@@ -84,7 +84,7 @@ impl<'s> Rest<'s> {
         rest
     }
 
-    /// The rest without so many bytes, each of one column.
+    /// The rest without its first `count` bytes, each of one column.
     #[tactic(auto, unfolding(crate::specs::Remaining::skip))]
     pub fn skip(self, count: usize) -> Rest<'s>
         requires { count ≤ length self.bytes.now }

@@ -1,10 +1,11 @@
 //! Rows of tables.
 
 ghost use Rattle.std.specs.Prelude.{◌≡◌, ◌≤◌, ◌||◌, ◌&&◌, ◌==◌, false, not, length};
-ghost use Rattle.markdown_marks.specs.Bytes.{is_blank_byte};
-ghost use Rattle.markdown_marks.specs.Tables.{without_bar, row_of, last_cell, cells_from, cell_count, back_spot, next_spot, ends_cell, columns_at_end, columns_from, delimited_columns};
+ghost use Rattle.markdown_marks.specs.Bytes.{is_blank_byte, is_blank};
+ghost use Rattle.markdown_marks.specs.Tables.{without_bar, row_of, last_cell, cells_from, cell_count, back_spot, next_spot, ends_cell, is_nowhere, columns_at_end, columns_from, delimited_columns};
 
 use crate::bytes::{first, is_blank, is_blank_byte, tail, without_blanks};
+use memchr::memchr;
 
 /// A place in a cell of the row below the head.
 #[derive(Debug, Clone, Copy, PartialEq, Eq)]
@@ -80,13 +81,24 @@ fn cells_from(bytes: &[u8]) -> usize
     if some { count + 1 } else { count }
 }
 
-/// How many cells a row has.
+// How many cells bars cut, where the row isn't blank. Most lines of a paragraph have no bar.
+fn cells_of(row: &[u8]) -> usize
+    requires { is_blank row.now ≡ false }
+    ensures { result ≡ cells_from false false 0 row.now }
+{
+    match memchr(b'|', row) {
+        None => 1,
+        Some(_) => cells_from(row),
+    }
+}
+
+/// How many cells a row of a table has. Bars cut it, but for those with a backslash right before them; without a bar it is one cell.
 #[tactic(auto, unfolding(crate::specs::Tables::cell_count))]
 pub fn cell_count(bytes: &[u8]) -> usize
     ensures { result ≡ cell_count bytes.now }
 {
     let row = row_of(bytes);
-    if is_blank(row) { 1 } else { cells_from(row) }
+    if is_blank(row) { 1 } else { cells_of(row) }
 }
 
 // ---- the row below the head
@@ -160,6 +172,15 @@ fn ends_cell(spot: Spot) -> bool
     }
 }
 
+fn is_nowhere(spot: Spot) -> bool
+    ensures { result ≡ is_nowhere spot }
+{
+    match spot {
+        Spot::Nowhere => true,
+        Spot::Front | Spot::Colon | Spot::Hyphens | Spot::Back => false,
+    }
+}
+
 fn ends_at(spot: Spot, b: u8) -> bool
     ensures { result ≡ (ends_cell spot && (b == 124)) }
 {
@@ -186,6 +207,9 @@ fn columns_from(bytes: &[u8]) -> usize
     let mut spot = Spot::Front;
     let mut count = 0;
     while let [b, next @ ..] = rest {
+        if is_nowhere(spot) {
+            return 0;
+        }
         rest = next;
         if ends_at(spot, *b) {
             spot = Spot::Front;
@@ -197,7 +221,7 @@ fn columns_from(bytes: &[u8]) -> usize
     columns_at_end(spot, count)
 }
 
-/// How many columns a row of delimiters has, 0 if it is none.
+/// How many columns a row of delimiters has, 0 if the line is none. It has hyphens in each cell, with or without a colon on each side of them.
 #[tactic(auto, unfolding(crate::specs::Tables::delimited_columns))]
 pub fn delimited_columns(bytes: &[u8]) -> usize
     ensures { result ≡ delimited_columns bytes.now }

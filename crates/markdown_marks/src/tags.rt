@@ -1,4 +1,4 @@
-//! A tag alone in a line.
+//! Tags of html, byte by byte: [`next_place`] leads from place to place.
 
 ghost use Rattle.std.specs.Prelude.{◌≡◌, ◌||◌, ◌==◌, if◌then◌else◌};
 ghost use Rattle.std.specs.Char.{is_ascii_alphanumeric};
@@ -7,7 +7,7 @@ ghost use Rattle.markdown_marks.specs.Html.{is_attribute_start, is_attribute_byt
 
 use crate::bytes::{first, is_blank_byte};
 
-/// A place in a tag.
+/// A place in a tag. `Name` comes after the first letter of an opening tag, `CloseName` after that of a closing one.
 #[derive(Debug, Clone, Copy, PartialEq, Eq)]
 pub enum Place {
     /// In the tag's name.
@@ -18,17 +18,23 @@ pub enum Place {
     Attribute,
     /// After blanks that follow an attribute's name.
     AfterAttribute,
+    /// After `=`, and blanks behind it.
     BeforeValue,
     /// In a value without quotes.
     Plain,
+    /// In a value in single quotes.
     Single,
+    /// In a value in double quotes.
     Double,
+    /// After the quote that ends a value.
     AfterValue,
-    /// After a slash, which > has to follow.
+    /// After a slash, which `>` has to follow.
     Slash,
+    /// In the name of a closing tag.
     CloseName,
+    /// After blanks behind it, which `>` has to follow.
     CloseGap,
-    /// After the tag.
+    /// After the tag, and blanks behind it.
     After,
     /// This is no tag.
     Nowhere,
@@ -221,7 +227,7 @@ fn ends_alone(place: Place, bytes: &[u8]) -> bool
 }
 
 /// Whether the bytes after a sign `<` are an opening tag with its attributes, or a closing one, and then nothing but blanks.
-pub(crate) fn is_tag_alone(bytes: &[u8]) -> bool
+pub fn is_tag_alone(bytes: &[u8]) -> bool
     ensures { result ≡ is_tag_alone bytes.now }
 {
     match bytes {

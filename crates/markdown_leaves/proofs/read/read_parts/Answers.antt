@@ -12,7 +12,7 @@ pub loop-gatherer-preserved : goal.loop-gatherer-preserved
 loop-gatherer-preserved c =
     let before = unread c.loop-gatherer.cursor in
     let after = unread c.next_line.new.self in
-    let reads : IsRead before (Some c.in-Some.read) after = subst (λ (o : Option LineRead). IsRead before o after) c.in-Some.is c.in_ok-next_line.ensures in
+    let reads : IsRead before (Some c.in-Some.read) after = subst (λ (o : Option LineRead). IsRead before o after) c.in-Some.is c.in_ok-next_line.ensures.ok in
     let containers = c.those_after.ensures ∙ ap (λ (cs : List Container). drop c.in-Some.read.kept cs) c.containers.ensures in
     told_read (gathering_of c.loop-gatherer.gatherer) (gathering_of c.leave_all-in-Some.new.self) (gathering_of c.enter_all.new.self) (gathering_of c.line.new.self)
     (length c.containers-before.result.now - c.in-Some.read.kept) c.in-Some.read.kept before.state.containers after.state.containers c.those_after.result.now
@@ -24,6 +24,6 @@ loop-gatherer-preserved c =
 pub returns-in-None : goal.returns-in-None
 returns-in-None c =
     let before = unread c.loop-gatherer.cursor in
-    let reads : IsRead before None (unread c.next_line.new.self) = subst (λ (o : Option LineRead). IsRead before o (unread c.next_line.new.self)) c.in-None.is c.in_ok-next_line.ensures in
+    let reads : IsRead before None (unread c.next_line.new.self) = subst (λ (o : Option LineRead). IsRead before o (unread c.next_line.new.self)) c.in-None.is c.in_ok-next_line.ensures.ok in
     told_end c.args.text.now (gathering_of c.loop-gatherer.gatherer) (gathering_of c.leave_all.new.self) (gathering_of c.close.new.self) (length c.containers-before.result.now) (events_of before) (map part_of c.into_parts.result.items)
     c.loop-gatherer.invariant (reads ∙ ap (λ (cs : List Container). leaves (length cs)) (sym c.containers-before.ensures)) c.in_ok-leave_all-in-None.ensures c.in_ok-close-in-None.ensures c.into_parts.ensures
