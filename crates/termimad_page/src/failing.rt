@@ -27,6 +27,7 @@ impl From<Error> for Refusal {
         match e {
             Error::IO(e) => match e.kind() {
                 ErrorKind::BrokenPipe => Refusal::Unread,
+                ErrorKind::OutOfMemory => Refusal::Failed(Failure::Memory),
                 _ => Refusal::Failed(Failure::Io),
             },
             Error::InsufficientWidth(_) => Refusal::Failed(Failure::Io),

@@ -26,21 +26,22 @@ pub fn run_on_standard_streams(rt: &HostRuntime) -> Result<(), Refusal> {
             name,
             columns,
             rows,
-        } => page(
-            rt,
-            &Sheet {
+        } => {
+            let sheet = Sheet {
                 name,
                 text,
                 grammar: call.grammar,
                 skin: &skin,
                 columns,
                 rows,
-            },
-        ),
+            };
+            page(rt, &sheet)?;
+        }
         Place::Output { columns } => {
-            write_whole(rt, text, call.grammar, &skin, usize::from(columns))
+            write_whole(rt, text, call.grammar, &skin, usize::from(columns))?;
         }
     }
+    Ok(())
 }
 
 // The word that the skin is made of: none for a skin without styles.
@@ -53,11 +54,10 @@ fn skin_word<'w>(call: &Call<'w>) -> Option<&'w str> {
 }
 
 // Pages a text.
-fn page(rt: &HostRuntime, sheet: &Sheet) -> Result<(), Refusal> {
+fn page(rt: &HostRuntime, sheet: &Sheet) -> Result<(), Error> {
     let mut input = Stream::new(rt.reader());
     let mut out = Stream::new(io::writer(rt));
-    run(rt.alloc(), sheet, &mut input, &mut out)?;
-    Ok(())
+    run(rt.alloc(), sheet, &mut input, &mut out)
 }
 
 // Writes a whole text.
@@ -67,21 +67,19 @@ fn write_whole(
     grammar: Grammar,
     skin: &MadSkin,
     columns: usize,
-) -> Result<(), Refusal> {
-    let writer = BufWriter::new(rt.alloc(), io::writer(rt)).map_err(|_| Refusal::Failed(
-        Failure::Memory,
-    ))?;
+) -> Result<(), Error> {
+    let writer = BufWriter::new(rt.alloc(), io::writer(rt))?;
     let mut out = Stream::new(writer);
     match grammar {
         Grammar::Lines => {
-            let text = printable(rt.alloc(), text).map_err(|_| Refusal::Failed(Failure::Memory))?;
+            let text = printable(rt.alloc(), text)?;
             skin.write_parts_on(rt.alloc(), &mut out, &text, Some(columns))?;
         }
         Grammar::Markdown => {
             write_markdown_on(rt.alloc(), &mut out, skin, text, Some(columns))?;
         }
     }
-    out.flush().map_err(Error::from)?;
+    out.flush()?;
     Ok(())
 }
 
