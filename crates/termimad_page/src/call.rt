@@ -3,21 +3,43 @@
 use termimad_page_run::Grammar;
 use termimad_run::parse_number;
 
+// The columns at which a whole text is written, where no number says others.
+const WHOLE_COLUMNS: u16 = 80;
+
 /// What is to be shown, and how.
 #[derive(Clone, Copy)]
 pub struct Call<'w> {
-    /// The file's name.
+    /// The file that is read.
     pub file: &'w str,
     /// How its text is read.
     pub grammar: Grammar,
-    /// The columns and rows of the screen, or none where the whole text is to be written.
-    pub screen: Option<(u16, u16)>,
     /// The word for the skin, if there is one.
     pub skin: Option<&'w str>,
+    /// Where the text is shown.
+    pub place: Place<'w>,
 }
 
-/// The call that the words after the program's name are: `page FILE COLUMNS ROWS [SKIN]` or `whole FILE [SKIN]`, with `--lines` before
-/// them where each line of the text stands for itself. None, where they are neither.
+/// Where a text is shown.
+#[derive(Clone, Copy)]
+pub enum Place<'w> {
+    /// On a screen, page by page.
+    Screen {
+        /// The name that the text is shown under.
+        name: &'w str,
+        /// The screen's columns.
+        columns: u16,
+        /// Its rows.
+        rows: u16,
+    },
+    /// On standard output, whole, at so many columns.
+    Output {
+        /// The columns.
+        columns: u16,
+    },
+}
+
+/// The call that the words after the program's name are: `page FILE COLUMNS ROWS [SKIN [NAME]]` or `whole FILE [SKIN [COLUMNS]]`, with
+/// `--lines` before them where each line of the text stands for itself. None, where they are neither.
 pub fn parse_call(words: &[String]) -> Option<Call<'_>> {
     let (name, rest) = words.split_first()?;
     match name.as_str() {
@@ -39,32 +61,40 @@ fn parse_page(words: &[String], grammar: Grammar) -> Option<Call<'_>> {
     let [file, columns, rows, rest @ ..] = words else {
         return None;
     };
+    let (skin, name) = last_words(rest)?;
     Some(Call {
         file: file.as_str(),
         grammar,
-        screen: Some((
-            parse_number(columns.as_str())?,
-            parse_number(rows.as_str())?,
-        )),
-        skin: skin_word(rest)?,
+        skin,
+        place: Place::Screen {
+            name: name.unwrap_or(file.as_str()),
+            columns: parse_number(columns.as_str())?,
+            rows: parse_number(rows.as_str())?,
+        },
     })
 }
 
 fn parse_whole(words: &[String], grammar: Grammar) -> Option<Call<'_>> {
     let (file, rest) = words.split_first()?;
+    let (skin, columns) = last_words(rest)?;
+    let columns = match columns {
+        Some(word) => parse_number(word)?,
+        None => WHOLE_COLUMNS,
+    };
     Some(Call {
         file: file.as_str(),
         grammar,
-        screen: None,
-        skin: skin_word(rest)?,
+        skin,
+        place: Place::Output { columns },
     })
 }
 
-// The word given for SKIN, if there is at most one.
-fn skin_word(words: &[String]) -> Option<Option<&str>> {
+// The last words of a call, which may be left out from the end on: that for the skin, and one more.
+fn last_words(words: &[String]) -> Option<(Option<&str>, Option<&str>)> {
     match words {
-        [] => Some(None),
-        [word] => Some(Some(word.as_str())),
+        [] => Some((None, None)),
+        [skin] => Some((Some(skin.as_str()), None)),
+        [skin, other] => Some((Some(skin.as_str()), Some(other.as_str()))),
         _ => None,
     }
 }

@@ -1,19 +1,58 @@
 //! How a run fails: what is said, and its status.
 
-use termimad::{Out, put_all};
+use std::io::ErrorKind;
+use termimad::{Error, Out, put_all};
 use termimad_run::Failure;
 
-/// Says a failure on a device, in one line, and answers its status.
-pub fn refuse<E: Out>(err: &mut E, failure: Failure) -> u8 {
-    let _ = put_all(err, line(failure));
-    failure.status()
+// The status of a program that writes where nobody reads: 128 and the number of the signal that ends others then.
+const UNREAD: u8 = 141;
+
+/// Why a run ended with a status other than 0.
+#[derive(Drop)]
+pub enum Refusal {
+    /// It failed, and says why.
+    Failed(Failure),
+    /// Nobody reads its output any more, which is no fault.
+    Unread,
+}
+
+impl From<Failure> for Refusal {
+    fn from(failure: Failure) -> Self {
+        Refusal::Failed(failure)
+    }
+}
+
+impl From<Error> for Refusal {
+    fn from(e: Error) -> Self {
+        match e {
+            Error::IO(e) => match e.kind() {
+                ErrorKind::BrokenPipe => Refusal::Unread,
+                ErrorKind::OutOfMemory => Refusal::Failed(Failure::Memory),
+                _ => Refusal::Failed(Failure::Io),
+            },
+            Error::InsufficientWidth(_) => Refusal::Failed(Failure::Io),
+            Error::Memory => Refusal::Failed(Failure::Memory),
+        }
+    }
+}
+
+/// Says a refusal on a device, in one line, and answers its status. Where nobody reads the output, nothing is said.
+pub fn refuse<E: Out>(err: &mut E, refusal: Refusal) -> u8 {
+    match refusal {
+        Refusal::Failed(failure) => {
+            let _ = put_all(err, line(failure));
+            failure.status()
+        }
+        Refusal::Unread => UNREAD,
+    }
 }
 
 fn line(failure: Failure) -> &'static [u8] {
     match failure {
         Failure::Io => b"termimad-page: the file can't be read, or the output failed\n",
-        Failure::Usage =>
-            b"usage: termimad-page page FILE COLUMNS ROWS [SKIN] | whole FILE [SKIN]\n",
+        Failure::Usage => {
+            b"usage: termimad-page [--lines] page FILE COLUMNS ROWS [SKIN [NAME]] | [--lines] whole FILE [SKIN [COLUMNS]]\n"
+        }
         Failure::NotUtf8 => b"termimad-page: the file is not UTF-8\n",
         Failure::Skin => b"termimad-page: skin\n",
         Failure::Memory => b"termimad-page: memory\n",

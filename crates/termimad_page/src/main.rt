@@ -16,6 +16,6 @@ fn main(rt: HostRuntime) -> ExitCode {
     let mut err = Stream::new(rt.stderr());
     match running::run_on_standard_streams(&rt) {
         Ok(()) => ExitCode::from(0),
-        Err(failure) => ExitCode::from(failing::refuse(&mut err, failure)),
+        Err(refusal) => ExitCode::from(failing::refuse(&mut err, refusal)),
     }
 }

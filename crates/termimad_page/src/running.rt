@@ -1,74 +1,85 @@
 //! A run: the file is read, and then shown.
 
-use crate::call::{Call, parse_call};
+use crate::call::{Call, Place, parse_call};
+use crate::failing::Refusal;
 use std::io::{BufWriter, Error as IoError, ErrorKind};
 use std::{env, fs, io};
-use termimad::{MadSkin, Stream, printable, write_markdown_on};
+use termimad::{Error, MadSkin, Out, Stream, printable, write_markdown_on};
 use termimad_page_run::{Grammar, Sheet, run};
 use termimad_run::{Failure, skin_of};
-
-// The columns at which a whole text is written.
-const WHOLE_COLUMNS: usize = 80;
 
 /// Does what the arguments ask for: keys come from standard input, and standard output gets what is shown.
 ///
 /// # Errors
 ///
-/// A fault of the file or of a stream, other arguments, a file that isn't UTF-8, a skin that is none, or out of memory.
-pub fn run_on_standard_streams(rt: &HostRuntime) -> Result<(), Failure> {
+/// A fault of the file or of a stream, other arguments, a file that isn't UTF-8, a skin that is none, or out of memory. Or nobody reads
+/// standard output.
+pub fn run_on_standard_streams(rt: &HostRuntime) -> Result<(), Refusal> {
     let words = arguments(rt)?;
-    let call = parse_call(words.as_slice()).ok_or(Failure::Usage)?;
-    let (mut skin, _) = skin_of(rt.alloc(), Some(call.skin.unwrap_or("default")))?;
+    let call = parse_call(words.as_slice()).ok_or(Refusal::Failed(Failure::Usage))?;
+    let (mut skin, _) = skin_of(rt.alloc(), skin_word(&call))?;
     skin.whole_words = call.grammar == Grammar::Markdown;
     let bytes = read(rt, call.file)?;
-    let text = str::from_utf8(bytes.as_slice()).map_err(|_| Failure::NotUtf8)?;
-    match call.screen {
-        Some(size) => page(rt, &call, text, &skin, size),
-        None => write_whole(rt, text, call.grammar, &skin),
+    let text = str::from_utf8(bytes.as_slice()).map_err(|_| Refusal::Failed(Failure::NotUtf8))?;
+    match call.place {
+        Place::Screen {
+            name,
+            columns,
+            rows,
+        } => {
+            let sheet = Sheet {
+                name,
+                text,
+                grammar: call.grammar,
+                skin: &skin,
+                columns,
+                rows,
+            };
+            page(rt, &sheet)?;
+        }
+        Place::Output { columns } => {
+            write_whole(rt, text, call.grammar, &skin, usize::from(columns))?;
+        }
     }
-}
-
-// Pages the text on a screen of this size.
-fn page(
-    rt: &HostRuntime,
-    call: &Call,
-    text: &str,
-    skin: &MadSkin,
-    size: (u16, u16),
-) -> Result<(), Failure> {
-    let sheet = Sheet {
-        name: call.file,
-        text,
-        grammar: call.grammar,
-        skin,
-        columns: size.0,
-        rows: size.1,
-    };
-    let mut input = Stream::new(rt.reader());
-    let mut out = Stream::new(io::writer(rt));
-    run(rt.alloc(), &sheet, &mut input, &mut out)?;
     Ok(())
 }
 
-// Writes the whole text.
+// The word that the skin is made of: none for a skin without styles.
+fn skin_word<'w>(call: &Call<'w>) -> Option<&'w str> {
+    match call.skin {
+        Some("none") => None,
+        Some(word) => Some(word),
+        None => Some("default"),
+    }
+}
+
+// Pages a text.
+fn page(rt: &HostRuntime, sheet: &Sheet) -> Result<(), Error> {
+    let mut input = Stream::new(rt.reader());
+    let mut out = Stream::new(io::writer(rt));
+    run(rt.alloc(), sheet, &mut input, &mut out)
+}
+
+// Writes a whole text.
 fn write_whole(
     rt: &HostRuntime,
     text: &str,
     grammar: Grammar,
     skin: &MadSkin,
-) -> Result<(), Failure> {
-    let writer = BufWriter::new(rt.alloc(), io::writer(rt)).map_err(|_| Failure::Memory)?;
+    columns: usize,
+) -> Result<(), Error> {
+    let writer = BufWriter::new(rt.alloc(), io::writer(rt))?;
     let mut out = Stream::new(writer);
     match grammar {
         Grammar::Lines => {
             let text = printable(rt.alloc(), text)?;
-            skin.write_parts_on(rt.alloc(), &mut out, &text, Some(WHOLE_COLUMNS))?;
+            skin.write_parts_on(rt.alloc(), &mut out, &text, Some(columns))?;
         }
         Grammar::Markdown => {
-            write_markdown_on(rt.alloc(), &mut out, skin, text, Some(WHOLE_COLUMNS))?;
+            write_markdown_on(rt.alloc(), &mut out, skin, text, Some(columns))?;
         }
     }
-    termimad::Out::flush(&mut out)?;
+    out.flush()?;
     Ok(())
 }
 

@@ -1,0 +1,602 @@
+"""Tries of ./page in tmux, each by a function. A try gets a window of 80 columns and 24 rows, in a folder with texts; it answers None, or a text
+that is shown beside its name."""
+import os
+import random
+import shutil
+import signal
+import subprocess
+import time
+
+from windows import AT_REST, ENVIRONMENT, PAGE, PAGING, ROOT, Screen, Tmux, processes, until
+
+TRIES = []
+
+
+def tried(f):
+    TRIES.append(f)
+    return f
+
+
+def same(a, b, what=""):
+    if a != b:
+        rows = "".join(f"\n      row {i}: {x!r} / {y!r}" for i, (x, y) in enumerate(zip(a, b)) if x != y) if isinstance(a, list) else ""
+        raise AssertionError(what + (rows or f": {a!r} is not {b!r}"))
+
+
+def fresh(w, columns, rows, words="text.md", keys=""):
+    """The picture of a new run at that size."""
+    other = Tmux(columns, rows, w.folder)
+    other.run(f"{PAGE} {words}")
+    assert other.paging(), "a new run"
+    other.type(keys)
+    shown = other.still()
+    other.close()
+    return shown
+
+
+def begin(w, words="text.md", before=""):
+    w.run(f"{before}{PAGE} {words}")
+    assert w.paging(), (words, w.shown(), w.flags())
+
+
+def end(w, status=0, what="", seconds=8.0):
+    w.type("q")
+    same(w.ended(seconds), status, what)
+
+
+def stop(w):
+    w.type("\x1a")
+    assert w.stopped(), (w.shown(), w.flags(), w.children())
+
+
+def go_on(w):
+    w.type("clear; fg\r")
+    assert w.paging(), (w.shown(), w.flags(), w.children())
+
+
+def quit_stopped(w):
+    """Ends a run that was stopped before: the rest of its command line is lost, so only the modes are looked at."""
+    w.type("q")
+    assert w.at_rest(), w.flags()
+    w.type("clear\r")
+
+
+@tried
+def resize_once(w):
+    begin(w)
+    w.resize(50, 15)
+    assert w.paging()
+    same(w.still(), fresh(w, 50, 15))
+    end(w)
+
+
+@tried
+def resize_with_keys(w):
+    for seed in range(4):
+        chance = random.Random(seed)
+        begin(w)
+        for _ in range(50):
+            w.resize(chance.randrange(20, 120), chance.randrange(5, 40))
+            w.type(chance.choice(["j", "k", " ", "d", "\x1b[B", "\x1b[5~"]))
+        w.resize(60 + seed, 20)
+        w.type("g")
+        w.still()
+        same(w.still(), fresh(w, 60 + seed, 20), f"seed {seed}")
+        end(w)
+        w.resize(80, 24)
+
+
+@tried
+def resize_of_a_long_text(w):
+    """As a mouse that drags the window's edge: 120 signals in two seconds, a text of 10 MB."""
+    begin(w, "long.md")
+    script = w.script()
+    for _ in range(120):
+        os.kill(script, signal.SIGWINCH)
+        time.sleep(1 / 60)
+    began = time.monotonic()
+    w.resize(61, 21)
+    w.type("G")
+    assert until(lambda: "100%" in w.shown()[20], 60), w.shown()
+    took = time.monotonic() - began
+    end(w, seconds=60)
+    return f"{took:.1f} s until it stands"
+
+
+@tried
+def resize_of_which_none_is_lost(w):
+    begin(w)
+    for i in range(40):
+        w.resize(80, 10 + i % 17)
+        assert w.paging(3), f"resize {i} was lost"
+        time.sleep((i % 13) * 0.02)
+    end(w)
+
+
+@tried
+def resize_in_search(w):
+    begin(w)
+    w.type("/seven")
+    assert until(lambda: "seven" in w.shown()[23])
+    w.resize(50, 15)
+    assert until(lambda: "seven" in w.shown()[14]), w.shown()
+    w.type("\r")
+    assert until(lambda: "seven" in "".join(w.shown()[:14]), 3), w.shown()
+    end(w)
+
+
+@tried
+def resize_to_one_cell(w):
+    begin(w)
+    for size in ((3, 3), (1, 1), (200, 2), (2, 60)):
+        w.resize(*size)
+        time.sleep(0.3)
+    w.resize(80, 24)
+    assert w.paging()
+    w.still()
+    same(w.still(), fresh(w, 80, 24))
+    end(w)
+
+
+@tried
+def resize_and_quit(w):
+    """The answer to a question isn't typed at the shell."""
+    for i in range(20):
+        w.resize(80, 24)
+        begin(w)
+        if i % 2:
+            w.resize(80, 20 + i % 3)
+            time.sleep(i * 0.012)
+        else:
+            os.kill(w.script(), signal.SIGWINCH)
+        end(w, what=f"round {i}")
+        time.sleep(0.15)
+        assert not any("R" in row for row in w.shown()), w.shown()
+        w.type("\x03")
+
+
+@tried
+def joined_emoji(w):
+    begin(w, "emoji.md")
+    w.type("j" * 5)
+    assert "%" in w.still()[23]
+    end(w)
+
+
+@tried
+def from_pipe(w):
+    wanted = fresh(w, 80, 24, keys="j j")[:23]
+    os.mkfifo(w.folder / "fifo")
+    for line in (f"cat text.md | {PAGE}", f"cat text.md | {PAGE} -", f"{PAGE} <(cat text.md)", f"{PAGE} - <text.md", f"{PAGE} /dev/stdin <text.md",
+                 f"cat text.md | {PAGE} /dev/stdin", f"cat text.md >fifo & {PAGE} fifo"):
+        w.run(line)
+        assert w.paging(), (line, w.shown())
+        w.type("j j")
+        same(w.still()[:23], wanted, line)
+        end(w, what=line)
+
+
+@tried
+def from_slow_pipe(w):
+    w.run(f"(echo '# begun'; sleep 2.5; echo; echo later) | {PAGE}")
+    assert until(lambda: any("Control-C shows" in row for row in w.shown()), 3), w.shown()
+    assert w.paging()
+    assert any("later" in row for row in w.still())
+    end(w)
+    assert not any("Control-C shows" in row for row in w.shown())
+
+
+@tried
+def from_endless_pipe(w):
+    """Control-C also ends the command before the pipe, and the shell then drops the rest of its own line."""
+    for line in (f"(echo '# begun'; sleep 1000) | {PAGE}", f"{PAGE} <(echo '# begun'; exec sleep 1000)"):
+        w.type(f"clear; {line}\r")
+        time.sleep(1.5)
+        w.type("\x03")
+        assert w.paging(), w.shown()
+        assert "begun" in "".join(w.shown()) and "its beginning" in w.shown()[23], w.shown()
+        w.type("q")
+        assert w.at_rest(), w.flags()
+    w.run(f"yes 'a é' | PAGE_MOST=1001 {PAGE}")
+    assert w.paging(), w.shown()
+    w.type("G")
+    assert "100%" in w.still()[23], w.shown()
+    assert until(lambda: not any(command.startswith("yes") for *_, command in w.children())), "yes still runs"
+    end(w)
+
+
+@tried
+def from_pipe_cut_in_a_character(w):
+    for before in range(1012, 1025):
+        w.run(f"(printf '%0{before}d' 7; printf 'aé€😀b\\n') | PAGE_MOST=1 {PAGE}")
+        assert w.paging(), (before, w.shown())
+        assert "its beginning" in w.shown()[23]
+        end(w, what=str(before))
+
+
+@tried
+def from_empty_pipe(w):
+    for line in (f"true | {PAGE}", f"false | {PAGE} -", f"{PAGE} /dev/null", f"{PAGE} <(exit 3)"):
+        w.run(line)
+        assert w.paging(), (line, w.shown())
+        end(w, what=line)
+
+
+@tried
+def refusals(w):
+    (w.folder / "latin.txt").write_bytes(b"caf\xe9\n")
+    for words, status, said in (
+        ("nothing.md", 2, "page: there is no file nothing.md"), ("text.md dark", 2, "page: there is no file dark"), (".", 2, "page: . is a folder"),
+        ("", 2, "page: usage:"), ("-", 2, "page: usage:"), ("--skin", 2, "page: usage"), ("--skim x", 2, "page: usage"),
+        ("latin.txt", 3, "not UTF-8"), ("<(cat latin.txt)", 3, "not UTF-8"), ("--skin '{' text.md", 4, "page: SKIN is"),
+    ):
+        w.run(f"{PAGE} {words}")
+        same(w.ended(), status, words)
+        assert until(lambda: any(said in row for row in w.shown()), 2), (words, w.shown())
+
+
+@tried
+def several_files(w):
+    begin(w, "text.md emoji.md")
+    assert "text.md" in w.shown()[23]
+    end(w)
+    assert any("of 2 files the first is shown" in row for row in w.shown()), w.shown()
+
+
+def in_shell(w, line):
+    ran = subprocess.run(["bash", "-c", line], cwd=w.folder, capture_output=True, env=ENVIRONMENT, stdin=subprocess.DEVNULL)
+    return ran.stdout, ran.stderr
+
+
+@tried
+def broken_pipe(w):
+    for line in (f"{PAGE} long.md", f"{PAGE} --lines long.md", f"cat long.md | {PAGE}", f"{PAGE} <(cat long.md)", f"{PAGE} --skin dark long.md"):
+        same(in_shell(w, f"{line} | head -1 >/dev/null; echo ${{PIPESTATUS[-2]}}"), (b"141\n", b""), line)
+    out, err = in_shell(w, f"{PAGE} long.md >/dev/full; echo $?")
+    same((out, len(err.splitlines())), (b"1\n", 1))
+
+
+# What stands in for the command rt: it runs the program on the file of --data, and writes nothing past a MiB.
+RT_TRY = """#!/bin/bash
+folder=$(mktemp -d) && cd "$folder" && cp "${3#text.md=}" text.md || exit 2
+"$PROGRAM" "${@:5}" >out
+code=$?
+[ "$(wc -c <out)" -le 1048576 ] || code=6
+[ $code -ne 0 ] || cat out
+rm -r "$folder"
+exit $code
+"""
+
+
+@tried
+def first_look(w):
+    """Where no program is built, less shows what `rt try` lays out of the text's beginning, as wide as the terminal."""
+    clone = w.folder / "clone"
+    (clone / "crates/termimad_page").mkdir(parents=True)
+    (clone / "crates.txt").touch()
+    shutil.copy(PAGE, clone)
+    shutil.copytree(ROOT / "tools/package", clone / "tools/package")
+    (clone / "bin").mkdir()
+    (clone / "bin/rt").write_text(RT_TRY)
+    (clone / "bin/rt").chmod(0o755)
+    (w.folder / "tables.md").write_text("".join(f"| `a b c d e f g h` | `{i}` | **x** |\n|---|---|---|\n\n" for i in range(9000)))
+    look = f"env -u TERMIMAD_PAGE PROGRAM={ENVIRONMENT['TERMIMAD_PAGE']} PATH={clone}/bin:$PATH {clone}/page"
+    w.resize(60, 24)
+    w.run(f"{look} long.md")
+    assert until(lambda: w.shown()[23] == ":"), w.shown()
+    same(w.shown()[:23], [line.rstrip() for line in in_shell(w, f"$TERMIMAD_PAGE whole long.md none 60")[0].decode().split("\n")[:23]])
+    w.type("G")
+    assert until(lambda: any(row.startswith("lines of the text that are left out:") for row in w.shown()), 3), w.shown()
+    end(w)
+    assert "isn't proved yet" in " ".join(w.shown()), w.shown()
+    whole, _ = in_shell(w, f"{PAGE} long.md")
+    out, err = in_shell(w, f"{look} long.md")
+    assert out and whole.startswith(out) and len(err.splitlines()) == 2, err
+    out, err = in_shell(w, f"cat tables.md | {look} --skin default")
+    assert 0 < len(out) < 1 << 20 and b"left out" in err, err
+    same(in_shell(w, f"{look} text.md"), (in_shell(w, f"{PAGE} text.md")[0], err.splitlines(True)[0]))
+
+
+@tried
+def no_styles(w):
+    same(b"\x1b" in in_shell(w, f"{PAGE} text.md")[0], False)
+    same(b"\x1b" in in_shell(w, f"{PAGE} --skin default text.md")[0], True)
+    same(in_shell(w, f"{PAGE} text.md")[0], in_shell(w, f"cat text.md | {PAGE}")[0])
+    for before, options, styled in (("", "", True), ("NO_COLOR=1 ", "", False), ("NO_COLOR= ", "", True), ("NO_COLOR=1 ", "--skin default ", True), ("", "--skin none ", False)):
+        begin(w, f"{options}text.md", before)
+        same("\x1b[1" in w.shown("-e")[0], styled, before + options)
+        assert "\x1b[7m" in w.shown("-e")[23], "the status row"
+        end(w)
+
+
+@tried
+def stop_and_go_on(w):
+    begin(w)
+    w.type("   ")
+    shown = w.still()
+    for i in range(20):
+        stop(w)
+        if i == 0:
+            w.type("stty -g >stopped\r")
+            assert w.says("looked")
+            same((w.folder / "stopped").read_text(), w.file("before").read_text(), "settings while stopped")
+        go_on(w)
+        same(w.still(), shown, f"round {i}")
+    quit_stopped(w)
+    w.type("stty -g >ended; jobs\r")
+    assert w.says("looked")
+    same((w.folder / "ended").read_text(), (w.folder / "stopped").read_text(), "settings at the end")
+    same([row for row in w.shown() if "Stopped" in row or "Running" in row], [], "jobs")
+
+
+@tried
+def stop_in_search(w):
+    begin(w)
+    w.type("/seven")
+    assert until(lambda: "seven" in w.shown()[23])
+    stop(w)
+    w.type("clear; fg\r")
+    assert until(lambda: "seven" in w.shown()[23]), w.shown()
+    w.type(" nine")
+    assert until(lambda: "seven nine" in w.shown()[23]), w.shown()
+    w.type("\x1b")
+    time.sleep(0.3)
+    quit_stopped(w)
+
+
+@tried
+def stop_and_resize(w):
+    begin(w)
+    stop(w)
+    for size in ((40, 10), (100, 30), (55, 17)):
+        w.resize(*size)
+        time.sleep(0.1)
+    go_on(w)
+    w.still()
+    same(w.still(), fresh(w, 55, 17))
+    quit_stopped(w)
+
+
+@tried
+def stop_right_after_resize(w):
+    for i in range(12):
+        begin(w)
+        w.resize(70 + i % 2, 20)
+        assert w.paging()
+        w.resize(60, 24)
+        time.sleep(i * 0.016)
+        stop(w)
+        go_on(w)
+        quit_stopped(w)
+        w.resize(80, 24)
+
+
+@tried
+def stop_right_after_continuing(w):
+    """The shell's line that it is stopped may be lost then, so the processes are looked at."""
+    begin(w)
+    stop(w)
+    for i in range(12):
+        w.type("clear; fg\r")
+        for _ in range(3):
+            time.sleep(i * 0.003)
+            w.type("\x1a")
+        if until(lambda: w.flags() == PAGING, 0.7):
+            w.type("\x1a")
+        assert until(lambda: w.flags() == AT_REST and all(state[0] == "T" for _, state, _ in w.children())), (i, w.shown(), w.flags(), w.children())
+    go_on(w)
+    quit_stopped(w)
+
+
+@tried
+def stop_twice_at_once(w):
+    for i in range(8):
+        begin(w)
+        w.type("j\x1a\x1aj" if i % 2 else "\x1a\x1a\x1a")
+        assert w.stopped(), (i, w.shown(), w.flags())
+        for _ in range(4):
+            time.sleep(0.2)
+            w.type("clear; fg\r")
+            assert until(lambda: w.flags() == PAGING or "Stopped" in "".join(w.shown()), 3)
+            time.sleep(0.3)
+            if w.flags() == PAGING:
+                break
+        assert w.paging(), (i, w.shown(), w.flags())
+        quit_stopped(w)
+
+
+def left_of_picture(w):
+    return [row for row in w.still() if "aragraph" in row or "█" in row or "%" in row]
+
+
+@tried
+def stop_while_drawing(w):
+    """In a large window a picture is longer than the terminal's buffer, so the program is mostly stopped in the middle of one."""
+    w.resize(300, 100)
+    for _ in range(10):
+        begin(w, "--skin dark text.md")
+        w.type(" b" * 200)
+        stop(w)
+        same(left_of_picture(w), [], "while stopped")
+        go_on(w)
+        w.still()
+        w.type("q")
+        assert w.at_rest()
+        same(left_of_picture(w), [], "at the end")
+        w.type("clear\r")
+
+
+@tried
+def stop_and_background(w):
+    begin(w)
+    stop(w)
+    w.type("clear; bg\r")
+    time.sleep(0.7)
+    assert w.says("still here"), w.shown()
+    same(w.flags(), AT_REST, "modes in the background")
+    go_on(w)
+    w.still()
+    same(w.still(), fresh(w, 80, 24))
+    quit_stopped(w)
+
+
+@tried
+def stop_by_signal(w):
+    begin(w)
+    os.kill(w.script(), signal.SIGTSTP)
+    assert w.stopped()
+    assert all("T" in state for _, state, command in w.children() if "text.md" in command), w.children()
+    go_on(w)
+    quit_stopped(w)
+
+
+@tried
+def stop_in_pipe(w):
+    w.run(f"(cat text.md; exec sleep 0.1) | {PAGE}")
+    assert w.paging()
+    stop(w)
+    go_on(w)
+    quit_stopped(w)
+    w.run(f"(cat text.md; sleep 3) | {PAGE}")
+    time.sleep(0.5)
+    stop(w)
+    go_on(w)
+    quit_stopped(w)
+
+
+@tried
+def stop_below_another_program(w):
+    """A program starts the pager by a shell, as git does. The shell in the window may have the terminal before the script has put it back."""
+    for _ in range(8):
+        w.type("clear; stty -g >below1\r")
+        w.type(f"sh -c '{PAGE} text.md; true'\r")
+        assert w.paging()
+        w.type("\x1a")
+        assert until(lambda: w.flags() == AT_REST and all(state[0] == "T" for _, state, _ in w.children()), 3), (w.shown(), w.children())
+        w.type("clear; stty -g >below2\r")
+        assert w.says("looked"), w.shown()
+        same((w.folder / "below1").read_text(), (w.folder / "below2").read_text(), "settings while stopped")
+        go_on(w)
+        quit_stopped(w)
+        w.type("stty -g >below2\r")
+        assert w.says("again"), w.shown()
+        same((w.folder / "below1").read_text(), (w.folder / "below2").read_text(), "settings at the end")
+
+
+@tried
+def stop_alone_in_tmux(w):
+    """tmux continues what stops."""
+    alone = Tmux(80, 24, w.folder, f"{PAGE} {w.folder}/text.md")
+    assert alone.paging()
+    first = alone.still()[0]
+    alone.type("\x1a")
+    time.sleep(0.5)
+    alone.type(" \x1a\x1a")
+    assert until(lambda: alone.shown()[0] != first, 3), alone.shown()
+    alone.close()
+
+
+@tried
+def stop_alone_in_xterm(w):
+    """Nobody could continue it there: Control-Z does nothing that lasts, and `q` ends it and the window."""
+    if not all(shutil.which(name) for name in ("Xvfb", "xterm", "xdotool")):
+        return "Xvfb, xterm or xdotool isn't there: not tried"
+    with Screen():
+        xterm = subprocess.Popen(["xterm", "-e", str(PAGE), "text.md"], cwd=w.folder, env=ENVIRONMENT, stderr=subprocess.DEVNULL)
+        keys = lambda *names: [subprocess.run(["xdotool", "key", "--delay", "60", name], env=ENVIRONMENT, check=True) for name in names]
+        runs = lambda: [state for _, _, state, command in processes() if command.startswith(ENVIRONMENT["TERMIMAD_PAGE"]) and "text.md" in command]
+        try:
+            assert until(runs), "it doesn't start"
+            subprocess.run(["xdotool", "search", "--sync", "--class", "xterm", "windowfocus"], env=ENVIRONMENT, capture_output=True, check=True)
+            keys("space", "ctrl+z")
+            time.sleep(0.5)
+            keys("space", "ctrl+z", "ctrl+z", "space")
+            assert until(lambda: runs() and all("T" not in state for state in runs()), 3), runs()
+            keys("q")
+            assert until(lambda: xterm.poll() is not None, 5), "it hangs"
+        finally:
+            xterm.terminate()
+            xterm.wait()
+            ENVIRONMENT.pop("DISPLAY")
+
+
+@tried
+def signals_to_script(w):
+    for number, status in ((signal.SIGTERM, 143), (signal.SIGINT, 130), (signal.SIGHUP, 129)):
+        begin(w)
+        os.kill(w.script(), number)
+        same(w.ended(), status)
+        same(w.children(), [], "left")
+    begin(w)
+    w.type("\x03")
+    assert until(lambda: w.flags() == AT_REST and not w.children())
+
+
+@tried
+def signals_to_stopped_script(w):
+    for number in (signal.SIGTERM, signal.SIGHUP):
+        begin(w)
+        script = w.script()
+        stop(w)
+        os.kill(script, number)
+        os.kill(script, signal.SIGCONT)
+        assert until(lambda: not w.children()), w.children()
+        same(w.flags(), AT_REST)
+        w.type("clear\r")
+
+
+@tried
+def signals_to_program(w):
+    for number in (signal.SIGTERM, signal.SIGKILL, signal.SIGSEGV):
+        begin(w)
+        os.kill(w.program(), number)
+        same(w.ended(), 128 + number)
+        assert f"page: the program was ended by signal {int(number)}" in w.shown(), w.shown()
+
+
+@tried
+def window_closes(w):
+    for how in ("running", "stopped", "reading"):
+        other = Tmux(80, 24, w.folder)
+        if how == "reading":
+            other.run(f"sleep 1000 | {PAGE}")
+            time.sleep(1)
+        else:
+            begin(other)
+        if how == "stopped":
+            stop(other)
+        started = [pid for pid, *_ in other.children()]
+        assert started
+        other.close()
+        assert until(lambda: not [pid for pid, _, state, _ in processes() if pid in started and "Z" not in state], 5), how
+
+
+@tried
+def nothing_is_left(w):
+    same([path.name for path in (w.folder / "tmp").iterdir()], [])
+
+
+def run_tries(folder, word):
+    """Runs the tries whose names have the word. How many failed."""
+    chance = random.Random(1)
+    words = "one two three four five six seven eight nine ten eleven twelve".split()
+    lines = "\n\n".join(f"Paragraph {i:03}: " + " ".join(chance.choices(words, k=20)) for i in range(200)) + "\n"
+    (folder / "text.md").write_text("# A text\n\n" + lines)
+    (folder / "long.md").write_text(lines * 400)
+    (folder / "emoji.md").write_text("\n".join("* " + "\U0001F468\u200d\U0001F469\u200d\U0001F467 \u2764\ufe0f " * 30 for _ in range(60)))
+    (folder / "tmp").mkdir()
+    ENVIRONMENT["TMPDIR"] = str(folder / "tmp")
+    failed = 0
+    for f in TRIES:
+        if word not in f.__name__:
+            continue
+        w = Tmux(80, 24, folder)
+        began = time.monotonic()
+        try:
+            said = f(w)
+            print(f"pass {f.__name__} ({time.monotonic() - began:.1f} s){': ' + said if said else ''}", flush=True)
+        except (AssertionError, RuntimeError, StopIteration) as e:
+            failed += 1
+            print(f"FAIL {f.__name__}: {type(e).__name__} {e}", flush=True)
+        w.close()
+    return failed

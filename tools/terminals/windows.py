@@ -1,0 +1,206 @@
+"""Windows of real terminals: what is typed into them, and what they show. Only what was started here is ended."""
+import base64
+import json
+import os
+import shlex
+import socket
+import subprocess
+import time
+from pathlib import Path
+
+ROOT = Path(__file__).resolve().parent.parent.parent
+PAGE = ROOT / "page"
+SERVER = f"page-{os.getpid()}"
+SHELL = ["env", "PS1=ready ", "bash", "--norc", "--noprofile"]
+# Which modes are on: the other screen, the cursor, the mouse in three ways, autowrap.
+FLAGS = "#{alternate_on} #{cursor_flag} #{mouse_any_flag} #{mouse_button_flag} #{mouse_sgr_flag} #{wrap_flag}"
+AT_REST, PAGING = "0 1 0 0 0 1", "1 0 1 1 1 0"
+ENVIRONMENT = {**os.environ, "LC_ALL": "C.UTF-8", "HISTFILE": "/dev/null"}
+
+
+def tmux(*words):
+    ran = subprocess.run(["tmux", "-L", SERVER, "-f", "/dev/null", *words], capture_output=True, text=True, env=ENVIRONMENT)
+    if ran.returncode:
+        raise RuntimeError(f"tmux {words[0]}: {ran.stderr.strip()}")
+    return ran.stdout
+
+
+def processes():
+    """All processes, as (pid, session, state, command)."""
+    listed = subprocess.run(["ps", "-e", "-o", "pid=,sid=,stat=,args="], capture_output=True, text=True).stdout
+    return [(int(pid), int(session), state, command) for pid, session, state, command in (line.split(None, 3) for line in listed.splitlines() if len(line.split(None, 3)) == 4)]
+
+
+def until(test, seconds=8.0):
+    """Whether a test holds before so many seconds have passed."""
+    end = time.monotonic() + seconds
+    while not test():
+        if time.monotonic() > end:
+            return False
+        time.sleep(0.03)
+    return True
+
+
+class Terminal:
+    """A terminal with a shell in it. Its files lie in `folder`."""
+
+    count = 0
+
+    def __init__(self, columns=80, rows=24, folder=ROOT, command=None):
+        Terminal.count += 1
+        self.name, self.folder, self.rows = f"w{Terminal.count}", folder, rows
+        self.start(columns, rows, command)
+        if not command:
+            assert until(lambda: self.shown()[0].startswith("ready")), "no shell"
+
+    def until(self, test, seconds=10.0):
+        """What is shown once a test holds of it, or after so many seconds."""
+        until(lambda: test(self.shown()), seconds)
+        return self.shown()
+
+    def still(self):
+        """What is shown once it hasn't changed for a while."""
+        before = None
+        for _ in range(100):
+            shown = self.shown()
+            if shown == before:
+                return shown
+            before = shown
+            time.sleep(0.2)
+        return before
+
+    def run(self, line):
+        """Types a command line that also writes its status, and the terminal's settings before and after it, into files."""
+        for end in ("before", "after", "status"):
+            self.file(end).unlink(missing_ok=True)
+        before, after, status = (shlex.quote(str(self.file(end))) for end in ("before", "after", "status"))
+        self.type(f"clear; stty -g >{before}; {line}; echo $? >{status}; stty -g >{after}; echo done >>{after}\r")
+
+    def file(self, end):
+        return self.folder / f"{self.name}.{end}"
+
+    def ended(self, seconds=8.0):
+        """The status of the line that was run; None, where it hasn't ended, or a text that says what of the terminal differs."""
+        after = self.file("after")
+        if not until(lambda: after.exists() and after.read_text().endswith("done\n"), seconds):
+            return None
+        if self.file("before").read_text() + "done\n" != after.read_text():
+            return "the settings differ"
+        return int(self.file("status").read_text())
+
+
+class Tmux(Terminal):
+    """A window of tmux."""
+
+    def start(self, columns, rows, command):
+        tmux("new-session", "-d", "-s", self.name, "-x", str(columns), "-y", str(rows), "-c", str(self.folder), *([command] if command else [shlex.join(SHELL)]))
+        self.pid = int(self.ask("#{pane_pid}"))
+
+    def ask(self, form):
+        return tmux("display-message", "-p", "-t", self.name, form).strip()
+
+    def type(self, text):
+        """Sends the bytes of a text, as one block if there are at most 500."""
+        data = text.encode()
+        for at in range(0, len(data), 500):
+            tmux("send-keys", "-t", self.name, "-H", *[f"{b:02x}" for b in data[at : at + 500]])
+
+    def resize(self, columns, rows):
+        tmux("resize-window", "-t", self.name, "-x", str(columns), "-y", str(rows))
+        self.rows = rows
+
+    def shown(self, *how):
+        return [line.rstrip() for line in tmux("capture-pane", "-t", self.name, "-p", "-N", *how).split("\n")[: self.rows]]
+
+    def flags(self):
+        return self.ask(FLAGS)
+
+    def paging(self, seconds=8.0):
+        """Waits for the pager's status row in the last row."""
+        return until(lambda: self.flags() == PAGING and "%" in self.shown()[self.rows - 1], seconds)
+
+    def at_rest(self):
+        """Waits until all modes are as at the start."""
+        return until(lambda: self.flags() == AT_REST, 3)
+
+    def stopped(self):
+        """Waits until the shell says that its command is stopped."""
+        return until(lambda: self.flags() == AT_REST and any("Stopped" in row for row in self.shown()))
+
+    def says(self, text):
+        """Types a command that prints a text, and waits for that."""
+        self.type(f"echo {text[0]}''{text[1:]}\r")
+        return until(lambda: text in self.shown(), 3)
+
+    def ended(self, seconds=8.0):
+        status = super().ended(seconds)
+        return status if self.at_rest() else f"the modes differ: {self.flags()}"
+
+    def children(self):
+        """The processes of this window below its own."""
+        return [(pid, state, command) for pid, session, state, command in processes() if session == self.pid != pid]
+
+    def script(self):
+        return next(pid for pid, _, command in self.children() if f"bash {PAGE}" in command)
+
+    def program(self):
+        return next(pid for pid, _, command in self.children() if command.startswith(ENVIRONMENT["TERMIMAD_PAGE"]))
+
+    def close(self):
+        tmux("kill-session", "-t", self.name)
+
+
+class Kitty(Terminal):
+    """A window of kitty, on the screen that DISPLAY names. It is told what to do by the protocol of its remote control."""
+
+    def start(self, columns, rows, command):
+        self.socket = f"{self.folder}/{self.name}.socket"
+        options = ["allow_remote_control=socket-only", "remember_window_size=no", f"initial_window_width={columns}c", f"initial_window_height={rows}c",
+                   "shell_integration=disabled", "confirm_os_window_close=0", "window_padding_width=0", "placement_strategy=top-left"]
+        words = [word for option in options for word in ("-o", option)]
+        self.process = subprocess.Popen(["kitty", "--config", "NONE", *words, "--listen-on", f"unix:{self.socket}", *SHELL],
+                                        cwd=self.folder, env=ENVIRONMENT, stderr=subprocess.DEVNULL)
+        assert until(lambda: Path(self.socket).exists(), 30), "kitty doesn't start"
+
+    def tell(self, command, **payload):
+        """What kitty answers to a command; an empty text, where it answers nothing."""
+        asked = json.dumps({"cmd": command, "version": [0, 26, 0], "payload": payload})
+        with socket.socket(socket.AF_UNIX) as line:
+            line.connect(self.socket)
+            line.sendall(b"\x1bP@kitty-cmd" + asked.encode() + b"\x1b\\")
+            line.shutdown(socket.SHUT_WR)
+            told = b"".join(iter(lambda: line.recv(1 << 16), b""))
+        return (json.loads(told[len("\x1bP@kitty-cmd") : -2]).get("data") if told else None) or ""
+
+    def type(self, text):
+        self.tell("send-text", data="base64:" + base64.b64encode(text.encode()).decode())
+
+    def resize(self, columns, rows):
+        self.tell("resize-os-window", action="resize", unit="cells", width=columns, height=rows)
+        self.rows = rows
+
+    def shown(self):
+        # A row that kitty takes for the rest of the one above, as after a resize, stands behind a carriage return.
+        text = self.tell("get-text", extent="screen", wrap_markers=True).replace("\r\n", "\n").replace("\r", "\n")
+        lines = [line.rstrip() for line in text.split("\n")]
+        return (lines + [""] * self.rows)[: self.rows]
+
+    def close(self):
+        self.process.terminate()
+        self.process.wait()
+
+
+class Screen:
+    """A screen without a monitor, by Xvfb. Its programs find it by DISPLAY."""
+
+    def __enter__(self):
+        read, write = os.pipe()
+        self.process = subprocess.Popen(["Xvfb", "-displayfd", str(write), "-screen", "0", "1600x1200x24"], pass_fds=[write], stderr=subprocess.DEVNULL)
+        os.close(write)
+        ENVIRONMENT["DISPLAY"] = ":" + os.read(read, 20).decode().strip()
+        ENVIRONMENT["LIBGL_ALWAYS_SOFTWARE"] = "1"
+        return self
+
+    def __exit__(self, *_):
+        self.process.terminate()
+        self.process.wait()
