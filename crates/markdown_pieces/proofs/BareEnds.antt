@@ -18,7 +18,7 @@ use Rattle.markdown_pieces.proofs.EndLemmas.{EndsWell}
 use Rattle.markdown_pieces.proofs.TailLemmas.{by_cond}
 
 -- an address begins with a byte of ASCII, and ends well
-record IsPlacedBare (bytes : List ℕ) (found : Bare) : Type 0 where
+pub record IsPlacedBare (bytes : List ℕ) (found : Bare) : Type 0 where
   pub first : get_or bytes 0 0 < 128
   pub ends : EndsWell bytes (found.len - 1)
 

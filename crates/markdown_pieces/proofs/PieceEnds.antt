@@ -25,7 +25,7 @@ use Rattle.markdown_spans.specs.declared.entities.Escape.{Escape}
 use Rattle.markdown_spans.specs.declared.entities.Escape.TheVariants.{Sign as SignEscape, Break, Itself}
 use Rattle.markdown_spans.specs.declared.entities.Entity.{Entity}
 use Rattle.markdown_pieces.specs.declared.pieces.Piece.{Piece}
-use Rattle.markdown_pieces.specs.Pieces.{is_plain, run_piece, code_by, code_piece, escape_by, escape_piece, entity_by, entity_piece, html_by, angle_by, angle_piece, is_hard, blank_piece, bare_if, plain_from, plain_by, no_mark_piece, byte_before, piece_by}
+use Rattle.markdown_pieces.specs.Pieces.{is_plain, run_piece, code_by, code_piece, escape_by, escape_piece, entity_by, entity_piece, html_by, html_piece, angle_by, angle_piece, is_hard, blank_piece, bare_if, plain_from, plain_by, plain_piece, no_mark_piece, byte_before, piece_by}
 use Rattle.markdown_pieces.proofs.EndLemmas.{EndsWell, count_is}
 use Rattle.markdown_pieces.proofs.HtmlEnds.{html_ends}
 use Rattle.markdown_pieces.proofs.BareEnds.{bare_ends, bare_first}
@@ -266,6 +266,7 @@ html_ends_by rest (Some a) h g =
     ends_at rest (length bytes - length a) 62 (ap (λ i. get_or rest i 0) last ∙ sym (get_or-drop 1 rest ends.n 0) ∙ ends.byte) (omega arith)
 
 angle_ends_by : (rest : List ℕ) (o : Option ℕ) → get_or rest 0 0 < 128 → GivesLen (λ n. get_or (drop 1 rest) n 0 ≡ 62) o → Ends rest (angle_by (drop 1 rest) o)
+unfolding html_piece
 angle_ends_by rest None h g = html_ends_by rest (html_end (drop 1 rest)) h (html_ends (drop 1 rest))
 angle_ends_by rest (Some len) h g =
     let swap : len + 1 ≡ 1 + len = omega arith in
@@ -329,6 +330,7 @@ plain_ends_by false before b rest (Some bare) e = absurd (no e)
     no e = cc
 
 no_mark_ends : (free : Bool) (before : Option ℕ) (b : ℕ) (rest : List ℕ) → get_or rest 0 0 ≡ b → Ends rest (no_mark_piece free before b rest)
+unfolding plain_piece
 no_mark_ends free before b rest e =
     by_cond (Ends rest) (eqb b 32 || eqb b 9 || eqb b 10) (blank_piece rest) _ (λ h. blank_ends rest (let small : b < 128 = grind (arith, nat_tests) in omega (arith, e, small)))
     (λ h. plain_ends_by free before b rest (bare_if free before rest) refl)

@@ -1,5 +1,5 @@
 -- The pieces of a text, one after another: each is a text of its own.
-use Rattle.std.proofs.Common.{◌≡◌, ℕ, zero, suc, ◌+◌, ◌-◌, ◌<◌, ◌≤◌, ◌⊎◌, inl, inr, ⊎_elim, true, false, eqb, ltb, not, ◌||◌, ◌&&◌, min, List, [], ◌∷◌, length, take, drop, get_or, refl, sym, ap, subst, ◌∙◌, arith, Option, Some, None, option_map}
+use Rattle.std.proofs.Common.{◌≡◌, ℕ, zero, suc, ◌+◌, ◌-◌, ◌<◌, ◌≤◌, ◌⊎◌, inl, inr, ⊎_elim, Bool, true, false, eqb, ltb, not, ◌||◌, ◌&&◌, min, List, [], ◌∷◌, length, take, drop, get_or, refl, sym, ap, subst, ◌∙◌, arith, Option, Some, None, option_map}
 use Rattle.std.specs.List.{prefix_len}
 use Rattle.std.specs.Str.{IsUtf8, IsCharBoundary}
 use Rattle.std.proofs.lemmas.Bool.{eqb-true, and_parts}
@@ -29,7 +29,7 @@ use Rattle.markdown_brackets.specs.Brackets.{Reading, is_free, nothing_read, fir
 use Rattle.markdown_pieces.specs.declared.pieces.Kind.{Kind}
 use Rattle.markdown_pieces.specs.declared.pieces.Kind.TheVariants.{Plain, Shown, Code as CodeKind, Address, Bare, Html as HtmlKind, Soft, Hard, Run as RunKind, Opening, Closing}
 use Rattle.markdown_pieces.specs.declared.pieces.Piece.{Piece}
-use Rattle.markdown_pieces.specs.Pieces.{run_piece, code_by, code_piece, escape_by, escape_piece, entity_by, entity_piece, html_by, angle_by, angle_piece, is_hard, blank_piece, bare_if, plain_by, no_mark_piece, byte_before, piece_by}
+use Rattle.markdown_pieces.specs.Pieces.{run_piece, code_by, code_piece, escape_by, escape_piece, entity_by, entity_piece, html_by, html_piece, angle_by, angle_piece, is_hard, blank_piece, bare_if, plain_by, plain_piece, no_mark_piece, byte_before, piece_by, piece_at}
 use Rattle.markdown_pieces.specs.Cut.{Step, other_step, link_len, closing_step, opening_step, read_by, step, cut_from, cut_text}
 use Rattle.markdown_pieces.specs.Places.{IsInside, AreCut}
 use Rattle.markdown_pieces.proofs.EndLemmas.{EndsWell, well, count_is, count_le}
@@ -147,6 +147,7 @@ closing_ends text at (suc n) h g =
     inl (omega (arith, same, byte))) g
 
 step_ends : (labels : List (List ℕ)) (text : List ℕ) (at index : ℕ) (r : Reading) → at < length text → Ends (drop at text) (read_by labels text at index r (drop at text)).piece
+unfolding piece_at
 step_ends labels text at index r within =
     let b : ℕ = get_or text at 0 in
     let rest : List ℕ = drop at text in
@@ -206,6 +207,7 @@ html_inside rest after None = tt
 html_inside rest after (Some len) = tt
 
 angle_inside_by : (rest : List ℕ) (o : Option ℕ) → IsUtf8 rest → get_or rest 0 0 ≡ 60 → GivesLen (λ len. get_or (drop 1 rest) len 0 ≡ 62) o → InsideRest rest (angle_by (drop 1 rest) o)
+unfolding html_piece
 angle_inside_by rest None u h g = html_inside rest (drop 1 rest) (html_len (drop 1 rest))
 angle_inside_by rest (Some len) u h g =
     let byte : get_or rest (0 + 1 + len) 0 ≡ 62 = sym (get_or-drop 1 rest len 0) ∙ g len refl in (
@@ -223,6 +225,7 @@ plain_inside None free b rest = tt
 plain_inside (Some bare) free b rest = tt
 
 no_mark_inside : (free : Bool) (before : Option ℕ) (b : ℕ) (rest : List ℕ) → InsideRest rest (no_mark_piece free before b rest)
+unfolding plain_piece
 no_mark_inside free before b rest =
     by_cond (InsideRest rest) (eqb b 32 || eqb b 9 || eqb b 10) (blank_piece rest) _ (λ h. blank_inside rest) (λ h. plain_inside (bare_if free before rest) free b rest)
 
@@ -239,6 +242,7 @@ piece_inside free b text at rest e u =
     (λ h7. no_mark_inside free (byte_before text at) b rest)))))))
 
 step_inside : (labels : List (List ℕ)) (text : List ℕ) (at index : ℕ) (r : Reading) → IsUtf8 (drop at text) → InsideRest (drop at text) (read_by labels text at index r (drop at text)).piece
+unfolding piece_at
 step_inside labels text at index r u =
     let b : ℕ = get_or text at 0 in
     let rest : List ℕ = drop at text in

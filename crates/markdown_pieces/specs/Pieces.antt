@@ -81,7 +81,7 @@ html_by after None = piece Plain 0
 html_by after (Some len) = piece (HtmlKind (html_shown (take len after))) len
 
 -- raw html, or an angle bracket
-abbrev pub html_piece : List ℕ → Piece
+unfoldable pub html_piece : List ℕ → Piece
 html_piece after = html_by after (html_len after)
 
 abbrev pub angle_by : List ℕ → Option ℕ → Piece
@@ -116,7 +116,7 @@ plain_by None free b rest = piece Plain (plain_from free (Some b) (drop 1 rest))
 plain_by (Some bare) free b rest = piece (BareKind bare.scheme) (bare.len - 1)
 
 -- a bare address, or bytes that stand for themselves, of which this is the first
-abbrev pub plain_piece : Bool → Option ℕ → ℕ → List ℕ → Piece
+unfoldable pub plain_piece : Bool → Option ℕ → ℕ → List ℕ → Piece
 plain_piece free before b rest = plain_by (bare_if free before rest) free b rest
 
 abbrev pub no_mark_piece : Bool → Option ℕ → ℕ → List ℕ → Piece
@@ -137,5 +137,5 @@ piece_by free b text at rest =
     else if b == 60 then angle_piece (drop 1 rest)
     else no_mark_piece free (byte_before text at) b rest
 
-abbrev pub piece_at : Bool → List ℕ → ℕ → List ℕ → Piece
+unfoldable pub piece_at : Bool → List ℕ → ℕ → List ℕ → Piece
 piece_at free text at rest = piece_by free (slice_index text at) text at rest

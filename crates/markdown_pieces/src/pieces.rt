@@ -214,6 +214,7 @@ fn entity_piece(after: &[u8]) -> Piece
 }
 
 // Raw html, or an angle bracket.
+#[tactic(auto, unfolding(crate::specs::Pieces::html_piece))]
 fn html_piece(ends: &Ends, text: &[u8], at: usize) -> Piece
     requires ends { AreEnds ends.now text.now }
     requires within { at ≤ length text.now }
@@ -264,6 +265,7 @@ fn blank_piece(rest: &[u8]) -> Piece
 }
 
 // A bare address, or bytes that stand for themselves: the first is `b`, behind `before`.
+#[tactic(auto, unfolding(crate::specs::Pieces::plain_piece))]
 fn plain_piece(free: bool, before: Option<u8>, b: u8, rest: &[u8]) -> Piece
     requires { 0 < length rest.now }
     ensures { result ≡ plain_piece free before b rest.now }
@@ -293,6 +295,7 @@ fn byte_before(text: &[u8], at: usize) -> Option<u8>
 }
 
 /// What the text from a place on begins with, where it is no bracket. Bare addresses are read where `free` says that no bracket is open.
+#[tactic(auto, unfolding(crate::specs::Pieces::piece_at))]
 pub fn piece_at(known: &Known, free: bool, text: &str, at: usize) -> Piece
     requires known { IsKnown known.now text.now }
     requires within { at < length text.now }
