@@ -1,5 +1,5 @@
 -- What is shown is printable.
-use Rattle.std.proofs.Common.{◌≡◌, ℕ, zero, suc, ◌+◌, ◌<◌, Bool, true, false, cond, ◌||◌, nat_lt, eqb, List, [], ◌∷◌, ◌++◌, map, chars, replicate, refl, ap, ◌∙◌, arith, Option, Some, None}
+use Rattle.std.proofs.Common.{◌≡◌, ℕ, zero, suc, ◌+◌, ◌<◌, Bool, true, false, cond, ◌||◌, nat_lt, eqb, List, [], ◌∷◌, ◌++◌, drop, map, chars, replicate, refl, ap, ◌∙◌, arith, Option, Some, None}
 use Rattle.std.specs.List.{list_all}
 use Rattle.std.proofs.lemmas.Bool.{and_from}
 use Rattle.std.proofs.lemmas.Bool.Decides.{nat_tests}
@@ -62,7 +62,7 @@ sign_shown Tilde = refl
 html_is : (html : Html) (text : List ℕ) (at : ℕ) → list_all is_shown (html_shown html text at) ≡ true
 html_is Nothing text at = refl
 html_is Break text at = refl
-html_is (Alternative value) text at = text_shown (chars (alternative text (at + 1 + value.start) value.len))
+html_is (Alternative value) text at = text_shown (chars (alternative (drop (at + 1) text) value.start value.len))
 
 opening_is : (image opens : Bool) → list_all is_shown (opening_shown image opens) ≡ true
 opening_is true true = refl

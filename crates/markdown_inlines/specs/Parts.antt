@@ -40,7 +40,7 @@ alternative text start len = utf8_lossy (decoded false (words false false (part 
 abbrev pub html_shown : Html → List ℕ → ℕ → List ℕ
 html_shown Nothing text at = []
 html_shown Break text at = 10 ∷ []
-html_shown (Alternative value) text at = shown_text (alternative text (at + 1 + value.start) value.len)
+html_shown (Alternative value) text at = shown_text (alternative (drop (at + 1) text) value.start value.len)
 
 abbrev pub opening_shown : (image opens : Bool) → List ℕ
 opening_shown image opens = if opens then [] else if image then 33 ∷ 91 ∷ [] else 91 ∷ []

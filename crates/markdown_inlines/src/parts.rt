@@ -13,7 +13,7 @@ use crate::styled::Styled;
 use markdown_brackets::brackets::Link;
 use markdown_emphasis::Sign;
 use markdown_pieces::pieces::{Kind, Piece};
-use markdown_spans::attributes::Html;
+use markdown_spans::attributes::{Html, Value};
 use markdown_spans::code::{Code, is_padded};
 use markdown_spans::decoded::decoded;
 use markdown_spans::words::{bytes_from, bytes_up_to, words};
@@ -122,7 +122,7 @@ fn push_character(
     }
 }
 
-// The alternative text of an image, which is so many bytes from a place on.
+// The alternative text of an image, which is so many bytes of its tag from a place on.
 fn alternative(alloc: Global, text: &[u8], start: usize, len: usize) -> Result<String, AllocError>
     ensures { IfOk result (λ shown. string_bytes shown ≡ alternative text.now start len) }
 {
@@ -135,16 +135,15 @@ fn alternative(alloc: Global, text: &[u8], start: usize, len: usize) -> Result<S
 fn push_alternative(
     alloc: Global,
     styled: &mut Styled,
-    text: &str,
-    start: usize,
-    len: usize,
+    tag: &[u8],
+    value: Value,
     look: &Look,
 ) -> Result<(), AllocError>
     requires styled { IsStyled styled.old }
-    ensures pushed { OnOk result (spelled_of styled.new ≡ spelled_of styled.old ++ map (shown_with look.now) (shown_text (alternative text.now start len))) }
+    ensures pushed { OnOk result (spelled_of styled.new ≡ spelled_of styled.old ++ map (shown_with look.now) (shown_text (alternative tag.now value.start value.len))) }
     ensures styled { OnOk result (IsStyled styled.new) }
 {
-    let shown = alternative(alloc, text.as_bytes(), start, len)?;
+    let shown = alternative(alloc, tag, value.start, value.len)?;
     styled.push_text(shown.as_str(), look)?;
     Ok(())
 }
@@ -170,7 +169,8 @@ fn push_html(
             Ok(())
         }
         Html::Alternative(value) => {
-            push_alternative(alloc, styled, text, at + 1 + value.start, value.len, look)?;
+            let tag = bytes_from(text.as_bytes(), at + 1);
+            push_alternative(alloc, styled, tag, value, look)?;
             Ok(())
         }
     }
