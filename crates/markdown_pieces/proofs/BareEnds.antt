@@ -7,7 +7,7 @@ use Rattle.std.proofs.lemmas.Bool.Decides.{nat_tests}
 use Rattle.std.proofs.lemmas.List.{get_or-drop}
 use Rattle.std.proofs.lemmas.List.Sums.{prefix_len_passes, prefix_len_stops}
 use Rattle.markdown_marks.specs.Bytes.{first}
-use Rattle.markdown_marks.specs.Html.{same_letters}
+use Rattle.markdown_spans.specs.Needles.{same_letters}
 use Rattle.markdown_spans.specs.declared.addresses.Scheme.{Scheme}
 use Rattle.markdown_spans.specs.declared.addresses.Scheme.TheVariants.{Itself, Mail, Web}
 use Rattle.markdown_spans.specs.declared.bare.Bare.{Bare}

@@ -26,7 +26,7 @@ use std::alloc::{AllocError, Global};
 pub enum Kind {
     /// Its bytes as they are.
     Plain,
-    /// An escape or an entity: this character, and maybe a second one.
+    /// An escape or an entity: this character, and a second one that some names have.
     Shown(char, Option<char>),
     Code(Code),
     /// An address in angle brackets, of so many bytes, and what its destination begins with.

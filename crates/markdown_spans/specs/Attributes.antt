@@ -4,10 +4,11 @@ use Rattle.std.specs.List.{prefix_len}
 use Rattle.std.specs.Char.{is_ascii_alphanumeric}
 use Rattle.markdown_marks.specs.Bytes.{first}
 use Rattle.markdown_marks.specs.Definitions.{is_space_byte}
-use Rattle.markdown_marks.specs.Html.{next_place, is_attribute_byte, is_plain_byte, same_letters, without_slash}
+use Rattle.markdown_marks.specs.Html.{next_place, is_attribute_byte, is_plain_byte}
 use Rattle.markdown_marks.specs.declared.tags.Place.{Place}
 use Rattle.markdown_marks.specs.declared.tags.Place.TheVariants.{Name, Attribute}
 use Rattle.markdown_spans.specs.Code.{spaced}
+use Rattle.markdown_spans.specs.Needles.{same_letters}
 use Rattle.markdown_spans.specs.declared.attributes.Value.{Value}
 use Rattle.markdown_spans.specs.declared.attributes.Html.{Html}
 use Rattle.markdown_spans.specs.declared.attributes.Html.TheVariants.{Nothing, Break, Alternative}
@@ -16,6 +17,10 @@ use Rattle.markdown_spans.specs.declared.attributes.Html.TheVariants.{Nothing, B
 
 abbrev pub is_name_byte : ℕ → Bool
 is_name_byte b = is_ascii_alphanumeric b || (b == 45)
+
+-- without a slash in front
+abbrev pub without_slash : List ℕ → List ℕ
+without_slash bytes = if first bytes == 47 then drop 1 bytes else bytes
 
 -- the name in front, in letters of any case
 abbrev pub is_tag_named : List ℕ → List ℕ → Bool

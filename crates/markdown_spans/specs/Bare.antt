@@ -3,7 +3,7 @@ use Rattle.std.specs.Prelude.{ℕ, zero, suc, ◌+◌, ◌-◌, ◌==◌, ◌||�
 use Rattle.std.specs.List.{prefix_len, list_any}
 use Rattle.std.specs.Char.{is_ascii_alphabetic, is_ascii_alphanumeric}
 use Rattle.markdown_marks.specs.Bytes.{first}
-use Rattle.markdown_marks.specs.Html.{same_letters}
+use Rattle.markdown_spans.specs.Needles.{same_letters}
 use Rattle.markdown_spans.specs.declared.addresses.Scheme.{Scheme}
 use Rattle.markdown_spans.specs.declared.addresses.Scheme.TheVariants.{Itself, Mail, Web}
 use Rattle.markdown_spans.specs.declared.bare.Bare.{Bare}

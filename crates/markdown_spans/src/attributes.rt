@@ -3,10 +3,11 @@
 ghost use Rattle.std.specs.Prelude.{◌≡◌, ◌+◌, ◌<◌, ◌≤◌, ◌^◌, length, take, codes};
 ghost use Rattle.std.specs.List.{prefix_len};
 ghost use Rattle.markdown_marks.specs.Definitions.{is_space_byte};
-ghost use Rattle.markdown_marks.specs.Html.{same_letters, without_slash, is_attribute_byte};
-ghost use Rattle.markdown_spans.specs.Attributes.{is_name_byte, is_tag_named, is_attribute_named, is_value_byte, is_single, is_double, value_here, value_behind, value_of, is_attribute, attribute_from, alternative_by, html_shown};
+ghost use Rattle.markdown_marks.specs.Html.{is_attribute_byte};
+ghost use Rattle.markdown_spans.specs.Attributes.{without_slash, is_name_byte, is_tag_named, is_attribute_named, is_value_byte, is_single, is_double, value_here, value_behind, value_of, is_attribute, attribute_from, alternative_by, html_shown};
 
 use crate::code::spaced;
+use crate::needles::same_letters;
 use crate::words::bytes_from;
 use markdown_marks::bytes::{first, tail};
 use markdown_marks::definitions::is_space_byte;
@@ -29,26 +30,6 @@ pub enum Html {
     Break,
     /// The alternative text of an image.
     Alternative(Value),
-}
-
-/// Whether the bytes are this name in small letters, in letters of any case.
-#[tactic(auto, unfolding(markdown_marks::specs::Html::same_letters))]
-pub(crate) fn same_letters(name: &[u8], word: &[u8]) -> bool
-    ensures { result ≡ same_letters name.now word.now }
-{
-    let mut names = name;
-    let mut words = word;
-    while let [n, names_left @ ..] = names {
-        let [w, words_left @ ..] = words else {
-            return false;
-        };
-        if *n != w.to_ascii_lowercase() {
-            return false;
-        }
-        names = names_left;
-        words = words_left;
-    }
-    words.is_empty()
 }
 
 fn is_name_byte(b: u8) -> bool

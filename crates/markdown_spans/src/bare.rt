@@ -1,7 +1,8 @@
 //! Addresses without brackets, as GitHub has them: `http://`, `https://`, `ftp://`, `www.` and mail.
 //!
-//! Three things are other than in GitHub's words. Behind a scheme a domain needs no period. A semicolon at the end isn't of the address.
-//! An address of mail begins where the character before can't be of it, and ends in a letter. A domain of the web has at most 255 bytes.
+//! What is other than in GitHub's words: behind a scheme a domain needs no period; a semicolon at the end isn't of the address; an address of
+//! mail begins where the byte before can't be of it, and ends in a letter; a domain of the web has at most 255 bytes, so a text takes time
+//! in proportion to its length. The reader of pieces adds that none begins where a bracket is open.
 
 ghost use Rattle.std.specs.Prelude.{◌≡◌, ◌+◌, ◌<◌, ◌≤◌, ◌==◌, if◌then◌else◌, true, false, length, IfSome};
 ghost use Rattle.std.specs.List.{prefix_len, list_any};
@@ -9,7 +10,7 @@ ghost use Rattle.std.specs.Char.{is_ascii_alphanumeric};
 ghost use Rattle.markdown_spans.specs.Bare.{is_domain_byte, goes_on, domain_len, is_period, is_low, web_domain, is_path_byte, count_of, is_trailing, ends_name, trim_step, trimmed, address_end, web_from, is_in_front, web_of, is_mail_byte, mail_domain, mail_of, may_precede_web, may_precede_mail, bare_after};
 
 use crate::addresses::Scheme;
-use crate::attributes::same_letters;
+use crate::needles::same_letters;
 use crate::words::{bytes_from, bytes_up_to};
 use markdown_marks::bytes::{first, tail};
 

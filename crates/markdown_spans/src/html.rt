@@ -4,7 +4,7 @@ ghost use Rattle.std.specs.Prelude.{◌≡◌, ◌+◌, ◌<◌, ◌≤◌, ◌&
 ghost use Rattle.std.specs.Char.{is_ascii_alphabetic};
 ghost use Rattle.std.specs.Option.{option_copied};
 ghost use Rattle.markdown_marks.specs.Bytes.{first};
-ghost use Rattle.markdown_marks.specs.Html.{begins};
+ghost use Rattle.markdown_spans.specs.Needles.{begins};
 ghost use Rattle.markdown_spans.specs.Html.{after_angle, after_comment, other_end, html_end, html_len, AreEnds};
 
 use crate::needles::{after_first, after_known, begins, last_place};

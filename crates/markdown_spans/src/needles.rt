@@ -2,8 +2,7 @@
 
 ghost use Rattle.std.specs.Prelude.{◌≡◌, ◌+◌, ◌<◌, ◌≤◌, IsTrue, length, drop};
 ghost use Rattle.std.specs.Option.{option_copied};
-ghost use Rattle.markdown_marks.specs.Html.{begins};
-ghost use Rattle.markdown_spans.specs.Needles.{after_first, IsLast};
+ghost use Rattle.markdown_spans.specs.Needles.{begins, same_letters, after_first, IsLast};
 
 use markdown_marks::bytes::tail;
 
@@ -13,6 +12,26 @@ pub(crate) fn begins(bytes: &[u8], needle: &[u8]) -> bool
     ensures within { IsTrue result → length needle.now ≤ length bytes.now }
 {
     bytes.starts_with(needle)
+}
+
+/// Whether the bytes are this name in small letters, in letters of any case.
+#[tactic(auto, unfolding(crate::specs::Needles::same_letters))]
+pub(crate) fn same_letters(name: &[u8], word: &[u8]) -> bool
+    ensures { result ≡ same_letters name.now word.now }
+{
+    let mut names = name;
+    let mut words = word;
+    while let [n, names_left @ ..] = names {
+        let [w, words_left @ ..] = words else {
+            return false;
+        };
+        if *n != w.to_ascii_lowercase() {
+            return false;
+        }
+        names = names_left;
+        words = words_left;
+    }
+    words.is_empty()
 }
 
 /// What follows these bytes where they stand first.
