@@ -1,10 +1,10 @@
 -- A number for the brackets that have a link inside.
-use Rattle.std.proofs.Common.{◌≡◌, ℕ, ◌<◌, ◌≤◌, Bool, true, nat_lt, min, List, [], ◌∷◌, ◌++◌, length, drop, map, reverse, refl, sym, ap, ◌∙◌, arith}
+use Rattle.std.proofs.Common.{◌≡◌, ℕ, zero, suc, ◌==◌, ◌<◌, ◌≤◌, Bool, true, nat_lt, min, List, [], ◌∷◌, ◌++◌, length, drop, map, reverse, refl, sym, ap, ◌∙◌, arith}
 use Rattle.std.proofs.lemmas.List.{reverse-append, length-reverse}
 use Rattle.std.proofs.lemmas.Bool.Decides.{nat_tests}
 use Rattle.markdown_brackets.specs.declared.brackets.Bracket.{Bracket}
 use Rattle.markdown_brackets.specs.declared.brackets.Open.{Open}
-use Rattle.markdown_brackets.specs.Brackets.{kill}
+use Rattle.markdown_brackets.specs.Brackets.{kill, is_free}
 use Rattle.markdown_brackets.specs.Readings.{marked}
 
 abbrev marked_as : Bracket → List Open → Bool → List Open
@@ -39,3 +39,12 @@ marked_kill d n (b ∷ bs) h =
 
 pub marked_all : (d n : ℕ) (xs : List Bracket) → n ≡ length xs → marked n (reverse xs) ≡ map kill (marked d (reverse xs))
 marked_all d n xs e = let same : length (reverse xs) ≡ length xs = length-reverse xs in marked_kill d n (reverse xs) (omega (arith, same))
+
+marked_none : (dead count : ℕ) (bs : List Bracket) → length bs ≡ count → (count == 0) ≡ is_free (marked dead bs)
+marked_none dead zero [] e = refl
+marked_none dead (suc n) [] e = absurd (omega (arith, e))
+marked_none dead zero (b ∷ bs) e = absurd (omega (arith, e))
+marked_none dead (suc n) (b ∷ bs) e = grind (arith, nat_tests)
+
+pub marked_free : (dead count : ℕ) (bs : List Bracket) → count ≡ length bs → (count == 0) ≡ is_free (marked dead (reverse bs))
+marked_free dead count bs e = marked_none dead count (reverse bs) (length-reverse bs ∙ sym e)

@@ -22,6 +22,11 @@ pub record Reading : Type 0 where
 abbrev pub nothing_read : Reading
 nothing_read = record { brackets = []; runs = []; pairs = [] }
 
+-- whether no bracket is open
+abbrev pub is_free : List Open → Bool
+is_free [] = true
+is_free (o ∷ os) = false
+
 -- one more bracket, and one more run
 abbrev pub with_bracket : (image : Bool) (piece at : ℕ) → Reading → Reading
 with_bracket image piece at r =

@@ -1,46 +1,13 @@
 //! Labels of references.
 
-ghost use Rattle.std.specs.Prelude.{◌≡◌, ◌++◌, false, IfOk, OnOk, map, option_map, string_bytes};
+ghost use Rattle.std.specs.Prelude.{◌≡◌, IfOk, map, option_map, string_bytes};
 ghost use Rattle.std.specs.Option.{option_copied};
-ghost use Rattle.markdown_brackets.specs.Labels.{words, text_of, normal, gap_of, index_from, label_index};
+ghost use Rattle.markdown_brackets.specs.Labels.{text_of, normal, label_index};
 
 use caseless::default_case_fold_str;
-use markdown_marks::definitions::is_space_byte;
+use indexmap::IndexSet;
+use markdown_spans::words::words;
 use std::alloc::{AllocError, Global};
-
-// A space where blanks are between two words.
-fn add_gap(out: &mut Vec<u8>, begun: bool, gap: bool) -> Result<(), AllocError>
-    ensures { OnOk result (out.new.items ≡ out.old.items ++ gap_of begun gap) }
-{
-    if begun && gap {
-        out.push(b' ')?;
-    }
-    Ok(())
-}
-
-// A label's words, with a space between them.
-#[tactic(auto, unfolding(crate::specs::Labels::words))]
-fn words(alloc: Global, label: &[u8]) -> Result<Vec<u8>, AllocError>
-    ensures { IfOk result (λ out. out.items ≡ words false false label.now) }
-{
-    let mut out = Vec::new(alloc);
-    let mut rest = label;
-    let mut begun = false;
-    let mut gap = false;
-    while let [b, next @ ..] = rest {
-        if is_space_byte(*b) {
-            gap = true;
-            rest = next;
-            continue;
-        }
-        add_gap(&mut out, begun, gap)?;
-        out.push(*b)?;
-        begun = true;
-        gap = false;
-        rest = next;
-    }
-    Ok(out)
-}
 
 // These bytes, if they are a text.
 fn text_of(bytes: &[u8]) -> Option<&str>
@@ -71,37 +38,20 @@ pub fn normal(alloc: Global, label: &[u8]) -> Result<Option<String>, AllocError>
     }
 }
 
-/// The first of some normal labels that this one is.
+/// The index of a label among those of definitions, each of which is as [`normal`] gives it. The first definition of a label counts.
 ///
 /// # Errors
 ///
 /// Out of memory is the only error.
 pub fn label_index(
     alloc: Global,
-    labels: &[&str],
+    labels: &IndexSet<String>,
     label: &[u8],
 ) -> Result<Option<usize>, AllocError>
-    ensures { IfOk result (λ index. index ≡ label_index (map (λ l. l.now) labels.now) label.now) }
+    ensures { IfOk result (λ index. index ≡ label_index (map string_bytes labels.now.keys) label.now) }
 {
     match normal(alloc, label)? {
         None => Ok(None),
-        Some(normal) => Ok(index_of(labels, normal.as_bytes())),
+        Some(normal) => Ok(labels.get_index_of(normal.as_str())),
     }
-}
-
-// The first of some texts that is this one.
-#[tactic(auto, unfolding(crate::specs::Labels::index_from))]
-fn index_of(labels: &[&str], label: &[u8]) -> Option<usize>
-    ensures { result ≡ index_from 0 label.now (map (λ l. l.now) labels.now) }
-{
-    let mut rest = labels;
-    let mut index = 0;
-    while let [l, next @ ..] = rest {
-        if l.as_bytes() == label {
-            return Some(index);
-        }
-        index += 1;
-        rest = next;
-    }
-    None
 }

@@ -1,4 +1,4 @@
--- Written by make_names.py from Python's html.entities. Do not edit.
+-- Written by tools/entity_tables from Python's html.entities. Do not edit.
 use Rattle.std.specs.Prelude.{ℕ, List, [], ◌∷◌, ◌==◌, codes, if◌then◌else◌}
 use Rattle.markdown_entities.specs.Rows.{Row, row}
 

@@ -1,4 +1,4 @@
-// Written by make_names.py from Python's html.entities. Do not edit.
+// Written by tools/entity_tables from Python's html.entities. Do not edit.
 //! The names of characters, by their first letter. A name of two characters has the second beside the first; others have 0 there.
 
 ghost use Rattle.std.specs.Prelude.{◌≡◌, map};

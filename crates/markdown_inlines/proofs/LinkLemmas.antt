@@ -37,7 +37,7 @@ unfolding overs_from
 overs_cons index number p ps = refl
 
 pub back_step : (pieces : List Piece) (i index number less : ℕ) (d : Piece) (o next : List Over) (a after : List Ahead) → index ≡ i + 1 → i < length pieces → number ≡ less + links_in (get_or pieces i d).kind
-    → record { overs = o; ahead = a } ≡ overs_from index number (drop index pieces) → next ≡ over_of i (get_or pieces i d).kind a ∷ o → after ≡ stepped_back i less (get_or pieces i d).kind a
+    → record { overs = o; ahead = a } ≡ overs_from index number (drop index pieces) → next ≡ over_of i less (get_or pieces i d).kind a ∷ o → after ≡ stepped_back i less (get_or pieces i d).kind a
     → record { overs = next; ahead = after } ≡ overs_from i less (drop i pieces)
 back_step pieces i index number less d o next a after e h n held x y =
     let p : Piece = get_or pieces i d in
@@ -45,7 +45,7 @@ back_step pieces i index number less d o next a after e h n held x y =
     ap (overs_from i less) (drop_more pieces i d h) ∙ overs_cons i less p (drop (i + 1) pieces) in
     let same : overs_from (i + 1) (less + links_in p.kind) (drop (i + 1) pieces) ≡ overs_from index number (drop index pieces) =
     ap (λ k. overs_from k (less + links_in p.kind) (drop k pieces)) (sym e) ∙ ap (λ k. overs_from index k (drop index pieces)) (sym n) in
-    ap (λ (l : List Over). record { overs = l; ahead = after }) x ∙ ap (λ (l : List Ahead). record { overs = over_of i p.kind a ∷ o; ahead = l }) y
+    ap (λ (l : List Over). record { overs = l; ahead = after }) x ∙ ap (λ (l : List Ahead). record { overs = over_of i less p.kind a ∷ o; ahead = l }) y
     ∙ ap (one_back i less p.kind) held ∙ sym (whole ∙ ap (one_back i less p.kind) same)
 
 pub overs_length : (index number : ℕ) (ps : List Piece) → length (overs_from index number ps).overs ≡ length ps

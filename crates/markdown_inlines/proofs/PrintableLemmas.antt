@@ -1,5 +1,5 @@
 -- What is shown is printable.
-use Rattle.std.proofs.Common.{◌≡◌, ℕ, zero, suc, ◌+◌, ◌<◌, Bool, true, false, cond, ◌||◌, nat_lt, eqb, List, [], ◌∷◌, ◌++◌, map, chars, replicate, refl, ap, ◌∙◌, arith, Option, Some, None}
+use Rattle.std.proofs.Common.{◌≡◌, ℕ, zero, suc, ◌+◌, ◌<◌, Bool, true, false, cond, ◌||◌, nat_lt, eqb, List, [], ◌∷◌, ◌++◌, drop, map, chars, replicate, refl, ap, ◌∙◌, arith, Option, Some, None}
 use Rattle.std.specs.List.{list_all}
 use Rattle.std.proofs.lemmas.Bool.{and_from}
 use Rattle.std.proofs.lemmas.Bool.Decides.{nat_tests}
@@ -10,13 +10,15 @@ use Rattle.markdown_emphasis.specs.declared.runs.Sign.TheVariants.{Star, Undersc
 use Rattle.markdown_emphasis.specs.declared.flags.Flags.{Flags}
 use Rattle.markdown_brackets.specs.declared.brackets.Link.{Link}
 use Rattle.markdown_spans.specs.Code.{unpadded}
+use Rattle.markdown_spans.specs.declared.attributes.Html.{Html}
+use Rattle.markdown_spans.specs.declared.attributes.Html.TheVariants.{Nothing, Break, Alternative}
 use Rattle.markdown_pieces.specs.declared.pieces.Kind.{Kind}
-use Rattle.markdown_pieces.specs.declared.pieces.Kind.TheVariants.{Plain, Shown as ShownKind, Code as CodeKind, Address, Tag, Soft, Hard, Run as RunKind, Opening, Closing}
+use Rattle.markdown_pieces.specs.declared.pieces.Kind.TheVariants.{Plain, Shown as ShownKind, Code as CodeKind, Address, Bare, Html as HtmlKind, Soft, Hard, Run as RunKind, Opening, Closing}
 use Rattle.markdown_pieces.specs.declared.pieces.Piece.{Piece}
 use Rattle.markdown_inlines.specs.declared.looks.Look.{Look}
 use Rattle.markdown_inlines.specs.declared.links.Over.{Over}
 use Rattle.markdown_inlines.specs.Printable.{is_printable, picture, shown_char, is_shown}
-use Rattle.markdown_inlines.specs.Parts.{sign_char, part, tag_shown, opening_shown, closing_shown, kind_characters}
+use Rattle.markdown_inlines.specs.Parts.{sign_char, part, alternative, html_shown, opening_shown, closing_shown, kind_characters}
 use Rattle.markdown_inlines.specs.Styled.{Shown, shown_with}
 use Rattle.markdown_inlines.specs.Inlines.{look_at, shown_piece, shown_from, char_of, are_shown}
 
@@ -57,9 +59,10 @@ sign_shown Star = refl
 sign_shown Underscore = refl
 sign_shown Tilde = refl
 
-tag_is : (breaks : Bool) → list_all is_shown (tag_shown breaks) ≡ true
-tag_is true = refl
-tag_is false = refl
+html_is : (html : Html) (text : List ℕ) (at : ℕ) → list_all is_shown (html_shown html text at) ≡ true
+html_is Nothing text at = refl
+html_is Break text at = refl
+html_is (Alternative value) text at = text_shown (chars (alternative (drop (at + 1) text) value.start value.len))
 
 opening_is : (image opens : Bool) → list_all is_shown (opening_shown image opens) ≡ true
 opening_is true true = refl
@@ -76,8 +79,9 @@ kind_shown Plain text at more left opens = text_shown (chars (part text at (more
 kind_shown (ShownKind c None) text at more left opens = text_shown (c ∷ [])
 kind_shown (ShownKind c (Some d)) text at more left opens = text_shown (c ∷ d ∷ [])
 kind_shown (CodeKind code) text at more left opens = text_shown (chars (unpadded (part text (at + code.marks) code.len)))
-kind_shown (Address len) text at more left opens = text_shown (chars (part text (at + 1) len))
-kind_shown (Tag breaks) text at more left opens = tag_is breaks
+kind_shown (Address len scheme) text at more left opens = text_shown (chars (part text (at + 1) len))
+kind_shown (Bare scheme) text at more left opens = text_shown (chars (part text at (more + 1)))
+kind_shown (HtmlKind html) text at more left opens = html_is html text at
 kind_shown Soft text at more left opens = refl
 kind_shown Hard text at more left opens = refl
 kind_shown (RunKind run) text at more left opens = times_shown left (sign_char run.sign) (sign_shown run.sign)

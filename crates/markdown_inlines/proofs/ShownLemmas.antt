@@ -38,7 +38,7 @@ pub shown_end : (text : List ℕ) (at i : ℕ) (ps : List Piece) (fs : List Flag
 unfolding shown_from
 shown_end text at i ps fs ns os now all over h = sym (append-nil now) ∙ ap (λ (l : List Piece). now ++ shown_from text at l fs ns os) (sym (drop_all i ps over)) ∙ h
 
-pub links_next : (at i : ℕ) (ps : List Piece) (d : Piece) → i < length ps → links_from at (drop i ps) ≡ with_link (link_target (get_or ps i d).kind at) (links_from (at + ((get_or ps i d).more + 1)) (drop (i + 1) ps))
+pub links_next : (at i : ℕ) (ps : List Piece) (d : Piece) → i < length ps → links_from at (drop i ps) ≡ with_link (link_target (get_or ps i d).kind at (get_or ps i d).more) (links_from (at + ((get_or ps i d).more + 1)) (drop (i + 1) ps))
 unfolding links_from
 links_next at i ps d h = ap (links_from at) (drop_more ps i d h)
 

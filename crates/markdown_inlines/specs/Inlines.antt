@@ -1,16 +1,18 @@
 -- What is shown of a leaf's text: of each piece its characters, one after another. All of a piece look the same.
-use Rattle.std.specs.Prelude.{ℕ, ◌+◌, Bool, true, false, List, [], ◌∷◌, ◌++◌, length, map, Option, Some, None}
+use Rattle.std.specs.Prelude.{ℕ, ◌+◌, Bool, true, false, if◌then◌else◌, List, [], ◌∷◌, ◌++◌, length, map, Option, Some, None}
 use Rattle.std.specs.List.{list_all, range_with_len}
 use Rattle.markdown_emphasis.specs.declared.runs.Pair.{Pair}
 use Rattle.markdown_emphasis.specs.declared.flags.Flags.{Flags}
 use Rattle.markdown_emphasis.specs.Flags.{flags_of}
+use Rattle.markdown_brackets.specs.declared.targets.Target.{Target}
 use Rattle.markdown_pieces.specs.declared.pieces.Kind.{Kind}
-use Rattle.markdown_pieces.specs.declared.pieces.Kind.TheVariants.{Code as CodeKind, Closing}
+use Rattle.markdown_pieces.specs.declared.pieces.Kind.TheVariants.{Code as CodeKind, Address, Bare, Closing}
 use Rattle.markdown_pieces.specs.declared.pieces.Piece.{Piece}
 use Rattle.markdown_pieces.specs.Cut.{CutText, cut_text}
 use Rattle.markdown_inlines.specs.declared.looks.Look.{Look}
 use Rattle.markdown_inlines.specs.declared.links.Over.{Over}
 use Rattle.markdown_inlines.specs.declared.inlines.LinkTarget.{LinkTarget}
+use Rattle.markdown_inlines.specs.declared.inlines.LinkTarget.TheVariants.{Definition, Inline, Address as AddressTarget}
 use Rattle.markdown_inlines.specs.Looks.{look_of}
 use Rattle.markdown_inlines.specs.Links.{overs_of}
 use Rattle.markdown_inlines.specs.Left.{left_at}
@@ -57,18 +59,28 @@ are_shown shown = list_all is_shown (map char_of shown)
 
 -- ---- links
 
-abbrev pub link_target : Kind → ℕ → Option LinkTarget
-link_target (Closing (Some link)) at = Some (record { image = link.image; at = at + 1; target = link.target })
-link_target _ at = None
+abbrev pub target_from : Option ℕ → ℕ → ℕ → LinkTarget
+target_from None len after = Inline after len
+target_from (Some index) len after = Definition index
+
+-- behind a closing bracket that ends at a place
+abbrev pub target_by : Target → ℕ → LinkTarget
+target_by target after = target_from target.definition target.len after
+
+abbrev pub link_target : Kind → (at more : ℕ) → Option LinkTarget
+link_target (Closing (Some link)) at more = if link.image then None else Some (target_by link.target (at + 1))
+link_target (Address len scheme) at more = Some (AddressTarget scheme (at + 1) len)
+link_target (Bare scheme) at more = Some (AddressTarget scheme at (more + 1))
+link_target _ at more = None
 
 abbrev pub with_link : Option LinkTarget → List LinkTarget → List LinkTarget
 with_link None links = links
 with_link (Some link) links = link ∷ links
 
--- the links of the pieces from a place on, in the order in which they close
+-- the links of the pieces from a place on, in the order in which they end
 unfoldable pub links_from : ℕ → List Piece → List LinkTarget
 links_from at [] = []
-links_from at (p ∷ ps) = with_link (link_target p.kind at) (links_from (at + (p.more + 1)) ps)
+links_from at (p ∷ ps) = with_link (link_target p.kind at p.more) (links_from (at + (p.more + 1)) ps)
 
 abbrev pub leaf_links : List (List ℕ) → List ℕ → List LinkTarget
 leaf_links labels text = links_from 0 (cut_text labels text).pieces

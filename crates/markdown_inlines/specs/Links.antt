@@ -1,13 +1,16 @@
--- Over which pieces links and images are. A link goes from its opening bracket to its closing one.
-use Rattle.std.specs.Prelude.{ℕ, ◌+◌, ◌==◌, ◌&&◌, Bool, true, false, if◌then◌else◌, List, [], ◌∷◌, drop, Option, Some, None}
+-- Over which pieces links are. A link goes from its opening bracket to its closing one.
+use Rattle.std.specs.Prelude.{ℕ, ◌+◌, ◌==◌, ◌&&◌, not, Bool, true, false, if◌then◌else◌, List, [], ◌∷◌, drop, Option, Some, None}
+use Rattle.markdown_brackets.specs.declared.brackets.Link.{Link}
 use Rattle.markdown_pieces.specs.declared.pieces.Kind.{Kind}
-use Rattle.markdown_pieces.specs.declared.pieces.Kind.TheVariants.{Opening, Closing}
+use Rattle.markdown_pieces.specs.declared.pieces.Kind.TheVariants.{Address, Bare, Opening, Closing}
 use Rattle.markdown_pieces.specs.declared.pieces.Piece.{Piece}
 use Rattle.markdown_inlines.specs.declared.links.Over.{Over}
 use Rattle.markdown_inlines.specs.declared.links.Ahead.{Ahead}
 
 abbrev pub is_link : Kind → Bool
-is_link (Closing (Some link)) = true
+is_link (Closing (Some link)) = not link.image
+is_link (Address len scheme) = true
+is_link (Bare scheme) = true
 is_link _ = false
 
 -- one, if it is a link
@@ -19,12 +22,12 @@ unfoldable pub link_count : List Piece → ℕ
 link_count [] = 0
 link_count (p ∷ ps) = links_in p.kind + link_count ps
 
--- the nearest link whose closing bracket is ahead
+-- the link over a piece, by the links and images whose closing brackets are ahead, the nearest first
 abbrev pub nearest : List Ahead → Option ℕ
 nearest [] = None
-nearest (a ∷ others) = Some a.number
+nearest (a ∷ others) = a.number
 
--- whether it begins at a piece
+-- whether the nearest of them begins at a piece
 abbrev pub opens_at : ℕ → List Ahead → Bool
 opens_at index [] = false
 opens_at index (a ∷ others) = a.opener == index
@@ -33,12 +36,26 @@ abbrev pub is_opening : Kind → Bool
 is_opening (Opening image) = true
 is_opening _ = false
 
-abbrev pub over_of : ℕ → Kind → List Ahead → Over
-over_of index kind ahead = record { link = nearest ahead; opens = is_opening kind && opens_at index ahead }
+-- an address is a link by itself, but not in a link
+abbrev pub own_link : ℕ → Kind → Option ℕ
+own_link number (Address len scheme) = Some number
+own_link number (Bare scheme) = Some number
+own_link number _ = None
+
+abbrev pub or_link : Option ℕ → Option ℕ → Option ℕ
+or_link None otherwise = otherwise
+or_link (Some number) otherwise = Some number
+
+abbrev pub over_of : ℕ → ℕ → Kind → List Ahead → Over
+over_of index number kind ahead = record { link = or_link (nearest ahead) (own_link number kind); opens = is_opening kind && opens_at index ahead }
+
+-- an image is no link: what it holds is of the link around it
+abbrev pub ahead_by : ℕ → Link → List Ahead → Ahead
+ahead_by number link ahead = record { number = if link.image then nearest ahead else Some number; opener = link.opener }
 
 -- one piece back: a link's closing bracket comes ahead, and goes at its opening bracket
 abbrev pub stepped_back : ℕ → ℕ → Kind → List Ahead → List Ahead
-stepped_back index number (Closing (Some link)) ahead = record { number = number; opener = link.opener } ∷ ahead
+stepped_back index number (Closing (Some link)) ahead = ahead_by number link ahead ∷ ahead
 stepped_back index number (Opening image) ahead = if opens_at index ahead then drop 1 ahead else ahead
 stepped_back index number _ ahead = ahead
 
@@ -48,7 +65,7 @@ pub record Overs : Type 0 where
   pub ahead : List Ahead
 
 abbrev pub one_back : ℕ → ℕ → Kind → Overs → Overs
-one_back index number kind o = record { overs = over_of index kind o.ahead ∷ o.overs; ahead = stepped_back index number kind o.ahead }
+one_back index number kind o = record { overs = over_of index number kind o.ahead ∷ o.overs; ahead = stepped_back index number kind o.ahead }
 
 -- the first of them has this index, and before it are so many links
 unfoldable pub overs_from : (index number : ℕ) → List Piece → Overs

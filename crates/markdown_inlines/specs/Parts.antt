@@ -1,11 +1,16 @@
 -- What is shown of one piece.
-use Rattle.std.specs.Prelude.{ℕ, ◌+◌, Bool, if◌then◌else◌, List, [], ◌∷◌, take, drop, map, replicate, chars, Option, Some, None}
+use Rattle.std.specs.Prelude.{ℕ, ◌+◌, Bool, false, if◌then◌else◌, List, [], ◌∷◌, take, drop, map, replicate, chars, Option, Some, None}
 use Rattle.markdown_emphasis.specs.declared.runs.Sign.{Sign}
 use Rattle.markdown_emphasis.specs.declared.runs.Sign.TheVariants.{Star, Underscore, Tilde}
 use Rattle.markdown_brackets.specs.declared.brackets.Link.{Link}
+use Rattle.std.specs.Str.Lossy.{utf8_lossy}
 use Rattle.markdown_spans.specs.Code.{unpadded}
+use Rattle.markdown_spans.specs.Words.{words}
+use Rattle.markdown_spans.specs.Decoded.{decoded}
+use Rattle.markdown_spans.specs.declared.attributes.Html.{Html}
+use Rattle.markdown_spans.specs.declared.attributes.Html.TheVariants.{Nothing, Break, Alternative}
 use Rattle.markdown_pieces.specs.declared.pieces.Kind.{Kind}
-use Rattle.markdown_pieces.specs.declared.pieces.Kind.TheVariants.{Plain, Shown, Code as CodeKind, Address, Tag, Soft, Hard, Run as RunKind, Opening, Closing}
+use Rattle.markdown_pieces.specs.declared.pieces.Kind.TheVariants.{Plain, Shown, Code as CodeKind, Address, Bare, Html as HtmlKind, Soft, Hard, Run as RunKind, Opening, Closing}
 use Rattle.markdown_pieces.specs.declared.pieces.Piece.{Piece}
 use Rattle.markdown_inlines.specs.Printable.{shown_char}
 
@@ -27,9 +32,15 @@ character_shown c (Some d) = shown_char c ∷ shown_char d ∷ []
 abbrev pub part : List ℕ → ℕ → ℕ → List ℕ
 part text at len = take len (drop at text)
 
--- of a tag of html
-abbrev pub tag_shown : Bool → List ℕ
-tag_shown breaks = if breaks then 10 ∷ [] else []
+-- the alternative text of an image, which is so many bytes of a text from a place on: blanks are one space, and entities their characters
+abbrev pub alternative : List ℕ → ℕ → ℕ → List ℕ
+alternative text start len = utf8_lossy (decoded false (words false false (part text start len)))
+
+-- of raw html at a place
+abbrev pub html_shown : Html → List ℕ → ℕ → List ℕ
+html_shown Nothing text at = []
+html_shown Break text at = 10 ∷ []
+html_shown (Alternative value) text at = shown_text (alternative (drop (at + 1) text) value.start value.len)
 
 abbrev pub opening_shown : (image opens : Bool) → List ℕ
 opening_shown image opens = if opens then [] else if image then 33 ∷ 91 ∷ [] else 91 ∷ []
@@ -43,8 +54,9 @@ abbrev pub kind_characters : Kind → List ℕ → (at more left : ℕ) → Bool
 kind_characters Plain text at more left opens = shown_text (part text at (more + 1))
 kind_characters (Shown c second) text at more left opens = character_shown c second
 kind_characters (CodeKind code) text at more left opens = shown_text (unpadded (part text (at + code.marks) code.len))
-kind_characters (Address len) text at more left opens = shown_text (part text (at + 1) len)
-kind_characters (Tag breaks) text at more left opens = tag_shown breaks
+kind_characters (Address len scheme) text at more left opens = shown_text (part text (at + 1) len)
+kind_characters (Bare scheme) text at more left opens = shown_text (part text at (more + 1))
+kind_characters (HtmlKind html) text at more left opens = html_shown html text at
 kind_characters Soft text at more left opens = 32 ∷ []
 kind_characters Hard text at more left opens = 10 ∷ []
 kind_characters (RunKind run) text at more left opens = replicate left (sign_char run.sign)

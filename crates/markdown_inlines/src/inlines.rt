@@ -1,10 +1,10 @@
 //! The inlines of a leaf's text.
 
-ghost use Rattle.std.specs.Prelude.{◌≡◌, ◌<◌, ◌^◌, ◌++◌, List, true, IfOk, OnOk, length, map};
+ghost use Rattle.std.specs.Prelude.{◌≡◌, ◌<◌, ◌^◌, ◌++◌, List, true, IfOk, OnOk, length, map, string_bytes};
 ghost use Rattle.markdown_pieces.specs.Places.{AreCut};
 ghost use Rattle.markdown_inlines.specs.declared.inlines.LinkTarget.{LinkTarget};
 ghost use Rattle.markdown_inlines.specs.Looks.{look_of};
-ghost use Rattle.markdown_inlines.specs.Inlines.{is_code, link_target, with_link, links_from, shown_from, leaf_text, are_shown, leaf_links};
+ghost use Rattle.markdown_inlines.specs.Inlines.{is_code, target_by, link_target, with_link, links_from, shown_from, leaf_text, are_shown, leaf_links};
 ghost use Rattle.markdown_inlines.specs.Styled.{spelled_of, IsStyled};
 
 use crate::left::left_of;
@@ -12,39 +12,57 @@ use crate::links::{Over, overs_of};
 use crate::looks::{Look, look_of};
 use crate::parts::push_piece;
 use crate::styled::Styled;
+use indexmap::IndexSet;
 use markdown_brackets::targets::Target;
 use markdown_emphasis::{Flags, flag_pieces};
 use markdown_pieces::cut::cut_text;
 use markdown_pieces::pieces::{Kind, Piece};
+use markdown_spans::addresses::Scheme;
 use std::alloc::{AllocError, Global};
 
-/// A link or an image.
+/// Where a link leads. Places are bytes of the leaf's text.
 #[derive(Debug, Clone, Copy)]
-pub struct LinkTarget {
-    pub image: bool,
-    /// Where in the leaf's text its closing bracket ends: its destination follows, if it has one of its own.
-    pub at: usize,
-    pub target: Target,
+pub enum LinkTarget {
+    /// To what the definition of this index says.
+    Definition(usize),
+    /// To what stands in parentheses at a place: so many bytes, with the parentheses.
+    Inline(usize, usize),
+    /// To an address at a place, of so many bytes, behind this scheme.
+    Address(Scheme, usize, usize),
 }
 
 /// What is shown of a leaf.
 #[derive(Drop)]
 pub struct LeafText {
     pub styled: Styled,
-    /// The links and images, in the order in which they close. The runs say their numbers.
+    /// The links, in the order in which they end. The runs say their numbers.
     pub links: Vec<LinkTarget>,
 }
 
-fn link_target(kind: &Kind, at: usize) -> Option<LinkTarget>
-    requires { at < 2 ^ 63 }
-    ensures { result ≡ link_target kind.now at }
+fn target_by(target: Target, after: usize) -> LinkTarget
+    ensures { result ≡ target_by target after }
+{
+    match target.definition {
+        Some(index) => LinkTarget::Definition(index),
+        None => LinkTarget::Inline(after, target.len),
+    }
+}
+
+fn link_target(kind: &Kind, at: usize, more: usize) -> Option<LinkTarget>
+    requires few { at < 2 ^ 63 }
+    requires less { more < 2 ^ 63 }
+    ensures { result ≡ link_target kind.now at more }
 {
     match kind {
-        Kind::Closing(Some(link)) => Some(LinkTarget {
-            image: link.image,
-            at: at + 1,
-            target: link.target,
-        }),
+        Kind::Closing(Some(link)) => {
+            if link.image {
+                None
+            } else {
+                Some(target_by(link.target, at + 1))
+            }
+        }
+        Kind::Address(len, scheme) => Some(LinkTarget::Address(*scheme, at + 1, *len)),
+        Kind::Bare(scheme) => Some(LinkTarget::Address(*scheme, at, more + 1)),
         _ => None,
     }
 }
@@ -56,11 +74,17 @@ fn look_at(flags: &Flags, kind: &Kind, link: Option<usize>) -> Look
 }
 
 // Writes down the link that a piece closes.
-fn add_link(links: &mut Vec<LinkTarget>, kind: &Kind, at: usize) -> Result<(), AllocError>
-    requires { at < 2 ^ 63 }
-    ensures { OnOk result ((more : List LinkTarget) → links.new.items ++ more ≡ links.old.items ++ with_link (link_target kind.now at) more) }
+fn add_link(
+    links: &mut Vec<LinkTarget>,
+    kind: &Kind,
+    at: usize,
+    more: usize,
+) -> Result<(), AllocError>
+    requires few { at < 2 ^ 63 }
+    requires less { more < 2 ^ 63 }
+    ensures { OnOk result ((rest : List LinkTarget) → links.new.items ++ rest ≡ links.old.items ++ with_link (link_target kind.now at more) rest) }
 {
-    if let Some(link) = link_target(kind, at) {
+    if let Some(link) = link_target(kind, at, more) {
         links.push(link)?;
     }
     Ok(())
@@ -90,6 +114,7 @@ fn shown_pieces(
         let piece = pieces[index];
         let look = look_at(&flags[index], &piece.kind, overs[index].link);
         push_piece(
+            alloc,
             &mut styled,
             text,
             at,
@@ -98,7 +123,7 @@ fn shown_pieces(
             overs[index].opens,
             &look,
         )?;
-        add_link(&mut links, &piece.kind, at)?;
+        add_link(&mut links, &piece.kind, at, piece.more)?;
         at += piece.more + 1;
     }
     Ok(LeafText { styled, links })
@@ -110,11 +135,15 @@ fn shown_pieces(
 /// # Errors
 ///
 /// Out of memory is the only error.
-pub fn leaf_text(alloc: Global, labels: &[&str], text: &str) -> Result<LeafText, AllocError>
-    ensures shown { IfOk result (λ leaf. spelled_of leaf.styled ≡ leaf_text (map (λ l. l.now) labels.now) text.now) }
+pub fn leaf_text(
+    alloc: Global,
+    labels: &IndexSet<String>,
+    text: &str,
+) -> Result<LeafText, AllocError>
+    ensures shown { IfOk result (λ leaf. spelled_of leaf.styled ≡ leaf_text (map string_bytes labels.now.keys) text.now) }
     ensures printable { IfOk result (λ leaf. are_shown (spelled_of leaf.styled) ≡ true) }
     ensures styled { IfOk result (λ leaf. IsStyled leaf.styled) }
-    ensures links { IfOk result (λ leaf. leaf.links.items ≡ leaf_links (map (λ l. l.now) labels.now) text.now) }
+    ensures links { IfOk result (λ leaf. leaf.links.items ≡ leaf_links (map string_bytes labels.now.keys) text.now) }
 {
     let cut = cut_text(alloc, labels, text)?;
     let flags = flag_pieces(alloc, &cut.pairs, cut.pieces.len())?;

@@ -1,25 +1,26 @@
-//! Over which pieces links and images are.
+//! Over which pieces links are.
 
 ghost use Rattle.std.specs.Prelude.{◌≡◌, ◌≤◌, IfOk, OnOk, reverse};
-ghost use Rattle.markdown_inlines.specs.Links.{is_link, links_in, link_count, nearest, opens_at, over_of, stepped_back, overs_of};
+ghost use Rattle.markdown_inlines.specs.Links.{is_link, links_in, link_count, nearest, opens_at, own_link, or_link, over_of, ahead_by, stepped_back, overs_of};
 
+use markdown_brackets::brackets::Link;
 use markdown_pieces::pieces::{Kind, Piece};
 use std::alloc::{AllocError, Global};
 
 /// What links have to do with a piece.
 #[derive(Debug, Clone, Copy)]
 pub struct Over {
-    /// The nearest link over the piece.
+    /// The number of the link over the piece.
     pub link: Option<usize>,
-    /// Whether it is the opening bracket of a link.
+    /// Whether it is the opening bracket of a link or an image.
     pub opens: bool,
 }
 
-/// A link whose closing bracket is ahead.
+/// A link or an image whose closing bracket is ahead.
 #[derive(Debug, Clone, Copy)]
 pub struct Ahead {
-    /// Its number.
-    pub number: usize,
+    /// The number of the link, or of that around the image.
+    pub number: Option<usize>,
     /// The index of the piece of its opening bracket.
     pub opener: usize,
 }
@@ -27,7 +28,11 @@ pub struct Ahead {
 fn is_link(kind: &Kind) -> bool
     ensures { result ≡ is_link kind.now }
 {
-    matches!(kind, Kind::Closing(Some(_)))
+    match kind {
+        Kind::Closing(Some(link)) => !link.image,
+        Kind::Address(_, _) | Kind::Bare(_) => true,
+        _ => false,
+    }
 }
 
 // One, if it is a link.
@@ -38,7 +43,7 @@ fn links_in(kind: &Kind) -> usize
     if is_link(kind) { 1 } else { 0 }
 }
 
-// How many links and images there are.
+// How many links there are.
 #[tactic(auto, unfolding(crate::specs::Links::link_count))]
 fn link_count(pieces: &[Piece]) -> usize
     ensures { result ≡ link_count pieces.now }
@@ -57,7 +62,7 @@ fn nearest(ahead: &[Ahead]) -> Option<usize>
     if count == 0 {
         return None;
     }
-    Some(ahead[count - 1].number)
+    ahead[count - 1].number
 }
 
 // Whether the nearest link begins at a piece.
@@ -71,12 +76,44 @@ fn opens_at(ahead: &[Ahead], index: usize) -> bool
     ahead[count - 1].opener == index
 }
 
-fn over_of(ahead: &[Ahead], index: usize, kind: &Kind) -> Over
-    ensures { result ≡ over_of index kind.now (reverse ahead.now) }
+// The number of an address, which is a link by itself.
+fn own_link(number: usize, kind: &Kind) -> Option<usize>
+    ensures { result ≡ own_link number kind.now }
+{
+    match kind {
+        Kind::Address(_, _) | Kind::Bare(_) => Some(number),
+        _ => None,
+    }
+}
+
+fn or_link(first: Option<usize>, otherwise: Option<usize>) -> Option<usize>
+    ensures { result ≡ or_link first otherwise }
+{
+    match first {
+        Some(number) => Some(number),
+        None => otherwise,
+    }
+}
+
+fn over_of(ahead: &[Ahead], index: usize, number: usize, kind: &Kind) -> Over
+    ensures { result ≡ over_of index number kind.now (reverse ahead.now) }
 {
     Over {
-        link: nearest(ahead),
+        link: or_link(nearest(ahead), own_link(number, kind)),
         opens: matches!(kind, Kind::Opening(_)) && opens_at(ahead, index),
+    }
+}
+
+fn ahead_by(ahead: &[Ahead], number: usize, link: &Link) -> Ahead
+    ensures { result ≡ ahead_by number link.now (reverse ahead.now) }
+{
+    Ahead {
+        number: if link.image {
+            nearest(ahead)
+        } else {
+            Some(number)
+        },
+        opener: link.opener,
     }
 }
 
@@ -91,10 +128,8 @@ fn step_back(
 {
     match kind {
         Kind::Closing(Some(link)) => {
-            ahead.push(Ahead {
-                number,
-                opener: link.opener,
-            })?;
+            let begun = ahead_by(ahead, number, link);
+            ahead.push(begun)?;
             Ok(())
         }
         Kind::Opening(_) => {
@@ -123,7 +158,7 @@ pub fn overs_of(alloc: Global, pieces: &[Piece]) -> Result<Vec<Over>, AllocError
         index -= 1;
         let kind = pieces[index].kind;
         number -= links_in(&kind);
-        overs.push(over_of(&ahead, index, &kind))?;
+        overs.push(over_of(&ahead, index, number, &kind))?;
         step_back(&mut ahead, index, number, &kind)?;
     }
     overs.reverse();

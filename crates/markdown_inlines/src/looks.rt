@@ -12,7 +12,7 @@ pub struct Look {
     pub italic: bool,
     pub strikeout: bool,
     pub code: bool,
-    /// The number of the link or image that it belongs to.
+    /// The number of the link that it belongs to.
     pub link: Option<usize>,
 }
 

@@ -1,10 +1,10 @@
 //! What is shown of one piece.
 
-ghost use Rattle.std.specs.Prelude.{◌≡◌, ◌+◌, ◌<◌, ◌++◌, OnOk, length, map};
+ghost use Rattle.std.specs.Prelude.{◌≡◌, ◌+◌, ◌<◌, ◌++◌, IfOk, OnOk, length, map, string_bytes};
 ghost use Rattle.std.specs.Str.{IsCharBoundary};
 ghost use Rattle.markdown_spans.specs.Code.{unpadded};
 ghost use Rattle.markdown_pieces.specs.Places.{IsInside};
-ghost use Rattle.markdown_inlines.specs.Parts.{sign_char, shown_text, character_shown, part, tag_shown, opening_shown, closing_shown, characters};
+ghost use Rattle.markdown_inlines.specs.Parts.{sign_char, shown_text, character_shown, part, alternative, html_shown, opening_shown, closing_shown, characters};
 ghost use Rattle.markdown_inlines.specs.Styled.{shown_with, spelled_of, IsStyled};
 
 use crate::looks::Look;
@@ -13,8 +13,11 @@ use crate::styled::Styled;
 use markdown_brackets::brackets::Link;
 use markdown_emphasis::Sign;
 use markdown_pieces::pieces::{Kind, Piece};
+use markdown_spans::attributes::{Html, Value};
 use markdown_spans::code::{Code, is_padded};
-use std::alloc::AllocError;
+use markdown_spans::decoded::decoded;
+use markdown_spans::words::{bytes_from, bytes_up_to, words};
+use std::alloc::{AllocError, Global};
 
 fn sign_char(sign: Sign) -> char
     ensures { result ≡ sign_char sign }
@@ -119,17 +122,58 @@ fn push_character(
     }
 }
 
-// A tag of html: nothing, or the end of a line.
-fn push_tag(styled: &mut Styled, breaks: bool, look: &Look) -> Result<(), AllocError>
+// The alternative text of an image, which is so many bytes of its tag from a place on.
+fn alternative(alloc: Global, text: &[u8], start: usize, len: usize) -> Result<String, AllocError>
+    ensures { IfOk result (λ shown. string_bytes shown ≡ alternative text.now start len) }
+{
+    let words = words(alloc, bytes_up_to(bytes_from(text, start), len))?;
+    let decoded = decoded(alloc, false, &words)?;
+    let shown = String::from_utf8_lossy(alloc, &decoded)?;
+    Ok(shown)
+}
+
+fn push_alternative(
+    alloc: Global,
+    styled: &mut Styled,
+    tag: &[u8],
+    value: Value,
+    look: &Look,
+) -> Result<(), AllocError>
     requires styled { IsStyled styled.old }
-    ensures pushed { OnOk result (spelled_of styled.new ≡ spelled_of styled.old ++ map (shown_with look.now) (tag_shown breaks)) }
+    ensures pushed { OnOk result (spelled_of styled.new ≡ spelled_of styled.old ++ map (shown_with look.now) (shown_text (alternative tag.now value.start value.len))) }
     ensures styled { OnOk result (IsStyled styled.new) }
 {
-    if breaks {
-        styled.push('\n', look)?;
-        return Ok(());
-    }
+    let shown = alternative(alloc, tag, value.start, value.len)?;
+    styled.push_text(shown.as_str(), look)?;
     Ok(())
+}
+
+// Raw html at a place: nothing, the end of a line, or what an image says.
+fn push_html(
+    alloc: Global,
+    styled: &mut Styled,
+    text: &str,
+    at: usize,
+    html: Html,
+    look: &Look,
+) -> Result<(), AllocError>
+    requires styled { IsStyled styled.old }
+    requires within { at < length text.now }
+    ensures pushed { OnOk result (spelled_of styled.new ≡ spelled_of styled.old ++ map (shown_with look.now) (html_shown html text.now at)) }
+    ensures styled { OnOk result (IsStyled styled.new) }
+{
+    match html {
+        Html::Nothing => Ok(()),
+        Html::Break => {
+            styled.push('\n', look)?;
+            Ok(())
+        }
+        Html::Alternative(value) => {
+            let tag = bytes_from(text.as_bytes(), at + 1);
+            push_alternative(alloc, styled, tag, value, look)?;
+            Ok(())
+        }
+    }
 }
 
 fn push_opening(
@@ -174,6 +218,7 @@ fn push_closing(styled: &mut Styled, link: Option<Link>, look: &Look) -> Result<
 ///
 /// Out of memory is the only error.
 pub fn push_piece(
+    alloc: Global,
     styled: &mut Styled,
     text: &str,
     at: usize,
@@ -194,8 +239,9 @@ pub fn push_piece(
         Kind::Plain => push_plain(styled, text, at, piece.more, look)?,
         Kind::Shown(c, second) => push_character(styled, c, second, look)?,
         Kind::Code(code) => push_code(styled, text, at, &code, look)?,
-        Kind::Address(len) => push_address(styled, text, at, len, look)?,
-        Kind::Tag(breaks) => push_tag(styled, breaks, look)?,
+        Kind::Address(len, _) => push_address(styled, text, at, len, look)?,
+        Kind::Bare(_) => push_plain(styled, text, at, piece.more, look)?,
+        Kind::Html(html) => push_html(alloc, styled, text, at, html, look)?,
         Kind::Soft => styled.push(' ', look)?,
         Kind::Hard => styled.push('\n', look)?,
         Kind::Run(run) => styled.push_times(sign_char(run.sign), left, look)?,

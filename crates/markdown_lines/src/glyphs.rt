@@ -1,9 +1,10 @@
 //! Characters of a leaf, each with its flags.
 
-ghost use Rattle.std.specs.Prelude.{◌≡◌, ◌++◌, ◌∷◌, [], IfOk, OnOk, map, chars, reverse};
+ghost use Rattle.std.specs.Prelude.{◌≡◌, ◌++◌, ◌∷◌, [], IfOk, OnOk, map, chars, reverse, string_bytes};
 ghost use Rattle.markdown_inlines.specs.Styled.{shown_with, spelled_of, IsStyled};
 ghost use Rattle.markdown_lines.specs.Glyphs.{glyph_of, leaf_glyphs, is_edge, without_front, without_back, trimmed, space, spaced_from};
 
+use indexmap::IndexSet;
 use crate::places::RunFlags;
 use markdown_inlines::inlines::leaf_text;
 use markdown_inlines::looks::Look;
@@ -66,11 +67,11 @@ fn glyphs_of(alloc: Global, bold: bool, styled: &Styled) -> Result<Vec<Glyph>, A
 /// The characters that are shown of a leaf with this text, and with links to definitions with these labels.
 pub fn leaf_glyphs(
     alloc: Global,
-    labels: &[&str],
+    labels: &IndexSet<String>,
     bold: bool,
     text: &str,
 ) -> Result<Vec<Glyph>, AllocError>
-    ensures { IfOk result (λ glyphs. glyphs.items ≡ leaf_glyphs (map (λ l. l.now) labels.now) bold text.now) }
+    ensures { IfOk result (λ glyphs. glyphs.items ≡ leaf_glyphs (map string_bytes labels.now.keys) bold text.now) }
 {
     let leaf = leaf_text(alloc, labels, text)?;
     let glyphs = glyphs_of(alloc, bold, &leaf.styled)?;

@@ -8,6 +8,7 @@ ghost use Rattle.markdown_lines.specs.Leaf.{shown_text, plain_row, rows_of, leaf
 ghost use Rattle.markdown_lines.specs.Said.{said};
 ghost use Rattle.markdown_lines.specs.Shown.{shown};
 
+use indexmap::IndexSet;
 use crate::glyphs::{Glyph, leaf_glyphs, spaced, trimmed};
 use crate::lines::Lines;
 use crate::runs::Runs;
@@ -55,8 +56,8 @@ fn rows_of(alloc: Global, glyphs: &[Glyph]) -> Result<Lines, AllocError>
 
 /// The rows of a leaf with this text, and with links to definitions with these labels.
 #[tactic(auto, unfolding(crate::specs::Leaf::leaf_rows))]
-pub fn leaf_rows(alloc: Global, labels: &[&str], text: &str) -> Result<Lines, AllocError>
-    ensures { IfOk result (λ rows. shown rows ≡ leaf_rows (map (λ l. l.now) labels.now) text.now) }
+pub fn leaf_rows(alloc: Global, labels: &IndexSet<String>, text: &str) -> Result<Lines, AllocError>
+    ensures { IfOk result (λ rows. shown rows ≡ leaf_rows (map string_bytes labels.now.keys) text.now) }
 {
     let glyphs = leaf_glyphs(alloc, labels, false, text)?;
     let rows = rows_of(alloc, trimmed(glyphs.as_slice()))?;
@@ -65,8 +66,8 @@ pub fn leaf_rows(alloc: Global, labels: &[&str], text: &str) -> Result<Lines, Al
 
 /// The runs of a cell with this text, in bold or as they are.
 #[tactic(auto, unfolding(crate::specs::Leaf::cell_runs))]
-pub fn cell_runs(alloc: Global, labels: &[&str], bold: bool, text: &str) -> Result<Runs, AllocError>
-    ensures { IfOk result (λ runs. said runs ≡ cell_runs (map (λ l. l.now) labels.now) bold text.now) }
+pub fn cell_runs(alloc: Global, labels: &IndexSet<String>, bold: bool, text: &str) -> Result<Runs, AllocError>
+    ensures { IfOk result (λ runs. said runs ≡ cell_runs (map string_bytes labels.now.keys) bold text.now) }
 {
     let glyphs = leaf_glyphs(alloc, labels, bold, text)?;
     let row = spaced(alloc, bold, trimmed(glyphs.as_slice()))?;

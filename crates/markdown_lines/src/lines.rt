@@ -1,6 +1,6 @@
 //! Lines of runs.
 
-ghost use Rattle.std.specs.Prelude.{◌≡◌, ◌≤◌, ◌+◌, ◌==◌, true, [], ◌∷◌, ◌++◌, IfOk, OnOk, map, length, false};
+ghost use Rattle.std.specs.Prelude.{◌≡◌, ◌≤◌, ◌+◌, ◌==◌, true, [], ◌∷◌, ◌++◌, IfOk, OnOk, map, length, false, string_bytes};
 ghost use Rattle.std.specs.Str.Lossy.{utf8_lossy};
 ghost use Rattle.markdown_lines.specs.Glyphs.{runs_of};
 ghost use Rattle.markdown_lines.specs.Leaf.{cell_runs};
@@ -11,6 +11,7 @@ ghost use Rattle.markdown_lines.specs.Said.{said, range_said};
 ghost use Rattle.mad_md.specs.Flagged.{unflagged};
 ghost use Rattle.mad_md.specs.Lines.{content_of, normal, table_row, table_rule, horizontal_rule};
 
+use indexmap::IndexSet;
 use crate::cells::{after_cell, cell_of, cell_text};
 use crate::glyphs::Glyph;
 use crate::leaf::cell_runs;
@@ -39,8 +40,8 @@ pub struct Lines {
 }
 
 // The runs of the first cell of a row.
-fn runs_of_cell(alloc: Global, labels: &[&str], bold: bool, row: &[u8]) -> Result<Runs, AllocError>
-    ensures { IfOk result (λ runs. said runs ≡ cell_runs (map (λ l. l.now) labels.now) bold (utf8_lossy (unbarred [] false (cell_of row.now)))) }
+fn runs_of_cell(alloc: Global, labels: &IndexSet<String>, bold: bool, row: &[u8]) -> Result<Runs, AllocError>
+    ensures { IfOk result (λ runs. said runs ≡ cell_runs (map string_bytes labels.now.keys) bold (utf8_lossy (unbarred [] false (cell_of row.now)))) }
 {
     let text = cell_text(alloc, cell_of(row))?;
     let shown = String::from_utf8_lossy(alloc, text.as_slice())?;
@@ -170,12 +171,12 @@ impl Lines {
     pub fn push_table_row(
         &mut self,
         alloc: Global,
-        labels: &[&str],
+        labels: &IndexSet<String>,
         columns: usize,
         bold: bool,
         row: &[u8],
     ) -> Result<(), AllocError>
-        ensures { OnOk result (shown self.new ≡ shown self.old ++ table_row (cells (map (λ l. l.now) labels.now) bold columns row.now) ∷ []) }
+        ensures { OnOk result (shown self.new ≡ shown self.old ++ table_row (cells (map string_bytes labels.now.keys) bold columns row.now) ∷ []) }
     {
         let mut ranges = Vec::new(alloc);
         let mut rest = row;

@@ -1,10 +1,11 @@
 //! Tables.
 
-ghost use Rattle.std.specs.Prelude.{◌≡◌, ◌++◌, false, OnOk, map, ◌∷◌, []};
+ghost use Rattle.std.specs.Prelude.{◌≡◌, ◌++◌, false, OnOk, map, ◌∷◌, [], string_bytes};
 ghost use Rattle.markdown_marks.specs.Remaining.{remaining};
 ghost use Rattle.markdown_lines.specs.Shown.{shown};
 ghost use Rattle.markdown_lines.specs.Tables.{shown_cells, row_said, body, ruled, table_lines};
 
+use indexmap::IndexSet;
 use crate::cells::{alignments, row_of};
 use crate::lines::Lines;
 use mad_md::Alignment;
@@ -23,12 +24,12 @@ fn shown_cells(columns: usize, bytes: &[u8]) -> usize
 fn push_row(
     alloc: Global,
     lines: &mut Lines,
-    labels: &[&str],
+    labels: &IndexSet<String>,
     columns: usize,
     bold: bool,
     line: Rest<'_>,
 ) -> Result<(), AllocError>
-    ensures { OnOk result (shown lines.new ≡ shown lines.old ++ row_said (map (λ l. l.now) labels.now) bold columns (remaining line.entry) ∷ []) }
+    ensures { OnOk result (shown lines.new ≡ shown lines.old ++ row_said (map string_bytes labels.now.keys) bold columns (remaining line.entry) ∷ []) }
 {
     let cells = shown_cells(columns, line.bytes);
     lines.push_table_row(alloc, labels, cells, bold, row_of(line.bytes))
@@ -37,11 +38,11 @@ fn push_row(
 fn push_rows(
     alloc: Global,
     lines: &mut Lines,
-    labels: &[&str],
+    labels: &IndexSet<String>,
     columns: usize,
     rows: &[Rest<'_>],
 ) -> Result<(), AllocError>
-    ensures { OnOk result (shown lines.new ≡ shown lines.old ++ map (row_said (map (λ l. l.now) labels.now) false columns) (map remaining rows.now)) }
+    ensures { OnOk result (shown lines.new ≡ shown lines.old ++ map (row_said (map string_bytes labels.now.keys) false columns) (map remaining rows.now)) }
 {
     let mut rest = rows;
     while let [line, next @ ..] = rest {
@@ -55,12 +56,12 @@ fn push_rows(
 fn push_body(
     alloc: Global,
     lines: &mut Lines,
-    labels: &[&str],
+    labels: &IndexSet<String>,
     columns: usize,
     rule: &[Alignment],
     rows: &[Rest<'_>],
 ) -> Result<(), AllocError>
-    ensures { OnOk result (shown lines.new ≡ shown lines.old ++ body (map (λ l. l.now) labels.now) columns rule.now (map remaining rows.now)) }
+    ensures { OnOk result (shown lines.new ≡ shown lines.old ++ body (map string_bytes labels.now.keys) columns rule.now (map remaining rows.now)) }
 {
     if rows.is_empty() {
         return Ok(());
@@ -72,13 +73,13 @@ fn push_body(
 fn push_ruled(
     alloc: Global,
     lines: &mut Lines,
-    labels: &[&str],
+    labels: &IndexSet<String>,
     columns: usize,
     rule: &[Alignment],
     head: Rest<'_>,
     rows: &[Rest<'_>],
 ) -> Result<(), AllocError>
-    ensures { OnOk result (shown lines.new ≡ shown lines.old ++ ruled (map (λ l. l.now) labels.now) columns rule.now (remaining head.entry) (map remaining rows.now)) }
+    ensures { OnOk result (shown lines.new ≡ shown lines.old ++ ruled (map string_bytes labels.now.keys) columns rule.now (remaining head.entry) (map remaining rows.now)) }
 {
     lines.push_table_rule(alloc, rule)?;
     push_row(alloc, lines, labels, columns, true, head)?;
@@ -92,11 +93,11 @@ fn push_ruled(
 pub fn push_table(
     alloc: Global,
     lines: &mut Lines,
-    labels: &[&str],
+    labels: &IndexSet<String>,
     columns: usize,
     table: &[Rest<'_>],
 ) -> Result<(), AllocError>
-    ensures { OnOk result (shown lines.new ≡ shown lines.old ++ table_lines (map (λ l. l.now) labels.now) columns (map remaining table.now)) }
+    ensures { OnOk result (shown lines.new ≡ shown lines.old ++ table_lines (map string_bytes labels.now.keys) columns (map remaining table.now)) }
 {
     match table {
         [head, delimiters, rows @ ..] => {

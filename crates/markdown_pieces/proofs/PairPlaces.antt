@@ -13,9 +13,9 @@ use Rattle.markdown_brackets.specs.declared.targets.Target.{Target}
 use Rattle.markdown_brackets.specs.declared.brackets.Bracket.{Bracket}
 use Rattle.markdown_brackets.specs.declared.brackets.Open.{Open}
 use Rattle.markdown_brackets.specs.declared.brackets.Placed.{Placed}
-use Rattle.markdown_brackets.specs.Brackets.{Reading, nothing_read, with_run, first_open, without_first, place_of, run_of, inside_pairs, killed, linked, Closed, unlinked, linked_by, target_at, closed_with, closed}
+use Rattle.markdown_brackets.specs.Brackets.{Reading, is_free, nothing_read, with_run, first_open, without_first, place_of, run_of, inside_pairs, killed, linked, Closed, unlinked, linked_by, target_at, closed_with, closed}
 use Rattle.markdown_pieces.specs.declared.pieces.Kind.{Kind}
-use Rattle.markdown_pieces.specs.declared.pieces.Kind.TheVariants.{Plain, Shown, Code as CodeKind, Address, Tag, Soft, Hard, Run as RunKind, Opening, Closing}
+use Rattle.markdown_pieces.specs.declared.pieces.Kind.TheVariants.{Plain, Shown, Code as CodeKind, Address, Bare, Html as HtmlKind, Soft, Hard, Run as RunKind, Opening, Closing}
 use Rattle.markdown_marks.specs.Bytes.{first}
 use Rattle.markdown_pieces.specs.Pieces.{piece_at}
 use Rattle.markdown_pieces.specs.Cut.{Step, read_run, other_step, closing_step, opening_step, step, Pieces, cut_from, cut_text}
@@ -124,8 +124,9 @@ read_piece (RunKind run) index r read = read_with_run index run r read
 read_piece Plain index r read = read_more index (index + 1) r (omega arith) read
 read_piece (Shown c second) index r read = read_more index (index + 1) r (omega arith) read
 read_piece (CodeKind code) index r read = read_more index (index + 1) r (omega arith) read
-read_piece (Address len) index r read = read_more index (index + 1) r (omega arith) read
-read_piece (Tag breaks) index r read = read_more index (index + 1) r (omega arith) read
+read_piece (Address len scheme) index r read = read_more index (index + 1) r (omega arith) read
+read_piece (Bare scheme) index r read = read_more index (index + 1) r (omega arith) read
+read_piece (HtmlKind html) index r read = read_more index (index + 1) r (omega arith) read
 read_piece Soft index r read = read_more index (index + 1) r (omega arith) read
 read_piece Hard index r read = read_more index (index + 1) r (omega arith) read
 read_piece (Opening image) index r read = read_more index (index + 1) r (omega arith) read
@@ -143,7 +144,7 @@ read_step labels text at index r rest read =
     (λ h1. by_cond P (eqb b 33 && eqb (first (drop (at + 1) text)) 91) (opening_step true (at + 2) index 1 r) _ (λ h. read_bracket true (at + 2) index 1 r read)
     (λ h2. by_cond P (eqb b 93) (closing_step (closed labels text (at + 1) r)) (other_step text at index r rest)
     (λ h. read_more index (index + 1) (closed labels text (at + 1) r).reading (omega arith) (read_closed labels text (at + 1) index r read))
-    (λ h3. read_piece (piece_at text at rest).kind index r read)))
+    (λ h3. read_piece (piece_at (is_free r.brackets) text at rest).kind index r read)))
 
 -- ---- all pieces
 

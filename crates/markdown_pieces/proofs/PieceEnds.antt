@@ -1,6 +1,6 @@
 -- Each piece ends where a text may be cut.
-use Rattle.std.proofs.Common.{◌≡◌, ℕ, zero, suc, ◌+◌, ◌-◌, ◌<◌, ◌≤◌, inl, inr, ⊎_elim, Bool, true, false, cond, eqb, leb, ltb, not, ◌||◌, ◌&&◌, List, [], ◌∷◌, length, take, drop, get_or, refl, sym, ap, subst, ◌∙◌, arith, Option, Some, None, option_map}
-use Rattle.std.specs.Char.{is_ascii_digit, is_ascii_hexdigit, is_ascii_alphanumeric, is_ascii_punctuation, is_ascii_alphabetic}
+use Rattle.std.proofs.Common.{◌≡◌, ℕ, zero, suc, ◌+◌, ◌-◌, ◌<◌, ◌≤◌, inl, inr, ⊎_elim, Bool, true, false, cond, eqb, leb, ltb, not, ◌||◌, ◌&&◌, List, [], ◌∷◌, length, take, drop, get_or, refl, sym, ap, subst, ◌∙◌, arith, Option, Some, None, option_map, is_some}
+use Rattle.std.specs.Char.{is_ascii_digit, is_ascii_hexdigit, is_ascii_alphanumeric, is_ascii_punctuation}
 use Rattle.std.specs.List.{prefix_len}
 use Rattle.std.specs.Str.Parse.{digits_value}
 use Rattle.std.proofs.lemmas.Bool.{cases_lt, eqb-true, and_parts}
@@ -11,24 +11,24 @@ use Rattle.markdown_emphasis.specs.declared.runs.Sign.{Sign}
 use Rattle.markdown_emphasis.specs.declared.runs.Sign.TheVariants.{Star, Underscore, Tilde}
 use Rattle.markdown_marks.specs.Bytes.{first, is_blank_byte, count_in_front}
 use Rattle.markdown_spans.specs.Ticks.{run_at}
-use Rattle.markdown_spans.specs.Code.{code_with, spaced}
+use Rattle.markdown_spans.specs.Code.{code_with}
 use Rattle.markdown_spans.specs.Entities.{with_char, char_of, value_after, hexadecimal, decimal, numeric, with_named, named, entity_of}
 use Rattle.markdown_entities.specs.declared.lookup.Named.{Named}
 use Rattle.markdown_entities.specs.Lookup.{characters_named}
 use Rattle.markdown_spans.specs.Addresses.{is_scheme_byte, is_address_byte, is_local_byte, has_scheme, ended_at, uri_len, may_end, domain_next, after_domain, email_len, or_len, address_len}
 use Rattle.markdown_spans.specs.declared.addresses.Domain.{Domain}
 use Rattle.markdown_spans.specs.declared.addresses.Domain.TheVariants.{On, Ends as EndsDomain, No}
-use Rattle.markdown_marks.specs.Html.{next_place, is_after}
-use Rattle.markdown_marks.specs.declared.tags.Place.{Place}
-use Rattle.markdown_marks.specs.declared.tags.Place.TheVariants.{Name, CloseName}
-use Rattle.markdown_spans.specs.Tags.{is_nowhere, closes, after_tag, tag_end}
+use Rattle.markdown_spans.specs.declared.bare.Bare.{Bare}
+use Rattle.markdown_spans.specs.Html.{html_end}
 use Rattle.markdown_spans.specs.declared.code.Code.{Code}
 use Rattle.markdown_spans.specs.declared.entities.Escape.{Escape}
 use Rattle.markdown_spans.specs.declared.entities.Escape.TheVariants.{Sign as SignEscape, Break, Itself}
 use Rattle.markdown_spans.specs.declared.entities.Entity.{Entity}
 use Rattle.markdown_pieces.specs.declared.pieces.Piece.{Piece}
-use Rattle.markdown_pieces.specs.Pieces.{is_plain, run_piece, code_by, code_piece, escape_by, escape_piece, entity_by, entity_piece, tag_by, angle_by, angle_piece, is_hard, blank_piece, no_mark_piece, piece_by}
+use Rattle.markdown_pieces.specs.Pieces.{is_plain, run_piece, code_by, code_piece, escape_by, escape_piece, entity_by, entity_piece, html_by, html_piece, angle_by, angle_piece, is_hard, blank_piece, bare_if, plain_from, plain_by, plain_piece, no_mark_piece, byte_before, piece_by}
 use Rattle.markdown_pieces.proofs.EndLemmas.{EndsWell, count_is}
+use Rattle.markdown_pieces.proofs.HtmlEnds.{html_ends}
+use Rattle.markdown_pieces.proofs.BareEnds.{bare_ends, bare_first}
 use Rattle.markdown_pieces.proofs.TailLemmas.{by_cond, EndsBy, ends_cons, ends_here, Gives, gives_none, gives_some, GivesLen, len_none, len_some}
 
 abbrev pub Ends : List ℕ → Piece → Type 0
@@ -256,25 +256,9 @@ or_ends bytes (Some len) q f g = f
 pub address_ends : (bytes : List ℕ) → GivesLen (λ n. get_or bytes n 0 ≡ 62) (address_len bytes)
 address_ends bytes = or_ends bytes (uri_len bytes) (email_len bytes) (uri_ends bytes) (email_ends bytes)
 
-after_tag_ends : (place : Place) (bytes : List ℕ) → Gives (EndsBy 62 bytes) (after_tag place bytes)
-unfolding after_tag
-after_tag_ends place [] = gives_none (EndsBy 62 [])
-after_tag_ends place (b ∷ bs) =
-    let P : Option (List ℕ) → Type 0 = Gives (EndsBy 62 (b ∷ bs)) in
-    let next : Place = next_place place (spaced b) in
-    by_cond P (closes b next) (Some bs) _ (λ h. let both = and_parts (eqb b 62) (is_after next) h in gives_some (EndsBy 62 (b ∷ bs)) bs (ends_here 62 b bs (eqb-true b 62 both.0)))
-    (λ h. by_cond P (is_nowhere next) None _ (λ k. gives_none (EndsBy 62 (b ∷ bs))) (λ k a e. ends_cons 62 b bs a (after_tag_ends next bs a e)))
-
-tag_end_ends : (bytes : List ℕ) → Gives (EndsBy 62 bytes) (tag_end bytes)
-tag_end_ends [] = gives_none (EndsBy 62 [])
-tag_end_ends (b ∷ bs) =
-    let P : Option (List ℕ) → Type 0 = Gives (EndsBy 62 (b ∷ bs)) in
-    by_cond P (is_ascii_alphabetic b) (after_tag Name bs) _ (λ h a e. ends_cons 62 b bs a (after_tag_ends Name bs a e))
-    (λ h. by_cond P (eqb b 47 && is_ascii_alphabetic (first bs)) (after_tag CloseName bs) None (λ k a e. ends_cons 62 b bs a (after_tag_ends CloseName bs a e)) (λ k. gives_none (EndsBy 62 (b ∷ bs))))
-
-tag_ends_by : (rest : List ℕ) (o : Option (List ℕ)) → get_or rest 0 0 < 128 → Gives (EndsBy 62 (drop 1 rest)) o → Ends rest (tag_by (drop 1 rest) (option_map (λ (after : List ℕ). length (drop 1 rest) - length after) o))
-tag_ends_by rest None h g = inl h
-tag_ends_by rest (Some a) h g =
+html_ends_by : (rest : List ℕ) (o : Option (List ℕ)) → get_or rest 0 0 < 128 → Gives (EndsBy 62 (drop 1 rest)) o → Ends rest (html_by (drop 1 rest) (option_map (λ (after : List ℕ). length (drop 1 rest) - length after) o))
+html_ends_by rest None h g = inl h
+html_ends_by rest (Some a) h g =
     let bytes : List ℕ = drop 1 rest in
     let ends : EndsBy 62 bytes a = g a refl in
     let left : length a ≡ length bytes - suc ends.n = sym (ap length ends.is) ∙ length-drop (suc ends.n) bytes in
@@ -282,7 +266,8 @@ tag_ends_by rest (Some a) h g =
     ends_at rest (length bytes - length a) 62 (ap (λ i. get_or rest i 0) last ∙ sym (get_or-drop 1 rest ends.n 0) ∙ ends.byte) (omega arith)
 
 angle_ends_by : (rest : List ℕ) (o : Option ℕ) → get_or rest 0 0 < 128 → GivesLen (λ n. get_or (drop 1 rest) n 0 ≡ 62) o → Ends rest (angle_by (drop 1 rest) o)
-angle_ends_by rest None h g = tag_ends_by rest (tag_end (drop 1 rest)) h (tag_end_ends (drop 1 rest))
+unfolding html_piece
+angle_ends_by rest None h g = html_ends_by rest (html_end (drop 1 rest)) h (html_ends (drop 1 rest))
 angle_ends_by rest (Some len) h g =
     let swap : len + 1 ≡ 1 + len = omega arith in
     ends_at rest (len + 1) 62 (ap (λ i. get_or rest i 0) swap ∙ sym (get_or-drop 1 rest len 0) ∙ g len refl) (omega arith)
@@ -310,23 +295,45 @@ blank_ends rest h =
 not_plain : (b : ℕ) → is_plain b ≡ false → b < 128
 not_plain b h = grind (arith, nat_tests)
 
-plain_ends_by : (rest : List ℕ) (n : ℕ) → n ≡ prefix_len is_plain (drop 1 rest) → get_or rest (n + 1) 0 < 128
-plain_ends_by rest n e =
-    let there : get_or rest (n + 1) 0 ≡ get_or (drop 1 rest) n 0 = (let swap : n + 1 ≡ 1 + n = omega arith in ap (λ i. get_or rest i 0) swap) ∙ sym (get_or-drop 1 rest n 0) in
-    let stop : get_or (drop 1 rest) n 0 < 128 = ⊎_elim
-    (λ (few : n < length (drop 1 rest)). not_plain (get_or (drop 1 rest) n 0) (ap (λ i. is_plain (get_or (drop 1 rest) i 0)) e ∙ prefix_len_stops is_plain (drop 1 rest) 0 (omega (arith, e))))
-    (λ (over : length (drop 1 rest) ≤ n). beyond (drop 1 rest) n over) (cases_lt n (length (drop 1 rest))) in
-    omega (arith, there, stop)
+-- bytes that stand for themselves end before one that doesn't, or before an address
+found_small : (free : Bool) (before : Option ℕ) (bytes : List ℕ) → is_some (bare_if free before bytes) ≡ true → get_or bytes 0 0 < 128
+found_small true before bytes h = bare_first before bytes h
+found_small false before bytes h = absurd (no h)
   where
-    beyond : (l : List ℕ) (n : ℕ) → length l ≤ n → get_or l n 0 < 128
-    beyond [] n h = omega arith
-    beyond (b ∷ bs) zero h = absurd (omega arith)
-    beyond (b ∷ bs) (suc n) h = beyond bs n (omega arith)
+    no : false ≡ true → ⊥
+    no e = cc
 
-no_mark_ends : (b : ℕ) (rest : List ℕ) → get_or rest 0 0 ≡ b → Ends rest (no_mark_piece b rest)
-no_mark_ends b rest e =
+stop_small : (free plain : Bool) (before : Option ℕ) (b : ℕ) (bs : List ℕ) (found : Bool) → is_plain b ≡ plain → is_some (bare_if free before (b ∷ bs)) ≡ found → (plain && not found) ≡ false → b < 128
+stop_small free false before b bs found p f h = not_plain b p
+stop_small free true before b bs true p f h = found_small free before (b ∷ bs) f
+stop_small free true before b bs false p f h = absurd (no h)
+  where
+    no : true ≡ false → ⊥
+    no e = cc
+
+plain_stop : (free : Bool) (before : Option ℕ) (bs : List ℕ) → get_or bs (plain_from free before bs) 0 < 128
+unfolding plain_from
+plain_stop free before [] = omega arith
+plain_stop free before (b ∷ bs) =
+    by_cond (λ (n : ℕ). get_or (b ∷ bs) n 0 < 128) (is_plain b && not (is_some (bare_if free before (b ∷ bs)))) (suc (plain_from free (Some b) bs)) 0
+    (λ h. plain_stop free (Some b) bs) (λ h. stop_small free (is_plain b) before b bs (is_some (bare_if free before (b ∷ bs))) refl refl h)
+
+plain_ends_by : (free : Bool) (before : Option ℕ) (b : ℕ) (rest : List ℕ) (o : Option Bare) → bare_if free before rest ≡ o → Ends rest (plain_by o free b rest)
+plain_ends_by free before b rest None e =
+    let n : ℕ = plain_from free (Some b) (drop 1 rest) in
+    let swap : 1 + n ≡ n + 1 = omega arith in
+    inr (subst (λ (i : ℕ). get_or rest i 0 < 128) swap (subst (λ (c : ℕ). c < 128) (get_or-drop 1 rest n 0) (plain_stop free (Some b) (drop 1 rest))))
+plain_ends_by true before b rest (Some bare) e = (bare_ends before rest bare e).ends
+plain_ends_by false before b rest (Some bare) e = absurd (no e)
+  where
+    no : None ≡ Some bare → ⊥
+    no e = cc
+
+no_mark_ends : (free : Bool) (before : Option ℕ) (b : ℕ) (rest : List ℕ) → get_or rest 0 0 ≡ b → Ends rest (no_mark_piece free before b rest)
+unfolding plain_piece
+no_mark_ends free before b rest e =
     by_cond (Ends rest) (eqb b 32 || eqb b 9 || eqb b 10) (blank_piece rest) _ (λ h. blank_ends rest (let small : b < 128 = grind (arith, nat_tests) in omega (arith, e, small)))
-    (λ h. inr (plain_ends_by rest (prefix_len is_plain (drop 1 rest)) refl))
+    (λ h. plain_ends_by free before b rest (bare_if free before rest) refl)
 
 -- ---- all of them
 
@@ -334,8 +341,8 @@ escape_ends : (rest : List ℕ) → get_or rest 0 0 < 128 → 0 < length rest �
 escape_ends [] h some = absurd (omega arith)
 escape_ends (b ∷ bs) h some = escape_ends_by b bs h
 
-pub piece_ends : (b : ℕ) (text : List ℕ) (at : ℕ) (rest : List ℕ) → get_or rest 0 0 ≡ b → 0 < length rest → Ends rest (piece_by b text at rest)
-piece_ends b text at rest e some =
+pub piece_ends : (free : Bool) (b : ℕ) (text : List ℕ) (at : ℕ) (rest : List ℕ) → get_or rest 0 0 ≡ b → 0 < length rest → Ends rest (piece_by free b text at rest)
+piece_ends free b text at rest e some =
     let small : (n : ℕ) → eqb b n ≡ true → n < 128 → get_or rest 0 0 < 128 = λ n h l. let same : b ≡ n = eqb-true b n h in omega (arith, e, same) in
     let P : Piece → Type 0 = Ends rest in
     by_cond P (eqb b 96) (code_piece rest) _ (λ h. code_ends rest (small 96 h (omega arith)))
@@ -344,5 +351,5 @@ piece_ends b text at rest e some =
     (λ h3. by_cond P (eqb b 126) (run_piece Tilde text at rest) _ (λ h. run_ends Tilde text at rest (small 126 h (omega arith)))
     (λ h4. by_cond P (eqb b 92) (escape_piece (drop 1 rest)) _ (λ h. escape_ends rest (small 92 h (omega arith)) some)
     (λ h5. by_cond P (eqb b 38) (entity_piece (drop 1 rest)) _ (λ h. entity_ends_by rest (entity_of (drop 1 rest)) (small 38 h (omega arith)) (entity_ends (drop 1 rest)))
-    (λ h6. by_cond P (eqb b 60) (angle_piece (drop 1 rest)) (no_mark_piece b rest) (λ h. angle_ends_by rest (address_len (drop 1 rest)) (small 60 h (omega arith)) (address_ends (drop 1 rest)))
-    (λ h7. no_mark_ends b rest e)))))))
+    (λ h6. by_cond P (eqb b 60) (angle_piece (drop 1 rest)) (no_mark_piece free (byte_before text at) b rest) (λ h. angle_ends_by rest (address_len (drop 1 rest)) (small 60 h (omega arith)) (address_ends (drop 1 rest)))
+    (λ h7. no_mark_ends free (byte_before text at) b rest e)))))))

@@ -1,5 +1,5 @@
 -- The pieces of a text, one after another: each is a text of its own.
-use Rattle.std.proofs.Common.{◌≡◌, ℕ, zero, suc, ◌+◌, ◌-◌, ◌<◌, ◌≤◌, ◌⊎◌, inl, inr, ⊎_elim, true, false, eqb, ltb, not, ◌||◌, ◌&&◌, min, List, [], ◌∷◌, length, take, drop, get_or, refl, sym, ap, subst, ◌∙◌, arith, Option, Some, None, option_map}
+use Rattle.std.proofs.Common.{◌≡◌, ℕ, zero, suc, ◌+◌, ◌-◌, ◌<◌, ◌≤◌, ◌⊎◌, inl, inr, ⊎_elim, Bool, true, false, eqb, ltb, not, ◌||◌, ◌&&◌, min, List, [], ◌∷◌, length, take, drop, get_or, refl, sym, ap, subst, ◌∙◌, arith, Option, Some, None, option_map}
 use Rattle.std.specs.List.{prefix_len}
 use Rattle.std.specs.Str.{IsUtf8, IsCharBoundary}
 use Rattle.std.proofs.lemmas.Bool.{eqb-true, and_parts}
@@ -13,7 +13,8 @@ use Rattle.markdown_spans.specs.Ticks.{run_at}
 use Rattle.markdown_spans.specs.Code.{code_with}
 use Rattle.markdown_spans.specs.Entities.{escape_of, entity_of}
 use Rattle.markdown_spans.specs.Addresses.{address_len}
-use Rattle.markdown_spans.specs.Tags.{tag_len}
+use Rattle.markdown_spans.specs.Html.{html_len}
+use Rattle.markdown_spans.specs.declared.bare.Bare.{Bare as BareAddress}
 use Rattle.markdown_spans.specs.declared.code.Code.{Code}
 use Rattle.markdown_spans.specs.declared.entities.Escape.{Escape}
 use Rattle.markdown_spans.specs.declared.entities.Escape.TheVariants.{Sign as SignEscape, Break, Itself}
@@ -24,11 +25,11 @@ use Rattle.markdown_brackets.specs.declared.brackets.Open.{Open}
 use Rattle.markdown_brackets.specs.declared.brackets.Link.{Link}
 use Rattle.markdown_brackets.specs.Labels.{label_index}
 use Rattle.markdown_brackets.specs.Targets.{after_inline, inline_len, label_len, full_label_len, shortcut_len, collapsed_len, defined_as, defined, by_len, reference, target_of}
-use Rattle.markdown_brackets.specs.Brackets.{Reading, nothing_read, first_open, without_first, Closed, unlinked, linked_by, target_at, closed_with, closed}
+use Rattle.markdown_brackets.specs.Brackets.{Reading, is_free, nothing_read, first_open, without_first, Closed, unlinked, linked_by, target_at, closed_with, closed}
 use Rattle.markdown_pieces.specs.declared.pieces.Kind.{Kind}
-use Rattle.markdown_pieces.specs.declared.pieces.Kind.TheVariants.{Plain, Shown, Code as CodeKind, Address, Tag, Soft, Hard, Run as RunKind, Opening, Closing}
+use Rattle.markdown_pieces.specs.declared.pieces.Kind.TheVariants.{Plain, Shown, Code as CodeKind, Address, Bare, Html as HtmlKind, Soft, Hard, Run as RunKind, Opening, Closing}
 use Rattle.markdown_pieces.specs.declared.pieces.Piece.{Piece}
-use Rattle.markdown_pieces.specs.Pieces.{run_piece, code_by, code_piece, escape_by, escape_piece, entity_by, entity_piece, tag_by, angle_by, angle_piece, is_hard, blank_piece, no_mark_piece, piece_by}
+use Rattle.markdown_pieces.specs.Pieces.{run_piece, code_by, code_piece, escape_by, escape_piece, entity_by, entity_piece, html_by, html_piece, angle_by, angle_piece, is_hard, blank_piece, bare_if, plain_by, plain_piece, no_mark_piece, byte_before, piece_by, piece_at}
 use Rattle.markdown_pieces.specs.Cut.{Step, other_step, link_len, closing_step, opening_step, read_by, step, cut_from, cut_text}
 use Rattle.markdown_pieces.specs.Places.{IsInside, AreCut}
 use Rattle.markdown_pieces.proofs.EndLemmas.{EndsWell, well, count_is, count_le}
@@ -146,6 +147,7 @@ closing_ends text at (suc n) h g =
     inl (omega (arith, same, byte))) g
 
 step_ends : (labels : List (List ℕ)) (text : List ℕ) (at index : ℕ) (r : Reading) → at < length text → Ends (drop at text) (read_by labels text at index r (drop at text)).piece
+unfolding piece_at
 step_ends labels text at index r within =
     let b : ℕ = get_or text at 0 in
     let rest : List ℕ = drop at text in
@@ -160,7 +162,7 @@ step_ends labels text at index r within =
     ends_at rest 1 91 (get_or-drop at text 1 0 ∙ ap (λ i. get_or text i 0) (sym next) ∙ sym (get_or-drop (at + 1) text 0 0) ∙ eqb-true (first (drop (at + 1) text)) 91 both.1) (omega arith))
     (λ h2. by_cond P (eqb b 93) (closing_step (closed labels text (at + 1) r)) (other_step text at index r rest)
     (λ h. closing_ends text at (link_len (closed labels text (at + 1) r).link) (eqb-true b 93 h) (closed_good labels text (at + 1) r))
-    (λ h3. piece_ends b text at rest here some)))
+    (λ h3. piece_ends (is_free r.brackets) b text at rest here some)))
 
 -- ---- what is inside of code
 
@@ -200,12 +202,13 @@ entity_inside : (rest : List ℕ) (o : Option Entity) → InsideRest rest (entit
 entity_inside rest None = tt
 entity_inside rest (Some entity) = tt
 
-tag_inside : (rest after : List ℕ) (o : Option ℕ) → InsideRest rest (tag_by after o)
-tag_inside rest after None = tt
-tag_inside rest after (Some len) = tt
+html_inside : (rest after : List ℕ) (o : Option ℕ) → InsideRest rest (html_by after o)
+html_inside rest after None = tt
+html_inside rest after (Some len) = tt
 
 angle_inside_by : (rest : List ℕ) (o : Option ℕ) → IsUtf8 rest → get_or rest 0 0 ≡ 60 → GivesLen (λ len. get_or (drop 1 rest) len 0 ≡ 62) o → InsideRest rest (angle_by (drop 1 rest) o)
-angle_inside_by rest None u h g = tag_inside rest (drop 1 rest) (tag_len (drop 1 rest))
+unfolding html_piece
+angle_inside_by rest None u h g = html_inside rest (drop 1 rest) (html_len (drop 1 rest))
 angle_inside_by rest (Some len) u h g =
     let byte : get_or rest (0 + 1 + len) 0 ≡ 62 = sym (get_or-drop 1 rest len 0) ∙ g len refl in (
       IsCharBoundary-after_ascii rest 0 u (read_within rest 0 60 h (omega arith)) (omega (arith, h)),
@@ -217,11 +220,17 @@ blank_inside rest =
     let n : ℕ = prefix_len is_blank_byte rest in
     by_cond (InsideRest rest) (eqb (first (drop n rest)) 10) _ _ (λ e. by_cond (InsideRest rest) (is_hard rest n) _ _ (λ k. tt) (λ k. tt)) (λ e. tt)
 
-no_mark_inside : (b : ℕ) (rest : List ℕ) → InsideRest rest (no_mark_piece b rest)
-no_mark_inside b rest = by_cond (InsideRest rest) (eqb b 32 || eqb b 9 || eqb b 10) (blank_piece rest) _ (λ h. blank_inside rest) (λ h. tt)
+plain_inside : (o : Option BareAddress) (free : Bool) (b : ℕ) (rest : List ℕ) → InsideRest rest (plain_by o free b rest)
+plain_inside None free b rest = tt
+plain_inside (Some bare) free b rest = tt
 
-piece_inside : (b : ℕ) (text : List ℕ) (at : ℕ) (rest : List ℕ) → get_or rest 0 0 ≡ b → IsUtf8 rest → InsideRest rest (piece_by b text at rest)
-piece_inside b text at rest e u =
+no_mark_inside : (free : Bool) (before : Option ℕ) (b : ℕ) (rest : List ℕ) → InsideRest rest (no_mark_piece free before b rest)
+unfolding plain_piece
+no_mark_inside free before b rest =
+    by_cond (InsideRest rest) (eqb b 32 || eqb b 9 || eqb b 10) (blank_piece rest) _ (λ h. blank_inside rest) (λ h. plain_inside (bare_if free before rest) free b rest)
+
+piece_inside : (free : Bool) (b : ℕ) (text : List ℕ) (at : ℕ) (rest : List ℕ) → get_or rest 0 0 ≡ b → IsUtf8 rest → InsideRest rest (piece_by free b text at rest)
+piece_inside free b text at rest e u =
     let P : Piece → Type 0 = InsideRest rest in
     by_cond P (eqb b 96) (code_piece rest) _ (λ h. code_inside rest u)
     (λ h1. by_cond P (eqb b 42) (run_piece Star text at rest) _ (λ h. tt)
@@ -229,17 +238,18 @@ piece_inside b text at rest e u =
     (λ h3. by_cond P (eqb b 126) (run_piece Tilde text at rest) _ (λ h. tt)
     (λ h4. by_cond P (eqb b 92) (escape_piece (drop 1 rest)) _ (λ h. escape_inside rest (escape_of (drop 1 rest)))
     (λ h5. by_cond P (eqb b 38) (entity_piece (drop 1 rest)) _ (λ h. entity_inside rest (entity_of (drop 1 rest)))
-    (λ h6. by_cond P (eqb b 60) (angle_piece (drop 1 rest)) (no_mark_piece b rest) (λ h. angle_inside_by rest (address_len (drop 1 rest)) u (e ∙ eqb-true b 60 h) (address_ends (drop 1 rest)))
-    (λ h7. no_mark_inside b rest)))))))
+    (λ h6. by_cond P (eqb b 60) (angle_piece (drop 1 rest)) (no_mark_piece free (byte_before text at) b rest) (λ h. angle_inside_by rest (address_len (drop 1 rest)) u (e ∙ eqb-true b 60 h) (address_ends (drop 1 rest)))
+    (λ h7. no_mark_inside free (byte_before text at) b rest)))))))
 
 step_inside : (labels : List (List ℕ)) (text : List ℕ) (at index : ℕ) (r : Reading) → IsUtf8 (drop at text) → InsideRest (drop at text) (read_by labels text at index r (drop at text)).piece
+unfolding piece_at
 step_inside labels text at index r u =
     let b : ℕ = get_or text at 0 in
     let rest : List ℕ = drop at text in
     let P : Step → Type 0 = λ s. InsideRest rest s.piece in
     by_cond P (eqb b 91) (opening_step false (at + 1) index 0 r) _ (λ h. tt)
     (λ h1. by_cond P (eqb b 33 && eqb (first (drop (at + 1) text)) 91) (opening_step true (at + 2) index 1 r) _ (λ h. tt)
-    (λ h2. by_cond P (eqb b 93) (closing_step (closed labels text (at + 1) r)) (other_step text at index r rest) (λ h. tt) (λ h3. piece_inside b text at rest (let zero_more : at + 0 ≡ at = omega arith in get_or-drop at text 0 0 ∙ ap (λ i. get_or text i 0) zero_more) u)))
+    (λ h2. by_cond P (eqb b 93) (closing_step (closed labels text (at + 1) r)) (other_step text at index r rest) (λ h. tt) (λ h3. piece_inside (is_free r.brackets) b text at rest (let zero_more : at + 0 ≡ at = omega arith in get_or-drop at text 0 0 ∙ ap (λ i. get_or text i 0) zero_more) u)))
 
 -- ---- all pieces
 
@@ -255,11 +265,12 @@ inside_text text at k within h = inside_by text at k within h
         )
     inside_by text at Plain within h = tt
     inside_by text at (Shown c second) within h = tt
-    inside_by text at (Address len) within h =
+    inside_by text at (Address len scheme) within h =
         let one : at + (0 + 1) ≡ at + 1 = omega arith in
         let two : at + (0 + 1 + len) ≡ at + 1 + len = omega arith in
         (subst (λ n. IsCharBoundary text n) one (IsCharBoundary-from_rest text at (0 + 1) within h.0), subst (λ n. IsCharBoundary text n) two (IsCharBoundary-from_rest text at (0 + 1 + len) within h.1))
-    inside_by text at (Tag breaks) within h = tt
+    inside_by text at (Bare scheme) within h = tt
+    inside_by text at (HtmlKind html) within h = tt
     inside_by text at Soft within h = tt
     inside_by text at Hard within h = tt
     inside_by text at (RunKind run) within h = tt

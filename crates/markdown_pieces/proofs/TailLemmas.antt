@@ -1,5 +1,5 @@
 -- What scanners leave is an end of their text; and by which byte they end.
-use Rattle.std.proofs.Common.{◌≡◌, ℕ, suc, ◌+◌, ◌-◌, ◌<◌, ◌≤◌, Bool, true, false, cond, eqb, leb, not, ◌||◌, ◌&&◌, List, [], ◌∷◌, length, drop, get_or, refl, sym, ap, subst, ◌∙◌, arith, Option, Some, None}
+use Rattle.std.proofs.Common.{◌≡◌, ℕ, zero, suc, ◌+◌, ◌-◌, ◌<◌, ◌≤◌, Bool, true, false, cond, eqb, leb, not, ◌||◌, ◌&&◌, List, [], ◌∷◌, length, drop, get_or, refl, sym, ap, subst, ◌∙◌, arith, Option, Some, None}
 use Rattle.std.specs.List.{prefix_len}
 use Rattle.std.proofs.lemmas.Bool.{eqb-true}
 use Rattle.std.proofs.lemmas.List.{length-drop, get_or-drop, drop-drop}
@@ -51,7 +51,13 @@ ends_cons b c text rest t = record { n = suc t.n; few = omega (arith, t.few); by
 pub ends_here : (b c : ℕ) (text : List ℕ) → c ≡ b → EndsBy b (c ∷ text) text
 ends_here b c text e = record { n = 0; few = omega arith; byte = e; is = refl }
 
-ends_then : (b : ℕ) (x y z : List ℕ) → IsTail x y → EndsBy b y z → EndsBy b x z
+-- after so many bytes, or none
+pub tail_from : (k : ℕ) (text : List ℕ) → IsTail text (drop k text)
+tail_from zero text = tail_self text
+tail_from (suc k) [] = tail_self []
+tail_from (suc k) (b ∷ bs) = tail_cons b bs (drop k bs) (tail_from k bs)
+
+pub ends_then : (b : ℕ) (x y z : List ℕ) → IsTail x y → EndsBy b y z → EndsBy b x z
 ends_then b x y z t u = record {
   n = t.n + u.n;
   few = let same : length y ≡ length x - t.n = sym (ap length t.is) ∙ length-drop t.n x in omega (arith, same, t.few, u.few);
@@ -59,7 +65,7 @@ ends_then b x y z t u = record {
   is = let same : suc (t.n + u.n) ≡ t.n + suc u.n = omega arith in ap (λ k. drop k x) same ∙ sym (drop-drop (suc u.n) t.n x) ∙ ap (drop (suc u.n)) t.is ∙ u.is;
 }
 
-ends_tail : (b : ℕ) (x y : List ℕ) → EndsBy b x y → IsTail x y
+pub ends_tail : (b : ℕ) (x y : List ℕ) → EndsBy b x y → IsTail x y
 ends_tail b x y t = record { n = suc t.n; few = omega (arith, t.few); is = t.is }
 
 -- ---- what an answer says
@@ -194,11 +200,11 @@ paren_ends (b ∷ bs) =
 target_ends : (text : List ℕ) → Gives (EndsBy 41 text) (target_end text)
 target_ends text a e = ends_then 41 text (after_space text) a (space_tail text) (paren_ends (after_space text) a e)
 
-else_gives : (P : List ℕ → Type 0) (o q : Option (List ℕ)) → Gives P o → Gives P q → Gives P (or_else o q)
+pub else_gives : (P : List ℕ → Type 0) (o q : Option (List ℕ)) → Gives P o → Gives P q → Gives P (or_else o q)
 else_gives P None q f g = g
 else_gives P (Some rest) q f g = f
 
-after_gives : (b : ℕ) (text : List ℕ) (o : Option (List ℕ)) (next : List ℕ → Option (List ℕ)) → Gives (IsTail text) o → ((rest : List ℕ) → Gives (EndsBy b rest) (next rest)) → Gives (EndsBy b text) (after o next)
+pub after_gives : (b : ℕ) (text : List ℕ) (o : Option (List ℕ)) (next : List ℕ → Option (List ℕ)) → Gives (IsTail text) o → ((rest : List ℕ) → Gives (EndsBy b rest) (next rest)) → Gives (EndsBy b text) (after o next)
 after_gives b text None next f g = gives_none (EndsBy b text)
 after_gives b text (Some rest) next f g = λ a e. ends_then b text rest a (f rest refl) (g rest a e)
 

@@ -3,7 +3,7 @@ use Rattle.std.specs.Prelude.{ℕ, zero, suc, ◌+◌, ◌-◌, ◌==◌, ◌&&�
 use Rattle.markdown_emphasis.specs.declared.runs.Pair.{Pair}
 use Rattle.markdown_marks.specs.Bytes.{first}
 use Rattle.markdown_brackets.specs.declared.brackets.Link.{Link}
-use Rattle.markdown_brackets.specs.Brackets.{Reading, nothing_read, with_bracket, with_run, Closed, closed, finished}
+use Rattle.markdown_brackets.specs.Brackets.{Reading, is_free, nothing_read, with_bracket, with_run, Closed, closed, finished}
 use Rattle.markdown_pieces.specs.declared.cut.Inlines.{Inlines}
 use Rattle.markdown_pieces.specs.declared.pieces.Kind.{Kind}
 use Rattle.markdown_pieces.specs.declared.pieces.Kind.TheVariants.{Run as RunKind, Opening, Closing}
@@ -23,7 +23,7 @@ abbrev pub step_of : Piece → ℕ → Reading → Step
 step_of p index r = record { piece = p; reading = read_run p.kind index r }
 
 abbrev pub other_step : List ℕ → ℕ → ℕ → Reading → List ℕ → Step
-other_step text at index r rest = step_of (piece_at text at rest) index r
+other_step text at index r rest = step_of (piece_at (is_free r.brackets) text at rest) index r
 
 abbrev pub link_len : Option Link → ℕ
 link_len None = 0

@@ -1,5 +1,5 @@
 -- What a rest of a text begins with, where it is no bracket.
-use Rattle.std.specs.Prelude.{ℕ, ◌+◌, ◌-◌, ◌==◌, ◌||◌, ◌&&◌, not, nat_le, Bool, if◌then◌else◌, List, [], ◌∷◌, drop, take, slice_index, chars, Option, Some, None}
+use Rattle.std.specs.Prelude.{ℕ, suc, is_some, ◌+◌, ◌-◌, ◌==◌, ◌||◌, ◌&&◌, not, nat_le, Bool, if◌then◌else◌, List, [], ◌∷◌, drop, take, slice_index, chars, Option, Some, None}
 use Rattle.std.specs.List.{prefix_len}
 use Rattle.markdown_emphasis.specs.declared.runs.Sign.{Sign}
 use Rattle.markdown_emphasis.specs.declared.runs.Sign.TheVariants.{Star, Underscore, Tilde}
@@ -12,10 +12,13 @@ use Rattle.markdown_spans.specs.declared.entities.Escape.TheVariants.{Sign as Si
 use Rattle.markdown_spans.specs.declared.entities.Entity.{Entity}
 use Rattle.markdown_spans.specs.Code.{code_of}
 use Rattle.markdown_spans.specs.Entities.{escape_of, entity_of}
-use Rattle.markdown_spans.specs.Addresses.{address_len}
-use Rattle.markdown_spans.specs.Tags.{tag_len, is_break}
+use Rattle.markdown_spans.specs.declared.bare.Bare.{Bare}
+use Rattle.markdown_spans.specs.Addresses.{address_len, scheme_of}
+use Rattle.markdown_spans.specs.Html.{html_len}
+use Rattle.markdown_spans.specs.Attributes.{html_shown}
+use Rattle.markdown_spans.specs.Bare.{bare_after}
 use Rattle.markdown_pieces.specs.declared.pieces.Kind.{Kind}
-use Rattle.markdown_pieces.specs.declared.pieces.Kind.TheVariants.{Plain, Shown, Code as CodeKind, Address, Tag, Soft, Hard, Run as RunKind}
+use Rattle.markdown_pieces.specs.declared.pieces.Kind.TheVariants.{Plain, Shown, Code as CodeKind, Address, Bare as BareKind, Html as HtmlKind, Soft, Hard, Run as RunKind}
 use Rattle.markdown_pieces.specs.declared.pieces.Piece.{Piece}
 
 abbrev pub piece : Kind → ℕ → Piece
@@ -73,19 +76,19 @@ entity_by (Some entity) = piece (Shown entity.shown entity.second) entity.len
 abbrev pub entity_piece : List ℕ → Piece
 entity_piece after = entity_by (entity_of after)
 
-abbrev pub tag_by : List ℕ → Option ℕ → Piece
-tag_by after None = piece Plain 0
-tag_by after (Some len) = piece (Tag (is_break after)) len
+abbrev pub html_by : List ℕ → Option ℕ → Piece
+html_by after None = piece Plain 0
+html_by after (Some len) = piece (HtmlKind (html_shown (take len after))) len
 
--- a tag, or an angle bracket
-abbrev pub tag_piece : List ℕ → Piece
-tag_piece after = tag_by after (tag_len after)
+-- raw html, or an angle bracket
+unfoldable pub html_piece : List ℕ → Piece
+html_piece after = html_by after (html_len after)
 
 abbrev pub angle_by : List ℕ → Option ℕ → Piece
-angle_by after None = tag_piece after
-angle_by after (Some len) = piece (Address len) (len + 1)
+angle_by after None = html_piece after
+angle_by after (Some len) = piece (Address len (scheme_of after)) (len + 1)
 
--- an address, a tag, or an angle bracket
+-- an address, raw html, or an angle bracket
 abbrev pub angle_piece : List ℕ → Piece
 angle_piece after = angle_by after (address_len after)
 
@@ -99,12 +102,32 @@ blank_piece rest =
     let blanks = prefix_len is_blank_byte rest in
     if first (drop blanks rest) == 10 then (if is_hard rest blanks then piece Hard blanks else piece Soft blanks) else piece Plain (blanks - 1)
 
-abbrev pub no_mark_piece : ℕ → List ℕ → Piece
-no_mark_piece b rest = if (b == 32) || (b == 9) || (b == 10) then blank_piece rest else piece Plain (prefix_len is_plain (drop 1 rest))
+-- the bare address that a rest begins with: none where a bracket is open
+abbrev pub bare_if : (free : Bool) → Option ℕ → List ℕ → Option Bare
+bare_if free before rest = if free then bare_after before rest else None
+
+-- how many bytes stand for themselves, up to a bare address
+unfoldable pub plain_from : (free : Bool) → Option ℕ → List ℕ → ℕ
+plain_from free before [] = 0
+plain_from free before (b ∷ bs) = if is_plain b && not (is_some (bare_if free before (b ∷ bs))) then suc (plain_from free (Some b) bs) else 0
+
+abbrev pub plain_by : Option Bare → Bool → ℕ → List ℕ → Piece
+plain_by None free b rest = piece Plain (plain_from free (Some b) (drop 1 rest))
+plain_by (Some bare) free b rest = piece (BareKind bare.scheme) (bare.len - 1)
+
+-- a bare address, or bytes that stand for themselves, of which this is the first
+unfoldable pub plain_piece : Bool → Option ℕ → ℕ → List ℕ → Piece
+plain_piece free before b rest = plain_by (bare_if free before rest) free b rest
+
+abbrev pub no_mark_piece : Bool → Option ℕ → ℕ → List ℕ → Piece
+no_mark_piece free before b rest = if (b == 32) || (b == 9) || (b == 10) then blank_piece rest else plain_piece free before b rest
+
+abbrev pub byte_before : List ℕ → ℕ → Option ℕ
+byte_before text at = if at == 0 then None else Some (slice_index text (at - 1))
 
 -- what the text from a place on begins with, where it is no bracket
-abbrev pub piece_by : ℕ → List ℕ → ℕ → List ℕ → Piece
-piece_by b text at rest =
+abbrev pub piece_by : Bool → ℕ → List ℕ → ℕ → List ℕ → Piece
+piece_by free b text at rest =
     if b == 96 then code_piece rest
     else if b == 42 then run_piece Star text at rest
     else if b == 95 then run_piece Underscore text at rest
@@ -112,7 +135,7 @@ piece_by b text at rest =
     else if b == 92 then escape_piece (drop 1 rest)
     else if b == 38 then entity_piece (drop 1 rest)
     else if b == 60 then angle_piece (drop 1 rest)
-    else no_mark_piece b rest
+    else no_mark_piece free (byte_before text at) b rest
 
-abbrev pub piece_at : List ℕ → ℕ → List ℕ → Piece
-piece_at text at rest = piece_by (slice_index text at) text at rest
+unfoldable pub piece_at : Bool → List ℕ → ℕ → List ℕ → Piece
+piece_at free text at rest = piece_by free (slice_index text at) text at rest

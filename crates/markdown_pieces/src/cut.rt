@@ -1,20 +1,20 @@
 //! A text as its pieces.
 
-ghost use Rattle.std.specs.Prelude.{◌≡◌, ◌+◌, ◌<◌, ◌≤◌, IfOk, OnOk, length, drop, map, min};
+ghost use Rattle.std.specs.Prelude.{◌≡◌, ◌+◌, ◌<◌, ◌≤◌, IfOk, OnOk, length, drop, map, min, string_bytes};
 ghost use Rattle.std.specs.List.{All};
 ghost use Rattle.markdown_emphasis.specs.Pairs.{IsWithin};
-ghost use Rattle.markdown_spans.specs.Ticks.{AreLasts};
+ghost use Rattle.markdown_pieces.specs.Known.{IsKnown};
 ghost use Rattle.markdown_brackets.specs.Brackets.{closed};
 ghost use Rattle.markdown_brackets.specs.Readings.{reading_of, IsTidy};
 ghost use Rattle.markdown_pieces.specs.Pieces.{piece};
 ghost use Rattle.markdown_pieces.specs.Cut.{capped, link_len, other_step, closing_step, opening_step, read_by, step, cut_text, cut_of};
 ghost use Rattle.markdown_pieces.specs.Places.{AreCut};
 
-use crate::pieces::{Kind, Piece, piece_at, piece_of};
+use crate::pieces::{Kind, Known, Piece, known_of, piece_at, piece_of};
+use indexmap::IndexSet;
 use markdown_brackets::brackets::{Brackets, Link};
 use markdown_emphasis::Pair;
 use markdown_marks::bytes::{first, tail};
-use markdown_spans::ticks::last_runs;
 use std::alloc::{AllocError, Global};
 
 /// A text as its pieces, and the pairs of those that are runs.
@@ -36,19 +36,19 @@ fn capped(piece: Piece, more: usize) -> Piece
 }
 
 fn read_other(
-    lasts: &[usize],
+    known: &Known,
     text: &str,
     at: usize,
     index: usize,
     brackets: &mut Brackets,
 ) -> Result<Piece, AllocError>
-    requires lasts { AreLasts lasts.now text.now }
+    requires known { IsKnown known.now text.now }
     requires within { at < length text.now }
     requires tidy { IsTidy brackets.old }
     ensures step { IfOk result (λ piece. (record { piece = piece; reading = reading_of brackets.new }) ≡ other_step text.now at index (reading_of brackets.old) (drop at text.now)) }
     ensures tidy { OnOk result (IsTidy brackets.new) }
 {
-    let piece = piece_at(lasts, text, at);
+    let piece = piece_at(known, brackets.is_free(), text, at);
     match piece.kind {
         Kind::Run(run) => {
             brackets.add_run(index, run)?;
@@ -69,14 +69,14 @@ fn link_len(link: Option<Link>) -> usize
 
 fn read_closing(
     alloc: Global,
-    labels: &[&str],
+    labels: &IndexSet<String>,
     text: &str,
     at: usize,
     brackets: &mut Brackets,
 ) -> Result<Piece, AllocError>
     requires within { at < length text.now }
     requires tidy { IsTidy brackets.old }
-    ensures step { IfOk result (λ piece. (record { piece = piece; reading = reading_of brackets.new }) ≡ closing_step (closed (map (λ l. l.now) labels.now) text.now (at + 1) (reading_of brackets.old))) }
+    ensures step { IfOk result (λ piece. (record { piece = piece; reading = reading_of brackets.new }) ≡ closing_step (closed (map string_bytes labels.now.keys) text.now (at + 1) (reading_of brackets.old))) }
     ensures tidy { OnOk result (IsTidy brackets.new) }
 {
     let link = brackets.close(alloc, labels, text.as_bytes(), at + 1)?;
@@ -101,17 +101,17 @@ fn read_opening(
 // The piece that begins at a place.
 fn read_piece(
     alloc: Global,
-    labels: &[&str],
-    lasts: &[usize],
+    labels: &IndexSet<String>,
+    known: &Known,
     text: &str,
     at: usize,
     index: usize,
     brackets: &mut Brackets,
 ) -> Result<Piece, AllocError>
-    requires lasts { AreLasts lasts.now text.now }
+    requires known { IsKnown known.now text.now }
     requires within { at < length text.now }
     requires tidy { IsTidy brackets.old }
-    ensures step { IfOk result (λ piece. (record { piece = piece; reading = reading_of brackets.new }) ≡ read_by (map (λ l. l.now) labels.now) text.now at index (reading_of brackets.old) (drop at text.now)) }
+    ensures step { IfOk result (λ piece. (record { piece = piece; reading = reading_of brackets.new }) ≡ read_by (map string_bytes labels.now.keys) text.now at index (reading_of brackets.old) (drop at text.now)) }
     ensures tidy { OnOk result (IsTidy brackets.new) }
 {
     if text.as_bytes()[at] == b'[' {
@@ -126,7 +126,7 @@ fn read_piece(
         let piece = read_closing(alloc, labels, text, at, brackets)?;
         return Ok(piece);
     }
-    let piece = read_other(lasts, text, at, index, brackets)?;
+    let piece = read_other(known, text, at, index, brackets)?;
     Ok(piece)
 }
 
@@ -134,21 +134,21 @@ fn read_piece(
 #[tactic(auto, unfolding(crate::specs::Cut::step))]
 fn step(
     alloc: Global,
-    labels: &[&str],
-    lasts: &[usize],
+    labels: &IndexSet<String>,
+    known: &Known,
     text: &str,
     at: usize,
     index: usize,
     brackets: &mut Brackets,
 ) -> Result<Piece, AllocError>
-    requires lasts { AreLasts lasts.now text.now }
+    requires known { IsKnown known.now text.now }
     requires within { at < length text.now }
     requires tidy { IsTidy brackets.old }
-    ensures step { IfOk result (λ piece. (record { piece = piece; reading = reading_of brackets.new }) ≡ step (map (λ l. l.now) labels.now) text.now at index (reading_of brackets.old) (drop at text.now)) }
+    ensures step { IfOk result (λ piece. (record { piece = piece; reading = reading_of brackets.new }) ≡ step (map string_bytes labels.now.keys) text.now at index (reading_of brackets.old) (drop at text.now)) }
     ensures within { IfOk result (λ piece. at + piece.more < length text.now) }
     ensures tidy { OnOk result (IsTidy brackets.new) }
 {
-    let piece = read_piece(alloc, labels, lasts, text, at, index, brackets)?;
+    let piece = read_piece(alloc, labels, known, text, at, index, brackets)?;
     Ok(capped(piece, text.len() - at - 1))
 }
 
@@ -157,17 +157,17 @@ fn step(
 /// # Errors
 ///
 /// Out of memory is the only error.
-pub fn cut_text(alloc: Global, labels: &[&str], text: &str) -> Result<Inlines, AllocError>
-    ensures cut { IfOk result (λ inlines. cut_of inlines ≡ cut_text (map (λ l. l.now) labels.now) text.now) }
+pub fn cut_text(alloc: Global, labels: &IndexSet<String>, text: &str) -> Result<Inlines, AllocError>
+    ensures cut { IfOk result (λ inlines. cut_of inlines ≡ cut_text (map string_bytes labels.now.keys) text.now) }
     ensures placed { IfOk result (λ inlines. AreCut text.now 0 inlines.pieces.items) }
     ensures pairs { IfOk result (λ inlines. All (IsWithin (length inlines.pieces.items)) inlines.pairs.items) }
 {
-    let lasts = last_runs(alloc, text.as_bytes())?;
+    let known = known_of(alloc, text.as_bytes())?;
     let mut brackets = Brackets::new(alloc);
     let mut pieces = Vec::new(alloc);
     let mut at = 0;
     while at < text.len() {
-        let piece = step(alloc, labels, &lasts, text, at, pieces.len(), &mut brackets)?;
+        let piece = step(alloc, labels, &known, text, at, pieces.len(), &mut brackets)?;
         pieces.push(piece)?;
         at += piece.more + 1;
     }

@@ -1,32 +1,40 @@
 //! What a rest of a text begins with.
 
-ghost use Rattle.std.specs.Prelude.{◌≡◌, ◌≤◌, ◌<◌, ◌++◌, length, drop, slice_index, chars, encode_utf8, MatchOption};
+ghost use Rattle.std.specs.Prelude.{◌≡◌, ◌≤◌, ◌<◌, ◌++◌, length, drop, slice_index, chars, encode_utf8, MatchOption, IfOk, Some};
 ghost use Rattle.std.specs.Str.{IsCharBoundary, IsUtf8};
-ghost use Rattle.std.specs.List.{prefix_len};
 ghost use Rattle.markdown_spans.specs.Ticks.{AreLasts};
-ghost use Rattle.markdown_pieces.specs.Pieces.{is_plain, last_char, first_char, before_at, after_at, piece, run_piece, code_piece, escape_piece, entity_piece, tag_piece, angle_piece, blank_piece, is_hard, no_mark_piece, piece_at};
+ghost use Rattle.markdown_spans.specs.Html.{AreEnds};
+ghost use Rattle.markdown_pieces.specs.Known.{IsKnown};
+ghost use Rattle.markdown_pieces.specs.Pieces.{is_plain, last_char, first_char, before_at, after_at, piece, run_piece, code_piece, escape_piece, entity_piece, html_piece, angle_piece, blank_piece, is_hard, bare_if, plain_from, plain_piece, no_mark_piece, byte_before, piece_at};
 
 use markdown_brackets::brackets::Link;
 use markdown_emphasis::{Run, Sign};
-use markdown_marks::bytes::{blanks_in_front, count_in_front, first, is_blank_byte, tail};
+use markdown_marks::bytes::{blanks_in_front, count_in_front, first, tail};
 use markdown_runs::{Neighbor, beside, run_of};
-use markdown_spans::addresses::address_len;
+use markdown_spans::addresses::{Scheme, address_len, scheme_of};
+use markdown_spans::attributes::{Html, html_shown};
+use markdown_spans::bare::{Bare, bare_after};
 use markdown_spans::code::{Code, code_at};
 use markdown_spans::entities::{Escape, entity_of, escape_of};
-use markdown_spans::tags::{is_break, tag_len};
+use markdown_spans::html::{Ends, ends_of, html_len};
+use markdown_spans::ticks::last_runs;
+use markdown_spans::words::bytes_up_to;
+use std::alloc::{AllocError, Global};
 
 /// What a piece of a text is.
 #[derive(Clone, Copy)]
 pub enum Kind {
     /// Its bytes as they are.
     Plain,
-    /// An escape or an entity: this character, and maybe a second one.
+    /// An escape or an entity: this character, and a second one that some names have.
     Shown(char, Option<char>),
     Code(Code),
-    /// An address in angle brackets, of so many bytes.
-    Address(usize),
-    /// A tag of html, which breaks the line or doesn't.
-    Tag(bool),
+    /// An address in angle brackets, of so many bytes, and what its destination begins with.
+    Address(usize, Scheme),
+    /// An address without brackets, and what its destination begins with.
+    Bare(Scheme),
+    /// Raw html, and what it shows.
+    Html(Html),
     /// The end of a line.
     Soft,
     /// The end of a line that breaks it.
@@ -46,6 +54,30 @@ pub struct Piece {
     pub more: usize,
 }
 
+/// What is known of a text before it is cut, which saves searches that find nothing.
+#[derive(Drop)]
+pub struct Known {
+    /// Where the last run of backquotes of each length is.
+    pub ticks: Vec<usize>,
+    /// Where the ends of raw html are last.
+    pub ends: Ends,
+}
+
+/// What is known of a text before it is cut.
+///
+/// # Errors
+///
+/// Out of memory is the only error.
+pub fn known_of(alloc: Global, text: &[u8]) -> Result<Known, AllocError>
+    ensures { IfOk result (λ known. IsKnown known text.now) }
+{
+    let ticks = last_runs(alloc, text)?;
+    Ok(Known {
+        ticks,
+        ends: ends_of(text),
+    })
+}
+
 /// A piece of so many bytes more.
 pub fn piece_of(kind: Kind, more: usize) -> Piece
     ensures { result ≡ piece kind more }
@@ -63,16 +95,31 @@ fn is_plain(b: u8) -> bool
     )
 }
 
-// How many such bytes are in front.
-fn plain_len(bytes: &[u8]) -> usize
-    ensures value { result ≡ prefix_len is_plain bytes.now }
+// The bare address that a rest begins with, where no bracket is open.
+fn bare_if(free: bool, before: Option<u8>, rest: &[u8]) -> Option<Bare>
+    ensures { result ≡ bare_if free before rest.now }
+{
+    if free { bare_after(before, rest) } else { None }
+}
+
+// How many such bytes are in front, up to a bare address.
+#[tactic(auto, unfolding(crate::specs::Pieces::plain_from))]
+fn plain_len(free: bool, before: u8, bytes: &[u8]) -> usize
+    ensures value { result ≡ plain_from free (Some before) bytes.now }
     ensures within { result ≤ length bytes.now }
 {
-    let mut i = 0;
-    while i < bytes.len() && is_plain(bytes[i]) {
-        i += 1;
+    let mut rest = bytes;
+    let mut last = before;
+    let mut len = 0;
+    while let [b, next @ ..] = rest {
+        if !is_plain(*b) || bare_if(free, Some(last), rest).is_some() {
+            return len;
+        }
+        last = *b;
+        len += 1;
+        rest = next;
     }
-    i
+    len
 }
 
 // The characters before the last one, and that.
@@ -166,23 +213,31 @@ fn entity_piece(after: &[u8]) -> Piece
     }
 }
 
-// A tag, or an angle bracket. (The other raw html is missing.)
-fn tag_piece(after: &[u8]) -> Piece
-    ensures { result ≡ tag_piece after.now }
+// Raw html, or an angle bracket.
+#[tactic(auto, unfolding(crate::specs::Pieces::html_piece))]
+fn html_piece(ends: &Ends, text: &[u8], at: usize) -> Piece
+    requires ends { AreEnds ends.now text.now }
+    requires within { at ≤ length text.now }
+    ensures { result ≡ html_piece (drop at text.now) }
 {
-    match tag_len(after) {
-        Some(len) => piece_of(Kind::Tag(is_break(after)), len),
+    match html_len(ends, text, at) {
+        Some(len) => piece_of(
+            Kind::Html(html_shown(bytes_up_to(tail(text, at), len))),
+            len,
+        ),
         None => piece_of(Kind::Plain, 0),
     }
 }
 
-// An address, a tag, or an angle bracket.
-fn angle_piece(after: &[u8]) -> Piece
-    ensures { result ≡ angle_piece after.now }
+// An address, raw html, or an angle bracket, which ends at this place.
+fn angle_piece(ends: &Ends, text: &[u8], at: usize) -> Piece
+    requires ends { AreEnds ends.now text.now }
+    requires within { at ≤ length text.now }
+    ensures { result ≡ angle_piece (drop at text.now) }
 {
-    match address_len(after) {
-        Some(len) => piece_of(Kind::Address(len), len + 1),
-        None => tag_piece(after),
+    match address_len(tail(text, at)) {
+        Some(len) => piece_of(Kind::Address(len, scheme_of(tail(text, at))), len + 1),
+        None => html_piece(ends, text, at),
     }
 }
 
@@ -209,33 +264,53 @@ fn blank_piece(rest: &[u8]) -> Piece
     }
 }
 
-// A rest that begins with this byte, which is no mark.
-fn no_mark_piece(b: u8, rest: &[u8]) -> Piece
+// A bare address, or bytes that stand for themselves: the first is `b`, behind `before`.
+#[tactic(auto, unfolding(crate::specs::Pieces::plain_piece))]
+fn plain_piece(free: bool, before: Option<u8>, b: u8, rest: &[u8]) -> Piece
     requires { 0 < length rest.now }
-    ensures { result ≡ no_mark_piece b rest.now }
+    ensures { result ≡ plain_piece free before b rest.now }
+{
+    match bare_if(free, before, rest) {
+        Some(bare) => piece_of(Kind::Bare(bare.scheme), bare.len.saturating_sub(1)),
+        None => piece_of(Kind::Plain, plain_len(free, b, tail(rest, 1))),
+    }
+}
+
+// A rest that begins with the byte `b`, which is no mark, behind `before`.
+fn no_mark_piece(free: bool, before: Option<u8>, b: u8, rest: &[u8]) -> Piece
+    requires { 0 < length rest.now }
+    ensures { result ≡ no_mark_piece free before b rest.now }
 {
     if b == b' ' || b == b'\t' || b == b'\n' {
         return blank_piece(rest);
     }
-    piece_of(Kind::Plain, plain_len(tail(rest, 1)))
+    plain_piece(free, before, b, rest)
 }
 
-/// What the text from a place on begins with, where it is no bracket.
-pub fn piece_at(lasts: &[usize], text: &str, at: usize) -> Piece
-    requires lasts { AreLasts lasts.now text.now }
+fn byte_before(text: &[u8], at: usize) -> Option<u8>
+    requires { at ≤ length text.now }
+    ensures { result ≡ byte_before text.now at }
+{
+    if at == 0 { None } else { Some(text[at - 1]) }
+}
+
+/// What the text from a place on begins with, where it is no bracket. Bare addresses are read where `free` says that no bracket is open.
+#[tactic(auto, unfolding(crate::specs::Pieces::piece_at))]
+pub fn piece_at(known: &Known, free: bool, text: &str, at: usize) -> Piece
+    requires known { IsKnown known.now text.now }
     requires within { at < length text.now }
-    ensures { result ≡ piece_at text.now at (drop at text.now) }
+    ensures { result ≡ piece_at free text.now at (drop at text.now) }
 {
     let bytes = text.as_bytes();
     let rest = tail(bytes, at);
     match bytes[at] {
-        b'`' => code_piece(lasts, bytes, at),
+        b'`' => code_piece(&known.ticks, bytes, at),
         b'*' => run_piece(Sign::Star, text, at),
         b'_' => run_piece(Sign::Underscore, text, at),
         b'~' => run_piece(Sign::Tilde, text, at),
         b'\\' => escape_piece(tail(rest, 1)),
         b'&' => entity_piece(tail(rest, 1)),
-        b'<' => angle_piece(tail(rest, 1)),
-        b => no_mark_piece(b, rest),
+        b'<' => angle_piece(&known.ends, bytes, at + 1),
+        b => no_mark_piece(free, byte_before(bytes, at), b, rest),
     }
 }

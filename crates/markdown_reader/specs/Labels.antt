@@ -1,5 +1,7 @@
 -- The labels of definitions.
-use Rattle.std.specs.Prelude.{ℕ, zero, suc, ◌-◌, false, List, [], ◌∷◌, ◌++◌, length, take, drop, Option, Some, None}
+use Rattle.std.specs.Prelude.{ℕ, zero, suc, ◌-◌, false, if◌then◌else◌, List, [], ◌∷◌, ◌++◌, length, take, drop, Option, Some, None}
+use Rattle.std.specs.List.{list_any}
+use Rattle.std.specs.Str.{bytes_eq}
 use Rattle.markdown_brackets.specs.Labels.{normal}
 use Rattle.markdown_marks.specs.Definitions.{after_label, after_definition}
 use Rattle.markdown_marks.specs.Remaining.{Remaining}
@@ -16,9 +18,10 @@ label_before (Some rest) inside = take (length inside - length rest - 1) inside
 abbrev pub label_of : List ℕ → List ℕ
 label_of text = label_before (after_label 0 false false (drop 1 text)) (drop 1 text)
 
+-- the first definition of a label counts
 abbrev pub with_label : List (List ℕ) → Option (List ℕ) → List (List ℕ)
 with_label labels None = labels
-with_label labels (Some label) = labels ++ label ∷ []
+with_label labels (Some label) = if list_any (bytes_eq label) labels then labels else labels ++ label ∷ []
 
 abbrev pub labels_or : Option (List ℕ) → List (List ℕ) → List ℕ → (List (List ℕ) → List ℕ → List (List ℕ)) → List (List ℕ)
 labels_or None labels text others = labels

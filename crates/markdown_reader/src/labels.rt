@@ -6,6 +6,7 @@ ghost use Rattle.markdown_marks.specs.Remaining.{remaining};
 ghost use Rattle.markdown_leaves.specs.Parts.{part_of};
 ghost use Rattle.markdown_reader.specs.Labels.{label_of, with_label, labels_in, leaf_labels, part_labels, labels_of};
 
+use indexmap::IndexSet;
 use markdown_brackets::labels::normal;
 use markdown_leaves::defining::joined;
 use markdown_leaves::{Kind, Part};
@@ -39,13 +40,13 @@ fn label_of(text: &[u8]) -> &[u8]
     }
 }
 
-fn push_label(alloc: Global, labels: &mut Vec<String>, label: &[u8]) -> Result<(), AllocError>
-    ensures { OnOk result (map string_bytes labels.new.items ≡ with_label (map string_bytes labels.old.items) (normal label.now)) }
+fn push_label(alloc: Global, labels: &mut IndexSet<String>, label: &[u8]) -> Result<(), AllocError>
+    ensures { OnOk result (map string_bytes labels.new.keys ≡ with_label (map string_bytes labels.old.keys) (normal label.now)) }
 {
     match normal(alloc, label)? {
         None => Ok(()),
         Some(label) => {
-            labels.push(label)?;
+            labels.insert(label)?;
             Ok(())
         }
     }
@@ -53,8 +54,8 @@ fn push_label(alloc: Global, labels: &mut Vec<String>, label: &[u8]) -> Result<(
 
 // Adds the labels of the definitions in front.
 #[tactic(auto, unfolding(crate::specs::Labels::labels_in))]
-fn push_labels(alloc: Global, labels: &mut Vec<String>, text: &[u8]) -> Result<(), AllocError>
-    ensures { OnOk result (map string_bytes labels.new.items ≡ labels_in (length text.now) (map string_bytes labels.old.items) text.now) }
+fn push_labels(alloc: Global, labels: &mut IndexSet<String>, text: &[u8]) -> Result<(), AllocError>
+    ensures { OnOk result (map string_bytes labels.new.keys ≡ labels_in (length text.now) (map string_bytes labels.old.keys) text.now) }
 {
     let mut rest = text;
     let mut count = text.len();
@@ -73,11 +74,11 @@ fn push_labels(alloc: Global, labels: &mut Vec<String>, text: &[u8]) -> Result<(
 
 fn push_leaf_labels(
     alloc: Global,
-    labels: &mut Vec<String>,
+    labels: &mut IndexSet<String>,
     kind: Kind,
     lines: &[Rest<'_>],
 ) -> Result<(), AllocError>
-    ensures { OnOk result (map string_bytes labels.new.items ≡ leaf_labels kind (map string_bytes labels.old.items) (map remaining lines.now)) }
+    ensures { OnOk result (map string_bytes labels.new.keys ≡ leaf_labels kind (map string_bytes labels.old.keys) (map remaining lines.now)) }
 {
     match kind {
         Kind::Definitions => {
@@ -97,10 +98,10 @@ fn push_leaf_labels(
 
 fn push_part_labels(
     alloc: Global,
-    labels: &mut Vec<String>,
+    labels: &mut IndexSet<String>,
     part: &Part<'_>,
 ) -> Result<(), AllocError>
-    ensures { OnOk result (map string_bytes labels.new.items ≡ part_labels (map string_bytes labels.old.items) (part_of part.now)) }
+    ensures { OnOk result (map string_bytes labels.new.keys ≡ part_labels (map string_bytes labels.old.keys) (part_of part.now)) }
 {
     match part {
         Part::Block(block) => push_leaf_labels(alloc, labels, block.kind, &block.lines),
@@ -108,27 +109,20 @@ fn push_part_labels(
     }
 }
 
-/// The labels of all definitions.
+/// The labels of all definitions, in the order in which each is defined first.
+///
+/// # Errors
+///
+/// Out of memory is the only error.
 #[tactic(auto, unfolding(crate::specs::Labels::labels_of))]
-pub fn labels_of(alloc: Global, parts: &[Part<'_>]) -> Result<Vec<String>, AllocError>
-    ensures { IfOk result (λ labels. map string_bytes labels.items ≡ labels_of [] (map part_of parts.now)) }
+pub fn labels_of(alloc: Global, parts: &[Part<'_>]) -> Result<IndexSet<String>, AllocError>
+    ensures { IfOk result (λ labels. map string_bytes labels.keys ≡ labels_of [] (map part_of parts.now)) }
 {
-    let mut labels = Vec::new(alloc);
+    let mut labels = IndexSet::new(alloc);
     let mut rest = parts;
     while let [part, next @ ..] = rest {
         push_part_labels(alloc, &mut labels, part)?;
         rest = next;
     }
     Ok(labels)
-}
-
-/// The labels as texts.
-pub fn texts_of<'l>(alloc: Global, labels: &'l [String]) -> Result<Vec<&'l str>, AllocError>
-    ensures { IfOk result (λ texts. map (λ l. l.now) texts.items ≡ map string_bytes labels.now) }
-{
-    let mut texts = Vec::new(alloc);
-    for label in labels {
-        texts.push(label.as_str())?;
-    }
-    Ok(texts)
 }

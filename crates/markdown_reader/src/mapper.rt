@@ -11,6 +11,7 @@ ghost use Rattle.markdown_lines.specs.Restyled.{empty_line};
 ghost use Rattle.markdown_lines.specs.Shown.{shown};
 ghost use Rattle.markdown_lines.specs.Tables.{table_lines};
 
+use indexmap::IndexSet;
 use mad_md::CompositeStyle;
 use markdown_blocks::Container;
 use markdown_leaves::defining::joined;
@@ -416,10 +417,10 @@ impl Mapper {
     fn show_paragraph(
         &mut self,
         alloc: Global,
-        labels: &[&str],
+        labels: &IndexSet<String>,
         lines: &[Rest<'_>],
     ) -> Result<(), AllocError>
-        ensures { OnOk result (mapping_of self.new ≡ words_shown (leaf_rows (map (λ l. l.now) labels.now) (leaf_text (map remaining lines.now))) (mapping_of self.old)) }
+        ensures { OnOk result (mapping_of self.new ≡ words_shown (leaf_rows (map string_bytes labels.now.keys) (leaf_text (map remaining lines.now))) (mapping_of self.old)) }
     {
         let text = leaf_text(alloc, lines)?;
         let rows = leaf_rows(alloc, labels, text.as_str())?;
@@ -451,11 +452,11 @@ impl Mapper {
     fn show_heading(
         &mut self,
         alloc: Global,
-        labels: &[&str],
+        labels: &IndexSet<String>,
         level: usize,
         lines: &[Rest<'_>],
     ) -> Result<(), AllocError>
-        ensures { OnOk result (mapping_of self.new ≡ heading_shown level (leaf_rows (map (λ l. l.now) labels.now) (leaf_text (map remaining lines.now))) (mapping_of self.old)) }
+        ensures { OnOk result (mapping_of self.new ≡ heading_shown level (leaf_rows (map string_bytes labels.now.keys) (leaf_text (map remaining lines.now))) (mapping_of self.old)) }
     {
         let text = leaf_text(alloc, lines)?;
         let rows = leaf_rows(alloc, labels, text.as_str())?;
@@ -481,11 +482,11 @@ impl Mapper {
     fn show_table(
         &mut self,
         alloc: Global,
-        labels: &[&str],
+        labels: &IndexSet<String>,
         columns: usize,
         lines: &[Rest<'_>],
     ) -> Result<(), AllocError>
-        ensures { OnOk result (mapping_of self.new ≡ lines_added (table_lines (map (λ l. l.now) labels.now) columns (map remaining lines.now)) (big_begun (mapping_of self.old))) }
+        ensures { OnOk result (mapping_of self.new ≡ lines_added (table_lines (map string_bytes labels.now.keys) columns (map remaining lines.now)) (big_begun (mapping_of self.old))) }
     {
         self.begin_big()?;
         push_table(alloc, &mut self.lines, labels, columns, lines)
@@ -501,11 +502,11 @@ impl Mapper {
     fn show_leaf(
         &mut self,
         alloc: Global,
-        labels: &[&str],
+        labels: &IndexSet<String>,
         kind: Kind,
         lines: &[Rest<'_>],
     ) -> Result<(), AllocError>
-        ensures { OnOk result (mapping_of self.new ≡ leaf_shown (map (λ l. l.now) labels.now) kind (map remaining lines.now) (mapping_of self.old)) }
+        ensures { OnOk result (mapping_of self.new ≡ leaf_shown (map string_bytes labels.now.keys) kind (map remaining lines.now) (mapping_of self.old)) }
     {
         match kind {
             Kind::Nothing | Kind::Definitions => Ok(()),
@@ -524,10 +525,10 @@ impl Mapper {
     pub fn show(
         &mut self,
         alloc: Global,
-        labels: &[&str],
+        labels: &IndexSet<String>,
         part: &Part<'_>,
     ) -> Result<(), AllocError>
-        ensures { OnOk result (mapping_of self.new ≡ shown_part (map (λ l. l.now) labels.now) (part_of part.now) (mapping_of self.old)) }
+        ensures { OnOk result (mapping_of self.new ≡ shown_part (map string_bytes labels.now.keys) (part_of part.now) (mapping_of self.old)) }
     {
         match part {
             Part::Begins(container, apart) => {
@@ -547,10 +548,10 @@ impl Mapper {
     pub fn show_all(
         &mut self,
         alloc: Global,
-        labels: &[&str],
+        labels: &IndexSet<String>,
         parts: &[Part<'_>],
     ) -> Result<(), AllocError>
-        ensures { OnOk result (mapping_of self.new ≡ shown_parts (map (λ l. l.now) labels.now) (map part_of parts.now) (mapping_of self.old)) }
+        ensures { OnOk result (mapping_of self.new ≡ shown_parts (map string_bytes labels.now.keys) (map part_of parts.now) (mapping_of self.old)) }
     {
         let mut rest = parts;
         while let [part, next @ ..] = rest {

@@ -6,7 +6,7 @@ ghost use Rattle.markdown_reader.specs.Markdown.{markdown_lines};
 ghost use Rattle.markdown_reader.specs.MarkdownSays.{markdown_says};
 ghost use Rattle.markdown_reader.specs.Printed.{ArePrinted};
 
-use crate::labels::{labels_of, texts_of};
+use crate::labels::labels_of;
 use crate::mapper::Mapper;
 use mad_md::Text;
 use markdown_leaves::read_parts;
@@ -41,8 +41,7 @@ impl Markdown {
         let parts = read_parts(alloc, source.as_bytes())?;
         let labels = labels_of(alloc, &parts)?;
         let mut mapper = Mapper::new(alloc);
-        let texts = texts_of(alloc, &labels)?;
-        mapper.show_all(alloc, &texts, &parts)?;
+        mapper.show_all(alloc, &labels, &parts)?;
         Ok(Markdown {
             lines: mapper.into_lines(),
         })

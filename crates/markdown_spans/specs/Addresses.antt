@@ -5,6 +5,8 @@ use Rattle.std.specs.Char.{is_ascii_alphabetic, is_ascii_alphanumeric, is_ascii_
 use Rattle.markdown_marks.specs.Bytes.{first}
 use Rattle.markdown_spans.specs.declared.addresses.Domain.{Domain}
 use Rattle.markdown_spans.specs.declared.addresses.Domain.TheVariants.{On, Ends, No}
+use Rattle.markdown_spans.specs.declared.addresses.Scheme.{Scheme}
+use Rattle.markdown_spans.specs.declared.addresses.Scheme.TheVariants.{Itself, Mail}
 
 abbrev pub is_scheme_byte : ℕ → Bool
 is_scheme_byte b = is_ascii_alphanumeric b || b == 43 || b == 46 || b == 45
@@ -75,3 +77,11 @@ or_len (Some len) otherwise = Some len
 -- the length of the address that a rest begins with, after its opening angle bracket and before its closing one
 abbrev pub address_len : List ℕ → Option ℕ
 address_len bytes = or_len (uri_len bytes) (email_len bytes)
+
+abbrev pub scheme_by : Option ℕ → Scheme
+scheme_by None = Mail
+scheme_by (Some len) = Itself
+
+-- what its destination begins with
+abbrev pub scheme_of : List ℕ → Scheme
+scheme_of bytes = scheme_by (uri_len bytes)

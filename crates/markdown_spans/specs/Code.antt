@@ -1,5 +1,5 @@
 -- Code spans.
-use Rattle.std.specs.Prelude.{ℕ, ◌-◌, ◌==◌, ◌&&◌, not, nat_lt, Bool, if◌then◌else◌, List, length, drop, take, map, slice_index, Option, None, option_map}
+use Rattle.std.specs.Prelude.{ℕ, ◌-◌, ◌==◌, ◌&&◌, not, nat_lt, Bool, if◌then◌else◌, List, length, drop, take, slice_index, Option, None, option_map}
 use Rattle.std.specs.List.{list_all}
 use Rattle.markdown_marks.specs.Bytes.{count_in_front}
 use Rattle.markdown_spans.specs.declared.code.Code.{Code}
@@ -25,12 +25,10 @@ is_space b = spaced b == 32
 abbrev pub is_padded : List ℕ → Bool
 is_padded bytes = not (length bytes == 0) && is_space (slice_index bytes 0) && is_space (slice_index bytes (length bytes - 1)) && not (list_all is_space bytes)
 
+-- without the first byte and the last
 abbrev pub inner : List ℕ → List ℕ
 inner bytes = if nat_lt (length bytes) 2 then bytes else drop 1 (take (length bytes - 1) bytes)
 
+-- what is shown of the bytes between a code span's marks, but that the end of a line is a space
 abbrev pub unpadded : List ℕ → List ℕ
 unpadded bytes = if is_padded bytes then inner bytes else bytes
-
--- the text of a code span, from what is between its marks
-abbrev pub code_text : List ℕ → List ℕ
-code_text bytes = map spaced (unpadded bytes)

@@ -28,16 +28,3 @@ after_tag place (b ∷ bs) =
 abbrev pub tag_end : List ℕ → Option (List ℕ)
 tag_end [] = None
 tag_end (b ∷ bs) = if is_ascii_alphabetic b then after_tag Name bs else if (b == 47) && is_ascii_alphabetic (first bs) then after_tag CloseName bs else None
-
-abbrev pub tag_len : List ℕ → Option ℕ
-tag_len bytes = option_map (λ after. length bytes - length after) (tag_end bytes)
-
--- blanks and ends of lines, maybe a slash, and a sign >
-unfoldable pub ends_break : List ℕ → Bool
-ends_break [] = false
-ends_break (b ∷ bs) = if b == 62 then true else if b == 47 then first bs == 62 else if is_space_byte b then ends_break bs else false
-
--- a tag that breaks the line: br
-abbrev pub is_break : List ℕ → Bool
-is_break (b ∷ r ∷ rest) = (to_ascii_lowercase b == 98) && (to_ascii_lowercase r == 114) && ends_break rest
-is_break _ = false

@@ -3,7 +3,7 @@
 ghost use Rattle.std.specs.Prelude.{◌≡◌, ◌≤◌, false, length, IfSome};
 ghost use Rattle.std.specs.List.{prefix_len};
 ghost use Rattle.std.specs.Option.{option_copied};
-ghost use Rattle.markdown_spans.specs.Addresses.{is_scheme_byte, is_address_byte, is_local_byte, has_scheme, uri_len, may_end, domain_step, IsFew, after_domain, email_len, address_len};
+ghost use Rattle.markdown_spans.specs.Addresses.{is_scheme_byte, is_address_byte, is_local_byte, has_scheme, uri_len, may_end, domain_step, IsFew, after_domain, email_len, address_len, scheme_of};
 
 use markdown_marks::bytes::{first, tail};
 
@@ -188,5 +188,26 @@ pub fn address_len(bytes: &[u8]) -> Option<usize>
     match uri_len(bytes) {
         Some(len) => Some(len),
         None => email_len(bytes),
+    }
+}
+
+/// What the destination of an address begins with, before the address.
+#[derive(Debug, Clone, Copy, PartialEq, Eq)]
+pub enum Scheme {
+    /// Nothing: the address has a scheme.
+    Itself,
+    /// `mailto:`
+    Mail,
+    /// `http://`
+    Web,
+}
+
+/// What the destination of an address in angle brackets begins with.
+pub fn scheme_of(bytes: &[u8]) -> Scheme
+    ensures { result ≡ scheme_of bytes.now }
+{
+    match uri_len(bytes) {
+        Some(_) => Scheme::Itself,
+        None => Scheme::Mail,
     }
 }

@@ -1,13 +1,12 @@
 //! Code spans.
 
-ghost use Rattle.std.specs.Prelude.{◌≡◌, ◌+◌, ◌≤◌, IfOk, IfSome, length, drop};
+ghost use Rattle.std.specs.Prelude.{◌≡◌, ◌+◌, ◌≤◌, IfSome, length, drop};
 ghost use Rattle.std.specs.List.{list_all};
 ghost use Rattle.markdown_spans.specs.Ticks.{AreLasts};
-ghost use Rattle.markdown_spans.specs.Code.{code_of, spaced, is_space, is_padded, inner, unpadded, code_text};
+ghost use Rattle.markdown_spans.specs.Code.{code_of, spaced, is_space, is_padded};
 
 use crate::ticks::first_run;
 use markdown_marks::bytes::{count_in_front, tail};
-use std::alloc::{AllocError, Global};
 
 /// A code span at the beginning of a rest.
 #[derive(Debug, Clone, Copy)]
@@ -57,36 +56,4 @@ pub fn is_padded(bytes: &[u8]) -> bool
         && spaced(bytes[0]) == b' '
         && spaced(bytes[bytes.len() - 1]) == b' '
         && !is_space_alone(bytes)
-}
-
-// Without the first byte and the last.
-fn inner(bytes: &[u8]) -> &[u8]
-    ensures { result.now ≡ inner bytes.now }
-{
-    if bytes.len() < 2 {
-        bytes
-    } else {
-        &bytes[1..bytes.len() - 1]
-    }
-}
-
-fn unpadded(bytes: &[u8]) -> &[u8]
-    ensures { result.now ≡ unpadded bytes.now }
-{
-    if is_padded(bytes) {
-        inner(bytes)
-    } else {
-        bytes
-    }
-}
-
-/// The text of a code span, from what is between its marks.
-///
-/// # Errors
-///
-/// Out of memory is the only error.
-pub fn code_text(alloc: Global, bytes: &[u8]) -> Result<Vec<u8>, AllocError>
-    ensures { IfOk result (λ text. text.items ≡ code_text bytes.now) }
-{
-    unpadded(bytes).iter().map(|b| spaced(*b)).collect(alloc)
 }

@@ -1,12 +1,11 @@
 //! Tags of html in a line.
 
-ghost use Rattle.std.specs.Prelude.{◌≡◌, ◌≤◌, length, IfSome};
+ghost use Rattle.std.specs.Prelude.{◌≡◌};
 ghost use Rattle.std.specs.Option.{option_copied};
-ghost use Rattle.markdown_spans.specs.Tags.{is_nowhere, after_tag, tag_end, tag_len, closes, ends_break, is_break};
+ghost use Rattle.markdown_spans.specs.Tags.{is_nowhere, after_tag, tag_end, closes};
 
 use crate::code::spaced;
 use markdown_marks::bytes::first;
-use markdown_marks::definitions::is_space_byte;
 use markdown_marks::tags::{Place, is_after, next_place};
 
 // Whether it is no tag any more.
@@ -43,8 +42,8 @@ fn after_tag(place: Place, bytes: &[u8]) -> Option<&[u8]>
     None
 }
 
-// What follows an opening tag with its attributes, or a closing one, after its angle bracket.
-fn tag_end(bytes: &[u8]) -> Option<&[u8]>
+/// What follows an opening tag with its attributes, or a closing one, after its angle bracket.
+pub(crate) fn tag_end(bytes: &[u8]) -> Option<&[u8]>
     ensures { option_copied result ≡ tag_end bytes.entry.now }
 {
     match bytes {
@@ -58,49 +57,5 @@ fn tag_end(bytes: &[u8]) -> Option<&[u8]>
             }
             None
         }
-    }
-}
-
-/// How many bytes of the tag that a rest begins with are after its opening angle bracket.
-pub fn tag_len(bytes: &[u8]) -> Option<usize>
-    ensures value { result ≡ tag_len bytes.now }
-    ensures within { IfSome result (λ len. len ≤ length bytes.now) }
-{
-    match tag_end(bytes) {
-        None => None,
-        Some(after) => Some(bytes.len().saturating_sub(after.len())),
-    }
-}
-
-// Blanks and ends of lines, maybe a slash, and the closing angle bracket.
-#[tactic(auto, unfolding(crate::specs::Tags::ends_break))]
-fn ends_break(bytes: &[u8]) -> bool
-    ensures { result ≡ ends_break bytes.now }
-{
-    let mut rest = bytes;
-    while let [b, next @ ..] = rest {
-        if *b == b'>' {
-            return true;
-        }
-        if *b == b'/' {
-            return first(next) == b'>';
-        }
-        if !is_space_byte(*b) {
-            return false;
-        }
-        rest = next;
-    }
-    false
-}
-
-/// Whether a tag, of which these are the bytes after its angle bracket, breaks the line: `br`.
-pub fn is_break(bytes: &[u8]) -> bool
-    ensures { result ≡ is_break bytes.now }
-{
-    match bytes {
-        [b, r, rest @ ..] => {
-            b.to_ascii_lowercase() == b'b' && r.to_ascii_lowercase() == b'r' && ends_break(rest)
-        }
-        _ => false,
     }
 }

@@ -36,8 +36,8 @@ loop-index-preserved c =
     let cons : link_count (drop i pieces) ≡ links_in p.kind + link_count (drop (i + 1) pieces) = count_cons pieces i no_piece within in
     let enough : links_in p.kind ≤ c.loop-index.number = omega (arith, cons, count_drop pieces i, next, c.loop-index.invariant.number) in
     let one : c.links_in-number.result ≡ links_in p.kind = c.links_in-number.ensures.value in
-    let over : c.over_of.result ≡ over_of i p.kind (reverse c.loop-index.ahead.items) = c.over_of.ensures ∙ ap (λ (l : List Ahead). over_of i p.kind (reverse l)) c.deref.ensures.value in
-    let pushed : reverse c.push.new.self.items ≡ over_of i p.kind (reverse c.loop-index.ahead.items) ∷ reverse c.loop-index.overs.items =
+    let over : c.over_of.result ≡ over_of i less p.kind (reverse c.loop-index.ahead.items) = c.over_of.ensures ∙ ap (λ (l : List Ahead). over_of i less p.kind (reverse l)) c.deref.ensures.value in
+    let pushed : reverse c.push.new.self.items ≡ over_of i less p.kind (reverse c.loop-index.ahead.items) ∷ reverse c.loop-index.overs.items =
     ap reverse c.in_ok-push.ensures.items ∙ reverse-append c.loop-index.overs.items (c.over_of.result ∷ []) ∙ ap (λ x. x ∷ reverse c.loop-index.overs.items) over in
     record {
       within = omega (arith, within);

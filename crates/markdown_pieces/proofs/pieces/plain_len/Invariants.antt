@@ -1,10 +1,9 @@
-use Rattle.std.proofs.Common.{◌≡◌, ◌≤◌, ◌+◌, ◌-◌, length, drop}
-use Rattle.std.specs.List.{prefix_len}
-use Rattle.markdown_pieces.specs.Pieces.{is_plain}
+use Rattle.std.proofs.Common.{◌≡◌, ◌+◌, length, Some}
+use Rattle.markdown_pieces.specs.Pieces.{plain_from}
 use Rattle.markdown_pieces.proofs.pieces.plain_len.Given as goal
 
-abbrev pub invariant-loop-i : goal.invariant-loop-i
-invariant-loop-i l = record { so_far : l.i + prefix_len is_plain (drop l.i l.bytes) ≡ prefix_len is_plain l.bytes; within : l.i ≤ length l.bytes }
+abbrev pub invariant-loop-rest : goal.invariant-loop-rest
+invariant-loop-rest l = record { so_far : l.len + plain_from l.free (Some l.last) l.rest ≡ plain_from l.free (Some l.before) l.bytes; few : l.len + length l.rest ≡ length l.bytes }
 
-abbrev pub decreases-loop-i : goal.decreases-loop-i
-decreases-loop-i l = length l.bytes - l.i
+abbrev pub decreases-loop-rest : goal.decreases-loop-rest
+decreases-loop-rest l = length l.rest

@@ -5,7 +5,7 @@ use Rattle.markdown_reader.specs.Labels.{labels_of}
 use Rattle.markdown_reader.proofs.labels.labels_of.Given as goal
 
 abbrev pub invariant-loop-rest : goal.invariant-loop-rest
-invariant-loop-rest l = labels_of (map string_bytes l.labels.items) (map part_of l.rest) ≡ labels_of [] (map part_of l.parts)
+invariant-loop-rest l = labels_of (map string_bytes l.labels.keys) (map part_of l.rest) ≡ labels_of [] (map part_of l.parts)
 
 abbrev pub decreases-loop-rest : goal.decreases-loop-rest
 decreases-loop-rest l = length l.rest

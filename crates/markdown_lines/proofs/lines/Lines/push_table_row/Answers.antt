@@ -1,4 +1,4 @@
-use Rattle.std.proofs.Common.{◌∙◌, ap, arith, map}
+use Rattle.std.proofs.Common.{◌∙◌, ap, arith, map, string_bytes}
 use Rattle.markdown_lines.specs.Lines.{cell_said}
 use Rattle.markdown_lines.specs.Said.{said}
 use Rattle.markdown_lines.specs.Shown.{shown}
@@ -16,11 +16,11 @@ loop-more-preserved c =
     record {
       same = lines_kept all added whole c.loop-more.self.lines.items c.add_runs.new.self.lines.items c.loop-more.self.within adds.runs (ap (λ v. v.items) adds.lines) ∙ held.same;
       within = ranges_next all added whole c.loop-more.ranges.items c.push.new.self.items c.in_ok-range.range held.within adds.runs adds.range c.in_ok-push.ensures.items;
-      so_far = cells_next (map (λ l. l.now) c.args.labels.now) c.args.bold all added whole c.loop-more.ranges.items c.push.new.self.items c.in_ok-range.range c.loop-more.rest.now c.after_cell-rest.result.now c.loop-more.more (omega arith)
+      so_far = cells_next (map string_bytes c.args.labels.now.keys) c.args.bold all added whole c.loop-more.ranges.items c.push.new.self.items c.in_ok-range.range c.loop-more.rest.now c.after_cell-rest.result.now c.loop-more.more (omega arith)
           held.within adds.runs adds.range c.in_ok-push.ensures.items c.in_ok-runs.ensures c.after_cell-rest.ensures ∙ held.so_far;
     }
 
 pub returns : goal.returns
 returns c =
-    row_done (map (λ l. l.now) c.args.labels.now) c.args.bold (shown c.loop-more.self) (shown c.add_line.new.self) (shown c.args.self.now) (map (cell_said (said c.loop-more.self.runs)) c.loop-more.ranges.items)
-    (cells (map (λ l. l.now) c.args.labels.now) c.args.bold c.args.columns c.args.row.now) c.loop-more.rest.now c.loop-more.more (omega arith) c.in_ok-add_line.ensures c.loop-more.invariant.same c.loop-more.invariant.so_far
+    row_done (map string_bytes c.args.labels.now.keys) c.args.bold (shown c.loop-more.self) (shown c.add_line.new.self) (shown c.args.self.now) (map (cell_said (said c.loop-more.self.runs)) c.loop-more.ranges.items)
+    (cells (map string_bytes c.args.labels.now.keys) c.args.bold c.args.columns c.args.row.now) c.loop-more.rest.now c.loop-more.more (omega arith) c.in_ok-add_line.ensures c.loop-more.invariant.same c.loop-more.invariant.so_far

@@ -1,4 +1,4 @@
-use Rattle.std.proofs.Common.{◌≡◌, ◌++◌, map, length, true}
+use Rattle.std.proofs.Common.{◌≡◌, ◌++◌, map, length, true, string_bytes}
 use Rattle.std.specs.List.{list_all}
 use Rattle.markdown_lines.specs.Lines.{cell_said, is_within}
 use Rattle.markdown_lines.specs.Said.{said}
@@ -10,7 +10,7 @@ abbrev pub invariant-loop-more : goal.invariant-loop-more
 invariant-loop-more l = record {
   same : shown l.self ≡ shown l.fn.self;
   within : list_all (is_within (length (said l.self.runs))) l.ranges.items ≡ true;
-  so_far : map (cell_said (said l.self.runs)) l.ranges.items ++ cells (map (λ l. l.now) l.labels) l.bold l.more l.rest ≡ cells (map (λ l. l.now) l.labels) l.bold l.columns l.row;
+  so_far : map (cell_said (said l.self.runs)) l.ranges.items ++ cells (map string_bytes l.labels.keys) l.bold l.more l.rest ≡ cells (map string_bytes l.labels.keys) l.bold l.columns l.row;
 }
 
 abbrev pub decreases-loop-more : goal.decreases-loop-more

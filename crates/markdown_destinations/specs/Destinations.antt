@@ -1,0 +1,40 @@
+-- The texts of destinations and titles.
+use Rattle.std.specs.Prelude.{ℕ, true, List, [], ◌++◌, Option, Some, None, codes}
+use Rattle.std.specs.Str.Lossy.{utf8_lossy}
+use Rattle.markdown_spans.specs.declared.addresses.Scheme.{Scheme}
+use Rattle.markdown_spans.specs.declared.addresses.Scheme.TheVariants.{Itself, Mail, Web}
+use Rattle.markdown_spans.specs.Decoded.{decoded}
+use Rattle.markdown_inlines.specs.Parts.{part}
+use Rattle.markdown_inlines.specs.declared.inlines.LinkTarget.{LinkTarget}
+use Rattle.markdown_inlines.specs.declared.inlines.LinkTarget.TheVariants.{Definition, Inline, Address}
+use Rattle.markdown_destinations.specs.Parts.{inline_destination, inline_title, defined_destination, defined_title}
+
+-- without escapes and entities
+abbrev pub text_of : List ℕ → List ℕ
+text_of bytes = utf8_lossy (decoded true bytes)
+
+-- the bytes of a destination and of a title
+pub record Leads : Type 0 where
+  pub destination : List ℕ
+  pub title : List ℕ
+
+abbrev pub scheme_text : Scheme → List ℕ
+scheme_text Itself = []
+scheme_text Mail = codes "mailto:"
+scheme_text Web = codes "http://"
+
+abbrev pub inline_leads : List ℕ → Leads
+inline_leads link = record { destination = text_of (inline_destination link); title = text_of (inline_title link) }
+
+abbrev pub defined_leads : List ℕ → Leads
+defined_leads definition = record { destination = text_of (defined_destination definition); title = text_of (defined_title definition) }
+
+-- an address has no escapes, no entities and no title
+abbrev pub address_leads : Scheme → List ℕ → Leads
+address_leads scheme address = record { destination = scheme_text scheme ++ utf8_lossy address; title = [] }
+
+-- what a link of a text leads to, if it says so itself
+abbrev pub link_leads : List ℕ → LinkTarget → Option Leads
+link_leads text (Definition index) = None
+link_leads text (Inline at len) = Some (inline_leads (part text at len))
+link_leads text (Address scheme at len) = Some (address_leads scheme (part text at len))

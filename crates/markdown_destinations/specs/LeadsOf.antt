@@ -1,0 +1,7 @@
+-- The bytes of a destination and its title.
+use Rattle.std.specs.Prelude.{string_bytes}
+use Rattle.markdown_destinations.specs.declared.destinations.Destination.{Destination}
+use Rattle.markdown_destinations.specs.Destinations.{Leads}
+
+abbrev pub leads_of : Destination → Leads
+leads_of found = record { destination = string_bytes found.destination; title = string_bytes found.title }

@@ -1,0 +1,10 @@
+-- What is known of a text before it is cut.
+use Rattle.std.specs.Prelude.{ℕ, List}
+use Rattle.markdown_spans.specs.Ticks.{AreLasts}
+use Rattle.markdown_spans.specs.Html.{AreEnds}
+use Rattle.markdown_pieces.specs.declared.pieces.Known.{Known}
+
+-- where the last run of backquotes of each length is, and the last end of each kind of raw html
+pub record IsKnown (known : Known) (text : List ℕ) : Type 0 where
+  pub ticks : AreLasts known.ticks.items text
+  pub ends : AreEnds known.ends text

@@ -1,0 +1,109 @@
+//! Raw html in a line.
+
+ghost use Rattle.std.specs.Prelude.{◌≡◌, ◌+◌, ◌<◌, ◌≤◌, ◌&&◌, length, drop, IfSome, codes};
+ghost use Rattle.std.specs.Char.{is_ascii_alphabetic};
+ghost use Rattle.std.specs.Option.{option_copied};
+ghost use Rattle.markdown_marks.specs.Bytes.{first};
+ghost use Rattle.markdown_spans.specs.Needles.{begins};
+ghost use Rattle.markdown_spans.specs.Html.{after_angle, after_comment, other_end, html_end, html_len, AreEnds};
+
+use crate::needles::{after_first, after_known, begins, last_place};
+use crate::tags::tag_end;
+use markdown_marks::bytes::{first, tail};
+
+/// Where in a text the ends of raw html begin last: from these places on none does.
+#[derive(Debug, Clone, Copy)]
+pub struct Ends {
+    /// `?>`
+    pub instruction: usize,
+    /// `]]>`
+    pub cdata: usize,
+    /// `>`
+    pub declaration: usize,
+}
+
+/// Where in a text the ends of raw html begin last.
+pub fn ends_of(text: &[u8]) -> Ends
+    ensures { AreEnds result text.now }
+{
+    Ends {
+        instruction: last_place(b"?>", text),
+        cdata: last_place(b"]]>", text),
+        declaration: last_place(b">", text),
+    }
+}
+
+fn after_angle(text: &[u8]) -> Option<&[u8]>
+    ensures { option_copied result ≡ after_angle text.entry.now }
+{
+    match text {
+        [b'>', rest @ ..] => Some(rest),
+        _ => None,
+    }
+}
+
+// What follows a comment, after its `<!--`.
+fn after_comment(text: &[u8]) -> Option<&[u8]>
+    ensures { option_copied result ≡ after_comment text.entry.now }
+{
+    if begins(text, b">") || begins(text, b"->") {
+        return None;
+    }
+    match after_first(b"--", text) {
+        None => None,
+        Some(rest) => after_angle(rest),
+    }
+}
+
+fn is_declaration(bytes: &[u8]) -> bool
+    ensures { result ≡ (begins bytes.now (codes "!") && is_ascii_alphabetic (first (drop 1 bytes.now))) }
+{
+    begins(bytes, b"!") && first(tail(bytes, 1)).is_ascii_alphabetic()
+}
+
+// What follows raw html that is no tag, after its sign `<`.
+fn other_end<'t>(ends: &Ends, text: &'t [u8], at: usize) -> Option<&'t [u8]>
+    requires ends { AreEnds ends.now text.now }
+    requires within { at ≤ length text.now }
+    ensures { option_copied result ≡ other_end (drop at text.entry.now) }
+{
+    let bytes = tail(text, at);
+    if begins(bytes, b"!--") {
+        return after_comment(tail(bytes, 3));
+    }
+    if begins(bytes, b"?") {
+        return after_known(b"?>", ends.instruction, text, at, 1);
+    }
+    if begins(bytes, b"![CDATA[") {
+        return after_known(b"]]>", ends.cdata, text, at, 8);
+    }
+    if is_declaration(bytes) {
+        return after_known(b">", ends.declaration, text, at, 1);
+    }
+    None
+}
+
+// What follows raw html, after its sign `<`.
+fn html_end<'t>(ends: &Ends, text: &'t [u8], at: usize) -> Option<&'t [u8]>
+    requires ends { AreEnds ends.now text.now }
+    requires within { at ≤ length text.now }
+    ensures { option_copied result ≡ html_end (drop at text.entry.now) }
+{
+    match tag_end(tail(text, at)) {
+        Some(rest) => Some(rest),
+        None => other_end(ends, text, at),
+    }
+}
+
+/// How many bytes raw html has after its sign `<`, which ends at this place.
+pub fn html_len(ends: &Ends, text: &[u8], at: usize) -> Option<usize>
+    requires ends { AreEnds ends.now text.now }
+    requires within { at ≤ length text.now }
+    ensures value { result ≡ html_len (drop at text.now) }
+    ensures within { IfSome result (λ len. len ≤ length (drop at text.now)) }
+{
+    match html_end(ends, text, at) {
+        None => None,
+        Some(after) => Some(tail(text, at).len().saturating_sub(after.len())),
+    }
+}
