@@ -223,7 +223,9 @@ pub use Rattle.mad_live.specs.PaperLaws
 pub use Rattle.mad_live.specs.Papers
 pub use Rattle.mad_stream.specs.FittingRows
 pub use Rattle.mad_stream.specs.LiveTexts
+pub use Rattle.mad_stream.specs.Sources as StreamedSources
 pub use Rattle.mad_stream.specs.Streams
+pub use Rattle.mad_stream.specs.TextFronts as StreamedFronts
 pub use Rattle.markdown_layout.specs.WrittenMarkdown
 pub use Rattle.markdown_reader.specs.Markdown
 pub use Rattle.markdown_reader.specs.Printed

@@ -6,18 +6,19 @@ use Rattle.mad_term.specs.Trace.{Trace, failed, flushed}
 use Rattle.mad_term.specs.declared.errors.Error.{Error}
 use Rattle.mad_term.specs.declared.errors.Error.TheVariants.{IO, InsufficientWidth, Memory as NoMemory}
 use Rattle.termimad.specs.declared.MadSkin.{MadSkin}
+use Rattle.termimad.specs.declared.SourceError.{SourceError}
 use Rattle.termimad_run.specs.declared.call.Command.{Command}
-use Rattle.termimad_run.specs.declared.call.Command.TheVariants.{InArea, AtWidth, AsMarkdown, Inline}
+use Rattle.termimad_run.specs.declared.call.Command.TheVariants.{InArea, AtWidth, AsMarkdown, AsItComes, Inline}
 use Rattle.mad_term.proofs.Traces.{took_flushed}
 use Rattle.termimad.specs.Headline.{AreShownAcross}
 use Rattle.termimad.specs.RowSkins.{row_skin}
 use Rattle.termimad.specs.Shown.{AreShownIn}
 use Rattle.termimad_run.specs.declared.failure.Failure.{Failure}
 use Rattle.termimad_run.specs.declared.failure.Failure.TheVariants.{Io, Usage, Skin, Memory}
-use Rattle.termimad_run.specs.Calls.{RefusesWords}
-use Rattle.termimad_run.specs.Failures.{failure_of}
+use Rattle.termimad_run.specs.Calls.{IsWhole, RefusesWords}
+use Rattle.termimad_run.specs.Failures.{failure_of, streamed_failure}
 use Rattle.termimad_run.specs.Reading.{ReadsWhole, ReadingFails}
-use Rattle.termimad_run.specs.ProgramRuns.{Devices, Starts, Started, FailsToStart, HasRead, HasWritten, WritesCall, ShowsCall, RunsTo}
+use Rattle.termimad_run.specs.ProgramRuns.{Devices, Starts, Started, FailsToStart, HasRead, HasWritten, WritesCall, ShowsCall, RunsWhole, StreamsInput, RunsTo}
 
 -- the call that was parsed
 abbrev pub started : (words : List (List ℕ)) (old new : Trace) (command : Command) (skin : MadSkin) (unknown : List (List ℕ)) → Starts words old command skin unknown new → Started words old new
@@ -30,12 +31,12 @@ same_devices old new input out err =
     ∙ ap (λ (e : Trace). let d : Devices = record { input = old.input; out = old.out; err = e } in d) err
 
 -- a run that ended in a failure
-ends_in : {T : Type 0} (words : List (List ℕ)) (r : Result T Failure) (failure : Failure) (old new : Devices) → IsErrAnd r (λ e. e ≡ failure) → RunsTo {T = T} words old (Err failure) new → RunsTo words old r new
+ends_in : {T : Type 0} (words : List (List ℕ)) (r : Result T Failure) (failure : Failure) (old new : Devices) → IsErrAnd r (λ e. e ≡ failure) → RunsWhole {T = T} words old (Err failure) new → RunsTo words old r new
 ends_in {T} words r failure old new is ran =
     let p = err_from_is_err_and r is in
-    subst (λ (s : Result T Failure). RunsTo words old s new) (sym (p.1 ∙ ap Err p.2)) ran
+    subst (λ (s : Result T Failure). RunsTo words old s new) (sym (p.1 ∙ ap Err p.2)) (inl ran)
 
-refused_words : (T : Type 0) (words : List (List ℕ)) (failure : Failure) (old new : Devices) → RefusesWords words failure → new ≡ old → RunsTo {T = T} words old (Err failure) new
+refused_words : (T : Type 0) (words : List (List ℕ)) (failure : Failure) (old new : Devices) → RefusesWords words failure → new ≡ old → RunsWhole {T = T} words old (Err failure) new
 refused_words T words Usage old new h same = (h, same)
 refused_words T words Skin old new h same = (h, same)
 refused_words T words Memory old new h same = inl (h, same)
@@ -45,10 +46,11 @@ refused_words _ words _ old new h same = absurd h
 pub call_exit : {T : Type 0} (words : List (List ℕ)) (r : Result T Failure) (failure : Failure) (old new : Devices) → IsErrAnd r (λ e. e ≡ failure) → FailsToStart words old.err failure new.err → new.input ≡ old.input → new.out ≡ old.out → RunsTo words old r new
 call_exit {T} words r failure old new is h input out = ends_in words r failure old new is (refused_words T words failure old new h.0 (same_devices old new input out h.1))
 
-failed_to_read : (T : Type 0) (words : List (List ℕ)) (failure : Failure) (old new : Devices) → Started words old.err new.err → ReadingFails old.input failure new.input → new.out ≡ old.out → RunsTo {T = T} words old (Err failure) new
-failed_to_read T words Io old new call h out = inl (record { call = call; stopped = h; unwritten = out })
-failed_to_read T words Memory old new call h out = inr (inl (record { call = call; stopped = h; unwritten = out }))
-failed_to_read _ words _ old new call h out = absurd h
+failed_to_read : (T : Type 0) (words : List (List ℕ)) (failure : Failure) (old new : Devices) (call : Started words old.err new.err) → IsWhole call.command → ReadingFails old.input failure new.input → new.out ≡ old.out
+    → RunsWhole {T = T} words old (Err failure) new
+failed_to_read T words Io old new call is_whole h out = inl (record { call = call; is_whole = is_whole; stopped = h; unwritten = out })
+failed_to_read T words Memory old new call is_whole h out = inr (inl (record { call = call; is_whole = is_whole; stopped = h; unwritten = out }))
+failed_to_read _ words _ old new call is_whole h out = absurd h
 
 -- what was read is a text
 pub has_read : (old new : Trace) (bytes slice text : List ℕ) → ReadsWhole old bytes new → slice ≡ bytes → text ≡ slice → IsUtf8 slice → HasRead old text new
@@ -58,14 +60,14 @@ has_read old new bytes slice text read p q decoded = record {
 }
 
 -- the exit at a reading
-pub read_exit : {T : Type 0} (words : List (List ℕ)) (r : Result T Failure) (failure : Failure) (old new : Devices) → IsErrAnd r (λ e. e ≡ failure) → Started words old.err new.err → ReadingFails old.input failure new.input → new.out ≡ old.out → RunsTo words old r new
-read_exit {T} words r failure old new is call h out = ends_in words r failure old new is (failed_to_read T words failure old new call h out)
+pub read_exit : {T : Type 0} (words : List (List ℕ)) (r : Result T Failure) (failure : Failure) (old new : Devices) → IsErrAnd r (λ e. e ≡ failure) → (call : Started words old.err new.err) → IsWhole call.command → ReadingFails old.input failure new.input → new.out ≡ old.out → RunsTo words old r new
+read_exit {T} words r failure old new is call is_whole h out = ends_in words r failure old new is (failed_to_read T words failure old new call is_whole h out)
 
 -- what was written of the text that was read
-abbrev pub has_written : (words : List (List ℕ)) (text : List ℕ) (old new : Devices) (r : Result (Unit {0}) Error) (written : Trace) (call : Started words old.err new.err) → HasRead old.input text new.input → WritesCall call.skin call.command text old.out r written → HasWritten words old new r written
-has_written words text old new r written call read writes = record { call = call; text = text; read = read; writes = writes }
+abbrev pub has_written : (words : List (List ℕ)) (text : List ℕ) (old new : Devices) (r : Result (Unit {0}) Error) (written : Trace) (call : Started words old.err new.err) → IsWhole call.command → HasRead old.input text new.input → WritesCall call.skin call.command text old.out r written → HasWritten words old new r written
+has_written words text old new r written call is_whole read writes = record { call = call; is_whole = is_whole; text = text; read = read; writes = writes }
 
-failed_to_write : (T : Type 0) (words : List (List ℕ)) (e : Error) (old new : Devices) → HasWritten words old new (Err e) new.out → RunsTo {T = T} words old (Err (failure_of e)) new
+failed_to_write : (T : Type 0) (words : List (List ℕ)) (e : Error) (old new : Devices) → HasWritten words old new (Err e) new.out → RunsWhole {T = T} words old (Err (failure_of e)) new
 failed_to_write T words (IO x) old new h = inr (inl (record { error = IO x; so = refl; wrote = h }))
 failed_to_write T words (InsufficientWidth x) old new h = inr (inl (record { error = InsufficientWidth x; so = refl; wrote = h }))
 failed_to_write T words NoMemory old new h = inr (inr (record { error = NoMemory; so = refl; wrote = h }))
@@ -96,4 +98,11 @@ still_shown skin (InArea area) text old written new (headline, h) is = (
 )
 still_shown skin (AtWidth width) text old written new h is = tt
 still_shown skin (AsMarkdown width) text old written new h is = tt
+still_shown skin (AsItComes width) text old written new h is = tt
 still_shown skin Inline text old written new h is = tt
+
+-- the exit of a text that is written as it comes
+pub stream_exit : {T : Type 0} (words : List (List ℕ)) (r : Result T Failure) (e : SourceError) (old new : Devices) → IsErrAnd r (λ f. f ≡ streamed_failure e) → StreamsInput {T = Unit {0}} words old (Err e) new → RunsTo words old r new
+stream_exit {T} words r e old new is h =
+    let p = err_from_is_err_and r is in
+    subst (λ (s : Result T Failure). RunsTo words old s new) (sym (p.1 ∙ ap Err p.2)) (inr (e, refl, h))

@@ -1,15 +1,17 @@
 -- The words ask for one skin at most.
-use Rattle.std.proofs.Common.{◌≡◌, ℕ, List, [], ◌∷◌, get_or, ◌⊎◌, Option, Some, None, inl, inr, Err, refl, ap, sym, ◌∙◌, subst, arith}
+use Rattle.std.proofs.Common.{◌≡◌, ℕ, List, [], ◌∷◌, get_or, ◌⊎◌, Option, Some, None, inl, inr, Ok, Err, refl, ap, sym, ◌∙◌, subst, arith}
 use Rattle.termimad.specs.declared.MadSkin.{MadSkin}
 use Rattle.termimad_run.specs.declared.call.Command.{Command}
-use Rattle.termimad_run.specs.declared.call.Command.TheVariants.{InArea, AtWidth, AsMarkdown, Inline}
+use Rattle.termimad_run.specs.declared.call.Command.TheVariants.{InArea, AtWidth, AsMarkdown, AsItComes, Inline}
 use Rattle.termimad_run.specs.declared.failure.Failure.{Failure}
 use Rattle.termimad_run.specs.declared.failure.Failure.TheVariants.{Io, Usage, NotUtf8, Skin, Memory}
 use Rattle.mad_term.specs.Trace.{Trace}
 use Rattle.termimad_run.specs.GivenSkins.{skin_given}
 use Rattle.termimad_run.specs.Calls.{IsSkinWord, Asks, AsksRefusedSkin}
-use Rattle.termimad_run.specs.Failures.{status_of}
-use Rattle.termimad_run.specs.ProgramRuns.{Devices, Started, RunsTo}
+use Rattle.termimad.specs.declared.SourceError.{SourceError}
+use Rattle.termimad.specs.declared.SourceError.TheVariants as source_error
+use Rattle.termimad_run.specs.Failures.{status_of, streamed_failure}
+use Rattle.termimad_run.specs.ProgramRuns.{Devices, Started, RunsWhole, RunsTo}
 
 one_word : (words : List (List ℕ)) (a b : Option (List ℕ)) → IsSkinWord words a → IsSkinWord words b → a ≡ b
 one_word [] a b h k = h ∙ sym k
@@ -24,18 +26,27 @@ asked_once [] c d a b h k = absurd h
 asked_once (name ∷ l ∷ t ∷ w ∷ e ∷ rest) (InArea x) (InArea y) a b h k = one_word rest a b h.1.1 k.1.1
 asked_once (name ∷ words) (InArea x) (AtWidth m) a b h k = absurd (let e : 97 ≡ 116 = first_byte 97 116 name _ _ h.0 k.0 in omega (arith, e))
 asked_once (name ∷ words) (InArea x) (AsMarkdown m) a b h k = absurd (let e : 97 ≡ 109 = first_byte 97 109 name _ _ h.0 k.0 in omega (arith, e))
+asked_once (name ∷ words) (InArea x) (AsItComes m) a b h k = absurd (let e : 97 ≡ 115 = first_byte 97 115 name _ _ h.0 k.0 in omega (arith, e))
 asked_once (name ∷ words) (InArea x) Inline a b h k = absurd (let e : 97 ≡ 105 = first_byte 97 105 name _ _ h.0 k.0 in omega (arith, e))
 asked_once (name ∷ words) (AtWidth n) (InArea y) a b h k = absurd (let e : 116 ≡ 97 = first_byte 116 97 name _ _ h.0 k.0 in omega (arith, e))
 asked_once (name ∷ w ∷ rest) (AtWidth n) (AtWidth m) a b h k = one_word rest a b h.1.1 k.1.1
 asked_once (name ∷ words) (AtWidth n) (AsMarkdown m) a b h k = absurd (let e : 116 ≡ 109 = first_byte 116 109 name _ _ h.0 k.0 in omega (arith, e))
+asked_once (name ∷ words) (AtWidth n) (AsItComes m) a b h k = absurd (let e : 116 ≡ 115 = first_byte 116 115 name _ _ h.0 k.0 in omega (arith, e))
 asked_once (name ∷ words) (AtWidth n) Inline a b h k = absurd (let e : 116 ≡ 105 = first_byte 116 105 name _ _ h.0 k.0 in omega (arith, e))
 asked_once (name ∷ words) (AsMarkdown n) (InArea y) a b h k = absurd (let e : 109 ≡ 97 = first_byte 109 97 name _ _ h.0 k.0 in omega (arith, e))
 asked_once (name ∷ words) (AsMarkdown n) (AtWidth m) a b h k = absurd (let e : 109 ≡ 116 = first_byte 109 116 name _ _ h.0 k.0 in omega (arith, e))
 asked_once (name ∷ w ∷ rest) (AsMarkdown n) (AsMarkdown m) a b h k = one_word rest a b h.1.1 k.1.1
+asked_once (name ∷ words) (AsMarkdown n) (AsItComes m) a b h k = absurd (let e : 109 ≡ 115 = first_byte 109 115 name _ _ h.0 k.0 in omega (arith, e))
 asked_once (name ∷ words) (AsMarkdown n) Inline a b h k = absurd (let e : 109 ≡ 105 = first_byte 109 105 name _ _ h.0 k.0 in omega (arith, e))
+asked_once (name ∷ words) (AsItComes n) (InArea y) a b h k = absurd (let e : 115 ≡ 97 = first_byte 115 97 name _ _ h.0 k.0 in omega (arith, e))
+asked_once (name ∷ words) (AsItComes n) (AtWidth m) a b h k = absurd (let e : 115 ≡ 116 = first_byte 115 116 name _ _ h.0 k.0 in omega (arith, e))
+asked_once (name ∷ words) (AsItComes n) (AsMarkdown m) a b h k = absurd (let e : 115 ≡ 109 = first_byte 115 109 name _ _ h.0 k.0 in omega (arith, e))
+asked_once (name ∷ w ∷ rest) (AsItComes n) (AsItComes m) a b h k = one_word rest a b h.1.1 k.1.1
+asked_once (name ∷ words) (AsItComes n) Inline a b h k = absurd (let e : 115 ≡ 105 = first_byte 115 105 name _ _ h.0 k.0 in omega (arith, e))
 asked_once (name ∷ words) Inline (InArea y) a b h k = absurd (let e : 105 ≡ 97 = first_byte 105 97 name _ _ h.0 k.0 in omega (arith, e))
 asked_once (name ∷ words) Inline (AtWidth m) a b h k = absurd (let e : 105 ≡ 116 = first_byte 105 116 name _ _ h.0 k.0 in omega (arith, e))
 asked_once (name ∷ words) Inline (AsMarkdown m) a b h k = absurd (let e : 105 ≡ 109 = first_byte 105 109 name _ _ h.0 k.0 in omega (arith, e))
+asked_once (name ∷ words) Inline (AsItComes m) a b h k = absurd (let e : 105 ≡ 115 = first_byte 105 115 name _ _ h.0 k.0 in omega (arith, e))
 asked_once (name ∷ words) Inline Inline a b h k = one_word words a b h.1 k.1
 asked_once _ _ _ a b h k = absurd h.1
 
@@ -49,16 +60,35 @@ never words old new call h =
     known_skin asked.word (call.skin, call.unknown) asked.given (subst (λ word. skin_given word ≡ None) (asked_once words h.0 call.command h.1 asked.word h.2 asked.asks) h.3)
 
 -- a failure has the status of a refused skin only where the words ask for one
+whole_exit : (words : List (List ℕ)) (failure : Failure) (old new : Devices) → RunsWhole {T = Unit {0}} words old (Err failure) new → status_of failure ≡ 4 → AsksRefusedSkin words
+whole_exit words Skin old new h e = h.0
+whole_exit words _ old new h e = absurd (omega (arith, e))
+
+streamed_status : (e : SourceError) → status_of (streamed_failure e) ≡ 4 → ⊥
+streamed_status (source_error.Source e) h = omega (arith, h)
+streamed_status (source_error.Device e) h = omega (arith, h)
+streamed_status source_error.NotUtf8 h = omega (arith, h)
+streamed_status source_error.Memory h = omega (arith, h)
+
 pub skin_exit : (words : List (List ℕ)) (failure : Failure) (old new : Devices) → RunsTo {T = Unit {0}} words old (Err failure) new → status_of failure ≡ 4 → AsksRefusedSkin words
-skin_exit words Skin old new h e = h.0
-skin_exit words _ old new h e = absurd (omega (arith, e))
+skin_exit words failure old new (inl h) e = whole_exit words failure old new h e
+skin_exit words failure old new (inr (source, is, h)) e = absurd (streamed_status source (ap status_of is ∙ e))
 
 -- words that ask for such a skin end so, or out of memory
+whole_refused : (words : List (List ℕ)) (failure : Failure) (old new : Devices) → RunsWhole {T = Unit {0}} words old (Err failure) new → AsksRefusedSkin words → (status_of failure ≡ 4) ⊎ (status_of failure ≡ 5)
+whole_refused words Usage old new h asks = absurd (h.0 asks.0 asks.1 asks.2)
+whole_refused words Skin old new h asks = inl refl
+whole_refused words NotUtf8 old new h asks = absurd (never words _ _ h.call asks)
+whole_refused words Io old new (inl h) asks = absurd (never words _ _ h.call asks)
+whole_refused words Io old new (inr (inl h)) asks = absurd (never words _ _ h.wrote.call asks)
+whole_refused words Io old new (inr (inr h)) asks = absurd (never words _ _ h.wrote.call asks)
+whole_refused words Memory old new h asks = inr refl
+
 pub refused_exit : (words : List (List ℕ)) (failure : Failure) (old new : Devices) → RunsTo {T = Unit {0}} words old (Err failure) new → AsksRefusedSkin words → (status_of failure ≡ 4) ⊎ (status_of failure ≡ 5)
-refused_exit words Usage old new h asks = absurd (h.0 asks.0 asks.1 asks.2)
-refused_exit words Skin old new h asks = inl refl
-refused_exit words NotUtf8 old new h asks = absurd (never words _ _ h.call asks)
-refused_exit words Io old new (inl h) asks = absurd (never words _ _ h.call asks)
-refused_exit words Io old new (inr (inl h)) asks = absurd (never words _ _ h.wrote.call asks)
-refused_exit words Io old new (inr (inr h)) asks = absurd (never words _ _ h.wrote.call asks)
-refused_exit words Memory old new h asks = inr refl
+refused_exit words failure old new (inl h) asks = whole_refused words failure old new h asks
+refused_exit words failure old new (inr (source, is, h)) asks = absurd (never words _ _ h.call asks)
+
+-- a run that is done was asked for no skin that is refused
+pub done_call : (words : List (List ℕ)) (old new : Devices) → RunsTo {T = Unit {0}} words old (Ok (tt {0})) new → AsksRefusedSkin words → ⊥
+done_call words old new (inl h) asks = never words _ _ h.wrote.call asks
+done_call words old new (inr h) asks = never words _ _ h.call asks

@@ -4,7 +4,7 @@ use Rattle.termimad.specs.Areas.{IsWithinLimits}
 use Rattle.termimad.specs.declared.Area.{Area}
 use Rattle.termimad.specs.declared.MadSkin.{MadSkin}
 use Rattle.termimad_run.specs.declared.call.Command.{Command}
-use Rattle.termimad_run.specs.declared.call.Command.TheVariants.{InArea, AtWidth, AsMarkdown, Inline}
+use Rattle.termimad_run.specs.declared.call.Command.TheVariants.{InArea, AtWidth, AsMarkdown, AsItComes, Inline}
 use Rattle.termimad_run.specs.declared.failure.Failure.{Failure}
 use Rattle.termimad_run.specs.declared.failure.Failure.TheVariants.{Usage, Skin, Memory}
 use Rattle.termimad_run.specs.GivenSkins.{skin_given, IsJsonText}
@@ -30,17 +30,18 @@ abbrev pub AsksArea : List (List ℕ) → Area → Option (List ℕ) → Type 0
 AsksArea (left ∷ top ∷ width ∷ height ∷ rest) area word = IsAreaOf left top width height area × IsSkinWord rest word
 AsksArea _ area word = ⊥
 
--- the words after `text` or `markdown`: W [SKIN]
+-- the words after `text`, `markdown` or `stream`: W [SKIN]
 abbrev pub AsksWidth : List (List ℕ) → ℕ → Option (List ℕ) → Type 0
 AsksWidth [] width word = ⊥
 AsksWidth (given ∷ rest) width word = IsNumber given width × IsSkinWord rest word
 
--- The words ask for this: area L T W H [SKIN], text W [SKIN], markdown W [SKIN], or inline [SKIN].
+-- The words ask for this: area L T W H [SKIN], text W [SKIN], markdown W [SKIN], stream W [SKIN], or inline [SKIN].
 abbrev pub Asks : List (List ℕ) → Command → Option (List ℕ) → Type 0
 Asks [] command word = ⊥
 Asks (name ∷ words) (InArea area) word = (name ≡ codes "area") × AsksArea words area word
 Asks (name ∷ words) (AtWidth width) word = (name ≡ codes "text") × AsksWidth words width word
 Asks (name ∷ words) (AsMarkdown width) word = (name ≡ codes "markdown") × AsksWidth words width word
+Asks (name ∷ words) (AsItComes width) word = (name ≡ codes "stream") × AsksWidth words width word
 Asks (name ∷ words) Inline word = (name ≡ codes "inline") × IsSkinWord words word
 
 -- the command's area has four columns at least, and lies within the limits of a screen
@@ -48,7 +49,13 @@ abbrev pub IsAllowed : Command → Type 0
 IsAllowed (InArea area) = (4 ≤ area.width) × IsWithinLimits area
 IsAllowed (AtWidth width) = ⊤
 IsAllowed (AsMarkdown width) = ⊤
+IsAllowed (AsItComes width) = ⊤
 IsAllowed Inline = ⊤
+
+-- the command wants the text whole: nothing is written before all of it was read
+abbrev pub IsWhole : Command → Type 0
+IsWhole (AsItComes width) = ⊥
+IsWhole _ = ⊤
 
 -- the words ask for nothing that the program does
 abbrev pub IsNoCall : List (List ℕ) → Type 0

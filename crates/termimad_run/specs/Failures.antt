@@ -4,6 +4,8 @@ use Rattle.termimad.specs.Trace.{Trace, after, CutShort}
 use Rattle.termimad.specs.declared.Error.{Error}
 use Rattle.termimad.specs.declared.Error.TheVariants.{IO, InsufficientWidth, Memory as NoMemory}
 use Rattle.termimad.specs.declared.SkinError.{SkinError}
+use Rattle.termimad.specs.declared.SourceError.{SourceError}
+use Rattle.termimad.specs.declared.SourceError.TheVariants as source_error
 use Rattle.termimad.specs.declared.SkinError.TheVariants as skin_error
 use Rattle.termimad_run.specs.declared.failure.Failure.{Failure}
 use Rattle.termimad_run.specs.declared.failure.Failure.TheVariants.{Io, Usage, NotUtf8, Skin, Memory}
@@ -29,6 +31,13 @@ abbrev pub failure_of : Error → Failure
 failure_of (IO e) = Io
 failure_of (InsufficientWidth e) = Io
 failure_of NoMemory = Memory
+
+-- what makes of a run that a source wasn't written whole
+abbrev pub streamed_failure : SourceError → Failure
+streamed_failure (source_error.Source e) = Io
+streamed_failure (source_error.Device e) = Io
+streamed_failure source_error.NotUtf8 = NotUtf8
+streamed_failure source_error.Memory = Memory
 
 -- the device took the text, or a front of it and then failed once
 abbrev pub SaysOnce : Trace → List ℕ → Trace → Type 0

@@ -10,15 +10,17 @@ use Rattle.termimad.specs.InArea.{WritesInArea, ShowsText}
 use Rattle.termimad.specs.Inlines.{inline_bytes}
 use Rattle.termimad.specs.Markdown.{markdown_lines}
 use Rattle.termimad.specs.RowSkins.{row_skin}
+use Rattle.termimad.specs.StreamedSources.{StreamsSource}
 use Rattle.termimad.specs.WrittenMarkdown.{whole_word_skin, WritesLines}
 use Rattle.termimad.specs.WrittenParts.{WritesParts}
 use Rattle.termimad.specs.declared.MadSkin.{MadSkin}
+use Rattle.termimad.specs.declared.SourceError.{SourceError}
 use Rattle.termimad_run.specs.declared.call.Command.{Command}
-use Rattle.termimad_run.specs.declared.call.Command.TheVariants.{InArea, AtWidth, AsMarkdown, Inline}
+use Rattle.termimad_run.specs.declared.call.Command.TheVariants.{InArea, AtWidth, AsMarkdown, AsItComes, Inline}
 use Rattle.termimad_run.specs.declared.failure.Failure.{Failure}
 use Rattle.termimad_run.specs.declared.failure.Failure.TheVariants.{Io, Usage, NotUtf8, Skin, Memory}
-use Rattle.termimad_run.specs.Calls.{IsCall, IsNoCall, AsksRefusedSkin, AsksJson, RefusesWords}
-use Rattle.termimad_run.specs.Failures.{failure_of, status_of, failure_line, SaysOnce, SaysKeys}
+use Rattle.termimad_run.specs.Calls.{IsCall, IsWhole, IsNoCall, AsksRefusedSkin, AsksJson, RefusesWords}
+use Rattle.termimad_run.specs.Failures.{failure_of, streamed_failure, status_of, failure_line, SaysOnce, SaysKeys}
 use Rattle.termimad_run.specs.Reading.{ReadsWhole, ReadingFails}
 use Rattle.termimad_run.specs.LineEnds.{IsWithoutLineEnd}
 
@@ -56,6 +58,7 @@ abbrev pub WritesCall : {T : Type 0} → MadSkin → Command → List ℕ → Tr
 WritesCall skin (InArea area) text old r new = WritesInArea (row_skin skin) text area old r new
 WritesCall skin (AtWidth width) text old r new = WritesParts (row_skin skin) (Some width) text old r new
 WritesCall skin (AsMarkdown width) text old r new = WritesLines (whole_word_skin skin) (Some width) (markdown_lines text) old r new
+WritesCall skin (AsItComes width) text old r new = WritesParts (row_skin skin) (Some width) text old r new
 WritesCall skin Inline text old r new = (line : List ℕ) × IsWithoutLineEnd text line × WritesLine skin line old r new
 
 -- What a plain terminal shows that reads what was written. It is the first rows of the text in its area, by its characters and by a
@@ -65,6 +68,7 @@ ShowsCall skin (InArea area) text old new =
     ShowsHeadline (row_skin skin) text area old new × ShowsText (row_skin skin) text area old new
 ShowsCall skin (AtWidth width) text old new = ⊤
 ShowsCall skin (AsMarkdown width) text old new = ⊤
+ShowsCall skin (AsItComes width) text old new = ⊤
 ShowsCall skin Inline text old new = ⊤
 
 -- The input was read whole and is a text.
@@ -75,6 +79,7 @@ pub record HasRead (old : Trace) (text : List ℕ) (new : Trace) : Type 0 where
 -- The whole input is a text, and the output was asked to take what the call writes of it; this is how that ended, and the output then.
 pub record HasWritten (words : List (List ℕ)) (old new : Devices) (r : Result (Unit {0}) Error) (written : Trace) : Type 0 where
   pub call : Started words old.err new.err
+  pub is_whole : IsWhole call.command
   pub text : List ℕ
   pub read : HasRead old.input text new.input
   pub writes : WritesCall call.skin call.command text old.out r written
@@ -89,6 +94,7 @@ pub record IsDone (words : List (List ℕ)) (old new : Devices) : Type 0 where
 -- the input failed, or there was no memory for it; nothing was written
 pub record FailsToRead (words : List (List ℕ)) (old : Devices) (failure : Failure) (new : Devices) : Type 0 where
   pub call : Started words old.err new.err
+  pub is_whole : IsWhole call.command
   pub stopped : ReadingFails old.input failure new.input
   pub unwritten : new.out ≡ old.out
 
@@ -107,20 +113,37 @@ pub record FailsToFlush (words : List (List ℕ)) (old new : Devices) : Type 0 w
 -- the whole input was read and is no text; nothing was written
 pub record IsNoText (words : List (List ℕ)) (old new : Devices) : Type 0 where
   pub call : Started words old.err new.err
+  pub is_whole : IsWhole call.command
   pub bytes : List ℕ
   pub read : ReadsWhole old.input bytes new.input
   pub undecoded : ¬ (IsUtf8 bytes)
   pub unwritten : new.out ≡ old.out
 
--- What a run has done, by how it ended, without the line of its failure. The arguments come first, then the skin and what is said
--- of its keys, then the input, and the output last.
+-- What a run has done that wants its text whole, or that wasn't begun, by how it ended, without the line of its failure. The arguments
+-- come first, then the skin and what is said of its keys, then the input, and the output last.
+abbrev pub RunsWhole : {T : Type 0} → List (List ℕ) → Devices → Result T Failure → Devices → Type 0
+RunsWhole words old (Ok x) new = IsDone words old new
+RunsWhole words old (Err Usage) new = IsNoCall words × (new ≡ old)
+RunsWhole words old (Err Skin) new = AsksRefusedSkin words × (new ≡ old)
+RunsWhole words old (Err NotUtf8) new = IsNoText words old new
+RunsWhole words old (Err Io) new = FailsToRead words old Io new ⊎ (FailsToWrite words old Io new ⊎ FailsToFlush words old new)
+RunsWhole words old (Err Memory) new = (AsksJson words × (new ≡ old)) ⊎ (FailsToRead words old Memory new ⊎ FailsToWrite words old Memory new)
+
+-- A run that writes its text as it comes: what it has read, and what went out.
+pub record StreamsInput {T : Type 0} (words : List (List ℕ)) (old : Devices) (r : Result T SourceError) (new : Devices) : Type 0 where
+  pub call : Started words old.err new.err
+  pub width : ℕ
+  pub comes : call.command ≡ AsItComes width
+  pub streams : StreamsSource (row_skin call.skin) (Some width) old.input old.out r new.input new.out
+
+-- so it has done, by how it ended
+abbrev pub RunsAsItComes : {T : Type 0} → List (List ℕ) → Devices → Result T Failure → Devices → Type 0
+RunsAsItComes words old (Ok x) new = StreamsInput {T = Unit {0}} words old (Ok (tt {0})) new
+RunsAsItComes words old (Err failure) new = (e : SourceError) × (streamed_failure e ≡ failure) × StreamsInput {T = Unit {0}} words old (Err e) new
+
+-- What a run has done, by how it ended, without the line of its failure.
 abbrev pub RunsTo : {T : Type 0} → List (List ℕ) → Devices → Result T Failure → Devices → Type 0
-RunsTo words old (Ok x) new = IsDone words old new
-RunsTo words old (Err Usage) new = IsNoCall words × (new ≡ old)
-RunsTo words old (Err Skin) new = AsksRefusedSkin words × (new ≡ old)
-RunsTo words old (Err NotUtf8) new = IsNoText words old new
-RunsTo words old (Err Io) new = FailsToRead words old Io new ⊎ (FailsToWrite words old Io new ⊎ FailsToFlush words old new)
-RunsTo words old (Err Memory) new = (AsksJson words × (new ≡ old)) ⊎ (FailsToRead words old Memory new ⊎ FailsToWrite words old Memory new)
+RunsTo words old r new = RunsWhole words old r new ⊎ RunsAsItComes words old r new
 
 -- A run ended with this status. Without a failure it is 0 and nothing more is said; a failure has its own, and its line is said once.
 abbrev pub Answers : {T : Type 0} → Result T Failure → ℕ → Trace → Trace → Type 0

@@ -2,7 +2,7 @@
 
 ghost use Rattle.std.specs.Prelude.{◌≡◌, ℕ, List, Option, MatchOption, MatchResult, map, option_map, string_bytes};
 ghost use Rattle.termimad.specs.declared.Area.{Area as SomeArea};
-ghost use Rattle.termimad_run.specs.Calls.{Asks, IsNoCall, IsAreaOf, IsSkinWord, AsksArea, AsksWidth, IsCall, RefusesWords};
+ghost use Rattle.termimad_run.specs.Calls.{Asks, IsWhole, IsNoCall, IsAreaOf, IsSkinWord, AsksArea, AsksWidth, IsCall, RefusesWords};
 
 use crate::failure::Failure;
 use crate::number::parse_number;
@@ -22,6 +22,8 @@ pub enum Command {
     AtWidth(u16),
     /// `markdown W`: the text, read as people write Markdown and laid out at that width, in columns.
     AsMarkdown(u16),
+    /// `stream W`: the text, laid out at that width, in columns, as it comes.
+    AsItComes(u16),
     /// `inline`: the text, as one line.
     Inline,
 }
@@ -37,7 +39,8 @@ pub struct Call {
     pub unknown: Vec<String>,
 }
 
-/// The call that the words after the program's name are: `area L T W H [SKIN]`, `text W [SKIN]`, `markdown W [SKIN]` or `inline [SKIN]`.
+/// The call that the words after the program's name are: `area L T W H [SKIN]`, `text W [SKIN]`, `markdown W [SKIN]`,
+/// `stream W [SKIN]` or `inline [SKIN]`.
 ///
 /// # Errors
 ///
@@ -74,6 +77,10 @@ fn parse_words(words: &[String]) -> Option<(Command, Option<&str>)>
             let (width, word) = parse_text_call(words)?;
             Some((Command::AsMarkdown(width), word))
         }
+        "stream" => {
+            let (width, word) = parse_text_call(words)?;
+            Some((Command::AsItComes(width), word))
+        }
         "inline" => Some((Command::Inline, skin_word(words)?)),
         _ => None,
     }
@@ -91,7 +98,7 @@ fn parse_area_call(words: &[String]) -> Option<(Area, Option<&str>)>
     Some((area, skin_word(rest)?))
 }
 
-// What the words after `text` or `markdown` ask for.
+// What the words after `text`, `markdown` or `stream` ask for.
 fn parse_text_call(words: &[String]) -> Option<(u16, Option<&str>)>
     ensures { MatchOption result ((width : ℕ) (word : Option (List ℕ)) → ¬ (AsksWidth (map string_bytes words.now) width word))
         (λ asked. AsksWidth (map string_bytes words.now) asked.0 (option_map (λ word. word.now) asked.1)) }
@@ -129,5 +136,15 @@ fn skin_word(words: &[String]) -> Option<Option<&str>>
         [] => Some(None),
         [word] => Some(Some(word.as_str())),
         _ => None,
+    }
+}
+
+/// The width at which a text is to be laid out as it comes; none, where a command wants it whole.
+pub(crate) fn width_of_pieces(command: &Command) -> Option<u16>
+    ensures { MatchOption result (IsWhole command.now) (λ width. command.now ≡ Command.AsItComes width) }
+{
+    match command {
+        Command::AsItComes(width) => Some(*width),
+        Command::InArea(_) | Command::AtWidth(_) | Command::AsMarkdown(_) | Command::Inline => None,
     }
 }

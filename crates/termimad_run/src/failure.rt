@@ -2,11 +2,11 @@
 
 ghost use Rattle.std.specs.Prelude.{◌≡◌};
 ghost use Rattle.serde_json.specs.Errors.{IsMemory};
-ghost use Rattle.termimad_run.specs.Failures.{status_of, failure_line, failure_of, skin_failure, SaysOnce};
+ghost use Rattle.termimad_run.specs.Failures.{status_of, failure_line, failure_of, skin_failure, streamed_failure, SaysOnce};
 
 use std::alloc::{AllocError, AllocFailed};
 use std::io;
-use termimad::{Error, Out, SkinError, put_all};
+use termimad::{Error, Out, SkinError, SourceError, put_all};
 
 /// Why a run ended with a status other than 0.
 #[derive(Clone, Copy, PartialEq, Eq, Debug)]
@@ -91,6 +91,18 @@ impl From<Error> for Failure {
         match e {
             Error::IO(_) | Error::InsufficientWidth(_) => Failure::Io,
             Error::Memory => Failure::Memory,
+        }
+    }
+}
+
+impl From<SourceError> for Failure {
+    ghost from_gives = { λ e failure. failure ≡ streamed_failure e };
+
+    fn from(e: SourceError) -> Self {
+        match e {
+            SourceError::Source(_) | SourceError::Device(_) => Failure::Io,
+            SourceError::NotUtf8 => Failure::NotUtf8,
+            SourceError::Memory => Failure::Memory,
         }
     }
 }

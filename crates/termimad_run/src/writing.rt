@@ -31,7 +31,7 @@ pub fn write_call<O: Out>(
 {
     match command {
         Command::InArea(area) => skin.write_in_area_on(alloc, out, text, area),
-        Command::AtWidth(width) => {
+        Command::AtWidth(width) | Command::AsItComes(width) => {
             skin.write_parts_on(alloc, out, text, Some(usize::from(*width)))
         }
         Command::AsMarkdown(width) => {

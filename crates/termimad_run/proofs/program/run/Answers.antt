@@ -1,9 +1,9 @@
 use Rattle.std.proofs.Common.{sym, ◌∙◌, subst, ◌⊎◌, ◌≡◌}
-use Rattle.termimad_run.proofs.SkinWords.{never, skin_exit, refused_exit}
+use Rattle.termimad_run.proofs.SkinWords.{done_call, skin_exit, refused_exit}
 use Rattle.termimad_run.proofs.program.run.Goals as goal
 
 pub returns-in-Ok-clause-refused : goal.returns-in-Ok-clause-refused
-returns-in-Ok-clause-refused g c = λ asks. absurd (never _ _ _ c.in-Ok.ensures.wrote.call asks)
+returns-in-Ok-clause-refused g c = λ asks. absurd (done_call _ _ _ c.in-Ok.ensures asks)
 
 pub returns-in-Err-clause-skin : goal.returns-in-Err-clause-skin
 returns-in-Err-clause-skin g c = λ e. skin_exit _ c.in-Err.failure _ _ c.in-Err.ensures (sym c.refuse.ensures.status ∙ e)
