@@ -8,7 +8,6 @@ use Rattle.std.proofs.lemmas.List.Edits.{take-paste}
 use Rattle.std.proofs.lemmas.List.{append-nil, drop-take, length-append, length-drop, length-take-le, take-append-drop, take-append-le, take_all}
 use Rattle.std.proofs.lemmas.Result.{err_from_is_err_and}
 use Rattle.std.proofs.lemmas.Str.{IsUtf8-append, IsUtf8-nil}
-use Rattle.std.proofs.Math.Seq.{take-append_seam}
 use Rattle.std.proofs.lemmas.Bool.{true≢false}
 use Rattle.mad_md.specs.Lines.{LineContent}
 use Rattle.mad_md.specs.Reading.{resumed_text, unread_text}
