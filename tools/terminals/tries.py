@@ -507,7 +507,8 @@ def stop_alone_in_xterm(w):
         runs = lambda: [state for _, _, state, command in processes() if command.startswith(ENVIRONMENT["TERMIMAD_PAGE"]) and "text.md" in command]
         try:
             assert until(runs), "it doesn't start"
-            subprocess.run(["xdotool", "search", "--sync", "--class", "xterm", "windowfocus"], env=ENVIRONMENT, capture_output=True, check=True)
+            focus = ["xdotool", "search", "--sync", "--class", "xterm", "windowfocus"]
+            assert until(lambda: subprocess.run(focus, env=ENVIRONMENT, capture_output=True).returncode == 0), "no window"
             keys("space", "ctrl+z")
             time.sleep(0.5)
             keys("space", "ctrl+z", "ctrl+z", "space")
@@ -595,7 +596,7 @@ def run_tries(folder, word):
         try:
             said = f(w)
             print(f"pass {f.__name__} ({time.monotonic() - began:.1f} s){': ' + said if said else ''}", flush=True)
-        except (AssertionError, RuntimeError, StopIteration) as e:
+        except (AssertionError, RuntimeError, StopIteration, subprocess.SubprocessError) as e:
             failed += 1
             print(f"FAIL {f.__name__}: {type(e).__name__} {e}", flush=True)
         w.close()
