@@ -89,6 +89,7 @@ def resize_with_keys(w):
 @tried
 def resize_of_a_long_text(w):
     """As a mouse that drags the window's edge: 120 signals in two seconds, a text of 10 MB."""
+    wanted = fresh(w, 61, 21, "long.md")
     begin(w, "long.md")
     script = w.script()
     for _ in range(120):
@@ -96,9 +97,9 @@ def resize_of_a_long_text(w):
         time.sleep(1 / 60)
     began = time.monotonic()
     w.resize(61, 21)
-    w.type("G")
-    assert until(lambda: "100%" in w.shown()[20], 60), w.shown()
+    until(lambda: w.shown() == wanted, 60)
     took = time.monotonic() - began
+    same(w.still(), wanted)
     end(w, seconds=60)
     return f"{took:.1f} s until it stands"
 
@@ -491,8 +492,11 @@ def stop_alone_in_tmux(w):
     first = alone.still()[0]
     alone.type("\x1a")
     time.sleep(0.5)
-    alone.type(" \x1a\x1a")
+    alone.type(" ")  # (a Control-Z right behind it would have the terminal drop it)
     assert until(lambda: alone.shown()[0] != first, 3), alone.shown()
+    alone.type("\x1a\x1a")
+    time.sleep(0.5)
+    assert alone.paging()
     alone.close()
 
 
@@ -507,7 +511,8 @@ def stop_alone_in_xterm(w):
         runs = lambda: [state for _, _, state, command in processes() if command.startswith(ENVIRONMENT["TERMIMAD_PAGE"]) and "text.md" in command]
         try:
             assert until(runs), "it doesn't start"
-            subprocess.run(["xdotool", "search", "--sync", "--class", "xterm", "windowfocus"], env=ENVIRONMENT, capture_output=True, check=True)
+            focus = ["xdotool", "search", "--sync", "--class", "xterm", "windowfocus"]
+            assert until(lambda: subprocess.run(focus, env=ENVIRONMENT, capture_output=True).returncode == 0), "no window"
             keys("space", "ctrl+z")
             time.sleep(0.5)
             keys("space", "ctrl+z", "ctrl+z", "space")
@@ -595,7 +600,7 @@ def run_tries(folder, word):
         try:
             said = f(w)
             print(f"pass {f.__name__} ({time.monotonic() - began:.1f} s){': ' + said if said else ''}", flush=True)
-        except (AssertionError, RuntimeError, StopIteration) as e:
+        except (AssertionError, RuntimeError, StopIteration, subprocess.SubprocessError) as e:
             failed += 1
             print(f"FAIL {f.__name__}: {type(e).__name__} {e}", flush=True)
         w.close()
