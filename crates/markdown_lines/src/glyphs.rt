@@ -4,8 +4,8 @@ ghost use Rattle.std.specs.Prelude.{◌≡◌, ◌++◌, ◌∷◌, [], IfOk, On
 ghost use Rattle.markdown_inlines.specs.Styled.{shown_with, spelled_of, IsStyled};
 ghost use Rattle.markdown_lines.specs.Glyphs.{glyph_of, leaf_glyphs, is_edge, without_front, without_back, trimmed, space, spaced_from};
 
-use indexmap::IndexSet;
 use crate::places::RunFlags;
+use indexmap::IndexSet;
 use markdown_inlines::inlines::leaf_text;
 use markdown_inlines::looks::Look;
 use markdown_inlines::styled::Styled;

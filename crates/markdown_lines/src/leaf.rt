@@ -8,10 +8,10 @@ ghost use Rattle.markdown_lines.specs.Leaf.{shown_text, plain_row, rows_of, leaf
 ghost use Rattle.markdown_lines.specs.Said.{said};
 ghost use Rattle.markdown_lines.specs.Shown.{shown};
 
-use indexmap::IndexSet;
 use crate::glyphs::{Glyph, leaf_glyphs, spaced, trimmed};
 use crate::lines::Lines;
 use crate::runs::Runs;
+use indexmap::IndexSet;
 use mad_md::CompositeStyle;
 use markdown_inlines::printable::shown_char;
 use markdown_marks::bytes::{is_blank, without_blanks};
@@ -66,7 +66,12 @@ pub fn leaf_rows(alloc: Global, labels: &IndexSet<String>, text: &str) -> Result
 
 /// The runs of a cell with this text, in bold or as they are.
 #[tactic(auto, unfolding(crate::specs::Leaf::cell_runs))]
-pub fn cell_runs(alloc: Global, labels: &IndexSet<String>, bold: bool, text: &str) -> Result<Runs, AllocError>
+pub fn cell_runs(
+    alloc: Global,
+    labels: &IndexSet<String>,
+    bold: bool,
+    text: &str,
+) -> Result<Runs, AllocError>
     ensures { IfOk result (λ runs. said runs ≡ cell_runs (map string_bytes labels.now.keys) bold text.now) }
 {
     let glyphs = leaf_glyphs(alloc, labels, bold, text)?;

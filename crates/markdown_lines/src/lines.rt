@@ -11,13 +11,13 @@ ghost use Rattle.markdown_lines.specs.Said.{said, range_said};
 ghost use Rattle.mad_md.specs.Flagged.{unflagged};
 ghost use Rattle.mad_md.specs.Lines.{content_of, normal, table_row, table_rule, horizontal_rule};
 
-use indexmap::IndexSet;
 use crate::cells::{after_cell, cell_of, cell_text};
 use crate::glyphs::Glyph;
 use crate::leaf::cell_runs;
 use crate::places::{RunFlags, RunRange};
 use crate::runs::Runs;
 use crate::text::make_line;
+use indexmap::IndexSet;
 use mad_md::{Alignment, CompositeStyle, Line};
 use std::alloc::{AllocError, Global};
 
@@ -40,7 +40,12 @@ pub struct Lines {
 }
 
 // The runs of the first cell of a row.
-fn runs_of_cell(alloc: Global, labels: &IndexSet<String>, bold: bool, row: &[u8]) -> Result<Runs, AllocError>
+fn runs_of_cell(
+    alloc: Global,
+    labels: &IndexSet<String>,
+    bold: bool,
+    row: &[u8],
+) -> Result<Runs, AllocError>
     ensures { IfOk result (λ runs. said runs ≡ cell_runs (map string_bytes labels.now.keys) bold (utf8_lossy (unbarred [] false (cell_of row.now)))) }
 {
     let text = cell_text(alloc, cell_of(row))?;

@@ -5,9 +5,9 @@ ghost use Rattle.markdown_marks.specs.Remaining.{remaining};
 ghost use Rattle.markdown_lines.specs.Shown.{shown};
 ghost use Rattle.markdown_lines.specs.Tables.{shown_cells, row_said, body, ruled, table_lines};
 
-use indexmap::IndexSet;
 use crate::cells::{alignments, row_of};
 use crate::lines::Lines;
+use indexmap::IndexSet;
 use mad_md::Alignment;
 use markdown_marks::rest::Rest;
 use markdown_marks::tables::cell_count;
