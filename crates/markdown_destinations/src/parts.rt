@@ -1,18 +1,28 @@
 //! Destinations and titles, as they are written.
 
-ghost use Rattle.std.specs.Prelude.{◌≡◌, ◌≤◌, length};
-ghost use Rattle.std.specs.Option.{option_copied};
-ghost use Rattle.markdown_destinations.specs.Parts.{before, inner, destination_in, title_in, behind, inline_text, inline_destination, inline_title, label_behind, defined_text, defined_destination, ends_line, is_title, defined_title_in, defined_title_by, defined_title};
+ghost use Rattle.std.specs.Prelude.{◌≡◌};
+ghost use Rattle.markdown_marks.specs.Definitions.{after_destination, title_after};
+ghost use Rattle.markdown_destinations.specs.Parts.{before, inner, destination_in, title_in, behind, inline_text, inline_destination, inline_title, defined_text, defined_destination, ends_line, is_title, defined_title_in, defined_title};
 
 use markdown_marks::bytes::{first, without_blanks};
 use markdown_marks::definitions::{after_destination, after_label, after_space, title_after};
 use markdown_spans::words::{bytes_from, bytes_up_to};
 
-// What is before the rest that follows it.
-fn before<'t>(text: &'t [u8], rest: Option<&[u8]>) -> &'t [u8]
-    ensures { result.now ≡ before text.now (option_copied rest) }
+// The destination in front, with its angle brackets.
+fn destination_part(text: &[u8]) -> &[u8]
+    ensures { result.now ≡ before text.now (after_destination text.now) }
 {
-    match rest {
+    match after_destination(text) {
+        None => &[],
+        Some(rest) => bytes_up_to(text, text.len().saturating_sub(rest.len())),
+    }
+}
+
+// The title in front, with its quotes or parentheses.
+fn title_part(text: &[u8]) -> &[u8]
+    ensures { result.now ≡ before text.now (title_after text.now) }
+{
+    match title_after(text) {
         None => &[],
         Some(rest) => bytes_up_to(text, text.len().saturating_sub(rest.len())),
     }
@@ -28,7 +38,7 @@ fn inner(text: &[u8]) -> &[u8]
 fn destination_in(text: &[u8]) -> &[u8]
     ensures { result.now ≡ destination_in text.now }
 {
-    let part = before(text, after_destination(text));
+    let part = destination_part(text);
     if first(text) == b'<' {
         inner(part)
     } else {
@@ -39,13 +49,14 @@ fn destination_in(text: &[u8]) -> &[u8]
 fn title_in(text: &[u8]) -> &[u8]
     ensures { result.now ≡ title_in text.now }
 {
-    inner(before(text, title_after(text)))
+    inner(title_part(text))
 }
 
-fn behind(rest: Option<&[u8]>) -> &[u8]
-    ensures { result.now ≡ behind (option_copied rest) }
+// What follows the blanks behind a destination.
+fn behind_destination(text: &[u8]) -> &[u8]
+    ensures { result.now ≡ behind (after_destination text.now) }
 {
-    match rest {
+    match after_destination(text) {
         None => &[],
         Some(rest) => after_space(rest),
     }
@@ -68,22 +79,17 @@ pub fn inline_destination(link: &[u8]) -> &[u8]
 pub fn inline_title(link: &[u8]) -> &[u8]
     ensures { result.now ≡ inline_title link.now }
 {
-    title_in(behind(after_destination(inline_text(link))))
+    title_in(behind_destination(inline_text(link)))
 }
 
-fn label_behind(rest: Option<&[u8]>) -> &[u8]
-    ensures { result.now ≡ label_behind (option_copied rest) }
-{
-    match rest {
-        None => &[],
-        Some(rest) => after_space(bytes_from(rest, 1)),
-    }
-}
-
+// What follows the label of a definition, its colon and blanks.
 fn defined_text(definition: &[u8]) -> &[u8]
     ensures { result.now ≡ defined_text definition.now }
 {
-    label_behind(after_label(bytes_from(definition, 1)))
+    match after_label(bytes_from(definition, 1)) {
+        None => &[],
+        Some(rest) => after_space(bytes_from(rest, 1)),
+    }
 }
 
 /// The destination of the definition that a text begins with.
@@ -102,10 +108,11 @@ fn ends_line(text: &[u8]) -> bool
     }
 }
 
-fn is_title(rest: Option<&[u8]>) -> bool
-    ensures { result ≡ is_title (option_copied rest) }
+// Whether a title is in front, which has the rest of its line alone.
+fn is_title(text: &[u8]) -> bool
+    ensures { result ≡ is_title (title_after text.now) }
 {
-    match rest {
+    match title_after(text) {
         None => false,
         Some(rest) => ends_line(without_blanks(rest)),
     }
@@ -118,24 +125,18 @@ fn defined_title_in<'t>(rest: &[u8], text: &'t [u8]) -> &'t [u8]
     if text.len() == rest.len() {
         return &[];
     }
-    if is_title(title_after(text)) {
+    if is_title(text) {
         return title_in(text);
     }
     &[]
-}
-
-fn defined_title_by(rest: Option<&[u8]>) -> &[u8]
-    ensures { result.now ≡ defined_title_by (option_copied rest) }
-{
-    match rest {
-        None => &[],
-        Some(rest) => defined_title_in(rest, after_space(rest)),
-    }
 }
 
 /// The title of the definition that a text begins with, without its quotes or parentheses; empty without one.
 pub fn defined_title(definition: &[u8]) -> &[u8]
     ensures { result.now ≡ defined_title definition.now }
 {
-    defined_title_by(after_destination(defined_text(definition)))
+    match after_destination(defined_text(definition)) {
+        None => &[],
+        Some(rest) => defined_title_in(rest, after_space(rest)),
+    }
 }
