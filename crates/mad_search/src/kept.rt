@@ -22,7 +22,7 @@ pub fn kept_row<S: LineSkin>(
     new_width: usize,
     row: usize,
 ) -> Result<usize, AllocError>
-    ensures { IfOk result (IsKeptRow (S.rules skin.now) (paged_lines text) old_width new_width row) }
+    ensures { IfOk result (IsKeptRow (S.rules skin.now) (paged_lines text.entry) old_width new_width row) }
 {
     let is_same = old_width == new_width;
     if is_same {
@@ -40,7 +40,7 @@ fn part_starts<S: LineSkin>(
     text: PagedText,
     width: usize,
 ) -> Result<Vec<usize>, AllocError>
-    ensures { IfOk result (λ starts. ArePartStarts (S.rules skin.now) width (paged_lines text) starts.items) }
+    ensures { IfOk result (λ starts. ArePartStarts (S.rules skin.now) width (paged_lines text.entry) starts.items) }
 {
     let mut parts = text.parts(alloc)?;
     let mut lines = Vec::new(alloc);
