@@ -140,11 +140,11 @@ fn skin_word(words: &[String]) -> Option<Option<&str>>
 }
 
 /// The width at which a text is to be laid out as it comes; none, where a command wants it whole.
-pub(crate) fn width_of_pieces(command: &Command) -> Option<u16>
+pub(crate) fn width_of_pieces(command: &Command) -> Option<usize>
     ensures { MatchOption result (IsWhole command.now) (λ width. command.now ≡ Command.AsItComes width) }
 {
     match command {
-        Command::AsItComes(width) => Some(*width),
+        Command::AsItComes(width) => Some(usize::from(*width)),
         Command::InArea(_) | Command::AtWidth(_) | Command::AsMarkdown(_) | Command::Inline => None,
     }
 }

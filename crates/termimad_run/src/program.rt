@@ -52,7 +52,7 @@ fn execute<I: Source, O: Out, E: Out>(
 {
     let call = start(alloc, args, err)?;
     if let Some(width) = width_of_pieces(&call.command) {
-        write_source_on(alloc, input, out, &call.skin, Some(usize::from(width)))?;
+        write_source_on(alloc, input, out, &call.skin, Some(width))?;
         return Ok(());
     }
     let bytes = read_all(alloc, input)?;
