@@ -1,6 +1,7 @@
 -- What keys and events do, along what is equal.
 use Rattle.std.proofs.Common.{◌≡◌, ◌≢◌, ◌⊎◌, ℕ, ◌+◌, ◌-◌, ◌==◌, Bool, List, [], ◌∷◌, ◌++◌, length, Some, inl, inr, sym, subst, ap, ◌∙◌, true, false, arith, append_assoc}
 use Rattle.std.specs.Prelude.{◌↔◌, codes, IsTrue}
+use Rattle.mad_md.specs.Lines.{LineContent}
 use Rattle.mad_md.specs.declared.alignment.Alignment.{Alignment}
 use Rattle.mad_md.specs.declared.alignment.Alignment.TheVariants.{Left}
 use Rattle.mad_format.specs.Fitting.{IsCompositeFitted}
