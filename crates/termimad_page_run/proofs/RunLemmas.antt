@@ -1,5 +1,5 @@
 -- Turns that are made one after the other, and how they end.
-use Rattle.std.proofs.Common.{◌≡◌, ℕ, ◌<◌, nat_lt, Bool, List, [], ◌∷◌, ◌++◌, length, map, take, Option, Some, None, option_map, Result, Ok, Err, inl, refl, ap, sym, ◌∙◌, subst, arith}
+use Rattle.std.proofs.Common.{◌≡◌, ℕ, ◌<◌, nat_lt, Bool, false, List, [], ◌∷◌, ◌++◌, length, map, take, Option, Some, None, option_map, Result, Ok, Err, inl, refl, ap, sym, ◌∙◌, subst, arith}
 use Rattle.std.specs.Prelude.{chars, encode_utf8, encode_utf8_all, MatchResult}
 use Rattle.std.specs.Result.{IsErrAnd}
 use Rattle.std.proofs.lemmas.List.{append-nil, length-take-le, map-append}
@@ -17,7 +17,12 @@ use Rattle.mad_pager.proofs.OrderLemmas.{event_order, start_order}
 use Rattle.mad_pager.specs.Sessions.{State, HasSameText, IsStart, state_of}
 use Rattle.mad_pager.specs.declared.session.Session.{Session}
 use Rattle.termimad_page_run.specs.Blocks.{IsBlockDone, IsSession}
-use Rattle.termimad_page_run.specs.Runs.{AreTurns, EndsAtInput, IsBrokenOff, IsBrokenRun, IsPaged, IsTurn, IsTurned, Moment, Paged, block_room, moment, name_row, paged, paged_of, row_char, sheet_lines, shown_text}
+use Rattle.termimad_page_run.specs.Runs.{AreTurns, EndsAtInput, IsBrokenOff, IsBrokenRun, IsPaged, IsTurn, IsTurned, Moment, Paged, block_room, lines_in, moment, name_row, paged, paged_of, row_char, sheet_lines, shown_text}
+use Rattle.markdown_reader.specs.Markdown.{markdown_lines}
+use Rattle.mad_md.specs.Reading.{unread_text}
+use Rattle.mad_md.specs.Scan.{lines_of}
+use Rattle.termimad_page_run.specs.declared.program.Grammar.{Grammar}
+use Rattle.termimad_page_run.specs.declared.program.Grammar.TheVariants.{Lines, Markdown}
 use Rattle.termimad_page_run.specs.declared.program.Sheet.{Sheet}
 
 -- ---- names
@@ -112,6 +117,14 @@ pub broken_exit : (p : Paged) (s : State) (old_input new_input old_out new_out :
 broken_exit p s old_input new_input old_out new_out r e is h =
     let q = err_from_is_err_and r is in
     subst (λ (t : Result Unit Error). MatchResult t (λ _. IsTurned p s old_input new_input old_out new_out) (λ d. IsBrokenOff p s d old_input new_input old_out new_out)) (sym (q.1 ∙ ap Err q.2)) h
+
+-- the lines of a text that is shown as it is printable
+pub lines_said : (grammar : Grammar) (text shown : List ℕ) → grammar ≡ Lines → shown ≡ shown_text text → lines_of (unread_text false shown) ≡ lines_in grammar text
+lines_said grammar text shown is e = ap (λ (t : List ℕ). lines_of (unread_text false t)) e ∙ ap (λ (g : Grammar). lines_in g text) (sym is)
+
+-- those of Markdown that was read
+pub markdown_said : (grammar : Grammar) (text : List ℕ) (said : List LineContent) → grammar ≡ Markdown → said ≡ markdown_lines text → said ≡ lines_in grammar text
+markdown_said grammar text said is e = e ∙ ap (λ (g : Grammar). lines_in g text) (sym is)
 
 -- a run from the start of a sheet's text
 pub sheet_paged : (sheet : Sheet) (session : Session) (name : List ℕ) (text : PagedText) (r : Result Unit Error) (old_input new_input old_out new_out : Trace)
