@@ -11,8 +11,8 @@ ghost use Rattle.termimad_c.specs.Making.{IsWritten, IsAreaWritten, IsTextWritte
 
 use crate::answer::{Answer, Progress, count_out, hand_out, hand_out_parts};
 use crate::making::{
-    area_bytes, fitted_bytes, inline_bytes, markdown_bytes, parts_made, printable_bytes, rows_count,
-    text_bytes,
+    area_bytes, fitted_bytes, inline_bytes, markdown_bytes, parts_made, printable_bytes,
+    rows_count, text_bytes,
 };
 use std::alloc::Global;
 
