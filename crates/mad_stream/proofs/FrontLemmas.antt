@@ -14,7 +14,7 @@ use Rattle.mad_blocks.proofs.LayoutJoins.{apart, by_bool}
 use Rattle.mad_stream.specs.Fronts.{IsCompleteFront, settled_before, joined_by, settled_by, settled_at}
 use Rattle.mad_stream.specs.Lines.{IsFirstLine}
 use Rattle.mad_stream.specs.Sources.{MayGoOn}
-use Rattle.mad_stream.specs.Steps.{LineReads, ends_before, stays_with, last_after, fence_after}
+use Rattle.mad_stream.specs.Steps.{IsWholeLine, LineReads, ends_before, stays_with, last_after, fence_after}
 use Rattle.mad_stream.specs.Streams.{AreHeld, ReadsTo, EndsIn}
 use Rattle.mad_stream.specs.declared.fronts.Scan.{Scan}
 use Rattle.mad_stream.proofs.HeldLemmas.{joined, apart_before, apart_none, apart_settled, reads_both, reads_nothing}
@@ -50,6 +50,9 @@ scanned_start text fenced scan utf8 is = subst (λ (s : Scan). Scanned text fenc
 })
 
 -- ---- a line comes
+
+pub whole_line : (text line rest : List ℕ) → IsFirstLine text line rest → IsWholeLine line
+whole_line text line rest h = (h.part, h.cut, h.ends)
 
 -- where no part goes on to it, all before it is complete
 settled : (text : List ℕ) (fenced : Bool) (scan : Scan) (line after : List ℕ) (kind : LineKind) (start : ℕ) → Scanned text fenced scan (line ++ after) → IsUtf8 (line ++ after) → LineReads scan.is_open line kind → ends_before scan.last kind ≡ true
