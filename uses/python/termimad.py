@@ -11,6 +11,14 @@ Set TERMIMAD_LIBRARY to the path of the shared library; without it the loader lo
     'a very lo…'
     >>> printable("an escape \\x1b[2J")
     'an escape ␛[2J'
+    >>> for rows_of_a_part in text_of_pieces(["|a|", "b|\\n|1", "|2|\\nnext *line*\\n", "last"], width=20):
+    ...     print(rows_of_a_part, end="--\\n")
+    │ a │ b │
+    │ 1 │ 2 │
+    next line
+    --
+    last
+    --
     >>> text("a", width=70000)
     Traceback (most recent call last):
     termimad.WrongNumber: A width, an area or an alignment is none that the call takes.
@@ -61,12 +69,17 @@ class _Answer(ctypes.Structure):
     _fields_ = [("count", ctypes.c_size_t), ("status", ctypes.c_uint32)]
 
 
+class _Progress(ctypes.Structure):
+    _fields_ = [("count", ctypes.c_size_t), ("used", ctypes.c_size_t), ("fenced", ctypes.c_uint32), ("status", ctypes.c_uint32)]
+
+
 _library = ctypes.CDLL(os.environ.get("TERMIMAD_LIBRARY", "libtermimad.so"))
 _BYTES = [ctypes.c_char_p, ctypes.c_size_t]
 _PARAMETERS = {
     "termimad_area": _BYTES * 2 + [ctypes.c_size_t] * 4 + _BYTES,
     "termimad_text": _BYTES * 2 + [ctypes.c_size_t] + _BYTES,
     "termimad_markdown": _BYTES * 2 + [ctypes.c_size_t] + _BYTES,
+    "termimad_parts": _BYTES * 2 + [ctypes.c_size_t] * 3 + _BYTES,
     "termimad_inline": _BYTES * 3,
     "termimad_rows": _BYTES * 2 + [ctypes.c_size_t],
     "termimad_fit": _BYTES * 2 + [ctypes.c_size_t] * 2 + _BYTES,
@@ -74,7 +87,7 @@ _PARAMETERS = {
 }
 for _name, _parameters in _PARAMETERS.items():
     _call = getattr(_library, _name)
-    _call.argtypes, _call.restype = _parameters, _Answer
+    _call.argtypes, _call.restype = _parameters, _Progress if _name == "termimad_parts" else _Answer
 
 
 def area(markdown, left, top, width, height, skin=""):
@@ -90,6 +103,24 @@ def text(markdown, width, skin=""):
 def markdown(text, width, skin=""):
     """The text, read as people write Markdown and laid out in `width` columns, each row with a newline."""
     return _result("termimad_markdown", [text, skin], [width])
+
+
+def text_of_pieces(pieces, width, skin=""):
+    """The rows of a text that comes in pieces, as soon as they are complete: in all, what `text` answers of the whole.
+
+    The pieces are `str` or `bytes`, cut anywhere: a list, a file that is open, or `iter(lambda: file.read1(4096), b"")`, which waits
+    for no more than there is.
+    """
+    left, fenced = b"", 0
+    for piece in pieces:
+        left += piece.encode("utf-8", "surrogatepass") if isinstance(piece, str) else piece
+        made, used, fenced = _parts(left, skin, width, fenced, 0)
+        left = left[used:]
+        if made:
+            yield made
+    made, _, _ = _parts(left, skin, width, fenced, 1)
+    if made:
+        yield made
 
 
 def inline(line, skin=""):
@@ -114,13 +145,24 @@ def printable(words):
 
 
 def _result(name, texts, numbers):
-    """What the call makes, by a second call where the first buffer is too small."""
+    """What the call makes."""
+    return _filled(name, texts, numbers)[0]
+
+
+def _parts(left, skin, width, fenced, last):
+    """The rows of the complete parts of what is left, how many of its bytes they are of, and whether a fence is open then."""
+    rows_made, answer = _filled("termimad_parts", [left, skin], [width, fenced, last])
+    return rows_made, answer.used, answer.fenced
+
+
+def _filled(name, texts, numbers):
+    """What the call makes and its answer, by a second call where the first buffer is too small."""
     capacity = _FIRST_CAPACITY
     while True:
         buffer = ctypes.create_string_buffer(capacity)
         answer = _checked(getattr(_library, name)(*_handed(texts), *_sizes(numbers), buffer, capacity))
         if answer.status == _DONE:
-            return buffer.raw[: answer.count].decode()
+            return buffer.raw[: answer.count].decode(), answer
         capacity = answer.count
 
 

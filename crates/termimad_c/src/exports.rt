@@ -9,9 +9,10 @@ ghost use Rattle.termimad_c.specs.Answers.{Answers, Counts};
 ghost use Rattle.termimad_c.specs.Inputs.{RefusesCall, IsNoArea, IsNoFit};
 ghost use Rattle.termimad_c.specs.Making.{IsWritten, IsAreaWritten, IsTextWritten, IsMarkdownWritten, IsRowCount, IsFittedLine, IsMadePrintable};
 
-use crate::answer::{Answer, count_out, hand_out};
+use crate::answer::{Answer, Progress, count_out, hand_out, hand_out_parts};
 use crate::making::{
-    area_bytes, fitted_bytes, inline_bytes, markdown_bytes, printable_bytes, rows_count, text_bytes,
+    area_bytes, fitted_bytes, inline_bytes, markdown_bytes, parts_made, printable_bytes, rows_count,
+    text_bytes,
 };
 use std::alloc::Global;
 
@@ -60,6 +61,26 @@ pub extern "C" fn termimad_markdown(
     ensures { Answers (IsMarkdownWritten text.now skin.now width) (RefusesCall (2 ^ 16 ≤ width) text.now skin.now) buffer.old result buffer.new }
 {
     hand_out(markdown_bytes(alloc, text, skin, width), buffer)
+}
+
+/// The complete parts at the front of a Markdown text, laid out at a width, in columns; where `last` isn't 0, all of the text. A fence is open before
+/// it where `fenced` isn't 0.
+///
+/// The caller drops the bytes that were used, appends what comes, and calls again with the fence that was answered. In all the rows are those
+/// that `termimad-view text` writes of the whole text.
+#[unsafe(no_mangle)]
+pub extern "C" fn termimad_parts(
+    alloc: Global,
+    text: &[u8],
+    skin: &[u8],
+    width: usize,
+    fenced: usize,
+    last: usize,
+    buffer: &mut [u8],
+) -> Progress {
+    let is_open = fenced != 0;
+    let made = parts_made(alloc, text, skin, width, is_open, last != 0);
+    hand_out_parts(made, is_open, buffer)
 }
 
 /// A text as one line with its inline marks, and a newline: what `termimad-view inline` writes.

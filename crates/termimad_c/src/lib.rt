@@ -15,4 +15,4 @@ mod gathered;
 mod inputs;
 mod making;
 
-pub use answer::{Answer, Refusal};
+pub use answer::{Answer, Parts, Progress, Refusal};
