@@ -62,11 +62,11 @@ sets_nothing s =
     is_none s.object_style.foreground_color && is_none s.object_style.background_color && is_none s.object_style.underline_color
     && (attribute_bits s.object_style.attributes == 0)
 
--- no flag of the papers' grammar adds anything
+-- no flag of a compound adds anything, links apart
 abbrev pub adds_nothing : RowSkin → Bool
 adds_nothing skin = sets_nothing skin.bold && sets_nothing skin.italic && sets_nothing skin.strikeout && sets_nothing skin.inline_code
 
--- the skin with links underlined; but where no other flag adds anything, links don't either
+-- the skin with links underlined; but where no other flag adds anything, link doesn't either
 abbrev pub with_links : RowSkin → RowSkin
 with_links skin = record skin { link = (if adds_nothing skin then unstyled else text_style None None (only Underlined)) }
 
