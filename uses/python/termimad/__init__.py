@@ -19,25 +19,38 @@ Set TERMIMAD_LIBRARY to the path of the shared library; without it the loader lo
     --
     last
     --
+    >>> print(table([["disk", "used"], ["a|b", "7"]], width=40, aligns=[Align.LEFT, Align.RIGHT]), end="")
+    ┌────┬────┐
+    │disk│used│
+    ├────┼────┤
+    │a|b │   7│
+    └────┴────┘
+    >>> Text("- one\\n- *two*\\n  lines").rows(width=20)
+    ['• one', '• two lines']
     >>> text("a", width=70000)
     Traceback (most recent call last):
-    termimad.WrongNumber: A width, an area or an alignment is none that the call takes.
+    termimad.WrongNumber: A number is none that the call takes.
 
 A skin is "" for no style, "default", "dark" or "light", or JSON text as '{"bold":"red"}', which changes the default skin.
-A text or a skin may be `str` or `bytes`. A call raises a `Refused` where it can answer nothing.
+A text or a skin is `str` or `bytes`; a path (`pathlib.Path`) stands for the text of its file. A call raises a `Refused` where it can answer nothing.
 """
+from __future__ import annotations
+
 import ctypes
 import enum
 import os
+from typing import Iterable, Iterator, List, Sequence, Union
+
+Words = Union[str, bytes, "os.PathLike[str]"]
 
 
 class Align(enum.IntEnum):
-    """Where `fit` puts the ellipsis."""
+    """On which side a text is: in a column of `table`, or where it is cut by `fit`."""
 
-    INSIDE = 0  # in the widest words
-    LEFT = 1  # at the end of the line
-    CENTER = 2  # at both ends
-    RIGHT = 3  # at the front of the line
+    INSIDE = 0  # in no place of its own; `fit` cuts in the widest words
+    LEFT = 1  # `fit` cuts the end of the line
+    CENTER = 2  # `fit` cuts both ends
+    RIGHT = 3  # `fit` cuts the front of the line
 
 
 class Refused(Exception):
@@ -45,7 +58,7 @@ class Refused(Exception):
 
 
 class WrongNumber(Refused, ValueError):
-    """A width, an area or an alignment is none that the call takes."""
+    """A number is none that the call takes."""
 
 
 class NotUtf8(Refused, ValueError):
@@ -84,28 +97,29 @@ _PARAMETERS = {
     "termimad_rows": _BYTES * 2 + [ctypes.c_size_t],
     "termimad_fit": _BYTES * 2 + [ctypes.c_size_t] * 2 + _BYTES,
     "termimad_printable": _BYTES * 2,
+    "termimad_table": _BYTES + [ctypes.POINTER(ctypes.c_size_t), ctypes.c_size_t] * 2 + _BYTES + [ctypes.c_size_t] * 2 + _BYTES,
 }
 for _name, _parameters in _PARAMETERS.items():
     _call = getattr(_library, _name)
     _call.argtypes, _call.restype = _parameters, _Progress if _name == "termimad_parts" else _Answer
 
 
-def area(markdown, left, top, width, height, skin=""):
+def area(markdown: Words, left: int, top: int, width: int, height: int, skin: Words = "") -> str:
     """The text in an area of the screen, with the commands that move the cursor there."""
     return _result("termimad_area", [markdown, skin], [left, top, width, height])
 
 
-def text(markdown, width, skin=""):
+def text(markdown: Words, width: int, skin: Words = "") -> str:
     """The text, laid out in `width` columns, each row with a newline."""
     return _result("termimad_text", [markdown, skin], [width])
 
 
-def markdown(text, width, skin=""):
+def markdown(text: Words, width: int, skin: Words = "") -> str:
     """The text, read as people write Markdown and laid out in `width` columns, each row with a newline."""
     return _result("termimad_markdown", [text, skin], [width])
 
 
-def text_of_pieces(pieces, width, skin=""):
+def text_of_pieces(pieces: Iterable[Union[str, bytes]], width: int, skin: Words = "") -> Iterator[str]:
     """The rows of a text that comes in pieces, as soon as they are complete: in all, what `text` answers of the whole.
 
     The pieces are `str` or `bytes`, cut anywhere: a list, a file that is open, or `iter(lambda: file.read1(4096), b"")`, which waits
@@ -113,7 +127,7 @@ def text_of_pieces(pieces, width, skin=""):
     """
     left, fenced = b"", 0
     for piece in pieces:
-        left += piece.encode("utf-8", "surrogatepass") if isinstance(piece, str) else piece
+        left += _raw(piece)
         made, used, fenced = _parts(left, skin, width, fenced, 0)
         left = left[used:]
         if made:
@@ -123,25 +137,60 @@ def text_of_pieces(pieces, width, skin=""):
         yield made
 
 
-def inline(line, skin=""):
+def inline(line: Words, skin: Words = "") -> str:
     """The line with its inline marks, and a newline."""
     return _result("termimad_inline", [line, skin], [])
 
 
-def rows(markdown, width, skin=""):
+def rows(markdown: Words, width: int, skin: Words = "") -> int:
     """How many rows the text takes in `width` columns."""
     answer = _library.termimad_rows(*_handed([markdown, skin]), *_sizes([width]))
     return _checked(answer).count
 
 
-def fit(line, width, align=Align.LEFT, skin=""):
+def fit(line: Words, width: int, align: int = Align.LEFT, skin: Words = "") -> str:
     """The line with its inline marks, in at most `width` columns: an ellipsis is where something is left out."""
     return _result("termimad_fit", [line, skin], [width, align])
 
 
-def printable(words):
+def printable(words: Words) -> str:
     """The text without what a terminal obeys. Use it for each text that others wrote, before it is laid out."""
     return _result("termimad_printable", [words], [])
+
+
+def table(rows: Sequence[Sequence[str]], width: int, aligns: Sequence[int] = (), skin: Words = "") -> str:
+    """A table of these rows, the first of which has its headers, laid out in `width` columns: each row with a newline.
+
+    A cell is a text as it is: no mark is read in it, and it is made printable here. Short rows are filled up.
+    """
+    columns = max((len(row) for row in rows), default=1) or 1
+    cells = [_cell(word) for row in rows for word in [*row, *[""] * (columns - len(row))]]
+    lengths = (ctypes.c_size_t * len(cells))(*map(len, cells))
+    sides = (ctypes.c_size_t * len(aligns))(*_sizes(aligns))
+    joined, dress = b"".join(cells), _raw(skin)
+    given = [joined, len(joined), lengths, len(cells), sides, len(aligns), dress, len(dress), *_sizes([columns, width])]
+    return _answered("termimad_table", given)[0]
+
+
+class Text:
+    """Markdown as people write it, or with `lines=True` a text whose lines each stand for themselves."""
+
+    def __init__(self, source: Words, lines: bool = False) -> None:
+        self.source = _raw(source)
+        self._call = text if lines else markdown
+
+    def rows(self, width: int, skin: Words = "") -> List[str]:
+        """Its rows in `width` columns. A style that begins in a row ends there."""
+        return self._call(self.source, width, skin).split("\n")[:-1]
+
+    def show(self, width: int, skin: Words = "default") -> None:
+        """Prints its rows."""
+        print(self._call(self.source, width, skin), end="")
+
+
+def _cell(word: str) -> bytes:
+    """A cell's text, without what a terminal obeys; a newline is a space."""
+    return printable(word).replace("\n", " ").encode()
 
 
 def _result(name, texts, numbers):
@@ -156,11 +205,16 @@ def _parts(left, skin, width, fenced, last):
 
 
 def _filled(name, texts, numbers):
+    """What the call makes of texts and numbers, and its answer."""
+    return _answered(name, [*_handed(texts), *_sizes(numbers)])
+
+
+def _answered(name, given):
     """What the call makes and its answer, by a second call where the first buffer is too small."""
     capacity = _FIRST_CAPACITY
     while True:
         buffer = ctypes.create_string_buffer(capacity)
-        answer = _checked(getattr(_library, name)(*_handed(texts), *_sizes(numbers), buffer, capacity))
+        answer = _checked(getattr(_library, name)(*given, buffer, capacity))
         if answer.status == _DONE:
             return buffer.raw[: answer.count].decode(), answer
         capacity = answer.count
@@ -176,9 +230,17 @@ def _checked(answer):
 def _handed(texts):
     """Each text as its bytes and their number."""
     for it in texts:
-        raw = it.encode("utf-8", "surrogatepass") if isinstance(it, str) else bytes(it)
+        raw = _raw(it)
         yield raw
         yield len(raw)
+
+
+def _raw(words):
+    """The bytes of a text, or of a file."""
+    if isinstance(words, os.PathLike):
+        with open(words, "rb") as file:
+            return file.read()
+    return words.encode("utf-8", "surrogatepass") if isinstance(words, str) else bytes(words)
 
 
 def _sizes(numbers):
