@@ -17,7 +17,7 @@ use markdown_brackets::targets::Target;
 use markdown_emphasis::{Flags, flag_pieces};
 use markdown_pieces::cut::cut_text;
 use markdown_pieces::pieces::{Kind, Piece};
-use markdown_spans::addresses::Scheme;
+use markdown_addresses::addresses::Scheme;
 use std::alloc::{AllocError, Global};
 
 /// Where a link leads. Places are bytes of the leaf's text.
