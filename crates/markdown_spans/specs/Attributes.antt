@@ -10,6 +10,8 @@ use Rattle.markdown_marks.specs.Html.{next_place, is_plain_byte}
 use Rattle.markdown_marks.specs.declared.tags.Place.{Place}
 use Rattle.markdown_marks.specs.declared.tags.Place.TheVariants.{Name, Attribute}
 use Rattle.markdown_spans.specs.Code.{spaced}
+use Rattle.markdown_spans.specs.Decoded.{decoded}
+use Rattle.markdown_spans.specs.Words.{words}
 use Rattle.markdown_spans.specs.declared.attributes.Value.{Value}
 use Rattle.markdown_spans.specs.declared.attributes.Html.{Html}
 use Rattle.markdown_spans.specs.declared.attributes.Html.TheVariants.{Nothing, Break, Alternative}
@@ -77,6 +79,10 @@ attribute_from name len at place (b ∷ bs) =
 abbrev pub alternative_by : Option Value → Html
 alternative_by None = Nothing
 alternative_by (Some value) = Alternative value
+
+-- the alternative text of an image, of whose tag these are the bytes after the sign <: blanks are one space, and entities their characters
+abbrev pub alternative : List ℕ → Value → List ℕ
+alternative tag value = decoded false (words false false (take value.len (drop value.start tag)))
 
 -- of raw html, from after its sign < to its end
 abbrev pub html_shown : List ℕ → Html

@@ -1,17 +1,19 @@
 //! What raw html shows: a tag `br` breaks the line, and an image says its alternative text.
 
-ghost use Rattle.std.specs.Prelude.{◌≡◌, ◌+◌, ◌<◌, ◌≤◌, ◌^◌, length, take, codes};
+ghost use Rattle.std.specs.Prelude.{◌≡◌, ◌+◌, ◌<◌, ◌≤◌, ◌^◌, IfOk, length, take, codes};
 ghost use Rattle.std.specs.List.{prefix_len};
 ghost use Rattle.markdown_marks.specs.Definitions.{is_space_byte};
-ghost use Rattle.markdown_spans.specs.Attributes.{goes_on, is_name_byte, is_tag_named, is_attribute_named, is_value_byte, is_single, is_double, value_here, value_behind, value_of, is_attribute, attribute_from, alternative_by, html_shown};
+ghost use Rattle.markdown_spans.specs.Attributes.{goes_on, is_name_byte, is_tag_named, is_attribute_named, is_value_byte, is_single, is_double, value_here, value_behind, value_of, is_attribute, attribute_from, alternative_by, alternative, html_shown};
 
 use crate::code::spaced;
-use crate::words::bytes_from;
+use crate::decoded::decoded;
+use crate::words::{bytes_from, bytes_up_to, words};
 use markdown_html::names::same_letters;
 use markdown_html::starts::without_slash;
 use markdown_marks::bytes::{first, tail};
 use markdown_marks::definitions::is_space_byte;
 use markdown_marks::tags::{Place, next_place};
+use std::alloc::{AllocError, Global};
 
 /// The value of an attribute, without its quotes.
 #[derive(Debug, Clone, Copy)]
@@ -218,6 +220,19 @@ fn alternative_by(value: Option<Value>) -> Html
         None => Html::Nothing,
         Some(value) => Html::Alternative(value),
     }
+}
+
+/// The alternative text of an image, of whose tag these are the bytes after its sign `<`. Blanks are one space, and entities their characters.
+///
+/// # Errors
+///
+/// Out of memory is the only error.
+pub fn alternative(alloc: Global, tag: &[u8], value: Value) -> Result<Vec<u8>, AllocError>
+    ensures { IfOk result (λ text. text.items ≡ alternative tag.now value) }
+{
+    let words = words(alloc, bytes_up_to(bytes_from(tag, value.start), value.len))?;
+    let text = decoded(alloc, false, &words)?;
+    Ok(text)
 }
 
 /// What raw html shows, whose bytes these are after its sign `<`.
