@@ -56,9 +56,13 @@ abbrev pub markup_step : Option Markup → ℕ → List ℕ → Flow → Step
 markup_step None b bs f = text_step b bs f
 markup_step (Some markup) b bs f = record { flow = affected markup.effect bs f; more = markup.len }
 
+-- a byte that begins no markup
+unfoldable pub plain_step : ℕ → List ℕ → Flow → Step
+plain_step b bs f = if is_space_byte b then record { flow = gapped f; more = 0 } else text_step b bs f
+
 -- a byte, and those after it
 unfoldable pub step : ℕ → List ℕ → Flow → Step
-step b bs f = if b == 60 then markup_step (markup_of bs) b bs f else if is_space_byte b then record { flow = gapped f; more = 0 } else text_step b bs f
+step b bs f = if b == 60 then markup_step (markup_of bs) b bs f else plain_step b bs f
 
 -- so many bytes belong to what was read last
 unfoldable pub shown_from : ℕ → Flow → List ℕ → Flow

@@ -2,7 +2,8 @@
 
 ghost use Rattle.std.specs.Prelude.{◌≡◌, IfOk, OnOk, map, string_bytes};
 ghost use Rattle.markdown_spans.specs.Attributes.{alternative};
-ghost use Rattle.markdown_html_text.specs.Rows.{nothing_shown, with_text, cut, affected, text_step, step, shown_from, html_rows};
+ghost use Rattle.markdown_html_text.specs.Markup.{markup_of};
+ghost use Rattle.markdown_html_text.specs.Rows.{nothing_shown, with_text, cut, affected, text_step, markup_step, plain_step, step, html_rows};
 ghost use Rattle.markdown_html_text.specs.RowsOf.{flow_of};
 
 use crate::markup::{Effect, markup_of};
@@ -88,6 +89,33 @@ impl HtmlRows {
         }
     }
 
+    // Reads a sign `<`, and says how many bytes more belong to it.
+    fn read_markup(&mut self, alloc: Global, b: u8, next: &[u8]) -> Result<usize, AllocError>
+        ensures flow { OnOk result (flow_of self.new ≡ (markup_step (markup_of next.now) b next.now (flow_of self.old)).flow) }
+        ensures more { IfOk result (λ more. more ≡ (markup_step (markup_of next.now) b next.now (flow_of self.old)).more) }
+    {
+        match markup_of(next) {
+            None => self.push_part(b, next),
+            Some(markup) => {
+                self.apply(alloc, markup.effect, next)?;
+                Ok(markup.len)
+            }
+        }
+    }
+
+    // The same of a byte that begins no markup.
+    #[tactic(auto, unfolding(crate::specs::Rows::plain_step))]
+    fn read_plain(&mut self, b: u8, next: &[u8]) -> Result<usize, AllocError>
+        ensures flow { OnOk result (flow_of self.new ≡ (plain_step b next.now (flow_of self.old)).flow) }
+        ensures more { IfOk result (λ more. more ≡ (plain_step b next.now (flow_of self.old)).more) }
+    {
+        if is_space_byte(b) {
+            self.gap = true;
+            return Ok(0);
+        }
+        self.push_part(b, next)
+    }
+
     // Reads a byte, and says how many more belong to it.
     #[tactic(auto, unfolding(crate::specs::Rows::step))]
     fn read(&mut self, alloc: Global, b: u8, next: &[u8]) -> Result<usize, AllocError>
@@ -95,19 +123,10 @@ impl HtmlRows {
         ensures more { IfOk result (λ more. more ≡ (step b next.now (flow_of self.old)).more) }
     {
         if b == b'<' {
-            return match markup_of(next) {
-                None => self.push_part(b, next),
-                Some(markup) => {
-                    self.apply(alloc, markup.effect, next)?;
-                    Ok(markup.len)
-                }
-            };
+            self.read_markup(alloc, b, next)
+        } else {
+            self.read_plain(b, next)
         }
-        if is_space_byte(b) {
-            self.gap = true;
-            return Ok(0);
-        }
-        self.push_part(b, next)
     }
 }
 
