@@ -5,6 +5,7 @@ use std::alloc::{AllocError, Global};
 
 // Characters that come before a piece in its place: a newline, or one that stays and begins no line after it.
 const LINE_END: char = '\n';
+
 const IN_LINE: char = '.';
 
 /// What [`printable`] shows of the next piece of a text, which begins a line or doesn't. Of a carriage return at the piece's end it shows

@@ -18,10 +18,7 @@ pub fn at_each_byte(asked: &Asked) -> Result<String, AllocError> {
         let (front, _) = cut_text(bytes.get(..cut).unwrap_or(&[]));
         let (rest, _) = cut_text(bytes.get(front.len()..).unwrap_or(&[]));
         for piece in [front, rest] {
-            let (_, fed) = stream.feed(alloc, &mut out, piece);
-            if fed.is_err() {
-                return Err(AllocError);
-            }
+            feed_twice(asked, &mut stream, &mut out, piece)?;
         }
         if stream.finish(alloc, &mut out).is_err() {
             return Err(AllocError);
@@ -34,9 +31,27 @@ pub fn at_each_byte(asked: &Asked) -> Result<String, AllocError> {
     format!(in alloc; "{rows}so cut at each of {} bytes", bytes.len())
 }
 
+// Feeds a piece, and what was refused of it once more: memory that is refused once loses nothing, and nothing goes out twice.
+fn feed_twice(
+    asked: &Asked,
+    stream: &mut TextStream,
+    out: &mut CutOut,
+    piece: &str,
+) -> Result<(), AllocError> {
+    let (taken, fed) = stream.feed(asked.alloc, out, piece);
+    if fed.is_ok() {
+        return Ok(());
+    }
+    let (_, fed) = stream.feed(asked.alloc, out, piece.get(taken..).unwrap_or(""));
+    fed.map_err(|_| AllocError)
+}
+
 fn whole_rows(asked: &Asked) -> Result<CutOut, AllocError> {
     let mut out = CutOut::new(asked.alloc, ROOM, ROOM, false)?;
-    match asked.skin.write_parts_on(asked.alloc, &mut out, asked.text, asked.width) {
+    match asked
+        .skin
+        .write_parts_on(asked.alloc, &mut out, asked.text, asked.width)
+    {
         Ok(()) => Ok(out),
         Err(_) => Err(AllocError),
     }
@@ -115,8 +130,9 @@ pub fn source(asked: &Asked) -> Result<String, AllocError> {
     let mut input = ScriptSource::in_steps(&bytes, step, fails > 0);
     let mut out = CutOut::new(alloc, ROOM, ROOM, false)?;
     let written = write_source_on(alloc, &mut input, &mut out, &asked.skin, asked.width);
+    let ended = how_it_ended(&written)?;
     let rows = str::from_utf8(out.taken()).unwrap_or("no text");
-    format!(in alloc; "{rows}{}, {} flushes", how_it_ended(&written), out.flushes())
+    format!(in alloc; "{rows}{ended}, {} flushes", out.flushes())
 }
 
 /// The bytes of a row's text.
@@ -131,13 +147,13 @@ pub fn source_bytes(asked: &Asked) -> Result<Vec<u8>, AllocError> {
     Ok(bytes)
 }
 
-/// How writing a source ended.
-pub fn how_it_ended(written: &Result<(), SourceError>) -> &'static str {
+/// How writing a source ended, if not out of memory.
+pub fn how_it_ended(written: &Result<(), SourceError>) -> Result<&'static str, AllocError> {
     match written {
-        Ok(()) => "done",
-        Err(SourceError::Source(_)) => "the source failed",
-        Err(SourceError::Device(_)) => "the device failed",
-        Err(SourceError::NotUtf8) => "not UTF-8",
-        Err(SourceError::Memory) => "out of memory",
+        Ok(()) => Ok("done"),
+        Err(SourceError::Source(_)) => Ok("the source failed"),
+        Err(SourceError::Device(_)) => Ok("the device failed"),
+        Err(SourceError::NotUtf8) => Ok("not UTF-8"),
+        Err(SourceError::Memory) => Err(AllocError),
     }
 }

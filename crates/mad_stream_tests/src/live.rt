@@ -52,9 +52,17 @@ pub fn source(asked: &Asked) -> Result<String, AllocError> {
     let bytes = source_bytes(asked)?;
     let mut input = ScriptSource::in_steps(&bytes, step, false);
     let mut out = CutOut::new(alloc, ROOM, ROOM, false)?;
-    let shown = show_source_on(alloc, &mut input, &mut out, &asked.skin, asked.width, height);
+    let shown = show_source_on(
+        alloc,
+        &mut input,
+        &mut out,
+        &asked.skin,
+        asked.width,
+        height,
+    );
+    let ended = how_it_ended(&shown)?;
     let mut told = String::new(alloc);
     read(asked, &mut Paper::new(alloc, height)?, &out, &mut told)?;
-    write!(told, "{}\n", how_it_ended(&shown))?;
+    told.push_str(ended)?;
     Ok(told)
 }

@@ -3,6 +3,7 @@
 use std::alloc::{AllocError, Global};
 
 const ERASE_ROW: &str = "\r\x1b[K";
+
 const ERASE_ROW_ABOVE: &str = "\x1b[1A\x1b[K";
 
 /// All rows that it has had, and the cursor's.

@@ -64,7 +64,15 @@ fn front(
 ) -> Result<(CutOut, usize, bool), AllocError> {
     let alloc = asked.alloc;
     let mut out = CutOut::new(alloc, ROOM, ROOM, false)?;
-    let written = write_front_on(alloc, &mut out, &asked.skin, asked.width, text, fenced, is_last);
+    let written = write_front_on(
+        alloc,
+        &mut out,
+        &asked.skin,
+        asked.width,
+        text,
+        fenced,
+        is_last,
+    );
     match written {
         Ok((used, is_open)) => Ok((out, used, is_open)),
         Err(_) => Err(AllocError),

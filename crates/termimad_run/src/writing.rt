@@ -8,7 +8,8 @@ ghost use Rattle.termimad_run.specs.ProgramRuns.{ComesAs, WritesCall, ShowsCall,
 use crate::call::Command;
 use std::alloc::Global;
 use termimad::{
-    Error, MadSkin, Out, Source, SourceError, put_all, show_source_on, write_markdown_on, write_source_on,
+    Error, MadSkin, Out, Source, SourceError, put_all, show_source_on, write_markdown_on,
+    write_source_on,
 };
 
 /// Writes a text in an area, or laid out at a width, or read as people write Markdown and laid out, or as one line with inline marks and a
