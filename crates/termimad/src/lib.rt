@@ -186,6 +186,8 @@ pub use mad_md::parse_text;
 pub use mad_md::parse_text_with;
 pub use mad_screen::CutOut;
 pub use mad_screen::ScriptSource;
+pub use mad_steady::is_steady;
+pub use mad_steady::steady;
 pub use mad_stream::LiveText;
 pub use mad_stream::SourceError;
 pub use mad_stream::TextStream;
