@@ -15,9 +15,12 @@ from .lines import HorizontalRule, Normal, TableRow
 from .mapping import flat_lines
 
 
+WITH_LINKS = True  # whether links have a flag
+
+
 def runs(composite):
     return " ".join(
-        "".join(letter for letter, on in zip("bicsl", (c.bold, c.italic, c.code, c.strikeout, c.link is not None)) if on)
+        "".join(letter for letter, on in zip("bicsl", (c.bold, c.italic, c.code, c.strikeout, WITH_LINKS and c.link is not None)) if on)
         + json.dumps(c.src, ensure_ascii=False) for c in composite.compounds)
 
 
