@@ -64,6 +64,7 @@ pub use Rattle.mad_fit.specs.RunningWidths
 pub use Rattle.mad_fit.specs.Thumbs
 pub use Rattle.mad_fit.specs.TextColumns
 pub use Rattle.mad_fit.specs.Completions
+pub use Rattle.mad_printable.specs.Pictures as ShownCharacters
 pub use Rattle.mad_fit.specs.Printable
 pub use Rattle.mad_fit.specs.TokenPositions
 pub use Rattle.mad_fit.specs.Tokens
