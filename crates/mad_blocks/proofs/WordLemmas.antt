@@ -1,8 +1,9 @@
 -- The longest word of a text, character by character.
-use Rattle.std.proofs.Common.{◌≡◌, ℕ, ◌+◌, ◌-◌, ◌^◌, min, max, Bool, true, false, if◌then◌else◌, List, [], ◌∷◌, refl, sym, ap, ◌∙◌, arith}
+use Rattle.std.proofs.Common.{◌≡◌, ℕ, ◌+◌, ◌-◌, ◌^◌, min, max, inl, inr, Bool, true, false, if◌then◌else◌, List, [], ◌∷◌, ◌++◌, chars, refl, sym, ap, ◌∙◌, arith}
 use Rattle.std.proofs.lemmas.Bool.{cases_Bool, cond-true, cond-false}
 use Rattle.mad_columns.specs.Columns.{char_columns}
-use Rattle.mad_md.specs.Flagged.{FlaggedChar, is_blank}
+use Rattle.mad_md.specs.Flagged.{FlaggedChar, flagged, flags_of, is_blank}
+use Rattle.mad_md.specs.declared.compound.Compound.{Compound}
 use Rattle.mad_wrap.specs.WrapLines.{capped}
 use Rattle.mad_blocks.specs.CellWords.{longest_from, longest_after}
 use Rattle.mad_blocks.specs.declared.cell_words.Words.{Words}
@@ -29,3 +30,8 @@ after_blank w r x rest e a b = omega (arith, on_blank w.last x rest e, a, ap (λ
 
 pub after_letter : (w r : Words) (x : FlaggedChar) (rest : List FlaggedChar) → is_blank x ≡ false → r.longest ≡ w.longest → r.last ≡ capped (w.last + char_columns x.char) → longest_after r rest ≡ longest_after w (x ∷ rest)
 after_letter w r x rest e a b = omega (arith, on_word w.last x rest e, a, ap (λ n. longest_from n rest) b, longest_capped (w.last + char_columns x.char) rest)
+
+-- one character more of a compound's text
+pub step_over : (p : Compound) (c : ℕ) (old new : List ℕ) (w r : Words) (rest : List FlaggedChar) → chars old ≡ c ∷ chars new → ((rest : List FlaggedChar) → longest_after r rest ≡ longest_after w (record { char = c; flags = flags_of p } ∷ rest))
+    → longest_after r (flagged (flags_of p) (chars new) ++ rest) ≡ longest_after w (flagged (flags_of p) (chars old) ++ rest)
+step_over p c old new w r rest step h = h (flagged (flags_of p) (chars new) ++ rest) ∙ ap (λ cs. longest_after w (flagged (flags_of p) cs ++ rest)) (sym step)

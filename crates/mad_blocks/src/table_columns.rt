@@ -1,6 +1,6 @@
 //! Columns of a table: their widths, and how cells are aligned in them.
 
-ghost use Rattle.std.specs.Prelude.{◌≡◌, ◌<◌, ◌*◌, ◌+◌, ◌++◌, [], ◌∷◌, ℕ, List, IfOk, slice_get, unwrap_or};
+ghost use Rattle.std.specs.Prelude.{◌≡◌, ◌<◌, ◌≤◌, ◌*◌, ◌+◌, ◌++◌, [], ◌∷◌, ℕ, List, IfOk, slice_get, unwrap_or};
 ghost use Rattle.mad_md.specs.declared.alignment.Alignment.TheVariants.{Unspecified};
 ghost use Rattle.mad_widths.specs.SeenCells.{TableHasSeen};
 ghost use Rattle.mad_blocks.specs.Tables.{columns_with, centered, columns_from, columns_count, columns_in, rows_among, measure_of, measures_in, AreKeptWidths};
@@ -30,11 +30,11 @@ pub(crate) fn kept_widths(
         return vec![in alloc; 3; most];
     }
     let cells = seen_table(alloc, table, nbcols, width, false)?;
-    if !whole_words {
-        return Ok(cells.fit(alloc)?.col_widths);
+    if whole_words {
+        let words = seen_table(alloc, table, nbcols, width, true)?;
+        return Ok(cells.fit_words(alloc, &words)?.col_widths);
     }
-    let words = seen_table(alloc, table, nbcols, width, true)?;
-    Ok(cells.fit_words(alloc, &words)?.col_widths)
+    Ok(cells.fit(alloc)?.col_widths)
 }
 
 // The cells of a table of `nbcols` columns, by their longest words or by their lengths.

@@ -8,5 +8,5 @@ use Rattle.mad_blocks.proofs.cell_words.Words.with_compound.Given as goal
 abbrev pub invariant-loop-c : goal.invariant-loop-c
 invariant-loop-c l = record {
   utf8 : IsUtf8 (chars_rest l.c-iterator);
-  so_far : (rest : List FlaggedChar) → longest_after l.words (flagged (flags_of l.compound) (chars (chars_rest l.c-iterator)) ++ rest) ≡ longest_after l.self (flagged_of l.compound ++ rest);
+  so_far : (rest : List FlaggedChar) → longest_after l.words (flagged (flags_of l.compound) (chars (chars_rest l.c-iterator)) ++ rest) ≡ longest_after l.fn.self (flagged_of l.compound ++ rest);
 }
