@@ -16,7 +16,7 @@ use Rattle.mad_wrap.specs.WrapLines.{capped}
 use Rattle.mad_blocks.specs.Layouts.{IsLayoutAt}
 use Rattle.mad_blocks.specs.TextParts.{lines_in_parts}
 use Rattle.mad_layout.specs.Premises.{KeepsPremises}
-use Rattle.mad_rows.specs.RowStyles.{line_rules}
+use Rattle.mad_rows.specs.RowStyles.{line_rules, with_links}
 use Rattle.mad_page.specs.Pages.{percent}
 use Rattle.mad_search.specs.Searches.{composite_text}
 use Rattle.mad_term.specs.Trace.{Trace, after, flushed, CutShort}
@@ -52,9 +52,13 @@ area_of s = text_area s.page.columns s.page.rows
 abbrev pub bar_of : MadSkin → State → Option ScrollBar
 bar_of skin s = bar_beside (area_of s) s.page.top (length s.lines) skin.scrollbar
 
+-- what rows show of the skin, with links that one sees
+abbrev pub paged_skin : MadSkin → RowSkin
+paged_skin skin = with_links (row_skin skin)
+
 -- the text's rows from the top one on, beside the bar
 abbrev pub text_pane : MadSkin → State → Pane
-text_pane skin s = record { area = area_of s; row = area_row (row_skin skin) (bar_of skin s) s.lines (area_of s) s.page.top }
+text_pane skin s = record { area = area_of s; row = area_row (paged_skin skin) (bar_of skin s) s.lines (area_of s) s.page.top }
 
 -- one line in the last row
 abbrev pub status_pane : RowSkin → FmtLine → State → Pane
@@ -129,7 +133,7 @@ pub record IsOrderly (skin : MadSkin) (text : List LineContent) (s : State) : Ty
 pub record KeepsTextPremises (skin : MadSkin) (s : State) : Type 0 where
   pub text : List LineContent
   pub layout : IsLayoutAt (line_rules (row_skin skin)) (Some (s.page.columns - 1)) text s.lines
-  pub keeps : KeepsPremises (row_skin skin) (s.page.columns - 1) (take (s.page.top + (s.page.rows - 1)) (lines_in_parts text))
+  pub keeps : KeepsPremises (paged_skin skin) (s.page.columns - 1) (take (s.page.top + (s.page.rows - 1)) (lines_in_parts text))
   pub bar : IfSome (bar_of skin s) (IsBarShown s.page.columns)
 
 -- these bytes show the text from its top row on, beside its bar

@@ -8,7 +8,7 @@ ghost use Rattle.mad_pager.specs.Screens.{AreLinesShown, IsDrawing, IsFieldRow, 
 
 use crate::picture::Picture;
 use crate::session::{Session, last_row, text_area};
-use mad_layout::draw_text;
+use mad_layout::draw_text_in;
 use mad_term::{Error, Out, put_all};
 use std::alloc::{AllocError, Global};
 use std::io;
@@ -72,13 +72,14 @@ impl Session<'_> {
         Ok(())
     }
 
-    // Draws the text from its top row on, beside its bar.
+    // Draws the text from its top row on, beside its bar, with links that one sees.
     fn draw_lines<O: Out>(&self, alloc: Global, out: &mut O) -> Result<(), Error>
         requires { is_small (state_of self.now) ≡ false }
         ensures { OnOk result (TookWith (O.seen out.old) (O.seen out.new) (AreLinesShown self.now.text.skin.now (state_of self.now))) }
     {
         let area = text_area(self.page.columns, self.page.rows);
-        draw_text(alloc, out, &self.text, &area, self.page.top, true)?;
+        let skin = self.text.skin.row_skin().with_links();
+        draw_text_in(alloc, out, &skin, &self.text, &area, self.page.top, true)?;
         Ok(())
     }
 
