@@ -12,16 +12,26 @@ import json
 import re
 import sys
 
+from . import mapping
 from .lines import HorizontalRule, Normal, TableRow
 from .mapping import flat_lines
 
 
-WITH_LINKS = True  # whether links have a flag
+LINKS = False  # whether the library's runs have a flag for links
+
+
+def as_the_library():
+    """From now on neighbours whose flags are equal are one run, as in the library."""
+    mapping.Run.same = lambda a, b: flags(a) == flags(b)
+
+
+def flags(run):
+    return run.bold, run.italic, run.code, run.strike, LINKS and run.link is not None
 
 
 def runs(composite):
     return " ".join(
-        "".join(letter for letter, on in zip("bicsl", (c.bold, c.italic, c.code, c.strikeout, WITH_LINKS and c.link is not None)) if on)
+        "".join(letter for letter, on in zip("bicsl", (c.bold, c.italic, c.code, c.strikeout, LINKS and c.link is not None)) if on)
         + json.dumps(c.src, ensure_ascii=False) for c in composite.compounds)
 
 
