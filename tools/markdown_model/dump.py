@@ -9,16 +9,25 @@ from __future__ import annotations
 
 import gzip
 import json
+import re
 import sys
 
 from .lines import HorizontalRule, Normal, TableRow
 from .mapping import flat_lines
 
 
+WITH_LINKS = True  # whether links have a flag
+
+
 def runs(composite):
     return " ".join(
-        "".join(letter for letter, on in zip("bicsl", (c.bold, c.italic, c.code, c.strikeout, c.link is not None)) if on)
+        "".join(letter for letter, on in zip("bicsl", (c.bold, c.italic, c.code, c.strikeout, WITH_LINKS and c.link is not None)) if on)
         + json.dumps(c.src, ensure_ascii=False) for c in composite.compounds)
+
+
+def signed(text):
+    """A text with numbers for the pictures of control characters, as the program of crates/markdown_line_tests has them."""
+    return re.sub("[\u2400-\u2426]", lambda sign: f"({ord(sign.group()):X})", text)
 
 
 def line_text(line):
