@@ -27,8 +27,6 @@ def rewritten(text):
 
 
 def main():
-    dump.WITH_LINKS = False
-    mapping.Run.same = lambda a, b: (a.bold, a.italic, a.code, a.strike) == (b.bold, b.italic, b.code, b.strike)
     for path in sorted(FOLDER.glob("*.txt")):
         old = path.read_text(encoding="utf-8")
         new = rewritten(old)
