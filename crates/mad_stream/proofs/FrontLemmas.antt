@@ -1,7 +1,9 @@
 -- How far a text is complete: how its lines join those before them.
-use Rattle.std.proofs.Common.{◌≡◌, ◌≢◌, inl, inr, ℕ, ◌+◌, ◌-◌, ◌≤◌, Bool, true, false, List, [], ◌∷◌, ◌++◌, length, take, drop, Result, Ok, Err, OnOk, refl, sym, ap, ◌∙◌, subst, arith, append_assoc}
+use Rattle.std.proofs.Common.{◌≡◌, ◌≢◌, inl, inr, ℕ, ◌+◌, ◌-◌, ◌≤◌, Bool, true, false, List, [], ◌∷◌, ◌++◌, length, take, drop, Option, Result, Ok, Err, refl, sym, ap, ◌∙◌, subst, arith, append_assoc}
 use Rattle.std.specs.Prelude.{IsUtf8, IsCharBoundary}
+use Rattle.std.specs.Result.{IsErrAnd}
 use Rattle.std.proofs.lemmas.List.{append-nil, length-append}
+use Rattle.std.proofs.lemmas.Result.{err_from_is_err_and}
 use Rattle.std.proofs.lemmas.Str.{IsCharBoundary-at_seam}
 use Rattle.std.proofs.Math.Seq.{take-append_seam, drop-append_seam}
 use Rattle.mad_md.specs.Lines.{LineContent}
@@ -10,8 +12,12 @@ use Rattle.mad_md.specs.Reading.{resumed_text}
 use Rattle.mad_md.specs.Scan.{lines_of}
 use Rattle.mad_md.specs.declared.line_kinds.LineKind.{LineKind}
 use Rattle.mad_md.specs.declared.line_kinds.LineKind.TheVariants.{Fence, Code, Table, Alone}
+use Rattle.mad_term.specs.Trace.{Trace}
+use Rattle.mad_term.specs.declared.errors.Error.{Error}
+use Rattle.mad_layout.specs.WrittenParts.{WritesPartsOf}
+use Rattle.mad_rows.specs.declared.row_skin.RowSkin.{RowSkin}
 use Rattle.mad_blocks.proofs.LayoutJoins.{apart, by_bool}
-use Rattle.mad_stream.specs.Fronts.{IsCompleteFront, settled_before, joined_by, settled_by, settled_at}
+use Rattle.mad_stream.specs.Fronts.{IsCompleteFront, IsLaidOutFront, WritesFront, settled_before, joined_by, settled_by, settled_at}
 use Rattle.mad_stream.specs.Lines.{IsFirstLine}
 use Rattle.mad_stream.specs.Sources.{MayGoOn}
 use Rattle.mad_stream.specs.Steps.{IsWholeLine, LineReads, ends_before, stays_with, last_after, fence_after}
@@ -185,3 +191,29 @@ scanned_boundary text fenced scan rest end r h utf8 there is = subst (λ (q : �
     by_kind Alone = at_end
     by_kind Code = h.boundary
     by_kind Table = h.boundary
+
+-- ---- what is written of a front
+
+pub front_refused : (T : Type 0) (r : Result (ℕ × Bool) Error) (e : Error) (skin laid : RowSkin) (width : Option ℕ) (text part : List ℕ) (fenced is_last : Bool) (used : ℕ) (fenced_then : Bool) (before now : Trace) → IsLaidOutFront is_last text fenced used fenced_then → part ≡ take used text → laid ≡ skin
+    → WritesPartsOf {T = T} laid width (lines_of (resumed_text fenced part)) before (Err e) now → IsErrAnd r (λ d. d ≡ e) → WritesFront skin width text fenced is_last before r now
+front_refused T r e skin laid width text part fenced is_last used fenced_then before now front is same w refused =
+    let p = err_from_is_err_and r refused in
+    subst (λ (q : Result (ℕ × Bool) Error). WritesFront skin width text fenced is_last before q now) (sym (p.1 ∙ ap Err p.2)) (record {
+      used = used;
+      fenced_then = fenced_then;
+      front = front;
+      writes = subst (λ (k : RowSkin). WritesPartsOf {T = ℕ × Bool} k width (lines_of (resumed_text fenced (take used text))) before (Err e) now) same (subst (λ (t : List ℕ). WritesPartsOf {T = ℕ × Bool} laid width (lines_of (resumed_text fenced t)) before (Err e) now) is
+          (record { front = w.front; rest = w.rest; joins = w.joins; parts = w.parts; all = tt; lines = w.lines; layout = w.layout; drawn = w.drawn }));
+      answers = tt;
+    })
+
+pub front_written : (T : Type 0) (x : T) (skin laid : RowSkin) (width : Option ℕ) (text part : List ℕ) (fenced is_last : Bool) (used : ℕ) (fenced_then : Bool) (before now : Trace) → IsLaidOutFront is_last text fenced used fenced_then → part ≡ take used text → laid ≡ skin
+    → WritesPartsOf {T = T} laid width (lines_of (resumed_text fenced part)) before (Ok x) now → WritesFront skin width text fenced is_last before (Ok (used, fenced_then)) now
+front_written T x skin laid width text part fenced is_last used fenced_then before now front is same w = record {
+  used = used;
+  fenced_then = fenced_then;
+  front = front;
+  writes = subst (λ (k : RowSkin). WritesPartsOf {T = ℕ × Bool} k width (lines_of (resumed_text fenced (take used text))) before (Ok (used, fenced_then)) now) same (subst (λ (t : List ℕ). WritesPartsOf {T = ℕ × Bool} laid width (lines_of (resumed_text fenced t)) before (Ok (used, fenced_then)) now) is
+      (record { front = w.front; rest = w.rest; joins = w.joins; parts = w.parts; all = w.all; lines = w.lines; layout = w.layout; drawn = w.drawn }));
+  answers = refl;
+}

@@ -192,14 +192,14 @@ shown_all skin width height source out live place waiting blocks source_now out_
       },
     )
   where
+    newline_ascii : (i : ℕ) → get_or (10 ∷ []) i 0 < 128
+    newline_ascii zero = omega arith
+    newline_ascii (suc i) = omega arith
+
     end_utf8 : (p : Place) → IsUtf8 (end_shown p)
     end_utf8 LineStart = IsUtf8-nil
     end_utf8 InLine = IsUtf8-nil
     end_utf8 AfterReturn = IsUtf8-from_ascii (10 ∷ []) newline_ascii
-
-    newline_ascii : (i : ℕ) → get_or (10 ∷ []) i 0 < 128
-    newline_ascii zero = omega arith
-    newline_ascii (suc i) = omega arith
 
 -- it stopped after some bytes more
 stopped : (skin : RowSkin) (width : Option ℕ) (height : ℕ) (source out : Trace) (live : LiveText) (place : Place) (waiting : List ℕ) (blocks : ℕ) (source_now out_now out_next source_last : Trace) (bytes : List ℕ)
@@ -313,8 +313,8 @@ read_out_end (Ok x) read text waiting source_now count f is size over none = (fr
 read_out_end (Err e) read text waiting source_now count f is size over some = (some.0, inl (over, front_partly read text f (positive (length f.rest) (λ none. some.1 (sym size ∙ sym (ap length is) ∙ none)))))
   where
     positive : (n : ℕ) → (n ≡ 0 → ⊥) → 0 < n
-    positive zero no = absurd (no refl)
-    positive (suc n) no = omega arith
+    positive zero some = absurd (some refl)
+    positive (suc n) some = omega arith
 
 -- ---- the steps
 
@@ -334,11 +334,11 @@ drawn_stops T (writing.IO e) bytes before now d = (d.front, d.went)
 drawn_stops T (writing.InsufficientWidth e) bytes before now d = absurd d
 drawn_stops T writing.Memory bytes before now d = (d.front, d.went)
 
+io_no_memory : (T : Type 0) (e : IoError) → IsErrOf {T = T} (Err (writing.IO e)) writing.Memory → ⊥
+io_no_memory T e is = cc
+
 none_stops : (T : Type 0) (e : Error) (before now : Trace) → IsErrOf {T = T} (Err e) writing.Memory → now ≡ before → StopsAt before (refusal_of e) now
-none_stops T (writing.IO e) before now is same = absurd (clash is)
-  where
-    clash : Err (writing.IO e) ≡ Err writing.Memory → ⊥
-    clash is = cc
+none_stops T (writing.IO e) before now is same = absurd (io_no_memory T e is)
 none_stops T (writing.InsufficientWidth e) before now is same = ([], same ∙ sym (after-nil before))
 none_stops T writing.Memory before now is same = ([], same ∙ sym (after-nil before))
 
@@ -464,6 +464,6 @@ end_stop_exit r ended e live last before now at refused =
     subst (λ (q : Result (Unit {0}) SourceError). EndsWith live last ended before q now) (sym (p.1 ∙ ap Err p.2)) (inr at)
 
 pub no_return : (p : Place) → p ≢ AfterReturn → end_shown p ≡ []
-no_return LineStart no = refl
-no_return InLine no = refl
-no_return AfterReturn no = absurd (no refl)
+no_return LineStart other = refl
+no_return InLine other = refl
+no_return AfterReturn other = absurd (other refl)

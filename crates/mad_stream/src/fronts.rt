@@ -3,7 +3,7 @@
 ghost use Rattle.std.specs.Prelude.{◌≡◌, IsCharBoundary};
 ghost use Rattle.mad_layout.specs.RowSkins.{row_skin};
 ghost use Rattle.mad_md.specs.declared.line_kinds.LineKind.TheVariants.{Fence};
-ghost use Rattle.mad_stream.specs.Fronts.{IsCompleteFront, WritesFront, settled_before, joined_by, settled_at};
+ghost use Rattle.mad_stream.specs.Fronts.{IsCompleteFront, IsLaidOutFront, WritesFront, settled_before, joined_by, settled_at};
 ghost use Rattle.mad_stream.specs.Steps.{ends_before};
 
 use crate::lines::cut_line;
@@ -123,11 +123,18 @@ pub fn write_front_on<O: Out>(
 ) -> Result<(usize, bool), Error>
     ensures writes { WritesFront (row_skin skin.now) width text.now fenced is_last (O.seen out.old) result (O.seen out.new) }
 {
-    let (used, is_open) = if is_last {
-        (text.len(), false)
-    } else {
-        complete_front(text, fenced)
-    };
+    let (used, is_open) = laid_out_front(text, fenced, is_last);
     write_rest_on(alloc, out, &text[..used], fenced, width, &skin.row_skin())?;
     Ok((used, is_open))
+}
+
+// How much of a text is laid out, and whether a fence is open then: all at its end, and else its complete parts.
+fn laid_out_front(text: &str, fenced: bool, is_last: bool) -> (usize, bool)
+    ensures front { IsLaidOutFront is_last text.now fenced result.0 result.1 }
+    ensures boundary { IsCharBoundary text.now result.0 }
+{
+    if is_last {
+        return (text.len(), false);
+    }
+    complete_front(text, fenced)
 }

@@ -14,7 +14,7 @@ loop-block-init g c = record {
 }
 
 pub returns-in-Err : goal.returns-in-Err
-returns-in-Err g c = fault_exit c.end_live.result c.in-Err.error _ _ _ _ _ c.loop-block.live c.loop-block.place _ _ _ _ _ _ c.loop-block.invariant.so_far c.in-Err.ensures c.end_live.ensures
+returns-in-Err g c = record { shows = fault_exit c.end_live.result c.in-Err.error _ _ _ _ _ c.loop-block.live c.loop-block.place _ _ _ _ _ _ c.loop-block.invariant.so_far c.in-Err.ensures c.end_live.ensures }
 
 pub returns-then-count-eq0 : goal.returns-then-count-eq0
 returns-then-count-eq0 g c =
@@ -22,19 +22,23 @@ returns-then-count-eq0 g c =
     let few = c.loop-block.invariant.few in
     let size = c.loop-block.invariant.size in
     let h = live_ended _ _ _ _ _ c.loop-block.live c.loop-block.place (take c.loop-block.waiting c.loop-block.block) c.loop-block._block _ _ _ c.fill.new.buffer c.in-Ok.count c.loop-block.invariant.so_far filled.handed_out c.if-count-eq0.true in
-    text_exit c.end_live-then-count-eq0.result c.whole_text.result _ _ _ _ _ c.loop-block.live c.loop-block.place _ _ _ _ _ h
-    (read_out_end c.whole_text.result _ _ _ _ c.loop-block.waiting h.streamed.front h.rest (length-take-le c.loop-block.waiting c.loop-block.block (omega arith)) (inl (filled.ended c.if-count-eq0.true (search rules))) c.whole_text.ensures) c.end_live-then-count-eq0.ensures
+    record {
+      shows = text_exit c.end_live-then-count-eq0.result c.whole_text.result _ _ _ _ _ c.loop-block.live c.loop-block.place _ _ _ _ _ h
+          (read_out_end c.whole_text.result _ _ _ (g.I.Source.seen c.fill.new.self) c.loop-block.waiting h.streamed.front h.rest (length-take-le c.loop-block.waiting c.loop-block.block (omega arith)) (inl (filled.ended c.if-count-eq0.true (search rules))) c.whole_text.ensures) c.end_live-then-count-eq0.ensures;
+    }
 
 pub returns-in_err-shown : goal.returns-in_err-shown
 returns-in_err-shown g c =
     let filled = c.in-Ok.ensures in
     let few = c.loop-block.invariant.few in
     let size = c.loop-block.invariant.size in
-    block_exit c.from_residual.result _ _ _ _ _ _ c.loop-block.live c.loop-block.place (take c.loop-block.waiting c.loop-block.block) (take c.in-Ok.count c.fill.new.buffer) _ c.loop-block._block _ _ _ _ c.loop-block.invariant.so_far filled.handed_out
-    (block_come c.loop-block.block c.fill.new.buffer _ c.loop-block.waiting c.in-Ok.count (omega arith) filled.within) c.in_err-shown.ensures c.from_residual.ensures.1
+    record {
+      shows = block_exit c.from_residual.result _ _ _ _ _ _ c.loop-block.live c.loop-block.place (take c.loop-block.waiting c.loop-block.block) (take c.in-Ok.count c.fill.new.buffer) _ c.loop-block._block _ _ _ _ c.loop-block.invariant.so_far filled.handed_out
+          (block_come c.loop-block.block c.fill.new.buffer _ c.loop-block.waiting c.in-Ok.count (omega arith) filled.within) c.in_err-shown.ensures c.from_residual.ensures.1;
+    }
 
-pub returns-then-is_wrong : goal.returns-then-is_wrong
-returns-then-is_wrong g c =
+pub returns-then-shown : goal.returns-then-shown
+returns-then-shown g c =
     let filled = c.in-Ok.ensures in
     let few = c.loop-block.invariant.few in
     let size = c.loop-block.invariant.size in
@@ -42,7 +46,7 @@ returns-then-is_wrong g c =
     live_more (row_skin c.args.skin.now) c.args.width c.args.height (g.I.Source.seen c.args.input.now) (g.O.Out.seen c.args.out.now) c.loop-block.live c.show_block.new.live c.loop-block.place (take c.loop-block.waiting c.loop-block.block) (take c.in-Ok.count c.fill.new.buffer) _ _ c.in_ok-shown.shown
     c.loop-block._block (g.I.Source.seen c.loop-block.input) (g.I.Source.seen c.fill.new.self) (g.O.Out.seen c.loop-block.out) (g.O.Out.seen c.show_block.new.out) c.loop-block.invariant.so_far filled.handed_out (some_came c.fill.new.buffer c.in-Ok.count filled.within c.if-count-eq0.false)
     (block_come c.loop-block.block c.fill.new.buffer _ c.loop-block.waiting c.in-Ok.count (omega arith) filled.within) c.in_ok-shown.ensures refl in
-    text_exit c.end_live-then-is_wrong.result (Err NotUtf8) _ _ _ _ _ c.show_block.new.live _ _ _ _ _ _ k.0 (refl, inr (k.1 c.if-is_wrong.true)) c.end_live-then-is_wrong.ensures
+    record { shows = text_exit c.end_live-then-shown.result (Err NotUtf8) _ _ _ _ _ c.show_block.new.live _ _ _ _ _ _ k.0 (refl, inr (k.1 c.if-shown.true)) c.end_live-then-shown.ensures }
 
 pub loop-block-preserved : goal.loop-block-preserved
 loop-block-preserved g c =
@@ -55,7 +59,7 @@ loop-block-preserved g c =
     live_more (row_skin c.args.skin.now) c.args.width c.args.height (g.I.Source.seen c.args.input.now) (g.O.Out.seen c.args.out.now) c.loop-block.live c.show_block.new.live c.loop-block.place (take c.loop-block.waiting c.loop-block.block) (take c.in-Ok.count c.fill.new.buffer) _ _ c.in_ok-shown.shown
     c.loop-block._block (g.I.Source.seen c.loop-block.input) (g.I.Source.seen c.fill.new.self) (g.O.Out.seen c.loop-block.out) (g.O.Out.seen c.show_block.new.out) c.loop-block.invariant.so_far filled.handed_out (some_came c.fill.new.buffer c.in-Ok.count filled.within c.if-count-eq0.false)
     come fed c.keep_from.ensures.kept in
-    let unfed = fed.short c.if-is_wrong.false in
+    let unfed = fed.short c.if-shown.false in
     let all = ap length come in
     record {
       few = omega (arith, unfed, all, length-append (take c.loop-block.waiting c.loop-block.block) (take c.in-Ok.count c.fill.new.buffer), length-take-le c.loop-block.waiting c.loop-block.block (omega arith), length-take-le c.in-Ok.count c.fill.new.buffer filled.within);
@@ -69,5 +73,7 @@ returns g c =
     let size = c.loop-block.invariant.size in
     let all : c.loop-block._block ≡ 18446744073709551615 = omega arith in
     let h = c.loop-block.invariant.so_far in
-    text_exit c.end_live-2.result c.whole_text-2.result _ _ _ _ _ c.loop-block.live c.loop-block.place _ _ _ _ _ h
-    (read_out_end c.whole_text-2.result _ _ _ _ c.loop-block.waiting h.streamed.front h.rest (length-take-le c.loop-block.waiting c.loop-block.block (omega arith)) (inr (omega (arith, h.counted, all))) c.whole_text-2.ensures) c.end_live-2.ensures
+    record {
+      shows = text_exit c.end_live-2.result c.whole_text-2.result _ _ _ _ _ c.loop-block.live c.loop-block.place _ _ _ _ _ h
+          (read_out_end c.whole_text-2.result _ _ _ (g.I.Source.seen c.loop-block.input) c.loop-block.waiting h.streamed.front h.rest (length-take-le c.loop-block.waiting c.loop-block.block (omega arith)) (inr (omega (arith, h.counted, all))) c.whole_text-2.ensures) c.end_live-2.ensures;
+    }
