@@ -41,7 +41,7 @@ impl<'a, 't> TextView<'a, 't> {
     }
 
     /// Shows another text in the same area, from its first line on.
-    pub fn set_text(&mut self, text: &'t FmtText<'_, '_>)
+    pub fn set_text(&mut self, text: &'t FmtText<'t, 't>)
         ensures { self.new ≡ record self.old { text = text.entry; scroll = 0 } }
     {
         self.text = text;

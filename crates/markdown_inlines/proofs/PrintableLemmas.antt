@@ -1,5 +1,5 @@
 -- What is shown is printable.
-use Rattle.std.proofs.Common.{◌≡◌, ℕ, zero, suc, ◌+◌, ◌<◌, Bool, true, false, cond, ◌||◌, nat_lt, eqb, List, [], ◌∷◌, ◌++◌, drop, map, chars, replicate, refl, ap, ◌∙◌, arith, Option, Some, None}
+use Rattle.std.proofs.Common.{◌≡◌, ℕ, zero, suc, ◌+◌, ◌<◌, Bool, true, false, cond, ◌||◌, nat_lt, eqb, List, [], ◌∷◌, ◌++◌, drop, map, chars, replicate, refl, sym, ap, ◌∙◌, arith, Option, Some, None}
 use Rattle.std.specs.List.{list_all}
 use Rattle.std.proofs.lemmas.Bool.{and_from}
 use Rattle.std.proofs.lemmas.Bool.Decides.{nat_tests}
@@ -17,7 +17,8 @@ use Rattle.markdown_pieces.specs.declared.pieces.Kind.TheVariants.{Plain, Shown 
 use Rattle.markdown_pieces.specs.declared.pieces.Piece.{Piece}
 use Rattle.markdown_inlines.specs.declared.looks.Look.{Look}
 use Rattle.markdown_inlines.specs.declared.links.Over.{Over}
-use Rattle.markdown_inlines.specs.Printable.{is_printable, picture, shown_char, is_shown}
+use Rattle.mad_printable.specs.Pictures.{is_printable_char, picture}
+use Rattle.markdown_inlines.specs.Printable.{is_printable, shown_char, is_shown}
 use Rattle.markdown_inlines.specs.Parts.{sign_char, part, alternative_text, html_shown, opening_shown, closing_shown, kind_characters}
 use Rattle.markdown_inlines.specs.Styled.{Shown, shown_with}
 use Rattle.markdown_inlines.specs.Inlines.{look_at, shown_piece, shown_from, char_of, are_shown}
@@ -27,18 +28,22 @@ use Rattle.markdown_inlines.specs.Inlines.{look_at, shown_piece, shown_from, cha
 control_picture : (c : ℕ) → c < 32 → is_printable (0x2400 + c) ≡ true
 control_picture c h = grind (arith, nat_tests)
 
-picture_by : (c : ℕ) (stays low del : Bool) → is_printable c ≡ stays → nat_lt c 32 ≡ low → is_printable (cond stays c (cond low (0x2400 + c) (cond del 0x2421 0xFFFD))) ≡ true
-picture_by c true low del h l = h
-picture_by c false true del h l = control_picture c (grind (arith, nat_tests))
-picture_by c false false true h l = refl
-picture_by c false false false h l = refl
+picture_by : (c : ℕ) (stays low del : Bool) → is_printable_char c ≡ stays → eqb c 10 ≡ false → nat_lt c 32 ≡ low → is_printable (cond stays c (cond low (0x2400 + c) (cond del 0x2421 0xFFFD))) ≡ true
+picture_by c true low del h other l = ap (λ t. t || is_printable c) (sym other) ∙ h
+picture_by c false true del h other l = control_picture c (grind (arith, nat_tests))
+picture_by c false false true h other l = refl
+picture_by c false false false h other l = refl
 
-char_by : (blank : Bool) (c : ℕ) → is_printable (cond blank 32 (picture c)) ≡ true
-char_by true c = refl
-char_by false c = picture_by c (is_printable c) (nat_lt c 32) (eqb c 127) refl refl
+second : (a b : Bool) → (a || b) ≡ false → b ≡ false
+second true b h = absurd (cc)
+second false b h = h
+
+char_by : (blank : Bool) (c : ℕ) → (eqb c 9 || eqb c 10) ≡ blank → is_printable (cond blank 32 (picture c)) ≡ true
+char_by true c e = refl
+char_by false c e = picture_by c (is_printable_char c) (nat_lt c 32) (eqb c 127) refl (second (eqb c 9) (eqb c 10) e) refl
 
 pub shown_is : (c : ℕ) → is_printable (shown_char c) ≡ true
-shown_is c = char_by (eqb c 9 || eqb c 10) c
+shown_is c = char_by (eqb c 9 || eqb c 10) c refl
 
 either_shown : (newline : Bool) (c : ℕ) → is_printable c ≡ true → (newline || is_printable c) ≡ true
 either_shown true c h = refl

@@ -1,5 +1,5 @@
 -- Characters of a leaf, each with its flags.
-use Rattle.std.specs.Prelude.{ℕ, ◌-◌, Bool, false, not, ◌||◌, ◌&&◌, ◌==◌, List, [], ◌∷◌, ◌++◌, length, take, map, encode_utf8, if◌then◌else◌}
+use Rattle.std.specs.Prelude.{ℕ, ◌-◌, Bool, false, not, ◌||◌, ◌&&◌, ◌==◌, List, [], ◌∷◌, ◌++◌, length, take, map, is_some, encode_utf8, if◌then◌else◌}
 use Rattle.std.specs.List.{suffix_len}
 use Rattle.markdown_inlines.specs.Looks.{is_same}
 use Rattle.markdown_inlines.specs.Styled.{Shown}
@@ -9,9 +9,9 @@ use Rattle.markdown_lines.specs.Runs.{flags_said}
 use Rattle.markdown_lines.specs.declared.glyphs.Glyph.{Glyph}
 use Rattle.markdown_lines.specs.declared.places.RunFlags.{RunFlags}
 
--- a character that is shown, bold where all are
+-- a character that is shown, bold where all are, and with the flag of a link where it belongs to one
 abbrev pub glyph_of : Bool → Shown → Glyph
-glyph_of bold s = record { c = s.char; flags = record { bold = bold || s.look.bold; italic = s.look.italic; code = s.look.code; strikeout = s.look.strikeout; link = false } }
+glyph_of bold s = record { c = s.char; flags = record { bold = bold || s.look.bold; italic = s.look.italic; code = s.look.code; strikeout = s.look.strikeout; link = is_some s.look.link } }
 
 -- the characters that are shown of a leaf with this text, with links to definitions with these labels
 abbrev pub leaf_glyphs : List (List ℕ) → Bool → List ℕ → List Glyph

@@ -18,7 +18,7 @@ pub struct Glyph {
     pub flags: RunFlags,
 }
 
-// A character of this look, bold where all are.
+// A character of this look, bold where all are. Where it belongs to a link, it has that flag.
 fn glyph_of(bold: bool, look: &Look, c: char) -> Glyph
     ensures { result ≡ glyph_of bold (shown_with look.now c) }
 {
@@ -29,7 +29,7 @@ fn glyph_of(bold: bool, look: &Look, c: char) -> Glyph
             italic: look.italic,
             code: look.code,
             strikeout: look.strikeout,
-            link: false,
+            link: look.link.is_some(),
         },
     }
 }
