@@ -1,5 +1,5 @@
 -- How far a text is complete: how its lines join those before them.
-use Rattle.std.proofs.Common.{◌≡◌, ◌≢◌, inl, inr, ℕ, ◌+◌, ◌-◌, ◌≤◌, Bool, true, false, List, [], ◌∷◌, ◌++◌, length, take, drop, Option, Result, Ok, Err, refl, sym, ap, ◌∙◌, subst, arith, append_assoc}
+use Rattle.std.proofs.Common.{◌≡◌, inl, inr, ℕ, ◌-◌, Bool, true, false, List, [], ◌++◌, length, take, drop, Option, Result, Ok, Err, refl, sym, ap, ◌∙◌, subst, arith, append_assoc}
 use Rattle.std.specs.Prelude.{IsUtf8, IsCharBoundary}
 use Rattle.std.specs.Result.{IsErrAnd}
 use Rattle.std.proofs.lemmas.List.{append-nil, length-append}
@@ -20,7 +20,7 @@ use Rattle.mad_blocks.proofs.LayoutJoins.{apart, by_bool}
 use Rattle.mad_stream.specs.Fronts.{IsCompleteFront, IsLaidOutFront, WritesFront, settled_before, joined_by, settled_by, settled_at}
 use Rattle.mad_stream.specs.Lines.{IsFirstLine}
 use Rattle.mad_stream.specs.Sources.{MayGoOn}
-use Rattle.mad_stream.specs.Steps.{IsWholeLine, LineReads, ends_before, stays_with, last_after, fence_after}
+use Rattle.mad_stream.specs.Steps.{IsWholeLine, LineReads, ends_before, stays_with}
 use Rattle.mad_stream.specs.Streams.{AreHeld, ReadsTo, EndsIn}
 use Rattle.mad_stream.specs.declared.fronts.Scan.{Scan}
 use Rattle.mad_stream.proofs.HeldLemmas.{joined, apart_before, apart_none, apart_settled, reads_both, reads_nothing}

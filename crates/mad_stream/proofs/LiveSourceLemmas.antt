@@ -1,5 +1,5 @@
 -- How the steps of a source join that is shown as it comes.
-use Rattle.std.proofs.Common.{◌≡◌, ◌⊎◌, ◌≢◌, inl, inr, ℕ, zero, suc, ◌+◌, ◌<◌, ◌≤◌, ◌==◌, Bool, true, false, List, [], ◌∷◌, ◌++◌, length, take, drop, get_or, chars, Option, Result, Ok, Err, OnOk, refl, sym, ap, ◌∙◌, subst, arith, append_assoc, encode_utf8_all}
+use Rattle.std.proofs.Common.{◌≡◌, ◌⊎◌, ◌≢◌, inl, inr, ℕ, zero, suc, ◌+◌, ◌<◌, ◌≤◌, Bool, true, false, List, [], ◌∷◌, ◌++◌, length, take, drop, get_or, chars, Option, Result, Ok, Err, OnOk, refl, sym, ap, ◌∙◌, subst, arith, append_assoc, encode_utf8_all}
 use Rattle.std.specs.Prelude.{IsErrOf, IsUtf8, MatchResult}
 use Rattle.std.specs.declared.io.Error.{Error as IoError}
 use Rattle.std.specs.Result.{IsErrAnd}
@@ -13,11 +13,11 @@ use Rattle.mad_term.specs.declared.errors.Error.{Error}
 use Rattle.mad_term.specs.declared.errors.Error.TheVariants as writing
 use Rattle.mad_term.proofs.Traces.{after-append, after-nil}
 use Rattle.mad_screen.specs.Glyph.{Glyph}
-use Rattle.mad_live.specs.Papers.{Paper, Reads, blank_line}
-use Rattle.mad_live.specs.LiveRows.{AreBlank, AreLast, Shows}
+use Rattle.mad_live.specs.Papers.{Paper}
+use Rattle.mad_live.specs.LiveRows.{AreLast}
 use Rattle.mad_live.proofs.PaperLemmas.{then_reads}
 use Rattle.mad_rows.specs.declared.row_skin.RowSkin.{RowSkin}
-use Rattle.mad_stream.specs.LiveSources.{FitsAsItGrows, LeadsTo, ShowsAll, ShowsFront, ShowsSoFar, ShowsSource, StopsShowing}
+use Rattle.mad_stream.specs.LiveSources.{FitsAsItGrows, LeadsTo, ShowsAll, ShowsSoFar, ShowsSource, StopsShowing}
 use Rattle.mad_stream.specs.LiveSteps.{EndsShown, EndsWith, ShowsBlock, ShowsPiece, StopsAt, StopsInBlock}
 use Rattle.mad_stream.specs.LiveTexts.{EndsLive, FeedsLive, FitsRows, IsLaidOut, IsLive, KeepsLive, ShowsNow, StartsLive, without_last}
 use Rattle.mad_stream.specs.PrintedPieces.{end_shown, growing, piece_shown, place_after, printed}

@@ -1,5 +1,5 @@
 -- Texts that are handed whole each time: how far they are complete.
-use Rattle.std.specs.Prelude.{◌≡◌, ℕ, ◌≤◌, Bool, true, false, List, [], ◌++◌, length, take, drop, Option, Result, Ok, OnOk, if◌then◌else◌}
+use Rattle.std.specs.Prelude.{◌≡◌, ℕ, ◌≤◌, Bool, true, false, List, ◌++◌, length, take, drop, Option, Result, Ok, OnOk, if◌then◌else◌}
 use Rattle.mad_md.specs.Lines.{LineContent}
 use Rattle.mad_md.specs.Parts.{HasNoNewline}
 use Rattle.mad_md.specs.Reading.{resumed_text}

@@ -1,5 +1,5 @@
 -- The steps of a source that is shown as it comes.
-use Rattle.std.specs.Prelude.{◌≡◌, ◌⊎◌, ℕ, ◌+◌, ◌≤◌, Bool, true, false, List, ◌++◌, length, take, Result, Ok, Err, IsUtf8, chars, encode_utf8_all}
+use Rattle.std.specs.Prelude.{◌≡◌, ◌⊎◌, ℕ, ◌+◌, ◌≤◌, true, false, List, ◌++◌, length, take, Result, Ok, Err, IsUtf8, chars, encode_utf8_all}
 use Rattle.mad_term.specs.Trace.{Trace, after, failed, flushed}
 use Rattle.mad_screen.specs.Glyph.{Glyph}
 use Rattle.mad_live.specs.Papers.{Paper, Reads}
@@ -11,7 +11,7 @@ use Rattle.mad_stream.specs.declared.live_sources.Shown.{Shown}
 use Rattle.mad_stream.specs.declared.live_text.LiveText.{LiveText}
 use Rattle.mad_stream.specs.declared.printed.Place.{Place}
 use Rattle.mad_stream.specs.declared.source_error.SourceError.{SourceError}
-use Rattle.mad_stream.specs.declared.source_error.SourceError.TheVariants.{Source, Device, NotUtf8, Memory}
+use Rattle.mad_stream.specs.declared.source_error.SourceError.TheVariants.{Device, Memory}
 
 -- some bytes went out, and then the device failed, or memory was refused
 abbrev pub StopsAt : Trace → SourceError → Trace → Type 0

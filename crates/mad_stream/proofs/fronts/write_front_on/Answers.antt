@@ -1,4 +1,4 @@
-use Rattle.std.proofs.Common.{◌≡◌, ◌-◌, ◌∙◌, ℕ, List, take, ap, arith}
+use Rattle.std.proofs.Common.{◌≡◌, ◌-◌, ◌∙◌, ℕ, take, ap, arith}
 use Rattle.mad_layout.specs.RowSkins.{row_skin}
 use Rattle.mad_stream.proofs.FrontLemmas.{front_refused, front_written}
 use Rattle.mad_stream.proofs.fronts.write_front_on.Goals as goal

@@ -1,4 +1,4 @@
-use Rattle.std.proofs.Common.{Result, Err, Ok, inl, inr, subst, sym, ap, ◌∙◌}
+use Rattle.std.proofs.Common.{inr}
 use Rattle.mad_stream.proofs.LiveSourceLemmas.{end_flush_exit, ends_as, finish_refused, finish_shown}
 use Rattle.mad_stream.proofs.live_sources.finish_live.Goals as goal
 

@@ -1,5 +1,5 @@
 use Rattle.std.proofs.Common.{◌≡◌, ◌++◌, ◌∙◌, ap, sym, chars, encode_utf8, encode_utf8_all, string_bytes, List, ℕ}
-use Rattle.mad_stream.specs.PrintedPieces.{end_shown, piece_shown, place_after, place_char, place_shown}
+use Rattle.mad_stream.specs.PrintedPieces.{end_shown, piece_shown, place_after, place_char}
 use Rattle.mad_stream.proofs.PrintedLemmas.{piece_made, text_is}
 use Rattle.mad_stream.proofs.printed.printable_piece.Goals as goal
 
