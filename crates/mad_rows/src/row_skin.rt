@@ -79,7 +79,7 @@ impl RowSkin {
 
     /// The same skin, in which the text of a link is underlined; but where no flag of a compound adds anything, none does for links.
     pub fn with_links(self) -> RowSkin
-        ensures { result ≡ with_links self.entry }
+        ensures { result ≡ with_links self }
     {
         let link = if self.adds_nothing() {
             CompoundStyle::default()

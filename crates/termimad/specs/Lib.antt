@@ -66,6 +66,10 @@ pub use Rattle.mad_fit.specs.TextColumns
 pub use Rattle.mad_fit.specs.Completions
 pub use Rattle.mad_printable.specs.Pictures as ShownCharacters
 pub use Rattle.mad_fit.specs.Printable
+pub use Rattle.mad_steady.specs.Kept as SteadyKeeps
+pub use Rattle.mad_steady.specs.Kinds as SteadyKinds
+pub use Rattle.mad_steady.specs.Steady
+pub use Rattle.mad_steady.specs.Widths as SteadyWidths
 pub use Rattle.mad_fit.specs.TokenPositions
 pub use Rattle.mad_fit.specs.Tokens
 pub use Rattle.mad_fit.specs.TokensLeft
@@ -223,7 +227,10 @@ pub use Rattle.mad_live.specs.PaintedRows
 pub use Rattle.mad_live.specs.PaperLaws
 pub use Rattle.mad_live.specs.Papers
 pub use Rattle.mad_stream.specs.FittingRows
+pub use Rattle.mad_stream.specs.Fronts as StreamedParts
+pub use Rattle.mad_stream.specs.LiveSources
 pub use Rattle.mad_stream.specs.LiveTexts
+pub use Rattle.mad_stream.specs.PrintedPieces
 pub use Rattle.mad_stream.specs.Sources as StreamedSources
 pub use Rattle.mad_stream.specs.Streams
 pub use Rattle.mad_stream.specs.TextFronts as StreamedFronts

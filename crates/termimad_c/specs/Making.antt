@@ -1,8 +1,9 @@
 -- The bytes that a call makes of a text, in the skin of a word.
-use Rattle.std.specs.Prelude.{◌≡◌, ℕ, ◌≤◌, ◌<◌, ◌^◌, List, Some, None, false, Ok, IsUtf8, chars, encode_utf8_all, length}
+use Rattle.std.specs.Prelude.{◌≡◌, ℕ, ◌≤◌, ◌<◌, ◌^◌, Bool, List, Some, None, false, Ok, IsUtf8, chars, encode_utf8_all, length}
 use Rattle.termimad.specs.Fitting.{IsCompositeFitted}
 use Rattle.termimad.specs.Inlines.{IsInlineOf}
 use Rattle.termimad.specs.Layouts.{IsMarkdownLayout}
+use Rattle.termimad.specs.StreamedParts.{WritesFront}
 use Rattle.termimad.specs.Pieces.{pieces_bytes}
 use Rattle.termimad.specs.Printable.{printable_text}
 use Rattle.termimad.specs.RowSkins.{row_skin}
@@ -18,7 +19,7 @@ use Rattle.termimad_run.specs.ProgramRuns.{WritesCall, ShowsCall}
 use Rattle.termimad_run.specs.declared.call.Command.{Command}
 use Rattle.termimad_run.specs.declared.call.Command.TheVariants.{InArea, AtWidth, AsMarkdown}
 use Rattle.termimad_c.specs.Gathered.{untouched}
-use Rattle.termimad_c.specs.Inputs.{IsSkinOf, IsAreaOf, alignment_number}
+use Rattle.termimad_c.specs.Inputs.{IsTextSoFar, IsSkinOf, IsAreaOf, alignment_number}
 
 -- They are all that the program writes of this text in the skin of this word, and what a plain terminal shows of them is what the
 -- program's bytes show.
@@ -71,3 +72,15 @@ pub record IsFittedLine (text word : List ℕ) (width align : ℕ) (whole : List
 pub record IsMadePrintable (text whole : List ℕ) : Type 0 where
   pub utf8 : IsUtf8 text
   pub shown : whole ≡ encode_utf8_all (printable_text (chars text))
+
+-- They are the rows of the complete parts of a text that goes on, or of all of one that ends there, in the skin of this word. So many bytes of the text are
+-- these, before which a fence is open or not, and after which it is or not.
+pub record ArePartsOf (text word : List ℕ) (width : ℕ) (fenced is_last : Bool) (rows : List ℕ) (used : ℕ) (fenced_then : Bool) : Type 0 where
+  pub narrow : width < 2 ^ 16
+  pub skin : MadSkin
+  pub given : IsSkinOf word skin
+  pub read : List ℕ
+  pub so_far : IsTextSoFar is_last text read
+  pub last : Trace
+  pub writes : WritesFront (row_skin skin) (Some width) read fenced is_last untouched (Ok (used, fenced_then)) last
+  pub rows_are : last.bytes ≡ Some rows

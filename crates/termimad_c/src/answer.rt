@@ -1,7 +1,7 @@
 //! What a call answers, and what it leaves in the caller's buffer.
 
 ghost use Rattle.std.specs.Prelude.{◌≡◌, MatchResult};
-ghost use Rattle.termimad_c.specs.Answers.{HandsOut, IsRefused, status_of, refusal_of};
+ghost use Rattle.termimad_c.specs.Answers.{HandsOut, HandsOutParts, IsNoProgress, IsRefused, bit, status_of, refusal_of};
 
 use std::alloc::AllocError;
 use termimad::Error;
@@ -21,6 +21,31 @@ pub struct Answer {
     pub count: usize,
     /// How the call ended.
     pub status: u32,
+}
+
+/// What a call answers that lays out a text as it comes.
+#[repr(C)]
+#[derive(Clone, Copy, PartialEq, Eq, Debug, Drop)]
+pub struct Progress {
+    /// How many bytes the rows have; 0 where the call was refused.
+    pub count: usize,
+    /// How many bytes of the text they are of; 0 where not all rows are in the buffer.
+    pub used: usize,
+    /// 1 where a fence is open after these, else 0.
+    pub fenced: u32,
+    /// How the call ended.
+    pub status: u32,
+}
+
+/// The parts at the front of a text, laid out.
+#[derive(Drop)]
+pub struct Parts {
+    /// Their rows.
+    pub rows: Vec<u8>,
+    /// How many bytes of the text they are.
+    pub used: usize,
+    /// Whether a fence is open after them.
+    pub is_open: bool,
 }
 
 /// Why a call is refused.
@@ -96,6 +121,37 @@ pub fn hand_out(made: Result<Vec<u8>, Refusal>, buffer: &mut [u8]) -> Answer
     match made {
         Ok(whole) => copy_front(whole.as_slice(), buffer),
         Err(refusal) => refuse(refusal),
+    }
+}
+
+/// Hands out the rows of the parts of a text, or why they were refused; `fenced` is whether a fence is open before the text.
+///
+/// Where not all of them fit the buffer, nothing of the text is used.
+pub fn hand_out_parts(made: Result<Parts, Refusal>, fenced: bool, buffer: &mut [u8]) -> Progress
+    ensures { MatchResult made (λ parts. HandsOutParts parts.rows.items parts.used parts.is_open fenced buffer.old result buffer.new)
+        (λ refusal. IsNoProgress refusal fenced result × (buffer.new ≡ buffer.old)) }
+{
+    match made {
+        Ok(parts) => {
+            let answer = copy_front(parts.rows.as_slice(), buffer);
+            if answer.status == DONE {
+                return progress(answer, parts.used, parts.is_open);
+            }
+            progress(answer, 0, fenced)
+        }
+        Err(refusal) => progress(refuse(refusal), 0, fenced),
+    }
+}
+
+// An answer, and how far the text was used.
+fn progress(answer: Answer, used: usize, fenced: bool) -> Progress
+    ensures { result ≡ record { count = answer.count; used = used; fenced = bit fenced; status = answer.status } }
+{
+    Progress {
+        count: answer.count,
+        used,
+        fenced: u32::from(fenced),
+        status: answer.status,
     }
 }
 

@@ -2,11 +2,11 @@
 
 ghost use Rattle.std.specs.Prelude.{◌≡◌, ◌<◌, ◌≤◌, ◌^◌, IsUtf8, MatchResult, option_map};
 ghost use Rattle.termimad_c.specs.declared.answer.Refusal.TheVariants.{Condition, NotUtf8};
-ghost use Rattle.termimad_c.specs.Inputs.{IsSkinOf, RefusesSkin, IsAreaOf, IsNoArea, alignment_number, word_given};
+ghost use Rattle.termimad_c.specs.Inputs.{IsTextSoFar, IsNoText, IsSkinOf, RefusesSkin, IsAreaOf, IsNoArea, alignment_number, word_given};
 
 use crate::answer::Refusal;
 use std::alloc::Global;
-use termimad::{Alignment, Area, MadSkin};
+use termimad::{Alignment, Area, MadSkin, cut_text};
 use termimad_run::skin_of;
 
 // The least width of an area, in columns.
@@ -23,6 +23,24 @@ pub fn text_of(bytes: &[u8]) -> Result<&str, Refusal>
     let Ok(text) = str::from_utf8(bytes) else {
         return Err(Refusal::NotUtf8);
     };
+    Ok(text)
+}
+
+/// The text of bytes that go on or end there. Where they go on, it is the longest front that is text: the beginning of a character may be left.
+///
+/// # Errors
+///
+/// `NotUtf8`, where they end and aren't UTF-8, or where no text begins with them, whatever comes.
+pub fn text_so_far(bytes: &[u8], is_last: bool) -> Result<&str, Refusal>
+    ensures { MatchResult result (λ text. IsTextSoFar is_last bytes.entry.now text.now) (λ refusal. (refusal ≡ NotUtf8) × IsNoText is_last bytes.entry.now) }
+{
+    if is_last {
+        return text_of(bytes);
+    }
+    let (text, is_wrong) = cut_text(bytes);
+    if is_wrong {
+        return Err(Refusal::NotUtf8);
+    }
     Ok(text)
 }
 
