@@ -252,8 +252,7 @@ unfolding word_widths
 no_columns true available =
     let test : nat_le 0 available ≡ true = grind (arith, nat_tests) in
     let given : List ℕ → List ℕ = λ ws. narrowed (raised ws []) (grants [] (second_requests (sum (raised ws []) - available) (counted_from (raised ws []) [])) (sum (raised ws []) - available)) in
-    let empty : List ℕ = [] in
-    ap (λ (ws : List ℕ). if nat_le 0 available then given ws else ws) (no_columns_shared available) ∙ ap (λ (b : Bool). if b then empty else empty) test
+    ap (λ (ws : List ℕ). if nat_le 0 available then given ws else ws) (no_columns_shared available) ∙ ap (λ (b : Bool). if b then [] else []) test
 no_columns false available = no_columns_shared available
 
 no_widths : (skin : RowSkin) (width : ℕ) (part : List LineContent) → 0 < width → columns_among part ≡ 0 → [] ≡ kept_widths skin width part
