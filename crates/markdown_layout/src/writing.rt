@@ -65,20 +65,20 @@ fn markdown_rows(
     let read = Markdown::read(alloc, markdown)?;
     let text = read.text(alloc)?;
     let lines = lay_text(alloc, skin, text, width)?;
-    displayed(alloc, skin, &lines, width)
+    displayed(alloc, *skin, &lines, width)
 }
 
 // Lines as they are displayed in a skin.
-fn displayed<'a>(
+fn displayed(
     alloc: Global,
-    skin: &'a RowSkin,
-    lines: &'a [FmtLine<'a>],
+    skin: RowSkin,
+    lines: &[FmtLine],
     width: Option<usize>,
 ) -> Result<String, AllocError>
-    ensures { IfOk result (λ rows. string_bytes rows ≡ text_bytes skin.now width lines.now) }
+    ensures { IfOk result (λ rows. string_bytes rows ≡ text_bytes skin width lines.now) }
 {
     let placed = PlacedLines {
-        skin,
+        skin: &skin,
         lines,
         outer: width,
     };
