@@ -37,7 +37,6 @@ def examples():
 
 
 def main():
-    dump.as_the_library()
     for path in sorted(FOLDER.glob("*.txt")):
         old = path.read_text(encoding="utf-8")
         new = rewritten(examples() if path.name == "examples.txt" else old)

@@ -3,7 +3,7 @@
 use std::alloc::Global;
 use std::io::{Error as IoError, ErrorKind};
 use termimad::screen::{NotPlain, Screen};
-use termimad::{Area, CutOut, Error, FmtText, MadSkin, Markdown, ScriptSource, TextView};
+use termimad::{Area, CutOut, Error, FmtText, MadSkin, Markdown, ScriptSource, draw_text_in};
 use termimad_page_run::{Grammar, Sheet, run};
 
 const COLUMNS: u16 = 72;
@@ -28,7 +28,8 @@ pub fn text_screen(alloc: Global, text: &str) -> Result<Screen, Error> {
     let rows = u16::try_from(text.lines.len()).unwrap_or(u16::MAX);
     let area = Area::new(0, 0, COLUMNS, rows);
     let mut out = CutOut::new(alloc, ROOM, ROOM, false)?;
-    TextView::from(&area, &text).write_on(alloc, &mut out)?;
+    let shown = skin.row_skin().with_links();
+    draw_text_in(alloc, &mut out, &shown, &text, &area, 0, false)?;
     read(alloc, rows, out.taken())
 }
 

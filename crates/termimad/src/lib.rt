@@ -153,6 +153,7 @@ pub use mad_layout::RowSkin;
 pub use mad_layout::Table;
 pub use mad_layout::composite_kind_widths;
 pub use mad_layout::draw_text;
+pub use mad_layout::draw_text_in;
 pub use mad_layout::find_blocks;
 pub use mad_layout::fix_all_tables;
 pub use mad_layout::inline;
