@@ -135,16 +135,16 @@ pub fn hand_out_parts(made: Result<Parts, Refusal>, fenced: bool, buffer: &mut [
         Ok(parts) => {
             let answer = copy_front(parts.rows.as_slice(), buffer);
             if answer.status == DONE {
-                return progress(answer, parts.used, parts.is_open);
+                return progress_of(answer, parts.used, parts.is_open);
             }
-            progress(answer, 0, fenced)
+            progress_of(answer, 0, fenced)
         }
-        Err(refusal) => progress(refuse(refusal), 0, fenced),
+        Err(refusal) => progress_of(refuse(refusal), 0, fenced),
     }
 }
 
 // An answer, and how far the text was used.
-fn progress(answer: Answer, used: usize, fenced: bool) -> Progress
+fn progress_of(answer: Answer, used: usize, fenced: bool) -> Progress
     ensures { result ≡ record { count = answer.count; used = used; fenced = bit fenced; status = answer.status } }
 {
     Progress {

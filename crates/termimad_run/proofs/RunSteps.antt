@@ -18,7 +18,7 @@ use Rattle.termimad_run.specs.declared.failure.Failure.TheVariants.{Io, Usage, S
 use Rattle.termimad_run.specs.Calls.{IsWhole, RefusesWords}
 use Rattle.termimad_run.specs.Failures.{failure_of, streamed_failure}
 use Rattle.termimad_run.specs.Reading.{ReadsWhole, ReadingFails}
-use Rattle.termimad_run.specs.ProgramRuns.{Devices, Starts, Started, FailsToStart, HasRead, HasWritten, WritesCall, ShowsCall, RunsWhole, StreamsInput, RunsTo}
+use Rattle.termimad_run.specs.ProgramRuns.{ComesAs, Devices, Starts, Started, FailsToStart, HasRead, HasWritten, WritesCall, ShowsCall, RunsWhole, StreamsInput, RunsTo}
 
 -- the call that was parsed
 abbrev pub started : (words : List (List ℕ)) (old new : Trace) (command : Command) (skin : MadSkin) (unknown : List (List ℕ)) → Starts words old command skin unknown new → Started words old new
@@ -107,3 +107,7 @@ pub stream_exit : {T : Type 0} (words : List (List ℕ)) (r : Result T Failure) 
 stream_exit {T} words r e old new is h =
     let p = err_from_is_err_and r is in
     subst (λ (s : Result T Failure). RunsTo words old s new) (sym (p.1 ∙ ap Err p.2)) (inr (e, refl, h))
+
+-- a command that is that one
+pub comes_as : {T : Type 0} (skin : MadSkin) (command same : Command) (input out : Trace) (r : Result T SourceError) (input_now out_now : Trace) → command ≡ same → ComesAs skin same input out r input_now out_now → ComesAs skin command input out r input_now out_now
+comes_as {T} skin command same input out r input_now out_now is h = subst (λ (k : Command). ComesAs skin k input out r input_now out_now) (sym is) h

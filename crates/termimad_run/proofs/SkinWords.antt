@@ -2,7 +2,7 @@
 use Rattle.std.proofs.Common.{◌≡◌, ℕ, List, [], ◌∷◌, get_or, ◌⊎◌, Option, Some, None, inl, inr, Ok, Err, refl, ap, sym, ◌∙◌, subst, arith}
 use Rattle.termimad.specs.declared.MadSkin.{MadSkin}
 use Rattle.termimad_run.specs.declared.call.Command.{Command}
-use Rattle.termimad_run.specs.declared.call.Command.TheVariants.{InArea, AtWidth, AsMarkdown, AsItComes, Inline}
+use Rattle.termimad_run.specs.declared.call.Command.TheVariants.{InArea, AtWidth, AsMarkdown, AsItComes, Live, Inline}
 use Rattle.termimad_run.specs.declared.failure.Failure.{Failure}
 use Rattle.termimad_run.specs.declared.failure.Failure.TheVariants.{Io, Usage, NotUtf8, Skin, Memory}
 use Rattle.mad_term.specs.Trace.{Trace}
@@ -48,6 +48,17 @@ asked_once (name ∷ words) Inline (AtWidth m) a b h k = absurd (let e : 105 ≡
 asked_once (name ∷ words) Inline (AsMarkdown m) a b h k = absurd (let e : 105 ≡ 109 = first_byte 105 109 name _ _ h.0 k.0 in omega (arith, e))
 asked_once (name ∷ words) Inline (AsItComes m) a b h k = absurd (let e : 105 ≡ 115 = first_byte 105 115 name _ _ h.0 k.0 in omega (arith, e))
 asked_once (name ∷ words) Inline Inline a b h k = one_word words a b h.1 k.1
+asked_once (name ∷ words) (InArea x) (Live m y) a b h k = absurd (let e : 97 ≡ 108 = first_byte 97 108 name _ _ h.0 k.0 in omega (arith, e))
+asked_once (name ∷ words) (AtWidth n) (Live m y) a b h k = absurd (let e : 116 ≡ 108 = first_byte 116 108 name _ _ h.0 k.0 in omega (arith, e))
+asked_once (name ∷ words) (AsMarkdown n) (Live m y) a b h k = absurd (let e : 109 ≡ 108 = first_byte 109 108 name _ _ h.0 k.0 in omega (arith, e))
+asked_once (name ∷ words) (AsItComes n) (Live m y) a b h k = absurd (let e : 115 ≡ 108 = first_byte 115 108 name _ _ h.0 k.0 in omega (arith, e))
+asked_once (name ∷ words) (Live n x) (InArea y) a b h k = absurd (let e : 108 ≡ 97 = first_byte 108 97 name _ _ h.0 k.0 in omega (arith, e))
+asked_once (name ∷ words) (Live n x) (AtWidth m) a b h k = absurd (let e : 108 ≡ 116 = first_byte 108 116 name _ _ h.0 k.0 in omega (arith, e))
+asked_once (name ∷ words) (Live n x) (AsMarkdown m) a b h k = absurd (let e : 108 ≡ 109 = first_byte 108 109 name _ _ h.0 k.0 in omega (arith, e))
+asked_once (name ∷ words) (Live n x) (AsItComes m) a b h k = absurd (let e : 108 ≡ 115 = first_byte 108 115 name _ _ h.0 k.0 in omega (arith, e))
+asked_once (name ∷ words) Inline (Live m y) a b h k = absurd (let e : 105 ≡ 108 = first_byte 105 108 name _ _ h.0 k.0 in omega (arith, e))
+asked_once (name ∷ words) (Live n x) Inline a b h k = absurd (let e : 108 ≡ 105 = first_byte 108 105 name _ _ h.0 k.0 in omega (arith, e))
+asked_once (name ∷ w ∷ t ∷ rest) (Live n x) (Live m y) a b h k = one_word rest a b h.1.2 k.1.2
 asked_once _ _ _ a b h k = absurd h.1
 
 known_skin : (word : Option (List ℕ)) (given : MadSkin × List (List ℕ)) → skin_given word ≡ Some given → skin_given word ≡ None → ⊥

@@ -65,6 +65,11 @@ IsWhole (AsItComes width) = ⊥
 IsWhole (Live width height) = ⊥
 IsWhole _ = ⊤
 
+-- the command that lays a text out as it comes, at a width; with the screen's rows it shows it on a terminal that scrolls
+abbrev pub command_of_pieces : ℕ → Option ℕ → Command
+command_of_pieces width None = AsItComes width
+command_of_pieces width (Some height) = Live width height
+
 -- the words ask for nothing that the program does
 abbrev pub IsNoCall : List (List ℕ) → Type 0
 IsNoCall words = (command : Command) (word : Option (List ℕ)) → ¬ (Asks words command word)

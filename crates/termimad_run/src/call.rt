@@ -1,8 +1,8 @@
 //! What the arguments ask for.
 
-ghost use Rattle.std.specs.Prelude.{ℕ, List, Option, MatchOption, MatchResult, map, option_map, string_bytes};
+ghost use Rattle.std.specs.Prelude.{◌≡◌, ℕ, List, Option, MatchOption, MatchResult, map, option_map, string_bytes};
 ghost use Rattle.termimad.specs.declared.Area.{Area as SomeArea};
-ghost use Rattle.termimad_run.specs.Calls.{Asks, IsNoCall, IsAreaOf, IsSkinWord, AsksArea, AsksWidth, AsksSize, IsCall, RefusesWords};
+ghost use Rattle.termimad_run.specs.Calls.{Asks, IsWhole, command_of_pieces, IsNoCall, IsAreaOf, IsSkinWord, AsksArea, AsksWidth, AsksSize, IsCall, RefusesWords};
 
 use crate::failure::Failure;
 use crate::number::parse_number;
@@ -156,5 +156,17 @@ fn skin_word(words: &[String]) -> Option<Option<&str>>
         [] => Some(None),
         [word] => Some(Some(word.as_str())),
         _ => None,
+    }
+}
+
+/// The width at which a text is to be laid out as it comes, and the screen's rows where it is shown on a terminal that scrolls; none, where a
+/// command wants it whole.
+pub(crate) fn size_of_pieces(command: &Command) -> Option<(usize, Option<usize>)>
+    ensures { MatchOption result (IsWhole command.now) (λ size. command.now ≡ command_of_pieces size.0 size.1) }
+{
+    match command {
+        Command::AsItComes(width) => Some((usize::from(*width), None)),
+        Command::Live(width, height) => Some((usize::from(*width), Some(usize::from(*height)))),
+        Command::InArea(_) | Command::AtWidth(_) | Command::AsMarkdown(_) | Command::Inline => None,
     }
 }

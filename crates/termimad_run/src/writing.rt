@@ -1,7 +1,7 @@
 //! What a call writes of its text.
 
-ghost use Rattle.std.specs.Prelude.{◌≡◌, MatchOption, OnOk};
-ghost use Rattle.termimad_run.specs.Calls.{IsAllowed, IsWhole};
+ghost use Rattle.std.specs.Prelude.{OnOk};
+ghost use Rattle.termimad_run.specs.Calls.{IsAllowed, command_of_pieces};
 ghost use Rattle.termimad_run.specs.LineEnds.{IsWithoutLineEnd};
 ghost use Rattle.termimad_run.specs.ProgramRuns.{ComesAs, WritesCall, ShowsCall, WritesLine};
 
@@ -44,28 +44,20 @@ pub fn write_call<O: Out>(
     }
 }
 
-/// Writes a text as it comes, where the command says so. None, where it wants the text whole: then nothing is read or written.
+/// Writes a text as it comes, laid out at a width, in columns; or shows it on a terminal that scrolls, where the screen's rows are given.
 pub(crate) fn write_as_it_comes<I: Source, O: Out>(
     alloc: Global,
     input: &mut I,
     out: &mut O,
     skin: &MadSkin,
-    command: &Command,
-) -> Option<Result<(), SourceError>>
-    ensures { MatchOption result (IsWhole command.now × (I.seen input.new ≡ I.seen input.old) × (O.seen out.new ≡ O.seen out.old))
-        (λ r. ComesAs skin.now command.now (I.seen input.old) (O.seen out.old) r (I.seen input.new) (O.seen out.new)) }
+    width: usize,
+    height: Option<usize>,
+) -> Result<(), SourceError>
+    ensures { ComesAs skin.now (command_of_pieces width height) (I.seen input.old) (O.seen out.old) result (I.seen input.new) (O.seen out.new) }
 {
-    match command {
-        Command::AsItComes(width) => {
-            let width = Some(usize::from(*width));
-            Some(write_source_on(alloc, input, out, skin, width))
-        }
-        Command::Live(width, height) => {
-            let width = Some(usize::from(*width));
-            let height = usize::from(*height);
-            Some(show_source_on(alloc, input, out, skin, width, height))
-        }
-        Command::InArea(_) | Command::AtWidth(_) | Command::AsMarkdown(_) | Command::Inline => None,
+    match height {
+        None => write_source_on(alloc, input, out, skin, Some(width)),
+        Some(height) => show_source_on(alloc, input, out, skin, Some(width), height),
     }
 }
 
