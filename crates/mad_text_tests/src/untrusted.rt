@@ -60,10 +60,11 @@ pub(crate) fn draw_steady(picture: &mut String, numbers: &str) -> Result<(), All
     let text: String = numbers.split(' ').filter_map(numbered).collect(alloc)?;
     let shown = steady(alloc, &text)?;
     picture.push_str(borrowed(&shown))?;
-    let mut between = "";
-    for c in shown.as_str().chars() {
-        write!(picture, "{between}{:X}", c as u32)?;
-        between = " ";
+    for (place, c) in shown.as_str().chars().enumerate() {
+        if place > 0 {
+            picture.push(' ')?;
+        }
+        write!(picture, "{:X}", c as u32)?;
     }
     Ok(())
 }
