@@ -38,7 +38,7 @@ pub fn write_markdown_on<O: Out>(
     ensures early { IsErrOf result Memory → O.seen out.new ≡ O.seen out.old }
 {
     let skin = markdown_skin(skin);
-    let rows = markdown_rows(alloc, skin, markdown, width)?;
+    let rows = markdown_rows(alloc, &skin, markdown, width)?;
     put_text(out, &rows)
 }
 
@@ -56,29 +56,29 @@ fn markdown_skin(skin: &MadSkin) -> RowSkin
 // The rows of a text in a skin: those of its lines, each with a newline.
 fn markdown_rows(
     alloc: Global,
-    skin: RowSkin,
+    skin: &RowSkin,
     markdown: &str,
     width: Option<usize>,
 ) -> Result<String, AllocError>
-    ensures { IfOk result (λ rows. (lines : List FmtLine) × IsLayoutAt (line_rules skin) width (markdown_lines markdown.now) lines × (string_bytes rows ≡ text_bytes skin width lines)) }
+    ensures { IfOk result (λ rows. (lines : List FmtLine) × IsLayoutAt (line_rules skin.now) width (markdown_lines markdown.now) lines × (string_bytes rows ≡ text_bytes skin.now width lines)) }
 {
     let read = Markdown::read(alloc, markdown)?;
     let text = read.text(alloc)?;
-    let lines = lay_text(alloc, &skin, text, width)?;
-    displayed(alloc, &skin, &lines, width)
+    let lines = lay_text(alloc, skin, text, width)?;
+    displayed(alloc, *skin, &lines, width)
 }
 
 // Lines as they are displayed in a skin.
-fn displayed<'a>(
+fn displayed(
     alloc: Global,
-    skin: &'a RowSkin,
-    lines: &'a [FmtLine<'a>],
+    skin: RowSkin,
+    lines: &[FmtLine],
     width: Option<usize>,
 ) -> Result<String, AllocError>
-    ensures { IfOk result (λ rows. string_bytes rows ≡ text_bytes skin.now width lines.now) }
+    ensures { IfOk result (λ rows. string_bytes rows ≡ text_bytes skin width lines.now) }
 {
     let placed = PlacedLines {
-        skin,
+        skin: &skin,
         lines,
         outer: width,
     };
