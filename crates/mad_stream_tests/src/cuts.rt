@@ -79,35 +79,28 @@ pub fn gone_on_with(asked: &Asked) -> Result<String, AllocError> {
 // Feeds the text to a device that fails, and what it didn't take to another one. Whether the first failed before the end: what fails there
 // is lost, as the stream is gone.
 fn feed_both(asked: &Asked, first: &mut CutOut, second: &mut CutOut) -> Result<bool, AllocError> {
-    let alloc = asked.alloc;
-    let mut stream = TextStream::new(alloc, &asked.skin, asked.width);
+    let [size, _] = asked.numbers;
+    let mut stream = TextStream::new(asked.alloc, &asked.skin, asked.width);
     let mut has_failed = false;
     let mut at = 0;
-    let mut end = 0;
-    while end < asked.text.len() {
-        end = end_of_piece(asked, end);
-        let piece = asked.text.get(at..end).unwrap_or("");
-        let (taken, fed) = if has_failed {
-            stream.feed(alloc, second, piece)
-        } else {
-            stream.feed(alloc, first, piece)
-        };
-        match fed {
-            Ok(()) => {}
-            Err(Error::Memory) => return Err(AllocError),
-            Err(_) => has_failed = true,
+    let mut due = size;
+    for (end, _) in asked.text.char_indices() {
+        if end >= due {
+            due = end.saturating_add(size);
+            let piece = asked.text.get(at..end).unwrap_or("");
+            let taken = feed_one(asked, &mut stream, first, second, &mut has_failed, piece)?;
+            at = at.saturating_add(taken);
         }
+    }
+    for _ in 0..2 {
+        let piece = asked.text.get(at..).unwrap_or("");
+        let taken = feed_one(asked, &mut stream, first, second, &mut has_failed, piece)?;
         at = at.saturating_add(taken);
     }
-    let piece = asked.text.get(at..).unwrap_or("");
-    let (_, fed) = stream.feed(alloc, second, piece);
-    if fed.is_err() {
-        return Err(AllocError);
-    }
     let ended = if has_failed {
-        stream.finish(alloc, second)
+        stream.finish(asked.alloc, second)
     } else {
-        stream.finish(alloc, first)
+        stream.finish(asked.alloc, first)
     };
     if matches!(ended, Err(Error::Memory)) {
         return Err(AllocError);
@@ -115,14 +108,26 @@ fn feed_both(asked: &Asked, first: &mut CutOut, second: &mut CutOut) -> Result<b
     Ok(has_failed && ended.is_ok())
 }
 
-// Where the piece ends that begins there: it has so many bytes, or some more that end its last character.
-fn end_of_piece(asked: &Asked, from: usize) -> usize {
-    let [size, _] = asked.numbers;
-    let mut end = from.saturating_add(size.max(1)).min(asked.text.len());
-    while !asked.text.is_char_boundary(end) {
-        end = end.saturating_add(1);
+// Feeds a piece to the first device, or to the second once the first has failed. How much of it was taken.
+fn feed_one(
+    asked: &Asked,
+    stream: &mut TextStream,
+    first: &mut CutOut,
+    second: &mut CutOut,
+    has_failed: &mut bool,
+    piece: &str,
+) -> Result<usize, AllocError> {
+    let (taken, fed) = if *has_failed {
+        stream.feed(asked.alloc, second, piece)
+    } else {
+        stream.feed(asked.alloc, first, piece)
+    };
+    match fed {
+        Ok(()) => {}
+        Err(Error::Memory) => return Err(AllocError),
+        Err(_) => *has_failed = true,
     }
-    end
+    Ok(taken)
 }
 
 /// What goes out of a source that gives its bytes in steps, and how that ended. It may fail at its end; `<ff>` is a byte that no text has.

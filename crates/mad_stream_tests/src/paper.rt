@@ -29,25 +29,32 @@ impl Paper {
         })
     }
 
-    /// Reads a text. Answers whether it knows all of it.
+    /// Reads a text. Answers whether it never moves above the screen.
     pub fn read(&mut self, alloc: Global, text: &str) -> Result<bool, AllocError> {
-        let mut rest = text;
-        while !rest.is_empty() {
-            if let Some(after) = rest.strip_prefix(ERASE_ROW) {
-                self.erase();
-                rest = after;
-            } else if let Some(after) = rest.strip_prefix(ERASE_ROW_ABOVE) {
+        for (number, part) in text.split(ERASE_ROW_ABOVE).enumerate() {
+            if number > 0 {
                 if self.above == self.off {
                     return Ok(false);
                 }
                 self.above = self.above.saturating_sub(1);
                 self.erase();
-                rest = after;
-            } else {
-                rest = self.read_character(alloc, rest)?;
             }
+            self.read_below(alloc, part)?;
         }
         Ok(true)
+    }
+
+    // Reads a text without a move up.
+    fn read_below(&mut self, alloc: Global, text: &str) -> Result<(), AllocError> {
+        for (number, part) in text.split(ERASE_ROW).enumerate() {
+            if number > 0 {
+                self.erase();
+            }
+            for c in part.chars() {
+                self.read_character(alloc, c)?;
+            }
+        }
+        Ok(())
     }
 
     fn erase(&mut self) {
@@ -56,25 +63,18 @@ impl Paper {
         }
     }
 
-    fn read_character<'t>(&mut self, alloc: Global, text: &'t str) -> Result<&'t str, AllocError> {
-        let mut characters = text.chars();
-        match characters.next() {
-            Some('\n') => {
-                self.above = self.above.saturating_add(1);
-                if self.above == self.rows.len() {
-                    self.rows.push(String::new(alloc))?;
-                }
-                let least = self.above.saturating_add(1).saturating_sub(self.height);
-                self.off = self.off.max(least);
+    fn read_character(&mut self, alloc: Global, c: char) -> Result<(), AllocError> {
+        if c == '\n' {
+            self.above = self.above.saturating_add(1);
+            if self.above == self.rows.len() {
+                self.rows.push(String::new(alloc))?;
             }
-            Some(c) => {
-                if let Some(row) = self.rows.get_mut(self.above) {
-                    row.push(c)?;
-                }
-            }
-            None => {}
+            let least = self.above.saturating_add(1).saturating_sub(self.height);
+            self.off = self.off.max(least);
+        } else if let Some(row) = self.rows.get_mut(self.above) {
+            row.push(c)?;
         }
-        Ok(characters.as_str())
+        Ok(())
     }
 
     /// Writes its rows up to the cursor's, those that scrolled off behind an arrow.
