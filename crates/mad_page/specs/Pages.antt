@@ -1,5 +1,5 @@
 -- A text's rows on a screen, and how they are scrolled.
-use Rattle.std.specs.Prelude.{ℕ, ◌+◌, ◌-◌, ◌*◌, ◌/◌, ◌==◌, ◌&&◌, nat_lt, min, max, Bool, if◌then◌else◌}
+use Rattle.std.specs.Prelude.{ℕ, ◌+◌, ◌-◌, ◌*◌, ◌/◌, ◌==◌, ◌&&◌, nat_le, nat_lt, min, max, Bool, if◌then◌else◌}
 use Rattle.mad_page.specs.declared.page.Page.{Page}
 
 -- the rows of the screen that the text has: all but the last one
@@ -22,9 +22,13 @@ above p count = record p { top = p.top - count }
 abbrev pub at_row : Page → ℕ → Page
 at_row p row = record p { top = min row (p.height - 1) }
 
+-- this row of the text is on the screen
+abbrev pub shows_row : Page → ℕ → Bool
+shows_row p row = nat_le p.top row && nat_lt (row - p.top) (body_rows p)
+
 -- a row of the text in sight: on top, where it isn't on the screen already
 abbrev pub in_sight : Page → ℕ → Page
-in_sight p row = if nat_lt row p.top then record p { top = row } else if nat_lt row (p.top + body_rows p) then p else record p { top = row }
+in_sight p row = if shows_row p row then p else record p { top = row }
 
 -- how much of the text is on the screen or above it, in per cent, rounded down; of a text without rows it is all
 abbrev pub percent : Page → ℕ

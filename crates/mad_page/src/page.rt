@@ -1,7 +1,7 @@
 //! The screen, the text's rows and the one on top.
 
 ghost use Rattle.std.specs.Prelude.{◌≡◌};
-ghost use Rattle.mad_page.specs.Pages.{above, at_bar, at_end, at_row, below, body_rows, in_sight, is_on_bar, percent};
+ghost use Rattle.mad_page.specs.Pages.{above, at_bar, at_end, at_row, below, body_rows, in_sight, is_on_bar, percent, shows_row};
 
 /// A text's rows on a screen, whose last row is left free.
 #[derive(Clone, Copy, Debug, PartialEq, Eq)]
@@ -39,15 +39,21 @@ impl Page {
         (100 * reached / self.height as u128) as u64
     }
 
+    /// Whether a row of the text is on the screen.
+    pub fn shows_row(&self, row: usize) -> bool
+        ensures { result ≡ shows_row self.now row }
+    {
+        row >= self.top && row - self.top < usize::from(self.body_rows())
+    }
+
     /// Scrolls so that a row of the text is on top, where it isn't on the screen already.
     pub fn show_row(&mut self, row: usize)
         ensures { self.new ≡ in_sight self.old row }
     {
-        if row < self.top {
-            self.top = row;
-        } else if row - self.top >= usize::from(self.body_rows()) {
-            self.top = row;
+        if self.shows_row(row) {
+            return;
         }
+        self.top = row;
     }
 
     // Scrolls down by this many rows, no further than to the text's last row in the screen's last but one. A page that is further stays.

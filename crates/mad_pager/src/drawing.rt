@@ -4,11 +4,14 @@ ghost use Rattle.std.specs.Prelude.{◌≡◌, OnOk, IfOk, MatchResult, ℕ, Lis
 ghost use Rattle.mad_term.specs.Trace.{TookWith, Writes};
 ghost use Rattle.mad_pager.specs.Pictures.{picture_trace};
 ghost use Rattle.mad_pager.specs.Sessions.{state_of};
-ghost use Rattle.mad_pager.specs.Screens.{AreLinesShown, IsDrawing, IsFieldRow, IsLastRow, IsPicture, IsShown, IsUnshown, is_small, question};
+ghost use Rattle.mad_pager.specs.Screens.{AreLinesShown, IsDrawing, IsFieldRow, IsFieldShown, IsLastRow, IsPicture, IsShown, IsUnshown, is_small, question};
 
 use crate::picture::Picture;
-use crate::session::{Session, last_row, text_area};
+use crate::places::{field_row, prompt_cell, text_area};
+use crate::session::Session;
+use mad_draw::{Rows, draw_rows};
 use mad_layout::draw_text;
+use mad_style::StyledChar;
 use mad_term::{Error, Out, put_all};
 use std::alloc::{AllocError, Global};
 use std::io;
@@ -88,25 +91,48 @@ impl Session<'_> {
     {
         let is_typing = self.is_typing;
         if is_typing {
-            self.draw_field(out)?;
+            self.draw_typed(alloc, out)?;
             return Ok(());
         }
         self.draw_status(alloc, out)?;
         Ok(())
     }
 
-    // Draws what is typed.
-    fn draw_field<O: Out>(&self, out: &mut O) -> Result<(), Error>
+    // Draws a slash, and what is typed after it.
+    fn draw_typed<O: Out>(&self, alloc: Global, out: &mut O) -> Result<(), Error>
         ensures { OnOk result (TookWith (O.seen out.old) (O.seen out.new) (IsFieldRow (state_of self.now))) }
     {
+        draw_rows(alloc, out, &Prompt, &prompt_cell(self.page.rows))?;
+        self.draw_field(out)?;
+        Ok(())
+    }
+
+    // Draws what is typed.
+    fn draw_field<O: Out>(&self, out: &mut O) -> Result<(), Error>
+        ensures { OnOk result (TookWith (O.seen out.old) (O.seen out.new) (IsFieldShown (state_of self.now))) }
+    {
         // A session's field is in the last row of its screen.
-        let row = last_row(self.page.columns, self.page.rows);
+        let row = field_row(self.page.columns, self.page.rows);
         let is_there = *self.field.area() == row;
         if is_there {
             self.field.display_on(out)?;
             return Ok(());
         }
         Ok(())
+    }
+}
+
+// The slash before what is typed.
+struct Prompt;
+
+impl Rows for Prompt {
+    ghost use Rattle.mad_pager.specs.Screens.{prompt_row};
+
+    ghost pieces = { λ _ y. prompt_row y };
+
+    fn push_row(&self, bytes: &mut String, _y: u16) -> Result<(), AllocError> {
+        let slash = StyledChar::nude('/');
+        write!(bytes, "{slash}")
     }
 }
 
