@@ -45,20 +45,30 @@ pub fn shown(alloc: Global, call: &str, text: &str) -> Result<String, AllocError
     Ok(answer)
 }
 
-// The character that a sign means: a form feed, which is Control-L, and what the key Backspace sends.
+// The character that a sign means: what the key Backspace sends, and a letter with Control.
 fn meant(sign: char) -> char {
     match sign {
-        '␌' => '\u{c}',
         '␈' => '\u{7f}',
+        '␁'..='␚' => char::from((sign as u32 - 0x2400) as u8),
         _ => sign,
     }
 }
 
-// The sign of such a character.
+// The sign of such a character. Tabs, newlines and carriage returns are as they stand.
 fn sign_of(c: char) -> char {
     match c {
-        '\u{c}' => '␌',
         '\u{7f}' => '␈',
+        '\u{1}' => '␁',
+        '\u{2}' => '␂',
+        '\u{3}' => '␃',
+        '\u{4}' => '␄',
+        '\u{5}' => '␅',
+        '\u{6}' => '␆',
+        '\u{c}' => '␌',
+        '\u{e}' => '␎',
+        '\u{10}' => '␐',
+        '\u{15}' => '␕',
+        '\u{19}' => '␙',
         _ => c,
     }
 }
