@@ -122,11 +122,18 @@ fn push_picture(
     }
 }
 
-// The columns and rows that a block tells, if it tells them alone.
+// The columns and rows that a block tells last, of a million cells at most, if it tells some.
 fn size_told(block: &str) -> Option<(u16, u16)> {
-    let (rows, columns) = block
-        .strip_prefix("\u{1b}[")?
-        .strip_suffix('R')?
-        .split_once(';')?;
-    Some((columns.parse().ok()?, rows.parse().ok()?))
+    block.rsplit("\u{1b}[").find_map(size_in)
+}
+
+// The size that is told after `ESC [`, if one is.
+fn size_in(sequence: &str) -> Option<(u16, u16)> {
+    let (size, _) = sequence.split_once('R')?;
+    let (rows, columns) = size.split_once(';')?;
+    let size: (u16, u16) = (columns.parse().ok()?, rows.parse().ok()?);
+    if u32::from(size.0) * u32::from(size.1) > 1_000_000 {
+        return None;
+    }
+    Some(size)
 }
