@@ -27,8 +27,8 @@ pub fn next_row(
         return Ok(None);
     }
     let after = first_row(alloc, lines, sought, from)?;
-    if after.is_some() {
-        return Ok(after);
+    if let Some(found) = after {
+        return Ok(Some(found));
     }
     let around = first_row(alloc, lines, sought, 0)?;
     Ok(around)
@@ -52,8 +52,8 @@ pub fn previous_row(
         return Ok(None);
     }
     let before = last_row(alloc, lines, sought, end.min(lines.len()))?;
-    if before.is_some() {
-        return Ok(before);
+    if let Some(found) = before {
+        return Ok(Some(found));
     }
     let around = last_row(alloc, lines, sought, lines.len())?;
     Ok(around)
