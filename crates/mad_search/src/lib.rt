@@ -16,4 +16,4 @@ pub use headers::{next_header, previous_header};
 pub use kept::row_in_parts;
 pub use paged::{Layout, PagedText};
 pub use search::{next_row, previous_row};
-pub use small::small;
+pub use small::{has_capital, small};

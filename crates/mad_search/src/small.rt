@@ -19,8 +19,8 @@ pub fn compared(alloc: Global, sought: &str, text: String) -> Result<String, All
     in_small(alloc, text.as_str())
 }
 
-// Whether a text has a capital: a character whose small form is another one.
-fn has_capital(text: &str) -> bool
+/// Whether a text has a capital: a character whose small form is another one.
+pub fn has_capital(text: &str) -> bool
     ensures { result ≡ has_capital text.now }
 {
     text.chars().any(|c| small(c) != c)

@@ -1,0 +1,173 @@
+//! What is drawn once more of a line: the characters of each hit, and where they stand.
+
+ghost use Rattle.std.specs.Prelude.{◌≡◌, ◌++◌, ◌+◌, ◌≤◌, ℕ, IfOk, OnOk, List, chars, length, map, drop, min};
+ghost use Rattle.mad_wrap.specs.WrapLines.{capped};
+ghost use Rattle.mad_fit.specs.TextColumns.{columns};
+ghost use Rattle.mad_style.specs.StyledChars.{char_alone};
+ghost use Rattle.mad_hits.specs.Hits.{marked_at, marked_of, placed_cells, span, text_column, widthless, AreHits, AreTextHits, AreTextsHits, Marked};
+
+use crate::matches::starts;
+use crate::styled::{reversed, styled_text};
+use mad_columns::char_columns;
+use mad_format::{FmtComposite, FmtLine, indent_of};
+use mad_rows::{
+    RowPlace, RowSkin, blanks_beside, inner_blanks, inner_columns, margins_of, row_columns,
+    table_blanks,
+};
+use mad_style::StyledChar;
+use std::alloc::{AllocError, Global};
+
+/// Characters of a row that are drawn once more.
+#[derive(Drop)]
+pub struct Hit {
+    /// The column of the first, counted from 0.
+    pub column: usize,
+    /// The characters.
+    pub chars: Vec<StyledChar>,
+}
+
+/// The hits of what is sought in a line, in a row of `width` columns. Each has the characters of what is sought, and those without columns
+/// after them. A rule has none.
+///
+/// # Errors
+///
+/// Out of memory is the only error.
+pub fn hits_in(
+    alloc: Global,
+    skin: &RowSkin,
+    line: &FmtLine,
+    width: usize,
+    sought: &str,
+) -> Result<Vec<Hit>, AllocError>
+    ensures { IfOk result (λ hits. AreHits skin.now width sought.now line.now hits.items) }
+{
+    let mut hits = Vec::new(alloc);
+    match line {
+        FmtLine::Normal(composite) => {
+            let place = RowPlace {
+                outer: Some(width),
+                margins: margins_of(skin, composite, Some(width)),
+                filled: true,
+            };
+            push_hits(alloc, &mut hits, skin, composite, place, 0, sought)?;
+        }
+        FmtLine::TableRow(row) => {
+            let cells = row.cells.as_slice();
+            let (left, _) = table_blanks(skin, row_columns(cells), Some(width), true);
+            push_cells_hits(alloc, &mut hits, skin, cells, left, sought)?;
+        }
+        FmtLine::TableRule(_) | FmtLine::HorizontalRule => {}
+    }
+    Ok(hits)
+}
+
+// Puts the hits of cells after others; a border is before each cell, the first one in that column.
+fn push_cells_hits(
+    alloc: Global,
+    hits: &mut Vec<Hit>,
+    skin: &RowSkin,
+    cells: &[FmtComposite],
+    left: usize,
+    sought: &str,
+) -> Result<(), AllocError>
+    ensures { OnOk result ((added : List Marked) × (map marked_of hits.new.items ≡ map marked_of hits.old.items ++ added) × ((column : ℕ) → left ≡ capped column → AreTextsHits skin.now sought.now (placed_cells skin.now column cells.now) added)) }
+{
+    let place = RowPlace {
+        outer: None,
+        margins: (0, 0),
+        filled: false,
+    };
+    let mut column = left;
+    for cell in cells {
+        let inside = column.saturating_add(1);
+        push_hits(alloc, hits, skin, cell, place, inside, sought)?;
+        column = inside.saturating_add(inner_columns(cell));
+    }
+    Ok(())
+}
+
+// Puts the hits of a composite after others, which is in a place from that column on.
+fn push_hits(
+    alloc: Global,
+    hits: &mut Vec<Hit>,
+    skin: &RowSkin,
+    composite: &FmtComposite,
+    place: RowPlace,
+    left: usize,
+    sought: &str,
+) -> Result<(), AllocError>
+    ensures { OnOk result ((added : List Marked) × (map marked_of hits.new.items ≡ map marked_of hits.old.items ++ added)
+        × ((column : ℕ) → left ≡ capped column → AreTextHits skin.now sought.now (record { column = column + text_column skin.now place.outer place.margins composite.now; text = composite.now }) added)) }
+{
+    let text = styled_text(alloc, skin, composite)?;
+    let starts = starts(alloc, text.as_slice(), sought)?;
+    let column = left.saturating_add(text_column(skin, composite, place));
+    let count = sought.chars().count();
+    for start in &starts {
+        let hit = hit_at(alloc, text.as_slice(), column, *start, count)?;
+        hits.push(hit)?;
+    }
+    Ok(())
+}
+
+// The hit that begins at an index of a text, which begins in that column.
+fn hit_at(
+    alloc: Global,
+    text: &[StyledChar],
+    column: usize,
+    start: usize,
+    count: usize,
+) -> Result<Hit, AllocError>
+    ensures { IfOk result (λ hit. (n : ℕ) → column ≡ capped n → marked_of hit ≡ marked_at n text.now count start) }
+{
+    let start = start.min(text.len());
+    let (before, after) = text.split_at(start);
+    let span = span(after, count);
+    let mut chars = Vec::new(alloc);
+    for c in &after[..span] {
+        chars.push(reversed(*c))?;
+    }
+    Ok(Hit {
+        column: column.saturating_add(columns_of(before)),
+        chars,
+    })
+}
+
+// How many characters a hit at the start of a text has: so many, and those without columns after them.
+fn span(text: &[StyledChar], count: usize) -> usize
+    ensures { result ≡ min (length text.now) (span count (map char_alone text.now)) }
+{
+    let end = count.min(text.len());
+    let mut span = end;
+    for c in &text[end..] {
+        if char_columns(c.nude_char()) > 0 {
+            return span;
+        }
+        span += 1;
+    }
+    span
+}
+
+/// The columns that characters take.
+pub(crate) fn columns_of(text: &[StyledChar]) -> usize
+    ensures { result ≡ capped (columns (map char_alone text.now)) }
+{
+    let mut columns: usize = 0;
+    for c in text {
+        columns = columns.saturating_add(char_columns(c.nude_char()));
+    }
+    columns
+}
+
+// The columns before the text of a composite, in its place: blanks, and its prefix.
+fn text_column(skin: &RowSkin, composite: &FmtComposite, place: RowPlace) -> usize
+    ensures { result ≡ capped (text_column skin.now place.outer place.margins composite.now) }
+{
+    let align = skin.line_style(composite.kind).align;
+    let (outer, _) = blanks_beside(composite, align, place);
+    let (inner, _) = inner_blanks(composite);
+    outer.saturating_add(inner).saturating_add(indent_of(
+        composite.kind,
+        skin.list_items_indentation_mode,
+    ))
+}

@@ -1,0 +1,66 @@
+//! Where what is sought begins among characters.
+
+ghost use Rattle.std.specs.Prelude.{◌≡◌, IfOk, chars, map};
+ghost use Rattle.mad_style.specs.StyledChars.{char_alone};
+ghost use Rattle.mad_hits.specs.Matches.{compared_char, compared_chars, AreStarts};
+
+use mad_search::{has_capital, small};
+use mad_style::StyledChar;
+use std::alloc::{AllocError, Global};
+
+/// Where what is sought begins, by the index of its first character: the first place from the left, and then each next one after the one
+/// before has ended.
+///
+/// # Errors
+///
+/// Out of memory is the only error.
+pub(crate) fn starts(
+    alloc: Global,
+    text: &[StyledChar],
+    sought: &str,
+) -> Result<Vec<usize>, AllocError>
+    ensures { IfOk result (λ starts. AreStarts (chars sought.now) (compared_chars sought.now (map char_alone text.now)) 0 starts.items) }
+{
+    let text = compared_chars(alloc, text, sought)?;
+    let sought: Vec<char> = sought.chars().collect(alloc)?;
+    starts_in(alloc, text.as_slice(), sought.as_slice())
+}
+
+// Where characters begin among others. None begin anywhere.
+fn starts_in(alloc: Global, text: &[char], sought: &[char]) -> Result<Vec<usize>, AllocError>
+    ensures { IfOk result (λ starts. AreStarts sought.now text.now 0 starts.items) }
+{
+    let mut starts = Vec::new(alloc);
+    if sought.is_empty() {
+        return Ok(starts);
+    }
+    let mut at = 0;
+    'places: while at < text.len() {
+        if text[at..].starts_with(sought) {
+            starts.push(at)?;
+            at += sought.len();
+        } else {
+            at += 1;
+        }
+    }
+    Ok(starts)
+}
+
+// The characters as they are compared with what is sought: as they stand, where that has a capital, or else in small letters.
+fn compared_chars(alloc: Global, text: &[StyledChar], sought: &str) -> Result<Vec<char>, AllocError>
+    ensures { IfOk result (λ given. given.items ≡ compared_chars sought.now (map char_alone text.now)) }
+{
+    let is_exact = has_capital(sought);
+    let mut given = Vec::new(alloc);
+    for c in text {
+        given.push(compared_char(c.nude_char(), is_exact))?;
+    }
+    Ok(given)
+}
+
+// A character as it is compared.
+fn compared_char(c: char, is_exact: bool) -> char
+    ensures { result ≡ compared_char is_exact c }
+{
+    if is_exact { c } else { small(c) }
+}
