@@ -6,7 +6,7 @@ ghost use Rattle.mad_search.specs.PagedTexts.{paged_lines};
 ghost use Rattle.mad_pager.specs.Sessions.{asks_size, ends, state_of, turn_of, turn_of_key, turn_asked, turn_typed, HasSameText, IsAsked, IsAnyKeyStep, IsKeyStep, IsEventStep, IsStart};
 
 use crate::places::field_row;
-use crate::sizes::{ScreenSize, lay};
+use crate::sizes::{ScreenSize, height_of, lay};
 use mad_field::InputField;
 use mad_layout::{FmtText, MadSkin};
 use mad_page::{Ask, Page, is_break};
@@ -87,11 +87,11 @@ impl<'s> Session<'s> {
         ensures skin { IfOk result (λ s. s.text.skin.now ≡ skin.now) }
         ensures start { IfOk result (λ s. IsStart skin.now (paged_lines source.entry) columns rows (state_of s)) }
     {
-        let (text, starts) = lay(alloc, skin, source, columns)?;
+        let laid = lay(alloc, skin, source, columns)?;
         let page = Page {
             columns,
             rows,
-            height: text.lines.len(),
+            height: height_of(&laid.text),
             top: 0,
             count: 0,
             holds_bar: false,
@@ -100,8 +100,8 @@ impl<'s> Session<'s> {
         Ok(Session {
             name,
             source,
-            text,
-            starts,
+            text: laid.text,
+            starts: laid.starts,
             page,
             field,
             is_typing: false,

@@ -1,11 +1,8 @@
 //! The size of the screen: what the terminal tells of it, and the text laid out for it.
 
-ghost use Rattle.std.specs.Prelude.{◌≡◌, ◌-◌, IfOk, OnOk};
-ghost use Rattle.mad_layout.specs.RowSkins.{row_skin};
-ghost use Rattle.mad_rows.specs.RowStyles.{line_rules};
-ghost use Rattle.mad_search.specs.KeptRows.{ArePartStarts};
+ghost use Rattle.std.specs.Prelude.{◌≡◌, IfOk, OnOk, length};
 ghost use Rattle.mad_search.specs.PagedTexts.{paged_lines};
-ghost use Rattle.mad_pager.specs.Sessions.{hears_size, kept_row, state_of, HasSameText, IsLaidFor, IsResized, IsSettled};
+ghost use Rattle.mad_pager.specs.Sessions.{hears_size, kept_row, state_of, AreStartsFor, HasSameText, IsLaidFor, IsResized, IsSettled};
 
 use crate::places::{field_row, layout_width};
 use crate::session::Session;
@@ -57,18 +54,18 @@ impl<'s> Session<'s> {
         ensures step { OnOk result (IsResized self.old.text.skin.now (paged_lines self.old.source) columns rows (state_of self.old) (state_of self.new)) }
         ensures text { OnOk result (HasSameText self.old self.new) }
     {
-        let (text, starts) = lay(alloc, self.text.skin, self.source, columns)?;
-        let top = self.row_kept(columns, starts.as_slice());
+        let laid = lay(alloc, self.text.skin, self.source, columns)?;
+        let top = self.row_kept(columns, laid.starts.as_slice());
         self.page = Page {
             columns,
             rows,
-            height: text.lines.len(),
+            height: height_of(&laid.text),
             top,
             count: self.page.count,
             holds_bar: self.page.holds_bar,
         };
-        self.text = text;
-        self.starts = starts;
+        self.text = laid.text;
+        self.starts = laid.starts;
         self.found = None;
         self.told = None;
         self.field.set_area(field_row(columns, rows));
@@ -86,7 +83,14 @@ impl<'s> Session<'s> {
     }
 }
 
-/// A text, laid out for a screen of these columns, and the rows in which its parts begin.
+/// A text, laid out for a screen, and the rows in which its parts begin.
+#[derive(Drop)]
+pub(crate) struct Laid<'s> {
+    pub text: FmtText<'s, 's>,
+    pub starts: Vec<usize>,
+}
+
+/// Lays a text out for a screen of these columns.
 ///
 /// # Errors
 ///
@@ -96,17 +100,26 @@ pub(crate) fn lay<'s>(
     skin: &'s MadSkin,
     source: PagedText<'s>,
     columns: u16,
-) -> Result<(FmtText<'s, 's>, Vec<usize>), AllocError>
-    ensures skin { IfOk result (λ laid. laid.0.skin.now ≡ skin.now) }
-    ensures lines { IfOk result (λ laid. IsLaidFor skin.now (paged_lines source.entry) columns laid.0.lines.items) }
-    ensures starts { IfOk result (λ laid. ArePartStarts (line_rules (row_skin skin.now)) (columns - 1) (paged_lines source.entry) laid.1.items) }
+) -> Result<Laid<'s>, AllocError>
+    ensures skin { IfOk result (λ laid. laid.text.skin.now ≡ skin.now) }
+    ensures lines { IfOk result (λ laid. IsLaidFor skin.now (paged_lines source.entry) columns laid.text.lines.items) }
+    ensures starts { IfOk result (λ laid. AreStartsFor skin.now (paged_lines source.entry) columns laid.starts.items) }
 {
     let width = layout_width(columns);
-    let laid = source.lay(alloc, skin, width)?;
-    let text = FmtText {
-        skin,
-        lines: laid.lines,
-        width: Some(width),
-    };
-    Ok((text, laid.starts))
+    let layout = source.lay(alloc, skin, width)?;
+    Ok(Laid {
+        text: FmtText {
+            skin,
+            lines: layout.lines,
+            width: Some(width),
+        },
+        starts: layout.starts,
+    })
+}
+
+/// How many lines a text has.
+pub(crate) fn height_of(text: &FmtText) -> usize
+    ensures { result ≡ length text.now.lines.items }
+{
+    text.lines.len()
 }

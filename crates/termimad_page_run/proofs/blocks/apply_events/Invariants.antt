@@ -4,7 +4,7 @@ use Rattle.mad_pager.specs.Sessions.{state_of, HasSameText}
 use Rattle.mad_keys.specs.Decoding.{BytesGive}
 use Rattle.mad_search.specs.PagedTexts.{paged_lines}
 use Rattle.termimad_page_run.specs.Blocks.{IsSession}
-use Rattle.termimad_page_run.proofs.blocks.apply_block.Given as goal
+use Rattle.termimad_page_run.proofs.blocks.apply_events.Given as goal
 
 -- what was read so far, and done
 abbrev pub invariant-loop-b : goal.invariant-loop-b
