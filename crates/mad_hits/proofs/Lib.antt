@@ -1,0 +1,3 @@
+pub mod HitLemmas
+pub mod MatchLemmas
+pub mod TookLemmas

@@ -81,3 +81,7 @@ AreTextsHits skin sought (placed ∷ more) hits =
 -- those of a line in a row of `width` columns
 abbrev pub AreHits : RowSkin → ℕ → List ℕ → FmtLine → List Hit → Type 0
 AreHits skin width sought line hits = AreTextsHits skin sought (placed_texts skin width line) (map marked_of hits)
+
+-- after these hits come others that have P
+abbrev pub Adds : (List Marked → Type 0) → List Hit → List Hit → Type 0
+Adds P old new = (added : List Marked) × (map marked_of new ≡ map marked_of old ++ added) × P added

@@ -1,10 +1,11 @@
 //! What is drawn once more of a line: the characters of each hit, and where they stand.
 
-ghost use Rattle.std.specs.Prelude.{◌≡◌, ◌++◌, ◌+◌, ◌≤◌, ℕ, IfOk, OnOk, List, chars, length, map, drop, min};
+ghost use Rattle.std.specs.Prelude.{◌≡◌, ◌++◌, ◌+◌, ℕ, IfOk, OnOk, length, map, min};
 ghost use Rattle.mad_wrap.specs.WrapLines.{capped};
 ghost use Rattle.mad_fit.specs.TextColumns.{columns};
 ghost use Rattle.mad_style.specs.StyledChars.{char_alone};
-ghost use Rattle.mad_hits.specs.Hits.{marked_at, marked_of, placed_cells, span, text_column, widthless, AreHits, AreTextHits, AreTextsHits, Marked};
+ghost use Rattle.mad_hits.specs.Styled.{reversed};
+ghost use Rattle.mad_hits.specs.Hits.{marked_at, marked_of, placed_cells, span, text_column, Adds, AreHits, AreTextHits, AreTextsHits};
 
 use crate::matches::starts;
 use crate::styled::{reversed, styled_text};
@@ -70,7 +71,7 @@ fn push_cells_hits(
     left: usize,
     sought: &str,
 ) -> Result<(), AllocError>
-    ensures { OnOk result ((added : List Marked) × (map marked_of hits.new.items ≡ map marked_of hits.old.items ++ added) × ((column : ℕ) → left ≡ capped column → AreTextsHits skin.now sought.now (placed_cells skin.now column cells.now) added)) }
+    ensures { OnOk result ((column : ℕ) → left ≡ capped column → Adds (AreTextsHits skin.now sought.now (placed_cells skin.now column cells.now)) hits.old.items hits.new.items) }
 {
     let place = RowPlace {
         outer: None,
@@ -96,15 +97,29 @@ fn push_hits(
     left: usize,
     sought: &str,
 ) -> Result<(), AllocError>
-    ensures { OnOk result ((added : List Marked) × (map marked_of hits.new.items ≡ map marked_of hits.old.items ++ added)
-        × ((column : ℕ) → left ≡ capped column → AreTextHits skin.now sought.now (record { column = column + text_column skin.now place.outer place.margins composite.now; text = composite.now }) added)) }
+    ensures { OnOk result ((column : ℕ) → left ≡ capped column → Adds (AreTextHits skin.now sought.now (record { column = column + text_column skin.now place.outer place.margins composite.now; text = composite.now })) hits.old.items hits.new.items) }
 {
     let text = styled_text(alloc, skin, composite)?;
     let starts = starts(alloc, text.as_slice(), sought)?;
     let column = left.saturating_add(text_column(skin, composite, place));
     let count = sought.chars().count();
-    for start in &starts {
-        let hit = hit_at(alloc, text.as_slice(), column, *start, count)?;
+    push_marked(alloc, hits, text.as_slice(), column, starts.as_slice(), count)?;
+    Ok(())
+}
+
+// Puts the hits after others that begin at these indices of a text, which begins in that column.
+fn push_marked(
+    alloc: Global,
+    hits: &mut Vec<Hit>,
+    text: &[StyledChar],
+    column: usize,
+    starts: &[usize],
+    count: usize,
+) -> Result<(), AllocError>
+    ensures { OnOk result ((n : ℕ) → column ≡ capped n → map marked_of hits.new.items ≡ map marked_of hits.old.items ++ map (marked_at n text.now count) starts.now) }
+{
+    for start in starts {
+        let hit = hit_at(alloc, text, column, *start, count)?;
         hits.push(hit)?;
     }
     Ok(())
@@ -120,17 +135,25 @@ fn hit_at(
 ) -> Result<Hit, AllocError>
     ensures { IfOk result (λ hit. (n : ℕ) → column ≡ capped n → marked_of hit ≡ marked_at n text.now count start) }
 {
-    let start = start.min(text.len());
-    let (before, after) = text.split_at(start);
-    let span = span(after, count);
-    let mut chars = Vec::new(alloc);
-    for c in &after[..span] {
-        chars.push(reversed(*c))?;
-    }
+    let before = &text[..start.min(text.len())];
+    let after = &text[start.min(text.len())..];
+    let end = span(after, count);
+    let chars = reversed_chars(alloc, &after[..end])?;
     Ok(Hit {
         column: column.saturating_add(columns_of(before)),
         chars,
     })
+}
+
+// Characters with their colors exchanged.
+fn reversed_chars(alloc: Global, text: &[StyledChar]) -> Result<Vec<StyledChar>, AllocError>
+    ensures { IfOk result (λ chars. chars.items ≡ map reversed text.now) }
+{
+    let mut chars = Vec::new(alloc);
+    for c in text {
+        chars.push(reversed(*c))?;
+    }
+    Ok(chars)
 }
 
 // How many characters a hit at the start of a text has: so many, and those without columns after them.

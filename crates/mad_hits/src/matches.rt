@@ -1,6 +1,7 @@
 //! Where what is sought begins among characters.
 
-ghost use Rattle.std.specs.Prelude.{◌≡◌, IfOk, chars, map};
+ghost use Rattle.std.specs.List.{starts_with};
+ghost use Rattle.std.specs.Prelude.{◌≡◌, nat_eq, IfOk, chars, map};
 ghost use Rattle.mad_style.specs.StyledChars.{char_alone};
 ghost use Rattle.mad_hits.specs.Matches.{compared_char, compared_chars, AreStarts};
 
@@ -36,7 +37,7 @@ fn starts_in(alloc: Global, text: &[char], sought: &[char]) -> Result<Vec<usize>
     }
     let mut at = 0;
     'places: while at < text.len() {
-        if text[at..].starts_with(sought) {
+        if begins(&text[at..], sought) {
             starts.push(at)?;
             at += sought.len();
         } else {
@@ -44,6 +45,13 @@ fn starts_in(alloc: Global, text: &[char], sought: &[char]) -> Result<Vec<usize>
         }
     }
     Ok(starts)
+}
+
+// Whether characters are the first ones of others.
+fn begins(text: &[char], sought: &[char]) -> bool
+    ensures { result ≡ starts_with nat_eq text.now sought.now }
+{
+    text.starts_with(sought)
 }
 
 // The characters as they are compared with what is sought: as they stand, where that has a capital, or else in small letters.
