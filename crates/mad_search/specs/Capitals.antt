@@ -1,7 +1,7 @@
 -- Capitals and small letters in a search.
-use Rattle.std.specs.Prelude.{ℕ, ◌==◌, Bool, not, List, [], ◌∷◌, map, chars, encode_utf8_all, if◌then◌else◌}
+use Rattle.std.specs.Prelude.{ℕ, ◌==◌, Bool, false, not, List, [], ◌∷◌, map, chars, encode_utf8_all, if◌then◌else◌}
 use Rattle.std.specs.List.{list_any}
-use Rattle.core.specs.Char.Unicode.ToLowercase.{to_lowercase}
+use Rattle.std.specs.StrCase.Lower.{lowercase_before}
 
 -- one character alone, or else another
 abbrev pub alone_or : ℕ → List ℕ → ℕ
@@ -10,7 +10,7 @@ alone_or c letters = c
 
 -- the small form of a character, as Unicode has it; a character whose small form isn't one character is its own
 abbrev pub small : ℕ → ℕ
-small c = alone_or c (to_lowercase c)
+small c = alone_or c (lowercase_before false c [])
 
 -- a text has a capital: a character whose small form is another one
 abbrev pub has_capital : List ℕ → Bool

@@ -22,9 +22,12 @@ pub fn next_header(lines: &[FmtLine], starts: &[usize], row: usize) -> Option<us
 pub fn previous_header(lines: &[FmtLine], starts: &[usize], row: usize) -> Option<usize>
     ensures { result ≡ previous_header lines.now starts.now row }
 {
-    for start in starts.iter().rev() {
-        if *start < row && is_header_at(lines, *start) {
-            return Some(*start);
+    let mut left = starts.len();
+    'starts: while left > 0 {
+        left -= 1;
+        let start = starts[left];
+        if start < row && is_header_at(lines, start) {
+            return Some(start);
         }
     }
     None

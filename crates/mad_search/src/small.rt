@@ -11,7 +11,7 @@ use std::alloc::{AllocError, Global};
 ///
 /// Out of memory is the only error.
 pub fn compared(alloc: Global, sought: &str, text: String) -> Result<String, AllocError>
-    ensures { IfOk result (λ given. string_bytes given ≡ compared sought.now (string_bytes text.entry)) }
+    ensures { IfOk result (λ given. string_bytes given ≡ compared sought.now (string_bytes text)) }
 {
     if has_capital(sought) {
         return Ok(text);
