@@ -1,11 +1,11 @@
 //! What is drawn once more of a line: the characters of each hit, and where they stand.
 
-ghost use Rattle.std.specs.Prelude.{◌≡◌, ◌++◌, ◌+◌, ℕ, IfOk, OnOk, length, map, min};
+ghost use Rattle.std.specs.Prelude.{◌≡◌, ◌++◌, ◌+◌, ◌≤◌, ℕ, IfOk, OnOk, length, map, min};
 ghost use Rattle.mad_wrap.specs.WrapLines.{capped};
 ghost use Rattle.mad_fit.specs.TextColumns.{columns};
 ghost use Rattle.mad_style.specs.StyledChars.{char_alone};
 ghost use Rattle.mad_hits.specs.Styled.{reversed};
-ghost use Rattle.mad_hits.specs.Hits.{marked_at, marked_of, placed_cells, span, text_column, Adds, AreHits, AreTextHits, AreTextsHits};
+ghost use Rattle.mad_hits.specs.Hits.{marked_at, marked_of, placed_cells, span, text_column, widthless, Adds, AreHits, AreTextHits, AreTextsHits};
 
 use crate::matches::starts;
 use crate::styled::{reversed, styled_text};
@@ -103,7 +103,14 @@ fn push_hits(
     let starts = starts(alloc, text.as_slice(), sought)?;
     let column = left.saturating_add(text_column(skin, composite, place));
     let count = sought.chars().count();
-    push_marked(alloc, hits, text.as_slice(), column, starts.as_slice(), count)?;
+    push_marked(
+        alloc,
+        hits,
+        text.as_slice(),
+        column,
+        starts.as_slice(),
+        count,
+    )?;
     Ok(())
 }
 
@@ -161,14 +168,22 @@ fn span(text: &[StyledChar], count: usize) -> usize
     ensures { result ≡ min (length text.now) (span count (map char_alone text.now)) }
 {
     let end = count.min(text.len());
-    let mut span = end;
-    for c in &text[end..] {
+    end + widthless(&text[end..])
+}
+
+// How many characters without columns come first.
+fn widthless(text: &[StyledChar]) -> usize
+    ensures count { result ≡ widthless (map char_alone text.now) }
+    ensures few { result ≤ length text.now }
+{
+    let mut count: usize = 0;
+    for c in text {
         if char_columns(c.nude_char()) > 0 {
-            return span;
+            return count;
         }
-        span += 1;
+        count += 1;
     }
-    span
+    count
 }
 
 /// The columns that characters take.
