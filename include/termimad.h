@@ -23,7 +23,7 @@
  * come from one allocator and align as the C library's do. No call is made from a signal handler, or from the child of a fork in a
  * program with threads. There is enough stack; 1 MiB is.
  *
- * There is no state between calls, so any thread may call. While a call runs the whole result is in memory, also what doesn't fit the
+ * There is no state between calls, so any thread may call: what termimad_parts needs of the calls before, its caller hands it. While a call runs the whole result is in memory, also what doesn't fit the
  * buffer; all memory that a call takes it gives back.
  */
 #ifndef TERMIMAD_H
@@ -59,6 +59,14 @@ typedef struct {
     uint32_t status; /* TERMIMAD_DONE to TERMIMAD_MEMORY */
 } termimad_answer;
 
+/* How far a text is laid out that is still coming. */
+typedef struct {
+    size_t count;    /* the bytes of the rows, whatever the buffer holds; 0 where the call was refused */
+    size_t used;     /* how many bytes of the text they are of; 0 where the status isn't TERMIMAD_DONE */
+    uint32_t fenced; /* 1 where a fence is open after these bytes, else 0 */
+    uint32_t status; /* TERMIMAD_DONE to TERMIMAD_MEMORY */
+} termimad_progress;
+
 /* The text in an area of the screen: what `termimad-view area LEFT TOP WIDTH HEIGHT` writes.
  *
  * LEFT and TOP count columns and rows from 0. WIDTH is at least 4; LEFT + WIDTH and TOP + HEIGHT are at most 65535.
@@ -88,6 +96,33 @@ termimad_answer termimad_text(const char *text, size_t text_length, const char *
  */
 termimad_answer termimad_markdown(const char *text, size_t text_length, const char *skin, size_t skin_length,
                                   size_t width, char *buffer, size_t capacity);
+
+/* The text as it comes: the rows of the parts at its front that are complete, laid out in WIDTH columns.
+ *
+ * A part is a table, a block of code, or any other line. A line is complete with its newline; a table or a block of code with the first
+ * line that isn't its own. FENCED is what the call before answered, and 0 at first. LAST is 1 at the end of the text, else 0: then all that
+ * is left is laid out. Drop the bytes that were used, keep the others, append what comes, and call again. In all, the rows are those that
+ * termimad_text writes of the whole text, wherever it was cut.
+ *
+ * At the end of what has come, the beginning of a character may be left, unless LAST is 1. A text that no more bytes make UTF-8 is
+ * refused. WIDTH is at most 65535, else TERMIMAD_CONDITION. What is left is read anew by each call: call once for a block, or for a line.
+ *
+ *   size_t kept = 0, came;
+ *   uint32_t fenced = 0;
+ *   char text[8192], rows[65536];
+ *   do {
+ *       came = fread(text + kept, 1, sizeof text - kept, stdin);
+ *       termimad_progress now = termimad_parts(text, kept + came, "", 0, 80, fenced, came == 0, rows, sizeof rows);
+ *       if (now.status != TERMIMAD_DONE || (now.used == 0 && kept + came == sizeof text))
+ *           return 1;
+ *       fwrite(rows, 1, now.count, stdout);
+ *       kept += came - now.used;
+ *       memmove(text, text + now.used, kept);
+ *       fenced = now.fenced;
+ *   } while (came > 0);
+ */
+termimad_progress termimad_parts(const char *text, size_t text_length, const char *skin, size_t skin_length,
+                                 size_t width, size_t fenced, size_t last, char *buffer, size_t capacity);
 
 /* The text as one line with its inline marks, and a newline: what `termimad-view inline` writes.
  *
@@ -123,6 +158,20 @@ termimad_answer termimad_fit(const char *text, size_t text_length, const char *s
  *   termimad_printable(name, strlen(name), buffer, sizeof buffer);
  */
 termimad_answer termimad_printable(const char *text, size_t text_length, char *buffer, size_t capacity);
+
+/* A table of data, laid out in WIDTH columns: each row with a newline.
+ *
+ * TEXT has all cells one after the other, row by row; LENGTHS has the bytes of each. Each row has COLUMNS cells, and the first row has the
+ * headers. No mark is read in a cell, and no character is changed: make those that others wrote printable first, and leave out newlines.
+ * ALIGNS has the side of each column, as termimad_fit takes it; a column without one has none. TERMIMAD_CONDITION: a number of ALIGNS is
+ * over 3, COLUMNS is 0, the cells fill no whole rows, they are not all of the text, or one ends inside a character; or WIDTH is over 65535.
+ *
+ *   size_t lengths[] = {4, 4, 3, 1}, aligns[] = {TERMIMAD_LEFT, TERMIMAD_RIGHT};
+ *   termimad_table("diskuseda|b7", 12, lengths, 4, aligns, 2, "", 0, 2, 40, buffer, sizeof buffer);
+ */
+termimad_answer termimad_table(const char *text, size_t text_length, const size_t *lengths, size_t count,
+                               const size_t *aligns, size_t align_count, const char *skin, size_t skin_length,
+                               size_t columns, size_t width, char *buffer, size_t capacity);
 
 #ifdef __cplusplus
 }

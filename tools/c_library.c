@@ -101,7 +101,7 @@ static bytes random_text(void)
 
 static call random_call(void)
 {
-    call it = { .kind = (unsigned)next(7), .text = random_text() };
+    call it = { .kind = (unsigned)next(8), .text = random_text() };
     const char *skin = skins[next(COUNT(skins))];
     it.skin = copy_of(skin, strlen(skin));
     for (int n = 0; n < 4; n++)
@@ -113,6 +113,19 @@ static call random_call(void)
     if (it.kind == 4 && next(2))
         it.numbers[1] = next(4);
     return it;
+}
+
+/* The answer without how far the text was used, which has to be within the text, and all of it where it is the last. */
+static termimad_answer parts_of(const call *c, char *buffer, size_t capacity)
+{
+    size_t length = c->text.length, fenced = c->numbers[1], last = c->numbers[2];
+    termimad_progress it = termimad_parts(c->text.bytes, length, c->skin.bytes, c->skin.length, c->numbers[0], fenced, last, buffer, capacity);
+    size_t most = it.status == TERMIMAD_DONE ? length : 0;
+    if (it.used > most || it.fenced > 1 || (last && it.status == TERMIMAD_DONE && it.used < length)) {
+        fprintf(stderr, "%zu of %zu bytes used, fenced %u, status %u\n", it.used, length, (unsigned)it.fenced, (unsigned)it.status);
+        exit(1);
+    }
+    return (termimad_answer){ it.count, it.status };
 }
 
 static termimad_answer answer_of(const call *c, char *buffer, size_t capacity)
@@ -127,6 +140,7 @@ static termimad_answer answer_of(const call *c, char *buffer, size_t capacity)
     case 3: return termimad_rows(text, length, skin, skin_length, n[0]);
     case 4: return termimad_fit(text, length, skin, skin_length, n[0], n[1], buffer, capacity);
     case 5: return termimad_markdown(text, length, skin, skin_length, n[0], buffer, capacity);
+    case 6: return parts_of(c, buffer, capacity);
     default: return termimad_printable(text, length, buffer, capacity);
     }
 }

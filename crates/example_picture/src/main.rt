@@ -1,4 +1,4 @@
-//! Pictures of what the plain terminal shows, written as SVG: standard input in sixty columns, and then the pager on it after some keys.
+//! Pictures of what the plain terminal shows, written as SVG: Markdown from standard input, and then the pager on it after some keys.
 //!
 //! 1. [`picture`]: the cells of a screen, as shapes and texts.
 //! 2. [`paint`]: the colors of a pen.

@@ -1,12 +1,12 @@
-//! Screens that show a text: all of it, and a pager on it.
+//! Screens that show a file of Markdown: all of it, and a pager on it.
 
 use std::alloc::Global;
 use std::io::{Error as IoError, ErrorKind};
 use termimad::screen::{NotPlain, Screen};
-use termimad::{Area, CutOut, Error, MadSkin, ScriptSource, TextView};
+use termimad::{Area, CutOut, Error, FmtText, MadSkin, Markdown, ScriptSource, TextView};
 use termimad_page_run::{Grammar, Sheet, run};
 
-const COLUMNS: u16 = 60;
+const COLUMNS: u16 = 72;
 
 // The rows of a pager's screen.
 const PAGE_ROWS: u16 = 12;
@@ -19,8 +19,12 @@ const ROOM: usize = 20000;
 
 /// A screen that shows a whole text.
 pub fn text_screen(alloc: Global, text: &str) -> Result<Screen, Error> {
-    let skin = MadSkin::default();
-    let text = skin.area_text(alloc, text, &Area::new(0, 0, COLUMNS, 0))?;
+    let skin = MadSkin {
+        whole_words: true,
+        ..MadSkin::default()
+    };
+    let markdown = Markdown::read(alloc, text)?;
+    let text = FmtText::from_text(alloc, &skin, markdown.text(alloc)?, Some(COLUMNS as usize))?;
     let rows = u16::try_from(text.lines.len()).unwrap_or(u16::MAX);
     let area = Area::new(0, 0, COLUMNS, rows);
     let mut out = CutOut::new(alloc, ROOM, ROOM, false)?;
@@ -32,9 +36,9 @@ pub fn text_screen(alloc: Global, text: &str) -> Result<Screen, Error> {
 pub fn page_screen(alloc: Global, text: &str) -> Result<Screen, Error> {
     let skin = MadSkin::default();
     let sheet = Sheet {
-        name: "help.md",
+        name: "readme.md",
         text,
-        grammar: Grammar::Lines,
+        grammar: Grammar::Markdown,
         skin: &skin,
         columns: COLUMNS,
         rows: PAGE_ROWS,

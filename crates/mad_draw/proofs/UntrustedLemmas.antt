@@ -14,7 +14,8 @@ use Rattle.mad_md.specs.Flagged.{RunSpan, run_at}
 use Rattle.mad_md.specs.Inline.{Item, IsInlineReading, runs}
 use Rattle.mad_md.specs.Parts.{HasNoNewline}
 use Rattle.mad_md.proofs.RunBorders.{IsBordered, runs_bordered}
-use Rattle.mad_fit.specs.Printable.{is_printable_char, are_printable}
+use Rattle.mad_printable.specs.Pictures.{is_printable_char}
+use Rattle.mad_fit.specs.Printable.{are_printable}
 use Rattle.mad_fit.proofs.AllLemmas.{all_front, all_back}
 use Rattle.mad_screen.specs.Painting.{IsPrinted}
 use Rattle.mad_draw.specs.Untrusted.{PrintableLinesArePrinted, PrintableSlicesArePrinted, PrintableInlinesArePrinted}

@@ -13,7 +13,8 @@ use Rattle.mad_md.specs.Scan.{cut_cells, cell_of, line_of}
 use Rattle.mad_md.proofs.WrittenChars.{is_plain, put, KeepsSigns, signs_put, cut_put}
 use Rattle.mad_md.proofs.WrittenCells.{chars_put, char_cell, put_run, put_cell}
 use Rattle.mad_md.proofs.WrittenParts.{part_cells, put_part, char_part, part_put, bar_is_part}
-use Rattle.mad_fit.specs.Printable.{is_printable_char, turns_direction, picture, shown_from, printable_text}
+use Rattle.mad_printable.specs.Pictures.{is_printable_char, turns_direction, picture}
+use Rattle.mad_fit.specs.Printable.{shown_from, printable_text}
 use Rattle.mad_fit.specs.KeptCells.{HaveNoWhitespaceControl, shown_bytes, shown_run, shown_cell, shown_part, KeepsItsCells, TableLinesKeepTheirCells}
 use Rattle.mad_fit.proofs.PrintableLemmas.{true_is_false, scalar_by}
 use Rattle.mad_fit.proofs.KeptFormLemmas.{picture_shown}

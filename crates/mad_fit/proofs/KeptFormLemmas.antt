@@ -6,7 +6,8 @@ use Rattle.std.proofs.lemmas.Bool.Decides.{nat_tests}
 use Rattle.std.proofs.lemmas.Str.{encode_ascii}
 use Rattle.mad_md.specs.Starts.{is_fence, line_start}
 use Rattle.mad_md.proofs.FormFronts.{is_ascii, front, front_with, front_append, start_front, fence_front, tab_is_code, spaces_are_code}
-use Rattle.mad_fit.specs.Printable.{is_printable_char, picture, tab_spaces, return_shown, shown_as, shown_from, printable_text}
+use Rattle.mad_printable.specs.Pictures.{is_printable_char, picture}
+use Rattle.mad_fit.specs.Printable.{tab_spaces, return_shown, shown_as, shown_from, printable_text}
 use Rattle.mad_fit.specs.KeptForms.{AreOnOneLine, TextsArePrintableByLines, IsOfSameForm, LinesKeepTheirForm, TabsInFrontStayCode}
 
 -- lines with one front are of one form

@@ -9,7 +9,9 @@ use Rattle.std.proofs.lemmas.Bool.Decides.{nat_tests}
 use Rattle.std.proofs.lemmas.List.Folds.{list_all-append}
 use Rattle.std.proofs.lemmas.Str.{IsUtf8-past_char, chars_past_char, chars-encodes, encodes-chars, encodes-append, scalars-chars, length-encode, len_utf8_bounds}
 use Rattle.std.proofs.StrCases.{chars_of_empty}
-use Rattle.mad_fit.specs.Printable.{is_printable_char, are_printable, picture, tab_spaces, return_shown, shown_as, shown_from, printable_text, IsPrintableFront}
+use Rattle.mad_printable.specs.Pictures.{is_printable_char, picture}
+use Rattle.mad_printable.proofs.PictureLemmas.{picture_is}
+use Rattle.mad_fit.specs.Printable.{are_printable, tab_spaces, return_shown, shown_as, shown_from, printable_text, IsPrintableFront}
 
 pub true_is_false : {A : Type 0} → true ≡ false → A
 true_is_false {A} e = absurd (no e)
@@ -43,15 +45,6 @@ all_stay begins_line (c ∷ cs) h =
 alone : (b : Bool) → b ≡ true → (b && true) ≡ true
 alone b h = and_from b true h refl
 
-control_picture : (c : ℕ) → c < 32 → is_printable_char (0x2400 + c) ≡ true
-control_picture c h = grind (arith, nat_tests)
-
-picture_by : (c : ℕ) (stays low del : Bool) → is_printable_char c ≡ stays → nat_lt c 32 ≡ low → is_printable_char (cond stays c (cond low (0x2400 + c) (cond del 0x2421 0xFFFD))) ≡ true
-picture_by c true low del h l = h
-picture_by c false true del h l = control_picture c (grind (arith, nat_tests))
-picture_by c false false true h l = refl
-picture_by c false false false h l = refl
-
 scalar_picture : (c : ℕ) → c < 32 → scalar (0x2400 + c) ≡ true
 scalar_picture c h = grind (arith, nat_tests)
 
@@ -82,7 +75,7 @@ shown_by : (begins_line : Bool) (c : ℕ) (after : List ℕ) (tab return : Bool)
 shown_by begins_line c after true return h = tab_is begins_line
 shown_by begins_line c after false true h = return_is after
 shown_by begins_line c after false false h = record {
-  printable = alone _ (picture_by c (is_printable_char c) (nat_lt c 32) (c == 127) refl refl);
+  printable = alone _ (picture_is c);
   scalars = alone _ (scalar_by c (is_printable_char c) (nat_lt c 32) (c == 127) h refl);
 }
 

@@ -1,29 +1,16 @@
 -- Texts that a terminal shows as text: no control characters but newlines, and none that turn the direction of writing.
-use Rattle.std.specs.Prelude.{◌≡◌, ℕ, ◌+◌, Bool, true, not, ◌||◌, ◌==◌, nat_lt, List, [], ◌∷◌, ◌++◌, length, take, drop, chars, encode_utf8_all, if◌then◌else◌}
-use Rattle.std.specs.Char.{is_control}
-use Rattle.std.specs.Int.{is_in_range}
+use Rattle.std.specs.Prelude.{◌≡◌, ℕ, Bool, true, ◌==◌, List, [], ◌∷◌, ◌++◌, length, take, drop, chars, encode_utf8_all, if◌then◌else◌}
 use Rattle.std.specs.List.{list_all}
 use Rattle.std.specs.Str.{IsUtf8}
+use Rattle.mad_printable.specs.Pictures.{is_printable_char, picture}
 
 -- ---- which texts are printable
 
--- the character begins or ends an embedding, an override or an isolate of the direction of writing
-abbrev pub turns_direction : ℕ → Bool
-turns_direction c = is_in_range 0x202A 0x202E c || is_in_range 0x2066 0x2069 c
-
--- a newline, or no control character and none that turns the direction
-abbrev pub is_printable_char : ℕ → Bool
-is_printable_char c = (c == 10) || not (is_control c || turns_direction c)
-
--- so is each of the characters
+-- each of the characters is printable
 abbrev pub are_printable : List ℕ → Bool
 are_printable cs = list_all is_printable_char cs
 
 -- ---- what stands for the others
-
--- of one character: the picture of a control character, or the replacement character (U+FFFD)
-abbrev pub picture : ℕ → ℕ
-picture c = if is_printable_char c then c else if nat_lt c 32 then 0x2400 + c else if c == 127 then 0x2421 else 0xFFFD
 
 -- of a tab: four spaces where it begins a line, which is code either way; else two
 abbrev pub tab_spaces : Bool → List ℕ
@@ -34,7 +21,7 @@ abbrev pub return_shown : List ℕ → List ℕ
 return_shown [] = 10 ∷ []
 return_shown (next ∷ after) = if next == 10 then [] else 0x240D ∷ []
 
--- of any character that begins a line or doesn't, with these after it
+-- of any character that begins a line or doesn't, with these after it: of most, their pictures
 abbrev pub shown_as : Bool → ℕ → List ℕ → List ℕ
 shown_as begins_line c after = if c == 9 then tab_spaces begins_line else if c == 13 then return_shown after else picture c ∷ []
 

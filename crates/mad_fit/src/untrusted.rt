@@ -4,9 +4,10 @@ ghost use Rattle.std.specs.Prelude.{◌≡◌, ◌≤◌, ◌↔◌, ◌++◌, f
 ghost use Rattle.std.specs.Cow.{cow_str_bytes, IsOwnedStr};
 ghost use Rattle.mad_fit.specs.KeptCells.{TableLinesKeepTheirCells};
 ghost use Rattle.mad_fit.specs.KeptForms.{TextsArePrintableByLines, LinesKeepTheirForm, TabsInFrontStayCode};
-ghost use Rattle.mad_fit.specs.Printable.{is_printable_char, are_printable, picture, tab_spaces, return_shown, shown_as, shown_from, printable_text, IsPrintableFront};
+ghost use Rattle.mad_fit.specs.Printable.{are_printable, tab_spaces, return_shown, shown_as, shown_from, printable_text, IsPrintableFront};
 
 use crate::str_fit::TAB_REPLACEMENT;
+use mad_printable::{is_printable_char, picture};
 use std::alloc::{AllocError, Global};
 use std::borrow::CowStr;
 
@@ -68,13 +69,6 @@ fn printable_front(text: &str) -> (usize, bool)
     (text.len(), begins_line)
 }
 
-// Whether the character stays.
-fn is_printable_char(c: char) -> bool
-    ensures { result ≡ is_printable_char c }
-{
-    c == '\n' || !(c.is_control() || matches!(c, '\u{202a}'..='\u{202e}' | '\u{2066}'..='\u{2069}'))
-}
-
 // Writes what stands for the text, the first character of which begins a line or doesn't.
 fn push_shown_from(shown: &mut String, mut begins_line: bool, text: &str) -> Result<(), AllocError>
     ensures { OnOk result (string_bytes shown.new ≡ string_bytes shown.old ++ encode_utf8_all (shown_from begins_line (chars text.now))) }
@@ -117,18 +111,6 @@ fn return_shown(after: &str) -> &'static str
         None => "\n",
         Some('\n') => "",
         Some(_) => "\u{240d}",
-    }
-}
-
-// What stands for a character that is no tab and no carriage return.
-fn picture(c: char) -> char
-    ensures { result ≡ picture c }
-{
-    match c {
-        _ if is_printable_char(c) => c,
-        '\0'..='\u{1f}' => char::from_u32(0x2400 + c as u32).unwrap(),
-        '\u{7f}' => '\u{2421}',
-        _ => char::REPLACEMENT_CHARACTER,
     }
 }
 

@@ -1,8 +1,9 @@
 -- What rows show of a skin.
+use Rattle.mad_style.specs.CompoundStyles.{unstyled}
 use Rattle.mad_rows.specs.declared.row_skin.RowSkin.{RowSkin}
 use Rattle.mad_layout.specs.declared.skin.MadSkin.{MadSkin}
 
--- all but its scroll bar
+-- all but its scroll bar; links have no style of their own
 abbrev pub row_skin : MadSkin → RowSkin
 row_skin skin =
     record {
@@ -11,6 +12,7 @@ row_skin skin =
       italic = skin.italic;
       strikeout = skin.strikeout;
       inline_code = skin.inline_code;
+      link = unstyled;
       code_block = skin.code_block;
       headers = skin.headers;
       table = skin.table;

@@ -11,7 +11,7 @@ use crate::fmt_text::FmtText;
 use mad_draw::{Rows, RowsBeside, ScrollBar, columns_beside, draw_rows};
 use mad_fit::Area;
 use mad_format::FmtLine;
-use mad_rows::TextRows;
+use mad_rows::{RowSkin, TextRows};
 use mad_term::{Error, Out};
 use std::alloc::Global;
 
@@ -47,9 +47,36 @@ pub fn draw_text<O: Out>(
     // The same in the text's own characters, where the layout has three columns at least.
     ensures headline { OnOk result (ShowsRowsFrom (row_skin text.now.skin.now) (text_bar bar text.now area.now scroll) text.now.lines.items area.now scroll (O.seen out.old) (O.seen out.new)) }
 {
+    let skin = text.skin.row_skin();
+    draw_text_in(alloc, out, &skin, text, area, scroll, bar)
+}
+
+/// Draws the rows of a text in an area, as [`draw_text`] does, but in the styles of another skin than the text's. The bar is that of the
+/// text's skin. Nothing is flushed.
+///
+/// The area's right and bottom have to fit a `u16`.
+///
+/// # Errors
+///
+/// A fault of the device, or out of memory. What went out by then is a beginning of the whole.
+pub fn draw_text_in<O: Out>(
+    alloc: Global,
+    out: &mut O,
+    skin: &RowSkin,
+    text: &FmtText,
+    area: &Area,
+    scroll: usize,
+    bar: bool,
+) -> Result<(), Error>
+    requires { IsWithinLimits area.now }
+    ensures writes { Draws (O.seen out.old) (area_bytes skin.now (text_bar bar text.now area.now scroll) text.now.lines.items area.now scroll) result (O.seen out.new) }
+    ensures shown { OnOk result (ShowsDrawable skin.now (text_bar bar text.now area.now scroll) text.now.lines.items area.now scroll (O.seen out.old) (O.seen out.new)) }
+    ensures shown_layout { OnOk result (ShowsLayout skin.now (text_bar bar text.now area.now scroll) text.now.lines.items area.now scroll (O.seen out.old) (O.seen out.new)) }
+    ensures headline { OnOk result (ShowsRowsFrom skin.now (text_bar bar text.now area.now scroll) text.now.lines.items area.now scroll (O.seen out.old) (O.seen out.new)) }
+{
     let shown_bar = text_bar(text, area, scroll, bar);
     let rows = TextRows {
-        skin: &text.skin.row_skin(),
+        skin,
         lines: lines_from(text.lines.as_slice(), scroll),
         width: columns_beside(shown_bar, usize::from(area.width)),
     };

@@ -192,7 +192,7 @@ impl MadSkin {
         item_style_at(&self.ordered_item_styles, level)
     }
 
-    /// The style of a compound in a line of that style, which [`style_of_compound`] makes.
+    /// The style of a compound in a line of that style, which [`style_of_compound`] makes. A link has no style of its own.
     pub fn compound_style(&self, line_style: &LineStyle, compound: &Compound) -> CompoundStyle
         ensures { result ≡ compound_style (row_skin self.now) line_style.now (run_of compound.now) }
     {
@@ -201,11 +201,12 @@ impl MadSkin {
             strikeout: &self.strikeout,
             bold: &self.bold,
             code: &self.inline_code,
+            link: &CompoundStyle::default(),
         };
         style_of_compound(line_style, added, &self.ellipsis, compound)
     }
 
-    /// What rows show of the skin: all but its scroll bar.
+    /// What rows show of the skin: all but its scroll bar. Links look as the rest of their line.
     pub fn row_skin(&self) -> RowSkin
         ensures { result ≡ row_skin self.now }
     {
@@ -215,6 +216,7 @@ impl MadSkin {
             italic: self.italic,
             strikeout: self.strikeout,
             inline_code: self.inline_code,
+            link: CompoundStyle::default(),
             code_block: self.code_block,
             headers: self.headers,
             table: self.table,

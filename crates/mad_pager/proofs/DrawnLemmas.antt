@@ -37,7 +37,7 @@ use Rattle.mad_layout.specs.declared.skin.MadSkin.{MadSkin}
 use Rattle.mad_rows.specs.RowStyles.{line_rules}
 use Rattle.std.proofs.lemmas.Bool.{ltb-false}
 use Rattle.std.proofs.lemmas.Bool.Decides.{nat_tests}
-use Rattle.mad_pager.specs.Screens.{reversed_skin, is_small, area_of, bar_of, text_pane, field_pane, prompt_pane, prompt_row, status_pane, status_words, AreHitsDrawn, ArePanesDrawn, IsFieldShown, IsLineIn, IsStatusLine, KeepsTextPremises, AreLinesShown, IsFieldRow, IsLastRow, IsStatus, IsDrawing, IsPicture, IsTypingShown, IsStatusShown, IsFieldInRow, IsShowing, IsShown, IsUnshown, question}
+use Rattle.mad_pager.specs.Screens.{reversed_skin, is_small, area_of, bar_of, paged_skin, text_pane, field_pane, prompt_pane, prompt_row, status_pane, status_words, AreHitsDrawn, ArePanesDrawn, IsFieldShown, IsLineIn, IsStatusLine, KeepsTextPremises, AreLinesShown, IsFieldRow, IsLastRow, IsStatus, IsDrawing, IsPicture, IsTypingShown, IsStatusShown, IsFieldInRow, IsShowing, IsShown, IsUnshown, question}
 use Rattle.mad_pager.specs.Sessions.{State, field_row, last_row, prompt_cell, text_area}
 
 -- ---- what is shown
@@ -47,10 +47,10 @@ drawn_wide : (bar : Option ScrollBar) (width : ℕ) → width - 1 ≤ columns_be
 drawn_wide None width = omega arith
 drawn_wide (Some bar) width = omega arith
 
-pub lines_shown : (skin : MadSkin) (s : State) (old new : Trace) → 5 ≤ s.page.columns → ShowsLayout (row_skin skin) (bar_of skin s) s.lines (area_of s) s.page.top old new
+pub lines_shown : (skin : MadSkin) (s : State) (old new : Trace) → 5 ≤ s.page.columns → ShowsLayout (paged_skin skin) (bar_of skin s) s.lines (area_of s) s.page.top old new
     → KeepsTextPremises skin s → TookWith old new (AreRowsShown (text_pane skin s).row (area_of s))
 lines_shown skin s old new wide h keeps =
-    let rules = line_rules (row_skin skin) in
+    let rules = line_rules (paged_skin skin) in
     let width : ℕ = s.page.columns - 1 in
     h keeps.text width (drawn_wide (bar_of skin s) s.page.columns) keeps.bar keeps.keeps (layout_fits rules width keeps.text s.lines (wrapped_at rules width keeps.text s.lines (omega arith) keeps.layout))
 

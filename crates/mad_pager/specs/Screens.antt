@@ -18,7 +18,7 @@ use Rattle.mad_blocks.specs.Layouts.{IsLayoutAt}
 use Rattle.mad_blocks.specs.TextParts.{lines_in_parts}
 use Rattle.mad_hits.specs.Drawn.{AreLinesMarked}
 use Rattle.mad_layout.specs.Premises.{KeepsPremises}
-use Rattle.mad_rows.specs.RowStyles.{line_rules}
+use Rattle.mad_rows.specs.RowStyles.{line_rules, with_links}
 use Rattle.mad_page.specs.Pages.{percent}
 use Rattle.mad_search.specs.Searches.{composite_text}
 use Rattle.mad_term.specs.Trace.{Trace, after, flushed, CutShort}
@@ -55,9 +55,13 @@ area_of s = text_area s.page.columns s.page.rows
 abbrev pub bar_of : MadSkin → State → Option ScrollBar
 bar_of skin s = bar_beside (area_of s) s.page.top (length s.lines) skin.scrollbar
 
+-- what rows show of the skin, with links that one sees
+abbrev pub paged_skin : MadSkin → RowSkin
+paged_skin skin = with_links (row_skin skin)
+
 -- the text's rows from the top one on, beside the bar
 abbrev pub text_pane : MadSkin → State → Pane
-text_pane skin s = record { area = area_of s; row = area_row (row_skin skin) (bar_of skin s) s.lines (area_of s) s.page.top }
+text_pane skin s = record { area = area_of s; row = area_row (paged_skin skin) (bar_of skin s) s.lines (area_of s) s.page.top }
 
 -- one line in the last row
 abbrev pub status_pane : RowSkin → FmtLine → State → Pane
@@ -139,7 +143,7 @@ pub record IsOrderly (skin : MadSkin) (text : List LineContent) (s : State) : Ty
 pub record KeepsTextPremises (skin : MadSkin) (s : State) : Type 0 where
   pub text : List LineContent
   pub layout : IsLayoutAt (line_rules (row_skin skin)) (Some (s.page.columns - 1)) text s.lines
-  pub keeps : KeepsPremises (row_skin skin) (s.page.columns - 1) (take (s.page.top + (s.page.rows - 1)) (lines_in_parts text))
+  pub keeps : KeepsPremises (paged_skin skin) (s.page.columns - 1) (take (s.page.top + (s.page.rows - 1)) (lines_in_parts text))
   pub bar : IfSome (bar_of skin s) (IsBarShown s.page.columns)
 
 -- these bytes show the text from its top row on, beside its bar
@@ -179,7 +183,7 @@ pub record ArePanesDrawn (skin : MadSkin) (name : List ℕ) (s : State) (bytes :
 
 -- these bytes mark what is sought in the lines that are on the screen: the columns of the text are all but the bar's
 abbrev pub AreHitsDrawn : MadSkin → State → List ℕ → Type 0
-AreHitsDrawn skin s bytes = AreLinesMarked (row_skin skin) (s.page.columns - 1) s.sought 0 (take (s.page.rows - 1) (drop s.page.top s.lines)) bytes
+AreHitsDrawn skin s bytes = AreLinesMarked (paged_skin skin) (s.page.columns - 1) s.sought 0 (take (s.page.rows - 1) (drop s.page.top s.lines)) bytes
 
 -- These bytes show a session: first the text and the last row, and then, over the text, what is sought. Each byte of a hit is written in the cells of
 -- the hit alone.

@@ -11,7 +11,7 @@ use crate::places::{field_row, prompt_cell, text_area};
 use crate::session::Session;
 use mad_draw::{Rows, draw_rows};
 use mad_hits::draw_hits;
-use mad_layout::draw_text;
+use mad_layout::draw_text_in;
 use mad_style::StyledChar;
 use mad_term::{Error, Out, put_all};
 use std::alloc::{AllocError, Global};
@@ -95,7 +95,7 @@ impl Session<'_> {
         draw_hits(
             alloc,
             out,
-            &self.text.skin.row_skin(),
+            &self.text.skin.row_skin().with_links(),
             shown,
             self.page.columns.saturating_sub(1),
             self.page.body_rows(),
@@ -103,13 +103,14 @@ impl Session<'_> {
         )
     }
 
-    // Draws the text from its top row on, beside its bar.
+    // Draws the text from its top row on, beside its bar, with links that one sees.
     fn draw_lines<O: Out>(&self, alloc: Global, out: &mut O) -> Result<(), Error>
         requires { is_small (state_of self.now) ≡ false }
         ensures { OnOk result (TookWith (O.seen out.old) (O.seen out.new) (AreLinesShown self.now.text.skin.now (state_of self.now))) }
     {
         let area = text_area(self.page.columns, self.page.rows);
-        draw_text(alloc, out, &self.text, &area, self.page.top, true)?;
+        let skin = self.text.skin.row_skin().with_links();
+        draw_text_in(alloc, out, &skin, &self.text, &area, self.page.top, true)?;
         Ok(())
     }
 

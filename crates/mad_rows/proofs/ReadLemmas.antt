@@ -55,7 +55,7 @@ use Rattle.mad_rows.proofs.PieceLemmas.{pieces_of_runs}
 
 -- a style that a compound has by its flags alone
 flagged_style : RowSkin → LineStyle → Flags → CompoundStyle
-flagged_style skin style f = overwritten_if f.code skin.inline_code (overwritten_if f.bold skin.bold (overwritten_if f.strikeout skin.strikeout (overwritten_if f.italic skin.italic style.compound_style)))
+flagged_style skin style f = overwritten_if f.code skin.inline_code (overwritten_if f.bold skin.bold (overwritten_if f.strikeout skin.strikeout (overwritten_if f.italic skin.italic (overwritten_if f.link skin.link style.compound_style))))
 
 style_by_flags : (skin : RowSkin) (style : LineStyle) (p : Compound) → bytes_eq p.src.now ellipsis_bytes ≡ false → compound_style skin style (run_of p) ≡ flagged_style skin style (flags_of p)
 unfolding flagged_style

@@ -1,5 +1,5 @@
 -- The styles of a skin's parts.
-use Rattle.std.specs.Prelude.{ℕ, zero, suc, Bool, List, [], ◌∷◌, slice_get, unwrap_or, min, if◌then◌else◌}
+use Rattle.std.specs.Prelude.{ℕ, zero, suc, Bool, List, [], ◌∷◌, slice_get, unwrap_or, min, None, is_none, ◌&&◌, ◌==◌, if◌then◌else◌}
 use Rattle.std.specs.List.{AllByRecursion}
 use Rattle.std.specs.Str.{bytes_eq}
 use Rattle.mad_md.specs.Flagged.{Run}
@@ -8,8 +8,11 @@ use Rattle.mad_style.specs.declared.kinds.CompositeKind.{CompositeKind}
 use Rattle.mad_style.specs.declared.kinds.CompositeKind.TheVariants.{Header, Code}
 use Rattle.mad_style.specs.declared.line_styles.LineStyle.{LineStyle}
 use Rattle.mad_style.specs.declared.ordered_items.OrderedItemStyle.{OrderedItemStyle}
+use Rattle.mad_term.specs.AttributeSets.{only}
+use Rattle.mad_term.specs.Attributes.{attribute_bits}
 use Rattle.mad_term.specs.Styles.{IsStyle}
-use Rattle.mad_style.specs.CompoundStyles.{overwritten}
+use Rattle.mad_term.specs.declared.attribute.Attribute.TheVariants.{Underlined}
+use Rattle.mad_style.specs.CompoundStyles.{overwritten, text_style, unstyled}
 use Rattle.mad_style.specs.OrderedItems.{unstyled_item}
 use Rattle.mad_style.specs.StyledChars.{char_alone, char_style}
 use Rattle.mad_format.specs.LineRules.{LineRules}
@@ -43,15 +46,29 @@ abbrev pub overwritten_if : Bool → CompoundStyle → CompoundStyle → Compoun
 overwritten_if flag other style = if flag then overwritten style other else style
 
 -- The style of a compound in a line of this style: the ellipsis has its own; else the line's, overwritten with those of the compound's flags,
--- italic first, then strikeout, bold and code.
-abbrev pub style_of_compound : CompoundStyle → CompoundStyle → CompoundStyle → CompoundStyle → CompoundStyle → LineStyle → Run → CompoundStyle
-style_of_compound ellipsis italic strikeout bold code style p =
+-- link first, then italic, strikeout, bold and code.
+abbrev pub style_of_compound : CompoundStyle → CompoundStyle → CompoundStyle → CompoundStyle → CompoundStyle → CompoundStyle → LineStyle → Run → CompoundStyle
+style_of_compound ellipsis link italic strikeout bold code style p =
     if bytes_eq p.text ellipsis_bytes then ellipsis
-    else overwritten_if p.flags.code code (overwritten_if p.flags.bold bold (overwritten_if p.flags.strikeout strikeout (overwritten_if p.flags.italic italic style.compound_style)))
+    else overwritten_if p.flags.code code (overwritten_if p.flags.bold bold (overwritten_if p.flags.strikeout strikeout (overwritten_if p.flags.italic italic (overwritten_if p.flags.link link style.compound_style))))
 
 -- so it is in a skin
 abbrev pub compound_style : RowSkin → LineStyle → Run → CompoundStyle
-compound_style skin = style_of_compound skin.ellipsis skin.italic skin.strikeout skin.bold skin.inline_code
+compound_style skin = style_of_compound skin.ellipsis skin.link skin.italic skin.strikeout skin.bold skin.inline_code
+
+-- the style sets nothing
+abbrev pub sets_nothing : CompoundStyle → Bool
+sets_nothing s =
+    is_none s.object_style.foreground_color && is_none s.object_style.background_color && is_none s.object_style.underline_color
+    && (attribute_bits s.object_style.attributes == 0)
+
+-- no flag of a compound adds anything, links apart
+abbrev pub adds_nothing : RowSkin → Bool
+adds_nothing skin = sets_nothing skin.bold && sets_nothing skin.italic && sets_nothing skin.strikeout && sets_nothing skin.inline_code
+
+-- the skin with links underlined; but where no other flag adds anything, link doesn't either
+abbrev pub with_links : RowSkin → RowSkin
+with_links skin = record skin { link = (if adds_nothing skin then unstyled else text_style None None (only Underlined)) }
 
 -- the numbers of a line's colors, and of an item's, are bytes, as those of every style are that a program has
 abbrev pub IsKnownLine : LineStyle → Type 0
@@ -67,6 +84,7 @@ pub record AreKnownParts (skin : RowSkin) : Type 0 where
   pub italic : IsStyle skin.italic.object_style
   pub strikeout : IsStyle skin.strikeout.object_style
   pub code : IsStyle skin.inline_code.object_style
+  pub link : IsStyle skin.link.object_style
   pub ellipsis : IsStyle skin.ellipsis.object_style
   pub code_block : IsKnownLine skin.code_block
   pub table : IsKnownLine skin.table

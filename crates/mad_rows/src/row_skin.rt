@@ -3,7 +3,7 @@
 ghost use Rattle.std.specs.Prelude.{◌≡◌, IsTrue};
 ghost use Rattle.mad_md.specs.Flagged.{run_of};
 ghost use Rattle.std.specs.Str.{bytes_eq};
-ghost use Rattle.mad_rows.specs.RowStyles.{compound_style, ellipsis_bytes, item_style_at, line_style, ordered_item_style, style_of_compound, style_of_kind};
+ghost use Rattle.mad_rows.specs.RowStyles.{adds_nothing, compound_style, ellipsis_bytes, item_style_at, line_style, ordered_item_style, sets_nothing, style_of_compound, style_of_kind, with_links};
 
 use mad_draw::Spaces;
 use mad_format::LineSkin;
@@ -12,6 +12,7 @@ use mad_style::{
     CompositeKind, CompoundStyle, LineStyle, ListItemsIndentationMode, MAX_ORDERED_LIST_DEPTH,
     OrderedItemStyle, StyledChar, TableBorderChars,
 };
+use mad_term::Attribute;
 
 // The text in place of what was left out.
 const ELLIPSIS: &str = "…";
@@ -35,6 +36,8 @@ pub struct RowSkin {
     pub strikeout: CompoundStyle,
     /// What code adds to its line's style.
     pub inline_code: CompoundStyle,
+    /// What the text of a link adds to its line's style. A [`RowSkin`] that a skin gives adds nothing: [`RowSkin::with_links`] sets it.
+    pub link: CompoundStyle,
     /// The style of code blocks.
     pub code_block: LineStyle,
     /// The styles of headers.
@@ -74,6 +77,28 @@ impl RowSkin {
         item_style_at(&self.ordered_item_styles, level)
     }
 
+    /// The same skin, in which the text of a link is underlined; but where no flag of a compound adds anything, none does for links.
+    pub fn with_links(self) -> RowSkin
+        ensures { result ≡ with_links self }
+    {
+        let link = if self.adds_nothing() {
+            CompoundStyle::default()
+        } else {
+            CompoundStyle::with_attr(Attribute::Underlined)
+        };
+        RowSkin { link, ..self }
+    }
+
+    // Whether bold, italic and struck out text and code look as their lines do.
+    fn adds_nothing(&self) -> bool
+        ensures { result ≡ adds_nothing self.now }
+    {
+        sets_nothing(&self.bold)
+            && sets_nothing(&self.italic)
+            && sets_nothing(&self.strikeout)
+            && sets_nothing(&self.inline_code)
+    }
+
     /// `count` blanks beside a line, in the paragraph's style.
     pub(crate) fn blanks(&self, count: usize) -> Spaces
         ensures { result ≡ record { style = self.now.paragraph.compound_style; count = count } }
@@ -93,6 +118,7 @@ impl RowSkin {
             strikeout: &self.strikeout,
             bold: &self.bold,
             code: &self.inline_code,
+            link: &self.link,
         };
         style_of_compound(line_style, added, &self.ellipsis, compound)
     }
@@ -150,11 +176,13 @@ pub struct FlagStyles<'k> {
     pub bold: &'k CompoundStyle,
     /// Of code.
     pub code: &'k CompoundStyle,
+    /// Of the text of a link.
+    pub link: &'k CompoundStyle,
 }
 
 /// The style of a compound in a line of that style.
 ///
-/// An ellipsis has its own; any other has its line's, overwritten with those of its flags: italic first, then
+/// An ellipsis has its own; any other has its line's, overwritten with those of its flags: link first, then italic,
 /// strikeout, bold and code.
 pub fn style_of_compound(
     line_style: &LineStyle,
@@ -162,12 +190,15 @@ pub fn style_of_compound(
     ellipsis: &CompoundStyle,
     compound: &Compound,
 ) -> CompoundStyle
-    ensures { result ≡ style_of_compound ellipsis.now added.entry.italic.now added.entry.strikeout.now added.entry.bold.now added.entry.code.now line_style.now (run_of compound.now) }
+    ensures { result ≡ style_of_compound ellipsis.now added.entry.link.now added.entry.italic.now added.entry.strikeout.now added.entry.bold.now added.entry.code.now line_style.now (run_of compound.now) }
 {
     if compound.src == ELLIPSIS {
         return *ellipsis;
     }
     let mut style = line_style.compound_style;
+    if compound.link {
+        style.overwrite_with(added.link);
+    }
     if compound.italic {
         style.overwrite_with(added.italic);
     }
@@ -183,6 +214,17 @@ pub fn style_of_compound(
     style
 }
 
+// Whether a style sets nothing.
+fn sets_nothing(style: &CompoundStyle) -> bool
+    ensures { result ≡ sets_nothing style.now }
+{
+    let style = style.object_style;
+    style.foreground_color.is_none()
+        && style.background_color.is_none()
+        && style.underline_color.is_none()
+        && style.attributes.is_empty()
+}
+
 /// Whether a text is an ellipsis.
 pub(crate) fn is_ellipsis(text: &str) -> bool
     ensures { result ≡ bytes_eq text.now ellipsis_bytes }
@@ -194,6 +236,10 @@ pub(crate) fn is_ellipsis(text: &str) -> bool
 pub(crate) fn is_bare(compound: &Compound) -> bool
     ensures { IsTrue result → (skin : RowSkin) (line : LineStyle) → compound_style skin line (run_of compound.now) ≡ line.compound_style }
 {
-    let flagged = compound.bold || compound.italic || compound.code || compound.strikeout;
+    let flagged = compound.bold
+        || compound.italic
+        || compound.code
+        || compound.strikeout
+        || compound.link;
     !flagged && (compound.src.len() != ELLIPSIS.len() || compound.src != ELLIPSIS)
 }

@@ -6,7 +6,7 @@
 //! 2. [`fitting`]: columns, tokens, wrapped lines, the fronts of a text that fit, and the blank columns round a text.
 //! 3. [`widths`]: the widths of a table's columns.
 //! 4. [`editing`]: an editor after some calls.
-//! 5. [`untrusted`]: texts without the characters that a terminal obeys, and tables made from data.
+//! 5. [`untrusted`]: texts without the characters that a terminal obeys, or whose columns terminals count otherwise; tables made from data.
 #![tactic(auto)]
 
 mod editing;
@@ -94,6 +94,7 @@ fn draw_answer(
         "first" => reading::draw_first(picture, numbers, text),
         "inline" => reading::draw_inline(picture, text),
         "printable" => untrusted::draw_printable(picture, text),
+        "steady" => untrusted::draw_steady(picture, text),
         "cells" => untrusted::draw_cells(picture, text),
         "table" => untrusted::draw_table(picture, call, text),
         _ => reading::draw_read(picture, call, text),

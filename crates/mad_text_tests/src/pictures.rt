@@ -24,7 +24,12 @@ pub(crate) fn draw_compound(picture: &mut String, compound: &Compound) -> Result
     let italic = flag(compound.italic, "italic ");
     let code = flag(compound.code, "code ");
     let strikeout = flag(compound.strikeout, "strikeout ");
-    write!(picture, "{bold}{italic}{code}{strikeout}'{}'", compound.src)
+    let link = flag(compound.link, "link ");
+    write!(
+        picture,
+        "{bold}{italic}{code}{strikeout}{link}'{}'",
+        compound.src
+    )
 }
 
 /// Appends compounds, with a text before the first.

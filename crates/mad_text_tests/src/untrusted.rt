@@ -3,6 +3,7 @@
 use crate::pictures::draw_lines;
 use mad_fit::{is_printable, printable};
 use mad_md::{Alignment, Line, TableRow, Text};
+use mad_steady::steady;
 use std::alloc::{AllocError, Global};
 use std::borrow::CowStr;
 use std::fmt::Write;
@@ -51,6 +52,25 @@ pub(crate) fn draw_printable(picture: &mut String, text: &str) -> Result<(), All
     picture.push_str(borrowed(&shown))?;
     picture.push_str(if is_printable(&text) { "" } else { "changed " })?;
     draw_text(picture, shown.as_str())
+}
+
+/// The steady text of characters that are given by their numbers, in hexadecimal: whether it is borrowed, and the numbers of its characters.
+pub(crate) fn draw_steady(picture: &mut String, numbers: &str) -> Result<(), AllocError> {
+    let alloc = *picture.allocator();
+    let text: String = numbers.split(' ').filter_map(numbered).collect(alloc)?;
+    let shown = steady(alloc, &text)?;
+    picture.push_str(borrowed(&shown))?;
+    let mut between = "";
+    for c in shown.as_str().chars() {
+        write!(picture, "{between}{:X}", c as u32)?;
+        between = " ";
+    }
+    Ok(())
+}
+
+// The character of a number in hexadecimal.
+fn numbered(number: &str) -> Option<char> {
+    char::from_u32(u32::from_str_radix(number, 16).ok()?)
 }
 
 fn texts_of<'s>(alloc: Global, line: &'s str) -> Result<Vec<&'s str>, AllocError> {

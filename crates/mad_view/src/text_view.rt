@@ -40,6 +40,14 @@ impl<'a, 't> TextView<'a, 't> {
         }
     }
 
+    /// Shows another text in the same area, from its first line on.
+    pub fn set_text(&mut self, text: &'t FmtText<'_, '_>)
+        ensures { self.new ≡ record self.old { text = text.entry; scroll = 0 } }
+    {
+        self.text = text;
+        self.scroll = 0;
+    }
+
     /// How many lines the text has.
     pub fn content_height(&self) -> usize
         ensures { result ≡ length (view_lines self.now) }

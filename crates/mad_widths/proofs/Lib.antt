@@ -7,5 +7,7 @@ pub mod CellLemmas
 pub mod LoopLemmas
 pub mod TableLemmas
 pub mod ReduceLemmas
+pub mod EachLemmas
+pub mod WordLemmas
 pub mod EvenLemmas
 pub mod WorkedLemmas

@@ -15,7 +15,7 @@ abbrev pub InTurn : List (Reverse ℕ × ℕ) → List ℕ → (List ℕ → Typ
 InTurn us requests P = (order : List ℕ) → AreTurns order (map turn_of us) → length requests ≡ length order → P order
 
 -- requests that leave three columns each can be given up
-gives : (order ws requests : List ℕ) (us : List (Reverse ℕ × ℕ)) → AreTurns order (map turn_of us) → length order ≡ length ws → length requests ≡ length ws → LeaveThree requests ws → CanGiveUp ws requests us
+pub gives : (order ws requests : List ℕ) (us : List (Reverse ℕ × ℕ)) → AreTurns order (map turn_of us) → length order ≡ length ws → length requests ≡ length ws → LeaveThree requests ws → CanGiveUp ws requests us
 gives order ws requests us turns e f leave = record {
   count = f;
   within = λ k l. omega (arith, leave k (subst (λ n. k < n) f l));

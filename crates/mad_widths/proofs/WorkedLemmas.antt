@@ -1,13 +1,15 @@
 -- The worked tables, by computing; the widths that are none, each by the part of the definition that it breaks.
-use Rattle.std.proofs.Common.{refl, arith}
+use Rattle.std.proofs.Common.{◌≤◌, [], ◌∷◌, refl, arith, subst}
+use Rattle.std.specs.List.{AllZip}
 use Rattle.std.proofs.lemmas.Bool.{false≢true}
 use Rattle.mad_widths.specs.Turns.{grants}
 use Rattle.mad_widths.specs.ColumnWidths.{first_requests, second_requests, after_first, after_second, column_widths}
+use Rattle.mad_widths.specs.WordWidths.{word_widths}
 use Rattle.mad_widths.specs.WorkedWidths.{AreWorkedWidths, RefusedWidths}
 
 pub worked : AreWorkedWidths
-unfolding column_widths after_second after_first second_requests first_requests grants
-worked = record { natural = refl; single = refl; reduced = refl; uneven = refl }
+unfolding word_widths column_widths after_second after_first second_requests first_requests grants
+worked = record { natural = refl; single = refl; reduced = refl; uneven = refl; parted = refl; whole = refl; too_narrow = refl; three = refl }
 
 pub none : RefusedWidths
 none = record {
@@ -17,4 +19,5 @@ none = record {
   under_three = λ reduced h. absurd (omega (arith, (h.shared (omega arith) (λ e. absurd (omega (arith, e)))).1.0.0));
   wider_than_natural = λ reduced h. absurd (omega (arith, (h.shared (omega arith) (λ e. absurd (omega (arith, e)))).1.0.1));
   not_reduced = λ h. false≢true (h.shared (omega arith) (λ e. absurd (omega (arith, e)))).2;
+  word_parted = λ fitted e h. absurd (omega (arith, (subst (λ ws. AllZip (λ w l. l ≤ w) ws (9 ∷ 5 ∷ [])) e (h.whole (omega arith))).0));
 }

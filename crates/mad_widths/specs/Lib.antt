@@ -2,4 +2,5 @@ pub mod ColumnWidths
 pub mod SeenCells
 pub mod TableFits
 pub mod Turns
+pub mod WordWidths
 pub mod WorkedWidths

@@ -4,6 +4,7 @@ ghost use Rattle.std.specs.Prelude.{◌≡◌, ℕ, ◌+◌, ◌*◌, ◌<◌, �
 
 use crate::column_widths::fitted_widths;
 use crate::sharing::SeenColumn;
+use crate::word_widths::fitted_to_words;
 use mad_term::{Error, InsufficientWidthError};
 use std::alloc::{AllocError, Global};
 
@@ -28,6 +29,7 @@ impl TblFit {
     ghost use Rattle.mad_term.specs.declared.errors.Error.TheVariants.{InsufficientWidth, Memory};
     ghost use Rattle.mad_widths.specs.SeenCells.{TableHasSeen, cell_added};
     ghost use Rattle.mad_widths.specs.TableFits.{IsTableFit};
+    ghost use Rattle.mad_widths.specs.WordWidths.{IsTableWordFit};
 
     /// A table of `column_count` columns that is at most `width` columns of the terminal wide, with no cell seen yet.
     ///
@@ -74,6 +76,24 @@ impl TblFit {
         fitted_widths(
             alloc,
             self.columns.as_slice(),
+            self.width - 1 - self.columns.len(),
+        )
+    }
+
+    /// As `fit`, but no column is narrower than its longest word where the longest words of all columns fit together.
+    ///
+    /// `words` is a table that has seen the longest word of each cell, as this one has seen the cell. What a column is raised to its
+    /// longest word, others give up in proportion to what they are wider than their own, as in the last step of `fit`. Where the
+    /// longest words don't fit together, the widths are those of `fit`. A column of which no word was seen keeps its natural width.
+    ///
+    /// The only error is out of memory. The time is that of sorting the columns, whatever the number of cells.
+    pub fn fit_words(&self, alloc: Global, words: &TblFit) -> Result<TblFitResult, AllocError>
+        ensures { IfOk result (λ fitted. (width words_width : ℕ) → (cells word_cells : List (List ℕ)) → TableHasSeen self.now width cells → TableHasSeen words.now words_width word_cells → IsTableWordFit width cells word_cells fitted) }
+    {
+        fitted_to_words(
+            alloc,
+            self.columns.as_slice(),
+            words.columns.as_slice(),
             self.width - 1 - self.columns.len(),
         )
     }

@@ -1,8 +1,8 @@
 -- The texts of destinations and titles.
 use Rattle.std.specs.Prelude.{ℕ, true, List, [], ◌++◌, Option, Some, None, codes}
 use Rattle.std.specs.Str.Lossy.{utf8_lossy}
-use Rattle.markdown_spans.specs.declared.addresses.Scheme.{Scheme}
-use Rattle.markdown_spans.specs.declared.addresses.Scheme.TheVariants.{Itself, Mail, Web}
+use Rattle.markdown_addresses.specs.declared.addresses.Scheme.{Scheme}
+use Rattle.markdown_addresses.specs.declared.addresses.Scheme.TheVariants.{Itself, Mail, Web}
 use Rattle.markdown_spans.specs.Decoded.{decoded}
 use Rattle.markdown_inlines.specs.Parts.{part}
 use Rattle.markdown_inlines.specs.declared.inlines.LinkTarget.{LinkTarget}

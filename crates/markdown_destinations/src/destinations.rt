@@ -6,8 +6,8 @@ ghost use Rattle.markdown_destinations.specs.Destinations.{text_of, scheme_text,
 ghost use Rattle.markdown_destinations.specs.LeadsOf.{leads_of};
 
 use crate::parts::{defined_destination, defined_title, inline_destination, inline_title};
+use markdown_addresses::addresses::Scheme;
 use markdown_inlines::inlines::LinkTarget;
-use markdown_spans::addresses::Scheme;
 use markdown_spans::decoded::decoded;
 use markdown_spans::words::{bytes_from, bytes_up_to};
 use std::alloc::{AllocError, Global};

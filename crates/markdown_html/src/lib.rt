@@ -6,8 +6,8 @@
 #![tactic(auto)]
 
 mod ends;
-mod names;
-mod starts;
+pub mod names;
+pub mod starts;
 
 pub use ends::ends_html;
 pub use starts::{Ending, html_start};

@@ -76,9 +76,9 @@ pub(crate) const BLOCK_NAMES: [&str; 62] = [
     "ul",
 ];
 
-// Whether the word is this name, in letters of any case.
+/// Whether the word is this name, which has small letters, in letters of any case.
 #[tactic(auto, unfolding(crate::specs::Names::same_letters))]
-fn same_letters(name: &[u8], word: &[u8]) -> bool
+pub fn same_letters(name: &[u8], word: &[u8]) -> bool
     ensures { result ≡ same_letters name.now word.now }
 {
     let mut names = name;
@@ -113,7 +113,7 @@ pub(crate) fn is_raw_name(word: &[u8]) -> bool
 
 /// Whether the word names a tag of a block.
 #[tactic(auto, unfolding(crate::specs::Names::block_names))]
-pub(crate) fn is_block_name(word: &[u8]) -> bool
+pub fn is_block_name(word: &[u8]) -> bool
     ensures { result ≡ is_among block_names word.now }
 {
     is_among(&BLOCK_NAMES, word)

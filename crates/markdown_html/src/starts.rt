@@ -44,8 +44,8 @@ fn is_block_tag(bytes: &[u8]) -> bool
     is_block_name(word) && ends_name(true, after)
 }
 
-// The bytes without a slash in front.
-fn without_slash(bytes: &[u8]) -> &[u8]
+/// The bytes without a slash in front.
+pub fn without_slash(bytes: &[u8]) -> &[u8]
     ensures { result.now ≡ without_slash bytes.entry.now }
 {
     if first(bytes) == b'/' {
@@ -56,15 +56,15 @@ fn without_slash(bytes: &[u8]) -> &[u8]
 }
 
 /// Whether the bytes begin with these.
-pub(crate) fn begins(bytes: &[u8], prefix: &[u8]) -> bool
+pub fn begins(bytes: &[u8], prefix: &[u8]) -> bool
     ensures value { result ≡ starts_with nat_eq bytes.now prefix.now }
     ensures within { IsTrue result → length prefix.now ≤ length bytes.now }
 {
     bytes.starts_with(prefix)
 }
 
-// Whether a declaration begins here: `!` and a letter.
-fn is_declaration(bytes: &[u8]) -> bool
+/// Whether a declaration begins here, after its sign `<`: `!` and a letter.
+pub fn is_declaration(bytes: &[u8]) -> bool
     ensures { result ≡ (begins bytes.now (codes "!") && is_ascii_alphabetic (first (drop 1 bytes.now))) }
 {
     begins(bytes, b"!") && first(tail(bytes, 1)).is_ascii_alphabetic()

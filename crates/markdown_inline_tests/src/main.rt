@@ -10,7 +10,7 @@ use markdown_brackets::labels::normal;
 use markdown_inlines::inlines::{LinkTarget, leaf_text};
 use markdown_inlines::looks::Look;
 use markdown_inlines::styled::Styled;
-use markdown_spans::addresses::Scheme;
+use markdown_addresses::addresses::Scheme;
 use std::alloc::{AllocError, Global};
 use std::fmt::Write;
 use std::io;

@@ -18,7 +18,7 @@ use Rattle.markdown_pieces.specs.declared.pieces.Piece.{Piece}
 use Rattle.markdown_inlines.specs.declared.looks.Look.{Look}
 use Rattle.markdown_inlines.specs.declared.links.Over.{Over}
 use Rattle.markdown_inlines.specs.Printable.{is_printable, picture, shown_char, is_shown}
-use Rattle.markdown_inlines.specs.Parts.{sign_char, part, alternative, html_shown, opening_shown, closing_shown, kind_characters}
+use Rattle.markdown_inlines.specs.Parts.{sign_char, part, alternative_text, html_shown, opening_shown, closing_shown, kind_characters}
 use Rattle.markdown_inlines.specs.Styled.{Shown, shown_with}
 use Rattle.markdown_inlines.specs.Inlines.{look_at, shown_piece, shown_from, char_of, are_shown}
 
@@ -62,7 +62,7 @@ sign_shown Tilde = refl
 html_is : (html : Html) (text : List ℕ) (at : ℕ) → list_all is_shown (html_shown html text at) ≡ true
 html_is Nothing text at = refl
 html_is Break text at = refl
-html_is (Alternative value) text at = text_shown (chars (alternative (drop (at + 1) text) value.start value.len))
+html_is (Alternative value) text at = text_shown (chars (alternative_text (drop (at + 1) text) value))
 
 opening_is : (image opens : Bool) → list_all is_shown (opening_shown image opens) ≡ true
 opening_is true true = refl

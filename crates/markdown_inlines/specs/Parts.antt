@@ -1,12 +1,12 @@
 -- What is shown of one piece.
-use Rattle.std.specs.Prelude.{ℕ, ◌+◌, Bool, false, if◌then◌else◌, List, [], ◌∷◌, take, drop, map, replicate, chars, Option, Some, None}
+use Rattle.std.specs.Prelude.{ℕ, ◌+◌, Bool, if◌then◌else◌, List, [], ◌∷◌, take, drop, map, replicate, chars, Option, Some, None}
 use Rattle.markdown_emphasis.specs.declared.runs.Sign.{Sign}
 use Rattle.markdown_emphasis.specs.declared.runs.Sign.TheVariants.{Star, Underscore, Tilde}
 use Rattle.markdown_brackets.specs.declared.brackets.Link.{Link}
 use Rattle.std.specs.Str.Lossy.{utf8_lossy}
 use Rattle.markdown_spans.specs.Code.{unpadded}
-use Rattle.markdown_spans.specs.Words.{words}
-use Rattle.markdown_spans.specs.Decoded.{decoded}
+use Rattle.markdown_spans.specs.Attributes.{alternative}
+use Rattle.markdown_spans.specs.declared.attributes.Value.{Value}
 use Rattle.markdown_spans.specs.declared.attributes.Html.{Html}
 use Rattle.markdown_spans.specs.declared.attributes.Html.TheVariants.{Nothing, Break, Alternative}
 use Rattle.markdown_pieces.specs.declared.pieces.Kind.{Kind}
@@ -32,15 +32,15 @@ character_shown c (Some d) = shown_char c ∷ shown_char d ∷ []
 abbrev pub part : List ℕ → ℕ → ℕ → List ℕ
 part text at len = take len (drop at text)
 
--- the alternative text of an image, which is so many bytes of a text from a place on: blanks are one space, and entities their characters
-abbrev pub alternative : List ℕ → ℕ → ℕ → List ℕ
-alternative text start len = utf8_lossy (decoded false (words false false (part text start len)))
+-- the alternative text of an image, of whose tag these are the bytes after the sign <
+abbrev pub alternative_text : List ℕ → Value → List ℕ
+alternative_text tag value = utf8_lossy (alternative tag value)
 
 -- of raw html at a place
 abbrev pub html_shown : Html → List ℕ → ℕ → List ℕ
 html_shown Nothing text at = []
 html_shown Break text at = 10 ∷ []
-html_shown (Alternative value) text at = shown_text (alternative (drop (at + 1) text) value.start value.len)
+html_shown (Alternative value) text at = shown_text (alternative_text (drop (at + 1) text) value)
 
 abbrev pub opening_shown : (image opens : Bool) → List ℕ
 opening_shown image opens = if opens then [] else if image then 33 ∷ 91 ∷ [] else 91 ∷ []

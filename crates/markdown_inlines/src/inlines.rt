@@ -13,11 +13,11 @@ use crate::looks::{Look, look_of};
 use crate::parts::push_piece;
 use crate::styled::Styled;
 use indexmap::IndexSet;
+use markdown_addresses::addresses::Scheme;
 use markdown_brackets::targets::Target;
 use markdown_emphasis::{Flags, flag_pieces};
 use markdown_pieces::cut::cut_text;
 use markdown_pieces::pieces::{Kind, Piece};
-use markdown_spans::addresses::Scheme;
 use std::alloc::{AllocError, Global};
 
 /// Where a link leads. Places are bytes of the leaf's text.

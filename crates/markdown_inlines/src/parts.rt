@@ -4,7 +4,7 @@ ghost use Rattle.std.specs.Prelude.{◌≡◌, ◌+◌, ◌<◌, ◌++◌, IfOk,
 ghost use Rattle.std.specs.Str.{IsCharBoundary};
 ghost use Rattle.markdown_spans.specs.Code.{unpadded};
 ghost use Rattle.markdown_pieces.specs.Places.{IsInside};
-ghost use Rattle.markdown_inlines.specs.Parts.{sign_char, shown_text, character_shown, part, alternative, html_shown, opening_shown, closing_shown, characters};
+ghost use Rattle.markdown_inlines.specs.Parts.{sign_char, shown_text, character_shown, part, alternative_text, html_shown, opening_shown, closing_shown, characters};
 ghost use Rattle.markdown_inlines.specs.Styled.{shown_with, spelled_of, IsStyled};
 
 use crate::looks::Look;
@@ -13,10 +13,9 @@ use crate::styled::Styled;
 use markdown_brackets::brackets::Link;
 use markdown_emphasis::Sign;
 use markdown_pieces::pieces::{Kind, Piece};
-use markdown_spans::attributes::{Html, Value};
+use markdown_spans::attributes::{Html, Value, alternative};
 use markdown_spans::code::{Code, is_padded};
-use markdown_spans::decoded::decoded;
-use markdown_spans::words::{bytes_from, bytes_up_to, words};
+use markdown_spans::words::bytes_from;
 use std::alloc::{AllocError, Global};
 
 fn sign_char(sign: Sign) -> char
@@ -122,13 +121,12 @@ fn push_character(
     }
 }
 
-// The alternative text of an image, which is so many bytes of its tag from a place on.
-fn alternative(alloc: Global, text: &[u8], start: usize, len: usize) -> Result<String, AllocError>
-    ensures { IfOk result (λ shown. string_bytes shown ≡ alternative text.now start len) }
+// The alternative text of an image.
+fn alternative_text(alloc: Global, tag: &[u8], value: Value) -> Result<String, AllocError>
+    ensures { IfOk result (λ shown. string_bytes shown ≡ alternative_text tag.now value) }
 {
-    let words = words(alloc, bytes_up_to(bytes_from(text, start), len))?;
-    let decoded = decoded(alloc, false, &words)?;
-    let shown = String::from_utf8_lossy(alloc, &decoded)?;
+    let text = alternative(alloc, tag, value)?;
+    let shown = String::from_utf8_lossy(alloc, &text)?;
     Ok(shown)
 }
 
@@ -140,10 +138,10 @@ fn push_alternative(
     look: &Look,
 ) -> Result<(), AllocError>
     requires styled { IsStyled styled.old }
-    ensures pushed { OnOk result (spelled_of styled.new ≡ spelled_of styled.old ++ map (shown_with look.now) (shown_text (alternative tag.now value.start value.len))) }
+    ensures pushed { OnOk result (spelled_of styled.new ≡ spelled_of styled.old ++ map (shown_with look.now) (shown_text (alternative_text tag.now value))) }
     ensures styled { OnOk result (IsStyled styled.new) }
 {
-    let shown = alternative(alloc, tag, value.start, value.len)?;
+    let shown = alternative_text(alloc, tag, value)?;
     styled.push_text(shown.as_str(), look)?;
     Ok(())
 }

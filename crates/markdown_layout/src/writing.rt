@@ -3,14 +3,15 @@
 ghost use Rattle.std.specs.Prelude.{◌≡◌, List, IfOk, IsErrOf, string_bytes};
 ghost use Rattle.mad_blocks.specs.Layouts.{IsLayoutAt};
 ghost use Rattle.mad_format.specs.declared.line.FmtLine.{FmtLine};
-ghost use Rattle.mad_layout.specs.RowSkins.{row_skin};
 ghost use Rattle.mad_rows.specs.RowStyles.{line_rules};
 ghost use Rattle.mad_rows.specs.Rows.{text_bytes};
 ghost use Rattle.mad_term.specs.declared.errors.Error.TheVariants.{Memory};
-ghost use Rattle.markdown_layout.specs.WrittenMarkdown.{whole_word_skin, WritesLines};
+ghost use Rattle.markdown_layout.specs.WrittenMarkdown.{markdown_skin, WritesLines};
 ghost use Rattle.markdown_reader.specs.Markdown.{markdown_lines};
 
-use mad_layout::{FmtText, MadSkin};
+use mad_blocks::lay_text;
+use mad_layout::MadSkin;
+use mad_rows::{PlacedLines, RowSkin};
 use mad_term::{Error, Out, put_text};
 use markdown_reader::Markdown;
 use std::alloc::{AllocError, Global};
@@ -20,6 +21,7 @@ use std::fmt::Write;
 /// flushed.
 ///
 /// The text is read by [`Markdown::read`], as CommonMark has it, and laid out in the skin with whole words, whatever the skin says of these.
+/// The text of a link is underlined, but in a skin in which no flag of a compound adds anything.
 /// No character of the text reaches the device that a terminal obeys.
 ///
 /// # Errors
@@ -32,30 +34,43 @@ pub fn write_markdown_on<O: Out>(
     markdown: &str,
     width: Option<usize>,
 ) -> Result<(), Error>
-    ensures writes { WritesLines (whole_word_skin skin.now) width (markdown_lines markdown.now) (O.seen out.old) result (O.seen out.new) }
+    ensures writes { WritesLines (markdown_skin skin.now) width (markdown_lines markdown.now) (O.seen out.old) result (O.seen out.new) }
     ensures early { IsErrOf result Memory → O.seen out.new ≡ O.seen out.old }
 {
-    let skin = MadSkin {
-        whole_words: true,
-        ..*skin
-    };
+    let skin = markdown_skin(skin);
     let rows = markdown_rows(alloc, &skin, markdown, width)?;
     put_text(out, &rows)
+}
+
+// What rows show of the skin, with whole words and links that one sees.
+fn markdown_skin(skin: &MadSkin) -> RowSkin
+    ensures { result ≡ markdown_skin skin.now }
+{
+    let skin = RowSkin {
+        whole_words: true,
+        ..skin.row_skin()
+    };
+    skin.with_links()
 }
 
 // The rows of a text in a skin: those of its lines, each with a newline.
 fn markdown_rows(
     alloc: Global,
-    skin: &MadSkin,
+    skin: &RowSkin,
     markdown: &str,
     width: Option<usize>,
 ) -> Result<String, AllocError>
-    ensures { IfOk result (λ rows. (lines : List FmtLine) × IsLayoutAt (line_rules (row_skin skin.now)) width (markdown_lines markdown.now) lines × (string_bytes rows ≡ text_bytes (row_skin skin.now) width lines)) }
+    ensures { IfOk result (λ rows. (lines : List FmtLine) × IsLayoutAt (line_rules skin.now) width (markdown_lines markdown.now) lines × (string_bytes rows ≡ text_bytes skin.now width lines)) }
 {
     let read = Markdown::read(alloc, markdown)?;
     let text = read.text(alloc)?;
-    let laid_out = FmtText::from_text(alloc, skin, text, width)?;
+    let lines = lay_text(alloc, skin, text, width)?;
+    let placed = PlacedLines {
+        skin,
+        lines: lines.as_slice(),
+        outer: width,
+    };
     let mut rows = String::new(alloc);
-    write!(rows, "{laid_out}")?;
+    write!(rows, "{placed}")?;
     Ok(rows)
 }

@@ -11,7 +11,7 @@ use Rattle.markdown_lines.specs.declared.places.RunFlags.{RunFlags}
 
 -- a character that is shown, bold where all are
 abbrev pub glyph_of : Bool → Shown → Glyph
-glyph_of bold s = record { c = s.char; flags = record { bold = bold || s.look.bold; italic = s.look.italic; code = s.look.code; strikeout = s.look.strikeout } }
+glyph_of bold s = record { c = s.char; flags = record { bold = bold || s.look.bold; italic = s.look.italic; code = s.look.code; strikeout = s.look.strikeout; link = false } }
 
 -- the characters that are shown of a leaf with this text, with links to definitions with these labels
 abbrev pub leaf_glyphs : List (List ℕ) → Bool → List ℕ → List Glyph
@@ -33,7 +33,7 @@ abbrev pub trimmed : List Glyph → List Glyph
 trimmed gs = without_back (without_front gs)
 
 abbrev pub space : Bool → Glyph
-space bold = record { c = 32; flags = record { bold = bold; italic = false; code = false; strikeout = false } }
+space bold = record { c = 32; flags = record { bold = bold; italic = false; code = false; strikeout = false; link = false } }
 
 -- some characters, those of a row that has begun, and then these, with a space for each break
 unfoldable pub spaced_from : Bool → List Glyph → List Glyph → List Glyph → List Glyph
@@ -43,7 +43,7 @@ spaced_from bold shown row (g ∷ gs) = if g.c == 10 then spaced_from bold ((sho
 -- ---- characters as runs
 
 abbrev pub is_same_flags : RunFlags → RunFlags → Bool
-is_same_flags a b = is_same a.bold b.bold && is_same a.italic b.italic && is_same a.code b.code && is_same a.strikeout b.strikeout
+is_same_flags a b = is_same a.bold b.bold && is_same a.italic b.italic && is_same a.code b.code && is_same a.strikeout b.strikeout && is_same a.link b.link
 
 abbrev pub run_with : RunFlags → List ℕ → Run
 run_with flags text = record { flags = flags_said flags; text = text }

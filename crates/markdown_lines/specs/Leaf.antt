@@ -1,9 +1,7 @@
 -- What is shown of a leaf's text.
 use Rattle.std.specs.Prelude.{ℕ, Bool, false, ◌==◌, List, [], ◌∷◌, ◌++◌, map, length, chars, encode_utf8_all, if◌then◌else◌}
-use Rattle.std.specs.Str.Lossy.{utf8_lossy}
 use Rattle.markdown_inlines.specs.Printable.{shown_char}
-use Rattle.markdown_marks.specs.Bytes.{is_blank, without_blanks}
-use Rattle.markdown_marks.specs.Remaining.{Remaining}
+use Rattle.markdown_html_text.specs.Rows.{html_rows}
 use Rattle.mad_md.specs.Flagged.{Run, unflagged}
 use Rattle.mad_md.specs.Lines.{LineContent, normal}
 use Rattle.mad_md.specs.declared.composite.CompositeStyle.TheVariants.{Paragraph}
@@ -38,7 +36,10 @@ leaf_rows labels text = rows_of (trimmed (leaf_glyphs labels false text))
 unfoldable pub cell_runs : List (List ℕ) → Bool → List ℕ → List Run
 cell_runs labels bold text = runs_of (spaced_from bold [] [] (trimmed (leaf_glyphs labels bold text)))
 
--- the rows of a block of html, after those before it
-unfoldable pub html_rows : List LineContent → List Remaining → List LineContent
-html_rows rows [] = rows
-html_rows rows (line ∷ lines) = html_rows (if is_blank line.bytes then rows else rows ++ plain_row (shown_text (utf8_lossy (without_blanks line.bytes))) ∷ []) lines
+-- a row of html
+abbrev pub html_row : List ℕ → LineContent
+html_row text = plain_row (shown_text text)
+
+-- the rows of a block of html with this text
+unfoldable pub html_lines : List ℕ → List LineContent
+html_lines text = map html_row (html_rows text)

@@ -6,7 +6,7 @@ use Rattle.markdown_lines.specs.declared.places.RunFlags.{RunFlags}
 use Rattle.markdown_lines.specs.declared.places.RunPlace.{RunPlace}
 
 abbrev pub flags_said : RunFlags → Flags
-flags_said flags = record { bold = flags.bold; italic = flags.italic; code = flags.code; strikeout = flags.strikeout }
+flags_said flags = record { bold = flags.bold; italic = flags.italic; code = flags.code; strikeout = flags.strikeout; link = flags.link }
 
 -- the run at its place in a text
 abbrev pub run_said : List ℕ → RunPlace → Run

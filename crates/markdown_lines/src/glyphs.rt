@@ -29,6 +29,7 @@ fn glyph_of(bold: bool, look: &Look, c: char) -> Glyph
             italic: look.italic,
             code: look.code,
             strikeout: look.strikeout,
+            link: false,
         },
     }
 }
@@ -126,6 +127,7 @@ fn space(bold: bool) -> Glyph
             italic: false,
             code: false,
             strikeout: false,
+            link: false,
         },
     }
 }

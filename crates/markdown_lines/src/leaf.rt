@@ -1,10 +1,7 @@
 //! What is shown of a leaf's text.
 
-ghost use Rattle.std.specs.Prelude.{◌≡◌, [], ◌∷◌, ◌++◌, IfOk, OnOk, map, string_bytes, if◌then◌else◌};
-ghost use Rattle.std.specs.Str.Lossy.{utf8_lossy};
-ghost use Rattle.markdown_marks.specs.Bytes.{is_blank, without_blanks};
-ghost use Rattle.markdown_marks.specs.Remaining.{remaining};
-ghost use Rattle.markdown_lines.specs.Leaf.{shown_text, plain_row, rows_of, leaf_rows, cell_runs, html_rows};
+ghost use Rattle.std.specs.Prelude.{◌≡◌, IfOk, map, string_bytes};
+ghost use Rattle.markdown_lines.specs.Leaf.{shown_text, rows_of, leaf_rows, cell_runs, html_lines};
 ghost use Rattle.markdown_lines.specs.Said.{said};
 ghost use Rattle.markdown_lines.specs.Shown.{shown};
 
@@ -13,9 +10,8 @@ use crate::lines::Lines;
 use crate::runs::Runs;
 use indexmap::IndexSet;
 use mad_md::CompositeStyle;
+use markdown_html_text::rows::html_rows;
 use markdown_inlines::printable::shown_char;
-use markdown_marks::bytes::{is_blank, without_blanks};
-use markdown_marks::rest::Rest;
 use std::alloc::{AllocError, Global};
 
 /// The text, each character as it is shown.
@@ -81,27 +77,20 @@ pub fn cell_runs(
     Ok(runs)
 }
 
-fn push_html(alloc: Global, rows: &mut Lines, line: &[u8]) -> Result<(), AllocError>
-    ensures { OnOk result (shown rows.new ≡ (if is_blank line.now then shown rows.old else shown rows.old ++ plain_row (shown_text (utf8_lossy (without_blanks line.now))) ∷ [])) }
+/// The rows of a block of html with this text.
+///
+/// # Errors
+///
+/// Out of memory is the only error.
+#[tactic(auto, unfolding(crate::specs::Leaf::html_lines))]
+pub fn html_lines(alloc: Global, text: &[u8]) -> Result<Lines, AllocError>
+    ensures { IfOk result (λ rows. shown rows ≡ html_lines text.now) }
 {
-    if is_blank(line) {
-        return Ok(());
-    }
-    let text = String::from_utf8_lossy(alloc, without_blanks(line))?;
-    let shown = shown_text(alloc, text.as_str())?;
-    rows.push_text(CompositeStyle::Paragraph, shown.as_str())
-}
-
-/// The rows of a block of html.
-#[tactic(auto, unfolding(crate::specs::Leaf::html_rows))]
-pub fn html_rows(alloc: Global, lines: &[Rest<'_>]) -> Result<Lines, AllocError>
-    ensures { IfOk result (λ rows. shown rows ≡ html_rows [] (map remaining lines.now)) }
-{
+    let texts = html_rows(alloc, text)?;
     let mut rows = Lines::new(alloc);
-    let mut rest = lines;
-    while let [line, next @ ..] = rest {
-        push_html(alloc, &mut rows, line.bytes)?;
-        rest = next;
+    for text in &texts {
+        let shown = shown_text(alloc, text.as_str())?;
+        rows.push_text(CompositeStyle::Paragraph, shown.as_str())?;
     }
     Ok(rows)
 }

@@ -15,6 +15,7 @@ pub struct RunFlags {
     pub italic: bool,
     pub code: bool,
     pub strikeout: bool,
+    pub link: bool,
 }
 
 impl RunFlags {
@@ -24,6 +25,7 @@ impl RunFlags {
         italic: false,
         code: false,
         strikeout: false,
+        link: false,
     };
 }
 
@@ -51,6 +53,7 @@ pub(crate) fn flags_of(compound: Compound<'_>) -> RunFlags
         italic: compound.italic,
         code: compound.code,
         strikeout: compound.strikeout,
+        link: compound.link,
     }
 }
 
@@ -69,4 +72,5 @@ pub(crate) fn is_same_flags(a: RunFlags, b: RunFlags) -> bool
         && is_same(a.italic, b.italic)
         && is_same(a.code, b.code)
         && is_same(a.strikeout, b.strikeout)
+        && is_same(a.link, b.link)
 }

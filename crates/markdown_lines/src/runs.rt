@@ -65,6 +65,7 @@ impl Runs {
             italic: place.flags.italic,
             code: place.flags.code,
             strikeout: place.flags.strikeout,
+            link: place.flags.link,
         })
     }
 

@@ -7,13 +7,13 @@ use Rattle.std.proofs.lemmas.Bool.Decides.{nat_tests}
 use Rattle.std.proofs.lemmas.List.{get_or-drop}
 use Rattle.std.proofs.lemmas.List.Sums.{prefix_len_passes, prefix_len_stops}
 use Rattle.markdown_marks.specs.Bytes.{first}
-use Rattle.markdown_spans.specs.Needles.{same_letters}
-use Rattle.markdown_spans.specs.declared.addresses.Scheme.{Scheme}
-use Rattle.markdown_spans.specs.declared.addresses.Scheme.TheVariants.{Itself, Mail, Web}
-use Rattle.markdown_spans.specs.declared.bare.Bare.{Bare}
-use Rattle.markdown_spans.specs.declared.bare.Trim.{Trim}
-use Rattle.markdown_spans.specs.declared.bare.Trim.TheVariants.{Stays, Goes}
-use Rattle.markdown_spans.specs.Bare.{is_domain_byte, domain_len, is_period, web_domain, is_path_byte, count_of, is_trailing, ends_name, trim_step, trim_next, trimmed, address_end, bare, web_by, web_from, is_in_front, web_of, is_mail_byte, mail_domain, mail_by, mail_of, may_precede_web, may_precede_mail, or_bare, bare_after}
+use Rattle.markdown_html.specs.Names.{same_letters}
+use Rattle.markdown_addresses.specs.declared.addresses.Scheme.{Scheme}
+use Rattle.markdown_addresses.specs.declared.addresses.Scheme.TheVariants.{Itself, Mail, Web}
+use Rattle.markdown_addresses.specs.declared.bare.Bare.{Bare}
+use Rattle.markdown_addresses.specs.declared.bare.Trim.{Trim}
+use Rattle.markdown_addresses.specs.declared.bare.Trim.TheVariants.{Stays, Goes}
+use Rattle.markdown_addresses.specs.Bare.{is_domain_byte, domain_len, is_period, web_domain, is_path_byte, count_of, is_trailing, ends_name, trim_step, trim_next, trimmed, address_end, bare, web_by, web_from, is_in_front, web_of, is_mail_byte, mail_domain, mail_by, mail_of, may_precede_web, may_precede_mail, or_bare, bare_after}
 use Rattle.markdown_pieces.proofs.EndLemmas.{EndsWell}
 use Rattle.markdown_pieces.proofs.TailLemmas.{by_cond}
 

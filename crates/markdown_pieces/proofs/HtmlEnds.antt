@@ -9,7 +9,8 @@ use Rattle.markdown_marks.specs.Html.{next_place, is_after}
 use Rattle.markdown_marks.specs.declared.tags.Place.{Place}
 use Rattle.markdown_marks.specs.declared.tags.Place.TheVariants.{Name, CloseName}
 use Rattle.markdown_spans.specs.Code.{spaced}
-use Rattle.markdown_spans.specs.Needles.{begins, after_first}
+use Rattle.markdown_html.specs.Starts.{begins}
+use Rattle.markdown_spans.specs.Needles.{after_first}
 use Rattle.markdown_spans.specs.Tags.{is_nowhere, closes, after_tag, tag_end}
 use Rattle.markdown_spans.specs.Html.{after_angle, after_comment, other_end, html_end}
 use Rattle.markdown_pieces.proofs.TailLemmas.{by_cond, IsTail, EndsBy, ends_cons, ends_here, ends_then, ends_tail, tail_from, Gives, gives_none, gives_some, else_gives, after_gives}

@@ -15,10 +15,10 @@ use Rattle.markdown_spans.specs.Code.{code_with}
 use Rattle.markdown_spans.specs.Entities.{with_char, char_of, value_after, hexadecimal, decimal, numeric, with_named, named, entity_of}
 use Rattle.markdown_entities.specs.declared.lookup.Named.{Named}
 use Rattle.markdown_entities.specs.Lookup.{characters_named}
-use Rattle.markdown_spans.specs.Addresses.{is_scheme_byte, is_address_byte, is_local_byte, has_scheme, ended_at, uri_len, may_end, domain_next, after_domain, email_len, or_len, address_len}
-use Rattle.markdown_spans.specs.declared.addresses.Domain.{Domain}
-use Rattle.markdown_spans.specs.declared.addresses.Domain.TheVariants.{On, Ends as EndsDomain, No}
-use Rattle.markdown_spans.specs.declared.bare.Bare.{Bare}
+use Rattle.markdown_addresses.specs.Addresses.{is_scheme_byte, is_address_byte, is_local_byte, has_scheme, ended_at, uri_len, may_end, domain_next, after_domain, email_len, or_len, address_len}
+use Rattle.markdown_addresses.specs.declared.addresses.Domain.{Domain}
+use Rattle.markdown_addresses.specs.declared.addresses.Domain.TheVariants.{On, Ends as EndsDomain, No}
+use Rattle.markdown_addresses.specs.declared.bare.Bare.{Bare}
 use Rattle.markdown_spans.specs.Html.{html_end}
 use Rattle.markdown_spans.specs.declared.code.Code.{Code}
 use Rattle.markdown_spans.specs.declared.entities.Escape.{Escape}

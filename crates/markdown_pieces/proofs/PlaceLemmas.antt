@@ -12,9 +12,9 @@ use Rattle.markdown_marks.specs.Definitions.{after_label}
 use Rattle.markdown_spans.specs.Ticks.{run_at}
 use Rattle.markdown_spans.specs.Code.{code_with}
 use Rattle.markdown_spans.specs.Entities.{escape_of, entity_of}
-use Rattle.markdown_spans.specs.Addresses.{address_len}
+use Rattle.markdown_addresses.specs.Addresses.{address_len}
 use Rattle.markdown_spans.specs.Html.{html_len}
-use Rattle.markdown_spans.specs.declared.bare.Bare.{Bare as BareAddress}
+use Rattle.markdown_addresses.specs.declared.bare.Bare.{Bare as BareAddress}
 use Rattle.markdown_spans.specs.declared.code.Code.{Code}
 use Rattle.markdown_spans.specs.declared.entities.Escape.{Escape}
 use Rattle.markdown_spans.specs.declared.entities.Escape.TheVariants.{Sign as SignEscape, Break, Itself}

@@ -12,11 +12,11 @@ use Rattle.markdown_spans.specs.declared.entities.Escape.TheVariants.{Sign as Si
 use Rattle.markdown_spans.specs.declared.entities.Entity.{Entity}
 use Rattle.markdown_spans.specs.Code.{code_of}
 use Rattle.markdown_spans.specs.Entities.{escape_of, entity_of}
-use Rattle.markdown_spans.specs.declared.bare.Bare.{Bare}
-use Rattle.markdown_spans.specs.Addresses.{address_len, scheme_of}
+use Rattle.markdown_addresses.specs.declared.bare.Bare.{Bare}
+use Rattle.markdown_addresses.specs.Addresses.{address_len, scheme_of}
 use Rattle.markdown_spans.specs.Html.{html_len}
 use Rattle.markdown_spans.specs.Attributes.{html_shown}
-use Rattle.markdown_spans.specs.Bare.{bare_after}
+use Rattle.markdown_addresses.specs.Bare.{bare_after}
 use Rattle.markdown_pieces.specs.declared.pieces.Kind.{Kind}
 use Rattle.markdown_pieces.specs.declared.pieces.Kind.TheVariants.{Plain, Shown, Code as CodeKind, Address, Bare as BareKind, Html as HtmlKind, Soft, Hard, Run as RunKind}
 use Rattle.markdown_pieces.specs.declared.pieces.Piece.{Piece}

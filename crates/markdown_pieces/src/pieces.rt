@@ -7,13 +7,13 @@ ghost use Rattle.markdown_spans.specs.Html.{AreEnds};
 ghost use Rattle.markdown_pieces.specs.Known.{IsKnown};
 ghost use Rattle.markdown_pieces.specs.Pieces.{is_plain, last_char, first_char, before_at, after_at, piece, run_piece, code_piece, escape_piece, entity_piece, html_piece, angle_piece, blank_piece, is_hard, bare_if, plain_from, plain_piece, no_mark_piece, byte_before, piece_at};
 
+use markdown_addresses::addresses::{Scheme, address_len, scheme_of};
+use markdown_addresses::bare::{Bare, bare_after};
 use markdown_brackets::brackets::Link;
 use markdown_emphasis::{Run, Sign};
 use markdown_marks::bytes::{blanks_in_front, count_in_front, first, tail};
 use markdown_runs::{Neighbor, beside, run_of};
-use markdown_spans::addresses::{Scheme, address_len, scheme_of};
 use markdown_spans::attributes::{Html, html_shown};
-use markdown_spans::bare::{Bare, bare_after};
 use markdown_spans::code::{Code, code_at};
 use markdown_spans::entities::{Escape, entity_of, escape_of};
 use markdown_spans::html::{Ends, ends_of, html_len};

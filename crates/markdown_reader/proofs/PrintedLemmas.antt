@@ -4,7 +4,6 @@ use Rattle.std.specs.Prelude.{chars}
 use Rattle.std.specs.List.{AllByRecursion}
 use Rattle.std.specs.Str.{NoCharPasses, NonePass}
 use Rattle.std.specs.Str.Lossy.{utf8_lossy}
-use Rattle.markdown_marks.specs.Bytes.{is_blank, without_blanks}
 use Rattle.markdown_marks.specs.Remaining.{Remaining}
 use Rattle.markdown_blocks.specs.declared.containers.Container.{Container}
 use Rattle.markdown_blocks.specs.declared.containers.Container.TheVariants.{Quote as QuoteContainer, Item}
@@ -18,8 +17,10 @@ use Rattle.mad_md.specs.declared.composite.CompositeStyle.{CompositeStyle}
 use Rattle.markdown_lines.specs.Code.{spaces, expanded_char, next_column, expanded, code_text, code_line, code_lines}
 use Rattle.markdown_reader.specs.Labels.{labels_of}
 use Rattle.markdown_inlines.specs.Printable.{shown_char}
-use Rattle.markdown_lines.specs.Leaf.{shown_text, plain_row, leaf_rows, html_rows}
-use Rattle.markdown_reader.proofs.GlyphsPrinted.{none_obeyed, none_append, nothing_printed, cons_printed, if_printed, leaf_printed, cell_printed}
+use Rattle.markdown_html_text.specs.Rows.{html_rows}
+use Rattle.markdown_leaves.specs.Defining.{joined}
+use Rattle.markdown_lines.specs.Leaf.{shown_text, plain_row, leaf_rows, html_row, html_lines}
+use Rattle.markdown_reader.proofs.GlyphsPrinted.{none_obeyed, none_append, nothing_printed, cons_printed, leaf_printed, cell_printed}
 use Rattle.markdown_reader.specs.Mapping.{Mapping, nothing_shown, place_in, spaced, is_spaced, marked, passed, begun, item_ended, ended, rows_shown, rows_in, unmarked, first_style, follow_style, words_shown, leaf_text, big_begun, lines_added, heading_style, code_shown, leaf_shown, shown_part, shown_parts}
 use Rattle.markdown_reader.specs.Markdown.{markdown_lines}
 use Rattle.markdown_reader.specs.Printed.{is_obeyed, IsPrintedRun, IsPrintedCell, IsPrintedLine, ArePrinted}
@@ -70,12 +71,13 @@ append_printed (x ∷ xs) ys h k = let parts = first_printed x xs h in cons_prin
 plain_printed : (text : List ℕ) → IsPrintedLine (plain_row (shown_text text))
 plain_printed text = (text_printed text, tt)
 
-html_printed : (rows : List LineContent) (lines : List Remaining) → ArePrinted rows → ArePrinted (html_rows rows lines)
-unfolding html_rows
-html_printed rows [] h = h
-html_printed rows (line ∷ lines) h =
-    html_printed (if is_blank line.bytes then rows else rows ++ plain_row (shown_text (utf8_lossy (without_blanks line.bytes))) ∷ []) lines
-    (if_printed (is_blank line.bytes) rows _ h (append_printed rows _ h (cons_printed _ [] (plain_printed (utf8_lossy (without_blanks line.bytes))) nothing_printed)))
+texts_printed : (texts : List (List ℕ)) → ArePrinted (map html_row texts)
+texts_printed [] = nothing_printed
+texts_printed (text ∷ texts) = cons_printed (html_row text) (map html_row texts) (plain_printed text) (texts_printed texts)
+
+html_printed : (text : List ℕ) → ArePrinted (html_lines text)
+unfolding html_lines
+html_printed text = texts_printed (html_rows text)
 
 runs_printed : (row : LineContent) → IsPrintedLine row → AllByRecursion IsPrintedRun (row_runs row)
 runs_printed (normal row) h = h
@@ -168,7 +170,7 @@ code_shown_printed lines m h = if_mapping (length lines == 0) m _ h (added_print
 
 leaf_shown_printed : (labels : List (List ℕ)) (kind : Kind) (lines : List Remaining) (m : Mapping) → ArePrinted m.lines → ArePrinted (leaf_shown labels kind lines m).lines
 leaf_shown_printed labels ParagraphKind lines m h = words_printed (leaf_rows labels (leaf_text lines)) m (leaf_printed labels (leaf_text lines)) h
-leaf_shown_printed labels Html lines m h = words_printed (html_rows [] lines) m (html_printed [] lines nothing_printed) h
+leaf_shown_printed labels Html lines m h = words_printed (html_lines (joined [] lines)) m (html_printed (joined [] lines)) h
 leaf_shown_printed labels (Heading level) lines m h =
     if_mapping (length (leaf_rows labels (leaf_text lines)) == 0) m _ h
     (added_printed (restyled (heading_style level) (heading_style level) (leaf_rows labels (leaf_text lines))) m (restyled_printed (heading_style level) (heading_style level) (leaf_rows labels (leaf_text lines)) (leaf_printed labels (leaf_text lines))) h)

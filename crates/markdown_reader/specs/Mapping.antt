@@ -13,7 +13,7 @@ use Rattle.mad_md.specs.Lines.{LineContent, horizontal_rule}
 use Rattle.mad_md.specs.declared.composite.CompositeStyle.{CompositeStyle}
 use Rattle.mad_md.specs.declared.composite.CompositeStyle.TheVariants.{Paragraph, Header, ListItem, OrderedListItem, ListItemFollowUp, Quote}
 use Rattle.markdown_lines.specs.Code.{code_lines}
-use Rattle.markdown_lines.specs.Leaf.{leaf_rows, html_rows}
+use Rattle.markdown_lines.specs.Leaf.{leaf_rows, html_lines}
 use Rattle.markdown_lines.specs.Restyled.{restyled, empty_line}
 use Rattle.markdown_lines.specs.Tables.{table_lines}
 use Rattle.markdown_reader.specs.declared.mapper.Before.{Before}
@@ -173,7 +173,7 @@ code_shown lines m = if length lines == 0 then m else lines_added (code_lines (p
 
 abbrev pub leaf_shown : List (List ℕ) → Kind → List Remaining → Mapping → Mapping
 leaf_shown labels ParagraphKind lines m = words_shown (leaf_rows labels (leaf_text lines)) m
-leaf_shown labels Html lines m = words_shown (html_rows [] lines) m
+leaf_shown labels Html lines m = words_shown (html_lines (joined [] lines)) m
 leaf_shown labels (Heading level) lines m = heading_shown level (leaf_rows labels (leaf_text lines)) m
 leaf_shown labels Indented lines m = code_shown lines m
 leaf_shown labels Fenced lines m = code_shown (drop 1 lines) m

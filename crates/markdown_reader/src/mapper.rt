@@ -4,7 +4,8 @@ ghost use Rattle.std.specs.Prelude.{◌≡◌, ◌≤◌, ◌||◌, [], ◌∷�
 ghost use Rattle.markdown_marks.specs.Remaining.{remaining};
 ghost use Rattle.markdown_leaves.specs.Parts.{part_of};
 ghost use Rattle.mad_md.specs.Lines.{horizontal_rule};
-ghost use Rattle.markdown_lines.specs.Leaf.{leaf_rows, html_rows};
+ghost use Rattle.markdown_leaves.specs.Defining.{joined};
+ghost use Rattle.markdown_lines.specs.Leaf.{leaf_rows, html_lines};
 ghost use Rattle.markdown_reader.specs.Mapping.{nothing_shown, place_in, digits, is_number, mark_width, level_of, item_style, follow_style, quote_in, open_quote, heading_style, blank_style, is_spaced, spaced, marked, passed, quote_begun, item_begun, begun, item_ended, container_ended, ended, first_style, unmarked, rows_shown, words_shown, leaf_text, big_begun, lines_added, heading_shown, code_shown, leaf_shown, shown_part, shown_parts};
 ghost use Rattle.markdown_reader.specs.MappingOf.{mapping_of};
 ghost use Rattle.markdown_lines.specs.Restyled.{empty_line};
@@ -17,7 +18,7 @@ use markdown_blocks::Container;
 use markdown_leaves::defining::joined;
 use markdown_leaves::{Kind, Part};
 use markdown_lines::code::push_code_lines;
-use markdown_lines::leaf::{html_rows, leaf_rows};
+use markdown_lines::leaf::{html_lines, leaf_rows};
 use markdown_lines::lines::Lines;
 use markdown_lines::tables::push_table;
 use markdown_marks::headings::without_end;
@@ -428,9 +429,10 @@ impl Mapper {
     }
 
     fn show_html(&mut self, alloc: Global, lines: &[Rest<'_>]) -> Result<(), AllocError>
-        ensures { OnOk result (mapping_of self.new ≡ words_shown (html_rows [] (map remaining lines.now)) (mapping_of self.old)) }
+        ensures { OnOk result (mapping_of self.new ≡ words_shown (html_lines (joined [] (map remaining lines.now))) (mapping_of self.old)) }
     {
-        let rows = html_rows(alloc, lines)?;
+        let text = joined(alloc, lines)?;
+        let rows = html_lines(alloc, text.as_slice())?;
         self.show_words(&rows)
     }
 

@@ -2,7 +2,8 @@
 use Rattle.std.proofs.Common.{◌≡◌, ℕ, zero, suc, ◌+◌, ◌-◌, ◌<◌, ◌≤◌, ⊎_elim, true, false, cond, List, [], ◌∷◌, length, drop, refl, sym, ap, ◌∙◌, arith, Some, None}
 use Rattle.std.proofs.lemmas.Bool.{cases_lt}
 use Rattle.std.proofs.lemmas.List.{drop_all, drop-drop}
-use Rattle.markdown_spans.specs.Needles.{begins, after_first, IsLast}
+use Rattle.markdown_html.specs.Starts.{begins}
+use Rattle.markdown_spans.specs.Needles.{after_first, IsLast}
 
 -- nothing is where nothing is left
 begins_nothing : (needle : List ℕ) → 0 < length needle → begins [] needle ≡ false

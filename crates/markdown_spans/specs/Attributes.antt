@@ -2,13 +2,16 @@
 use Rattle.std.specs.Prelude.{◌≡◌, ℕ, ◌+◌, ◌==◌, ◌&&◌, ◌||◌, not, Bool, true, false, if◌then◌else◌, List, [], ◌∷◌, take, drop, Option, Some, None, codes}
 use Rattle.std.specs.List.{prefix_len}
 use Rattle.std.specs.Char.{is_ascii_alphanumeric}
+use Rattle.markdown_html.specs.Names.{same_letters}
+use Rattle.markdown_html.specs.Starts.{without_slash}
 use Rattle.markdown_marks.specs.Bytes.{first}
 use Rattle.markdown_marks.specs.Definitions.{is_space_byte}
-use Rattle.markdown_marks.specs.Html.{next_place, is_attribute_byte, is_plain_byte}
+use Rattle.markdown_marks.specs.Html.{next_place, is_plain_byte}
 use Rattle.markdown_marks.specs.declared.tags.Place.{Place}
 use Rattle.markdown_marks.specs.declared.tags.Place.TheVariants.{Name, Attribute}
 use Rattle.markdown_spans.specs.Code.{spaced}
-use Rattle.markdown_spans.specs.Needles.{same_letters}
+use Rattle.markdown_spans.specs.Decoded.{decoded}
+use Rattle.markdown_spans.specs.Words.{words}
 use Rattle.markdown_spans.specs.declared.attributes.Value.{Value}
 use Rattle.markdown_spans.specs.declared.attributes.Html.{Html}
 use Rattle.markdown_spans.specs.declared.attributes.Html.TheVariants.{Nothing, Break, Alternative}
@@ -18,16 +21,20 @@ use Rattle.markdown_spans.specs.declared.attributes.Html.TheVariants.{Nothing, B
 abbrev pub is_name_byte : ℕ → Bool
 is_name_byte b = is_ascii_alphanumeric b || (b == 45)
 
--- without a slash in front
-abbrev pub without_slash : List ℕ → List ℕ
-without_slash bytes = if first bytes == 47 then drop 1 bytes else bytes
+abbrev pub is_attribute : Place → Bool
+is_attribute Attribute = true
+is_attribute _ = false
+
+-- the byte goes on in an attribute's name
+abbrev pub goes_on : ℕ → Bool
+goes_on b = is_attribute (next_place Attribute b)
 
 -- the name in front, in letters of any case
 abbrev pub is_tag_named : List ℕ → List ℕ → Bool
 is_tag_named name bytes = same_letters name (take (prefix_len is_name_byte bytes) bytes)
 
 abbrev pub is_attribute_named : List ℕ → List ℕ → Bool
-is_attribute_named name bytes = same_letters name (take (prefix_len is_attribute_byte bytes) bytes)
+is_attribute_named name bytes = same_letters name (take (prefix_len goes_on bytes) bytes)
 
 -- ---- the value of an attribute: in quotes, or without them
 
@@ -60,10 +67,6 @@ value_of at bytes =
     let blanks = prefix_len is_space_byte bytes in
     if first (drop blanks bytes) == 61 then Some (value_behind (at + blanks + 1) (drop (blanks + 1) bytes)) else None
 
-abbrev pub is_attribute : Place → Bool
-is_attribute Attribute = true
-is_attribute _ = false
-
 -- The value of the first attribute of this name, from a place in a tag on.
 unfoldable pub attribute_from : (name : List ℕ) (len at : ℕ) → Place → List ℕ → Option Value
 attribute_from name len at place [] = None
@@ -76,6 +79,10 @@ attribute_from name len at place (b ∷ bs) =
 abbrev pub alternative_by : Option Value → Html
 alternative_by None = Nothing
 alternative_by (Some value) = Alternative value
+
+-- the alternative text of an image, of whose tag these are the bytes after the sign <: blanks are one space, and entities their characters
+abbrev pub alternative : List ℕ → Value → List ℕ
+alternative tag value = decoded false (words false false (take value.len (drop value.start tag)))
 
 -- of raw html, from after its sign < to its end
 abbrev pub html_shown : List ℕ → Html

@@ -4,7 +4,8 @@ use Rattle.std.specs.Char.{is_ascii_alphabetic}
 use Rattle.markdown_marks.specs.Bytes.{first}
 use Rattle.markdown_marks.specs.Definitions.{after, or_else}
 use Rattle.markdown_spans.specs.declared.html.Ends.{Ends}
-use Rattle.markdown_spans.specs.Needles.{begins, after_first, IsLast}
+use Rattle.markdown_html.specs.Starts.{begins}
+use Rattle.markdown_spans.specs.Needles.{after_first, IsLast}
 use Rattle.markdown_spans.specs.Tags.{tag_end}
 
 abbrev pub after_angle : List ℕ → Option (List ℕ)

@@ -1,17 +1,19 @@
 //! What raw html shows: a tag `br` breaks the line, and an image says its alternative text.
 
-ghost use Rattle.std.specs.Prelude.{◌≡◌, ◌+◌, ◌<◌, ◌≤◌, ◌^◌, length, take, codes};
+ghost use Rattle.std.specs.Prelude.{◌≡◌, ◌+◌, ◌<◌, ◌≤◌, ◌^◌, IfOk, length, take, codes};
 ghost use Rattle.std.specs.List.{prefix_len};
 ghost use Rattle.markdown_marks.specs.Definitions.{is_space_byte};
-ghost use Rattle.markdown_marks.specs.Html.{is_attribute_byte};
-ghost use Rattle.markdown_spans.specs.Attributes.{without_slash, is_name_byte, is_tag_named, is_attribute_named, is_value_byte, is_single, is_double, value_here, value_behind, value_of, is_attribute, attribute_from, alternative_by, html_shown};
+ghost use Rattle.markdown_spans.specs.Attributes.{goes_on, is_name_byte, is_tag_named, is_attribute_named, is_value_byte, is_single, is_double, value_here, value_behind, value_of, is_attribute, attribute_from, alternative_by, alternative, html_shown};
 
 use crate::code::spaced;
-use crate::needles::same_letters;
-use crate::words::bytes_from;
+use crate::decoded::decoded;
+use crate::words::{bytes_from, bytes_up_to, words};
+use markdown_html::names::same_letters;
+use markdown_html::starts::without_slash;
 use markdown_marks::bytes::{first, tail};
 use markdown_marks::definitions::is_space_byte;
 use markdown_marks::tags::{Place, next_place};
+use std::alloc::{AllocError, Global};
 
 /// The value of an attribute, without its quotes.
 #[derive(Debug, Clone, Copy)]
@@ -38,10 +40,11 @@ fn is_name_byte(b: u8) -> bool
     b.is_ascii_alphanumeric() || b == b'-'
 }
 
-fn is_attribute_byte(b: u8) -> bool
-    ensures { result ≡ is_attribute_byte b }
+// Whether the byte goes on in an attribute's name.
+fn goes_on(b: u8) -> bool
+    ensures { result ≡ goes_on b }
 {
-    b.is_ascii_alphanumeric() || b == b'_' || b == b':' || b == b'.' || b == b'-'
+    is_attribute(next_place(Place::Attribute, b))
 }
 
 // A byte of a value without quotes.
@@ -57,8 +60,8 @@ fn is_value_byte(b: u8) -> bool
         || b == b'`')
 }
 
-// How many bytes of a tag's name are in front.
-fn name_len(bytes: &[u8]) -> usize
+/// How many bytes of a tag's name are in front.
+pub fn name_len(bytes: &[u8]) -> usize
     ensures value { result ≡ prefix_len is_name_byte bytes.now }
     ensures within { result ≤ length bytes.now }
 {
@@ -71,11 +74,11 @@ fn name_len(bytes: &[u8]) -> usize
 
 // How many bytes of an attribute's name are in front.
 fn attribute_len(bytes: &[u8]) -> usize
-    ensures value { result ≡ prefix_len is_attribute_byte bytes.now }
+    ensures value { result ≡ prefix_len goes_on bytes.now }
     ensures within { result ≤ length bytes.now }
 {
     let mut i = 0;
-    while i < bytes.len() && is_attribute_byte(bytes[i]) {
+    while i < bytes.len() && goes_on(bytes[i]) {
         i += 1;
     }
     i
@@ -129,7 +132,8 @@ fn spaces_len(bytes: &[u8]) -> usize
     i
 }
 
-fn is_tag_named(name: &[u8], bytes: &[u8]) -> bool
+/// Whether the name of a tag is in front, in letters of any case.
+pub fn is_tag_named(name: &[u8], bytes: &[u8]) -> bool
     ensures { result ≡ is_tag_named name.now bytes.now }
 {
     same_letters(name, &bytes[..name_len(bytes)])
@@ -209,16 +213,6 @@ fn attribute_from(name: &[u8], place: Place, bytes: &[u8]) -> Option<Value>
     None
 }
 
-fn without_slash(bytes: &[u8]) -> &[u8]
-    ensures { result.now ≡ without_slash bytes.entry.now }
-{
-    if first(bytes) == b'/' {
-        tail(bytes, 1)
-    } else {
-        bytes
-    }
-}
-
 fn alternative_by(value: Option<Value>) -> Html
     ensures { result ≡ alternative_by value }
 {
@@ -226,6 +220,19 @@ fn alternative_by(value: Option<Value>) -> Html
         None => Html::Nothing,
         Some(value) => Html::Alternative(value),
     }
+}
+
+/// The alternative text of an image, of whose tag these are the bytes after its sign `<`. Blanks are one space, and entities their characters.
+///
+/// # Errors
+///
+/// Out of memory is the only error.
+pub fn alternative(alloc: Global, tag: &[u8], value: Value) -> Result<Vec<u8>, AllocError>
+    ensures { IfOk result (λ text. text.items ≡ alternative tag.now value) }
+{
+    let words = words(alloc, bytes_up_to(bytes_from(tag, value.start), value.len))?;
+    let text = decoded(alloc, false, &words)?;
+    Ok(text)
 }
 
 /// What raw html shows, whose bytes these are after its sign `<`.

@@ -34,8 +34,8 @@ pub fn code_at(lasts: &[usize], text: &[u8], at: usize) -> Option<Code>
     }
 }
 
-// The end of a line is a space in code.
-pub(crate) fn spaced(b: u8) -> u8
+/// The end of a line as a space.
+pub fn spaced(b: u8) -> u8
     ensures { result ≡ spaced b }
 {
     if b == b'\n' { b' ' } else { b }

@@ -62,8 +62,12 @@ fn push_escape(out: &mut Vec<u8>, b: u8, escape: Escape) -> Result<usize, AllocE
     }
 }
 
-// Adds what the first bytes stand for: how many of them there are after the first.
-fn push_part(out: &mut Vec<u8>, escapes: bool, b: u8, next: &[u8]) -> Result<usize, AllocError>
+/// Adds what some bytes stand for, of which these follow the first, and says how many of these belong to it. Escapes count where `escapes` says so.
+///
+/// # Errors
+///
+/// Out of memory is the only error.
+pub fn push_part(out: &mut Vec<u8>, escapes: bool, b: u8, next: &[u8]) -> Result<usize, AllocError>
     ensures pushed { OnOk result (out.new.items ≡ out.old.items ++ (part_of escapes b next.now).bytes) }
     ensures more { IfOk result (λ more. more ≡ (part_of escapes b next.now).more) }
 {

@@ -1,15 +1,14 @@
 //! Raw html in a line.
 
-ghost use Rattle.std.specs.Prelude.{◌≡◌, ◌+◌, ◌<◌, ◌≤◌, ◌&&◌, length, drop, IfSome, codes};
-ghost use Rattle.std.specs.Char.{is_ascii_alphabetic};
+ghost use Rattle.std.specs.Prelude.{◌≡◌, ◌+◌, ◌<◌, ◌≤◌, length, drop, IfSome};
 ghost use Rattle.std.specs.Option.{option_copied};
-ghost use Rattle.markdown_marks.specs.Bytes.{first};
-ghost use Rattle.markdown_spans.specs.Needles.{begins};
 ghost use Rattle.markdown_spans.specs.Html.{after_angle, after_comment, other_end, html_end, html_len, AreEnds};
 
-use crate::needles::{after_first, after_known, begins, last_place};
+use crate::needles::{after_first, after_known, last_place};
 use crate::tags::tag_end;
-use markdown_marks::bytes::{first, tail};
+use markdown_html::starts::{begins, is_declaration};
+use markdown_marks::bytes::tail;
+use memchr::memchr;
 
 /// Where in a text the ends of raw html begin last: from these places on none does.
 #[derive(Debug, Clone, Copy)]
@@ -22,10 +21,24 @@ pub struct Ends {
     pub declaration: usize,
 }
 
-/// Where in a text the ends of raw html begin last.
+// No end of raw html begins from the end of a text on.
+fn no_ends(text: &[u8]) -> Ends
+    ensures { AreEnds result text.now }
+{
+    Ends {
+        instruction: text.len(),
+        cdata: text.len(),
+        declaration: text.len(),
+    }
+}
+
+/// Where in a text the ends of raw html begin last. It isn't looked for where no sign `<` is: there is no html.
 pub fn ends_of(text: &[u8]) -> Ends
     ensures { AreEnds result text.now }
 {
+    if memchr(b'<', text).is_none() {
+        return no_ends(text);
+    }
     Ends {
         instruction: last_place(b"?>", text),
         cdata: last_place(b"]]>", text),
@@ -53,12 +66,6 @@ fn after_comment(text: &[u8]) -> Option<&[u8]>
         None => None,
         Some(rest) => after_angle(rest),
     }
-}
-
-fn is_declaration(bytes: &[u8]) -> bool
-    ensures { result ≡ (begins bytes.now (codes "!") && is_ascii_alphabetic (first (drop 1 bytes.now))) }
-{
-    begins(bytes, b"!") && first(tail(bytes, 1)).is_ascii_alphabetic()
 }
 
 // What follows raw html that is no tag, after its sign `<`.

@@ -1,42 +1,15 @@
 //! Where certain bytes stand in a text.
 
-ghost use Rattle.std.specs.Prelude.{◌≡◌, ◌+◌, ◌<◌, ◌≤◌, IsTrue, length, drop};
+ghost use Rattle.std.specs.Prelude.{◌≡◌, ◌+◌, ◌<◌, ◌≤◌, length, drop};
 ghost use Rattle.std.specs.Option.{option_copied};
-ghost use Rattle.markdown_spans.specs.Needles.{begins, same_letters, after_first, IsLast};
+ghost use Rattle.markdown_spans.specs.Needles.{after_first, IsLast};
 
+use markdown_html::starts::begins;
 use markdown_marks::bytes::tail;
-
-/// Whether these bytes are in front.
-pub(crate) fn begins(bytes: &[u8], needle: &[u8]) -> bool
-    ensures value { result ≡ begins bytes.now needle.now }
-    ensures within { IsTrue result → length needle.now ≤ length bytes.now }
-{
-    bytes.starts_with(needle)
-}
-
-/// Whether the bytes are this name in small letters, in letters of any case.
-#[tactic(auto, unfolding(crate::specs::Needles::same_letters))]
-pub(crate) fn same_letters(name: &[u8], word: &[u8]) -> bool
-    ensures { result ≡ same_letters name.now word.now }
-{
-    let mut names = name;
-    let mut words = word;
-    while let [n, names_left @ ..] = names {
-        let [w, words_left @ ..] = words else {
-            return false;
-        };
-        if *n != w.to_ascii_lowercase() {
-            return false;
-        }
-        names = names_left;
-        words = words_left;
-    }
-    words.is_empty()
-}
 
 /// What follows these bytes where they stand first.
 #[tactic(auto, unfolding(crate::specs::Needles::after_first))]
-pub(crate) fn after_first<'t>(needle: &[u8], text: &'t [u8]) -> Option<&'t [u8]>
+pub fn after_first<'t>(needle: &[u8], text: &'t [u8]) -> Option<&'t [u8]>
     ensures { option_copied result ≡ after_first needle.now text.entry.now }
 {
     let mut rest = text;

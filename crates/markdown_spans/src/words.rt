@@ -20,8 +20,12 @@ pub fn bytes_up_to(text: &[u8], len: usize) -> &[u8]
     if len < text.len() { &text[..len] } else { text }
 }
 
-// A space where blanks are between two words.
-fn add_gap(out: &mut Vec<u8>, begun: bool, gap: bool) -> Result<(), AllocError>
+/// A space where blanks are between two words.
+///
+/// # Errors
+///
+/// Out of memory is the only error.
+pub fn add_gap(out: &mut Vec<u8>, begun: bool, gap: bool) -> Result<(), AllocError>
     ensures { OnOk result (out.new.items ≡ out.old.items ++ gap_of begun gap) }
 {
     if begun && gap {

@@ -64,7 +64,12 @@ pub use Rattle.mad_fit.specs.RunningWidths
 pub use Rattle.mad_fit.specs.Thumbs
 pub use Rattle.mad_fit.specs.TextColumns
 pub use Rattle.mad_fit.specs.Completions
+pub use Rattle.mad_printable.specs.Pictures as ShownCharacters
 pub use Rattle.mad_fit.specs.Printable
+pub use Rattle.mad_steady.specs.Kept as SteadyKeeps
+pub use Rattle.mad_steady.specs.Kinds as SteadyKinds
+pub use Rattle.mad_steady.specs.Steady
+pub use Rattle.mad_steady.specs.Widths as SteadyWidths
 pub use Rattle.mad_fit.specs.TokenPositions
 pub use Rattle.mad_fit.specs.Tokens
 pub use Rattle.mad_fit.specs.TokensLeft

@@ -23,6 +23,31 @@ pub struct Answer {
     pub status: u32,
 }
 
+/// What a call answers that lays out a text as it comes.
+#[repr(C)]
+#[derive(Clone, Copy, PartialEq, Eq, Debug, Drop)]
+pub struct Progress {
+    /// How many bytes the rows have; 0 where the call was refused.
+    pub count: usize,
+    /// How many bytes of the text they are of; 0 where not all rows are in the buffer.
+    pub used: usize,
+    /// 1 where a fence is open after these, else 0.
+    pub fenced: u32,
+    /// How the call ended.
+    pub status: u32,
+}
+
+/// The parts at the front of a text, laid out.
+#[derive(Drop)]
+pub struct Parts {
+    /// Their rows.
+    pub rows: Vec<u8>,
+    /// How many bytes of the text they are.
+    pub used: usize,
+    /// Whether a fence is open after them.
+    pub is_open: bool,
+}
+
 /// Why a call is refused.
 #[derive(Clone, Copy, PartialEq, Eq, Debug)]
 pub enum Refusal {
@@ -96,6 +121,32 @@ pub fn hand_out(made: Result<Vec<u8>, Refusal>, buffer: &mut [u8]) -> Answer
     match made {
         Ok(whole) => copy_front(whole.as_slice(), buffer),
         Err(refusal) => refuse(refusal),
+    }
+}
+
+/// Hands out the rows of the parts of a text, or why they were refused; `fenced` is whether a fence is open before the text.
+///
+/// Where not all of them fit the buffer, nothing of the text is used.
+pub fn hand_out_parts(made: Result<Parts, Refusal>, fenced: bool, buffer: &mut [u8]) -> Progress {
+    match made {
+        Ok(parts) => {
+            let answer = copy_front(parts.rows.as_slice(), buffer);
+            if answer.status == DONE {
+                progress(answer, parts.used, parts.is_open)
+            } else {
+                progress(answer, 0, fenced)
+            }
+        }
+        Err(refusal) => progress(refuse(refusal), 0, fenced),
+    }
+}
+
+fn progress(answer: Answer, used: usize, fenced: bool) -> Progress {
+    Progress {
+        count: answer.count,
+        used,
+        fenced: u32::from(fenced),
+        status: answer.status,
     }
 }
 

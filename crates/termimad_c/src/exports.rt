@@ -7,12 +7,15 @@ ghost use Rattle.std.specs.Prelude.{◌≡◌, ◌⊎◌, ◌≤◌, ◌^◌, []
 ghost use Rattle.termimad_run.specs.declared.call.Command.TheVariants.{Inline};
 ghost use Rattle.termimad_c.specs.Answers.{Answers, Counts};
 ghost use Rattle.termimad_c.specs.Inputs.{RefusesCall, IsNoArea, IsNoFit};
+ghost use Rattle.termimad_c.specs.DataTables.{IsNoTable, IsTableWritten};
 ghost use Rattle.termimad_c.specs.Making.{IsWritten, IsAreaWritten, IsTextWritten, IsMarkdownWritten, IsRowCount, IsFittedLine, IsMadePrintable};
 
-use crate::answer::{Answer, count_out, hand_out};
+use crate::answer::{Answer, Progress, count_out, hand_out, hand_out_parts};
 use crate::making::{
-    area_bytes, fitted_bytes, inline_bytes, markdown_bytes, printable_bytes, rows_count, text_bytes,
+    area_bytes, fitted_bytes, inline_bytes, markdown_bytes, parts_made, printable_bytes,
+    rows_count, text_bytes,
 };
+use crate::tables::table_bytes;
 use std::alloc::Global;
 
 /// A Markdown text in an area of the screen: what `termimad-view area` writes.
@@ -62,6 +65,26 @@ pub extern "C" fn termimad_markdown(
     hand_out(markdown_bytes(alloc, text, skin, width), buffer)
 }
 
+/// The complete parts at the front of a Markdown text, laid out at a width, in columns; where `last` isn't 0, all of the text. A fence is open before
+/// it where `fenced` isn't 0.
+///
+/// The caller drops the bytes that were used, appends what comes, and calls again with the fence that was answered. In all the rows are those
+/// that `termimad-view text` writes of the whole text.
+#[unsafe(no_mangle)]
+pub extern "C" fn termimad_parts(
+    alloc: Global,
+    text: &[u8],
+    skin: &[u8],
+    width: usize,
+    fenced: usize,
+    last: usize,
+    buffer: &mut [u8],
+) -> Progress {
+    let is_open = fenced != 0;
+    let made = parts_made(alloc, text, skin, width, is_open, last != 0);
+    hand_out_parts(made, is_open, buffer)
+}
+
 /// A text as one line with its inline marks, and a newline: what `termimad-view inline` writes.
 #[unsafe(no_mangle)]
 pub extern "C" fn termimad_inline(
@@ -106,4 +129,24 @@ pub extern "C" fn termimad_printable(alloc: Global, text: &[u8], buffer: &mut [u
     ensures { Answers (IsMadePrintable text.now) (RefusesCall ⊥ text.now []) buffer.old result buffer.new }
 {
     hand_out(printable_bytes(alloc, text), buffer)
+}
+
+/// A table of data, laid out at a width, in columns. Its cells are one text and the length of each in bytes, row by row, each row of so many
+/// columns, the first being the headers. No mark is read in them. `aligns` has the columns' alignments: none (0), left (1), middle (2), right (3).
+#[unsafe(no_mangle)]
+pub extern "C" fn termimad_table(
+    alloc: Global,
+    text: &[u8],
+    lengths: &[usize],
+    aligns: &[usize],
+    skin: &[u8],
+    columns: usize,
+    width: usize,
+    buffer: &mut [u8],
+) -> Answer
+    ensures { Answers (IsTableWritten text.now lengths.now aligns.now skin.now columns width)
+        (RefusesCall (IsNoTable text.now lengths.now aligns.now columns width) text.now skin.now) buffer.old result buffer.new }
+{
+    let made = table_bytes(alloc, text, lengths, aligns, skin, columns, width);
+    hand_out(made, buffer)
 }

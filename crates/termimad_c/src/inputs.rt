@@ -6,7 +6,7 @@ ghost use Rattle.termimad_c.specs.Inputs.{IsSkinOf, RefusesSkin, IsAreaOf, IsNoA
 
 use crate::answer::Refusal;
 use std::alloc::Global;
-use termimad::{Alignment, Area, MadSkin};
+use termimad::{Alignment, Area, MadSkin, cut_text};
 use termimad_run::skin_of;
 
 // The least width of an area, in columns.
@@ -23,6 +23,19 @@ pub fn text_of(bytes: &[u8]) -> Result<&str, Refusal>
     let Ok(text) = str::from_utf8(bytes) else {
         return Err(Refusal::NotUtf8);
     };
+    Ok(text)
+}
+
+/// The text at the front of these bytes, after which at most the beginning of a character is left.
+///
+/// # Errors
+///
+/// `NotUtf8`, where no text begins with them, whatever comes.
+pub fn text_front_of(bytes: &[u8]) -> Result<&str, Refusal> {
+    let (text, is_wrong) = cut_text(bytes);
+    if is_wrong {
+        return Err(Refusal::NotUtf8);
+    }
     Ok(text)
 }
 

@@ -6,7 +6,8 @@
 //! 2. [`inputs`]: what a caller hands: texts, skins, numbers.
 //! 3. [`gathered`]: the device that keeps what a call writes.
 //! 4. [`making`]: what each call makes of its inputs.
-//! 5. [`exports`]: the calls as C sees them.
+//! 5. [`tables`]: what it makes of a table of data.
+//! 6. [`exports`]: the calls as C sees them.
 #![tactic(auto)]
 
 mod answer;
@@ -14,5 +15,6 @@ mod exports;
 mod gathered;
 mod inputs;
 mod making;
+mod tables;
 
-pub use answer::{Answer, Refusal};
+pub use answer::{Answer, Parts, Progress, Refusal};

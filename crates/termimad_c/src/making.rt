@@ -6,11 +6,11 @@ ghost use Rattle.termimad_run.specs.declared.call.Command.TheVariants.{Inline};
 ghost use Rattle.termimad_c.specs.Inputs.{RefusesCall, IsNoArea, IsNoFit};
 ghost use Rattle.termimad_c.specs.Making.{IsWritten, IsAreaWritten, IsTextWritten, IsMarkdownWritten, IsRowCount, IsFittedLine, IsMadePrintable};
 
-use crate::answer::Refusal;
+use crate::answer::{Parts, Refusal};
 use crate::gathered::Gathered;
-use crate::inputs::{align_of, area_of, number_of, skin_of_word, text_of};
+use crate::inputs::{align_of, area_of, number_of, skin_of_word, text_front_of, text_of};
 use std::alloc::Global;
-use termimad::printable;
+use termimad::{printable, write_front_on};
 use termimad_run::{Command, write_call};
 
 /// A text in an area: the bytes of `termimad-view area`.
@@ -74,6 +74,31 @@ fn written(alloc: Global, text: &[u8], skin: &[u8], command: &Command) -> Result
     let mut out = Gathered::new(alloc);
     write_call(alloc, &mut out, &skin, command, text)?;
     Ok(out.bytes)
+}
+
+/// The complete parts at the front of a text, laid out at a width; those of all of it, where it is the last.
+pub fn parts_made(
+    alloc: Global,
+    text: &[u8],
+    skin: &[u8],
+    width: usize,
+    fenced: bool,
+    is_last: bool,
+) -> Result<Parts, Refusal> {
+    let width = Some(usize::from(number_of(width)?));
+    let skin = skin_of_word(alloc, skin)?;
+    let text = if is_last {
+        text_of(text)?
+    } else {
+        text_front_of(text)?
+    };
+    let mut out = Gathered::new(alloc);
+    let (used, is_open) = write_front_on(alloc, &mut out, &skin, width, text, fenced, is_last)?;
+    Ok(Parts {
+        rows: out.bytes,
+        used,
+        is_open,
+    })
 }
 
 /// How many rows a text takes at a width.

@@ -4,7 +4,7 @@ use Rattle.termimad.specs.Areas.{IsWithinLimits}
 use Rattle.termimad.specs.declared.Area.{Area}
 use Rattle.termimad.specs.declared.MadSkin.{MadSkin}
 use Rattle.termimad_run.specs.declared.call.Command.{Command}
-use Rattle.termimad_run.specs.declared.call.Command.TheVariants.{InArea, AtWidth, AsMarkdown, AsItComes, Inline}
+use Rattle.termimad_run.specs.declared.call.Command.TheVariants.{InArea, AtWidth, AsMarkdown, AsItComes, Live, Inline}
 use Rattle.termimad_run.specs.declared.failure.Failure.{Failure}
 use Rattle.termimad_run.specs.declared.failure.Failure.TheVariants.{Usage, Skin, Memory}
 use Rattle.termimad_run.specs.GivenSkins.{skin_given, IsJsonText}
@@ -35,13 +35,19 @@ abbrev pub AsksWidth : List (List ℕ) → ℕ → Option (List ℕ) → Type 0
 AsksWidth [] width word = ⊥
 AsksWidth (given ∷ rest) width word = IsNumber given width × IsSkinWord rest word
 
--- The words ask for this: area L T W H [SKIN], text W [SKIN], markdown W [SKIN], stream W [SKIN], or inline [SKIN].
+-- the words after `live`: W H [SKIN]
+abbrev pub AsksSize : List (List ℕ) → ℕ → ℕ → Option (List ℕ) → Type 0
+AsksSize (wide ∷ high ∷ rest) width height word = IsNumber wide width × IsNumber high height × IsSkinWord rest word
+AsksSize _ width height word = ⊥
+
+-- The words ask for this: area L T W H [SKIN], text W [SKIN], markdown W [SKIN], stream W [SKIN], live W H [SKIN], or inline [SKIN].
 abbrev pub Asks : List (List ℕ) → Command → Option (List ℕ) → Type 0
 Asks [] command word = ⊥
 Asks (name ∷ words) (InArea area) word = (name ≡ codes "area") × AsksArea words area word
 Asks (name ∷ words) (AtWidth width) word = (name ≡ codes "text") × AsksWidth words width word
 Asks (name ∷ words) (AsMarkdown width) word = (name ≡ codes "markdown") × AsksWidth words width word
 Asks (name ∷ words) (AsItComes width) word = (name ≡ codes "stream") × AsksWidth words width word
+Asks (name ∷ words) (Live width height) word = (name ≡ codes "live") × AsksSize words width height word
 Asks (name ∷ words) Inline word = (name ≡ codes "inline") × IsSkinWord words word
 
 -- the command's area has four columns at least, and lies within the limits of a screen
@@ -50,11 +56,13 @@ IsAllowed (InArea area) = (4 ≤ area.width) × IsWithinLimits area
 IsAllowed (AtWidth width) = ⊤
 IsAllowed (AsMarkdown width) = ⊤
 IsAllowed (AsItComes width) = ⊤
+IsAllowed (Live width height) = ⊤
 IsAllowed Inline = ⊤
 
 -- the command wants the text whole: nothing is written before all of it was read
 abbrev pub IsWhole : Command → Type 0
 IsWhole (AsItComes width) = ⊥
+IsWhole (Live width height) = ⊥
 IsWhole _ = ⊤
 
 -- the words ask for nothing that the program does

@@ -11,7 +11,7 @@ use Rattle.termimad.specs.Inlines.{inline_bytes}
 use Rattle.termimad.specs.Markdown.{markdown_lines}
 use Rattle.termimad.specs.RowSkins.{row_skin}
 use Rattle.termimad.specs.StreamedSources.{StreamsSource}
-use Rattle.termimad.specs.WrittenMarkdown.{whole_word_skin, WritesLines}
+use Rattle.termimad.specs.WrittenMarkdown.{markdown_skin, WritesLines}
 use Rattle.termimad.specs.WrittenParts.{WritesParts}
 use Rattle.termimad.specs.declared.MadSkin.{MadSkin}
 use Rattle.termimad.specs.declared.SourceError.{SourceError}
@@ -57,7 +57,7 @@ WritesLine skin line old r new = DrawsSome (IsInlineReading line) (λ items. inl
 abbrev pub WritesCall : {T : Type 0} → MadSkin → Command → List ℕ → Trace → Result T Error → Trace → Type 0
 WritesCall skin (InArea area) text old r new = WritesInArea (row_skin skin) text area old r new
 WritesCall skin (AtWidth width) text old r new = WritesParts (row_skin skin) (Some width) text old r new
-WritesCall skin (AsMarkdown width) text old r new = WritesLines (whole_word_skin skin) (Some width) (markdown_lines text) old r new
+WritesCall skin (AsMarkdown width) text old r new = WritesLines (markdown_skin skin) (Some width) (markdown_lines text) old r new
 WritesCall skin (AsItComes width) text old r new = WritesParts (row_skin skin) (Some width) text old r new
 WritesCall skin Inline text old r new = (line : List ℕ) × IsWithoutLineEnd text line × WritesLine skin line old r new
 

@@ -1,8 +1,8 @@
 //! What the arguments ask for.
 
-ghost use Rattle.std.specs.Prelude.{◌≡◌, ℕ, List, Option, MatchOption, MatchResult, map, option_map, string_bytes};
+ghost use Rattle.std.specs.Prelude.{ℕ, List, Option, MatchOption, MatchResult, map, option_map, string_bytes};
 ghost use Rattle.termimad.specs.declared.Area.{Area as SomeArea};
-ghost use Rattle.termimad_run.specs.Calls.{Asks, IsWhole, IsNoCall, IsAreaOf, IsSkinWord, AsksArea, AsksWidth, IsCall, RefusesWords};
+ghost use Rattle.termimad_run.specs.Calls.{Asks, IsNoCall, IsAreaOf, IsSkinWord, AsksArea, AsksWidth, AsksSize, IsCall, RefusesWords};
 
 use crate::failure::Failure;
 use crate::number::parse_number;
@@ -24,6 +24,9 @@ pub enum Command {
     AsMarkdown(u16),
     /// `stream W`: the text, laid out at that width, in columns, as it comes.
     AsItComes(u16),
+    /// `live W H`: the text on a terminal that scrolls, laid out at that width, in columns, on a screen that has so many rows. It is shown
+    /// as it comes, and what may change is redrawn in place.
+    Live(u16, u16),
     /// `inline`: the text, as one line.
     Inline,
 }
@@ -40,7 +43,7 @@ pub struct Call {
 }
 
 /// The call that the words after the program's name are: `area L T W H [SKIN]`, `text W [SKIN]`, `markdown W [SKIN]`,
-/// `stream W [SKIN]` or `inline [SKIN]`.
+/// `stream W [SKIN]`, `live W H [SKIN]` or `inline [SKIN]`.
 ///
 /// # Errors
 ///
@@ -81,6 +84,10 @@ fn parse_words(words: &[String]) -> Option<(Command, Option<&str>)>
             let (width, word) = parse_text_call(words)?;
             Some((Command::AsItComes(width), word))
         }
+        "live" => {
+            let (width, height, word) = parse_live_call(words)?;
+            Some((Command::Live(width, height), word))
+        }
         "inline" => Some((Command::Inline, skin_word(words)?)),
         _ => None,
     }
@@ -110,6 +117,19 @@ fn parse_text_call(words: &[String]) -> Option<(u16, Option<&str>)>
     Some((width, skin_word(rest)?))
 }
 
+// What the words after `live` ask for.
+fn parse_live_call(words: &[String]) -> Option<(u16, u16, Option<&str>)>
+    ensures { MatchOption result ((width height : ℕ) (word : Option (List ℕ)) → ¬ (AsksSize (map string_bytes words.now) width height word))
+        (λ asked. AsksSize (map string_bytes words.now) asked.0 asked.1 (option_map (λ word. word.now) asked.2)) }
+{
+    let [width, height, rest @ ..] = words else {
+        return None;
+    };
+    let width = parse_number(width.as_str())?;
+    let height = parse_number(height.as_str())?;
+    Some((width, height, skin_word(rest)?))
+}
+
 // The area that these words are: at least four columns wide, and within the limits of a screen.
 fn parse_area(left: &str, top: &str, width: &str, height: &str) -> Option<Area>
     ensures { MatchOption result ((area : SomeArea) → ¬ (IsAreaOf left.now top.now width.now height.now area))
@@ -136,15 +156,5 @@ fn skin_word(words: &[String]) -> Option<Option<&str>>
         [] => Some(None),
         [word] => Some(Some(word.as_str())),
         _ => None,
-    }
-}
-
-/// The width at which a text is to be laid out as it comes; none, where a command wants it whole.
-pub(crate) fn width_of_pieces(command: &Command) -> Option<usize>
-    ensures { MatchOption result (IsWhole command.now) (λ width. command.now ≡ Command.AsItComes width) }
-{
-    match command {
-        Command::AsItComes(width) => Some(usize::from(*width)),
-        Command::InArea(_) | Command::AtWidth(_) | Command::AsMarkdown(_) | Command::Inline => None,
     }
 }

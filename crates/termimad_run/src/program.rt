@@ -4,20 +4,20 @@ ghost use Rattle.std.specs.Prelude.{◌≡◌, ◌↔◌, ◌⊎◌, MatchResult
 ghost use Rattle.termimad_run.specs.Calls.{IsNoCall, AsksRefusedSkin};
 ghost use Rattle.termimad_run.specs.ProgramRuns.{Starts, FailsToStart, RunsTo, HasRun};
 
-use crate::call::{Call, parse_call, width_of_pieces};
+use crate::call::{Call, parse_call};
 use crate::failure::{Failure, refuse};
 use crate::input::read_all;
 use crate::notice::say_unknown;
-use crate::writing::write_call;
+use crate::writing::{write_as_it_comes, write_call};
 use mad_decoding::text_of;
 use std::alloc::Global;
-use termimad::{Out, Source, write_source_on};
+use termimad::{Out, Source};
 
 /// Runs the program on its arguments, without its own name, and answers its status.
 ///
 /// The arguments are checked first, then the skin, whose unknown keys are said on `err`. Then the input is read whole
-/// and decoded, and then the output is written and flushed; `stream` writes and flushes as the input comes. A failure is said on `err`, in one line; a fault of `err`
-/// changes no status. Statuses are 0, and of a failure 1 to 5.
+/// and decoded, and then the output is written and flushed; `stream` and `live` write and flush as the input comes. A failure is said on
+/// `err`, in one line; a fault of `err` changes no status. Statuses are 0, and of a failure 1 to 5.
 pub fn run<I: Source, O: Out, E: Out>(
     alloc: Global,
     args: &[String],
@@ -51,8 +51,8 @@ fn execute<I: Source, O: Out, E: Out>(
         (record { input = I.seen input.new; out = O.seen out.new; err = E.seen err.new }) }
 {
     let call = start(alloc, args, err)?;
-    if let Some(width) = width_of_pieces(&call.command) {
-        write_source_on(alloc, input, out, &call.skin, Some(width))?;
+    if let Some(written) = write_as_it_comes(alloc, input, out, &call.skin, &call.command) {
+        written?;
         return Ok(());
     }
     let bytes = read_all(alloc, input)?;

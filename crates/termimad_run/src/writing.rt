@@ -1,13 +1,16 @@
 //! What a call writes of its text.
 
-ghost use Rattle.std.specs.Prelude.{OnOk};
-ghost use Rattle.termimad_run.specs.Calls.{IsAllowed};
+ghost use Rattle.std.specs.Prelude.{◌≡◌, MatchOption, OnOk};
+ghost use Rattle.termimad_run.specs.Calls.{IsAllowed, IsWhole};
 ghost use Rattle.termimad_run.specs.LineEnds.{IsWithoutLineEnd};
-ghost use Rattle.termimad_run.specs.ProgramRuns.{WritesCall, ShowsCall, WritesLine};
+ghost use Rattle.termimad_run.specs.ProgramRuns.{ComesAs, WritesCall, ShowsCall, WritesLine};
 
 use crate::call::Command;
 use std::alloc::Global;
-use termimad::{Error, MadSkin, Out, put_all, write_markdown_on};
+use termimad::{
+    Error, MadSkin, Out, Source, SourceError, put_all, show_source_on, write_markdown_on,
+    write_source_on,
+};
 
 /// Writes a text in an area, or laid out at a width, or read as people write Markdown and laid out, or as one line with inline marks and a
 /// newline. Nothing is flushed.
@@ -31,13 +34,38 @@ pub fn write_call<O: Out>(
 {
     match command {
         Command::InArea(area) => skin.write_in_area_on(alloc, out, text, area),
-        Command::AtWidth(width) | Command::AsItComes(width) => {
+        Command::AtWidth(width) | Command::AsItComes(width) | Command::Live(width, _) => {
             skin.write_parts_on(alloc, out, text, Some(usize::from(*width)))
         }
         Command::AsMarkdown(width) => {
             write_markdown_on(alloc, out, skin, text, Some(usize::from(*width)))
         }
         Command::Inline => write_line(alloc, out, skin, without_line_end(text)),
+    }
+}
+
+/// Writes a text as it comes, where the command says so. None, where it wants the text whole: then nothing is read or written.
+pub(crate) fn write_as_it_comes<I: Source, O: Out>(
+    alloc: Global,
+    input: &mut I,
+    out: &mut O,
+    skin: &MadSkin,
+    command: &Command,
+) -> Option<Result<(), SourceError>>
+    ensures { MatchOption result (IsWhole command.now × (I.seen input.new ≡ I.seen input.old) × (O.seen out.new ≡ O.seen out.old))
+        (λ r. ComesAs skin.now command.now (I.seen input.old) (O.seen out.old) r (I.seen input.new) (O.seen out.new)) }
+{
+    match command {
+        Command::AsItComes(width) => {
+            let width = Some(usize::from(*width));
+            Some(write_source_on(alloc, input, out, skin, width))
+        }
+        Command::Live(width, height) => {
+            let width = Some(usize::from(*width));
+            let height = usize::from(*height);
+            Some(show_source_on(alloc, input, out, skin, width, height))
+        }
+        Command::InArea(_) | Command::AtWidth(_) | Command::AsMarkdown(_) | Command::Inline => None,
     }
 }
 

@@ -2,12 +2,21 @@
 //!
 //! A skin is `""` for no style, `default`, `dark` or `light`, or JSON text as `{"bold":"red"}`, which changes the default skin.
 
-use std::fmt;
+use std::{fmt, io};
 
 #[repr(C)]
 #[derive(Clone, Copy)]
 struct Answer {
     count: usize,
+    status: u32,
+}
+
+#[repr(C)]
+#[derive(Clone, Copy)]
+struct Progress {
+    count: usize,
+    used: usize,
+    fenced: u32,
     status: u32,
 }
 
@@ -45,6 +54,17 @@ extern "C" {
         buffer: *mut u8,
         capacity: usize,
     ) -> Answer;
+    fn termimad_parts(
+        text: *const u8,
+        text_length: usize,
+        skin: *const u8,
+        skin_length: usize,
+        width: usize,
+        fenced: usize,
+        last: usize,
+        buffer: *mut u8,
+        capacity: usize,
+    ) -> Progress;
     fn termimad_inline(
         text: *const u8,
         text_length: usize,
@@ -76,6 +96,20 @@ extern "C" {
         buffer: *mut u8,
         capacity: usize,
     ) -> Answer;
+    fn termimad_table(
+        text: *const u8,
+        text_length: usize,
+        lengths: *const usize,
+        count: usize,
+        aligns: *const usize,
+        align_count: usize,
+        skin: *const u8,
+        skin_length: usize,
+        columns: usize,
+        width: usize,
+        buffer: *mut u8,
+        capacity: usize,
+    ) -> Answer;
 }
 
 /// Why a call was refused.
@@ -101,16 +135,16 @@ impl fmt::Display for Refused {
 
 impl std::error::Error for Refused {}
 
-/// Where [`fit`] puts the ellipsis.
+/// On which side a text is: in a column of [`table`], or where it is cut by [`fit`].
 #[derive(Clone, Copy, PartialEq, Eq, Debug)]
 pub enum Align {
-    /// In the widest words.
+    /// In no place of its own; [`fit`] cuts in the widest words.
     Inside = 0,
-    /// At the end of the line.
+    /// [`fit`] cuts the end of the line.
     Left = 1,
-    /// At both ends.
+    /// [`fit`] cuts both ends.
     Center = 2,
-    /// At the front of the line.
+    /// [`fit`] cuts the front of the line.
     Right = 3,
 }
 
@@ -177,6 +211,107 @@ pub fn markdown(text: &str, width: usize, skin: &str) -> Result<String, Refused>
     })
 }
 
+/// The rows of a text that a reader gives, as soon as they are complete: in all, what [`text`] makes of the whole.
+///
+/// Each item is the rows of one or more parts. After an error there is no other item.
+pub fn rows_as_read<R: io::Read>(reader: R, width: usize, skin: &str) -> RowsAsRead<R> {
+    RowsAsRead {
+        reader: Some(reader),
+        width,
+        skin: skin.to_owned(),
+        left: Vec::new(),
+        fenced: 0,
+    }
+}
+
+/// The iterator of [`rows_as_read`].
+pub struct RowsAsRead<R> {
+    // None, once it is at its end, or failed.
+    reader: Option<R>,
+    width: usize,
+    skin: String,
+    left: Vec<u8>,
+    fenced: u32,
+}
+
+impl<R: io::Read> Iterator for RowsAsRead<R> {
+    type Item = io::Result<String>;
+
+    fn next(&mut self) -> Option<Self::Item> {
+        while self.reader.is_some() {
+            match self.read_rows() {
+                Ok(rows) if rows.is_empty() => {}
+                Ok(rows) => return Some(Ok(rows)),
+                Err(error) => {
+                    self.reader = None;
+                    return Some(Err(error));
+                }
+            }
+        }
+        None
+    }
+}
+
+impl<R: io::Read> RowsAsRead<R> {
+    // The rows of the parts that the next block completes.
+    fn read_rows(&mut self) -> io::Result<String> {
+        let Some(reader) = &mut self.reader else {
+            return Ok(String::new());
+        };
+        let is_last = read_block(reader, &mut self.left)? == 0;
+        if is_last {
+            self.reader = None;
+        }
+        self.complete(is_last)
+    }
+
+    // The rows of the complete parts of what is left, which goes; those of all of it at the text's end.
+    fn complete(&mut self, is_last: bool) -> io::Result<String> {
+        let mut buffer = vec![0; 4096];
+        loop {
+            let now = unsafe {
+                termimad_parts(
+                    self.left.as_ptr(),
+                    self.left.len(),
+                    self.skin.as_ptr(),
+                    self.skin.len(),
+                    self.width,
+                    self.fenced as usize,
+                    is_last.into(),
+                    buffer.as_mut_ptr(),
+                    buffer.len(),
+                )
+            };
+            match now.status {
+                DONE => {
+                    self.left.drain(..now.used);
+                    self.fenced = now.fenced;
+                    buffer.truncate(now.count);
+                    return Ok(String::from_utf8(buffer).expect("rows are UTF-8"));
+                }
+                SHORT => buffer.resize(now.count, 0),
+                3 => return Err(io::ErrorKind::InvalidData.into()),
+                status => return Err(io::Error::other(refusal(status))),
+            }
+        }
+    }
+}
+
+// Reads what there is, a block of 4 KiB at most, behind what is left. 0 at the end.
+fn read_block(reader: &mut impl io::Read, left: &mut Vec<u8>) -> io::Result<usize> {
+    let mut block = [0; 4096];
+    loop {
+        match reader.read(&mut block) {
+            Err(error) if error.kind() == io::ErrorKind::Interrupted => {}
+            read => {
+                let count = read?;
+                left.extend_from_slice(&block[..count]);
+                return Ok(count);
+            }
+        }
+    }
+}
+
 /// A line with its inline marks, and a newline.
 pub fn inline(line: &str, skin: &str) -> Result<String, Refused> {
     filled(|buffer| unsafe {
@@ -211,6 +346,44 @@ pub fn fit(line: &str, width: usize, align: Align, skin: &str) -> Result<String,
             skin.len(),
             width,
             align as usize,
+            buffer.as_mut_ptr(),
+            buffer.len(),
+        )
+    })
+}
+
+/// A table of these rows, the first of which has its headers, laid out at a width, in columns.
+///
+/// A cell is a text as it is: no mark is read in it, and it is made printable here; a newline is a space. Short rows are filled up.
+pub fn table<C: AsRef<str>>(
+    rows: &[Vec<C>],
+    aligns: &[Align],
+    width: usize,
+    skin: &str,
+) -> Result<String, Refused> {
+    let columns = rows.iter().map(Vec::len).max().unwrap_or(1).max(1);
+    let (mut text, mut lengths) = (String::new(), Vec::new());
+    for row in rows {
+        for column in 0..columns {
+            let cell = row.get(column).map_or("", AsRef::as_ref);
+            let shown = printable(cell)?.replace('\n', " ");
+            lengths.push(shown.len());
+            text.push_str(&shown);
+        }
+    }
+    let aligns: Vec<usize> = aligns.iter().map(|align| *align as usize).collect();
+    filled(|buffer| unsafe {
+        termimad_table(
+            text.as_ptr(),
+            text.len(),
+            lengths.as_ptr(),
+            lengths.len(),
+            aligns.as_ptr(),
+            aligns.len(),
+            skin.as_ptr(),
+            skin.len(),
+            columns,
+            width,
             buffer.as_mut_ptr(),
             buffer.len(),
         )

@@ -8,6 +8,7 @@ returns c = record {
   italic = search rules;
   strikeout = search rules;
   code = search rules;
+  link = search rules;
   ellipsis = search rules;
   code_block = search rules;
   table = search rules;

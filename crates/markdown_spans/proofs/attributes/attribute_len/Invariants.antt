@@ -1,10 +1,10 @@
 use Rattle.std.proofs.Common.{◌≡◌, ◌≤◌, ◌+◌, ◌-◌, length, drop}
 use Rattle.std.specs.List.{prefix_len}
-use Rattle.markdown_marks.specs.Html.{is_attribute_byte}
+use Rattle.markdown_spans.specs.Attributes.{goes_on}
 use Rattle.markdown_spans.proofs.attributes.attribute_len.Given as goal
 
 abbrev pub invariant-loop-i : goal.invariant-loop-i
-invariant-loop-i l = record { so_far : l.i + prefix_len is_attribute_byte (drop l.i l.bytes) ≡ prefix_len is_attribute_byte l.bytes; within : l.i ≤ length l.bytes }
+invariant-loop-i l = record { so_far : l.i + prefix_len goes_on (drop l.i l.bytes) ≡ prefix_len goes_on l.bytes; within : l.i ≤ length l.bytes }
 
 abbrev pub decreases-loop-i : goal.decreases-loop-i
 decreases-loop-i l = length l.bytes - l.i

@@ -1,0 +1,140 @@
+//! Texts whose columns every terminal counts alike.
+
+ghost use Rattle.std.specs.Prelude.{◌≡◌, ◌↔◌, ◌++◌, ℕ, Bool, false, true, chars, string_bytes, encode_utf8_all, IfOk, OnOk, OnErr, IsTrue};
+ghost use Rattle.std.specs.Cow.{cow_str_bytes, IsOwnedStr};
+ghost use Rattle.mad_steady.specs.Kinds.{kind};
+ghost use Rattle.mad_steady.specs.Steady.{held, sign, alone, joined, written, steady_from, steady_text, are_steady};
+ghost use Rattle.mad_steady.specs.Widths.{are_borne, PiecesAreJoined};
+ghost use Rattle.std.specs.List.{list_all};
+ghost use Rattle.mad_printable.specs.Pictures.{is_printable_char};
+ghost use Rattle.mad_steady.specs.Kept.{PassesWhatIsMade};
+
+use crate::kinds::{Kind, kind_of};
+use crate::places::{Place, letter, with_tail};
+use std::alloc::{AllocError, Global};
+use std::borrow::CowStr;
+
+/// The text, such that terminals count its columns as this project does, borrowed where nothing has to change.
+///
+/// Soft hyphens, joiners (U+200D), skin tones and tags go, and variation selectors but behind a character of two columns. Two
+/// regional indicators stay, and one alone becomes its letter. A leading jamo, a vowel and perhaps a trailing one become their
+/// syllable; another vowel or trailing jamo becomes U+FFFD. U+17D8 becomes the three characters that it stands for. A widthless
+/// character goes where a line begins, behind a blank or a control character, and behind one of ``* ~ ` | # >``, with those that
+/// follow it.
+///
+/// # Errors
+///
+/// Out of memory is the only error. It can't be where the text is steady.
+pub fn steady(alloc: Global, text: &str) -> Result<CowStr<'_, Global>, AllocError>
+    ensures text { IfOk result (λ shown. cow_str_bytes shown ≡ encode_utf8_all (steady_text (chars text.now))) }
+    ensures borrowed { IfOk result (λ shown. IsOwnedStr shown ↔ are_steady (chars text.now) ≡ false) }
+    ensures again { IfOk result (λ shown. are_steady (chars (cow_str_bytes shown)) ≡ true) }
+    ensures width { IfOk result (λ shown. are_borne false (chars (cow_str_bytes shown)) ≡ true) }
+    ensures pieces { IfOk result (λ shown. PiecesAreJoined (chars (cow_str_bytes shown))) }
+    ensures kept { IfOk result (λ shown. (p : ℕ → Bool) → PassesWhatIsMade p → list_all p (chars text.now) ≡ true → list_all p (chars (cow_str_bytes shown)) ≡ true) }
+    ensures err { OnErr result (are_steady (chars text.now) ≡ false) }
+{
+    if is_steady(text) {
+        return Ok(CowStr::Borrowed(text));
+    }
+    let mut shown = String::with_capacity(alloc, text.len())?;
+    push_steady(&mut shown, text)?;
+    Ok(CowStr::Owned(shown))
+}
+
+/// Whether [`steady`] leaves the text unchanged. It stops at the first character that doesn't stay.
+pub fn is_steady(text: &str) -> bool
+    ensures unchanged { IsTrue result ↔ steady_text (chars text.now) ≡ chars text.now }
+    ensures width { IsTrue result → are_borne false (chars text.now) ≡ true }
+    ensures each { result ≡ are_steady (chars text.now) }
+{
+    let mut place = Place::Opened;
+    let mut rest = text.chars();
+    while let Some(c) = rest.next() {
+        let kind = kind_of(c);
+        if !place.keeps(kind) {
+            return false;
+        }
+        place = place.next(kind, c);
+    }
+    place.may_end()
+}
+
+// Writes the steady text.
+fn push_steady(shown: &mut String, text: &str) -> Result<(), AllocError>
+    ensures { OnOk result (string_bytes shown.new ≡ string_bytes shown.old ++ encode_utf8_all (steady_text (chars text.now))) }
+{
+    let mut place = Place::Opened;
+    let mut rest = text.chars();
+    while let Some(c) = rest.next() {
+        let kind = kind_of(c);
+        push_written(shown, place, kind, c)?;
+        place = place.next(kind, c);
+    }
+    push_held(shown, place)
+}
+
+// Writes what a character is, of this kind and at this place.
+fn push_written(shown: &mut String, place: Place, kind: Kind, c: char) -> Result<(), AllocError>
+    ensures { OnOk result (string_bytes shown.new ≡ string_bytes shown.old ++ encode_utf8_all (written place kind c)) }
+{
+    if place.drops(kind) {
+        Ok(())
+    } else if place.joins(kind) {
+        push_joined(shown, place, c)
+    } else {
+        push_held(shown, place)?;
+        push_alone(shown, kind, c)
+    }
+}
+
+// Writes what is held.
+fn push_held(shown: &mut String, place: Place) -> Result<(), AllocError>
+    ensures { OnOk result (string_bytes shown.new ≡ string_bytes shown.old ++ encode_utf8_all (held place)) }
+{
+    match place {
+        Place::HoldsLead(c) | Place::HoldsSyllable(c) => shown.push(c),
+        Place::HoldsIndicator(c) => shown.push(letter(c)),
+        _ => Ok(()),
+    }
+}
+
+// Writes what a character is by itself, but one that may join the next.
+fn push_alone(shown: &mut String, kind: Kind, c: char) -> Result<(), AllocError>
+    ensures { OnOk result (string_bytes shown.new ≡ string_bytes shown.old ++ encode_utf8_all (alone kind c)) }
+{
+    match kind {
+        Kind::Sign => push_sign(shown),
+        Kind::Vowel | Kind::Tail | Kind::Jamo => shown.push(char::REPLACEMENT_CHARACTER),
+        Kind::Indicator | Kind::Lead | Kind::OpenSyllable => Ok(()),
+        _ => shown.push(c),
+    }
+}
+
+// Writes what U+17D8 stands for.
+fn push_sign(shown: &mut String) -> Result<(), AllocError>
+    ensures { OnOk result (string_bytes shown.new ≡ string_bytes shown.old ++ encode_utf8_all sign) }
+{
+    shown.push('\u{17d4}')?;
+    shown.push('\u{179b}')?;
+    shown.push('\u{17d4}')
+}
+
+// Writes what is held, joined by the character.
+fn push_joined(shown: &mut String, place: Place, c: char) -> Result<(), AllocError>
+    ensures { OnOk result (string_bytes shown.new ≡ string_bytes shown.old ++ encode_utf8_all (joined place c)) }
+{
+    match place {
+        Place::HoldsSyllable(syllable) => shown.push(with_tail(syllable, c)),
+        Place::HoldsIndicator(indicator) => {
+            shown.push(indicator)?;
+            shown.push(c)
+        }
+        _ => Ok(()),
+    }
+}
+
+/// A printable text stays printable: so are all characters that [`steady`] makes.
+pub fn printable_stays()
+    ensures { PassesWhatIsMade is_printable_char }
+{}

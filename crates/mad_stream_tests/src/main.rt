@@ -1,0 +1,63 @@
+//! What texts that come in pieces are laid out as, by the rows of the files in `data/`. In a row's text `¦` stands between two pieces.
+//!
+//! A call is `NAME NUMBERS`, of which the first is a width.
+//!
+//! 1. [`pieces`]: what goes out after each piece, by `TextStream` and by the call that keeps no state.
+//! 2. [`cuts`]: each cut of a text, devices that fail after each byte, and sources.
+//! 3. [`paper`]: a terminal that scrolls. [`live`]: what it shows of texts that grow.
+#![tactic(auto)]
+
+mod cuts;
+mod live;
+mod paper;
+mod pieces;
+
+use mad_layout::MadSkin;
+use std::alloc::{AllocError, Global};
+use std::io;
+use test_rows::Calls;
+
+/// What a row asks for.
+#[derive(Drop)]
+pub struct Asked<'r> {
+    pub alloc: Global,
+    pub skin: MadSkin,
+    pub width: Option<usize>,
+    pub numbers: [usize; 2],
+    pub text: &'r str,
+}
+
+struct StreamCalls;
+
+impl Calls for StreamCalls {
+    fn answer(&self, alloc: Global, call: &str, text: &str) -> Result<String, AllocError> {
+        let (name, words) = call.split_once(' ').unwrap_or((call, ""));
+        let (width, words) = words.split_once(' ').unwrap_or((words, ""));
+        let (first, second) = words.split_once(' ').unwrap_or((words, ""));
+        let asked = Asked {
+            alloc,
+            skin: MadSkin::no_style(),
+            width: Some(width.parse().unwrap_or(0)),
+            numbers: [first.parse().unwrap_or(0), second.parse().unwrap_or(0)],
+            text,
+        };
+        answer_asked(name, &asked)
+    }
+}
+
+fn answer_asked(name: &str, asked: &Asked) -> Result<String, AllocError> {
+    match name {
+        "pieces" => pieces::went_out(asked),
+        "parts" => pieces::parts(asked),
+        "cuts" => cuts::at_each_byte(asked),
+        "faults" => cuts::gone_on_with(asked),
+        "source" => cuts::source(asked),
+        "live" => live::after_each(asked),
+        "live_source" => live::source(asked),
+        _ => String::from_str(asked.alloc, "no such call"),
+    }
+}
+
+fn main(rt: HostRuntime) -> io::Result<()> {
+    test_rows::run(&rt, &StreamCalls)
+}

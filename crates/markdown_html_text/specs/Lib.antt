@@ -1,0 +1,3 @@
+pub mod Markup
+pub mod Rows
+pub mod RowsOf

@@ -1,0 +1,99 @@
+//! The lines that are shown of a text: what each is, and its runs, each with its flags and its text in quotes.
+
+use mad_md::{Alignment, Composite, CompositeStyle, Compound, Line};
+use markdown_reader::Markdown;
+use std::alloc::{AllocError, Global};
+use std::fmt::Write;
+
+fn draw_flag(picture: &mut String, holds: bool, letter: char) -> Result<(), AllocError> {
+    if holds {
+        picture.push(letter)?;
+    }
+    Ok(())
+}
+
+fn draw_run(picture: &mut String, run: &Compound<'_>) -> Result<(), AllocError> {
+    draw_flag(picture, run.bold, 'b')?;
+    draw_flag(picture, run.italic, 'i')?;
+    draw_flag(picture, run.code, 'c')?;
+    draw_flag(picture, run.strikeout, 's')?;
+    picture.push('"')?;
+    for c in run.src.chars() {
+        if c == '"' || c == '\\' {
+            picture.push('\\')?;
+        }
+        picture.push(c)?;
+    }
+    picture.push('"')
+}
+
+fn draw_style(picture: &mut String, style: CompositeStyle) -> Result<(), AllocError> {
+    match style {
+        CompositeStyle::Paragraph => picture.push_str("Paragraph"),
+        CompositeStyle::Header(level) => write!(picture, "Header {level}"),
+        CompositeStyle::ListItem(level) => write!(picture, "ListItem {level}"),
+        CompositeStyle::OrderedListItem { level, index } => {
+            write!(picture, "OrderedListItem {level} {index}")
+        }
+        CompositeStyle::ListItemFollowUp(level) => write!(picture, "ListItemFollowUp {level}"),
+        CompositeStyle::Code => picture.push_str("Code"),
+        CompositeStyle::Quote => picture.push_str("Quote"),
+    }
+}
+
+fn draw_cell(picture: &mut String, cell: &Composite<'_>) -> Result<(), AllocError> {
+    picture.push_str(" [")?;
+    for (index, run) in cell.compounds.iter().enumerate() {
+        if index > 0 {
+            picture.push(' ')?;
+        }
+        draw_run(picture, run)?;
+    }
+    picture.push(']')
+}
+
+fn alignment_word(alignment: Alignment) -> &'static str {
+    match alignment {
+        Alignment::Unspecified => " Unspecified",
+        Alignment::Left => " Left",
+        Alignment::Center => " Center",
+        Alignment::Right => " Right",
+    }
+}
+
+fn draw_line(picture: &mut String, line: &Line<'_>) -> Result<(), AllocError> {
+    match line {
+        Line::Normal(row) => {
+            draw_style(picture, row.style)?;
+            for run in &row.compounds {
+                picture.push(' ')?;
+                draw_run(picture, run)?;
+            }
+        }
+        Line::TableRow(row) => {
+            picture.push_str("row")?;
+            for cell in &row.cells {
+                draw_cell(picture, cell)?;
+            }
+        }
+        Line::TableRule(rule) => {
+            picture.push_str("rule")?;
+            for alignment in &rule.cells {
+                picture.push_str(alignment_word(*alignment))?;
+            }
+        }
+        Line::HorizontalRule => picture.push_str("---")?,
+    }
+    picture.push('\n')
+}
+
+/// The lines of a text.
+pub(crate) fn draw_lines(alloc: Global, text: &str) -> Result<String, AllocError> {
+    let markdown = Markdown::read(alloc, text)?;
+    let shown = markdown.text(alloc)?;
+    let mut picture = String::new(alloc);
+    for line in &shown.lines {
+        draw_line(&mut picture, line)?;
+    }
+    Ok(picture)
+}
