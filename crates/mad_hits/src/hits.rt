@@ -7,7 +7,7 @@ ghost use Rattle.mad_style.specs.StyledChars.{char_alone};
 ghost use Rattle.mad_hits.specs.Styled.{reversed};
 ghost use Rattle.mad_hits.specs.Hits.{marked_at, marked_of, placed_cells, span, text_column, widthless, Adds, AreHits, AreTextHits, AreTextsHits};
 
-use crate::matches::starts;
+use crate::matches::{letters_of, starts};
 use crate::styled::{reversed, styled_text};
 use mad_columns::char_columns;
 use mad_format::{FmtComposite, FmtLine, indent_of};
@@ -15,6 +15,7 @@ use mad_rows::{
     RowPlace, RowSkin, blanks_beside, inner_blanks, inner_columns, margins_of, row_columns,
     table_blanks,
 };
+use mad_search::has_capital;
 use mad_style::StyledChar;
 use std::alloc::{AllocError, Global};
 

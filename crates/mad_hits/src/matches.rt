@@ -3,14 +3,14 @@
 ghost use Rattle.std.specs.List.{starts_with};
 ghost use Rattle.std.specs.Prelude.{◌≡◌, nat_eq, IfOk, chars, map};
 ghost use Rattle.mad_style.specs.StyledChars.{char_alone};
-ghost use Rattle.mad_hits.specs.Matches.{compared_char, compared_chars, AreStarts};
+ghost use Rattle.mad_hits.specs.Matches.{compared_char, AreStarts};
 
-use mad_search::{has_capital, small};
+use mad_search::small;
 use mad_style::StyledChar;
 use std::alloc::{AllocError, Global};
 
-/// Where what is sought begins, by the index of its first character: the first place from the left, and then each next one after the one
-/// before has ended.
+/// Where letters begin in a text, by the index of the first: the first place from the left, and then each next one after the one before has
+/// ended. The text is compared as it stands, or else in small letters.
 ///
 /// # Errors
 ///
@@ -18,13 +18,29 @@ use std::alloc::{AllocError, Global};
 pub(crate) fn starts(
     alloc: Global,
     text: &[StyledChar],
-    sought: &str,
+    letters: &[char],
+    is_exact: bool,
 ) -> Result<Vec<usize>, AllocError>
-    ensures { IfOk result (λ starts. AreStarts (chars sought.now) (compared_chars sought.now (map char_alone text.now)) 0 starts.items) }
+    ensures { IfOk result (λ starts. AreStarts letters.now (map (compared_char is_exact) (map char_alone text.now)) 0 starts.items) }
 {
-    let text = compared_chars(alloc, text, sought)?;
-    let sought: Vec<char> = sought.chars().collect(alloc)?;
-    starts_in(alloc, text.as_slice(), sought.as_slice())
+    let compared = compared_chars(alloc, text, is_exact)?;
+    let starts = starts_in(alloc, compared.as_slice(), letters)?;
+    Ok(starts)
+}
+
+/// The characters of a text.
+///
+/// # Errors
+///
+/// Out of memory is the only error.
+pub(crate) fn letters_of(alloc: Global, text: &str) -> Result<Vec<char>, AllocError>
+    ensures { IfOk result (λ letters. letters.items ≡ chars text.now) }
+{
+    let mut letters = Vec::new(alloc);
+    for c in text.chars() {
+        letters.push(c)?;
+    }
+    Ok(letters)
 }
 
 // Where characters begin among others. None begin anywhere.
@@ -54,11 +70,14 @@ fn begins(text: &[char], sought: &[char]) -> bool
     text.starts_with(sought)
 }
 
-// The characters as they are compared with what is sought: as they stand, where that has a capital, or else in small letters.
-fn compared_chars(alloc: Global, text: &[StyledChar], sought: &str) -> Result<Vec<char>, AllocError>
-    ensures { IfOk result (λ given. given.items ≡ compared_chars sought.now (map char_alone text.now)) }
+// The characters as they are compared: as they stand, or else in small letters.
+fn compared_chars(
+    alloc: Global,
+    text: &[StyledChar],
+    is_exact: bool,
+) -> Result<Vec<char>, AllocError>
+    ensures { IfOk result (λ given. given.items ≡ map (compared_char is_exact) (map char_alone text.now)) }
 {
-    let is_exact = has_capital(sought);
     let mut given = Vec::new(alloc);
     for c in text {
         given.push(compared_char(c.nude_char(), is_exact))?;
