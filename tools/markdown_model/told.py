@@ -1,4 +1,4 @@
-"""What the program of crates/markdown_tests tells of texts, and the model's blocks made of it."""
+"""What the programs of crates/markdown_tests and crates/markdown_line_tests tell of texts, and the model's blocks and inlines made of it."""
 from __future__ import annotations
 
 import re
@@ -8,20 +8,23 @@ from pathlib import Path
 
 from . import blocks
 from .blocks import Node, delimiter_row
+from .inlines import Piece
 
-CRATE = Path(__file__).resolve().parent.parent.parent / "crates/markdown_tests"
-PROVED = CRATE / "out/markdown_tests"
+CRATES = Path(__file__).resolve().parent.parent.parent / "crates"
+CALLS = {"lines": "markdown_tests", "blocks": "markdown_tests", "shown": "markdown_line_tests", "pieces": "markdown_line_tests"}
 
 
 def told(call, texts, program=None):
-    """What a program answers of each text: the one that is named, or else the proved one that `rt run` left in the crate's folder out/. Without it
-    `rt try` runs the crate, which takes a minute or two to begin."""
-    program = program or (PROVED if PROVED.exists() else None)
+    """What the program of a call answers of each text: the one that is named, or else the proved one that `rt run` left in the crate's folder out/.
+    Without it `rt try` runs the crate, which takes a minute or two to begin."""
+    crate = CRATES / CALLS[call]
+    proved = crate / "out" / crate.name
+    program = program or (proved if proved.exists() else None)
     with tempfile.NamedTemporaryFile(suffix=".txt") as file:
         file.write("\x01".join(texts).encode())
         file.flush()
         words = [Path(program).resolve()] if program else ["rt", "try", "--"]
-        ran = subprocess.run([*words, "--told", call, file.name], cwd=CRATE, stdout=subprocess.PIPE, check=True)
+        ran = subprocess.run([*words, "--told", call, file.name], cwd=crate, stdout=subprocess.PIPE, check=True)
     out = ran.stdout.decode()
     if not program:
         out = out.partition("checked: ended")[0]
@@ -144,3 +147,58 @@ def blocks_told(rows, definitions=True):
     reader.close()
     reader.leave(0)
     return reader.doc
+
+
+def text_told(row):
+    return re.sub(r"\\(.)", lambda m: "\n" if m.group(1) == "n" else m.group(1), row)
+
+
+class Leaf:
+    """The model's inlines of one leaf, from what the program tells of each."""
+
+    def __init__(self, text):
+        self.text = text
+        self.pieces = []
+
+    def add(self, kind, text="", **more):
+        self.pieces.append(Piece(kind, 0, 0, text, **more))
+
+    def row(self, head, text):
+        word, *numbers = head.split(" ")
+        if word in ("open", "close"):
+            self.add("text", text)  # a bracket that makes nothing, as long as no closing one says otherwise
+        elif word == "run":
+            self.add("run", text, count=len(text))
+            self.pieces[-1].start = self.text.index(text[0])
+        elif word in ("link", "image"):
+            self.add("close", tag=(word, text, ""))
+            self.pieces[int(numbers[0])] = Piece("open", 0, 0, tag=self.pieces[-1].tag)
+            self.opener = int(numbers[0])
+        elif word == "title":
+            tag = self.pieces[-1].tag[:2] + (text,)
+            self.pieces[-1].tag = self.pieces[self.opener].tag = tag
+        elif word == "pair":
+            self.pair(*map(int, numbers))
+        else:
+            self.add(word, text)
+
+    def pair(self, opener, closer, count):
+        opener, closer = self.pieces[opener], self.pieces[closer]
+        tag = "del" if opener.text[0] == "~" else "strong" if count == 2 else "em"
+        opener.after.append(tag)
+        closer.before.append(tag)
+        opener.count -= count
+        closer.count -= count
+
+
+def leaves_told(rows):
+    """The inlines of each leaf's text."""
+    leaves = {}
+    for row in rows.split("\n") if rows else []:
+        head, _, text = row.partition(" |")
+        if head == "leaf":
+            leaf = Leaf(text_told(text))
+            leaves[leaf.text] = leaf.pieces
+        else:
+            leaf.row(head, text_told(text))
+    return leaves

@@ -85,7 +85,7 @@ apart_alone : (own rest : List LineContent) → 0 < length own → AllTold Alone
 apart_alone own [] some all = apart_end own
 apart_alone own (m ∷ ms) some all = apart_own Alone (told_kind m) own m ms some all refl refl
 
-apart_none : (own rest : List LineContent) → own ≡ [] → apart own rest ≡ true
+pub apart_none : (own rest : List LineContent) → own ≡ [] → apart own rest ≡ true
 apart_none own rest none = ap (λ ls. apart ls rest) none
 
 apart_line : (last kind : LineKind) (own : List LineContent) (fenced : Bool) (line later : List ℕ) → 0 < length own → AllTold last own → stands last kind ≡ false
@@ -164,7 +164,7 @@ line_reads fenced line kind (part, cut, ends) is = subst (λ (t : List ℕ). Lin
 -- ---- a line joins those that are held
 
 -- one text after another
-reads_both : (a b c : Bool) (s t : List ℕ) (ls ms : List LineContent) → ReadsTo a s ls b → ReadsTo b t ms c → ReadsTo a (s ++ t) (ls ++ ms) c
+pub reads_both : (a b c : Bool) (s t : List ℕ) (ls ms : List LineContent) → ReadsTo a s ls b → ReadsTo b t ms c → ReadsTo a (s ++ t) (ls ++ ms) c
 reads_both a b c s t ls ms f g later =
     ap (λ (u : List ℕ). lines_of (resumed_text a u)) (append_assoc s t later) ∙ f (t ++ later) ∙ ap (λ ns. ls ++ ns) (g later) ∙ sym (append_assoc ls ms (lines_of (resumed_text c later)))
 

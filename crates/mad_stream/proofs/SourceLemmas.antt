@@ -47,7 +47,7 @@ after_flushes zero t bytes = refl
 after_flushes (suc n) t bytes = after_flushed (flushed_times n t) bytes ∙ ap flushed (after_flushes n t bytes)
 
 -- more went out
-more_went : (n : ℕ) (out mid now : Trace) (sent bytes : List ℕ) → mid ≡ flushed_times n (after out sent) → now ≡ after mid bytes → now ≡ flushed_times n (after out (sent ++ bytes))
+pub more_went : (n : ℕ) (out mid now : Trace) (sent bytes : List ℕ) → mid ≡ flushed_times n (after out sent) → now ≡ after mid bytes → now ≡ flushed_times n (after out (sent ++ bytes))
 more_went n out mid now sent bytes p q = q ∙ ap (λ t. after t bytes) p ∙ after_flushes n (after out sent) bytes ∙ ap (flushed_times n) (after-append out sent bytes)
 
 none_ahead : (o : Option (List ℕ)) → option_map (λ rest. [] ++ rest) o ≡ o
@@ -59,19 +59,19 @@ both_ahead front back None = refl
 both_ahead front back (Some rest) = ap Some (sym (append_assoc front back rest))
 
 -- nothing was read
-ahead_none : (t : Trace) → t ≡ ahead_all [] t
+pub ahead_none : (t : Trace) → t ≡ ahead_all [] t
 unfolding ahead_all
 ahead_none t = ap (λ (o : Option (List ℕ)). let r : Trace = record { bytes = o; faults = t.faults; flushes = t.flushes } in r) (sym (none_ahead t.bytes))
 
 -- more was read
-ahead_more : (old mid new : Trace) (front back : List ℕ) → old ≡ ahead_all front mid → mid ≡ ahead_all back new → old ≡ ahead_all (front ++ back) new
+pub ahead_more : (old mid new : Trace) (front back : List ℕ) → old ≡ ahead_all front mid → mid ≡ ahead_all back new → old ≡ ahead_all (front ++ back) new
 unfolding ahead_all
 ahead_more old mid new front back p q =
     p ∙ ap (ahead_all front) q ∙ ap (λ (o : Option (List ℕ)). let r : Trace = record { bytes = o; faults = new.faults; flushes = new.flushes } in r) (both_ahead front back new.bytes)
 
 -- ---- the text that was read
 
-front_none : IsTextFront [] []
+pub front_none : IsTextFront [] []
 front_none = record { rest = []; joins = refl; utf8 = IsUtf8-nil; longest = λ n past within. absurd (omega arith) }
 
 take_past : (a b : List ℕ) (n : ℕ) → length a ≤ n → take n (a ++ b) ≡ a ++ take (n - length a) b
@@ -85,7 +85,7 @@ take_past (x ∷ a) b (suc n) h =
 whole_is : (read got text block : List ℕ) → (h : IsTextFront read text) → block ≡ h.rest ++ got → read ++ got ≡ text ++ block
 whole_is read got text block h is = ap (λ (l : List ℕ). l ++ got) h.joins ∙ append_assoc text h.rest got ∙ ap (λ (l : List ℕ). text ++ l) (sym is)
 
-fronts_joined : (read got text more block : List ℕ) → (h : IsTextFront read text) → block ≡ h.rest ++ got → (k : IsTextFront block more) → (f : IsTextFront (read ++ got) (text ++ more)) × (f.rest ≡ k.rest)
+pub fronts_joined : (read got text more block : List ℕ) → (h : IsTextFront read text) → block ≡ h.rest ++ got → (k : IsTextFront block more) → (f : IsTextFront (read ++ got) (text ++ more)) × (f.rest ≡ k.rest)
 fronts_joined read got text more block h is k =
     let whole : read ++ got ≡ text ++ block = whole_is read got text block h is in (
       record {
@@ -99,15 +99,15 @@ fronts_joined read got text more block h is k =
       refl,
     )
 
-no_text_joined : (read got text block : List ℕ) → (h : IsTextFront read text) → block ≡ h.rest ++ got → BeginNoText block → BeginNoText (read ++ got)
+pub no_text_joined : (read got text block : List ℕ) → (h : IsTextFront read text) → block ≡ h.rest ++ got → BeginNoText block → BeginNoText (read ++ got)
 no_text_joined read got text block h is never more u =
     never more (rest_of text (block ++ more) h.utf8 (subst IsUtf8 (ap (λ (l : List ℕ). l ++ more) (whole_is read got text block h is) ∙ append_assoc text block more) u))
 
 -- all of it is text where nothing waits
-front_whole : (read text : List ℕ) → (h : IsTextFront read text) → h.rest ≡ [] → text ≡ read
+pub front_whole : (read text : List ℕ) → (h : IsTextFront read text) → h.rest ≡ [] → text ≡ read
 front_whole read text h none = sym (h.joins ∙ ap (λ (l : List ℕ). text ++ l) none ∙ append-nil text)
 
-front_partly : (read text : List ℕ) → (h : IsTextFront read text) → 0 < length h.rest → ¬ (IsUtf8 read)
+pub front_partly : (read text : List ℕ) → (h : IsTextFront read text) → 0 < length h.rest → ¬ (IsUtf8 read)
 front_partly read text h some u =
     h.longest (length read) (omega (arith, ap length h.joins, length-append text h.rest)) (omega arith) (subst IsUtf8 (sym (take_all (length read) read (omega arith))) u)
 

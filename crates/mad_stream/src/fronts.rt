@@ -1,7 +1,9 @@
 //! How far a text is complete that is handed whole each time: no state is kept between calls.
 
-ghost use Rattle.std.specs.Prelude.{◌≡◌};
-ghost use Rattle.mad_stream.specs.Fronts.{IsCompleteFront};
+ghost use Rattle.std.specs.Prelude.{◌≡◌, IsCharBoundary};
+ghost use Rattle.mad_layout.specs.RowSkins.{row_skin};
+ghost use Rattle.mad_md.specs.declared.line_kinds.LineKind.TheVariants.{Fence};
+ghost use Rattle.mad_stream.specs.Fronts.{IsCompleteFront, WritesFront, settled_before, joined_by, settled_at};
 ghost use Rattle.mad_stream.specs.Steps.{ends_before};
 
 use crate::lines::cut_line;
@@ -12,30 +14,81 @@ use std::alloc::Global;
 
 /// How many bytes of a text are the lines of complete parts, and whether a fence is open after them. A fence is open before the text or not.
 ///
-/// A line is complete with its newline; a table or a block of code with the first line that isn't its own. What is left begins a part
-/// whatever comes after it, and is one that may go on, or a line that has begun.
+/// A line is complete with its newline; a table or a block of code with the first line that isn't its own. No part goes on from these lines,
+/// whatever comes. What is left is one part that may go on, or none, and a line that has begun.
 pub fn complete_front(text: &str, fenced: bool) -> (usize, bool)
-    ensures { IsCompleteFront text.now fenced result.0 result.1 }
+    ensures complete { IsCompleteFront text.now fenced result.0 result.1 }
+    ensures boundary { IsCharBoundary text.now result.0 }
 {
-    let mut complete = (0, fenced);
-    let mut is_open = fenced;
-    let mut last = LineKind::Fence;
+    let mut scan = Scan::new(fenced);
     let mut rest = text;
     while let Some((line, after)) = cut_line(rest) {
-        let kind = line_kind(line, is_open);
-        if ends_before(last, kind) {
-            complete = (text.len() - rest.len(), is_open);
-            last = LineKind::Fence;
-        }
-        match kind {
-            LineKind::Fence => is_open = !is_open,
-            kind => last = kind,
-        }
+        let kind = line_kind(line, scan.is_open);
+        scan = scan.after_line(kind, text.len() - rest.len());
         rest = after;
     }
-    match last {
-        LineKind::Fence | LineKind::Alone => (text.len() - rest.len(), is_open),
-        LineKind::Code | LineKind::Table => complete,
+    scan.settled(text.len() - rest.len())
+}
+
+// How far a text was read: so many bytes of it are complete parts, and a fence is open after these or not. Lines of one part are held after them; what the
+// last of these is, fences apart, and whether a fence is open now. `last` is `Fence` where no line is held.
+#[derive(Clone, Copy)]
+struct Scan {
+    used: usize,
+    fenced: bool,
+    last: LineKind,
+    is_open: bool,
+}
+
+impl Scan {
+    fn new(fenced: bool) -> Self
+        ensures { result ≡ record { used = 0; fenced = fenced; last = Fence; is_open = fenced } }
+    {
+        Scan {
+            used: 0,
+            fenced,
+            last: LineKind::Fence,
+            is_open: fenced,
+        }
+    }
+
+    // A whole line of this kind comes, which begins at that byte.
+    fn after_line(self, kind: LineKind, start: usize) -> Self
+        ensures { result ≡ joined_by (settled_before self kind start) kind }
+    {
+        if ends_before(self.last, kind) {
+            let complete = Scan {
+                used: start,
+                fenced: self.is_open,
+                last: LineKind::Fence,
+                is_open: self.is_open,
+            };
+            return complete.joined_by(kind);
+        }
+        self.joined_by(kind)
+    }
+
+    // The line joins those that are held.
+    fn joined_by(self, kind: LineKind) -> Self
+        ensures { result ≡ joined_by self kind }
+    {
+        match kind {
+            LineKind::Fence => Scan {
+                is_open: !self.is_open,
+                ..self
+            },
+            kind => Scan { last: kind, ..self },
+        }
+    }
+
+    // How far a text is complete whose whole lines end at that byte: lines that are parts by themselves are.
+    fn settled(self, end: usize) -> (usize, bool)
+        ensures { result ≡ settled_at self end }
+    {
+        match self.last {
+            LineKind::Fence | LineKind::Alone => (end, self.is_open),
+            LineKind::Code | LineKind::Table => (self.used, self.fenced),
+        }
     }
 }
 
@@ -67,7 +120,9 @@ pub fn write_front_on<O: Out>(
     text: &str,
     fenced: bool,
     is_last: bool,
-) -> Result<(usize, bool), Error> {
+) -> Result<(usize, bool), Error>
+    ensures writes { WritesFront (row_skin skin.now) width text.now fenced is_last (O.seen out.old) result (O.seen out.new) }
+{
     let (used, is_open) = if is_last {
         (text.len(), false)
     } else {

@@ -1,7 +1,14 @@
 //! A text that a source gives, shown as it comes on a terminal that scrolls.
 
+ghost use Rattle.std.specs.Prelude.{◌≡◌, ◌≢◌, [], MatchResult};
+ghost use Rattle.mad_layout.specs.RowSkins.{row_skin};
+ghost use Rattle.mad_stream.specs.LiveSources.{ShowsSource};
+ghost use Rattle.mad_stream.specs.PrintedPieces.{end_shown};
+ghost use Rattle.mad_stream.specs.declared.source_error.SourceError.TheVariants.{NotUtf8};
+ghost use Rattle.mad_stream.specs.LiveSteps.{ShowsPiece, ShowsBlock, StopsAt, StopsInBlock, EndsWith};
+
 use crate::live_text::LiveText;
-use crate::printed::printable_piece;
+use crate::printed::{Place, place_after, printable_piece};
 use crate::source_error::SourceError;
 use crate::sources::{BLOCK, flush, keep_from, refusal_of};
 use crate::text_bytes::cut_text;
@@ -19,7 +26,7 @@ use std::alloc::Global;
 /// # Errors
 ///
 /// The first fault of the source, or bytes that aren't UTF-8: all rows of the text before them were shown first, and were flushed. Or the first
-/// fault of the device, or out of memory.
+/// fault of the device, or out of memory: the text so far was shown, and then a front of what shows more of it.
 pub fn show_source_on<I: Source, O: Out>(
     alloc: Global,
     input: &mut I,
@@ -27,59 +34,88 @@ pub fn show_source_on<I: Source, O: Out>(
     skin: &MadSkin,
     width: Option<usize>,
     height: usize,
-) -> Result<(), SourceError> {
+) -> Result<(), SourceError>
+    ensures shows { ShowsSource (row_skin skin.now) width height (I.seen input.old) (O.seen out.old) result (I.seen input.new) (O.seen out.new) }
+{
     let mut live = LiveText::new(alloc, skin, width, height);
+    let mut place = Place::LineStart;
     let mut block = [0; BLOCK];
     let mut waiting = 0;
-    let mut begins_line = true;
     for _block in 0..u64::MAX {
         let count = match input.fill(&mut block[waiting..]) {
             Ok(count) => count,
             Err(error) => {
-                let fault = Some(SourceError::Source(error));
-                return end_live(alloc, live, out, &block[..waiting], fault);
+                let ended = Err(SourceError::Source(error));
+                return end_live(alloc, live, place, out, ended);
             }
         };
         if count == 0 {
-            return end_live(alloc, live, out, &block[..waiting], None);
+            return end_live(alloc, live, place, out, whole_text(waiting));
         }
         let all = waiting + count;
-        let (used, is_wrong) = show_block(alloc, &mut live, begins_line, out, &block[..all])?;
-        if is_wrong {
-            return end_live(alloc, live, out, &block[used..all], None);
+        let shown = show_block(alloc, &mut live, place, out, &block[..all])?;
+        place = shown.place;
+        if shown.is_wrong {
+            return end_live(alloc, live, place, out, Err(SourceError::NotUtf8));
         }
-        begins_line = ends_line(&block[..used], begins_line);
-        keep_from(&mut block, used, all);
-        waiting = all - used;
+        keep_from(&mut block, shown.used, all);
+        waiting = all - shown.used;
     }
-    end_live(alloc, live, out, &block[..waiting], None)
+    end_live(alloc, live, place, out, whole_text(waiting))
 }
 
-// Shows the text at the front of a block, and flushes. Answers how many bytes of it aren't needed again, and whether no text begins with the block.
+// Whether the text is whole, where so many bytes at its end are none.
+fn whole_text(waiting: usize) -> Result<(), SourceError>
+    ensures { MatchResult result (λ _. waiting ≡ 0) (λ e. (e ≡ NotUtf8) × (waiting ≢ 0)) }
+{
+    if waiting == 0 {
+        Ok(())
+    } else {
+        Err(SourceError::NotUtf8)
+    }
+}
+
+// What was shown of a block: so many bytes; whether no text begins with the block; where what comes next stands.
+#[derive(Clone, Copy)]
+struct Shown {
+    used: usize,
+    is_wrong: bool,
+    place: Place,
+}
+
+// Shows the text at the front of a block, and flushes.
 fn show_block<O: Out>(
     alloc: Global,
     live: &mut LiveText,
-    begins_line: bool,
+    place: Place,
     out: &mut O,
     block: &[u8],
-) -> Result<(usize, bool), SourceError> {
+) -> Result<Shown, SourceError>
+    ensures { MatchResult result (λ shown. ShowsBlock live.old place block.now shown live.new (O.seen out.old) (O.seen out.new))
+        (λ e. StopsInBlock block.now (O.seen out.old) e (O.seen out.new)) }
+{
     let (text, is_wrong) = cut_text(block);
-    let Ok(shown) = printable_piece(alloc, begins_line, text) else {
+    let Ok(piece) = printable_piece(alloc, place, text) else {
         return Err(SourceError::Memory);
     };
-    show_piece(alloc, live, out, shown.as_str())?;
+    show_piece(alloc, live, out, piece.as_str())?;
     flush(out)?;
-    let used = text.len() - usize::from(text.ends_with('\r'));
-    Ok((used, is_wrong))
+    Ok(Shown {
+        used: text.len(),
+        is_wrong,
+        place: place_after(place, text),
+    })
 }
 
-// Shows a piece of a text.
+// Shows a piece of a text that is printable.
 fn show_piece<O: Out>(
     alloc: Global,
     live: &mut LiveText,
     out: &mut O,
     piece: &str,
-) -> Result<(), SourceError> {
+) -> Result<(), SourceError>
+    ensures { MatchResult result (λ _. ShowsPiece live.old piece.now live.new (O.seen out.old) (O.seen out.new)) (λ e. StopsAt (O.seen out.old) e (O.seen out.new)) }
+{
     let (_, fed) = live.feed(alloc, out, piece);
     match fed {
         Ok(()) => Ok(()),
@@ -87,35 +123,37 @@ fn show_piece<O: Out>(
     }
 }
 
-// Whether what comes after these bytes begins a line, where they themselves begin one or not.
-fn ends_line(bytes: &[u8], begins_line: bool) -> bool {
-    match bytes.last() {
-        Some(byte) => *byte == b'\n',
-        None => begins_line,
-    }
-}
-
-// The text is at its end, or fails there: shows all rows, and flushes. What waits is a carriage return, which ends a line, or no text.
+// The text is at its end: shows all rows, and flushes. A carriage return that it ends with ends its line.
 fn end_live<O: Out>(
     alloc: Global,
     live: LiveText,
+    place: Place,
     out: &mut O,
-    waiting: &[u8],
-    fault: Option<SourceError>,
-) -> Result<(), SourceError> {
-    let mut live = live;
-    let rest = waiting.strip_prefix(b"\r").unwrap_or(waiting);
-    if rest.len() < waiting.len() {
-        show_piece(alloc, &mut live, out, "\n")?;
+    ended: Result<(), SourceError>,
+) -> Result<(), SourceError>
+    ensures { EndsWith live (end_shown place) ended (O.seen out.old) result (O.seen out.new) }
+{
+    if place != Place::AfterReturn {
+        return finish_live(alloc, live, out, ended);
     }
+    let mut live = live;
+    show_piece(alloc, &mut live, out, "\n")?;
+    finish_live(alloc, live, out, ended)
+}
+
+// Shows all rows of what was fed, and flushes.
+fn finish_live<O: Out>(
+    alloc: Global,
+    live: LiveText,
+    out: &mut O,
+    ended: Result<(), SourceError>,
+) -> Result<(), SourceError>
+    ensures { EndsWith live [] ended (O.seen out.old) result (O.seen out.new) }
+{
     match live.finish(alloc, out) {
         Ok(()) => {}
         Err(error) => return Err(refusal_of(error)),
     }
     flush(out)?;
-    match fault {
-        Some(fault) => Err(fault),
-        None if rest.is_empty() => Ok(()),
-        None => Err(SourceError::NotUtf8),
-    }
+    ended
 }

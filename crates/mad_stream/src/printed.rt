@@ -1,24 +1,79 @@
 //! Pieces of a text that others wrote, made printable one after another.
 
+ghost use Rattle.std.specs.Prelude.{◌≡◌, ◌++◌, ℕ, List, chars, encode_utf8_all, IfOk, string_bytes};
+ghost use Rattle.mad_stream.specs.PrintedPieces.{piece_shown, place_after, place_char, place_shown, return_end};
+
 use mad_fit::printable;
 use std::alloc::{AllocError, Global};
 
-// Characters that come before a piece in its place: a newline, or one that stays and begins no line after it.
-const LINE_END: char = '\n';
+/// Where the next piece of a text comes.
+#[derive(Clone, Copy, PartialEq, Eq, Debug)]
+pub(crate) enum Place {
+    /// At the beginning of a line.
+    LineStart,
+    /// Inside a line.
+    InLine,
+    /// Behind a carriage return, of which nothing is shown yet: what comes after it decides.
+    AfterReturn,
+}
 
-const IN_LINE: char = '.';
-
-/// What [`printable`] shows of the next piece of a text, which begins a line or doesn't. Of a carriage return at the piece's end it shows
-/// nothing: that is to come again with the next piece, as what is after it decides.
+/// What [`printable`] shows of the next piece of a text, but for a carriage return at its end. Of one that the piece comes behind it shows what
+/// stands for that, too.
 pub(crate) fn printable_piece(
     alloc: Global,
-    begins_line: bool,
+    place: Place,
     piece: &str,
-) -> Result<String, AllocError> {
+) -> Result<String, AllocError>
+    ensures { IfOk result (λ shown. string_bytes shown ≡ encode_utf8_all (piece_shown place (chars piece.now))) }
+{
     let mut placed = String::new(alloc);
-    placed.push(if begins_line { LINE_END } else { IN_LINE })?;
+    placed.push(place_char(place))?;
     placed.push_str(piece)?;
     let shown = printable(alloc, placed.as_str())?;
-    let end = shown.len() - usize::from(piece.ends_with('\r'));
-    String::from_str(alloc, &shown[1..end])
+    let shown = without_place(&shown, place);
+    let is_returned = placed.as_str().ends_with('\r');
+    String::from_str(alloc, without_end(shown, is_returned))
+}
+
+// What is shown of a piece, without what is shown of the character that it was placed behind: of a carriage return that stays.
+fn without_place(shown: &str, place: Place) -> &str
+    ensures { (rest : List ℕ) → shown.entry.now ≡ place_shown place ++ rest → result.now ≡ rest }
+{
+    if place == Place::AfterReturn {
+        return shown;
+    }
+    shown.strip_prefix(place_char(place)).unwrap_or(shown)
+}
+
+// What is shown of a piece, without the newline that is shown of a carriage return at its end.
+fn without_end(shown: &str, is_returned: bool) -> &str
+    ensures { (front : List ℕ) → shown.entry.now ≡ front ++ return_end is_returned → result.now ≡ front }
+{
+    if !is_returned {
+        return shown;
+    }
+    shown.strip_suffix('\n').unwrap_or(shown)
+}
+
+// A character that a piece comes behind which stands there.
+fn place_char(place: Place) -> char
+    ensures { result ≡ place_char place }
+{
+    match place {
+        Place::LineStart => '\n',
+        Place::InLine => '.',
+        Place::AfterReturn => '\r',
+    }
+}
+
+/// Where what comes after a piece stands.
+pub(crate) fn place_after(place: Place, piece: &str) -> Place
+    ensures { result ≡ place_after place (chars piece.now) }
+{
+    match piece.chars().next_back() {
+        None => place,
+        Some('\n') => Place::LineStart,
+        Some('\r') => Place::AfterReturn,
+        Some(_) => Place::InLine,
+    }
 }

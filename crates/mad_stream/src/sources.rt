@@ -98,7 +98,7 @@ fn end_text<O: Out>(
     }
 }
 
-// The bytes of a block from the first place to the second go to its front.
+/// The bytes of a block from the first place to the second go to its front.
 pub(crate) fn keep_from(block: &mut [u8], from: usize, to: usize)
     requires order { from ≤ to }
     requires inside { to ≤ length block.old }
@@ -108,7 +108,7 @@ pub(crate) fn keep_from(block: &mut [u8], from: usize, to: usize)
     block.copy_within(from..to, 0);
 }
 
-// Has the device hand on what it keeps back.
+/// Has the device hand on what it keeps back.
 pub(crate) fn flush<O: Out>(out: &mut O) -> Result<(), SourceError>
     ensures { FlushesOut (O.seen out.old) result (O.seen out.new) }
 {
@@ -118,7 +118,7 @@ pub(crate) fn flush<O: Out>(out: &mut O) -> Result<(), SourceError>
     }
 }
 
-// What a refused writing of rows is told as. Rows are never refused for their width.
+/// What a refused writing of rows is told as. Rows are never refused for their width.
 pub(crate) fn refusal_of(error: Error) -> SourceError
     ensures { result ≡ refusal_of error }
 {

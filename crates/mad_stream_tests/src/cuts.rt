@@ -109,6 +109,9 @@ fn feed_both(asked: &Asked, first: &mut CutOut, second: &mut CutOut) -> Result<b
     } else {
         stream.finish(alloc, first)
     };
+    if matches!(ended, Err(Error::Memory)) {
+        return Err(AllocError);
+    }
     Ok(has_failed && ended.is_ok())
 }
 

@@ -1,4 +1,5 @@
-//! The lines that are shown of a text: what each is, and its runs, each with its flags and its text in quotes.
+//! The lines that are shown of a text: what each is, and its runs, each with its flags and its text in quotes. The picture of a control character is its
+//! number.
 
 use mad_md::{Alignment, Composite, CompositeStyle, Compound, Line};
 use markdown_reader::Markdown;
@@ -19,10 +20,12 @@ fn draw_run(picture: &mut String, run: &Compound<'_>) -> Result<(), AllocError> 
     draw_flag(picture, run.strikeout, 's')?;
     picture.push('"')?;
     for c in run.src.chars() {
-        if c == '"' || c == '\\' {
-            picture.push('\\')?;
+        match c {
+            '"' => picture.push_str("\\\"")?,
+            '\\' => picture.push_str("\\\\")?,
+            '\u{2400}'..='\u{2426}' => write!(picture, "({:X})", c as u32)?,
+            _ => picture.push(c)?,
         }
-        picture.push(c)?;
     }
     picture.push('"')
 }

@@ -2,7 +2,7 @@
 //!
 //! The rows are in the files of `data/`. A row's call says what answers it:
 //!
-//! 1. [`lines`]: `lines`, the lines that are shown of a text.
+//! 1. [`lines`]: `shown`, the lines that are shown of a text.
 //! 2. [`pieces`]: `pieces`, the inlines of its leaves.
 //!
 //! As `--told CALL FILE` it answers the call of each text of a file, with a line `==` before each answer. A byte 1 stands between two texts. So

@@ -1,7 +1,7 @@
 //! What is shown of a leaf's text.
 
-ghost use Rattle.std.specs.Prelude.{◌≡◌, IfOk, map, string_bytes};
-ghost use Rattle.markdown_lines.specs.Leaf.{shown_text, rows_of, leaf_rows, cell_runs, html_lines};
+ghost use Rattle.std.specs.Prelude.{◌≡◌, [], ◌∷◌, ◌++◌, IfOk, OnOk, map, string_bytes};
+ghost use Rattle.markdown_lines.specs.Leaf.{shown_text, rows_of, leaf_rows, cell_runs, html_row, html_lines};
 ghost use Rattle.markdown_lines.specs.Said.{said};
 ghost use Rattle.markdown_lines.specs.Shown.{shown};
 
@@ -77,20 +77,28 @@ pub fn cell_runs(
     Ok(runs)
 }
 
+// Adds a row of html.
+fn push_html(alloc: Global, rows: &mut Lines, text: &str) -> Result<(), AllocError>
+    ensures { OnOk result (shown rows.new ≡ shown rows.old ++ html_row text.now ∷ []) }
+{
+    let shown = shown_text(alloc, text)?;
+    rows.push_text(CompositeStyle::Paragraph, shown.as_str())
+}
+
 /// The rows of a block of html with this text.
 ///
 /// # Errors
 ///
 /// Out of memory is the only error.
-#[tactic(auto, unfolding(crate::specs::Leaf::html_lines))]
 pub fn html_lines(alloc: Global, text: &[u8]) -> Result<Lines, AllocError>
     ensures { IfOk result (λ rows. shown rows ≡ html_lines text.now) }
 {
     let texts = html_rows(alloc, text)?;
     let mut rows = Lines::new(alloc);
-    for text in &texts {
-        let shown = shown_text(alloc, text.as_str())?;
-        rows.push_text(CompositeStyle::Paragraph, shown.as_str())?;
+    let mut index = 0;
+    while index < texts.as_slice().len() {
+        push_html(alloc, &mut rows, texts[index].as_str())?;
+        index += 1;
     }
     Ok(rows)
 }

@@ -227,7 +227,10 @@ pub use Rattle.mad_live.specs.PaintedRows
 pub use Rattle.mad_live.specs.PaperLaws
 pub use Rattle.mad_live.specs.Papers
 pub use Rattle.mad_stream.specs.FittingRows
+pub use Rattle.mad_stream.specs.Fronts as StreamedParts
+pub use Rattle.mad_stream.specs.LiveSources
 pub use Rattle.mad_stream.specs.LiveTexts
+pub use Rattle.mad_stream.specs.PrintedPieces
 pub use Rattle.mad_stream.specs.Sources as StreamedSources
 pub use Rattle.mad_stream.specs.Streams
 pub use Rattle.mad_stream.specs.TextFronts as StreamedFronts

@@ -1,8 +1,9 @@
 -- What a call answers, and what is in the caller's buffer then.
-use Rattle.std.specs.Prelude.{◌≡◌, ℕ, ◌≤◌, ◌<◌, ◌⊎◌, List, ◌++◌, length, take, drop}
+use Rattle.std.specs.Prelude.{◌≡◌, ℕ, ◌≤◌, ◌<◌, ◌⊎◌, Bool, true, false, List, ◌++◌, length, take, drop}
 use Rattle.termimad_run.specs.declared.failure.Failure.{Failure}
 use Rattle.termimad_run.specs.declared.failure.Failure.TheVariants as failure
 use Rattle.termimad_c.specs.declared.answer.Answer.{Answer}
+use Rattle.termimad_c.specs.declared.answer.Progress.{Progress}
 use Rattle.termimad_c.specs.declared.answer.Refusal.{Refusal}
 use Rattle.termimad_c.specs.declared.answer.Refusal.TheVariants.{Condition, NotUtf8, Skin, Memory}
 
@@ -42,3 +43,28 @@ Answers Makes Refuses old answer new =
 -- a call counted rows of which this is true, or it was refused for a reason of which that is true
 abbrev pub Counts : (ℕ → Type 0) → (Refusal → Type 0) → Answer → Type 0
 Counts Makes Refuses answer = (Makes answer.count × (answer.status ≡ 0)) ⊎ ((refusal : Refusal) × Refuses refusal × IsRefused refusal answer)
+
+-- ---- a text as it comes
+
+-- a bit as C sees it
+abbrev pub bit : Bool → ℕ
+bit true = 1
+bit false = 0
+
+-- The answer tells how many bytes the rows have, whatever the buffer holds. Where they fit, the text was used so far, and a fence is open after that or not.
+-- Else the buffer has their front, nothing of the text was used, and a fence is open or not as before. Its other bytes are as before.
+pub record HandsOutParts (rows : List ℕ) (used : ℕ) (fenced_then fenced : Bool) (old : List ℕ) (answer : Progress) (new : List ℕ) : Type 0 where
+  pub count : answer.count ≡ length rows
+  pub done : (length rows ≤ length old) → (answer.status ≡ 0) × (answer.used ≡ used) × (answer.fenced ≡ bit fenced_then)
+  pub short : (length old < length rows) → (answer.status ≡ 1) × (answer.used ≡ 0) × (answer.fenced ≡ bit fenced)
+  pub front : new ≡ take (length old) rows ++ drop (length rows) old
+
+-- the answer of such a call that was refused
+abbrev pub IsNoProgress : Refusal → Bool → Progress → Type 0
+IsNoProgress refusal fenced answer = answer ≡ record { count = 0; used = 0; fenced = bit fenced; status = status_of refusal }
+
+-- A call handed out rows of parts of which this is true, or it was refused for a reason of which that is true, and the buffer is as before.
+abbrev pub Progresses : Bool → (List ℕ → ℕ → Bool → Type 0) → (Refusal → Type 0) → List ℕ → Progress → List ℕ → Type 0
+Progresses fenced Makes Refuses old answer new =
+    ((rows : List ℕ) × (used : ℕ) × (fenced_then : Bool) × Makes rows used fenced_then × HandsOutParts rows used fenced_then fenced old answer new)
+    ⊎ ((refusal : Refusal) × Refuses refusal × IsNoProgress refusal fenced answer × (new ≡ old))

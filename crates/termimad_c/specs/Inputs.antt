@@ -1,6 +1,7 @@
 -- What the bytes and the numbers of a caller are.
-use Rattle.std.specs.Prelude.{◌≡◌, ◌⊎◌, ℕ, ◌<◌, ◌≤◌, ◌^◌, List, [], ◌∷◌, Option, Some, None, IsUtf8}
+use Rattle.std.specs.Prelude.{◌≡◌, ◌⊎◌, ℕ, ◌+◌, ◌<◌, ◌≤◌, ◌^◌, ◌==◌, Bool, true, false, not, List, [], ◌∷◌, length, Option, Some, None, IsUtf8}
 use Rattle.termimad.specs.Areas.{IsWithinLimits}
+use Rattle.termimad.specs.StreamedFronts.{IsTextFront, BeginNoText}
 use Rattle.termimad.specs.declared.Alignment.{Alignment}
 use Rattle.termimad.specs.declared.Alignment.TheVariants.{Unspecified, Left, Center, Right}
 use Rattle.termimad.specs.declared.Area.{Area}
@@ -8,6 +9,20 @@ use Rattle.termimad.specs.declared.MadSkin.{MadSkin}
 use Rattle.termimad_run.specs.GivenSkins.{skin_given}
 use Rattle.termimad_c.specs.declared.answer.Refusal.{Refusal}
 use Rattle.termimad_c.specs.declared.answer.Refusal.TheVariants.{Condition, NotUtf8, Skin, Memory}
+
+-- what a number says that is 0 or not
+abbrev pub is_told : ℕ → Bool
+is_told number = not (number == 0)
+
+-- The text of bytes that end there: all of them. Where they go on, it is their longest front that is UTF-8, and at most three bytes come after it.
+abbrev pub IsTextSoFar : Bool → List ℕ → List ℕ → Type 0
+IsTextSoFar true bytes text = IsUtf8 bytes × (text ≡ bytes)
+IsTextSoFar false bytes text = IsTextFront bytes text × (length bytes ≤ length text + 3)
+
+-- the bytes are no text, or where they go on, no text begins with them
+abbrev pub IsNoText : Bool → List ℕ → Type 0
+IsNoText true bytes = ¬ (IsUtf8 bytes)
+IsNoText false bytes = BeginNoText bytes
 
 -- the word of a skin, as the program takes it: an empty one is none
 abbrev pub word_given : List ℕ → Option (List ℕ)
@@ -31,6 +46,13 @@ RefusesCall Wrong text word Condition = Wrong
 RefusesCall Wrong text word NotUtf8 = (¬ (IsUtf8 text)) ⊎ (¬ (IsUtf8 word))
 RefusesCall Wrong text word Skin = skin_given (word_given word) ≡ None
 RefusesCall Wrong text word Memory = Unit {0}
+
+-- why a text that goes on or ends there, at a width, and a skin are refused
+abbrev pub RefusesParts : List ℕ → List ℕ → ℕ → Bool → Refusal → Type 0
+RefusesParts text word width is_last Condition = 2 ^ 16 ≤ width
+RefusesParts text word width is_last NotUtf8 = IsNoText is_last text ⊎ (¬ (IsUtf8 word))
+RefusesParts text word width is_last Skin = skin_given (word_given word) ≡ None
+RefusesParts text word width is_last Memory = Unit {0}
 
 -- The area of these numbers: four columns wide at least, and within the limits of a screen.
 pub record IsAreaOf (left top width height : ℕ) (area : Area) : Type 0 where

@@ -1,13 +1,16 @@
 -- The bytes that a call makes of a text, in the skin of a word.
-use Rattle.std.specs.Prelude.{◌≡◌, ℕ, ◌≤◌, ◌<◌, ◌^◌, List, Some, None, false, Ok, IsUtf8, chars, encode_utf8_all, length}
+use Rattle.std.specs.Prelude.{◌≡◌, ℕ, ◌≤◌, ◌<◌, ◌^◌, Bool, List, Some, None, false, Ok, IsUtf8, chars, encode_utf8_all, length, take}
 use Rattle.termimad.specs.Fitting.{IsCompositeFitted}
 use Rattle.termimad.specs.Inlines.{IsInlineOf}
-use Rattle.termimad.specs.Layouts.{IsMarkdownLayout}
+use Rattle.termimad.specs.Layouts.{IsMarkdownLayout, IsLayoutAt}
+use Rattle.termimad.specs.Reading.{resumed_text}
+use Rattle.termimad.specs.Scan.{lines_of}
+use Rattle.termimad.specs.StreamedParts.{IsLaidOutFront}
 use Rattle.termimad.specs.Pieces.{pieces_bytes}
 use Rattle.termimad.specs.Printable.{printable_text}
 use Rattle.termimad.specs.RowSkins.{row_skin}
 use Rattle.termimad.specs.RowStyles.{line_rules}
-use Rattle.termimad.specs.Rows.{composite_pieces, margins_of}
+use Rattle.termimad.specs.Rows.{composite_pieces, margins_of, text_bytes}
 use Rattle.termimad.specs.Trace.{Trace}
 use Rattle.termimad.specs.declared.Alignment.{Alignment}
 use Rattle.termimad.specs.declared.Area.{Area}
@@ -18,7 +21,7 @@ use Rattle.termimad_run.specs.ProgramRuns.{WritesCall, ShowsCall}
 use Rattle.termimad_run.specs.declared.call.Command.{Command}
 use Rattle.termimad_run.specs.declared.call.Command.TheVariants.{InArea, AtWidth, AsMarkdown}
 use Rattle.termimad_c.specs.Gathered.{untouched}
-use Rattle.termimad_c.specs.Inputs.{IsSkinOf, IsAreaOf, alignment_number}
+use Rattle.termimad_c.specs.Inputs.{IsTextSoFar, IsSkinOf, IsAreaOf, alignment_number}
 
 -- They are all that the program writes of this text in the skin of this word, and what a plain terminal shows of them is what the
 -- program's bytes show.
@@ -71,3 +74,16 @@ pub record IsFittedLine (text word : List ℕ) (width align : ℕ) (whole : List
 pub record IsMadePrintable (text whole : List ℕ) : Type 0 where
   pub utf8 : IsUtf8 text
   pub shown : whole ≡ encode_utf8_all (printable_text (chars text))
+
+-- They are the rows of the complete parts of a text that goes on, or of all of one that ends there, in the skin of this word. So many bytes of the text are
+-- these, before which a fence is open or not, and after which it is or not.
+pub record ArePartsOf (text word : List ℕ) (width : ℕ) (fenced is_last : Bool) (rows : List ℕ) (used : ℕ) (fenced_then : Bool) : Type 0 where
+  pub narrow : width < 2 ^ 16
+  pub skin : MadSkin
+  pub given : IsSkinOf word skin
+  pub read : List ℕ
+  pub so_far : IsTextSoFar is_last text read
+  pub front : IsLaidOutFront is_last read fenced used fenced_then
+  pub lines : List FmtLine
+  pub layout : IsLayoutAt (line_rules (row_skin skin)) (Some width) (lines_of (resumed_text fenced (take used read))) lines
+  pub rows_are : rows ≡ text_bytes (row_skin skin) (Some width) lines

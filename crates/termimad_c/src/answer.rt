@@ -1,7 +1,7 @@
 //! What a call answers, and what it leaves in the caller's buffer.
 
 ghost use Rattle.std.specs.Prelude.{◌≡◌, MatchResult};
-ghost use Rattle.termimad_c.specs.Answers.{HandsOut, IsRefused, status_of, refusal_of};
+ghost use Rattle.termimad_c.specs.Answers.{HandsOut, HandsOutParts, IsNoProgress, IsRefused, bit, status_of, refusal_of};
 
 use std::alloc::AllocError;
 use termimad::Error;
@@ -127,21 +127,26 @@ pub fn hand_out(made: Result<Vec<u8>, Refusal>, buffer: &mut [u8]) -> Answer
 /// Hands out the rows of the parts of a text, or why they were refused; `fenced` is whether a fence is open before the text.
 ///
 /// Where not all of them fit the buffer, nothing of the text is used.
-pub fn hand_out_parts(made: Result<Parts, Refusal>, fenced: bool, buffer: &mut [u8]) -> Progress {
+pub fn hand_out_parts(made: Result<Parts, Refusal>, fenced: bool, buffer: &mut [u8]) -> Progress
+    ensures { MatchResult made (λ parts. HandsOutParts parts.rows.items parts.used parts.is_open fenced buffer.old result buffer.new)
+        (λ refusal. IsNoProgress refusal fenced result × (buffer.new ≡ buffer.old)) }
+{
     match made {
         Ok(parts) => {
             let answer = copy_front(parts.rows.as_slice(), buffer);
             if answer.status == DONE {
-                progress(answer, parts.used, parts.is_open)
-            } else {
-                progress(answer, 0, fenced)
+                return progress(answer, parts.used, parts.is_open);
             }
+            progress(answer, 0, fenced)
         }
         Err(refusal) => progress(refuse(refusal), 0, fenced),
     }
 }
 
-fn progress(answer: Answer, used: usize, fenced: bool) -> Progress {
+// An answer, and how far the text was used.
+fn progress(answer: Answer, used: usize, fenced: bool) -> Progress
+    ensures { result ≡ record { count = answer.count; used = used; fenced = bit fenced; status = answer.status } }
+{
     Progress {
         count: answer.count,
         used,

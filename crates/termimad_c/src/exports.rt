@@ -5,10 +5,10 @@
 
 ghost use Rattle.std.specs.Prelude.{◌≡◌, ◌⊎◌, ◌≤◌, ◌^◌, []};
 ghost use Rattle.termimad_run.specs.declared.call.Command.TheVariants.{Inline};
-ghost use Rattle.termimad_c.specs.Answers.{Answers, Counts};
-ghost use Rattle.termimad_c.specs.Inputs.{RefusesCall, IsNoArea, IsNoFit};
+ghost use Rattle.termimad_c.specs.Answers.{Answers, Counts, Progresses};
+ghost use Rattle.termimad_c.specs.Inputs.{RefusesCall, RefusesParts, IsNoArea, IsNoFit, is_told};
 ghost use Rattle.termimad_c.specs.DataTables.{IsNoTable, IsTableWritten};
-ghost use Rattle.termimad_c.specs.Making.{IsWritten, IsAreaWritten, IsTextWritten, IsMarkdownWritten, IsRowCount, IsFittedLine, IsMadePrintable};
+ghost use Rattle.termimad_c.specs.Making.{IsWritten, IsAreaWritten, IsTextWritten, IsMarkdownWritten, IsRowCount, IsFittedLine, IsMadePrintable, ArePartsOf};
 
 use crate::answer::{Answer, Progress, count_out, hand_out, hand_out_parts};
 use crate::making::{
@@ -79,7 +79,10 @@ pub extern "C" fn termimad_parts(
     fenced: usize,
     last: usize,
     buffer: &mut [u8],
-) -> Progress {
+) -> Progress
+    ensures { Progresses (is_told fenced) (ArePartsOf text.now skin.now width (is_told fenced) (is_told last)) (RefusesParts text.now skin.now width (is_told last))
+        buffer.old result buffer.new }
+{
     let is_open = fenced != 0;
     let made = parts_made(alloc, text, skin, width, is_open, last != 0);
     hand_out_parts(made, is_open, buffer)

@@ -2,7 +2,7 @@
 
 ghost use Rattle.std.specs.Prelude.{◌≡◌, ◌<◌, ◌≤◌, ◌^◌, IsUtf8, MatchResult, option_map};
 ghost use Rattle.termimad_c.specs.declared.answer.Refusal.TheVariants.{Condition, NotUtf8};
-ghost use Rattle.termimad_c.specs.Inputs.{IsSkinOf, RefusesSkin, IsAreaOf, IsNoArea, alignment_number, word_given};
+ghost use Rattle.termimad_c.specs.Inputs.{IsTextSoFar, IsNoText, IsSkinOf, RefusesSkin, IsAreaOf, IsNoArea, alignment_number, word_given};
 
 use crate::answer::Refusal;
 use std::alloc::Global;
@@ -26,12 +26,17 @@ pub fn text_of(bytes: &[u8]) -> Result<&str, Refusal>
     Ok(text)
 }
 
-/// The text at the front of these bytes, after which at most the beginning of a character is left.
+/// The text of bytes that go on or end there. Where they go on, it is the longest front that is text: the beginning of a character may be left.
 ///
 /// # Errors
 ///
-/// `NotUtf8`, where no text begins with them, whatever comes.
-pub fn text_front_of(bytes: &[u8]) -> Result<&str, Refusal> {
+/// `NotUtf8`, where they end and aren't UTF-8, or where no text begins with them, whatever comes.
+pub fn text_so_far(bytes: &[u8], is_last: bool) -> Result<&str, Refusal>
+    ensures { MatchResult result (λ text. IsTextSoFar is_last bytes.entry.now text.now) (λ refusal. (refusal ≡ NotUtf8) × IsNoText is_last bytes.entry.now) }
+{
+    if is_last {
+        return text_of(bytes);
+    }
     let (text, is_wrong) = cut_text(bytes);
     if is_wrong {
         return Err(Refusal::NotUtf8);

@@ -3,12 +3,12 @@
 ghost use Rattle.std.specs.Prelude.{◌≡◌, ◌≤◌, ◌^◌, [], MatchResult};
 ghost use Rattle.termimad_run.specs.Calls.{IsAllowed};
 ghost use Rattle.termimad_run.specs.declared.call.Command.TheVariants.{Inline};
-ghost use Rattle.termimad_c.specs.Inputs.{RefusesCall, IsNoArea, IsNoFit};
-ghost use Rattle.termimad_c.specs.Making.{IsWritten, IsAreaWritten, IsTextWritten, IsMarkdownWritten, IsRowCount, IsFittedLine, IsMadePrintable};
+ghost use Rattle.termimad_c.specs.Inputs.{RefusesCall, RefusesParts, IsNoArea, IsNoFit};
+ghost use Rattle.termimad_c.specs.Making.{IsWritten, IsAreaWritten, IsTextWritten, IsMarkdownWritten, IsRowCount, IsFittedLine, IsMadePrintable, ArePartsOf};
 
 use crate::answer::{Parts, Refusal};
 use crate::gathered::Gathered;
-use crate::inputs::{align_of, area_of, number_of, skin_of_word, text_front_of, text_of};
+use crate::inputs::{align_of, area_of, number_of, skin_of_word, text_of, text_so_far};
 use std::alloc::Global;
 use termimad::{printable, write_front_on};
 use termimad_run::{Command, write_call};
@@ -84,14 +84,13 @@ pub fn parts_made(
     width: usize,
     fenced: bool,
     is_last: bool,
-) -> Result<Parts, Refusal> {
+) -> Result<Parts, Refusal>
+    ensures { MatchResult result (λ parts. ArePartsOf text.now skin.now width fenced is_last parts.rows.items parts.used parts.is_open)
+        (RefusesParts text.now skin.now width is_last) }
+{
     let width = Some(usize::from(number_of(width)?));
     let skin = skin_of_word(alloc, skin)?;
-    let text = if is_last {
-        text_of(text)?
-    } else {
-        text_front_of(text)?
-    };
+    let text = text_so_far(text, is_last)?;
     let mut out = Gathered::new(alloc);
     let (used, is_open) = write_front_on(alloc, &mut out, &skin, width, text, fenced, is_last)?;
     Ok(Parts {

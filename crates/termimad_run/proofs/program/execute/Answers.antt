@@ -5,22 +5,20 @@ use Rattle.termimad_run.proofs.program.execute.Goals as goal
 pub returns-in_err-call : goal.returns-in_err-call
 returns-in_err-call g c = call_exit _ _ _ _ _ c.from_residual.ensures.1 c.in_err-call.ensures refl refl
 
-pub returns-in_err-write_source_on : goal.returns-in_err-write_source_on
-returns-in_err-write_source_on g c =
-    stream_exit _ _ _ _ _ c.from_residual-in_err-write_source_on.ensures.1
-    (record { call = started _ _ _ _ _ _ c.in_ok-call.ensures; width = c.in-Some.width; comes = c.in-Some.ensures; streams = c.in_err-write_source_on.ensures.streams })
+pub returns-in_err-in-Some : goal.returns-in_err-in-Some
+returns-in_err-in-Some g c = stream_exit _ _ _ _ _ c.from_residual-in_err-in-Some.ensures.1 (record { call = started _ _ _ _ _ _ c.in_ok-call.ensures; comes = c.in-Some.ensures })
 
 pub returns-in-Some : goal.returns-in-Some
-returns-in-Some g c = inr (record { call = started _ _ _ _ _ _ c.in_ok-call.ensures; width = c.in-Some.width; comes = c.in-Some.ensures; streams = c.in_ok-write_source_on.ensures.streams })
+returns-in-Some g c = inr (record { call = started _ _ _ _ _ _ c.in_ok-call.ensures; comes = c.in-Some.ensures })
 
 pub returns-in_err-bytes : goal.returns-in_err-bytes
 returns-in_err-bytes g c =
-    read_exit _ _ _ _ _ c.from_residual-in_err-bytes.ensures.1 (started _ _ _ _ _ _ c.in_ok-call.ensures) c.in_default.ensures c.in_err-bytes.ensures refl
+    read_exit _ _ _ _ _ c.from_residual-in_err-bytes.ensures.1 (started _ _ _ _ _ _ c.in_ok-call.ensures) c.in_default.ensures.0 c.in_err-bytes.ensures refl
 
 pub returns-in_default-text_of : goal.returns-in_default-text_of
 returns-in_default-text_of g c = inl (record {
   call = started _ _ _ _ _ _ c.in_ok-call.ensures;
-  is_whole = c.in_default.ensures;
+  is_whole = c.in_default.ensures.0;
   bytes = c.in_ok-bytes.bytes.items;
   read = c.in_ok-bytes.ensures;
   undecoded = subst (λ (bytes : List ℕ). ¬ (IsUtf8 bytes)) c.as_slice.ensures.value c.in_default-text_of.ensures;
@@ -30,18 +28,18 @@ returns-in_default-text_of g c = inl (record {
 pub returns-in_err-write_call : goal.returns-in_err-write_call
 returns-in_err-write_call g c =
     write_exit _ _ _ _ _ c.from_residual-in_err-write_call.ensures.1
-    (has_written _ _ _ _ _ _ (started _ _ _ _ _ _ c.in_ok-call.ensures) c.in_default.ensures (has_read _ _ _ _ _ c.in_ok-bytes.ensures c.as_slice.ensures.value c.in-Some-text_of.ensures.0 c.in-Some-text_of.ensures.1) c.in_err-write_call.ensures.writes)
+    (has_written _ _ _ _ _ _ (started _ _ _ _ _ _ c.in_ok-call.ensures) c.in_default.ensures.0 (has_read _ _ _ _ _ c.in_ok-bytes.ensures c.as_slice.ensures.value c.in-Some-text_of.ensures.0 c.in-Some-text_of.ensures.1) c.in_err-write_call.ensures.writes)
 
 pub returns-in_err-flush : goal.returns-in_err-flush
 returns-in_err-flush g c =
     flush_exit _ _ _ _ _ c.from_residual-in_err-flush.ensures.1
-    (has_written _ _ _ _ _ _ (started _ _ _ _ _ _ c.in_ok-call.ensures) c.in_default.ensures (has_read _ _ _ _ _ c.in_ok-bytes.ensures c.as_slice.ensures.value c.in-Some-text_of.ensures.0 c.in-Some-text_of.ensures.1) c.in_ok-write_call.ensures.writes)
+    (has_written _ _ _ _ _ _ (started _ _ _ _ _ _ c.in_ok-call.ensures) c.in_default.ensures.0 (has_read _ _ _ _ _ c.in_ok-bytes.ensures c.as_slice.ensures.value c.in-Some-text_of.ensures.0 c.in-Some-text_of.ensures.1) c.in_ok-write_call.ensures.writes)
     c.in_err-flush.ensures
 
 pub returns : goal.returns
 returns g c = inl (record {
   written = _;
-  wrote = has_written _ _ _ _ _ _ (started _ _ _ _ _ _ c.in_ok-call.ensures) c.in_default.ensures (has_read _ _ _ _ _ c.in_ok-bytes.ensures c.as_slice.ensures.value c.in-Some-text_of.ensures.0 c.in-Some-text_of.ensures.1) c.in_ok-write_call.ensures.writes;
+  wrote = has_written _ _ _ _ _ _ (started _ _ _ _ _ _ c.in_ok-call.ensures) c.in_default.ensures.0 (has_read _ _ _ _ _ c.in_ok-bytes.ensures c.as_slice.ensures.value c.in-Some-text_of.ensures.0 c.in-Some-text_of.ensures.1) c.in_ok-write_call.ensures.writes;
   flushed = c.in_ok-flush.ensures;
   shown = still_shown c.in_ok-call.call.skin _ _ _ _ _ c.in_ok-write_call.ensures.shown c.in_ok-flush.ensures;
 })

@@ -1,0 +1,117 @@
+-- Texts that are made printable piece by piece: how the pieces join.
+use Rattle.std.proofs.Common.{◌≡◌, ℕ, ◌==◌, Bool, true, false, cond, List, [], ◌∷◌, ◌++◌, chars, refl, sym, ap, ◌∙◌, subst, append_assoc, encode_utf8_all}
+use Rattle.std.specs.Prelude.{IsUtf8}
+use Rattle.std.proofs.lemmas.List.{append-nil}
+use Rattle.std.proofs.lemmas.Str.{chars-append, chars-nil, encodes-append}
+use Rattle.mad_fit.specs.Printable.{printable_text, shown_as, shown_from, tab_spaces, return_shown, picture}
+use Rattle.mad_md.proofs.PartsLemmas.{true_test}
+use Rattle.mad_blocks.proofs.LayoutJoins.{by_bool}
+use Rattle.mad_stream.specs.PrintedPieces.{shown_growing, growing, printed, place_of, place_after, place_char, place_shown, return_end, piece_shown, end_shown}
+use Rattle.mad_stream.specs.declared.printed.Place.{Place}
+use Rattle.mad_stream.specs.declared.printed.Place.TheVariants.{LineStart, InLine, AfterReturn}
+
+-- ---- characters, one after another
+
+-- a carriage return
+return_alone : (b : Bool) (ds : List ℕ) → shown_growing b (13 ∷ ds) ≡ shown_growing false (13 ∷ ds)
+return_alone b [] = refl
+return_alone b (d ∷ ds) = refl
+
+-- any other character is shown whatever comes after it
+shown_alone : (b : Bool) (c : ℕ) (after : List ℕ) → (c == 13) ≡ false → shown_as b c after ≡ shown_as b c []
+shown_alone b c after off =
+    ap (λ t. cond (c == 9) (tab_spaces b) (cond t (return_shown after) (picture c ∷ []))) off ∙ sym (ap (λ t. cond (c == 9) (tab_spaces b) (cond t (return_shown []) (picture c ∷ []))) off)
+
+growing_alone : (b : Bool) (c : ℕ) → (c == 13) ≡ false → shown_growing b (c ∷ []) ≡ shown_as b c []
+growing_alone b c off = ap (λ t. cond t [] (shown_as b c [])) off
+
+starts_line : (c : ℕ) → (c == 10) ≡ true → place_of c ≡ LineStart
+starts_line c on = ap (λ t. cond t LineStart (cond (c == 13) AfterReturn InLine)) on
+
+in_line : (c : ℕ) → (c == 10) ≡ false → (c == 13) ≡ false → place_of c ≡ InLine
+in_line c no off = ap (λ t. cond t LineStart (cond (c == 13) AfterReturn InLine)) no ∙ ap (λ t. cond t AfterReturn InLine) off
+
+line_end : (c : ℕ) (ds : List ℕ) → (c == 13) ≡ false → shown_growing (c == 10) ds ≡ piece_shown (place_of c) ds
+line_end c ds off =
+    by_bool (λ t. (c == 10) ≡ t → shown_growing (c == 10) ds ≡ piece_shown (place_of c) ds) (c == 10) (λ on e. ap (λ t. shown_growing t ds) on ∙ sym (ap (λ p. piece_shown p ds) (starts_line c on)))
+    (λ no e. ap (λ t. shown_growing t ds) no ∙ sym (ap (λ p. piece_shown p ds) (in_line c no off))) refl
+
+-- one character, and what comes after it
+one_then : (b : Bool) (c : ℕ) (ds : List ℕ) → shown_growing b (c ∷ ds) ≡ shown_growing b (c ∷ []) ++ piece_shown (place_of c) ds
+one_then b c ds =
+    by_bool (λ t. (c == 13) ≡ t → shown_growing b (c ∷ ds) ≡ shown_growing b (c ∷ []) ++ piece_shown (place_of c) ds) (c == 13)
+    (λ on e. subst (λ k. shown_growing b (k ∷ ds) ≡ shown_growing b (k ∷ []) ++ piece_shown (place_of k) ds) (sym (true_test c 13 on)) (return_alone b ds)) (λ off e. other ds off) refl
+  where
+    other : (ds : List ℕ) → (c == 13) ≡ false → shown_growing b (c ∷ ds) ≡ shown_growing b (c ∷ []) ++ piece_shown (place_of c) ds
+    other [] off = sym (append-nil (shown_growing b (c ∷ []))) ∙ ap (λ (l : List ℕ). shown_growing b (c ∷ []) ++ l) (line_end c [] off)
+    other (d ∷ ds) off =
+        ap (λ (l : List ℕ). l ++ shown_growing (c == 10) (d ∷ ds)) (shown_alone b c (d ∷ ds) off ∙ sym (growing_alone b c off)) ∙ ap (λ (l : List ℕ). shown_growing b (c ∷ []) ++ l) (line_end c (d ∷ ds) off)
+
+pub some_then : (b : Bool) (cs ds : List ℕ) (p : Place) → shown_growing b ds ≡ piece_shown p ds → shown_growing b (cs ++ ds) ≡ shown_growing b cs ++ piece_shown (place_after p cs) ds
+some_then b [] ds p first = first
+some_then b (c ∷ []) ds p first = one_then b c ds
+some_then b (c ∷ d ∷ cs) ds p first =
+    ap (λ (l : List ℕ). shown_as b c (d ∷ cs) ++ l) (some_then (c == 10) (d ∷ cs) ds (if_place (c == 10)) (of_place (c == 10)))
+    ∙ sym (append_assoc (shown_as b c (d ∷ cs)) (shown_growing (c == 10) (d ∷ cs)) (piece_shown (place_after (place_of d) cs) ds))
+  where
+    if_place : Bool → Place
+    if_place true = LineStart
+    if_place false = InLine
+
+    of_place : (t : Bool) → shown_growing t ds ≡ piece_shown (if_place t) ds
+    of_place true = refl
+    of_place false = refl
+
+-- at the end of a text
+return_ended : (b : Bool) → shown_from b (13 ∷ []) ≡ shown_growing b (13 ∷ []) ++ end_shown (place_of 13)
+return_ended b = refl
+
+one_ended : (b : Bool) (c : ℕ) → shown_from b (c ∷ []) ≡ shown_growing b (c ∷ []) ++ end_shown (place_of c)
+one_ended b c =
+    by_bool (λ t. (c == 13) ≡ t → shown_from b (c ∷ []) ≡ shown_growing b (c ∷ []) ++ end_shown (place_of c)) (c == 13)
+    (λ on e. subst (λ k. shown_from b (k ∷ []) ≡ shown_growing b (k ∷ []) ++ end_shown (place_of k)) (sym (true_test c 13 on)) (return_ended b)) (λ off e. other off) refl
+  where
+    none_ended : (c == 13) ≡ false → end_shown (place_of c) ≡ []
+    none_ended off =
+        by_bool (λ t. (c == 10) ≡ t → end_shown (place_of c) ≡ []) (c == 10) (λ on e. ap end_shown (starts_line c on)) (λ no e. ap end_shown (in_line c no off)) refl
+
+    other : (c == 13) ≡ false → shown_from b (c ∷ []) ≡ shown_growing b (c ∷ []) ++ end_shown (place_of c)
+    other off = ap (λ (l : List ℕ). l ++ []) (sym (growing_alone b c off)) ∙ ap (λ (l : List ℕ). shown_growing b (c ∷ []) ++ l) (sym (none_ended off))
+
+pub all_ended : (b : Bool) (cs : List ℕ) (p : Place) → end_shown p ≡ [] → shown_from b cs ≡ shown_growing b cs ++ end_shown (place_after p cs)
+all_ended b [] p none = sym none
+all_ended b (c ∷ []) p none = one_ended b c
+all_ended b (c ∷ d ∷ cs) p none =
+    ap (λ (l : List ℕ). shown_as b c (d ∷ cs) ++ l) (all_ended (c == 10) (d ∷ cs) LineStart refl) ∙ sym (append_assoc (shown_as b c (d ∷ cs)) (shown_growing (c == 10) (d ∷ cs)) (end_shown (place_after (place_of d) cs)))
+
+-- ---- texts
+
+pub growing_none : growing [] ≡ []
+growing_none = ap (λ (cs : List ℕ). encode_utf8_all (shown_growing true cs)) chars-nil
+
+pub growing_more : (a b : List ℕ) → IsUtf8 a → growing (a ++ b) ≡ growing a ++ encode_utf8_all (piece_shown (place_after LineStart (chars a)) (chars b))
+growing_more a b utf8 =
+    ap (λ (cs : List ℕ). encode_utf8_all (shown_growing true cs)) (chars-append a b utf8) ∙ ap encode_utf8_all (some_then true (chars a) (chars b) LineStart refl)
+    ∙ encodes-append (shown_growing true (chars a)) (piece_shown (place_after LineStart (chars a)) (chars b))
+
+encode_end : (p : Place) → encode_utf8_all (end_shown p) ≡ end_shown p
+encode_end LineStart = refl
+encode_end InLine = refl
+encode_end AfterReturn = refl
+
+pub printed_all : (text : List ℕ) → printed text ≡ growing text ++ end_shown (place_after LineStart (chars text))
+printed_all text =
+    ap encode_utf8_all (all_ended true (chars text) LineStart refl) ∙ encodes-append (shown_growing true (chars text)) (end_shown (place_after LineStart (chars text)))
+    ∙ ap (λ (l : List ℕ). growing text ++ l) (encode_end (place_after LineStart (chars text)))
+
+-- ---- a piece that is placed behind a character
+
+pub after_both : (p : Place) (cs ds : List ℕ) → place_after p (cs ++ ds) ≡ place_after (place_after p cs) ds
+after_both p [] ds = refl
+after_both p (c ∷ cs) ds = after_both (place_of c) cs ds
+
+-- what is made of it: what stands for the place, for the piece, and for a carriage return at its end
+pub piece_placed : (p : Place) (cs : List ℕ) → shown_from true (place_char p ∷ cs) ≡ place_shown p ++ (piece_shown p cs ++ end_shown (place_after p cs))
+piece_placed LineStart cs = ap (λ (l : List ℕ). 10 ∷ l) (all_ended true cs LineStart refl)
+piece_placed InLine cs = ap (λ (l : List ℕ). 46 ∷ l) (all_ended false cs InLine refl)
+piece_placed AfterReturn cs = all_ended true (13 ∷ cs) LineStart refl ∙ ap (λ (l : List ℕ). l ++ end_shown (place_after AfterReturn cs)) (return_alone true cs)

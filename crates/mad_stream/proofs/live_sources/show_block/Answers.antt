@@ -1,0 +1,23 @@
+use Rattle.std.proofs.Common.{refl}
+use Rattle.mad_stream.specs.LiveSteps.{StopsInBlock}
+use Rattle.mad_stream.proofs.SourceLemmas.{refused_exit}
+use Rattle.mad_stream.proofs.LiveSourceLemmas.{block_shown, flush_stops, stops_at_once}
+use Rattle.mad_stream.proofs.live_sources.show_block.Goals as goal
+
+pub returns-in_default : goal.returns-in_default
+returns-in_default g c = record { text = c.cut_text-is_wrong.result.0.now; front = c.cut_text-is_wrong.ensures.front; stops = stops_at_once _ }
+
+pub returns-in_err-show_piece : goal.returns-in_err-show_piece
+returns-in_err-show_piece g c =
+    refused_exit c.from_residual.result _ (λ e. StopsInBlock c.args.block.now (g.O.Out.seen c.args.out.now) e (g.O.Out.seen c.show_piece.new.out)) _ c.from_residual.ensures.1
+    (record { text = c.cut_text-is_wrong.result.0.now; front = c.cut_text-is_wrong.ensures.front; stops = c.in_err-show_piece.ensures })
+
+pub returns-in_err-flush : goal.returns-in_err-flush
+returns-in_err-flush g c =
+    refused_exit c.from_residual-in_err-flush.result _ (λ e. StopsInBlock c.args.block.now (g.O.Out.seen c.args.out.now) e (g.O.Out.seen c.flush.new.out)) _ c.from_residual-in_err-flush.ensures.1
+    (record { text = c.cut_text-is_wrong.result.0.now; front = c.cut_text-is_wrong.ensures.front; stops = flush_stops (Unit {0}) _ c.in_ok-show_piece.ensures.fed.bytes _ (g.O.Out.seen c.show_piece.new.out) _ c.in_err-flush.ensures c.in_ok-show_piece.ensures.fed.wrote })
+
+pub returns : goal.returns
+returns g c =
+    block_shown c.args.live.now c.show_piece.new.live c.args.place c.place_after.result c.args.block.now c.cut_text-is_wrong.result.0.now c.as_str.result.now c.cut_text-is_wrong.result.1 _ (g.O.Out.seen c.show_piece.new.out) _ c.cut_text-is_wrong.ensures.front c.cut_text-is_wrong.ensures.short
+    c.cut_text-is_wrong.ensures.wrong c.place_after.ensures c.in_Ok.ensures c.in_ok-show_piece.ensures c.in_ok-flush.ensures
