@@ -1,3 +1,3 @@
 pub mod KeptLemmas
+pub mod LetterLemmas
 pub mod SearchLemmas
-pub mod SmallLemmas

@@ -1,19 +1,19 @@
 //! A text that is paged, and rows of it that are looked for.
 //!
 //! 1. [`paged`]: the text, laid out.
-//! 2. [`small`], [`search`]: which row has what is sought.
+//! 2. [`letters`], [`search`]: which row has what is sought.
 //! 3. [`headers`]: which rows begin a header.
 //! 4. [`kept`]: which row stays on top where the width changes.
 #![tactic(auto)]
 
 mod headers;
 mod kept;
+mod letters;
 mod paged;
 mod search;
-mod small;
 
 pub use headers::{next_header, previous_header};
 pub use kept::row_in_parts;
+pub use letters::{has_capital, small};
 pub use paged::{Layout, PagedText};
 pub use search::{next_row, previous_row};
-pub use small::{has_capital, small};

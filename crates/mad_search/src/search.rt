@@ -5,7 +5,7 @@ ghost use Rattle.std.specs.Str.Iter.{HasSubslice};
 ghost use Rattle.mad_search.specs.Capitals.{compared};
 ghost use Rattle.mad_search.specs.Searches.{composite_text, line_text, cells_text, HasText, IsFirstFrom, IsLastBefore, IsNextRow, IsPreviousRow, NoneBetween, NoneFrom};
 
-use crate::small::compared;
+use crate::letters::compared;
 use mad_format::{FmtComposite, FmtLine};
 use std::alloc::{AllocError, Global};
 

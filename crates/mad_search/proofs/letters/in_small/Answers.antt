@@ -3,8 +3,8 @@ use Rattle.std.specs.Str.{chars}
 use Rattle.std.proofs.lemmas.Iterator.{YieldsList-from_chars}
 use Rattle.std.proofs.lemmas.Iterator.Consumers.{YieldsList-end}
 use Rattle.std.proofs.lemmas.List.{map-id}
-use Rattle.mad_search.proofs.SmallLemmas.{small_more, small_whole}
-use Rattle.mad_search.proofs.small.in_small.Goals as goal
+use Rattle.mad_search.proofs.LetterLemmas.{small_more, small_whole}
+use Rattle.mad_search.proofs.letters.in_small.Goals as goal
 
 pub loop-c-preserved : goal.loop-c-preserved
 loop-c-preserved c = small_more _ _ c.loop-c.yielded c.in-Some.c c.small.result c.loop-c.invariant c.small.ensures c.in_ok-push.ensures.bytes
