@@ -3,8 +3,8 @@
 
 The texts are made in FOLDER, one after the other, and taken away again. A cell of the table has the best wall time of some runs, and the
 peak memory that GNU time says, at one megabyte and at ten. In brackets are the ratios of processor time and of memory; one over eleven is
-in bold. A skin is one argument: its sizes are the greatest that Linux takes, and a tenth of that. The script fails at another status than
-the one beside a kind.
+in bold. A skin is one argument: its sizes are the greatest that Linux takes, and a tenth of that. A second table has the texts of
+`markdown_texts.py`, read as people write Markdown. The script fails at another status than the one beside a kind.
 """
 import random
 import resource
@@ -13,7 +13,10 @@ import sys
 import time
 from pathlib import Path
 
+from markdown_texts import TEXTS as MARKDOWN
+
 COMMANDS = ["area 0 0 80 24", "text 80", "text 3", "inline"]
+MARKDOWN_COMMANDS = ["markdown 80"]
 SIZES = (1_000_000, 10_000_000)
 SKIN_SIZES = (13_000, 130_000)
 TURNS = 3
@@ -130,25 +133,37 @@ def row(kind, runs, status):
             sys.exit(f"hostile.py: {kind}: status {run.status}")
 
 
+def table(commands):
+    print("| text | status | " + " | ".join(f"`{command}`" for command in commands) + " |")
+    print("|---" * (2 + len(commands)) + "|")
+
+
+def rows(texts, commands, program, path, kinds):
+    """A row for each text of these kinds."""
+    for kind, make in texts.items():
+        if not kinds or kind in kinds:
+            runs = [[] for _ in commands]
+            for size in SIZES:
+                path.write_text(make(size), encoding="utf8", newline="")
+                for command, pairs in zip(commands, runs):
+                    pairs.append(Run([program, *command.split()], path))
+            row(kind, runs, 0)
+
+
 def main():
     if len(sys.argv) < 3:
         sys.exit(__doc__)
     program, path, kinds = sys.argv[1], Path(sys.argv[2]) / "hostile.md", sys.argv[3:]
     path.parent.mkdir(parents=True, exist_ok=True)
-    print("| text | status | " + " | ".join(f"`{command}`" for command in COMMANDS) + " |")
-    print("|---" * (2 + len(COMMANDS)) + "|")
-    for kind, make in TEXTS.items():
-        if not kinds or kind in kinds:
-            runs = [[] for _ in COMMANDS]
-            for size in SIZES:
-                path.write_text(make(size), encoding="utf8", newline="")
-                for command, pairs in zip(COMMANDS, runs):
-                    pairs.append(Run([program, *command.split()], path))
-            row(kind, runs, 0)
+    table(COMMANDS)
+    rows(TEXTS, COMMANDS, program, path, kinds)
     path.write_text("a **b** c\n")
     for kind, (make, status) in SKINS.items():
         if not kinds or kind in kinds:
             row(kind, [[Run([program, *command.split(), make(size)], path) for size in SKIN_SIZES] for command in COMMANDS], status)
+    print()
+    table(MARKDOWN_COMMANDS)
+    rows(MARKDOWN, MARKDOWN_COMMANDS, program, path, kinds)
     path.unlink()
 
 

@@ -37,8 +37,7 @@ def examples():
 
 
 def main():
-    dump.WITH_LINKS = False
-    mapping.Run.same = lambda a, b: (a.bold, a.italic, a.code, a.strike) == (b.bold, b.italic, b.code, b.strike)
+    dump.as_the_library()
     for path in sorted(FOLDER.glob("*.txt")):
         old = path.read_text(encoding="utf-8")
         new = rewritten(examples() if path.name == "examples.txt" else old)

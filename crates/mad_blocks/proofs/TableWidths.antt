@@ -1,7 +1,8 @@
 -- The cells that a table's columns have seen, and the widths that it keeps.
-use Rattle.std.proofs.Common.{◌≡◌, ℕ, zero, suc, ◌+◌, ◌-◌, ◌*◌, ◌/◌, ◌^◌, ◌<◌, ◌≤◌, List, [], ◌∷◌, ◌++◌, map, length, length-append, take, drop, get_or, sum, replicate, refl, ap, sym, ◌∙◌, subst, arith, append_assoc, Result, Ok, Err, IfOk}
+use Rattle.std.proofs.Common.{◌≡◌, ℕ, zero, suc, ◌+◌, ◌-◌, ◌*◌, ◌/◌, ◌^◌, ◌<◌, ◌≤◌, List, [], ◌∷◌, ◌++◌, map, length, length-append, take, drop, get_or, sum, replicate, refl, ap, sym, ◌∙◌, subst, arith, append_assoc, Result, Ok, Err, IfOk, Bool, true, false, All}
 use Rattle.std.specs.Global.{Vec}
 use Rattle.std.specs.List.{AllByRecursion, flat_map}
+use Rattle.std.proofs.lemmas.Bool.{false≢true}
 use Rattle.std.proofs.Math.Seq.{set-append_seam}
 use Rattle.std.proofs.lemmas.List.{append-nil, set_past, map-append, length-map}
 use Rattle.std.proofs.lemmas.List.Sums.{sum_by-cons}
@@ -9,10 +10,11 @@ use Rattle.std.proofs.lemmas.List.Elements.{All-from_recursion, recursion_from_A
 use Rattle.mad_widths.specs.ColumnWidths.{needs_of, natural_widths, column_widths, AreShared}
 use Rattle.mad_widths.specs.SeenCells.{cell_added, TableHasSeen}
 use Rattle.mad_widths.specs.TableFits.{IsFit, IsTableFit}
+use Rattle.mad_widths.specs.WordWidths.{least_of, word_widths, IsWordFit, IsTableWordFit}
 use Rattle.mad_widths.specs.declared.tbl_fit.TblFit.{TblFit}
 use Rattle.mad_widths.specs.declared.tbl_fit.TblFitResult.{TblFitResult}
 use Rattle.mad_format.specs.FmtLines.{bordered}
-use Rattle.mad_blocks.specs.Tables.{rows_among, first_columns, lengths_of, lengths_in, AreKeptWidths}
+use Rattle.mad_blocks.specs.Tables.{rows_among, first_columns, measure_of, measures_in, lengths_in, words_in, widths_by, AreWhole, AreKeptWidths}
 use Rattle.mad_format.specs.declared.composite.FmtComposite.{FmtComposite}
 use Rattle.mad_format.specs.declared.line.FmtLine.{FmtLine}
 use Rattle.mad_format.specs.declared.line.FmtLine.TheVariants.{Normal, TableRow, TableRule, HorizontalRule}
@@ -21,9 +23,9 @@ use Rattle.mad_format.specs.declared.table.FmtTableRow.{FmtTableRow}
 -- ---- the cells of one row
 
 -- cells that are seen one after the other, from a column on
-abbrev pub cells_seen : List (List ℕ) → ℕ → List FmtComposite → List (List ℕ)
-cells_seen seen column [] = seen
-cells_seen seen column (cell ∷ cells) = cells_seen (cell_added seen column cell.visible_length) (column + 1) cells
+abbrev pub cells_seen : Bool → List (List ℕ) → ℕ → List FmtComposite → List (List ℕ)
+cells_seen b seen column [] = seen
+cells_seen b seen column (cell ∷ cells) = cells_seen b (cell_added seen column (measure_of b cell)) (column + 1) cells
 
 -- the lengths in columns, with those of a row
 abbrev row_added : List (List ℕ) → List ℕ → List (List ℕ)
@@ -35,11 +37,11 @@ nothing_added : (cs : List (List ℕ)) → row_added cs [] ≡ cs
 nothing_added [] = refl
 nothing_added (c ∷ cs) = refl
 
-seen_past : (seen : List (List ℕ)) (column : ℕ) (cells : List FmtComposite) → length seen ≤ column → cells_seen seen column cells ≡ seen
-seen_past seen column [] past = refl
-seen_past seen column (cell ∷ cells) past =
-    let same : cell_added seen column cell.visible_length ≡ seen = set_past seen column _ past in
-    ap (λ s. cells_seen s (column + 1) cells) same ∙ seen_past seen (column + 1) cells (omega (arith, past))
+seen_past : (b : Bool) → (seen : List (List ℕ)) (column : ℕ) (cells : List FmtComposite) → length seen ≤ column → cells_seen b seen column cells ≡ seen
+seen_past b seen column [] past = refl
+seen_past b seen column (cell ∷ cells) past =
+    let same : cell_added seen column (measure_of b cell) ≡ seen = set_past seen column _ past in
+    ap (λ s. cells_seen b s (column + 1) cells) same ∙ seen_past b seen (column + 1) cells (omega (arith, past))
 
 get_at_seam : (done : List (List ℕ)) (c : List ℕ) (cs : List (List ℕ)) (d : List ℕ) → get_or (done ++ c ∷ cs) (length done) d ≡ c
 get_at_seam [] c cs d = refl
@@ -50,18 +52,18 @@ added_at_seam done c cs w =
     set-append_seam done c cs (get_or (done ++ c ∷ cs) (length done) [] ++ w ∷ []) ∙ ap (λ x. done ++ (x ++ w ∷ []) ∷ cs) (get_at_seam done c cs [])
     ∙ sym (append_assoc done ((c ++ w ∷ []) ∷ []) cs)
 
-row_seen : (done seen : List (List ℕ)) (cells : List FmtComposite) → cells_seen (done ++ seen) (length done) cells ≡ done ++ row_added seen (lengths_of cells)
-row_seen done seen [] = ap (λ s. done ++ s) (sym (nothing_added seen))
-row_seen done [] (cell ∷ cells) =
+row_seen : (b : Bool) → (done seen : List (List ℕ)) (cells : List FmtComposite) → cells_seen b (done ++ seen) (length done) cells ≡ done ++ row_added seen (map (measure_of b) cells)
+row_seen b done seen [] = ap (λ s. done ++ s) (sym (nothing_added seen))
+row_seen b done [] (cell ∷ cells) =
     let same : done ++ [] ≡ done = append-nil done in
     let past : length (done ++ []) ≤ length done = subst (λ (s : List (List ℕ)). length s ≤ length done) (sym same) (omega arith) in
-    seen_past (done ++ []) (length done) (cell ∷ cells) past
-row_seen done (c ∷ cs) (cell ∷ cells) =
-    let w : ℕ = cell.visible_length in
+    seen_past b (done ++ []) (length done) (cell ∷ cells) past
+row_seen b done (c ∷ cs) (cell ∷ cells) =
+    let w : ℕ = measure_of b cell in
     let one : List (List ℕ) = (c ++ w ∷ []) ∷ [] in
     let longer : length done + 1 ≡ length (done ++ one) = sym (length-append done one) in
-    ap (λ s. cells_seen s (length done + 1) cells) (added_at_seam done c cs w) ∙ ap (λ n. cells_seen ((done ++ one) ++ cs) n cells) longer
-    ∙ row_seen (done ++ one) cs cells ∙ append_assoc done one (row_added cs (lengths_of cells))
+    ap (λ s. cells_seen b s (length done + 1) cells) (added_at_seam done c cs w) ∙ ap (λ n. cells_seen b ((done ++ one) ++ cs) n cells) longer
+    ∙ row_seen b (done ++ one) cs cells ∙ append_assoc done one (row_added cs (map (measure_of b) cells))
 
 first_more : (rows : List (List ℕ)) (w : ℕ) (ws : List ℕ) → flat_map (take 1) (rows ++ (w ∷ ws) ∷ []) ≡ flat_map (take 1) rows ++ w ∷ []
 first_more [] w ws = refl
@@ -87,46 +89,46 @@ columns_more (suc n) rows (w ∷ ws) =
     ∙ ap (λ cs. first ∷ cs) (columns_more n (map (drop 1) rows) ws)
 
 -- a row that is seen cell by cell
-pub row_is_seen : (n : ℕ) (rows : List (List FmtComposite)) (cells : List FmtComposite) → cells_seen (lengths_in n rows) 0 cells ≡ lengths_in n (rows ++ cells ∷ [])
-row_is_seen n rows cells =
-    row_seen [] (lengths_in n rows) cells ∙ sym (ap (first_columns n) (map-append lengths_of rows (cells ∷ [])) ∙ columns_more n (map lengths_of rows) (lengths_of cells))
+pub row_is_seen : (b : Bool) → (n : ℕ) (rows : List (List FmtComposite)) (cells : List FmtComposite) → cells_seen b (measures_in b n rows) 0 cells ≡ measures_in b n (rows ++ cells ∷ [])
+row_is_seen b n rows cells =
+    row_seen b [] (measures_in b n rows) cells ∙ sym (ap (first_columns n) (map-append (λ xs. map (measure_of b) xs) rows (cells ∷ [])) ∙ columns_more n (map (λ xs. map (measure_of b) xs) rows) (map (measure_of b) cells))
 
 -- the cells of a row so far, with the rest of them, are all
-abbrev pub CellsSeen : TblFit → TblFit → List FmtComposite → ℕ → Type 0
-CellsSeen before fit cells column =
-    (width n : ℕ) (rows : List (List FmtComposite)) → TableHasSeen before width (lengths_in n rows)
-    → (seen : List (List ℕ)) × TableHasSeen fit width seen × (cells_seen seen column (drop column cells) ≡ cells_seen (lengths_in n rows) 0 cells)
+abbrev pub CellsSeen : Bool → TblFit → TblFit → List FmtComposite → ℕ → Type 0
+CellsSeen b before fit cells column =
+    (width n : ℕ) (rows : List (List FmtComposite)) → TableHasSeen before width (measures_in b n rows)
+    → (seen : List (List ℕ)) × TableHasSeen fit width seen × (cells_seen b seen column (drop column cells) ≡ cells_seen b (measures_in b n rows) 0 cells)
 
-pub seen_more : (before fit after : TblFit) (cells : List FmtComposite) (column : ℕ) (cell : FmtComposite) → CellsSeen before fit cells column → drop column cells ≡ cell ∷ drop (column + 1) cells
-    → ((width : ℕ) (seen : List (List ℕ)) → TableHasSeen fit width seen → TableHasSeen after width (cell_added seen column cell.visible_length)) → CellsSeen before after cells (column + 1)
-seen_more before fit after cells column cell held next sees width n rows start =
+pub seen_more : (b : Bool) → (before fit after : TblFit) (cells : List FmtComposite) (column : ℕ) (cell : FmtComposite) → CellsSeen b before fit cells column → drop column cells ≡ cell ∷ drop (column + 1) cells
+    → ((width : ℕ) (seen : List (List ℕ)) → TableHasSeen fit width seen → TableHasSeen after width (cell_added seen column (measure_of b cell))) → CellsSeen b before after cells (column + 1)
+seen_more b before fit after cells column cell held next sees width n rows start =
     let so_far = held width n rows start in (
-      cell_added so_far.0 column cell.visible_length,
+      cell_added so_far.0 column (measure_of b cell),
       sees width so_far.0 so_far.1,
-      sym (ap (cells_seen so_far.0 column) next) ∙ so_far.2,
+      sym (ap (cells_seen b so_far.0 column) next) ∙ so_far.2,
     )
 
-pub seen_all : (before fit : TblFit) (cells : List FmtComposite) (column : ℕ) → CellsSeen before fit cells column → drop column cells ≡ []
-    → (width n : ℕ) (rows : List (List FmtComposite)) → TableHasSeen before width (lengths_in n rows) → TableHasSeen fit width (lengths_in n (rows ++ cells ∷ []))
-seen_all before fit cells column held none width n rows start =
+pub seen_all : (b : Bool) → (before fit : TblFit) (cells : List FmtComposite) (column : ℕ) → CellsSeen b before fit cells column → drop column cells ≡ []
+    → (width n : ℕ) (rows : List (List FmtComposite)) → TableHasSeen before width (measures_in b n rows) → TableHasSeen fit width (measures_in b n (rows ++ cells ∷ []))
+seen_all b before fit cells column held none width n rows start =
     let so_far = held width n rows start in
-    let same : so_far.0 ≡ lengths_in n (rows ++ cells ∷ []) = sym (ap (cells_seen so_far.0 column) none) ∙ so_far.2 ∙ row_is_seen n rows cells in
+    let same : so_far.0 ≡ measures_in b n (rows ++ cells ∷ []) = sym (ap (cells_seen b so_far.0 column) none) ∙ so_far.2 ∙ row_is_seen b n rows cells in
     subst (TableHasSeen fit width) same so_far.1
 
 -- ---- the rows of a table
 
 -- the rows so far, with the rest of them, are all
-abbrev pub RowsSeen : TblFit → TblFit → List FmtLine → ℕ → Type 0
-RowsSeen before fit table i =
-    (width n : ℕ) (rows : List (List FmtComposite)) → TableHasSeen before width (lengths_in n rows)
-    → (seen : List (List FmtComposite)) × TableHasSeen fit width (lengths_in n seen) × (seen ++ rows_among (drop i table) ≡ rows ++ rows_among table)
+abbrev pub RowsSeen : Bool → TblFit → TblFit → List FmtLine → ℕ → Type 0
+RowsSeen b before fit table i =
+    (width n : ℕ) (rows : List (List FmtComposite)) → TableHasSeen before width (measures_in b n rows)
+    → (seen : List (List FmtComposite)) × TableHasSeen fit width (measures_in b n seen) × (seen ++ rows_among (drop i table) ≡ rows ++ rows_among table)
 
-pub rows_seen_start : (before : TblFit) (table : List FmtLine) → RowsSeen before before table 0
-rows_seen_start before table width n rows start = (rows, start, refl)
+pub rows_seen_start : (b : Bool) → (before : TblFit) (table : List FmtLine) → RowsSeen b before before table 0
+rows_seen_start b before table width n rows start = (rows, start, refl)
 
-pub rows_seen_more : (before fit after : TblFit) (table : List FmtLine) (i : ℕ) (row : FmtTableRow) → RowsSeen before fit table i → drop i table ≡ TableRow row ∷ drop (i + 1) table
-    → ((width n : ℕ) (rows : List (List FmtComposite)) → TableHasSeen fit width (lengths_in n rows) → TableHasSeen after width (lengths_in n (rows ++ row.cells.items ∷ []))) → RowsSeen before after table (i + 1)
-rows_seen_more before fit after table i row held next sees width n rows start =
+pub rows_seen_more : (b : Bool) → (before fit after : TblFit) (table : List FmtLine) (i : ℕ) (row : FmtTableRow) → RowsSeen b before fit table i → drop i table ≡ TableRow row ∷ drop (i + 1) table
+    → ((width n : ℕ) (rows : List (List FmtComposite)) → TableHasSeen fit width (measures_in b n rows) → TableHasSeen after width (measures_in b n (rows ++ row.cells.items ∷ []))) → RowsSeen b before after table (i + 1)
+rows_seen_more b before fit after table i row held next sees width n rows start =
     let so_far = held width n rows start in (
       so_far.0 ++ row.cells.items ∷ [],
       sees width n so_far.0 so_far.1,
@@ -137,22 +139,22 @@ no_row : (l : FmtLine) (ls : List FmtLine) → ((row : FmtTableRow) → l ≡ Ta
 no_row (TableRow row) ls h = absurd (h row refl)
 no_row _ ls h = refl
 
-pub rows_seen_other : (before fit : TblFit) (table : List FmtLine) (i : ℕ) (l : FmtLine) → RowsSeen before fit table i → drop i table ≡ l ∷ drop (i + 1) table → ((row : FmtTableRow) → l ≡ TableRow row → ⊥)
-    → RowsSeen before fit table (i + 1)
-rows_seen_other before fit table i l held next other width n rows start =
+pub rows_seen_other : (b : Bool) → (before fit : TblFit) (table : List FmtLine) (i : ℕ) (l : FmtLine) → RowsSeen b before fit table i → drop i table ≡ l ∷ drop (i + 1) table → ((row : FmtTableRow) → l ≡ TableRow row → ⊥)
+    → RowsSeen b before fit table (i + 1)
+rows_seen_other b before fit table i l held next other width n rows start =
     let so_far = held width n rows start in
     (so_far.0, so_far.1, ap (λ rs. so_far.0 ++ rs) (sym (ap rows_among next ∙ no_row l (drop (i + 1) table) other)) ∙ so_far.2)
 
-pub rows_seen_all : (before fit : TblFit) (table : List FmtLine) (i : ℕ) → RowsSeen before fit table i → drop i table ≡ []
-    → (width n : ℕ) (rows : List (List FmtComposite)) → TableHasSeen before width (lengths_in n rows) → TableHasSeen fit width (lengths_in n (rows ++ rows_among table))
-rows_seen_all before fit table i held none width n rows start =
+pub rows_seen_all : (b : Bool) → (before fit : TblFit) (table : List FmtLine) (i : ℕ) → RowsSeen b before fit table i → drop i table ≡ []
+    → (width n : ℕ) (rows : List (List FmtComposite)) → TableHasSeen before width (measures_in b n rows) → TableHasSeen fit width (measures_in b n (rows ++ rows_among table))
+rows_seen_all b before fit table i held none width n rows start =
     let so_far = held width n rows start in
     let same : so_far.0 ≡ rows ++ rows_among table = sym (append-nil so_far.0) ∙ ap (λ ls. so_far.0 ++ rows_among ls) (sym none) ∙ so_far.2 in
-    subst (λ (rs : List (List FmtComposite)). TableHasSeen fit width (lengths_in n rs)) same so_far.1
+    subst (λ (rs : List (List FmtComposite)). TableHasSeen fit width (measures_in b n rs)) same so_far.1
 
-pub lengths_start : (n : ℕ) → replicate {A = List ℕ} n [] ≡ lengths_in n []
-lengths_start zero = refl
-lengths_start (suc n) = ap (λ ls. [] ∷ ls) (lengths_start n)
+pub lengths_start : (b : Bool) → (n : ℕ) → replicate {A = List ℕ} n [] ≡ measures_in b n []
+lengths_start b zero = refl
+lengths_start b (suc n) = ap (λ ls. [] ∷ ls) (lengths_start b n)
 
 -- ---- the kept widths
 
@@ -191,39 +193,68 @@ all_threes : (k : ℕ) → AllByRecursion (λ (w : ℕ). 3 ≤ w) (replicate k 3
 all_threes zero = tt
 all_threes (suc k) = (omega arith, all_threes k)
 
-pub kept_fitted : (n width : ℕ) (table : List FmtLine) (fitted : TblFitResult) → 4 * n + 1 ≤ width → length table < 2 ^ 64 → IsTableFit width (lengths_in n (rows_among table)) fitted
-    → AreKeptWidths n width table fitted.col_widths.items
-kept_fitted n width table fitted wide few fit =
-    let rows : List (List ℕ) = map lengths_of (rows_among table) in
-    let cells : List (List ℕ) = first_columns n rows in
-    let ws : List ℕ = fitted.col_widths.items in
-    let count : length cells ≡ n = column_count n rows in
-    let each : IsFit (width - 1 - length cells) (map needs_of cells) fitted = fit.exact (All-from_recursion (λ c. length c < 2 ^ 64) cells (few_each n rows (omega (arith, few, rows-le table, length-map (rows_among table) lengths_of)))) in
+-- the widths that a table keeps, by what all column widths are
+kept_of : (b : Bool) (n width : ℕ) (table : List FmtLine) (ws : List ℕ) (reduced : Bool) → 4 * n + 1 ≤ width → length ws ≡ n → All (λ w. 3 ≤ w) ws → sum ws + n + 1 ≤ width
+    → ws ≡ widths_by b (width - 1 - n) (lengths_in n (rows_among table)) (words_in n (rows_among table)) → AreShared (width - 1 - n) (natural_widths (map needs_of (lengths_in n (rows_among table)))) reduced ws
+    → (b ≡ true → AreWhole (width - 1 - n) (lengths_in n (rows_among table)) (words_in n (rows_among table)) ws) → AreKeptWidths b n width table ws
+kept_of b n width table ws reduced wide count least within are shared whole =
     let borders : bordered ws ≡ sum ws + length ws = bordered_is ws in
-    let same_count : length ws ≡ length cells = fit.count in
-    let within : sum ws + length cells + 1 ≤ width = fit.within in
     record {
-      least = recursion_from_All (λ w. 3 ≤ w) ws fit.least;
-      fit = omega (arith, borders, same_count, within);
-      kept = λ _. same_count ∙ count;
-      are = λ _. each.widths ∙ ap (λ k. column_widths (width - 1 - k) (map needs_of cells)) count;
-      shared = λ _. (fitted.reduced, subst (λ (k : ℕ). AreShared (width - 1 - k) (natural_widths (map needs_of cells)) fitted.reduced ws) count fit.shared);
+      least = recursion_from_All (λ w. 3 ≤ w) ws least;
+      fit = omega (arith, borders, count, within);
+      kept = λ _. count;
+      are = λ _. are;
+      shared = λ _. (reduced, shared);
+      whole = λ on _. whole on;
       narrow = λ less. absurd (omega (arith, wide, less));
     }
 
-pub kept_narrow : (n width : ℕ) (table : List FmtLine) (ws : List ℕ) → 0 < width → (width - 1) / 4 < n → ws ≡ replicate ((width - 1) / 4) 3 → AreKeptWidths n width table ws
-kept_narrow n width table ws some few is =
+-- the columns of a table have few cells each
+few_cells : (b : Bool) (n : ℕ) (table : List FmtLine) → length table < 2 ^ 64 → All (λ (c : List ℕ). length c < 2 ^ 64) (measures_in b n (rows_among table))
+few_cells b n table few =
+    let rows : List (List ℕ) = map (λ cells. map (measure_of b) cells) (rows_among table) in
+    All-from_recursion (λ c. length c < 2 ^ 64) (first_columns n rows) (few_each n rows (omega (arith, few, rows-le table, length-map (rows_among table) (λ cells. map (measure_of b) cells))))
+
+pub kept_fitted : (n width : ℕ) (table : List FmtLine) (fitted : TblFitResult) → 4 * n + 1 ≤ width → length table < 2 ^ 64 → IsTableFit width (lengths_in n (rows_among table)) fitted
+    → AreKeptWidths false n width table fitted.col_widths.items
+kept_fitted n width table fitted wide few fit =
+    let cells : List (List ℕ) = lengths_in n (rows_among table) in
+    let ws : List ℕ = fitted.col_widths.items in
+    let count : length cells ≡ n = column_count n _ in
+    let each : IsFit (width - 1 - length cells) (map needs_of cells) fitted = fit.exact (few_cells false n table few) in
+    let same_count : length ws ≡ length cells = fit.count in
+    let within : sum ws + length cells + 1 ≤ width = fit.within in
+    kept_of false n width table ws fitted.reduced wide (same_count ∙ count) fit.least (omega (arith, count, within)) (each.widths ∙ ap (λ k. column_widths (width - 1 - k) (map needs_of cells)) count)
+    (subst (λ (k : ℕ). AreShared (width - 1 - k) (natural_widths (map needs_of cells)) fitted.reduced ws) count fit.shared) (λ on. absurd (false≢true on))
+
+pub kept_whole : (n width : ℕ) (table : List FmtLine) (fitted : TblFitResult) → 4 * n + 1 ≤ width → length table < 2 ^ 64 → IsTableWordFit width (lengths_in n (rows_among table)) (words_in n (rows_among table)) fitted
+    → AreKeptWidths true n width table fitted.col_widths.items
+kept_whole n width table fitted wide few fit =
+    let cells : List (List ℕ) = lengths_in n (rows_among table) in
+    let words : List (List ℕ) = words_in n (rows_among table) in
+    let ws : List ℕ = fitted.col_widths.items in
+    let count : length cells ≡ n = column_count n _ in
+    let each : IsWordFit (width - 1 - length cells) (map needs_of cells) (least_of cells words) fitted = fit.exact (few_cells false n table few) in
+    let same_count : length ws ≡ length cells = fit.count in
+    let within : sum ws + length cells + 1 ≤ width = fit.within in
+    kept_of true n width table ws fitted.reduced wide (same_count ∙ count) fit.least (omega (arith, count, within)) (each.widths ∙ ap (λ k. word_widths (width - 1 - k) (map needs_of cells) (least_of cells words)) count)
+    (subst (λ (k : ℕ). AreShared (width - 1 - k) (natural_widths (map needs_of cells)) fitted.reduced ws) count fit.shared)
+    (λ _. subst (λ (k : ℕ). AreWhole (width - 1 - k) cells words ws) count fit.whole)
+
+pub kept_narrow : (b : Bool) (n width : ℕ) (table : List FmtLine) (ws : List ℕ) → 0 < width → (width - 1) / 4 < n → ws ≡ replicate ((width - 1) / 4) 3 → AreKeptWidths b n width table ws
+kept_narrow b n width table ws some few is =
     let k : ℕ = (width - 1) / 4 in
     let borders : bordered (replicate k 3) ≡ 4 * k = bordered_threes k in
-    subst (AreKeptWidths n width table) (sym is) (record {
+    subst (AreKeptWidths b n width table) (sym is) (record {
       least = all_threes k;
       fit = omega (arith, borders, some);
       kept = λ wide. absurd (omega (arith, few, wide, some));
       are = λ wide. absurd (omega (arith, few, wide, some));
       shared = λ wide. absurd (omega (arith, few, wide, some));
+      whole = λ _ wide. absurd (omega (arith, few, wide, some));
       narrow = λ less. refl;
     })
 
-pub ok_narrow : {E : Type 0} (r : Result (Vec ℕ) E) (n width : ℕ) (table : List FmtLine) → 0 < width → (width - 1) / 4 < n → IfOk r (λ ws. ws.items ≡ replicate ((width - 1) / 4) 3) → IfOk r (λ ws. AreKeptWidths n width table ws.items)
-ok_narrow {E} (Ok ws) n width table some few is = kept_narrow n width table ws.items some few is
-ok_narrow {E} (Err e) n width table some few is = tt
+pub ok_narrow : {E : Type 0} (r : Result (Vec ℕ) E) (b : Bool) (n width : ℕ) (table : List FmtLine) → 0 < width → (width - 1) / 4 < n → IfOk r (λ ws. ws.items ≡ replicate ((width - 1) / 4) 3) → IfOk r (λ ws. AreKeptWidths b n width table ws.items)
+ok_narrow {E} (Ok ws) b n width table some few is = kept_narrow b n width table ws.items some few is
+ok_narrow {E} (Err e) b n width table some few is = tt

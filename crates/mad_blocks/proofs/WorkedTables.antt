@@ -1,11 +1,12 @@
 -- Worked tables, by computing their widths; and what is no table, each by the part of the definition that it breaks.
-use Rattle.std.proofs.Common.{◌≡◌, ℕ, suc, ◌<◌, inl, inr, Bool, true, false, List, [], ◌∷◌, ◌++◌, length, map, Some, refl, sym, ap, ◌∙◌, subst, arith}
+use Rattle.std.proofs.Common.{◌≡◌, ℕ, suc, ◌<◌, inl, inr, Bool, true, false, List, [], ◌∷◌, ◌++◌, length, map, Some, refl, sym, ap, ap₂, ◌∙◌, subst, arith}
 use Rattle.std.specs.Prelude.{◌==◌}
 use Rattle.mad_fit.specs.declared.spacing.Spacing.{Spacing}
 use Rattle.mad_widths.specs.Turns.{grants}
 use Rattle.mad_widths.specs.ColumnWidths.{needs_of, first_requests, second_requests, after_first, after_second, column_widths, natural_widths, AreShared}
-use Rattle.mad_blocks.specs.TableLaws.{HaveLengths, AreWorkedTables, AreNoTables, AreNoRules}
-use Rattle.mad_blocks.specs.Tables.{IsLineAcross, position_at, columns_with, centered, AreKeptWidths, AreTableLinesBy, IsTableLaidOutBy}
+use Rattle.mad_widths.specs.WordWidths.{least_of, word_widths}
+use Rattle.mad_blocks.specs.TableLaws.{HaveLengths, HaveWords, AreWorkedTables, AreNoTables, AreNoRules}
+use Rattle.mad_blocks.specs.Tables.{rows_among, lengths_in, AreWhole, IsLineAcross, position_at, columns_with, centered, AreKeptWidths, AreTableLinesBy, IsTableLaidOutBy}
 use Rattle.mad_format.specs.WrappedLines.{Wrap}
 use Rattle.mad_format.specs.LineRules.{LineRules}
 use Rattle.mad_format.specs.declared.composite.FmtComposite.{FmtComposite}
@@ -15,19 +16,28 @@ use Rattle.mad_format.specs.declared.table.FmtTableRule.{FmtTableRule}
 use Rattle.mad_blocks.proofs.TableLemmas.{top_spacing}
 
 pub worked_tables : AreWorkedTables
-unfolding column_widths after_second after_first second_requests first_requests grants
+unfolding word_widths column_widths after_second after_first second_requests first_requests grants
 worked_tables = record {
   reduced = λ lines widths lengths kept. kept.are (omega arith) ∙ ap (λ cells. column_widths 10 (map needs_of cells)) lengths;
   shared = λ lines widths lengths kept. kept.are (omega arith) ∙ ap (λ cells. column_widths 10 (map needs_of cells)) lengths;
   natural = λ lines widths lengths kept. kept.are (omega arith) ∙ ap (λ cells. column_widths 23 (map needs_of cells)) lengths;
   narrow = λ lines widths kept. kept.narrow (omega arith);
+  parted = λ lines widths lengths kept. kept.are (omega arith) ∙ ap (λ cells. column_widths 20 (map needs_of cells)) lengths;
+  whole = λ lines widths lengths words kept. kept.are (omega arith) ∙ ap₂ (λ cells words. word_widths 20 (map needs_of cells) (least_of cells words)) lengths words;
+  too_narrow = λ lines widths lengths words kept. kept.are (omega arith) ∙ ap₂ (λ cells words. word_widths 20 (map needs_of cells) (least_of cells words)) lengths words;
 }
 
-too_few : (lines : List FmtLine) → HaveLengths lines ((3 ∷ []) ∷ (20 ∷ []) ∷ []) → AreKeptWidths 2 13 lines (3 ∷ 6 ∷ []) → ⊥
+too_few : (lines : List FmtLine) → HaveLengths lines ((3 ∷ []) ∷ (20 ∷ []) ∷ []) → AreKeptWidths false 2 13 lines (3 ∷ 6 ∷ []) → ⊥
 too_few lines lengths kept =
     let shared = kept.shared (omega arith) in
     let are : AreShared 10 (3 ∷ 20 ∷ []) shared.0 (3 ∷ 6 ∷ []) = subst (λ cells. AreShared 10 (natural_widths (map needs_of cells)) shared.0 (3 ∷ 6 ∷ [])) lengths shared.1 in
     omega (arith, (are.shared (omega arith) (λ e. absurd (omega (arith, e)))).0)
+
+word_parted : (lines : List FmtLine) → HaveLengths lines ((9 ∷ []) ∷ (20 ∷ []) ∷ []) → HaveWords lines ((9 ∷ []) ∷ (5 ∷ []) ∷ []) → AreKeptWidths true 2 23 lines (7 ∷ 13 ∷ []) → ⊥
+word_parted lines lengths words kept =
+    let whole : AreWhole 20 ((9 ∷ []) ∷ (20 ∷ []) ∷ []) ((9 ∷ []) ∷ (5 ∷ []) ∷ []) (7 ∷ 13 ∷ []) = subst (λ cells. AreWhole 20 cells ((9 ∷ []) ∷ (5 ∷ []) ∷ []) (7 ∷ 13 ∷ [])) lengths
+    (subst (λ ws. AreWhole 20 (lengths_in 2 (rows_among lines)) ws (7 ∷ 13 ∷ [])) words (kept.whole refl (omega arith))) in
+    absurd (omega (arith, (whole (omega arith)).0))
 
 across_count : (columns : List Spacing) (lines : List (List FmtComposite)) (cells : List FmtComposite) → IsLineAcross columns lines cells → length cells ≡ length columns
 across_count [] [] [] h = refl
@@ -40,8 +50,9 @@ across_place column columns (l ∷ lines) x xs h = top_spacing column l x h.0
 
 pub no_tables : AreNoTables
 no_tables = record {
+  word_parted = word_parted;
   one_too_few = too_few;
-  column_dropped = λ n width lines widths wide fewer kept. let all : length widths ≡ n = kept.kept wide in omega (arith, all, fewer);
+  column_dropped = λ n width lines widths whole_words wide fewer kept. let all : length widths ≡ n = kept.kept wide in omega (arith, all, fewer);
   shifted = λ first second x y z beside row next some is h.
       let across : IsLineAcross (first ∷ second ∷ []) ([] ∷ (z ∷ []) ∷ []) (record z { spacing = Some first } ∷ beside ∷ []) = subst (IsLineAcross (first ∷ second ∷ []) ([] ∷ (z ∷ []) ∷ [])) is h.1.0 in
       some across.0.empty;

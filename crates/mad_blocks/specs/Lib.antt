@@ -1,3 +1,4 @@
+pub mod CellWords
 pub mod CodeBlocks
 pub mod FittingLayouts
 pub mod Fronts

@@ -1,13 +1,17 @@
 -- The layout of a table.
-use Rattle.std.specs.Prelude.{◌≡◌, ℕ, zero, suc, ◌+◌, ◌-◌, ◌*◌, ◌/◌, ◌<◌, ◌≤◌, ◌==◌, ◌⊎◌, max, Bool, true, false, List, [], ◌∷◌, ◌++◌, map, length, take, drop, replicate, Some, None}
-use Rattle.std.specs.List.{AllByRecursion, flat_map}
+use Rattle.std.specs.Prelude.{◌≡◌, ℕ, zero, suc, ◌+◌, ◌-◌, ◌*◌, ◌/◌, ◌<◌, ◌≤◌, ◌==◌, ◌⊎◌, max, Bool, true, false, List, [], ◌∷◌, ◌++◌, map, length, take, drop, replicate, sum, Some, None}
+use Rattle.std.specs.List.{AllByRecursion, AllZip, flat_map}
 use Rattle.mad_md.specs.declared.alignment.Alignment.{Alignment}
 use Rattle.mad_md.specs.declared.alignment.Alignment.TheVariants.{Unspecified, Center}
 use Rattle.mad_style.specs.declared.kinds.CompositeKind.TheVariants.{Paragraph}
 use Rattle.mad_widths.specs.ColumnWidths.{needs_of, natural_widths, column_widths, AreShared}
+use Rattle.mad_widths.specs.WordWidths.{least_of, word_widths}
 use Rattle.mad_fit.specs.declared.spacing.Spacing.{Spacing}
 use Rattle.mad_format.specs.FmtLines.{bordered}
 use Rattle.mad_format.specs.WrappedLines.{Wrap}
+use Rattle.mad_format.specs.Wraps.{text_of}
+use Rattle.mad_wrap.specs.WrapLines.{capped}
+use Rattle.mad_blocks.specs.CellWords.{longest_word}
 use Rattle.mad_format.specs.LineRules.{LineRules}
 use Rattle.mad_format.specs.Lists.{most}
 use Rattle.mad_format.specs.declared.composite.FmtComposite.{FmtComposite}
@@ -108,23 +112,42 @@ abbrev pub first_columns : ℕ → List (List ℕ) → List (List ℕ)
 first_columns zero rows = []
 first_columns (suc n) rows = flat_map (take 1) rows ∷ first_columns n (map (drop 1) rows)
 
--- the cached lengths of cells
-abbrev pub lengths_of : List FmtComposite → List ℕ
-lengths_of cells = map (λ (cell : FmtComposite). cell.visible_length) cells
+-- the columns of a cell, by its longest word or by its cached length
+abbrev pub measure_of : Bool → FmtComposite → ℕ
+measure_of true cell = capped (longest_word (text_of cell))
+measure_of false cell = cell.visible_length
 
 -- those of the cells in each of n columns
+abbrev pub measures_in : Bool → ℕ → List (List FmtComposite) → List (List ℕ)
+measures_in by_word n rows = first_columns n (map (λ cells. map (measure_of by_word) cells) rows)
+
+-- by their cached lengths
 abbrev pub lengths_in : ℕ → List (List FmtComposite) → List (List ℕ)
-lengths_in n rows = first_columns n (map lengths_of rows)
+lengths_in n rows = measures_in false n rows
+
+-- by their longest words
+abbrev pub words_in : ℕ → List (List FmtComposite) → List (List ℕ)
+words_in n rows = measures_in true n rows
+
+-- the widths of columns with cells of these widths, with regard to their longest words or without
+abbrev pub widths_by : Bool → ℕ → List (List ℕ) → List (List ℕ) → List ℕ
+widths_by true available cells words = word_widths available (map needs_of cells) (least_of cells words)
+widths_by false available cells words = column_widths available (map needs_of cells)
+
+-- no column is narrower than its longest word where the longest words of all fit together
+abbrev pub AreWhole : ℕ → List (List ℕ) → List (List ℕ) → List ℕ → Type 0
+AreWhole available cells words widths = sum (least_of cells words) ≤ available → AllZip (λ w l. l ≤ w) widths (least_of cells words)
 
 -- The widths of the kept columns of a table of n columns: at least three each, and with their borders they fit. Where there is room for
 -- three in each of the n, all are kept, with the widths that their cells need, or that share what is available; else as many as
--- have room, of three.
-pub record AreKeptWidths (n width : ℕ) (lines : List FmtLine) (widths : List ℕ) : Type 0 where
+-- have room, of three. Where words stay whole, no column is narrower than its longest word if the longest words fit together.
+pub record AreKeptWidths (whole_words : Bool) (n width : ℕ) (lines : List FmtLine) (widths : List ℕ) : Type 0 where
   pub least : AllByRecursion (λ w. 3 ≤ w) widths
   pub fit : bordered widths + 1 ≤ width
   pub kept : 4 * n + 1 ≤ width → length widths ≡ n
-  pub are : 4 * n + 1 ≤ width → widths ≡ column_widths (width - 1 - n) (map needs_of (lengths_in n (rows_among lines)))
+  pub are : 4 * n + 1 ≤ width → widths ≡ widths_by whole_words (width - 1 - n) (lengths_in n (rows_among lines)) (words_in n (rows_among lines))
   pub shared : 4 * n + 1 ≤ width → (reduced : Bool) × AreShared (width - 1 - n) (natural_widths (map needs_of (lengths_in n (rows_among lines)))) reduced widths
+  pub whole : whole_words ≡ true → 4 * n + 1 ≤ width → AreWhole (width - 1 - n) (lengths_in n (rows_among lines)) (words_in n (rows_among lines)) widths
   pub narrow : width < 4 * n + 1 → widths ≡ replicate ((width - 1) / 4) 3
 
 -- ---- a table
@@ -168,7 +191,7 @@ AreTableLinesBy wraps skin widths columns first (l ∷ ls) lines =
 abbrev pub IsTableLaidOutBy : Wrap → LineRules → ℕ → ℕ → List FmtLine → List FmtLine → Type 0
 IsTableLaidOutBy wraps skin n width table lines =
     (((n ≡ 0) ⊎ (width ≡ 0)) × (lines ≡ table))
-    ⊎ ((0 < n) × (0 < width) × ((widths : List ℕ) × AreKeptWidths n width table widths × AreTableLinesBy wraps skin widths (centered widths) true table lines))
+    ⊎ ((0 < n) × (0 < width) × ((widths : List ℕ) × AreKeptWidths skin.whole_words n width table widths × AreTableLinesBy wraps skin widths (centered widths) true table lines))
 
 -- the count of cells or alignments of a line of a table
 abbrev pub columns_in : FmtLine → ℕ

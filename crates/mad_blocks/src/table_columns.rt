@@ -1,53 +1,86 @@
 //! Columns of a table: their widths, and how cells are aligned in them.
 
-ghost use Rattle.std.specs.Prelude.{◌≡◌, ◌<◌, ◌*◌, ◌+◌, ◌++◌, [], ◌∷◌, ℕ, List, IfOk, slice_get, unwrap_or};
+ghost use Rattle.std.specs.Prelude.{◌≡◌, ◌<◌, ◌≤◌, ◌*◌, ◌+◌, ◌++◌, [], ◌∷◌, ℕ, List, IfOk, slice_get, unwrap_or};
 ghost use Rattle.mad_md.specs.declared.alignment.Alignment.TheVariants.{Unspecified};
 ghost use Rattle.mad_widths.specs.SeenCells.{TableHasSeen};
-ghost use Rattle.mad_blocks.specs.Tables.{columns_with, centered, columns_from, columns_count, columns_in, rows_among, lengths_in, AreKeptWidths};
+ghost use Rattle.mad_blocks.specs.Tables.{columns_with, centered, columns_from, columns_count, columns_in, rows_among, measure_of, measures_in, AreKeptWidths};
 ghost use Rattle.mad_format.specs.declared.composite.FmtComposite.{FmtComposite};
 
+use crate::cell_words::longest_word;
 use mad_fit::Spacing;
 use mad_format::{FmtComposite, FmtLine};
 use mad_md::Alignment;
 use mad_widths::TblFit;
 use std::alloc::{AllocError, Global};
 
-/// The widths of the columns that a table of `nbcols` columns keeps at a width, from the cached lengths of its cells.
+/// The widths of the columns that a table of `nbcols` columns keeps at a width, from the cached lengths of its cells, and where words
+/// stay whole from their longest words too.
 pub(crate) fn kept_widths(
     alloc: Global,
     table: &[FmtLine],
     nbcols: usize,
     width: usize,
+    whole_words: bool,
 ) -> Result<Vec<usize>, AllocError>
     requires { 0 < width }
-    ensures { IfOk result (λ widths. AreKeptWidths nbcols width table.now widths.items) }
+    ensures { IfOk result (λ widths. AreKeptWidths whole_words nbcols width table.now widths.items) }
 {
     let most = (width - 1) / 4;
     if most < nbcols {
         return vec![in alloc; 3; most];
     }
+    let cells = seen_table(alloc, table, nbcols, width, false)?;
+    if whole_words {
+        let words = seen_table(alloc, table, nbcols, width, true)?;
+        return Ok(cells.fit_words(alloc, &words)?.col_widths);
+    }
+    Ok(cells.fit(alloc)?.col_widths)
+}
+
+// The cells of a table of `nbcols` columns, by their longest words or by their lengths.
+fn seen_table(
+    alloc: Global,
+    table: &[FmtLine],
+    nbcols: usize,
+    width: usize,
+    by_word: bool,
+) -> Result<TblFit, AllocError>
+    requires { 4 * nbcols + 1 ≤ width }
+    ensures { IfOk result (λ fit. TableHasSeen fit width (measures_in by_word nbcols (rows_among table.now))) }
+{
     let mut fit = TblFit::with_room(alloc, nbcols, width)?;
-    see_rows(&mut fit, table);
-    Ok(fit.fit(alloc)?.col_widths)
+    see_rows(&mut fit, table, by_word);
+    Ok(fit)
 }
 
 // Sees the cells of each row.
-fn see_rows(fit: &mut TblFit, table: &[FmtLine])
-    ensures { (width n : ℕ) (rows : List (List FmtComposite)) → TableHasSeen fit.old width (lengths_in n rows) → TableHasSeen fit.new width (lengths_in n (rows ++ rows_among table.now)) }
+fn see_rows(fit: &mut TblFit, table: &[FmtLine], by_word: bool)
+    ensures { (width n : ℕ) (rows : List (List FmtComposite)) → TableHasSeen fit.old width (measures_in by_word n rows) → TableHasSeen fit.new width (measures_in by_word n (rows ++ rows_among table.now)) }
 {
     for line in table {
         if let FmtLine::TableRow(row) = line {
-            see_row(fit, &row.cells);
+            see_row(fit, &row.cells, by_word);
         }
     }
 }
 
 // Sees the cells of a row, one for each column.
-fn see_row(fit: &mut TblFit, cells: &[FmtComposite])
-    ensures { (width n : ℕ) (rows : List (List FmtComposite)) → TableHasSeen fit.old width (lengths_in n rows) → TableHasSeen fit.new width (lengths_in n (rows ++ cells.now ∷ [])) }
+fn see_row(fit: &mut TblFit, cells: &[FmtComposite], by_word: bool)
+    ensures { (width n : ℕ) (rows : List (List FmtComposite)) → TableHasSeen fit.old width (measures_in by_word n rows) → TableHasSeen fit.new width (measures_in by_word n (rows ++ cells.now ∷ [])) }
 {
     for (column, cell) in cells.iter().enumerate() {
-        fit.see_cell(column, cell.visible_length);
+        fit.see_cell(column, measure_of(cell, by_word));
+    }
+}
+
+// The columns of a cell, by its longest word or by its cached length.
+fn measure_of(cell: &FmtComposite, by_word: bool) -> usize
+    ensures { result ≡ measure_of by_word cell.now }
+{
+    if by_word {
+        longest_word(&cell.compounds)
+    } else {
+        cell.visible_length
     }
 }
 

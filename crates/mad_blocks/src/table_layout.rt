@@ -157,7 +157,7 @@ fn push_table<'s, S: LineSkin>(
     if nbcols == 0 || width == 0 {
         return push_rest(lines, table.into_iter());
     }
-    let widths = kept_widths(alloc, &table, nbcols, width)?;
+    let widths = kept_widths(alloc, &table, nbcols, width, skin.whole_words())?;
     push_table_lines(alloc, lines, table, &widths, skin)
 }
 

@@ -341,7 +341,7 @@ bare_alone skin drawn (l ∷ ls) two borders none printable =
 
 -- A table's lines fit where its columns do with their borders.
 pub tables_fitting : (skin : RowSkin) (width drawn : ℕ) (table lines : List FmtLine) → 2 ≤ width → width ≤ drawn → drawn < 2 ^ 64 - 1 → AreBordersShown skin
-    → AllByRecursion (IsPrintableTableLine skin []) table → ((ws : List ℕ) → AreKeptWidths (columns_count table) width table ws → AllByRecursion (IsPrintableTableLine skin ws) table)
+    → AllByRecursion (IsPrintableTableLine skin []) table → ((ws : List ℕ) → AreKeptWidths skin.whole_words (columns_count table) width table ws → AllByRecursion (IsPrintableTableLine skin ws) table)
     → IsTableLaidOutBy IsFittingWrap (line_rules skin) (columns_count table) width table lines → AreDrawable skin drawn lines
 tables_fitting skin width drawn table lines two narrower bound borders bare printable (inl (inl none, stays)) =
     subst (AreDrawable skin drawn) (sym stays) (bare_alone skin drawn table (omega (arith, two, narrower)) borders none bare)

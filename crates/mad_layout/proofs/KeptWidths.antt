@@ -1,19 +1,20 @@
 -- The kept widths of a table are those that its text says.
-use Rattle.std.proofs.Common.{◌≡◌, ℕ, ◌+◌, ◌-◌, ◌*◌, ◌/◌, ◌<◌, ◌≤◌, true, List, [], ◌∷◌, map, length, replicate, if◌then◌else◌, nat_le, refl, ap, sym, ◌∙◌, arith}
+use Rattle.std.proofs.Common.{◌≡◌, ℕ, ◌+◌, ◌-◌, ◌*◌, ◌/◌, ◌<◌, ◌≤◌, Bool, true, false, List, [], ◌∷◌, map, length, replicate, if◌then◌else◌, nat_le, refl, ap, ap₂, sym, ◌∙◌, arith}
 use Rattle.std.proofs.lemmas.Bool.Decides.{nat_tests}
 use Rattle.mad_md.specs.Flagged.{FlaggedChar}
 use Rattle.mad_md.specs.Lines.{StyledRuns, LineContent, normal, table_row, table_rule, horizontal_rule}
 use Rattle.mad_style.specs.Kinds.{kind_of}
 use Rattle.mad_style.specs.declared.kinds.CompositeKind.{CompositeKind}
-use Rattle.mad_widths.specs.ColumnWidths.{needs_of, column_widths}
+use Rattle.mad_blocks.specs.CellWords.{longest_word}
 use Rattle.mad_fit.specs.TextColumns.{width_of}
 use Rattle.mad_wrap.specs.WrapLines.{capped}
 use Rattle.mad_blocks.specs.TextParts.{is_table}
-use Rattle.mad_layout.specs.FlaggedTables.{count_in, columns_among, cell_columns, cells_among, kept_widths}
+use Rattle.mad_layout.specs.FlaggedTables.{count_in, columns_among, kept_widths}
+use Rattle.mad_layout.specs.TableColumns.{measure_among, measures_among, cells_among, words_among}
 use Rattle.mad_format.specs.Indents.{indent}
-use Rattle.mad_format.specs.FmtLines.{AreCompositesRead, IsLineRead, is_table_line}
+use Rattle.mad_format.specs.FmtLines.{AreCompositesRead, IsCompositeRead, IsLineRead, is_table_line}
 use Rattle.mad_layout.specs.Premises.{runs_text}
-use Rattle.mad_blocks.specs.Tables.{rows_among, first_columns, lengths_of, lengths_in, AreKeptWidths, columns_count, columns_in}
+use Rattle.mad_blocks.specs.Tables.{rows_among, first_columns, measure_of, lengths_in, words_in, widths_by, AreKeptWidths, columns_count, columns_in}
 use Rattle.mad_format.specs.Wraps.{text_of}
 use Rattle.mad_rows.specs.declared.row_skin.RowSkin.{RowSkin}
 use Rattle.mad_format.specs.declared.composite.FmtComposite.{FmtComposite}
@@ -42,14 +43,19 @@ counts_read skin [] [] h = refl
 counts_read skin (s ∷ ss) (l ∷ ls) h = let rest : length ls ≡ length ss = counts_read skin ss ls h.1 in omega (arith, rest)
 counts_read skin _ _ h = absurd h
 
-lengths_read : (skin : RowSkin) (said : List StyledRuns) (cells : List FmtComposite) → AreCompositesRead (line_rules skin) said cells → lengths_of cells ≡ map (cell_columns skin) said
-lengths_read skin [] [] h = refl
-lengths_read skin (s ∷ ss) (l ∷ ls) h =
-    let text : text_of l ≡ runs_text s.runs = sym (ap runs_text (sym h.0.text) ∙ runs_are l.compounds.items) in
-    let own : l.visible_length ≡ cell_columns skin s =
-    h.0.measured ∙ ap (λ (k : CompositeKind). capped (indent skin.list_items_indentation_mode k + width_of (text_of l))) h.0.kind ∙ ap (λ (t : List FlaggedChar). capped (indent skin.list_items_indentation_mode (kind_of s.style) + width_of t)) text in
-    ap (λ n. n ∷ lengths_of ls) own ∙ ap (λ ns. cell_columns skin s ∷ ns) (lengths_read skin ss ls h.1)
-lengths_read skin _ _ h = absurd h
+measure_read : (b : Bool) (skin : RowSkin) (s : StyledRuns) (l : FmtComposite) → IsCompositeRead (line_rules skin) s l → measure_of b l ≡ measure_among b skin s
+measure_read true skin s l h =
+    let text : text_of l ≡ runs_text s.runs = sym (ap runs_text (sym h.text) ∙ runs_are l.compounds.items) in
+    ap (λ (t : List FlaggedChar). capped (longest_word t)) text
+measure_read false skin s l h =
+    let text : text_of l ≡ runs_text s.runs = sym (ap runs_text (sym h.text) ∙ runs_are l.compounds.items) in
+    h.measured ∙ ap (λ (k : CompositeKind). capped (indent skin.list_items_indentation_mode k + width_of (text_of l))) h.kind ∙ ap (λ (t : List FlaggedChar). capped (indent skin.list_items_indentation_mode (kind_of s.style) + width_of t)) text
+
+measures_read : (b : Bool) (skin : RowSkin) (said : List StyledRuns) (cells : List FmtComposite) → AreCompositesRead (line_rules skin) said cells → map (measure_of b) cells ≡ map (measure_among b skin) said
+measures_read b skin [] [] h = refl
+measures_read b skin (s ∷ ss) (l ∷ ls) h =
+    ap (λ n. n ∷ map (measure_of b) ls) (measure_read b skin s l h.0) ∙ ap (λ ns. measure_among b skin s ∷ ns) (measures_read b skin ss ls h.1)
+measures_read b skin _ _ h = absurd h
 
 line_count : (skin : RowSkin) (c : LineContent) (l : FmtLine) → IsLineRead (line_rules skin) c l → columns_in l ≡ count_in c
 line_count skin (normal said) (Normal l) read = refl
@@ -66,35 +72,35 @@ count_read skin (c ∷ cs) (l ∷ ls) h =
     omega (arith, own, rest)
 count_read skin _ _ h = absurd h
 
-cells_read : (skin : RowSkin) (cs : List LineContent) (ls : List FmtLine) → AreTableRead skin cs ls → map lengths_of (rows_among ls) ≡ cells_among skin cs
-cells_read skin [] [] h = refl
-cells_read skin (normal said ∷ cs) (Normal l ∷ ls) h = cells_read skin cs ls h.1
-cells_read skin (normal said ∷ cs) (TableRow row ∷ ls) h = absurd h.0.read
-cells_read skin (normal said ∷ cs) (TableRule rule ∷ ls) h = absurd h.0.read
-cells_read skin (normal said ∷ cs) (HorizontalRule ∷ ls) h = absurd h.0.read
-cells_read skin (table_row cells ∷ cs) (Normal l ∷ ls) h = absurd h.0.read
-cells_read skin (table_row cells ∷ cs) (TableRow row ∷ ls) h =
-    ap (λ (r : List ℕ). r ∷ map lengths_of (rows_among ls)) (lengths_read skin cells row.cells.items h.0.read) ∙ ap (λ rs. map (cell_columns skin) cells ∷ rs) (cells_read skin cs ls h.1)
-cells_read skin (table_row cells ∷ cs) (TableRule rule ∷ ls) h = absurd h.0.read
-cells_read skin (table_row cells ∷ cs) (HorizontalRule ∷ ls) h = absurd h.0.read
-cells_read skin (table_rule aligns ∷ cs) (Normal l ∷ ls) h = absurd h.0.read
-cells_read skin (table_rule aligns ∷ cs) (TableRow row ∷ ls) h = absurd h.0.read
-cells_read skin (table_rule aligns ∷ cs) (TableRule rule ∷ ls) h = cells_read skin cs ls h.1
-cells_read skin (table_rule aligns ∷ cs) (HorizontalRule ∷ ls) h = absurd h.0.read
-cells_read skin (horizontal_rule ∷ cs) (Normal l ∷ ls) h = absurd h.0.read
-cells_read skin (horizontal_rule ∷ cs) (TableRow row ∷ ls) h = absurd h.0.read
-cells_read skin (horizontal_rule ∷ cs) (TableRule rule ∷ ls) h = absurd h.0.read
-cells_read skin (horizontal_rule ∷ cs) (HorizontalRule ∷ ls) h = cells_read skin cs ls h.1
-cells_read skin _ _ h = absurd h
+cells_read : (b : Bool) (skin : RowSkin) (cs : List LineContent) (ls : List FmtLine) → AreTableRead skin cs ls → map (λ cells. map (measure_of b) cells) (rows_among ls) ≡ measures_among b skin cs
+cells_read b skin [] [] h = refl
+cells_read b skin (normal said ∷ cs) (Normal l ∷ ls) h = cells_read b skin cs ls h.1
+cells_read b skin (normal said ∷ cs) (TableRow row ∷ ls) h = absurd h.0.read
+cells_read b skin (normal said ∷ cs) (TableRule rule ∷ ls) h = absurd h.0.read
+cells_read b skin (normal said ∷ cs) (HorizontalRule ∷ ls) h = absurd h.0.read
+cells_read b skin (table_row cells ∷ cs) (Normal l ∷ ls) h = absurd h.0.read
+cells_read b skin (table_row cells ∷ cs) (TableRow row ∷ ls) h =
+    ap (λ (r : List ℕ). r ∷ map (λ cells. map (measure_of b) cells) (rows_among ls)) (measures_read b skin cells row.cells.items h.0.read) ∙ ap (λ rs. map (measure_among b skin) cells ∷ rs) (cells_read b skin cs ls h.1)
+cells_read b skin (table_row cells ∷ cs) (TableRule rule ∷ ls) h = absurd h.0.read
+cells_read b skin (table_row cells ∷ cs) (HorizontalRule ∷ ls) h = absurd h.0.read
+cells_read b skin (table_rule aligns ∷ cs) (Normal l ∷ ls) h = absurd h.0.read
+cells_read b skin (table_rule aligns ∷ cs) (TableRow row ∷ ls) h = absurd h.0.read
+cells_read b skin (table_rule aligns ∷ cs) (TableRule rule ∷ ls) h = cells_read b skin cs ls h.1
+cells_read b skin (table_rule aligns ∷ cs) (HorizontalRule ∷ ls) h = absurd h.0.read
+cells_read b skin (horizontal_rule ∷ cs) (Normal l ∷ ls) h = absurd h.0.read
+cells_read b skin (horizontal_rule ∷ cs) (TableRow row ∷ ls) h = absurd h.0.read
+cells_read b skin (horizontal_rule ∷ cs) (TableRule rule ∷ ls) h = absurd h.0.read
+cells_read b skin (horizontal_rule ∷ cs) (HorizontalRule ∷ ls) h = cells_read b skin cs ls h.1
+cells_read b skin _ _ h = absurd h
 
-pub widths_kept : (skin : RowSkin) (width : ℕ) (cs : List LineContent) (ls : List FmtLine) (ws : List ℕ) → AreTableRead skin cs ls → AreKeptWidths (columns_count ls) width ls ws → ws ≡ kept_widths skin width cs
+pub widths_kept : (skin : RowSkin) (width : ℕ) (cs : List LineContent) (ls : List FmtLine) (ws : List ℕ) → AreTableRead skin cs ls → AreKeptWidths skin.whole_words (columns_count ls) width ls ws → ws ≡ kept_widths skin width cs
 widths_kept skin width cs ls ws reads kept =
     let n : ℕ = columns_among cs in
     let count : columns_count ls ≡ n = count_read skin cs ls reads in
-    let shared : List ℕ = column_widths (width - 1 - n) (map needs_of (first_columns n (cells_among skin cs))) in
+    let shared : List ℕ = widths_by skin.whole_words (width - 1 - n) (first_columns n (cells_among skin cs)) (first_columns n (words_among skin cs)) in
     let narrow : List ℕ = replicate ((width - 1) / 4) 3 in
     by_bool (λ b. nat_le (4 * n + 1) width ≡ b → ws ≡ (if b then shared else narrow)) (nat_le (4 * n + 1) width)
     (λ on e. let room : 4 * n + 1 ≤ width = grind (arith, nat_tests) in
-    kept.are (omega (arith, room, count)) ∙ ap (λ k. column_widths (width - 1 - k) (map needs_of (lengths_in k (rows_among ls)))) count
-    ∙ ap (λ cells. column_widths (width - 1 - n) (map needs_of cells)) (ap (first_columns n) (cells_read skin cs ls reads)))
+    kept.are (omega (arith, room, count)) ∙ ap (λ k. widths_by skin.whole_words (width - 1 - k) (lengths_in k (rows_among ls)) (words_in k (rows_among ls))) count
+    ∙ ap₂ (λ cells words. widths_by skin.whole_words (width - 1 - n) cells words) (ap (first_columns n) (cells_read false skin cs ls reads)) (ap (first_columns n) (cells_read true skin cs ls reads)))
     (λ off e. let less : width < 4 * n + 1 = grind (arith, nat_tests) in kept.narrow (omega (arith, less, count))) refl

@@ -1,5 +1,5 @@
 -- From a table's layout to the rows of its lines across the columns that are drawn.
-use Rattle.std.proofs.Common.{◌≡◌, ℕ, zero, suc, ◌+◌, ◌-◌, ◌*◌, ◌/◌, ◌^◌, ◌<◌, ◌≤◌, ◌==◌, Bool, true, false, inl, inr, max, List, [], ◌∷◌, ◌++◌, map, length, take, replicate, chars, Option, Some, None, if◌then◌else◌, nat_le, refl, ap, sym, ◌∙◌, subst, arith, append_assoc}
+use Rattle.std.proofs.Common.{◌≡◌, ℕ, zero, suc, ◌+◌, ◌-◌, ◌*◌, ◌/◌, ◌^◌, ◌<◌, ◌≤◌, ◌==◌, Bool, true, false, inl, inr, max, List, [], ◌∷◌, ◌++◌, map, length, take, replicate, sum, chars, Option, Some, None, if◌then◌else◌, nat_le, refl, ap, sym, ◌∙◌, subst, arith, append_assoc}
 use Rattle.std.specs.List.{AllByRecursion}
 use Rattle.std.proofs.lemmas.Bool.Decides.{nat_tests}
 use Rattle.std.proofs.lemmas.List.{map-append, length-map}
@@ -8,7 +8,9 @@ use Rattle.mad_md.specs.Lines.{StyledRuns, LineContent, normal, table_row, table
 use Rattle.mad_md.specs.declared.alignment.Alignment.{Alignment}
 use Rattle.mad_style.specs.Kinds.{kind_of}
 use Rattle.mad_style.specs.declared.kinds.CompositeKind.{CompositeKind}
-use Rattle.mad_widths.specs.ColumnWidths.{needs_of, column_widths, after_second}
+use Rattle.mad_widths.specs.ColumnWidths.{narrowed, second_requests, column_widths, after_second}
+use Rattle.mad_widths.specs.WordWidths.{raised, counted_from, word_widths}
+use Rattle.mad_widths.specs.Turns.{grants}
 use Rattle.mad_fit.specs.TextColumns.{width_of}
 use Rattle.mad_fit.specs.declared.spacing.Spacing.{Spacing}
 use Rattle.mad_wrap.proofs.WrapModes.{by_fits}
@@ -17,13 +19,13 @@ use Rattle.mad_wrap.specs.declared.room.Room.{Room}
 use Rattle.mad_format.specs.CompositeWraps.{line_compounds, HaveKinds, IsCompositeWrap}
 use Rattle.mad_layout.specs.FlaggedLines.{marked_parts}
 use Rattle.mad_layout.specs.FlaggedRows.{AreRowsOf}
-use Rattle.mad_layout.specs.FlaggedTables.{columns_among, cells_among, kept_widths, columns_below, row_in_column, rows_in_column, CellInColumn, AreInColumns, rows_down, most_rows, table_across, IsRowAcross, rule_across}
+use Rattle.mad_layout.specs.FlaggedTables.{columns_among, cells_among, words_among, kept_widths, columns_below, row_in_column, rows_in_column, CellInColumn, AreInColumns, rows_down, most_rows, table_across, IsRowAcross, rule_across}
 use Rattle.mad_layout.specs.FlaggedTexts.{LineInPart, aligns_at, position_in, lines_in, IsAcross}
 use Rattle.mad_format.specs.Indents.{indent, follow_up, room_of}
 use Rattle.mad_format.specs.FmtLines.{bordered, IsCompositeRead, AreCompositesRead, IsLineRead, is_table_line}
 use Rattle.mad_layout.specs.PrintableTables.{ArePrintableCells}
 use Rattle.mad_layout.specs.Premises.{IsPrintablePrefix, IsPrintableText, KeepsPremises}
-use Rattle.mad_blocks.specs.Tables.{first_columns, in_column, IsCellLaidOut, AreCellsLaidOut, below, tallest, IsRowLaidOutBy, columns_with, columns_from, columns_count, columns_in, position_at, IsTableLineBy, AreTableLinesBy, IsTableLaidOutBy}
+use Rattle.mad_blocks.specs.Tables.{first_columns, widths_by, in_column, IsCellLaidOut, AreCellsLaidOut, below, tallest, IsRowLaidOutBy, columns_with, columns_from, columns_count, columns_in, position_at, IsTableLineBy, AreTableLinesBy, IsTableLaidOutBy}
 use Rattle.mad_blocks.specs.Tables as tables
 use Rattle.mad_format.specs.Wraps.{text_of, columns_of, IsMeasured}
 use Rattle.mad_rows.specs.declared.row_skin.RowSkin.{RowSkin}
@@ -241,16 +243,24 @@ laid_in skin width ws part above first _ _ own is some reads _ = absurd reads
 
 -- ---- a table without columns
 
-no_columns : (available : ℕ) → column_widths available [] ≡ []
+no_columns_shared : (available : ℕ) → column_widths available [] ≡ []
 unfolding column_widths
-no_columns available = let test : nat_le 0 available ≡ true = grind (arith, nat_tests) in ap (λ (b : Bool). if b then [] else after_second available []) test
+no_columns_shared available = let test : nat_le 0 available ≡ true = grind (arith, nat_tests) in ap (λ (b : Bool). if b then [] else after_second available []) test
+
+no_columns : (whole_words : Bool) (available : ℕ) → widths_by whole_words available [] [] ≡ []
+unfolding word_widths
+no_columns true available =
+    let test : nat_le 0 available ≡ true = grind (arith, nat_tests) in
+    let given : List ℕ → List ℕ = λ ws. narrowed (raised ws []) (grants [] (second_requests (sum (raised ws []) - available) (counted_from (raised ws []) [])) (sum (raised ws []) - available)) in
+    ap (λ (ws : List ℕ). if nat_le 0 available then given ws else ws) (no_columns_shared available) ∙ ap (λ (b : Bool). if b then [] else []) test
+no_columns false available = no_columns_shared available
 
 no_widths : (skin : RowSkin) (width : ℕ) (part : List LineContent) → 0 < width → columns_among part ≡ 0 → [] ≡ kept_widths skin width part
 no_widths skin width part some none =
     let test : nat_le (4 * columns_among part + 1) width ≡ true = grind (arith, nat_tests) in
-    sym (ap (λ n. if nat_le (4 * n + 1) width then column_widths (width - 1 - n) (map needs_of (first_columns n (cells_among skin part))) else replicate ((width - 1) / 4) 3) none
-    ∙ ap (λ (b : Bool). if b then column_widths (width - 1 - 0) [] else replicate ((width - 1) / 4) 3) (ap (λ n. nat_le (4 * n + 1) width) (sym none) ∙ test)
-    ∙ no_columns (width - 1 - 0))
+    sym (ap (λ n. if nat_le (4 * n + 1) width then widths_by skin.whole_words (width - 1 - n) (first_columns n (cells_among skin part)) (first_columns n (words_among skin part)) else replicate ((width - 1) / 4) 3) none
+    ∙ ap (λ (b : Bool). if b then widths_by skin.whole_words (width - 1 - 0) [] [] else replicate ((width - 1) / 4) 3) (ap (λ n. nat_le (4 * n + 1) width) (sym none) ∙ test)
+    ∙ no_columns skin.whole_words (width - 1 - 0))
 
 none_below : (aligns : Option (List Alignment)) → columns_below [] aligns ≡ []
 none_below None = refl

@@ -15,7 +15,7 @@ use Rattle.mad_format.specs.Indents.{indent, follow_up, room_of}
 use Rattle.mad_format.specs.FmtLines.{bordered, rule_columns}
 use Rattle.mad_format.specs.Lists.{most}
 use Rattle.mad_rows.specs.Rows.{rule_chars}
-pub use Rattle.mad_layout.specs.TableColumns.{cell_columns, cells_among, kept_widths, columns_below}
+pub use Rattle.mad_layout.specs.TableColumns.{cell_columns, cells_among, words_among, kept_widths, columns_below}
 pub use Rattle.mad_blocks.specs.TextParts.{count_in, columns_among}
 use Rattle.mad_rows.specs.declared.row_skin.RowSkin.{RowSkin}
 use Rattle.mad_format.specs.declared.table.RelativePosition.{RelativePosition}

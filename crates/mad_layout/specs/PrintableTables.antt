@@ -31,5 +31,5 @@ IsPrintableTableLine skin ws _ = ⊥
 abbrev pub TablesFit : Wrap → Type 0
 TablesFit wraps =
     (skin : RowSkin) (width drawn : ℕ) (table lines : List FmtLine) → 2 ≤ width → width ≤ drawn → drawn < 2 ^ 64 - 1 → AreBordersShown skin
-    → AllByRecursion (IsPrintableTableLine skin []) table → ((ws : List ℕ) → AreKeptWidths (columns_count table) width table ws → AllByRecursion (IsPrintableTableLine skin ws) table)
+    → AllByRecursion (IsPrintableTableLine skin []) table → ((ws : List ℕ) → AreKeptWidths skin.whole_words (columns_count table) width table ws → AllByRecursion (IsPrintableTableLine skin ws) table)
     → IsTableLaidOutBy wraps (line_rules skin) (columns_count table) width table lines → AreDrawable skin drawn lines

@@ -1,15 +1,15 @@
 -- The columns of a table, by its text.
-use Rattle.std.specs.Prelude.{ℕ, ◌+◌, ◌-◌, ◌*◌, ◌/◌, nat_le, if◌then◌else◌, List, [], ◌∷◌, map, replicate, Option, Some, None}
+use Rattle.std.specs.Prelude.{ℕ, ◌+◌, ◌-◌, ◌*◌, ◌/◌, nat_le, if◌then◌else◌, Bool, true, false, List, [], ◌∷◌, map, replicate, Option, Some, None}
 use Rattle.mad_md.specs.Lines.{StyledRuns, LineContent, normal, table_row, table_rule, horizontal_rule}
 use Rattle.mad_md.specs.declared.alignment.Alignment.{Alignment}
 use Rattle.mad_style.specs.Kinds.{kind_of}
-use Rattle.mad_widths.specs.ColumnWidths.{needs_of, column_widths}
 use Rattle.mad_fit.specs.TextColumns.{width_of}
 use Rattle.mad_fit.specs.declared.spacing.Spacing.{Spacing}
 use Rattle.mad_wrap.specs.WrapLines.{capped}
 use Rattle.mad_format.specs.Indents.{indent}
 use Rattle.mad_layout.specs.LineTexts.{runs_text}
-use Rattle.mad_blocks.specs.Tables.{columns_with, centered, first_columns}
+use Rattle.mad_blocks.specs.CellWords.{longest_word}
+use Rattle.mad_blocks.specs.Tables.{columns_with, centered, first_columns, widths_by}
 use Rattle.mad_blocks.specs.TextParts.{columns_among}
 use Rattle.mad_rows.specs.declared.row_skin.RowSkin.{RowSkin}
 
@@ -17,20 +17,38 @@ use Rattle.mad_rows.specs.declared.row_skin.RowSkin.{RowSkin}
 abbrev pub cell_columns : RowSkin → StyledRuns → ℕ
 cell_columns skin cell = capped (indent skin.list_items_indentation_mode (kind_of cell.style) + width_of (runs_text cell.runs))
 
+-- the columns of a cell's longest word, 2^64 - 1 at most
+abbrev pub word_columns : StyledRuns → ℕ
+word_columns cell = capped (longest_word (runs_text cell.runs))
+
+-- a cell's columns, by its longest word or by all of it
+abbrev pub measure_among : Bool → RowSkin → StyledRuns → ℕ
+measure_among true skin cell = word_columns cell
+measure_among false skin cell = cell_columns skin cell
+
 -- those of the cells of each row
+abbrev pub measures_among : Bool → RowSkin → List LineContent → List (List ℕ)
+measures_among by_word skin [] = []
+measures_among by_word skin (normal line ∷ ls) = measures_among by_word skin ls
+measures_among by_word skin (table_row cells ∷ ls) = map (measure_among by_word skin) cells ∷ measures_among by_word skin ls
+measures_among by_word skin (table_rule aligns ∷ ls) = measures_among by_word skin ls
+measures_among by_word skin (horizontal_rule ∷ ls) = measures_among by_word skin ls
+
+-- the columns of the cells of each row
 abbrev pub cells_among : RowSkin → List LineContent → List (List ℕ)
-cells_among skin [] = []
-cells_among skin (normal line ∷ ls) = cells_among skin ls
-cells_among skin (table_row cells ∷ ls) = map (cell_columns skin) cells ∷ cells_among skin ls
-cells_among skin (table_rule aligns ∷ ls) = cells_among skin ls
-cells_among skin (horizontal_rule ∷ ls) = cells_among skin ls
+cells_among skin ls = measures_among false skin ls
+
+-- those of their longest words
+abbrev pub words_among : RowSkin → List LineContent → List (List ℕ)
+words_among skin ls = measures_among true skin ls
 
 -- The widths of a table's kept columns: where there is room for three in each, what their cells need or their share of it; else as many
--- columns are kept as have room, of three.
+-- columns are kept as have room, of three. Where words stay whole, no column is narrower than its longest word if the longest words fit
+-- together.
 abbrev pub kept_widths : RowSkin → ℕ → List LineContent → List ℕ
 kept_widths skin width table =
     let n = columns_among table in
-    if nat_le (4 * n + 1) width then column_widths (width - 1 - n) (map needs_of (first_columns n (cells_among skin table))) else replicate ((width - 1) / 4) 3
+    if nat_le (4 * n + 1) width then widths_by skin.whole_words (width - 1 - n) (first_columns n (cells_among skin table)) (first_columns n (words_among skin table)) else replicate ((width - 1) / 4) 3
 
 -- columns of these widths below a rule with these alignments; centered ones where no rule is above
 abbrev pub columns_below : List ℕ → Option (List Alignment) → List Spacing

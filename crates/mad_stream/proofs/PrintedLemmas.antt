@@ -1,12 +1,15 @@
 -- Texts that are made printable piece by piece: how the pieces join.
-use Rattle.std.proofs.Common.{◌≡◌, ℕ, ◌==◌, Bool, true, false, cond, List, [], ◌∷◌, ◌++◌, chars, refl, sym, ap, ◌∙◌, subst, append_assoc, encode_utf8_all}
-use Rattle.std.specs.Prelude.{IsUtf8}
+use Rattle.std.proofs.Common.{◌≡◌, ℕ, ◌==◌, Bool, true, false, cond, List, [], ◌∷◌, ◌++◌, chars, refl, sym, ap, ◌∙◌, subst, append_assoc, arith, length, encode_utf8, encode_utf8_all, Result}
+use Rattle.std.specs.Char.{IsScalar}
+use Rattle.std.specs.Prelude.{IfOk, IsUtf8}
 use Rattle.std.proofs.lemmas.List.{append-nil}
-use Rattle.std.proofs.lemmas.Str.{chars-append, chars-nil, encodes-append}
-use Rattle.mad_fit.specs.Printable.{printable_text, shown_as, shown_from, tab_spaces, return_shown, picture}
+use Rattle.std.proofs.lemmas.Str.{chars-append, chars_past_char, chars-nil, encodes-append, IsUtf8-append, IsUtf8-encode}
+use Rattle.mad_fit.specs.Printable.{printable_text, shown_as, shown_from, tab_spaces, return_shown}
+use Rattle.mad_printable.specs.Pictures.{picture}
 use Rattle.mad_md.proofs.PartsLemmas.{true_test}
 use Rattle.mad_blocks.proofs.LayoutJoins.{by_bool}
-use Rattle.mad_stream.specs.PrintedPieces.{shown_growing, growing, printed, place_of, place_after, place_char, place_shown, return_end, piece_shown, end_shown}
+use Rattle.mad_stream.proofs.TextFrontLemmas.{rest_of}
+use Rattle.mad_stream.specs.PrintedPieces.{shown_growing, growing, printed, place_of, place_after, place_char, place_shown, piece_shown, end_shown}
 use Rattle.mad_stream.specs.declared.printed.Place.{Place}
 use Rattle.mad_stream.specs.declared.printed.Place.TheVariants.{LineStart, InLine, AfterReturn}
 
@@ -29,12 +32,12 @@ starts_line : (c : ℕ) → (c == 10) ≡ true → place_of c ≡ LineStart
 starts_line c on = ap (λ t. cond t LineStart (cond (c == 13) AfterReturn InLine)) on
 
 in_line : (c : ℕ) → (c == 10) ≡ false → (c == 13) ≡ false → place_of c ≡ InLine
-in_line c no off = ap (λ t. cond t LineStart (cond (c == 13) AfterReturn InLine)) no ∙ ap (λ t. cond t AfterReturn InLine) off
+in_line c off10 off = ap (λ t. cond t LineStart (cond (c == 13) AfterReturn InLine)) off10 ∙ ap (λ t. cond t AfterReturn InLine) off
 
 line_end : (c : ℕ) (ds : List ℕ) → (c == 13) ≡ false → shown_growing (c == 10) ds ≡ piece_shown (place_of c) ds
 line_end c ds off =
     by_bool (λ t. (c == 10) ≡ t → shown_growing (c == 10) ds ≡ piece_shown (place_of c) ds) (c == 10) (λ on e. ap (λ t. shown_growing t ds) on ∙ sym (ap (λ p. piece_shown p ds) (starts_line c on)))
-    (λ no e. ap (λ t. shown_growing t ds) no ∙ sym (ap (λ p. piece_shown p ds) (in_line c no off))) refl
+    (λ off10 e. ap (λ t. shown_growing t ds) off10 ∙ sym (ap (λ p. piece_shown p ds) (in_line c off10 off))) refl
 
 -- one character, and what comes after it
 one_then : (b : Bool) (c : ℕ) (ds : List ℕ) → shown_growing b (c ∷ ds) ≡ shown_growing b (c ∷ []) ++ piece_shown (place_of c) ds
@@ -73,7 +76,7 @@ one_ended b c =
   where
     none_ended : (c == 13) ≡ false → end_shown (place_of c) ≡ []
     none_ended off =
-        by_bool (λ t. (c == 10) ≡ t → end_shown (place_of c) ≡ []) (c == 10) (λ on e. ap end_shown (starts_line c on)) (λ no e. ap end_shown (in_line c no off)) refl
+        by_bool (λ t. (c == 10) ≡ t → end_shown (place_of c) ≡ []) (c == 10) (λ on e. ap end_shown (starts_line c on)) (λ off10 e. ap end_shown (in_line c off10 off)) refl
 
     other : (c == 13) ≡ false → shown_from b (c ∷ []) ≡ shown_growing b (c ∷ []) ++ end_shown (place_of c)
     other off = ap (λ (l : List ℕ). l ++ []) (sym (growing_alone b c off)) ∙ ap (λ (l : List ℕ). shown_growing b (c ∷ []) ++ l) (sym (none_ended off))
@@ -95,6 +98,7 @@ growing_more a b utf8 =
     ∙ encodes-append (shown_growing true (chars a)) (piece_shown (place_after LineStart (chars a)) (chars b))
 
 encode_end : (p : Place) → encode_utf8_all (end_shown p) ≡ end_shown p
+unfolding lib.Utf8.encode
 encode_end LineStart = refl
 encode_end InLine = refl
 encode_end AfterReturn = refl
@@ -115,3 +119,41 @@ pub piece_placed : (p : Place) (cs : List ℕ) → shown_from true (place_char p
 piece_placed LineStart cs = ap (λ (l : List ℕ). 10 ∷ l) (all_ended true cs LineStart refl)
 piece_placed InLine cs = ap (λ (l : List ℕ). 46 ∷ l) (all_ended false cs InLine refl)
 piece_placed AfterReturn cs = all_ended true (13 ∷ cs) LineStart refl ∙ ap (λ (l : List ℕ). l ++ end_shown (place_after AfterReturn cs)) (return_alone true cs)
+
+-- the character that it is placed behind, and it
+pub placed_chars : (p : Place) (piece placed : List ℕ) → IsUtf8 piece → placed ≡ encode_utf8 (place_char p) ++ piece → chars placed ≡ place_char p ∷ chars piece
+placed_chars p piece placed utf8 is = chars_past_char placed piece (place_char p) (subst IsUtf8 (sym is) (IsUtf8-append (encode_utf8 (place_char p)) piece (IsUtf8-encode (place_char p) (scalar_place p)) utf8)) is
+  where
+    scalar_place : (p : Place) → IsScalar (place_char p)
+    scalar_place LineStart = refl
+    scalar_place InLine = refl
+    scalar_place AfterReturn = refl
+
+-- the character that a text ends with
+pub last_place : (p : Place) (text front : List ℕ) (c : ℕ) → IsUtf8 text → IsUtf8 front → text ≡ front ++ encode_utf8 c → place_after p (chars text) ≡ place_of c
+last_place p text front c utf8 first is =
+    let last : chars (encode_utf8 c) ≡ c ∷ chars [] = chars_past_char (encode_utf8 c) [] c (rest_of front (encode_utf8 c) first (subst IsUtf8 is utf8)) (sym (append-nil (encode_utf8 c))) in
+    ap (λ (t : List ℕ). place_after p (chars t)) is ∙ ap (λ (cs : List ℕ). place_after p cs) (chars-append front (encode_utf8 c) first ∙ ap (λ (cs : List ℕ). chars front ++ cs) (last ∙ ap (λ (cs : List ℕ). c ∷ cs) chars-nil))
+    ∙ after_both p (chars front) (c ∷ [])
+
+pub no_place : (p : Place) (text : List ℕ) → length text ≡ 0 → place_after p (chars text) ≡ p
+no_place p [] none = ap (λ (cs : List ℕ). place_after p cs) chars-nil
+no_place p (x ∷ text) none = absurd (omega arith)
+
+encode_place : (p : Place) → encode_utf8_all (place_shown p) ≡ place_shown p
+unfolding lib.Utf8.encode
+encode_place LineStart = refl
+encode_place InLine = refl
+encode_place AfterReturn = refl
+
+-- what is made of it, in bytes
+pub piece_made : (p : Place) (piece placed made : List ℕ) → IsUtf8 piece → placed ≡ encode_utf8 (place_char p) ++ piece → made ≡ encode_utf8_all (printable_text (chars placed))
+    → made ≡ place_shown p ++ (encode_utf8_all (piece_shown p (chars piece)) ++ end_shown (place_after p (chars piece)))
+piece_made p piece placed made utf8 is made_is =
+    let cs : List ℕ = chars piece in
+    let last : List ℕ = end_shown (place_after p cs) in
+    made_is ∙ ap (λ (ds : List ℕ). encode_utf8_all (printable_text ds)) (placed_chars p piece placed utf8 is) ∙ ap encode_utf8_all (piece_placed p cs) ∙ encodes-append (place_shown p) (piece_shown p cs ++ last)
+    ∙ ap (λ (l : List ℕ). l ++ encode_utf8_all (piece_shown p cs ++ last)) (encode_place p) ∙ ap (λ (l : List ℕ). place_shown p ++ l) (encodes-append (piece_shown p cs) last ∙ ap (λ (l : List ℕ). encode_utf8_all (piece_shown p cs) ++ l) (encode_end (place_after p cs)))
+
+pub text_is : {S E : Type 0} (bytes_of : S → List ℕ) (r : Result S E) (bytes text : List ℕ) → IfOk r (λ s. bytes_of s ≡ bytes) → bytes ≡ text → IfOk r (λ s. bytes_of s ≡ text)
+text_is {S} {E} bytes_of r bytes text h is = subst (λ (b : List ℕ). IfOk r (λ s. bytes_of s ≡ b)) is h

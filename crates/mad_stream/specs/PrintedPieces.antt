@@ -41,18 +41,13 @@ place_shown LineStart = 10 ∷ []
 place_shown InLine = 46 ∷ []
 place_shown AfterReturn = []
 
--- what is shown of a carriage return that ends a text: its line ends
-abbrev pub return_end : Bool → List ℕ
-return_end true = 10 ∷ []
-return_end false = []
-
 -- what is shown of a piece, and of the carriage return that it comes behind
 abbrev pub piece_shown : Place → List ℕ → List ℕ
 piece_shown LineStart cs = shown_growing true cs
 piece_shown InLine cs = shown_growing false cs
 piece_shown AfterReturn cs = shown_growing false (13 ∷ cs)
 
--- what is shown at the end of a text: a carriage return ends its line
+-- what is shown yet where a text ends there: a carriage return ends its line
 abbrev pub end_shown : Place → List ℕ
 end_shown AfterReturn = 10 ∷ []
 end_shown _ = []

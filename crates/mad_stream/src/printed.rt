@@ -1,7 +1,7 @@
 //! Pieces of a text that others wrote, made printable one after another.
 
-ghost use Rattle.std.specs.Prelude.{◌≡◌, ◌++◌, ℕ, List, chars, encode_utf8_all, IfOk, string_bytes};
-ghost use Rattle.mad_stream.specs.PrintedPieces.{piece_shown, place_after, place_char, place_shown, return_end};
+ghost use Rattle.std.specs.Prelude.{◌≡◌, ◌++◌, ℕ, List, chars, encode_utf8, encode_utf8_all, length, IfOk, IsUtf8, MatchOption, string_bytes};
+ghost use Rattle.mad_stream.specs.PrintedPieces.{piece_shown, place_after, place_of, place_char, place_shown, end_shown};
 
 use mad_fit::printable;
 use std::alloc::{AllocError, Global};
@@ -31,8 +31,8 @@ pub(crate) fn printable_piece(
     placed.push_str(piece)?;
     let shown = printable(alloc, placed.as_str())?;
     let shown = without_place(&shown, place);
-    let is_returned = placed.as_str().ends_with('\r');
-    String::from_str(alloc, without_end(shown, is_returned))
+    let shown = without_end(shown, place_after(place, piece));
+    String::from_str(alloc, shown)
 }
 
 // What is shown of a piece, without what is shown of the character that it was placed behind: of a carriage return that stays.
@@ -45,11 +45,11 @@ fn without_place(shown: &str, place: Place) -> &str
     shown.strip_prefix(place_char(place)).unwrap_or(shown)
 }
 
-// What is shown of a piece, without the newline that is shown of a carriage return at its end.
-fn without_end(shown: &str, is_returned: bool) -> &str
-    ensures { (front : List ℕ) → shown.entry.now ≡ front ++ return_end is_returned → result.now ≡ front }
+// What is shown of a piece, after which the text stands there, without the newline that is shown of a carriage return at its end.
+fn without_end(shown: &str, next: Place) -> &str
+    ensures { (front : List ℕ) → shown.entry.now ≡ front ++ end_shown next → result.now ≡ front }
 {
-    if !is_returned {
+    if next != Place::AfterReturn {
         return shown;
     }
     shown.strip_suffix('\n').unwrap_or(shown)
@@ -70,10 +70,28 @@ fn place_char(place: Place) -> char
 pub(crate) fn place_after(place: Place, piece: &str) -> Place
     ensures { result ≡ place_after place (chars piece.now) }
 {
-    match piece.chars().next_back() {
+    match last_char(piece) {
         None => place,
-        Some('\n') => Place::LineStart,
-        Some('\r') => Place::AfterReturn,
-        Some(_) => Place::InLine,
+        Some((_, c)) => place_of(c),
     }
+}
+
+// Where what comes after a character stands.
+fn place_of(c: char) -> Place
+    ensures { result ≡ place_of c }
+{
+    match c {
+        '\n' => Place::LineStart,
+        '\r' => Place::AfterReturn,
+        _ => Place::InLine,
+    }
+}
+
+// The characters of a text before the last one, and that.
+fn last_char(text: &str) -> Option<(&str, char)>
+    ensures { MatchOption result (length text.entry.now ≡ 0) (λ parts. IsUtf8 parts.0.now × (text.entry.now ≡ parts.0.now ++ encode_utf8 parts.1)) }
+{
+    let mut chars = text.chars();
+    let c = chars.next_back()?;
+    Some((chars.as_str(), c))
 }

@@ -1,5 +1,5 @@
 -- The steps of a call: why it is refused, and what its inputs are.
-use Rattle.std.proofs.Common.{◌≡◌, ◌≢◌, ◌≤◌, ◌<◌, ℕ, List, [], ◌∷◌, length, Option, Some, None, MatchResult, Result, Ok, Err, IsUtf8, false, refl, ap, sym, ◌∙◌, subst, inr, arith}
+use Rattle.std.proofs.Common.{◌≡◌, ◌≢◌, ◌≤◌, ◌<◌, ◌^◌, ℕ, Bool, List, [], ◌∷◌, length, Option, Some, None, MatchResult, Result, Ok, Err, IsUtf8, false, refl, ap, sym, ◌∙◌, subst, inl, inr, arith}
 use Rattle.std.specs.Result.{IsErrAnd}
 use Rattle.std.proofs.lemmas.Result.{err_from_is_err_and}
 use Rattle.termimad.specs.Fitting.{IsCompositeFitted}
@@ -10,7 +10,9 @@ use Rattle.termimad.specs.RowSkins.{row_skin}
 use Rattle.termimad.specs.RowStyles.{line_rules}
 use Rattle.termimad.specs.Rows.{composite_pieces, margins_of}
 use Rattle.termimad.specs.Trace.{Trace}
+use Rattle.termimad.specs.StreamedParts.{WritesFront}
 use Rattle.termimad.specs.declared.Alignment.{Alignment}
+use Rattle.termimad.specs.declared.Error.{Error}
 use Rattle.termimad.specs.declared.FmtComposite.{FmtComposite}
 use Rattle.termimad.specs.declared.FmtLine.{FmtLine}
 use Rattle.termimad.specs.declared.MadSkin.{MadSkin}
@@ -19,10 +21,12 @@ use Rattle.termimad_run.specs.ProgramRuns.{WritesCall, ShowsCall}
 use Rattle.termimad_run.specs.declared.call.Command.{Command}
 use Rattle.termimad_run.specs.declared.failure.Failure.{Failure}
 use Rattle.termimad_run.specs.declared.failure.Failure.TheVariants as failure
-use Rattle.termimad_c.specs.Answers.{refusal_of}
+use Rattle.termimad_c.specs.Answers.{HandsOut, HandsOutParts, bit, refusal_of}
 use Rattle.termimad_c.specs.Gathered.{untouched}
-use Rattle.termimad_c.specs.Inputs.{word_given, IsSkinOf, RefusesSkin, RefusesCall, alignment_number}
-use Rattle.termimad_c.specs.Making.{IsWritten, IsRowCount, IsFittedLine}
+use Rattle.termimad_c.specs.Inputs.{word_given, IsNoText, IsSkinOf, IsTextSoFar, RefusesSkin, RefusesCall, RefusesParts, alignment_number}
+use Rattle.termimad_c.specs.Making.{ArePartsOf, IsWritten, IsRowCount, IsFittedLine}
+use Rattle.termimad_c.specs.declared.answer.Answer.{Answer}
+use Rattle.termimad_c.specs.declared.answer.Progress.{Progress}
 use Rattle.termimad_c.specs.declared.answer.Refusal.{Refusal}
 use Rattle.termimad_c.specs.declared.answer.Refusal.TheVariants.{Condition, NotUtf8, Skin, Memory}
 
@@ -109,3 +113,53 @@ line_fitted text word src width align columns alignment skin dress line fitted w
   cut = λ h. subst (λ (w : ℕ). IsCompositeFitted (line_rules (row_skin skin)) alignment w line fitted) q (cut (subst (λ (w : ℕ). w < line.visible_length) (sym q) h));
   whole_is = written ∙ ap (λ (s : MadSkin). pieces_bytes (composite_pieces (row_skin s) None (margins_of (row_skin s) None fitted) false fitted)) worn;
 }
+
+-- the parts of a text that were laid out
+pub parts_written : (text word read : List ℕ) (width columns : ℕ) (skin : MadSkin) (fenced is_last : Bool) (used : ℕ) (fenced_then : Bool) (r : Result (ℕ × Bool) Error) (old last : Trace) (rows : List ℕ) → width < 2 ^ 16 → columns ≡ width → IsSkinOf word skin → IsTextSoFar is_last text read
+    → old ≡ untouched → r ≡ Ok (used, fenced_then) → WritesFront (row_skin skin) (Some columns) read fenced is_last old r last → last.bytes ≡ Some rows → ArePartsOf text word width fenced is_last rows used fenced_then
+parts_written text word read width columns skin fenced is_last used fenced_then r old last rows narrow wide given so_far q is writes taken = record {
+  narrow = narrow;
+  skin = skin;
+  given = given;
+  read = read;
+  so_far = so_far;
+  last = last;
+  writes = subst (λ n. WritesFront (row_skin skin) (Some n) read fenced is_last untouched (Ok (used, fenced_then)) last) wide
+      (subst (λ (s : Result (ℕ × Bool) Error). WritesFront (row_skin skin) (Some columns) read fenced is_last untouched s last) is (subst (λ (o : Trace). WritesFront (row_skin skin) (Some columns) read fenced is_last o r last) q writes));
+  rows_are = taken;
+}
+
+-- why such a call is refused
+pub parts_narrow : (text word : List ℕ) (width : ℕ) (is_last : Bool) (refusal : Refusal) → (refusal ≡ Condition) × (2 ^ 16 ≤ width) → RefusesParts text word width is_last refusal
+parts_narrow text word width is_last refusal (is, wide) = subst (RefusesParts text word width is_last) (sym is) wide
+
+pub parts_in_skin : (text word : List ℕ) (width : ℕ) (is_last : Bool) (refusal : Refusal) → RefusesSkin word refusal → RefusesParts text word width is_last refusal
+parts_in_skin text word width is_last NotUtf8 h = inr h
+parts_in_skin text word width is_last Skin h = h
+parts_in_skin text word width is_last Memory h = tt
+parts_in_skin text word width is_last Condition h = absurd h
+
+pub parts_no_text : (text word : List ℕ) (width : ℕ) (is_last : Bool) (refusal : Refusal) → (refusal ≡ NotUtf8) × IsNoText is_last text → RefusesParts text word width is_last refusal
+parts_no_text text word width is_last refusal (is, none) = subst (RefusesParts text word width is_last) (sym is) (inl none)
+
+pub parts_no_memory : (text word : List ℕ) (width : ℕ) (is_last : Bool) (refusal : Refusal) → refusal ≡ Memory → RefusesParts text word width is_last refusal
+parts_no_memory text word width is_last refusal is = subst (RefusesParts text word width is_last) (sym is) tt
+
+-- rows that fit the buffer, and others
+pub parts_fit : (rows old new : List ℕ) (used : ℕ) (fenced_then fenced : Bool) (answer : Answer) (progress : Progress) → HandsOut rows old answer new → answer.status ≡ 0 → progress ≡ record { count = answer.count; used = used; fenced = bit fenced_then; status = answer.status }
+    → HandsOutParts rows used fenced_then fenced old progress new
+parts_fit rows old new used fenced_then fenced answer progress h fits is = subst (λ (p : Progress). HandsOutParts rows used fenced_then fenced old p new) (sym is) (record {
+  count = h.count;
+  done = λ enough. (fits, refl, refl);
+  short = λ less. absurd (omega (arith, sym fits ∙ h.short less));
+  front = h.front;
+})
+
+pub parts_cut : (rows old new : List ℕ) (used : ℕ) (fenced_then fenced : Bool) (answer : Answer) (progress : Progress) → HandsOut rows old answer new → answer.status ≢ 0 → progress ≡ record { count = answer.count; used = 0; fenced = bit fenced; status = answer.status }
+    → HandsOutParts rows used fenced_then fenced old progress new
+parts_cut rows old new used fenced_then fenced answer progress h other is = subst (λ (p : Progress). HandsOutParts rows used fenced_then fenced old p new) (sym is) (record {
+  count = h.count;
+  done = λ enough. absurd (other (h.done enough));
+  short = λ less. (h.short less, refl, refl);
+  front = h.front;
+})

@@ -1,16 +1,14 @@
 -- The bytes that a call makes of a text, in the skin of a word.
-use Rattle.std.specs.Prelude.{◌≡◌, ℕ, ◌≤◌, ◌<◌, ◌^◌, Bool, List, Some, None, false, Ok, IsUtf8, chars, encode_utf8_all, length, take}
+use Rattle.std.specs.Prelude.{◌≡◌, ℕ, ◌≤◌, ◌<◌, ◌^◌, Bool, List, Some, None, false, Ok, IsUtf8, chars, encode_utf8_all, length}
 use Rattle.termimad.specs.Fitting.{IsCompositeFitted}
 use Rattle.termimad.specs.Inlines.{IsInlineOf}
-use Rattle.termimad.specs.Layouts.{IsMarkdownLayout, IsLayoutAt}
-use Rattle.termimad.specs.Reading.{resumed_text}
-use Rattle.termimad.specs.Scan.{lines_of}
-use Rattle.termimad.specs.StreamedParts.{IsLaidOutFront}
+use Rattle.termimad.specs.Layouts.{IsMarkdownLayout}
+use Rattle.termimad.specs.StreamedParts.{WritesFront}
 use Rattle.termimad.specs.Pieces.{pieces_bytes}
 use Rattle.termimad.specs.Printable.{printable_text}
 use Rattle.termimad.specs.RowSkins.{row_skin}
 use Rattle.termimad.specs.RowStyles.{line_rules}
-use Rattle.termimad.specs.Rows.{composite_pieces, margins_of, text_bytes}
+use Rattle.termimad.specs.Rows.{composite_pieces, margins_of}
 use Rattle.termimad.specs.Trace.{Trace}
 use Rattle.termimad.specs.declared.Alignment.{Alignment}
 use Rattle.termimad.specs.declared.Area.{Area}
@@ -83,7 +81,6 @@ pub record ArePartsOf (text word : List ℕ) (width : ℕ) (fenced is_last : Boo
   pub given : IsSkinOf word skin
   pub read : List ℕ
   pub so_far : IsTextSoFar is_last text read
-  pub front : IsLaidOutFront is_last read fenced used fenced_then
-  pub lines : List FmtLine
-  pub layout : IsLayoutAt (line_rules (row_skin skin)) (Some width) (lines_of (resumed_text fenced (take used read))) lines
-  pub rows_are : rows ≡ text_bytes (row_skin skin) (Some width) lines
+  pub last : Trace
+  pub writes : WritesFront (row_skin skin) (Some width) read fenced is_last untouched (Ok (used, fenced_then)) last
+  pub rows_are : last.bytes ≡ Some rows

@@ -77,6 +77,7 @@ fn written(alloc: Global, text: &[u8], skin: &[u8], command: &Command) -> Result
 }
 
 /// The complete parts at the front of a text, laid out at a width; those of all of it, where it is the last.
+#[tactic(auto, using(crate::proofs::Steps::parts_in_skin))]
 pub fn parts_made(
     alloc: Global,
     text: &[u8],
