@@ -33,25 +33,21 @@ styled_put skin l xs i d whole text new style inside is h put =
     ∙ (append_assoc text (f x) (flat_map f (drop (i + 1) xs)) ∙ (ap (λ (t : List StyledChar). text ++ t) (sym (flat_map-cons f x (drop (i + 1) xs)) ∙ ap (flat_map f) (sym (drop_more xs i d inside))) ∙ h))
 
 -- the hits of a text
-pub text_hits : (skin : RowSkin) (sought : List ℕ) (l : FmtComposite) (column left at inner : ℕ) (text : List StyledChar) (letters starts : List ℕ) (exact : Bool) (old new : List Hit)
+pub text_hits : (skin : RowSkin) (sought : List ℕ) (l : FmtComposite) (n : ℕ) (text : List StyledChar) (letters starts : List ℕ) (exact : Bool) (old new : List Hit)
     → text ≡ styled_text skin l → letters ≡ chars sought → exact ≡ has_capital sought → AreStarts letters (map (compared_char exact) (map char_alone text)) 0 starts
-    → left ≡ capped column → inner ≡ capped at → ((n : ℕ) → min (left + inner) (2 ^ 64 - 1) ≡ capped n → map marked_of new ≡ map marked_of old ++ map (marked_at n text (length letters)) starts)
-    → Adds (AreTextHits skin sought (record { column = column + at; text = l })) old new
-text_hits skin sought l column left at inner text letters starts exact old new said spelt cased begin here there put =
-    let e = put (column + at) (omega (arith, here, there)) in
-    let same : map (marked_at (column + at) text (length letters)) starts ≡ map (marked_at (column + at) (styled_text skin l) (length (chars sought))) starts =
-    ap (λ (t : List StyledChar). map (marked_at (column + at) t (length letters)) starts) said ∙ ap (λ (s : List ℕ). map (marked_at (column + at) (styled_text skin l) (length s)) starts) spelt in (
-      map (marked_at (column + at) text (length letters)) starts,
-      e,
-      record {
-        starts = starts;
-        begin =
-            subst (λ (b : Bool). AreStarts (chars sought) (map (compared_char b) (map char_alone (styled_text skin l))) 0 starts) cased
-            (subst (λ (s : List ℕ). AreStarts s (map (compared_char exact) (map char_alone (styled_text skin l))) 0 starts) spelt
-            (subst (λ (t : List StyledChar). AreStarts letters (map (compared_char exact) (map char_alone t)) 0 starts) said begin));
-        are = same;
-      },
-    )
+    → map marked_of new ≡ map marked_of old ++ map (marked_at n text (length letters)) starts → Adds (AreTextHits skin sought (record { column = n; text = l })) old new
+text_hits skin sought l n text letters starts exact old new said spelt cased begin e = (
+  map (marked_at n text (length letters)) starts,
+  e,
+  record {
+    starts = starts;
+    begin =
+        subst (λ (b : Bool). AreStarts (chars sought) (map (compared_char b) (map char_alone (styled_text skin l))) 0 starts) cased
+        (subst (λ (s : List ℕ). AreStarts s (map (compared_char exact) (map char_alone (styled_text skin l))) 0 starts) spelt
+        (subst (λ (t : List StyledChar). AreStarts letters (map (compared_char exact) (map char_alone t)) 0 starts) said begin));
+    are = ap (λ (t : List StyledChar). map (marked_at n t (length letters)) starts) said ∙ ap (λ (s : List ℕ). map (marked_at n (styled_text skin l) (length s)) starts) spelt;
+  },
+)
 
 -- those of a line of one text
 pub one_text : (skin : RowSkin) (sought : List ℕ) (width : ℕ) (l : FmtComposite) (p : PlacedText) (old new : List Hit) → old ≡ [] → p ∷ [] ≡ placed_texts skin width (Normal l) → Adds (AreTextHits skin sought p) old new
@@ -72,14 +68,15 @@ pub record CellsSoFar (skin : RowSkin) (sought : List ℕ) (cells : List FmtComp
 pub no_cell : (skin : RowSkin) (sought : List ℕ) (cells : List FmtComposite) (start column : ℕ) (hits : List Hit) → column ≡ capped start → CellsSoFar skin sought cells 0 start column hits hits
 no_cell skin sought cells start column hits at = record { now = start; at = at; first = []; added = sym (append-nil (map marked_of hits)); goes = λ rest h. h }
 
-pub cell_more : (skin : RowSkin) (sought : List ℕ) (cells : List FmtComposite) (i start column inside next wide : ℕ) (d : FmtComposite) (old mid new : List Hit)
-    → CellsSoFar skin sought cells i start column old mid → i < length cells → inside ≡ min (column + 1) (2 ^ 64 - 1) → wide ≡ inner_columns (get_or cells i d) → next ≡ min (inside + wide) (2 ^ 64 - 1)
-    → ((n : ℕ) → inside ≡ capped n → Adds (AreTextHits skin sought (record { column = n + text_column skin None (0, 0) (get_or cells i d); text = get_or cells i d })) mid new)
+pub cell_more : (skin : RowSkin) (sought : List ℕ) (cells : List FmtComposite) (i start column inside blank text next wide : ℕ) (d : FmtComposite) (old mid new : List Hit)
+    → CellsSoFar skin sought cells i start column old mid → i < length cells → inside ≡ min (column + 1) (2 ^ 64 - 1) → blank ≡ capped (text_column skin None (0, 0) (get_or cells i d)) → text ≡ min (inside + blank) (2 ^ 64 - 1)
+    → wide ≡ inner_columns (get_or cells i d) → next ≡ min (inside + wide) (2 ^ 64 - 1)
+    → ((n : ℕ) → text ≡ capped n → Adds (AreTextHits skin sought (record { column = n; text = get_or cells i d })) mid new)
     → CellsSoFar skin sought cells (i + 1) start next old new
-cell_more skin sought cells i start column inside next wide d old mid new s within in_is wide_is next_is put =
+cell_more skin sought cells i start column inside blank text next wide d old mid new s within in_is blank_is text_is wide_is next_is put =
     let here = s.at in
-    let it = put (s.now + 1) (omega (arith, here, in_is)) in
     let cell = get_or cells i d in
+    let it = put (s.now + 1 + text_column skin None (0, 0) cell) (omega (arith, here, in_is, blank_is, text_is)) in
     record {
       now = s.now + 1 + inner_columns cell;
       at = omega (arith, here, in_is, wide_is, next_is);

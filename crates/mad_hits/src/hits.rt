@@ -5,16 +5,14 @@ ghost use Rattle.mad_wrap.specs.WrapLines.{capped};
 ghost use Rattle.mad_fit.specs.TextColumns.{columns};
 ghost use Rattle.mad_style.specs.StyledChars.{char_alone};
 ghost use Rattle.mad_hits.specs.Styled.{reversed};
-ghost use Rattle.mad_hits.specs.Hits.{marked_at, marked_of, placed_cells, span, text_column, widthless, Adds, AreHits, AreTextHits, AreTextsHits};
+ghost use Rattle.mad_hits.specs.Hits.{marked_at, marked_of, placed_cells, span, widthless, Adds, AreHits, AreTextHits, AreTextsHits};
 
 use crate::matches::{letters_of, starts};
+use crate::places::{column_in_cell, column_in_row, inner_columns, table_column};
 use crate::styled::{reversed, styled_text};
 use mad_columns::char_columns;
-use mad_format::{FmtComposite, FmtLine, indent_of};
-use mad_rows::{
-    RowPlace, RowSkin, blanks_beside, inner_blanks, inner_columns, margins_of, row_columns,
-    table_blanks,
-};
+use mad_format::{FmtComposite, FmtLine};
+use mad_rows::RowSkin;
 use mad_search::has_capital;
 use mad_style::StyledChar;
 use std::alloc::{AllocError, Global};
@@ -46,16 +44,12 @@ pub fn hits_in(
     let mut hits = Vec::new(alloc);
     match line {
         FmtLine::Normal(composite) => {
-            let place = RowPlace {
-                outer: Some(width),
-                margins: margins_of(skin, composite, Some(width)),
-                filled: true,
-            };
-            push_hits(alloc, &mut hits, skin, composite, place, 0, sought)?;
+            let column = column_in_row(skin, composite, width);
+            push_hits(alloc, &mut hits, skin, composite, column, sought)?;
         }
         FmtLine::TableRow(row) => {
             let cells = row.cells.as_slice();
-            let (left, _) = table_blanks(skin, row_columns(cells), Some(width), true);
+            let left = table_column(skin, cells, width);
             push_cells_hits(alloc, &mut hits, skin, cells, left, sought)?;
         }
         FmtLine::TableRule(_) | FmtLine::HorizontalRule => {}
@@ -74,43 +68,42 @@ fn push_cells_hits(
 ) -> Result<(), AllocError>
     ensures { OnOk result ((column : ℕ) → left ≡ capped column → Adds (AreTextsHits skin.now sought.now (placed_cells skin.now column cells.now)) hits.old.items hits.new.items) }
 {
-    let place = RowPlace {
-        outer: None,
-        margins: (0, 0),
-        filled: false,
-    };
     let mut column = left;
     for cell in cells {
         let inside = column.saturating_add(1);
-        push_hits(alloc, hits, skin, cell, place, inside, sought)?;
+        let text = inside.saturating_add(column_in_cell(skin, cell));
+        push_hits(alloc, hits, skin, cell, text, sought)?;
         column = inside.saturating_add(inner_columns(cell));
     }
     Ok(())
 }
 
-// Puts the hits of a composite after others, which is in a place from that column on.
+// Puts the hits of a composite after others, whose text begins in that column.
 fn push_hits(
     alloc: Global,
     hits: &mut Vec<Hit>,
     skin: &RowSkin,
     composite: &FmtComposite,
-    place: RowPlace,
-    left: usize,
+    column: usize,
     sought: &str,
 ) -> Result<(), AllocError>
-    ensures { OnOk result ((column : ℕ) → left ≡ capped column → Adds (AreTextHits skin.now sought.now (record { column = column + text_column skin.now place.outer place.margins composite.now; text = composite.now })) hits.old.items hits.new.items) }
+    ensures { OnOk result ((n : ℕ) → column ≡ capped n → Adds (AreTextHits skin.now sought.now (record { column = n; text = composite.now })) hits.old.items hits.new.items) }
 {
     let text = styled_text(alloc, skin, composite)?;
-    let starts = starts(alloc, text.as_slice(), sought)?;
-    let column = left.saturating_add(text_column(skin, composite, place));
-    let count = sought.chars().count();
+    let letters = letters_of(alloc, sought)?;
+    let starts = starts(
+        alloc,
+        text.as_slice(),
+        letters.as_slice(),
+        has_capital(sought),
+    )?;
     push_marked(
         alloc,
         hits,
         text.as_slice(),
         column,
         starts.as_slice(),
-        count,
+        letters.len(),
     )?;
     Ok(())
 }
@@ -196,17 +189,4 @@ pub(crate) fn columns_of(text: &[StyledChar]) -> usize
         columns = columns.saturating_add(char_columns(c.nude_char()));
     }
     columns
-}
-
-// The columns before the text of a composite, in its place: blanks, and its prefix.
-fn text_column(skin: &RowSkin, composite: &FmtComposite, place: RowPlace) -> usize
-    ensures { result ≡ capped (text_column skin.now place.outer place.margins composite.now) }
-{
-    let align = skin.line_style(composite.kind).align;
-    let (outer, _) = blanks_beside(composite, align, place);
-    let (inner, _) = inner_blanks(composite);
-    outer.saturating_add(inner).saturating_add(indent_of(
-        composite.kind,
-        skin.list_items_indentation_mode,
-    ))
 }
