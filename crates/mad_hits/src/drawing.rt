@@ -31,10 +31,11 @@ pub fn draw_hits<O: Out>(
 ) -> Result<(), Error>
     ensures { OnOk result (TookWith (O.seen out.old) (O.seen out.new) (AreLinesMarked skin.now width sought.now 0 (take height lines.now))) }
 {
-    for y in 0..height {
-        if let Some(line) = lines.get(usize::from(y)) {
-            draw_line_hits(alloc, out, skin, line, width, y, sought)?;
-        }
+    let shown = &lines[..usize::from(height).min(lines.len())];
+    let mut y: u16 = 0;
+    for line in shown {
+        draw_line_hits(alloc, out, skin, line, width, y, sought)?;
+        y = y.saturating_add(1);
     }
     Ok(())
 }

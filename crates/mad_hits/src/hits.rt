@@ -103,7 +103,7 @@ fn push_hits(
         text.as_slice(),
         column,
         starts.as_slice(),
-        letters.len(),
+        letters.as_slice().len(),
     )?;
     Ok(())
 }

@@ -17,7 +17,7 @@ pub(crate) fn column_in_row(skin: &RowSkin, composite: &FmtComposite, width: usi
 {
     let margins = margins_of(skin, composite, width);
     let align = skin.line_style(composite.kind).align;
-    let outer = outer_blank(composite, align, Some(width), margins);
+    let (outer, _) = outer_blanks(composite, align, Some(width), margins);
     outer.saturating_add(column_in_place(skin, composite))
 }
 
@@ -26,7 +26,7 @@ pub(crate) fn column_in_cell(skin: &RowSkin, cell: &FmtComposite) -> usize
     ensures { result ≡ capped (text_column skin.now None (0, 0) cell.now) }
 {
     let align = skin.line_style(cell.kind).align;
-    let outer = outer_blank(cell, align, None, (0, 0));
+    let (outer, _) = outer_blanks(cell, align, None, (0, 0));
     outer.saturating_add(column_in_place(skin, cell))
 }
 
@@ -63,20 +63,22 @@ fn inner_blanks(composite: &FmtComposite) -> (usize, usize)
     composite.completions()
 }
 
-// The blank columns left of a composite's own place, with its margins.
-fn outer_blank(
+// The blank columns left and right of a composite's own place, with its margins.
+fn outer_blanks(
     composite: &FmtComposite,
     align: Alignment,
     outer: Option<usize>,
     margins: (usize, usize),
-) -> usize
-    ensures { result ≡ capped (outer_blanks align outer margins composite.now).0 }
+) -> (usize, usize)
+    ensures { result ≡ outer_blanks align outer margins composite.now }
 {
-    let (left, right) = margins;
-    let columns = inner_columns(composite)
-        .saturating_add(left)
-        .saturating_add(right);
-    left_blank(align, columns, outer).saturating_add(left)
+    let inner = inner_columns(composite);
+    let (left_margin, right_margin) = margins;
+    let columns = inner
+        .saturating_add(left_margin)
+        .saturating_add(right_margin);
+    let (left, right) = Spacing::optional_completions(align, columns, outer);
+    (left + left_margin, right + right_margin)
 }
 
 // The blank columns left of so many in a place, if there is one.
