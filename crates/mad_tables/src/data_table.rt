@@ -39,6 +39,7 @@ pub fn data_table_rows(
 }
 
 // The cells as rows of so many columns, each full.
+#[tactic(auto, using(crate::proofs::CellLemmas::no_cells, crate::proofs::CellLemmas::none_cut, crate::proofs::CellLemmas::full_rows))]
 fn cell_rows<'s>(
     alloc: Global,
     text: &'s str,
@@ -65,8 +66,8 @@ fn table_under<'s>(
 ) -> Result<Text<'s>, AllocError>
     ensures { IfOk result (λ text. contents text ≡ table_under (map (λ row. map (λ cell. cell.now) row.items) rows.now) aligns.now) }
 {
-    match rows.split_first() {
-        Some((headers, rows)) => Text::from_table(alloc, headers, aligns, rows),
-        None => Text::from_table(alloc, &[], aligns, &[]),
+    match rows {
+        [headers, rows @ ..] => Text::from_table(alloc, headers, aligns, rows),
+        [] => Text::from_table(alloc, &[], aligns, &[]),
     }
 }

@@ -10,12 +10,12 @@ ghost use Rattle.markdown_layout.specs.WrittenMarkdown.{markdown_skin, WritesLin
 ghost use Rattle.markdown_reader.specs.Markdown.{markdown_lines};
 
 use mad_blocks::lay_text;
+use mad_format::FmtLine;
 use mad_layout::MadSkin;
 use mad_rows::{PlacedLines, RowSkin};
 use mad_term::{Error, Out, put_text};
 use markdown_reader::Markdown;
 use std::alloc::{AllocError, Global};
-use std::fmt::Write;
 
 /// Writes a text of Markdown as people write it, laid out at a width, in columns, if there is one: each line and a newline. Nothing is
 /// flushed.
@@ -65,12 +65,22 @@ fn markdown_rows(
     let read = Markdown::read(alloc, markdown)?;
     let text = read.text(alloc)?;
     let lines = lay_text(alloc, &skin, text, width)?;
+    displayed(alloc, &skin, &lines, width)
+}
+
+// Lines as they are displayed in a skin.
+fn displayed<'a>(
+    alloc: Global,
+    skin: &'a RowSkin,
+    lines: &'a [FmtLine<'a>],
+    width: Option<usize>,
+) -> Result<String, AllocError>
+    ensures { IfOk result (λ rows. string_bytes rows ≡ text_bytes skin.now width lines.now) }
+{
     let placed = PlacedLines {
-        skin: &skin,
-        lines: lines.as_slice(),
+        skin,
+        lines,
         outer: width,
     };
-    let mut rows = String::new(alloc);
-    write!(rows, "{placed}")?;
-    Ok(rows)
+    placed.to_string(alloc)
 }
