@@ -9,7 +9,7 @@ use Rattle.std.specs.declared.io.Error as io
 use Rattle.mad_term.specs.Trace.{Trace, after, failed, flushed, CutShort, TookWith}
 use Rattle.mad_term.specs.declared.errors.Error.{Error}
 use Rattle.mad_term.specs.declared.errors.Error.TheVariants.{IO}
-use Rattle.mad_hits.proofs.TookLemmas.{known, took_so}
+use Rattle.mad_pager.proofs.TookLemmas.{known, took_so}
 use Rattle.mad_term.proofs.Traces.{took_both, cut_in_first, cut_in_second, flush_failed}
 use Rattle.mad_fit.specs.Areas.{IsWithinLimits}
 use Rattle.mad_fit.specs.declared.area.Area.{Area}
@@ -37,7 +37,7 @@ use Rattle.mad_layout.specs.declared.skin.MadSkin.{MadSkin}
 use Rattle.mad_rows.specs.RowStyles.{line_rules}
 use Rattle.std.proofs.lemmas.Bool.{ltb-false}
 use Rattle.std.proofs.lemmas.Bool.Decides.{nat_tests}
-use Rattle.mad_pager.specs.Screens.{reversed_skin, is_small, area_of, bar_of, paged_skin, text_pane, field_pane, prompt_pane, prompt_row, status_pane, status_words, AreHitsDrawn, ArePanesDrawn, IsFieldShown, IsLineIn, IsStatusLine, KeepsTextPremises, AreLinesShown, IsFieldRow, IsLastRow, IsStatus, IsDrawing, IsPicture, IsTypingShown, IsStatusShown, IsFieldInRow, IsShowing, IsShown, IsUnshown, question}
+use Rattle.mad_pager.specs.Screens.{reversed_skin, is_small, area_of, bar_of, paged_skin, text_pane, field_pane, prompt_pane, prompt_row, status_pane, status_words, IsFieldShown, IsLineIn, IsStatusLine, KeepsTextPremises, AreLinesShown, IsFieldRow, IsLastRow, IsStatus, IsDrawing, IsPicture, IsTypingShown, IsStatusShown, IsFieldInRow, IsShowing, IsShown, IsUnshown, question}
 use Rattle.mad_pager.specs.Sessions.{State, field_row, last_row, prompt_cell, text_area}
 
 -- ---- what is shown
@@ -140,7 +140,7 @@ status_shown skin name s a b lines row = record {
 }
 
 -- the text and the last row, drawn in turn
-pub screen_shown : (skin : MadSkin) (name : List ℕ) (s : State) → is_small s ≡ false → (a b : List ℕ) → AreLinesShown skin s a → IsLastRow name s b → ArePanesDrawn skin name s (a ++ b)
+pub screen_shown : (skin : MadSkin) (name : List ℕ) (s : State) → is_small s ≡ false → (a b : List ℕ) → AreLinesShown skin s a → IsLastRow name s b → IsDrawing skin name s (a ++ b)
 screen_shown skin name s large a b lines row =
     let wide = not_small s large in
     let some : 1 < s.page.columns = omega (arith, wide) in
@@ -148,10 +148,6 @@ screen_shown skin name s large a b lines row =
       typing = λ is. typing_shown skin s a b some lines (row.typing is);
       status = λ is. status_shown skin name s a b lines (row.status is);
     }
-
--- and then the hits
-pub marks_shown : (skin : MadSkin) (name : List ℕ) (s : State) (a b : List ℕ) → ArePanesDrawn skin name s a → AreHitsDrawn skin s b → IsDrawing skin name s (a ++ b)
-marks_shown skin name s a b panes hits = record { panes = a; hits = b; are = refl; drawn = panes; marked = hits }
 
 -- a line that was drawn in an area of one row
 pub line_drawn : (dress : MadSkin) (line : FmtLine) (items : List FmtLine) (area : Area) (bytes : List ℕ) (old new : Trace)

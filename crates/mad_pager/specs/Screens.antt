@@ -1,5 +1,5 @@
 -- What the screen shows of a session.
-use Rattle.std.specs.Prelude.{◌≡◌, ℕ, ◌+◌, ◌-◌, ◌<◌, ◌≤◌, ◌++◌, nat_lt, ◌||◌, Bool, true, false, List, [], ◌∷◌, length, take, drop, codes, decimal, Option, Some, None, IfSome, if◌then◌else◌}
+use Rattle.std.specs.Prelude.{◌≡◌, ℕ, ◌+◌, ◌-◌, ◌<◌, ◌≤◌, ◌++◌, nat_lt, ◌||◌, Bool, true, false, List, [], ◌∷◌, length, take, codes, decimal, Option, Some, None, IfSome, if◌then◌else◌}
 use Rattle.std.specs.List.{flat_map}
 use Rattle.std.specs.Str.{chars}
 use Rattle.mad_md.specs.Flagged.{flagged, flagged_of, unflagged}
@@ -16,7 +16,6 @@ use Rattle.mad_format.specs.declared.line.FmtLine.TheVariants.{Normal}
 use Rattle.mad_wrap.specs.WrapLines.{capped}
 use Rattle.mad_blocks.specs.Layouts.{IsLayoutAt}
 use Rattle.mad_blocks.specs.TextParts.{lines_in_parts}
-use Rattle.mad_hits.specs.Drawn.{AreLinesMarked}
 use Rattle.mad_layout.specs.Premises.{KeepsPremises}
 use Rattle.mad_rows.specs.RowStyles.{line_rules, with_links}
 use Rattle.mad_page.specs.Pages.{percent}
@@ -176,23 +175,10 @@ pub record IsStatusShown (skin : MadSkin) (name : List ℕ) (s : State) (bytes :
   pub status : IsStatusLine dress (status_words name s) s.page.columns line
   pub shown : KeepsTextPremises skin s → AreDrawable (row_skin dress) s.page.columns (line ∷ []) → ArePanesShown (text_pane skin s ∷ status_pane (row_skin dress) line s ∷ []) bytes
 
--- these bytes show the text and the last row of a session: one of these two
-pub record ArePanesDrawn (skin : MadSkin) (name : List ℕ) (s : State) (bytes : List ℕ) : Type 0 where
+-- these bytes show a session: one of these two
+pub record IsDrawing (skin : MadSkin) (name : List ℕ) (s : State) (bytes : List ℕ) : Type 0 where
   pub typing : s.is_typing ≡ true → IsTypingShown skin s bytes
   pub status : s.is_typing ≡ false → IsStatusShown skin name s bytes
-
--- these bytes mark what is sought in the lines that are on the screen: the columns of the text are all but the bar's
-abbrev pub AreHitsDrawn : MadSkin → State → List ℕ → Type 0
-AreHitsDrawn skin s bytes = AreLinesMarked (paged_skin skin) (s.page.columns - 1) s.sought 0 (take (s.page.rows - 1) (drop s.page.top s.lines)) bytes
-
--- These bytes show a session: first the text and the last row, and then, over the text, what is sought. Each byte of a hit is written in the cells of
--- the hit alone.
-pub record IsDrawing (skin : MadSkin) (name : List ℕ) (s : State) (bytes : List ℕ) : Type 0 where
-  pub panes : List ℕ
-  pub hits : List ℕ
-  pub are : bytes ≡ panes ++ hits
-  pub drawn : ArePanesDrawn skin name s panes
-  pub marked : AreHitsDrawn skin s hits
 
 -- the picture of a session; on a screen that shows nothing it has no byte
 pub record IsPicture (skin : MadSkin) (name : List ℕ) (s : State) (bytes : List ℕ) : Type 0 where

@@ -5,7 +5,7 @@ use Rattle.mad_field.specs.Shown.{IsShowable}
 use Rattle.mad_pager.specs.Screens.{IsFieldShown}
 use Rattle.mad_pager.specs.Sessions.{state_of}
 use Rattle.mad_pager.proofs.DrawnLemmas.{row_elsewhere, row_within, showable}
-use Rattle.mad_hits.proofs.TookLemmas.{known, took_so, took_nothing}
+use Rattle.mad_pager.proofs.TookLemmas.{known, took_so, took_nothing}
 use Rattle.mad_pager.proofs.session.Session.draw_field.Goals as goal
 
 pub display_on-requires : goal.display_on-requires

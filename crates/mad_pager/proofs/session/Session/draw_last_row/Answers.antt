@@ -1,7 +1,7 @@
 use Rattle.std.proofs.Common.{◌≡◌, true, false, sym, ◌∙◌}
 use Rattle.mad_pager.specs.Screens.{IsFieldRow, IsLastRow, IsStatus}
 use Rattle.mad_pager.specs.Sessions.{state_of}
-use Rattle.mad_hits.proofs.TookLemmas.{took_so}
+use Rattle.mad_pager.proofs.TookLemmas.{took_so}
 use Rattle.mad_pager.proofs.session.Session.draw_last_row.Goals as goal
 
 pub returns-then-is_typing : goal.returns-then-is_typing

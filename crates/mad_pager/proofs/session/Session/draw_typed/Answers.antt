@@ -2,7 +2,7 @@ use Rattle.std.proofs.Common.{sym, subst, arith}
 use Rattle.mad_fit.specs.Areas.{IsWithinLimits}
 use Rattle.mad_fit.specs.declared.area.Area.{Area}
 use Rattle.mad_draw.specs.DrawnRows.{AreRowsShown}
-use Rattle.mad_hits.proofs.TookLemmas.{took_in_turn}
+use Rattle.mad_pager.proofs.TookLemmas.{took_in_turn}
 use Rattle.mad_pager.specs.Screens.{IsFieldRow, IsFieldShown, prompt_row}
 use Rattle.mad_pager.specs.Sessions.{prompt_cell, state_of}
 use Rattle.mad_pager.proofs.DrawnLemmas.{prompt_fills, typed_shown}

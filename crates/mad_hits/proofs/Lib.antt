@@ -1,5 +1,0 @@
-pub mod DrawnHits
-pub mod HitLemmas
-pub mod LineLemmas
-pub mod MatchLemmas
-pub mod TookLemmas

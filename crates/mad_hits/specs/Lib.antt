@@ -1,4 +1,0 @@
-pub mod Drawn
-pub mod Hits
-pub mod Matches
-pub mod Styled
