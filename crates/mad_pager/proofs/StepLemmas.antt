@@ -1,5 +1,5 @@
 -- What keys and events do, along what is equal.
-use Rattle.std.proofs.Common.{◌≡◌, ◌≢◌, ◌⊎◌, ℕ, ◌+◌, ◌-◌, ◌==◌, Bool, List, [], ◌∷◌, ◌++◌, length, Option, Some, None, sym, subst, ap, ◌∙◌, true, false, arith, append_assoc}
+use Rattle.std.proofs.Common.{◌≡◌, ◌≢◌, ◌⊎◌, ℕ, ◌+◌, ◌-◌, ◌==◌, Bool, List, [], ◌∷◌, ◌++◌, length, Option, Some, None, refl, sym, subst, ap, ◌∙◌, true, false, arith, append_assoc}
 use Rattle.std.specs.Prelude.{◌↔◌, codes, IsTrue}
 use Rattle.mad_md.specs.Lines.{LineContent}
 use Rattle.mad_md.specs.declared.alignment.Alignment.{Alignment}
@@ -23,7 +23,8 @@ use Rattle.mad_page.specs.declared.page.Page.{Page}
 use Rattle.mad_search.specs.KeptRows.{ArePartStarts}
 use Rattle.mad_search.specs.Searches.{IsNextRow, IsPreviousRow}
 use Rattle.mad_pager.specs.Screens.{sought_words}
-use Rattle.mad_pager.specs.Sessions.{State, AreStartsFor, IsAsked, IsKeyStep, IsLaidFor, IsMovedTo}
+use Rattle.mad_pager.specs.Sessions.{State, AreStartsFor, IsAsked, IsKeyStep, IsLaidAnew, IsLaidFor, IsMovedTo, IsResized}
+use Rattle.mad_pager.specs.declared.sizes.ScreenSize.{ScreenSize}
 
 -- a key that asks for something
 pub asked_step : (key : KeyEvent) (s : State) (page : Page) (ask : Ask) (new : State) → page ≡ (after_key key s.page).page → ask ≡ (after_key key s.page).ask → IsAsked ask (record s { page = page }) new → IsKeyStep key s new
@@ -49,6 +50,13 @@ laid_at skin text columns width lines e h = subst (λ (n : ℕ). IsLayoutAt (lin
 -- and so are the rows in which its parts begin
 pub starts_at : (skin : MadSkin) (text : List LineContent) (columns width : ℕ) (starts : List ℕ) → width ≡ columns - 1 → ArePartStarts (line_rules (row_skin skin)) width text starts → AreStartsFor skin text columns starts
 starts_at skin text columns width starts e h = subst (λ (n : ℕ). ArePartStarts (line_rules (row_skin skin)) n text starts) e h
+
+-- a text that is laid out anew, or not
+pub settled_some : (skin : MadSkin) (text : List LineContent) (told : Option ScreenSize) (size : ScreenSize) (s new : State) → told ≡ Some size → IsResized skin text size.columns size.rows s new → IsLaidAnew told skin text s new
+settled_some skin text told size s new is h = subst (λ (o : Option ScreenSize). IsLaidAnew o skin text s new) (sym is) h
+
+pub settled_none : (skin : MadSkin) (text : List LineContent) (told : Option ScreenSize) (s : State) → told ≡ None → IsLaidAnew told skin text s s
+settled_none skin text told s is = subst (λ (o : Option ScreenSize). IsLaidAnew o skin text s s) (sym is) refl
 
 -- a field that was given this area
 pub moved : (area place : Area) (old new : Field) → area ≡ place → (area ≡ old.area → new ≡ old) → (area ≢ old.area → new ≡ rescrolled (record old { area = area })) → IsMovedTo place old new

@@ -1,5 +1,5 @@
 -- A session of the pager: what is shown and sought, and what an event does.
-use Rattle.std.specs.Prelude.{◌≡◌, ◌≢◌, ℕ, ◌+◌, ◌-◌, ◌*◌, ◌<◌, ◌==◌, nat_lt, Bool, true, false, List, [], Option, Some, None, length, min, encode_utf8_all, string_bytes, if◌then◌else◌}
+use Rattle.std.specs.Prelude.{◌≡◌, ◌≢◌, ℕ, ◌+◌, ◌-◌, ◌*◌, ◌^◌, ◌<◌, ◌==◌, nat_lt, not, Bool, true, false, List, [], Option, Some, None, length, min, encode_utf8_all, string_bytes, if◌then◌else◌}
 use Rattle.mad_columns.specs.Columns.{char_columns}
 use Rattle.mad_md.specs.Lines.{LineContent}
 use Rattle.mad_term.specs.declared.events.Event.{Event}
@@ -104,24 +104,24 @@ pub record IsStart (skin : MadSkin) (text : List LineContent) (columns rows : �
 -- ---- what keys do
 
 -- where a search goes on: after the row that was found last, where that is on the screen, or else from the top on
+abbrev pub start_after : Option ℕ → State → ℕ
+start_after None s = s.page.top
+start_after (Some row) s = if shows_row s.page row then min (row + 1) (2 ^ 64 - 1) else s.page.top
+
 abbrev pub search_start : State → ℕ
-search_start s = start_from s.found
-  where
-    start_from : Option ℕ → ℕ
-    start_from None = s.page.top
-    start_from (Some row) = if shows_row s.page row then min row (length s.lines) + 1 else s.page.top
+search_start s = start_after s.found s
 
 -- where one backwards goes on: before that row, or else before the top
+abbrev pub end_before : Option ℕ → State → ℕ
+end_before None s = s.page.top
+end_before (Some row) s = if shows_row s.page row then row else s.page.top
+
 abbrev pub search_end : State → ℕ
-search_end s = end_from s.found
-  where
-    end_from : Option ℕ → ℕ
-    end_from None = s.page.top
-    end_from (Some row) = if shows_row s.page row then row else s.page.top
+search_end s = end_before s.found s
 
 -- the same after a search: the row that was found is in sight; where none was, and something is sought, that is missing
 abbrev pub at_found : Option ℕ → State → State
-at_found None s = record s { is_missing = nat_lt 0 (length s.sought) }
+at_found None s = record s { is_missing = not (length s.sought == 0) }
 at_found (Some row) s = record s { page = in_sight s.page row; found = Some row; is_missing = false }
 
 -- the same with a header on top, if there is one

@@ -73,7 +73,7 @@ impl Session<'_> {
         ensures { result ≡ search_start (state_of self.now) }
     {
         match self.found {
-            Some(row) if self.page.shows_row(row) => row.min(self.text.lines.len()) + 1,
+            Some(row) if self.page.shows_row(row) => row.saturating_add(1),
             _ => self.page.top,
         }
     }
@@ -103,10 +103,8 @@ impl Session<'_> {
         ensures done { state_of self.new ≡ at_header (next_header self.old.text.lines.items self.old.starts.items self.old.page.top) (state_of self.old) }
         ensures text { HasSameText self.old self.new }
     {
-        let lines = self.text.lines.as_slice();
-        if let Some(row) = next_header(lines, self.starts.as_slice(), self.page.top) {
-            self.page.top = row;
-        }
+        let row = self.header_after();
+        self.put_on_top(row);
     }
 
     // Puts the header before on top, if there is one.
@@ -114,9 +112,40 @@ impl Session<'_> {
         ensures done { state_of self.new ≡ at_header (previous_header self.old.text.lines.items self.old.starts.items self.old.page.top) (state_of self.old) }
         ensures text { HasSameText self.old self.new }
     {
-        let lines = self.text.lines.as_slice();
-        if let Some(row) = previous_header(lines, self.starts.as_slice(), self.page.top) {
-            self.page.top = row;
+        let row = self.header_before();
+        self.put_on_top(row);
+    }
+
+    // The next header, below the top row.
+    fn header_after(&self) -> Option<usize>
+        ensures { result ≡ next_header self.now.text.lines.items self.now.starts.items self.now.page.top }
+    {
+        next_header(
+            self.text.lines.as_slice(),
+            self.starts.as_slice(),
+            self.page.top,
+        )
+    }
+
+    // The header before, above the top row.
+    fn header_before(&self) -> Option<usize>
+        ensures { result ≡ previous_header self.now.text.lines.items self.now.starts.items self.now.page.top }
+    {
+        previous_header(
+            self.text.lines.as_slice(),
+            self.starts.as_slice(),
+            self.page.top,
+        )
+    }
+
+    // Puts a row on top, if there is one.
+    fn put_on_top(&mut self, row: Option<usize>)
+        ensures done { state_of self.new ≡ at_header row (state_of self.old) }
+        ensures text { HasSameText self.old self.new }
+    {
+        match row {
+            Some(row) => self.page.top = row,
+            None => {}
         }
     }
 }

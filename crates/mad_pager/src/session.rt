@@ -168,16 +168,33 @@ impl<'s> Session<'s> {
         ensures turn { IfOk result (λ turn. turn ≡ turn_asked ask) }
         ensures text { OnOk result (HasSameText self.old self.new) }
     {
-        match ask {
-            Ask::Search => self.begin_search(alloc)?,
-            Ask::Next => self.find_next(alloc)?,
-            Ask::Previous => self.find_previous(alloc)?,
-            Ask::NextHeader => self.go_to_next_header(),
-            Ask::PreviousHeader => self.go_to_previous_header(),
-            Ask::Forget => self.forget(),
-            Ask::Size | Ask::Quit | Ask::Help | Ask::Contents | Ask::Nothing => {}
-        }
+        self.answer(alloc, ask)?;
         Ok(turn_asked(ask))
+    }
+
+    // Does what is asked for in the session itself.
+    fn answer(&mut self, alloc: Global, ask: Ask) -> Result<(), AllocError>
+        ensures step { OnOk result (IsAsked ask (state_of self.old) (state_of self.new)) }
+        ensures text { OnOk result (HasSameText self.old self.new) }
+    {
+        match ask {
+            Ask::Search => self.begin_search(alloc),
+            Ask::Next => self.find_next(alloc),
+            Ask::Previous => self.find_previous(alloc),
+            Ask::NextHeader => {
+                self.go_to_next_header();
+                Ok(())
+            }
+            Ask::PreviousHeader => {
+                self.go_to_previous_header();
+                Ok(())
+            }
+            Ask::Forget => {
+                self.forget();
+                Ok(())
+            }
+            Ask::Size | Ask::Quit | Ask::Help | Ask::Contents | Ask::Nothing => Ok(()),
+        }
     }
 }
 

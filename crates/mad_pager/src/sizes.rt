@@ -33,10 +33,11 @@ impl<'s> Session<'s> {
         ensures settled { OnOk result (IsSettled self.old.text.skin.now (paged_lines self.old.source) (state_of self.old) (state_of self.new)) }
         ensures text { OnOk result (HasSameText self.old self.new) }
     {
-        match self.told {
-            Some(size) => self.resize(alloc, size.columns, size.rows),
-            None => Ok(()),
+        if let Some(size) = self.told {
+            self.resize(alloc, size.columns, size.rows)?;
+            return Ok(());
         }
+        Ok(())
     }
 
     // Takes the size that the terminal tells. A screen of more than a million cells isn't believed.
