@@ -157,6 +157,7 @@ key_place key p = command_place (command_of key) p
 mouse_place : (kind : MouseEventKind) (x y : ℕ) (p : Page) → IsSamePlace p (after_kind kind x y p)
 mouse_place (mouse.Down button.Left) x y p = either_place (is_on_bar p x y) p _ _ (record { columns = refl; rows = refl }) (record { columns = refl; rows = refl })
 mouse_place (mouse.Drag button.Left) x y p = either_place p.holds_bar p _ _ (record { columns = refl; rows = refl }) (record { columns = refl; rows = refl })
+mouse_place (mouse.Up button.Left) x y p = record { columns = refl; rows = refl }
 mouse_place _ x y p = record { columns = refl; rows = refl }
 
 -- ---- sessions
