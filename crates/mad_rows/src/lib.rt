@@ -25,7 +25,4 @@ pub use row_skin::{
     style_of_kind,
 };
 pub use row_writing::{TextRows, append_line, append_lines};
-pub use rows::{
-    RowPlace, blanks_beside, composite_blanks, inner_blanks, inner_columns, know_row, line_blanks,
-    margins_of, row_blanks, row_columns, table_blanks,
-};
+pub use rows::{RowPlace, composite_blanks, know_row, line_blanks, row_blanks};

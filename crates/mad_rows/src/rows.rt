@@ -27,14 +27,14 @@ pub struct RowPlace {
 }
 
 /// The blank columns left and right of a composite in its own place.
-pub fn inner_blanks(composite: &FmtComposite) -> (usize, usize)
+pub(crate) fn inner_blanks(composite: &FmtComposite) -> (usize, usize)
     ensures { result ≡ inner_blanks composite.now }
 {
     composite.completions()
 }
 
 /// The columns of a composite: those of its own place, or where it has none those of its text.
-pub fn inner_columns(composite: &FmtComposite) -> usize
+pub(crate) fn inner_columns(composite: &FmtComposite) -> usize
     ensures { result ≡ inner_columns composite.now }
 {
     match &composite.spacing {
@@ -44,7 +44,11 @@ pub fn inner_columns(composite: &FmtComposite) -> usize
 }
 
 /// The blank columns left and right of a composite's own place in a row; those on its right only where the row is filled up.
-pub fn blanks_beside(composite: &FmtComposite, align: Alignment, place: RowPlace) -> (usize, usize)
+pub(crate) fn blanks_beside(
+    composite: &FmtComposite,
+    align: Alignment,
+    place: RowPlace,
+) -> (usize, usize)
     ensures { result ≡ blanks_beside align place.outer place.margins place.filled composite.now }
 {
     let (left, right) = outer_blanks(composite, align, place);
@@ -65,7 +69,11 @@ fn outer_blanks(composite: &FmtComposite, align: Alignment, place: RowPlace) -> 
 }
 
 /// The margins of a composite: those of its layout, or where it has none those of its style at the outer width.
-pub fn margins_of(skin: &RowSkin, composite: &FmtComposite, outer: Option<usize>) -> (usize, usize)
+pub(crate) fn margins_of(
+    skin: &RowSkin,
+    composite: &FmtComposite,
+    outer: Option<usize>,
+) -> (usize, usize)
     ensures { result ≡ margins_of skin.now outer composite.now }
 {
     match composite.margins {
@@ -75,7 +83,7 @@ pub fn margins_of(skin: &RowSkin, composite: &FmtComposite, outer: Option<usize>
 }
 
 /// The columns of a row of cells: each has a border before it, and one more is the last.
-pub fn row_columns(cells: &[FmtComposite]) -> usize
+pub(crate) fn row_columns(cells: &[FmtComposite]) -> usize
     ensures { result ≡ capped (row_columns cells.now) }
 {
     let mut columns: usize = 0;
@@ -163,7 +171,7 @@ pub fn composite_blanks(skin: &RowSkin, composite: &FmtComposite, place: RowPlac
 
 /// The blank columns left and right of a line of a table by its columns, at an outer width; those on its right only where they are asked
 /// for.
-pub fn table_blanks(
+pub(crate) fn table_blanks(
     skin: &RowSkin,
     columns: usize,
     outer: Option<usize>,
