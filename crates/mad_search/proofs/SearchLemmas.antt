@@ -1,9 +1,10 @@
 -- Texts of lines, put together piece by piece, and rows that have a text, row by row.
-use Rattle.std.proofs.Common.{◌≡◌, ℕ, ◌+◌, ◌<◌, ◌≤◌, ◌==◌, min, Bool, true, false, List, [], ◌∷◌, ◌++◌, drop, length, get_or, Option, Some, None, MatchOption, refl, below_more, ap, sym, ◌∙◌, subst, inl, inr, arith, append_assoc}
+use Rattle.std.proofs.Common.{◌≡◌, ℕ, ◌+◌, ◌<◌, ◌≤◌, ◌==◌, min, Bool, true, false, List, [], ◌∷◌, ◌++◌, drop, length, get_or, Option, Some, None, MatchOption, below_more, ap, sym, ◌∙◌, subst, inl, inr, arith, append_assoc}
 use Rattle.std.specs.List.{flat_map}
 use Rattle.std.proofs.Math.Nat.{eq-or-lt_of_le}
 use Rattle.std.proofs.lemmas.List.{drop_more}
 use Rattle.std.proofs.lemmas.List.Concat.{flat_map-cons}
+use Rattle.std.proofs.lemmas.Bool.Decides.{nat_tests}
 use Rattle.std.proofs.lemmas.Option.{slice_get_past}
 use Rattle.mad_format.specs.declared.composite.FmtComposite.{FmtComposite}
 use Rattle.mad_format.specs.declared.line.FmtLine.{FmtLine}
@@ -56,10 +57,12 @@ pub some_sought : (s : List ℕ) (b : Bool) → b ≡ (length s == 0) → b ≡ 
 some_sought [] b is untrue = let t : true ≡ false = sym is ∙ untrue in absurd (cc)
 some_sought (c ∷ cs) b is untrue = omega arith
 
+is_zero : (n : ℕ) → (n == 0) ≡ true → n ≡ 0
+is_zero n h = grind (arith, nat_tests)
+
 -- nothing is
 pub none_sought : (s : List ℕ) (l : List FmtLine) (b : Bool) → b ≡ (length s == 0) → b ≡ true → IsNowhere s l
-none_sought [] l b is isnt = inl refl
-none_sought (c ∷ cs) l b is isnt = let t : false ≡ true = sym is ∙ isnt in absurd (cc)
+none_sought s l b is so = inl (is_zero (length s) (sym is ∙ so))
 
 -- the next row is found after the row
 pub next_here : (s : List ℕ) (l : List FmtLine) (from found : ℕ) → 0 < length s → IsFirstFrom s l from found → IsNextRow s l from (Some found)
