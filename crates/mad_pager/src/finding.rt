@@ -1,6 +1,7 @@
 //! What is sought in a text, and its headers.
 
 ghost use Rattle.std.specs.Prelude.{◌≡◌, IfOk, OnOk, Option, string_bytes};
+ghost use Rattle.mad_page.specs.declared.commands.Ask.TheVariants.{Next, Previous};
 ghost use Rattle.mad_search.specs.Searches.{IsNextRow, IsPreviousRow};
 ghost use Rattle.mad_pager.specs.Sessions.{at_found, at_header, forgotten, search_end, search_start, state_of, HasSameText, IsAsked};
 ghost use Rattle.mad_search.specs.Headers.{next_header, previous_header};
@@ -12,7 +13,7 @@ use std::alloc::{AllocError, Global};
 impl Session<'_> {
     // Shows the next row that has what is sought.
     pub(crate) fn find_next(&mut self, alloc: Global) -> Result<(), AllocError>
-        ensures found { OnOk result (IsAsked Ask.Next (state_of self.old) (state_of self.new)) }
+        ensures found { OnOk result (IsAsked Next (state_of self.old) (state_of self.new)) }
         ensures text { OnOk result (HasSameText self.old self.new) }
     {
         let row = self.row_after(alloc)?;
@@ -22,7 +23,7 @@ impl Session<'_> {
 
     // Shows the row before that has it.
     pub(crate) fn find_previous(&mut self, alloc: Global) -> Result<(), AllocError>
-        ensures found { OnOk result (IsAsked Ask.Previous (state_of self.old) (state_of self.new)) }
+        ensures found { OnOk result (IsAsked Previous (state_of self.old) (state_of self.new)) }
         ensures text { OnOk result (HasSameText self.old self.new) }
     {
         let row = self.row_before(alloc)?;

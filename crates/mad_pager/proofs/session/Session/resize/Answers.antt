@@ -1,4 +1,4 @@
-use Rattle.std.proofs.Common.{ℕ, List, ap, refl, ◌∙◌}
+use Rattle.std.proofs.Common.{ℕ, List, ap, length, refl, ◌∙◌}
 use Rattle.mad_page.specs.declared.page.Page.{Page}
 use Rattle.mad_pager.specs.Sessions.{kept_row}
 use Rattle.mad_pager.proofs.StepLemmas.{moved}
@@ -12,7 +12,7 @@ returns-clause-step c =
       starts = c.in_ok-laid.ensures.starts;
       page =
           ap (λ (n : ℕ). let p : Page = record old.page { columns = c.args.columns; rows = c.args.rows; height = n; top = c.row_kept-top.result } in p) c.height_of.ensures
-          ∙ ap (λ (n : ℕ). let p : Page = record old.page { columns = c.args.columns; rows = c.args.rows; top = n } in p)
+          ∙ ap (λ (n : ℕ). let p : Page = record old.page { columns = c.args.columns; rows = c.args.rows; height = length c.in_ok-laid.laid.text.lines.items; top = n } in p)
           (c.row_kept-top.ensures ∙ ap (λ (l : List ℕ). kept_row old.page.columns c.args.columns old.starts.items l old.page.top) c.as_slice.ensures.value);
       field = moved _ _ _ _ c.field_row.ensures c.set_area.ensures.same c.set_area.ensures.changed;
       is_typing = refl;
