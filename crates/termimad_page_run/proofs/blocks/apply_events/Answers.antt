@@ -16,7 +16,7 @@ loop-b-preserved c =
     record {
       events = inv.events ++ listed c.byte-event.result;
       told = byte_read _ _ _ _ _ _ _ c.loop-b-test.true inv.told c.byte-event.ensures;
-      session = session_more _ _ _ _ _ _ _ _ _ inv.session (step_along _ _ _ _ _ _ _ inv.text.skin (ap paged_lines inv.text.source) c.in_ok-turn.ensures.step) (goes_on _ goes)
+      session = session_more c.args.session.now.text.skin.now (paged_lines c.args.session.now.source) _ _ _ _ _ _ _ inv.session (step_along c.args.session.now.text.skin.now _ (paged_lines c.args.session.now.source) _ _ _ _ inv.text.skin (ap paged_lines inv.text.source) c.in_ok-turn.ensures.step) (goes_on _ goes)
           (c.asks_size-asks.ensures ∙ ap asks_size c.in_ok-turn.ensures.turn);
       text = same_text _ _ _ inv.text c.in_ok-turn.ensures.text;
     }
