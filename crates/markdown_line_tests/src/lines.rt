@@ -101,3 +101,13 @@ pub(crate) fn draw_lines(alloc: Global, text: &str) -> Result<String, AllocError
     }
     Ok(picture)
 }
+
+/// The links of a text: the number of a line, and an address.
+pub(crate) fn draw_links(alloc: Global, text: &str) -> Result<String, AllocError> {
+    let markdown = Markdown::read(alloc, text)?;
+    let mut picture = String::new(alloc);
+    for link in markdown.links() {
+        write!(picture, "{} {}\n", link.line, link.address)?;
+    }
+    Ok(picture)
+}
