@@ -50,7 +50,7 @@ pub fn glyphs_of(alloc: Global, bold: bool, styled: &Styled) -> Result<Vec<Glyph
     requires { IsStyled styled.now }
     ensures { IfOk result (λ glyphs. glyphs.items ≡ map (glyph_of bold) (spelled_of styled.now)) }
 {
-    let mut glyphs = Vec::new(alloc);
+    let mut glyphs = Vec::with_capacity(alloc, styled.text.len())?;
     let mut text = styled.text.as_str();
     let mut count = styled.runs.as_slice().len();
     while count > 0 {
@@ -129,8 +129,8 @@ fn push_trimmed(glyphs: &mut Vec<Glyph>, row: &[Glyph]) -> Result<(), AllocError
 pub fn spaced(alloc: Global, bold: bool, glyphs: &[Glyph]) -> Result<Vec<Glyph>, AllocError>
     ensures { IfOk result (λ spaced. spaced.items ≡ spaced_from bold [] [] glyphs.now) }
 {
-    let mut shown = Vec::new(alloc);
-    let mut row = Vec::new(alloc);
+    let mut shown = Vec::with_capacity(alloc, glyphs.len())?;
+    let mut row = Vec::with_capacity(alloc, glyphs.len())?;
     let mut rest = glyphs;
     while let [glyph, next @ ..] = rest {
         rest = next;

@@ -21,7 +21,7 @@ use std::alloc::{AllocError, Global};
 pub fn shown_text(alloc: Global, text: &str) -> Result<String, AllocError>
     ensures { IfOk result (λ shown. string_bytes shown ≡ shown_text text.now) }
 {
-    let mut shown = String::new(alloc);
+    let mut shown = String::with_capacity(alloc, text.len())?;
     let mut rest = text.chars();
     while let Some(c) = rest.next() {
         shown.push(shown_char(c))?;
@@ -38,7 +38,7 @@ fn rows_of(alloc: Global, glyphs: &[Glyph]) -> Result<Lines, AllocError>
     if glyphs.is_empty() {
         return Ok(rows);
     }
-    let mut row = Vec::new(alloc);
+    let mut row = Vec::with_capacity(alloc, glyphs.len())?;
     let mut rest = glyphs;
     while let [glyph, next @ ..] = rest {
         rest = next;
