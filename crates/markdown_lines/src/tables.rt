@@ -43,6 +43,11 @@ fn push_row(
 }
 
 // Adds rows, and their links.
+#[tactic(
+    auto,
+    unfolding(crate::specs::Tables::rows_links),
+    using(crate::proofs::LinkLemmas::one_more)
+)]
 fn push_rows(
     alloc: Global,
     lines: &mut Lines,
@@ -63,6 +68,11 @@ fn push_rows(
 }
 
 // The rows below the head.
+#[tactic(
+    auto,
+    unfolding(crate::specs::Tables::rows_links),
+    using(crate::proofs::LinkLemmas::one_more)
+)]
 fn push_body(
     alloc: Global,
     lines: &mut Lines,
