@@ -1,5 +1,5 @@
 -- One more definition.
-use Rattle.std.proofs.Common.{◌≡◌, ℕ, Bool, true, false, cond, not, ◌||◌, List, [], ◌∷◌, ◌++◌, map, Some, if◌then◌else◌, refl, sym, ap, ◌∙◌}
+use Rattle.std.proofs.Common.{◌≡◌, ℕ, Bool, true, false, cond, not, ◌||◌, List, [], ◌∷◌, ◌++◌, map, Some, if◌then◌else◌, refl, ap, ◌∙◌}
 use Rattle.std.specs.List.{list_any}
 use Rattle.std.specs.Str.{bytes_eq}
 use Rattle.std.proofs.lemmas.List.{map-append}
@@ -20,7 +20,7 @@ insert_map : {K X : Type 0} (f : K → X) (same : X → X → Bool) (keys : List
 insert_map f same keys key =
     map_cond f (list_any (λ k. same (f key) (f k)) keys) keys key ∙ ap (λ t. cond t (map f keys) (map f keys ++ f key ∷ [])) (any_map f (same (f key)) keys)
 
-defined_with : List (List ℕ) → List (List ℕ) → Defined
+abbrev pub defined_with : List (List ℕ) → List (List ℕ) → Defined
 defined_with labels addresses = record { labels = labels; addresses = addresses }
 
 new_by : (t : Bool) (labels new addresses now : List (List ℕ)) (label address : List ℕ) → true ≡ not t → new ≡ cond t labels (labels ++ label ∷ []) → now ≡ addresses ++ address ∷ []
