@@ -21,8 +21,12 @@ pub struct Destination {
     pub title: String,
 }
 
-// These bytes without escapes and entities.
-fn text_of(alloc: Global, bytes: &[u8]) -> Result<String, AllocError>
+/// These bytes without escapes and entities.
+///
+/// # Errors
+///
+/// Out of memory is the only error.
+pub fn text_of(alloc: Global, bytes: &[u8]) -> Result<String, AllocError>
     ensures { IfOk result (λ text. string_bytes text ≡ text_of bytes.now) }
 {
     let decoded = decoded(alloc, true, bytes)?;

@@ -13,6 +13,13 @@ fn draw_flag(picture: &mut String, holds: bool, letter: char) -> Result<(), Allo
     Ok(())
 }
 
+fn draw_character(picture: &mut String, c: char) -> Result<(), AllocError> {
+    match c {
+        '\u{2400}'..='\u{2426}' => write!(picture, "({:X})", c as u32),
+        _ => picture.push(c),
+    }
+}
+
 fn draw_run(picture: &mut String, run: &Compound<'_>) -> Result<(), AllocError> {
     draw_flag(picture, run.bold, 'b')?;
     draw_flag(picture, run.italic, 'i')?;
@@ -24,8 +31,7 @@ fn draw_run(picture: &mut String, run: &Compound<'_>) -> Result<(), AllocError> 
         match c {
             '"' => picture.push_str("\\\"")?,
             '\\' => picture.push_str("\\\\")?,
-            '\u{2400}'..='\u{2426}' => write!(picture, "({:X})", c as u32)?,
-            _ => picture.push(c)?,
+            _ => draw_character(picture, c)?,
         }
     }
     picture.push('"')
@@ -98,6 +104,20 @@ pub(crate) fn draw_lines(alloc: Global, text: &str) -> Result<String, AllocError
     let mut picture = String::new(alloc);
     for line in &shown.lines {
         draw_line(&mut picture, line)?;
+    }
+    Ok(picture)
+}
+
+/// The links of a text: the number of a line, and an address.
+pub(crate) fn draw_links(alloc: Global, text: &str) -> Result<String, AllocError> {
+    let markdown = Markdown::read(alloc, text)?;
+    let mut picture = String::new(alloc);
+    for link in markdown.links() {
+        write!(picture, "{} ", link.line)?;
+        for c in link.address.chars() {
+            draw_character(&mut picture, c)?;
+        }
+        picture.push('\n')?;
     }
     Ok(picture)
 }

@@ -2,7 +2,7 @@
 //!
 //! The rows are in the files of `data/`. A row's call says what answers it:
 //!
-//! 1. [`lines`]: `shown`, the lines that are shown of a text.
+//! 1. [`lines`]: `shown`, the lines that are shown of a text, and `links`, its links.
 //! 2. [`pieces`]: `pieces`, the inlines of its leaves.
 //!
 //! As `--told CALL FILE` it answers the call of each text of a file, with a line `==` before each answer. A byte 1 stands between two texts. So
@@ -22,6 +22,7 @@ impl Calls for MarkdownCalls {
     fn answer(&self, alloc: Global, call: &str, text: &str) -> Result<String, AllocError> {
         match call {
             "pieces" => pieces::draw_leaves(alloc, text),
+            "links" => lines::draw_links(alloc, text),
             _ => lines::draw_lines(alloc, text),
         }
     }

@@ -15,7 +15,7 @@ use markdown_marks::definitions::{after_definition, after_label};
 use markdown_marks::headings::without_end;
 use markdown_pieces::cut::cut_text;
 use markdown_pieces::pieces::{Kind, Piece};
-use markdown_reader::labels::labels_of;
+use markdown_reader::definitions;
 use markdown_spans::code::is_padded;
 use markdown_spans::words::bytes_up_to;
 use std::alloc::{AllocError, Global};
@@ -74,7 +74,7 @@ fn definitions_of(alloc: Global, parts: &[Part<'_>]) -> Result<Definitions, Allo
         }
     }
     Ok(Definitions {
-        labels: labels_of(alloc, parts)?,
+        labels: definitions::definitions_of(alloc, parts)?.labels,
         leads,
     })
 }

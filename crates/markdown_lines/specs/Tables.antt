@@ -10,6 +10,7 @@ use Rattle.mad_md.specs.declared.alignment.Alignment.{Alignment}
 use Rattle.mad_md.specs.declared.alignment.Alignment.TheVariants.{Unspecified, Left, Center, Right}
 use Rattle.mad_md.specs.declared.composite.CompositeStyle.TheVariants.{Paragraph}
 use Rattle.markdown_lines.specs.Leaf.{cell_runs}
+use Rattle.markdown_lines.specs.Links.{Defined, LinkSaid, leaf_addresses, links_at}
 
 abbrev pub without_bar : List ℕ → List ℕ
 without_bar row = if first row == 124 then drop 1 row else row
@@ -41,8 +42,12 @@ unfoldable pub unbarred : List ℕ → Bool → List ℕ → List ℕ
 unbarred text escaped [] = with_waiting text escaped
 unbarred text escaped (b ∷ bs) = unbarred (with_byte (with_waiting text (escaped && not (b == 124))) b) (b == 92) bs
 
+-- the text of the first cell of a row
+abbrev pub cell_text : List ℕ → List ℕ
+cell_text row = utf8_lossy (unbarred [] false (cell_of row))
+
 abbrev pub cell_said : List (List ℕ) → Bool → List ℕ → StyledRuns
-cell_said labels bold row = record { style = Paragraph; runs = cell_runs labels bold (utf8_lossy (unbarred [] false (cell_of row))) }
+cell_said labels bold row = record { style = Paragraph; runs = cell_runs labels bold (cell_text row) }
 
 -- so many cells of a row
 unfoldable pub cells : List (List ℕ) → Bool → ℕ → List ℕ → List StyledRuns
@@ -81,3 +86,23 @@ ruled labels columns rule head lines = table_rule rule ∷ row_said labels true 
 unfoldable pub table_lines : List (List ℕ) → ℕ → List Remaining → List LineContent
 table_lines labels columns (head ∷ delimiters ∷ lines) = ruled labels columns (alignments columns (row_of delimiters.bytes)) head lines
 table_lines labels columns _ = []
+
+-- ---- links
+
+-- where the links of so many cells of a row lead
+unfoldable pub cells_addresses : Defined → ℕ → List ℕ → List (List ℕ)
+cells_addresses defined zero row = []
+cells_addresses defined (suc columns) row = leaf_addresses defined (cell_text row) ++ cells_addresses defined columns (after_cell row)
+
+abbrev pub row_addresses : Defined → ℕ → Remaining → List (List ℕ)
+row_addresses defined columns line = cells_addresses defined (shown_cells columns line.bytes) (row_of line.bytes)
+
+-- the links of rows, the first of which is the line of this number
+unfoldable pub rows_links : Defined → ℕ → ℕ → List Remaining → List LinkSaid
+rows_links defined columns at [] = []
+rows_links defined columns at (line ∷ lines) = links_at at (row_addresses defined columns line) ++ rows_links defined columns (at + 1) lines
+
+-- the links of a table that begins at the line of this number: its head is behind a rule, and its rows are behind another
+abbrev pub table_links : Defined → ℕ → ℕ → List Remaining → List LinkSaid
+table_links defined columns at (head ∷ delimiters ∷ lines) = links_at (at + 1) (row_addresses defined columns head) ++ rows_links defined columns (at + 3) lines
+table_links defined columns at _ = []

@@ -1,12 +1,10 @@
 //! Characters of a leaf, each with its flags.
 
-ghost use Rattle.std.specs.Prelude.{◌≡◌, ◌++◌, ◌∷◌, [], IfOk, OnOk, map, chars, reverse, string_bytes};
+ghost use Rattle.std.specs.Prelude.{◌≡◌, ◌++◌, ◌∷◌, [], IfOk, OnOk, map, chars, reverse};
 ghost use Rattle.markdown_inlines.specs.Styled.{shown_with, spelled_of, IsStyled};
-ghost use Rattle.markdown_lines.specs.Glyphs.{glyph_of, leaf_glyphs, is_edge, without_front, without_back, trimmed, space, spaced_from};
+ghost use Rattle.markdown_lines.specs.Glyphs.{glyph_of, is_edge, without_front, without_back, trimmed, space, spaced_from};
 
 use crate::places::RunFlags;
-use indexmap::IndexSet;
-use markdown_inlines::inlines::leaf_text;
 use markdown_inlines::looks::Look;
 use markdown_inlines::styled::Styled;
 use std::alloc::{AllocError, Global};
@@ -47,12 +45,12 @@ fn push_back(glyphs: &mut Vec<Glyph>, bold: bool, look: &Look, text: &str) -> Re
     Ok(())
 }
 
-// The characters of a text of runs.
-fn glyphs_of(alloc: Global, bold: bool, styled: &Styled) -> Result<Vec<Glyph>, AllocError>
+/// The characters of a text of runs.
+pub fn glyphs_of(alloc: Global, bold: bool, styled: &Styled) -> Result<Vec<Glyph>, AllocError>
     requires { IsStyled styled.now }
     ensures { IfOk result (λ glyphs. glyphs.items ≡ map (glyph_of bold) (spelled_of styled.now)) }
 {
-    let mut glyphs = Vec::new(alloc);
+    let mut glyphs = Vec::with_capacity(alloc, styled.text.len())?;
     let mut text = styled.text.as_str();
     let mut count = styled.runs.as_slice().len();
     while count > 0 {
@@ -62,20 +60,6 @@ fn glyphs_of(alloc: Global, bold: bool, styled: &Styled) -> Result<Vec<Glyph>, A
         text = &text[..run.start];
     }
     glyphs.reverse();
-    Ok(glyphs)
-}
-
-/// The characters that are shown of a leaf with this text, and with links to definitions with these labels.
-pub fn leaf_glyphs(
-    alloc: Global,
-    labels: &IndexSet<String>,
-    bold: bool,
-    text: &str,
-) -> Result<Vec<Glyph>, AllocError>
-    ensures { IfOk result (λ glyphs. glyphs.items ≡ leaf_glyphs (map string_bytes labels.now.keys) bold text.now) }
-{
-    let leaf = leaf_text(alloc, labels, text)?;
-    let glyphs = glyphs_of(alloc, bold, &leaf.styled)?;
     Ok(glyphs)
 }
 
@@ -145,8 +129,8 @@ fn push_trimmed(glyphs: &mut Vec<Glyph>, row: &[Glyph]) -> Result<(), AllocError
 pub fn spaced(alloc: Global, bold: bool, glyphs: &[Glyph]) -> Result<Vec<Glyph>, AllocError>
     ensures { IfOk result (λ spaced. spaced.items ≡ spaced_from bold [] [] glyphs.now) }
 {
-    let mut shown = Vec::new(alloc);
-    let mut row = Vec::new(alloc);
+    let mut shown = Vec::with_capacity(alloc, glyphs.len())?;
+    let mut row = Vec::with_capacity(alloc, glyphs.len())?;
     let mut rest = glyphs;
     while let [glyph, next @ ..] = rest {
         rest = next;

@@ -2,15 +2,18 @@
 
 ghost use Rattle.std.specs.Prelude.{◌≡◌, [], ◌∷◌, ◌++◌, IfOk, OnOk, map, string_bytes};
 ghost use Rattle.markdown_lines.specs.Leaf.{shown_text, rows_of, leaf_rows, cell_runs, html_row, html_lines};
+ghost use Rattle.markdown_lines.specs.Links.{leaf_addresses};
+ghost use Rattle.markdown_lines.specs.LinksOf.{defined_of};
 ghost use Rattle.markdown_lines.specs.Said.{said};
 ghost use Rattle.markdown_lines.specs.Shown.{shown};
 
-use crate::glyphs::{Glyph, leaf_glyphs, spaced, trimmed};
+use crate::glyphs::{Glyph, glyphs_of, spaced, trimmed};
 use crate::lines::Lines;
+use crate::links::{Definitions, push_addresses};
 use crate::runs::Runs;
-use indexmap::IndexSet;
 use mad_md::CompositeStyle;
 use markdown_html_text::rows::html_rows;
+use markdown_inlines::inlines::leaf_text;
 use markdown_inlines::printable::shown_char;
 use std::alloc::{AllocError, Global};
 
@@ -18,7 +21,7 @@ use std::alloc::{AllocError, Global};
 pub fn shown_text(alloc: Global, text: &str) -> Result<String, AllocError>
     ensures { IfOk result (λ shown. string_bytes shown ≡ shown_text text.now) }
 {
-    let mut shown = String::new(alloc);
+    let mut shown = String::with_capacity(alloc, text.len())?;
     let mut rest = text.chars();
     while let Some(c) = rest.next() {
         shown.push(shown_char(c))?;
@@ -35,7 +38,7 @@ fn rows_of(alloc: Global, glyphs: &[Glyph]) -> Result<Lines, AllocError>
     if glyphs.is_empty() {
         return Ok(rows);
     }
-    let mut row = Vec::new(alloc);
+    let mut row = Vec::with_capacity(alloc, glyphs.len())?;
     let mut rest = glyphs;
     while let [glyph, next @ ..] = rest {
         rest = next;
@@ -50,30 +53,60 @@ fn rows_of(alloc: Global, glyphs: &[Glyph]) -> Result<Lines, AllocError>
     Ok(rows)
 }
 
-/// The rows of a leaf with this text, and with links to definitions with these labels.
-#[tactic(auto, unfolding(crate::specs::Leaf::leaf_rows))]
-pub fn leaf_rows(alloc: Global, labels: &IndexSet<String>, text: &str) -> Result<Lines, AllocError>
-    ensures { IfOk result (λ rows. shown rows ≡ leaf_rows (map string_bytes labels.now.keys) text.now) }
-{
-    let glyphs = leaf_glyphs(alloc, labels, false, text)?;
-    let rows = rows_of(alloc, trimmed(glyphs.as_slice()))?;
-    Ok(rows)
+/// What is shown of a leaf, and where its links lead.
+#[derive(Drop)]
+pub struct Leaf {
+    pub rows: Lines,
+    /// In the order in which the links end.
+    pub addresses: Vec<String>,
 }
 
-/// The runs of a cell with this text, in bold or as they are.
+/// The rows of a leaf with this text, and where its links lead.
+///
+/// # Errors
+///
+/// Out of memory is the only error.
+#[tactic(auto, unfolding(crate::specs::Leaf::leaf_rows))]
+pub fn read_leaf(alloc: Global, definitions: &Definitions, text: &str) -> Result<Leaf, AllocError>
+    ensures rows { IfOk result (λ leaf. shown leaf.rows ≡ leaf_rows (defined_of definitions.now).labels text.now) }
+    ensures addresses { IfOk result (λ leaf. map string_bytes leaf.addresses.items ≡ leaf_addresses (defined_of definitions.now) text.now) }
+{
+    let leaf = leaf_text(alloc, &definitions.labels, text)?;
+    let glyphs = glyphs_of(alloc, false, &leaf.styled)?;
+    let rows = rows_of(alloc, trimmed(glyphs.as_slice()))?;
+    let mut addresses = Vec::new(alloc);
+    push_addresses(
+        alloc,
+        &mut addresses,
+        &definitions.addresses,
+        text,
+        &leaf.links,
+    )?;
+    Ok(Leaf { rows, addresses })
+}
+
+/// The runs of a cell with this text, in bold or as they are. It also adds where the links of the cell lead.
+///
+/// # Errors
+///
+/// Out of memory is the only error.
 #[tactic(auto, unfolding(crate::specs::Leaf::cell_runs))]
-pub fn cell_runs(
+pub fn read_cell(
     alloc: Global,
-    labels: &IndexSet<String>,
+    addresses: &mut Vec<String>,
+    definitions: &Definitions,
     bold: bool,
     text: &str,
 ) -> Result<Runs, AllocError>
-    ensures { IfOk result (λ runs. said runs ≡ cell_runs (map string_bytes labels.now.keys) bold text.now) }
+    ensures runs { IfOk result (λ runs. said runs ≡ cell_runs (defined_of definitions.now).labels bold text.now) }
+    ensures addresses { OnOk result (map string_bytes addresses.new.items ≡ map string_bytes addresses.old.items ++ leaf_addresses (defined_of definitions.now) text.now) }
 {
-    let glyphs = leaf_glyphs(alloc, labels, bold, text)?;
+    let leaf = leaf_text(alloc, &definitions.labels, text)?;
+    let glyphs = glyphs_of(alloc, bold, &leaf.styled)?;
     let row = spaced(alloc, bold, trimmed(glyphs.as_slice()))?;
     let mut runs = Runs::new(alloc);
     runs.push_glyphs(alloc, row.as_slice())?;
+    push_addresses(alloc, addresses, &definitions.addresses, text, &leaf.links)?;
     Ok(runs)
 }
 

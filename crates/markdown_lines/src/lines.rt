@@ -1,10 +1,12 @@
 //! Lines of runs.
 
 ghost use Rattle.std.specs.Prelude.{◌≡◌, ◌≤◌, ◌+◌, ◌==◌, true, [], ◌∷◌, ◌++◌, IfOk, OnOk, map, length, false, string_bytes};
-ghost use Rattle.std.specs.Str.Lossy.{utf8_lossy};
 ghost use Rattle.markdown_lines.specs.Glyphs.{runs_of};
 ghost use Rattle.markdown_lines.specs.Leaf.{cell_runs};
-ghost use Rattle.markdown_lines.specs.Tables.{cell_of, unbarred, cells};
+ghost use Rattle.markdown_lines.specs.Tables;
+ghost use Rattle.markdown_lines.specs.Tables.{cells, cells_addresses};
+ghost use Rattle.markdown_lines.specs.Links.{leaf_addresses};
+ghost use Rattle.markdown_lines.specs.LinksOf.{defined_of};
 ghost use Rattle.markdown_lines.specs.Lines.{line_said, range_of, line_within, all_within};
 ghost use Rattle.markdown_lines.specs.Restyled.{restyled};
 ghost use Rattle.markdown_lines.specs.Said.{said, range_said};
@@ -13,11 +15,11 @@ ghost use Rattle.mad_md.specs.Lines.{content_of, normal, table_row, table_rule, 
 
 use crate::cells::{after_cell, cell_of, cell_text};
 use crate::glyphs::Glyph;
-use crate::leaf::cell_runs;
+use crate::leaf::read_cell;
+use crate::links::Definitions;
 use crate::places::{RunFlags, RunRange};
 use crate::runs::Runs;
 use crate::text::make_line;
-use indexmap::IndexSet;
 use mad_md::{Alignment, CompositeStyle, Line};
 use std::alloc::{AllocError, Global};
 
@@ -39,19 +41,20 @@ pub struct Lines {
     ghost within: { all_within (length (said runs)) lines.items ≡ true },
 }
 
-// The runs of the first cell of a row.
-fn runs_of_cell(
+// The runs of the first cell of a row. It also adds where its links lead.
+fn read_first_cell(
     alloc: Global,
-    labels: &IndexSet<String>,
+    addresses: &mut Vec<String>,
+    definitions: &Definitions,
     bold: bool,
     row: &[u8],
 ) -> Result<Runs, AllocError>
-    ensures { IfOk result (λ runs. said runs ≡ cell_runs (map string_bytes labels.now.keys) bold (utf8_lossy (unbarred [] false (cell_of row.now)))) }
+    ensures runs { IfOk result (λ runs. said runs ≡ cell_runs (defined_of definitions.now).labels bold (Tables.cell_text row.now)) }
+    ensures addresses { OnOk result (map string_bytes addresses.new.items ≡ map string_bytes addresses.old.items ++ leaf_addresses (defined_of definitions.now) (Tables.cell_text row.now)) }
 {
-    let text = cell_text(alloc, cell_of(row))?;
-    let shown = String::from_utf8_lossy(alloc, text.as_slice())?;
-    let runs = cell_runs(alloc, labels, bold, shown.as_str())?;
-    Ok(runs)
+    let bytes = cell_text(alloc, cell_of(row))?;
+    let text = String::from_utf8_lossy(alloc, bytes.as_slice())?;
+    read_cell(alloc, addresses, definitions, bold, text.as_str())
 }
 
 // The runs of a row.
@@ -133,6 +136,13 @@ impl Lines {
         Ok(())
     }
 
+    /// How many they are.
+    pub fn count(&self) -> usize
+        ensures { result ≡ length (shown self.now) }
+    {
+        self.lines.as_slice().len()
+    }
+
     /// Whether there are none.
     pub fn is_empty(&self) -> bool
         ensures { result ≡ (length (shown self.now) == 0) }
@@ -172,29 +182,35 @@ impl Lines {
         Ok(RunRange { start, count })
     }
 
-    /// Adds a row of a table.
+    /// Adds a row of a table, and says where its links lead.
+    ///
+    /// # Errors
+    ///
+    /// Out of memory is the only error.
     pub fn push_table_row(
         &mut self,
         alloc: Global,
-        labels: &IndexSet<String>,
+        definitions: &Definitions,
         columns: usize,
         bold: bool,
         row: &[u8],
-    ) -> Result<(), AllocError>
-        ensures { OnOk result (shown self.new ≡ shown self.old ++ table_row (cells (map string_bytes labels.now.keys) bold columns row.now) ∷ []) }
+    ) -> Result<Vec<String>, AllocError>
+        ensures row { OnOk result (shown self.new ≡ shown self.old ++ table_row (cells (defined_of definitions.now).labels bold columns row.now) ∷ []) }
+        ensures addresses { IfOk result (λ addresses. map string_bytes addresses.items ≡ cells_addresses (defined_of definitions.now) columns row.now) }
     {
+        let mut addresses = Vec::new(alloc);
         let mut ranges = Vec::new(alloc);
         let mut rest = row;
         let mut more = columns;
         while more > 0 {
-            let runs = runs_of_cell(alloc, labels, bold, rest)?;
+            let runs = read_first_cell(alloc, &mut addresses, definitions, bold, rest)?;
             let range = self.add_runs(&runs)?;
             ranges.push(range)?;
             rest = after_cell(rest);
             more -= 1;
         }
         self.add_line(MarkdownLine::Row(ranges))?;
-        Ok(())
+        Ok(addresses)
     }
 
     /// Adds a rule of a table.

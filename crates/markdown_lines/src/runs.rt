@@ -100,7 +100,7 @@ impl Runs {
         ensures grows { length (said self.old) ≤ length (said self.new) }
     {
         let mut flags = first.flags;
-        let mut text = String::new(alloc);
+        let mut text = String::with_capacity(alloc, others.len())?;
         text.push(first.c)?;
         let mut rest = others;
         while let [glyph, next @ ..] = rest {

@@ -1,13 +1,15 @@
 //! Tables.
 
-ghost use Rattle.std.specs.Prelude.{◌≡◌, ◌++◌, false, OnOk, map, ◌∷◌, [], string_bytes};
+ghost use Rattle.std.specs.Prelude.{◌≡◌, ◌+◌, ◌++◌, true, false, OnOk, map, length, ◌∷◌, []};
 ghost use Rattle.markdown_marks.specs.Remaining.{remaining};
 ghost use Rattle.markdown_lines.specs.Shown.{shown};
-ghost use Rattle.markdown_lines.specs.Tables.{shown_cells, row_said, body, ruled, table_lines};
+ghost use Rattle.markdown_lines.specs.Links.{links_at};
+ghost use Rattle.markdown_lines.specs.LinksOf.{defined_of, link_of};
+ghost use Rattle.markdown_lines.specs.Tables.{shown_cells, row_said, row_addresses, body, rows_links, ruled, table_lines, table_links};
 
 use crate::cells::{alignments, row_of};
 use crate::lines::Lines;
-use indexmap::IndexSet;
+use crate::links::{Definitions, Link, push_links};
 use mad_md::Alignment;
 use markdown_marks::rest::Rest;
 use markdown_marks::tables::cell_count;
@@ -21,88 +23,125 @@ fn shown_cells(columns: usize, bytes: &[u8]) -> usize
     if count < columns { count } else { columns }
 }
 
+// Adds a row, and its links.
 fn push_row(
     alloc: Global,
     lines: &mut Lines,
-    labels: &IndexSet<String>,
+    links: &mut Vec<Link>,
+    definitions: &Definitions,
     columns: usize,
     bold: bool,
     line: Rest<'_>,
 ) -> Result<(), AllocError>
-    ensures { OnOk result (shown lines.new ≡ shown lines.old ++ row_said (map string_bytes labels.now.keys) bold columns (remaining line.entry) ∷ []) }
+    ensures line { OnOk result (shown lines.new ≡ shown lines.old ++ row_said (defined_of definitions.now).labels bold columns (remaining line.entry) ∷ []) }
+    ensures links { OnOk result (map link_of links.new.items ≡ map link_of links.old.items ++ links_at (length (shown lines.old)) (row_addresses (defined_of definitions.now) columns (remaining line.entry))) }
 {
+    let at = lines.count();
     let cells = shown_cells(columns, line.bytes);
-    lines.push_table_row(alloc, labels, cells, bold, row_of(line.bytes))
+    let addresses = lines.push_table_row(alloc, definitions, cells, bold, row_of(line.bytes))?;
+    push_links(links, at, addresses)
 }
 
+// Adds rows, and their links.
+#[tactic(
+    auto,
+    unfolding(crate::specs::Tables::rows_links),
+    using(crate::proofs::LinkLemmas::one_more)
+)]
 fn push_rows(
     alloc: Global,
     lines: &mut Lines,
-    labels: &IndexSet<String>,
+    links: &mut Vec<Link>,
+    definitions: &Definitions,
     columns: usize,
     rows: &[Rest<'_>],
 ) -> Result<(), AllocError>
-    ensures { OnOk result (shown lines.new ≡ shown lines.old ++ map (row_said (map string_bytes labels.now.keys) false columns) (map remaining rows.now)) }
+    ensures lines { OnOk result (shown lines.new ≡ shown lines.old ++ map (row_said (defined_of definitions.now).labels false columns) (map remaining rows.now)) }
+    ensures links { OnOk result (map link_of links.new.items ≡ map link_of links.old.items ++ rows_links (defined_of definitions.now) columns (length (shown lines.old)) (map remaining rows.now)) }
 {
     let mut rest = rows;
     while let [line, next @ ..] = rest {
-        push_row(alloc, lines, labels, columns, false, *line)?;
+        push_row(alloc, lines, links, definitions, columns, false, *line)?;
         rest = next;
     }
     Ok(())
 }
 
 // The rows below the head.
+#[tactic(
+    auto,
+    unfolding(crate::specs::Tables::rows_links),
+    using(crate::proofs::LinkLemmas::one_more)
+)]
 fn push_body(
     alloc: Global,
     lines: &mut Lines,
-    labels: &IndexSet<String>,
+    links: &mut Vec<Link>,
+    definitions: &Definitions,
     columns: usize,
     rule: &[Alignment],
     rows: &[Rest<'_>],
 ) -> Result<(), AllocError>
-    ensures { OnOk result (shown lines.new ≡ shown lines.old ++ body (map string_bytes labels.now.keys) columns rule.now (map remaining rows.now)) }
+    ensures lines { OnOk result (shown lines.new ≡ shown lines.old ++ body (defined_of definitions.now).labels columns rule.now (map remaining rows.now)) }
+    ensures links { OnOk result (map link_of links.new.items ≡ map link_of links.old.items ++ rows_links (defined_of definitions.now) columns (length (shown lines.old) + 1) (map remaining rows.now)) }
 {
     if rows.is_empty() {
         return Ok(());
     }
     lines.push_table_rule(alloc, rule)?;
-    push_rows(alloc, lines, labels, columns, rows)
+    push_rows(alloc, lines, links, definitions, columns, rows)
 }
 
+// A table with this rule.
 fn push_ruled(
     alloc: Global,
     lines: &mut Lines,
-    labels: &IndexSet<String>,
+    links: &mut Vec<Link>,
+    definitions: &Definitions,
     columns: usize,
     rule: &[Alignment],
     head: Rest<'_>,
     rows: &[Rest<'_>],
 ) -> Result<(), AllocError>
-    ensures { OnOk result (shown lines.new ≡ shown lines.old ++ ruled (map string_bytes labels.now.keys) columns rule.now (remaining head.entry) (map remaining rows.now)) }
+    ensures lines { OnOk result (shown lines.new ≡ shown lines.old ++ ruled (defined_of definitions.now).labels columns rule.now (remaining head.entry) (map remaining rows.now)) }
+    ensures links { OnOk result (map link_of links.new.items ≡ map link_of links.old.items ++ (links_at (length (shown lines.old) + 1) (row_addresses (defined_of definitions.now) columns (remaining head.entry)) ++ rows_links (defined_of definitions.now) columns (length (shown lines.old) + 3) (map remaining rows.now))) }
 {
     lines.push_table_rule(alloc, rule)?;
-    push_row(alloc, lines, labels, columns, true, head)?;
-    push_body(alloc, lines, labels, columns, rule, rows)?;
-    lines.push_table_rule(alloc, rule)?;
-    Ok(())
+    push_row(alloc, lines, links, definitions, columns, true, head)?;
+    push_body(alloc, lines, links, definitions, columns, rule, rows)?;
+    lines.push_table_rule(alloc, rule)
 }
 
-/// Adds a table: its head, its row of delimiters, and then its rows.
+/// Adds a table and its links: its head, its row of delimiters, and then its rows.
+///
+/// # Errors
+///
+/// Out of memory is the only error.
 #[tactic(auto, unfolding(crate::specs::Tables::table_lines))]
 pub fn push_table(
     alloc: Global,
     lines: &mut Lines,
-    labels: &IndexSet<String>,
+    links: &mut Vec<Link>,
+    definitions: &Definitions,
     columns: usize,
     table: &[Rest<'_>],
 ) -> Result<(), AllocError>
-    ensures { OnOk result (shown lines.new ≡ shown lines.old ++ table_lines (map string_bytes labels.now.keys) columns (map remaining table.now)) }
+    ensures lines { OnOk result (shown lines.new ≡ shown lines.old ++ table_lines (defined_of definitions.now).labels columns (map remaining table.now)) }
+    ensures links { OnOk result (map link_of links.new.items ≡ map link_of links.old.items ++ table_links (defined_of definitions.now) columns (length (shown lines.old)) (map remaining table.now)) }
 {
     match table {
         [head, delimiters, rows @ ..] => {
             let rule = alignments(alloc, columns, row_of(delimiters.bytes))?;
-            push_ruled(alloc, lines, labels, columns, &rule, *head, rows)
+            push_ruled(
+                alloc,
+                lines,
+                links,
+                definitions,
+                columns,
+                &rule,
+                *head,
+                rows,
+            )
         }
         _ => Ok(()),
     }

@@ -15,11 +15,12 @@ use Rattle.mad_md.specs.Lines.{LineContent, normal, table_row, table_rule, horiz
 use Rattle.mad_md.specs.declared.alignment.Alignment.{Alignment}
 use Rattle.mad_md.specs.declared.composite.CompositeStyle.{CompositeStyle}
 use Rattle.markdown_lines.specs.Code.{spaces, expanded_char, next_column, expanded, code_text, code_line, code_lines}
-use Rattle.markdown_reader.specs.Labels.{labels_of}
+use Rattle.markdown_reader.specs.Definitions.{definitions_of}
 use Rattle.markdown_inlines.specs.Printable.{shown_char}
 use Rattle.markdown_html_text.specs.Rows.{html_rows}
 use Rattle.markdown_leaves.specs.Defining.{joined}
 use Rattle.markdown_lines.specs.Leaf.{shown_text, plain_row, leaf_rows, html_row, html_lines}
+use Rattle.markdown_lines.specs.Links.{Defined, leaf_addresses}
 use Rattle.markdown_reader.proofs.GlyphsPrinted.{none_obeyed, none_append, nothing_printed, cons_printed, leaf_printed, cell_printed}
 use Rattle.markdown_reader.specs.Mapping.{Mapping, nothing_shown, place_in, spaced, is_spaced, marked, passed, begun, item_ended, ended, rows_shown, rows_in, unmarked, first_style, follow_style, words_shown, leaf_text, big_begun, lines_added, heading_style, code_shown, leaf_shown, shown_part, shown_parts}
 use Rattle.markdown_reader.specs.Markdown.{markdown_lines}
@@ -48,7 +49,7 @@ unfolding expanded
 none_expanded column [] = tt
 none_expanded column (c ∷ cs) = none_append (expanded_char column c) (expanded (next_column column c) cs) (none_char (c == 9) _ c) (none_expanded (next_column column c) cs)
 
-text_printed : (text : List ℕ) → NoCharPasses is_obeyed (shown_text text)
+pub text_printed : (text : List ℕ) → NoCharPasses is_obeyed (shown_text text)
 unfolding shown_text
 text_printed text = (map shown_char (chars text), refl, none_shown (chars text))
 
@@ -152,49 +153,51 @@ ended_printed m h = if_mapping (place_in m.places).item (item_ended m) m (item_p
 unmarked_printed : (place : Place) (m : Mapping) → ArePrinted m.lines → ArePrinted (unmarked place m).lines
 unmarked_printed place m h = if_mapping (place.quote == 0) _ m h h
 
-in_printed : (place : Place) (rows : List LineContent) (m : Mapping) → ArePrinted rows → ArePrinted m.lines → ArePrinted (rows_in place rows m).lines
-in_printed place rows m k h =
+in_printed : (place : Place) (rows : List LineContent) (addresses : List (List ℕ)) (m : Mapping) → ArePrinted rows → ArePrinted m.lines → ArePrinted (rows_in place rows addresses m).lines
+in_printed place rows addresses m k h =
     append_printed (marked (unmarked place m)).lines _ (marked_printed (unmarked place m) (unmarked_printed place m h)) (restyled_printed (first_style place m.marks) (follow_style place) rows k)
 
-words_printed : (rows : List LineContent) (m : Mapping) → ArePrinted rows → ArePrinted m.lines → ArePrinted (words_shown rows m).lines
-words_printed rows m k h = if_mapping (length rows == 0) m (rows_shown rows m) h (in_printed (place_in m.places) rows (spaced (place_in m.places).quote m.apart false m) k (spaced_printed (place_in m.places).quote m.apart false m h))
+words_printed : (rows : List LineContent) (addresses : List (List ℕ)) (m : Mapping) → ArePrinted rows → ArePrinted m.lines → ArePrinted (words_shown rows addresses m).lines
+words_printed rows addresses m k h =
+    if_mapping (length rows == 0) m (rows_shown rows addresses m) h
+    (in_printed (place_in m.places) rows addresses (spaced (place_in m.places).quote m.apart false m) k (spaced_printed (place_in m.places).quote m.apart false m h))
 
 big_printed : (m : Mapping) → ArePrinted m.lines → ArePrinted (big_begun m).lines
 big_printed m h = marked_printed (spaced 0 m.apart true m) (spaced_printed 0 m.apart true m h)
 
-added_printed : (lines : List LineContent) (m : Mapping) → ArePrinted lines → ArePrinted m.lines → ArePrinted (lines_added lines (big_begun m)).lines
+added_printed : (lines : List LineContent) (m : Mapping) → ArePrinted lines → ArePrinted m.lines → ArePrinted ((big_begun m).lines ++ lines)
 added_printed lines m k h = append_printed (big_begun m).lines lines (big_printed m h) k
 
 code_shown_printed : (lines : List Remaining) (m : Mapping) → ArePrinted m.lines → ArePrinted (code_shown lines m).lines
 code_shown_printed lines m h = if_mapping (length lines == 0) m _ h (added_printed (code_lines (place_in m.places).column lines) m (code_lines_printed (place_in m.places).column lines) h)
 
-leaf_shown_printed : (labels : List (List ℕ)) (kind : Kind) (lines : List Remaining) (m : Mapping) → ArePrinted m.lines → ArePrinted (leaf_shown labels kind lines m).lines
-leaf_shown_printed labels ParagraphKind lines m h = words_printed (leaf_rows labels (leaf_text lines)) m (leaf_printed labels (leaf_text lines)) h
-leaf_shown_printed labels Html lines m h = words_printed (html_lines (joined [] lines)) m (html_printed (joined [] lines)) h
-leaf_shown_printed labels (Heading level) lines m h =
-    if_mapping (length (leaf_rows labels (leaf_text lines)) == 0) m _ h
-    (added_printed (restyled (heading_style level) (heading_style level) (leaf_rows labels (leaf_text lines))) m (restyled_printed (heading_style level) (heading_style level) (leaf_rows labels (leaf_text lines)) (leaf_printed labels (leaf_text lines))) h)
-leaf_shown_printed labels Indented lines m h = code_shown_printed lines m h
-leaf_shown_printed labels Fenced lines m h = code_shown_printed (drop 1 lines) m h
-leaf_shown_printed labels (Table columns) lines m h = added_printed (table_lines labels columns lines) m (table_printed labels columns lines) h
-leaf_shown_printed labels Rule lines m h = added_printed (horizontal_rule ∷ []) m (cons_printed horizontal_rule [] tt nothing_printed) h
-leaf_shown_printed labels Nothing lines m h = h
-leaf_shown_printed labels Definitions lines m h = h
+leaf_shown_printed : (defined : Defined) (kind : Kind) (lines : List Remaining) (m : Mapping) → ArePrinted m.lines → ArePrinted (leaf_shown defined kind lines m).lines
+leaf_shown_printed defined ParagraphKind lines m h = words_printed (leaf_rows defined.labels (leaf_text lines)) (leaf_addresses defined (leaf_text lines)) m (leaf_printed defined.labels (leaf_text lines)) h
+leaf_shown_printed defined Html lines m h = words_printed (html_lines (joined [] lines)) [] m (html_printed (joined [] lines)) h
+leaf_shown_printed defined (Heading level) lines m h =
+    if_mapping (length (leaf_rows defined.labels (leaf_text lines)) == 0) m _ h
+    (added_printed (restyled (heading_style level) (heading_style level) (leaf_rows defined.labels (leaf_text lines))) m (restyled_printed (heading_style level) (heading_style level) (leaf_rows defined.labels (leaf_text lines)) (leaf_printed defined.labels (leaf_text lines))) h)
+leaf_shown_printed defined Indented lines m h = code_shown_printed lines m h
+leaf_shown_printed defined Fenced lines m h = code_shown_printed (drop 1 lines) m h
+leaf_shown_printed defined (Table columns) lines m h = added_printed (table_lines defined.labels columns lines) m (table_printed defined.labels columns lines) h
+leaf_shown_printed defined Rule lines m h = added_printed (horizontal_rule ∷ []) m (cons_printed horizontal_rule [] tt nothing_printed) h
+leaf_shown_printed defined Nothing lines m h = h
+leaf_shown_printed defined Definitions lines m h = h
 
-part_printed : (labels : List (List ℕ)) (part : PartContent) (m : Mapping) → ArePrinted m.lines → ArePrinted (shown_part labels part m).lines
+part_printed : (defined : Defined) (part : PartContent) (m : Mapping) → ArePrinted m.lines → ArePrinted (shown_part defined part m).lines
 unfolding shown_part
-part_printed labels (begins container apart) m h = begun_printed container (passed apart m) h
-part_printed labels ends m h = ended_printed m h
-part_printed labels (block leaf) m h = leaf_shown_printed labels leaf.kind leaf.lines (passed leaf.apart m) h
+part_printed defined (begins container apart) m h = begun_printed container (passed apart m) h
+part_printed defined ends m h = ended_printed m h
+part_printed defined (block leaf) m h = leaf_shown_printed defined leaf.kind leaf.lines (passed leaf.apart m) h
 
-parts_printed : (labels : List (List ℕ)) (parts : List PartContent) (m : Mapping) → ArePrinted m.lines → ArePrinted (shown_parts labels parts m).lines
+parts_printed : (defined : Defined) (parts : List PartContent) (m : Mapping) → ArePrinted m.lines → ArePrinted (shown_parts defined parts m).lines
 unfolding shown_parts
-parts_printed labels [] m h = h
-parts_printed labels (part ∷ parts) m h = parts_printed labels parts (shown_part labels part m) (part_printed labels part m h)
+parts_printed defined [] m h = h
+parts_printed defined (part ∷ parts) m h = parts_printed defined parts (shown_part defined part m) (part_printed defined part m h)
 
 lines_printed : (source : List ℕ) → ArePrinted (markdown_lines source)
 unfolding markdown_lines
-lines_printed source = parts_printed (labels_of [] (parts_of source)) (parts_of source) nothing_shown nothing_printed
+lines_printed source = parts_printed (definitions_of (parts_of source)) (parts_of source) nothing_shown nothing_printed
 
 -- what a text is shown as has nothing that a terminal obeys
 pub markdown_printed : (source : List ℕ) (lines : List LineContent) → lines ≡ markdown_lines source → ArePrinted lines

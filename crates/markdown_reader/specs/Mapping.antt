@@ -15,14 +15,16 @@ use Rattle.mad_md.specs.declared.composite.CompositeStyle.TheVariants.{Paragraph
 use Rattle.markdown_lines.specs.Code.{code_lines}
 use Rattle.markdown_lines.specs.Leaf.{leaf_rows, html_lines}
 use Rattle.markdown_lines.specs.Restyled.{restyled, empty_line}
-use Rattle.markdown_lines.specs.Tables.{table_lines}
+use Rattle.markdown_lines.specs.Links.{Defined, LinkSaid, leaf_addresses, links_at}
+use Rattle.markdown_lines.specs.Tables.{table_lines, table_links}
 use Rattle.markdown_reader.specs.declared.mapper.Before.{Before}
 use Rattle.markdown_reader.specs.declared.mapper.Place.{Place}
 
--- The lines so far, and what the next ones depend on: the places of the open containers, the styles of the items of which nothing is shown
+-- The lines so far with their links, and what the next ones depend on: the places of the open containers, the styles of the items of which nothing is shown
 -- yet, whether blank lines are before the last of these, whether some came since it began, and since something was shown last, and what that was.
 pub record Mapping : Type 0 where
   pub lines : List LineContent
+  pub links : List LinkSaid
   pub places : List Place
   pub marks : List CompositeStyle
   pub mark_apart : Bool
@@ -31,7 +33,7 @@ pub record Mapping : Type 0 where
   pub before : Before
 
 abbrev pub nothing_shown : Mapping
-nothing_shown = record { lines = []; places = []; marks = []; mark_apart = false; since = false; apart = false; before = record { some = false; big = false; quote = 0 } }
+nothing_shown = record { lines = []; links = []; places = []; marks = []; mark_apart = false; since = false; apart = false; before = record { some = false; big = false; quote = 0 } }
 
 -- ---- places
 
@@ -139,17 +141,22 @@ first_style place marks = if place.quote == 0 then last_mark marks (follow_style
 abbrev pub unmarked : Place → Mapping → Mapping
 unmarked place m = if place.quote == 0 then record m { marks = take (length m.marks - 1) m.marks } else m
 
+-- links of the next line
+abbrev pub linked : List (List ℕ) → Mapping → Mapping
+linked addresses m = record m { links = m.links ++ links_at (length m.lines) addresses }
+
 abbrev pub rows_added : CompositeStyle → Place → List LineContent → Mapping → Mapping
 rows_added first place rows m = record m { lines = m.lines ++ restyled first (follow_style place) rows; apart = false; before = record { some = true; big = false; quote = place.quote } }
 
-abbrev pub rows_in : Place → List LineContent → Mapping → Mapping
-rows_in place rows m = rows_added (first_style place m.marks) place rows (marked (unmarked place m))
+abbrev pub rows_in : Place → List LineContent → List (List ℕ) → Mapping → Mapping
+rows_in place rows addresses m = rows_added (first_style place m.marks) place rows (linked addresses (marked (unmarked place m)))
 
-abbrev pub rows_shown : List LineContent → Mapping → Mapping
-rows_shown rows m = rows_in (place_in m.places) rows (spaced (place_in m.places).quote m.apart false m)
+abbrev pub rows_shown : List LineContent → List (List ℕ) → Mapping → Mapping
+rows_shown rows addresses m = rows_in (place_in m.places) rows addresses (spaced (place_in m.places).quote m.apart false m)
 
-abbrev pub words_shown : List LineContent → Mapping → Mapping
-words_shown rows m = if length rows == 0 then m else rows_shown rows m
+-- rows of words, and where their links lead
+abbrev pub words_shown : List LineContent → List (List ℕ) → Mapping → Mapping
+words_shown rows addresses m = if length rows == 0 then m else rows_shown rows addresses m
 
 -- the text of a leaf: its lines joined, without blanks at the end
 abbrev pub leaf_text : List Remaining → List ℕ
@@ -163,31 +170,34 @@ big_begun m = record (marked (spaced 0 m.apart true m)) { apart = false; before 
 abbrev pub lines_added : List LineContent → Mapping → Mapping
 lines_added lines m = record m { lines = m.lines ++ lines }
 
-abbrev pub heading_shown : ℕ → List LineContent → Mapping → Mapping
-heading_shown level rows m = if length rows == 0 then m else lines_added (restyled (heading_style level) (heading_style level) rows) (big_begun m)
+abbrev pub heading_shown : ℕ → List LineContent → List (List ℕ) → Mapping → Mapping
+heading_shown level rows addresses m = if length rows == 0 then m else lines_added (restyled (heading_style level) (heading_style level) rows) (linked addresses (big_begun m))
+
+abbrev pub table_added : Defined → ℕ → List Remaining → Mapping → Mapping
+table_added defined columns lines m = record m { lines = m.lines ++ table_lines defined.labels columns lines; links = m.links ++ table_links defined columns (length m.lines) lines }
 
 abbrev pub code_shown : List Remaining → Mapping → Mapping
 code_shown lines m = if length lines == 0 then m else lines_added (code_lines (place_in m.places).column lines) (big_begun m)
 
 -- ---- parts
 
-abbrev pub leaf_shown : List (List ℕ) → Kind → List Remaining → Mapping → Mapping
-leaf_shown labels ParagraphKind lines m = words_shown (leaf_rows labels (leaf_text lines)) m
-leaf_shown labels Html lines m = words_shown (html_lines (joined [] lines)) m
-leaf_shown labels (Heading level) lines m = heading_shown level (leaf_rows labels (leaf_text lines)) m
-leaf_shown labels Indented lines m = code_shown lines m
-leaf_shown labels Fenced lines m = code_shown (drop 1 lines) m
-leaf_shown labels (Table columns) lines m = lines_added (table_lines labels columns lines) (big_begun m)
-leaf_shown labels Rule lines m = lines_added (horizontal_rule ∷ []) (big_begun m)
-leaf_shown labels _ lines m = m
+abbrev pub leaf_shown : Defined → Kind → List Remaining → Mapping → Mapping
+leaf_shown defined ParagraphKind lines m = words_shown (leaf_rows defined.labels (leaf_text lines)) (leaf_addresses defined (leaf_text lines)) m
+leaf_shown defined Html lines m = words_shown (html_lines (joined [] lines)) [] m
+leaf_shown defined (Heading level) lines m = heading_shown level (leaf_rows defined.labels (leaf_text lines)) (leaf_addresses defined (leaf_text lines)) m
+leaf_shown defined Indented lines m = code_shown lines m
+leaf_shown defined Fenced lines m = code_shown (drop 1 lines) m
+leaf_shown defined (Table columns) lines m = table_added defined columns lines (big_begun m)
+leaf_shown defined Rule lines m = lines_added (horizontal_rule ∷ []) (big_begun m)
+leaf_shown defined _ lines m = m
 
 -- a part of the text
-unfoldable pub shown_part : List (List ℕ) → PartContent → Mapping → Mapping
-shown_part labels (begins container apart) m = begun container (passed apart m)
-shown_part labels ends m = ended m
-shown_part labels (block leaf) m = leaf_shown labels leaf.kind leaf.lines (passed leaf.apart m)
+unfoldable pub shown_part : Defined → PartContent → Mapping → Mapping
+shown_part defined (begins container apart) m = begun container (passed apart m)
+shown_part defined ends m = ended m
+shown_part defined (block leaf) m = leaf_shown defined leaf.kind leaf.lines (passed leaf.apart m)
 
 -- parts of the text, one after the other
-unfoldable pub shown_parts : List (List ℕ) → List PartContent → Mapping → Mapping
-shown_parts labels [] m = m
-shown_parts labels (part ∷ parts) m = shown_parts labels parts (shown_part labels part m)
+unfoldable pub shown_parts : Defined → List PartContent → Mapping → Mapping
+shown_parts defined [] m = m
+shown_parts defined (part ∷ parts) m = shown_parts defined parts (shown_part defined part m)

@@ -1,14 +1,19 @@
--- The lines of a Markdown text.
-use Rattle.std.specs.Prelude.{ℕ, List, []}
+-- The lines of a Markdown text, and its links.
+use Rattle.std.specs.Prelude.{ℕ, List}
 use Rattle.markdown_leaves.specs.Parts.{PartContent}
 use Rattle.markdown_leaves.specs.Told.{parts_of}
 use Rattle.mad_md.specs.Lines.{LineContent}
-use Rattle.markdown_reader.specs.Labels.{labels_of}
-use Rattle.markdown_reader.specs.Mapping.{nothing_shown, shown_parts}
+use Rattle.markdown_lines.specs.Links.{LinkSaid}
+use Rattle.markdown_reader.specs.Definitions.{definitions_of}
+use Rattle.markdown_reader.specs.Mapping.{Mapping, nothing_shown, shown_parts}
 
-abbrev pub parts_shown : List PartContent → List LineContent
-parts_shown parts = (shown_parts (labels_of [] parts) parts nothing_shown).lines
+abbrev pub parts_shown : List PartContent → Mapping
+parts_shown parts = shown_parts (definitions_of parts) parts nothing_shown
 
 -- what a text is shown as
 unfoldable pub markdown_lines : List ℕ → List LineContent
-markdown_lines source = parts_shown (parts_of source)
+markdown_lines source = (parts_shown (parts_of source)).lines
+
+-- the links of a text, leaf by leaf, and in each in the order in which they end: the number of a line, and where the link leads
+unfoldable pub markdown_links : List ℕ → List LinkSaid
+markdown_links source = (parts_shown (parts_of source)).links

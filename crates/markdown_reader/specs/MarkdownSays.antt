@@ -1,8 +1,13 @@
 -- What a text that was read says.
-use Rattle.std.specs.Prelude.{List}
+use Rattle.std.specs.Prelude.{List, map}
 use Rattle.mad_md.specs.Lines.{LineContent}
+use Rattle.markdown_lines.specs.Links.{LinkSaid}
+use Rattle.markdown_lines.specs.LinksOf.{link_of}
 use Rattle.markdown_lines.specs.Shown.{shown}
 use Rattle.markdown_reader.specs.declared.markdown.Markdown.{Markdown}
 
 abbrev pub markdown_says : Markdown → List LineContent
 markdown_says markdown = shown markdown.lines
+
+abbrev pub links_said : Markdown → List LinkSaid
+links_said markdown = map link_of markdown.links.items

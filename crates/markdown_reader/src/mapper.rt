@@ -6,20 +6,21 @@ ghost use Rattle.markdown_leaves.specs.Parts.{part_of};
 ghost use Rattle.mad_md.specs.Lines.{horizontal_rule};
 ghost use Rattle.markdown_leaves.specs.Defining.{joined};
 ghost use Rattle.markdown_lines.specs.Leaf.{leaf_rows, html_lines};
-ghost use Rattle.markdown_reader.specs.Mapping.{nothing_shown, place_in, digits, is_number, mark_width, level_of, item_style, follow_style, quote_in, open_quote, heading_style, blank_style, is_spaced, spaced, marked, passed, quote_begun, item_begun, begun, item_ended, container_ended, ended, first_style, unmarked, rows_shown, words_shown, leaf_text, big_begun, lines_added, heading_shown, code_shown, leaf_shown, shown_part, shown_parts};
+ghost use Rattle.markdown_reader.specs.Mapping.{nothing_shown, place_in, digits, is_number, mark_width, level_of, item_style, follow_style, quote_in, open_quote, heading_style, blank_style, is_spaced, spaced, marked, passed, quote_begun, item_begun, begun, item_ended, container_ended, ended, first_style, unmarked, linked, rows_shown, words_shown, leaf_text, big_begun, lines_added, heading_shown, table_added, code_shown, leaf_shown, shown_part, shown_parts};
 ghost use Rattle.markdown_reader.specs.MappingOf.{mapping_of};
+ghost use Rattle.markdown_lines.specs.Links.{leaf_addresses};
+ghost use Rattle.markdown_lines.specs.LinksOf.{defined_of};
 ghost use Rattle.markdown_lines.specs.Restyled.{empty_line};
 ghost use Rattle.markdown_lines.specs.Shown.{shown};
-ghost use Rattle.markdown_lines.specs.Tables.{table_lines};
 
-use indexmap::IndexSet;
 use mad_md::CompositeStyle;
 use markdown_blocks::Container;
 use markdown_leaves::defining::joined;
 use markdown_leaves::{Kind, Part};
 use markdown_lines::code::push_code_lines;
-use markdown_lines::leaf::{html_lines, leaf_rows};
+use markdown_lines::leaf::{Leaf, html_lines, read_leaf};
 use markdown_lines::lines::Lines;
+use markdown_lines::links::{Definitions, Link, push_links};
 use markdown_lines::tables::push_table;
 use markdown_marks::headings::without_end;
 use markdown_marks::rest::Rest;
@@ -50,7 +51,8 @@ pub struct Before {
 /// The lines so far, and what the next ones depend on.
 #[derive(Debug, Drop)]
 pub struct Mapper {
-    lines: Lines,
+    pub(crate) lines: Lines,
+    pub(crate) links: Vec<Link>,
     // of each open container
     places: Vec<Place>,
     // the styles of the items of which nothing is shown yet
@@ -227,6 +229,7 @@ impl Mapper {
     {
         Mapper {
             lines: Lines::new(alloc),
+            links: Vec::new(alloc),
             places: Vec::new(alloc),
             marks: Vec::new(alloc),
             mark_apart: false,
@@ -238,13 +241,6 @@ impl Mapper {
                 quote: 0,
             },
         }
-    }
-
-    /// The lines.
-    pub fn into_lines(self) -> Lines
-        ensures { shown result ≡ (mapping_of self).lines }
-    {
-        self.lines
     }
 
     // Where the next leaf stands.
@@ -387,16 +383,26 @@ impl Mapper {
         }
     }
 
-    // Rows of words.
-    fn show_rows(&mut self, rows: &Lines) -> Result<(), AllocError>
-        ensures { OnOk result (mapping_of self.new ≡ rows_shown (shown rows.now) (mapping_of self.old)) }
+    // Adds links of the next line.
+    fn link(&mut self, addresses: Vec<String>) -> Result<(), AllocError>
+        ensures { OnOk result (mapping_of self.new ≡ linked (map string_bytes addresses.items) (mapping_of self.old)) }
+    {
+        let line = self.lines.count();
+        push_links(&mut self.links, line, addresses)
+    }
+
+    // Rows of words, and their links.
+    fn show_rows(&mut self, leaf: Leaf) -> Result<(), AllocError>
+        ensures { OnOk result (mapping_of self.new ≡ rows_shown (shown leaf.rows) (map string_bytes leaf.addresses.items) (mapping_of self.old)) }
     {
         let place = self.place();
         self.space(place.quote, self.apart, false)?;
         let first = self.first_style(place);
         self.unmark(place);
         self.push_marks()?;
-        self.lines.push_rows(first, follow_style(place), rows)?;
+        self.link(leaf.addresses)?;
+        self.lines
+            .push_rows(first, follow_style(place), &leaf.rows)?;
         self.apart = false;
         self.before = Before {
             some: true,
@@ -406,34 +412,35 @@ impl Mapper {
         Ok(())
     }
 
-    fn show_words(&mut self, rows: &Lines) -> Result<(), AllocError>
-        ensures { OnOk result (mapping_of self.new ≡ words_shown (shown rows.now) (mapping_of self.old)) }
+    fn show_words(&mut self, leaf: Leaf) -> Result<(), AllocError>
+        ensures { OnOk result (mapping_of self.new ≡ words_shown (shown leaf.rows) (map string_bytes leaf.addresses.items) (mapping_of self.old)) }
     {
-        if rows.is_empty() {
+        if leaf.rows.is_empty() {
             return Ok(());
         }
-        self.show_rows(rows)
+        self.show_rows(leaf)
     }
 
     fn show_paragraph(
         &mut self,
         alloc: Global,
-        labels: &IndexSet<String>,
+        definitions: &Definitions,
         lines: &[Rest<'_>],
     ) -> Result<(), AllocError>
-        ensures { OnOk result (mapping_of self.new ≡ words_shown (leaf_rows (map string_bytes labels.now.keys) (leaf_text (map remaining lines.now))) (mapping_of self.old)) }
+        ensures { OnOk result (mapping_of self.new ≡ words_shown (leaf_rows (defined_of definitions.now).labels (leaf_text (map remaining lines.now))) (leaf_addresses (defined_of definitions.now) (leaf_text (map remaining lines.now))) (mapping_of self.old)) }
     {
         let text = leaf_text(alloc, lines)?;
-        let rows = leaf_rows(alloc, labels, text.as_str())?;
-        self.show_words(&rows)
+        let leaf = read_leaf(alloc, definitions, text.as_str())?;
+        self.show_words(leaf)
     }
 
     fn show_html(&mut self, alloc: Global, lines: &[Rest<'_>]) -> Result<(), AllocError>
-        ensures { OnOk result (mapping_of self.new ≡ words_shown (html_lines (joined [] (map remaining lines.now))) (mapping_of self.old)) }
+        ensures { OnOk result (mapping_of self.new ≡ words_shown (html_lines (joined [] (map remaining lines.now))) [] (mapping_of self.old)) }
     {
         let text = joined(alloc, lines)?;
         let rows = html_lines(alloc, text.as_slice())?;
-        self.show_words(&rows)
+        let addresses = Vec::new(alloc);
+        self.show_words(Leaf { rows, addresses })
     }
 
     // Before a leaf that wants blank rows beside it.
@@ -454,20 +461,21 @@ impl Mapper {
     fn show_heading(
         &mut self,
         alloc: Global,
-        labels: &IndexSet<String>,
+        definitions: &Definitions,
         level: usize,
         lines: &[Rest<'_>],
     ) -> Result<(), AllocError>
-        ensures { OnOk result (mapping_of self.new ≡ heading_shown level (leaf_rows (map string_bytes labels.now.keys) (leaf_text (map remaining lines.now))) (mapping_of self.old)) }
+        ensures { OnOk result (mapping_of self.new ≡ heading_shown level (leaf_rows (defined_of definitions.now).labels (leaf_text (map remaining lines.now))) (leaf_addresses (defined_of definitions.now) (leaf_text (map remaining lines.now))) (mapping_of self.old)) }
     {
         let text = leaf_text(alloc, lines)?;
-        let rows = leaf_rows(alloc, labels, text.as_str())?;
-        if rows.is_empty() {
+        let leaf = read_leaf(alloc, definitions, text.as_str())?;
+        if leaf.rows.is_empty() {
             return Ok(());
         }
         self.begin_big()?;
+        self.link(leaf.addresses)?;
         self.lines
-            .push_rows(heading_style(level), heading_style(level), &rows)
+            .push_rows(heading_style(level), heading_style(level), &leaf.rows)
     }
 
     fn show_code(&mut self, alloc: Global, lines: &[Rest<'_>]) -> Result<(), AllocError>
@@ -484,14 +492,21 @@ impl Mapper {
     fn show_table(
         &mut self,
         alloc: Global,
-        labels: &IndexSet<String>,
+        definitions: &Definitions,
         columns: usize,
         lines: &[Rest<'_>],
     ) -> Result<(), AllocError>
-        ensures { OnOk result (mapping_of self.new ≡ lines_added (table_lines (map string_bytes labels.now.keys) columns (map remaining lines.now)) (big_begun (mapping_of self.old))) }
+        ensures { OnOk result (mapping_of self.new ≡ table_added (defined_of definitions.now) columns (map remaining lines.now) (big_begun (mapping_of self.old))) }
     {
         self.begin_big()?;
-        push_table(alloc, &mut self.lines, labels, columns, lines)
+        push_table(
+            alloc,
+            &mut self.lines,
+            &mut self.links,
+            definitions,
+            columns,
+            lines,
+        )
     }
 
     fn show_rule(&mut self) -> Result<(), AllocError>
@@ -504,20 +519,20 @@ impl Mapper {
     fn show_leaf(
         &mut self,
         alloc: Global,
-        labels: &IndexSet<String>,
+        definitions: &Definitions,
         kind: Kind,
         lines: &[Rest<'_>],
     ) -> Result<(), AllocError>
-        ensures { OnOk result (mapping_of self.new ≡ leaf_shown (map string_bytes labels.now.keys) kind (map remaining lines.now) (mapping_of self.old)) }
+        ensures { OnOk result (mapping_of self.new ≡ leaf_shown (defined_of definitions.now) kind (map remaining lines.now) (mapping_of self.old)) }
     {
         match kind {
             Kind::Nothing | Kind::Definitions => Ok(()),
-            Kind::Paragraph => self.show_paragraph(alloc, labels, lines),
+            Kind::Paragraph => self.show_paragraph(alloc, definitions, lines),
             Kind::Html => self.show_html(alloc, lines),
-            Kind::Heading(level) => self.show_heading(alloc, labels, level, lines),
+            Kind::Heading(level) => self.show_heading(alloc, definitions, level, lines),
             Kind::Indented => self.show_code(alloc, lines),
             Kind::Fenced => self.show_code(alloc, after_first(lines)),
-            Kind::Table(columns) => self.show_table(alloc, labels, columns, lines),
+            Kind::Table(columns) => self.show_table(alloc, definitions, columns, lines),
             Kind::Rule => self.show_rule(),
         }
     }
@@ -527,10 +542,10 @@ impl Mapper {
     pub fn show(
         &mut self,
         alloc: Global,
-        labels: &IndexSet<String>,
+        definitions: &Definitions,
         part: &Part<'_>,
     ) -> Result<(), AllocError>
-        ensures { OnOk result (mapping_of self.new ≡ shown_part (map string_bytes labels.now.keys) (part_of part.now) (mapping_of self.old)) }
+        ensures { OnOk result (mapping_of self.new ≡ shown_part (defined_of definitions.now) (part_of part.now) (mapping_of self.old)) }
     {
         match part {
             Part::Begins(container, apart) => {
@@ -540,7 +555,7 @@ impl Mapper {
             Part::Ends => self.end(),
             Part::Block(block) => {
                 self.pass(block.apart);
-                self.show_leaf(alloc, labels, block.kind, &block.lines)
+                self.show_leaf(alloc, definitions, block.kind, &block.lines)
             }
         }
     }
@@ -550,14 +565,14 @@ impl Mapper {
     pub fn show_all(
         &mut self,
         alloc: Global,
-        labels: &IndexSet<String>,
+        definitions: &Definitions,
         parts: &[Part<'_>],
     ) -> Result<(), AllocError>
-        ensures { OnOk result (mapping_of self.new ≡ shown_parts (map string_bytes labels.now.keys) (map part_of parts.now) (mapping_of self.old)) }
+        ensures { OnOk result (mapping_of self.new ≡ shown_parts (defined_of definitions.now) (map part_of parts.now) (mapping_of self.old)) }
     {
         let mut rest = parts;
         while let [part, next @ ..] = rest {
-            self.show(alloc, labels, part)?;
+            self.show(alloc, definitions, part)?;
             rest = next;
         }
         Ok(())

@@ -1,22 +1,25 @@
 //! Reading Markdown as people write it.
 
-ghost use Rattle.std.specs.Prelude.{◌≡◌, IfOk};
+ghost use Rattle.std.specs.Prelude.{◌≡◌, IfOk, map};
 ghost use Rattle.mad_md.specs.Lines.{contents};
-ghost use Rattle.markdown_reader.specs.Markdown.{markdown_lines};
-ghost use Rattle.markdown_reader.specs.MarkdownSays.{markdown_says};
-ghost use Rattle.markdown_reader.specs.Printed.{ArePrinted};
+ghost use Rattle.markdown_lines.specs.LinksOf.{link_of};
+ghost use Rattle.markdown_reader.specs.Markdown.{markdown_lines, markdown_links};
+ghost use Rattle.markdown_reader.specs.MarkdownSays.{markdown_says, links_said};
+ghost use Rattle.markdown_reader.specs.Printed.{ArePrinted, ArePrintedLinks};
 
-use crate::labels::labels_of;
+use crate::definitions::definitions_of;
 use crate::mapper::Mapper;
 use mad_md::Text;
 use markdown_leaves::read_parts;
 use markdown_lines::lines::Lines;
+use markdown_lines::links::Link;
 use std::alloc::{AllocError, Global};
 
-/// The lines of a Markdown text, which own their text.
+/// The lines of a Markdown text, which own their text, and its links.
 #[derive(Debug, Drop)]
 pub struct Markdown {
     lines: Lines,
+    links: Vec<Link>,
 }
 
 impl Markdown {
@@ -25,25 +28,29 @@ impl Markdown {
     /// # Errors
     ///
     /// Out of memory is the only error.
-    #[tactic(auto, using(crate::proofs::PrintedLemmas::markdown_printed))]
+    #[tactic(auto, using(crate::proofs::PrintedLemmas::markdown_printed, crate::proofs::LinksPrinted::links_printed))]
     pub fn read(alloc: Global, source: &str) -> Result<Markdown, AllocError>
         ensures lines { IfOk result (λ read. markdown_says read ≡ markdown_lines source.now) }
+        ensures links { IfOk result (λ read. links_said read ≡ markdown_links source.now) }
         ensures printed { IfOk result (λ read. ArePrinted (markdown_says read)) }
+        ensures printed_links { IfOk result (λ read. ArePrintedLinks (links_said read)) }
     {
         let markdown = Markdown::read_lines(alloc, source)?;
         Ok(markdown)
     }
 
-    #[tactic(auto, unfolding(crate::specs::Markdown::markdown_lines))]
+    #[tactic(auto, unfolding(crate::specs::Markdown::markdown_lines, crate::specs::Markdown::markdown_links))]
     fn read_lines(alloc: Global, source: &str) -> Result<Markdown, AllocError>
-        ensures { IfOk result (λ read. markdown_says read ≡ markdown_lines source.now) }
+        ensures lines { IfOk result (λ read. markdown_says read ≡ markdown_lines source.now) }
+        ensures links { IfOk result (λ read. links_said read ≡ markdown_links source.now) }
     {
         let parts = read_parts(alloc, source.as_bytes())?;
-        let labels = labels_of(alloc, &parts)?;
+        let definitions = definitions_of(alloc, &parts)?;
         let mut mapper = Mapper::new(alloc);
-        mapper.show_all(alloc, &labels, &parts)?;
+        mapper.show_all(alloc, &definitions, &parts)?;
         Ok(Markdown {
-            lines: mapper.into_lines(),
+            lines: mapper.lines,
+            links: mapper.links,
         })
     }
 
@@ -57,5 +64,12 @@ impl Markdown {
     {
         let lines = self.lines.text_lines(alloc)?;
         Ok(Text { lines })
+    }
+
+    /// The links, in the order of their lines. Those of images aren't among them, nor those of html.
+    pub fn links(&self) -> &[Link]
+        ensures { map link_of result.now ≡ links_said self.now }
+    {
+        self.links.as_slice()
     }
 }

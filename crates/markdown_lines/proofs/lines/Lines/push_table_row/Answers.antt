@@ -1,8 +1,10 @@
 use Rattle.std.proofs.Common.{◌∙◌, ap, arith, map, string_bytes}
 use Rattle.markdown_lines.specs.Lines.{cell_said}
+use Rattle.markdown_lines.specs.LinksOf.{defined_of}
 use Rattle.markdown_lines.specs.Said.{said}
 use Rattle.markdown_lines.specs.Shown.{shown}
 use Rattle.markdown_lines.specs.Tables.{cells}
+use Rattle.markdown_lines.proofs.LinkLemmas.{addresses_next, addresses_done}
 use Rattle.markdown_lines.proofs.TableLemmas.{cells_next, ranges_next, lines_kept, row_done}
 use Rattle.markdown_lines.proofs.lines.Lines.push_table_row.Goals as goal
 
@@ -16,11 +18,16 @@ loop-more-preserved c =
     record {
       same = lines_kept all added whole c.loop-more.self.lines.items c.add_runs.new.self.lines.items c.loop-more.self.within adds.runs (ap (λ v. v.items) adds.lines) ∙ held.same;
       within = ranges_next all added whole c.loop-more.ranges.items c.push.new.self.items c.in_ok-range.range held.within adds.runs adds.range c.in_ok-push.ensures.items;
-      so_far = cells_next (map string_bytes c.args.labels.now.keys) c.args.bold all added whole c.loop-more.ranges.items c.push.new.self.items c.in_ok-range.range c.loop-more.rest.now c.after_cell-rest.result.now c.loop-more.more (omega arith)
-          held.within adds.runs adds.range c.in_ok-push.ensures.items c.in_ok-runs.ensures c.after_cell-rest.ensures ∙ held.so_far;
+      so_far = cells_next (defined_of c.args.definitions.now).labels c.args.bold all added whole c.loop-more.ranges.items c.push.new.self.items c.in_ok-range.range c.loop-more.rest.now c.after_cell-rest.result.now c.loop-more.more (omega arith)
+          held.within adds.runs adds.range c.in_ok-push.ensures.items c.in_ok-runs.ensures.runs c.after_cell-rest.ensures ∙ held.so_far;
+      leads = addresses_next (defined_of c.args.definitions.now) (map string_bytes c.loop-more.addresses.items) (map string_bytes c.read_first_cell.new.addresses.items) c.loop-more.rest.now c.after_cell-rest.result.now c.loop-more.more (omega arith)
+          c.in_ok-runs.ensures.addresses c.after_cell-rest.ensures ∙ held.leads;
     }
 
-pub returns : goal.returns
-returns c =
-    row_done (map string_bytes c.args.labels.now.keys) c.args.bold (shown c.loop-more.self) (shown c.add_line.new.self) (shown c.args.self.now) (map (cell_said (said c.loop-more.self.runs)) c.loop-more.ranges.items)
-    (cells (map string_bytes c.args.labels.now.keys) c.args.bold c.args.columns c.args.row.now) c.loop-more.rest.now c.loop-more.more (omega arith) c.in_ok-add_line.ensures c.loop-more.invariant.same c.loop-more.invariant.so_far
+pub returns-clause-row : goal.returns-clause-row
+returns-clause-row c =
+    row_done (defined_of c.args.definitions.now).labels c.args.bold (shown c.loop-more.self) (shown c.add_line.new.self) (shown c.args.self.now) (map (cell_said (said c.loop-more.self.runs)) c.loop-more.ranges.items)
+    (cells (defined_of c.args.definitions.now).labels c.args.bold c.args.columns c.args.row.now) c.loop-more.rest.now c.loop-more.more (omega arith) c.in_ok-add_line.ensures c.loop-more.invariant.same c.loop-more.invariant.so_far
+
+pub returns-clause-addresses : goal.returns-clause-addresses
+returns-clause-addresses c = addresses_done (defined_of c.args.definitions.now) (map string_bytes c.loop-more.addresses.items) _ c.loop-more.rest.now c.loop-more.more (omega arith) c.loop-more.invariant.leads

@@ -1,0 +1,11 @@
+-- What definitions and links say, whatever the places of their texts.
+use Rattle.std.specs.Prelude.{string_bytes, map}
+use Rattle.markdown_lines.specs.Links.{Defined, LinkSaid}
+use Rattle.markdown_lines.specs.declared.links.Definitions.{Definitions}
+use Rattle.markdown_lines.specs.declared.links.Link.{Link}
+
+abbrev pub defined_of : Definitions → Defined
+defined_of definitions = record { labels = map string_bytes definitions.labels.keys; addresses = map string_bytes definitions.addresses.items }
+
+abbrev pub link_of : Link → LinkSaid
+link_of link = record { line = link.line; address = string_bytes link.address }
