@@ -19,6 +19,10 @@ abbrev pub line_decides : Offered → List ℕ → Decision
 line_decides offered line =
     if is_utf8 line then text_decides offered offered.default (trim_end line) else NoText
 
--- what is said of a line that decides nothing
+-- what is said of a text that decides nothing
+abbrev pub not_understood : List ℕ → List ℕ
+not_understood text = codes "answer \"" ++ (text ++ codes "\" not understood\n")
+
+-- what is said of a line that decides nothing: it is shown without the whitespace at its end
 abbrev pub complaint : List ℕ → List ℕ
-complaint line = codes "answer \"" ++ (trim_end line ++ codes "\" not understood\n")
+complaint line = not_understood (trim_end line)

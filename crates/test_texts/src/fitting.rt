@@ -64,6 +64,19 @@ fn draw_lines(picture: &mut String, lines: &[WrappedLine]) -> Result<(), AllocEr
     Ok(())
 }
 
+// The room of three numbers.
+fn room_of(numbers: &[usize], whole_words: bool) -> Option<Room> {
+    let [first, other, width] = *numbers else {
+        return None;
+    };
+    Some(Room {
+        first,
+        other,
+        width,
+        whole_words,
+    })
+}
+
 fn draw_wrapped(
     picture: &mut String,
     compounds: &[Compound],
@@ -73,8 +86,7 @@ fn draw_wrapped(
     if fit_columns(compounds, room).is_none() {
         draw_lines(picture, &wrap_compounds(alloc, compounds, room)?)?;
     }
-    picture.push_str("starts")?;
-    draw_numbers(picture, &wrap_starts(alloc, compounds, room)?)
+    Ok(())
 }
 
 /// The lines of compounds that are too wide, and the starts of these.
@@ -83,17 +95,14 @@ pub(crate) fn draw_wrap(
     numbers: &[usize],
     text: &str,
 ) -> Result<(), AllocError> {
-    let [first, other, width] = *numbers else {
+    let Some(room) = room_of(numbers, false) else {
         return Ok(());
     };
-    let room = Room {
-        first,
-        other,
-        width,
-        whole_words: false,
-    };
-    let compounds = compounds(*picture.allocator(), text)?;
-    draw_wrapped(picture, &compounds, room)
+    let alloc = *picture.allocator();
+    let compounds = compounds(alloc, text)?;
+    draw_wrapped(picture, &compounds, room)?;
+    picture.push_str("starts")?;
+    draw_numbers(picture, &wrap_starts(alloc, &compounds, room)?)
 }
 
 /// The lines of compounds that are too wide, words whole.
@@ -102,21 +111,11 @@ pub(crate) fn draw_words(
     numbers: &[usize],
     text: &str,
 ) -> Result<(), AllocError> {
-    let [first, other, width] = *numbers else {
+    let Some(room) = room_of(numbers, true) else {
         return Ok(());
     };
-    let room = Room {
-        first,
-        other,
-        width,
-        whole_words: true,
-    };
-    let alloc = *picture.allocator();
-    let compounds = compounds(alloc, text)?;
-    if fit_columns(&compounds, room).is_none() {
-        draw_lines(picture, &wrap_compounds(alloc, &compounds, room)?)?;
-    }
-    Ok(())
+    let compounds = compounds(*picture.allocator(), text)?;
+    draw_wrapped(picture, &compounds, room)
 }
 
 /// Whether starts pass the check.
