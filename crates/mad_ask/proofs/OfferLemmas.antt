@@ -1,7 +1,7 @@
 -- Offers, one after the other.
 use Rattle.std.proofs.Common.{◌≡◌, ◌<◌, ◌+◌, ℕ, List, [], ◌∷◌, ◌++◌, Option, Bool, length, get_or, map, take, string_bytes, refl, ap, subst, sym, ◌∙◌, append_assoc}
 use Rattle.std.proofs.lemmas.List.{append-nil, map-append, take_more, take-map}
-use Rattle.mad_answers.specs.declared.choices.Answer.{Answer}
+use Rattle.mad_ask.specs.declared.choices.Answer.{Answer}
 use Rattle.mad_draw.specs.Pieces.{pieces_bytes}
 use Rattle.mad_rows.specs.Rows.{free_pieces}
 use Rattle.mad_rows.specs.declared.row_skin.RowSkin.{RowSkin}

@@ -4,7 +4,7 @@ use mad_field::InputField;
 use mad_screen::CutOut;
 use mad_term::Error;
 use std::alloc::{AllocError, Global};
-use test_devices::Writing;
+use test_rows::devices::Writing;
 
 // More bytes than a field of a row takes.
 const ROOM: usize = 20000;
@@ -22,7 +22,7 @@ pub fn push_bytes(answer: &mut String, field: &InputField) -> Result<(), AllocEr
 
 /// Appends whether devices that fail get what they should of a drawing.
 pub fn push_tried(answer: &mut String, field: &InputField) -> Result<(), AllocError> {
-    let tried = test_devices::tried(*answer.allocator(), &Drawn(field))?;
+    let tried = test_rows::devices::tried(*answer.allocator(), &Drawn(field))?;
     write!(answer, "{tried}\n")
 }
 

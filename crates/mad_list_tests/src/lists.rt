@@ -12,7 +12,7 @@ use mad_screen::{CutOut, Screen};
 use mad_style::{CompoundStyle, rgb};
 use mad_term::Error;
 use std::alloc::{AllocError, Global};
-use test_devices::Writing;
+use test_rows::devices::Writing;
 
 // More bytes than any row here writes.
 const ROOM: usize = 20_000;
@@ -129,7 +129,7 @@ fn written(alloc: Global, list: &List) -> Result<CutOut, Refusal> {
 
 // What devices that fail get of a list.
 fn push_tried(alloc: Global, list: &List, told: &mut String) -> Result<(), Refusal> {
-    let tried = test_devices::tried(alloc, &Drawn(list))?;
+    let tried = test_rows::devices::tried(alloc, &Drawn(list))?;
     write!(told, "{tried}\n")?;
     Ok(())
 }

@@ -7,7 +7,7 @@ use mad_screen::{CutOut, ScriptSource};
 use mad_term::Error;
 use std::alloc::{AllocError, Global};
 use std::io;
-use test_devices::Writing;
+use test_rows::devices::Writing;
 
 // More bytes than any row here writes.
 const ROOM: usize = 2_000;
@@ -128,7 +128,7 @@ pub fn tried(alloc: Global, words: &str) -> Result<String, Refusal> {
         input: input.as_slice(),
         fails: asking.fails,
     };
-    let devices = test_devices::tried(alloc, &asked)?;
+    let devices = test_rows::devices::tried(alloc, &asked)?;
     let readers = asked.readers_tried(alloc)?;
     Ok(format!(in alloc; "{devices}\n{readers}")?)
 }

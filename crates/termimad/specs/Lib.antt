@@ -197,11 +197,11 @@ pub use Rattle.mad_list_columns.specs.Cells as ListCells
 pub use Rattle.mad_list_columns.specs.Columns as ListColumns
 pub use Rattle.mad_list_columns.specs.Drawing as ListDrawing
 pub use Rattle.mad_list.specs.Lists
-pub use Rattle.mad_answers.specs.Deciding
-pub use Rattle.mad_answers.specs.ErrorTexts as AskErrorTexts
-pub use Rattle.mad_answers.specs.Offers
-pub use Rattle.mad_answers.specs.Reading as AnswerReading
-pub use Rattle.mad_answers.specs.Replies
+pub use Rattle.mad_ask.specs.Deciding
+pub use Rattle.mad_ask.specs.ErrorTexts as AskErrorTexts
+pub use Rattle.mad_ask.specs.Offers
+pub use Rattle.mad_ask.specs.Reading as AnswerReading
+pub use Rattle.mad_ask.specs.Replies
 pub use Rattle.mad_ask.specs.Asking
 pub use Rattle.mad_ask.specs.QuestionTexts
 pub use Rattle.mad_ask.specs.Questions

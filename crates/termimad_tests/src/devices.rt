@@ -6,7 +6,7 @@ use crate::skins::skin_of;
 use crate::{mad_views, runs, screens, texts, untrusted};
 use std::alloc::Global;
 use termimad::{CutOut, Error};
-use test_devices::Writing;
+use test_rows::devices::Writing;
 
 /// Whether devices that fail get what they should of what a call writes.
 pub fn tried(alloc: Global, call: &str, text: &str) -> Result<String, Refusal> {
@@ -35,7 +35,7 @@ fn tried_in_skin(alloc: Global, name: &str, words: &str, text: &str) -> Result<S
         numbers,
         text,
     };
-    Ok(test_devices::tried(
+    Ok(test_rows::devices::tried(
         alloc,
         &Named {
             name,

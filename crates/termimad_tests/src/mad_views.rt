@@ -11,7 +11,7 @@ use crate::screens::picture;
 use crate::texts::taken;
 use std::alloc::{AllocError, Global};
 use termimad::{Area, CutOut, Error, MadSkin, MadView, draw_views};
-use test_devices::Writing;
+use test_rows::devices::Writing;
 
 // More than any row here writes.
 const ROOM: usize = 2000;
@@ -51,7 +51,7 @@ pub fn two_written(alloc: Global, words: &str, text: &str) -> Result<String, Ref
 
 /// Whether devices that fail get what they should of two views.
 pub fn two_tried(alloc: Global, words: &str, text: &str) -> Result<String, Refusal> {
-    Ok(test_devices::tried(alloc, &TwoViews { words, text })?)
+    Ok(test_rows::devices::tried(alloc, &TwoViews { words, text })?)
 }
 
 #[derive(Drop)]

@@ -3,7 +3,7 @@
 use std::alloc::{AllocError, Global};
 use std::io;
 use termimad::{CutOut, Error, ScriptSource};
-use test_devices::Writing;
+use test_rows::devices::Writing;
 
 /// What the program writes to a device with this room, run on words with bars between them; then its status and what it says.
 /// The input `<ff>` is a byte that no text has.
@@ -33,7 +33,7 @@ pub fn tried(alloc: Global, words: &str, text: &str) -> Result<String, AllocErro
         args: args_of(alloc, words)?,
         input: input_of(text),
     };
-    let devices = test_devices::tried(alloc, &call)?;
+    let devices = test_rows::devices::tried(alloc, &call)?;
     let inputs = call.inputs_tried(alloc)?;
     format!(in alloc; "{devices}\n{inputs}")
 }

@@ -3,7 +3,11 @@
 //! A row begins with a line `$ CALL`. Lines after it that begin with `<` are the text that the call is given. Those that begin with
 //! `>` are what it has to answer. A blank comes after `<` and `>`. All other lines, those before the first row too, are for the reader.
 //! What can't be seen has signs: `·` is a blank, `␛` an escape, `␍` a carriage return, `␉` a tab.
+//!
+//! [`devices`]: what a row writes goes to devices that fail.
 #![tactic(auto)]
+
+pub mod devices;
 
 use std::alloc::{AllocError, Global};
 use std::{env, fs, io};
