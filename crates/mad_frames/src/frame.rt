@@ -12,9 +12,9 @@ use crate::writing::mended_changes;
 use mad_screen::{NotPlain, Screen};
 use mad_term::{ClearType, Out, push_clear, put_counted};
 use std::alloc::{AllocError, Global};
-use std::io;
 use std::io::{Error as IoError, ErrorKind};
 use std::marker::Model;
+use std::{io, mem};
 
 /// A screen that is drawn into and presented. As an [`Out`] it keeps what is drawn, bytes that the plain terminal reads; a
 /// present sends what differs from the screen that was presented last.
@@ -28,6 +28,8 @@ use std::marker::Model;
 #[derive(Drop)]
 pub struct Frame {
     base: Screen,
+    // Memory for the next screen: that of the one before `base`.
+    spare: Screen,
     drawn: Vec<u8>,
     unsent: Vec<u8>,
     known: bool,
@@ -74,6 +76,7 @@ impl Frame {
     {
         Ok(Frame {
             base: Screen::new(alloc, width, height)?,
+            spare: Screen::new(alloc, 0, 0)?,
             drawn: Vec::new(alloc),
             unsent: Vec::new(alloc),
             known: false,
@@ -113,14 +116,14 @@ impl Frame {
         Ok(())
     }
 
-    // The screen that is to be presented.
-    fn drawn_screen(&self) -> Result<Screen, NotPlain>
-        ensures read { IfOk result (λ screen. drawn_screen self.now ≡ Some screen) }
-        ensures undefined { IsErrOf result NotPlain.Undefined → drawn_screen self.now ≡ None }
+    // The screen that is to be presented, on the spare memory.
+    fn drawn_screen(&mut self, alloc: Global) -> Result<Screen, NotPlain>
+        ensures same { self.new ≡ self.old }
+        ensures read { IfOk result (λ screen. drawn_screen self.old ≡ Some screen) }
+        ensures undefined { IsErrOf result NotPlain.Undefined → drawn_screen self.old ≡ None }
     {
-        let mut screen = self.base.copy()?;
-        screen.read_bytes(&self.drawn)?;
-        Ok(screen)
+        let spare = mem::replace(&mut self.spare, Screen::new(alloc, 0, 0)?);
+        self.base.after_bytes(spare, &self.drawn)
     }
 
     // The bytes to a screen from what the terminal shows, or from whatever it shows.
@@ -160,7 +163,7 @@ impl Frame {
         let mut bytes = bytes;
         let (taken, put) = put_counted(out, &bytes);
         drop_front(&mut bytes, taken);
-        self.base = screen;
+        self.spare = mem::replace(&mut self.base, screen);
         self.drawn.clear();
         self.unsent = bytes;
         self.known = true;
@@ -172,7 +175,7 @@ impl Frame {
     fn presented<O: Out>(&mut self, alloc: Global, out: &mut O) -> Result<(), PresentError>
         ensures { Presents self.old self.new (O.seen out.old) (O.seen out.new) result }
     {
-        let screen = self.drawn_screen()?;
+        let screen = self.drawn_screen(alloc)?;
         let bytes = self.bytes_to(alloc, &screen)?;
         self.send(out, screen, bytes)?;
         Ok(())

@@ -52,6 +52,16 @@ impl Cell {
         })
     }
 
+    // Shows what another one shows, on the memory that it has.
+    fn set_to(&mut self, other: &Cell) -> Result<(), AllocError>
+        ensures { OnOk result (self.new ≡ other.now) }
+    {
+        self.chars.clear();
+        self.chars.extend_from_slice(&other.chars)?;
+        self.pen = other.pen;
+        Ok(())
+    }
+
     fn set(&mut self, c: char, pen: Pen) -> Result<(), AllocError>
         ensures { OnOk result (self.new ≡ record { chars = c ∷ []; pen = look_of pen }) }
     {
@@ -142,4 +152,22 @@ pub(crate) fn copy_all(alloc: Global, cells: &[Cell]) -> Result<Vec<Cell>, Alloc
         copies.push(cell.copy(alloc)?)?;
     }
     Ok(copies)
+}
+
+/// Makes cells show what others show: on their memory where they are as many, else on memory of their own.
+pub(crate) fn set_all(
+    alloc: Global,
+    cells: &mut Vec<Cell>,
+    others: &[Cell],
+) -> Result<(), AllocError>
+    ensures { OnOk result (cells.new.items ≡ others.now) }
+{
+    if cells.len() != others.len() {
+        *cells = copy_all(alloc, others)?;
+        return Ok(());
+    }
+    for i in 0..others.len() {
+        cells[i].set_to(&others[i])?;
+    }
+    Ok(())
 }

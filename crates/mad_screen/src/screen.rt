@@ -7,7 +7,7 @@ ghost use Rattle.mad_screen.specs.Grid.{IsGrid, cell_on_screen, empty_grid};
 ghost use Rattle.mad_screen.specs.Pictures.{row_cells};
 ghost use Rattle.mad_screen.specs.Terminal.{after_bytes, put, put_wide, go_to, erased, erase_row, erase_screen, perform};
 
-use crate::cell::{Cell, copy_all, erase, find_head, lay};
+use crate::cell::{Cell, copy_all, erase, find_head, lay, set_all};
 use crate::pen::Pen;
 use crate::reader::{NotPlain, Reader};
 use std::alloc::{AllocError, Global};
@@ -154,18 +154,31 @@ impl Screen {
         ensures not_plain { IsErrOf result NotPlain.Undefined → after_bytes self.old bytes.now ≡ None }
         ensures err { OnErr result (self.new ≡ self.old) }
     {
+        *self = self.after_bytes(Screen::new(self.allocator(), 0, 0)?, bytes)?;
+        Ok(())
+    }
+
+    /// The screen that a text leads to from this one, as [`Screen::read_bytes`] reads it. It takes the memory of `spare`, and makes
+    /// no cell anew where that has as many cells.
+    ///
+    /// # Errors
+    ///
+    /// `Undefined` where a plain terminal can't read the text, and `Memory` for out of memory.
+    pub fn after_bytes(&self, spare: Screen, bytes: &[u8]) -> Result<Self, NotPlain>
+        ensures read { IfOk result (λ screen. after_bytes self.now bytes.now ≡ Some screen) }
+        ensures not_plain { IsErrOf result NotPlain.Undefined → after_bytes self.now bytes.now ≡ None }
+    {
         let Ok(text) = std::str::from_utf8(bytes) else {
             return Err(NotPlain::Undefined);
         };
-        let mut reader = Reader::new(*self.cells.allocator(), self.copy()?);
+        let mut reader = Reader::new(self.allocator(), self.copy_onto(spare)?);
         if !reader.feed_all(text)? {
             return Err(NotPlain::Undefined);
         }
         let Some(screen) = reader.finish() else {
             return Err(NotPlain::Undefined);
         };
-        *self = screen;
-        Ok(())
+        Ok(screen)
     }
 
     // Where the cursor's row begins among the cells.
@@ -309,6 +322,22 @@ impl Screen {
             width: self.width,
             height: self.height,
             cells: copy_all(*self.cells.allocator(), &self.cells)?,
+            x: self.x,
+            y: self.y,
+            pen: self.pen,
+        })
+    }
+    // A copy of the screen, on the memory of another one.
+    fn copy_onto(&self, spare: Screen) -> Result<Self, AllocError>
+        ensures { IfOk result (λ screen. screen ≡ self.now) }
+    {
+        let Screen { cells, .. } = spare;
+        let mut cells = cells;
+        set_all(self.allocator(), &mut cells, &self.cells)?;
+        Ok(Screen {
+            width: self.width,
+            height: self.height,
+            cells,
             x: self.x,
             y: self.y,
             pen: self.pen,
