@@ -1,6 +1,7 @@
 -- A piece that is written over a background, and a piece after it that has one of its own.
 use Rattle.std.proofs.Common.{◌≡◌, ℕ, ◌+◌, Bool, true, false, cond, eqb, List, [], ◌∷◌, ◌++◌, length, Option, Some, None, refl, ap, sym, ◌∙◌, subst, arith, length-append, IsUtf8}
 use Rattle.std.specs.Prelude.{IsAscii, ◌||◌, not, is_some}
+use Rattle.std.specs.Option.{option_or}
 use Rattle.std.specs.Int.{bit_at}
 use Rattle.std.specs.Str.{chars}
 use Rattle.std.proofs.lemmas.Bool.Decides.{nat_tests}
@@ -23,6 +24,9 @@ use Rattle.mad_screen.proofs.PaintingLemmas.{text_leads, painted-append, painted
 use Rattle.mad_screen.proofs.Paints.{read_leads, paints_piece}
 use Rattle.mad_screen.proofs.Reading.{then_leads, nothing_leads}
 use Rattle.mad_screen.proofs.ReadingBack.{read_was, read_in_turn}
+use Rattle.mad_style.specs.declared.compound_styles.CompoundStyle.{CompoundStyle}
+use Rattle.mad_list_columns.specs.Drawing.{selected_background}
+use Rattle.mad_list_columns.specs.Shown.{between_style}
 use Rattle.mad_screen.proofs.StyleLemmas.{with_pen, shown, sgr_leads, color_small, background_restyles, foreground_leads, underline_leads, attributes_leads, closing_leads}
 
 -- ---- pens that are plain but for a background
@@ -51,6 +55,16 @@ colors_of false p = p
 -- the pen that a style writes with over a background
 abbrev pub look_over : Option Color → ContentStyle → Look
 look_over before s = look_at (has_attribute s.attributes Reset) (shown s.foreground_color) (over before s.background_color) (shown s.underline_color) (bits_to (attribute_bits s.attributes) 24)
+
+-- the line between two cells of the selected row
+over_same : (o : Option Color) → over (shown_color selected_background) o ≡ shown (option_or o (Some selected_background))
+over_same None = refl
+over_same (Some c) = refl
+
+pub look_between : (table : CompoundStyle) → look_over (shown_color selected_background) table.object_style ≡ look_of_style (between_style table true).object_style
+look_between table =
+    let s : ContentStyle = table.object_style in
+    ap (λ (b : Option Color). look_at (has_attribute s.attributes Reset) (shown s.foreground_color) b (shown s.underline_color) (bits_to (attribute_bits s.attributes) 24)) (over_same s.background_color)
 
 background_over : (g : Grid) (before o : Option Color) → IsColorOrNone o → Leads (resting (with_pen g (backed before))) (present_bytes background_bytes o) (resting (with_pen g (backed (over before o))))
 background_over g before None h = nothing_leads _

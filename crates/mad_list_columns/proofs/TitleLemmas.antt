@@ -29,12 +29,12 @@ other xs ys unlike = by (bytes_eq xs ys) refl
     by false e = refl
 
 -- a column goes under the title that follows where it has it
-under : {E : Type 0} (c : ListViewColumn E) (t : Title) (ts : List Title) → t.text ≡ string_bytes c.title → with_column c (t ∷ ts) ≡ record { text = string_bytes c.title; widths = c.spacing.width ∷ t.widths } ∷ ts
-under c t ts e = ap (λ (b : Bool). cond b (record { text = string_bytes c.title; widths = c.spacing.width ∷ t.widths } ∷ ts) (record { text = string_bytes c.title; widths = c.spacing.width ∷ [] } ∷ (t ∷ ts))) (same (string_bytes c.title) t.text e)
+under : {E : Type 0} (c : ListViewColumn E) (t : Title) (ts : List Title) → t.text ≡ string_bytes c.title → with_column c (t ∷ ts) ≡ record { text = string_bytes c.title; widths = c.spacing.width ∷ t.widths; measure = c.measure } ∷ ts
+under c t ts e = ap (λ (b : Bool). cond b (record { text = string_bytes c.title; widths = c.spacing.width ∷ t.widths; measure = c.measure } ∷ ts) (record { text = string_bytes c.title; widths = c.spacing.width ∷ []; measure = c.measure } ∷ (t ∷ ts))) (same (string_bytes c.title) t.text e)
 
 -- and else it has one of its own
 apart : {E : Type 0} (c : ListViewColumn E) (t : Title) (ts : List Title) → t.text ≢ string_bytes c.title → with_column c (t ∷ ts) ≡ title_over (c ∷ []) ∷ (t ∷ ts)
-apart c t ts unlike = ap (λ (b : Bool). cond b (record { text = string_bytes c.title; widths = c.spacing.width ∷ t.widths } ∷ ts) (record { text = string_bytes c.title; widths = c.spacing.width ∷ [] } ∷ (t ∷ ts))) (other (string_bytes c.title) t.text unlike)
+apart c t ts unlike = ap (λ (b : Bool). cond b (record { text = string_bytes c.title; widths = c.spacing.width ∷ t.widths; measure = c.measure } ∷ ts) (record { text = string_bytes c.title; widths = c.spacing.width ∷ []; measure = c.measure } ∷ (t ∷ ts))) (other (string_bytes c.title) t.text unlike)
 
 -- the first title is that of the first column
 pub record Begins (title : List ℕ) (ts : List Title) : Type 0 where
@@ -47,9 +47,9 @@ begins : {E : Type 0} (c : ListViewColumn E) (ts : List Title) → Begins (strin
 begins c [] = record { first = title_over (c ∷ []); others = []; parts = refl; text = refl }
 begins c (t ∷ ts) = by (bytes_eq (string_bytes c.title) t.text)
   where
-    by : (b : Bool) → Begins (string_bytes c.title) (cond b (record { text = string_bytes c.title; widths = c.spacing.width ∷ t.widths } ∷ ts) (record { text = string_bytes c.title; widths = c.spacing.width ∷ [] } ∷ (t ∷ ts)))
-    by true = record { first = record { text = string_bytes c.title; widths = c.spacing.width ∷ t.widths }; others = ts; parts = refl; text = refl }
-    by false = record { first = record { text = string_bytes c.title; widths = c.spacing.width ∷ [] }; others = t ∷ ts; parts = refl; text = refl }
+    by : (b : Bool) → Begins (string_bytes c.title) (cond b (record { text = string_bytes c.title; widths = c.spacing.width ∷ t.widths; measure = c.measure } ∷ ts) (record { text = string_bytes c.title; widths = c.spacing.width ∷ []; measure = c.measure } ∷ (t ∷ ts)))
+    by true = record { first = record { text = string_bytes c.title; widths = c.spacing.width ∷ t.widths; measure = c.measure }; others = ts; parts = refl; text = refl }
+    by false = record { first = record { text = string_bytes c.title; widths = c.spacing.width ∷ []; measure = c.measure }; others = t ∷ ts; parts = refl; text = refl }
 
 -- a column before others of another title
 alone : {E : Type 0} (c : ListViewColumn E) (rest : List (ListViewColumn E)) → BeginsAnother (string_bytes c.title) rest → with_column c (titles rest) ≡ title_over (c ∷ []) ∷ titles rest

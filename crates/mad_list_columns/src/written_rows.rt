@@ -1,9 +1,10 @@
 //! What is written of one row.
 
 ghost use Rattle.std.specs.Prelude.{◌≡◌, ◌++◌, ◌+◌, ◌<◌, IfOk, OnOk, drop, slice_get, string_bytes};
+ghost use Rattle.mad_term.specs.Styles.{IsStyle};
 ghost use Rattle.mad_fit.specs.Areas.{IsWithinLimits};
-ghost use Rattle.mad_list_columns.specs.Cells.{MakesCells, ShownCell};
-ghost use Rattle.mad_list_columns.specs.Drawing.{bar_bytes, between_cells, cell_bytes, row_bytes, row_or_erasure, shown_from};
+ghost use Rattle.mad_list_columns.specs.Drawing.{bar_bytes, between_cells, cell_style, shown_from};
+ghost use Rattle.mad_list_columns.specs.Writing.{HasCell, HasCells, HasRow};
 
 use crate::cells::CellExtract;
 use crate::columns::ListViewColumn;
@@ -25,8 +26,7 @@ pub(crate) fn push_row_from<T: Drop, E: CellExtract<T>, F: RowFilter<T>, O: RowO
     table: &CompoundStyle,
 ) -> Result<usize, AllocError>
     ensures next { IfOk result (λ next. shown_from rows.now.rows next ≡ drop 1 (shown_from rows.now.rows from)) }
-    ensures writes { OnOk result ((cell_of : E → T → ShownCell) → MakesCells E.extracts cell_of → string_bytes bytes.new
-        ≡ string_bytes bytes.old ++ row_or_erasure cell_of table.now columns.now rows.now.selection (slice_get (shown_from rows.now.rows from) 0)) }
+    ensures writes { OnOk result (HasRow E.extracts table.now columns.now rows.now.selection (slice_get (shown_from rows.now.rows from) 0) (string_bytes bytes.old) (string_bytes bytes.new)) }
 {
     let (_, past_all) = rows.row_counts();
     let Some((i, content)) = rows.shown_from(from) else {
@@ -47,8 +47,7 @@ fn push_cells<T, E: CellExtract<T>>(
     content: &T,
     table: &CompoundStyle,
 ) -> Result<(), AllocError>
-    ensures { OnOk result ((cell_of : E → T → ShownCell) → MakesCells E.extracts cell_of → string_bytes bytes.new
-        ≡ string_bytes bytes.old ++ row_bytes cell_of table.now columns.now selected content.now) }
+    ensures { OnOk result (HasCells E.extracts table.now columns.now selected content.now (string_bytes bytes.old) (string_bytes bytes.new)) }
 {
     let Some((first, others)) = columns.split_first() else {
         return Ok(());
@@ -80,16 +79,36 @@ fn push_cell<T, E: CellExtract<T>>(
     selected: bool,
     content: &T,
 ) -> Result<(), AllocError>
-    ensures { OnOk result ((cell_of : E → T → ShownCell) → MakesCells E.extracts cell_of → string_bytes bytes.new
-        ≡ string_bytes bytes.old ++ cell_bytes selected column.now (cell_of column.now.extract content.now)) }
+    ensures { OnOk result (HasCell E.extracts column.now selected content.now (string_bytes bytes.old) (string_bytes bytes.new)) }
 {
     let cell = column.extract.cell(content)?;
-    let mut style = cell.style;
+    know_style(cell.style);
+    let style = style_in_row(cell.style, selected);
+    push_spaced(
+        alloc,
+        bytes,
+        column.measure,
+        &column.spacing,
+        &style,
+        cell.text.as_str(),
+    )
+}
+
+// A cell's style: in the selected row with its background.
+fn style_in_row(style: CompoundStyle, selected: bool) -> CompoundStyle
+    ensures { result ≡ cell_style selected style }
+{
+    let mut style = style;
     if selected {
         style.set_bg(gray(5));
     }
-    push_spaced(alloc, bytes, &column.spacing, &style, cell.text.as_str())
+    style
 }
+
+// The numbers of a style's colors are bytes.
+fn know_style(style: CompoundStyle)
+    ensures { IsStyle style.object_style }
+{}
 
 /// Appends the bar's character in the body's row of number `r`, after a move to the area's last column, where there is a bar.
 pub(crate) fn push_bar(
