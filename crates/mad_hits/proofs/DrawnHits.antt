@@ -1,11 +1,50 @@
 -- Hits that are drawn in turn.
-use Rattle.std.proofs.Common.{◌≡◌, ℕ, ◌+◌, ◌<◌, ◌≤◌, List, [], ◌∷◌, ◌++◌, map, take, drop, length, get_or, refl, ap, sym, ◌∙◌, subst, arith, append_assoc}
+use Rattle.std.proofs.Common.{◌≡◌, ℕ, ◌+◌, ◌-◌, ◌^◌, ◌<◌, ◌≤◌, min, List, [], ◌∷◌, ◌++◌, map, take, length, get_or, refl, ap, sym, ◌∙◌, subst, arith, append_assoc}
 use Rattle.std.proofs.lemmas.List.{append-nil, length-take-le, map_more, take_all, take_more}
+use Rattle.std.specs.List.{AllByRecursion}
+use Rattle.mad_draw.specs.Pieces.{AreKnown, char_piece}
+use Rattle.mad_style.specs.declared.styled_chars.StyledChar.{StyledChar}
+use Rattle.mad_term.specs.Styles.{IsStyle}
 use Rattle.mad_format.specs.declared.line.FmtLine.{FmtLine}
 use Rattle.mad_rows.specs.declared.row_skin.RowSkin.{RowSkin}
+use Rattle.mad_draw.specs.DrawnRows.{AreRowsShown, FillArea}
+use Rattle.mad_fit.specs.TextColumns.{columns}
+use Rattle.mad_fit.specs.declared.area.Area.{Area}
+use Rattle.mad_style.specs.StyledChars.{char_alone, char_style}
+use Rattle.mad_term.specs.Trace.{Trace, TookWith, after}
+use Rattle.mad_wrap.specs.WrapLines.{capped}
+use Rattle.mad_hits.proofs.TookLemmas.{known, took_so}
 use Rattle.mad_hits.specs.Hits.{Marked, marked_of}
-use Rattle.mad_hits.specs.Drawn.{AreHitsShown, AreLinesMarked, IsHitShown, IsLineMarked}
+use Rattle.mad_hits.specs.Drawn.{AreHitsShown, AreLinesMarked, IsHitShown, IsLineMarked, hit_area, hit_row, marked_columns}
 use Rattle.mad_hits.specs.declared.hits.Hit.{Hit}
+
+-- the colors of a character are known
+abbrev pub IsKnownChar : StyledChar → Type 0
+IsKnownChar c = IsStyle (char_style c).object_style
+
+pub chars_known : (cs : List StyledChar) → AllByRecursion IsKnownChar cs → AreKnown (map char_piece cs)
+chars_known [] h = tt
+chars_known (c ∷ cs) h = (h.0, chars_known cs h.1)
+
+-- a hit that was drawn, within the columns
+pub hit_drawn : (width y wide end : ℕ) (hit : Marked) (chars counted : List StyledChar) (old new : Trace) (bytes : List ℕ) → chars ≡ hit.chars → counted ≡ hit.chars → wide ≡ capped (columns (map char_alone counted))
+    → end ≡ min (hit.column + wide) (2 ^ 64 - 1) → end ≤ width → width < 2 ^ 16 → new ≡ after old bytes
+    → (FillArea (λ row. map char_piece chars) (record { left = hit.column; top = y; width = wide; height = 1 })
+    → TookWith old new (AreRowsShown (λ row. map char_piece chars) (record { left = hit.column; top = y; width = wide; height = 1 })))
+    → TookWith old new (IsHitShown width y hit)
+hit_drawn width y wide end hit chars counted old new bytes drawn same is at within narrow taken shown =
+    let all : wide ≡ capped (marked_columns hit) = is ∙ ap (λ (cs : List StyledChar). capped (columns (map char_alone cs))) same in
+    let here : wide ≡ marked_columns hit = omega (arith, all, at, within, narrow) in
+    let moved : FillArea (hit_row hit) (hit_area y hit) → TookWith old new (AreRowsShown (hit_row hit) (hit_area y hit)) =
+    subst
+    (λ (n : ℕ).
+    let area : Area = record { left = hit.column; top = y; width = n; height = 1 } in FillArea (hit_row hit) area → TookWith old new (AreRowsShown (hit_row hit) area))
+    here
+    (subst
+    (λ (cs : List StyledChar).
+    let area : Area = record { left = hit.column; top = y; width = wide; height = 1 } in FillArea (λ row. map char_piece cs) area → TookWith old new (AreRowsShown (λ row. map char_piece cs) area))
+    drawn shown) in
+    took_so old new _ (IsHitShown width y hit) (λ text h fits fill. h fill) (known old new bytes (FillArea (hit_row hit) (hit_area y hit)) (AreRowsShown (hit_row hit) (hit_area y hit)) taken moved)
 
 -- a hit more
 pub hits_more : (width y : ℕ) (hits : List Marked) (hit : Marked) (a b : List ℕ) → AreHitsShown width y hits a → IsHitShown width y hit b → AreHitsShown width y (hits ++ hit ∷ []) (a ++ b)

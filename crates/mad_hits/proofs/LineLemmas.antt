@@ -1,5 +1,5 @@
 -- The hits of a line, text by text.
-use Rattle.std.proofs.Common.{◌≡◌, ℕ, ◌+◌, ◌^◌, ◌-◌, ◌<◌, ◌≤◌, Bool, List, [], ◌∷◌, ◌++◌, map, drop, length, get_or, min, Some, None, refl, ap, sym, ◌∙◌, subst, arith, append_assoc}
+use Rattle.std.proofs.Common.{◌≡◌, ℕ, ◌+◌, ◌^◌, ◌-◌, ◌<◌, ◌≤◌, Bool, List, [], ◌∷◌, ◌++◌, map, drop, length, get_or, min, None, refl, ap, sym, ◌∙◌, subst, arith, append_assoc}
 use Rattle.std.specs.Prelude.{chars}
 use Rattle.std.specs.List.{flat_map}
 use Rattle.std.proofs.lemmas.List.{append-nil, drop_all, drop_more}
@@ -12,13 +12,12 @@ use Rattle.mad_style.specs.declared.styled_chars.StyledChar.{StyledChar}
 use Rattle.mad_wrap.specs.WrapLines.{capped}
 use Rattle.mad_search.specs.Capitals.{has_capital}
 use Rattle.mad_format.specs.declared.composite.FmtComposite.{FmtComposite}
-use Rattle.mad_format.specs.declared.line.FmtLine.TheVariants.{Normal}
 use Rattle.mad_rows.specs.RowStyles.{compound_style, line_style}
 use Rattle.mad_rows.specs.Rows.{inner_columns}
 use Rattle.mad_rows.specs.declared.row_skin.RowSkin.{RowSkin}
-use Rattle.mad_hits.specs.Matches.{AreStarts, compared_char, compared_chars}
+use Rattle.mad_hits.specs.Matches.{AreStarts, compared_char}
 use Rattle.mad_hits.specs.Styled.{styled_compound, styled_text}
-use Rattle.mad_hits.specs.Hits.{Adds, AreTextHits, AreTextsHits, Marked, PlacedText, marked_at, marked_of, placed_cells, placed_texts, text_column}
+use Rattle.mad_hits.specs.Hits.{Adds, AreTextHits, AreTextsHits, Marked, PlacedText, marked_at, marked_of, placed_cells, text_column}
 use Rattle.mad_hits.specs.declared.hits.Hit.{Hit}
 
 -- a compound more is put after a text, of those that are left
@@ -49,13 +48,13 @@ text_hits skin sought l n text letters starts exact old new said spelt cased beg
   },
 )
 
--- those of a line of one text
-pub one_text : (skin : RowSkin) (sought : List ℕ) (width : ℕ) (l : FmtComposite) (p : PlacedText) (old new : List Hit) → old ≡ [] → p ∷ [] ≡ placed_texts skin width (Normal l) → Adds (AreTextHits skin sought p) old new
-    → AreTextsHits skin sought (placed_texts skin width (Normal l)) (map marked_of new)
-one_text skin sought width l p old new none is (added, e, hits) =
-    let all : map marked_of new ≡ added = e ∙ ap (λ (h : List Hit). map marked_of h ++ added) none in
-    subst (λ (ps : List PlacedText). AreTextsHits skin sought ps (map marked_of new)) is
-    (subst (λ (m : List Marked). AreTextsHits skin sought (p ∷ []) m) (sym all) (added, [], sym (append-nil added), hits, refl))
+-- all of what was added to none
+pub all_added : (P : List Marked → Type 0) (old new : List Hit) → old ≡ [] → Adds P old new → P (map marked_of new)
+all_added P old new none (added, e, holds) = subst P (sym (e ∙ ap (λ (h : List Hit). map marked_of h ++ added) none)) holds
+
+-- the hits of one text alone
+pub one_text : (skin : RowSkin) (sought : List ℕ) (p : PlacedText) (hits : List Marked) → AreTextHits skin sought p hits → AreTextsHits skin sought (p ∷ []) hits
+one_text skin sought p hits h = (hits, [], sym (append-nil hits), h, refl)
 
 -- the cells so far: where the next one is, and what is left
 pub record CellsSoFar (skin : RowSkin) (sought : List ℕ) (cells : List FmtComposite) (i start column : ℕ) (old new : List Hit) : Type 0 where

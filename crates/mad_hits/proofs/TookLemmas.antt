@@ -1,5 +1,5 @@
 -- What a device took, in turn.
-use Rattle.std.proofs.Common.{◌≡◌, List, [], ◌++◌, Option, Some, None, IfSome, option_map, refl, ap, sym, ◌∙◌, subst, append_assoc, ℕ}
+use Rattle.std.proofs.Common.{◌≡◌, List, [], ◌++◌, Option, Some, None, IfSome, option_map, ap, sym, ◌∙◌, subst, append_assoc, ℕ}
 use Rattle.std.proofs.lemmas.List.{append-nil, append_cancel_left}
 use Rattle.std.proofs.lemmas.Option.{same_Some}
 use Rattle.mad_term.specs.Trace.{Trace, after, TookWith}

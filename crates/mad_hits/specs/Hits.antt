@@ -34,10 +34,14 @@ placed_cells skin column [] = []
 placed_cells skin column (cell ∷ cells) =
     record { column = column + 1 + text_column skin None (0, 0) cell; text = cell } ∷ placed_cells skin (column + 1 + inner_columns cell) cells
 
+-- the cells of a row of `width` columns
+abbrev pub placed_row : RowSkin → ℕ → List FmtComposite → List PlacedText
+placed_row skin width cells = placed_cells skin (left_of_place skin.table.align (row_columns cells) (Some width)) cells
+
 -- the composites of a line in a row of `width` columns; a rule has none
 abbrev pub placed_texts : RowSkin → ℕ → FmtLine → List PlacedText
 placed_texts skin width (Normal l) = record { column = text_column skin (Some width) (margins_of skin (Some width) l) l; text = l } ∷ []
-placed_texts skin width (TableRow row) = placed_cells skin (left_of_place skin.table.align (row_columns row.cells.items) (Some width)) row.cells.items
+placed_texts skin width (TableRow row) = placed_row skin width row.cells.items
 placed_texts skin width line = []
 
 -- ---- what is drawn

@@ -1,5 +1,5 @@
 -- The characters of a composite, each in the style that a row shows it in.
-use Rattle.std.specs.Prelude.{ℕ, List, map, chars}
+use Rattle.std.specs.Prelude.{List, map, chars}
 use Rattle.std.specs.List.{flat_map}
 use Rattle.mad_md.specs.Flagged.{run_of}
 use Rattle.mad_md.specs.declared.compound.Compound.{Compound}

@@ -2,6 +2,8 @@
 
 ghost use Rattle.std.specs.Prelude.{◌+◌, ◌<◌, ◌^◌, OnOk, take};
 ghost use Rattle.mad_term.specs.Trace.{TookWith};
+ghost use Rattle.mad_style.specs.StyledChars.{char_style};
+ghost use Rattle.mad_term.specs.Styles.{IsStyle};
 ghost use Rattle.mad_hits.specs.Drawn.{IsLineMarked, AreLinesMarked, IsHitShown};
 ghost use Rattle.mad_hits.specs.Hits.{marked_of};
 
@@ -82,7 +84,8 @@ fn draw_hit<O: Out>(alloc: Global, out: &mut O, hit: &Hit, width: u16, y: u16) -
             chars: hit.chars.as_slice(),
         },
         &area,
-    )
+    )?;
+    Ok(())
 }
 
 // Characters in a row, each in its style.
@@ -99,8 +102,15 @@ impl Rows for Chars<'_> {
 
     fn push_row(&self, bytes: &mut String, _y: u16) -> Result<(), AllocError> {
         for c in self.chars {
+            // Nothing is done: this only says that the colors of the character are known.
+            know_char(*c);
             write!(bytes, "{c}")?;
         }
         Ok(())
     }
 }
+
+// The numbers of a character's colors are bytes. Nothing is done.
+fn know_char(c: StyledChar)
+    ensures { IsStyle (char_style c).object_style }
+{}

@@ -3,9 +3,10 @@
 ghost use Rattle.std.specs.Prelude.{◌≡◌, ◌++◌, ◌+◌, ◌≤◌, ℕ, IfOk, OnOk, length, map, min};
 ghost use Rattle.mad_wrap.specs.WrapLines.{capped};
 ghost use Rattle.mad_fit.specs.TextColumns.{columns};
+ghost use Rattle.mad_format.specs.declared.line.FmtLine.TheVariants.{Normal};
 ghost use Rattle.mad_style.specs.StyledChars.{char_alone};
 ghost use Rattle.mad_hits.specs.Styled.{reversed};
-ghost use Rattle.mad_hits.specs.Hits.{marked_at, marked_of, placed_cells, span, widthless, Adds, AreHits, AreTextHits, AreTextsHits};
+ghost use Rattle.mad_hits.specs.Hits.{marked_at, marked_of, placed_cells, placed_row, placed_texts, span, widthless, Adds, AreHits, AreTextHits, AreTextsHits};
 
 use crate::matches::{letters_of, starts};
 use crate::places::{column_in_cell, column_in_row, inner_columns, table_column};
@@ -41,19 +42,42 @@ pub fn hits_in(
 ) -> Result<Vec<Hit>, AllocError>
     ensures { IfOk result (λ hits. AreHits skin.now width sought.now line.now hits.items) }
 {
-    let mut hits = Vec::new(alloc);
     match line {
-        FmtLine::Normal(composite) => {
-            let column = column_in_row(skin, composite, width);
-            push_hits(alloc, &mut hits, skin, composite, column, sought)?;
-        }
-        FmtLine::TableRow(row) => {
-            let cells = row.cells.as_slice();
-            let left = table_column(skin, cells, width);
-            push_cells_hits(alloc, &mut hits, skin, cells, left, sought)?;
-        }
-        FmtLine::TableRule(_) | FmtLine::HorizontalRule => {}
+        FmtLine::Normal(composite) => text_hits(alloc, skin, composite, width, sought),
+        FmtLine::TableRow(row) => cells_hits(alloc, skin, row.cells.as_slice(), width, sought),
+        FmtLine::TableRule(_) | FmtLine::HorizontalRule => Ok(Vec::new(alloc)),
     }
+}
+
+// The hits of a composite that has a row of `width` columns.
+fn text_hits(
+    alloc: Global,
+    skin: &RowSkin,
+    composite: &FmtComposite,
+    width: usize,
+    sought: &str,
+) -> Result<Vec<Hit>, AllocError>
+    ensures { IfOk result (λ hits. AreTextsHits skin.now sought.now (placed_texts skin.now width (Normal composite.now)) (map marked_of hits.items)) }
+{
+    let mut hits = Vec::new(alloc);
+    let column = column_in_row(skin, composite, width);
+    push_hits(alloc, &mut hits, skin, composite, column, sought)?;
+    Ok(hits)
+}
+
+// Those of the cells of a row of `width` columns.
+fn cells_hits(
+    alloc: Global,
+    skin: &RowSkin,
+    cells: &[FmtComposite],
+    width: usize,
+    sought: &str,
+) -> Result<Vec<Hit>, AllocError>
+    ensures { IfOk result (λ hits. AreTextsHits skin.now sought.now (placed_row skin.now width cells.now) (map marked_of hits.items)) }
+{
+    let mut hits = Vec::new(alloc);
+    let left = table_column(skin, cells, width);
+    push_cells_hits(alloc, &mut hits, skin, cells, left, sought)?;
     Ok(hits)
 }
 

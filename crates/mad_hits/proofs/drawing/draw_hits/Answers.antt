@@ -1,5 +1,5 @@
-use Rattle.std.proofs.Common.{ℕ, List, ◌+◌, arith, get_or, subst, sym, take}
-use Rattle.std.proofs.lemmas.List.{length-take, take_min}
+use Rattle.std.proofs.Common.{ℕ, ◌+◌, arith, subst, take}
+use Rattle.std.proofs.lemmas.List.{length-take}
 use Rattle.mad_format.specs.declared.line.FmtLine.{FmtLine}
 use Rattle.mad_hits.specs.Drawn.{AreLinesMarked, IsLineMarked}
 use Rattle.mad_hits.proofs.DrawnHits.{line_more}

@@ -1,4 +1,4 @@
-use Rattle.std.proofs.Common.{◌+◌, List, ℕ, ap, map, subst, sym, take, ◌∙◌}
+use Rattle.std.proofs.Common.{◌+◌, map, subst, take}
 use Rattle.mad_hits.specs.Drawn.{AreHitsShown, IsHitShown}
 use Rattle.mad_hits.specs.Hits.{marked_of}
 use Rattle.mad_hits.specs.declared.hits.Hit.{Hit}
