@@ -1,14 +1,97 @@
--- What keys and the wheel do on a page.
-use Rattle.std.specs.Prelude.{◌≡◌, ℕ, ◌/◌, ◌==◌, if◌then◌else◌}
+-- What keys and the mouse do on a page.
+use Rattle.std.specs.Prelude.{◌≡◌, ℕ, ◌+◌, ◌-◌, ◌*◌, ◌/◌, ◌^◌, ◌==◌, ◌||◌, ◌&&◌, nat_le, min, max, Bool, true, false, if◌then◌else◌}
 use Rattle.mad_term.specs.declared.keys.KeyCode.{KeyCode}
-use Rattle.mad_term.specs.declared.keys.KeyCode.TheVariants.{Char, Down, Up, PageDown, PageUp, Home, End, Esc}
+use Rattle.mad_term.specs.declared.keys.KeyCode.TheVariants.{Char, Enter, Esc}
 use Rattle.mad_term.specs.declared.keys.KeyEvent.{KeyEvent}
+use Rattle.mad_term.specs.declared.mouse.MouseButton.{MouseButton}
+use Rattle.mad_term.specs.declared.mouse.MouseButton.TheVariants.{Left}
+use Rattle.mad_term.specs.declared.mouse.MouseEvent.{MouseEvent}
 use Rattle.mad_term.specs.declared.mouse.MouseEventKind.{MouseEventKind}
-use Rattle.mad_term.specs.declared.mouse.MouseEventKind.TheVariants.{ScrollDown, ScrollUp}
-use Rattle.mad_page.specs.Pages.{above, at_end, below, body_rows}
-use Rattle.mad_page.specs.declared.keys.Ask.{Ask}
-use Rattle.mad_page.specs.declared.keys.Ask.TheVariants.{Nothing, Search, Next, Previous, Forget, Size, Quit}
+use Rattle.mad_page.specs.Pages.{above, at_bar, at_end, at_row, below, body_rows, is_on_bar}
+use Rattle.mad_page.specs.declared.commands.Ask.{Ask}
+use Rattle.mad_page.specs.declared.commands.Ask.TheVariants.{Nothing, Search, Next, Previous, NextHeader, PreviousHeader, Forget, Help, Contents, Size, Quit}
+use Rattle.mad_page.specs.declared.commands.Command.{Command}
+use Rattle.mad_page.specs.declared.commands.Command.TheVariants.{Moves, Counts, Asks}
+use Rattle.mad_page.specs.declared.commands.Motion.{Motion}
+use Rattle.mad_page.specs.declared.commands.Motion.TheVariants as Motion
 use Rattle.mad_page.specs.declared.page.Page.{Page}
+
+-- ---- which key says what
+
+-- what a character asks for that doesn't scroll: `/`, `n`, `N`, `}` `]`, `{` `[`, `?` `h`, `t`, `q`
+abbrev pub char_ask : ℕ → Ask
+char_ask c =
+    if c == 47 then Search
+    else if c == 110 then Next
+    else if c == 78 then Previous
+    else if c == 125 || c == 93 then NextHeader
+    else if c == 123 || c == 91 then PreviousHeader
+    else if c == 63 || c == 104 then Help
+    else if c == 116 then Contents
+    else if c == 113 then Quit
+    else Nothing
+
+-- what a character says, by its code: `j` `e`, `k` `y`, space, `b`, `d`, `u`, `g`, `G`, digits
+abbrev pub char_command : ℕ → Command
+char_command c =
+    if c == 106 || c == 101 then Moves Motion.RowDown
+    else if c == 107 || c == 121 then Moves Motion.RowUp
+    else if c == 32 then Moves Motion.PageDown
+    else if c == 98 then Moves Motion.PageUp
+    else if c == 100 then Moves Motion.HalfDown
+    else if c == 117 then Moves Motion.HalfUp
+    else if c == 103 then Moves Motion.Start
+    else if c == 71 then Moves Motion.End
+    else if nat_le 48 c && nat_le c 57 then Counts (c - 48)
+    else Asks (char_ask c)
+
+-- what a key without modifiers says
+abbrev pub plain_command : KeyCode → Command
+plain_command KeyCode.Down = Moves Motion.RowDown
+plain_command Enter = Moves Motion.RowDown
+plain_command KeyCode.Up = Moves Motion.RowUp
+plain_command KeyCode.PageDown = Moves Motion.PageDown
+plain_command KeyCode.PageUp = Moves Motion.PageUp
+plain_command KeyCode.Home = Moves Motion.Start
+plain_command KeyCode.End = Moves Motion.End
+plain_command Esc = Asks Forget
+plain_command (Char c) = char_command c
+plain_command code = Asks Nothing
+
+-- what a character says with Control: `e` `n`, `y` `p`, `f`, `b`, `d`, `u`; `l` asks for the size, `c` for the end
+abbrev pub control_command : ℕ → Command
+control_command c =
+    if c == 101 || c == 110 then Moves Motion.RowDown
+    else if c == 121 || c == 112 then Moves Motion.RowUp
+    else if c == 102 then Moves Motion.PageDown
+    else if c == 98 then Moves Motion.PageUp
+    else if c == 100 then Moves Motion.HalfDown
+    else if c == 117 then Moves Motion.HalfUp
+    else if c == 108 then Asks Size
+    else if c == 99 then Asks Quit
+    else Asks Nothing
+
+-- what a key says with Control alone
+abbrev pub controlled_command : KeyCode → Command
+controlled_command (Char c) = control_command c
+controlled_command code = Asks Nothing
+
+-- what a key says: without modifiers, or with Control alone; with others nothing
+abbrev pub command_of : KeyEvent → Command
+command_of key =
+    if key.modifiers.0 == 0 then plain_command key.code
+    else if key.modifiers.0 == 2 then controlled_command key.code
+    else Asks Nothing
+
+-- a key that ends the session in any case: Control with `c`
+abbrev pub is_break : KeyEvent → Bool
+is_break key = key.modifiers.0 == 2 && is_c key.code
+  where
+    is_c : KeyCode → Bool
+    is_c (Char c) = c == 99
+    is_c code = false
+
+-- ---- what is done
 
 -- a page after a key, and what the key asks for
 pub record Turn : Type 0 where
@@ -19,61 +102,57 @@ pub record Turn : Type 0 where
 abbrev pub HasTurned : Turn → Page → Ask → Type 0
 HasTurned turn page ask = (page ≡ turn.page) × (ask ≡ turn.ask)
 
--- a key scrolls, and asks for nothing
-abbrev pub scrolls : Page → Turn
-scrolls p = record { page = p; ask = Nothing }
+-- how far a page goes by rows: as many as were typed, or one
+abbrev pub times : Page → ℕ
+times p = max 1 p.count
 
--- a key asks for something, and scrolls nothing
-abbrev pub asks : Ask → Page → Turn
-asks ask p = record { page = p; ask = ask }
+-- a page after a motion: to the row that was typed, counted from 1, or else to the start or the end
+abbrev pub moved : Motion → Page → Page
+moved Motion.RowDown p = below p (times p)
+moved Motion.RowUp p = above p (times p)
+moved Motion.PageDown p = below p (body_rows p)
+moved Motion.PageUp p = above p (body_rows p)
+moved Motion.HalfDown p = below p (body_rows p / 2)
+moved Motion.HalfUp p = above p (body_rows p / 2)
+moved Motion.Start p = at_row p (p.count - 1)
+moved Motion.End p = if p.count == 0 then at_end p else at_row p (p.count - 1)
 
--- the text's start
-abbrev pub at_start : Page → Page
-at_start p = record p { top = 0 }
+-- a number that was typed, and one more digit; it stays at the largest number of 64 bits
+abbrev pub with_digit : Page → ℕ → Page
+with_digit p digit = record p { count = min (10 * p.count + digit) (2 ^ 64 - 1) }
 
--- what a character does, by its code: `j` `k`, space `b`, `d` `u`, `g` `G`, `/`, `n` `N`, `q`
-abbrev pub after_char : ℕ → Page → Turn
-after_char c p =
-    if c == 106 then scrolls (below p 1)
-    else if c == 107 then scrolls (above p 1)
-    else if c == 32 then scrolls (below p (body_rows p))
-    else if c == 98 then scrolls (above p (body_rows p))
-    else if c == 100 then scrolls (below p (body_rows p / 2))
-    else if c == 117 then scrolls (above p (body_rows p / 2))
-    else if c == 103 then scrolls (at_start p)
-    else if c == 71 then scrolls (at_end p)
-    else if c == 47 then asks Search p
-    else if c == 110 then asks Next p
-    else if c == 78 then asks Previous p
-    else if c == 113 then asks Quit p
-    else scrolls p
+-- no number was typed
+abbrev pub uncounted : Page → Page
+uncounted p = record p { count = 0 }
 
--- what a key without modifiers does
-abbrev pub after_plain_key : KeyCode → Page → Turn
-after_plain_key Down p = scrolls (below p 1)
-after_plain_key Up p = scrolls (above p 1)
-after_plain_key PageDown p = scrolls (below p (body_rows p))
-after_plain_key PageUp p = scrolls (above p (body_rows p))
-after_plain_key Home p = scrolls (at_start p)
-after_plain_key End p = scrolls (at_end p)
-after_plain_key Esc p = asks Forget p
-after_plain_key (Char c) p = after_char c p
-after_plain_key code p = scrolls p
+-- what a key does. A number is for the next key alone.
+abbrev pub after_command : Command → Page → Turn
+after_command (Moves motion) p = record { page = uncounted (moved motion p); ask = Nothing }
+after_command (Counts digit) p = record { page = with_digit p digit; ask = Nothing }
+after_command (Asks ask) p = record { page = uncounted p; ask = ask }
 
--- what a key does with Control alone: with `l` it asks for the size
-abbrev pub after_control : KeyCode → Page → Turn
-after_control (Char c) p = if c == 108 then asks Size p else scrolls p
-after_control code p = scrolls p
-
--- what a key does: without modifiers, or with Control alone; with others nothing
 abbrev pub after_key : KeyEvent → Page → Turn
-after_key key p =
-    if key.modifiers.0 == 0 then after_plain_key key.code p
-    else if key.modifiers.0 == 2 then after_control key.code p
-    else scrolls p
+after_key key p = after_command (command_of key) p
 
--- what the wheel does: three rows
-abbrev pub after_wheel : MouseEventKind → Page → Page
-after_wheel ScrollDown p = below p 3
-after_wheel ScrollUp p = above p 3
-after_wheel kind p = p
+-- what the left button does on the bar: the page goes where it is pressed, and follows it until it comes up
+abbrev pub pressed : ℕ → ℕ → Page → Page
+pressed x y p = if is_on_bar p x y then record (at_bar p y) { holds_bar = true } else p
+
+abbrev pub dragged : ℕ → Page → Page
+dragged y p = if p.holds_bar then at_bar p y else p
+
+-- what the mouse does in a column of a row: the wheel three rows
+abbrev pub after_kind : MouseEventKind → ℕ → ℕ → Page → Page
+after_kind MouseEventKind.ScrollDown x y p = below p 3
+after_kind MouseEventKind.ScrollUp x y p = above p 3
+after_kind (MouseEventKind.Down Left) x y p = pressed x y p
+after_kind (MouseEventKind.Drag Left) x y p = dragged y p
+after_kind (MouseEventKind.Up Left) x y p = record p { holds_bar = false }
+after_kind kind x y p = p
+
+abbrev pub after_mouse : MouseEvent → Page → Page
+after_mouse mouse p = after_kind mouse.kind mouse.column mouse.row p
+
+-- the text and the screen are as before
+abbrev pub IsSameScreen : Page → Page → Type 0
+IsSameScreen old new = new ≡ record old { top = new.top; count = new.count; holds_bar = new.holds_bar }

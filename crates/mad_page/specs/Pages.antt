@@ -1,5 +1,5 @@
 -- A text's rows on a screen, and how they are scrolled.
-use Rattle.std.specs.Prelude.{ℕ, ◌+◌, ◌-◌, ◌*◌, ◌/◌, ◌==◌, min, max, if◌then◌else◌}
+use Rattle.std.specs.Prelude.{ℕ, ◌+◌, ◌-◌, ◌*◌, ◌/◌, ◌==◌, ◌&&◌, nat_le, nat_lt, min, max, Bool, if◌then◌else◌}
 use Rattle.mad_page.specs.declared.page.Page.{Page}
 
 -- the rows of the screen that the text has: all but the last one
@@ -18,6 +18,28 @@ below p count = record p { top = max p.top (min (p.top + count) (p.height - body
 abbrev pub above : Page → ℕ → Page
 above p count = record p { top = p.top - count }
 
+-- this row of the text on top, or its last one
+abbrev pub at_row : Page → ℕ → Page
+at_row p row = record p { top = min row (p.height - 1) }
+
+-- this row of the text is on the screen
+abbrev pub shows_row : Page → ℕ → Bool
+shows_row p row = nat_le p.top row && nat_lt (row - p.top) (body_rows p)
+
+-- a row of the text in sight: on top, where it isn't on the screen already
+abbrev pub in_sight : Page → ℕ → Page
+in_sight p row = if shows_row p row then p else record p { top = row }
+
 -- how much of the text is on the screen or above it, in per cent, rounded down; of a text without rows it is all
 abbrev pub percent : Page → ℕ
 percent p = if p.height == 0 then 100 else 100 * min (p.top + body_rows p) p.height / p.height
+
+-- ---- the bar
+
+-- a position on the bar: it is in the last column, where the text doesn't fit
+abbrev pub is_on_bar : Page → ℕ → ℕ → Bool
+is_on_bar p x y = nat_lt (body_rows p) p.height && (x + 1 == p.columns && nat_lt y (body_rows p))
+
+-- the page that a cell of the bar stands for: the first cell the start, the last one the end, and those between in proportion
+abbrev pub at_bar : Page → ℕ → Page
+at_bar p y = record p { top = min y (body_rows p - 1) * (p.height - body_rows p) / max 1 (body_rows p - 1) }

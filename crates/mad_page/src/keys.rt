@@ -1,104 +1,112 @@
-//! What a key and the wheel do.
+//! What keys and the mouse do.
 
 ghost use Rattle.std.specs.Prelude.{◌≡◌};
-ghost use Rattle.mad_page.specs.PageKeys.{HasTurned, after_char, after_key, after_plain_key, after_wheel};
+ghost use Rattle.mad_page.specs.PageKeys.{HasTurned, IsSameScreen, after_command, after_key, after_mouse, dragged, moved, pressed, times, with_digit};
 
+use crate::commands::{Ask, Command, Motion, command_of};
 use crate::page::Page;
-use mad_term::{KeyCode, KeyEvent, KeyModifiers, MouseEventKind};
+use mad_term::{KeyEvent, MouseButton, MouseEvent, MouseEventKind};
 
 // How many rows the wheel scrolls.
 const WHEEL_ROWS: usize = 3;
 
-/// What a key asks for, beside a scroll.
-#[derive(Clone, Copy, Debug, PartialEq, Eq)]
-pub enum Ask {
-    /// Nothing more.
-    Nothing,
-    /// To type what is to be sought.
-    Search,
-    /// The next row that has what is sought.
-    Next,
-    /// The row before that has it.
-    Previous,
-    /// To forget what is sought.
-    Forget,
-    /// The size of the screen.
-    Size,
-    /// The end.
-    Quit,
-}
-
 impl Page {
-    /// Does what a key says: it scrolls the page, or answers what it asks for.
-    ///
-    /// Down and `j`, Up and `k` go a row; PageDown and space, PageUp and `b` as many as are shown; `d` and `u` half as many; Home and `g`, End
-    /// and `G` to the text's start and end. `/` asks for a search, `n` and `N` for its next row and the one before, Esc to forget it, Control
-    /// with `l` for the size, and `q` for the end. Other keys, and these with other modifiers, do nothing.
+    /// Does what a key says: it scrolls the page, or answers what it asks for. A number that was typed is for the next key alone.
     pub fn apply_key(&mut self, key: KeyEvent) -> Ask
         ensures turned { HasTurned (after_key key self.old) self.new result }
-        ensures scrolls { self.new ≡ record self.old { top = self.new.top } }
+        ensures screen { IsSameScreen self.old self.new }
     {
-        if key.modifiers == KeyModifiers::NONE {
-            self.apply_plain_key(key.code)
-        } else if key.modifiers == KeyModifiers::CONTROL && key.code == KeyCode::Char('l') {
-            Ask::Size
-        } else {
-            Ask::Nothing
-        }
+        self.apply_command(command_of(key))
     }
 
-    /// Scrolls by the wheel, three rows. Nothing else that a mouse does has a meaning.
-    pub fn apply_wheel(&mut self, kind: MouseEventKind)
-        ensures turned { self.new ≡ after_wheel kind self.old }
-        ensures scrolls { self.new ≡ record self.old { top = self.new.top } }
+    /// Scrolls by the wheel, three rows, and to where the bar is pressed or dragged by the left button. Nothing else that a mouse does has a
+    /// meaning.
+    pub fn apply_mouse(&mut self, mouse: MouseEvent)
+        ensures turned { self.new ≡ after_mouse mouse self.old }
+        ensures screen { IsSameScreen self.old self.new }
     {
-        match kind {
+        match mouse.kind {
             MouseEventKind::ScrollDown => self.go_down(WHEEL_ROWS),
             MouseEventKind::ScrollUp => self.go_up(WHEEL_ROWS),
+            MouseEventKind::Down(MouseButton::Left) => self.press(mouse.column, mouse.row),
+            MouseEventKind::Drag(MouseButton::Left) => self.drag(mouse.row),
+            MouseEventKind::Up(MouseButton::Left) => self.holds_bar = false,
             _ => {}
         }
     }
 
-    // Does what a key without modifiers says.
-    fn apply_plain_key(&mut self, code: KeyCode) -> Ask
-        ensures turned { HasTurned (after_plain_key code self.old) self.new result }
-        ensures scrolls { self.new ≡ record self.old { top = self.new.top } }
+    // Does what a key says.
+    fn apply_command(&mut self, command: Command) -> Ask
+        ensures turned { HasTurned (after_command command self.old) self.new result }
+        ensures screen { IsSameScreen self.old self.new }
     {
-        match code {
-            KeyCode::Down => self.go_down(1),
-            KeyCode::Up => self.go_up(1),
-            KeyCode::PageDown => self.go_down(usize::from(self.body_rows())),
-            KeyCode::PageUp => self.go_up(usize::from(self.body_rows())),
-            KeyCode::Home => self.top = 0,
-            KeyCode::End => self.go_to_end(),
-            KeyCode::Esc => return Ask::Forget,
-            KeyCode::Char(c) => return self.apply_char(c),
-            _ => {}
+        match command {
+            Command::Moves(motion) => {
+                self.go(motion);
+                self.count = 0;
+                Ask::Nothing
+            }
+            Command::Counts(digit) => {
+                self.add_digit(digit);
+                Ask::Nothing
+            }
+            Command::Asks(ask) => {
+                self.count = 0;
+                ask
+            }
         }
-        Ask::Nothing
     }
 
-    // Does what a character says.
-    fn apply_char(&mut self, c: char) -> Ask
-        ensures turned { HasTurned (after_char c self.old) self.new result }
-        ensures scrolls { self.new ≡ record self.old { top = self.new.top } }
+    // Scrolls.
+    fn go(&mut self, motion: Motion)
+        ensures moved { self.new ≡ moved motion self.old }
     {
         let page = usize::from(self.body_rows());
-        match c {
-            'j' => self.go_down(1),
-            'k' => self.go_up(1),
-            ' ' => self.go_down(page),
-            'b' => self.go_up(page),
-            'd' => self.go_down(page / 2),
-            'u' => self.go_up(page / 2),
-            'g' => self.top = 0,
-            'G' => self.go_to_end(),
-            '/' => return Ask::Search,
-            'n' => return Ask::Next,
-            'N' => return Ask::Previous,
-            'q' => return Ask::Quit,
-            _ => {}
+        match motion {
+            Motion::RowDown => self.go_down(self.times()),
+            Motion::RowUp => self.go_up(self.times()),
+            Motion::PageDown => self.go_down(page),
+            Motion::PageUp => self.go_up(page),
+            Motion::HalfDown => self.go_down(page / 2),
+            Motion::HalfUp => self.go_up(page / 2),
+            Motion::End if self.count == 0 => self.go_to_end(),
+            Motion::Start | Motion::End => self.go_to_row(self.count.saturating_sub(1)),
         }
-        Ask::Nothing
+    }
+
+    // How many rows a key of rows goes.
+    fn times(&self) -> usize
+        ensures { result ≡ times self.now }
+    {
+        self.count.max(1)
+    }
+
+    // Puts a digit after the number that was typed.
+    fn add_digit(&mut self, digit: u8)
+        ensures { self.new ≡ with_digit self.old digit }
+    {
+        self.count = self
+            .count
+            .saturating_mul(10)
+            .saturating_add(usize::from(digit));
+    }
+
+    // The left button was pressed: on the bar it holds it from now on.
+    fn press(&mut self, column: u16, row: u16)
+        ensures { self.new ≡ pressed column row self.old }
+    {
+        if self.is_on_bar(column, row) {
+            self.go_to_bar(row);
+            self.holds_bar = true;
+        }
+    }
+
+    // The mouse was moved with its left button down.
+    fn drag(&mut self, row: u16)
+        ensures { self.new ≡ dragged row self.old }
+    {
+        if self.holds_bar {
+            self.go_to_bar(row);
+        }
     }
 }

@@ -1,11 +1,13 @@
-//! A text's rows on a screen: which of them is on top, and what keys and the wheel do.
+//! A text's rows on a screen: which of them is on top, and what keys and the mouse do.
 //!
 //! 1. [`page`]: the screen, the text's rows and the one on top.
-//! 2. [`keys`]: what a key and the wheel do.
+//! 2. [`commands`]: which key says what.
+//! 3. [`keys`]: what keys and the mouse do.
 #![tactic(auto)]
 
+mod commands;
 mod keys;
 mod page;
 
-pub use keys::Ask;
+pub use commands::{Ask, Command, Motion, command_of, is_break};
 pub use page::Page;

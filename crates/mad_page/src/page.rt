@@ -1,7 +1,7 @@
 //! The screen, the text's rows and the one on top.
 
 ghost use Rattle.std.specs.Prelude.{◌≡◌};
-ghost use Rattle.mad_page.specs.Pages.{above, at_end, below, body_rows, percent};
+ghost use Rattle.mad_page.specs.Pages.{above, at_bar, at_end, at_row, below, body_rows, in_sight, is_on_bar, percent, shows_row};
 
 /// A text's rows on a screen, whose last row is left free.
 #[derive(Clone, Copy, Debug, PartialEq, Eq)]
@@ -14,6 +14,10 @@ pub struct Page {
     pub height: usize,
     /// The index, from 0, of the text's row that is on top. All are allowed: past the text's last row the screen is blank.
     pub top: usize,
+    /// The number that was typed for the next key; 0, where none was.
+    pub count: usize,
+    /// Whether the mouse holds the bar.
+    pub holds_bar: bool,
 }
 
 impl Page {
@@ -33,6 +37,23 @@ impl Page {
         }
         let reached = (self.top as u128 + u128::from(self.body_rows())).min(self.height as u128);
         (100 * reached / self.height as u128) as u64
+    }
+
+    /// Whether a row of the text is on the screen.
+    pub fn shows_row(&self, row: usize) -> bool
+        ensures { result ≡ shows_row self.now row }
+    {
+        row >= self.top && row - self.top < usize::from(self.body_rows())
+    }
+
+    /// Scrolls so that a row of the text is on top, where it isn't on the screen already.
+    pub fn show_row(&mut self, row: usize)
+        ensures { self.new ≡ in_sight self.old row }
+    {
+        if self.shows_row(row) {
+            return;
+        }
+        self.top = row;
     }
 
     // Scrolls down by this many rows, no further than to the text's last row in the screen's last but one. A page that is further stays.
@@ -56,6 +77,32 @@ impl Page {
         ensures { self.new ≡ at_end self.old }
     {
         self.top = self.last_top();
+    }
+
+    // Scrolls so that a row of the text is on top, or its last one.
+    pub(crate) fn go_to_row(&mut self, row: usize)
+        ensures { self.new ≡ at_row self.old row }
+    {
+        self.top = row.min(self.height.saturating_sub(1));
+    }
+
+    // Whether a position of the screen is on the bar.
+    pub(crate) fn is_on_bar(&self, column: u16, row: u16) -> bool
+        ensures { result ≡ is_on_bar self.now column row }
+    {
+        self.height > usize::from(self.body_rows())
+            && u32::from(column) + 1 == u32::from(self.columns)
+            && row < self.body_rows()
+    }
+
+    // Scrolls to what a row of the bar stands for.
+    pub(crate) fn go_to_bar(&mut self, row: u16)
+        ensures { self.new ≡ at_bar self.old row }
+    {
+        let last_row = self.body_rows().saturating_sub(1);
+        let row = u128::from(row.min(last_row));
+        let top = row * self.last_top() as u128 / u128::from(last_row.max(1));
+        self.top = top as usize;
     }
 
     // The row on top where the text's last one is in the screen's last but one.

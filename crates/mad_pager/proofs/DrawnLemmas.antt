@@ -9,6 +9,7 @@ use Rattle.std.specs.declared.io.Error as io
 use Rattle.mad_term.specs.Trace.{Trace, after, failed, flushed, CutShort, TookWith}
 use Rattle.mad_term.specs.declared.errors.Error.{Error}
 use Rattle.mad_term.specs.declared.errors.Error.TheVariants.{IO}
+use Rattle.mad_hits.proofs.TookLemmas.{known, took_so}
 use Rattle.mad_term.proofs.Traces.{took_both, cut_in_first, cut_in_second, flush_failed}
 use Rattle.mad_fit.specs.Areas.{IsWithinLimits}
 use Rattle.mad_fit.specs.declared.area.Area.{Area}
@@ -17,7 +18,12 @@ use Rattle.mad_columns.specs.Columns.{char_columns}
 use Rattle.mad_fit.proofs.AllLemmas.{all_each}
 use Rattle.mad_lines.specs.TextLines.{is_newline}
 use Rattle.mad_field.specs.Shown.{IsShowable}
-use Rattle.mad_draw.specs.DrawnRows.{AreRowsShown}
+use Rattle.mad_draw.specs.DrawnRows.{AreRowsShown, FillArea}
+use Rattle.mad_draw.specs.Pieces.{IsColumnChar}
+use Rattle.mad_draw.proofs.CharLemmas.{single_columns, single_shown}
+use Rattle.mad_columns.proofs.CharColumns.{char_columns-ascii}
+use Rattle.mad_style.specs.CompoundStyles.{unstyled}
+use Rattle.mad_style.specs.StyledChars.{styled_char}
 use Rattle.mad_draw.specs.Panes.{Pane, AreApart, ArePanesShown}
 use Rattle.mad_draw.specs.declared.scroll_bars.ScrollBar.{ScrollBar}
 use Rattle.mad_draw.proofs.PaneLemmas.{panes_shown}
@@ -31,58 +37,8 @@ use Rattle.mad_layout.specs.declared.skin.MadSkin.{MadSkin}
 use Rattle.mad_rows.specs.RowStyles.{line_rules}
 use Rattle.std.proofs.lemmas.Bool.{ltb-false}
 use Rattle.std.proofs.lemmas.Bool.Decides.{nat_tests}
-use Rattle.mad_pager.specs.Screens.{reversed_skin, is_small, area_of, bar_of, paged_skin, text_pane, field_pane, status_pane, status_words, IsLineIn, IsStatusLine, KeepsTextPremises, AreLinesShown, IsFieldRow, IsLastRow, IsStatus, IsDrawing, IsPicture, IsTypingShown, IsStatusShown, IsFieldInRow, IsShowing, IsShown, IsUnshown, question}
-use Rattle.mad_pager.specs.Sessions.{State, text_area, last_row}
-
--- ---- what a device took
-
--- what is known to have been taken has what it has under a premise
-known_at : (o n : Option (List ℕ)) (bytes : List ℕ) (A : Type 0) (P : List ℕ → Type 0) → n ≡ option_map (λ b. b ++ bytes) o
-    → (A → IfSome o (λ before. (text : List ℕ) × (n ≡ Some (before ++ text)) × P text))
-    → IfSome o (λ before. (text : List ℕ) × (n ≡ Some (before ++ text)) × (A → P text))
-known_at None n bytes A P e h = tt
-known_at (Some before) n bytes A P e h =
-    (bytes, e, λ a. let it = h a in subst P (append_cancel_left before it.0 bytes (same_Some _ _ (sym it.1 ∙ e))) it.2)
-
-pub known : (old new : Trace) (bytes : List ℕ) (A : Type 0) (P : List ℕ → Type 0) → new ≡ after old bytes → (A → TookWith old new P) → TookWith old new (λ text. A → P text)
-unfolding after
-known old new bytes A P e h = known_at old.bytes new.bytes bytes A P (ap (λ (t : Trace). t.bytes) e) h
-
-more_at : (o n : Option (List ℕ)) (P Q : List ℕ → Type 0) → ((text : List ℕ) → P text → Q text) → IfSome o (λ before. (text : List ℕ) × (n ≡ Some (before ++ text)) × P text)
-    → IfSome o (λ before. (text : List ℕ) × (n ≡ Some (before ++ text)) × Q text)
-more_at None n P Q more h = tt
-more_at (Some before) n P Q more h = (h.0, h.1, more h.0 h.2)
-
--- what was taken has more
-pub took_so : (old new : Trace) (P Q : List ℕ → Type 0) → ((text : List ℕ) → P text → Q text) → TookWith old new P → TookWith old new Q
-took_so old new P Q more h = more_at old.bytes new.bytes P Q more h
-
-nothing_at : (o : Option (List ℕ)) (P : List ℕ → Type 0) → P [] → IfSome o (λ before. (text : List ℕ) × (o ≡ Some (before ++ text)) × P text)
-nothing_at None P h = tt
-nothing_at (Some before) P h = ([], ap Some (sym (append-nil before)), h)
-
--- nothing was taken
-pub took_nothing : (old : Trace) (P : List ℕ → Type 0) → P [] → TookWith old old P
-took_nothing old P h = nothing_at old.bytes P h
-
-turn_at : (o m n : Option (List ℕ)) (P Q R : List ℕ → Type 0) → ((a b : List ℕ) → P a → Q b → R (a ++ b)) → IfSome o (λ before. (text : List ℕ) × (m ≡ Some (before ++ text)) × P text)
-    → IfSome m (λ before. (text : List ℕ) × (n ≡ Some (before ++ text)) × Q text)
-    → IfSome o (λ before. (text : List ℕ) × (n ≡ Some (before ++ text)) × R text)
-turn_at None m n P Q R joins h k = tt
-turn_at (Some before) m n P Q R joins (first, is, p) k =
-    let rest = subst (λ (o : Option (List ℕ)). IfSome o (λ b. (text : List ℕ) × (n ≡ Some (b ++ text)) × Q text)) is k in
-    (first ++ rest.0, rest.1 ∙ ap Some (append_assoc before first rest.0), joins first rest.0 p rest.2)
-
--- what was taken in turn
-pub took_in_turn : (old mid new : Trace) (P Q R : List ℕ → Type 0) → ((a b : List ℕ) → P a → Q b → R (a ++ b)) → TookWith old mid P → TookWith mid new Q → TookWith old new R
-took_in_turn old mid new P Q R joins h k = turn_at old.bytes mid.bytes new.bytes P Q R joins h k
-
-from_empty_at : (o n : Option (List ℕ)) (P : List ℕ → Type 0) → o ≡ Some [] → IfSome o (λ before. (text : List ℕ) × (n ≡ Some (before ++ text)) × P text) → (text : List ℕ) × (n ≡ Some text) × P text
-from_empty_at o n P e h = subst (λ (o : Option (List ℕ)). IfSome o (λ before. (text : List ℕ) × (n ≡ Some (before ++ text)) × P text)) e h
-
--- all that a device took that had taken nothing
-pub from_empty : (old new : Trace) (P : List ℕ → Type 0) → old.bytes ≡ Some [] → TookWith old new P → (text : List ℕ) × (new.bytes ≡ Some text) × P text
-from_empty old new P e h = from_empty_at old.bytes new.bytes P e h
+use Rattle.mad_pager.specs.Screens.{reversed_skin, is_small, area_of, bar_of, paged_skin, text_pane, field_pane, prompt_pane, prompt_row, status_pane, status_words, AreHitsDrawn, ArePanesDrawn, IsFieldShown, IsLineIn, IsStatusLine, KeepsTextPremises, AreLinesShown, IsFieldRow, IsLastRow, IsStatus, IsDrawing, IsPicture, IsTypingShown, IsStatusShown, IsFieldInRow, IsShowing, IsShown, IsUnshown, question}
+use Rattle.mad_pager.specs.Sessions.{State, field_row, last_row, prompt_cell, text_area}
 
 -- ---- what is shown
 
@@ -106,23 +62,43 @@ neither false b h = refl
 pub not_small : (s : State) → is_small s ≡ false → 5 ≤ s.page.columns
 not_small s h = ltb-false s.page.columns 5 (neither (nat_lt s.page.columns 5) (nat_lt s.page.rows 2) h)
 
--- the text's area and the last row share no cell
+-- the text's area and the last row share no cell, nor any of these and another
 pub rows_apart : (columns rows : ℕ) → AreApart (text_area columns rows) (last_row columns rows)
 rows_apart columns rows x y a b = let low = a.to_bottom in let high = b.from_top in absurd (omega (arith, low, high))
+
+prompt_apart : (columns rows : ℕ) → AreApart (text_area columns rows) (prompt_cell rows)
+prompt_apart columns rows x y a b = let low = a.to_bottom in let high = b.from_top in absurd (omega (arith, low, high))
+
+field_apart : (columns rows : ℕ) → AreApart (text_area columns rows) (field_row columns rows)
+field_apart columns rows x y a b = let low = a.to_bottom in let high = b.from_top in absurd (omega (arith, low, high))
+
+prompt_field_apart : (columns rows : ℕ) → AreApart (prompt_cell rows) (field_row columns rows)
+prompt_field_apart columns rows x y a b = let left = a.to_right in let right = b.from_left in absurd (omega (arith, left, right))
 
 -- two panes that share no cell, drawn in turn
 pub both_shown : (p q : Pane) (a b : List ℕ) → AreApart p.area q.area → AreRowsShown p.row p.area a → AreRowsShown q.row q.area b → ArePanesShown (p ∷ q ∷ []) (a ++ b)
 both_shown p q a b apart here there =
     panes_shown (p ∷ q ∷ []) (a ++ b) ((apart, tt), (tt, tt)) (a, b, refl, here, (b, [], sym (append-nil b), there, refl))
 
+-- the slash fills its cell
+pub prompt_fills : (area : Area) (rows : ℕ) → area ≡ prompt_cell rows → FillArea prompt_row area
+prompt_fills area rows is y inside =
+    let slash = styled_char unstyled 47 in
+    let one : IsColumnChar 47 = record { scalar = refl; one = char_columns-ascii 47 (omega arith) (omega arith) } in
+    record { shown = single_shown slash 1 one; columns = single_columns slash 1 one ∙ sym (ap (λ (a : Area). a.width) is) }
+
+-- the slash and the field, drawn in turn
+pub typed_shown : (s : State) (a b : List ℕ) → AreRowsShown prompt_row (prompt_cell s.page.rows) a → IsFieldShown s b → IsFieldRow s (a ++ b)
+typed_shown s a b prompt field wide row = (a, b, refl, prompt, (b, [], sym (append-nil b), field wide row, refl))
+
 -- whether two areas are the same, as it is tested
 abbrev same : Area → Area → Bool
 same a b = (a.left == b.left) && ((a.top == b.top) && ((a.width == b.width) && (a.height == b.height)))
 
--- an area that is tested to be the last row of a screen is within the limits
-pub row_within : (area tested row : Area) (columns rows : ℕ) → columns < 2 ^ 16 → rows < 2 ^ 16 → tested ≡ area → row ≡ last_row columns rows → same tested row ≡ true → IsWithinLimits area
+-- an area that is tested to be that of a screen's field is within the limits
+pub row_within : (area tested row : Area) (columns rows : ℕ) → columns < 2 ^ 16 → rows < 2 ^ 16 → tested ≡ area → row ≡ field_row columns rows → same tested row ≡ true → IsWithinLimits area
 row_within area tested row columns rows wide high is at h =
-    let here : same area (last_row columns rows) ≡ true = subst (λ (a : Area). same a (last_row columns rows) ≡ true) is (subst (λ (b : Area). same tested b ≡ true) at h) in
+    let here : same area (field_row columns rows) ≡ true = subst (λ (a : Area). same a (field_row columns rows) ≡ true) is (subst (λ (b : Area). same tested b ≡ true) at h) in
     record { columns = grind (arith, nat_tests); rows = grind (arith, nat_tests) }
 
 -- one that isn't isn't that row
@@ -139,16 +115,20 @@ row_elsewhere area tested row place is at h e =
     let no : true ≡ false = sym all ∙ h in
     cc
 
--- a field in the last row of a screen that has a column is shown
-pub showable : (s : State) → 0 < s.page.columns → IsFieldInRow s → IsShowable s.field
+-- a field in the last row of a screen that has a column for it is shown
+pub showable : (s : State) → 1 < s.page.columns → IsFieldInRow s → IsShowable s.field
 showable s some h = record {
-  some = subst (λ (a : Area). 0 < a.width) (sym h.area) some;
+  some = let wide : 0 < s.page.columns - 1 = omega (arith, some) in subst (λ (a : Area). 0 < a.width) (sym h.area) wide;
   takes = λ plain. all_each (λ (c : ℕ). 0 < char_columns c) (λ (c : ℕ). is_newline c ≡ false → 0 < char_columns c) (λ c takes inside. takes) s.field.content.text h.typed;
 }
 
-typing_shown : (skin : MadSkin) (s : State) (a b : List ℕ) → 0 < s.page.columns → AreLinesShown skin s a → IsFieldRow s b → IsTypingShown skin s (a ++ b)
-typing_shown skin s a b some lines row keeps field =
-    both_shown (text_pane skin s) (field_pane s) a b (subst (λ (x : Area). AreApart (area_of s) x) (sym field.area) (rows_apart s.page.columns s.page.rows)) (lines keeps) (row some field)
+typing_shown : (skin : MadSkin) (s : State) (a b : List ℕ) → 1 < s.page.columns → AreLinesShown skin s a → IsFieldRow s b → IsTypingShown skin s (a ++ b)
+typing_shown skin s a b wide lines row keeps field =
+    let columns = s.page.columns in
+    let rows = s.page.rows in
+    let text_field = subst (λ (x : Area). AreApart (area_of s) x) (sym field.area) (field_apart columns rows) in
+    let slash_field = subst (λ (x : Area). AreApart (prompt_cell rows) x) (sym field.area) (prompt_field_apart columns rows) in
+    panes_shown (text_pane skin s ∷ prompt_pane s ∷ field_pane s ∷ []) (a ++ b) ((prompt_apart columns rows, (text_field, tt)), ((slash_field, tt), (tt, tt))) (a, b, refl, lines keeps, row wide field)
 
 status_shown : (skin : MadSkin) (name : List ℕ) (s : State) (a b : List ℕ) → AreLinesShown skin s a → IsStatus name s b → IsStatusShown skin name s (a ++ b)
 status_shown skin name s a b lines row = record {
@@ -160,14 +140,18 @@ status_shown skin name s a b lines row = record {
 }
 
 -- the text and the last row, drawn in turn
-pub screen_shown : (skin : MadSkin) (name : List ℕ) (s : State) → is_small s ≡ false → (a b : List ℕ) → AreLinesShown skin s a → IsLastRow name s b → IsDrawing skin name s (a ++ b)
+pub screen_shown : (skin : MadSkin) (name : List ℕ) (s : State) → is_small s ≡ false → (a b : List ℕ) → AreLinesShown skin s a → IsLastRow name s b → ArePanesDrawn skin name s (a ++ b)
 screen_shown skin name s large a b lines row =
     let wide = not_small s large in
-    let some : 0 < s.page.columns = omega (arith, wide) in
+    let some : 1 < s.page.columns = omega (arith, wide) in
     record {
       typing = λ is. typing_shown skin s a b some lines (row.typing is);
       status = λ is. status_shown skin name s a b lines (row.status is);
     }
+
+-- and then the hits
+pub marks_shown : (skin : MadSkin) (name : List ℕ) (s : State) (a b : List ℕ) → ArePanesDrawn skin name s a → AreHitsDrawn skin s b → IsDrawing skin name s (a ++ b)
+marks_shown skin name s a b panes hits = record { panes = a; hits = b; are = refl; drawn = panes; marked = hits }
 
 -- a line that was drawn in an area of one row
 pub line_drawn : (dress : MadSkin) (line : FmtLine) (items : List FmtLine) (area : Area) (bytes : List ℕ) (old new : Trace)

@@ -1,5 +1,5 @@
 -- What a session keeps, whatever events say.
-use Rattle.std.proofs.Common.{◌≡◌, ℕ, ◌+◌, ◌-◌, ◌<◌, ◌==◌, inl, inr, Bool, true, false, List, [], ◌∷◌, ◌++◌, take, drop, nat_lt, length, min, refl, ap, sym, ◌∙◌, subst, arith, if◌then◌else◌}
+use Rattle.std.proofs.Common.{◌≡◌, ℕ, ◌+◌, ◌-◌, ◌*◌, ◌<◌, ◌==◌, Option, Some, None, inl, inr, Bool, true, false, List, [], ◌∷◌, ◌++◌, take, drop, nat_lt, length, min, refl, ap, sym, ◌∙◌, subst, arith, if◌then◌else◌}
 use Rattle.std.specs.Prelude.{encode_utf8_all}
 use Rattle.std.proofs.lemmas.List.{take-append-drop}
 use Rattle.std.proofs.lemmas.Bool.{cases_eq}
@@ -12,7 +12,8 @@ use Rattle.mad_term.specs.declared.keys.KeyCode.{KeyCode}
 use Rattle.mad_term.specs.declared.keys.KeyCode.TheVariants.{Char, Enter, Esc, Backspace, Delete, Home, End, Up, Down, Left, Right, PageUp, PageDown, Insert, Tab, BackTab, F, Null}
 use Rattle.mad_term.specs.declared.keys.KeyEvent.{KeyEvent}
 use Rattle.mad_term.specs.declared.mouse.MouseEventKind.{MouseEventKind}
-use Rattle.mad_term.specs.declared.mouse.MouseEventKind.TheVariants.{ScrollDown, ScrollUp}
+use Rattle.mad_term.specs.declared.mouse.MouseButton.TheVariants as button
+use Rattle.mad_term.specs.declared.mouse.MouseEventKind.TheVariants as mouse
 use Rattle.mad_term.specs.Events.{modifier_bits}
 use Rattle.mad_fit.specs.declared.area.Area.{Area}
 use Rattle.mad_fit.proofs.AllLemmas.{all_front, all_back, all_joined}
@@ -22,14 +23,21 @@ use Rattle.mad_field.specs.Fields.{Field}
 use Rattle.mad_field.specs.Edits.{Outcome, edited, edited_if, is_wide, moved_down, moved_to_line, moved_up}
 use Rattle.mad_field.specs.Keys.{key_outcome, moved_by, removal, selecting_if}
 use Rattle.mad_field.specs.Keys as keys
-use Rattle.mad_page.specs.PageKeys.{Turn, after_char, after_control, after_key, after_plain_key, after_wheel}
-use Rattle.mad_page.specs.declared.keys.Ask.{Ask}
-use Rattle.mad_page.specs.declared.keys.Ask.TheVariants.{Search, Next, Previous, Forget}
+use Rattle.mad_page.specs.PageKeys.{after_command, after_key, after_kind, command_of, moved}
+use Rattle.mad_page.specs.Pages.{is_on_bar, shows_row}
+use Rattle.mad_page.specs.declared.commands.Command.{Command}
+use Rattle.mad_page.specs.declared.commands.Command.TheVariants.{Moves, Counts, Asks}
+use Rattle.mad_page.specs.declared.commands.Motion.{Motion}
+use Rattle.mad_page.specs.declared.commands.Motion.TheVariants as motion
+use Rattle.mad_page.specs.declared.commands.Ask.{Ask}
+use Rattle.mad_page.specs.declared.commands.Ask.TheVariants.{Search, Next, Previous, NextHeader, PreviousHeader, Forget}
+use Rattle.mad_search.specs.Headers.{next_header, previous_header}
+use Rattle.mad_pager.specs.declared.sizes.ScreenSize.{ScreenSize}
 use Rattle.mad_page.specs.declared.page.Page.{Page}
 use Rattle.mad_format.specs.declared.line.FmtLine.{FmtLine}
 use Rattle.mad_layout.specs.declared.skin.MadSkin.{MadSkin}
 use Rattle.mad_pager.specs.Screens.{IsOrderly, TakeColumns}
-use Rattle.mad_pager.specs.Sessions.{State, IsAnyKeyStep, IsAsked, IsEventStep, IsKeyStep, IsLaidFor, IsMovedTo, IsResized, IsStart, IsTypeStep, last_row, typed}
+use Rattle.mad_pager.specs.Sessions.{State, at_found, at_header, IsAnyKeyStep, IsAsked, IsEventStep, IsKeyStep, IsLaidAnew, IsLaidFor, IsMovedTo, IsResized, IsSettled, IsStart, IsTypeStep, field_row, typed}
 
 -- ---- what is typed
 
@@ -130,43 +138,27 @@ record IsSamePlace (p q : Page) : Type 0 where
   columns : q.columns ≡ p.columns
   rows : q.rows ≡ p.rows
 
-either_place : (b : Bool) (p : Page) (x y : Turn) → IsSamePlace p x.page → IsSamePlace p y.page → IsSamePlace p (if b then x else y).page
+either_place : (b : Bool) (p x y : Page) → IsSamePlace p x → IsSamePlace p y → IsSamePlace p (if b then x else y)
 either_place true p x y h k = h
 either_place false p x y h k = k
 
-char_place : (c : ℕ) (p : Page) → IsSamePlace p (after_char c p).page
-char_place c p =
-    let here : IsSamePlace p p = record { columns = refl; rows = refl } in
-    either_place (c == 106) p _ _ (record { columns = refl; rows = refl })
-    (either_place (c == 107) p _ _ (record { columns = refl; rows = refl })
-    (either_place (c == 32) p _ _ (record { columns = refl; rows = refl })
-    (either_place (c == 98) p _ _ (record { columns = refl; rows = refl })
-    (either_place (c == 100) p _ _ (record { columns = refl; rows = refl })
-    (either_place (c == 117) p _ _ (record { columns = refl; rows = refl })
-    (either_place (c == 103) p _ _ (record { columns = refl; rows = refl })
-    (either_place (c == 71) p _ _ (record { columns = refl; rows = refl })
-    (either_place (c == 47) p _ _ here
-    (either_place (c == 110) p _ _ here
-    (either_place (c == 78) p _ _ here
-    (either_place (c == 113) p _ _ here here)))))))))))
+motion_place : (motion : Motion) (p : Page) → IsSamePlace p (moved motion p)
+motion_place motion.End p = either_place (p.count == 0) p _ _ (record { columns = refl; rows = refl }) (record { columns = refl; rows = refl })
+motion_place _ p = record { columns = refl; rows = refl }
 
-plain_place : (code : KeyCode) (p : Page) → IsSamePlace p (after_plain_key code p).page
-plain_place (Char c) p = char_place c p
-plain_place _ p = record { columns = refl; rows = refl }
-
-control_place : (code : KeyCode) (p : Page) → IsSamePlace p (after_control code p).page
-control_place (Char c) p = either_place (c == 108) p _ _ (record { columns = refl; rows = refl }) (record { columns = refl; rows = refl })
-control_place _ p = record { columns = refl; rows = refl }
+command_place : (command : Command) (p : Page) → IsSamePlace p (after_command command p).page
+command_place (Moves motion) p = let h = motion_place motion p in record { columns = h.columns; rows = h.rows }
+command_place (Counts digit) p = record { columns = refl; rows = refl }
+command_place (Asks ask) p = record { columns = refl; rows = refl }
 
 key_place : (key : KeyEvent) (p : Page) → IsSamePlace p (after_key key p).page
-key_place key p =
-    either_place (key.modifiers.0 == 0) p _ _ (plain_place key.code p)
-    (either_place (key.modifiers.0 == 2) p _ _ (control_place key.code p) (record { columns = refl; rows = refl }))
+key_place key p = command_place (command_of key) p
 
-wheel_place : (kind : MouseEventKind) (p : Page) → IsSamePlace p (after_wheel kind p)
-wheel_place ScrollDown p = record { columns = refl; rows = refl }
-wheel_place ScrollUp p = record { columns = refl; rows = refl }
-wheel_place _ p = record { columns = refl; rows = refl }
+mouse_place : (kind : MouseEventKind) (x y : ℕ) (p : Page) → IsSamePlace p (after_kind kind x y p)
+mouse_place (mouse.Down button.Left) x y p = either_place (is_on_bar p x y) p _ _ (record { columns = refl; rows = refl }) (record { columns = refl; rows = refl })
+mouse_place (mouse.Drag button.Left) x y p = either_place p.holds_bar p _ _ (record { columns = refl; rows = refl }) (record { columns = refl; rows = refl })
+mouse_place (mouse.Up button.Left) x y p = record { columns = refl; rows = refl }
+mouse_place _ x y p = record { columns = refl; rows = refl }
 
 -- ---- sessions
 
@@ -174,7 +166,7 @@ kept_order : (skin : MadSkin) (text : List LineContent) (s new : State) → new.
 kept_order skin text s new same place kept h = record {
   lines = subst (λ (n : ℕ). IsLaidFor skin text n new.lines) (sym place.columns) (subst (λ (l : List FmtLine). IsLaidFor skin text s.page.columns l) (sym same) h.lines);
   field = record {
-    area = kept.area ∙ (h.field.area ∙ (ap (λ (n : ℕ). last_row n s.page.rows) (sym place.columns) ∙ ap (λ (n : ℕ). last_row new.page.columns n) (sym place.rows)));
+    area = kept.area ∙ (h.field.area ∙ (ap (λ (n : ℕ). field_row n s.page.rows) (sym place.columns) ∙ ap (λ (n : ℕ). field_row new.page.columns n) (sym place.rows)));
     typed = kept.typed;
   };
 }
@@ -186,10 +178,22 @@ same_order skin text s mid new e same place kept h = subst (λ (x : State). IsOr
 still : (p : Page) → IsSamePlace p p
 still p = record { columns = refl; rows = refl }
 
+-- a search leaves it orderly
+found_order : (skin : MadSkin) (text : List LineContent) (row : Option ℕ) (s new : State) → new ≡ at_found row s → IsOrderly skin text s → IsOrderly skin text new
+found_order skin text None s new e h = same_order skin text s _ new e refl (still s.page) (stays s.field h.field.typed) h
+found_order skin text (Some row) s new e h =
+    same_order skin text s _ new e refl (either_place (shows_row s.page row) s.page _ _ (still s.page) (record { columns = refl; rows = refl })) (stays s.field h.field.typed) h
+
+header_order : (skin : MadSkin) (text : List LineContent) (row : Option ℕ) (s new : State) → new ≡ at_header row s → IsOrderly skin text s → IsOrderly skin text new
+header_order skin text None s new e h = same_order skin text s _ new e refl (still s.page) (stays s.field h.field.typed) h
+header_order skin text (Some row) s new e h = same_order skin text s _ new e refl (record { columns = refl; rows = refl }) (stays s.field h.field.typed) h
+
 asked_order : (skin : MadSkin) (text : List LineContent) (ask : Ask) (s new : State) → IsAsked ask s new → IsOrderly skin text s → IsOrderly skin text new
 asked_order skin text Search s new e h = subst (λ (x : State). IsOrderly skin text x) (sym e) (record { lines = h.lines; field = record { area = refl; typed = tt } })
-asked_order skin text Next s new (row, missing, next, said, e) h = same_order skin text s _ new e refl (record { columns = refl; rows = refl }) (stays s.field h.field.typed) h
-asked_order skin text Previous s new (row, missing, previous, said, e) h = same_order skin text s _ new e refl (record { columns = refl; rows = refl }) (stays s.field h.field.typed) h
+asked_order skin text Next s new (row, next, e) h = found_order skin text row s new e h
+asked_order skin text Previous s new (row, previous, e) h = found_order skin text row s new e h
+asked_order skin text NextHeader s new e h = header_order skin text (next_header s.lines s.starts s.page.top) s new e h
+asked_order skin text PreviousHeader s new e h = header_order skin text (previous_header s.lines s.starts s.page.top) s new e h
 asked_order skin text Forget s new e h = same_order skin text s _ new e refl (still s.page) (stays s.field h.field.typed) h
 asked_order skin text _ s new e h = same_order skin text s s new e refl (still s.page) (stays s.field h.field.typed) h
 
@@ -213,7 +217,7 @@ takes_some c e = grind (arith, nat_tests)
 
 type_order : (skin : MadSkin) (text : List LineContent) (code : KeyCode) (key : KeyEvent) (s new : State) → key.code ≡ code → IsTypeStep code key s new → IsOrderly skin text s → IsOrderly skin text new
 type_order skin text Enter key s new is step h =
-    asked_order skin text Next (record s { is_typing = false; sought = encode_utf8_all s.field.content.text }) new step (record { lines = h.lines; field = record { area = h.field.area; typed = h.field.typed } })
+    asked_order skin text Next (record s { is_typing = false; sought = encode_utf8_all s.field.content.text; found = None }) new step (record { lines = h.lines; field = record { area = h.field.area; typed = h.field.typed } })
 type_order skin text Esc key s new is e h = same_order skin text s _ new e refl (still s.page) (stays s.field h.field.typed) h
 type_order skin text (Char c) key s new is e h =
     same_order skin text s _ new e refl (still s.page) (char_field c key s.field (char_columns c == 0) is (takes_some c) h.field.typed) h
@@ -238,12 +242,12 @@ any_key_order skin text key s new true is step h = type_order skin text key.code
 any_key_order skin text key s new false is step h = key_order skin text key s new (step.other is) h
 
 -- a field that was given the last row of another screen
-moved_area : (columns rows : ℕ) (s : State) (new : Field) → s.field.area ≡ last_row s.page.columns s.page.rows → IsMovedTo (last_row columns rows) s.field new → (new.area ≡ last_row columns rows) × (new.content ≡ s.field.content)
+moved_area : (columns rows : ℕ) (s : State) (new : Field) → s.field.area ≡ field_row s.page.columns s.page.rows → IsMovedTo (field_row columns rows) s.field new → (new.area ≡ field_row columns rows) × (new.content ≡ s.field.content)
 moved_area columns rows s new at h =
-    elim (cases_eq columns s.page.columns) [
+    elim (cases_eq (columns - 1) (s.page.columns - 1)) [
       | inl wide ↦ elim (cases_eq (rows - 1) (s.page.rows - 1)) [
         | inl high ↦
-            let place : last_row columns rows ≡ s.field.area = cc in
+            let place : field_row columns rows ≡ s.field.area = cc in
             let e = h.same place in
             (ap (λ (f : Field). f.area) e ∙ sym place, ap (λ (f : Field). f.content) e)
         | inr low ↦ let e = h.other (λ place. low (ap (λ (a : Area). a.top) (place ∙ at))) in (ap (λ (f : Field). f.area) e, ap (λ (f : Field). f.content) e)
@@ -259,16 +263,29 @@ resized_order skin text columns rows s new step h =
     record {
       lines = subst (λ (n : ℕ). IsLaidFor skin text n new.lines) (sym wide) step.lines;
       field = record {
-        area = moved.0 ∙ (ap (λ (n : ℕ). last_row n rows) (sym wide) ∙ ap (λ (n : ℕ). last_row new.page.columns n) (sym high));
+        area = moved.0 ∙ (ap (λ (n : ℕ). field_row n rows) (sym wide) ∙ ap (λ (n : ℕ). field_row new.page.columns n) (sym high));
         typed = subst (λ (e : Editor). TakeColumns e.text) (sym moved.1) h.field.typed;
       };
     }
 
--- an event leaves a session orderly
+heard_order : (skin : MadSkin) (text : List LineContent) (b : Bool) (columns rows : ℕ) (s new : State)
+    → new ≡ (if b then s else record s { told = Some (record { columns = columns; rows = rows }) }) → IsOrderly skin text s → IsOrderly skin text new
+heard_order skin text true columns rows s new e h = same_order skin text s _ new e refl (still s.page) (stays s.field h.field.typed) h
+heard_order skin text false columns rows s new e h = same_order skin text s _ new e refl (still s.page) (stays s.field h.field.typed) h
+
+settled_at : (skin : MadSkin) (text : List LineContent) (told : Option ScreenSize) (s new : State) → IsLaidAnew told skin text s new → IsOrderly skin text s → IsOrderly skin text new
+settled_at skin text None s new e h = subst (λ (x : State). IsOrderly skin text x) (sym e) h
+settled_at skin text (Some size) s new step h = resized_order skin text size.columns size.rows s new step h
+
+-- a text that is laid out anew leaves a session orderly
+pub settled_order : (skin : MadSkin) (text : List LineContent) (s new : State) → IsSettled skin text s new → IsOrderly skin text s → IsOrderly skin text new
+settled_order skin text s new step h = settled_at skin text s.told s new step h
+
+-- and so does an event
 pub event_order : (skin : MadSkin) (text : List LineContent) (event : Event) (s new : State) → IsEventStep skin text event s new → IsOrderly skin text s → IsOrderly skin text new
 event_order skin text (Key key) s new step h = any_key_order skin text key s new s.is_typing refl step h
-event_order skin text (Mouse mouse) s new e h = same_order skin text s _ new e refl (wheel_place mouse.kind s.page) (stays s.field h.field.typed) h
-event_order skin text (Resize columns rows) s new step h = resized_order skin text columns rows s new step h
+event_order skin text (Mouse m) s new e h = same_order skin text s _ new e refl (mouse_place m.kind m.column m.row s.page) (stays s.field h.field.typed) h
+event_order skin text (Resize columns rows) s new e h = heard_order skin text (nat_lt 1000000 (columns * rows)) columns rows s new e h
 event_order skin text FocusGained s new e h = same_order skin text s s new e refl (still s.page) (stays s.field h.field.typed) h
 event_order skin text FocusLost s new e h = same_order skin text s s new e refl (still s.page) (stays s.field h.field.typed) h
 
@@ -280,7 +297,7 @@ start_order skin text columns rows s h =
     record {
       lines = subst (λ (n : ℕ). IsLaidFor skin text n s.lines) (sym wide) h.lines;
       field = record {
-        area = ap (λ (f : Field). f.area) h.field ∙ (ap (λ (n : ℕ). last_row n rows) (sym wide) ∙ ap (λ (n : ℕ). last_row s.page.columns n) (sym high));
+        area = ap (λ (f : Field). f.area) h.field ∙ (ap (λ (n : ℕ). field_row n rows) (sym wide) ∙ ap (λ (n : ℕ). field_row s.page.columns n) (sym high));
         typed = subst (λ (f : Field). TakeColumns f.content.text) (sym h.field) tt;
       };
     }

@@ -1,12 +1,13 @@
 -- What the screen shows of a session.
-use Rattle.std.specs.Prelude.{◌≡◌, ℕ, ◌+◌, ◌-◌, ◌<◌, ◌≤◌, ◌++◌, nat_lt, ◌||◌, Bool, true, false, List, [], ◌∷◌, length, take, codes, decimal, Option, Some, None, IfSome, if◌then◌else◌}
+use Rattle.std.specs.Prelude.{◌≡◌, ℕ, ◌+◌, ◌-◌, ◌<◌, ◌≤◌, ◌++◌, nat_lt, ◌||◌, Bool, true, false, List, [], ◌∷◌, length, take, drop, codes, decimal, Option, Some, None, IfSome, if◌then◌else◌}
 use Rattle.std.specs.List.{flat_map}
 use Rattle.std.specs.Str.{chars}
 use Rattle.mad_md.specs.Flagged.{flagged, flagged_of, unflagged}
 use Rattle.mad_md.specs.Lines.{LineContent}
 use Rattle.mad_md.specs.declared.alignment.Alignment.TheVariants.{Left}
 use Rattle.mad_fit.specs.TextColumns.{width_of}
-use Rattle.mad_style.specs.CompoundStyles.{attribute_added}
+use Rattle.mad_style.specs.CompoundStyles.{attribute_added, unstyled}
+use Rattle.mad_style.specs.StyledChars.{styled_char}
 use Rattle.mad_style.specs.declared.kinds.CompositeKind.TheVariants.{Paragraph}
 use Rattle.mad_format.specs.Fitting.{IsCompositeFitted}
 use Rattle.mad_format.specs.Wraps.{IsMeasured}
@@ -15,6 +16,7 @@ use Rattle.mad_format.specs.declared.line.FmtLine.TheVariants.{Normal}
 use Rattle.mad_wrap.specs.WrapLines.{capped}
 use Rattle.mad_blocks.specs.Layouts.{IsLayoutAt}
 use Rattle.mad_blocks.specs.TextParts.{lines_in_parts}
+use Rattle.mad_hits.specs.Drawn.{AreLinesMarked}
 use Rattle.mad_layout.specs.Premises.{KeepsPremises}
 use Rattle.mad_rows.specs.RowStyles.{line_rules, with_links}
 use Rattle.mad_page.specs.Pages.{percent}
@@ -27,7 +29,8 @@ use Rattle.mad_fit.specs.declared.area.Area.{Area}
 use Rattle.mad_format.specs.declared.line.FmtLine.{FmtLine}
 use Rattle.mad_draw.specs.BesideBar.{bar_beside, IsBarShown}
 use Rattle.mad_draw.specs.DrawnRows.{AreRowsShown}
-use Rattle.mad_draw.specs.Panes.{Pane, ArePanesShown}
+use Rattle.mad_draw.specs.Panes.{Pane, ArePanesShown, ShowsEach}
+use Rattle.mad_draw.specs.Pieces.{RowPiece, char_piece}
 use Rattle.mad_draw.specs.declared.scroll_bars.ScrollBar.{ScrollBar}
 use Rattle.mad_field.specs.Drawn.{row_pieces}
 use Rattle.mad_layout.specs.Drawable.{AreDrawable}
@@ -38,7 +41,7 @@ use Rattle.mad_layout.specs.declared.skin.MadSkin.{MadSkin}
 use Rattle.mad_rows.specs.declared.row_skin.RowSkin.{RowSkin}
 use Rattle.std.specs.List.{AllByRecursion}
 use Rattle.mad_columns.specs.Columns.{char_columns}
-use Rattle.mad_pager.specs.Sessions.{State, IsLaidFor, last_row, text_area}
+use Rattle.mad_pager.specs.Sessions.{State, IsLaidFor, field_row, last_row, prompt_cell, text_area}
 
 -- a screen that shows nothing: it has under five columns or under two rows
 abbrev pub is_small : State → Bool
@@ -63,6 +66,13 @@ text_pane skin s = record { area = area_of s; row = area_row (paged_skin skin) (
 -- one line in the last row
 abbrev pub status_pane : RowSkin → FmtLine → State → Pane
 status_pane skin line s = record { area = last_row s.page.columns s.page.rows; row = area_row skin None (line ∷ []) (last_row s.page.columns s.page.rows) 0 }
+
+-- the slash before what is being typed
+abbrev pub prompt_row : ℕ → List RowPiece
+prompt_row y = char_piece (styled_char unstyled 47) ∷ []
+
+abbrev pub prompt_pane : State → Pane
+prompt_pane s = record { area = prompt_cell s.page.rows; row = prompt_row }
 
 -- what is being typed, in the last row
 abbrev pub field_pane : State → Pane
@@ -116,9 +126,9 @@ pub record IsStatus (name : List ℕ) (s : State) (bytes : List ℕ) : Type 0 wh
 abbrev pub TakeColumns : List ℕ → Type 0
 TakeColumns cs = AllByRecursion (λ c. 0 < char_columns c) cs
 
--- The field is in the last row of the screen, and what is typed in it takes columns.
+-- The field is in the last row of the screen, after the slash, and what is typed in it takes columns.
 pub record IsFieldInRow (s : State) : Type 0 where
-  pub area : s.field.area ≡ last_row s.page.columns s.page.rows
+  pub area : s.field.area ≡ field_row s.page.columns s.page.rows
   pub typed : TakeColumns s.field.content.text
 
 -- What a session keeps from its start on: its lines are a layout of the text for its screen, and its field is in the last row.
@@ -140,19 +150,23 @@ pub record KeepsTextPremises (skin : MadSkin) (s : State) : Type 0 where
 abbrev pub AreLinesShown : MadSkin → State → List ℕ → Type 0
 AreLinesShown skin s bytes = KeepsTextPremises skin s → AreRowsShown (text_pane skin s).row (area_of s) bytes
 
--- these bytes show what is being typed, on a screen that has a column
+-- these bytes show what is being typed
+abbrev pub IsFieldShown : State → List ℕ → Type 0
+IsFieldShown s bytes = 1 < s.page.columns → IsFieldInRow s → AreRowsShown (row_pieces s.field) s.field.area bytes
+
+-- these bytes show the slash, and what is being typed after it, on a screen that has columns for both
 abbrev pub IsFieldRow : State → List ℕ → Type 0
-IsFieldRow s bytes = 0 < s.page.columns → IsFieldInRow s → AreRowsShown (row_pieces s.field) s.field.area bytes
+IsFieldRow s bytes = 1 < s.page.columns → IsFieldInRow s → ShowsEach (prompt_pane s ∷ field_pane s ∷ []) bytes
 
 -- these bytes are what the last row has: what is being typed, or else the status
 pub record IsLastRow (name : List ℕ) (s : State) (bytes : List ℕ) : Type 0 where
   pub typing : s.is_typing ≡ true → IsFieldRow s bytes
   pub status : s.is_typing ≡ false → IsStatus name s bytes
 
--- These bytes show a session while something is being typed: the text from its top row on, its bar, and in the last row the field. Every other
--- cell is as before.
+-- These bytes show a session while something is being typed: the text from its top row on, its bar, and in the last row a slash and the field. Every
+-- other cell is as before.
 abbrev pub IsTypingShown : MadSkin → State → List ℕ → Type 0
-IsTypingShown skin s bytes = KeepsTextPremises skin s → IsFieldInRow s → ArePanesShown (text_pane skin s ∷ field_pane s ∷ []) bytes
+IsTypingShown skin s bytes = KeepsTextPremises skin s → IsFieldInRow s → ArePanesShown (text_pane skin s ∷ prompt_pane s ∷ field_pane s ∷ []) bytes
 
 -- These bytes show it while nothing is being typed: in the last row is the status, where its words are shown.
 pub record IsStatusShown (skin : MadSkin) (name : List ℕ) (s : State) (bytes : List ℕ) : Type 0 where
@@ -162,10 +176,23 @@ pub record IsStatusShown (skin : MadSkin) (name : List ℕ) (s : State) (bytes :
   pub status : IsStatusLine dress (status_words name s) s.page.columns line
   pub shown : KeepsTextPremises skin s → AreDrawable (row_skin dress) s.page.columns (line ∷ []) → ArePanesShown (text_pane skin s ∷ status_pane (row_skin dress) line s ∷ []) bytes
 
--- these bytes show a session: one of these two
-pub record IsDrawing (skin : MadSkin) (name : List ℕ) (s : State) (bytes : List ℕ) : Type 0 where
+-- these bytes show the text and the last row of a session: one of these two
+pub record ArePanesDrawn (skin : MadSkin) (name : List ℕ) (s : State) (bytes : List ℕ) : Type 0 where
   pub typing : s.is_typing ≡ true → IsTypingShown skin s bytes
   pub status : s.is_typing ≡ false → IsStatusShown skin name s bytes
+
+-- these bytes mark what is sought in the lines that are on the screen: the columns of the text are all but the bar's
+abbrev pub AreHitsDrawn : MadSkin → State → List ℕ → Type 0
+AreHitsDrawn skin s bytes = AreLinesMarked (paged_skin skin) (s.page.columns - 1) s.sought 0 (take (s.page.rows - 1) (drop s.page.top s.lines)) bytes
+
+-- These bytes show a session: first the text and the last row, and then, over the text, what is sought. Each byte of a hit is written in the cells of
+-- the hit alone.
+pub record IsDrawing (skin : MadSkin) (name : List ℕ) (s : State) (bytes : List ℕ) : Type 0 where
+  pub panes : List ℕ
+  pub hits : List ℕ
+  pub are : bytes ≡ panes ++ hits
+  pub drawn : ArePanesDrawn skin name s panes
+  pub marked : AreHitsDrawn skin s hits
 
 -- the picture of a session; on a screen that shows nothing it has no byte
 pub record IsPicture (skin : MadSkin) (name : List ℕ) (s : State) (bytes : List ℕ) : Type 0 where

@@ -1,5 +1,5 @@
 -- A session of the pager: what is shown and sought, and what an event does.
-use Rattle.std.specs.Prelude.{◌≡◌, ◌≢◌, ℕ, ◌-◌, ◌<◌, ◌==◌, ◌↔◌, Bool, true, false, IsTrue, List, [], Some, length, encode_utf8_all, string_bytes, if◌then◌else◌}
+use Rattle.std.specs.Prelude.{◌≡◌, ◌≢◌, ℕ, ◌+◌, ◌-◌, ◌*◌, ◌^◌, ◌<◌, ◌==◌, nat_lt, not, Bool, true, false, List, [], Option, Some, None, length, min, encode_utf8_all, string_bytes, if◌then◌else◌}
 use Rattle.mad_columns.specs.Columns.{char_columns}
 use Rattle.mad_md.specs.Lines.{LineContent}
 use Rattle.mad_term.specs.declared.events.Event.{Event}
@@ -17,31 +17,47 @@ use Rattle.mad_blocks.specs.Layouts.{IsLayoutAt}
 use Rattle.mad_layout.specs.RowSkins.{row_skin}
 use Rattle.mad_layout.specs.declared.skin.MadSkin.{MadSkin}
 use Rattle.mad_rows.specs.RowStyles.{line_rules}
-use Rattle.mad_page.specs.PageKeys.{after_key, after_wheel}
-use Rattle.mad_page.specs.declared.keys.Ask.{Ask}
-use Rattle.mad_page.specs.declared.keys.Ask.TheVariants.{Search, Next, Previous, Forget, Size, Quit}
+use Rattle.mad_page.specs.PageKeys.{after_key, after_mouse, is_break}
+use Rattle.mad_page.specs.Pages.{in_sight, shows_row}
+use Rattle.mad_page.specs.declared.commands.Ask.{Ask}
+use Rattle.mad_page.specs.declared.commands.Ask.TheVariants.{Search, Next, Previous, NextHeader, PreviousHeader, Forget, Size, Quit}
 use Rattle.mad_page.specs.declared.page.Page.{Page}
-use Rattle.mad_search.specs.KeptRows.{IsKeptRow}
-use Rattle.mad_search.specs.Searches.{HasText, IsNextRow, IsPreviousRow, NoneFrom}
+use Rattle.mad_search.specs.Headers.{next_header, previous_header}
+use Rattle.mad_search.specs.KeptRows.{ArePartStarts, row_in_parts}
+use Rattle.mad_search.specs.Searches.{IsNextRow, IsPreviousRow}
 use Rattle.mad_pager.specs.declared.session.Session.{Session}
 use Rattle.mad_pager.specs.declared.session.Turn.{Turn}
 use Rattle.mad_pager.specs.declared.session.Turn.TheVariants.{Goes, AsksSize, Ends}
+use Rattle.mad_pager.specs.declared.sizes.ScreenSize.{ScreenSize}
 
 -- ---- what it is of
 
--- What is shown and sought: which row is on top of which lines, what is being typed, if it is, what is sought, and whether the last search found
--- no row.
+-- What is shown and sought: which row is on top of which lines, the rows in which parts of the text begin, what is being typed, if it is, and what
+-- is sought. Then which row the last search found, or that it found none, and the size that the terminal told, until the text is laid out for it.
 pub record State : Type 0 where
   pub page : Page
   pub lines : List FmtLine
+  pub starts : List ℕ
   pub field : Field
   pub is_typing : Bool
   pub sought : List ℕ
+  pub found : Option ℕ
   pub is_missing : Bool
+  pub told : Option ScreenSize
 
 -- the state of a session
 abbrev pub state_of : Session → State
-state_of s = record { page = s.page; lines = s.text.lines.items; field = s.field; is_typing = s.is_typing; sought = string_bytes s.sought; is_missing = s.is_missing }
+state_of s = record {
+  page = s.page;
+  lines = s.text.lines.items;
+  starts = s.starts.items;
+  field = s.field;
+  is_typing = s.is_typing;
+  sought = string_bytes s.sought;
+  found = s.found;
+  is_missing = s.is_missing;
+  told = s.told;
+}
 
 -- what stays the same in a session: its text and its skin, in which the lines are laid out
 pub record HasSameText (old new : Session) : Type 0 where
@@ -57,41 +73,74 @@ text_area columns rows = record { left = 0; top = 0; width = columns; height = r
 abbrev pub last_row : ℕ → ℕ → Area
 last_row columns rows = record { left = 0; top = rows - 1; width = columns; height = 1 }
 
+-- its first cell, where a slash stands before what is typed
+abbrev pub prompt_cell : ℕ → Area
+prompt_cell rows = record { left = 0; top = rows - 1; width = 1; height = 1 }
+
+-- the last row after it, where what is typed stands
+abbrev pub field_row : ℕ → ℕ → Area
+field_row columns rows = record { left = 1; top = rows - 1; width = columns - 1; height = 1 }
+
 -- these lines are a layout of a text for a screen of these columns
 abbrev pub IsLaidFor : MadSkin → List LineContent → ℕ → List FmtLine → Type 0
 IsLaidFor skin text columns lines = IsLayoutAt (line_rules (row_skin skin)) (Some (columns - 1)) text lines
 
+-- in these rows its parts begin
+abbrev pub AreStartsFor : MadSkin → List LineContent → ℕ → List ℕ → Type 0
+AreStartsFor skin text columns starts = ArePartStarts (line_rules (row_skin skin)) (columns - 1) text starts
+
 -- the start of a text on a screen of this size: its first row is on top, nothing is being typed and nothing is sought
 pub record IsStart (skin : MadSkin) (text : List LineContent) (columns rows : ℕ) (s : State) : Type 0 where
   pub lines : IsLaidFor skin text columns s.lines
-  pub page : s.page ≡ record { columns = columns; rows = rows; height = length s.lines; top = 0 }
-  pub field : s.field ≡ new_field (last_row columns rows)
+  pub starts : AreStartsFor skin text columns s.starts
+  pub page : s.page ≡ record { columns = columns; rows = rows; height = length s.lines; top = 0; count = 0; holds_bar = false }
+  pub field : s.field ≡ new_field (field_row columns rows)
   pub is_typing : s.is_typing ≡ false
   pub sought : s.sought ≡ []
+  pub found : s.found ≡ None
   pub is_missing : s.is_missing ≡ false
+  pub told : s.told ≡ None
 
 -- ---- what keys do
 
--- something is sought, and no row of the lines has it
-abbrev pub IsNowhere : List ℕ → List FmtLine → Type 0
-IsNowhere sought lines = (0 < length sought) × NoneFrom sought lines 0
+-- where a search goes on: after the row that was found last, where that is on the screen, or else from the top on
+abbrev pub start_after : Option ℕ → State → ℕ
+start_after None s = s.page.top
+start_after (Some row) s = if shows_row s.page row then min (row + 1) (2 ^ 64 - 1) else s.page.top
 
--- something is sought, and this row doesn't have it
-abbrev pub IsMissingAt : List ℕ → List FmtLine → ℕ → Type 0
-IsMissingAt sought lines row = (0 < length sought) × ¬ HasText sought lines row
+abbrev pub search_start : State → ℕ
+search_start s = start_after s.found s
 
--- the same after a search: with this row on top, and with whether no row was found
-abbrev pub at_row : ℕ → Bool → State → State
-at_row row missing s = record s { page = record s.page { top = row }; is_missing = missing }
+-- where one backwards goes on: before that row, or else before the top
+abbrev pub end_before : Option ℕ → State → ℕ
+end_before None s = s.page.top
+end_before (Some row) s = if shows_row s.page row then row else s.page.top
 
--- What is asked for is done. A search says that it found no row exactly where something is sought and no row has it.
+abbrev pub search_end : State → ℕ
+search_end s = end_before s.found s
+
+-- the same after a search: the row that was found is in sight; where none was, and something is sought, that is missing
+abbrev pub at_found : Option ℕ → State → State
+at_found None s = record s { is_missing = not (length s.sought == 0) }
+at_found (Some row) s = record s { page = in_sight s.page row; found = Some row; is_missing = false }
+
+-- the same with a header on top, if there is one
+abbrev pub at_header : Option ℕ → State → State
+at_header None s = s
+at_header (Some row) s = record s { page = record s.page { top = row } }
+
+-- nothing is sought any more
+abbrev pub forgotten : State → State
+forgotten s = record s { sought = []; found = None; is_missing = false }
+
+-- What is asked for is done.
 abbrev pub IsAsked : Ask → State → State → Type 0
-IsAsked Search s new = new ≡ record s { field = new_field (last_row s.page.columns s.page.rows); is_typing = true }
-IsAsked Next s new =
-    (row : ℕ) × (missing : Bool) × IsNextRow s.sought s.lines s.page.top row × (IsTrue missing ↔ IsNowhere s.sought s.lines) × (new ≡ at_row row missing s)
-IsAsked Previous s new =
-    (row : ℕ) × (missing : Bool) × IsPreviousRow s.sought s.lines s.page.top row × (IsTrue missing ↔ IsNowhere s.sought s.lines) × (new ≡ at_row row missing s)
-IsAsked Forget s new = new ≡ record s { sought = []; is_missing = false }
+IsAsked Search s new = new ≡ record s { field = new_field (field_row s.page.columns s.page.rows); is_typing = true }
+IsAsked Next s new = (row : Option ℕ) × IsNextRow s.sought s.lines (search_start s) row × (new ≡ at_found row s)
+IsAsked Previous s new = (row : Option ℕ) × IsPreviousRow s.sought s.lines (search_end s) row × (new ≡ at_found row s)
+IsAsked NextHeader s new = new ≡ at_header (next_header s.lines s.starts s.page.top) s
+IsAsked PreviousHeader s new = new ≡ at_header (previous_header s.lines s.starts s.page.top) s
+IsAsked Forget s new = new ≡ forgotten s
 IsAsked ask s new = new ≡ s
 
 -- what a key does while nothing is being typed
@@ -105,9 +154,9 @@ typed key f =
     else if modifier_bits key.modifiers == 1 then (key_outcome key.code true f).field
     else f
 
--- what was typed is sought from now on, and the next row that has it is on top
+-- what was typed is sought from now on, and the next row that has it is in sight
 abbrev pub IsSought : State → State → Type 0
-IsSought s new = IsAsked Next (record s { is_typing = false; sought = encode_utf8_all s.field.content.text }) new
+IsSought s new = IsAsked Next (record s { is_typing = false; sought = encode_utf8_all s.field.content.text; found = None }) new
 
 -- what a key does while something is being typed: Enter seeks it, Esc gives it up, and a character that takes no column is dropped
 abbrev pub IsTypeStep : KeyCode → KeyEvent → State → State → Type 0
@@ -123,15 +172,33 @@ pub record IsMovedTo (area : Area) (old new : Field) : Type 0 where
   pub same : area ≡ old.area → new ≡ old
   pub other : area ≢ old.area → new ≡ rescrolled (record old { area = area })
 
+-- the row that stays on top on a screen of other columns, by the rows in which parts begin; of as many columns it is the same
+abbrev pub kept_row : ℕ → ℕ → List ℕ → List ℕ → ℕ → ℕ
+kept_row old_columns new_columns old new row = if new_columns == old_columns then row else row_in_parts old new row
+
 -- The screen has another size: the lines are a layout for it, and what was on top stays there.
 pub record IsResized (skin : MadSkin) (text : List LineContent) (columns rows : ℕ) (old new : State) : Type 0 where
   pub lines : IsLaidFor skin text columns new.lines
-  pub page : new.page ≡ record { columns = columns; rows = rows; height = length new.lines; top = new.page.top }
-  pub kept : IsKeptRow (line_rules (row_skin skin)) text (old.page.columns - 1) (columns - 1) old.page.top new.page.top
-  pub field : IsMovedTo (last_row columns rows) old.field new.field
+  pub starts : AreStartsFor skin text columns new.starts
+  pub page : new.page ≡ record old.page { columns = columns; rows = rows; height = length new.lines; top = kept_row old.page.columns columns old.starts new.starts old.page.top }
+  pub field : IsMovedTo (field_row columns rows) old.field new.field
   pub is_typing : new.is_typing ≡ old.is_typing
   pub sought : new.sought ≡ old.sought
+  pub found : new.found ≡ None
   pub is_missing : new.is_missing ≡ old.is_missing
+  pub told : new.told ≡ None
+
+-- the text is laid out for the size that was told, if one was
+abbrev pub IsLaidAnew : Option ScreenSize → MadSkin → List LineContent → State → State → Type 0
+IsLaidAnew None skin text s new = new ≡ s
+IsLaidAnew (Some size) skin text s new = IsResized skin text size.columns size.rows s new
+
+abbrev pub IsSettled : MadSkin → List LineContent → State → State → Type 0
+IsSettled skin text s new = IsLaidAnew s.told skin text s new
+
+-- a size that the terminal tells is remembered; one of more than a million cells isn't believed
+abbrev pub hears_size : ℕ → ℕ → State → State
+hears_size columns rows s = if nat_lt 1000000 (columns * rows) then s else record s { told = Some (record { columns = columns; rows = rows }) }
 
 -- what a key does
 pub record IsAnyKeyStep (key : KeyEvent) (s new : State) : Type 0 where
@@ -141,8 +208,8 @@ pub record IsAnyKeyStep (key : KeyEvent) (s new : State) : Type 0 where
 -- what an event does
 abbrev pub IsEventStep : MadSkin → List LineContent → Event → State → State → Type 0
 IsEventStep skin text (Key key) s new = IsAnyKeyStep key s new
-IsEventStep skin text (Mouse mouse) s new = new ≡ record s { page = after_wheel mouse.kind s.page }
-IsEventStep skin text (Resize columns rows) s new = IsResized skin text columns rows s new
+IsEventStep skin text (Mouse mouse) s new = new ≡ record s { page = after_mouse mouse s.page }
+IsEventStep skin text (Resize columns rows) s new = new ≡ hears_size columns rows s
 IsEventStep skin text event s new = new ≡ s
 
 -- how the session goes on after what is asked for
@@ -151,9 +218,13 @@ turn_asked Size = AsksSize
 turn_asked Quit = Ends
 turn_asked ask = Goes
 
+-- how it goes on after a key while something is being typed: Control with `c` ends it then too
+abbrev pub turn_typed : KeyEvent → Turn
+turn_typed key = if is_break key then Ends else Goes
+
 -- how it goes on after a key
 abbrev pub turn_of_key : KeyEvent → State → Turn
-turn_of_key key s = if s.is_typing then Goes else turn_asked (after_key key s.page).ask
+turn_of_key key s = if s.is_typing then turn_typed key else turn_asked (after_key key s.page).ask
 
 -- how it goes on after an event
 abbrev pub turn_of : Event → State → Turn

@@ -4,11 +4,15 @@ ghost use Rattle.std.specs.Prelude.{◌≡◌, OnOk, IfOk, MatchResult, ℕ, Lis
 ghost use Rattle.mad_term.specs.Trace.{TookWith, Writes};
 ghost use Rattle.mad_pager.specs.Pictures.{picture_trace};
 ghost use Rattle.mad_pager.specs.Sessions.{state_of};
-ghost use Rattle.mad_pager.specs.Screens.{AreLinesShown, IsDrawing, IsFieldRow, IsLastRow, IsPicture, IsShown, IsUnshown, is_small, question};
+ghost use Rattle.mad_pager.specs.Screens.{AreHitsDrawn, AreLinesShown, ArePanesDrawn, IsDrawing, IsFieldRow, IsFieldShown, IsLastRow, IsPicture, IsShown, IsUnshown, is_small, question};
 
 use crate::picture::Picture;
-use crate::session::{Session, last_row, text_area};
+use crate::places::{field_row, prompt_cell, text_area};
+use crate::session::Session;
+use mad_draw::{Rows, draw_rows};
+use mad_hits::draw_hits;
 use mad_layout::draw_text_in;
+use mad_style::StyledChar;
 use mad_term::{Error, Out, put_all};
 use std::alloc::{AllocError, Global};
 use std::io;
@@ -62,14 +66,41 @@ impl Session<'_> {
         self.page.columns < LEAST_COLUMNS || self.page.rows < LEAST_ROWS
     }
 
-    // Draws the text beside its bar, and in the last row what is typed or the status.
+    // Draws the text beside its bar, in the last row what is typed or the status, and last what is sought once more, reversed.
     fn draw<O: Out>(&self, alloc: Global, out: &mut O) -> Result<(), Error>
         requires { is_small (state_of self.now) ≡ false }
         ensures { OnOk result (TookWith (O.seen out.old) (O.seen out.new) (IsDrawing self.now.text.skin.now self.now.name.now (state_of self.now))) }
     {
+        self.draw_panes(alloc, out)?;
+        self.draw_hits(alloc, out)?;
+        Ok(())
+    }
+
+    // Draws the text beside its bar, and in the last row what is typed or the status.
+    fn draw_panes<O: Out>(&self, alloc: Global, out: &mut O) -> Result<(), Error>
+        requires { is_small (state_of self.now) ≡ false }
+        ensures { OnOk result (TookWith (O.seen out.old) (O.seen out.new) (ArePanesDrawn self.now.text.skin.now self.now.name.now (state_of self.now))) }
+    {
         self.draw_lines(alloc, out)?;
         self.draw_last_row(alloc, out)?;
         Ok(())
+    }
+
+    // Draws what is sought once more, wherever it is on the screen.
+    fn draw_hits<O: Out>(&self, alloc: Global, out: &mut O) -> Result<(), Error>
+        ensures { OnOk result (TookWith (O.seen out.old) (O.seen out.new) (AreHitsDrawn self.now.text.skin.now (state_of self.now))) }
+    {
+        let lines = self.text.lines.as_slice();
+        let shown = &lines[self.page.top.min(lines.len())..];
+        draw_hits(
+            alloc,
+            out,
+            &self.text.skin.row_skin().with_links(),
+            shown,
+            self.page.columns.saturating_sub(1),
+            self.page.body_rows(),
+            self.sought.as_str(),
+        )
     }
 
     // Draws the text from its top row on, beside its bar, with links that one sees.
@@ -89,25 +120,48 @@ impl Session<'_> {
     {
         let is_typing = self.is_typing;
         if is_typing {
-            self.draw_field(out)?;
+            self.draw_typed(alloc, out)?;
             return Ok(());
         }
         self.draw_status(alloc, out)?;
         Ok(())
     }
 
-    // Draws what is typed.
-    fn draw_field<O: Out>(&self, out: &mut O) -> Result<(), Error>
+    // Draws a slash, and what is typed after it.
+    fn draw_typed<O: Out>(&self, alloc: Global, out: &mut O) -> Result<(), Error>
         ensures { OnOk result (TookWith (O.seen out.old) (O.seen out.new) (IsFieldRow (state_of self.now))) }
     {
+        draw_rows(alloc, out, &Prompt, &prompt_cell(self.page.rows))?;
+        self.draw_field(out)?;
+        Ok(())
+    }
+
+    // Draws what is typed.
+    fn draw_field<O: Out>(&self, out: &mut O) -> Result<(), Error>
+        ensures { OnOk result (TookWith (O.seen out.old) (O.seen out.new) (IsFieldShown (state_of self.now))) }
+    {
         // A session's field is in the last row of its screen.
-        let row = last_row(self.page.columns, self.page.rows);
+        let row = field_row(self.page.columns, self.page.rows);
         let is_there = *self.field.area() == row;
         if is_there {
             self.field.display_on(out)?;
             return Ok(());
         }
         Ok(())
+    }
+}
+
+// The slash before what is typed.
+struct Prompt;
+
+impl Rows for Prompt {
+    ghost use Rattle.mad_pager.specs.Screens.{prompt_row};
+
+    ghost pieces = { λ _ y. prompt_row y };
+
+    fn push_row(&self, bytes: &mut String, _y: u16) -> Result<(), AllocError> {
+        let slash = StyledChar::nude('/');
+        write!(bytes, "{slash}")
     }
 }
 

@@ -3,13 +3,20 @@
 //! In the order of the work:
 //!
 //! 1. [`session`]: the session, and what an event does.
-//! 2. [`status`]: the last row of the screen.
-//! 3. [`picture`]: bytes that are drawn in memory; [`drawing`]: the whole screen.
+//! 2. [`sizes`]: the size of the screen, and the text laid out for it.
+//! 3. [`typing`], [`finding`]: what is sought, and the rows that have it.
+//! 4. [`places`]: where all is on the screen; [`status`]: its last row.
+//! 5. [`picture`]: bytes that are drawn in memory; [`drawing`]: the whole screen.
 #![tactic(auto)]
 
 mod drawing;
+mod finding;
 mod picture;
+mod places;
 mod session;
+mod sizes;
 mod status;
+mod typing;
 
 pub use session::{Session, Turn};
+pub use sizes::ScreenSize;

@@ -7,7 +7,8 @@ ghost use Rattle.mad_layout.specs.RowSkins.{row_skin};
 ghost use Rattle.mad_pager.specs.Sessions.{state_of};
 ghost use Rattle.mad_pager.specs.Screens.{reversed_skin, sought_words, status_words, IsLineIn, IsStatus, IsStatusLine};
 
-use crate::session::{Session, last_row};
+use crate::places::last_row;
+use crate::session::Session;
 use mad_fit::{Area, Spacing};
 use mad_format::{Fitter, FmtComposite, FmtLine};
 use mad_layout::{FmtText, MadSkin, draw_text};

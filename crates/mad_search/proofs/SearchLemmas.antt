@@ -1,13 +1,14 @@
 -- Texts of lines, put together piece by piece, and rows that have a text, row by row.
-use Rattle.std.proofs.Common.{◌≡◌, ℕ, ◌+◌, ◌<◌, ◌≤◌, ◌==◌, min, Bool, true, false, List, [], ◌∷◌, ◌++◌, drop, length, get_or, Option, Some, None, MatchOption, unwrap_or, below_more, ap, sym, ◌∙◌, subst, inl, inr, arith, append_assoc}
+use Rattle.std.proofs.Common.{◌≡◌, ℕ, ◌+◌, ◌<◌, ◌≤◌, ◌==◌, min, Bool, true, false, List, [], ◌∷◌, ◌++◌, drop, length, get_or, Option, Some, None, MatchOption, below_more, ap, sym, ◌∙◌, subst, inl, inr, arith, append_assoc}
 use Rattle.std.specs.List.{flat_map}
 use Rattle.std.proofs.Math.Nat.{eq-or-lt_of_le}
 use Rattle.std.proofs.lemmas.List.{drop_more}
 use Rattle.std.proofs.lemmas.List.Concat.{flat_map-cons}
+use Rattle.std.proofs.lemmas.Bool.Decides.{nat_tests}
 use Rattle.std.proofs.lemmas.Option.{slice_get_past}
 use Rattle.mad_format.specs.declared.composite.FmtComposite.{FmtComposite}
 use Rattle.mad_format.specs.declared.line.FmtLine.{FmtLine}
-use Rattle.mad_search.specs.Searches.{composite_text, cells_text, HasText, NoneBetween, NoneFrom, IsFirstFrom, IsLastBefore, IsNextRow, IsPreviousRow}
+use Rattle.mad_search.specs.Searches.{composite_text, cells_text, HasText, NoneBetween, NoneFrom, IsFirstFrom, IsLastBefore, IsNextRow, IsNowhere, IsPreviousRow}
 
 -- a piece more is put after a text, of those that are left
 pub piece_put : {X : Type 0} (f : X → List ℕ) (xs : List X) (i : ℕ) (d : X) (whole text new : List ℕ) → i < length xs → text ++ flat_map f (drop i xs) ≡ whole → new ≡ text ++ f (get_or xs i d) → new ++ flat_map f (drop (i + 1) xs) ≡ whole
@@ -51,46 +52,42 @@ none_before sought lines row end before next none here r low high has =
 
 -- ---- around the ends
 
-not_empty : (s : List ℕ) (b : Bool) → b ≡ (length s == 0) → b ≡ false → ¬ (length s ≡ 0)
-not_empty s b is untrue e = let t : true ≡ false = sym (is ∙ ap (λ (n : ℕ). n == 0) e) ∙ untrue in absurd (cc)
+-- something is sought
+pub some_sought : (s : List ℕ) (b : Bool) → b ≡ (length s == 0) → b ≡ false → 0 < length s
+some_sought [] b is untrue = let t : true ≡ false = sym is ∙ untrue in absurd (cc)
+some_sought (c ∷ cs) b is untrue = omega arith
+
+is_zero : (n : ℕ) → (n == 0) ≡ true → n ≡ 0
+is_zero n h = grind (arith, nat_tests)
+
+-- nothing is
+pub none_sought : (s : List ℕ) (l : List FmtLine) (b : Bool) → b ≡ (length s == 0) → b ≡ true → IsNowhere s l
+none_sought s l b is so = inl (is_zero (length s) (sym is ∙ so))
 
 -- the next row is found after the row
-pub next_here : (s : List ℕ) (l : List FmtLine) (row from found : ℕ) (b : Bool) → b ≡ (length s == 0) → b ≡ false → from ≡ min row (length l) + 1 → IsFirstFrom s l from found → IsNextRow s l row found
-next_here s l row from found b is untrue at first =
-    let inside = row_within s l found first.has in
-    let low : min row (length l) + 1 ≤ found = subst (λ (n : ℕ). n ≤ found) at first.within in
-    let within : row + 1 ≤ found = omega (arith, inside, low) in
-    record {
-      nothing = λ e. absurd (not_empty s b is untrue e);
-      next = λ some. inl (record { within = within; has = first.has; none_before = λ r above high has. first.none_before r (omega (arith, at)) high has });
-    }
+pub next_here : (s : List ℕ) (l : List FmtLine) (from found : ℕ) → 0 < length s → IsFirstFrom s l from found → IsNextRow s l from (Some found)
+next_here s l from found some first = (some, inl first)
 
 -- or around the end, or nowhere
-pub next_around : (s : List ℕ) (l : List FmtLine) (row from found : ℕ) (o : Option ℕ) (b : Bool) → b ≡ (length s == 0) → b ≡ false → from ≡ min row (length l) + 1 → NoneFrom s l from
-    → MatchOption o (NoneFrom s l 0) (IsFirstFrom s l 0) → found ≡ unwrap_or o row → IsNextRow s l row found
-next_around s l row from found None b is untrue at none all e = record { nothing = λ e. absurd (not_empty s b is untrue e); next = λ some. inr (inr (all, e)) }
-next_around s l row from found (Some x) b is untrue at none first e = record {
-  nothing = λ e. absurd (not_empty s b is untrue e);
-  next = λ some. inr (inl (λ r above has. none r (omega (arith, at)) has, subst (IsFirstFrom s l 0) (sym e) first));
-}
+pub next_around : (s : List ℕ) (l : List FmtLine) (from : ℕ) (o : Option ℕ) → 0 < length s → NoneFrom s l from → MatchOption o (NoneFrom s l 0) (IsFirstFrom s l 0) → IsNextRow s l from o
+next_around s l from None some none all = inr all
+next_around s l from (Some x) some none first = (some, inr (none, first))
 
 -- the row before is found before the row
-pub previous_here : (s : List ℕ) (l : List FmtLine) (row end found : ℕ) (b : Bool) → b ≡ (length s == 0) → b ≡ false → end ≡ min row (length l) → IsLastBefore s l end found → IsPreviousRow s l row found
-previous_here s l row end found b is untrue at last = record {
-  nothing = λ e. absurd (not_empty s b is untrue e);
-  previous = λ some.
-      inl (record {
-        within = let low : found < min row (length l) = subst (λ (n : ℕ). found < n) at last.within in omega (arith, low);
-        has = last.has;
-        none_after = λ r above high has. last.none_after r above (let inside = row_within s l r has in omega (arith, at, inside)) has;
-      });
-}
+pub previous_here : (s : List ℕ) (l : List FmtLine) (row end found : ℕ) → 0 < length s → end ≡ min row (length l) → IsLastBefore s l end found → IsPreviousRow s l row (Some found)
+previous_here s l row end found some at last = (
+  some,
+  inl (record {
+    within = let low : found < min row (length l) = subst (λ (n : ℕ). found < n) at last.within in omega (arith, low);
+    has = last.has;
+    none_after = λ r above high has. last.none_after r above (let inside = row_within s l r has in omega (arith, at, inside)) has;
+  }),
+)
 
 -- or around the start, or nowhere
-pub previous_around : (s : List ℕ) (l : List FmtLine) (row end found : ℕ) (o : Option ℕ) (b : Bool) → b ≡ (length s == 0) → b ≡ false → end ≡ min row (length l) → NoneBetween s l 0 end
-    → MatchOption o (NoneBetween s l 0 (length l)) (IsLastBefore s l (length l)) → found ≡ unwrap_or o row → IsPreviousRow s l row found
-previous_around s l row end found None b is untrue at none all e = record { nothing = λ e. absurd (not_empty s b is untrue e); previous = λ some. inr (inr (all, e)) }
-previous_around s l row end found (Some x) b is untrue at none last e = record {
-  nothing = λ e. absurd (not_empty s b is untrue e);
-  previous = λ some. inr (inl (λ r above high has. none r above (let inside = row_within s l r has in omega (arith, at, inside)) has, subst (IsLastBefore s l (length l)) (sym e) last));
-}
+pub previous_around : (s : List ℕ) (l : List FmtLine) (row end : ℕ) (o : Option ℕ) → 0 < length s → end ≡ min row (length l) → NoneBetween s l 0 end → MatchOption o (NoneBetween s l 0 (length l)) (IsLastBefore s l (length l)) → IsPreviousRow s l row o
+previous_around s l row end None some at none all = inr (λ r low has. all r low (let inside = row_within s l r has in omega (arith, inside)) has)
+previous_around s l row end (Some x) some at none last = (
+  some,
+  inr (λ r above high has. none r above (let inside = row_within s l r has in omega (arith, at, inside)) has, last),
+)

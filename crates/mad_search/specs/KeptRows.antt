@@ -1,5 +1,5 @@
--- Which row stays on top where the width changes.
-use Rattle.std.specs.Prelude.{◌≡◌, ◌≢◌, ℕ, ◌+◌, ◌-◌, nat_le, min, max, List, [], ◌∷◌, length, count_by, Some, slice_index}
+-- Where the parts of a text begin in its layout, and which row stays on top where the width changes.
+use Rattle.std.specs.Prelude.{◌≡◌, ℕ, ◌+◌, ◌-◌, nat_le, min, max, List, [], ◌∷◌, length, count_by, Some, slice_index}
 use Rattle.mad_md.specs.Lines.{LineContent}
 use Rattle.mad_format.specs.LineRules.{LineRules}
 use Rattle.mad_format.specs.declared.line.FmtLine.{FmtLine}
@@ -25,9 +25,3 @@ abbrev pub row_in_parts : List ℕ → List ℕ → ℕ → ℕ
 row_in_parts old new row =
     let part = part_of old row in
     min (slice_index new part + (row - slice_index old part)) (max (slice_index new (part + 1) - 1) (slice_index new part))
-
--- The row that is kept on top where a text is laid out at another width; at the same width it is the same.
-pub record IsKeptRow (rules : LineRules) (text : List LineContent) (old_width new_width row kept : ℕ) : Type 0 where
-  pub same : old_width ≡ new_width → kept ≡ row
-  pub other : old_width ≢ new_width
-      → (old : List ℕ) × (new : List ℕ) × ArePartStarts rules old_width text old × ArePartStarts rules new_width text new × (kept ≡ row_in_parts old new row)

@@ -1,3 +1,5 @@
+pub mod Capitals
+pub mod Headers
 pub mod KeptRows
 pub mod PagedTexts
 pub mod Searches

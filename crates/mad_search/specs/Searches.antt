@@ -1,7 +1,8 @@
 -- Which row of a laid out text has what is sought.
-use Rattle.std.specs.Prelude.{◌≡◌, ◌⊎◌, ℕ, ◌+◌, ◌<◌, ◌≤◌, List, [], ◌∷◌, ◌++◌, length, slice_get, Some}
+use Rattle.std.specs.Prelude.{◌≡◌, ◌⊎◌, ℕ, ◌+◌, ◌<◌, ◌≤◌, List, [], ◌∷◌, ◌++◌, length, slice_get, Option, Some, None}
 use Rattle.std.specs.List.{flat_map}
 use Rattle.std.specs.Str.Iter.{HasSubslice}
+use Rattle.mad_search.specs.Capitals.{compared}
 use Rattle.mad_md.specs.declared.compound.Compound.{Compound}
 use Rattle.mad_format.specs.declared.composite.FmtComposite.{FmtComposite}
 use Rattle.mad_format.specs.declared.line.FmtLine.{FmtLine}
@@ -25,7 +26,7 @@ line_text _ = []
 pub record HasText (sought : List ℕ) (lines : List FmtLine) (row : ℕ) : Type 0 where
   pub line : FmtLine
   pub is : slice_get lines row ≡ Some line
-  pub has : HasSubslice (line_text line) sought
+  pub has : HasSubslice (compared sought (line_text line)) sought
 
 -- no row has it from this one on, up to that one
 abbrev pub NoneBetween : List ℕ → List FmtLine → ℕ → ℕ → Type 0
@@ -47,19 +48,18 @@ pub record IsLastBefore (sought : List ℕ) (lines : List FmtLine) (end found : 
   pub has : HasText sought lines found
   pub none_after : NoneBetween sought lines (found + 1) end
 
--- The row that has what is sought and comes next after this one, around the text's end. Where none has it, or nothing is sought, it is the row
--- itself.
-pub record IsNextRow (sought : List ℕ) (lines : List FmtLine) (row found : ℕ) : Type 0 where
-  pub nothing : length sought ≡ 0 → found ≡ row
-  pub next : 0 < length sought
-      → IsFirstFrom sought lines (row + 1) found
-      ⊎ ((NoneFrom sought lines (row + 1) × IsFirstFrom sought lines 0 found)
-      ⊎ (NoneFrom sought lines 0 × (found ≡ row)))
+-- nothing is sought, or no row has it
+abbrev pub IsNowhere : List ℕ → List FmtLine → Type 0
+IsNowhere sought lines = (length sought ≡ 0) ⊎ NoneFrom sought lines 0
 
--- The row that has it and comes next before this one, around the text's start; else the row itself.
-pub record IsPreviousRow (sought : List ℕ) (lines : List FmtLine) (row found : ℕ) : Type 0 where
-  pub nothing : length sought ≡ 0 → found ≡ row
-  pub previous : 0 < length sought
-      → IsLastBefore sought lines row found
-      ⊎ ((NoneBetween sought lines 0 row × IsLastBefore sought lines (length lines) found)
-      ⊎ (NoneBetween sought lines 0 (length lines) × (found ≡ row)))
+-- The row that has what is sought and comes next from this one on, around the text's end, if there is one.
+abbrev pub IsNextRow : List ℕ → List FmtLine → ℕ → Option ℕ → Type 0
+IsNextRow sought lines from None = IsNowhere sought lines
+IsNextRow sought lines from (Some row) =
+    (0 < length sought) × (IsFirstFrom sought lines from row ⊎ (NoneFrom sought lines from × IsFirstFrom sought lines 0 row))
+
+-- The row that has it and comes next before this one, around the text's start, if there is one.
+abbrev pub IsPreviousRow : List ℕ → List FmtLine → ℕ → Option ℕ → Type 0
+IsPreviousRow sought lines end None = IsNowhere sought lines
+IsPreviousRow sought lines end (Some row) =
+    (0 < length sought) × (IsLastBefore sought lines end row ⊎ (NoneBetween sought lines 0 end × IsLastBefore sought lines (length lines) row))

@@ -1,14 +1,19 @@
 //! A text that is paged, and rows of it that are looked for.
 //!
 //! 1. [`paged`]: the text, laid out.
-//! 2. [`search`]: which row has a text.
-//! 3. [`kept`]: which row stays on top where the width changes.
+//! 2. [`letters`], [`search`]: which row has what is sought.
+//! 3. [`headers`]: which rows begin a header.
+//! 4. [`kept`]: which row stays on top where the width changes.
 #![tactic(auto)]
 
+mod headers;
 mod kept;
+mod letters;
 mod paged;
 mod search;
 
-pub use kept::kept_row;
-pub use paged::PagedText;
-pub use search::{has_text_at, next_row, previous_row};
+pub use headers::{next_header, previous_header};
+pub use kept::row_in_parts;
+pub use letters::{has_capital, small};
+pub use paged::{Layout, PagedText};
+pub use search::{next_row, previous_row};

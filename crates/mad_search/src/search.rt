@@ -2,13 +2,15 @@
 
 ghost use Rattle.std.specs.Prelude.{◌≡◌, ◌++◌, IfOk, OnOk, IsTrue, ◌↔◌, MatchOption, string_bytes, length, ◌<◌, ◌≤◌};
 ghost use Rattle.std.specs.Str.Iter.{HasSubslice};
+ghost use Rattle.mad_search.specs.Capitals.{compared};
 ghost use Rattle.mad_search.specs.Searches.{composite_text, line_text, cells_text, HasText, IsFirstFrom, IsLastBefore, IsNextRow, IsPreviousRow, NoneBetween, NoneFrom};
 
+use crate::letters::compared;
 use mad_format::{FmtComposite, FmtLine};
 use std::alloc::{AllocError, Global};
 
-/// The row that has what is sought and comes next after the one of this index, around the end of the text. Where none has it, or nothing is
-/// sought, it is the row itself.
+/// The row that has what is sought and comes next from the one of this index on, around the end of the text. None, where no row has it, or
+/// nothing is sought.
 ///
 /// # Errors
 ///
@@ -17,23 +19,23 @@ pub fn next_row(
     alloc: Global,
     lines: &[FmtLine],
     sought: &str,
-    row: usize,
-) -> Result<usize, AllocError>
-    ensures { IfOk result (λ found. IsNextRow sought.now lines.now row found) }
+    from: usize,
+) -> Result<Option<usize>, AllocError>
+    ensures { IfOk result (IsNextRow sought.now lines.now from) }
 {
     if sought.is_empty() {
-        return Ok(row);
+        return Ok(None);
     }
-    let after = first_row(alloc, lines, sought, row.min(lines.len()) + 1)?;
+    let after = first_row(alloc, lines, sought, from)?;
     if let Some(found) = after {
-        return Ok(found);
+        return Ok(Some(found));
     }
     let around = first_row(alloc, lines, sought, 0)?;
-    Ok(around.unwrap_or(row))
+    Ok(around)
 }
 
-/// The row that has what is sought and comes next before the one of this index, around the start of the text. Where none has it, or nothing
-/// is sought, it is the row itself.
+/// The row that has what is sought and comes next before the one of this index, around the start of the text. None, where no row has it,
+/// or nothing is sought.
 ///
 /// # Errors
 ///
@@ -42,27 +44,23 @@ pub fn previous_row(
     alloc: Global,
     lines: &[FmtLine],
     sought: &str,
-    row: usize,
-) -> Result<usize, AllocError>
-    ensures { IfOk result (λ found. IsPreviousRow sought.now lines.now row found) }
+    end: usize,
+) -> Result<Option<usize>, AllocError>
+    ensures { IfOk result (IsPreviousRow sought.now lines.now end) }
 {
     if sought.is_empty() {
-        return Ok(row);
+        return Ok(None);
     }
-    let before = last_row(alloc, lines, sought, row.min(lines.len()))?;
+    let before = last_row(alloc, lines, sought, end.min(lines.len()))?;
     if let Some(found) = before {
-        return Ok(found);
+        return Ok(Some(found));
     }
     let around = last_row(alloc, lines, sought, lines.len())?;
-    Ok(around.unwrap_or(row))
+    Ok(around)
 }
 
-/// Whether the row of an index has a text. Past the last row none has it.
-///
-/// # Errors
-///
-/// Out of memory is the only error.
-pub fn has_text_at(
+// Whether the row of an index has what is sought. Past the last row none has it.
+fn has_text_at(
     alloc: Global,
     lines: &[FmtLine],
     sought: &str,
@@ -116,11 +114,12 @@ fn last_row(
     Ok(None)
 }
 
-// Whether a line has a text.
+// Whether a line has what is sought.
 fn has_text(alloc: Global, line: &FmtLine, sought: &str) -> Result<bool, AllocError>
-    ensures { IfOk result (λ has. IsTrue has ↔ HasSubslice (line_text line.now) sought.now) }
+    ensures { IfOk result (λ has. IsTrue has ↔ HasSubslice (compared sought.now (line_text line.now)) sought.now) }
 {
     let text = line_text(alloc, line)?;
+    let text = compared(alloc, sought, text)?;
     Ok(contains(text.as_str(), sought))
 }
 

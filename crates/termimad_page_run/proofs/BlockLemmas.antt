@@ -8,11 +8,11 @@ use Rattle.mad_keys.specs.Readings.{listed, lone_escape}
 use Rattle.mad_keys.specs.Keys.{escape_key}
 use Rattle.mad_layout.specs.declared.skin.MadSkin.{MadSkin}
 use Rattle.mad_md.specs.Lines.{LineContent}
-use Rattle.mad_pager.specs.Sessions.{State, IsEventStep, HasSameText, asks_size, ends, turn_of}
+use Rattle.mad_pager.specs.Sessions.{State, IsEventStep, IsSettled, HasSameText, asks_size, ends, turn_of}
 use Rattle.mad_pager.specs.declared.session.Session.{Session}
 use Rattle.mad_pager.specs.declared.session.Turn.{Turn}
 use Rattle.mad_pager.specs.declared.session.Turn.TheVariants.{Goes, AsksSize, Ends}
-use Rattle.termimad_page_run.specs.Blocks.{IsToldStep, IsToldDone, turn_told, IsSession, IsBlockDone, IsEndedIn}
+use Rattle.termimad_page_run.specs.Blocks.{IsToldStep, IsToldDone, turn_told, IsSession, AreEventsDone, IsEndedIn}
 
 -- ---- how a session goes on
 
@@ -31,6 +31,9 @@ same_text a b c h k = record { name = k.name ∙ h.name; source = k.source ∙ h
 pub step_along : (skin dress : MadSkin) (lines text : List LineContent) (told : Option Event) (s new : State) → dress ≡ skin → text ≡ lines → IsToldStep dress text told s new → IsToldStep skin lines told s new
 step_along skin dress lines text told s new e k h =
     subst (λ (d : MadSkin). IsToldStep d lines told s new) e (subst (λ (m : List LineContent). IsToldStep dress m told s new) k h)
+
+pub settled_along : (skin dress : MadSkin) (lines text : List LineContent) (s new : State) → dress ≡ skin → text ≡ lines → IsSettled dress text s new → IsSettled skin lines s new
+settled_along skin dress lines text s new e k h = subst (λ (d : MadSkin). IsSettled d lines s new) e (subst (λ (m : List LineContent). IsSettled dress m s new) k h)
 
 -- ---- bytes
 
@@ -143,7 +146,7 @@ byte_read w block i events left told new inside read gives =
 
 -- all of a block is read, and no pause comes
 pub block_read : (skin : MadSkin) (lines : List LineContent) (w block : List ℕ) (i : ℕ) (s : State) (events : List Event) (left : List ℕ) (asks : Bool) (new : State) (pauses answer : Bool)
-    → length block ≤ i → pauses ≡ false → BytesGive w (take i block) events left → IsSession skin lines s events asks new → answer ≡ asks → IsBlockDone skin lines w block pauses s left answer new
+    → length block ≤ i → pauses ≡ false → BytesGive w (take i block) events left → IsSession skin lines s events asks new → answer ≡ asks → AreEventsDone skin lines w block pauses s left answer new
 block_read skin lines w block i s events left asks new pauses answer past unpaused read done same = record {
   events = events;
   told = record {
@@ -161,7 +164,7 @@ block_read skin lines w block i s events left asks new pauses answer past unpaus
 -- or one comes
 pub block_paused : (skin : MadSkin) (lines : List LineContent) (w block : List ℕ) (i : ℕ) (s : State) (events : List Event) (left : List ℕ) (asks : Bool) (mid : State) (pauses answer : Bool) (told : Option Event) (after : List ℕ) (new : State)
     → length block ≤ i → pauses ≡ true → BytesGive w (take i block) events left → IsSession skin lines s events asks mid → answer ≡ asks → PauseGives left told after → IsToldDone skin lines told mid new
-    → IsBlockDone skin lines w block pauses s after answer new
+    → AreEventsDone skin lines w block pauses s after answer new
 block_paused skin lines w block i s events left asks mid pauses answer told after new past paused read done same gives step = record {
   events = events ++ listed told;
   told = record {

@@ -13,7 +13,7 @@ use Rattle.mad_md.specs.Lines.{LineContent}
 use Rattle.mad_search.specs.PagedTexts.{paged_lines}
 use Rattle.mad_search.specs.declared.paged.PagedText.{PagedText}
 use Rattle.mad_pager.specs.Screens.{IsOrderly, IsShown}
-use Rattle.mad_pager.proofs.OrderLemmas.{event_order, start_order}
+use Rattle.mad_pager.proofs.OrderLemmas.{event_order, settled_order, start_order}
 use Rattle.mad_pager.specs.Sessions.{State, HasSameText, IsStart, state_of}
 use Rattle.mad_pager.specs.declared.session.Session.{Session}
 use Rattle.termimad_page_run.specs.Blocks.{IsBlockDone, IsSession}
@@ -73,7 +73,8 @@ session_order skin markdown (event ∷ events) s asks new (mid, others, step, go
 pub turn_order : (old new : Session) (block : List ℕ) (before after : Moment) → HasSameText old new → IsTurn (paged_of old) block before after → IsOrderly new.text.skin.now (paged_lines new.source) after.state
 turn_order old new block before after same turn =
     let done = turn.done in
-    let orderly = session_order old.text.skin.now (paged_lines old.source) done.events before.state after.asks after.state done.session turn.orderly in
+    let told = session_order old.text.skin.now (paged_lines old.source) done.1.events before.state after.asks done.0 done.1.session turn.orderly in
+    let orderly = settled_order old.text.skin.now (paged_lines old.source) done.0 after.state done.2 told in
     subst (λ (skin : MadSkin). IsOrderly skin (paged_lines new.source) after.state) (sym same.skin) (subst (λ (text : PagedText). IsOrderly old.text.skin.now (paged_lines text) after.state) (sym same.source) orderly)
 
 -- the start is orderly

@@ -5,7 +5,7 @@ use Rattle.mad_md.specs.Lines.{LineContent}
 use Rattle.mad_keys.specs.Decoding.{BytesGive, PauseGives}
 use Rattle.mad_keys.specs.Readings.{listed}
 use Rattle.mad_layout.specs.declared.skin.MadSkin.{MadSkin}
-use Rattle.mad_pager.specs.Sessions.{State, IsEventStep, asks_size, turn_of}
+use Rattle.mad_pager.specs.Sessions.{State, IsEventStep, IsSettled, asks_size, turn_of}
 use Rattle.mad_pager.specs.declared.session.Turn.{Turn}
 use Rattle.mad_pager.specs.declared.session.Turn.TheVariants.{Goes, Ends}
 
@@ -45,10 +45,14 @@ IsSession skin text s (event ∷ events) asks new =
     × IsSession skin text mid events others new
 
 -- The events of a block are done, and none of them ends the session; and whether one of them asks for the size of the screen.
-pub record IsBlockDone (skin : MadSkin) (text : List LineContent) (w block : List ℕ) (pauses : Bool) (s : State) (left : List ℕ) (asks : Bool) (new : State) : Type 0 where
+pub record AreEventsDone (skin : MadSkin) (text : List LineContent) (w block : List ℕ) (pauses : Bool) (s : State) (left : List ℕ) (asks : Bool) (new : State) : Type 0 where
   pub events : List Event
   pub told : IsBlockTold w block pauses events left
   pub session : IsSession skin text s events asks new
+
+-- They are done, and then the text is laid out once, for the last size that the terminal told, if it told one.
+abbrev pub IsBlockDone : MadSkin → List LineContent → List ℕ → List ℕ → Bool → State → List ℕ → Bool → State → Type 0
+IsBlockDone skin text w block pauses s left asks new = (mid : State) × AreEventsDone skin text w block pauses s left asks mid × IsSettled skin text mid new
 
 -- The events of the front of a block are done, and the last of them ends the session. The rest of the block isn't read.
 pub record IsEndedIn (skin : MadSkin) (text : List LineContent) (w block : List ℕ) (s : State) : Type 0 where

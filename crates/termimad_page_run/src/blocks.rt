@@ -5,15 +5,15 @@ ghost use Rattle.mad_term.specs.declared.events.Event.{Event};
 ghost use Rattle.mad_keys.specs.Decoding.{PauseGives};
 ghost use Rattle.mad_pager.specs.Sessions.{asks_size, state_of, HasSameText};
 ghost use Rattle.mad_search.specs.PagedTexts.{paged_lines};
-ghost use Rattle.termimad_page_run.specs.Blocks.{IsBlockDone, IsEndedIn, IsToldDone, IsToldStep, turn_told};
+ghost use Rattle.termimad_page_run.specs.Blocks.{AreEventsDone, IsBlockDone, IsEndedIn, IsToldDone, IsToldStep, turn_told};
 
 use mad_keys::Keys;
 use mad_pager::{Session, Turn};
 use mad_term::Event;
 use std::alloc::{AllocError, Global};
 
-/// Does what the events of a block say, in order, and no more after one that ends the session. Then comes a pause, if there is one. If an
-/// event asks for the size of the screen, so does the answer.
+/// Does what the events of a block say, in order, and no more after one that ends the session. Then comes a pause, if there is one. Last the
+/// text is laid out for the size that the terminal told, if it told one. If an event asks for the size of the screen, so does the answer.
 ///
 /// # Errors
 ///
@@ -26,6 +26,23 @@ pub(crate) fn apply_block(
     pauses: bool,
 ) -> Result<Turn, AllocError>
     ensures goes { IfOk result (λ turn. turn ≢ Turn.Ends → IsBlockDone session.old.text.skin.now (paged_lines session.old.source) keys.old block.now pauses (state_of session.old) keys.new (asks_size turn) (state_of session.new)) }
+    ensures ends { IfOk result (λ turn. turn ≡ Turn.Ends → IsEndedIn session.old.text.skin.now (paged_lines session.old.source) keys.old block.now (state_of session.old)) }
+    ensures text { OnOk result (HasSameText session.old session.new) }
+{
+    let turn = apply_events(alloc, session, keys, block, pauses)?;
+    session.settle(alloc)?;
+    Ok(turn)
+}
+
+// Does what the events of a block say.
+fn apply_events(
+    alloc: Global,
+    session: &mut Session,
+    keys: &mut Keys,
+    block: &[u8],
+    pauses: bool,
+) -> Result<Turn, AllocError>
+    ensures goes { IfOk result (λ turn. turn ≢ Turn.Ends → AreEventsDone session.old.text.skin.now (paged_lines session.old.source) keys.old block.now pauses (state_of session.old) keys.new (asks_size turn) (state_of session.new)) }
     ensures ends { IfOk result (λ turn. turn ≡ Turn.Ends → IsEndedIn session.old.text.skin.now (paged_lines session.old.source) keys.old block.now (state_of session.old)) }
     ensures text { OnOk result (HasSameText session.old session.new) }
 {

@@ -11,8 +11,12 @@ use termimad_page_run::{Grammar, Sheet, run};
 const SIZE_QUESTION: &[u8] = b"\x1b[999;999H\x1b[6n";
 
 /// What a session shows. The call has the columns and rows of the screen, and the name, after the word `markdown` where the text is read as
-/// people write Markdown. The text comes first, then a line `==`, and a block a line.
+/// people write Markdown. With the word `pens` before these each picture is shown once more as letters of its pens. The text comes first, then a line `==`, and a block a line.
 pub fn shown(alloc: Global, call: &str, text: &str) -> Result<String, AllocError> {
+    let (pens, call) = match call.strip_prefix("pens ") {
+        Some(call) => (true, call),
+        None => (false, call),
+    };
     let (grammar, call) = match call.strip_prefix("markdown ") {
         Some(call) => (Grammar::Markdown, call),
         None => (Grammar::Lines, call),
@@ -36,7 +40,12 @@ pub fn shown(alloc: Global, call: &str, text: &str) -> Result<String, AllocError
     let mut out = Pictures::new(alloc);
     let ended = run(alloc, &sheet, &mut Blocks::new(blocks), &mut out);
     let mut answer = String::new(alloc);
-    push_pictures(&mut answer, (columns, rows), blocks, &out)?;
+    let setting = Setting {
+        size: (columns, rows),
+        blocks,
+        pens,
+    };
+    push_pictures(&mut answer, setting, &out)?;
     match ended {
         Ok(()) => answer.push_str("ended\n")?,
         Err(Error::Memory) => return Err(AllocError),
@@ -45,20 +54,30 @@ pub fn shown(alloc: Global, call: &str, text: &str) -> Result<String, AllocError
     Ok(answer)
 }
 
-// The character that a sign means: a form feed, which is Control-L, and what the key Backspace sends.
+// The character that a sign means: what the key Backspace sends, and a letter with Control.
 fn meant(sign: char) -> char {
     match sign {
-        '␌' => '\u{c}',
         '␈' => '\u{7f}',
+        '␁'..='␚' => char::from((sign as u32 - 0x2400) as u8),
         _ => sign,
     }
 }
 
-// The sign of such a character.
+// The sign of such a character. Tabs, newlines and carriage returns are as they stand.
 fn sign_of(c: char) -> char {
     match c {
-        '\u{c}' => '␌',
         '\u{7f}' => '␈',
+        '\u{1}' => '␁',
+        '\u{2}' => '␂',
+        '\u{3}' => '␃',
+        '\u{4}' => '␄',
+        '\u{5}' => '␅',
+        '\u{6}' => '␆',
+        '\u{c}' => '␌',
+        '\u{e}' => '␎',
+        '\u{10}' => '␐',
+        '\u{15}' => '␕',
+        '\u{19}' => '␙',
         _ => c,
     }
 }
@@ -67,15 +86,18 @@ fn number(word: Option<&str>) -> u16 {
     word.and_then(|word| word.parse().ok()).unwrap_or(0)
 }
 
-// The picture before the first block, and that after each, under the block.
-fn push_pictures(
-    answer: &mut String,
+// How pictures are shown: at a size first, after which blocks, and whether with their pens.
+#[derive(Clone, Copy)]
+struct Setting<'b> {
     size: (u16, u16),
-    blocks: &str,
-    out: &Pictures,
-) -> Result<(), AllocError> {
-    let mut screen = Screen::new(*answer.allocator(), size.0, size.1)?;
-    let mut blocks = blocks.split('\n');
+    blocks: &'b str,
+    pens: bool,
+}
+
+// The picture before the first block, and that after each, under the block.
+fn push_pictures(answer: &mut String, setting: Setting, out: &Pictures) -> Result<(), AllocError> {
+    let mut screen = Screen::new(*answer.allocator(), setting.size.0, setting.size.1)?;
+    let mut blocks = setting.blocks.split('\n');
     for (index, picture) in out.each().iter().enumerate() {
         if index > 0 {
             let block = blocks.next().unwrap_or("");
@@ -88,6 +110,10 @@ fn push_pictures(
             }
         }
         push_picture(answer, &mut screen, picture.as_slice())?;
+        if setting.pens {
+            let looks = screen.looks()?;
+            write!(answer, "{looks}")?;
+        }
     }
     Ok(())
 }
@@ -112,11 +138,18 @@ fn push_picture(
     }
 }
 
-// The columns and rows that a block tells, if it tells them alone.
+// The columns and rows that a block tells last, of a million cells at most, if it tells some.
 fn size_told(block: &str) -> Option<(u16, u16)> {
-    let (rows, columns) = block
-        .strip_prefix("\u{1b}[")?
-        .strip_suffix('R')?
-        .split_once(';')?;
-    Some((columns.parse().ok()?, rows.parse().ok()?))
+    block.rsplit("\u{1b}[").find_map(size_in)
+}
+
+// The size that is told after `ESC [`, if one is.
+fn size_in(sequence: &str) -> Option<(u16, u16)> {
+    let (size, _) = sequence.split_once('R')?;
+    let (rows, columns) = size.split_once(';')?;
+    let size: (u16, u16) = (columns.parse().ok()?, rows.parse().ok()?);
+    if u32::from(size.0) * u32::from(size.1) > 1_000_000 {
+        return None;
+    }
+    Some(size)
 }

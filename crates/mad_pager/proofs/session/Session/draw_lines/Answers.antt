@@ -5,7 +5,8 @@ use Rattle.mad_draw.specs.DrawnRows.{AreRowsShown}
 use Rattle.mad_pager.specs.Screens.{KeepsTextPremises, area_of, paged_skin, text_pane}
 use Rattle.mad_pager.specs.Sessions.{state_of}
 use Rattle.mad_rows.specs.RowStyles.{with_links}
-use Rattle.mad_pager.proofs.DrawnLemmas.{known, lines_shown, not_small}
+use Rattle.mad_pager.proofs.DrawnLemmas.{lines_shown, not_small}
+use Rattle.mad_hits.proofs.TookLemmas.{known}
 use Rattle.mad_pager.proofs.session.Session.draw_lines.Goals as goal
 
 pub draw_text_in-requires : goal.draw_text_in-requires

@@ -1,0 +1,5 @@
+pub mod DrawnHits
+pub mod HitLemmas
+pub mod LineLemmas
+pub mod MatchLemmas
+pub mod TookLemmas

@@ -1,0 +1,46 @@
+-- Hits drawn over the rows of an area that begins in the screen's first column and row.
+use Rattle.std.specs.Prelude.{◌≡◌, ℕ, ◌+◌, ◌≤◌, List, [], ◌∷◌, ◌++◌, map}
+use Rattle.mad_fit.specs.TextColumns.{columns}
+use Rattle.mad_fit.specs.declared.area.Area.{Area}
+use Rattle.mad_style.specs.StyledChars.{char_alone}
+use Rattle.mad_draw.specs.DrawnRows.{AreRowsShown, FillArea}
+use Rattle.mad_draw.specs.Pieces.{RowPiece, char_piece}
+use Rattle.mad_format.specs.declared.line.FmtLine.{FmtLine}
+use Rattle.mad_rows.specs.declared.row_skin.RowSkin.{RowSkin}
+use Rattle.mad_hits.specs.Hits.{Marked, AreHits, marked_of}
+use Rattle.mad_hits.specs.declared.hits.Hit.{Hit}
+
+-- the columns that a hit takes
+abbrev pub marked_columns : Marked → ℕ
+marked_columns hit = columns (map char_alone hit.chars)
+
+-- the cells of a hit in a row of the screen
+abbrev pub hit_area : ℕ → Marked → Area
+hit_area y hit = record { left = hit.column; top = y; width = marked_columns hit; height = 1 }
+
+-- its characters, each a piece
+abbrev pub hit_row : Marked → ℕ → List RowPiece
+hit_row hit y = map char_piece hit.chars
+
+-- These bytes show a hit in its cells, where they are within the row's columns and each character takes some. They change no other cell.
+abbrev pub IsHitShown : ℕ → ℕ → Marked → List ℕ → Type 0
+IsHitShown width y hit bytes =
+    hit.column + marked_columns hit ≤ width → FillArea (hit_row hit) (hit_area y hit) → AreRowsShown (hit_row hit) (hit_area y hit) bytes
+
+-- the bytes of hits of a row, one after the other
+abbrev pub AreHitsShown : ℕ → ℕ → List Marked → List ℕ → Type 0
+AreHitsShown width y [] bytes = bytes ≡ []
+AreHitsShown width y (hit ∷ hits) bytes =
+    (first : List ℕ) × (others : List ℕ) × (bytes ≡ first ++ others) × IsHitShown width y hit first × AreHitsShown width y hits others
+
+-- the bytes of the hits of what is sought in a line, in row y, of `width` columns
+pub record IsLineMarked (skin : RowSkin) (width : ℕ) (sought : List ℕ) (y : ℕ) (line : FmtLine) (bytes : List ℕ) : Type 0 where
+  pub hits : List Hit
+  pub are : AreHits skin width sought line hits
+  pub shown : AreHitsShown width y (map marked_of hits) bytes
+
+-- the bytes of those in lines, from row y on
+abbrev pub AreLinesMarked : RowSkin → ℕ → List ℕ → ℕ → List FmtLine → List ℕ → Type 0
+AreLinesMarked skin width sought y [] bytes = bytes ≡ []
+AreLinesMarked skin width sought y (line ∷ lines) bytes =
+    (first : List ℕ) × (others : List ℕ) × (bytes ≡ first ++ others) × IsLineMarked skin width sought y line first × AreLinesMarked skin width sought (y + 1) lines others

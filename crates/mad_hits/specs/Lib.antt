@@ -1,0 +1,4 @@
+pub mod Drawn
+pub mod Hits
+pub mod Matches
+pub mod Styled

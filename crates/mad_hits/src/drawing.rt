@@ -1,0 +1,116 @@
+//! Hits, drawn over rows that were drawn before.
+
+ghost use Rattle.std.specs.Prelude.{◌+◌, ◌<◌, ◌^◌, OnOk, take};
+ghost use Rattle.mad_term.specs.Trace.{TookWith};
+ghost use Rattle.mad_style.specs.StyledChars.{char_style};
+ghost use Rattle.mad_term.specs.Styles.{IsStyle};
+ghost use Rattle.mad_hits.specs.Drawn.{IsLineMarked, AreLinesMarked, IsHitShown};
+ghost use Rattle.mad_hits.specs.Hits.{marked_of};
+
+use crate::hits::{Hit, columns_of, hits_in};
+use mad_draw::{Rows, draw_rows};
+use mad_fit::Area;
+use mad_format::FmtLine;
+use mad_rows::RowSkin;
+use mad_style::StyledChar;
+use mad_term::{Error, Out};
+use std::alloc::{AllocError, Global};
+
+/// Draws the hits of what is sought over lines that were drawn in the rows of an area. The first one is in its first row, and each has as many
+/// columns as its rows are laid out at. Nothing is flushed.
+///
+/// # Errors
+///
+/// A fault of the device, or out of memory. What went out by then is a beginning of the whole.
+pub fn draw_hits<O: Out>(
+    alloc: Global,
+    out: &mut O,
+    skin: &RowSkin,
+    lines: &[FmtLine],
+    width: u16,
+    height: u16,
+    sought: &str,
+) -> Result<(), Error>
+    ensures { OnOk result (TookWith (O.seen out.old) (O.seen out.new) (AreLinesMarked skin.now width sought.now 0 (take height lines.now))) }
+{
+    let shown = &lines[..usize::from(height).min(lines.len())];
+    let mut y: u16 = 0;
+    for line in shown {
+        draw_line_hits(alloc, out, skin, line, width, y, sought)?;
+        y = y.saturating_add(1);
+    }
+    Ok(())
+}
+
+// Draws those of one line.
+fn draw_line_hits<O: Out>(
+    alloc: Global,
+    out: &mut O,
+    skin: &RowSkin,
+    line: &FmtLine,
+    width: u16,
+    y: u16,
+    sought: &str,
+) -> Result<(), Error>
+    requires { y + 1 < 2 ^ 16 }
+    ensures { OnOk result (TookWith (O.seen out.old) (O.seen out.new) (IsLineMarked skin.now width sought.now y line.now)) }
+{
+    let hits = hits_in(alloc, skin, line, usize::from(width), sought)?;
+    for hit in &hits {
+        draw_hit(alloc, out, hit, width, y)?;
+    }
+    Ok(())
+}
+
+// Draws a hit, where it is within the columns.
+fn draw_hit<O: Out>(alloc: Global, out: &mut O, hit: &Hit, width: u16, y: u16) -> Result<(), Error>
+    requires { y + 1 < 2 ^ 16 }
+    ensures { OnOk result (TookWith (O.seen out.old) (O.seen out.new) (IsHitShown width y (marked_of hit.now))) }
+{
+    let columns = columns_of(hit.chars.as_slice());
+    if hit.column.saturating_add(columns) > usize::from(width) {
+        return Ok(());
+    }
+    let area = Area {
+        left: hit.column as u16,
+        top: y,
+        width: columns as u16,
+        height: 1,
+    };
+    draw_rows(
+        alloc,
+        out,
+        &Chars {
+            chars: hit.chars.as_slice(),
+        },
+        &area,
+    )?;
+    Ok(())
+}
+
+// Characters in a row, each in its style.
+#[derive(Clone, Copy)]
+struct Chars<'c> {
+    chars: &'c [StyledChar],
+}
+
+impl Rows for Chars<'_> {
+    ghost use Rattle.std.specs.Prelude.{map};
+    ghost use Rattle.mad_draw.specs.Pieces.{char_piece};
+
+    ghost pieces = { λ row _. map char_piece row.chars.now };
+
+    fn push_row(&self, bytes: &mut String, _y: u16) -> Result<(), AllocError> {
+        for c in self.chars {
+            // Nothing is done: this only says that the colors of the character are known.
+            know_char(*c);
+            write!(bytes, "{c}")?;
+        }
+        Ok(())
+    }
+}
+
+// The numbers of a character's colors are bytes. Nothing is done.
+fn know_char(c: StyledChar)
+    ensures { IsStyle (char_style c).object_style }
+{}

@@ -1,0 +1,16 @@
+//! What is sought, marked in the rows of a text that are on the screen: its characters are drawn once more, reversed.
+//!
+//! 1. [`styled`]: the characters of a composite, each in its style.
+//! 2. [`matches`]: where what is sought begins among them.
+//! 3. [`places`]: where the texts of a row begin; [`hits`]: what is drawn of a line.
+//! 4. [`drawing`]: all of it, over rows that were drawn.
+#![tactic(auto)]
+
+mod drawing;
+mod hits;
+mod matches;
+mod places;
+mod styled;
+
+pub use drawing::draw_hits;
+pub use hits::{Hit, hits_in};

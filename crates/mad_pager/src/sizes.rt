@@ -1,0 +1,126 @@
+//! The size of the screen: what the terminal tells of it, and the text laid out for it.
+
+ghost use Rattle.std.specs.Prelude.{◌≡◌, IfOk, OnOk, length};
+ghost use Rattle.mad_search.specs.PagedTexts.{paged_lines};
+ghost use Rattle.mad_pager.specs.Sessions.{hears_size, kept_row, state_of, AreStartsFor, HasSameText, IsLaidFor, IsResized, IsSettled};
+
+use crate::places::{field_row, layout_width};
+use crate::session::Session;
+use mad_layout::{FmtText, MadSkin};
+use mad_page::Page;
+use mad_search::{PagedText, row_in_parts};
+use std::alloc::{AllocError, Global};
+
+// The cells of the largest screen that is believed. The picture of one is held in memory.
+const MOST_CELLS: u32 = 1_000_000;
+
+/// The size of a screen.
+#[derive(Clone, Copy, Debug, PartialEq, Eq)]
+pub struct ScreenSize {
+    /// Its columns.
+    pub columns: u16,
+    /// Its rows.
+    pub rows: u16,
+}
+
+impl<'s> Session<'s> {
+    /// Lays the text out for the size that the terminal told last, if it told one. What was on top stays there.
+    ///
+    /// # Errors
+    ///
+    /// Out of memory is the only error.
+    pub fn settle(&mut self, alloc: Global) -> Result<(), AllocError>
+        ensures settled { OnOk result (IsSettled self.old.text.skin.now (paged_lines self.old.source) (state_of self.old) (state_of self.new)) }
+        ensures text { OnOk result (HasSameText self.old self.new) }
+    {
+        if let Some(size) = self.told {
+            self.resize(alloc, size.columns, size.rows)?;
+            return Ok(());
+        }
+        Ok(())
+    }
+
+    // Takes the size that the terminal tells. A screen of more than a million cells isn't believed.
+    pub(crate) fn hear_size(&mut self, columns: u16, rows: u16)
+        ensures told { state_of self.new ≡ hears_size columns rows (state_of self.old) }
+        ensures text { HasSameText self.old self.new }
+    {
+        if u32::from(columns) * u32::from(rows) <= MOST_CELLS {
+            self.told = Some(ScreenSize { columns, rows });
+        }
+    }
+
+    // The screen has another size: the text is laid out for it, and what was on top stays there.
+    fn resize(&mut self, alloc: Global, columns: u16, rows: u16) -> Result<(), AllocError>
+        ensures step { OnOk result (IsResized self.old.text.skin.now (paged_lines self.old.source) columns rows (state_of self.old) (state_of self.new)) }
+        ensures text { OnOk result (HasSameText self.old self.new) }
+    {
+        let laid = lay(alloc, self.text.skin, self.source, columns)?;
+        let top = self.row_kept(columns, laid.starts.as_slice());
+        self.page = Page {
+            columns,
+            rows,
+            height: height_of(&laid.text),
+            top,
+            count: self.page.count,
+            holds_bar: self.page.holds_bar,
+        };
+        self.text = laid.text;
+        self.starts = laid.starts;
+        self.found = None;
+        self.told = None;
+        self.field.set_area(field_row(columns, rows));
+        Ok(())
+    }
+
+    // The row that stays on top where the screen has these columns and parts begin in these rows.
+    fn row_kept(&self, columns: u16, starts: &[usize]) -> usize
+        ensures { result ≡ kept_row self.now.page.columns columns self.now.starts.items starts.now self.now.page.top }
+    {
+        if columns == self.page.columns {
+            return self.page.top;
+        }
+        row_in_parts(self.starts.as_slice(), starts, self.page.top)
+    }
+}
+
+/// A text, laid out for a screen, and the rows in which its parts begin.
+#[derive(Drop)]
+pub(crate) struct Laid<'s> {
+    pub text: FmtText<'s, 's>,
+    pub starts: Vec<usize>,
+}
+
+/// Lays a text out for a screen of these columns.
+///
+/// # Errors
+///
+/// Out of memory is the only error.
+pub(crate) fn lay<'s>(
+    alloc: Global,
+    skin: &'s MadSkin,
+    source: PagedText<'s>,
+    columns: u16,
+) -> Result<Laid<'s>, AllocError>
+    ensures skin { IfOk result (λ laid. laid.text.skin.now ≡ skin.now) }
+    ensures lines { IfOk result (λ laid. IsLaidFor skin.now (paged_lines source.entry) columns laid.text.lines.items) }
+    ensures starts { IfOk result (λ laid. AreStartsFor skin.now (paged_lines source.entry) columns laid.starts.items) }
+{
+    let width = layout_width(columns);
+    let layout = source.lay(alloc, skin, width)?;
+    Ok(Laid {
+        text: FmtText {
+            skin,
+            lines: layout.lines,
+            width: Some(width),
+        },
+        starts: layout.starts,
+    })
+}
+
+/// How many lines a text has.
+pub(crate) fn height_of(text: &FmtText) -> usize
+    ensures { result ≡ length text.now.lines.items }
+{
+    text.lines.len()
+}
