@@ -10,6 +10,25 @@ PIECES = ["# head\n", "* item **of** words\n", "|a|b|\n|-|-|\n", "```\ncode\n```
 RANDOM_CALLS = 1000
 
 
+class Tables(unittest.TestCase):
+    """Tables of data: each cell is a text as it is."""
+
+    def test_marks_are_text(self):
+        shown = termimad.table([["name", "size"], ["*a|b*", "1"]], 40)
+        self.assertIn("*a|b*", shown)
+        self.assertEqual(shown.count("\n"), 5)
+
+    def test_short_rows_are_filled(self):
+        self.assertEqual(termimad.table([["a", "b"], ["1"]], 40), termimad.table([["a", "b"], ["1", ""]], 40))
+
+    def test_nothing_reaches_the_terminal_that_it_obeys(self):
+        self.assertNotIn("\x1b", termimad.table([["\x1b[2J", "a\nb"]], 40))
+
+    def test_no_alignment_of_that_number(self):
+        with self.assertRaises(termimad.WrongNumber):
+            termimad.table([["a"]], 40, aligns=[4])
+
+
 class Texts(unittest.TestCase):
     """Texts and their rows."""
 
