@@ -159,6 +159,20 @@ termimad_answer termimad_fit(const char *text, size_t text_length, const char *s
  */
 termimad_answer termimad_printable(const char *text, size_t text_length, char *buffer, size_t capacity);
 
+/* A table of data, laid out in WIDTH columns: each row with a newline.
+ *
+ * TEXT has all cells one after the other, row by row; LENGTHS has the bytes of each. Each row has COLUMNS cells, and the first row has the
+ * headers. No mark is read in a cell, and no character is changed: make those that others wrote printable first, and leave out newlines.
+ * ALIGNS has the side of each column, as termimad_fit takes it; a column without one has none. TERMIMAD_CONDITION: a number of ALIGNS is
+ * over 3, COLUMNS is 0, the cells fill no whole rows, they are not all of the text, or one ends inside a character; or WIDTH is over 65535.
+ *
+ *   size_t lengths[] = {4, 4, 3, 1}, aligns[] = {TERMIMAD_LEFT, TERMIMAD_RIGHT};
+ *   termimad_table("diskuseda|b7", 12, lengths, 4, aligns, 2, "", 0, 2, 40, buffer, sizeof buffer);
+ */
+termimad_answer termimad_table(const char *text, size_t text_length, const size_t *lengths, size_t count,
+                               const size_t *aligns, size_t align_count, const char *skin, size_t skin_length,
+                               size_t columns, size_t width, char *buffer, size_t capacity);
+
 #ifdef __cplusplus
 }
 #endif

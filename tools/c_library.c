@@ -1,5 +1,5 @@
-/* Calls the library as a careless program would: short buffers, empty texts, bad UTF-8, refused skins, huge numbers. Each text and
- * each buffer has memory of its own, of exactly its length, so that valgrind or a sanitizer sees each byte beside it. What it answers
+/* Calls the library as a careless program would: short buffers, empty texts, bad UTF-8, refused skins, huge numbers. Each text, each list
+ * and each buffer has memory of its own, of exactly its length, so that valgrind or a sanitizer sees each byte beside it. What it answers
  * is compared with the same call into a buffer that has room for all. Then the call is made once more, with memory for its first
  * growths alone: `c_library CALLS`. It is linked so that malloc and realloc come here first. */
 #include "termimad.h"
@@ -17,8 +17,14 @@ typedef struct {
 } bytes;
 
 typedef struct {
+    size_t *numbers;
+    size_t count;
+} sizes;
+
+typedef struct {
     unsigned kind;
     bytes text, skin;
+    sizes lengths, aligns;
     size_t numbers[4];
 } call;
 
@@ -99,9 +105,34 @@ static bytes random_text(void)
     return copy_of(text, length);
 }
 
+/* Lengths of up to six cells: mostly all of the text, cut anywhere, also inside characters. */
+static sizes random_lengths(size_t left)
+{
+    size_t count = next(7);
+    sizes it = { taken(count * sizeof(size_t)), count };
+    for (size_t at = 0; at < count; at++) {
+        it.numbers[at] = at + 1 == count && next(4) ? left : next(left + 1);
+        left -= it.numbers[at];
+    }
+    if (count > 0 && next(8) == 0)
+        it.numbers[next(count)] = numbers[next(COUNT(numbers))];
+    return it;
+}
+
+static sizes random_aligns(void)
+{
+    size_t count = next(4);
+    sizes it = { taken(count * sizeof(size_t)), count };
+    for (size_t at = 0; at < count; at++)
+        it.numbers[at] = next(9) ? next(4) : numbers[next(COUNT(numbers))];
+    return it;
+}
+
 static call random_call(void)
 {
-    call it = { .kind = (unsigned)next(8), .text = random_text() };
+    call it = { .kind = (unsigned)next(9), .text = random_text() };
+    it.lengths = random_lengths(it.text.length);
+    it.aligns = random_aligns();
     const char *skin = skins[next(COUNT(skins))];
     it.skin = copy_of(skin, strlen(skin));
     for (int n = 0; n < 4; n++)
@@ -109,8 +140,8 @@ static call random_call(void)
     /* A tall wide area has gigabytes. */
     if (it.kind == 0 && it.numbers[3] > 300 && it.numbers[3] < 65536)
         it.numbers[3] = 9;
-    /* Half of the fits have an alignment. */
-    if (it.kind == 4 && next(2))
+    /* Half of the fits have an alignment, and half of the tables few columns. */
+    if ((it.kind == 4 || it.kind == 7) && next(2))
         it.numbers[1] = next(4);
     return it;
 }
@@ -141,6 +172,9 @@ static termimad_answer answer_of(const call *c, char *buffer, size_t capacity)
     case 4: return termimad_fit(text, length, skin, skin_length, n[0], n[1], buffer, capacity);
     case 5: return termimad_markdown(text, length, skin, skin_length, n[0], buffer, capacity);
     case 6: return parts_of(c, buffer, capacity);
+    case 7:
+        return termimad_table(text, length, c->lengths.numbers, c->lengths.count, c->aligns.numbers, c->aligns.count, skin, skin_length, n[1], n[0],
+                              buffer, capacity);
     default: return termimad_printable(text, length, buffer, capacity);
     }
 }
@@ -208,6 +242,8 @@ static int try_call(unsigned number, char *room, unsigned *counted)
     free(buffer);
     free(c.text.bytes);
     free(c.skin.bytes);
+    free(c.lengths.numbers);
+    free(c.aligns.numbers);
     return fault == NULL;
 }
 

@@ -1,4 +1,5 @@
-"""What the module's calls do, by tables and by 1,000 random calls: `TERMIMAD_LIBRARY=.. python3 -m unittest` in this folder."""
+"""What the module's calls do, by its own examples and by 1,000 random calls: `TERMIMAD_LIBRARY=.. python3 -m unittest` in this folder."""
+import doctest
 import pathlib
 import random
 import tempfile
@@ -8,6 +9,42 @@ import termimad
 
 PIECES = ["# head\n", "* item **of** words\n", "|a|b|\n|-|-|\n", "```\ncode\n```\n", "> quote\n", "words ", "日本語 ", "é😀 ", "*", "`", "|", "\n", "\t", "\x1b[2J", "\0"]
 RANDOM_CALLS = 1000
+
+
+def load_tests(_loader, tests, _pattern):
+    """The examples of the module's head, too."""
+    tests.addTests(doctest.DocTestSuite(termimad))
+    return tests
+
+
+class Tables(unittest.TestCase):
+    """Tables of data: each cell is a text as it is."""
+
+    def test_marks_are_text(self):
+        shown = termimad.table([["name", "size"], ["*a|b*", "1"]], 40)
+        self.assertIn("*a|b*", shown)
+        self.assertEqual(shown.count("\n"), 5)
+
+    def test_short_rows_are_filled(self):
+        self.assertEqual(termimad.table([["a", "b"], ["1"]], 40), termimad.table([["a", "b"], ["1", ""]], 40))
+
+    def test_nothing_reaches_the_terminal_that_it_obeys(self):
+        self.assertNotIn("\x1b", termimad.table([["\x1b[2J", "a\nb"]], 40))
+
+    def test_plain_words_are_a_table_of_markdown(self):
+        draw, sides = random.Random(3), {termimad.Align.INSIDE: "-", termimad.Align.LEFT: ":-", termimad.Align.CENTER: ":-:", termimad.Align.RIGHT: "-:"}
+        for _ in range(200):
+            columns = draw.randrange(1, 5)
+            rows = [[draw.choice(["a", "two words", "日本語", "a long word-and-more", "42"]) for _ in range(columns)] for _ in range(draw.randrange(1, 6))]
+            aligns = draw.choices(list(sides), k=columns)
+            rule = "".join(f"|{sides[align]}" for align in aligns) + "|"
+            lines = [rule, "".join(f"|**{word}**" for word in rows[0]) + "|", rule, *("".join(f"|{word}" for word in row) + "|" for row in rows[1:]), rule]
+            width, skin = draw.choice([5, 12, 20, 40, 80]), draw.choice(["", "dark"])
+            self.assertEqual(termimad.table(rows, width, aligns, skin), termimad.text("\n".join(lines), width, skin))
+
+    def test_no_alignment_of_that_number(self):
+        with self.assertRaises(termimad.WrongNumber):
+            termimad.table([["a"]], 40, aligns=[4])
 
 
 class Texts(unittest.TestCase):

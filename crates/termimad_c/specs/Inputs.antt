@@ -1,5 +1,5 @@
 -- What the bytes and the numbers of a caller are.
-use Rattle.std.specs.Prelude.{◌≡◌, ◌⊎◌, ℕ, ◌+◌, ◌<◌, ◌≤◌, ◌^◌, ◌==◌, Bool, true, false, not, List, [], ◌∷◌, length, Option, Some, None, IsUtf8}
+use Rattle.std.specs.Prelude.{◌≡◌, ◌⊎◌, ℕ, ◌+◌, ◌<◌, ◌≤◌, ◌^◌, ◌==◌, Bool, true, false, not, List, [], ◌∷◌, length, map, Option, Some, None, IsUtf8}
 use Rattle.termimad.specs.Areas.{IsWithinLimits}
 use Rattle.termimad.specs.StreamedFronts.{IsTextFront, BeginNoText}
 use Rattle.termimad.specs.declared.Alignment.{Alignment}
@@ -77,3 +77,13 @@ alignment_number Right = 3
 -- no line is fitted by these numbers
 abbrev pub IsNoFit : ℕ → ℕ → Type 0
 IsNoFit width align = (2 ^ 16 ≤ width) ⊎ (3 < align)
+
+-- the alignments of these numbers
+abbrev pub AreAligned : List ℕ → List Alignment → Type 0
+AreAligned numbers aligns = map alignment_number aligns ≡ numbers
+
+-- why there are no alignments of these numbers
+abbrev pub RefusesAligns : List ℕ → Refusal → Type 0
+RefusesAligns numbers Condition = (aligns : List Alignment) → ¬ (AreAligned numbers aligns)
+RefusesAligns numbers Memory = Unit {0}
+RefusesAligns numbers _ = ⊥

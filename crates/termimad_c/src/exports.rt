@@ -7,12 +7,13 @@ ghost use Rattle.std.specs.Prelude.{◌≡◌, ◌⊎◌, ◌≤◌, ◌^◌, []
 ghost use Rattle.termimad_run.specs.declared.call.Command.TheVariants.{Inline};
 ghost use Rattle.termimad_c.specs.Answers.{Answers, Counts, Progresses};
 ghost use Rattle.termimad_c.specs.Inputs.{RefusesCall, RefusesParts, IsNoArea, IsNoFit, is_told};
+ghost use Rattle.termimad_c.specs.DataTables.{IsNoTable, IsTableWritten};
 ghost use Rattle.termimad_c.specs.Making.{IsWritten, IsAreaWritten, IsTextWritten, IsMarkdownWritten, IsRowCount, IsFittedLine, IsMadePrintable, ArePartsOf};
 
 use crate::answer::{Answer, Progress, count_out, hand_out, hand_out_parts};
 use crate::making::{
     area_bytes, fitted_bytes, inline_bytes, markdown_bytes, parts_made, printable_bytes,
-    rows_count, text_bytes,
+    rows_count, table_bytes, text_bytes,
 };
 use std::alloc::Global;
 
@@ -130,4 +131,24 @@ pub extern "C" fn termimad_printable(alloc: Global, text: &[u8], buffer: &mut [u
     ensures { Answers (IsMadePrintable text.now) (RefusesCall ⊥ text.now []) buffer.old result buffer.new }
 {
     hand_out(printable_bytes(alloc, text), buffer)
+}
+
+/// A table of data, laid out at a width, in columns. Its cells are one text and the length of each in bytes, row by row, each row of so many
+/// columns, the first having the headers. No mark is read in them. `aligns` has the columns' alignments: none (0), left (1), middle (2), right (3).
+#[unsafe(no_mangle)]
+pub extern "C" fn termimad_table(
+    alloc: Global,
+    text: &[u8],
+    lengths: &[usize],
+    aligns: &[usize],
+    skin: &[u8],
+    columns: usize,
+    width: usize,
+    buffer: &mut [u8],
+) -> Answer
+    ensures { Answers (IsTableWritten text.now lengths.now aligns.now skin.now columns width)
+        (RefusesCall (IsNoTable text.now lengths.now aligns.now columns width) text.now skin.now) buffer.old result buffer.new }
+{
+    let made = table_bytes(alloc, text, lengths, aligns, skin, columns, width);
+    hand_out(made, buffer)
 }

@@ -2,7 +2,7 @@
 
 ghost use Rattle.std.specs.Prelude.{◌≡◌, ◌<◌, ◌≤◌, ◌^◌, IsUtf8, MatchResult, option_map};
 ghost use Rattle.termimad_c.specs.declared.answer.Refusal.TheVariants.{Condition, NotUtf8};
-ghost use Rattle.termimad_c.specs.Inputs.{IsTextSoFar, IsNoText, IsSkinOf, RefusesSkin, IsAreaOf, IsNoArea, alignment_number, word_given};
+ghost use Rattle.termimad_c.specs.Inputs.{AreAligned, IsTextSoFar, IsNoText, IsSkinOf, RefusesAligns, RefusesSkin, IsAreaOf, IsNoArea, alignment_number, word_given};
 
 use crate::answer::Refusal;
 use std::alloc::Global;
@@ -116,4 +116,21 @@ pub fn align_of(align: usize) -> Result<Alignment, Refusal>
         3 => Ok(Alignment::Right),
         _ => Err(Refusal::Condition),
     }
+}
+
+/// The alignments of these numbers.
+///
+/// # Errors
+///
+/// `Condition`, where one of them is none of an alignment; or out of memory.
+pub fn aligns_of(alloc: Global, numbers: &[usize]) -> Result<Vec<Alignment>, Refusal>
+    ensures { MatchResult result (λ aligns. AreAligned numbers.now aligns.items) (RefusesAligns numbers.now) }
+{
+    let mut aligns = Vec::with_capacity(alloc, numbers.len())?;
+    for number in numbers {
+        if aligns.push(align_of(*number)?).is_err() {
+            return Err(Refusal::Memory);
+        }
+    }
+    Ok(aligns)
 }

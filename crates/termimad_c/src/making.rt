@@ -4,13 +4,15 @@ ghost use Rattle.std.specs.Prelude.{◌≡◌, ◌≤◌, ◌^◌, [], MatchResu
 ghost use Rattle.termimad_run.specs.Calls.{IsAllowed};
 ghost use Rattle.termimad_run.specs.declared.call.Command.TheVariants.{Inline};
 ghost use Rattle.termimad_c.specs.Inputs.{RefusesCall, RefusesParts, IsNoArea, IsNoFit};
+ghost use Rattle.termimad_c.specs.DataTables.{IsNoTable, IsTableWritten};
 ghost use Rattle.termimad_c.specs.Making.{IsWritten, IsAreaWritten, IsTextWritten, IsMarkdownWritten, IsRowCount, IsFittedLine, IsMadePrintable, ArePartsOf};
 
 use crate::answer::{Parts, Refusal};
 use crate::gathered::Gathered;
-use crate::inputs::{align_of, area_of, number_of, skin_of_word, text_of, text_so_far};
+use crate::inputs::{align_of, aligns_of, area_of, number_of, skin_of_word, text_of, text_so_far};
+use mad_tables::table_of_cells;
 use std::alloc::Global;
-use termimad::{printable, write_front_on};
+use termimad::{FmtText, printable, write_front_on};
 use termimad_run::{Command, write_call};
 
 /// A text in an area: the bytes of `termimad-view area`.
@@ -132,6 +134,31 @@ pub fn fitted_bytes(
     let mut line = skin.inline(alloc, text)?;
     line.composite.fit_width(usize::from(width), align, &skin)?;
     Ok(line.to_string(alloc)?.into_bytes())
+}
+
+/// A table of data at a width: its cells are one text and the length of each, row by row, the first row having the headers.
+#[tactic(auto, using(crate::proofs::Steps::skin_refused))]
+pub fn table_bytes(
+    alloc: Global,
+    text: &[u8],
+    lengths: &[usize],
+    aligns: &[usize],
+    skin: &[u8],
+    columns: usize,
+    width: usize,
+) -> Result<Vec<u8>, Refusal>
+    ensures { MatchResult result (λ whole. IsTableWritten text.now lengths.now aligns.now skin.now columns width whole.items)
+        (RefusesCall (IsNoTable text.now lengths.now aligns.now columns width) text.now skin.now) }
+{
+    let width = number_of(width)?;
+    let aligns = aligns_of(alloc, aligns)?;
+    let skin = skin_of_word(alloc, skin)?;
+    let text = text_of(text)?;
+    let Some(table) = table_of_cells(alloc, text, lengths, columns, &aligns)? else {
+        return Err(Refusal::Condition);
+    };
+    let laid_out = FmtText::from_text(alloc, &skin, table, Some(usize::from(width)))?;
+    Ok(laid_out.to_string(alloc)?.into_bytes())
 }
 
 /// A text without what a terminal obeys.

@@ -19,6 +19,12 @@ Set TERMIMAD_LIBRARY to the path of the shared library; without it the loader lo
     --
     last
     --
+    >>> print(table([["disk", "used"], ["a|b", "7"]], width=40, aligns=[Align.LEFT, Align.RIGHT]), end="")
+    ┌────┬────┐
+    │disk│used│
+    ├────┼────┤
+    │a|b │   7│
+    └────┴────┘
     >>> Text("- one\\n- *two*\\n  lines").rows(width=20)
     ['• one', '• two lines']
     >>> text("a", width=70000)
@@ -33,18 +39,18 @@ from __future__ import annotations
 import ctypes
 import enum
 import os
-from typing import Iterable, Iterator, List, Union
+from typing import Iterable, Iterator, List, Sequence, Union
 
 Words = Union[str, bytes, "os.PathLike[str]"]
 
 
 class Align(enum.IntEnum):
-    """Where `fit` puts the ellipsis."""
+    """On which side a text is: in a column of `table`, or where it is cut by `fit`."""
 
-    INSIDE = 0  # in the widest words
-    LEFT = 1  # at the end of the line
-    CENTER = 2  # at both ends
-    RIGHT = 3  # at the front of the line
+    INSIDE = 0  # in no place of its own; `fit` cuts in the widest words
+    LEFT = 1  # `fit` cuts the end of the line
+    CENTER = 2  # `fit` cuts both ends
+    RIGHT = 3  # `fit` cuts the front of the line
 
 
 class Refused(Exception):
@@ -91,6 +97,7 @@ _PARAMETERS = {
     "termimad_rows": _BYTES * 2 + [ctypes.c_size_t],
     "termimad_fit": _BYTES * 2 + [ctypes.c_size_t] * 2 + _BYTES,
     "termimad_printable": _BYTES * 2,
+    "termimad_table": _BYTES + [ctypes.POINTER(ctypes.c_size_t), ctypes.c_size_t] * 2 + _BYTES + [ctypes.c_size_t] * 2 + _BYTES,
 }
 for _name, _parameters in _PARAMETERS.items():
     _call = getattr(_library, _name)
@@ -151,6 +158,20 @@ def printable(words: Words) -> str:
     return _result("termimad_printable", [words], [])
 
 
+def table(rows: Sequence[Sequence[str]], width: int, aligns: Sequence[int] = (), skin: Words = "") -> str:
+    """A table of these rows, the first of which has its headers, laid out in `width` columns: each row with a newline.
+
+    A cell is a text as it is: no mark is read in it, and it is made printable here. Short rows are filled up.
+    """
+    columns = max((len(row) for row in rows), default=1) or 1
+    cells = [_cell(word) for row in rows for word in [*row, *[""] * (columns - len(row))]]
+    lengths = (ctypes.c_size_t * len(cells))(*map(len, cells))
+    sides = (ctypes.c_size_t * len(aligns))(*_sizes(aligns))
+    joined, dress = b"".join(cells), _raw(skin)
+    given = [joined, len(joined), lengths, len(cells), sides, len(aligns), dress, len(dress), *_sizes([columns, width])]
+    return _answered("termimad_table", given)[0]
+
+
 class Text:
     """Markdown as people write it, or with `lines=True` a text whose lines each stand for themselves."""
 
@@ -165,6 +186,11 @@ class Text:
     def show(self, width: int, skin: Words = "default") -> None:
         """Prints its rows."""
         print(self._call(self.source, width, skin), end="")
+
+
+def _cell(word: str) -> bytes:
+    """A cell's text, without what a terminal obeys; a newline is a space."""
+    return printable(word).replace("\n", " ").encode()
 
 
 def _result(name, texts, numbers):

@@ -96,6 +96,20 @@ extern "C" {
         buffer: *mut u8,
         capacity: usize,
     ) -> Answer;
+    fn termimad_table(
+        text: *const u8,
+        text_length: usize,
+        lengths: *const usize,
+        count: usize,
+        aligns: *const usize,
+        align_count: usize,
+        skin: *const u8,
+        skin_length: usize,
+        columns: usize,
+        width: usize,
+        buffer: *mut u8,
+        capacity: usize,
+    ) -> Answer;
 }
 
 /// Why a call was refused.
@@ -121,16 +135,16 @@ impl fmt::Display for Refused {
 
 impl std::error::Error for Refused {}
 
-/// Where [`fit`] puts the ellipsis.
+/// On which side a text is: in a column of [`table`], or where it is cut by [`fit`].
 #[derive(Clone, Copy, PartialEq, Eq, Debug)]
 pub enum Align {
-    /// In the widest words.
+    /// In no place of its own; [`fit`] cuts in the widest words.
     Inside = 0,
-    /// At the end of the line.
+    /// [`fit`] cuts the end of the line.
     Left = 1,
-    /// At both ends.
+    /// [`fit`] cuts both ends.
     Center = 2,
-    /// At the front of the line.
+    /// [`fit`] cuts the front of the line.
     Right = 3,
 }
 
@@ -332,6 +346,44 @@ pub fn fit(line: &str, width: usize, align: Align, skin: &str) -> Result<String,
             skin.len(),
             width,
             align as usize,
+            buffer.as_mut_ptr(),
+            buffer.len(),
+        )
+    })
+}
+
+/// A table of these rows, the first of which has its headers, laid out at a width, in columns.
+///
+/// A cell is a text as it is: no mark is read in it, and it is made printable here; a newline is a space. Short rows are filled up.
+pub fn table<C: AsRef<str>>(
+    rows: &[Vec<C>],
+    aligns: &[Align],
+    width: usize,
+    skin: &str,
+) -> Result<String, Refused> {
+    let columns = rows.iter().map(Vec::len).max().unwrap_or(1).max(1);
+    let (mut text, mut lengths) = (String::new(), Vec::new());
+    for row in rows {
+        for column in 0..columns {
+            let cell = row.get(column).map_or("", AsRef::as_ref);
+            let shown = printable(cell)?.replace('\n', " ");
+            lengths.push(shown.len());
+            text.push_str(&shown);
+        }
+    }
+    let aligns: Vec<usize> = aligns.iter().map(|align| *align as usize).collect();
+    filled(|buffer| unsafe {
+        termimad_table(
+            text.as_ptr(),
+            text.len(),
+            lengths.as_ptr(),
+            lengths.len(),
+            aligns.as_ptr(),
+            aligns.len(),
+            skin.as_ptr(),
+            skin.len(),
+            columns,
+            width,
             buffer.as_mut_ptr(),
             buffer.len(),
         )

@@ -1,10 +1,10 @@
-//! A note in the corner of the screen, its rows at a few widths, as it is read, and a line that is fitted.
+//! A note in the corner of the screen, its rows at a few widths, as it is read, a table, and a line that is fitted.
 
 use std::error::Error;
 use std::io::Read;
 
 use termimad_proved::{
-    area, fit, inline, printable, rows, rows_as_read, text, Align, Area,
+    area, fit, inline, printable, rows, rows_as_read, table, text, Align, Area,
 };
 
 const NOTE: &str = "# Done\n* **3** files were read\n* *none* was changed\n> see `report.txt`";
@@ -28,6 +28,8 @@ fn main() -> Result<(), Box<dyn Error>> {
     for made in rows_as_read(pieces, 24, "") {
         println!("{}--", made?);
     }
+    let rows = [vec!["file", "size"], vec!["a|b *.txt", "12"]];
+    print!("{}", table(&rows, &[Align::Left, Align::Right], 24, "")?);
     print!("{}", inline("**done** in `3 s`", "")?);
     for align in [Align::Inside, Align::Left, Align::Center, Align::Right] {
         println!("{}", fit("a *very* long line of words", 14, align, "")?);

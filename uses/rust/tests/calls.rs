@@ -1,9 +1,24 @@
 //! What the calls answer, and how they refuse.
 
-use termimad_proved::{fit, markdown, printable, rows, rows_as_read, text, Align, Refused};
+use termimad_proved::{fit, markdown, printable, rows, rows_as_read, table, text, Align, Refused};
+
+#[test]
+fn marks_in_a_table_of_data_are_text() {
+    let shown = table(&[vec!["name", "size"], vec!["*a|b*", "1"]], &[], 40, "").unwrap();
+    assert!(shown.contains("*a|b*"));
+    assert_eq!(shown.lines().count(), 5);
+}
+
+#[test]
+fn short_rows_are_filled() {
+    let short = table(&[vec!["a", "b"], vec!["1"]], &[], 40, "");
+    assert_eq!(short, table(&[vec!["a", "b"], vec!["1", ""]], &[], 40, ""));
+}
 
 #[test]
 fn nothing_reaches_the_terminal_that_it_obeys() {
+    let shown = table(&[vec!["\u{1b}[2J", "a\nb"]], &[], 40, "").unwrap();
+    assert!(!shown.contains('\u{1b}'));
     assert!(!markdown("&#27;[2J", 20, "").unwrap().contains('\u{1b}'));
     assert_eq!(printable("\u{1b}").unwrap(), "␛");
 }
