@@ -163,7 +163,8 @@ impl Frame {
         let mut bytes = bytes;
         let (taken, put) = put_counted(out, &bytes);
         drop_front(&mut bytes, taken);
-        self.spare = mem::replace(&mut self.base, screen);
+        mem::swap(&mut self.spare, &mut self.base);
+        self.base = screen;
         self.drawn.clear();
         self.unsent = bytes;
         self.known = true;
