@@ -1,0 +1,5 @@
+pub mod CutLemmas
+pub mod GapLemmas
+pub mod ShownLemmas
+pub mod StreamLemmas
+pub mod SourceLemmas
