@@ -1,9 +1,9 @@
 -- How a text is cut line by line.
-use Rattle.std.proofs.Common.{◌≡◌, ◌≢◌, ℕ, ◌+◌, ◌==◌, Bool, true, false, List, [], ◌∷◌, ◌++◌, length, refl, sym, ap, ◌∙◌, subst, arith, append_assoc, if◌then◌else◌}
+use Rattle.std.proofs.Common.{◌≡◌, ◌≢◌, ℕ, ◌==◌, Bool, true, false, List, [], ◌∷◌, ◌++◌, refl, sym, ap, ◌∙◌, append_assoc, if◌then◌else◌}
 use Rattle.std.proofs.lemmas.List.{append-nil}
 use Rattle.std.specs.List.{onto_first}
 use Rattle.mad_md.specs.Parts.{HasNoNewline}
-use Rattle.mad_md.proofs.PartsLemmas.{test_true, true_test}
+use Rattle.mad_md.proofs.PartsLemmas.{true_test}
 use Rattle.mad_stream.specs.Lines.{IsFirstLine}
 use Rattle.markdown_blocks.specs.Steps.{State, Line, step}
 use Rattle.markdown_stream.specs.Cuts.{SourcePart, Cutting, source_lines, content, begins_anew, ends_all, completed, completed_if, joined_by, line_cut, open_after, lines_cut}

@@ -1,16 +1,15 @@
 -- Parts of a text are laid out by themselves: no table and no block of code goes on from one to the next.
-use Rattle.std.proofs.Common.{◌≡◌, ℕ, Bool, true, false, not, ◌&&◌, ◌||◌, ◌==◌, List, [], ◌∷◌, ◌++◌, length, refl, sym, ap, ◌∙◌, subst, append_assoc, if◌then◌else◌}
+use Rattle.std.proofs.Common.{◌≡◌, Bool, true, false, not, ◌&&◌, ◌||◌, List, [], ◌∷◌, ◌++◌, refl, sym, ap, ◌∙◌, subst, append_assoc}
 use Rattle.std.proofs.lemmas.List.{append-nil}
 use Rattle.mad_md.specs.Flagged.{Run}
-use Rattle.mad_md.specs.Lines.{LineContent, StyledRuns, normal, table_row, table_rule, horizontal_rule}
+use Rattle.mad_md.specs.Lines.{LineContent, normal, table_row, table_rule, horizontal_rule}
 use Rattle.mad_md.specs.declared.composite.CompositeStyle.{CompositeStyle}
 use Rattle.mad_md.specs.declared.composite.CompositeStyle.TheVariants.{Paragraph, Header, ListItem, OrderedListItem, ListItemFollowUp, Code, Quote}
-use Rattle.mad_blocks.specs.TextParts.{is_code, is_table, stand_together}
+use Rattle.mad_blocks.specs.TextParts.{is_code, is_table}
 use Rattle.mad_blocks.proofs.LayoutJoins.{apart, apart_end, by_bool}
 use Rattle.mad_blocks.proofs.PartCursorLemmas.{apart_after}
 use Rattle.markdown_stream.specs.Gaps.{is_big, begins_big, ends_big}
-use Rattle.markdown_stream.specs.Streamed.{Showing, nothing_shown, blank_line, is_spaced, gap, added, last_after, lines_shown}
-use Rattle.markdown_stream.specs.declared.stream.Shown.{Shown}
+use Rattle.markdown_stream.specs.Streamed.{Showing, nothing_shown, blank_line, is_spaced, gap, added, lines_shown}
 
 -- ---- tests
 

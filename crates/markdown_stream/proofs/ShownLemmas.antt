@@ -1,5 +1,5 @@
 -- What is shown of a text grows part by part.
-use Rattle.std.proofs.Common.{◌≡◌, List, [], ◌∷◌, ◌++◌, refl, sym, ap, ◌∙◌, append_assoc}
+use Rattle.std.proofs.Common.{◌≡◌, List, [], ◌∷◌, ◌++◌, refl, sym, ◌∙◌, append_assoc}
 use Rattle.std.proofs.lemmas.List.{append-nil}
 use Rattle.mad_md.specs.Lines.{LineContent}
 use Rattle.markdown_reader.specs.Markdown.{markdown_lines}

@@ -1,6 +1,5 @@
 -- How the steps of a source join that is written as it comes.
-use Rattle.std.proofs.Common.{◌≡◌, ℕ, suc, ◌+◌, ◌<◌, ◌≤◌, Bool, true, false, List, [], ◌∷◌, ◌++◌, length, take, drop, Option, Result, Ok, Err, inl, inr, refl, sym, ap, ◌∙◌, subst, arith, append_assoc, string_bytes}
-use Rattle.std.specs.Prelude.{IsUtf8}
+use Rattle.std.proofs.Common.{◌≡◌, ℕ, suc, ◌+◌, ◌<◌, ◌≤◌, Bool, true, false, List, [], ◌∷◌, ◌++◌, length, take, drop, Option, Result, Ok, Err, inl, refl, sym, ap, ◌∙◌, subst, arith, string_bytes}
 use Rattle.std.specs.Result.{IsErrAnd}
 use Rattle.std.specs.declared.io.Error.{Error as IoError}
 use Rattle.std.proofs.lemmas.List.{append-nil, length-append, take-append-drop}
@@ -19,7 +18,7 @@ use Rattle.mad_term.specs.declared.errors.Error.TheVariants as writing
 use Rattle.mad_term.proofs.Traces.{after-nil}
 use Rattle.markdown_stream.specs.Cuts.{source_lines}
 use Rattle.markdown_stream.specs.Sources.{AreCompleteRows, StreamsMarkdown}
-use Rattle.markdown_stream.specs.SourceSteps.{FeedsBlock, Stopped, StopsInBlock, EndsFlushed, EndsSource}
+use Rattle.markdown_stream.specs.SourceSteps.{FeedsBlock, StopsInBlock, EndsFlushed, EndsSource}
 use Rattle.markdown_stream.specs.Streams.{IsInStep, IsPrompt, IsStreamed, BeginsStreamed, Fed, Feeds, Finishes}
 use Rattle.markdown_stream.specs.declared.stream.MarkdownStream.{MarkdownStream}
 use Rattle.markdown_stream.proofs.StreamLemmas.{begins_streamed}
@@ -54,20 +53,20 @@ ends_whole {T} x s before written now ends flush = record { written = written; w
 
 -- ---- a block
 
-pub stops_at_rows : {T : Type 0} (old new : MarkdownStream) (block text : List ℕ) (before : Trace) (cause : Error) (now : Trace) → IsTextFront block text → Feeds {T = T} old text new before (Err cause) now → new.skin ≡ old.skin → new.width ≡ old.width
+pub stops_at_rows : (T : Type 0) (old new : MarkdownStream) (block text : List ℕ) (before : Trace) (cause : Error) (now : Trace) → IsTextFront block text → Feeds {T = T} old text new before (Err cause) now
     → StopsInBlock old block before (refusal_of cause) now
-stops_at_rows {T} old new block text before (writing.IO e) now front fed skin width = record {
+stops_at_rows T old new block text before (writing.IO e) now front fed = record {
   text = text;
   front = front;
   bytes = fed.bytes;
   went = fed.went;
-  begins = λ read sent h. begins_same new old (read ++ text) (sent ++ fed.bytes) skin width (begins_streamed (read ++ text) [] (read ++ text) (sent ++ fed.bytes) new (sym (append-nil (read ++ text))) (fed.keeps read sent h));
+  begins = λ read sent h. begins_same new old (read ++ text) (sent ++ fed.bytes) fed.skin fed.width (begins_streamed (read ++ text) [] (read ++ text) (sent ++ fed.bytes) new (sym (append-nil (read ++ text))) (fed.keeps read sent h));
 }
   where
     begins_same : (a b : MarkdownStream) (text bytes : List ℕ) → a.skin ≡ b.skin → a.width ≡ b.width → BeginsStreamed a.skin a.width text bytes → BeginsStreamed b.skin b.width text bytes
     begins_same a b text bytes p q h = subst (λ (k : RowSkin). BeginsStreamed k b.width text bytes) p (subst (λ (w : Option ℕ). BeginsStreamed a.skin w text bytes) q h)
-stops_at_rows {T} old new block text before (writing.InsufficientWidth e) now front fed skin width = absurd fed
-stops_at_rows {T} old new block text before writing.Memory now front fed skin width = record {
+stops_at_rows T old new block text before (writing.InsufficientWidth e) now front fed = absurd fed
+stops_at_rows T old new block text before writing.Memory now front fed = record {
   text = text;
   front = front;
   bytes = [];
@@ -80,18 +79,17 @@ begins_fed old new read sent text bytes skin width h =
     subst (λ (k : RowSkin). BeginsStreamed k old.width (read ++ text) (sent ++ bytes)) skin
     (subst (λ (w : Option ℕ). BeginsStreamed new.skin w (read ++ text) (sent ++ bytes)) width (begins_streamed (read ++ text) [] (read ++ text) (sent ++ bytes) new (sym (append-nil (read ++ text))) h))
 
-pub stops_at_flush : (U : Type 0) (old new : MarkdownStream) (block text : List ℕ) (before between : Trace) (e : SourceError) (now : Trace) → IsTextFront block text → Fed old text new before (λ t. t) between → FlushesOut {T = U} between (Err e) now → new.skin ≡ old.skin → new.width ≡ old.width
-    → StopsInBlock old block before e now
-stops_at_flush U old new block text before between (Source e) now front fed h skin width = absurd h
-stops_at_flush U old new block text before between (Device e) now front fed h skin width = record {
+pub stops_at_flush : (U : Type 0) (old new : MarkdownStream) (block text : List ℕ) (before between : Trace) (e : SourceError) (now : Trace) → IsTextFront block text → Fed old text new before (λ t. t) between → FlushesOut {T = U} between (Err e) now → StopsInBlock old block before e now
+stops_at_flush U old new block text before between (Source e) now front fed h = absurd h
+stops_at_flush U old new block text before between (Device e) now front fed h = record {
   text = text;
   front = front;
   bytes = fed.bytes;
   went = h ∙ ap failed fed.went;
-  begins = λ read sent s. begins_fed old new read sent text fed.bytes skin width (fed.keeps read sent s);
+  begins = λ read sent s. begins_fed old new read sent text fed.bytes fed.skin fed.width (fed.keeps read sent s);
 }
-stops_at_flush U old new block text before between NotUtf8 now front fed h skin width = absurd h
-stops_at_flush U old new block text before between Memory now front fed h skin width = absurd h
+stops_at_flush U old new block text before between NotUtf8 now front fed h = absurd h
+stops_at_flush U old new block text before between Memory now front fed h = absurd h
 
 -- ---- block by block
 
@@ -149,8 +147,8 @@ source_more skin width source out old new waiting got block left used blocks is_
         step = f.fed.keeps s.text s.bytes h.step;
         prompt = f.prompt;
         some = λ _. omega arith;
-        skin_is = f.skin ∙ h.skin_is;
-        width_is = f.width ∙ h.width_is;
+        skin_is = f.fed.skin ∙ h.skin_is;
+        width_is = f.fed.width ∙ h.width_is;
       },
       λ wrong. no_text_joined s.read got s.text block s.front unfed (f.wrong wrong),
     )

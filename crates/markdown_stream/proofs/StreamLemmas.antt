@@ -1,30 +1,33 @@
 -- How the steps of a stream join.
-use Rattle.std.proofs.Common.{◌≡◌, ℕ, ◌+◌, ◌<◌, Bool, true, false, List, [], ◌∷◌, ◌++◌, length, take, drop, Option, Result, Ok, Err, OnOk, refl, sym, ap, ◌∙◌, subst, arith, append_assoc, string_bytes, map}
-use Rattle.std.proofs.lemmas.List.{append-nil, drop_all, take-append-drop, length-append}
+use Rattle.std.proofs.Common.{◌≡◌, ℕ, ◌<◌, ◌==◌, Bool, true, false, ◌||◌, List, [], ◌∷◌, ◌++◌, length, Option, Result, Ok, Err, OnOk, refl, sym, ap, ◌∙◌, subst, arith, append_assoc, string_bytes, map}
+use Rattle.std.proofs.lemmas.List.{append-nil}
 use Rattle.std.proofs.lemmas.Grind.{flat_map-append}
-use Rattle.std.specs.declared.io.Error.{Error as IoError}
+use Rattle.std.specs.Result.{IsErrAnd}
 use Rattle.mad_blocks.specs.Layouts.{IsLayoutAt}
-use Rattle.mad_blocks.proofs.LayoutJoins.{layouts_joined}
+use Rattle.mad_blocks.proofs.LayoutJoins.{apart, layouts_joined}
 use Rattle.mad_format.specs.declared.line.FmtLine.{FmtLine}
-use Rattle.mad_md.specs.Lines.{LineContent}
+use Rattle.mad_md.specs.Lines.{LineContent, content_of}
+use Rattle.mad_md.specs.declared.line.Line.{Line as TextLine}
 use Rattle.mad_md.specs.Parts.{HasNoNewline}
+use Rattle.mad_md.proofs.PartsLemmas.{test_true, true_test}
 use Rattle.mad_rows.specs.Rows.{line_bytes, text_bytes}
 use Rattle.mad_rows.specs.RowStyles.{line_rules}
 use Rattle.mad_rows.specs.declared.row_skin.RowSkin.{RowSkin}
 use Rattle.mad_stream.specs.Lines.{IsFirstLine}
-use Rattle.mad_term.specs.Trace.{Trace, after, failed}
+use Rattle.mad_term.specs.Trace.{Trace, failed}
 use Rattle.mad_term.specs.declared.errors.Error.{Error}
 use Rattle.mad_term.specs.declared.errors.Error.TheVariants.{IO, InsufficientWidth, Memory}
-use Rattle.mad_term.proofs.Traces.{after-append, after-nil}
+use Rattle.mad_term.proofs.Traces.{after-nil}
 use Rattle.markdown_blocks.specs.Steps.{State, Step, Line, state_of, step}
 use Rattle.markdown_reader.specs.Markdown.{markdown_lines}
-use Rattle.markdown_stream.specs.Cuts.{SourcePart, Cutting, source_lines, content, begins_anew, ends_all, is_passed, completed, completed_if, joined_by, line_cut, nothing_open, nothing_cut, open_after, lines_cut, cut_so_far, source_parts}
-use Rattle.markdown_stream.specs.Streamed.{Showing, nothing_shown, added, last_after, part_shown, parts_shown, streamed_lines}
+use Rattle.markdown_stream.specs.Cuts.{SourcePart, Cutting, source_lines, content, begins_anew, ends_all, is_passed, completed, completed_if, joined_by, line_cut, nothing_open, nothing_cut, open_after, lines_cut, cut_so_far}
+use Rattle.markdown_stream.specs.Streamed.{Showing, nothing_shown, gap, is_spaced, added, last_after, parts_shown, streamed_lines}
 use Rattle.markdown_stream.specs.Streams.{IsStreamed, BeginsStreamed, Finishes, HasRows, Stands, IsInStep, IsPrompt, Fed, Feeds, TakesPiece, EndsText, ReadsLine, EndsLine, Turns, KeepsRows, ShowsLines, Sent, Sends}
 use Rattle.markdown_stream.specs.declared.stream.MarkdownStream.{MarkdownStream}
 use Rattle.markdown_stream.specs.declared.stream.Shown.{Shown}
 use Rattle.markdown_stream.proofs.CutLemmas.{line_first, no_lines, last_line, no_newline_both, open_more, cut_more, cut_both, goes_on_to_end}
 use Rattle.markdown_stream.proofs.GapLemmas.{apart_added}
+use Rattle.markdown_stream.specs.Gaps.{begins_big, ends_big}
 use Rattle.markdown_stream.proofs.ShownLemmas.{shown_more, shown_both, shown_goes_on, all_ended}
 
 -- ---- in the same skin, at the same width
@@ -47,6 +50,63 @@ rows_more shown own last old new sent r h layout bytes last_is skin width = reco
   layout = layout_same old.skin old.width new.skin new.width (shown.lines ++ own) r skin width layout;
   bytes = rows_same old.skin old.width new.skin new.width r skin width ∙ bytes;
 }
+
+-- a part that shows nothing
+pub shows_nothing : (text : List TextLine) (old new : MarkdownStream) → length text ≡ 0 → new.last ≡ record old.last { apart = old.last.apart || old.apart } → new.rows.items ≡ old.rows.items → new ≡ record old { last = new.last; rows = new.rows } → ShowsLines (map content_of text) old new
+shows_nothing [] old new none last rows same = record {
+  last = last;
+  rows = record { lines = []; layout = record { read = []; reads = tt; laid = refl }; rows = rows ∙ sym (append-nil old.rows.items) };
+  same = same;
+}
+shows_nothing (l ∷ text) old new none last rows same = absurd (omega arith)
+
+-- no block goes on from a blank row, or from none
+gap_apart : (b : Bool) (c : LineContent) (lines : List LineContent) → apart (gap b) (c ∷ lines) ≡ true
+gap_apart true c lines = refl
+gap_apart false c lines = refl
+
+kept_both : (first second : List LineContent) (old mid new : MarkdownStream) → apart first second ≡ true → KeepsRows first old mid → mid ≡ record old { rows = mid.rows } → KeepsRows second mid new → KeepsRows (first ++ second) old new
+kept_both first second old mid new cut h same k =
+    let skin : mid.skin ≡ old.skin = ap (λ (s : MarkdownStream). s.skin) same in
+    let width : mid.width ≡ old.width = ap (λ (s : MarkdownStream). s.width) same in
+    record {
+      lines = h.lines ++ k.lines;
+      layout = layouts_joined (line_rules old.skin) old.width first second h.lines k.lines cut h.layout (layout_same mid.skin mid.width old.skin old.width second k.lines (sym skin) (sym width) k.layout);
+      rows = k.rows ∙ ap (λ (b : List ℕ). b ++ text_bytes mid.skin mid.width k.lines) h.rows ∙ append_assoc old.rows.items (text_bytes old.skin old.width h.lines) (text_bytes mid.skin mid.width k.lines)
+          ∙ ap (λ (b : List ℕ). old.rows.items ++ (text_bytes old.skin old.width h.lines ++ b)) (rows_same old.skin old.width mid.skin mid.width k.lines skin width)
+          ∙ ap (λ (b : List ℕ). old.rows.items ++ b) (sym (flat_map-append (line_bytes old.skin old.width) h.lines k.lines));
+    }
+
+same_whole : (old mid next new : MarkdownStream) (last : Shown) → mid ≡ record old { rows = mid.rows } → next ≡ record mid { rows = next.rows } → new ≡ record next { last = last } → new ≡ record old { last = new.last; rows = new.rows }
+same_whole old mid next new last p q r =
+    r ∙ ap (λ (s : MarkdownStream). let n : MarkdownStream = record s { last = last } in n) (q ∙ ap (λ (s : MarkdownStream). let n : MarkdownStream = record s { rows = next.rows } in n) p)
+    ∙ ap (λ (l : Shown). let n : MarkdownStream = record old { last = l; rows = next.rows } in n) (sym (ap (λ (s : MarkdownStream). s.last) r))
+    ∙ ap (λ (v : _). let n : MarkdownStream = record old { last = new.last; rows = v } in n) (sym (ap (λ (s : MarkdownStream). s.rows) r))
+
+pub some_items : {A : Type 0} (xs ys : List A) (b : Bool) → ys ≡ xs → b ≡ (length ys == 0) → b ≡ false → 0 < length xs
+some_items {A} [] ys b is test off = absurd (let n : length ys ≡ 0 = ap length is in let on : (length ys == 0) ≡ true = test_true (length ys) 0 n in let e : true ≡ false = sym on ∙ sym test ∙ off in cc)
+some_items {A} (x ∷ xs) ys b is test off = omega arith
+
+pub no_items : {A : Type 0} (xs ys : List A) (b : Bool) → ys ≡ xs → b ≡ (length ys == 0) → b ≡ true → length xs ≡ 0
+no_items {A} xs ys b is test on = sym (ap length is) ∙ true_test (length ys) 0 (sym test ∙ on)
+
+pub nothing_in : (xs : List ℕ) → length xs ≡ 0 → xs ≡ []
+nothing_in [] none = refl
+nothing_in (x ∷ xs) none = absurd (omega arith)
+
+pub shows_some : (text : List TextLine) (old mid next new : MarkdownStream) (spaced big : Bool) → 0 < length text → big ≡ ends_big (map content_of text) → spaced ≡ is_spaced old.last old.apart (begins_big (map content_of text)) → KeepsRows (gap spaced) old mid → mid ≡ record old { rows = mid.rows }
+    → KeepsRows (map content_of text) mid next → next ≡ record mid { rows = next.rows } → new ≡ record next { last = record { some = true; big = big; apart = false } } → ShowsLines (map content_of text) old new
+shows_some [] old mid next new spaced big some big_is spaced_is h same k same2 same3 = absurd (omega arith)
+shows_some (l ∷ text) old mid next new spaced big some big_is spaced_is h same k same2 same3 =
+    let lines : List LineContent = map content_of (l ∷ text) in
+    let both : KeepsRows (gap spaced ++ lines) old next = kept_both (gap spaced) lines old mid next (gap_apart spaced (content_of l) (map content_of text)) h same k in
+    let rows : new.rows.items ≡ next.rows.items = ap (λ (s : MarkdownStream). s.rows.items) same3 in
+    let last : new.last ≡ record { some = true; big = ends_big lines; apart = false } = ap (λ (s : MarkdownStream). s.last) same3 ∙ ap (λ (b : Bool). let r : Shown = record { some = true; big = b; apart = false } in r) big_is in
+    record {
+      last = last;
+      rows = subst (λ (b : Bool). KeepsRows (gap b ++ lines) old new) spaced_is (record { lines = both.lines; layout = both.layout; rows = rows ∙ both.rows });
+      same = same_whole old mid next new (record { some = true; big = big; apart = false }) same same2 same3;
+    }
 
 -- ---- a part is complete
 
@@ -327,6 +387,8 @@ fed_by old mid new piece before fault now t s = record {
   bytes = s.bytes;
   went = s.went;
   keeps = λ read sent h. in_step_sent (read ++ piece) sent s.bytes mid new s.rows s.same (t.keeps read sent h);
+  skin = ap (λ (k : MarkdownStream). k.skin) s.same ∙ t.skin;
+  width = ap (λ (k : MarkdownStream). k.width) s.same ∙ t.width;
 }
 
 pub feeds : {T : Type 0} (r : Result T Error) (old mid new : MarkdownStream) (piece : List ℕ) (before now : Trace) → TakesPiece old piece mid → Sends mid new before r now → Feeds old piece new before r now
@@ -334,12 +396,6 @@ feeds {T} (Ok x) old mid new piece before now t s = fed_by old mid new piece bef
 feeds {T} (Err (IO e)) old mid new piece before now t s = fed_by old mid new piece before failed now t s
 feeds {T} (Err (InsufficientWidth e)) old mid new piece before now t s = absurd s
 feeds {T} (Err Memory) old mid new piece before now t s = absurd s
-
-pub sends_same : {T : Type 0} (r : Result T Error) (old new : MarkdownStream) (before now : Trace) → Sends old new before r now → (new.skin ≡ old.skin) × (new.width ≡ old.width)
-sends_same {T} (Ok x) old new before now s = (ap (λ (k : MarkdownStream). k.skin) s.same, ap (λ (k : MarkdownStream). k.width) s.same)
-sends_same {T} (Err (IO e)) old new before now s = (ap (λ (k : MarkdownStream). k.skin) s.same, ap (λ (k : MarkdownStream). k.width) s.same)
-sends_same {T} (Err (InsufficientWidth e)) old new before now s = absurd s
-sends_same {T} (Err Memory) old new before now s = absurd s
 
 all_front : (skin : RowSkin) (width : Option ℕ) (text bytes rest : List ℕ) → IsStreamed skin width text (bytes ++ rest) → BeginsStreamed skin width text bytes
 all_front skin width text bytes rest h = record { front = streamed_lines text; rest = []; joins = sym (append-nil (streamed_lines text)); lines = h.lines; layout = h.layout; left = rest; rows = sym h.rows }
@@ -361,8 +417,9 @@ finishes {T} (Err (InsufficientWidth e2)) read sent old mid new before now e s n
 finishes {T} (Err Memory) read sent old mid new before now e s none h = absurd s
 
 -- memory was refused before anything went out
-pub finish_refused : (T : Type 0) (read sent : List ℕ) (old : MarkdownStream) (before : Trace) → IsInStep read old sent → Finishes {T = T} old.skin old.width read sent before (Err Memory) before
-finish_refused T read sent old before h = (
+pub finish_refused : {T : Type 0} (r : Result T Error) (read sent : List ℕ) (old : MarkdownStream) (before : Trace) → IsErrAnd r (λ e. e ≡ Memory) → IsInStep read old sent → Finishes old.skin old.width read sent before r before
+finish_refused {T} (Ok x) read sent old before is h = absurd is
+finish_refused {T} (Err e) read sent old before is h = subst (λ (d : Error). Finishes {T = T} old.skin old.width read sent before (Err d) before) (sym is) (
   [],
   subst (λ (b : List ℕ). BeginsStreamed old.skin old.width read b) (sym (append-nil sent)) (begins_streamed read [] read sent old (sym (append-nil read)) h),
   sym (after-nil before),

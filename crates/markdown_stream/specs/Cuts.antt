@@ -2,9 +2,9 @@
 use Rattle.std.specs.Prelude.{ℕ, ◌-◌, Bool, true, false, ◌||◌, ◌&&◌, ◌==◌, nat_lt, List, [], ◌∷◌, ◌++◌, length, take, slice_index, if◌then◌else◌}
 use Rattle.std.specs.List.{onto_first}
 use Rattle.std.specs.Str.Lines.{strip_carriage_return}
-use Rattle.markdown_blocks.specs.Steps.{State, Line, Step, step}
+use Rattle.markdown_blocks.specs.Steps.{State, Line, step}
 use Rattle.markdown_blocks.specs.declared.leaves.Deed.{Deed}
-use Rattle.markdown_blocks.specs.declared.leaves.Deed.TheVariants.{Blank, Begins, Html, GoesOn, Closes, Underlines, Tabulates, Heading, Rule}
+use Rattle.markdown_blocks.specs.declared.leaves.Deed.TheVariants.{Blank, Begins, Html, GoesOn, Tabulates, Heading, Rule}
 use Rattle.markdown_blocks.specs.declared.leaves.Leaf.TheVariants.{Nothing}
 
 -- ---- lines
@@ -61,8 +61,8 @@ pub record SourcePart : Type 0 where
   pub source : List ℕ
   pub apart : Bool
 
--- How far a text is cut: the parts that are complete; the lines of the next one so far, and whether a blank line is before it; whether the last line
--- was blank.
+-- How far a text is cut: the parts that are complete, the lines of the next one so far, and whether a blank line is before it. Then whether the
+-- last line was blank.
 pub record Cutting : Type 0 where
   pub parts : List SourcePart
   pub held : List ℕ

@@ -1,5 +1,5 @@
 -- The steps of a source that is written as it comes.
-use Rattle.std.specs.Prelude.{◌≡◌, ℕ, ◌+◌, ◌≤◌, Bool, true, false, List, [], ◌++◌, length, take, Result, Ok, Err}
+use Rattle.std.specs.Prelude.{◌≡◌, ℕ, ◌+◌, ◌≤◌, Bool, true, false, List, ◌++◌, length, take, Result, Ok, Err}
 use Rattle.mad_stream.specs.TextFronts.{IsTextFront, BeginNoText}
 use Rattle.mad_stream.specs.declared.source_error.SourceError.{SourceError}
 use Rattle.mad_stream.specs.declared.source_error.SourceError.TheVariants.{Source, Device, NotUtf8, Memory}
@@ -17,8 +17,6 @@ pub record FeedsBlock (old : MarkdownStream) (block : List ℕ) (used : ℕ) (is
   pub fed : Fed old (take used block) new before (λ t. t) between
   pub went : now ≡ flushed between
   pub prompt : IsPrompt new
-  pub skin : new.skin ≡ old.skin
-  pub width : new.width ≡ old.width
 
 -- The text at the front of a block is this. Some rows went out, a front of those of the whole, and then there was this.
 pub record Stopped (old : MarkdownStream) (block : List ℕ) (before : Trace) (fault : Trace → Trace) (now : Trace) : Type 0 where

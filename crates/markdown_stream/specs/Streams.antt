@@ -33,8 +33,8 @@ pub record BeginsStreamed (skin : RowSkin) (width : Option ℕ) (text bytes : Li
   pub left : List ℕ
   pub rows : text_bytes skin width lines ≡ bytes ++ left
 
--- What a call does at whose end all of a text went out, of which these bytes were sent before: the others went out; or a front of them, and then the device
--- failed or memory was refused.
+-- What a call does at the end of a text, of whose rows these bytes were sent before. The others go out; or a front of them, and then the device
+-- fails or memory is refused.
 abbrev pub Finishes : {T : Type 0} → RowSkin → Option ℕ → (text sent : List ℕ) → Trace → Result T Error → Trace → Type 0
 Finishes skin width text sent before (Ok x) now = (bytes : List ℕ) × IsStreamed skin width text (sent ++ bytes) × (now ≡ after before bytes)
 Finishes skin width text sent before (Err (IO e)) now = (bytes : List ℕ) × BeginsStreamed skin width text (sent ++ bytes) × (now ≡ failed (after before bytes))
@@ -71,11 +71,13 @@ IsPrompt s = s.rows.items ≡ []
 
 -- ---- what a step does
 
--- the piece was taken, and these bytes went out; then there was this
+-- The piece was taken, in the same skin and at the same width, and these bytes went out. Then there was this.
 pub record Fed (old : MarkdownStream) (piece : List ℕ) (new : MarkdownStream) (before : Trace) (fault : Trace → Trace) (now : Trace) : Type 0 where
   pub bytes : List ℕ
   pub went : now ≡ fault (after before bytes)
   pub keeps : (read sent : List ℕ) → IsInStep read old sent → IsInStep (read ++ piece) new (sent ++ bytes)
+  pub skin : new.skin ≡ old.skin
+  pub width : new.width ≡ old.width
 
 -- A piece was taken, where memory wasn't refused.
 abbrev pub Feeds : {T : Type 0} → MarkdownStream → List ℕ → MarkdownStream → Trace → Result T Error → Trace → Type 0

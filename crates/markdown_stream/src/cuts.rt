@@ -1,9 +1,8 @@
 //! Where a text is cut into parts, by what its lines are.
 
 ghost use Rattle.std.specs.Prelude.{◌≡◌};
-ghost use Rattle.std.specs.Str.Lines.{strip_carriage_return};
 ghost use Rattle.markdown_blocks.specs.Steps.{line_of};
-ghost use Rattle.markdown_stream.specs.Cuts.{begins_anew, ends_all, is_passed, content, without_newline};
+ghost use Rattle.markdown_stream.specs.Cuts.{begins_leaf, begins_anew, ends_leaf, ends_all, is_passed, content, without_newline};
 
 use markdown_blocks::{Deed, LineRead};
 
@@ -34,11 +33,8 @@ fn begins_leaf(deed: Deed) -> bool
 {
     match deed {
         Deed::Begins(_) | Deed::Html | Deed::Heading(_) | Deed::Rule => true,
-        Deed::Blank
-        | Deed::GoesOn
-        | Deed::Closes
-        | Deed::Underlines(_)
-        | Deed::Tabulates(_) => false,
+        Deed::Blank | Deed::GoesOn | Deed::Closes | Deed::Underlines(_) | Deed::Tabulates(_) =>
+            false,
     }
 }
 

@@ -10,7 +10,8 @@ use mad_layout::MadSkin;
 use mad_term::{Error, Out};
 use std::alloc::Global;
 
-/// Writes a text of Markdown as people write it that is given in pieces, as [`MarkdownStream`] does: the cuts don't matter. Nothing is flushed.
+/// Writes a text of Markdown as people write it that is given in pieces, as [`MarkdownStream`] does: the cuts don't matter. Nothing is
+/// flushed.
 ///
 /// # Errors
 ///

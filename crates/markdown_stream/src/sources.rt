@@ -18,8 +18,8 @@ use std::alloc::Global;
 ///
 /// # Errors
 ///
-/// The first fault of the source or of the device, or out of memory: a beginning of the rows went out. Where the source failed, these are all rows of
-/// complete parts. Or bytes that aren't UTF-8: all rows of the text before them went out, and were flushed.
+/// The first fault of the source or of the device, or out of memory: a beginning of the rows went out. Where the source failed, these are all
+/// rows of complete parts. Or bytes that aren't UTF-8: all rows of the text before them went out, and were flushed.
 pub fn write_markdown_source_on<I: Source, O: Out>(
     alloc: Global,
     input: &mut I,

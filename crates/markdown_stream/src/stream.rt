@@ -1,10 +1,10 @@
 //! A text in pieces, part by part.
 
-ghost use Rattle.std.specs.Prelude.{◌≡◌, ◌≤◌, ℕ, List, [], ◌∷◌, OnOk, IfOk, length, drop};
+ghost use Rattle.std.specs.Prelude.{◌≡◌, ◌≤◌, ◌||◌, ℕ, List, [], ◌∷◌, OnOk, IfOk, length, drop};
 ghost use Rattle.markdown_layout.specs.WrittenMarkdown.{markdown_skin};
 ghost use Rattle.mad_md.specs.Lines.{contents};
 ghost use Rattle.markdown_stream.specs.Cuts.{completed, completed_if};
-ghost use Rattle.markdown_stream.specs.Streamed.{blank_line};
+ghost use Rattle.markdown_stream.specs.Streamed.{blank_line, gap, is_spaced};
 ghost use Rattle.markdown_stream.specs.Streams.{IsInStep, Feeds, Finishes, IsPrompt, Turns, ReadsLine, TakesPiece, EndsLine, EndsText, ShowsLines, KeepsRows, Sends};
 
 use crate::cuts::{begins_anew, content, ends_all, is_passed};
@@ -33,10 +33,12 @@ struct Shown {
 
 /// Markdown as people write it that comes in pieces. Each part goes out laid out as soon as it is complete.
 ///
-/// A part is a block that is in no other, or an item of a list that is in no other. It is complete with the line that leaves nothing open,
-/// as a blank one, a heading or the end of a fence, or else before the line in which nothing that was open goes on. A line is complete with its newline.
-/// Each part is read by itself, so a link whose definition is in another part is text. For the rest, what goes out in all are the rows that
-/// [`write_markdown_on`](markdown_layout::write_markdown_on) writes of the whole text, wherever it was cut. It takes memory for the largest part, and for the rows of a piece.
+/// A part is a block that is in no other, or an item of a list that is in no other. It is complete with a line that leaves nothing open: a
+/// blank one, a heading, the end of a fence. Else it is so before the line in which nothing that was open goes on. A line is complete with
+/// its newline.
+///
+/// Each part is read by itself, so a link whose definition is in another part is text. What goes out in all is the same wherever the text
+/// was cut. It takes memory for the largest part, and for the rows of a piece.
 #[derive(Drop)]
 pub struct MarkdownStream {
     skin: RowSkin,
@@ -85,14 +87,12 @@ impl MarkdownStream {
     ///
     /// # Errors
     ///
-    /// A fault of the device: all of the piece was taken, and what went out is a beginning of the rows. One can go on, with the next piece or with an empty
-    /// one, on the same device or another: nothing is lost, and nothing is written twice. Or out of memory, before the first byte; then the stream is of
-    /// no use any more.
+    /// A fault of the device: all of the piece was taken, and what went out is a beginning of the rows. One can go on, with the next piece or
+    /// with an empty one, on the same device or another: nothing is lost, and nothing is written twice. Or out of memory, before the first
+    /// byte; then the stream is of no use any more.
     pub fn feed<O: Out>(&mut self, alloc: Global, out: &mut O, piece: &str) -> Result<(), Error>
         ensures fed { Feeds self.old piece.now self.new (O.seen out.old) result (O.seen out.new) }
         ensures prompt { OnOk result (IsPrompt self.new) }
-        ensures skin { self.new.skin ≡ self.old.skin }
-        ensures width { self.new.width ≡ self.old.width }
     {
         self.take(alloc, piece)?;
         self.send(out)
@@ -120,7 +120,8 @@ impl MarkdownStream {
             self.end_line(alloc, line)?;
             rest = after;
         }
-        self.line.push_str(rest)
+        self.line.push_str(rest)?;
+        Ok(())
     }
 
     // The line that has begun ends so.
@@ -129,7 +130,8 @@ impl MarkdownStream {
     {
         self.line.push_str(end)?;
         let line = replace(&mut self.line, String::new(alloc));
-        self.read_line(alloc, line.as_str())
+        self.read_line(alloc, line.as_str())?;
+        Ok(())
     }
 
     // What has come is all.
@@ -138,10 +140,12 @@ impl MarkdownStream {
     {
         let line = replace(&mut self.line, String::new(alloc));
         if line.as_bytes().is_empty() {
-            return self.complete(alloc);
+            self.complete(alloc)?;
+            return Ok(());
         }
         self.read_line(alloc, line.as_str())?;
-        self.complete(alloc)
+        self.complete(alloc)?;
+        Ok(())
     }
 
     // A line comes. It belongs to the part that is held, unless that ends before it.
@@ -152,14 +156,19 @@ impl MarkdownStream {
         self.complete_if(alloc, begins_anew(&read))?;
         self.held.push_str(line)?;
         self.passed = is_passed(&read);
-        self.complete_if(alloc, ends_all(&read))
+        self.complete_if(alloc, ends_all(&read))?;
+        Ok(())
     }
 
     // The part that is held is complete, or isn't.
     fn complete_if(&mut self, alloc: Global, over: bool) -> Result<(), AllocError>
         ensures { OnOk result (Turns (completed_if over) self.old self.new) }
     {
-        if over { self.complete(alloc) } else { Ok(()) }
+        if !over {
+            return Ok(());
+        }
+        self.complete(alloc)?;
+        Ok(())
     }
 
     // The part that is held is complete: its rows are laid out.
@@ -178,22 +187,32 @@ impl MarkdownStream {
     fn show(&mut self, alloc: Global, text: Text<'_>) -> Result<(), AllocError>
         ensures { OnOk result (ShowsLines (contents text.entry) self.old self.new) }
     {
-        let apart = self.last.apart || self.apart;
         if text.lines.as_slice().is_empty() {
-            self.last.apart = apart;
+            self.last.apart = either(self.last.apart, self.apart);
             return Ok(());
         }
         let big = ends_big(&text.lines);
-        if self.last.some && (apart || self.last.big || begins_big(&text.lines)) {
-            let blank = blank_text(alloc)?;
-            self.push_rows(alloc, blank)?;
-        }
+        let spaced = is_spaced(self.last, self.apart, begins_big(&text.lines));
+        self.push_gap(alloc, spaced)?;
         self.push_rows(alloc, text)?;
         self.last = Shown {
             some: true,
             big,
             apart: false,
         };
+        Ok(())
+    }
+
+    // A blank row, or none.
+    fn push_gap(&mut self, alloc: Global, spaced: bool) -> Result<(), AllocError>
+        ensures rows { OnOk result (KeepsRows (gap spaced) self.old self.new) }
+        ensures same { self.new ≡ record self.old { rows = self.new.rows } }
+    {
+        if !spaced {
+            return Ok(());
+        }
+        let blank = blank_text(alloc)?;
+        self.push_rows(alloc, blank)?;
         Ok(())
     }
 
@@ -209,7 +228,8 @@ impl MarkdownStream {
             outer: self.width,
         };
         let rows = placed.to_string(alloc)?;
-        self.rows.extend_from_slice(rows.as_bytes())
+        self.rows.extend_from_slice(rows.as_bytes())?;
+        Ok(())
     }
 
     // The rows go out. What the device doesn't take is kept.
@@ -224,6 +244,19 @@ impl MarkdownStream {
             Err(error) => Err(Error::IO(error)),
         }
     }
+}
+
+fn either(first: bool, second: bool) -> bool
+    ensures { result ≡ (first || second) }
+{
+    first || second
+}
+
+// Whether a blank row is below what was shown last.
+fn is_spaced(last: Shown, apart: bool, big: bool) -> bool
+    ensures { result ≡ is_spaced last apart big }
+{
+    last.some && (last.apart || apart || last.big || big)
 }
 
 // Drops the first bytes, `count` of them.

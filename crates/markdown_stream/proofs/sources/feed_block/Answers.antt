@@ -13,7 +13,7 @@ returns-in-Err g c =
     let text = c.cut_text-is_wrong.result.0.now in
     let fed = subst (λ (r : Result (Unit {0}) Error). Feeds old text c.feed.new.self (g.O.Out.seen c.args.out.now) r (g.O.Out.seen c.feed.new.out)) c.in-Err.is c.feed.ensures.fed in
     subst (λ (e : SourceError). StopsInBlock old c.args.block.now (g.O.Out.seen c.args.out.now) e (g.O.Out.seen c.feed.new.out)) (sym c.refusal_of.ensures)
-    (stops_at_rows old c.feed.new.self c.args.block.now text _ c.in-Err.error _ c.cut_text-is_wrong.ensures.front fed c.feed.ensures.skin c.feed.ensures.width)
+    (stops_at_rows (Unit {0}) old c.feed.new.self c.args.block.now text _ c.in-Err.error _ c.cut_text-is_wrong.ensures.front fed)
 
 pub returns-in_err-flush : goal.returns-in_err-flush
 returns-in_err-flush g c =
@@ -21,4 +21,4 @@ returns-in_err-flush g c =
     let text = c.cut_text-is_wrong.result.0.now in
     let fed = subst (λ (r : Result (Unit {0}) Error). Feeds old text c.feed.new.self (g.O.Out.seen c.args.out.now) r (g.O.Out.seen c.feed.new.out)) c.in-Ok.is c.feed.ensures.fed in
     refused_exit c.from_residual.result _ (λ e. StopsInBlock old c.args.block.now (g.O.Out.seen c.args.out.now) e (g.O.Out.seen c.flush.new.out)) _ c.from_residual.ensures.1
-    (stops_at_flush (Unit {0}) old c.feed.new.self c.args.block.now text _ (g.O.Out.seen c.feed.new.out) _ _ c.cut_text-is_wrong.ensures.front fed c.in_err-flush.ensures c.feed.ensures.skin c.feed.ensures.width)
+    (stops_at_flush (Unit {0}) old c.feed.new.self c.args.block.now text _ (g.O.Out.seen c.feed.new.out) _ _ c.cut_text-is_wrong.ensures.front fed c.in_err-flush.ensures)
