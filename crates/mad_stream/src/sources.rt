@@ -13,8 +13,8 @@ use mad_layout::MadSkin;
 use mad_term::{Error, Out, Source};
 use std::alloc::Global;
 
-// How many bytes a block has: those that wait, and those that one fill is asked for.
-pub(crate) const BLOCK: usize = 1 << 14;
+/// How many bytes a block has: those that wait, and those that one fill is asked for.
+pub const BLOCK: usize = 1 << 14;
 
 /// Reads a source to its end, and writes its Markdown text as it comes, in a skin and at a width, in columns, if there is one.
 ///
@@ -99,7 +99,7 @@ fn end_text<O: Out>(
 }
 
 /// The bytes of a block from the first place to the second go to its front.
-pub(crate) fn keep_from(block: &mut [u8], from: usize, to: usize)
+pub fn keep_from(block: &mut [u8], from: usize, to: usize)
     requires order { from ≤ to }
     requires inside { to ≤ length block.old }
     ensures kept { take (to - from) block.new ≡ drop from (take to block.old) }
@@ -109,7 +109,7 @@ pub(crate) fn keep_from(block: &mut [u8], from: usize, to: usize)
 }
 
 /// Has the device hand on what it keeps back.
-pub(crate) fn flush<O: Out>(out: &mut O) -> Result<(), SourceError>
+pub fn flush<O: Out>(out: &mut O) -> Result<(), SourceError>
     ensures { FlushesOut (O.seen out.old) result (O.seen out.new) }
 {
     match out.flush() {
@@ -119,7 +119,7 @@ pub(crate) fn flush<O: Out>(out: &mut O) -> Result<(), SourceError>
 }
 
 /// What a refused writing of rows is told as. Rows are never refused for their width.
-pub(crate) fn refusal_of(error: Error) -> SourceError
+pub fn refusal_of(error: Error) -> SourceError
     ensures { result ≡ refusal_of error }
 {
     match error {

@@ -4,11 +4,13 @@
 //!
 //! 1. [`pieces`]: what goes out after each piece, by `TextStream` and by the call that keeps no state.
 //! 2. [`cuts`]: each cut of a text, devices that fail after each byte, and sources.
-//! 3. [`paper`]: a terminal that scrolls. [`live`]: what it shows of texts that grow.
+//! 3. [`markdown`]: the same of Markdown as people write it.
+//! 4. [`paper`]: a terminal that scrolls. [`live`]: what it shows of texts that grow.
 #![tactic(auto)]
 
 mod cuts;
 mod live;
+mod markdown;
 mod paper;
 mod pieces;
 
@@ -52,6 +54,8 @@ fn answer_asked(name: &str, asked: &Asked) -> Result<String, AllocError> {
         "cuts" => cuts::at_each_byte(asked),
         "faults" => cuts::gone_on_with(asked),
         "source" => cuts::source(asked),
+        "markdown" => markdown::went_out(asked),
+        "markdown_cuts" => markdown::at_each_byte(asked),
         "live" => live::after_each(asked),
         "live_source" => live::source(asked),
         _ => String::from_str(asked.alloc, "no such call"),

@@ -32,7 +32,8 @@ pub fn went_out(asked: &Asked) -> Result<String, AllocError> {
     Ok(told)
 }
 
-fn push_rows(told: &mut String, out: &CutOut) -> Result<(), AllocError> {
+/// The rows that a piece lets out.
+pub fn push_rows(told: &mut String, out: &CutOut) -> Result<(), AllocError> {
     told.push_str(str::from_utf8(out.taken()).unwrap_or("no text"))?;
     told.push_str(BETWEEN)?;
     told.push('\n')

@@ -237,3 +237,7 @@ pub use Rattle.mad_stream.specs.TextFronts as StreamedFronts
 pub use Rattle.markdown_layout.specs.WrittenMarkdown
 pub use Rattle.markdown_reader.specs.Markdown
 pub use Rattle.markdown_reader.specs.Printed
+pub use Rattle.markdown_stream.specs.Cuts as MarkdownCuts
+pub use Rattle.markdown_stream.specs.Sources as MarkdownSources
+pub use Rattle.markdown_stream.specs.Streamed as StreamedMarkdown
+pub use Rattle.markdown_stream.specs.Streams as MarkdownStreams

@@ -8,7 +8,7 @@ use Rattle.mad_term.specs.declared.errors.Error.TheVariants.{IO, InsufficientWid
 use Rattle.termimad.specs.declared.MadSkin.{MadSkin}
 use Rattle.termimad.specs.declared.SourceError.{SourceError}
 use Rattle.termimad_run.specs.declared.call.Command.{Command}
-use Rattle.termimad_run.specs.declared.call.Command.TheVariants.{InArea, AtWidth, AsMarkdown, AsItComes, Live, Inline}
+use Rattle.termimad_run.specs.declared.call.Command.TheVariants.{InArea, AtWidth, AsMarkdown, AsItComes, MarkdownAsItComes, Live, Inline}
 use Rattle.mad_term.proofs.Traces.{took_flushed}
 use Rattle.termimad.specs.Headline.{AreShownAcross}
 use Rattle.termimad.specs.RowSkins.{row_skin}
@@ -99,6 +99,7 @@ still_shown skin (InArea area) text old written new (headline, h) is = (
 still_shown skin (AtWidth width) text old written new h is = tt
 still_shown skin (AsMarkdown width) text old written new h is = tt
 still_shown skin (AsItComes width) text old written new h is = tt
+still_shown skin (MarkdownAsItComes width) text old written new h is = tt
 still_shown skin (Live width height) text old written new h is = tt
 still_shown skin Inline text old written new h is = tt
 

@@ -1,8 +1,8 @@
 -- The words ask for one skin at most.
-use Rattle.std.proofs.Common.{◌≡◌, ℕ, List, [], ◌∷◌, get_or, ◌⊎◌, Option, Some, None, inl, inr, Ok, Err, refl, ap, sym, ◌∙◌, subst, arith}
+use Rattle.std.proofs.Common.{◌≡◌, ℕ, List, [], ◌∷◌, length, get_or, ◌⊎◌, Option, Some, None, inl, inr, Ok, Err, refl, ap, sym, ◌∙◌, subst, arith}
 use Rattle.termimad.specs.declared.MadSkin.{MadSkin}
 use Rattle.termimad_run.specs.declared.call.Command.{Command}
-use Rattle.termimad_run.specs.declared.call.Command.TheVariants.{InArea, AtWidth, AsMarkdown, AsItComes, Live, Inline}
+use Rattle.termimad_run.specs.declared.call.Command.TheVariants.{InArea, AtWidth, AsMarkdown, AsItComes, MarkdownAsItComes, Live, Inline}
 use Rattle.termimad_run.specs.declared.failure.Failure.{Failure}
 use Rattle.termimad_run.specs.declared.failure.Failure.TheVariants.{Io, Usage, NotUtf8, Skin, Memory}
 use Rattle.mad_term.specs.Trace.{Trace}
@@ -59,6 +59,19 @@ asked_once (name ∷ words) (Live n x) (AsItComes m) a b h k = absurd (let e : 1
 asked_once (name ∷ words) Inline (Live m y) a b h k = absurd (let e : 105 ≡ 108 = first_byte 105 108 name _ _ h.0 k.0 in omega (arith, e))
 asked_once (name ∷ words) (Live n x) Inline a b h k = absurd (let e : 108 ≡ 105 = first_byte 108 105 name _ _ h.0 k.0 in omega (arith, e))
 asked_once (name ∷ w ∷ t ∷ rest) (Live n x) (Live m y) a b h k = one_word rest a b h.1.2 k.1.2
+asked_once (name ∷ words) (InArea x) (MarkdownAsItComes k) a b h i = absurd (let e : 97 ≡ 109 = first_byte 97 109 name _ _ h.0 i.0 in omega (arith, e))
+asked_once (name ∷ words) (MarkdownAsItComes k) (InArea y) a b h i = absurd (let e : 109 ≡ 97 = first_byte 109 97 name _ _ h.0 i.0 in omega (arith, e))
+asked_once (name ∷ words) (AtWidth n) (MarkdownAsItComes k) a b h i = absurd (let e : 116 ≡ 109 = first_byte 116 109 name _ _ h.0 i.0 in omega (arith, e))
+asked_once (name ∷ words) (MarkdownAsItComes k) (AtWidth m) a b h i = absurd (let e : 109 ≡ 116 = first_byte 109 116 name _ _ h.0 i.0 in omega (arith, e))
+asked_once (name ∷ words) (AsItComes n) (MarkdownAsItComes k) a b h i = absurd (let e : 115 ≡ 109 = first_byte 115 109 name _ _ h.0 i.0 in omega (arith, e))
+asked_once (name ∷ words) (MarkdownAsItComes k) (AsItComes m) a b h i = absurd (let e : 109 ≡ 115 = first_byte 109 115 name _ _ h.0 i.0 in omega (arith, e))
+asked_once (name ∷ words) Inline (MarkdownAsItComes k) a b h i = absurd (let e : 105 ≡ 109 = first_byte 105 109 name _ _ h.0 i.0 in omega (arith, e))
+asked_once (name ∷ words) (MarkdownAsItComes k) Inline a b h i = absurd (let e : 109 ≡ 105 = first_byte 109 105 name _ _ h.0 i.0 in omega (arith, e))
+asked_once (name ∷ words) (Live n x) (MarkdownAsItComes k) a b h i = absurd (let e : 108 ≡ 109 = first_byte 108 109 name _ _ h.0 i.0 in omega (arith, e))
+asked_once (name ∷ words) (MarkdownAsItComes k) (Live m y) a b h i = absurd (let e : 109 ≡ 108 = first_byte 109 108 name _ _ h.0 i.0 in omega (arith, e))
+asked_once (name ∷ words) (AsMarkdown n) (MarkdownAsItComes k) a b h i = absurd (let e : 8 ≡ 15 = ap length (sym h.0 ∙ i.0) in omega (arith, e))
+asked_once (name ∷ words) (MarkdownAsItComes k) (AsMarkdown m) a b h i = absurd (let e : 15 ≡ 8 = ap length (sym h.0 ∙ i.0) in omega (arith, e))
+asked_once (name ∷ w ∷ rest) (MarkdownAsItComes n) (MarkdownAsItComes m) a b h k = one_word rest a b h.1.1 k.1.1
 asked_once _ _ _ a b h k = absurd h.1
 
 known_skin : (word : Option (List ℕ)) (given : MadSkin × List (List ℕ)) → skin_given word ≡ Some given → skin_given word ≡ None → ⊥

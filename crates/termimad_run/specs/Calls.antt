@@ -4,7 +4,9 @@ use Rattle.termimad.specs.Areas.{IsWithinLimits}
 use Rattle.termimad.specs.declared.Area.{Area}
 use Rattle.termimad.specs.declared.MadSkin.{MadSkin}
 use Rattle.termimad_run.specs.declared.call.Command.{Command}
-use Rattle.termimad_run.specs.declared.call.Command.TheVariants.{InArea, AtWidth, AsMarkdown, AsItComes, Live, Inline}
+use Rattle.termimad_run.specs.declared.call.Command.TheVariants.{InArea, AtWidth, AsMarkdown, AsItComes, MarkdownAsItComes, Live, Inline}
+use Rattle.termimad_run.specs.declared.call.Pieces.{Pieces}
+use Rattle.termimad_run.specs.declared.call.Pieces.TheVariants.{Stream as StreamPieces, Markdown as MarkdownPieces, Live as LivePieces}
 use Rattle.termimad_run.specs.declared.failure.Failure.{Failure}
 use Rattle.termimad_run.specs.declared.failure.Failure.TheVariants.{Usage, Skin, Memory}
 use Rattle.termimad_run.specs.GivenSkins.{skin_given, IsJsonText}
@@ -30,7 +32,7 @@ abbrev pub AsksArea : List (List ℕ) → Area → Option (List ℕ) → Type 0
 AsksArea (left ∷ top ∷ width ∷ height ∷ rest) area word = IsAreaOf left top width height area × IsSkinWord rest word
 AsksArea _ area word = ⊥
 
--- the words after `text`, `markdown` or `stream`: W [SKIN]
+-- the words after `text`, `markdown`, `stream` or `markdown-stream`: W [SKIN]
 abbrev pub AsksWidth : List (List ℕ) → ℕ → Option (List ℕ) → Type 0
 AsksWidth [] width word = ⊥
 AsksWidth (given ∷ rest) width word = IsNumber given width × IsSkinWord rest word
@@ -40,13 +42,14 @@ abbrev pub AsksSize : List (List ℕ) → ℕ → ℕ → Option (List ℕ) → 
 AsksSize (wide ∷ high ∷ rest) width height word = IsNumber wide width × IsNumber high height × IsSkinWord rest word
 AsksSize _ width height word = ⊥
 
--- The words ask for this: area L T W H [SKIN], text W [SKIN], markdown W [SKIN], stream W [SKIN], live W H [SKIN], or inline [SKIN].
+-- The words ask for this: area L T W H [SKIN], text W [SKIN], markdown W [SKIN], stream W [SKIN], markdown-stream W [SKIN], live W H [SKIN], or inline [SKIN].
 abbrev pub Asks : List (List ℕ) → Command → Option (List ℕ) → Type 0
 Asks [] command word = ⊥
 Asks (name ∷ words) (InArea area) word = (name ≡ codes "area") × AsksArea words area word
 Asks (name ∷ words) (AtWidth width) word = (name ≡ codes "text") × AsksWidth words width word
 Asks (name ∷ words) (AsMarkdown width) word = (name ≡ codes "markdown") × AsksWidth words width word
 Asks (name ∷ words) (AsItComes width) word = (name ≡ codes "stream") × AsksWidth words width word
+Asks (name ∷ words) (MarkdownAsItComes width) word = (name ≡ codes "markdown-stream") × AsksWidth words width word
 Asks (name ∷ words) (Live width height) word = (name ≡ codes "live") × AsksSize words width height word
 Asks (name ∷ words) Inline word = (name ≡ codes "inline") × IsSkinWord words word
 
@@ -56,19 +59,22 @@ IsAllowed (InArea area) = (4 ≤ area.width) × IsWithinLimits area
 IsAllowed (AtWidth width) = ⊤
 IsAllowed (AsMarkdown width) = ⊤
 IsAllowed (AsItComes width) = ⊤
+IsAllowed (MarkdownAsItComes width) = ⊤
 IsAllowed (Live width height) = ⊤
 IsAllowed Inline = ⊤
 
 -- the command wants the text whole: nothing is written before all of it was read
 abbrev pub IsWhole : Command → Type 0
 IsWhole (AsItComes width) = ⊥
+IsWhole (MarkdownAsItComes width) = ⊥
 IsWhole (Live width height) = ⊥
 IsWhole _ = ⊤
 
--- the command that lays a text out as it comes, at a width; with the screen's rows it shows it on a terminal that scrolls
-abbrev pub command_of_pieces : ℕ → Option ℕ → Command
-command_of_pieces width None = AsItComes width
-command_of_pieces width (Some height) = Live width height
+-- the command that writes a text as it comes
+abbrev pub command_of_pieces : Pieces → Command
+command_of_pieces (StreamPieces width) = AsItComes width
+command_of_pieces (MarkdownPieces width) = MarkdownAsItComes width
+command_of_pieces (LivePieces width height) = Live width height
 
 -- the words ask for nothing that the program does
 abbrev pub IsNoCall : List (List ℕ) → Type 0

@@ -9,6 +9,7 @@ use Rattle.termimad.specs.Headline.{ShowsHeadline}
 use Rattle.termimad.specs.InArea.{WritesInArea, ShowsText}
 use Rattle.termimad.specs.Inlines.{inline_bytes}
 use Rattle.termimad.specs.Markdown.{markdown_lines}
+use Rattle.termimad.specs.MarkdownSources.{StreamsMarkdown}
 use Rattle.termimad.specs.RowSkins.{row_skin}
 use Rattle.termimad.specs.LiveSources.{ShowsSource}
 use Rattle.termimad.specs.StreamedSources.{StreamsSource}
@@ -17,7 +18,7 @@ use Rattle.termimad.specs.WrittenParts.{WritesParts}
 use Rattle.termimad.specs.declared.MadSkin.{MadSkin}
 use Rattle.termimad.specs.declared.SourceError.{SourceError}
 use Rattle.termimad_run.specs.declared.call.Command.{Command}
-use Rattle.termimad_run.specs.declared.call.Command.TheVariants.{InArea, AtWidth, AsMarkdown, AsItComes, Live, Inline}
+use Rattle.termimad_run.specs.declared.call.Command.TheVariants.{InArea, AtWidth, AsMarkdown, AsItComes, MarkdownAsItComes, Live, Inline}
 use Rattle.termimad_run.specs.declared.failure.Failure.{Failure}
 use Rattle.termimad_run.specs.declared.failure.Failure.TheVariants.{Io, Usage, NotUtf8, Skin, Memory}
 use Rattle.termimad_run.specs.Calls.{IsCall, IsWhole, IsNoCall, AsksRefusedSkin, AsksJson, RefusesWords}
@@ -60,6 +61,7 @@ WritesCall skin (InArea area) text old r new = WritesInArea (row_skin skin) text
 WritesCall skin (AtWidth width) text old r new = WritesParts (row_skin skin) (Some width) text old r new
 WritesCall skin (AsMarkdown width) text old r new = WritesLines (markdown_skin skin) (Some width) (markdown_lines text) old r new
 WritesCall skin (AsItComes width) text old r new = WritesParts (row_skin skin) (Some width) text old r new
+WritesCall skin (MarkdownAsItComes width) text old r new = WritesLines (markdown_skin skin) (Some width) (markdown_lines text) old r new
 WritesCall skin (Live width height) text old r new = WritesParts (row_skin skin) (Some width) text old r new
 WritesCall skin Inline text old r new = (line : List ℕ) × IsWithoutLineEnd text line × WritesLine skin line old r new
 
@@ -71,6 +73,7 @@ ShowsCall skin (InArea area) text old new =
 ShowsCall skin (AtWidth width) text old new = ⊤
 ShowsCall skin (AsMarkdown width) text old new = ⊤
 ShowsCall skin (AsItComes width) text old new = ⊤
+ShowsCall skin (MarkdownAsItComes width) text old new = ⊤
 ShowsCall skin (Live width height) text old new = ⊤
 ShowsCall skin Inline text old new = ⊤
 
@@ -132,10 +135,11 @@ RunsWhole words old (Err NotUtf8) new = IsNoText words old new
 RunsWhole words old (Err Io) new = FailsToRead words old Io new ⊎ (FailsToWrite words old Io new ⊎ FailsToFlush words old new)
 RunsWhole words old (Err Memory) new = (AsksJson words × (new ≡ old)) ⊎ (FailsToRead words old Memory new ⊎ FailsToWrite words old Memory new)
 
--- What a command reads, and what goes out, that writes a text as it comes: `stream` writes the rows of its parts, and `live` shows it on a terminal that
--- scrolls. No other does.
+-- What a command reads, and what goes out, that writes a text as it comes: `stream` writes the rows of its parts, `markdown-stream` those of the parts of
+-- Markdown as people write it, and `live` shows it on a terminal that scrolls. No other does.
 abbrev pub ComesAs : {T : Type 0} → MadSkin → Command → Trace → Trace → Result T SourceError → Trace → Trace → Type 0
 ComesAs skin (AsItComes width) input out r input_now out_now = StreamsSource (row_skin skin) (Some width) input out r input_now out_now
+ComesAs skin (MarkdownAsItComes width) input out r input_now out_now = StreamsMarkdown (markdown_skin skin) (Some width) input out r input_now out_now
 ComesAs skin (Live width height) input out r input_now out_now = ShowsSource (row_skin skin) (Some width) height input out r input_now out_now
 ComesAs skin command input out r input_now out_now = ⊥
 

@@ -24,6 +24,8 @@ pub enum Command {
     AsMarkdown(u16),
     /// `stream W`: the text, laid out at that width, in columns, as it comes.
     AsItComes(u16),
+    /// `markdown-stream W`: the text, read as people write Markdown and laid out at that width, in columns, as it comes: each part by itself.
+    MarkdownAsItComes(u16),
     /// `live W H`: the text on a terminal that scrolls, laid out at that width, in columns, on a screen that has so many rows. It is shown
     /// as it comes, and what may change is redrawn in place.
     Live(u16, u16),
@@ -43,7 +45,7 @@ pub struct Call {
 }
 
 /// The call that the words after the program's name are: `area L T W H [SKIN]`, `text W [SKIN]`, `markdown W [SKIN]`,
-/// `stream W [SKIN]`, `live W H [SKIN]` or `inline [SKIN]`.
+/// `stream W [SKIN]`, `markdown-stream W [SKIN]`, `live W H [SKIN]` or `inline [SKIN]`.
 ///
 /// # Errors
 ///
@@ -84,6 +86,10 @@ fn parse_words(words: &[String]) -> Option<(Command, Option<&str>)>
             let (width, word) = parse_text_call(words)?;
             Some((Command::AsItComes(width), word))
         }
+        "markdown-stream" => {
+            let (width, word) = parse_text_call(words)?;
+            Some((Command::MarkdownAsItComes(width), word))
+        }
         "live" => {
             let (width, height, word) = parse_live_call(words)?;
             Some((Command::Live(width, height), word))
@@ -105,7 +111,7 @@ fn parse_area_call(words: &[String]) -> Option<(Area, Option<&str>)>
     Some((area, skin_word(rest)?))
 }
 
-// What the words after `text`, `markdown` or `stream` ask for.
+// What the words after `text`, `markdown`, `stream` or `markdown-stream` ask for.
 fn parse_text_call(words: &[String]) -> Option<(u16, Option<&str>)>
     ensures { MatchOption result ((width : ℕ) (word : Option (List ℕ)) → ¬ (AsksWidth (map string_bytes words.now) width word))
         (λ asked. AsksWidth (map string_bytes words.now) asked.0 (option_map (λ word. word.now) asked.1)) }
@@ -159,14 +165,27 @@ fn skin_word(words: &[String]) -> Option<Option<&str>>
     }
 }
 
-/// The width at which a text is to be laid out as it comes, and the screen's rows where it is shown on a terminal that scrolls; none, where a
-/// command wants it whole.
-pub(crate) fn size_of_pieces(command: &Command) -> Option<(usize, Option<usize>)>
-    ensures { MatchOption result (IsWhole command.now) (λ size. command.now ≡ command_of_pieces size.0 size.1) }
+/// How a text is written as it comes, at a width, in columns.
+#[derive(Clone, Copy, PartialEq, Eq, Debug)]
+pub(crate) enum Pieces {
+    /// Its rows go out.
+    Stream(usize),
+    /// It is read as people write Markdown, and its rows go out.
+    Markdown(usize),
+    /// It is shown on a terminal that scrolls, on a screen that has so many rows.
+    Live(usize, usize),
+}
+
+/// How a command writes a text as it comes; none, where it wants it whole.
+pub(crate) fn pieces_of(command: &Command) -> Option<Pieces>
+    ensures { MatchOption result (IsWhole command.now) (λ pieces. command.now ≡ command_of_pieces pieces) }
 {
     match command {
-        Command::AsItComes(width) => Some((usize::from(*width), None)),
-        Command::Live(width, height) => Some((usize::from(*width), Some(usize::from(*height)))),
+        Command::AsItComes(width) => Some(Pieces::Stream(usize::from(*width))),
+        Command::MarkdownAsItComes(width) => Some(Pieces::Markdown(usize::from(*width))),
+        Command::Live(width, height) => {
+            Some(Pieces::Live(usize::from(*width), usize::from(*height)))
+        }
         Command::InArea(_) | Command::AtWidth(_) | Command::AsMarkdown(_) | Command::Inline => None,
     }
 }

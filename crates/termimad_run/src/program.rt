@@ -4,7 +4,7 @@ ghost use Rattle.std.specs.Prelude.{◌≡◌, ◌↔◌, ◌⊎◌, MatchResult
 ghost use Rattle.termimad_run.specs.Calls.{IsNoCall, AsksRefusedSkin};
 ghost use Rattle.termimad_run.specs.ProgramRuns.{Starts, FailsToStart, RunsTo, HasRun};
 
-use crate::call::{Call, parse_call, size_of_pieces};
+use crate::call::{Call, parse_call, pieces_of};
 use crate::failure::{Failure, refuse};
 use crate::input::read_all;
 use crate::notice::say_unknown;
@@ -51,8 +51,8 @@ fn execute<I: Source, O: Out, E: Out>(
         (record { input = I.seen input.new; out = O.seen out.new; err = E.seen err.new }) }
 {
     let call = start(alloc, args, err)?;
-    if let Some((width, height)) = size_of_pieces(&call.command) {
-        write_as_it_comes(alloc, input, out, &call.skin, width, height)?;
+    if let Some(pieces) = pieces_of(&call.command) {
+        write_as_it_comes(alloc, input, out, &call.skin, pieces)?;
         return Ok(());
     }
     let bytes = read_all(alloc, input)?;

@@ -5,11 +5,11 @@ ghost use Rattle.termimad_run.specs.Calls.{IsAllowed, command_of_pieces};
 ghost use Rattle.termimad_run.specs.LineEnds.{IsWithoutLineEnd};
 ghost use Rattle.termimad_run.specs.ProgramRuns.{ComesAs, WritesCall, ShowsCall, WritesLine};
 
-use crate::call::Command;
+use crate::call::{Command, Pieces};
 use std::alloc::Global;
 use termimad::{
     Error, MadSkin, Out, Source, SourceError, put_all, show_source_on, write_markdown_on,
-    write_source_on,
+    write_markdown_source_on, write_source_on,
 };
 
 /// Writes a text in an area, or laid out at a width, or read as people write Markdown and laid out, or as one line with inline marks and a
@@ -37,27 +37,31 @@ pub fn write_call<O: Out>(
         Command::AtWidth(width) | Command::AsItComes(width) | Command::Live(width, _) => {
             skin.write_parts_on(alloc, out, text, Some(usize::from(*width)))
         }
-        Command::AsMarkdown(width) => {
+        Command::AsMarkdown(width) | Command::MarkdownAsItComes(width) => {
             write_markdown_on(alloc, out, skin, text, Some(usize::from(*width)))
         }
         Command::Inline => write_line(alloc, out, skin, without_line_end(text)),
     }
 }
 
-/// Writes a text as it comes, laid out at a width, in columns; or shows it on a terminal that scrolls, where the screen's rows are given.
+/// Writes a text as it comes, laid out at a width, in columns, or shows it on a terminal that scrolls.
 pub(crate) fn write_as_it_comes<I: Source, O: Out>(
     alloc: Global,
     input: &mut I,
     out: &mut O,
     skin: &MadSkin,
-    width: usize,
-    height: Option<usize>,
+    pieces: Pieces,
 ) -> Result<(), SourceError>
-    ensures { ComesAs skin.now (command_of_pieces width height) (I.seen input.old) (O.seen out.old) result (I.seen input.new) (O.seen out.new) }
+    ensures { ComesAs skin.now (command_of_pieces pieces) (I.seen input.old) (O.seen out.old) result (I.seen input.new) (O.seen out.new) }
 {
-    match height {
-        None => write_source_on(alloc, input, out, skin, Some(width)),
-        Some(height) => show_source_on(alloc, input, out, skin, Some(width), height),
+    match pieces {
+        Pieces::Stream(width) => write_source_on(alloc, input, out, skin, Some(width)),
+        Pieces::Markdown(width) => {
+            write_markdown_source_on(alloc, input, out, skin, Some(width))
+        }
+        Pieces::Live(width, height) => {
+            show_source_on(alloc, input, out, skin, Some(width), height)
+        }
     }
 }
 
