@@ -43,11 +43,7 @@ fn push_row(
 }
 
 // Adds rows, and their links.
-#[tactic(
-    auto,
-    unfolding(crate::specs::Tables::rows_links),
-    using(crate::proofs::LinkLemmas::one_more)
-)]
+#[tactic(auto, unfolding(crate::specs::Tables::rows_links), using(crate::proofs::LinkLemmas::one_more))]
 fn push_rows(
     alloc: Global,
     lines: &mut Lines,
@@ -68,11 +64,7 @@ fn push_rows(
 }
 
 // The rows below the head.
-#[tactic(
-    auto,
-    unfolding(crate::specs::Tables::rows_links),
-    using(crate::proofs::LinkLemmas::one_more)
-)]
+#[tactic(auto, unfolding(crate::specs::Tables::rows_links), using(crate::proofs::LinkLemmas::one_more))]
 fn push_body(
     alloc: Global,
     lines: &mut Lines,
