@@ -9,7 +9,9 @@ ghost use Rattle.markdown_lines.specs.Links.{leaf_addresses};
 ghost use Rattle.markdown_lines.specs.LinksOf.{defined_of};
 ghost use Rattle.markdown_lines.specs.Lines.{line_said, range_of, line_within, all_within};
 ghost use Rattle.markdown_lines.specs.Restyled.{restyled};
+ghost use Rattle.markdown_lines.specs.Printed.{ArePrinted};
 ghost use Rattle.markdown_lines.specs.Said.{said, range_said};
+ghost use Rattle.markdown_lines.specs.Steady.{steady_lines, AreSteadyLines};
 ghost use Rattle.mad_md.specs.Flagged.{unflagged};
 ghost use Rattle.mad_md.specs.Lines.{content_of, normal, table_row, table_rule, horizontal_rule};
 
@@ -232,6 +234,23 @@ impl Lines {
     {
         self.add_line(MarkdownLine::HorizontalRule)?;
         Ok(())
+    }
+
+    /// The same lines, each of whose runs is steady: terminals count its columns as this project does.
+    ///
+    /// # Errors
+    ///
+    /// Out of memory is the only error.
+    pub fn into_steady(self, alloc: Global) -> Result<Lines, AllocError>
+        ensures lines { IfOk result (λ made. shown made ≡ steady_lines (shown self)) }
+        ensures steady { IfOk result (λ made. AreSteadyLines (shown made)) }
+        ensures printed { IfOk result (λ made. ArePrinted (shown self) → ArePrinted (shown made)) }
+    {
+        let runs = self.runs.steady(alloc)?;
+        Ok(Lines {
+            runs,
+            lines: self.lines,
+        })
     }
 
     /// The lines as the library has them.

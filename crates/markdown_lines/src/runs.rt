@@ -1,12 +1,14 @@
 //! Runs of text in a row, in one text that is owned.
 
-ghost use Rattle.std.specs.Prelude.{◌≡◌, ◌≤◌, true, [], ◌∷◌, ◌++◌, OnOk, option_map, slice_get, length, string_bytes, encode_utf8};
+ghost use Rattle.std.specs.Prelude.{◌≡◌, ◌≤◌, true, [], ◌∷◌, ◌++◌, IfOk, OnOk, map, option_map, slice_get, length, string_bytes, encode_utf8};
 ghost use Rattle.mad_md.specs.Flagged.{run_of};
 ghost use Rattle.markdown_lines.specs.Runs.{flags_said, are_bordered};
+ghost use Rattle.markdown_lines.specs.Steady.{steady_run};
 
 use crate::glyphs::Glyph;
 use crate::places::{RunFlags, RunPlace, RunRange, flags_of, is_same_flags};
 use mad_md::Compound;
+use mad_steady::steady;
 use std::alloc::{AllocError, Global};
 
 /// Runs of text, one after the other.
@@ -91,6 +93,31 @@ impl Runs {
             }
         }
         Ok(())
+    }
+
+    // Adds a run, steady.
+    fn push_steady(&mut self, alloc: Global, flags: RunFlags, text: &str) -> Result<(), AllocError>
+        ensures { OnOk result (said self.new ≡ said self.old ++ steady_run (record { flags = flags_said flags; text = text.now }) ∷ []) }
+    {
+        let shown = steady(alloc, text)?;
+        self.push(flags, &shown)
+    }
+
+    /// The same runs, each steady.
+    ///
+    /// # Errors
+    ///
+    /// Out of memory is the only error.
+    pub fn steady(&self, alloc: Global) -> Result<Runs, AllocError>
+        ensures { IfOk result (λ made. said made ≡ map steady_run (said self.now)) }
+    {
+        let mut made = Runs::new(alloc);
+        let mut index = 0;
+        while let Some(run) = self.get(index) {
+            made.push_steady(alloc, flags_of(run), run.src)?;
+            index += 1;
+        }
+        Ok(made)
     }
 
     // Adds the runs of a character and those after it.

@@ -19,7 +19,7 @@ use Rattle.markdown_lines.specs.Glyphs.{glyph_of, leaf_glyphs, is_edge, without_
 use Rattle.markdown_lines.specs.Leaf.{row_of, rows_from, leaf_rows, cell_runs}
 use Rattle.markdown_lines.specs.declared.glyphs.Glyph.{Glyph}
 use Rattle.markdown_lines.specs.declared.places.RunFlags.{RunFlags}
-use Rattle.markdown_reader.specs.Printed.{is_obeyed, IsPrintedRun, IsPrintedLine, ArePrinted}
+use Rattle.markdown_lines.specs.Printed.{is_obeyed, IsPrintedRun, IsPrintedLine, ArePrinted}
 
 -- ---- characters
 

@@ -24,7 +24,8 @@ use Rattle.markdown_lines.specs.Tables.{cell_text, after_cell, cells_addresses, 
 use Rattle.markdown_reader.specs.Definitions.{label_of, with_definition, defined_or, defined_in, leaf_defined, part_defined, parts_defined, nothing_defined, definitions_of}
 use Rattle.markdown_reader.specs.Mapping.{Mapping, nothing_shown, place_in, spaced, is_spaced, marked, passed, begun, item_ended, ended, linked, rows_in, rows_shown, unmarked, words_shown, leaf_text, big_begun, code_shown, heading_shown, table_added, leaf_shown, shown_part, shown_parts}
 use Rattle.markdown_reader.specs.Markdown.{markdown_links}
-use Rattle.markdown_reader.specs.Printed.{is_obeyed, IsPrintedLink, ArePrintedLinks}
+use Rattle.markdown_lines.specs.Printed.{is_obeyed}
+use Rattle.markdown_reader.specs.Printed.{IsPrintedLink, ArePrintedLinks}
 use Rattle.markdown_reader.proofs.PrintedLemmas.{text_printed}
 use Rattle.markdown_reader.specs.declared.mapper.Place.{Place}
 

@@ -23,8 +23,8 @@ use Rattle.markdown_lines.specs.Leaf.{shown_text, plain_row, leaf_rows, html_row
 use Rattle.markdown_lines.specs.Links.{Defined, leaf_addresses}
 use Rattle.markdown_reader.proofs.GlyphsPrinted.{none_obeyed, none_append, nothing_printed, cons_printed, leaf_printed, cell_printed}
 use Rattle.markdown_reader.specs.Mapping.{Mapping, nothing_shown, place_in, spaced, is_spaced, marked, passed, begun, item_ended, ended, rows_shown, rows_in, unmarked, first_style, follow_style, words_shown, leaf_text, big_begun, lines_added, heading_style, code_shown, leaf_shown, shown_part, shown_parts}
-use Rattle.markdown_reader.specs.Markdown.{markdown_lines}
-use Rattle.markdown_reader.specs.Printed.{is_obeyed, IsPrintedRun, IsPrintedCell, IsPrintedLine, ArePrinted}
+use Rattle.markdown_reader.specs.Markdown.{printable_lines}
+use Rattle.markdown_lines.specs.Printed.{is_obeyed, IsPrintedRun, IsPrintedCell, IsPrintedLine, ArePrinted}
 use Rattle.markdown_lines.specs.Restyled.{empty_line, row_runs, restyled}
 use Rattle.markdown_lines.specs.Tables.{row_of, after_cell, cells, shown_cells, row_said, alignments, body, ruled, table_lines}
 use Rattle.markdown_reader.specs.declared.mapper.Place.{Place}
@@ -195,10 +195,10 @@ unfolding shown_parts
 parts_printed defined [] m h = h
 parts_printed defined (part ∷ parts) m h = parts_printed defined parts (shown_part defined part m) (part_printed defined part m h)
 
-lines_printed : (source : List ℕ) → ArePrinted (markdown_lines source)
-unfolding markdown_lines
+lines_printed : (source : List ℕ) → ArePrinted (printable_lines source)
+unfolding printable_lines
 lines_printed source = parts_printed (definitions_of (parts_of source)) (parts_of source) nothing_shown nothing_printed
 
 -- what a text is shown as has nothing that a terminal obeys
-pub markdown_printed : (source : List ℕ) (lines : List LineContent) → lines ≡ markdown_lines source → ArePrinted lines
+pub markdown_printed : (source : List ℕ) (lines : List LineContent) → lines ≡ printable_lines source → ArePrinted lines
 markdown_printed source lines e = subst ArePrinted (sym e) (lines_printed source)

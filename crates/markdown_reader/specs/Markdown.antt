@@ -4,15 +4,20 @@ use Rattle.markdown_leaves.specs.Parts.{PartContent}
 use Rattle.markdown_leaves.specs.Told.{parts_of}
 use Rattle.mad_md.specs.Lines.{LineContent}
 use Rattle.markdown_lines.specs.Links.{LinkSaid}
+use Rattle.markdown_lines.specs.Steady.{steady_lines}
 use Rattle.markdown_reader.specs.Definitions.{definitions_of}
 use Rattle.markdown_reader.specs.Mapping.{Mapping, nothing_shown, shown_parts}
 
 abbrev pub parts_shown : List PartContent → Mapping
 parts_shown parts = shown_parts (definitions_of parts) parts nothing_shown
 
--- what a text is shown as
-unfoldable pub markdown_lines : List ℕ → List LineContent
-markdown_lines source = (parts_shown (parts_of source)).lines
+-- what a text is shown as, each character printable
+unfoldable pub printable_lines : List ℕ → List LineContent
+printable_lines source = (parts_shown (parts_of source)).lines
+
+-- what a text is shown as: these lines, each of whose runs is steady
+abbrev pub markdown_lines : List ℕ → List LineContent
+markdown_lines source = steady_lines (printable_lines source)
 
 -- the links of a text, leaf by leaf, and in each in the order in which they end: the number of a line, and where the link leads
 unfoldable pub markdown_links : List ℕ → List LinkSaid

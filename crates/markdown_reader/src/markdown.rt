@@ -3,9 +3,11 @@
 ghost use Rattle.std.specs.Prelude.{◌≡◌, IfOk, map};
 ghost use Rattle.mad_md.specs.Lines.{contents};
 ghost use Rattle.markdown_lines.specs.LinksOf.{link_of};
-ghost use Rattle.markdown_reader.specs.Markdown.{markdown_lines, markdown_links};
+ghost use Rattle.markdown_lines.specs.Printed.{ArePrinted};
+ghost use Rattle.markdown_lines.specs.Steady.{AreSteadyLines};
+ghost use Rattle.markdown_reader.specs.Markdown.{printable_lines, markdown_lines, markdown_links};
 ghost use Rattle.markdown_reader.specs.MarkdownSays.{markdown_says, links_said};
-ghost use Rattle.markdown_reader.specs.Printed.{ArePrinted, ArePrintedLinks};
+ghost use Rattle.markdown_reader.specs.Printed.{ArePrintedLinks};
 
 use crate::definitions::definitions_of;
 use crate::mapper::Mapper;
@@ -23,14 +25,37 @@ pub struct Markdown {
 }
 
 impl Markdown {
-    /// Reads a text.
+    /// Reads a text. Terminals count the columns of what it shows as this project does. Each run is [`steady`]: soft hyphens, joiners, skin
+    /// tones and other characters that terminals show in their own ways go, or others stand for them.
+    ///
+    /// [`steady`]: mad_steady::steady
+    ///
+    /// # Errors
+    ///
+    /// Out of memory is the only error.
+    pub fn read(alloc: Global, source: &str) -> Result<Markdown, AllocError>
+        ensures lines { IfOk result (λ read. markdown_says read ≡ markdown_lines source.now) }
+        ensures links { IfOk result (λ read. links_said read ≡ markdown_links source.now) }
+        ensures printed { IfOk result (λ read. ArePrinted (markdown_says read)) }
+        ensures steady { IfOk result (λ read. AreSteadyLines (markdown_says read)) }
+        ensures printed_links { IfOk result (λ read. ArePrintedLinks (links_said read)) }
+    {
+        let read = Markdown::read_printable(alloc, source)?;
+        let lines = read.lines.into_steady(alloc)?;
+        Ok(Markdown {
+            lines,
+            links: read.links,
+        })
+    }
+
+    /// Reads a text, and keeps each printable character as it is. Terminals may count the columns of some of them otherwise.
     ///
     /// # Errors
     ///
     /// Out of memory is the only error.
     #[tactic(auto, using(crate::proofs::PrintedLemmas::markdown_printed, crate::proofs::LinksPrinted::links_printed))]
-    pub fn read(alloc: Global, source: &str) -> Result<Markdown, AllocError>
-        ensures lines { IfOk result (λ read. markdown_says read ≡ markdown_lines source.now) }
+    pub fn read_printable(alloc: Global, source: &str) -> Result<Markdown, AllocError>
+        ensures lines { IfOk result (λ read. markdown_says read ≡ printable_lines source.now) }
         ensures links { IfOk result (λ read. links_said read ≡ markdown_links source.now) }
         ensures printed { IfOk result (λ read. ArePrinted (markdown_says read)) }
         ensures printed_links { IfOk result (λ read. ArePrintedLinks (links_said read)) }
@@ -39,9 +64,9 @@ impl Markdown {
         Ok(markdown)
     }
 
-    #[tactic(auto, unfolding(crate::specs::Markdown::markdown_lines, crate::specs::Markdown::markdown_links))]
+    #[tactic(auto, unfolding(crate::specs::Markdown::printable_lines, crate::specs::Markdown::markdown_links))]
     fn read_lines(alloc: Global, source: &str) -> Result<Markdown, AllocError>
-        ensures lines { IfOk result (λ read. markdown_says read ≡ markdown_lines source.now) }
+        ensures lines { IfOk result (λ read. markdown_says read ≡ printable_lines source.now) }
         ensures links { IfOk result (λ read. links_said read ≡ markdown_links source.now) }
     {
         let parts = read_parts(alloc, source.as_bytes())?;
