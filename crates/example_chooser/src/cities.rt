@@ -41,9 +41,12 @@ pub struct Name {
 }
 
 impl CellExtract<City> for Name {
-    ghost use Rattle.std.specs.Prelude.{⊤};
+    ghost use Rattle.std.specs.Prelude.{◌≡◌, IfOk};
+    ghost use Rattle.mad_style.specs.CompoundStyles.{unstyled};
+    ghost use Rattle.mad_list_columns.specs.Cells.{shown_cell};
 
-    ghost extracts = { λ _ _ _. ⊤ };
+    // The name, without style.
+    ghost extracts = { λ _ city result. IfOk result (λ cell. shown_cell cell ≡ record { text = city.0.now; style = unstyled }) };
 
     fn cell(&self, city: &City) -> Result<ListViewCell, AllocError> {
         let name = String::from_str(self.alloc, city.0)?;

@@ -63,9 +63,12 @@ pub struct Part {
 }
 
 impl CellExtract<Item> for Part {
-    ghost use Rattle.std.specs.Prelude.{⊤};
+    ghost use Rattle.std.specs.Prelude.{◌≡◌, encode_utf8, IfOk, if◌then◌else◌};
+    ghost use Rattle.std.specs.Fmt.{decimal};
+    ghost use Rattle.mad_list_columns.specs.Cells.{shown_cell};
 
-    ghost extracts = { λ _ _ _. ⊤ };
+    // The number's digits, or the letter, in the part's style.
+    ghost extracts = { λ part item result. IfOk result (λ cell. shown_cell cell ≡ record { text = if part.is_number then decimal item.number else encode_utf8 item.letter; style = part.style }) };
 
     fn cell(&self, item: &Item) -> Result<ListViewCell, AllocError> {
         let text = if self.is_number {

@@ -71,11 +71,11 @@ pub mod field {
     pub use mad_field_rows::laws as row_laws;
 }
 
-/// Lists without a skin: their rows, what is written of them, and what that changes on a screen.
+/// Lists without a skin: their rows, what is written of them, and what a screen shows of that.
 pub mod list {
     pub use mad_list::{
-        CellExtract, ListRow, ListRows, ListView, ListViewCell, ListViewColumn, NoFilter, NoOrder,
-        RowFilter, RowOrder,
+        CellExtract, CellMeasure, ListRow, ListRows, ListView, ListViewCell, ListViewColumn,
+        NoFilter, NoOrder, RowFilter, RowOrder,
     };
     pub use mad_list_columns::{ListStyle, body_height, fit_columns, laws, list_bar, push_list};
 }
@@ -164,6 +164,7 @@ pub use mad_layout::print_text;
 pub use mad_layout::term_text;
 pub use mad_layout::text;
 pub use mad_list::CellExtract;
+pub use mad_list::CellMeasure;
 pub use mad_list::ListView;
 pub use mad_list::ListViewCell;
 pub use mad_list::ListViewColumn;
