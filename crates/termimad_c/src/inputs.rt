@@ -123,6 +123,7 @@ pub fn align_of(align: usize) -> Result<Alignment, Refusal>
 /// # Errors
 ///
 /// `Condition`, where one of them is none of an alignment; or out of memory.
+#[tactic(auto, using(crate::proofs::Alignments::align_refused))]
 pub fn aligns_of(alloc: Global, numbers: &[usize]) -> Result<Vec<Alignment>, Refusal>
     ensures { MatchResult result (λ aligns. AreAligned numbers.now aligns.items) (RefusesAligns numbers.now) }
 {

@@ -137,7 +137,7 @@ pub fn fitted_bytes(
 }
 
 /// A table of data at a width: its cells are one text and the length of each, row by row, the first row having the headers.
-#[tactic(auto, using(crate::proofs::Steps::skin_refused))]
+#[tactic(auto, using(crate::proofs::Steps::skin_refused, crate::proofs::Tables::aligns_refused, crate::proofs::Tables::cells_refused))]
 pub fn table_bytes(
     alloc: Global,
     text: &[u8],

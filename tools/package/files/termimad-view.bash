@@ -2,12 +2,13 @@
 _termimad_view() {
     local word=${COMP_WORDS[COMP_CWORD]} numbers
     if [ "$COMP_CWORD" -eq 1 ]; then
-        mapfile -t COMPREPLY < <(compgen -W "markdown text stream inline area" -- "$word")
+        mapfile -t COMPREPLY < <(compgen -W "markdown text stream live inline area" -- "$word")
         return
     fi
     case ${COMP_WORDS[1]} in
     inline) numbers=0 ;;
     area) numbers=4 ;;
+    live) numbers=2 ;;
     *) numbers=1 ;;
     esac
     [ "$COMP_CWORD" -ne $((numbers + 2)) ] || mapfile -t COMPREPLY < <(compgen -W "default dark light" -- "$word")
