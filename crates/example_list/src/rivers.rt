@@ -3,57 +3,47 @@
 use std::alloc::{AllocError, Global};
 use termimad::{CellExtract, CompoundStyle, ListViewCell};
 
-/// A river, by the index of its name.
+/// A river.
 #[derive(Clone, Copy)]
 pub struct River {
-    index: usize,
+    /// Its name.
+    pub name: &'static str,
     /// Its length in kilometers.
     pub length: u32,
 }
 
-impl River {
-    /// Its name.
-    pub fn name(&self) -> &'static str {
-        NAMES.get(self.index).copied().unwrap_or("")
-    }
-}
-
-const NAMES: [&str; 8] = [
-    "Volga", "Danube", "Rhine", "Elbe", "Loire", "Rhone", "Seine", "Thames",
-];
-
 /// Some rivers of Europe.
 pub const RIVERS: [River; 8] = [
     River {
-        index: 0,
+        name: "Volga",
         length: 3530,
     },
     River {
-        index: 1,
+        name: "Danube",
         length: 2850,
     },
     River {
-        index: 2,
+        name: "Rhine",
         length: 1233,
     },
     River {
-        index: 3,
+        name: "Elbe",
         length: 1094,
     },
     River {
-        index: 4,
+        name: "Loire",
         length: 1012,
     },
     River {
-        index: 5,
+        name: "Rhone",
         length: 813,
     },
     River {
-        index: 6,
+        name: "Seine",
         length: 777,
     },
     River {
-        index: 7,
+        name: "Thames",
         length: 346,
     },
 ];
@@ -68,15 +58,19 @@ pub struct Shown {
 }
 
 impl CellExtract<River> for Shown {
-    ghost use Rattle.std.specs.Prelude.{⊤};
+    ghost use Rattle.std.specs.Prelude.{◌≡◌, IfOk, if◌then◌else◌};
+    ghost use Rattle.std.specs.Fmt.{decimal};
+    ghost use Rattle.mad_style.specs.CompoundStyles.{unstyled};
+    ghost use Rattle.mad_list_columns.specs.Cells.{shown_cell};
 
-    ghost extracts = { λ _ _ _. ⊤ };
+    // The length's digits, or the name, without style.
+    ghost extracts = { λ shown river result. IfOk result (λ cell. shown_cell cell ≡ record { text = if shown.is_length then decimal river.length else river.name.now; style = unstyled }) };
 
     fn cell(&self, river: &River) -> Result<ListViewCell, AllocError> {
         let text = if self.is_length {
             format!(in self.alloc; "{}", river.length)?
         } else {
-            String::from_str(self.alloc, river.name())?
+            String::from_str(self.alloc, river.name)?
         };
         Ok(ListViewCell::new(text, CompoundStyle::default()))
     }

@@ -6,7 +6,7 @@ use crate::items::{ByNumber, Item, Part, Without, item_of};
 use crate::refusal::Refusal;
 use mad_fit::Area;
 use mad_layout::MadSkin;
-use mad_list::{ListView, ListViewColumn};
+use mad_list::{CellMeasure, ListView, ListViewColumn};
 use mad_md::Alignment;
 use mad_screen::{CutOut, Screen};
 use mad_style::{CompoundStyle, rgb};
@@ -65,7 +65,7 @@ fn skin_of(alloc: Global, name: &str) -> Result<MadSkin, AllocError> {
     Ok(skin)
 }
 
-// A column, as `n,3,3,letter,left`.
+// A column, as `n,3,3,letter,left` or `n,3,3,letter,left,columns`.
 fn column_of(alloc: Global, word: &str) -> Result<ListViewColumn<Part>, AllocError> {
     let mut parts = word.split(',');
     let title = parts.next().unwrap_or("");
@@ -77,9 +77,13 @@ fn column_of(alloc: Global, word: &str) -> Result<ListViewColumn<Part>, AllocErr
         style: CompoundStyle::default(),
     };
     let column = ListViewColumn::new(alloc, title, least, greatest.max(least), part)?;
-    Ok(match parts.next().unwrap_or("") {
+    let column = match parts.next().unwrap_or("") {
         "left" => column.with_align(Alignment::Left),
         "right" => column.with_align(Alignment::Right),
+        _ => column,
+    };
+    Ok(match parts.next() {
+        Some("columns") => column.with_measure(CellMeasure::Columns),
         _ => column,
     })
 }
