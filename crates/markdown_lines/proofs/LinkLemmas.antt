@@ -1,21 +1,10 @@
 -- Where the links of cells and rows lead, one after the other.
-use Rattle.std.proofs.Common.{◌≡◌, ℕ, suc, ◌+◌, ◌-◌, ◌<◌, ◌≤◌, List, [], ◌∷◌, ◌++◌, map, length, get_or, refl, sym, ap, ◌∙◌, arith, append_assoc, append-nil}
-use Rattle.std.specs.Prelude.{slice_get, option_map}
-use Rattle.std.proofs.lemmas.List.{length-append, length-map}
-use Rattle.std.proofs.lemmas.Option.{slice_get-map, slice_get-get_or, slice_get_past}
+use Rattle.std.proofs.Common.{◌≡◌, ℕ, suc, ◌+◌, ◌-◌, ◌<◌, List, [], ◌∷◌, ◌++◌, map, length, refl, sym, ap, ◌∙◌, arith, append_assoc, append-nil}
+use Rattle.std.proofs.lemmas.List.{length-append}
 use Rattle.mad_md.specs.Lines.{LineContent}
 use Rattle.markdown_marks.specs.Remaining.{Remaining}
-use Rattle.markdown_lines.specs.Links.{Defined, LinkSaid, address_or_none, leaf_addresses, links_at}
+use Rattle.markdown_lines.specs.Links.{Defined, LinkSaid, leaf_addresses, links_at}
 use Rattle.markdown_lines.specs.Tables.{cell_text, after_cell, cells_addresses, row_addresses, rows_links}
-
--- ---- definitions
-
-pub address_found : {S : Type 0} (bytes : S → List ℕ) (items : List S) (index : ℕ) (item : S) → index < length items → item ≡ get_or items index item → bytes item ≡ address_or_none (slice_get (map bytes items) index)
-address_found bytes items index item within is =
-    ap bytes is ∙ sym (ap address_or_none (slice_get-map bytes items index ∙ ap (option_map bytes) (slice_get-get_or items index item within)))
-
-pub address_missing : {S : Type 0} (bytes : S → List ℕ) (items : List S) (index : ℕ) → length items ≤ index → address_or_none (slice_get (map bytes items) index) ≡ []
-address_missing bytes items index past = ap address_or_none (slice_get_past (map bytes items) index (omega (arith, length-map items bytes, past)))
 
 -- ---- cells
 

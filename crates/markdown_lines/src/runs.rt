@@ -99,6 +99,9 @@ impl Runs {
     fn push_steady(&mut self, alloc: Global, flags: RunFlags, text: &str) -> Result<(), AllocError>
         ensures { OnOk result (said self.new ≡ said self.old ++ steady_run (record { flags = flags_said flags; text = text.now }) ∷ []) }
     {
+        if text.is_ascii() {
+            return self.push(flags, text);
+        }
         let shown = steady(alloc, text)?;
         self.push(flags, &shown)
     }

@@ -4,7 +4,7 @@ use Rattle.markdown_leaves.specs.Parts.{PartContent}
 use Rattle.markdown_leaves.specs.Told.{parts_of}
 use Rattle.mad_md.specs.Lines.{LineContent}
 use Rattle.markdown_lines.specs.Links.{LinkSaid}
-use Rattle.markdown_lines.specs.Steady.{steady_lines}
+pub use Rattle.markdown_lines.specs.Steady.{steady_lines, AreSteadyLines}
 use Rattle.markdown_reader.specs.Definitions.{definitions_of}
 use Rattle.markdown_reader.specs.Mapping.{Mapping, nothing_shown, shown_parts}
 

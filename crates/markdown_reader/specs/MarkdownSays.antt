@@ -1,8 +1,8 @@
 -- What a text that was read says.
 use Rattle.std.specs.Prelude.{List, map}
 use Rattle.mad_md.specs.Lines.{LineContent}
-use Rattle.markdown_lines.specs.Links.{LinkSaid}
-use Rattle.markdown_lines.specs.LinksOf.{link_of}
+pub use Rattle.markdown_lines.specs.Links.{LinkSaid}
+pub use Rattle.markdown_lines.specs.LinksOf.{link_of}
 use Rattle.markdown_lines.specs.Shown.{shown}
 use Rattle.markdown_reader.specs.declared.markdown.Markdown.{Markdown}
 
