@@ -12,7 +12,7 @@ import tty
 import unicodedata
 from pathlib import Path
 
-ROWS = Path(__file__).resolve().parent.parent.parent / "crates/mad_text_tests/data/steady.txt"
+ROWS = Path(__file__).resolve().parent.parent.parent / "crates/test_texts/data/steady.txt"
 SCREEN = 20
 
 
