@@ -1,0 +1,77 @@
+-- The sessions of a pager stay orderly.
+use Rattle.std.proofs.Common.{◌≡◌, ℕ, Bool, true, false, List, Option, Some, None, refl, sym, subst}
+use Rattle.mad_md.specs.Lines.{LineContent}
+use Rattle.mad_md.specs.Reading.{unread_text}
+use Rattle.mad_md.specs.Scan.{lines_of}
+use Rattle.mad_layout.specs.declared.skin.MadSkin.{MadSkin}
+use Rattle.mad_term.specs.declared.events.Event.{Event}
+use Rattle.mad_term.specs.declared.events.Event.TheVariants.{Key, Mouse, Resize, FocusGained, FocusLost}
+use Rattle.mad_pager.specs.Screens.{IsOrderly}
+use Rattle.mad_pager.specs.Sessions.{State, hears_size}
+use Rattle.mad_pager.specs.Pagers.{Leaf, View, IsDoneOver, IsHelpSettled, IsHelpStart, IsHelpStepIf, IsHelped, IsLeafSettled, IsLeafStep, IsOpened, IsOrderlyHelp, IsOrderlyLeaf, IsOrderlyView, IsSameLeaf, IsStep, IsStepIn, IsTextStep, IsViewSettled, hearing, closes}
+use Rattle.mad_pager.specs.declared.help.TheConstants.{HELP}
+use Rattle.mad_pager.proofs.OrderLemmas.{event_order, settled_order, start_order}
+
+order_along : (old new : Leaf) → IsSameLeaf old new → IsOrderly old.skin old.text new.state → IsOrderlyLeaf new
+order_along old new same h =
+    subst (λ (d : MadSkin). IsOrderly d new.text new.state) (sym same.skin) (subst (λ (t : List LineContent). IsOrderly old.skin t new.state) (sym same.text) h)
+
+-- an event leaves a session orderly
+leaf_order : (event : Event) (old new : Leaf) → IsLeafStep event old new → IsOrderlyLeaf old → IsOrderlyLeaf new
+leaf_order event old new step h = order_along old new step.same (event_order old.skin old.text event old.state new.state step.step h)
+
+-- so does a size that it hears
+hearing_order : (event : Event) (l : Leaf) → IsOrderlyLeaf l → IsOrderlyLeaf (hearing event l)
+hearing_order (Key key) l h = h
+hearing_order (Mouse m) l h = h
+hearing_order (Resize columns rows) l h = event_order l.skin l.text (Resize columns rows) l.state (hears_size columns rows l.state) refl h
+hearing_order FocusGained l h = h
+hearing_order FocusLost l h = h
+
+-- the help is orderly from its start on
+help_order : (below help : Leaf) → IsHelpStart below help → IsOrderlyLeaf help
+help_order below help start =
+    let lines : List LineContent = lines_of (unread_text false HELP.now) in
+    let s : State = record help.state { told = None } in
+    let begun = start_order below.skin lines below.state.page.columns below.state.page.rows s start.start in
+    let same : IsOrderly below.skin lines help.state = record { lines = begun.lines; field = record { area = begun.field.area; typed = begun.field.typed } } in
+    subst (λ (d : MadSkin). IsOrderly d help.text help.state) (sym start.skin) (subst (λ (t : List LineContent). IsOrderly below.skin t help.state) (sym start.text) same)
+
+helped_order : (helps : Bool) (below : Leaf) (help : Option Leaf) → IsHelped helps below help → IsOrderlyHelp help
+helped_order false below help none = subst IsOrderlyHelp (sym none) tt
+helped_order true below help (start, is, e) = subst IsOrderlyHelp (sym e) (help_order below start is)
+
+over_order : (closing : Bool) (event : Event) (help : Leaf) (old new : View) → IsHelpStepIf closing event help old new → IsOrderlyLeaf old.text → IsOrderlyLeaf help → IsOrderlyView new
+over_order true event help old new step h k = record { text = subst IsOrderlyLeaf (sym step.text) h; help = subst IsOrderlyHelp (sym step.help) tt }
+over_order false event help old new step h k = record {
+  text = subst IsOrderlyLeaf (sym step.text) (hearing_order event old.text h);
+  help = subst IsOrderlyHelp (sym step.help) (leaf_order event help step.after step.step k);
+}
+
+step_in_order : (help : Option Leaf) (event : Event) (old new : View) → IsStepIn help event old new → IsOrderlyLeaf old.text → IsOrderlyHelp help → IsOrderlyView new
+step_in_order None event old new step h k = record { text = leaf_order event old.text new.text step.text h; help = helped_order _ new.text new.help step.help }
+step_in_order (Some help) event old new step h k = over_order (closes event help.state.is_typing) event help old new step h k
+
+-- an event leaves both so
+pub step_order : (event : Event) (old new : View) → IsStep event old new → IsOrderlyView old → IsOrderlyView new
+step_order event old new step h = step_in_order old.help event old new step h.text h.help
+
+settled_leaf_order : (old new : Leaf) → IsLeafSettled old new → IsOrderlyLeaf old → IsOrderlyLeaf new
+settled_leaf_order old new h k = order_along old new h.same (settled_order old.skin old.text old.state new.state h.settled k)
+
+settled_help_order : (old new : Option Leaf) → IsHelpSettled old new → IsOrderlyHelp old → IsOrderlyHelp new
+settled_help_order None new e k = subst IsOrderlyHelp (sym e) tt
+settled_help_order (Some help) new (after, h, e) k = subst IsOrderlyHelp (sym e) (settled_leaf_order help after h k)
+
+-- so does another size
+pub view_settled_order : (old new : View) → IsViewSettled old new → IsOrderlyView old → IsOrderlyView new
+view_settled_order old new h k = record { text = settled_leaf_order old.text new.text h.text k.text; help = settled_help_order old.help new.help h.help k.help }
+
+-- they are so from the start on
+pub opened_order : (skin : MadSkin) (name : List ℕ) (text : List LineContent) (columns rows : ℕ) (v : View) → IsOpened skin name text columns rows v → IsOrderlyView v
+opened_order skin name text columns rows v h = record {
+  text =
+      subst (λ (d : MadSkin). IsOrderly d v.text.text v.text.state) (sym h.dress)
+      (subst (λ (t : List LineContent). IsOrderly skin t v.text.state) (sym h.lines) (start_order skin text columns rows v.text.state h.start));
+  help = subst IsOrderlyHelp (sym h.help) tt;
+}
