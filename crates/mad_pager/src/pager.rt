@@ -109,7 +109,14 @@ impl<'s> Pager<'s> {
     {
         let page = self.text.page;
         let skin = self.text.text.skin;
-        let mut help = Session::new(alloc, HELP_NAME, PagedText::Lines(HELP), skin, page.columns, page.rows)?;
+        let mut help = Session::new(
+            alloc,
+            HELP_NAME,
+            PagedText::Lines(HELP),
+            skin,
+            page.columns,
+            page.rows,
+        )?;
         help.told = self.text.told;
         Ok(help)
     }
