@@ -1,7 +1,6 @@
 -- What is shown of what was drawn in turn, and what goes out of it.
-use Rattle.std.proofs.Common.{◌≡◌, ℕ, ◌-◌, ◌<◌, ◌^◌, ◌≤◌, ◌||◌, ◌&&◌, ◌==◌, eq-eqb, nat_lt, Bool, true, false, List, [], ◌∷◌, ◌++◌, Option, Some, None, option_map, IfSome, Result, Err, refl, ap, sym, ◌∙◌, subst, arith, append_assoc, take}
-use Rattle.std.proofs.lemmas.List.{append-nil, append_cancel_left}
-use Rattle.std.proofs.lemmas.Option.{same_Some}
+use Rattle.std.proofs.Common.{◌≡◌, ℕ, ◌-◌, ◌<◌, ◌^◌, ◌≤◌, ◌||◌, ◌&&◌, ◌==◌, eq-eqb, nat_lt, Bool, true, false, List, [], ◌∷◌, ◌++◌, Option, Some, None, Result, Err, refl, ap, sym, ◌∙◌, subst, arith, take, drop, length, min}
+use Rattle.std.proofs.lemmas.List.{append-nil, drop_min, take_rest}
 use Rattle.std.specs.Result.{IsErrAnd}
 use Rattle.std.specs.Prelude.{MatchResult}
 use Rattle.std.proofs.lemmas.Result.{err_from_is_err_and}
@@ -35,6 +34,8 @@ use Rattle.mad_layout.specs.Drawable.{AreDrawable}
 use Rattle.mad_layout.specs.Shown.{area_row}
 use Rattle.mad_layout.specs.declared.skin.MadSkin.{MadSkin}
 use Rattle.mad_rows.specs.RowStyles.{line_rules}
+use Rattle.mad_rows.specs.declared.row_skin.RowSkin.{RowSkin}
+use Rattle.mad_hits.specs.Drawn.{AreLinesMarked}
 use Rattle.std.proofs.lemmas.Bool.{ltb-false}
 use Rattle.std.proofs.lemmas.Bool.Decides.{nat_tests}
 use Rattle.mad_pager.specs.Screens.{reversed_skin, is_small, area_of, bar_of, paged_skin, text_pane, field_pane, prompt_pane, prompt_row, status_pane, status_words, AreHitsDrawn, ArePanesDrawn, IsFieldShown, IsLineIn, IsStatusLine, KeepsTextPremises, AreLinesShown, IsFieldRow, IsLastRow, IsStatus, IsDrawing, IsPicture, IsTypingShown, IsStatusShown, IsFieldInRow, IsShowing, IsShown, IsUnshown, question}
@@ -204,3 +205,15 @@ pub unshown_exit : (skin : MadSkin) (name : List ℕ) (asks : Bool) (s : State) 
 unshown_exit skin name asks s old new r e is h =
     let p = err_from_is_err_and r is in
     subst (λ (t : Result Unit Error). MatchResult t (λ _. IsShown skin name asks s old new) (λ d. IsUnshown skin name asks s old d new)) (sym (p.1 ∙ ap Err p.2)) h
+
+-- the hits of the lines on the screen, along what is equal
+pub hits_along : (skin dress : RowSkin) (width columns height rows end top : ℕ) (text sought : List ℕ) (shown lines : List FmtLine) (old new : Trace) → dress ≡ skin → width ≡ columns → height ≡ rows → text ≡ sought
+    → shown ≡ lines → end ≡ min top (length shown) → TookWith old new (AreLinesMarked dress width text 0 (take height (take (length shown - end) (drop end shown)))) → TookWith old new (AreLinesMarked skin columns sought 0 (take rows (drop top lines)))
+hits_along skin dress width columns height rows end top text sought shown lines old new a b d e f at h =
+    let whole : List FmtLine = take (length shown - end) (drop end shown) in
+    let from : whole ≡ drop top lines = take_rest shown end ∙ (ap (λ (n : ℕ). drop n shown) at ∙ (drop_min top shown ∙ ap (λ (ls : List FmtLine). drop top ls) f)) in
+    let all : take height whole ≡ take rows (drop top lines) = ap (λ (n : ℕ). take n whole) d ∙ ap (λ (ls : List FmtLine). take rows ls) from in
+    subst (λ (k : RowSkin). TookWith old new (AreLinesMarked k columns sought 0 (take rows (drop top lines)))) a
+    (subst (λ (n : ℕ). TookWith old new (AreLinesMarked dress n sought 0 (take rows (drop top lines)))) b
+    (subst (λ (s : List ℕ). TookWith old new (AreLinesMarked dress width s 0 (take rows (drop top lines)))) e
+    (subst (λ (ls : List FmtLine). TookWith old new (AreLinesMarked dress width text 0 ls)) all h)))

@@ -1,5 +1,5 @@
 -- A session of the pager: what is shown and sought, and what an event does.
-use Rattle.std.specs.Prelude.{◌≡◌, ◌≢◌, ℕ, ◌+◌, ◌-◌, ◌*◌, ◌^◌, ◌<◌, ◌==◌, nat_lt, not, Bool, true, false, List, [], Option, Some, None, length, min, encode_utf8_all, string_bytes, if◌then◌else◌}
+use Rattle.std.specs.Prelude.{◌≡◌, ◌≢◌, ℕ, ◌+◌, ◌-◌, ◌*◌, ◌^◌, ◌==◌, nat_lt, not, Bool, true, false, List, [], Option, Some, None, length, min, encode_utf8_all, string_bytes, if◌then◌else◌}
 use Rattle.mad_columns.specs.Columns.{char_columns}
 use Rattle.mad_md.specs.Lines.{LineContent}
 use Rattle.mad_term.specs.declared.events.Event.{Event}

@@ -100,7 +100,8 @@ impl Session<'_> {
             self.page.columns.saturating_sub(1),
             self.page.body_rows(),
             self.sought.as_str(),
-        )
+        )?;
+        Ok(())
     }
 
     // Draws the text from its top row on, beside its bar, with links that one sees.

@@ -1,0 +1,13 @@
+use Rattle.std.proofs.Common.{◌-◌, ◌∙◌, ap}
+use Rattle.mad_rows.specs.RowStyles.{with_links}
+use Rattle.mad_pager.specs.Screens.{paged_skin}
+use Rattle.mad_pager.specs.Sessions.{state_of}
+use Rattle.mad_pager.proofs.DrawnLemmas.{hits_along}
+use Rattle.mad_pager.proofs.session.Session.draw_hits.Goals as goal
+
+pub returns : goal.returns
+returns g c =
+    let s = state_of c.args.self.now in
+    hits_along (paged_skin c.args.self.now.text.skin.now) c.with_links.result c.saturating_sub.result (s.page.columns - 1) c.body_rows.result (s.page.rows - 1) c.min.result s.page.top c.as_str.result.now s.sought
+    c.as_slice-lines.result.now s.lines (g.O.Out.seen c.args.out.now) (g.O.Out.seen c.draw_hits.new.out) (c.with_links.ensures ∙ ap with_links c.row_skin.ensures) c.saturating_sub.ensures c.body_rows.ensures c.as_str.ensures.value
+    c.as_slice-lines.ensures.value c.min.ensures c.in_ok-draw_hits.ensures
