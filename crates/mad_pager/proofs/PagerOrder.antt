@@ -41,20 +41,20 @@ helped_order : (helps : Bool) (below : Leaf) (help : Option Leaf) → IsHelped h
 helped_order false below help none = subst IsOrderlyHelp (sym none) tt
 helped_order true below help (start, is, e) = subst IsOrderlyHelp (sym e) (help_order below start is)
 
-over_order : (closing : Bool) (event : Event) (help : Leaf) (old new : View) → IsHelpStepIf closing event help old new → IsOrderlyLeaf old.text → IsOrderlyLeaf help → IsOrderlyView new
-over_order true event help old new step h k = record { text = subst IsOrderlyLeaf (sym step.text) h; help = subst IsOrderlyHelp (sym step.help) tt }
-over_order false event help old new step h k = record {
-  text = subst IsOrderlyLeaf (sym step.text) (hearing_order event old.text h);
+over_order : (closing : Bool) (event : Event) (help text : Leaf) (new : View) → IsHelpStepIf closing event help text new → IsOrderlyLeaf text → IsOrderlyLeaf help → IsOrderlyView new
+over_order true event help text new step h k = record { text = subst IsOrderlyLeaf (sym step.text) h; help = subst IsOrderlyHelp (sym step.help) tt }
+over_order false event help text new step h k = record {
+  text = subst IsOrderlyLeaf (sym step.text) (hearing_order event text h);
   help = subst IsOrderlyHelp (sym step.help) (leaf_order event help step.after step.step k);
 }
 
-step_in_order : (help : Option Leaf) (event : Event) (old new : View) → IsStepIn help event old new → IsOrderlyLeaf old.text → IsOrderlyHelp help → IsOrderlyView new
-step_in_order None event old new step h k = record { text = leaf_order event old.text new.text step.text h; help = helped_order _ new.text new.help step.help }
-step_in_order (Some help) event old new step h k = over_order (closes event help.state.is_typing) event help old new step h k
+step_in_order : (help : Option Leaf) (event : Event) (text : Leaf) (new : View) → IsStepIn help event text new → IsOrderlyLeaf text → IsOrderlyHelp help → IsOrderlyView new
+step_in_order None event text new step h k = record { text = leaf_order event text new.text step.text h; help = helped_order _ new.text new.help step.help }
+step_in_order (Some help) event text new step h k = over_order (closes event help.state.is_typing) event help text new step h k
 
 -- an event leaves both so
 pub step_order : (event : Event) (old new : View) → IsStep event old new → IsOrderlyView old → IsOrderlyView new
-step_order event old new step h = step_in_order old.help event old new step h.text h.help
+step_order event old new step h = step_in_order old.help event old.text new step h.text h.help
 
 settled_leaf_order : (old new : Leaf) → IsLeafSettled old new → IsOrderlyLeaf old → IsOrderlyLeaf new
 settled_leaf_order old new h k = order_along old new h.same (settled_order old.skin old.text old.state new.state h.settled k)

@@ -89,9 +89,9 @@ IsHelped false below help = help ≡ None
 IsHelped true below help = (start : Leaf) × IsHelpStart below start × (help ≡ Some start)
 
 -- What an event does while no help is open: it is done on the text, and opens the help where it asks for that.
-pub record IsTextStep (event : Event) (old new : View) : Type 0 where
-  pub text : IsLeafStep event old.text new.text
-  pub help : IsHelped (shows_help (turn_of event old.text.state)) new.text new.help
+pub record IsTextStep (event : Event) (text : Leaf) (new : View) : Type 0 where
+  pub text : IsLeafStep event text new.text
+  pub help : IsHelped (shows_help (turn_of event text.state)) new.text new.help
 
 -- a key closes the help: `q`, Esc, `?` or `h`
 abbrev pub is_closing : Command → Bool
@@ -109,32 +109,32 @@ closes (Key key) typing = not typing && closes_help key
 closes event typing = false
 
 -- What an event does that closes it: nothing else.
-pub record IsClosed (old new : View) : Type 0 where
-  pub text : new.text ≡ old.text
+pub record IsClosed (text : Leaf) (new : View) : Type 0 where
+  pub text : new.text ≡ text
   pub help : new.help ≡ None
 
 -- What another one does on it; the text below hears a size.
-pub record IsDoneOver (event : Event) (help : Leaf) (old new : View) : Type 0 where
+pub record IsDoneOver (event : Event) (help text : Leaf) (new : View) : Type 0 where
   pub after : Leaf
   pub step : IsLeafStep event help after
   pub help : new.help ≡ Some after
-  pub text : new.text ≡ hearing event old.text
+  pub text : new.text ≡ hearing event text
 
-abbrev pub IsHelpStepIf : Bool → Event → Leaf → View → View → Type 0
-IsHelpStepIf true event help old new = IsClosed old new
-IsHelpStepIf false event help old new = IsDoneOver event help old new
+abbrev pub IsHelpStepIf : Bool → Event → Leaf → Leaf → View → Type 0
+IsHelpStepIf true event help text new = IsClosed text new
+IsHelpStepIf false event help text new = IsDoneOver event help text new
 
--- what an event does while this help is open
-abbrev pub IsHelpStep : Event → Leaf → View → View → Type 0
-IsHelpStep event help old new = IsHelpStepIf (closes event help.state.is_typing) event help old new
+-- what an event does while this help is open over a text
+abbrev pub IsHelpStep : Event → Leaf → Leaf → View → Type 0
+IsHelpStep event help text new = IsHelpStepIf (closes event help.state.is_typing) event help text new
 
-abbrev pub IsStepIn : Option Leaf → Event → View → View → Type 0
-IsStepIn None event old new = IsTextStep event old new
-IsStepIn (Some help) event old new = IsHelpStep event help old new
+abbrev pub IsStepIn : Option Leaf → Event → Leaf → View → Type 0
+IsStepIn None event text new = IsTextStep event text new
+IsStepIn (Some help) event text new = IsHelpStep event help text new
 
 -- what an event does
 abbrev pub IsStep : Event → View → View → Type 0
-IsStep event old new = IsStepIn old.help event old new
+IsStep event old new = IsStepIn old.help event old.text new
 
 -- how the pager goes on after it
 abbrev pub turn_over : Event → State → Turn

@@ -1,9 +1,9 @@
 //! A pager: a text, and the page of help over it while that is open.
 
-ghost use Rattle.std.specs.Prelude.{◌≡◌, IfOk, OnOk, MatchResult, None};
+ghost use Rattle.std.specs.Prelude.{◌≡◌, IfOk, OnOk, MatchResult, None, option_map};
 ghost use Rattle.mad_search.specs.PagedTexts.{paged_lines};
 ghost use Rattle.mad_pager.specs.Sessions.{state_of, turn_of};
-ghost use Rattle.mad_pager.specs.Pagers.{closes, closes_help, leaf_of, turn_in, turn_over, view_of, IsHelpStart, IsHelpStep, IsOpened, IsStep, IsTextStep, IsViewSettled, IsViewShown, IsViewUnshown};
+ghost use Rattle.mad_pager.specs.Pagers.{closes, closes_help, leaf_of, turn_in, turn_over, view_of, IsHelpSettled, IsHelpStart, IsHelpStep, IsOpened, IsStep, IsTextStep, IsViewSettled, IsViewShown, IsViewUnshown};
 
 use crate::help::{HELP, HELP_NAME};
 use crate::session::{Session, Turn};
@@ -66,9 +66,7 @@ impl<'s> Pager<'s> {
         ensures { OnOk result (IsViewSettled (view_of self.old) (view_of self.new)) }
     {
         self.text.settle(alloc)?;
-        if let Some(help) = &mut self.help {
-            help.settle(alloc)?;
-        }
+        self.settle_help(alloc)?;
         Ok(())
     }
 
@@ -90,7 +88,7 @@ impl<'s> Pager<'s> {
     // Does what an event says on the text, and opens the help where it asks for that.
     fn apply_to_text(&mut self, alloc: Global, event: Event) -> Result<Turn, AllocError>
         requires { self.now.help ≡ None }
-        ensures step { OnOk result (IsTextStep event (view_of self.old) (view_of self.new)) }
+        ensures step { OnOk result (IsTextStep event (leaf_of self.old.text) (view_of self.new)) }
         ensures turn { IfOk result (λ turn. turn ≡ turn_of event (state_of self.old.text)) }
     {
         let turn = self.text.apply(alloc, event)?;
@@ -101,6 +99,17 @@ impl<'s> Pager<'s> {
             return Ok(turn);
         }
         Ok(turn)
+    }
+
+    // Lays the help out for the size that was told, where it is open.
+    fn settle_help(&mut self, alloc: Global) -> Result<(), AllocError>
+        ensures help { OnOk result (IsHelpSettled (option_map leaf_of self.old.help) (option_map leaf_of self.new.help)) }
+        ensures text { OnOk result (leaf_of self.new.text ≡ leaf_of self.old.text) }
+    {
+        match &mut self.help {
+            Some(help) => help.settle(alloc),
+            None => Ok(()),
+        }
     }
 
     // The start of the help, on the screen that the text has.
@@ -129,7 +138,7 @@ impl<'s> Pager<'s> {
         event: Event,
     ) -> Result<Turn, AllocError>
         requires { self.now.help ≡ None }
-        ensures step { OnOk result (IsHelpStep event (leaf_of help) (view_of self.old) (view_of self.new)) }
+        ensures step { OnOk result (IsHelpStep event (leaf_of help) (leaf_of self.old.text) (view_of self.new)) }
         ensures turn { IfOk result (λ turn. turn ≡ turn_over event (state_of help)) }
     {
         let closes = is_closing(event, help.is_typing);
