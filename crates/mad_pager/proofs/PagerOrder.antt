@@ -1,5 +1,5 @@
 -- The sessions of a pager stay orderly.
-use Rattle.std.proofs.Common.{◌≡◌, ℕ, Bool, true, false, List, Option, Some, None, refl, sym, subst}
+use Rattle.std.proofs.Common.{◌≡◌, ℕ, Bool, true, false, List, Option, Some, None, ap, refl, sym, subst}
 use Rattle.mad_md.specs.Lines.{LineContent}
 use Rattle.mad_md.specs.Reading.{unread_text}
 use Rattle.mad_md.specs.Scan.{lines_of}
@@ -7,10 +7,50 @@ use Rattle.mad_layout.specs.declared.skin.MadSkin.{MadSkin}
 use Rattle.mad_term.specs.declared.events.Event.{Event}
 use Rattle.mad_term.specs.declared.events.Event.TheVariants.{Key, Mouse, Resize, FocusGained, FocusLost}
 use Rattle.mad_pager.specs.Screens.{IsOrderly}
-use Rattle.mad_pager.specs.Sessions.{State, hears_size}
-use Rattle.mad_pager.specs.Pagers.{Leaf, View, IsDoneOver, IsHelpSettled, IsHelpStart, IsHelpStepIf, IsHelped, IsLeafSettled, IsLeafStep, IsOpened, IsOrderlyHelp, IsOrderlyLeaf, IsOrderlyView, IsSameLeaf, IsStep, IsStepIn, IsTextStep, IsViewSettled, hearing, closes}
+use Rattle.mad_search.specs.PagedTexts.{paged_lines}
+use Rattle.mad_pager.specs.Sessions.{State, HasSameText, IsEventStep, IsSettled, hears, hears_size, state_of}
+use Rattle.mad_pager.specs.declared.session.Session.{Session}
+use Rattle.mad_pager.specs.Pagers.{Leaf, View, IsDoneOver, IsHelpSettled, IsHelpStart, IsHelpStepIf, IsHelped, IsLeafSettled, IsLeafStep, IsOpened, IsOrderlyHelp, IsOrderlyLeaf, IsOrderlyView, IsSameLeaf, IsStep, IsStepIn, IsTextStep, IsViewSettled, closes, hearing, leaf_of}
 use Rattle.mad_pager.specs.declared.help.TheConstants.{HELP}
 use Rattle.mad_pager.proofs.OrderLemmas.{event_order, settled_order, start_order}
+
+-- ---- leaves
+
+-- the text of a session stays the same
+pub same_leaf : (old new : Session) → HasSameText old new → IsSameLeaf (leaf_of old) (leaf_of new)
+same_leaf old new h = record { skin = h.skin; name = h.name; text = ap paged_lines h.source }
+
+-- a session that heard a size
+pub heard_leaf : (event : Event) (old new : Session) → HasSameText old new → state_of new ≡ hears event (state_of old) → leaf_of new ≡ hearing event (leaf_of old)
+heard_leaf event old new h e = cc (h.skin, h.name, h.source, e)
+
+-- a session that was laid out anew
+pub settled_leaf : (old new : Session) → HasSameText old new → IsSettled old.text.skin.now (paged_lines old.source) (state_of old) (state_of new) → IsLeafSettled (leaf_of old) (leaf_of new)
+settled_leaf old new h settled = record { same = same_leaf old new h; settled = settled }
+
+-- an event that was done on a session
+pub stepped_leaf : (event : Event) (old new : Session) → HasSameText old new → IsEventStep old.text.skin.now (paged_lines old.source) event (state_of old) (state_of new) → IsLeafStep event (leaf_of old) (leaf_of new)
+stepped_leaf event old new h step = record { same = same_leaf old new h; step = step }
+
+-- the help is closed, or not
+pub over_closed : (closing : Bool) (event : Event) (over below : Leaf) (new : View) → closing ≡ true → new.text ≡ below → new.help ≡ None → IsHelpStepIf closing event over below new
+over_closed true event over below new is text help = record { text = text; help = help }
+over_closed false event over below new is text help = absurd (cc)
+
+pub over_done : (closing : Bool) (event : Event) (over below after : Leaf) (new : View) → closing ≡ false → IsLeafStep event over after → new.help ≡ Some after → new.text ≡ hearing event below → IsHelpStepIf closing event over below new
+over_done true event over below after new is step help text = absurd (cc)
+over_done false event over below after new is step help text = record { after = after; step = step; help = help; text = text }
+
+-- the help is opened, or not
+pub helped_so : (helps : Bool) (below start : Leaf) (help : Option Leaf) → helps ≡ true → IsHelpStart below start → help ≡ Some start → IsHelped helps below help
+helped_so true below start help is begun e = (start, begun, e)
+helped_so false below start help is begun e = absurd (cc)
+
+pub helped_not : (helps : Bool) (below : Leaf) (help : Option Leaf) → helps ≡ false → help ≡ None → IsHelped helps below help
+helped_not true below help is none = absurd (cc)
+helped_not false below help is none = none
+
+-- ---- order
 
 order_along : (old new : Leaf) → IsSameLeaf old new → IsOrderly old.skin old.text new.state → IsOrderlyLeaf new
 order_along old new same h =

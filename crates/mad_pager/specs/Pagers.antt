@@ -89,9 +89,9 @@ IsHelped false below help = help ≡ None
 IsHelped true below help = (start : Leaf) × IsHelpStart below start × (help ≡ Some start)
 
 -- What an event does while no help is open: it is done on the text, and opens the help where it asks for that.
-pub record IsTextStep (event : Event) (text : Leaf) (new : View) : Type 0 where
-  pub text : IsLeafStep event text new.text
-  pub help : IsHelped (shows_help (turn_of event text.state)) new.text new.help
+pub record IsTextStep (event : Event) (below : Leaf) (new : View) : Type 0 where
+  pub text : IsLeafStep event below new.text
+  pub help : IsHelped (shows_help (turn_of event below.state)) new.text new.help
 
 -- a key closes the help: `q`, Esc, `?` or `h`
 abbrev pub is_closing : Command → Bool
@@ -109,16 +109,16 @@ closes (Key key) typing = not typing && closes_help key
 closes event typing = false
 
 -- What an event does that closes it: nothing else.
-pub record IsClosed (text : Leaf) (new : View) : Type 0 where
-  pub text : new.text ≡ text
+pub record IsClosed (below : Leaf) (new : View) : Type 0 where
+  pub text : new.text ≡ below
   pub help : new.help ≡ None
 
 -- What another one does on it; the text below hears a size.
-pub record IsDoneOver (event : Event) (help text : Leaf) (new : View) : Type 0 where
+pub record IsDoneOver (event : Event) (over below : Leaf) (new : View) : Type 0 where
   pub after : Leaf
-  pub step : IsLeafStep event help after
+  pub step : IsLeafStep event over after
   pub help : new.help ≡ Some after
-  pub text : new.text ≡ hearing event text
+  pub text : new.text ≡ hearing event below
 
 abbrev pub IsHelpStepIf : Bool → Event → Leaf → Leaf → View → Type 0
 IsHelpStepIf true event help text new = IsClosed text new

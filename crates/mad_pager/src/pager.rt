@@ -107,7 +107,10 @@ impl<'s> Pager<'s> {
         ensures text { OnOk result (leaf_of self.new.text ≡ leaf_of self.old.text) }
     {
         match &mut self.help {
-            Some(help) => help.settle(alloc),
+            Some(help) => {
+                help.settle(alloc)?;
+                Ok(())
+            }
             None => Ok(()),
         }
     }
@@ -138,8 +141,8 @@ impl<'s> Pager<'s> {
         event: Event,
     ) -> Result<Turn, AllocError>
         requires { self.now.help ≡ None }
-        ensures step { OnOk result (IsHelpStep event (leaf_of help) (leaf_of self.old.text) (view_of self.new)) }
-        ensures turn { IfOk result (λ turn. turn ≡ turn_over event (state_of help)) }
+        ensures step { OnOk result (IsHelpStep event (leaf_of help.entry) (leaf_of self.old.text) (view_of self.new)) }
+        ensures turn { IfOk result (λ turn. turn ≡ turn_over event (state_of help.entry)) }
     {
         let closes = is_closing(event, help.is_typing);
         if closes {
