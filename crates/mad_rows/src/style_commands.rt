@@ -1,7 +1,7 @@
 //! The commands of a style, which are made once for all its texts.
 
 ghost use Rattle.std.specs.Prelude.{◌≡◌, ◌++◌, OnOk, string_bytes};
-ghost use Rattle.mad_term.specs.Styles.{IsUnstyled, opening_bytes, piece_bytes};
+ghost use Rattle.mad_term.specs.Styles.{IsUnstyled, piece_bytes};
 
 use mad_term::{ContentStyle, StyleOpening, closing_text};
 use std::alloc::{AllocError, Global};
@@ -15,7 +15,7 @@ pub struct StyleCommands {
 }
 
 impl Model for StyleCommands {
-    ghost use Rattle.std.specs.Prelude.{string_bytes};
+    ghost use Rattle.std.specs.Prelude.{◌≡◌, string_bytes};
     ghost use Rattle.mad_term.specs.Styles.{opening_bytes};
     ghost use Rattle.mad_term.specs.declared.styles.ContentStyle.{ContentStyle};
 
