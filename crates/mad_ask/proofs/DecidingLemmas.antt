@@ -8,10 +8,12 @@ use Rattle.mad_ask.specs.declared.ask_error.AskError.{AskError}
 use Rattle.mad_ask.specs.Deciding.{NoText, line_decides, text_decides}
 use Rattle.mad_ask.specs.Offers.{Offered}
 
+-- a line that is text decides what its text does
 pub line_of_text : (offered : Offered) (line : List ℕ) → IsUtf8 line → line_decides offered line ≡ text_decides offered offered.default (trim_end line)
 line_of_text offered line h =
     ap (λ (b : Bool). cond b (text_decides offered offered.default (trim_end line)) NoText) (is_utf8-from_IsUtf8 line h)
 
+-- a line that isn't text decides that
 pub line_of_no_text : (offered : Offered) (line : List ℕ) → ¬ (IsUtf8 line) → line_decides offered line ≡ NoText
 line_of_no_text offered line h =
     ap (λ (b : Bool). cond b (text_decides offered offered.default (trim_end line)) NoText) (false_from_ne_true (is_utf8 line) (λ e. h (IsUtf8-from_is_utf8 line e)))

@@ -167,9 +167,11 @@ module _ (offered : Offered) (line whole : List ℕ) (count : ℕ) (old mid new 
   whole_line : IsLine whole
   whole_line = record { front = line; one = h.open_end; ended = is }
 
+  -- what the line decided
   pub line_decided : (decision : Decision) → line_decides offered whole ≡ decision → new.output ≡ mid.output → IsDecided offered decision old new
   line_decided decision decides quiet = record { lines = h.lines; line = whole; read = read_whole; said = quiet ∙ h.said; decides = decides; ended = inl whole_line }
 
+  -- why it has no reply
   pub reply_failed : (x : AskError) → ReplyFails offered whole mid.output x new.output → IsRefused offered old x new
   reply_failed (IO x) (none, cut) = record {
     lines = h.lines;
@@ -210,5 +212,6 @@ byte_lost offered line count byte old mid new h e same = record {
 pub at_none : {A : Type 0} (o : Option A) (P : Type 0) (Q : A → Type 0) → o ≡ None → MatchOption o P Q → P
 at_none {A} o P Q e h = let R : Option A → Type 0 = λ x. MatchOption x P Q in subst R e h
 
+-- what holds of an answer that is there
 pub at_some : {A : Type 0} (o : Option A) (P : Type 0) (Q : A → Type 0) (x : A) → o ≡ Some x → MatchOption o P Q → Q x
 at_some {A} o P Q x e h = let R : Option A → Type 0 = λ y. MatchOption y P Q in subst R e h

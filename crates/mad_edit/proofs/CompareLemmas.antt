@@ -14,6 +14,7 @@ use Rattle.mad_edit.specs.Editor.{Editor, IsValid, same_editor, same_position, c
 abbrev position : ℕ → ℕ → Pos
 position y x = record { y = y; x = x }
 
+-- whether two positions are the same
 pub same_position_decides : (p q : Pos) → Decides (same_position p q) (p ≡ q)
 same_position_decides p q = (
   λ e.
@@ -23,6 +24,7 @@ same_position_decides p q = (
   λ e. and_from _ _ ((unsigned_Decides p.y q.y).1 (ap (λ (r : Pos). r.y) e)) ((unsigned_Decides p.x q.x).1 (ap (λ (r : Pos). r.x) e)),
 )
 
+-- whether two tails are the same
 pub same_tail_decides : (s t : Option Pos) → Decides (option_eq same_position s t) (s ≡ t)
 same_tail_decides None None = (λ e. refl, λ e. refl)
 same_tail_decides (Some p) (Some q) = (

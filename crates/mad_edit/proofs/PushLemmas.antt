@@ -62,6 +62,7 @@ pub position_kept : (t u : List ℕ) (p : Pos) → IsPositionIn t p → IsPositi
 position_kept t u p h =
     subst (λ (ls : List (List ℕ)). IsPosition ls p × (offset_of ls p ≡ offset_at t p)) (sym (lines-append t u)) (kept_in_glue (lines t) (lines u) p.y p.x h)
 
+-- a tail within a text is kept as it is where the text goes on
 pub tail_kept : (t u : List ℕ) (tail : Option Pos) → ForSome tail (IsPositionIn t) → clamp_tail (t ++ u) tail ≡ tail
 tail_kept t u None h = refl
 tail_kept t u (Some p) h = ap (λ (x : Pos). Some x) (clamp_position (lines (t ++ u)) p (position_kept t u p (h p refl)).0)

@@ -6,9 +6,11 @@ use Rattle.std.proofs.lemmas.List.Elements.{All-head, All-tail, All-cons, All-ni
 use Rattle.std.specs.List.{onto_first}
 use Rattle.mad_lines.specs.TextLines.{led_lines, text_of, lines, is_line_char, is_accepted, IsLineText, IsAcceptedChar}
 
+-- a character that a line can have
 abbrev pub IsLineChar : ℕ → Type 0
 IsLineChar c = (is_line_char c ≡ true) × IsScalar c
 
+-- where a denied test and another one both hold, the denied one doesn't
 pub not_newline : (b r : Bool) → (not b && r) ≡ true → b ≡ false
 not_newline true r h = cc
 not_newline false r h = refl

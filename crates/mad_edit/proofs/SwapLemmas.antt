@@ -7,12 +7,14 @@ use Rattle.std.proofs.lemmas.List.Elements.{All-set, All-get_or, All-same}
 use Rattle.mad_lines.specs.TextLines.{lines, text_of, IsLineText}
 use Rattle.mad_edit.proofs.SplitLemmas.{lines-text_of}
 
+-- lines of which two were exchanged are lines still
 pub swapped_texts : (ls new : List (List ℕ)) (a b : ℕ) → a < length ls → b < length ls → All IsLineText ls → new ≡ swap ls a b → All IsLineText new
 swapped_texts ls new a b ha hb texts e =
     All-same IsLineText new (set (set ls a (get_or ls b [])) b (get_or ls a [])) (e ∙ sym (swap_is ls a b [] ha hb))
     (All-set IsLineText (set ls a (get_or ls b [])) b (get_or ls a []) (All-get_or IsLineText ls a [] ha texts)
     (All-set IsLineText ls a (get_or ls b []) (All-get_or IsLineText ls b [] hb texts) texts))
 
+-- and they are the lines of their text
 pub swapped_lines : (ls new : List (List ℕ)) (a b : ℕ) → a < length ls → b < length ls → All IsLineText ls → new ≡ swap ls a b → lines (text_of new) ≡ new
 swapped_lines ls new a b ha hb texts e =
     let size = length-swap ls a b in

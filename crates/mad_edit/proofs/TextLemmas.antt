@@ -12,12 +12,15 @@ use Rattle.std.proofs.lemmas.List.Elements.{All-head, All-tail, All-take, All-dr
 use Rattle.mad_lines.specs.TextLines.{accepted, IsAcceptedChar}
 use Rattle.mad_edit.specs.Editor.{Editor, IsEditor, IsCut, selection_start, selection_end, selected, inserted, without}
 
+-- of no bytes no character is accepted
 pub nothing_accepted : accepted (chars []) ≡ []
 nothing_accepted = ap accepted chars-nil
 
+-- the bytes of one character are that character
 pub one_char : (c : ℕ) → IsScalar c → chars (encode_utf8 c) ≡ c ∷ []
 one_char c h = ap chars (sym (append-nil (encode_utf8 c))) ∙ chars-encodes (c ∷ []) (and_from (scalar c) true h refl)
 
+-- a newline is one character
 pub newline_char : chars (10 ∷ []) ≡ 10 ∷ []
 newline_char = ap chars (sym (encode_ascii 10 (lit< tt))) ∙ one_char 10 refl
 
@@ -25,6 +28,7 @@ all_scalars : (cs : List ℕ) → All IsAcceptedChar cs → scalars cs ≡ true
 all_scalars [] h = refl
 all_scalars (c ∷ cs) h = and_from (scalar c) (scalars cs) (All-head IsAcceptedChar c cs h).1 (all_scalars cs (All-tail IsAcceptedChar c cs h))
 
+-- characters that are all accepted stay as they are
 pub all_accepted : (cs : List ℕ) → All IsAcceptedChar cs → accepted cs ≡ cs
 all_accepted [] h = refl
 all_accepted (c ∷ cs) h =

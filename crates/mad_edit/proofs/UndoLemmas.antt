@@ -31,6 +31,7 @@ accepted_left before c after h r =
     (all_front (take r.offset after) (c.text ++ drop r.offset after) whole)
     (all_back c.text (drop r.offset after) (all_back (take r.offset after) (c.text ++ drop r.offset after) whole)))
 
+-- what cuts leave is accepted where the first text was
 pub accepted_along : (first : List ℕ) (cuts : List Cut) (last : List ℕ) → All IsAcceptedChar first → LeadsTo first cuts last → All IsAcceptedChar last
 accepted_along first [] last h leads = All-same IsAcceptedChar last first (sym leads) h
 accepted_along first (c ∷ cuts) last h leads = accepted_along leads.0 cuts last (accepted_left first c leads.0 h leads.1) leads.2

@@ -9,6 +9,7 @@ use Rattle.mad_field_rows.specs.RowChars.{row_columns, ellipsis, space, does_fit
 use Rattle.mad_field_rows.proofs.Choices.{by_bool}
 use Rattle.mad_field_rows.proofs.WidthLemmas.{ellipsis_column}
 
+-- the columns of a row are those of its first character and of the others
 pub columns-cons : (c : RowChar) (cs : List RowChar) → row_columns (c ∷ cs) ≡ char_width c.c + row_columns cs
 columns-cons c cs = sum_by-cons (λ (x : RowChar). char_width x.c) c cs
 
@@ -57,6 +58,7 @@ fitted_within (c ∷ cs) room =
     (λ no' fits. let one : row_columns (mark ∷ []) ≡ char_width 8230 + row_columns [] = columns-cons mark [] in omega (arith, one, ellipsis_column, some)) refl)
     refl
 
+-- a row that is filled up has all columns of its room
 pub filled_columns : (cs : List RowChar) (e : Bool) (room : ℕ) → row_columns (filled_row cs e room) ≡ room
 filled_columns cs e room =
     let left : ℕ = room - row_columns (fitted cs room) in

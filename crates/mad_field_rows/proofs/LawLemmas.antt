@@ -19,5 +19,6 @@ fitted_whole (c ∷ cs) room h =
     let mark : List RowChar = record { c = ellipsis; marked = c.marked } ∷ [] in
     ap (λ b. cond b [] (cond (does_fit c cs room) (c ∷ fitted cs (room - char_width c.c)) mark)) some ∙ ap (λ b. cond b (c ∷ fitted cs (room - char_width c.c)) mark) (fits_whole c cs room (omega (arith, all, h))) ∙ ap (λ (xs : List RowChar). c ∷ xs) rest
 
+-- a row that fits is its characters, and spaces
 pub whole_row : (cs : List RowChar) (e : Bool) (room : ℕ) → row_columns cs < room → filled_row cs e room ≡ cs ++ spaces_after e (room - row_columns cs)
 whole_row cs e room h = ap (λ (xs : List RowChar). xs ++ spaces_after e (room - row_columns xs)) (fitted_whole cs room h)

@@ -23,12 +23,15 @@ pub record FoundSoFar (whole : List RowChar) (start : ℕ) (rest : List RowChar)
   pub answer : last_marked whole start ≡ option_or (last_marked rest column) found
   pub within : column + row_columns rest < 65536
 
+-- at first no marked character is found
 pub found_none : (cs : List RowChar) (column : ℕ) → column + row_columns cs < 65536 → FoundSoFar cs column cs column None
 found_none cs column h = record { answer = sym (or_none (last_marked cs column)); within = h }
 
+-- the column after a character is one of 16 bits
 pub found_fits : (whole cs : List RowChar) (start column : ℕ) (found : Option ℕ) (rest : List RowChar) (c : RowChar) → FoundSoFar whole start rest column found → rest ≡ c ∷ cs → column + char_width c.c < 65536
 found_fits whole cs start column found rest c h is = let e : row_columns rest ≡ char_width c.c + row_columns cs = ap row_columns is ∙ columns-cons c cs in omega (arith, e, h.within)
 
+-- one character more
 pub found_more : (whole cs : List RowChar) (start column next : ℕ) (found found' : Option ℕ) (rest : List RowChar) (c : RowChar) → FoundSoFar whole start rest column found → rest ≡ c ∷ cs
     → found' ≡ (if c.marked then Some column else found) → next ≡ column + char_width c.c → FoundSoFar whole start cs next found'
 found_more whole cs start column next found found' rest c h is is_found is_next = record {
@@ -37,5 +40,6 @@ found_more whole cs start column next found found' rest c h is is_found is_next 
   within = let e : row_columns rest ≡ char_width c.c + row_columns cs = ap row_columns is ∙ columns-cons c cs in omega (arith, e, h.within, is_next);
 }
 
+-- after the last character the answer is the definition's
 pub found_all : (whole rest : List RowChar) (start column : ℕ) (found : Option ℕ) → FoundSoFar whole start rest column found → rest ≡ [] → found ≡ last_marked whole start
 found_all whole rest start column found h is = sym (h.answer ∙ ap (λ (rs : List RowChar). option_or (last_marked rs column) found) is)

@@ -41,6 +41,7 @@ one_known : (marked others : CompoundStyle) (b : Bool) → IsStyle marked.object
 one_known marked others true m o = m
 one_known marked others false m o = o
 
+-- the pieces of a row are in styles that a program can hold
 pub chars_known : (marked others : CompoundStyle) (cs : List RowChar) → IsStyle marked.object_style → IsStyle others.object_style → AreKnown (char_pieces marked others cs)
 chars_known marked others [] m o = tt
 chars_known marked others (c ∷ cs) m o = (one_known marked others c.marked m o, chars_known marked others cs m o)
@@ -64,6 +65,7 @@ blanks_done style most count n start now next is whole so_far more =
     ∙ ap (λ k. start ++ (repeat k piece ++ last)) (whole ∙ ap (λ m. count / m) thousand)
     ∙ ap (λ bs. start ++ bs) (filling_written c count most piece last (spaces_repeat style most) last_is (omega (arith, is)) (λ _. is))
 
+-- the last blanks, after those that were written in whole pieces
 pub blanks_written : {T E : Type 0} (r : Result T E) (style : CompoundStyle) (most count n : ℕ) (start now next : List ℕ) → most ≡ piece_chars → n ≡ count / most → now ≡ start ++ repeat n (pieces_bytes (spaces style most))
     → OnOk r (next ≡ now ++ pieces_bytes (spaces style (count % most))) → OnOk r (next ≡ start ++ pieces_bytes (filling_pieces (styled_char style 32) count))
 blanks_written {T} {E} (Ok x) style most count n start now next is whole so_far more = blanks_done style most count n start now next is whole so_far more
@@ -73,11 +75,13 @@ times_known : (n : ℕ) (ps : List RowPiece) → AreKnown ps → AreKnown (repea
 times_known zero ps h = tt
 times_known (suc n) ps h = known_both ps (repeat n ps) h (times_known n ps h)
 
+-- so are those of a filling
 pub blanks_known : (c : StyledChar) (count : ℕ) → IsStyle (char_style c).object_style → AreKnown (filling_pieces c count)
 blanks_known c count h = known_both (repeat (count / piece_chars) (char_repeat c piece_chars)) (char_repeat c (count % piece_chars)) (times_known (count / piece_chars) (char_repeat c piece_chars) (char_repeat_known c piece_chars h)) (char_repeat_known c (count % piece_chars) h)
 
 -- ---- results
 
+-- what holds anyway holds where the call succeeds
 pub always_ok : {T E P : Type 0} (r : Result T E) → P → OnOk r P
 always_ok {T} {E} {P} (Ok x) p = p
 always_ok {T} {E} {P} (Err e) p = tt

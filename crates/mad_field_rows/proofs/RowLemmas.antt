@@ -51,6 +51,7 @@ spaces_next true n =
     ∙ ap (λ k. let x : RowChar = record { c = space; marked = true } in x ∷ replicate k (record { c = space; marked = false })) less
 spaces_next false n = refl
 
+-- past the characters a row is filled up by spaces
 pub filled_space : (e : Bool) (room : ℕ) → 0 < room → filled_row [] e room ≡ record { c = space; marked = e } ∷ filled_row [] false (room - 1)
 filled_space e room some =
     let more : room ≡ suc (room - 1) = omega arith in
@@ -63,6 +64,7 @@ length-marked : (password : Bool) (a b x : ℕ) (cs : List ℕ) → length (mark
 length-marked password a b x [] = refl
 length-marked password a b x (c ∷ cs) = ap suc (length-marked password a b (x + 1) cs)
 
+-- whether a character fits: the last one may take the last column
 pub fits_test : (c : RowChar) (cs : List RowChar) (room : ℕ) (last : Bool) → last ≡ (length cs == 0) → does_fit c cs room ≡ (if last then nat_le (char_width c.c) room else nat_lt (char_width c.c) room)
 fits_test c [] room last is = sym (ap (λ b. cond b (nat_le (char_width c.c) room) (nat_lt (char_width c.c) room)) is)
 fits_test c (d ∷ cs) room last is =
@@ -91,6 +93,7 @@ does_fit_is password a b x room width line r last fits inside wide is fit =
     fits_test r (marked_between password a b (x + 1) (drop (x + 1) line)) room last (is ∙ is_last password a b x line inside)
     ∙ sym (ap (λ n. if last then nat_le n room else nat_lt n room) wide) ∙ sym fit
 
+-- a character that fits
 pub step_fits : (password : Bool) (a b x room width : ℕ) (line : List ℕ) (e : Bool) (r : RowChar) (last fits : Bool) → x < length line → 0 < room → r.c ≡ shown_at password (get_or line x 0) → r.marked ≡ (nat_le a x && nat_lt x b)
     → width ≡ char_width r.c → last ≡ (x + 1 == length line) → fits ≡ (if last then nat_le width room else nat_lt width room) → fits ≡ true
     → filled_row (marked_between password a b x (drop x line)) e room ≡ r ∷ filled_row (marked_between password a b (x + 1) (drop (x + 1) line)) e (room - width)
@@ -100,6 +103,7 @@ step_fits password a b x room width line e r last fits inside some char marked w
     ap (λ (xs : List RowChar). filled_row xs e room) whole ∙ filled_fits r rest e room some (does_fit_is password a b x room width line r last fits inside wide is fit ∙ does)
     ∙ ap (λ n. r ∷ filled_row rest e (room - n)) (sym wide)
 
+-- a character that doesn't fit: an ellipsis at its first column, and nothing of what follows
 pub step_hidden : (password : Bool) (a b x room width : ℕ) (line : List ℕ) (e : Bool) (r : RowChar) (last fits : Bool) → x < length line → 0 < room → r.c ≡ shown_at password (get_or line x 0) → r.marked ≡ (nat_le a x && nat_lt x b)
     → width ≡ char_width r.c → last ≡ (x + 1 == length line) → fits ≡ (if last then nat_le width room else nat_lt width room) → fits ≡ false
     → filled_row (marked_between password a b x (drop x line)) e room
@@ -111,6 +115,7 @@ step_hidden password a b x room width line e r last fits inside some char marked
     ap (λ (xs : List RowChar). filled_row xs e room) whole ∙ filled_hidden r rest e room some (does_fit_is password a b x room width line r last fits inside wide is fit ∙ hides)
     ∙ ap (λ cs. mark ∷ filled_row (marked_between password a b (length line) cs) e (room - char_width ellipsis)) (sym (drop_all (length line) line (omega arith)))
 
+-- a space past the line's end
 pub step_space : (password : Bool) (a b x room : ℕ) (line : List ℕ) (e : Bool) → length line ≤ x → 0 < room
     → filled_row (marked_between password a b x (drop x line)) e room ≡ record { c = space; marked = e } ∷ filled_row (marked_between password a b x (drop x line)) false (room - 1)
 step_space password a b x room line e past some =

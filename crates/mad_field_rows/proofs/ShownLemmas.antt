@@ -31,16 +31,20 @@ use Rattle.mad_field_rows.proofs.WidthLemmas.{ellipsis_column}
 
 -- ---- the characters of a row
 
+-- a character that is shown, and takes columns
 abbrev pub IsRowChar : RowChar → Type 0
 IsRowChar c = IsScalar c.c × (0 < char_columns c.c)
 
+-- all characters are such
 abbrev pub AreRowChars : List RowChar → Type 0
 AreRowChars = AllByRecursion IsRowChar
 
+-- so are those from a column on
 pub from_all : (cs : List RowChar) (column : ℕ) → AreRowChars cs → AreRowChars (from_column cs column)
 from_all [] column h = tt
 from_all (c ∷ cs) column h = by_bool (λ b. AreRowChars (cond b (c ∷ cs) (from_column cs (column - char_width c.c)))) (column == 0) (λ on. h) (λ off. from_all cs (column - char_width c.c) h.1)
 
+-- the ellipsis is one
 pub mark_all : IsScalar 8230 × (0 < char_columns 8230)
 mark_all = (refl, omega (arith, ellipsis_column))
 
@@ -66,6 +70,7 @@ both_all : (cs ds : List RowChar) → AreRowChars cs → AreRowChars ds → AreR
 both_all [] ds h k = k
 both_all (c ∷ cs) ds h k = (h.0, both_all cs ds h.1 k)
 
+-- a row that is filled up has no others
 pub filled_all : (cs : List RowChar) (e : Bool) (room : ℕ) → AreRowChars cs → AreRowChars (filled_row cs e room)
 filled_all cs e room h = both_all (fitted cs room) (spaces_after e (room - row_columns (fitted cs room))) (fitted_all cs room h) (spaces_all e (room - row_columns (fitted cs room)))
 
@@ -79,6 +84,7 @@ printed_one : (c : ℕ) → 0 < char_columns c → IsShown (c ∷ [])
 unfolding char_columns
 printed_one c h = record { printed = (some_of (unicode_char_width false c) h, tt); whole = h }
 
+-- the piece of such a character is shown in its columns
 pub char_shown : (c : ℕ) (p : RowPiece) → p.text ≡ encode_utf8 c → IsScalar c → 0 < char_columns c → IsShownPiece p × (columns (chars p.text) ≡ char_columns c)
 char_shown c p is scalar takes =
     let text : chars p.text ≡ c ∷ [] = ap chars is ∙ one_char c scalar in (
@@ -95,6 +101,7 @@ no_tab c h =
     by_bool (λ b. (c == 9) ≡ b → cond b 2 (char_columns c) ≡ char_columns c) (c == 9)
     (λ on is. let nine : c ≡ 9 = grind (arith, nat_tests) in let none : char_columns c ≡ 0 = ap char_columns nine ∙ tab_column in absurd (omega arith)) (λ off is. refl) refl
 
+-- the pieces of a row are shown in its columns
 pub chars_shown : (marked others : CompoundStyle) (cs : List RowChar) → AreRowChars cs → AreShownPieces (char_pieces marked others cs) × (pieces_columns (char_pieces marked others cs) ≡ row_columns cs)
 chars_shown marked others [] h = (tt, refl)
 chars_shown marked others (c ∷ cs) h =
@@ -116,6 +123,7 @@ times_shown (suc n) m ps h wide =
     let more : suc n * m ≡ m + n * m = grind arith in
     (shown_both ps (repeat n ps) h rest.0, columns-both ps (repeat n ps) ∙ omega (arith, wide, rest.1, more))
 
+-- the pieces of a filling are shown in as many columns
 pub blanks_shown : (c : StyledChar) (count : ℕ) → IsColumnPiece (style_piece c) → AreShownPieces (filling_pieces c count) × (pieces_columns (filling_pieces c count) ≡ count)
 blanks_shown c count h =
     let full : List RowPiece = repeat (count / piece_chars) (char_repeat c piece_chars) in

@@ -89,6 +89,7 @@ simple_parts bar drawn is =
       | inr fails ↦ absurd (let e : Simple drawn ≡ Rich bar.track bar.thumb = sym is ∙ cond-false (is_simple bar) (Simple (simple_char bar)) (Rich bar.track bar.thumb) fails in cc)
     ]
 
+-- a bar that is written as one character is read back equal
 pub simple_read : (bar : ScrollBarStyle) (drawn : StyledChar) → def_of bar ≡ Simple drawn → ReadsBackChar drawn → ReadsBackBar bar
 simple_read bar drawn is reads =
     λ h.
@@ -113,6 +114,7 @@ rich_parts bar track thumb is =
       | inr fails ↦ let e : Rich track thumb ≡ Rich bar.track bar.thumb = sym is ∙ cond-false (is_simple bar) (Simple (simple_char bar)) (Rich bar.track bar.thumb) fails in (cc, cc)
     ]
 
+-- a bar that is written as two characters is read back equal
 pub rich_read : (bar : ScrollBarStyle) (track thumb : StyledChar) → def_of bar ≡ Rich track thumb → ReadsBackChar track → ReadsBackChar thumb → ReadsBackBar bar
 rich_read bar track thumb is read_track read_thumb =
     λ h.

@@ -64,6 +64,7 @@ drop_all zero (x ∷ l) is = absurd (omega (arith, is))
 drop_all (suc n) [] is = refl
 drop_all (suc n) (x ∷ l) is = drop_all n l (omega (arith, is))
 
+-- a list that is replaced by one as long is that one
 pub replaced_all : {A : Type 0} (old new : List A) → length old ≡ length new → replaced old new ≡ new
 replaced_all old new same =
     ap (λ l. l ++ drop (length new) old) (take_all (length old) new (omega (arith, same)))

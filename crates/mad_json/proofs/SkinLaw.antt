@@ -182,6 +182,7 @@ written_skin skin name named a m l i h =
     ∙ part_read (codes "table_border_chars") (string name) TableBorders f15 s16 m16 refl refl (refl) (ap (λ o. let s : MadSkin = record s15 { table_border_chars = unwrap_or o s15.table_border_chars } in Ok s) named))
     ∙ ap (λ (b : Bool). Ok (record skin { whole_words = b }, [])) (sym h.whole_words)
 
+-- a skin whose parts each read back is read equal from its value
 pub skin_back : (skin : MadSkin) (name : Option (List ℕ)) (d : Data) → IsNameOf skin.table_border_chars name → d ≡ skin_data skin name → ReadBackAdditions skin → ReadBackChars skin → ReadBackLines skin → ReadBackItems skin → SkinReadsBack skin d
 skin_back skin None d unnamed is a m l i h = absurd (unnamed h.borders.0 h.borders.1)
 skin_back skin (Some name) d named is a m l i h = ap skin_read is ∙ written_skin skin name named a m l i h

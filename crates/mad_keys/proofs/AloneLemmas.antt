@@ -34,6 +34,7 @@ run_read (b ∷ c ∷ bytes) w h =
     subst (λ (l : List ℕ). IsReading w (b ∷ c ∷ bytes) (Whole l ∷ []) []) (append_assoc w (b ∷ []) (c ∷ bytes))
     (extend (Whole ((w ++ b ∷ []) ++ c ∷ bytes) ∷ []) w b (c ∷ bytes) [] h.0 (run_read (c ∷ bytes) (w ++ b ∷ []) h.1))
 
+-- bytes that make a front grow and end it are a block of their one event
 pub run_block : (bytes : List ℕ) (e : Event) → IsRun [] bytes → IsEventBytes e bytes → IsBlock [] bytes (e ∷ []) []
 run_block bytes e run is = record { items = Whole bytes ∷ []; before = []; read = run_read bytes [] run; told = (Some e, [], is, refl, refl); left = refl }
 
@@ -215,6 +216,7 @@ console_run bs e h =
     let high : h.letter ≤ 69 = leb-true h.letter 69 t.1 in
     subst (λ (l : List ℕ). IsRun [] l) (sym h.written) (refl, (refl, (refl, cond-true (leb 64 h.letter && leb h.letter 126) Ends Breaks (grind (arith, nat_tests)))))
 
+-- the bytes of a sequence, alone in a block, are its event
 pub sequence_alone : (bs : List ℕ) (e : Event) → IsSequenceBytes e bs ⊎ IsMouseBytes e bs ⊎ IsApplicationBytes e bs ⊎ IsConsoleBytes e bs → IsBlock [] bs (e ∷ []) []
 sequence_alone bs e (inl h) = run_block bs e (sequence_run bs e h) (inr (inr (inr (inl h))))
 sequence_alone bs e (inr (inl h)) = run_block bs e (mouse_run bs e h) (inr (inr (inr (inr (inl h)))))

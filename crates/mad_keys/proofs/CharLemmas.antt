@@ -168,6 +168,7 @@ after_escape (b ∷ bytes) h = (refl, h)
 lone : IsBlock [] (27 ∷ []) (Key escape_key ∷ []) []
 lone = record { items = []; before = 27 ∷ []; read = (refl, refl); told = (Some (Key escape_key), [], refl, refl, refl); left = refl }
 
+-- the bytes of any event, alone in a block, are that event
 pub event_alone : (bs : List ℕ) (e : Event) → IsEventBytes e bs → IsBlock [] bs (e ∷ []) []
 event_alone bs e (inl h) = subst (λ (l : List ℕ). IsBlock [] l (e ∷ []) []) (sym h.0) (subst (λ (f : Event). IsBlock [] (27 ∷ []) (f ∷ []) []) (sym h.1) lone)
 event_alone bs e (inr (inl h)) = run_block bs e (subst (λ (l : List ℕ). IsRun [] l) (sym h.written) (char_run [] h.char (inl refl) h.scalar h.no_escape)) (inr (inl h))

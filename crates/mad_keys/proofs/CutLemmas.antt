@@ -31,6 +31,7 @@ found_from : (bytes w : List ℕ) → Found w bytes
 found_from [] w = record { items = []; rest = w; read = refl }
 found_from (b ∷ bytes) w = found_step (step_of w b) w b bytes refl (λ v. found_from bytes v)
 
+-- bytes have a reading after any front
 pub found : (w bytes : List ℕ) → (items : List Item) × (rest : List ℕ) × IsReading w bytes items rest
 found w bytes = let r = found_from bytes w in (r.items, r.rest, r.read)
 
@@ -170,6 +171,7 @@ same_from [] w items others rest left h g =
     record { items_are = x.0 ∙ sym y.0; rest_is = sym x.1 ∙ y.1 }
 same_from (b ∷ bytes) w items others rest left h g = same_step (step_of w b) w b bytes items others rest left refl (same_from bytes) h g
 
+-- bytes have one reading alone after a front
 pub alone : (w bytes : List ℕ) (items others : List Item) (rest left : List ℕ) → IsReading w bytes items rest → IsReading w bytes others left → (items ≡ others) × (rest ≡ left)
 alone w bytes items others rest left h g = let s = same_from bytes w items others rest left h g in (s.items_are, s.rest_is)
 
@@ -241,6 +243,7 @@ goes [] h = record { same = refl; no_item = refl }
 goes (a ∷ []) h = let g = goes_one (eqb a 27) a refl (λ e. h (ap (λ n. n ∷ []) e)) in record { same = g.0; no_item = g.1 }
 goes (a ∷ b ∷ x) h = record { same = refl; no_item = refl }
 
+-- two blocks are one where no ESC is before the cut
 pub cut : (w first second : List ℕ) (events others : List Event) (between left : List ℕ) → w ≢ 27 ∷ [] → (EndsIn 27 first → ⊥)
     → IsBlock w first events between → IsBlock between second others left → IsBlock w (first ++ second) (events ++ others) left
 cut w first second events others between left no_escape not_last a b =

@@ -20,16 +20,19 @@ use Rattle.mad_keys.proofs.NumberLemmas.{cond_then, numbers_at-sound, numbers_at
 
 -- ---- characters
 
+-- bytes that aren't UTF-8 are no character
 pub char_at-no_text : (bs : List ℕ) → ¬ (IsUtf8 bs) → char_at bs ≡ None
 char_at-no_text bs h = ap (λ b. cond b (only (chars bs)) None) (false_from_ne_true (is_utf8 bs) (λ e. h (IsUtf8-from_is_utf8 bs e)))
 
 char_at-text : (bs : List ℕ) → IsUtf8 bs → char_at bs ≡ only (chars bs)
 char_at-text bs h = ap (λ b. cond b (only (chars bs)) None) (is_utf8-from_IsUtf8 bs h)
 
+-- no bytes are no character
 pub char_at-nothing : (bs : List ℕ) → IsUtf8 bs → length bs ≡ 0 → char_at bs ≡ None
 char_at-nothing [] h e = char_at-text [] h ∙ ap only chars-nil
 char_at-nothing (b ∷ bs) h e = absurd (omega arith)
 
+-- the bytes of one character are it
 pub char_at-one : (bs rest : List ℕ) (c : ℕ) → IsUtf8 bs → bs ≡ encode_utf8 c ++ rest → length rest ≡ 0 → char_at bs ≡ Some c
 char_at-one bs [] c h e z = char_at-text bs h ∙ ap only (chars_past_char bs [] c h e ∙ ap (λ l. c ∷ l) chars-nil)
 char_at-one bs (b ∷ rest) c h e z = absurd (omega arith)
@@ -38,6 +41,7 @@ only_more : (c : ℕ) (cs : List ℕ) → cs ≢ [] → only (c ∷ cs) ≡ None
 only_more c [] h = absurd (h refl)
 only_more c (d ∷ cs) h = refl
 
+-- the bytes of several characters are no single one
 pub char_at-more : (bs rest : List ℕ) (c : ℕ) → IsUtf8 bs → bs ≡ encode_utf8 c ++ rest → 0 < length rest → char_at bs ≡ None
 char_at-more bs rest c h e some =
     char_at-text bs h ∙ ap only (chars_past_char bs rest c h e)
@@ -46,27 +50,33 @@ char_at-more bs rest c h e some =
 
 -- ---- the last byte
 
+-- the numbers are those of the bytes before the last one, some of which were taken already
 pub last_apart : (f : List ℕ → ℕ → Option Event) (bytes front : List ℕ) (letter : ℕ) → numbers_event_at f front (bytes ++ letter ∷ []) ≡ option_and_then (λ ns. f ns letter) (numbers_at (front ++ bytes))
 last_apart f [] front letter = ap (λ l. option_and_then (λ ns. f ns letter) (numbers_at l)) (sym (append-nil front))
 last_apart f (a ∷ []) front letter = refl
 last_apart f (a ∷ b ∷ bytes) front letter =
     last_apart f (b ∷ bytes) (front ++ a ∷ []) letter ∙ ap (λ l. option_and_then (λ ns. f ns letter) (numbers_at l)) (append_assoc front (a ∷ []) (b ∷ bytes))
 
+-- the same of bytes whose last one is known
 pub last_of : (f : List ℕ → ℕ → Option Event) (bytes front : List ℕ) (letter : ℕ) → bytes ≡ front ++ letter ∷ [] → numbers_event_at f [] bytes ≡ option_and_then (λ ns. f ns letter) (numbers_at front)
 last_of f bytes front letter e = ap (numbers_event_at f []) e ∙ last_apart f front [] letter
 
+-- no event where the bytes before the last one are no numbers
 pub numbers_none : (f : List ℕ → ℕ → Option Event) (bytes front : List ℕ) (letter : ℕ) → bytes ≡ front ++ letter ∷ [] → numbers_at front ≡ None → numbers_event_at f [] bytes ≡ None
 numbers_none f bytes front letter e h = last_of f bytes front letter e ∙ ap (option_and_then (λ ns. f ns letter)) h
 
+-- where they are numbers, the event is that of these and the last byte
 pub numbers_some : (f : List ℕ → ℕ → Option Event) (bytes front : List ℕ) (letter : ℕ) (ns : List ℕ) → bytes ≡ front ++ letter ∷ [] → numbers_at front ≡ Some ns → numbers_event_at f [] bytes ≡ f ns letter
 numbers_some f bytes front letter ns e h = last_of f bytes front letter e ∙ ap (option_and_then (λ ns. f ns letter)) h
 
 -- ---- the event of bytes is one that they are
 
+-- a test's two ways to an answer
 pub split : {A P : Type 0} (t : Bool) (x y : Option A) (e : A) → (t ≡ true → x ≡ Some e → P) → (t ≡ false → y ≡ Some e → P) → cond t x y ≡ Some e → P
 split true x y e p q h = p refl h
 split false x y e p q h = q refl h
 
+-- an event that was made of a value has one
 pub mapped : {A : Type 0} (f : A → Event) (o : Option A) (e : Event) → option_map f o ≡ Some e → (x : A) × (o ≡ Some x) × (f x ≡ e)
 mapped f None e h = absurd (none-some e h)
 mapped f (Some x) e h = (x, refl, same_Some _ _ h)
@@ -157,6 +167,7 @@ escape_sound (a ∷ w) e h =
     y)
     h
 
+-- the event of bytes is one that they are
 pub event_at-sound : (bs : List ℕ) (e : Event) → event_at bs ≡ Some e → IsEventBytes e bs
 event_at-sound [] e h = absurd (none-some e h)
 event_at-sound (a ∷ w) e h =
@@ -229,6 +240,7 @@ sequence_complete (n ∷ ns) letter e small h =
     ap bracket_at whole ∙ bracket_at-numbers d.digit ((d.others ++ flat_map (λ m. 59 ∷ decimal m) ns) ++ letter ∷ []) (λ i. omega (arith, d.high, i)) (λ i. omega (arith, d.high, i))
     ∙ ap (numbers_event_at sequence_event []) (sym whole) ∙ numbers_complete sequence_event (n ∷ ns) letter e small (few_numbers (n ∷ ns) letter e h) h
 
+-- bytes that are an event have it
 pub event_at-complete : (bs : List ℕ) (e : Event) → IsEventBytes e bs → event_at bs ≡ Some e
 event_at-complete bs e (inl h) = ap event_at h.0 ∙ ap Some (sym h.1)
 event_at-complete bs e (inr (inl h)) =

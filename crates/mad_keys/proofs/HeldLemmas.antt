@@ -24,6 +24,7 @@ number_of-held n h = cond-true (ltb (turned n) 8) _ _ (lt-ltb (turned n) 8 (turn
 abbrev of_bits : ℕ → KeyModifiers
 of_bits bits = record { 0 = bits }
 
+-- modifiers that have a number are those of that number
 pub held-number_of : (m : KeyModifiers) (n : ℕ) → number_of m ≡ Some n → (n < 8) × (m ≡ held n)
 held-number_of m n h =
     let k = cond_some (ltb m.0 8) (turned m.0) n h in

@@ -36,6 +36,7 @@ far_step a c d e f w v b =
     let char : char_step (a ∷ c ∷ d ∷ e ∷ f ∷ w) b ≡ char_step (a ∷ c ∷ d ∷ e ∷ f ∷ v) b = far_char a c d e (f ∷ w) b ∙ sym (far_char a c d e (f ∷ v) b) in
     (λ i. cond (eqb a 27) (escape i) (char i))
 
+-- a byte does the same to what is kept as to the whole front
 pub kept_step : (w : List ℕ) (b : ℕ) → step_of (kept w) b ≡ step_of w b
 kept_step [] b = refl
 kept_step (a ∷ []) b = refl
@@ -44,6 +45,7 @@ kept_step (a ∷ c ∷ d ∷ []) b = refl
 kept_step (a ∷ c ∷ d ∷ e ∷ []) b = refl
 kept_step (a ∷ c ∷ d ∷ e ∷ f ∷ w) b = far_step a c d e f (take 13 w) w b
 
+-- what is kept is a lone ESC where the front is one
 pub kept_lone : (w : List ℕ) → lone_escape (kept w) ≡ lone_escape w
 kept_lone [] = refl
 kept_lone (a ∷ []) = refl
@@ -53,11 +55,13 @@ kept_pause_one : (t : Bool) (a : ℕ) → cond t [] (a ∷ []) ≡ kept (cond t 
 kept_pause_one true a = refl
 kept_pause_one false a = refl
 
+-- a pause leaves of what is kept what is kept of what it leaves
 pub kept_pause : (w : List ℕ) → after_pause (kept w) ≡ kept (after_pause w)
 kept_pause [] = refl
 kept_pause (a ∷ []) = kept_pause_one (eqb a 27) a
 kept_pause (a ∷ c ∷ w) = refl
 
+-- one byte more is kept as if all of the front had been
 pub kept_more : (w : List ℕ) (b : ℕ) → kept (kept w ++ b ∷ []) ≡ kept (w ++ b ∷ [])
 kept_more w b = elim (cases_lt 18 (length w)) [
   | inl more ↦ take_at (take 18 w) (b ∷ []) 18 (length-take-le 18 w (omega arith)) ∙ sym (take-append-le 18 w (b ∷ []) (omega arith))
@@ -71,6 +75,7 @@ no_long_event bs (Some e) long h = absurd (omega (arith, event_short bs e h))
 long_is_none : (bs : List ℕ) (o : Option Event) → 18 < length bs → o ≡ None → IsEventOf bs o
 long_is_none bs o long e = subst (λ (p : Option Event). IsEventOf bs p) (sym e) (λ f h. omega (arith, event_short bs f h))
 
+-- what is kept and a byte are the event that the whole front and the byte are
 pub kept_event : (w : List ℕ) (b : ℕ) (o : Option Event) → IsEventOf (kept w ++ b ∷ []) o → IsEventOf (w ++ b ∷ []) o
 kept_event w b o h = elim (cases_lt 18 (length w)) [
   | inl more ↦

@@ -61,6 +61,7 @@ scan_rest (m ∷ ms) ns n few small =
     ∙ scan_rest ms (ns ++ n ∷ []) m (omega arith) small.1
     ∙ ap Some (append_assoc ns (n ∷ []) (m ∷ ms))
 
+-- written numbers are read as these numbers
 pub scan_numbers : (n : ℕ) (ns : List ℕ) → length ns ≤ 2 → AreSmall (n ∷ ns) → scan (numbers_bytes (n ∷ ns)) [] None ≡ Some (n ∷ ns)
 scan_numbers n ns few small = scan_decimal [] n small.0 _ ∙ scan_rest ns [] n (omega arith) small.1
 
@@ -81,6 +82,7 @@ abbrev IsSmall : Option ℕ → Type 0
 IsSmall None = Unit {0}
 IsSmall (Some n) = n < 2 ^ 32
 
+-- a test whose second way gives nothing went the first
 pub cond_then : {A : Type 0} (t : Bool) (o : Option A) (y : A) → cond t o None ≡ Some y → (t ≡ true) × (o ≡ Some y)
 cond_then true o y h = (refl, h)
 cond_then false o y h = absurd (none-some y h)
@@ -173,14 +175,17 @@ scan_sound (b ∷ bs) ns now ms small now_small h =
 
 -- ---- both
 
+-- bytes that are read as numbers are these numbers, written
 pub numbers_at-sound : (bs ms : List ℕ) → numbers_at bs ≡ Some ms → AreNumbers ms bs
 numbers_at-sound [] ms h = subst (λ (l : List ℕ). AreNumbers l []) (same_Some _ _ h) (record { written = refl; few = omega arith; small = tt })
 numbers_at-sound (b ∷ bs) ms h = scan_sound (b ∷ bs) [] None ms tt tt h
 
+-- the numbers of bytes, of which there is at least one, are what scanning them gives
 pub numbers_at-some : (bs : List ℕ) → bs ≢ [] → numbers_at bs ≡ scan bs [] None
 numbers_at-some [] h = absurd (h refl)
 numbers_at-some (b ∷ bs) h = refl
 
+-- written numbers are read as they are
 pub numbers_at-complete : (bs ms : List ℕ) → AreNumbers ms bs → numbers_at bs ≡ Some ms
 numbers_at-complete bs [] are = ap numbers_at are.written
 numbers_at-complete bs (n ∷ ns) are =
@@ -191,10 +196,12 @@ numbers_at-complete bs (n ∷ ns) are =
 
 -- ---- the loop over the bytes
 
+-- no numbers: a semicolon (59) where one number more isn't taken
 pub scan-semicolon : (bs : List ℕ) (i : ℕ) (ns : List ℕ) (now : Option ℕ) → i < length bs → get_or bs i 0 ≡ 59 → with_number ns now ≡ None → scan (drop i bs) ns now ≡ None
 scan-semicolon bs i ns now h b full =
     at_drop_more (λ l. scan l ns now) bs i 0 h ∙ ap (λ c. scan (c ∷ drop (i + 1) bs) ns now) b ∙ ap (option_and_then (λ ms. scan (drop (i + 1) bs) ms None)) full
 
+-- no numbers: a byte that isn't taken, and is no semicolon
 pub scan-stray : (bs : List ℕ) (i : ℕ) (ns : List ℕ) (now : Option ℕ) → i < length bs → (get_or bs i 0 ≡ 59 → ⊥) → with_byte now (get_or bs i 0) ≡ None → scan (drop i bs) ns now ≡ None
 scan-stray bs i ns now h b none =
     let test : eqb (get_or bs i 0) 59 ≡ false = ne_eqb (get_or bs i 0) 59 b in
@@ -203,5 +210,6 @@ scan-stray bs i ns now h b none =
     ∙ ap (λ t. cond t (option_and_then (λ ms. scan rest ms None) (with_number ns now)) (option_and_then (λ n. scan rest ns (Some n)) (with_byte now (get_or bs i 0)))) test
     ∙ ap (option_and_then (λ n. scan rest ns (Some n))) none
 
+-- after the last byte the last number is taken
 pub scan-end : (bs ns : List ℕ) (i : ℕ) (now : Option ℕ) → length bs ≤ i → scan (drop i bs) ns now ≡ with_number ns now
 scan-end bs ns i now h = at_drop_all (λ l. scan l ns now) bs i h

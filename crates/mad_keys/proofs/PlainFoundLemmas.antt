@@ -238,6 +238,7 @@ event_found e bytes (inr (inr (inr (inr (inl h))))) = mouse_found h.numbers h.le
 event_found e bytes (inr (inr (inr (inr (inr (inl h)))))) = alone_found (letter_key h.letter) e (letter_found 0 h.letter) h.told
 event_found e bytes (inr (inr (inr (inr (inr (inr h)))))) = alone_found (console_key h.letter) e (console_found 0 h.letter) h.told
 
+-- the plainest bytes are written of an event, and none only where no bytes are it
 pub plain_written : (e : Event) (written : Option (List ℕ)) → written ≡ plain_bytes e → IsWritten e written
 plain_written e None h = λ bytes is. let k = event_found e bytes is in none-some k.0 (h ∙ k.1)
 plain_written e (Some bytes) h = let is = event_plain e bytes (sym h) in (is, event_alone bytes e is)

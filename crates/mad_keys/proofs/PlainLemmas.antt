@@ -308,6 +308,7 @@ size_plain columns rows bytes h =
       told = cond-true (leb 1 columns && ltb columns (2 ^ 16) && leb 1 rows && ltb rows (2 ^ 16)) _ None k.0;
     }))))
 
+-- the plainest bytes of an event are it
 pub event_plain : (e : Event) (bytes : List ℕ) → plain_bytes e ≡ Some bytes → IsEventBytes e bytes
 event_plain (Key key) bytes h =
     option_and_then_some (λ number. key_bytes number key.code) (number_of key.modifiers) bytes h

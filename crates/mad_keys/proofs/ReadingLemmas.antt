@@ -26,6 +26,7 @@ afresh_never true u = refl
 afresh_never false true = refl
 afresh_never false false = refl
 
+-- no byte breaks off a front that is empty
 pub never_breaks : (b : ℕ) → step_of [] b ≡ Breaks → ⊥
 never_breaks b h = true≢false (sym (ap is_breaks h) ∙ afresh_never (eqb b 27) (leb 194 b && leb b 244))
 
@@ -41,9 +42,11 @@ extend (Broken item ∷ items) w b bytes rest e h =
     let r = h.2 in
     (h.0, h.1, record { part = b ∷ r.part; split = ap (λ l. b ∷ l) r.split; grown = (e, r.grown); met = r.met }, h.3)
 
+-- a byte that ends the front makes an item of it, before the items of the rest
 pub whole : (items : List Item) (w : List ℕ) (b : ℕ) (bytes rest : List ℕ) → step_of w b ≡ Ends → IsReading [] bytes items rest → IsReading w (b ∷ bytes) (Whole (w ++ b ∷ []) ∷ items) rest
 whole items w b bytes rest e h = (w, b, bytes, record { part = []; split = refl; grown = refl; met = e }, refl, h)
 
+-- a byte that breaks off the front makes an item of the front, and is the first byte of the rest
 pub broken : (items : List Item) (w : List ℕ) (b : ℕ) (bytes rest : List ℕ) → step_of w b ≡ Breaks → IsReading [] (b ∷ bytes) items rest → IsReading w (b ∷ bytes) (Broken w ∷ items) rest
 broken items w b bytes rest e h = (b, bytes, record { part = []; split = refl; grown = refl; met = e }, h)
 
@@ -118,6 +121,7 @@ read_from (b ∷ bytes) w u events left e h =
     (read_step (step_of (kept w) b) w b bytes h.0 h.1 h.2 left (sym (kept_step w b)) (subst (λ (v : List ℕ). ByteGives v b h.0 h.1) e h.3)
     (λ v x i g. read_from bytes v x h.2 left i g) h.4)
 
+-- what the decoder gives is a reading, and its events are told
 pub bytes_read : (w bytes : List ℕ) (events : List Event) (left : List ℕ) → BytesGive (kept w) bytes events left → IsReadAs w bytes events left
 bytes_read w bytes events left h = read_from bytes w (kept w) events left refl h
 
@@ -132,11 +136,13 @@ told_paused [] = refl
 told_paused (a ∷ []) = told_paused_one (eqb a 27) a refl
 told_paused (a ∷ b ∷ w) = refl
 
+-- items one after the other tell the events of both
 pub told_both : (items others : List Item) (events more : List Event) → Told items events → Told others more → Told (items ++ others) (events ++ more)
 told_both [] others events more h g = subst (λ (l : List Event). Told others (l ++ more)) (sym h) g
 told_both (item ∷ items) others events more h g =
     (h.0, h.1 ++ more, h.2, ap (λ l. l ++ more) h.3 ∙ append_assoc (listed h.0) h.1 more, told_both items others h.1 more h.4 g)
 
+-- the same of a block and the pause after it
 pub block_read : (w block : List ℕ) (events : List Event) (before : List ℕ) (event : Option Event) (left : List ℕ) → BytesGive (kept w) block events before → PauseGives before event left
     → IsBlockAs w block (events ++ listed event) left
 block_read w block events before event left h p =

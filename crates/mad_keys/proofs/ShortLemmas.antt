@@ -51,6 +51,7 @@ no_kind n letter h =
 held_small : (m : ℕ) (code : Option KeyCode) (e : Event) → held_key m code ≡ Some e → m ≤ 8
 held_small m code e h = leb-true m 8 (and_parts (leb 2 m) (leb m 8) (cond_then (leb 2 m && leb m 8) _ e h).0).1
 
+-- where a key with modifiers is an event, there is a key
 pub held_is_key : (m : ℕ) (code : Option KeyCode) (e : Event) → held_key m code ≡ Some e → (k : KeyCode) × (code ≡ Some k)
 held_is_key m code e h = let s = mapped _ code e (cond_then (leb 2 m && leb m 8) _ e h).1 in (s.0, s.1)
 
@@ -151,6 +152,7 @@ mouse_short (a ∷ b ∷ c ∷ d ∷ ns) letter e h = absurd (none-some e h)
 char_short : (c : ℕ) → length (encode_utf8 c) ≤ 4
 char_short c = omega (arith, length-encode c, len_utf8_bounds c)
 
+-- no event has more than 18 bytes
 pub event_short : (bs : List ℕ) (e : Event) → IsEventBytes e bs → length bs ≤ 18
 event_short bs e (inl h) = omega (arith, ap length h.0)
 event_short bs e (inr (inl h)) = omega (arith, ap length h.written, char_short h.char)

@@ -7,6 +7,7 @@ use Rattle.std.specs.Prelude.{All}
 use Rattle.mad_lines.specs.declared.position.Pos.{Pos}
 use Rattle.mad_lines.specs.TextLines.{led_lines, text_of, line_at, IsPosition, offset_of}
 
+-- lines and more of them, each after its newline
 pub led_lines-append : (xs ys : List (List ℕ)) → led_lines (xs ++ ys) ≡ led_lines xs ++ led_lines ys
 led_lines-append [] ys = refl
 led_lines-append (x ∷ xs) ys = ap (λ t. (10 ∷ x) ++ t) (led_lines-append xs ys) ∙ sym (append_assoc (10 ∷ x) (led_lines xs) (led_lines ys))
@@ -21,9 +22,11 @@ led_split (l ∷ ls) (suc y) h = ap (λ t. (10 ∷ l) ++ t) (led_split ls y (ome
 unfoldable pub before : List (List ℕ) → Pos → List ℕ
 before ls p = led_lines (take p.y ls) ++ (10 ∷ take p.x (line_at ls p.y))
 
+-- what is after a position
 unfoldable pub after : List (List ℕ) → Pos → List ℕ
 after ls p = drop p.x (line_at ls p.y) ++ led_lines (drop (suc p.y) ls)
 
+-- a text is what is before a position and what is after it
 pub led_at : (ls : List (List ℕ)) (p : Pos) → IsPosition ls p → led_lines ls ≡ before ls p ++ after ls p
 unfolding before after
 led_at ls p h =
@@ -32,13 +35,16 @@ led_at ls p h =
     ∙ ap (λ t. led_lines (take p.y ls) ++ (10 ∷ t)) (append_assoc (take p.x (line_at ls p.y)) _ _)
     ∙ sym (append_assoc (led_lines (take p.y ls)) (10 ∷ take p.x (line_at ls p.y)) _)
 
+-- how long that front is, its first newline with it
 pub length-before : (ls : List (List ℕ)) (p : Pos) → IsPosition ls p → length (before ls p) ≡ suc (offset_of ls p)
 unfolding before
 length-before ls p h = omega (arith, length-append (led_lines (take p.y ls)) (10 ∷ take p.x (line_at ls p.y)), length-take-le p.x (line_at ls p.y) h.1)
 
+-- a text's front up to an offset is what is before the position there
 pub take_before : (ls : List (List ℕ)) (p : Pos) → IsPosition ls p → take (suc (offset_of ls p)) (led_lines ls) ≡ before ls p
 take_before ls p h = ap (take (suc (offset_of ls p))) (led_at ls p h) ∙ take_at (before ls p) (after ls p) _ (length-before ls p h)
 
+-- and the rest is what is after it
 pub drop_after : (ls : List (List ℕ)) (p : Pos) → IsPosition ls p → drop (suc (offset_of ls p)) (led_lines ls) ≡ after ls p
 drop_after ls p h = ap (drop (suc (offset_of ls p))) (led_at ls p h) ∙ drop_at (before ls p) (after ls p) _ (length-before ls p h)
 
@@ -103,6 +109,7 @@ next_line ls y h =
     let k = length-append (10 ∷ line_at ls y) [] in
     omega (arith, e, f, g, k)
 
+-- more lines are no shorter
 pub lines_up : (ls : List (List ℕ)) (y z : ℕ) → y ≤ z → length (led_lines (take y ls)) ≤ length (led_lines (take z ls))
 lines_up ls zero z h = omega arith
 lines_up [] (suc y) z h = omega arith
@@ -128,6 +135,7 @@ more_lines ls y h =
     let f = length-append (10 ∷ line_at ls y) (led_lines (drop (y + 1) ls)) in
     omega (arith, e, f)
 
+-- past the last line there is nothing
 pub no_lines : (ls : List (List ℕ)) (y : ℕ) → length ls ≤ y → length (led_lines (drop y ls)) ≡ 0
 no_lines ls y h = ap (λ t. length (led_lines t)) (drop_all y ls h)
 
@@ -147,6 +155,7 @@ pub earlier_position : (ls : List (List ℕ)) (p q : Pos) → IsPosition ls p �
 earlier_position ls p q hp hq (inl less) = earlier_line ls p q hp hq less
 earlier_position ls p q hp hq (inr same) = let e = ap (λ y. length (led_lines (take y ls))) same.0 in omega (arith, e, same.1)
 
+-- a position with a lesser offset is earlier
 pub lesser_offset : (ls : List (List ℕ)) (p q : Pos) → IsPosition ls p → IsPosition ls q → offset_of ls p < offset_of ls q → IsEarlier p q
 lesser_offset ls p q hp hq h = elim (cases_lt p.y q.y) [
   | inl less ↦ inl less
@@ -169,15 +178,18 @@ pub char_after : (ls : List (List ℕ)) (p : Pos) → IsPosition ls p → slice_
 char_after ls p h =
     ap (λ t. slice_get t (suc (offset_of ls p))) (sym (led_cons ls (omega arith)) ∙ led_at ls p h) ∙ slice_get_at (before ls p) (after ls p) _ (length-before ls p h)
 
+-- the character at a position in a line
 pub char_in_line : (ls : List (List ℕ)) (p : Pos) (d : ℕ) → IsPosition ls p → p.x < length (line_at ls p.y) → slice_get (text_of ls) (offset_of ls p) ≡ Some (get_or (line_at ls p.y) p.x d)
 unfolding after
 char_in_line ls p d h low = char_after ls p h ∙ ap (λ t. slice_get (t ++ led_lines (drop (suc p.y) ls)) 0) (drop_more (line_at ls p.y) p.x d low)
 
+-- at the end of a line, but the last one, it is the newline (10)
 pub char_at_line_end : (ls : List (List ℕ)) (p : Pos) → IsPosition ls p → length (line_at ls p.y) ≤ p.x → suc p.y < length ls → slice_get (text_of ls) (offset_of ls p) ≡ Some 10
 unfolding after
 char_at_line_end ls p h high more =
     char_after ls p h ∙ ap (λ t. slice_get (t ++ led_lines (drop (suc p.y) ls)) 0) (drop_all p.x (line_at ls p.y) high) ∙ ap (λ t. slice_get (led_lines t) 0) (drop_more ls (suc p.y) [] more)
 
+-- at the end of the text there is none
 pub char_at_end : (ls : List (List ℕ)) (p : Pos) → IsPosition ls p → length (line_at ls p.y) ≤ p.x → length ls ≤ suc p.y → slice_get (text_of ls) (offset_of ls p) ≡ None
 unfolding after
 char_at_end ls p h high last =

@@ -12,6 +12,7 @@ line_read ls y l h e = ap chars_of e ∙ sym (get_or-map chars_of ls y l [] h)
 pub line_written : (ls : List Line) (y : ℕ) (l : Line) → lines_of (set ls y l) ≡ set (lines_of ls) y (chars_of l)
 line_written ls y l = map-set chars_of ls y l
 
+-- what holds anyway holds where the call fails
 pub always_err : {T E Q : Type 0} (r : Result T E) → Q → OnErr r Q
 always_err (Ok x) q = tt
 always_err (Err e) q = q
@@ -34,5 +35,6 @@ rows_spliced ls made y z =
     ∙ ap (λ t. t ++ (lines_of made ++ map chars_of (drop z ls))) (sym (take-map chars_of y ls))
     ∙ ap (λ t. take y (lines_of ls) ++ (lines_of made ++ t)) (sym (drop-map chars_of z ls))
 
+-- the lines of a list, one of whose lines others have replaced
 pub rows_replaced : (ls made new : List Line) (y z : ℕ) → new ≡ take y ls ++ (made ++ drop (z + 1) ls) → lines_of new ≡ take y (lines_of ls) ++ (lines_of made ++ drop (suc z) (lines_of ls))
 rows_replaced ls made new y z e = ap lines_of e ∙ rows_spliced ls made y (z + 1) ∙ ap (λ n. take y (lines_of ls) ++ (lines_of made ++ drop n (lines_of ls))) (add-one z)

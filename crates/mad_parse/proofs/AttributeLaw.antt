@@ -15,6 +15,7 @@ use Rattle.mad_term.proofs.SameAttributes.{same_sets}
 use Rattle.mad_parse.specs.ReadsBack.{is_written}
 use Rattle.mad_parse.specs.Written.{written_attributes}
 
+-- attributes with those of a list
 abbrev pub added : Attributes → List Attribute → Attributes
 added s [] = s
 added s (a ∷ list) = added (united s (only a)) list

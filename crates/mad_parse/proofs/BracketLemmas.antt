@@ -37,9 +37,11 @@ bracket_is text inside end u v e border len =
 pub closed_none : (rest : List ℕ) → closed_len 0 rest ≡ 0
 closed_none rest = refl
 
+-- without `)` (41) nothing is closed
 pub closed_not : (n : ℕ) (rest : List ℕ) → begins_with 41 rest ≡ false → closed_len n rest ≡ 0
 closed_not n rest e = cond-false _ _ _ (and_right _ _ e)
 
+-- with it the closed part has the characters before it, and two more
 pub closed_is : (n : ℕ) (rest : List ℕ) → 0 < n → begins_with 41 rest ≡ true → closed_len n rest ≡ n + 2
 closed_is n rest h e = cond-true _ _ _ (and_from _ _ (lt-ltb 0 n h) e)
 
@@ -49,6 +51,7 @@ otherwise_at k l text [] e other = refl
 otherwise_at k l text (c ∷ cs) e other =
     ne_eqb c k (λ same. other (encode_utf8_all cs) (sym e ∙ ap (λ x. encode_utf8 x ++ encode_utf8_all cs) same ∙ ap (λ x. x ++ encode_utf8_all cs) (encode_ascii k l)))
 
+-- a text that doesn't begin with an ASCII character
 pub otherwise : (k : ℕ) → k < 128 → (text : List ℕ) → IsUtf8 text → ((rest : List ℕ) → text ≢ k ∷ rest) → begins_with k (chars text) ≡ false
 otherwise k l text u other = otherwise_at k l text (chars text) (encodes-chars text u) other
 
@@ -56,6 +59,7 @@ unopened_len : (cs : List ℕ) → begins_with 40 cs ≡ false → bracket_len c
 unopened_len [] e = refl
 unopened_len (c ∷ cs) e = cond-false _ _ _ e
 
+-- without `(` (40) there is no bracket
 pub unopened : (text : List ℕ) → IsUtf8 text → ((rest : List ℕ) → text ≢ 40 ∷ rest) → bracket_len (chars text) ≡ 0
 unopened text u other = unopened_len (chars text) (otherwise 40 (lit< tt) text u other)
 
@@ -87,12 +91,14 @@ pub ends_none : (text inside : List ℕ) (end : ℕ) → IsUtf8 text → IsUtf8 
 ends_none text inside end u v e border len none =
     bracket_is text inside end u v e border len ∙ ap (λ n. closed_len n (chars (drop end inside))) (ap (λ n. length (chars (take n inside))) none ∙ ap length chars-nil)
 
+-- a bracket that isn't closed
 pub ends_open : (text inside beyond : List ℕ) (end : ℕ) → IsUtf8 text → IsUtf8 inside → text ≡ 40 ∷ inside → IsCharBoundary inside end
     → length (chars (take end inside)) ≡ prefix_len is_inside_char (chars inside) → beyond ≡ drop end inside → ((rest : List ℕ) → beyond ≢ 41 ∷ rest) → bracket_len (chars text) ≡ 0
 ends_open text inside beyond end u v e border len is other =
     bracket_is text inside end u v e border len
     ∙ closed_not (length (chars (take end inside))) (chars (drop end inside)) (otherwise 41 (lit< tt) (drop end inside) (IsUtf8-drop inside end v border) (λ rest same. other rest (is ∙ same)))
 
+-- a bracket that is closed
 pub ends_closed : (text inside beyond rest : List ℕ) (end : ℕ) → IsUtf8 text → IsUtf8 inside → text ≡ 40 ∷ inside → IsCharBoundary inside end
     → length (chars (take end inside)) ≡ prefix_len is_inside_char (chars inside) → beyond ≡ drop end inside → beyond ≡ 41 ∷ rest → 0 < end
     → IsCharBoundary text (end + 2) × (length (chars (take (end + 2) text)) ≡ bracket_len (chars text))

@@ -15,6 +15,7 @@ pub record IsLeading (p : ℕ → Bool) (bs : List ℕ) (end : ℕ) : Type 0 whe
   pub rest : IsUtf8 (drop end bs)
   pub count : prefix_len p (chars bs) ≡ length (chars (take end bs)) + prefix_len p (chars (drop end bs))
 
+-- before the first character
 pub leading_start : (p : ℕ → Bool) (bs : List ℕ) → IsUtf8 bs → IsLeading p bs 0
 leading_start p bs u = record { utf8 = u; within = omega arith; rest = u; count = rw chars-nil (sym (zero-add _)) }
 
@@ -44,14 +45,17 @@ leading_stop p bs rest end c h e fails =
     let beyond : prefix_len p (chars (drop end bs)) ≡ 0 = ap (prefix_len p) (chars_past_char (drop end bs) rest c h.rest e) ∙ none_more p c (chars rest) fails in
     omega (arith, h.count, beyond)
 
+-- after the last one
 pub leading_end : (p : ℕ → Bool) (bs : List ℕ) (end : ℕ) → IsLeading p bs end → length (drop end bs) ≡ 0 → length (chars (take end bs)) ≡ prefix_len p (chars bs)
 leading_end p bs end h none =
     let beyond : prefix_len p (chars (drop end bs)) ≡ 0 = ap (prefix_len p) (chars_of_empty _ none) in
     omega (arith, h.count, beyond)
 
+-- the end of what leads is a border of characters
 pub leading_border : (p : ℕ → Bool) (bs : List ℕ) (end : ℕ) → IsLeading p bs end → IsCharBoundary bs end
 leading_border p bs end h = IsCharBoundary-from_drop bs end h.within h.rest
 
+-- a further character is within the text
 pub leading_fits : (p : ℕ → Bool) (bs rest : List ℕ) (end c : ℕ) → IsLeading p bs end → drop end bs ≡ encode_utf8 c ++ rest → end + len_utf8 c ≤ length bs
 leading_fits p bs rest end c h e = omega (arith, h.within, length-encode c, length-drop end bs, (simp length-append at (ap length e)))
 

@@ -52,6 +52,7 @@ unnamed_in text (entry ∷ table) h plain =
 
 -- ---- texts that are no number
 
+-- what begins with no digit is no number
 pub no_number : (b : ℕ) (rest : List ℕ) → is_ascii_digit b ≡ false → (b ≡ 43 → rest ≡ []) → signed_number_below 65536 (b ∷ rest) ≡ None
 no_number b rest digit alone =
     elim (cases_Bool (b == 43)) as (λ _. signed_number_below 65536 (b ∷ rest) ≡ None) [
@@ -120,6 +121,7 @@ char_high c (b ∷ rest) h some is utf8 =
 char_low : (c : ℕ) → c < 128 → IsUtf8 (c ∷ []) → is_ascii_digit c ≡ false → token_of (c ∷ []) ≡ Ok (token.Char c)
 char_low c low utf8 digit = char_from c c [] utf8 (sym (append-nil (encode_utf8 c) ∙ encode_ascii c low)) (unnamed_short c) digit (λ e. refl) (no_color_short c)
 
+-- a character but a digit is read as a token of it
 pub char_reads : (c : ℕ) → IsScalar c → is_ascii_digit c ≡ false → token_of (encode_utf8 c) ≡ Ok (token.Char c)
 char_reads c scalar digit =
     let utf8 = IsUtf8-encode c scalar in

@@ -42,6 +42,7 @@ abbrev pub begins_white : List ℕ → Bool
 begins_white [] = false
 begins_white (c ∷ cs) = is_whitespace c
 
+-- what is left has no whitespace at its front
 pub trimmed_black : (cs : List ℕ) → begins_white (skip_leading_whitespace cs) ≡ false
 trimmed_black [] = refl
 trimmed_black (c ∷ cs) =
@@ -74,14 +75,17 @@ abbrev pub all_after : List StyleToken → Result (List StyleToken) Fault → Re
 all_after [] r = r
 all_after (t ∷ ts) r = and_after t (all_after ts r)
 
+-- a token more at the end of those that were read
 pub all_push : (ts : List StyleToken) (t : StyleToken) (r : Result (List StyleToken) Fault) → all_after (ts ++ t ∷ []) r ≡ all_after ts (and_after t r)
 all_push [] t r = refl
 all_push (u ∷ ts) t r = ap (and_after u) (all_push ts t r)
 
+-- a fault after tokens is that fault
 pub all_fault : (ts : List StyleToken) (f : Fault) → all_after ts (Err f) ≡ Err f
 all_fault [] f = refl
 all_fault (t ∷ ts) f = ap (and_after t) (all_fault ts f)
 
+-- after the last token these are all
 pub all_done : (ts : List StyleToken) → all_after ts (Ok []) ≡ Ok ts
 all_done [] = refl
 all_done (t ∷ ts) = ap (and_after t) (all_done ts)
@@ -100,9 +104,11 @@ chars_trimmed : (bs : List ℕ) → IsUtf8 bs → chars (trim_start bs) ≡ skip
 unfolding trim_start
 chars_trimmed bs u = chars-encodes (skip_leading_whitespace (chars bs)) (scalars_skip (chars bs) (scalars-chars bs u))
 
+-- whitespace at the front changes no token
 pub tokens_trimmed : (bs : List ℕ) → IsUtf8 bs → tokens_of (trim_start bs) ≡ tokens_of bs
 tokens_trimmed bs u = ap (λ cs. read_all (map encode_utf8_all cs)) (ap (cut_after 0) (chars_trimmed bs u) ∙ cut_trimmed (chars bs))
 
+-- a text that is trimmed begins without whitespace
 pub trimmed_begins : (bs : List ℕ) → IsUtf8 bs → begins_white (chars (trim_start bs)) ≡ false
 trimmed_begins bs u = ap begins_white (chars_trimmed bs u) ∙ trimmed_black (chars bs)
 
@@ -118,6 +124,7 @@ tokens_cut bs first rest u v e some black len =
 
 -- ---- the loop over a text's tokens: text is the whole, rest what is left of it, ts the tokens so far
 
+-- at first no token was read
 pub read_start : (text rest : List ℕ) (ts : List StyleToken) → IsUtf8 text → rest ≡ trim_start text → ts ≡ [] → tokens_of text ≡ all_after ts (tokens_of rest)
 read_start text rest ts u is none = sym (ap (λ l. all_after l (tokens_of rest)) none ∙ ap tokens_of is ∙ tokens_trimmed text u)
 
@@ -126,6 +133,7 @@ pub counted_chars : (cs bs : List ℕ) → encode_utf8_all cs ≡ bs → 0 < len
 counted_chars [] bs e h = absurd (omega (arith, ap length e))
 counted_chars (c ∷ cs) bs e h = omega arith
 
+-- a text with bytes has a character
 pub some_chars : (bs : List ℕ) → IsUtf8 bs → 0 < length bs → 0 < length (chars bs)
 some_chars bs u h = counted_chars (chars bs) bs (encodes-chars bs u) h
 
@@ -158,6 +166,7 @@ pub read_end : (rest : List ℕ) (ts : List StyleToken) (whole : Result (List St
 read_end rest ts whole held none =
     held ∙ ap (all_after ts) (ap (λ cs. read_all (map encode_utf8_all (cut_after 0 cs))) (chars_of_empty rest none)) ∙ all_done ts
 
+-- a number that isn't zero is positive
 pub nonzero : (n : ℕ) → (n == 0) ≡ false → 0 < n
 nonzero n e = grind (arith, nat_tests)
 

@@ -30,9 +30,11 @@ all_digits p h (d ∷ ds) all = and_from (p d) (list_all p ds) (h d (digit_from_
 pub decimal_word : (n : ℕ) → n < 2 ^ 64 → list_all is_word_char (decimal n) ≡ true
 decimal_word n h = all_digits is_word_char digit_word (decimal n) (decimal_is_IsNumeral n h).0.1
 
+-- the digits of a number may stand between brackets
 pub decimal_inside : (n : ℕ) → n < 2 ^ 64 → list_all is_inside_char (decimal n) ≡ true
 decimal_inside n h = all_digits is_inside_char digit_inside (decimal n) (decimal_is_IsNumeral n h).0.1
 
+-- and are ASCII
 pub decimal_low : (n : ℕ) → n < 2 ^ 64 → list_all is_low (decimal n) ≡ true
 decimal_low n h = all_digits is_low (λ d r. lt-ltb d 128 (omega (arith, r))) (decimal n) (decimal_is_IsNumeral n h).0.1
 

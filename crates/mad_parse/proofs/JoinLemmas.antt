@@ -9,6 +9,7 @@ use Rattle.mad_parse.specs.Reading.{tokens_of, read_all, and_after, in_order}
 use Rattle.mad_parse.specs.declared.tokens.StyleToken.{StyleToken}
 use Rattle.mad_parse.proofs.CutLemmas.{tokens_cut, begins_white}
 
+-- a space at the front changes no token
 pub spaced : (rest : List ℕ) → IsUtf8 (32 ∷ rest) → tokens_of (32 ∷ rest) ≡ tokens_of rest
 spaced rest u = ap (λ cs. read_all (map encode_utf8_all (cut_after 0 cs))) (chars_past_char (32 ∷ rest) rest 32 u (ap (λ x. x ++ rest) (sym (encode_ascii 32 (lit< tt)))))
 

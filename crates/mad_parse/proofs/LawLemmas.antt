@@ -27,6 +27,7 @@ digits_ascii : (ds : List ℕ) → AllDigits 10 ds → all_ascii_digits ds ≡ t
 digits_ascii [] h = refl
 digits_ascii (d ∷ ds) h = and_from _ _ (one_digit d h.0) (digits_ascii ds h.1)
 
+-- a number's digits are read as it
 pub decimal_reads : (limit n : ℕ) → n < limit → n < 2 ^ 64 → number_below limit (decimal n) ≡ Some n
 decimal_reads limit n below small =
     let k = decimal_is_IsNumeral n small in
@@ -90,9 +91,11 @@ inside_parts r g b =
     ∙ append_assoc (decimal r ++ codes ", ") (decimal g) (codes ", " ++ decimal b)
     ∙ append_assoc (decimal r) (codes ", ") (decimal g ++ (codes ", " ++ decimal b))
 
+-- the text of a color of three numbers
 pub rgb_text : (r g b : ℕ) → color_text (color.Rgb r g b) ≡ codes "rgb(" ++ (rgb_inside r g b ++ 41 ∷ [])
 rgb_text r g b = ap (λ t. codes "rgb(" ++ (t ++ 41 ∷ [])) (inside_parts r g b)
 
+-- that text is read as the color
 pub rgb_reads : (r g b : ℕ) → r < 256 → g < 256 → b < 256 → color_of (color_text (color.Rgb r g b)) ≡ Ok (color.Rgb r g b)
 rgb_reads r g b small_r small_g small_b =
     ap color_of (rgb_text r g b) ∙ ap call_front (without_put 41 (codes "rgb(" ++ rgb_inside r g b)) ∙ rgb_numbers r g b small_r small_g small_b

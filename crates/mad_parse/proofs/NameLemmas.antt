@@ -7,6 +7,7 @@ use Rattle.std.proofs.lemmas.Bool.{cases_Bool}
 use Rattle.std.proofs.lemmas.Bool.Decides.{same_from_decides}
 use Rattle.mad_parse.specs.Names.{is_named, named}
 
+-- a text is no name that has another length
 pub other_length : (text name : List ℕ) → (length name == length text) ≡ false → is_named text name ≡ false
 other_length text name e =
     elim (cases_Bool (is_named text name)) as (λ _. is_named text name ≡ false) [

@@ -50,6 +50,7 @@ abbrev pub AllRead : List StyleToken → Type 0
 AllRead [] = ⊤
 AllRead (t ∷ ts) = IsRead t × AllRead ts
 
+-- tokens that are read, one list after the other
 pub all_append : (ts us : List StyleToken) → AllRead ts → AllRead us → AllRead (ts ++ us)
 all_append [] us h k = k
 all_append (t ∷ ts) us h k = (h.0, all_append ts us h.1 k)
@@ -106,6 +107,7 @@ one_cut c rest stop none =
       | inr other ↦ ap (λ n. word_len n (c ∷ rest)) (cond-false (is_word_char c) _ _ other)
     ]
 
+-- a character is read
 pub read_char : (c : ℕ) → IsScalar c → is_whitespace c ≡ false → is_ascii_digit c ≡ false → IsRead (token.Char c)
 read_char c scalar black digit = record {
   cs = c ∷ [];
@@ -123,6 +125,7 @@ word_black : (cs : List ℕ) → 0 < length cs → list_all is_word_char cs ≡ 
 word_black [] some word = absurd (omega arith)
 word_black (c ∷ cs) some word = word_char_black c (and_parts _ _ word).0
 
+-- a word is read
 pub read_word : (t : StyleToken) → has_text t ≡ true → 0 < length (token_text t) → list_all is_low (token_text t) ≡ true → list_all is_word_char (token_text t) ≡ true → token_of (token_text t) ≡ Ok t → IsRead t
 read_word t text some low word says = record {
   cs = token_text t;
@@ -146,6 +149,7 @@ call_low name inside low within = list_all-append is_low name (40 ∷ (inside ++
 call_len : (name inside : List ℕ) → length (name ++ 40 ∷ (inside ++ 41 ∷ [])) ≡ length name + (length inside + 2)
 call_len name inside = omega (arith, length-append name (40 ∷ (inside ++ 41 ∷ [])), length-append inside (41 ∷ []))
 
+-- a word with brackets is read
 pub read_call : (t : StyleToken) (name inside : List ℕ) → has_text t ≡ true → token_text t ≡ name ++ 40 ∷ (inside ++ 41 ∷ []) → 0 < length name → list_all is_word_char name ≡ true → list_all is_low name ≡ true
     → 0 < length inside → list_all is_inside_char inside ≡ true → list_all is_low inside ≡ true → token_of (token_text t) ≡ Ok t → IsRead t
 read_call t name inside text is some word low more within low_inside says =
@@ -171,6 +175,7 @@ number_named (b ∷ bs) all some =
     let r = digit_from_value b all.0 in
     and_left _ _ (ne_eqb (to_ascii_lowercase b) 110 (λ e. absurd (omega (arith, r.1, digit_lower b r, e))))
 
+-- a number is read
 pub read_number : (n : ℕ) → n < 65536 → IsRead (token.Dimension n)
 read_number n small =
     let big : n < 2 ^ 64 = omega (arith, small) in
@@ -196,6 +201,7 @@ read_rgb r g b small_r small_g small_b =
     (rgb_all is_low (λ n h. decimal_low n (big n h)) refl refl r g b small_r small_g small_b)
     (color_token (color_text (color.Rgb r g b)) (color.Rgb r g b) refl (no_number 114 (drop 1 (color_text (color.Rgb r g b))) refl (λ e. absurd (omega (arith, e)))) (rgb_reads r g b small_r small_g small_b))
 
+-- a color is read
 pub read_color : (c : Color) → IsColor c → IsReadBackColor c → IsRead (token.Color c)
 read_color (color.Rgb r g b) bytes written = read_rgb r g b bytes.0 bytes.1 bytes.2
 read_color (color.AnsiValue n) bytes written = read_ansi n bytes
@@ -204,13 +210,16 @@ read_color color.Black bytes written = absurd written
 read_color color.White bytes written = absurd written
 read_color c bytes written = read_word (token.Color c) refl (lit< tt) refl refl refl
 
+-- so is `none`
 pub read_none : IsRead token.None
 read_none = read_word token.None refl (lit< tt) refl refl refl
 
+-- an alignment is read
 pub read_align : (a : Alignment) → has_text (token.Align a) ≡ true → IsRead (token.Align a)
 read_align align.Unspecified text = absurd (true≢false (sym text))
 read_align a text = read_word (token.Align a) refl (lit< tt) refl refl refl
 
+-- an attribute is read
 pub read_attribute : (a : Attribute) → is_written a ≡ true → IsRead (token.Attribute a)
 read_attribute attribute.Bold written = read_word (token.Attribute attribute.Bold) refl (lit< tt) refl refl refl
 read_attribute attribute.Dim written = read_word (token.Attribute attribute.Dim) refl (lit< tt) refl refl refl

@@ -35,6 +35,7 @@ back f x ts text is read says = ap (λ t. said f (tokens_of t)) is ∙ ap (said 
 style_alone : (s : CompoundStyle) → IsReadBackStyle s → style_of (style_tokens s) ≡ s
 style_alone s h = ap style_of (sym (append-nil (style_tokens s))) ∙ style_back s [] [] h refl refl refl refl
 
+-- the text of a style is read as the style
 pub style_reads_back : (s : CompoundStyle) (text : List ℕ) → IsStyle s.object_style → text ≡ tokens_text (style_tokens s) → StyleReadsBack s text
 style_reads_back s text bytes is = λ h. back style_of s (style_tokens s) text is (style_read s h bytes.foreground bytes.background) (style_alone s h)
 
@@ -143,6 +144,7 @@ line_alone s h =
     let right : last_or 0 (drop 1 (numbers_of ts)) ≡ s.right_margin = ap (λ l. last_or 0 (drop 1 l)) numbers ∙ margin_right s.left_margin s.right_margin h.right k in
     same_line (style_of ts) s.compound_style (last_or align.Unspecified (aligns_of ts)) s.align (first_or 0 (numbers_of ts)) s.left_margin (last_or 0 (drop 1 (numbers_of ts))) s.right_margin style side left right
 
+-- the same of a line's style
 pub line_reads_back : (s : LineStyle) (text : List ℕ) → IsStyle s.compound_style.object_style → text ≡ tokens_text (line_style_tokens s) → LineReadsBack s text
 line_reads_back s text bytes is = λ h.
     let m = margin_tokens s.left_margin s.right_margin in
@@ -160,6 +162,7 @@ styled_char_alone c default h =
 styled_char_read : (c : StyledChar) → IsScalar (char_alone c) → IsStyle (char_style c).object_style → IsReadBackChar c → AllRead (styled_char_tokens c)
 styled_char_read c scalar bytes h = (read_char (char_alone c) scalar h.no_whitespace h.no_digit, style_read (char_style c) h.style bytes.foreground bytes.background)
 
+-- of a character in a style
 pub char_reads_back : (c : StyledChar) (text : List ℕ) → IsScalar (char_alone c) → IsStyle (char_style c).object_style → text ≡ tokens_text (styled_char_tokens c) → CharReadsBack c text
 char_reads_back c text scalar bytes is = λ h default. back (styled_char_of default) c (styled_char_tokens c) text is (styled_char_read c scalar bytes h) (styled_char_alone c default h.style)
 
@@ -182,6 +185,7 @@ item_alone s default h =
     ap (λ k. styled_char_of default (drop k (item_tokens s))) n ∙ ap (styled_char_of default) (drop-append_seam front suffix) ∙ styled_char_alone s.index_suffix default h.suffix.style in
     same_item (style_of (take (char_index (item_tokens s)) (item_tokens s))) s.index_style (styled_char_of default (drop (char_index (item_tokens s)) (item_tokens s))) s.index_suffix index suffix_back
 
+-- and of an ordered item's
 pub item_reads_back : (s : OrderedItemStyle) (text : List ℕ) → IsStyle s.index_style.object_style → IsScalar (char_alone s.index_suffix) → IsStyle (char_style s.index_suffix).object_style
     → text ≡ tokens_text (item_tokens s) → ItemReadsBack s text
 item_reads_back s text bytes scalar suffix_bytes is = λ h default.

@@ -144,6 +144,7 @@ attributes_read p (a ∷ list) h =
       | inr hasnt ↦ subst (λ l. AllRead (map token.Attribute l)) (sym (cond-false (p a) (a ∷ filter p list) (filter p list) hasnt)) (attributes_read p list (and_parts _ _ h).1)
     ]
 
+-- the tokens of a style are each read
 pub style_read : (s : CompoundStyle) → IsReadBackStyle s → IsColorOrNone s.object_style.foreground_color → IsColorOrNone s.object_style.background_color → AllRead (style_tokens s)
 style_read s h p q =
     let o = s.object_style in

@@ -65,6 +65,7 @@ none_first (color ∷ colors) =
     ap (λ o. record unstyled { object_style = record unstyled.object_style { foreground_color = o; background_color = option_or (last_color colors) None } }) (later_none color)
     ∙ ap (λ o. record unstyled { object_style = record unstyled.object_style { foreground_color = color; background_color = o } }) (later_none (last_color colors))
 
+-- the style after all tokens
 pub styled_all : (ts : List StyleToken) → style_after false unstyled ts ≡ style_of ts
 styled_all ts = after_all unstyled ts ∙ ap (λ s. all_added s (attributes_of ts)) (none_first (colors_of ts))
 
@@ -89,6 +90,7 @@ placed_first s (token.Align align ∷ ts) = placed_first (record s { align = ali
 placed_first s (token.Dimension n ∷ ts) = placed_second (record s { left_margin = n }) ts
 placed_first s (_ ∷ ts) = placed_first s ts
 
+-- the line's style after all tokens
 pub placed_all : (ts : List StyleToken) → placed_after false (unmargined (style_of ts) Unspecified) ts ≡ line_style_of ts
 placed_all ts = placed_first (unmargined (style_of ts) Unspecified) ts
 
@@ -96,5 +98,6 @@ placed_all ts = placed_first (unmargined (style_of ts) Unspecified) ts
 pub style_done : (settled : Bool) (s : CompoundStyle) (ts : List StyleToken) (i : ℕ) → length ts ≤ i → style_after settled s (drop i ts) ≡ style_after false unstyled ts → s ≡ style_of ts
 style_done settled s ts i past held = sym (ap (style_after settled s) (drop_all i ts past)) ∙ held ∙ styled_all ts
 
+-- after the last token
 pub line_done : (second : Bool) (s : LineStyle) (ts : List StyleToken) (i : ℕ) → length ts ≤ i → placed_after second s (drop i ts) ≡ placed_after false (unmargined (style_of ts) Unspecified) ts → s ≡ line_style_of ts
 line_done second s ts i past held = sym (ap (placed_after second s) (drop_all i ts past)) ∙ held ∙ placed_all ts

@@ -10,12 +10,14 @@ use Rattle.mad_parse.specs.Cuts.{bracket_len, token_len, word_len, is_word_char}
 use Rattle.mad_md.proofs.CharLemmas.{chars_cut}
 use Rattle.mad_parse.proofs.BracketLemmas.{front_counts}
 
+-- a token that is one character
 pub one_char : (text front : List ℕ) (end first : ℕ) → length (chars (take end text)) ≡ prefix_len is_word_char (chars text) → end ≡ 0 → front ≡ take first text → length (chars (take first text)) ≡ 1
     → length (chars front) ≡ token_len (chars text)
 one_char text front end first len none is one =
     let no_word : prefix_len is_word_char (chars text) ≡ 0 = sym len ∙ ap (λ n. length (chars (take n text))) none ∙ ap length chars-nil in
     ap (λ f. length (chars f)) is ∙ one ∙ sym (ap (λ n. word_len n (chars text)) no_word)
 
+-- a word, and the bracket after it
 pub word_and_bracket : (text beyond front : List ℕ) (end more : ℕ) → IsUtf8 text → IsCharBoundary text end → length (chars (take end text)) ≡ prefix_len is_word_char (chars text) → 0 < end
     → beyond ≡ drop end text → IsCharBoundary beyond more → length (chars (take more beyond)) ≡ bracket_len (chars beyond) → front ≡ take (end + more) text
     → length (chars front) ≡ token_len (chars text)

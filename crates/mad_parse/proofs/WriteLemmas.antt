@@ -38,6 +38,7 @@ more_spaced (t ∷ ts) =
       | inr none ↦ cond-false (has_text t) _ _ none ∙ more_spaced ts ∙ ap spaced (sym (cond-false (has_text t) (t ∷ filter has_text ts) (filter has_text ts) none))
     ]
 
+-- all tokens, as they are written
 pub more_all : (ts : List StyleToken) → more_text true ts ≡ tokens_text ts
 more_all [] = refl
 more_all (t ∷ ts) =
@@ -83,6 +84,7 @@ token_passed ts i d first text whole within has held =
 
 -- ---- the attributes of a set, one by one
 
+-- an attribute of which the test holds is one token more
 pub attribute_pushed : (p : Attribute → Bool) (a d : Attribute) (list : List Attribute) (i : ℕ) (xs ys whole : List StyleToken) → i < length list → get_or list i d ≡ a → p a ≡ true
     → xs ++ map token.Attribute (filter p (drop i list)) ≡ whole → ys ≡ xs ++ token.Attribute a ∷ [] → ys ++ map token.Attribute (filter p (drop (i + 1) list)) ≡ whole
 attribute_pushed p a d list i xs ys whole within is has held pushed =
@@ -91,6 +93,7 @@ attribute_pushed p a d list i xs ys whole within is has held pushed =
     ∙ ap (λ l. xs ++ map token.Attribute l) (sym (ap (filter p) (drop_more list i d within ∙ ap (λ b. b ∷ drop (i + 1) list) is) ∙ cond-true (p a) (a ∷ filter p (drop (i + 1) list)) (filter p (drop (i + 1) list)) has))
     ∙ held
 
+-- one of which it doesn't hold is none
 pub attribute_passed : (p : Attribute → Bool) (a d : Attribute) (list : List Attribute) (i : ℕ) (xs ys whole : List StyleToken) → i < length list → get_or list i d ≡ a → p a ≡ false
     → xs ++ map token.Attribute (filter p (drop i list)) ≡ whole → ys ≡ xs → ys ++ map token.Attribute (filter p (drop (i + 1) list)) ≡ whole
 attribute_passed p a d list i xs ys whole within is has held same =

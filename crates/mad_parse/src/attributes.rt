@@ -12,7 +12,7 @@ use crate::names::named;
 use mad_term::{Attribute, Error, Out, put_text};
 
 // The attributes that have a name.
-const ATTRIBUTES: [(&str, Attribute); 20] = [
+const ATTRIBUTE_NAMES: [(&str, Attribute); 20] = [
     ("bold", Attribute::Bold),
     ("dim", Attribute::Dim),
     ("italic", Attribute::Italic),
@@ -44,7 +44,7 @@ const ATTRIBUTES: [(&str, Attribute); 20] = [
 pub fn parse_attribute(text: &str) -> Result<Attribute, ParseAttributeError>
     ensures { result ≡ ok_or (named attribute_names text.now) Unrecognized }
 {
-    named(&ATTRIBUTES, text).ok_or(ParseAttributeError::Unrecognized)
+    named(&ATTRIBUTE_NAMES, text).ok_or(ParseAttributeError::Unrecognized)
 }
 
 /// Writes the name of an attribute; nothing for `Reset`.
