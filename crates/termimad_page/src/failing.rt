@@ -1,7 +1,7 @@
 //! How a run fails: what is said, and its status.
 
+use mad_term::{Error, Out, put_all};
 use std::io::ErrorKind;
-use termimad::{Error, Out, put_all};
 use termimad_run::Failure;
 
 // The status of a program that writes where nobody reads: 128 and the number of the signal that ends others then.

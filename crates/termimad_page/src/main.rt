@@ -9,8 +9,8 @@ mod call;
 mod failing;
 mod running;
 
+use mad_term::Stream;
 use std::process::ExitCode;
-use termimad::Stream;
 
 fn main(rt: HostRuntime) -> ExitCode {
     let mut err = Stream::new(rt.stderr());

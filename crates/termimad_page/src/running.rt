@@ -2,9 +2,12 @@
 
 use crate::call::{Call, Place, parse_call};
 use crate::failing::Refusal;
+use mad_fit::printable;
+use mad_layout::MadSkin;
+use mad_term::{Error, Out, Stream};
+use markdown_layout::write_markdown_on;
 use std::io::{BufWriter, Error as IoError, ErrorKind};
 use std::{env, fs, io};
-use termimad::{Error, MadSkin, Out, Stream, printable, write_markdown_on};
 use termimad_page_run::{Grammar, Sheet, run};
 use termimad_run::{Failure, skin_of};
 

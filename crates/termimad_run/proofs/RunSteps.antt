@@ -5,14 +5,14 @@ use Rattle.std.proofs.lemmas.Result.{err_from_is_err_and}
 use Rattle.mad_term.specs.Trace.{Trace, failed, flushed}
 use Rattle.mad_term.specs.declared.errors.Error.{Error}
 use Rattle.mad_term.specs.declared.errors.Error.TheVariants.{IO, InsufficientWidth, Memory as NoMemory}
-use Rattle.termimad.specs.declared.MadSkin.{MadSkin}
-use Rattle.termimad.specs.declared.SourceError.{SourceError}
+use Rattle.mad_layout.specs.declared.MadSkin.{MadSkin}
+use Rattle.mad_stream.specs.declared.SourceError.{SourceError}
 use Rattle.termimad_run.specs.declared.call.Command.{Command}
 use Rattle.termimad_run.specs.declared.call.Command.TheVariants.{InArea, AtWidth, AsMarkdown, AsItComes, MarkdownAsItComes, Live, Inline}
 use Rattle.mad_term.proofs.Traces.{took_flushed}
-use Rattle.termimad.specs.Headline.{AreShownAcross}
-use Rattle.termimad.specs.RowSkins.{row_skin}
-use Rattle.termimad.specs.Shown.{AreShownIn}
+use Rattle.mad_layout.specs.Headline.{AreShownAcross}
+use Rattle.mad_layout.specs.RowSkins.{row_skin}
+use Rattle.mad_layout.specs.Shown.{AreShownIn}
 use Rattle.termimad_run.specs.declared.failure.Failure.{Failure}
 use Rattle.termimad_run.specs.declared.failure.Failure.TheVariants.{Io, Usage, Skin, Memory}
 use Rattle.termimad_run.specs.Calls.{IsWhole, RefusesWords}

@@ -1,6 +1,6 @@
 -- The words ask for one skin at most.
 use Rattle.std.proofs.Common.{◌≡◌, ℕ, List, [], ◌∷◌, length, get_or, ◌⊎◌, Option, Some, None, inl, inr, Ok, Err, refl, ap, sym, ◌∙◌, subst, arith}
-use Rattle.termimad.specs.declared.MadSkin.{MadSkin}
+use Rattle.mad_layout.specs.declared.MadSkin.{MadSkin}
 use Rattle.termimad_run.specs.declared.call.Command.{Command}
 use Rattle.termimad_run.specs.declared.call.Command.TheVariants.{InArea, AtWidth, AsMarkdown, AsItComes, MarkdownAsItComes, Live, Inline}
 use Rattle.termimad_run.specs.declared.failure.Failure.{Failure}
@@ -8,8 +8,8 @@ use Rattle.termimad_run.specs.declared.failure.Failure.TheVariants.{Io, Usage, N
 use Rattle.mad_term.specs.Trace.{Trace}
 use Rattle.termimad_run.specs.GivenSkins.{skin_given}
 use Rattle.termimad_run.specs.Calls.{IsSkinWord, Asks, AsksRefusedSkin}
-use Rattle.termimad.specs.declared.SourceError.{SourceError}
-use Rattle.termimad.specs.declared.SourceError.TheVariants as source_error
+use Rattle.mad_stream.specs.declared.SourceError.{SourceError}
+use Rattle.mad_stream.specs.declared.SourceError.TheVariants as source_error
 use Rattle.termimad_run.specs.Failures.{status_of, streamed_failure}
 use Rattle.termimad_run.specs.ProgramRuns.{Devices, Started, RunsWhole, RunsTo}
 

@@ -6,9 +6,9 @@ use Rattle.mad_term.specs.declared.errors.Error.{Error}
 use Rattle.mad_term.specs.declared.errors.Error.TheVariants.{Memory}
 use Rattle.mad_term.specs.Trace.{Trace, after}
 use Rattle.mad_term.specs.Draws.{Refused}
-use Rattle.termimad.specs.Inlines.{WritesInline}
-use Rattle.termimad.specs.RowSkins.{row_skin}
-use Rattle.termimad.specs.declared.MadSkin.{MadSkin}
+use Rattle.mad_layout.specs.Inlines.{WritesInline}
+use Rattle.mad_layout.specs.RowSkins.{row_skin}
+use Rattle.mad_layout.specs.declared.MadSkin.{MadSkin}
 use Rattle.termimad_run.specs.LineEnds.{IsWithoutLineEnd}
 use Rattle.termimad_run.specs.ProgramRuns.{WritesLine}
 use Rattle.mad_term.proofs.Exits.{refused_exit, refused_in_first, refused_in_second}

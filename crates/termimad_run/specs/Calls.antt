@@ -1,8 +1,8 @@
 -- What the words after the program's name ask for. A word is its bytes.
 use Rattle.std.specs.Prelude.{◌≡◌, ℕ, ◌≤◌, List, [], ◌∷◌, codes, Option, Some, None, ⊤}
-use Rattle.termimad.specs.Areas.{IsWithinLimits}
-use Rattle.termimad.specs.declared.Area.{Area}
-use Rattle.termimad.specs.declared.MadSkin.{MadSkin}
+use Rattle.mad_fit.specs.Areas.{IsWithinLimits}
+use Rattle.mad_fit.specs.declared.Area.{Area}
+use Rattle.mad_layout.specs.declared.MadSkin.{MadSkin}
 use Rattle.termimad_run.specs.declared.call.Command.{Command}
 use Rattle.termimad_run.specs.declared.call.Command.TheVariants.{InArea, AtWidth, AsMarkdown, AsItComes, MarkdownAsItComes, Live, Inline}
 use Rattle.termimad_run.specs.declared.call.Pieces.{Pieces}

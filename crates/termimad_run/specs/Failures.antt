@@ -1,12 +1,12 @@
 -- How a run ends that fails: its status, and what it says.
 use Rattle.std.specs.Prelude.{◌≡◌, ◌⊎◌, ℕ, List, [], ◌∷◌, ◌++◌, codes}
-use Rattle.termimad.specs.Trace.{Trace, after, CutShort}
-use Rattle.termimad.specs.declared.Error.{Error}
-use Rattle.termimad.specs.declared.Error.TheVariants.{IO, InsufficientWidth, Memory as NoMemory}
-use Rattle.termimad.specs.declared.SkinError.{SkinError}
-use Rattle.termimad.specs.declared.SourceError.{SourceError}
-use Rattle.termimad.specs.declared.SourceError.TheVariants as source_error
-use Rattle.termimad.specs.declared.SkinError.TheVariants as skin_error
+use Rattle.mad_term.specs.Trace.{Trace, after, CutShort}
+use Rattle.mad_term.specs.declared.Error.{Error}
+use Rattle.mad_term.specs.declared.Error.TheVariants.{IO, InsufficientWidth, Memory as NoMemory}
+use Rattle.mad_json.specs.declared.SkinError.{SkinError}
+use Rattle.mad_stream.specs.declared.SourceError.{SourceError}
+use Rattle.mad_stream.specs.declared.SourceError.TheVariants as source_error
+use Rattle.mad_json.specs.declared.SkinError.TheVariants as skin_error
 use Rattle.termimad_run.specs.declared.failure.Failure.{Failure}
 use Rattle.termimad_run.specs.declared.failure.Failure.TheVariants.{Io, Usage, NotUtf8, Skin, Memory}
 

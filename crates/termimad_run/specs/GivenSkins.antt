@@ -3,10 +3,10 @@ use Rattle.std.specs.Prelude.{◌≡◌, ℕ, List, [], codes, Option, Some, Non
 use Rattle.std.specs.Result.{result_ok}
 use Rattle.std.specs.Str.{bytes_eq}
 use Rattle.serde_json.specs.Read.{read}
-use Rattle.termimad.specs.MadeSkins.{dark_skin, light_skin}
-use Rattle.termimad.specs.SkinReading.{skin_read}
-use Rattle.termimad.specs.Skins.{no_style_skin, default_skin}
-use Rattle.termimad.specs.declared.MadSkin.{MadSkin}
+use Rattle.mad_layout.specs.MadeSkins.{dark_skin, light_skin}
+use Rattle.mad_json.specs.Reading.{skin_read}
+use Rattle.mad_layout.specs.Skins.{no_style_skin, default_skin}
+use Rattle.mad_layout.specs.declared.MadSkin.{MadSkin}
 use Rattle.termimad_run.specs.declared.failure.Failure.{Failure}
 use Rattle.termimad_run.specs.declared.failure.Failure.TheVariants.{Skin, Memory}
 

@@ -1,22 +1,22 @@
 -- The headline of the program: what a run does to its devices, and how it ends.
 use Rattle.std.specs.Prelude.{◌≡◌, ◌⊎◌, ℕ, List, [], ◌∷◌, ◌++◌, Some, Result, Ok, Err, IsUtf8, ⊤}
-use Rattle.termimad.specs.Inline.{IsInlineReading}
-use Rattle.termimad.specs.Draws.{DrawsSome}
-use Rattle.termimad.specs.Trace.{Trace, failed, flushed}
-use Rattle.termimad.specs.Stream.{untold}
-use Rattle.termimad.specs.declared.Error.{Error}
-use Rattle.termimad.specs.Headline.{ShowsHeadline}
-use Rattle.termimad.specs.InArea.{WritesInArea, ShowsText}
-use Rattle.termimad.specs.Inlines.{inline_bytes}
-use Rattle.termimad.specs.Markdown.{markdown_lines}
-use Rattle.termimad.specs.MarkdownSources.{StreamsMarkdown}
-use Rattle.termimad.specs.RowSkins.{row_skin}
-use Rattle.termimad.specs.LiveSources.{ShowsSource}
-use Rattle.termimad.specs.StreamedSources.{StreamsSource}
-use Rattle.termimad.specs.WrittenMarkdown.{markdown_skin, WritesLines}
-use Rattle.termimad.specs.WrittenParts.{WritesParts}
-use Rattle.termimad.specs.declared.MadSkin.{MadSkin}
-use Rattle.termimad.specs.declared.SourceError.{SourceError}
+use Rattle.mad_md.specs.Inline.{IsInlineReading}
+use Rattle.mad_term.specs.Draws.{DrawsSome}
+use Rattle.mad_term.specs.Trace.{Trace, failed, flushed}
+use Rattle.mad_term.specs.Stream.{untold}
+use Rattle.mad_term.specs.declared.Error.{Error}
+use Rattle.mad_layout.specs.Headline.{ShowsHeadline}
+use Rattle.mad_layout.specs.InArea.{WritesInArea, ShowsText}
+use Rattle.mad_layout.specs.Inlines.{inline_bytes}
+use Rattle.markdown_reader.specs.Markdown.{markdown_lines}
+use Rattle.markdown_stream.specs.Sources.{StreamsMarkdown}
+use Rattle.mad_layout.specs.RowSkins.{row_skin}
+use Rattle.mad_stream.specs.LiveSources.{ShowsSource}
+use Rattle.mad_stream.specs.Sources.{StreamsSource}
+use Rattle.markdown_layout.specs.WrittenMarkdown.{markdown_skin, WritesLines}
+use Rattle.mad_layout.specs.WrittenParts.{WritesParts}
+use Rattle.mad_layout.specs.declared.MadSkin.{MadSkin}
+use Rattle.mad_stream.specs.declared.SourceError.{SourceError}
 use Rattle.termimad_run.specs.declared.call.Command.{Command}
 use Rattle.termimad_run.specs.declared.call.Command.TheVariants.{InArea, AtWidth, AsMarkdown, AsItComes, MarkdownAsItComes, Live, Inline}
 use Rattle.termimad_run.specs.declared.failure.Failure.{Failure}

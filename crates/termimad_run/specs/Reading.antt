@@ -1,6 +1,6 @@
 -- Reading a source to its end.
 use Rattle.std.specs.Prelude.{◌≡◌, ℕ, List}
-use Rattle.termimad.specs.Trace.{Trace, failed, ahead_all, IsAtItsEnd}
+use Rattle.mad_term.specs.Trace.{Trace, failed, ahead_all, IsAtItsEnd}
 use Rattle.termimad_run.specs.declared.failure.Failure.{Failure}
 use Rattle.termimad_run.specs.declared.failure.Failure.TheVariants.{Io, Memory}
 

@@ -1,14 +1,15 @@
 //! What the arguments ask for.
 
 ghost use Rattle.std.specs.Prelude.{◌≡◌, ℕ, List, Option, MatchOption, MatchResult, map, option_map, string_bytes};
-ghost use Rattle.termimad.specs.declared.Area.{Area as SomeArea};
+ghost use Rattle.mad_fit.specs.declared.Area.{Area as SomeArea};
 ghost use Rattle.termimad_run.specs.Calls.{Asks, IsWhole, command_of_pieces, IsNoCall, IsAreaOf, IsSkinWord, AsksArea, AsksWidth, AsksSize, IsCall, RefusesWords};
 
 use crate::failure::Failure;
 use crate::number::parse_number;
 use crate::skin::skin_of;
+use mad_fit::Area;
+use mad_layout::MadSkin;
 use std::alloc::Global;
-use termimad::{Area, MadSkin};
 
 // The least width of an area, in columns. Its text is laid out one column narrower, and at less than three nothing is wrapped.
 const LEAST_AREA_WIDTH: u16 = 4;

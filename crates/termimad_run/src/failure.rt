@@ -4,9 +4,11 @@ ghost use Rattle.std.specs.Prelude.{◌≡◌};
 ghost use Rattle.serde_json.specs.Errors.{IsMemory};
 ghost use Rattle.termimad_run.specs.Failures.{status_of, failure_line, failure_of, skin_failure, streamed_failure, SaysOnce};
 
+use mad_json::SkinError;
+use mad_stream::SourceError;
+use mad_term::{Error, Out, put_all};
 use std::alloc::{AllocError, AllocFailed};
 use std::io;
-use termimad::{Error, Out, SkinError, SourceError, put_all};
 
 /// Why a run ended with a status other than 0.
 #[derive(Clone, Copy, PartialEq, Eq, Debug)]

@@ -3,8 +3,8 @@
 ghost use Rattle.std.specs.Prelude.{◌≡◌, ◌≢◌, [], IfOk, MatchResult, map, string_bytes};
 ghost use Rattle.termimad_run.specs.Failures.{key_lines, SaysKeys};
 
+use mad_term::{Out, put_all};
 use std::alloc::{AllocError, Global};
-use termimad::{Out, put_all};
 
 /// Says on a device which keys of a skin name no part of one: a line for each, all at once. Without keys nothing
 /// happens; a fault of the device is passed over.

@@ -10,8 +10,8 @@ use crate::input::read_all;
 use crate::notice::say_unknown;
 use crate::writing::{write_as_it_comes, write_call};
 use mad_decoding::text_of;
+use mad_term::{Out, Source};
 use std::alloc::Global;
-use termimad::{Out, Source};
 
 /// Runs the program on its arguments, without its own name, and answers its status.
 ///

@@ -4,9 +4,10 @@ ghost use Rattle.std.specs.Prelude.{◌≡◌, Some, MatchResult, map, option_ma
 ghost use Rattle.termimad_run.specs.GivenSkins.{skin_named, json_skin, skin_given, RefusesText, RefusesSkin};
 
 use crate::failure::Failure;
+use mad_json::skin_from_value;
+use mad_layout::MadSkin;
 use serde_json::Value;
 use std::alloc::Global;
-use termimad::{MadSkin, skin_from_value};
 
 /// The skin of a word, and those of its keys that name no part of a skin, in byte order.
 ///

@@ -6,11 +6,12 @@ ghost use Rattle.termimad_run.specs.LineEnds.{IsWithoutLineEnd};
 ghost use Rattle.termimad_run.specs.ProgramRuns.{ComesAs, WritesCall, ShowsCall, WritesLine};
 
 use crate::call::{Command, Pieces};
+use mad_layout::MadSkin;
+use mad_stream::{SourceError, show_source_on, write_source_on};
+use mad_term::{Error, Out, Source, put_all};
+use markdown_layout::write_markdown_on;
+use markdown_stream::write_markdown_source_on;
 use std::alloc::Global;
-use termimad::{
-    Error, MadSkin, Out, Source, SourceError, put_all, show_source_on, write_markdown_on,
-    write_markdown_source_on, write_source_on,
-};
 
 /// Writes a text in an area, or laid out at a width, or read as people write Markdown and laid out, or as one line with inline marks and a
 /// newline. Nothing is flushed.

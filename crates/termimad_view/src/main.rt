@@ -6,11 +6,11 @@ ghost use Rattle.std.specs.Vec.Iter.{into_iter_items};
 ghost use Rattle.termimad_run.specs.Failures.{status_of, failure_line, SaysOnce};
 ghost use Rattle.termimad_run.specs.ProgramRuns.{HasRunOnStreams};
 
+use mad_term::{Out, Stream};
 use std::alloc::{AllocError, Global};
 use std::io::{BufWriter, ErrorKind};
 use std::process::ExitCode;
 use std::{env, io};
-use termimad::{Out, Stream};
 use termimad_run::{Failure, refuse, run};
 
 fn main(rt: HostRuntime) -> ExitCode {
