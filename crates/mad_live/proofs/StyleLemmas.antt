@@ -86,6 +86,7 @@ utf8_parts a b c small h =
     (subst (λ (l : List ℕ). IsUtf8 l) (take_front a (c ∷ b)) (IsUtf8-take (a ++ c ∷ b) (length a) h at), subst (λ (l : List ℕ). IsUtf8 l) (drop_front a (c ∷ b)) (IsUtf8-drop (a ++ c ∷ b) (length a) h at))
 
 chars_text : (cs : List ℕ) → AreText (encodes cs) → AreText cs
+unfolding encode
 chars_text [] h = tt
 chars_text (c ∷ cs) h =
     let first : AreText (encode c) = all_first (λ b. (b ≢ 27) × (b ≢ 10)) (encode c) (encodes cs) h in
@@ -105,10 +106,10 @@ same_some x y e = cc
 pub record Between (a b : List ℕ) (s r : PaperReading) : Type 0 where
   pub mid : PaperReading
   pub first : read_on a s ≡ Some mid
-  pub then : read_on b mid ≡ Some r
+  pub second : read_on b mid ≡ Some r
 
 between : (a b : List ℕ) (s r : PaperReading) → read_on (a ++ b) s ≡ Some r → Between a b s r
-between a b s r h = option_and_then_some (read_on b) (read_on a s) r (sym (read_on-append a b s) ∙ h) (λ x e f. record { mid = x; first = e; then = f })
+between a b s r h = option_and_then_some (read_on b) (read_on a s) r (sym (read_on-append a b s) ∙ h) (λ x e f. record { mid = x; first = e; second = f })
 
 -- ---- numbers
 
@@ -217,7 +218,7 @@ styles_set [] p r are h = record { pen = p.line.pen; is = same_some (at_rest p) 
 styles_set (numbers ∷ commands) p r are h =
     let parts : Between (set_style numbers) (set_styles commands) (at_rest p) r = between (set_style numbers) (set_styles commands) (at_rest p) r h in
     let one : SetsPen (numbers ++ 109 ∷ []) (Numbers [] None) p parts.mid = numbers_set numbers [] None p parts.mid are.0 parts.first in
-    let two : SetsPen (set_styles commands) Outside (with_pen p one.pen) r = styles_set commands (with_pen p one.pen) r are.1 (subst (λ (y : PaperReading). read_on (set_styles commands) y ≡ Some r) one.is parts.then) in
+    let two : SetsPen (set_styles commands) Outside (with_pen p one.pen) r = styles_set commands (with_pen p one.pen) r are.1 (subst (λ (y : PaperReading). read_on (set_styles commands) y ≡ Some r) one.is parts.second) in
     record {
       pen = two.pen;
       is = two.is;
@@ -226,7 +227,7 @@ styles_set (numbers ∷ commands) p r are h =
 
 -- ---- text
 
-pen_of : Look → Option Grid → Look
+abbrev pen_of : Look → Option Grid → Look
 pen_of pen None = pen
 pen_of pen (Some g) = g.pen
 
@@ -324,9 +325,9 @@ plain_row row p r utf8 (inr (before, since, is, text)) plain h =
     let spelled : chars row ≡ chars before ++ (reset ++ chars since) =
     ap chars is ∙ chars-append before (reset ++ since) parts.0 ∙ ap (λ (l : List ℕ). chars before ++ l) (chars-append reset since (IsUtf8-from_ascii reset ascii_reset) ∙ ap (λ (l : List ℕ). l ++ chars since) (chars-IsAscii reset ascii_reset)) in
     let first : Between (chars before) (reset ++ chars since) (at_rest p) r = between (chars before) (reset ++ chars since) (at_rest p) r (sym (ap (λ (l : List ℕ). read_on l (at_rest p)) spelled) ∙ h) in
-    let second : Between reset (chars since) first.mid r = between reset (chars since) first.mid r first.then in
+    let second : Between reset (chars since) first.mid r = between reset (chars since) first.mid r first.second in
     let at : second.mid ≡ at_rest (with_pen first.mid.paper plain_pen) = (reset_plain first.mid second.mid second.first).1 in
-    let kept : KeepsPen (with_pen first.mid.paper plain_pen) r = text_keeps (chars since) (with_pen first.mid.paper plain_pen) r (text_chars since since_utf8 text) (subst (λ (y : PaperReading). read_on (chars since) y ≡ Some r) at second.then) in
+    let kept : KeepsPen (with_pen first.mid.paper plain_pen) r = text_keeps (chars since) (with_pen first.mid.paper plain_pen) r (text_chars since since_utf8 text) (subst (λ (y : PaperReading). read_on (chars since) y ≡ Some r) at second.second) in
     record { mode = ap (λ (s : PaperReading). s.mode) kept.is; pen = ap (λ (s : PaperReading). s.paper.line.pen) kept.is ∙ kept.pen }
 
 -- ---- the style is set again
@@ -353,14 +354,14 @@ restyled w front text first commands p numbers plain in_row is here =
     let whole : read_on (chars row ++ reset) (at_rest start) ≡ Some (at_rest (with_line p (drawn w (row ++ reset)))) =
     sym (ap (λ (l : List ℕ). read_on l (at_rest start)) (chars-append row reset row_utf8 ∙ ap (λ (l : List ℕ). chars row ++ l) (chars-IsAscii reset ascii_reset))) ∙ is.reads start refl in
     let one : Between (chars row) reset (at_rest start) (at_rest (with_line p (drawn w (row ++ reset)))) = between (chars row) reset (at_rest start) (at_rest (with_line p (drawn w (row ++ reset)))) whole in
-    let ended : at_rest (with_line p (drawn w (row ++ reset))) ≡ at_rest (with_pen one.mid.paper plain_pen) = (reset_plain one.mid (at_rest (with_line p (drawn w (row ++ reset)))) one.then).1 in
+    let ended : at_rest (with_line p (drawn w (row ++ reset))) ≡ at_rest (with_pen one.mid.paper plain_pen) = (reset_plain one.mid (at_rest (with_line p (drawn w (row ++ reset)))) one.second).1 in
     let two : Between (chars front) (style ++ chars text) (at_rest start) one.mid = between (chars front) (style ++ chars text) (at_rest start) one.mid (sym (ap (λ (l : List ℕ). read_on l (at_rest start)) spelled) ∙ one.first) in
     let at : AtPlain start two.mid = plain_row front start two.mid parts.0 plain refl two.first in
-    let rest : read_on (style ++ chars text) (at_rest two.mid.paper) ≡ Some one.mid = ap (λ (m : Mode). read_on (style ++ chars text) (record { paper = two.mid.paper; mode = m })) (sym at.mode) ∙ two.then in
+    let rest : read_on (style ++ chars text) (at_rest two.mid.paper) ≡ Some one.mid = ap (λ (m : Mode). read_on (style ++ chars text) (record { paper = two.mid.paper; mode = m })) (sym at.mode) ∙ two.second in
     let three : Between style (chars text) (at_rest two.mid.paper) one.mid = between style (chars text) (at_rest two.mid.paper) one.mid rest in
     let sets : SetsPen style Outside two.mid.paper three.mid = styles_set (first ∷ commands) two.mid.paper three.mid numbers three.first in
     let keeps : KeepsPen (with_pen two.mid.paper sets.pen) one.mid =
-    text_keeps (chars text) (with_pen two.mid.paper sets.pen) one.mid (text_chars text text_utf8 in_row) (subst (λ (y : PaperReading). read_on (chars text) y ≡ Some one.mid) sets.is three.then) in
+    text_keeps (chars text) (with_pen two.mid.paper sets.pen) one.mid (text_chars text text_utf8 in_row) (subst (λ (y : PaperReading). read_on (chars text) y ≡ Some one.mid) sets.is three.second) in
     let q : Paper = with_line two.mid.paper keeps.line in
     let e : with_pen q plain_pen ≡ p = ap (λ (s : PaperReading). with_pen s.paper plain_pen) (sym keeps.is) ∙ ap (λ (s : PaperReading). s.paper) (sym ended) ∙ ap (with_line p) (sym here) in
     let same : p.line.pen ≡ two.mid.paper.line.pen = ap (λ (s : Paper). s.line.pen) (sym e) ∙ sym at.pen in

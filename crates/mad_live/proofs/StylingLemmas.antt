@@ -64,6 +64,7 @@ numbers_more bytes begin c small no_newline (commands, numbers, h, are) =
 
 -- a command is complete
 command_ends : (bytes : List ℕ) (begin : ℕ) (commands : List (List ℕ)) (numbers : List ℕ) → HasStyle bytes begin commands (27 ∷ 91 ∷ numbers) → AreNumbers numbers → HasStyle (bytes ++ 109 ∷ []) begin (commands ++ numbers ∷ []) []
+unfolding style_more
 command_ends bytes begin commands numbers h are = record {
   front = h.front;
   is = (style_more bytes begin 109 commands (27 ∷ 91 ∷ numbers) h).is
