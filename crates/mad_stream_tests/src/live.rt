@@ -98,7 +98,7 @@ pub fn gone_on_with(asked: &Asked) -> Result<String, AllocError> {
     let rows = str::from_utf8(whole.taken()).unwrap_or("no text");
     for room in 0..ROOM {
         let Some((paper, first)) = rows_after_fault(asked, room)? else {
-            return format!(in alloc; "{rows}gone on with after each of {room} bytes");
+            return format!(in alloc; "{rows}gone on with after each byte");
         };
         if !has_all_rows(&paper, first, rows) {
             return format!(in alloc; "after {room} bytes rows are lost");
