@@ -98,7 +98,7 @@ pub fn gone_on_with(asked: &Asked) -> Result<String, AllocError> {
     let rows = str::from_utf8(whole.taken()).unwrap_or("no text");
     for room in 0..ROOM {
         let Some((paper, first)) = rows_after_fault(asked, room)? else {
-            return format!(in alloc; "{rows}gone on with after each of {room} bytes");
+            return format!(in alloc; "{rows}gone on with after each byte");
         };
         if !has_all_rows(&paper, first, rows) {
             return format!(in alloc; "after {room} bytes rows are lost");
@@ -140,7 +140,7 @@ fn rows_after_fault(asked: &Asked, room: usize) -> Result<Option<(Paper, usize)>
         match fed {
             Ok(()) => {}
             Err(Error::Memory) => return Err(AllocError),
-            Err(_) => return after_fault(asked, &mut live, &first, at).map(Some),
+            Err(_) => return after_fault(asked, live, &first, at).map(Some),
         }
     }
     Ok(None)
@@ -159,11 +159,12 @@ fn piece_at<'r>(asked: &Asked<'r>, at: usize, size: usize) -> &'r str {
 // The rest is fed to another device, and the terminal reads both. A command that was cut off does nothing.
 fn after_fault(
     asked: &Asked,
-    live: &mut LiveText,
+    live: LiveText,
     first: &CutOut,
     at: usize,
 ) -> Result<(Paper, usize), AllocError> {
     let alloc = asked.alloc;
+    let mut live = live;
     let [height, size] = asked.numbers;
     let mut paper = Paper::new(alloc, height)?;
     let (front, _) = cut_text(first.taken());
@@ -193,6 +194,9 @@ fn after_fault(
             break;
         }
         at = at.saturating_add(taken);
+    }
+    if live.finish(alloc, &mut second).is_err() {
+        return Err(AllocError);
     }
     paper.read(alloc, str::from_utf8(second.taken()).unwrap_or("no text"))?;
     Ok((paper, below))
