@@ -209,9 +209,9 @@ numbers_set : (bytes ps : List ℕ) (now : Option ℕ) (p : Paper) (r : PaperRea
 numbers_set [] ps now p r are h = letter_read ps now p r h
 numbers_set (c ∷ bytes) ps now p r are h =
     option_and_then_some (read_on (bytes ++ 109 ∷ [])) (feed_on (Numbers ps now) p c) r h (λ x e f.
-        let one : NumberRead ps now c p x = number_read ps now c p x are.0.0 e in
-        let rest : SetsPen (bytes ++ 109 ∷ []) (Numbers one.numbers one.last) p r = numbers_set bytes one.numbers one.last p r are.1 (subst (λ (y : PaperReading). read_on (bytes ++ 109 ∷ []) y ≡ Some r) one.is f) in
-        record { pen = rest.pen; is = rest.is; again = λ q same. ap (option_and_then (read_on (bytes ++ 109 ∷ []))) (one.again q) ∙ rest.again q same })
+    let one : NumberRead ps now c p x = number_read ps now c p x are.0.0 e in
+    let rest : SetsPen (bytes ++ 109 ∷ []) (Numbers one.numbers one.last) p r = numbers_set bytes one.numbers one.last p r are.1 (subst (λ (y : PaperReading). read_on (bytes ++ 109 ∷ []) y ≡ Some r) one.is f) in
+    record { pen = rest.pen; is = rest.is; again = λ q same. ap (option_and_then (read_on (bytes ++ 109 ∷ []))) (one.again q) ∙ rest.again q same })
 
 styles_set : (commands : List (List ℕ)) (p : Paper) (r : PaperReading) → AllByRecursion AreNumbers commands → read_on (set_styles commands) (at_rest p) ≡ Some r → SetsPen (set_styles commands) Outside p r
 styles_set [] p r are h = record { pen = p.line.pen; is = same_some (at_rest p) r h; again = λ q same. ap (λ (l : Look). Some (at_rest (with_pen q l))) same }
@@ -279,9 +279,9 @@ text_keeps : (cs : List ℕ) (p : Paper) (r : PaperReading) → AreText cs → r
 text_keeps [] p r text h = record { line = p.line; is = same_some (at_rest p) r h; pen = refl }
 text_keeps (c ∷ cs) p r text h =
     option_and_then_some (read_on cs) (feed_on Outside p c) r h (λ x e f.
-        let one : KeepsPen p x = char_keeps c p x text.0 e in
-        let rest : KeepsPen (with_line p one.line) r = text_keeps cs (with_line p one.line) r text.1 (subst (λ (y : PaperReading). read_on cs y ≡ Some r) one.is f) in
-        record { line = rest.line; is = rest.is; pen = rest.pen ∙ one.pen })
+    let one : KeepsPen p x = char_keeps c p x text.0 e in
+    let rest : KeepsPen (with_line p one.line) r = text_keeps cs (with_line p one.line) r text.1 (subst (λ (y : PaperReading). read_on cs y ≡ Some r) one.is f) in
+    record { line = rest.line; is = rest.is; pen = rest.pen ∙ one.pen })
 
 -- ---- the end of a style
 
@@ -306,8 +306,8 @@ last_is_plain bytes h =
     let last : last_in bytes ≡ last_in h.before ++ h.since = ap last_in h.is ∙ last_more h.before h.since (text_in_row h.since h.text) in
     ⊎_elim (λ (none : h.before ≡ []). inl (subst (λ (l : List ℕ). AreText l) (sym (last ∙ ap (λ (l : List ℕ). last_in l ++ h.since) none)) h.text))
     (λ (some : ((front : List ℕ) × (h.before ≡ front ++ 10 ∷ [])) ⊎ ((front : List ℕ) × (h.before ≡ front ++ reset))).
-        ⊎_elim (λ (ended : (front : List ℕ) × (h.before ≡ front ++ 10 ∷ [])). inl (subst (λ (l : List ℕ). AreText l) (sym (last ∙ ap (λ (l : List ℕ). l ++ h.since) (ap last_in ended.1 ∙ last-append [] ended.0 (10 ∷ [])))) h.text))
-        (λ (plain : (front : List ℕ) × (h.before ≡ front ++ reset)). inr (last_in plain.0, h.since, last ∙ ap (λ (l : List ℕ). l ++ h.since) (ap last_in plain.1 ∙ last_more plain.0 reset reset_in_row) ∙ append_assoc (last_in plain.0) reset h.since, h.text)) some)
+    ⊎_elim (λ (ended : (front : List ℕ) × (h.before ≡ front ++ 10 ∷ [])). inl (subst (λ (l : List ℕ). AreText l) (sym (last ∙ ap (λ (l : List ℕ). l ++ h.since) (ap last_in ended.1 ∙ last-append [] ended.0 (10 ∷ [])))) h.text))
+    (λ (plain : (front : List ℕ) × (h.before ≡ front ++ reset)). inr (last_in plain.0, h.since, last ∙ ap (λ (l : List ℕ). l ++ h.since) (ap last_in plain.1 ∙ last_more plain.0 reset reset_in_row) ∙ append_assoc (last_in plain.0) reset h.since, h.text)) some)
     h.begins
 
 record AtPlain (p : Paper) (r : PaperReading) : Type 0 where

@@ -5,7 +5,9 @@ ghost use Rattle.mad_live.specs.StyledRows.{IsStyling, GrowsInStyle};
 
 // What begins a command, and the bytes before the last of the one that ends a style.
 const ESCAPE: u8 = 27;
+
 const RESET_FRONT: &[u8] = b"\x1b[0";
+
 const RESET: &[u8] = b"\x1b[0m";
 
 // Numbers and what parts them come before this byte.
