@@ -1,4 +1,5 @@
-//! A terminal that scrolls. It reads what live texts write: rows, newlines, a carriage return that erases its row, moves up that do, and the plain pen.
+//! A terminal that scrolls. It reads what live texts write: rows, newlines, a carriage return that erases its row, moves up that do, and
+//! styles, which it doesn't show.
 
 use std::alloc::{AllocError, Global};
 
@@ -6,7 +7,8 @@ const ERASE_ROW: &str = "\r\x1b[K";
 
 const ERASE_ROW_ABOVE: &str = "\x1b[1A\x1b[K";
 
-const PLAIN_PEN: &str = "\x1b[0m";
+// What begins a command that sets a style.
+const STYLE: &str = "\x1b[";
 
 /// All rows that it has had, and the cursor's.
 #[derive(Drop)]
@@ -52,8 +54,12 @@ impl Paper {
             if number > 0 {
                 self.erase();
             }
-            for part in part.split(PLAIN_PEN) {
-                for c in part.chars() {
+            for (number, part) in part.split(STYLE).enumerate() {
+                let text = match part.split_once('m') {
+                    Some((_, text)) if number > 0 => text,
+                    _ => part,
+                };
+                for c in text.chars() {
                     self.read_character(alloc, c)?;
                 }
             }
