@@ -1,7 +1,7 @@
 -- What sets a style sets it anywhere: commands, text between them, and the command that ends a style.
-use Rattle.std.proofs.Common.{◌≡◌, ◌≢◌, ◌⊎◌, inl, inr, ⊎_elim, ℕ, zero, suc, ◌+◌, ◌-◌, ◌*◌, ◌<◌, ◌≤◌, Bool, true, false, cond, eqb, List, [], ◌∷◌, ◌++◌, length, take, drop, get_or, Option, Some, None, refl, ap, sym, ◌∙◌, subst, arith, lit<, append_assoc, length-append, IsUtf8}
+use Rattle.std.proofs.Common.{◌≡◌, ◌≢◌, ◌⊎◌, inl, inr, ⊎_elim, ℕ, zero, suc, ◌+◌, ◌-◌, ◌*◌, ◌<◌, ◌≤◌, Bool, true, false, cond, eqb, List, [], ◌∷◌, ◌++◌, length, Option, Some, None, refl, ap, sym, ◌∙◌, subst, arith, lit<, append_assoc, length-append, IsUtf8}
 use Rattle.std.specs.Prelude.{option_and_then, option_map, IsAscii, ◌||◌, nat_lt, nat_le}
-use Rattle.std.specs.List.{AllByRecursion, flat_map}
+use Rattle.std.specs.List.{AllByRecursion}
 use Rattle.std.specs.Str.{chars, IsCharBoundary}
 use Rattle.std.proofs.Math.Utf8.{encode, encodes}
 use Rattle.std.proofs.Math.Seq.{get_or-append_seam}

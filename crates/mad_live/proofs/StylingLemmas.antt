@@ -1,11 +1,9 @@
 -- What the end of a row is, byte after byte.
-use Rattle.std.proofs.Common.{◌≡◌, ◌≢◌, ◌⊎◌, inl, inr, ℕ, ◌+◌, ◌-◌, ◌<◌, ◌≤◌, List, [], ◌∷◌, ◌++◌, length, take, drop, get_or, refl, ap, sym, ◌∙◌, subst, arith, append_assoc, length-append}
-use Rattle.std.specs.List.{AllByRecursion, flat_map}
+use Rattle.std.proofs.Common.{◌≡◌, ◌≢◌, inl, inr, ℕ, ◌+◌, ◌-◌, ◌<◌, ◌≤◌, List, [], ◌∷◌, ◌++◌, length, take, drop, refl, ap, sym, ◌∙◌, subst, arith, append_assoc, length-append}
 use Rattle.std.proofs.lemmas.List.{append-nil}
 use Rattle.std.proofs.lemmas.Grind.{flat_map-append}
-use Rattle.mad_live.specs.StyledRows.{reset, AreText, EndsPlain, set_style, set_styles, AreNumbers, HasStyle, IsStyling, GrowsInStyle}
-use Rattle.mad_live.specs.declared.styling.Styling.{Styling}
-use Rattle.mad_live.specs.declared.styling.Styling.TheVariants.{Plain, Begun, Numbers, Styled, Other}
+use Rattle.mad_live.specs.StyledRows.{reset, EndsPlain, set_style, set_styles, AreNumbers, HasStyle, IsStyling, GrowsInStyle}
+use Rattle.mad_live.specs.declared.styling.Styling.TheVariants.{Begun, Numbers, Styled}
 use Rattle.mad_live.proofs.PaperLemmas.{take_front, drop_front}
 use Rattle.mad_live.proofs.RowLemmas.{all_both}
 

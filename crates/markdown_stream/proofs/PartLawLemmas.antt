@@ -15,10 +15,10 @@ use Rattle.markdown_lines.specs.Steady.{steady_lines}
 use Rattle.markdown_reader.specs.Mapping.{shown_parts}
 use Rattle.markdown_reader.specs.Markdown.{markdown_lines, printable_lines}
 use Rattle.markdown_stream.specs.Cuts.{SourcePart, Cutting, source_lines, content, begins_anew, ends_all, completed, completed_if, cut_so_far, joined_by, line_cut, lines_cut, nothing_cut, nothing_open, source_parts}
-use Rattle.markdown_stream.specs.Streamed.{Showing, nothing_shown, added, gap, is_spaced, lines_shown, part_shown, parts_shown, streamed_lines}
+use Rattle.markdown_stream.specs.Streamed.{Showing, nothing_shown, added, gap, lines_shown, part_shown, parts_shown, streamed_lines}
 use Rattle.markdown_stream.specs.Gaps.{begins_big}
 use Rattle.markdown_stream.specs.declared.stream.Shown.{Shown}
-use Rattle.markdown_stream.specs.PartLaws.{PartsAreTheText, IsOnlyPart, OnePartIsWhole}
+use Rattle.markdown_stream.specs.PartLaws.{PartsAreTheText, OnePartIsWhole}
 use Rattle.markdown_stream.proofs.ShownLemmas.{shown_both}
 
 -- ---- the parts are the text

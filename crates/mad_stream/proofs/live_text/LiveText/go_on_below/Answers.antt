@@ -1,8 +1,7 @@
-use Rattle.std.proofs.Common.{◌≡◌, List, ℕ, refl, ap, sym, ◌∙◌, subst, inl}
+use Rattle.std.proofs.Common.{List, ℕ, refl, ap, sym, ◌∙◌, subst, inl}
 use Rattle.mad_live.specs.declared.live_rows.LiveRows.{LiveRows}
 use Rattle.mad_stream.specs.Gathered.{gathered_trace}
 use Rattle.mad_stream.specs.Streams.{Steps}
-use Rattle.mad_stream.specs.declared.live_text.LiveText.{LiveText}
 use Rattle.mad_stream.proofs.LiveTextLemmas.{all_taken, below_fails, goes_below}
 use Rattle.mad_stream.proofs.live_text.LiveText.go_on_below.Goals as goal
 
