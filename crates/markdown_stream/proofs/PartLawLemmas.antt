@@ -36,11 +36,11 @@ first_joined b (text ∷ texts) = refl
 lines_joined : (text : List ℕ) → joined_lines (source_lines text) ≡ text
 unfolding source_lines
 lines_joined [] = refl
-lines_joined (b ∷ bs) = by_test (b == 10) refl
+lines_joined (b ∷ bs) = by_test (b == 10) refl (lines_joined bs)
   where
-    by_test : (t : Bool) → (b == 10) ≡ t → joined_lines (if t then (10 ∷ []) ∷ source_lines bs else onto_first b (source_lines bs)) ≡ b ∷ bs
-    by_test true is = ap (λ (l : List ℕ). 10 ∷ l) (lines_joined bs) ∙ ap (λ (c : ℕ). c ∷ bs) (sym (true_test b 10 is))
-    by_test false is = first_joined b (source_lines bs) ∙ ap (λ (l : List ℕ). b ∷ l) (lines_joined bs)
+    by_test : (t : Bool) → (b == 10) ≡ t → joined_lines (source_lines bs) ≡ bs → joined_lines (if t then (10 ∷ []) ∷ source_lines bs else onto_first b (source_lines bs)) ≡ b ∷ bs
+    by_test true is rest = ap (λ (l : List ℕ). 10 ∷ l) rest ∙ ap (λ (c : ℕ). c ∷ bs) (sym (true_test b 10 is))
+    by_test false is rest = first_joined b (source_lines bs) ∙ ap (λ (l : List ℕ). b ∷ l) rest
 
 abbrev so_far : Cutting → List ℕ
 so_far c = sources c.parts ++ c.held
