@@ -126,7 +126,7 @@ reads_by fenced part kind cut other is = (
   λ later. ap (λ (t : List ℕ). lines_of (resumed_text fenced t)) (line_same part later) ∙ resumed_line fenced part later cut other,
 )
 
-reads_fence : (fenced : Bool) (part : List ℕ) → HasNoNewline part → is_fence (strip_carriage_return part) ≡ true → ReadsTo fenced (part ++ 10 ∷ []) [] (not fenced)
+pub reads_fence : (fenced : Bool) (part : List ℕ) → HasNoNewline part → is_fence (strip_carriage_return part) ≡ true → ReadsTo fenced (part ++ 10 ∷ []) [] (not fenced)
 reads_fence fenced part cut fence later = ap (λ (t : List ℕ). lines_of (resumed_text fenced t)) (line_same part later) ∙ resumed_fence fenced part later cut fence
 
 style_no_fence : (s : CompositeStyle) → style_kind s ≡ Fence → ⊥

@@ -38,7 +38,11 @@ impl Calls for StreamCalls {
         let (first, second) = words.split_once(' ').unwrap_or((words, ""));
         let asked = Asked {
             alloc,
-            skin: MadSkin::no_style(),
+            skin: if name == "live_styled" {
+                MadSkin::default()
+            } else {
+                MadSkin::no_style()
+            },
             width: Some(width.parse().unwrap_or(0)),
             numbers: [first.parse().unwrap_or(0), second.parse().unwrap_or(0)],
             text,
@@ -56,7 +60,8 @@ fn answer_asked(name: &str, asked: &Asked) -> Result<String, AllocError> {
         "source" => cuts::source(asked),
         "markdown" => markdown::went_out(asked),
         "markdown_cuts" => markdown::at_each_byte(asked),
-        "live" => live::after_each(asked),
+        "live" | "live_styled" => live::after_each(asked),
+        "live_faults" => live::gone_on_with(asked),
         "live_source" => live::source(asked),
         _ => String::from_str(asked.alloc, "no such call"),
     }

@@ -1,10 +1,14 @@
-//! A terminal that scrolls. It reads what live texts write: rows, newlines, a carriage return that erases its row, and moves up that do.
+//! A terminal that scrolls. It reads what live texts write: rows, newlines, a carriage return that erases its row, moves up that do, and
+//! styles, which it doesn't show.
 
 use std::alloc::{AllocError, Global};
 
 const ERASE_ROW: &str = "\r\x1b[K";
 
 const ERASE_ROW_ABOVE: &str = "\x1b[1A\x1b[K";
+
+// What begins a command that sets a style.
+const STYLE: &str = "\x1b[";
 
 /// All rows that it has had, and the cursor's.
 #[derive(Drop)]
@@ -50,11 +54,38 @@ impl Paper {
             if number > 0 {
                 self.erase();
             }
-            for c in part.chars() {
-                self.read_character(alloc, c)?;
+            for (number, part) in part.split(STYLE).enumerate() {
+                let text = match part.split_once('m') {
+                    Some((_, text)) if number > 0 => text,
+                    _ => part,
+                };
+                for c in text.chars() {
+                    self.read_character(alloc, c)?;
+                }
             }
         }
         Ok(())
+    }
+
+    /// It has another size.
+    pub fn resize(&mut self, height: usize) {
+        self.height = height;
+        self.off = self.off.max(self.least_above());
+    }
+
+    // How many rows don't fit the screen above the cursor's.
+    fn least_above(&self) -> usize {
+        self.above.saturating_add(1).saturating_sub(self.height)
+    }
+
+    /// The index of the cursor's row.
+    pub fn cursor(&self) -> usize {
+        self.above
+    }
+
+    /// Its rows from one on.
+    pub fn rows_from(&self, first: usize) -> &[String] {
+        self.rows.get(first..).unwrap_or(&[])
     }
 
     fn erase(&mut self) {
@@ -69,8 +100,7 @@ impl Paper {
             if self.above == self.rows.len() {
                 self.rows.push(String::new(alloc))?;
             }
-            let least = self.above.saturating_add(1).saturating_sub(self.height);
-            self.off = self.off.max(least);
+            self.off = self.off.max(self.least_above());
         } else if let Some(row) = self.rows.get_mut(self.above) {
             row.push(c)?;
         }

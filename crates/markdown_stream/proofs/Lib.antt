@@ -1,7 +1,8 @@
 pub mod ContentLemmas
 pub mod CutLemmas
 pub mod GapLemmas
+pub mod PartLawLemmas
 pub mod PieceLemmas
 pub mod ShownLemmas
-pub mod StreamLemmas
 pub mod SourceLemmas
+pub mod StreamLemmas

@@ -1,6 +1,7 @@
 pub mod Cuts
 pub mod Gaps
+pub mod PartLaws
+pub mod SourceSteps
+pub mod Sources
 pub mod Streamed
 pub mod Streams
-pub mod Sources
-pub mod SourceSteps

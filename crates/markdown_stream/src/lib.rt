@@ -6,10 +6,12 @@
 //! 2. [`gaps`]: which lines want blank rows beside them.
 //! 3. [`stream`]: a text in pieces, part by part.
 //! 4. [`pieces`]: a text that is given in pieces; [`sources`]: one that a source gives.
+//! 5. [`laws`]: what one may rely on of the parts of a text.
 #![tactic(auto)]
 
 mod cuts;
 mod gaps;
+pub mod laws;
 mod pieces;
 mod sources;
 mod stream;
