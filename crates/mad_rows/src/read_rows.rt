@@ -22,7 +22,7 @@ ghost use Rattle.mad_rows.specs.ReadRows.{HasPlainMarks, front_bytes, IsBetween,
 use crate::composites::{CompositeFront, PlacedCompound, Prefix};
 use crate::row_skin::{RowSkin, is_bare, is_ellipsis};
 use crate::row_writing::append_compounds;
-use crate::style_commands::StyleCommands;
+use crate::style_commands::{StyleCommands, append_three};
 use mad_fit::{plain_end, token_at};
 use mad_format::{follow_up, margins_and_rest, room_of};
 use mad_md::{Alignment, Composite, Compound};
@@ -316,19 +316,6 @@ fn append_piece(
         }
         Put::InGap => Ok(()),
     }
-}
-
-fn append_three(
-    rows: &mut String,
-    opening: &str,
-    text: &str,
-    closing: &str,
-) -> Result<(), AllocError>
-    ensures { OnOk result (string_bytes rows.new ≡ string_bytes rows.old ++ (opening.now ++ (text.now ++ closing.now))) }
-{
-    rows.push_str(opening)?;
-    rows.push_str(text)?;
-    rows.push_str(closing)
 }
 
 // The tokens of a compound that needs no commands, span by span.

@@ -51,9 +51,7 @@ impl StyleCommands {
         ensures { OnOk result (string_bytes rows.new ≡ string_bytes rows.old ++ piece_bytes style text.now) }
     {
         self.know(style)?;
-        rows.push_str(&self.opening)?;
-        rows.push_str(text)?;
-        rows.push_str(closing_text(style))
+        append_three(rows, &self.opening, text, closing_text(style))
     }
 
     // Makes the commands of a style, where they aren't there.
@@ -70,4 +68,18 @@ impl StyleCommands {
         self.style = style;
         Ok(())
     }
+}
+
+/// Puts a text between commands after the rows that are there.
+pub(crate) fn append_three(
+    rows: &mut String,
+    opening: &str,
+    text: &str,
+    closing: &str,
+) -> Result<(), AllocError>
+    ensures { OnOk result (string_bytes rows.new ≡ string_bytes rows.old ++ (opening.now ++ (text.now ++ closing.now))) }
+{
+    rows.push_str(opening)?;
+    rows.push_str(text)?;
+    rows.push_str(closing)
 }

@@ -1,9 +1,7 @@
-use Rattle.std.proofs.Common.{◌++◌, string_bytes, ap, ◌∙◌}
-use Rattle.mad_style.specs.declared.compound_styles.CompoundStyle.{CompoundStyle}
-use Rattle.mad_term.specs.Styles.{piece_bytes}
 use Rattle.mad_rows.specs.Rows.{compound_piece}
 use Rattle.mad_draw.proofs.PieceLemmas.{pieces_taken}
 use Rattle.mad_rows.proofs.PieceLemmas.{bare_taken, put_after}
+use Rattle.mad_rows.proofs.StyleLemmas.{styled_after}
 use Rattle.mad_rows.proofs.row_writing.append_compounds.Goals as goal
 
 pub loop-compound-preserved-then-is_bare : goal.loop-compound-preserved-then-is_bare
@@ -15,5 +13,5 @@ loop-compound-preserved-then-is_bare c =
 
 pub loop-compound-preserved : goal.loop-compound-preserved
 loop-compound-preserved c =
-    put_after _ _ _ _ _ _ (c.in_ok-append.ensures ∙ ap (λ (s : CompoundStyle). string_bytes c.loop-compound.rows ++ piece_bytes s.object_style c.loop-compound.compound.src.now) c.compound_style.ensures) c.loop-compound.invariant
+    put_after _ _ _ _ _ _ (styled_after _ _ _ c.compound_style.result _ c.in_ok-append.ensures c.compound_style.ensures) c.loop-compound.invariant
     (pieces_taken (compound_piece c.args.skin.now c.args.style.now) c.args.compounds.now c.loop-compound.compound-index _ c.loop-compound-test.true)
