@@ -17,7 +17,7 @@ use crate::skin::MadSkin;
 use mad_blocks::{PartCursor, push_read_at, wrap_width};
 use mad_format::FmtLine;
 use mad_md::Composite;
-use mad_rows::{RowSkin, append_line, append_lines, append_read, is_aligned_left};
+use mad_rows::{RowSkin, StyleCommands, append_line, append_lines, append_read, is_aligned_left};
 use mad_term::{Error, Out, put_all};
 use std::alloc::{AllocError, Global};
 
@@ -83,8 +83,25 @@ fn write_parts<O: Out>(
 {
     let mut rows = String::new(alloc);
     let mut lines = Vec::new(alloc);
-    while take_next(alloc, &mut rows, &mut lines, parts, width, skin)? {
-        hand_on_unmarked(out, &mut rows, &mut lines, parts, width, skin)?;
+    let mut commands = StyleCommands::new(alloc);
+    while take_next(
+        alloc,
+        &mut rows,
+        &mut lines,
+        parts,
+        width,
+        skin,
+        &mut commands,
+    )? {
+        hand_on_unmarked(
+            out,
+            &mut rows,
+            &mut lines,
+            parts,
+            width,
+            skin,
+            &mut commands,
+        )?;
     }
     put_all(out, rows.as_bytes())?;
     Ok(())
@@ -101,8 +118,9 @@ pub(crate) fn append_parts(
     ensures { OnOk result ((lines : List FmtLine) × IsLayoutAt (line_rules skin.now) width (lines_left parts.old) lines × (string_bytes rows.new ≡ string_bytes rows.old ++ text_bytes skin.now width lines)) }
 {
     let mut lines = Vec::new(alloc);
-    while take_next(alloc, rows, &mut lines, parts, width, skin)? {
-        append_lines(rows, lines.as_slice(), width, skin)?;
+    let mut commands = StyleCommands::new(alloc);
+    while take_next(alloc, rows, &mut lines, parts, width, skin, &mut commands)? {
+        append_lines(rows, lines.as_slice(), width, skin, &mut commands)?;
         lines.clear();
     }
     Ok(())
@@ -116,13 +134,14 @@ fn take_next<'s>(
     parts: &mut PartCursor<'s>,
     width: Option<usize>,
     skin: &RowSkin,
+    commands: &mut StyleCommands,
 ) -> Result<bool, AllocError>
     requires { lines.old.items ≡ [] }
     ensures { IfOk result (λ found. TakesPart skin.now width (lines_left parts.old) (string_bytes rows.old) found (lines_left parts.new) (string_bytes rows.new) lines.new.items) }
 {
     match parts.next_text(alloc)? {
         Some(composite) => {
-            take_read(alloc, rows, lines, composite, width, skin)?;
+            take_read(alloc, rows, lines, composite, width, skin, commands)?;
             Ok(true)
         }
         None => parts.lay_next(alloc, lines, width, skin),
@@ -137,11 +156,12 @@ fn take_read<'s>(
     composite: Composite<'s>,
     width: Option<usize>,
     skin: &RowSkin,
+    commands: &mut StyleCommands,
 ) -> Result<(), AllocError>
     requires { lines.old.items ≡ [] }
     ensures { OnOk result (TakesRead skin.now width (styled_runs composite.entry) (string_bytes rows.old) (string_bytes rows.new) lines.new.items) }
 {
-    if append_at(alloc, rows, &composite, width, skin)? {
+    if append_at(alloc, rows, &composite, width, skin, commands)? {
         return Ok(());
     }
     push_read_at(alloc, lines, composite, wrap_width(width), skin)
@@ -154,11 +174,12 @@ fn append_at(
     composite: &Composite,
     width: Option<usize>,
     skin: &RowSkin,
+    commands: &mut StyleCommands,
 ) -> Result<bool, AllocError>
     ensures { IfOk result (λ done. TakesReadOrNone skin.now width (styled_runs composite.now) (string_bytes rows.old) done (string_bytes rows.new)) }
 {
     match wrap_width(width) {
-        Some(columns) => append_read(alloc, rows, composite, columns, skin),
+        Some(columns) => append_read(alloc, rows, composite, columns, skin, commands),
         None => Ok(false),
     }
 }
@@ -170,11 +191,12 @@ fn hand_on<O: Out>(
     lines: &mut Vec<FmtLine>,
     width: Option<usize>,
     skin: &RowSkin,
+    commands: &mut StyleCommands,
 ) -> Result<(), Error>
     ensures dropped { OnOk result (lines.new.items ≡ []) }
     ensures handed { HandsOn (O.seen out.old) (string_bytes rows.old ++ text_bytes skin.now width lines.old.items) result (O.seen out.new) (string_bytes rows.new) }
 {
-    send_lines(out, rows, lines.as_slice(), width, skin)?;
+    send_lines(out, rows, lines.as_slice(), width, skin, commands)?;
     lines.clear();
     Ok(())
 }
@@ -186,11 +208,12 @@ fn send_lines<O: Out>(
     lines: &[FmtLine],
     width: Option<usize>,
     skin: &RowSkin,
+    commands: &mut StyleCommands,
 ) -> Result<(), Error>
     ensures { HandsOn (O.seen out.old) (string_bytes rows.old ++ text_bytes skin.now width lines.now) result (O.seen out.new) (string_bytes rows.new) }
 {
     for line in lines {
-        append_line(rows, line, width, skin)?;
+        append_line(rows, line, width, skin, commands)?;
         send(out, rows)?;
     }
     Ok(())
@@ -215,13 +238,14 @@ fn hand_on_unmarked<O: Out>(
     parts: &mut PartCursor,
     width: Option<usize>,
     skin: &RowSkin,
+    commands: &mut StyleCommands,
 ) -> Result<(), Error>
     ensures dropped { OnOk result (lines.new.items ≡ []) }
     ensures shorter { OnOk result (length (lines_left parts.new) ≤ length (lines_left parts.old)) }
     ensures handed { let bytes = string_bytes rows.old ++ text_bytes skin.now width lines.old.items in
         HandsOnUnmarked skin.now width (lines_left parts.old) bytes (O.seen out.old) result (O.seen out.new) (string_bytes rows.new) (lines_left parts.new) }
 {
-    hand_on(out, rows, lines, width, skin)?;
+    hand_on(out, rows, lines, width, skin, commands)?;
     let Some(most) = unmarked_width(width, skin) else {
         return Ok(());
     };

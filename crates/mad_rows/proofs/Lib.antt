@@ -1,3 +1,4 @@
 pub mod KnownLemmas
 pub mod PieceLemmas
 pub mod ReadLemmas
+pub mod StyleLemmas

@@ -5,8 +5,9 @@
 //! 1. [`row_skin`]: what rows are drawn in, the part of a skin that they show.
 //! 2. [`rows`]: where a line is in its row, and the columns that no text fills.
 //! 3. [`composites`], [`tables`], [`lines`]: a composite, a line of a table, and any line or row as displayed values.
-//! 4. [`row_writing`]: lines and rows put after a string.
-//! 5. [`read_rows`]: rows of composites that were read, without a layout in between.
+//! 4. [`style_commands`]: the commands of a style, made once.
+//! 5. [`row_writing`]: lines and rows put after a string.
+//! 6. [`read_rows`]: rows of composites that were read, without a layout in between.
 #![tactic(auto)]
 
 pub mod composites;
@@ -15,6 +16,7 @@ pub mod read_rows;
 pub mod row_skin;
 pub mod row_writing;
 pub mod rows;
+pub mod style_commands;
 pub mod tables;
 
 pub use composites::{FreeComposite, PlacedComposite};
@@ -26,3 +28,4 @@ pub use row_skin::{
 };
 pub use row_writing::{TextRows, append_line, append_lines};
 pub use rows::{RowPlace, composite_blanks, know_row, line_blanks, row_blanks};
+pub use style_commands::StyleCommands;

@@ -22,6 +22,7 @@ ghost use Rattle.mad_rows.specs.ReadRows.{HasPlainMarks, front_bytes, IsBetween,
 use crate::composites::{CompositeFront, PlacedCompound, Prefix};
 use crate::row_skin::{RowSkin, is_bare, is_ellipsis};
 use crate::row_writing::append_compounds;
+use crate::style_commands::{StyleCommands, append_three};
 use mad_fit::{plain_end, token_at};
 use mad_format::{follow_up, margins_and_rest, room_of};
 use mad_md::{Alignment, Composite, Compound};
@@ -45,6 +46,7 @@ pub fn append_read(
     composite: &Composite,
     width: usize,
     skin: &RowSkin,
+    commands: &mut StyleCommands,
 ) -> Result<bool, AllocError>
     ensures { IfOk result (λ done. PutsReadOrNone skin.now width (styled_runs composite.now) (string_bytes rows.old) done (string_bytes rows.new)) }
 {
@@ -64,7 +66,7 @@ pub fn append_read(
     };
     let compounds = composite.compounds.as_slice();
     if let Some(_columns) = fit_columns(compounds, room) {
-        append_whole(rows, front, compounds)?;
+        append_whole(rows, front, compounds, commands)?;
         return Ok(true);
     }
     if room.whole_words {
@@ -82,11 +84,12 @@ fn append_whole(
     rows: &mut String,
     front: CompositeFront,
     compounds: &[Compound],
+    commands: &mut StyleCommands,
 ) -> Result<(), AllocError>
     ensures { OnOk result (string_bytes rows.new ≡ string_bytes rows.old ++ (front_bytes front.entry ++ (pieces_bytes (map (compound_piece front.entry.skin.now front.entry.style.now) compounds.now) ++ 10 ∷ []))) }
 {
     append_front(rows, front)?;
-    append_compounds(rows, compounds, front.style, front.skin)?;
+    append_compounds(rows, compounds, front.style, front.skin, commands)?;
     rows.push_str("\n")
 }
 
@@ -313,19 +316,6 @@ fn append_piece(
         }
         Put::InGap => Ok(()),
     }
-}
-
-fn append_three(
-    rows: &mut String,
-    opening: &str,
-    text: &str,
-    closing: &str,
-) -> Result<(), AllocError>
-    ensures { OnOk result (string_bytes rows.new ≡ string_bytes rows.old ++ (opening.now ++ (text.now ++ closing.now))) }
-{
-    rows.push_str(opening)?;
-    rows.push_str(text)?;
-    rows.push_str(closing)
 }
 
 // The tokens of a compound that needs no commands, span by span.

@@ -5,10 +5,11 @@ ghost use Rattle.std.specs.Option.{option_copied};
 ghost use Rattle.mad_draw.specs.Pieces.{pieces_bytes};
 ghost use Rattle.mad_rows.specs.Rows.{compound_piece, composite_pieces, line_bytes, margins_of, text_bytes};
 
-use crate::composites::{PlacedComposite, PlacedCompound};
+use crate::composites::PlacedComposite;
 use crate::lines::{PlacedLine, PlacedRow};
 use crate::row_skin::{RowSkin, is_bare};
 use crate::rows::{know_row, line_blanks, row_blanks};
+use crate::style_commands::StyleCommands;
 use mad_draw::Rows;
 use mad_format::{FmtComposite, FmtLine};
 use mad_md::Compound;
@@ -25,11 +26,12 @@ pub fn append_lines(
     lines: &[FmtLine],
     width: Option<usize>,
     skin: &RowSkin,
+    commands: &mut StyleCommands,
 ) -> Result<(), AllocError>
     ensures { OnOk result (string_bytes rows.new ≡ string_bytes rows.old ++ text_bytes skin.now width lines.now) }
 {
     for line in lines {
-        append_line(rows, line, width, skin)?;
+        append_line(rows, line, width, skin, commands)?;
     }
     Ok(())
 }
@@ -44,11 +46,12 @@ pub fn append_line(
     line: &FmtLine,
     width: Option<usize>,
     skin: &RowSkin,
+    commands: &mut StyleCommands,
 ) -> Result<(), AllocError>
     ensures { OnOk result (string_bytes rows.new ≡ string_bytes rows.old ++ line_bytes skin.now width line.now) }
 {
     match line {
-        FmtLine::Normal(composite) => append_composite(rows, composite, width, skin)?,
+        FmtLine::Normal(composite) => append_composite(rows, composite, width, skin, commands)?,
         line => {
             rows.reserve(line_blanks(skin, line, width, false))?;
             let placed = PlacedLine {
@@ -69,6 +72,7 @@ fn append_composite(
     composite: &FmtComposite,
     width: Option<usize>,
     skin: &RowSkin,
+    commands: &mut StyleCommands,
 ) -> Result<(), AllocError>
     ensures { OnOk result (string_bytes rows.new ≡ string_bytes rows.old ++ pieces_bytes (composite_pieces skin.now width (margins_of skin.now width composite.now) false composite.now)) }
 {
@@ -77,7 +81,7 @@ fn append_composite(
     let (front, end) = placed.ends(style);
     rows.reserve(front.columns().saturating_add(end.columns()))?;
     write!(rows, "{front}")?;
-    append_compounds(rows, &composite.compounds, style, skin)?;
+    append_compounds(rows, &composite.compounds, style, skin, commands)?;
     write!(rows, "{end}")
 }
 
@@ -87,6 +91,7 @@ pub(crate) fn append_compounds(
     compounds: &[Compound],
     style: &LineStyle,
     skin: &RowSkin,
+    commands: &mut StyleCommands,
 ) -> Result<(), AllocError>
     ensures { OnOk result (string_bytes rows.new ≡ string_bytes rows.old ++ pieces_bytes (map (compound_piece skin.now style.now) compounds.now)) }
 {
@@ -97,12 +102,8 @@ pub(crate) fn append_compounds(
             rows.push_str(compound.src)?;
             continue;
         }
-        let placed = PlacedCompound {
-            skin,
-            style,
-            compound,
-        };
-        write!(rows, "{placed}")?;
+        let own = skin.compound_style(style, compound).object_style;
+        commands.append(rows, own, compound.src)?;
     }
     Ok(())
 }
