@@ -1,5 +1,6 @@
 -- Compounds whose parts are cut, and what is still too many then.
 use Rattle.std.proofs.Common.{◌≡◌, ℕ, ◌+◌, ◌-◌, ◌<◌, ◌≤◌, List, refl, sym, ap, ◌∙◌, arith, subst}
+use Rattle.std.specs.Prelude.{IfOk, Result, Ok, Err}
 use Rattle.mad_md.specs.Flagged.{flagged_text}
 use Rattle.mad_md.specs.declared.compound.Compound.{Compound}
 use Rattle.mad_fit.specs.TextColumns.{width_of}
@@ -51,3 +52,8 @@ cut_down excess middle left ps words compounds result first second runs wholes m
       done = λ z. done (whole ∙ z);
       end = λ some. subst (λ e. IsEndReplaced (e + 1) compounds result) whole (end (omega (arith, some, whole)));
     }
+
+-- what follows from two clauses that have premises
+pub both_ways : {T E : Type 0} (r : Result T E) (A B : Type 0) (P Q R : T → Type 0) → ((x : T) → (A → P x) → (B → Q x) → R x) → (A → IfOk r P) → (B → IfOk r Q) → IfOk r R
+both_ways (Ok x) A B P Q R f p q = f x p q
+both_ways (Err e) A B P Q R f p q = tt

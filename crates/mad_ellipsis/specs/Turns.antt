@@ -1,12 +1,14 @@
 -- Compounds whose parts are cut, the widest first.
-use Rattle.std.specs.Prelude.{◌≡◌, ℕ, ◌+◌, ◌-◌, ◌<◌, ◌≤◌, ◌⊎◌, List, [], ◌∷◌, ◌++◌, length, slice_range}
+use Rattle.std.specs.Prelude.{◌≡◌, ℕ, ◌+◌, ◌-◌, ◌/◌, ◌<◌, ◌≤◌, ◌⊎◌, List, [], ◌∷◌, ◌++◌, length, slice_range}
 use Rattle.mad_md.specs.Flagged.{flags_of, flagged_text}
+use Rattle.mad_md.specs.declared.alignment.Alignment.{Alignment}
+use Rattle.mad_md.specs.declared.alignment.Alignment.TheVariants.{Unspecified, Left, Center, Right}
 use Rattle.mad_md.specs.declared.compound.Compound.{Compound}
 use Rattle.mad_fit.specs.TextColumns.{width_of}
 use Rattle.mad_ellipsis.specs.CenteredCuts.{IsCenteredCut}
 use Rattle.mad_ellipsis.specs.Ellipses.{IsEllipsis}
 use Rattle.mad_ellipsis.specs.Parts.{ArePartsOf, AreGains, due}
-use Rattle.mad_ellipsis.specs.Shortening.{IsEndReplaced}
+use Rattle.mad_ellipsis.specs.Shortening.{AreBothReplaced, IsEndReplaced, IsFrontReplaced}
 use Rattle.mad_ellipsis.specs.declared.centered.Cut.{Cut}
 use Rattle.mad_ellipsis.specs.declared.gains.Gain.{Gain}
 use Rattle.mad_ellipsis.specs.declared.gains.Parts.{Parts}
@@ -57,3 +59,11 @@ pub record IsCutDown (excess : ℕ) (ps result : List Compound) : Type 0 where
   pub wholes : IsCutInTurn Wholes (still_too_many excess ps words) words compounds
   pub done : still_too_many excess ps compounds ≡ 0 → result ≡ compounds
   pub end : 0 < still_too_many excess ps compounds → IsEndReplaced (still_too_many excess ps compounds + 1) compounds result
+
+-- What becomes of compounds with so many columns too many, by how they are aligned. An ellipsis that was put in is told apart from those of
+-- the source.
+abbrev pub IsReplacedAs : Alignment → ℕ → List Compound → List Compound → Type 0
+IsReplacedAs Unspecified excess ps result = IsCutDown excess ps result
+IsReplacedAs Left excess ps result = IsEndReplaced (excess + 1) ps result
+IsReplacedAs Center excess ps result = (excess / 2 ≡ 0 → IsEndReplaced (excess + 1) ps result) × (0 < excess / 2 → AreBothReplaced (excess / 2 + 1) (excess - excess / 2 + 1) ps result)
+IsReplacedAs Right excess ps result = IsFrontReplaced (excess + 1) ps result

@@ -2,7 +2,7 @@ use Rattle.std.proofs.Common.{rules, refl, arith, drop, subst}
 use Rattle.std.proofs.lemmas.List.{drop_all}
 use Rattle.mad_ellipsis.proofs.GainLemmas.{one_parts, parts_in_order}
 use Rattle.mad_ellipsis.proofs.PassLemmas.{Sweeping, next_follow, sweeping_end, sweeping_next, sweeping_pass, sweeping_start}
-use Rattle.mad_ellipsis.proofs.sweeping.sweep.Goals as goal
+use Rattle.mad_ellipsis.proofs.sweeping.cut_in_turn.Goals as goal
 
 pub loop-compound-init : goal.loop-compound-init
 loop-compound-init c = sweeping_start c.args.kind c.args.compounds.now c.args.turns.now _ c.new.ensures.items c.excess.ensures c.requires.gains
