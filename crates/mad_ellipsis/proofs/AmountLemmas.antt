@@ -14,22 +14,22 @@ none_first c k = elim (cases_lt 0 c) as (λ _. (0 < c) ⊎ ((0 ≡ c) × (0 + 1 
 
 -- where a part is, beside the last
 data Place (c n d m : ℕ) : Type 0 where
-before : ((d < c) ⊎ ((d ≡ c) × (m < n))) → Place c n d m
-same : c ≡ d → n ≡ m → Place c n d m
-behind : ((c < d) ⊎ ((c ≡ d) × (n < m))) → Place c n d m
+  is_first : ((d < c) ⊎ ((d ≡ c) × (m < n))) → Place c n d m
+  is_last : c ≡ d → n ≡ m → Place c n d m
+  is_later : ((c < d) ⊎ ((c ≡ d) × (n < m))) → Place c n d m
 
 place : (c n d m : ℕ) → Place c n d m
 place c n d m = elim (cases_lt c d) as (λ _. Place c n d m) [
-  | inl less ↦ behind (inl less)
+  | inl less ↦ is_later (inl less)
   | inr more ↦ elim (cases_lt d c) as (λ _. Place c n d m) [
-    | inl wider ↦ before (inl wider)
+    | inl wider ↦ is_first (inl wider)
     | inr no ↦
         let equal : c ≡ d = omega (arith, more, no) in
         elim (cases_lt n m) as (λ _. Place c n d m) [
-          | inl less ↦ behind (inr (equal, less))
+          | inl less ↦ is_later (inr (equal, less))
           | inr late ↦ elim (cases_lt m n) as (λ _. Place c n d m) [
-            | inl after ↦ before (inr (sym equal, after))
-            | inr not ↦ same equal (omega (arith, late, not))
+            | inl after ↦ is_first (inr (sym equal, after))
+            | inr no_more ↦ is_last equal (omega (arith, late, no_more))
           ]
         ]
   ]
@@ -73,15 +73,15 @@ serves e n gs back g (Some last) all is small =
     let enough = all.2 in
     let some = some_weight e g in
     elim (place g.columns n last.columns last.number) as (λ _. Serves (due e gs n g.columns) g.gained (amount_of (Some last) n g.columns)) [
-      | before first ↦
+      | is_first first ↦
           let amount : amount_of (Some last) n g.columns ≡ 18446744073709551615 = amount_before last n g.columns first in
           let sum : gained e g.columns (n + 1) 0 gs + weight e g ≤ gained e last.columns (last.number + 1) 0 gs = gained_with e last.columns (last.number + 1) 0 n (n + 1) gs back g is (omega arith) (before_key last.columns last.number g.columns n first) in
           subst (Serves (due e gs n g.columns) g.gained) (sym amount) (record { none = λ z. absurd (omega (arith, z, sum, some, all.0, all.1)); same = λ l. (omega arith, inr (omega (arith, sum, some, all.0, all.1), small)) })
-      | same c m ↦
+      | is_last c m ↦
           let amount : amount_of (Some last) n g.columns ≡ min last.left 18446744073709551615 = amount_same last n g.columns c m in
           let is_due : due e gs n g.columns ≡ last.left = ap (λ k. e - gained e k (n + 1) 0 gs) c ∙ ap (λ k. e - gained e last.columns (k + 1) 0 gs) m ∙ sym all.0 in
           subst (Serves (due e gs n g.columns) g.gained) (sym amount) (min_serves (due e gs n g.columns) g.gained last.left is_due all.1 small)
-      | behind late ↦
+      | is_later late ↦
           let amount : amount_of (Some last) n g.columns ≡ 0 = amount_behind last n g.columns late in
           let sum : gained e last.columns last.number 0 gs ≤ gained e g.columns (n + 1) 0 gs = gained_less e last.columns last.number g.columns (n + 1) 0 gs (behind_key g.columns n last.columns last.number late) in
           subst (Serves (due e gs n g.columns) g.gained) (sym amount) (record { none = λ z. refl; same = λ l. absurd (omega (arith, l, sum, all.2)) })
@@ -102,11 +102,11 @@ room_more e n gone g gs (Some last) whole most none =
     let some = some_weight e g in
     let less = room_less last n in
     elim (place g.columns n last.columns last.number) as (λ _. gone + room_for e (Some last) (n + 1) gs ≤ room_for e (Some last) n (g ∷ gs)) [
-      | before first ↦ omega (arith, some, less, whole, is_counted e last.columns (last.number + 1) n g (elim first as (λ _. (last.columns < g.columns) ⊎ ((last.columns ≡ g.columns) × (last.number + 1 ≤ n))) [ inl wider ↦ inl wider | inr both ↦ inr (both.0, omega (arith, both.1)) ]))
-      | same c m ↦
+      | is_first first ↦ omega (arith, some, less, whole, is_counted e last.columns (last.number + 1) n g (elim first as (λ _. (last.columns < g.columns) ⊎ ((last.columns ≡ g.columns) × (last.number + 1 ≤ n))) [ inl wider ↦ inl wider | inr both ↦ inr (both.0, omega (arith, both.1)) ]))
+      | is_last c m ↦
           let amount : amount_of (Some last) n g.columns ≡ min last.left 18446744073709551615 = amount_same last n g.columns c m in
           omega (arith, amount, most, room_last last n m)
-      | behind late ↦ omega (arith, less, none (amount_behind last n g.columns late))
+      | is_later late ↦ omega (arith, less, none (amount_behind last n g.columns late))
     ]
 
 pub room_all : (e : ℕ) (gs : List Gain) (last : Option Last) → 0 < e → IsLast e gs last → room_for e last 0 gs ≤ e + 2

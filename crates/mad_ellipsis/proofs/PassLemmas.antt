@@ -3,7 +3,7 @@ use Rattle.std.proofs.Common.{◌≡◌, ℕ, zero, suc, ◌+◌, ◌-◌, ◌<�
 use Rattle.std.specs.List.{AllByRecursion}
 use Rattle.std.specs.Str.{IsUtf8, IsCharBoundary}
 use Rattle.std.proofs.Math.Seq.{drop-append_seam}
-use Rattle.std.proofs.lemmas.List.{append_assoc, append-nil, at_drop_more, drop-drop, drop_all, length-drop, length-map, take_all}
+use Rattle.std.proofs.lemmas.List.{append_assoc, append-nil, at_drop_more, drop-drop, drop_all, length-append, length-drop, length-map, take_all}
 use Rattle.mad_md.specs.Flagged.{flags_of}
 use Rattle.mad_md.specs.declared.compound.Compound.{Compound}
 use Rattle.mad_ellipsis.specs.Cuts.{IsPartOf}
@@ -27,6 +27,7 @@ pub record Passing (p : Compound) (parts : List Run) (turns : Turns) (number i :
   pub text : rest.src.now ≡ drop from p.src.now
   pub flags : flags_of rest ≡ flags_of p
   pub within : from ≤ length p.src.now
+  pub few : i ≤ length parts
   pub order : AreInOrder p.src.now from others
   pub here : List Compound
   pub gone : ℕ
@@ -46,6 +47,7 @@ passing_start p parts turns number sweep order follow =
       text = refl;
       flags = refl;
       within = omega arith;
+      few = omega arith;
       order = order;
       here = [];
       gone = 0;
@@ -71,6 +73,17 @@ small_at (suc n) (x ∷ gs) back g all is = small_at n gs back g all.1 is
 next_drop : (n : ℕ) (gs back : List Gain) (g : Gain) → drop n gs ≡ g ∷ back → drop (n + 1) gs ≡ back
 next_drop n gs back g is = let sum : n + 1 ≡ n + 1 = refl in sym (drop-drop 1 n gs) ∙ ap (drop 1) is
 
+pub rest_within : (p : Compound) (parts : List Run) (turns : Turns) (number i : ℕ) (before : Sweep) (rest : Compound) (now : Sweep) (others : List Run) → Passing p parts turns number i before rest now others → length rest.src.now ≤ length p.src.now
+rest_within p parts turns number i before rest now others h = omega (arith, ap length h.text, length-drop h.from p.src.now)
+
+pub number_fits : (p : Compound) (parts : List Run) (turns : Turns) (number i : ℕ) (before : Sweep) (rest : Compound) (now : Sweep) (part : Run) (others : List Run) → Passing p parts turns number i before rest now (part ∷ others) → number + i < length turns.gains.items
+number_fits p parts turns number i before rest now part others h = omega (arith, ap length h.gains, length-drop (number + i) turns.gains.items)
+
+pub moved_fits : (p : Compound) (parts : List Run) (turns : Turns) (number i from : ℕ) (before : Sweep) (rest : Compound) (now : Sweep) (part : Run) (others : List Run) → Passing p parts turns number i before rest now (part ∷ others) → from ≡ length p.src.now - length rest.src.now → (from ≤ part.start) × (from ≤ part.end)
+moved_fits p parts turns number i from before rest now part others h is =
+    let same : from ≡ h.from = omega (arith, is, ap length h.text, length-drop h.from p.src.now, h.within) in
+    (omega (arith, same, h.order.1), omega (arith, same, h.order.1, h.order.0.order))
+
 -- the next part is where it is said to be
 pub next_part_of : (p : Compound) (parts : List Run) (turns : Turns) (number i from : ℕ) (before : Sweep) (rest : Compound) (now : Sweep) (part moved : Run) (others : List Run)
     → (h : Passing p parts turns number i before rest now (part ∷ others)) → from ≡ length p.src.now - length rest.src.now → IsMoved part from moved → IsPartOf 0 rest moved
@@ -79,9 +92,9 @@ next_part_of p parts turns number i from before rest now part moved others h is 
     moved_part p rest part moved h.from h.order.0 h.order.1 h.text (subst (λ n. IsMoved part n moved) same move)
 
 pub passing_cut : (p : Compound) (parts : List Run) (turns : Turns) (number i from amount : ℕ) (before : Sweep) (rest more : Compound) (now after : Sweep) (part moved : Run) (others : List Run)
-    → IsUtf8 p.src.now → AreTurns turns → (h : Passing p parts turns number i before rest now (part ∷ others)) → from ≡ length p.src.now - length rest.src.now → IsMoved part from moved → amount ≡ amount_of turns.last (number + i) part.columns
+    → i < length parts → IsUtf8 p.src.now → AreTurns turns → (h : Passing p parts turns number i before rest now (part ∷ others)) → from ≡ length p.src.now - length rest.src.now → IsMoved part from moved → amount ≡ amount_of turns.last (number + i) part.columns
     → Sweeps amount rest moved now more after → Passing p parts turns number (i + 1) before more after others
-passing_cut p parts turns number i from amount before rest more now after part moved others utf8 last h is move amount_is s =
+passing_cut p parts turns number i from amount before rest more now after part moved others short utf8 last h is move amount_is s =
     let same : from ≡ h.from = omega (arith, is, ap length h.text, length-drop h.from p.src.now, h.within) in
     let moves : IsMoved part h.from moved = subst (λ n. IsMoved part n moved) same move in
     let own : IsPartOf 0 p part = h.order.0 in
@@ -100,6 +113,7 @@ passing_cut p parts turns number i from amount before rest more now after part m
       text = to.text;
       flags = to.flags;
       within = omega (arith, to.within, own.last.0);
+      few = omega (arith, short);
       order = in_order_less p.src.now part.end to.next others to.within h.order.2;
       here = h.here ++ s.here;
       gone = h.gone + s.gone;
@@ -112,18 +126,18 @@ passing_cut p parts turns number i from amount before rest more now after part m
       more = h.more;
       gains = ap (λ n. drop n gains) (sym next) ∙ next_drop (number + i) gains back g h.gains;
       room = λ gs. omega (
-          arith,
-          h.room gs,
-          room_more excess (number + i) s.gone g (map (gain_of p.src.now) others ++ gs) turns.last whole (omega (arith, s.most, amount_is)) none,
-          ap (λ n. room_of turns n (map (gain_of p.src.now) others ++ gs)) next,
+        arith,
+        h.room gs,
+        room_more excess (number + i) s.gone g (map (gain_of p.src.now) others ++ gs) turns.last whole (omega (arith, s.most, amount_is)) none,
+        ap (λ n. room_of turns n (map (gain_of p.src.now) others ++ gs)) next,
       );
     }
 
-pub passing_end : (p : Compound) (parts : List Run) (turns : Turns) (number i : ℕ) (before : Sweep) (rest : Compound) (now after : Sweep) → length parts ≤ i → i ≤ length parts → Passing p parts turns number i before rest now (drop i parts)
+pub passing_end : (p : Compound) (parts : List Run) (turns : Turns) (number i : ℕ) (before : Sweep) (rest : Compound) (now after : Sweep) → length parts ≤ i → Passing p parts turns number i before rest now (drop i parts)
     → after.compounds.items ≡ now.compounds.items ++ rest ∷ [] → after.left ≡ now.left → PassesOver p parts turns number before after
-passing_end p parts turns number i before rest now after all most h added left =
+passing_end p parts turns number i before rest now after all h added left =
     let none : drop i parts ≡ [] = drop_all i parts all in
-    let count : i ≡ length parts = omega (arith, all, most) in
+    let count : i ≡ length parts = omega (arith, all, h.few) in
     let bs : List ℕ = p.src.now in
     let last : rest.src.now ≡ slice_range bs h.from (length bs) = h.text ∙ sym (take_all (length bs - h.from) (drop h.from bs) (omega (arith, length-drop h.from bs))) in
     record {
@@ -137,10 +151,10 @@ passing_end p parts turns number i before rest now after all most h added left =
           append_assoc done h.here (rest ∷ others) ∙ ap (λ l. done ++ l) (sym (append_assoc h.here (rest ∷ []) others)) ∙ sym (append_assoc done (h.here ++ rest ∷ []) others) in
           subst (IsThinnedBy h.gone (done ++ p ∷ others)) same (h.thinned done others);
       room = λ gs. omega (
-          arith,
-          h.room gs,
-          ap (λ l. room_of turns (number + i) (map (gain_of p.src.now) l ++ gs)) none,
-          ap (λ n. room_of turns (number + n) gs) count,
+        arith,
+        h.room gs,
+        ap (λ l. room_of turns (number + i) (map (gain_of p.src.now) l ++ gs)) none,
+        ap (λ n. room_of turns (number + n) gs) count,
       );
     }
 
@@ -176,6 +190,12 @@ next_follow kind ps turns number now p others parts one h = record {
   gains = h.gains.3 ∙ ap (λ l. map (gain_of p.src.now) l ++ h.gains.1) (one h.gains.0 h.gains.2);
 }
 
+pub next_fits : (kind : Parts) (ps : List Compound) (turns : Turns) (number : ℕ) (now : Sweep) (p : Compound) (others : List Compound) (parts : List Run)
+    → (one : (own : List Run) → ArePartsOf kind p own → own ≡ parts) → Sweeping kind ps turns number now (p ∷ others) → length parts ≤ length turns.gains.items - number
+next_fits kind ps turns number now p others parts one h =
+    let split : drop number turns.gains.items ≡ map (gain_of p.src.now) parts ++ h.gains.1 = (next_follow kind ps turns number now p others parts one h).gains in
+    omega (arith, ap length split, length-drop number turns.gains.items, length-append (map (gain_of p.src.now) parts) h.gains.1, length-map parts (gain_of p.src.now))
+
 pub sweeping_pass : (kind : Parts) (ps : List Compound) (turns : Turns) (number next : ℕ) (now after : Sweep) (p : Compound) (others : List Compound) (parts : List Run)
     → (one : (own : List Run) → ArePartsOf kind p own → own ≡ parts) → ArePartsOf kind p parts → next ≡ number + length parts → Sweeping kind ps turns number now (p ∷ others) → PassesOver p parts turns number now after
     → Sweeping kind ps turns next after others
@@ -196,12 +216,12 @@ sweeping_pass kind ps turns number next now after p others parts one are next_is
           (subst (λ l. IsThinnedBy g.gone (now.compounds.items ++ p ∷ others) (l ++ others)) (sym g.added) (g.thinned now.compounds.items others));
       gains = subst (AreGains kind others) (sym behind) h.gains.4;
       room = omega (
-          arith,
-          h.room,
-          g.room more,
-          ap (room_of turns number) split,
-          ap (λ n. room_of turns n more) next_is,
-          ap (room_of turns next) behind,
+        arith,
+        h.room,
+        g.room more,
+        ap (room_of turns number) split,
+        ap (λ n. room_of turns n more) next_is,
+        ap (room_of turns next) behind,
       );
     }
 

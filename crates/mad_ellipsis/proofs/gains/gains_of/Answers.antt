@@ -8,11 +8,11 @@ pub loop-compound-init : goal.loop-compound-init
 loop-compound-init c = record { gathers = λ later h. h; small = tt }
 
 pub push_gains-requires : goal.push_gains-requires
-push_gains-requires c = parts_in_order c.args.kind c.loop-compound.compound c.in_ok-parts.parts.items (search rules) c.in_ok-parts.ensures
+push_gains-requires c = parts_in_order c.args.kind _ c.in_ok-parts.parts.items (search rules) c.in_ok-parts.ensures
 
 pub loop-compound-preserved : goal.loop-compound-preserved
 loop-compound-preserved c = record {
-  gathers = gathers_next c.args.kind c.args.compounds.now c.loop-compound.gains.items c.push_gains.new.gains.items c.loop-compound.compound-index c.loop-compound.compound c.in_ok-parts.parts.items c.loop-compound-test.true c.in_ok-parts.ensures c.in_ok-push_gains.ensures.gains c.loop-compound.invariant.gathers;
+  gathers = gathers_next c.args.kind c.args.compounds.now c.loop-compound.gains.items c.push_gains.new.gains.items c.loop-compound.compound-index _ c.in_ok-parts.parts.items c.loop-compound-test.true c.in_ok-parts.ensures c.in_ok-push_gains.ensures.gains c.loop-compound.invariant.gathers;
   small = c.in_ok-push_gains.ensures.small c.loop-compound.invariant.small;
 }
 

@@ -8,12 +8,12 @@ pub loop-part-init : goal.loop-part-init
 loop-part-init c = record { from = 0; order = c.requires; gains = refl; small = λ all. all }
 
 pub gain_of-requires : goal.gain_of-requires
-gain_of-requires c = (gaining_next c.args.compound.src.now c.args.parts.now c.args.gains.now.items c.loop-part.gains.items c.loop-part.part-index c.loop-part.part c.loop-part-test.true c.loop-part.invariant).order.0
+gain_of-requires c = (gaining_next c.args.compound.src.now c.args.parts.now c.args.gains.now.items c.loop-part.gains.items c.loop-part.part-index _ c.loop-part-test.true c.loop-part.invariant).order.0
 
 pub loop-part-preserved : goal.loop-part-preserved
 loop-part-preserved c =
-    gaining_more c.args.compound.src.now c.args.parts.now c.args.gains.now.items c.loop-part.gains.items _ c.loop-part.part _ c.gain_of.result c.gain_of.ensures.value c.gain_of.ensures.small c.in_ok-push.ensures.items
-    (gaining_next c.args.compound.src.now c.args.parts.now c.args.gains.now.items c.loop-part.gains.items c.loop-part.part-index c.loop-part.part c.loop-part-test.true c.loop-part.invariant)
+    gaining_more c.args.compound.src.now c.args.parts.now c.args.gains.now.items c.loop-part.gains.items _ _ _ c.gain_of.result c.gain_of.ensures.value c.gain_of.ensures.small c.in_ok-push.ensures.items
+    (gaining_next c.args.compound.src.now c.args.parts.now c.args.gains.now.items c.loop-part.gains.items c.loop-part.part-index _ c.loop-part-test.true c.loop-part.invariant)
 
 pub returns-clause-gains : goal.returns-clause-gains
 returns-clause-gains c =
