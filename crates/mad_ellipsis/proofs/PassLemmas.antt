@@ -71,7 +71,7 @@ small_at zero (x ∷ gs) back g all is = let same : x ≡ g = cc in omega (arith
 small_at (suc n) (x ∷ gs) back g all is = small_at n gs back g all.1 is
 
 next_drop : (n : ℕ) (gs back : List Gain) (g : Gain) → drop n gs ≡ g ∷ back → drop (n + 1) gs ≡ back
-next_drop n gs back g is = let sum : n + 1 ≡ n + 1 = refl in sym (drop-drop 1 n gs) ∙ ap (drop 1) is
+next_drop n gs back g is = sym (drop-drop 1 n gs) ∙ ap (drop 1) is
 
 pub rest_within : (p : Compound) (parts : List Run) (turns : Turns) (number i : ℕ) (before : Sweep) (rest : Compound) (now : Sweep) (others : List Run) → Passing p parts turns number i before rest now others → length rest.src.now ≤ length p.src.now
 rest_within p parts turns number i before rest now others h = omega (arith, ap length h.text, length-drop h.from p.src.now)
