@@ -23,8 +23,8 @@ place c n d m = elim (cases_lt c d) as (λ _. Place c n d m) [
   | inl less ↦ is_later (inl less)
   | inr more ↦ elim (cases_lt d c) as (λ _. Place c n d m) [
     | inl wider ↦ is_first (inl wider)
-    | inr no ↦
-        let equal : c ≡ d = omega (arith, more, no) in
+    | inr not_wider ↦
+        let equal : c ≡ d = omega (arith, more, not_wider) in
         elim (cases_lt n m) as (λ _. Place c n d m) [
           | inl less ↦ is_later (inr (equal, less))
           | inr late ↦ elim (cases_lt m n) as (λ _. Place c n d m) [
@@ -97,7 +97,7 @@ room_last l n same = grind (arith, nat_tests)
 
 -- a part that gains so much leaves room for the others
 pub room_more : (e n gone : ℕ) (g : Gain) (gs : List Gain) (last : Option Last) → gone ≤ g.gained → gone ≤ amount_of last n g.columns + 2 → (amount_of last n g.columns ≡ 0 → gone ≡ 0) → gone + room_for e last (n + 1) gs ≤ room_for e last n (g ∷ gs)
-room_more e n gone g gs None whole most none = omega (arith, some_weight e g, whole, is_counted e 0 0 n g (elim (cases_lt 0 g.columns) as (λ _. (0 < g.columns) ⊎ ((0 ≡ g.columns) × (0 ≤ n))) [ inl some ↦ inl some | inr no ↦ inr (omega (arith, no), omega arith) ]))
+room_more e n gone g gs None whole most none = omega (arith, some_weight e g, whole, is_counted e 0 0 n g (elim (cases_lt 0 g.columns) as (λ _. (0 < g.columns) ⊎ ((0 ≡ g.columns) × (0 ≤ n))) [ inl some ↦ inl some | inr not_some ↦ inr (omega (arith, not_some), omega arith) ]))
 room_more e n gone g gs (Some last) whole most none =
     let some = some_weight e g in
     let less = room_less last n in

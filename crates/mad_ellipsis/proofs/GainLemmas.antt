@@ -22,27 +22,6 @@ use Rattle.mad_ellipsis.specs.declared.parts.Run.{Run}
 use Rattle.mad_ellipsis.proofs.OneZones.{one_own}
 use Rattle.mad_ellipsis.proofs.PartLemmas.{start_cuts}
 
--- ---- a compound as a part
-
-narrow_test : (a b n k : ℕ) → n ≡ a → k ≡ b → (n < 2) ⊎ (k < 2) → (nat_le 2 a && nat_le 2 b) ≡ false
-narrow_test a b n k wide long (inl few) = grind (arith, nat_tests)
-narrow_test a b n k wide long (inr few) = grind (arith, nat_tests)
-
-wide_test : (a b n k : ℕ) → n ≡ a → k ≡ b → 2 ≤ n → 2 ≤ k → (nat_le 2 a && nat_le 2 b) ≡ true
-wide_test a b n k wide long two more = grind (arith, nat_tests)
-
-pub whole_none : (text : List ℕ) (n k : ℕ) → n ≡ columns (inside_chars (chars text)) → k ≡ length (inside_chars (chars text)) → (n < 2) ⊎ (k < 2) → whole_of text ≡ []
-whole_none text n k wide long few =
-    let test : (nat_le 2 (columns (inside_chars (chars text))) && nat_le 2 (length (inside_chars (chars text)))) ≡ false = narrow_test (columns (inside_chars (chars text))) (length (inside_chars (chars text))) n k wide long few in
-    ap (λ (b : Bool). if b then record { compound = 0; start = 0; end = length text; columns = columns (inside_chars (chars text)) } ∷ [] else []) test
-
-pub whole_some : (text : List ℕ) (n k : ℕ) (run : Run) → n ≡ columns (inside_chars (chars text)) → k ≡ length (inside_chars (chars text)) → 2 ≤ n → 2 ≤ k → run ≡ record { compound = 0; start = 0; end = length text; columns = n } → whole_of text ≡ run ∷ []
-whole_some text n k run wide long two more is =
-    let test : (nat_le 2 (columns (inside_chars (chars text))) && nat_le 2 (length (inside_chars (chars text)))) ≡ true = wide_test (columns (inside_chars (chars text))) (length (inside_chars (chars text))) n k wide long two more in
-    let whole : Run = record { compound = 0; start = 0; end = length text; columns = columns (inside_chars (chars text)) } in
-    let same : run ≡ whole = is ∙ ap (λ (w : ℕ). record { compound = 0; start = 0; end = length text; columns = w }) wide in
-    ap (λ (b : Bool). if b then whole ∷ [] else []) test ∙ ap (λ (r : Run). r ∷ []) (sym same)
-
 -- ---- parts in order
 
 order_if : (b : Bool) (text : List ℕ) (least : ℕ) (run : Run) (parts : List Run) → IsTextPart 0 text run → least ≤ run.start → AreInOrder text run.end parts → AreInOrder text least parts → AreInOrder text least (if b then run ∷ parts else parts)
@@ -69,10 +48,19 @@ pub parts_in_order : (kind : Parts) (p : Compound) (parts : List Run) → IsUtf8
 parts_in_order Runs p parts utf8 h = subst (AreInOrder p.src.now 0) (sym h.2) (may_order p.src.now 0 0 h.0 utf8 (omega arith) (IsCharBoundary-start p.src.now utf8) h.1)
 parts_in_order Wholes p parts utf8 h = subst (AreInOrder p.src.now 0) (sym h) (whole_order p.src.now utf8)
 
+pub parts_are : (kind : Parts) (p : Compound) (parts own : List Run) → own ≡ parts → ArePartsOf kind p parts → ArePartsOf kind p own
+parts_are kind p parts own same h = subst (ArePartsOf kind p) (sym same) h
+
+pub order_of : (kind : Parts) (p : Compound) (parts own : List Run) → own ≡ parts → ArePartsOf kind p parts → IsUtf8 p.src.now → AreInOrder p.src.now 0 own
+order_of kind p parts own same h utf8 = parts_in_order kind p own utf8 (parts_are kind p parts own same h)
+
 -- there is one list of them
 pub one_parts : (kind : Parts) (p : Compound) (parts own : List Run) → ArePartsOf kind p parts → ArePartsOf kind p own → own ≡ parts
 one_parts Runs p parts own h g = one_own 0 p.src.now own parts g h
 one_parts Wholes p parts own h g = g ∙ sym h
+
+pub one_parts_of : (kind : Parts) (p : Compound) (parts own : List Run) → own ≡ parts → ArePartsOf kind p parts → (others : List Run) → ArePartsOf kind p others → others ≡ own
+one_parts_of kind p parts own same h others g = one_parts kind p parts others h g ∙ sym same
 
 -- ---- what they gain
 
@@ -98,9 +86,16 @@ gaining_more text parts before now after part others g is small added h = record
 abbrev pub Gathers : Parts → List Compound → List Gain → List Compound → Type 0
 Gathers kind ps now others = (later : List Gain) → AreGains kind others later → AreGains kind ps (now ++ later)
 
-pub gathers_next : (kind : Parts) (ps : List Compound) (now after : List Gain) (i : ℕ) (d : Compound) (own : List Run) → i < length ps → ArePartsOf kind (get_or ps i d) own → after ≡ now ++ map (gain_of (get_or ps i d).src.now) own → Gathers kind ps now (drop i ps)
+pub gathers_start : (kind : Parts) (ps : List Compound) (now : List Gain) → now ≡ [] → Gathers kind ps now ps
+gathers_start kind ps now none = λ later h. subst (λ l. AreGains kind ps (l ++ later)) (sym none) h
+
+pub small_start : (now : List Gain) → now ≡ [] → AllByRecursion IsSmall now
+small_start now none = subst (AllByRecursion IsSmall) (sym none) tt
+
+pub gathers_next : (kind : Parts) (ps : List Compound) (now after : List Gain) (i : ℕ) (d : Compound) (parts own : List Run) → i < length ps → own ≡ parts → ArePartsOf kind (get_or ps i d) parts → after ≡ now ++ map (gain_of (get_or ps i d).src.now) own → Gathers kind ps now (drop i ps)
     → Gathers kind ps after (drop (i + 1) ps)
-gathers_next kind ps now after i d own l are added h = λ later more.
+gathers_next kind ps now after i d parts own l same_parts found added h = λ later more.
+    let are : ArePartsOf kind (get_or ps i d) own = parts_are kind (get_or ps i d) parts own same_parts found in
     let mine : List Gain = map (gain_of (get_or ps i d).src.now) own in
     let both : AreGains kind (drop i ps) (mine ++ later) = subst (λ l. AreGains kind l (mine ++ later)) (sym (at_drop_more (λ r. r) ps i d l)) (own, later, are, refl, more) in
     let same : now ++ (mine ++ later) ≡ after ++ later = sym (ap (λ l. l ++ later) added ∙ append_assoc now mine later) in

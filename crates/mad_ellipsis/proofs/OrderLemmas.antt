@@ -66,7 +66,7 @@ wider_one e c d m n g next far = elim (cases_lt c g.columns) as (λ _. counted e
   | inl wider ↦ omega (
     arith,
     is_counted e c m n g (inl wider),
-    is_counted e d 0 n g (elim (cases_lt d g.columns) as (λ _. (d < g.columns) ⊎ ((d ≡ g.columns) × (0 ≤ n))) [ inl more ↦ inl more | inr no ↦ inr (omega (arith, no, next, wider), omega arith) ]),
+    is_counted e d 0 n g (elim (cases_lt d g.columns) as (λ _. (d < g.columns) ⊎ ((d ≡ g.columns) × (0 ≤ n))) [ inl more ↦ inl more | inr not_more ↦ inr (omega (arith, not_more, next, wider), omega arith) ]),
   )
   | inr narrow ↦ omega (arith, not_counted e c m n g narrow far)
 ]

@@ -193,7 +193,7 @@ next_follow kind ps turns number now p others parts one h = record {
 pub next_fits : (kind : Parts) (ps : List Compound) (turns : Turns) (number : ℕ) (now : Sweep) (p : Compound) (others : List Compound) (parts : List Run)
     → (one : (own : List Run) → ArePartsOf kind p own → own ≡ parts) → Sweeping kind ps turns number now (p ∷ others) → length parts ≤ length turns.gains.items - number
 next_fits kind ps turns number now p others parts one h =
-    let split : drop number turns.gains.items ≡ map (gain_of p.src.now) parts ++ h.gains.1 = (next_follow kind ps turns number now p others parts one h).gains in
+    let split : drop number turns.gains.items ≡ map (gain_of p.src.now) parts ++ h.gains.1 = h.gains.3 ∙ ap (λ l. map (gain_of p.src.now) l ++ h.gains.1) (one h.gains.0 h.gains.2) in
     omega (arith, ap length split, length-drop number turns.gains.items, length-append (map (gain_of p.src.now) parts) h.gains.1, length-map parts (gain_of p.src.now))
 
 pub sweeping_pass : (kind : Parts) (ps : List Compound) (turns : Turns) (number next : ℕ) (now after : Sweep) (p : Compound) (others : List Compound) (parts : List Run)

@@ -1,6 +1,6 @@
-use Rattle.std.proofs.Common.{rules, refl, arith, drop, subst}
+use Rattle.std.proofs.Common.{ap, length, rules, arith, subst}
 use Rattle.std.proofs.lemmas.List.{drop_all}
-use Rattle.mad_ellipsis.proofs.GainLemmas.{one_parts, parts_in_order}
+use Rattle.mad_ellipsis.proofs.GainLemmas.{one_parts, one_parts_of, order_of, parts_are}
 use Rattle.mad_ellipsis.proofs.PassLemmas.{Sweeping, next_fits, next_follow, sweeping_end, sweeping_next, sweeping_pass, sweeping_start}
 use Rattle.mad_ellipsis.proofs.sweeping.cut_in_turn.Goals as goal
 
@@ -8,14 +8,14 @@ pub loop-compound-init : goal.loop-compound-init
 loop-compound-init c = sweeping_start c.args.kind c.args.compounds.now c.args.turns.now _ c.new.ensures.items c.excess.ensures c.requires.gains
 
 pub pass-requires-clause-parts : goal.pass-requires-clause-parts
-pass-requires-clause-parts c = parts_in_order c.args.kind _ c.in_ok-parts.parts.items (search rules) c.in_ok-parts.ensures
+pass-requires-clause-parts c = order_of c.args.kind _ c.in_ok-parts.parts.items c.deref.result.now c.deref.ensures.value c.in_ok-parts.ensures (search rules)
 
 pub pass-requires-clause-gains : goal.pass-requires-clause-gains
-pass-requires-clause-gains c = next_follow c.args.kind c.args.compounds.now c.args.turns.now c.loop-compound.number c.loop-compound.sweep _ _ c.in_ok-parts.parts.items (λ own h. one_parts c.args.kind _ c.in_ok-parts.parts.items own c.in_ok-parts.ensures h) (sweeping_next c.args.kind c.args.compounds.now c.args.turns.now c.loop-compound.number c.loop-compound.compound-index c.loop-compound.sweep _ c.loop-compound-test.true c.loop-compound.invariant)
+pass-requires-clause-gains c = next_follow c.args.kind c.args.compounds.now c.args.turns.now c.loop-compound.number c.loop-compound.sweep _ _ c.deref.result.now (one_parts_of c.args.kind _ c.in_ok-parts.parts.items c.deref.result.now c.deref.ensures.value c.in_ok-parts.ensures) (sweeping_next c.args.kind c.args.compounds.now c.args.turns.now c.loop-compound.number c.loop-compound.compound-index c.loop-compound.sweep _ c.loop-compound-test.true c.loop-compound.invariant)
 
 pub loop-compound-preserved : goal.loop-compound-preserved
 loop-compound-preserved c =
-    sweeping_pass c.args.kind c.args.compounds.now c.args.turns.now c.loop-compound.number _ c.loop-compound.sweep c.pass.new.self _ _ c.in_ok-parts.parts.items (λ own h. one_parts c.args.kind _ c.in_ok-parts.parts.items own c.in_ok-parts.ensures h) c.in_ok-parts.ensures (omega arith) (sweeping_next c.args.kind c.args.compounds.now c.args.turns.now c.loop-compound.number c.loop-compound.compound-index c.loop-compound.sweep _ c.loop-compound-test.true c.loop-compound.invariant) c.in_ok-pass.ensures
+    sweeping_pass c.args.kind c.args.compounds.now c.args.turns.now c.loop-compound.number _ c.loop-compound.sweep c.pass.new.self _ _ c.deref.result.now (one_parts_of c.args.kind _ c.in_ok-parts.parts.items c.deref.result.now c.deref.ensures.value c.in_ok-parts.ensures) (parts_are c.args.kind _ c.in_ok-parts.parts.items c.deref.result.now c.deref.ensures.value c.in_ok-parts.ensures) (omega (arith, ap length c.deref.ensures.value)) (sweeping_next c.args.kind c.args.compounds.now c.args.turns.now c.loop-compound.number c.loop-compound.compound-index c.loop-compound.sweep _ c.loop-compound-test.true c.loop-compound.invariant) c.in_ok-pass.ensures
 
 pub overflow_add-number : goal.overflow_add-number
 overflow_add-number c = omega (arith, next_fits c.args.kind c.args.compounds.now c.args.turns.now c.loop-compound.number c.loop-compound.sweep _ _ c.in_ok-parts.parts.items (λ own h. one_parts c.args.kind _ c.in_ok-parts.parts.items own c.in_ok-parts.ensures h) (sweeping_next c.args.kind c.args.compounds.now c.args.turns.now c.loop-compound.number c.loop-compound.compound-index c.loop-compound.sweep _ c.loop-compound-test.true c.loop-compound.invariant), c.args.turns.now.gains.small, c.args.turns.now.gains.ok)

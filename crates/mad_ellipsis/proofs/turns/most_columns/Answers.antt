@@ -6,7 +6,7 @@ pub loop-gain-init : goal.loop-gain-init
 loop-gain-init c = λ w more all. all
 
 pub loop-gain-preserved : goal.loop-gain-preserved
-loop-gain-preserved c = most_more c.loop-gain.most _ _ c.args.gains.now _ c.loop-gain-test.true (omega arith) (omega arith) c.loop-gain.invariant
+loop-gain-preserved c = most_more c.loop-gain.most c.greater-most.result c.loop-gain.gain-index c.args.gains.now (record { columns = 0; gained = 0 }) c.loop-gain-test.true (omega (arith, c.greater-most.ensures)) (omega (arith, c.greater-most.ensures)) c.loop-gain.invariant
 
 pub returns : goal.returns
 returns c = most_all c.loop-gain.most _ c.args.gains.now c.loop-gain-test.false c.loop-gain.invariant

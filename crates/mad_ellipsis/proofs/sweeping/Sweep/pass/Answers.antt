@@ -9,7 +9,7 @@ pub overflow_sub-from : goal.overflow_sub-from
 overflow_sub-from c = omega (arith, rest_within _ _ _ _ _ _ _ _ _ c.loop-index.invariant)
 
 pub overflow_add-turn : goal.overflow_add-turn
-overflow_add-turn c = omega (arith, number_fits _ _ _ _ _ _ _ _ _ _ (passing_next c.args.compound c.args.parts.now c.args.turns.now c.args.number c.loop-index.index c.args.self.now c.loop-index.rest c.loop-index.self _ c.loop-index-test.true c.loop-index.invariant), c.args.turns.now.gains.small, c.args.turns.now.gains.ok)
+overflow_add-turn c = omega (arith, number_fits _ _ _ _ _ _ _ _ _ _ (passing_next c.args.compound c.args.parts.now c.args.turns.now c.args.number c.loop-index.index c.args.self.now c.loop-index.rest c.loop-index.self (record { compound = 0; start = 0; end = 0; columns = 0 }) c.loop-index-test.true c.loop-index.invariant), c.args.turns.now.gains.small, c.args.turns.now.gains.ok)
 
 pub moved-requires-clause-start : goal.moved-requires-clause-start
 moved-requires-clause-start c = (moved_fits _ _ _ _ _ _ _ _ _ _ _ (passing_next c.args.compound c.args.parts.now c.args.turns.now c.args.number c.loop-index.index c.args.self.now c.loop-index.rest c.loop-index.self _ c.loop-index-test.true c.loop-index.invariant) refl).0
