@@ -2,6 +2,7 @@
 
 ghost use Rattle.std.specs.Prelude.{◌≡◌, ◌++◌, IfOk, OnOk, map};
 ghost use Rattle.std.specs.List.{AllByRecursion};
+ghost use Rattle.std.specs.Str.{IsUtf8};
 ghost use Rattle.mad_ellipsis.specs.Cuts.{IsPartOf};
 ghost use Rattle.mad_ellipsis.specs.Order.{IsSmall};
 ghost use Rattle.mad_ellipsis.specs.Parts.{ArePartsOf, AreGains, gain_of, whole_of};
@@ -35,7 +36,8 @@ pub(crate) fn parts_of(
     compound: Compound,
     kind: Parts,
 ) -> Result<Vec<Run>, AllocError>
-    ensures { IfOk result (λ parts. ArePartsOf kind compound.entry parts.items) }
+    ensures parts { IfOk result (λ parts. ArePartsOf kind compound.entry parts.items) }
+    ensures utf8 { IfOk result (λ _. IsUtf8 compound.entry.src.now) }
 {
     match kind {
         Parts::Runs => runs_of(alloc, compound),
