@@ -37,7 +37,7 @@ pub(crate) fn parts_of(
     kind: Parts,
 ) -> Result<Vec<Run>, AllocError>
     ensures parts { IfOk result (λ parts. ArePartsOf kind compound.entry parts.items) }
-    ensures utf8 { IfOk result (λ _. IsUtf8 compound.entry.src.now) }
+    ensures utf8 { IsUtf8 compound.entry.src.now }
 {
     match kind {
         Parts::Runs => runs_of(alloc, compound),
