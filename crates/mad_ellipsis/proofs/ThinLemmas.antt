@@ -13,6 +13,7 @@ use Rattle.mad_ellipsis.specs.declared.gains.Parts.{Parts}
 use Rattle.mad_ellipsis.specs.declared.gains.Parts.TheVariants.{Runs, Wholes}
 use Rattle.mad_ellipsis.specs.declared.sweeping.Sweep.{Sweep}
 use Rattle.mad_ellipsis.specs.declared.turns.Turns.{Turns}
+use Rattle.mad_ellipsis.proofs.CutLemmas.{thin_none}
 
 pub swept_thins : (kind : Parts) (excess : ℕ) (ps : List Compound) (turns : Turns) (now : Sweep) → 0 < excess → turns.excess ≡ excess → SweepsAll kind ps turns now → IsThinned excess ps now.compounds.items now.left
 swept_thins kind excess ps turns now some is h = record {
@@ -35,6 +36,9 @@ swept_turns kind excess ps turns now some is gains h = subst (λ e. IsCutInTurn 
 
 pub swept_left : (kind : Parts) (excess : ℕ) (ps : List Compound) (turns : Turns) (now : Sweep) → turns.excess ≡ excess → SweepsAll kind ps turns now → now.left ≡ still_too_many excess ps now.compounds.items
 swept_left kind excess ps turns now is h = omega (arith, h.left, is, h.thinned.columns)
+
+pub none_thins : (excess : ℕ) (ps : List Compound) → excess ≡ 0 → IsThinned excess ps ps 0
+none_thins excess ps none = subst (λ l. IsThinned excess ps ps l) none (thin_none excess ps ps refl)
 
 pub none_turns : (kind : Parts) (excess : ℕ) (ps : List Compound) → excess ≡ 0 → IsCutInTurn kind excess ps ps
 none_turns kind excess ps none = record { none = λ _. refl; some = λ some. absurd (omega (arith, some, none)) }
