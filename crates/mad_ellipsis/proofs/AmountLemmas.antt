@@ -1,13 +1,13 @@
 -- By how much a part is cut, and what all gain at most.
-use Rattle.std.proofs.Common.{◌≡◌, ℕ, ◌+◌, ◌-◌, ◌<◌, ◌≤◌, ◌⊎◌, inl, inr, min, List, [], ◌∷◌, drop, refl, sym, ap, ◌∙◌, arith, subst}
-use Rattle.std.specs.Prelude.{Option, Some, None, if◌then◌else◌, nat_lt, nat_le, nat_eq, ◌&&◌, ◌||◌}
+use Rattle.std.proofs.Common.{◌≡◌, ℕ, ◌+◌, ◌-◌, ◌<◌, ◌≤◌, ◌⊎◌, inl, inr, min, List, ◌∷◌, drop, refl, sym, ap, ◌∙◌, arith, subst}
+use Rattle.std.specs.Prelude.{Option, Some, None, if◌then◌else◌, nat_le}
 use Rattle.std.proofs.lemmas.Bool.{cases_lt}
 use Rattle.std.proofs.lemmas.Bool.Decides.{nat_tests}
 use Rattle.mad_ellipsis.specs.Order.{IsLast, Serves, amount_of, room_for}
 use Rattle.mad_ellipsis.specs.Parts.{due, gained, weight}
 use Rattle.mad_ellipsis.specs.declared.gains.Gain.{Gain}
 use Rattle.mad_ellipsis.specs.declared.turns.Last.{Last}
-use Rattle.mad_ellipsis.proofs.OrderLemmas.{IsNoLater, counted, gained_less, gained_with, is_counted, some_weight}
+use Rattle.mad_ellipsis.proofs.OrderLemmas.{IsNoLater, gained_less, gained_with, is_counted, some_weight}
 
 none_first : (c k : ℕ) → (0 < c) ⊎ ((0 ≡ c) × (0 + 1 ≤ k + 1))
 none_first c k = elim (cases_lt 0 c) as (λ _. (0 < c) ⊎ ((0 ≡ c) × (0 + 1 ≤ k + 1))) [ inl some ↦ inl some | inr none ↦ inr (omega (arith, none), omega arith) ]

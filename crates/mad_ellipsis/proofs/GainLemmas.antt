@@ -1,20 +1,19 @@
 -- The parts of compounds, and what each gains.
-use Rattle.std.proofs.Common.{◌≡◌, ℕ, ◌+◌, ◌-◌, ◌<◌, ◌≤◌, ◌⊎◌, inl, inr, Bool, true, false, cond, List, [], ◌∷◌, ◌++◌, length, map, chars, drop, get_or, refl, sym, ap, ◌∙◌, arith, subst}
+use Rattle.std.proofs.Common.{◌≡◌, ℕ, ◌+◌, ◌<◌, ◌≤◌, Bool, true, false, List, [], ◌∷◌, ◌++◌, length, map, chars, drop, get_or, refl, sym, ap, ◌∙◌, arith, subst}
 use Rattle.std.specs.Prelude.{◌&&◌, nat_le, if◌then◌else◌}
 use Rattle.std.specs.List.{AllByRecursion}
 use Rattle.std.specs.Str.{IsUtf8, IsCharBoundary, trim_start}
-use Rattle.std.proofs.lemmas.Bool.Decides.{nat_tests}
 use Rattle.std.proofs.lemmas.List.{append_assoc, append-nil, at_drop_more, drop_all, length-append, length-drop}
 use Rattle.std.proofs.lemmas.Str.{IsCharBoundary-start, IsCharBoundary-end, IsUtf8-drop}
 use Rattle.mad_md.specs.declared.compound.Compound.{Compound}
 use Rattle.mad_fit.specs.TextColumns.{columns}
 use Rattle.mad_fit.proofs.AllLemmas.{all_push}
 use Rattle.mad_ellipsis.specs.CenteredCuts.{inside_chars}
-use Rattle.mad_ellipsis.specs.Cuts.{IsPartOf, IsTextPart}
+use Rattle.mad_ellipsis.specs.Cuts.{IsTextPart}
 use Rattle.mad_ellipsis.specs.Order.{IsSmall}
 use Rattle.mad_ellipsis.specs.Parts.{ArePartsOf, AreGains, gain_of, whole_of}
 use Rattle.mad_ellipsis.specs.Sweeps.{AreInOrder}
-use Rattle.mad_ellipsis.specs.Zones.{AreRunsFrom, AreZonesOf, IsNextRun, cuttable, may_be_cut}
+use Rattle.mad_ellipsis.specs.Zones.{AreRunsFrom, cuttable, may_be_cut}
 use Rattle.mad_ellipsis.specs.declared.gains.Gain.{Gain}
 use Rattle.mad_ellipsis.specs.declared.gains.Parts.{Parts}
 use Rattle.mad_ellipsis.specs.declared.gains.Parts.TheVariants.{Runs, Wholes}

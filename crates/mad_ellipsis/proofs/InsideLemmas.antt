@@ -1,9 +1,8 @@
 -- The inside of a text, and cuts in it.
-use Rattle.std.proofs.Common.{◌≡◌, ℕ, ◌+◌, ◌-◌, ◌/◌, ◌<◌, ◌≤◌, ◌⊎◌, inl, inr, min, List, [], ◌∷◌, ◌++◌, length, chars, take, drop, slice_range, refl, sym, ap, ◌∙◌, arith, subst}
+use Rattle.std.proofs.Common.{◌≡◌, ℕ, ◌+◌, ◌-◌, ◌<◌, ◌≤◌, ◌⊎◌, inl, inr, min, List, [], ◌∷◌, ◌++◌, length, chars, take, drop, slice_range, refl, sym, ap, ◌∙◌, arith, subst}
 use Rattle.std.specs.Char.{encode_utf8}
-use Rattle.std.specs.Str.{IsUtf8, IsCharBoundary}
+use Rattle.std.specs.Str.{IsUtf8}
 use Rattle.std.proofs.StrCases.{chars_of_empty}
-use Rattle.std.proofs.lemmas.Bool.{cases_lt}
 use Rattle.std.proofs.lemmas.List.{length-append, length-drop, length-take, take-append-drop, take_at, drop-append-le, drop-drop, take-append-le}
 use Rattle.std.proofs.lemmas.Str.{chars-append, chars_past_char, IsUtf8-drop, IsUtf8-take, IsUtf8-between}
 use Rattle.mad_fit.specs.TextColumns.{columns}

@@ -1,16 +1,16 @@
 -- Compounds that are passed over one after the other, with their parts.
-use Rattle.std.proofs.Common.{◌≡◌, ℕ, zero, suc, ◌+◌, ◌-◌, ◌<◌, ◌≤◌, ◌⊎◌, inl, inr, List, [], ◌∷◌, ◌++◌, length, map, take, drop, get_or, slice_range, refl, sym, ap, ◌∙◌, arith, subst}
+use Rattle.std.proofs.Common.{◌≡◌, ℕ, zero, suc, ◌+◌, ◌-◌, ◌<◌, ◌≤◌, inl, List, [], ◌∷◌, ◌++◌, length, map, drop, get_or, slice_range, refl, sym, ap, ◌∙◌, arith, subst}
 use Rattle.std.specs.List.{AllByRecursion}
-use Rattle.std.specs.Str.{IsUtf8, IsCharBoundary}
+use Rattle.std.specs.Str.{IsUtf8}
 use Rattle.std.proofs.Math.Seq.{drop-append_seam}
 use Rattle.std.proofs.lemmas.List.{append_assoc, append-nil, at_drop_more, drop-drop, drop_all, length-append, length-drop, length-map, take_all}
 use Rattle.mad_md.specs.Flagged.{flags_of}
 use Rattle.mad_md.specs.declared.compound.Compound.{Compound}
 use Rattle.mad_ellipsis.specs.Cuts.{IsPartOf}
-use Rattle.mad_ellipsis.specs.Order.{AreTurns, IsLast, IsSmall, Serves, amount_of, room_of}
+use Rattle.mad_ellipsis.specs.Order.{AreTurns, IsSmall, Serves, amount_of, room_of}
 use Rattle.mad_ellipsis.specs.Parts.{ArePartsOf, AreGains, due, gain_of}
-use Rattle.mad_ellipsis.specs.Sweeps.{AreInOrder, Cuts, FollowTurns, IsMoved, IsThinnedBy, PassesOver, Sweeps, SweepsAll}
-use Rattle.mad_ellipsis.specs.Turns.{AreCut, CutsEach, IsCutFor, IsPiece}
+use Rattle.mad_ellipsis.specs.Sweeps.{AreInOrder, FollowTurns, IsMoved, IsThinnedBy, PassesOver, Sweeps, SweepsAll}
+use Rattle.mad_ellipsis.specs.Turns.{AreCut, CutsEach}
 use Rattle.mad_ellipsis.specs.declared.gains.Gain.{Gain}
 use Rattle.mad_ellipsis.specs.declared.gains.Parts.{Parts}
 use Rattle.mad_ellipsis.specs.declared.parts.Run.{Run}

@@ -1,9 +1,7 @@
 -- Compounds whose parts are cut, and what is still too many then.
-use Rattle.std.proofs.Common.{◌≡◌, ℕ, ◌+◌, ◌-◌, ◌<◌, ◌≤◌, List, refl, sym, ap, ◌∙◌, arith, subst}
+use Rattle.std.proofs.Common.{◌≡◌, ℕ, ◌+◌, ◌<◌, List, refl, ◌∙◌, arith, subst}
 use Rattle.std.specs.Prelude.{IfOk, Result, Ok, Err}
-use Rattle.mad_md.specs.Flagged.{flagged_text}
 use Rattle.mad_md.specs.declared.compound.Compound.{Compound}
-use Rattle.mad_fit.specs.TextColumns.{width_of}
 use Rattle.mad_ellipsis.specs.Parts.{AreGains}
 use Rattle.mad_ellipsis.specs.Shortening.{IsEndReplaced}
 use Rattle.mad_ellipsis.specs.Sweeps.{SweepsAll}

@@ -1,5 +1,5 @@
 -- Which part is cut last, and by how much each is.
-use Rattle.std.specs.Prelude.{◌≡◌, ℕ, ◌+◌, ◌-◌, ◌<◌, ◌≤◌, ◌&&◌, ◌||◌, ◌⊎◌, nat_eq, nat_le, nat_lt, min, List, Option, Some, None, if◌then◌else◌}
+use Rattle.std.specs.Prelude.{◌≡◌, ℕ, ◌+◌, ◌<◌, ◌≤◌, ◌&&◌, ◌||◌, ◌⊎◌, nat_eq, nat_le, nat_lt, min, List, Option, Some, None, if◌then◌else◌}
 use Rattle.std.specs.List.{AllByRecursion}
 use Rattle.mad_ellipsis.specs.Parts.{due, gained}
 use Rattle.mad_ellipsis.specs.declared.gains.Gain.{Gain}

@@ -1,7 +1,7 @@
-use Rattle.std.proofs.Common.{refl, sym, ap, ◌∙◌, ◌++◌, [], map, subst}
+use Rattle.std.proofs.Common.{refl, sym, ap, ◌∙◌, ◌++◌, map}
 use Rattle.std.proofs.lemmas.List.{append-nil, drop_all}
 use Rattle.mad_ellipsis.specs.Parts.{gain_of}
-use Rattle.mad_ellipsis.proofs.GainLemmas.{Gaining, gaining_more, gaining_next}
+use Rattle.mad_ellipsis.proofs.GainLemmas.{gaining_more, gaining_next}
 use Rattle.mad_ellipsis.proofs.gains.push_gains.Goals as goal
 
 pub loop-part-init : goal.loop-part-init

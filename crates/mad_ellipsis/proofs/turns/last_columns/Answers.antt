@@ -1,4 +1,4 @@
-use Rattle.std.proofs.Common.{◌+◌, ◌-◌, ◌/◌, length, arith, refl}
+use Rattle.std.proofs.Common.{◌-◌, ◌/◌, length, arith, refl}
 use Rattle.mad_ellipsis.proofs.OrderLemmas.{none_wider, wider_half}
 use Rattle.mad_ellipsis.proofs.turns.last_columns.Goals as goal
 

@@ -1,4 +1,4 @@
-use Rattle.std.proofs.Common.{◌+◌, ◌-◌, ◌/◌, length, arith, refl}
+use Rattle.std.proofs.Common.{arith}
 use Rattle.mad_ellipsis.proofs.OrderLemmas.{some_number}
 use Rattle.mad_ellipsis.proofs.turns.last_number.Goals as goal
 
