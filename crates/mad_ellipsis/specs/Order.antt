@@ -6,7 +6,8 @@ use Rattle.mad_ellipsis.specs.declared.gains.Gain.{Gain}
 use Rattle.mad_ellipsis.specs.declared.turns.Last.{Last}
 use Rattle.mad_ellipsis.specs.declared.turns.Turns.{Turns}
 
--- The part is cut last: something is too many when its turn comes, and nothing behind it. All are cut where there is none, and that isn't enough.
+-- The part is cut last: something is too many when its turn comes, and nothing behind it. All are cut where there is none, and that
+-- isn't enough.
 abbrev pub IsLast : ℕ → List Gain → Option Last → Type 0
 IsLast excess gains None = gained excess 0 0 0 gains < excess
 IsLast excess gains (Some last) = (last.left ≡ due excess gains last.number last.columns) × (0 < last.left) × (excess ≤ gained excess last.columns last.number 0 gains)
@@ -33,7 +34,8 @@ pub record Serves (due gained amount : ℕ) : Type 0 where
   pub none : due ≡ 0 → amount ≡ 0
   pub same : 0 < due → (0 < amount) × ((amount ≡ due) ⊎ ((gained < due) × (gained < amount)))
 
--- At most how much parts gain in these turns; the first of them has this number. The last one gains at most two columns more than are left for it.
+-- At most how much parts gain in these turns; the first of them has this number. The last one gains at most two columns more than are
+-- left for it.
 abbrev pub room_for : ℕ → Option Last → ℕ → List Gain → ℕ
 room_for excess None number gains = gained excess 0 0 number gains
 room_for excess (Some last) number gains = gained excess last.columns (last.number + 1) number gains + (if nat_le number last.number then last.left + 2 else 0)

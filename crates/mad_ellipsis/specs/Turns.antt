@@ -20,16 +20,17 @@ pub record IsPiece (p : Compound) (start end : ℕ) (piece : Compound) : Type 0 
   pub text : piece.src.now ≡ slice_range p.src.now start end
   pub flags : flags_of piece ≡ flags_of p
 
--- What becomes of a compound from one byte on to the end of a part of it, with so many columns too many. The part is cut in its middle: what is before the
--- cut, then an ellipsis, and what comes next begins behind the cut. Where nothing is too many, or the cut gains nothing, the part stays.
+-- What becomes of a compound from one byte on to the end of a part of it, with so many columns too many. The part is cut in its middle:
+-- what is before the cut, then an ellipsis, and what comes next begins behind the cut. Where nothing is too many, or the cut gains
+-- nothing, the part stays.
 pub record IsCutFor (left : ℕ) (p : Compound) (from : ℕ) (part : Run) (here : List Compound) (next : ℕ) : Type 0 where
   pub cut : Cut
   pub centered : 0 < left → IsCenteredCut left (slice_range p.src.now part.start part.end) cut
   pub stays : (left ≡ 0) ⊎ (cut.columns < 2) → (here ≡ []) × (next ≡ from)
   pub goes : 0 < left → 2 ≤ cut.columns → (head : Compound) × (mark : Compound) × (here ≡ head ∷ mark ∷ []) × IsPiece p from (part.start + cut.start) head × IsEllipsis mark × (next ≡ part.start + cut.end)
 
--- What becomes of a compound from a byte on. Each of its parts is cut for what is too many when its turn comes; the first of these has this
--- number among all.
+-- What becomes of a compound from a byte on. Each of its parts is cut for what is too many when its turn comes; the first of these has
+-- this number among all.
 abbrev pub AreCut : ℕ → List Gain → ℕ → Compound → ℕ → List Run → List Compound → Type 0
 AreCut excess gains number p from [] result = (last : Compound) × (result ≡ last ∷ []) × IsPiece p from (length p.src.now) last
 AreCut excess gains number p from (part ∷ parts) result =
@@ -60,8 +61,8 @@ pub record IsCutDown (excess : ℕ) (ps result : List Compound) : Type 0 where
   pub done : still_too_many excess ps compounds ≡ 0 → result ≡ compounds
   pub end : 0 < still_too_many excess ps compounds → IsEndReplaced (still_too_many excess ps compounds + 1) compounds result
 
--- What becomes of compounds with so many columns too many, by how they are aligned. An ellipsis that was put in is told apart from those of
--- the source.
+-- What becomes of compounds with so many columns too many, by how they are aligned. An ellipsis that was put in is told apart from those
+-- of the source.
 abbrev pub IsReplacedAs : Alignment → ℕ → List Compound → List Compound → Type 0
 IsReplacedAs Unspecified excess ps result = IsCutDown excess ps result
 IsReplacedAs Left excess ps result = IsEndReplaced (excess + 1) ps result
