@@ -19,7 +19,6 @@ use Rattle.mad_layout.specs.Drawable.{AreShownChars}
 use Rattle.mad_layout.specs.FlaggedLines.{skin_char, front_of}
 use Rattle.mad_layout.specs.FlaggedTables.{row_in_column, CellInColumn, first_row, first_rows, rows_down, rule_row, table_across, rule_across}
 use Rattle.mad_format.specs.FmtLines.{bordered, rule_columns}
-use Rattle.mad_layout.specs.Premises.{IsPrintablePrefix}
 use Rattle.mad_rows.specs.Rows.{prefix_pieces, compound_piece, composite_pieces, cell_pieces, vertical_piece, placed_pieces, row_columns, rule_chars, left_of_place, right_of_place, align_in, place_of, inner_blanks}
 use Rattle.mad_rows.specs.RowStyles.{line_rules, line_style}
 use Rattle.mad_blocks.specs.Tables.{in_column, IsBlankIn, IsTop, IsLineAcross, AreDown, below}
@@ -33,6 +32,7 @@ use Rattle.mad_format.specs.declared.table.RelativePosition.{RelativePosition}
 use Rattle.mad_layout.proofs.DrawableTables.{widths_of, across_columns}
 use Rattle.mad_layout.proofs.RowChars.{chars_in, line_chars, first_piece, both, spaces_chars, spaces_both, compounds_chars, front_chars, run_chars}
 use Rattle.mad_layout.proofs.RowLemmas.{left_completion-le}
+use Rattle.mad_layout.proofs.SoundLines.{IsSoundPrefix}
 
 -- ---- a row of a cell
 
@@ -40,7 +40,7 @@ use Rattle.mad_layout.proofs.RowLemmas.{left_completion-le}
 abbrev pub cell_chars : RowSkin → FmtComposite → List ℕ
 cell_chars skin x = chars_in (composite_pieces skin None (0, 0) false x)
 
-between_blanks : (skin : RowSkin) (l : FmtComposite) → IsPrintablePrefix skin l.kind
+between_blanks : (skin : RowSkin) (l : FmtComposite) → IsSoundPrefix skin l.kind
     → cell_chars skin l ≡ replicate (inner_blanks l).0 32 ++ (front_of skin l.kind ++ (map (λ (x : FlaggedChar). x.char) (text_of l) ++ replicate (inner_blanks l).1 32))
 between_blanks skin l prefix =
     let style : LineStyle = line_style skin l.kind in
@@ -56,7 +56,7 @@ between_blanks skin l prefix =
     both (spaces own (inner_blanks l).0) tail1 ∙ ap (λ x. x ++ chars_in tail1) (spaces_chars own (inner_blanks l).0) ∙ ap (λ x. replicate (inner_blanks l).0 32 ++ x) e1
 
 -- a line of a cell is a row in its column
-pub column_chars : (skin : RowSkin) (c : Spacing) (l : FmtComposite) → IsPrintablePrefix skin l.kind → l.visible_length ≡ columns_of (line_rules skin) l → cell_chars skin (in_column c l) ≡ row_in_column skin c l.kind (text_of l)
+pub column_chars : (skin : RowSkin) (c : Spacing) (l : FmtComposite) → IsSoundPrefix skin l.kind → l.visible_length ≡ columns_of (line_rules skin) l → cell_chars skin (in_column c l) ≡ row_in_column skin c l.kind (text_of l)
 column_chars skin c l prefix same =
     let text : List ℕ = map (λ (x : FlaggedChar). x.char) (text_of l) in
     between_blanks skin (in_column c l) prefix
@@ -69,7 +69,7 @@ blank_chars skin c x h =
     replicate (left_of_place (align_in s) n (place_of s)) 32 ++ (front_of skin k ++ (map (λ (y : FlaggedChar). y.char) (flagged_text ps) ++ replicate (right_of_place (align_in s) n (place_of s)) 32)) in
     let half : left_completion c.align (c.width - 0) ≤ c.width - 0 = left_completion-le c.align (c.width - 0) in
     let all : left_completion c.align (c.width - 0) + ((c.width - 0) - left_completion c.align (c.width - 0)) ≡ c.width = omega (arith, half) in
-    between_blanks skin x (subst (IsPrintablePrefix skin) (sym h.kind) tt)
+    between_blanks skin x (subst (IsSoundPrefix skin) (sym h.kind) tt)
     ∙ ap (λ k. shape k x.compounds.items x.visible_length x.spacing) h.kind ∙ ap (λ ps. shape Paragraph ps x.visible_length x.spacing) h.empty
     ∙ ap (λ n. shape Paragraph [] n x.spacing) h.length_is ∙ ap (λ s. shape Paragraph [] 0 s) h.spacing
     ∙ spaces_both (left_completion c.align (c.width - 0)) ((c.width - 0) - left_completion c.align (c.width - 0)) ∙ ap (λ n. replicate n 32) all

@@ -26,7 +26,7 @@ use Rattle.mad_blocks.specs.Layouts.{AreRead}
 use Rattle.mad_blocks.proofs.WideLayouts.{IsLayout}
 use Rattle.mad_format.specs.FmtLines.{IsLineRead, is_table_line}
 use Rattle.mad_blocks.specs.LayoutParts.{Part, table, block, single, parts_of, justified, code_room, IsLineAt, AreLinesAt, ArePartsAt}
-use Rattle.mad_layout.specs.Premises.{IsPrintableRun, inner_width, runs_text, IsPrintablePrefix, IsPrintableText, IsPrintableContent, KeepsPremises}
+use Rattle.mad_layout.specs.Premises.{inner_width, runs_text}
 use Rattle.mad_rows.specs.Rows.{place_of}
 use Rattle.mad_rows.specs.RowStyles.{line_rules, line_style}
 use Rattle.mad_format.specs.CompositeWraps.{line_compounds, HaveKinds}
@@ -46,6 +46,7 @@ use Rattle.mad_blocks.proofs.WrapKinds.{layout_fits}
 use Rattle.mad_format.proofs.ReadWraps.{margins-le}
 use Rattle.mad_layout.proofs.ColumnChars.{column_piece}
 use Rattle.mad_layout.proofs.WholeTokens.{IsShownRun, printable_is_shown, tokens_shown}
+use Rattle.mad_layout.proofs.SoundLines.{IsSoundRun, IsSoundPrefix, IsSoundText, IsSoundContent, AreSoundLines}
 
 -- ---- one line
 
@@ -63,7 +64,7 @@ place_inside None length columns margins drawn same fits h = omega (arith, same,
 place_inside (Some s) length columns margins drawn same fits h = h.1
 
 -- a line that fits with these margins
-drawable : (skin : RowSkin) (drawn : ℕ) (margins : ℕ × ℕ) (l : FmtComposite) → drawn < 2 ^ 64 - 1 → IsPrintablePrefix skin l.kind → IsMeasured (line_rules skin) l
+drawable : (skin : RowSkin) (drawn : ℕ) (margins : ℕ × ℕ) (l : FmtComposite) → drawn < 2 ^ 64 - 1 → IsSoundPrefix skin l.kind → IsMeasured (line_rules skin) l
     → margins.0 + columns_of (line_rules skin) l + margins.1 ≤ drawn → FitsPlace l.spacing (columns_of (line_rules skin) l) margins drawn → AllByRecursion IsShownRun (map run_of l.compounds.items) → IsDrawableLine skin drawn (line_with margins l)
 drawable skin drawn margins l bound prefix measured fits place shown =
     let same : l.visible_length ≡ columns_of (line_rules skin) l = omega (arith, measured, fits, bound) in
@@ -87,7 +88,7 @@ narrower_fits (Some s) columns wider margins drawn less h = (omega (arith, less,
 -- the lines of a composite that is wrapped in what its margins leave
 wrapped_drawable : (skin : RowSkin) (drawn first : ℕ) (margins : ℕ × ℕ) (kind other : CompositeKind) (place : Option Spacing) (r : Room) (ps : List Compound) (ts : List Token) (wrap : List FmtComposite) → drawn < 2 ^ 64 - 1
     → margins.0 + r.width + margins.1 ≤ drawn → FitsPlace place r.width margins drawn → first ≡ indent skin.list_items_indentation_mode kind → r.other ≡ indent skin.list_items_indentation_mode other
-    → IsPrintablePrefix skin kind → IsPrintablePrefix skin other → AllByRecursion IsShownRun (map run_of ps ++ map token_run ts) → HaveKinds kind other wrap → AllByRecursion (λ l. l.spacing ≡ place) wrap
+    → IsSoundPrefix skin kind → IsSoundPrefix skin other → AllByRecursion IsShownRun (map run_of ps ++ map token_run ts) → HaveKinds kind other wrap → AllByRecursion (λ l. l.spacing ≡ place) wrap
     → AllByRecursion (IsMeasured (line_rules skin)) wrap → LinesFit first r (map flagged_text (line_compounds wrap)) → AllByRecursion (IsMadeOf ps ts) (line_compounds wrap) → AreDrawable skin drawn (map (line_with margins) wrap)
 wrapped_drawable skin drawn first margins kind other place r ps ts [] bound inside fits_place first_is other_is prefix follow shown kinds spacing measured fits parts = tt
 wrapped_drawable skin drawn first margins kind other place r ps ts (l ∷ ls) bound inside fits_place first_is other_is prefix follow shown kinds spacing measured fits parts =
@@ -96,7 +97,7 @@ wrapped_drawable skin drawn first margins kind other place r ps ts (l ∷ ls) bo
     let columns : columns_of (line_rules skin) l ≤ r.width = omega (arith, own, fits.0) in
     let in_place : FitsPlace l.spacing (columns_of (line_rules skin) l) margins drawn =
     subst (λ (s : Option Spacing). FitsPlace s (columns_of (line_rules skin) l) margins drawn) (sym spacing.0) (narrower_fits place (columns_of (line_rules skin) l) r.width margins drawn columns fits_place) in (
-      drawable skin drawn margins l bound (subst (IsPrintablePrefix skin) (sym kinds.0) prefix) measured.0 (omega (arith, columns, inside)) in_place
+      drawable skin drawn margins l bound (subst (IsSoundPrefix skin) (sym kinds.0) prefix) measured.0 (omega (arith, columns, inside)) in_place
           (all_each (Contains runs) IsShownRun (λ x has. each_of IsShownRun runs x shown has) (map run_of l.compounds.items) parts.0),
       wrapped_drawable skin drawn r.other margins other other place r ps ts ls bound inside fits_place other_is other_is follow follow shown kinds.1 spacing.1 measured.1 fits.1 parts.1,
     )
@@ -116,7 +117,7 @@ pub record IsPlacedFor (skin : RowSkin) (width : ℕ) (line : StyledRuns) (l : F
   pub place : IfSome l.spacing (λ s. (s.width ≤ inner_of skin width l) × (min l.visible_length (inner_of skin width l) ≤ s.width))
 
 -- where the composite doesn't fit, its characters have room
-pub has_room : (skin : RowSkin) (width : ℕ) (line : StyledRuns) (source : FmtComposite) → IsPrintableText skin (inner_width skin width line) (kind_of line.style) line.runs → IsPlacedFor skin width line source
+pub has_room : (skin : RowSkin) (width : ℕ) (line : StyledRuns) (source : FmtComposite) → IsSoundText skin (inner_width skin width line) (kind_of line.style) line.runs → IsPlacedFor skin width line source
     → width < source.visible_length + (style_margins (line_rules skin) width source).0 + (style_margins (line_rules skin) width source).1 → HasRoom (room_of (line_rules skin) source.kind (inner_of skin width source)) (text_of source)
 has_room skin width line source printable read wide =
     let left = λ (k : CompositeKind). width_inside (line_style skin k) width in
@@ -136,29 +137,29 @@ wrapped_place None length inner margins drawn wide inside h = tt
 wrapped_place (Some s) length inner margins drawn wide inside h = (omega (arith, wide, h.1), omega (arith, inside, h.0))
 
 read_drawable : (skin : RowSkin) (width drawn : ℕ) (line : StyledRuns) (source : FmtComposite) (lines : List FmtLine) → width ≤ drawn → drawn < 2 ^ 64 - 1
-    → IsPrintableText skin (inner_width skin width line) (kind_of line.style) line.runs → IsPlacedFor skin width line source → IsLaidOutBy IsFittingWrap (line_rules skin) width source lines → AreDrawable skin drawn lines
+    → IsSoundText skin (inner_width skin width line) (kind_of line.style) line.runs → IsPlacedFor skin width line source → IsLaidOutBy IsFittingWrap (line_rules skin) width source lines → AreDrawable skin drawn lines
 read_drawable skin width drawn line source lines narrower bound printable read (inl (fits, same)) =
     let margins : ℕ × ℕ = style_margins (line_rules skin) width source in
-    let prefix : IsPrintablePrefix skin source.kind = subst (IsPrintablePrefix skin) (sym read.kind) printable.prefix in
-    let runs : AllByRecursion IsPrintableRun (map run_of source.compounds.items) = subst (AllByRecursion IsPrintableRun) (sym read.text) printable.printable in
+    let prefix : IsSoundPrefix skin source.kind = subst (IsSoundPrefix skin) (sym read.kind) printable.prefix in
+    let runs : AllByRecursion IsSoundRun (map run_of source.compounds.items) = subst (AllByRecursion IsSoundRun) (sym read.text) printable.printable in
     let columns : columns_of (line_rules skin) source ≡ source.visible_length = omega (arith, fits, read.measured, narrower, bound) in
     let inside : margins.0 + inner_of skin width source + margins.1 ≤ drawn = omega (arith, narrower, margins-le (line_style skin source.kind) width) in
     let inner : source.visible_length ≤ inner_of skin width source = omega (arith, fits) in
     let one = drawable skin drawn margins source bound prefix read.measured (omega (arith, fits, columns, narrower))
     (kept_place source.spacing source.visible_length (columns_of (line_rules skin) source) (inner_of skin width source) margins drawn columns inner inside read.place)
-    (all_each IsPrintableRun IsShownRun printable_is_shown (map run_of source.compounds.items) runs) in
+    (all_each IsSoundRun IsShownRun printable_is_shown (map run_of source.compounds.items) runs) in
     subst (AreDrawable skin drawn) (sym same) (one, tt)
 read_drawable skin width drawn line source lines narrower bound printable read (inr (wide, (wrap, wraps, same))) =
     let ps = source.compounds.items in
     let margins : ℕ × ℕ = style_margins (line_rules skin) width source in
-    let prefix : IsPrintablePrefix skin source.kind = subst (IsPrintablePrefix skin) (sym read.kind) printable.prefix in
+    let prefix : IsSoundPrefix skin source.kind = subst (IsSoundPrefix skin) (sym read.kind) printable.prefix in
     let r : Room = room_of (line_rules skin) source.kind (inner_of skin width source) in
-    let runs : AllByRecursion IsPrintableRun (map run_of ps) = subst (AllByRecursion IsPrintableRun) (sym read.text) printable.printable in
+    let runs : AllByRecursion IsSoundRun (map run_of ps) = subst (AllByRecursion IsSoundRun) (sym read.text) printable.printable in
     let room : HasRoom r (text_of source) = has_room skin width line source printable read wide in
     let narrow : AllByRecursion (λ x. char_columns x.char ≤ token_limit r) (flagged_text ps) =
     all_each (λ x. most_indent r + char_columns x.char ≤ r.width) (λ x. char_columns x.char ≤ token_limit r) (λ x h. omega (arith, h)) (flagged_text ps) room.each in
     let tokens = tokens_of_all (token_limit r) ps (utf8_of ps runs) in
-    let shown = all_joined IsShownRun (map run_of ps) (map token_run tokens.0) (all_each IsPrintableRun IsShownRun printable_is_shown (map run_of ps) runs)
+    let shown = all_joined IsShownRun (map run_of ps) (map token_run tokens.0) (all_each IsSoundRun IsShownRun printable_is_shown (map run_of ps) runs)
     (tokens_shown (token_limit r) ps tokens.0 runs narrow tokens.1) in
     let inside : margins.0 + r.width + margins.1 ≤ drawn = omega (arith, narrower, margins-le (line_style skin source.kind) width) in
     let place : FitsPlace source.spacing r.width margins drawn =
@@ -170,7 +171,7 @@ read_drawable skin width drawn line source lines narrower bound printable read (
 -- ---- a text
 
 -- so it has a line at least
-read_some : (skin : RowSkin) (width : ℕ) (line : StyledRuns) (source : FmtComposite) (lines : List FmtLine) → IsPrintableText skin (inner_width skin width line) (kind_of line.style) line.runs → IsPlacedFor skin width line source
+read_some : (skin : RowSkin) (width : ℕ) (line : StyledRuns) (source : FmtComposite) (lines : List FmtLine) → IsSoundText skin (inner_width skin width line) (kind_of line.style) line.runs → IsPlacedFor skin width line source
     → IsLaidOutBy IsFittingWrap (line_rules skin) width source lines → 0 < length lines
 read_some skin width line source lines printable read (inl (fits, same)) = let one : length lines ≡ 1 = ap length same in omega (arith, one)
 read_some skin width line source lines printable read (inr (wide, ([], wraps, same))) =
@@ -181,7 +182,7 @@ read_some skin width line source lines printable read (inr (wide, (w ∷ ws, wra
     let more : length lines ≡ suc (length (map (line_with (style_margins (line_rules skin) width source)) ws)) = ap length same in omega (arith, more)
 
 -- what becomes of one line of a text
-content_drawable : (skin : RowSkin) (width drawn : ℕ) (part : List LineContent) (content : LineContent) (l m : FmtLine) (own : List FmtLine) → width ≤ drawn → drawn < 2 ^ 64 - 1 → IsPrintableContent skin width part content → IsLineRead (line_rules skin) content l → is_table_line l ≡ false
+content_drawable : (skin : RowSkin) (width drawn : ℕ) (part : List LineContent) (content : LineContent) (l m : FmtLine) (own : List FmtLine) → width ≤ drawn → drawn < 2 ^ 64 - 1 → IsSoundContent skin width part content → IsLineRead (line_rules skin) content l → is_table_line l ≡ false
     → IsPlacedOrKept (line_rules skin) width l m → IsLineAt IsFittingWrap (line_rules skin) (Some width) m own → (0 < length own) × AreDrawable skin drawn own
 content_drawable skin width drawn part (table_row cells) (TableRow row) m own narrower bound printable read alone placed here = absurd (cc)
 content_drawable skin width drawn part (table_rule aligns) (TableRule rule) m own narrower bound printable read alone placed here = absurd (cc)
@@ -208,7 +209,7 @@ content_drawable skin width drawn part _ _ m own narrower bound printable read a
 
 -- the lines of a part, where those of the parts after it are drawn exactly
 lines_drawable : (skin : RowSkin) (width drawn n : ℕ) (part : List LineContent) (above : Option (List Alignment)) (begins : Bool) (text : List LineContent) (xs : List LineInPart) (read placed own others : List FmtLine) → width ≤ drawn → drawn < 2 ^ 64 - 1 → Later skin width drawn xs others
-    → KeepsPremises skin width (take n (lines_in part above begins text ++ xs)) → AreRead (line_rules skin) text read → AllByRecursion (λ l. is_table_line l ≡ false) read → ArePlacedOrKept (line_rules skin) width read placed → AreLinesAt IsFittingWrap (line_rules skin) (Some width) placed own
+    → AreSoundLines skin width (take n (lines_in part above begins text ++ xs)) → AreRead (line_rules skin) text read → AllByRecursion (λ l. is_table_line l ≡ false) read → ArePlacedOrKept (line_rules skin) width read placed → AreLinesAt IsFittingWrap (line_rules skin) (Some width) placed own
     → AreDrawable skin drawn (take n (own ++ others))
 lines_drawable skin width drawn zero part above begins text xs read placed own others narrower bound later keeps reads alone places becomes = tt
 lines_drawable skin width drawn (suc n) part above begins [] xs [] [] own others narrower bound later keeps reads alone places becomes =
@@ -227,7 +228,7 @@ no_table_lines (l ∷ ls) = (refl, no_table_lines ls)
 
 -- the parts of a text, one after the other
 parts_drawable : (skin : RowSkin) (width drawn n : ℕ) (css : List (List LineContent)) (ps : List Part) (lines : List FmtLine) → width ≤ drawn → drawn < 2 ^ 64 - 1 → AllByRecursion IsPartOfKind ps
-    → KeepsPremises skin width (take n (all_in css)) → ArePartsRead skin css ps → ArePartsAt IsFittingWrap (line_rules skin) width (Some width) ps lines → AreDrawable skin drawn (take n lines)
+    → AreSoundLines skin width (take n (all_in css)) → ArePartsRead skin css ps → ArePartsAt IsFittingWrap (line_rules skin) width (Some width) ps lines → AreDrawable skin drawn (take n lines)
 parts_drawable skin width drawn zero css ps lines narrower bound kinds keeps reads becomes = tt
 parts_drawable skin width drawn (suc n) [] [] lines narrower bound kinds keeps reads becomes = subst (λ (ls : List FmtLine). AreDrawable skin drawn (take (suc n) ls)) (sym becomes) tt
 parts_drawable skin width drawn (suc n) ([] ∷ css) (p ∷ ps) lines narrower bound kinds keeps reads becomes = absurd reads.0
@@ -248,14 +249,14 @@ parts_drawable skin width drawn _ _ _ lines narrower bound kinds keeps reads _ =
 -- Where the first lines of a text keep the premises, the first lines of its layout are drawn exactly in a row at least as wide, however
 -- many lines it has.
 pub fitting_is_drawable : (skin : RowSkin) (width drawn n : ℕ) (text : List LineContent) (lines : List FmtLine) → width ≤ drawn → drawn < 2 ^ 64 - 1
-    → KeepsPremises skin width (take n (lines_in_parts text)) → IsFittingLayout (line_rules skin) width text lines → AreDrawable skin drawn (take n lines)
+    → AreSoundLines skin width (take n (lines_in_parts text)) → IsFittingLayout (line_rules skin) width text lines → AreDrawable skin drawn (take n lines)
 fitting_is_drawable skin width drawn n text lines narrower bound keeps layout =
     parts_drawable skin width drawn n (text_parts text) (parts_of layout.read) lines narrower bound (parts_kinds layout.read) keeps (parts_read skin text layout.read layout.reads) layout.laid
 
 -- ---- a layout with the fewest lines
 
 pub layout_is_drawable : (skin : RowSkin) (width drawn n : ℕ) (text : List LineContent) (lines : List FmtLine) → width ≤ drawn → drawn < 2 ^ 64 - 1
-    → KeepsPremises skin width (take n (lines_in_parts text)) → IsLayout (line_rules skin) width text lines → AreDrawable skin drawn (take n lines)
+    → AreSoundLines skin width (take n (lines_in_parts text)) → IsLayout (line_rules skin) width text lines → AreDrawable skin drawn (take n lines)
 layout_is_drawable skin width drawn n text lines narrower bound keeps layout = fitting_is_drawable skin width drawn n text lines narrower bound keeps (layout_fits (line_rules skin) width text lines layout)
 
 -- ---- the lines that have a row

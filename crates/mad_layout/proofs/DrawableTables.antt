@@ -25,8 +25,7 @@ use Rattle.mad_blocks.specs.FittingLayouts.{IsFittingWrap}
 use Rattle.mad_format.specs.Indents.{indent, follow_up, room_of}
 use Rattle.mad_blocks.specs.Layouts.{AreRead}
 use Rattle.mad_format.specs.FmtLines.{bordered, rule_columns, AreCompositesRead, IsLineRead, is_table_line}
-use Rattle.mad_layout.specs.PrintableTables.{ArePrintableCells, IsPrintableTableLine}
-use Rattle.mad_layout.specs.Premises.{IsPrintableRun, runs_text, IsPrintablePrefix, IsPrintableText, AreBordersShown, ArePrintableIn, IsPrintableContent, KeepsPremises}
+use Rattle.mad_layout.specs.Premises.{runs_text, AreBordersShown}
 use Rattle.mad_rows.specs.Rows.{compound_piece, inner_columns, prefix_pieces, place_of, row_columns, rule_chars}
 use Rattle.mad_rows.specs.RowStyles.{line_rules, line_style}
 use Rattle.mad_blocks.specs.Tables.{AreKeptWidths, in_column, IsBlankIn, columns_with, centered, columns_from, columns_count, columns_in, position_at, IsTop, IsLineAcross, AreDown, below, IsCellLaidOut, AreCellsLaidOut, IsRuleLaidOut, IsTableLineBy, AreTableLinesBy, IsTableLaidOutBy}
@@ -48,6 +47,8 @@ use Rattle.mad_layout.proofs.KeptWidths.{AreTableRead, widths_kept}
 use Rattle.mad_layout.proofs.ReadParts.{table_raw}
 use Rattle.mad_layout.proofs.ColumnChars.{column_border, column_rule}
 use Rattle.mad_layout.proofs.WholeTokens.{IsShownRun, printable_is_shown, tokens_shown}
+use Rattle.mad_layout.specs.PrintableTables.{IsPrintableTableLine}
+use Rattle.mad_layout.proofs.SoundLines.{sound_table, AreSoundCells, IsSoundTableLine, IsSoundRun, IsSoundPrefix, IsSoundText, AreSoundIn, IsSoundContent, AreSoundLines}
 
 -- ---- a line of a cell
 
@@ -55,7 +56,7 @@ use Rattle.mad_layout.proofs.WholeTokens.{IsShownRun, printable_is_shown, tokens
 abbrev FillColumn : RowSkin → Spacing → List FmtComposite → Type 0
 FillColumn skin c ls = AllByRecursion (λ l. FillsItsPlace skin (in_column c l)) ls
 
-fills_column : (skin : RowSkin) (c : Spacing) (l : FmtComposite) → c.width < 2 ^ 64 - 1 → IsPrintablePrefix skin l.kind → IsMeasured (line_rules skin) l → columns_of (line_rules skin) l ≤ c.width
+fills_column : (skin : RowSkin) (c : Spacing) (l : FmtComposite) → c.width < 2 ^ 64 - 1 → IsSoundPrefix skin l.kind → IsMeasured (line_rules skin) l → columns_of (line_rules skin) l ≤ c.width
     → AllByRecursion IsShownRun (map run_of l.compounds.items) → FillsItsPlace skin (in_column c l)
 fills_column skin c l bound prefix measured fits shown =
     let same : l.visible_length ≡ columns_of (line_rules skin) l = omega (arith, measured, fits, bound) in
@@ -68,7 +69,7 @@ fills_column skin c l bound prefix measured fits shown =
     }
 
 wrapped_fill : (skin : RowSkin) (c : Spacing) (first : ℕ) (kind other : CompositeKind) (r : Room) (ps : List Compound) (ts : List Token) (wrap : List FmtComposite) → c.width < 2 ^ 64 - 1 → r.width ≡ c.width
-    → first ≡ indent skin.list_items_indentation_mode kind → r.other ≡ indent skin.list_items_indentation_mode other → IsPrintablePrefix skin kind → IsPrintablePrefix skin other
+    → first ≡ indent skin.list_items_indentation_mode kind → r.other ≡ indent skin.list_items_indentation_mode other → IsSoundPrefix skin kind → IsSoundPrefix skin other
     → AllByRecursion IsShownRun (map run_of ps ++ map token_run ts) → HaveKinds kind other wrap → AllByRecursion (IsMeasured (line_rules skin)) wrap → LinesFit first r (map flagged_text (line_compounds wrap))
     → AllByRecursion (IsMadeOf ps ts) (line_compounds wrap) → FillColumn skin c wrap
 wrapped_fill skin c first kind other r ps ts [] bound width first_is other_is prefix follow shown kinds measured fits parts = tt
@@ -76,16 +77,16 @@ wrapped_fill skin c first kind other r ps ts (l ∷ ls) bound width first_is oth
     let runs = map run_of ps ++ map token_run ts in
     let own : indent skin.list_items_indentation_mode l.kind ≡ first = ap (indent skin.list_items_indentation_mode) kinds.0 ∙ sym first_is in
     let columns : columns_of (line_rules skin) l ≤ c.width = omega (arith, own, width, fits.0) in (
-      fills_column skin c l bound (subst (IsPrintablePrefix skin) (sym kinds.0) prefix) measured.0 columns
+      fills_column skin c l bound (subst (IsSoundPrefix skin) (sym kinds.0) prefix) measured.0 columns
           (all_each (Contains runs) IsShownRun (λ x has. each_of IsShownRun runs x shown has) (map run_of l.compounds.items) parts.0),
       wrapped_fill skin c r.other other other r ps ts ls bound width other_is other_is follow follow shown kinds.1 measured.1 fits.1 parts.1,
     )
 
-cell_fills : (skin : RowSkin) (c : Spacing) (cell : FmtComposite) (ls : List FmtComposite) → c.width < 2 ^ 64 - 1 → IsMeasured (line_rules skin) cell → IsPrintableText skin c.width cell.kind (map run_of cell.compounds.items)
+cell_fills : (skin : RowSkin) (c : Spacing) (cell : FmtComposite) (ls : List FmtComposite) → c.width < 2 ^ 64 - 1 → IsMeasured (line_rules skin) cell → IsSoundText skin c.width cell.kind (map run_of cell.compounds.items)
     → IsCellLaidOut IsFittingWrap (line_rules skin) c.width cell ls → FillColumn skin c ls
 cell_fills skin c cell ls bound measured printable (inl (fits, same)) =
     let columns : columns_of (line_rules skin) cell ≤ c.width = omega (arith, measured, fits, bound) in
-    let one = fills_column skin c cell bound printable.prefix measured columns (all_each IsPrintableRun IsShownRun printable_is_shown (map run_of cell.compounds.items) printable.printable) in
+    let one = fills_column skin c cell bound printable.prefix measured columns (all_each IsSoundRun IsShownRun printable_is_shown (map run_of cell.compounds.items) printable.printable) in
     subst (FillColumn skin c) (sym same) (one, tt)
 cell_fills skin c cell ls bound measured printable (inr (wide, wraps)) =
     let ps = cell.compounds.items in
@@ -97,7 +98,7 @@ cell_fills skin c cell ls bound measured printable (inr (wide, wraps)) =
     let narrow : AllByRecursion (λ x. char_columns x.char ≤ token_limit r) (flagged_text ps) =
     all_each (λ x. most_indent r + char_columns x.char ≤ r.width) (λ x. char_columns x.char ≤ token_limit r) (λ x h. omega (arith, h)) (flagged_text ps) room.each in
     let tokens = tokens_of_all (token_limit r) ps (utf8_of ps printable.printable) in
-    let shown = all_joined IsShownRun (map run_of ps) (map token_run tokens.0) (all_each IsPrintableRun IsShownRun printable_is_shown (map run_of ps) printable.printable)
+    let shown = all_joined IsShownRun (map run_of ps) (map token_run tokens.0) (all_each IsSoundRun IsShownRun printable_is_shown (map run_of ps) printable.printable)
     (tokens_shown (token_limit r) ps tokens.0 printable.printable narrow tokens.1) in
     wrapped_fill skin c r.first cell.kind (follow_up cell.kind) r ps tokens.0 ls bound refl refl refl printable.prefix (follow_up_printable skin cell.kind printable.prefix) shown wraps.made.kinds wraps.made.measured (wraps.fits room)
     (wraps.parts tokens.0 tokens.1)
@@ -114,11 +115,11 @@ FillColumns skin [] lines = Unit {0}
 FillColumns skin (c ∷ cs) [] = Unit {0}
 FillColumns skin (c ∷ cs) (ls ∷ lines) = FillColumn skin c ls × FillColumns skin cs lines
 
-no_cells : (skin : RowSkin) (ws : List ℕ) → ArePrintableCells skin ws []
+no_cells : (skin : RowSkin) (ws : List ℕ) → AreSoundCells skin ws []
 no_cells skin [] = tt
 no_cells skin (w ∷ ws) = tt
 
-cells_fill : (skin : RowSkin) (cs : List Spacing) (cells : List FmtComposite) (lines : List (List FmtComposite)) → AllByRecursion (λ c. c.width < 2 ^ 64 - 1) cs → ArePrintableCells skin (widths_of cs) cells
+cells_fill : (skin : RowSkin) (cs : List Spacing) (cells : List FmtComposite) (lines : List (List FmtComposite)) → AllByRecursion (λ c. c.width < 2 ^ 64 - 1) cs → AreSoundCells skin (widths_of cs) cells
     → AreCellsLaidOut IsFittingWrap (line_rules skin) cs cells lines → FillColumns skin cs lines
 cells_fill skin [] cells lines bound printable laid = tt
 cells_fill skin (c ∷ cs) cells [] bound printable laid = tt
@@ -221,10 +222,10 @@ map_some [] h = absurd (omega (arith, h))
 map_some (row ∷ rows) h = omega arith
 
 table_line_drawable : (skin : RowSkin) (drawn : ℕ) (ws : List ℕ) (cs : List Spacing) (position : RelativePosition) (l : FmtLine) (own : List FmtLine) → FitColumns drawn ws cs
-    → AreBordersShown skin → IsPrintableTableLine skin ws l → IsTableLineBy IsFittingWrap (line_rules skin) cs position l own → (0 < length own) × AreDrawable skin drawn own
+    → AreBordersShown skin → IsSoundTableLine skin ws l → IsTableLineBy IsFittingWrap (line_rules skin) cs position l own → (0 < length own) × AreDrawable skin drawn own
 table_line_drawable skin drawn ws cs position (TableRow row) own fit borders printable (rows, is, laid) =
     let inside : 1 + bordered (widths_of cs) ≤ drawn = subst (λ vs. 1 + bordered vs ≤ drawn) (sym fit.are) fit.fit in
-    let cells : ArePrintableCells skin (widths_of cs) row.cells.items = subst (λ vs. ArePrintableCells skin vs row.cells.items) (sym fit.are) printable in
+    let cells : AreSoundCells skin (widths_of cs) row.cells.items = subst (λ vs. AreSoundCells skin vs row.cells.items) (sym fit.are) printable in
     let fill : FillColumns skin cs laid.lines = cells_fill skin cs row.cells.items laid.lines (widths_small drawn cs fit.bound inside) cells laid.laid_out in
     let count : length rows ≡ max _ 1 = laid.count in
     subst (λ (ls : List FmtLine). (0 < length ls) × AreDrawable skin drawn ls) (sym is) (map_some rows (omega (arith, count)), rows_drawable skin drawn cs laid.lines rows inside borders fill laid.rows_are)
@@ -240,7 +241,7 @@ no_row [] h = refl
 no_row (cell ∷ cells) h = absurd (omega (arith, h))
 
 -- a line of a table without columns stays, and is drawn exactly
-bare_drawable : (skin : RowSkin) (drawn : ℕ) (l : FmtLine) → 2 ≤ drawn → AreBordersShown skin → IsPrintableTableLine skin [] l → columns_in l ≡ 0 → IsDrawableLine skin drawn l
+bare_drawable : (skin : RowSkin) (drawn : ℕ) (l : FmtLine) → 2 ≤ drawn → AreBordersShown skin → IsSoundTableLine skin [] l → columns_in l ≡ 0 → IsDrawableLine skin drawn l
 bare_drawable skin drawn (TableRow row) two borders printable none =
     subst (IsDrawableRow skin drawn) (sym (no_row row.cells.items none)) (record { fits = omega (arith, two); each = tt; border = column_border skin.table.compound_style skin.table_border_chars.vertical borders.vertical })
 bare_drawable skin drawn (TableRule rule) two borders printable none = record { fits = subst (λ (ws : List ℕ). rule_columns ws ≤ drawn) (sym printable) two; chars = column_rule skin (rule_chars skin.table_border_chars rule.position) (borders.rules rule.position) }
@@ -248,12 +249,12 @@ bare_drawable skin drawn _ two borders printable none = absurd printable
 
 -- ---- lines of a text
 
-cells_printable : (skin : RowSkin) (ws : List ℕ) (said : List StyledRuns) (cells : List FmtComposite) → ArePrintableIn skin ws said → AreCompositesRead (line_rules skin) said cells → ArePrintableCells skin ws cells
+cells_printable : (skin : RowSkin) (ws : List ℕ) (said : List StyledRuns) (cells : List FmtComposite) → AreSoundIn skin ws said → AreCompositesRead (line_rules skin) said cells → AreSoundCells skin ws cells
 cells_printable skin [] said cells printable read = tt
 cells_printable skin (w ∷ ws) [] [] printable read = tt
 cells_printable skin (w ∷ ws) (s ∷ ss) (l ∷ ls) printable read = (
   read.0.measured,
-  subst (λ (k : CompositeKind). IsPrintableText skin w k (map run_of l.compounds.items)) (sym read.0.kind) (subst (λ (rs : List Run). IsPrintableText skin w (kind_of s.style) rs) (sym read.0.text) printable.0),
+  subst (λ (k : CompositeKind). IsSoundText skin w k (map run_of l.compounds.items)) (sym read.0.kind) (subst (λ (rs : List Run). IsSoundText skin w (kind_of s.style) rs) (sym read.0.text) printable.0),
   cells_printable skin ws ss ls printable.1 read.1,
 )
 cells_printable skin _ _ _ printable read = absurd read
@@ -262,16 +263,16 @@ cells_printable skin _ _ _ printable read = absurd read
 pub record TableContent (skin : RowSkin) (width : ℕ) (ws : List ℕ) (l : FmtLine) : Type 0 where
   pub two : 2 ≤ width
   pub borders : AreBordersShown skin
-  pub printable : IsPrintableTableLine skin ws l
+  pub printable : IsSoundTableLine skin ws l
 
 -- cells that keep the premises of a part are printable in these columns
 abbrev pub ArePartColumns : RowSkin → ℕ → List LineContent → List ℕ → Type 0
-ArePartColumns skin width part ws = (cells : List StyledRuns) → ArePrintableIn skin (kept_widths skin width part) cells → ArePrintableIn skin ws cells
+ArePartColumns skin width part ws = (cells : List StyledRuns) → AreSoundIn skin (kept_widths skin width part) cells → AreSoundIn skin ws cells
 
 pub kept_columns : (skin : RowSkin) (width : ℕ) (part : List LineContent) (ws : List ℕ) → ws ≡ kept_widths skin width part → ArePartColumns skin width part ws
-kept_columns skin width part ws is cells given = subst (λ vs. ArePrintableIn skin vs cells) (sym is) given
+kept_columns skin width part ws is cells given = subst (λ vs. AreSoundIn skin vs cells) (sym is) given
 
-pub content_printable : (skin : RowSkin) (width : ℕ) (part : List LineContent) (ws : List ℕ) (c : LineContent) (l : FmtLine) → ArePartColumns skin width part ws → IsPrintableContent skin width part c → IsLineRead (line_rules skin) c l → is_table_line l ≡ true
+pub content_printable : (skin : RowSkin) (width : ℕ) (part : List LineContent) (ws : List ℕ) (c : LineContent) (l : FmtLine) → ArePartColumns skin width part ws → IsSoundContent skin width part c → IsLineRead (line_rules skin) c l → is_table_line l ≡ true
     → TableContent skin width ws l
 content_printable skin width part ws (normal said) (Normal l) columns printable read is = absurd (cc)
 content_printable skin width part ws (table_row cells) (TableRow row) columns printable read is = record { two = printable.0; borders = printable.1; printable = cells_printable skin ws cells row.cells.items (columns cells printable.2) read }
@@ -281,10 +282,10 @@ content_printable skin width part ws _ _ columns printable read is = absurd read
 
 -- of lines of a text that come after a part, those that are drawn are drawn exactly
 abbrev pub Later : RowSkin → ℕ → ℕ → List LineInPart → List FmtLine → Type 0
-Later skin width drawn xs others = (m : ℕ) → KeepsPremises skin width (take m xs) → AreDrawable skin drawn (take m others)
+Later skin width drawn xs others = (m : ℕ) → AreSoundLines skin width (take m xs) → AreDrawable skin drawn (take m others)
 
 laid_drawable : (skin : RowSkin) (width drawn n : ℕ) (part : List LineContent) (above : Option (List Alignment)) (text : List LineContent) (xs : List LineInPart) (ws : List ℕ) (cs : List Spacing) (first : Bool) (table own others : List FmtLine) → 1 + bordered ws ≤ width → width ≤ drawn → drawn < 2 ^ 64 - 1
-    → widths_of cs ≡ ws → ArePartColumns skin width part ws → Later skin width drawn xs others → KeepsPremises skin width (take n (lines_in part above first text ++ xs)) → AreRead (line_rules skin) text table → AllTableLines table
+    → widths_of cs ≡ ws → ArePartColumns skin width part ws → Later skin width drawn xs others → AreSoundLines skin width (take n (lines_in part above first text ++ xs)) → AreRead (line_rules skin) text table → AllTableLines table
     → AreTableLinesBy IsFittingWrap (line_rules skin) ws cs first table own → AreDrawable skin drawn (take n (own ++ others))
 laid_drawable skin width drawn zero part above text xs ws cs first table own others fit narrower bound are columns later keeps reads lines laid = tt
 laid_drawable skin width drawn (suc n) part above [] xs ws cs first [] own others fit narrower bound are columns later keeps reads lines laid =
@@ -300,7 +301,7 @@ laid_drawable skin width drawn (suc n) part above (c ∷ text) xs ws cs first (l
 laid_drawable skin width drawn _ part above _ xs ws cs first _ own others fit narrower bound are columns later keeps reads lines _ = absurd reads
 
 bare_lines : (skin : RowSkin) (width drawn n : ℕ) (part : List LineContent) (above : Option (List Alignment)) (first : Bool) (text : List LineContent) (xs : List LineInPart) (table others : List FmtLine) → width ≤ drawn → columns_count table ≡ 0 → Later skin width drawn xs others
-    → KeepsPremises skin width (take n (lines_in part above first text ++ xs)) → AreRead (line_rules skin) text table → AllTableLines table → AreDrawable skin drawn (take n (table ++ others))
+    → AreSoundLines skin width (take n (lines_in part above first text ++ xs)) → AreRead (line_rules skin) text table → AllTableLines table → AreDrawable skin drawn (take n (table ++ others))
 bare_lines skin width drawn zero part above first text xs table others narrower none later keeps reads lines = tt
 bare_lines skin width drawn (suc n) part above first [] xs [] others narrower none later keeps reads lines = later (suc n) keeps
 bare_lines skin width drawn (suc n) part above first (c ∷ text) xs (l ∷ ls) others narrower none later keeps reads lines =
@@ -312,7 +313,7 @@ bare_lines skin width drawn _ part above first _ xs _ others narrower none later
 
 -- The lines of a table, which is a part of a text, and those after it.
 pub table_drawable : (skin : RowSkin) (width drawn n : ℕ) (c : LineContent) (text : List LineContent) (xs : List LineInPart) (l : FmtLine) (ls own others : List FmtLine) → width ≤ drawn → drawn < 2 ^ 64 - 1 → Later skin width drawn xs others
-    → KeepsPremises skin width (take (suc n) (lines_in (c ∷ text) None true (c ∷ text) ++ xs)) → AreTableRead skin (c ∷ text) (l ∷ ls) → AllTableLines (l ∷ ls)
+    → AreSoundLines skin width (take (suc n) (lines_in (c ∷ text) None true (c ∷ text) ++ xs)) → AreTableRead skin (c ∷ text) (l ∷ ls) → AllTableLines (l ∷ ls)
     → IsTableLaidOutBy IsFittingWrap (line_rules skin) (columns_count (l ∷ ls)) width (l ∷ ls) own → AreDrawable skin drawn (take (suc n) (own ++ others))
 table_drawable skin width drawn n c text xs l ls own others narrower bound later keeps reads lines (inl (inl none, stays)) =
     subst (λ (xs : List FmtLine). AreDrawable skin drawn (take (suc n) (xs ++ others))) (sym stays) (bare_lines skin width drawn (suc n) (c ∷ text) None true (c ∷ text) xs (l ∷ ls) others narrower none later keeps (table_raw skin (c ∷ text) (l ∷ ls) reads) lines)
@@ -327,14 +328,14 @@ table_drawable skin width drawn n c text xs l ls own others narrower bound later
 -- ---- a table by itself
 
 alone_drawable : (skin : RowSkin) (drawn : ℕ) (ws : List ℕ) (cs : List Spacing) (first : Bool) (table own : List FmtLine) → FitColumns drawn ws cs → AreBordersShown skin
-    → AllByRecursion (IsPrintableTableLine skin ws) table → AreTableLinesBy IsFittingWrap (line_rules skin) ws cs first table own → AreDrawable skin drawn own
+    → AllByRecursion (IsSoundTableLine skin ws) table → AreTableLinesBy IsFittingWrap (line_rules skin) ws cs first table own → AreDrawable skin drawn own
 alone_drawable skin drawn ws cs first [] own fit borders printable laid = subst (AreDrawable skin drawn) (sym laid) tt
 alone_drawable skin drawn ws cs first (l ∷ ls) own fit borders printable (front, more, joins, here, below_it) =
     let below_fit : FitColumns drawn ws (columns_from ws cs l) = fit_from drawn ws cs l fit in
     let one = table_line_drawable skin drawn ws (columns_from ws cs l) (position_at first (length ls == 0)) l front below_fit borders printable.0 here in
     subst (AreDrawable skin drawn) (sym joins) (all_joined (IsDrawableLine skin drawn) front more one.1 (alone_drawable skin drawn ws (columns_from ws cs l) false ls more below_fit borders printable.1 below_it))
 
-bare_alone : (skin : RowSkin) (drawn : ℕ) (table : List FmtLine) → 2 ≤ drawn → AreBordersShown skin → columns_count table ≡ 0 → AllByRecursion (IsPrintableTableLine skin []) table → AreDrawable skin drawn table
+bare_alone : (skin : RowSkin) (drawn : ℕ) (table : List FmtLine) → 2 ≤ drawn → AreBordersShown skin → columns_count table ≡ 0 → AllByRecursion (IsSoundTableLine skin []) table → AreDrawable skin drawn table
 bare_alone skin drawn [] two borders none printable = tt
 bare_alone skin drawn (l ∷ ls) two borders none printable =
     let own : columns_in l ≡ 0 = omega (arith, none) in (bare_drawable skin drawn l two borders printable.0 own, bare_alone skin drawn ls two borders (omega (arith, none)) printable.1)
@@ -344,8 +345,8 @@ pub tables_fitting : (skin : RowSkin) (width drawn : ℕ) (table lines : List Fm
     → AllByRecursion (IsPrintableTableLine skin []) table → ((ws : List ℕ) → AreKeptWidths skin.whole_words (columns_count table) width table ws → AllByRecursion (IsPrintableTableLine skin ws) table)
     → IsTableLaidOutBy IsFittingWrap (line_rules skin) (columns_count table) width table lines → AreDrawable skin drawn lines
 tables_fitting skin width drawn table lines two narrower bound borders bare printable (inl (inl none, stays)) =
-    subst (AreDrawable skin drawn) (sym stays) (bare_alone skin drawn table (omega (arith, two, narrower)) borders none bare)
+    subst (AreDrawable skin drawn) (sym stays) (bare_alone skin drawn table (omega (arith, two, narrower)) borders none (sound_table skin [] table bare))
 tables_fitting skin width drawn table lines two narrower bound borders bare printable (inl (inr none, stays)) = absurd (omega (arith, none, two))
 tables_fitting skin width drawn table lines two narrower bound borders bare printable (inr (some, place, (ws, kept, laid))) =
     let inside : bordered ws + 1 ≤ width = kept.fit in
-    alone_drawable skin drawn ws (centered ws) true table lines (record { two = omega (arith, two, narrower); bound = bound; fit = omega (arith, inside, narrower); are = centered-widths ws }) borders (printable ws kept) laid
+    alone_drawable skin drawn ws (centered ws) true table lines (record { two = omega (arith, two, narrower); bound = bound; fit = omega (arith, inside, narrower); are = centered-widths ws }) borders (sound_table skin ws table (printable ws kept)) laid

@@ -10,7 +10,7 @@ use Rattle.mad_md.specs.Lines.{LineContent}
 use Rattle.mad_blocks.specs.Layouts.{IsLayoutAt}
 use Rattle.mad_blocks.specs.TextParts.{lines_in_parts}
 use Rattle.mad_layout.specs.FlaggedTexts.{AreAcross}
-use Rattle.mad_layout.specs.Premises.{KeepsPremises}
+use Rattle.mad_layout.specs.Premises.{KeepsPremises, AreTyped}
 use Rattle.mad_layout.specs.Drawable.{AreDrawable}
 use Rattle.mad_layout.specs.Headline.{AreShownAcross}
 use Rattle.mad_blocks.proofs.WideLayouts.{IsLayout}
@@ -25,6 +25,7 @@ use Rattle.mad_layout.proofs.ShownLemmas.{fills}
 use Rattle.mad_layout.proofs.RowChars.{line_chars}
 use Rattle.mad_layout.proofs.TextParts.{text_across}
 use Rattle.mad_rows.specs.RowStyles.{line_rules}
+use Rattle.mad_layout.proofs.SoundLines.{AreSoundLines, sound_lines}
 
 few : (bar : Option ScrollBar) (area : Area) → IsWithinLimits area → columns_beside bar area.width < 2 ^ 64 - 1
 few None area limits = omega (arith, limits.columns)
@@ -34,10 +35,12 @@ few (Some bar) area limits = omega (arith, limits.columns)
 pub layout_shown : {T E : Type 0} (r : Result T E) (skin : RowSkin) (bar : Option ScrollBar) (lines : List FmtLine) (area : Area) (scroll : ℕ) (old new : Trace) → IsWithinLimits area
     → OnOk r (ShowsDrawable skin bar lines area scroll old new) → OnOk r (ShowsLayout skin bar lines area scroll old new)
 layout_shown {T} {E} (Ok x) skin bar lines area scroll old new limits h =
-    λ source width narrower shown keeps layout.
+    λ source width narrower shown typed keeps layout.
+    let n : ℕ = scroll + area.height in
+    let sound : AreSoundLines skin width (take n (lines_in_parts source)) = sound_lines skin width (take n (lines_in_parts source)) typed keeps in
     let drawn : ℕ = columns_beside bar area.width in
-    let first : AreDrawable skin drawn (take (scroll + area.height) lines) = fitting_is_drawable skin width drawn (scroll + area.height) source lines narrower (few bar area limits) keeps layout in
-    h shown (drawable_from skin drawn lines scroll area.height (scroll + area.height) refl first)
+    let first : AreDrawable skin drawn (take n lines) = fitting_is_drawable skin width drawn n source lines narrower (few bar area limits) sound layout in
+    h shown (drawable_from skin drawn lines scroll area.height n refl first)
 layout_shown {T} {E} (Err x) skin bar lines area scroll old new limits h = tt
 
 -- ---- in the text's own characters
@@ -64,16 +67,17 @@ beside_rows skin (Some bar) lines area scroll shown drawable = record { shown = 
 
 -- The text's lines have rows, of which those from one on are those of the layout's lines, beside the bar.
 pub rows_from : (skin : RowSkin) (bar : Option ScrollBar) (lines : List FmtLine) (area : Area) (scroll : ℕ) (text : List LineContent) (width : ℕ) → IsWithinLimits area → 3 ≤ width → width ≤ columns_beside bar area.width
-    → IfSome bar (IsBarShown area.width) → KeepsPremises skin width (take (scroll + area.height) (lines_in_parts text)) → IsLayoutAt (line_rules skin) (Some width) text lines
+    → IfSome bar (IsBarShown area.width) → AreTyped (take (scroll + area.height) (lines_in_parts text)) → KeepsPremises skin width (take (scroll + area.height) (lines_in_parts text)) → IsLayoutAt (line_rules skin) (Some width) text lines
     → (across : List (List ℕ)) × AreAcross skin width (columns_beside bar area.width) (lines_in_parts text) across
     × (take area.height (drop scroll across) ≡ take area.height (map (line_chars skin (columns_beside bar area.width)) (drop scroll lines))) × IfSome bar (IsBesideRows skin (drop scroll lines) area)
-rows_from skin bar lines area scroll text width limits wide narrower shown keeps laid =
+rows_from skin bar lines area scroll text width limits wide narrower shown typed keeps laid =
     let drawn : ℕ = columns_beside bar area.width in
     let n : ℕ = scroll + area.height in
+    let sound : AreSoundLines skin width (take n (lines_in_parts text)) = sound_lines skin width (take n (lines_in_parts text)) typed keeps in
     let layout : IsLayout (line_rules skin) width text lines = wrapped_at (line_rules skin) width text lines wide laid in
     let small : drawn < 2 ^ 64 - 1 = few bar area limits in
-    let rows = text_across skin width drawn n text lines (record { narrower = narrower; small = small }) wide keeps layout in
-    let drawable : AreDrawable skin drawn (take n lines) = fitting_is_drawable skin width drawn n text lines narrower small keeps (layout_fits (line_rules skin) width text lines layout) in (
+    let rows = text_across skin width drawn n text lines (record { narrower = narrower; small = small }) wide sound layout in
+    let drawable : AreDrawable skin drawn (take n lines) = fitting_is_drawable skin width drawn n text lines narrower small sound (layout_fits (line_rules skin) width text lines layout) in (
       rows.0,
       rows.1,
       same_from scroll area.height n rows.0 (map (line_chars skin drawn) lines) refl rows.2 ∙ ap (take area.height) (lines_from skin drawn scroll lines),
@@ -84,12 +88,12 @@ rows_from skin bar lines area scroll text width limits wide narrower shown keeps
 pub rows_shown : {T E : Type 0} (r : Result T E) (skin : RowSkin) (bar : Option ScrollBar) (lines : List FmtLine) (area : Area) (scroll : ℕ) (old new : Trace) → IsWithinLimits area
     → OnOk r (ShowsLayout skin bar lines area scroll old new) → OnOk r (ShowsRowsFrom skin bar lines area scroll old new)
 rows_shown {T} {E} (Ok x) skin bar lines area scroll old new limits h =
-    λ text width wide narrower shown keeps laid.
-    let rows = rows_from skin bar lines area scroll text width limits wide narrower shown keeps laid in (
+    λ text width wide narrower shown typed keeps laid.
+    let rows = rows_from skin bar lines area scroll text width limits wide narrower shown typed keeps laid in (
       rows.0,
       rows.1,
       took_more_at old.bytes new (AreShownIn skin bar lines area scroll) (AreShownAcross bar (drop scroll rows.0) area) (shown_across skin bar (drop scroll lines) area (drop scroll rows.0) rows.3 rows.2)
-          (h text width narrower shown keeps (layout_fits (line_rules skin) width text lines (wrapped_at (line_rules skin) width text lines wide laid))),
+          (h text width narrower shown typed keeps (layout_fits (line_rules skin) width text lines (wrapped_at (line_rules skin) width text lines wide laid))),
     )
 rows_shown {T} {E} (Err x) skin bar lines area scroll old new limits h = tt
 
@@ -97,5 +101,5 @@ rows_shown {T} {E} (Err x) skin bar lines area scroll old new limits h = tt
 pub rows_flushed : (skin : RowSkin) (bar : Option ScrollBar) (lines : List FmtLine) (area : Area) (scroll : ℕ) (old mid new : Trace) → ShowsRowsFrom skin bar lines area scroll old mid → new ≡ flushed mid
     → ShowsRowsFrom skin bar lines area scroll old new
 rows_flushed skin bar lines area scroll old mid new h e =
-    λ text width wide narrower shown keeps laid.
-    let rows = h text width wide narrower shown keeps laid in (rows.0, rows.1, took_flushed old mid new (AreShownAcross bar (drop scroll rows.0) area) rows.2 e)
+    λ text width wide narrower shown typed keeps laid.
+    let rows = h text width wide narrower shown typed keeps laid in (rows.0, rows.1, took_flushed old mid new (AreShownAcross bar (drop scroll rows.0) area) rows.2 e)

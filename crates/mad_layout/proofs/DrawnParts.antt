@@ -7,11 +7,12 @@ use Rattle.mad_md.specs.declared.compound.Compound.{Compound}
 use Rattle.mad_style.specs.declared.line_styles.LineStyle.{LineStyle}
 use Rattle.mad_draw.specs.Pieces.{AreShownPieces}
 use Rattle.mad_layout.specs.Drawable.{AreDrawable}
-use Rattle.mad_layout.specs.Premises.{IsPrintableRun, runs_text}
+use Rattle.mad_layout.specs.Premises.{runs_text}
 use Rattle.mad_rows.specs.Rows.{compound_piece}
 use Rattle.mad_rows.specs.declared.row_skin.RowSkin.{RowSkin}
 use Rattle.mad_format.specs.declared.line.FmtLine.{FmtLine}
 use Rattle.mad_layout.proofs.WholeTokens.{IsShownRun}
+use Rattle.mad_layout.proofs.SoundLines.{IsSoundRun}
 
 -- what holds of each element holds of one of them
 pub each_of : {X : Type 0} (P : X → Type 0) (xs : List X) (x : X) → AllByRecursion P xs → Contains xs x → P x
@@ -27,7 +28,7 @@ pub runs_are : (ps : List Compound) → runs_text (map run_of ps) ≡ flagged_te
 runs_are [] = refl
 runs_are (p ∷ ps) = ap (λ l. flagged_of p ++ l) (runs_are ps)
 
-pub utf8_of : (ps : List Compound) → AllByRecursion IsPrintableRun (map run_of ps) → AllByRecursion (λ p. IsUtf8 p.src.now) ps
+pub utf8_of : (ps : List Compound) → AllByRecursion IsSoundRun (map run_of ps) → AllByRecursion (λ p. IsUtf8 p.src.now) ps
 utf8_of [] h = tt
 utf8_of (p ∷ ps) h = (h.0.utf8, utf8_of ps h.1)
 

@@ -2,6 +2,7 @@
 use Rattle.std.proofs.Common.{◌≡◌, ℕ, zero, suc, ◌-◌, ◌≤◌, List, [], ◌∷◌, ◌++◌, take, inl, inr, Some, None, Result, Ok, Err, OnOk, subst, arith}
 use Rattle.mad_md.specs.Lines.{LineContent}
 use Rattle.std.specs.Result.{IsErrAnd}
+use Rattle.std.specs.Str.{IsUtf8}
 use Rattle.std.specs.declared.io.Error as io
 use Rattle.mad_term.specs.declared.errors.Error.{Error}
 use Rattle.mad_term.specs.declared.errors.Error.TheVariants.{IO}
@@ -13,7 +14,6 @@ use Rattle.mad_fit.specs.Areas.{IsWithinLimits}
 use Rattle.mad_fit.specs.declared.area.Area.{Area}
 use Rattle.mad_blocks.specs.Fronts.{IsFrontLayout}
 use Rattle.mad_layout.specs.InArea.{IsAreaFront, ShowsText, WritesInArea}
-use Rattle.mad_layout.specs.Premises.{KeepsPremises}
 use Rattle.mad_layout.specs.Shown.{area_bytes, AreShownIn}
 use Rattle.mad_layout.specs.ShownLayouts.{ShowsDrawable}
 use Rattle.mad_blocks.specs.TextParts.{LineInPart, text_parts, lines_in_parts}
@@ -23,18 +23,20 @@ use Rattle.mad_layout.proofs.DrawableLemmas.{layout_is_drawable}
 use Rattle.mad_blocks.proofs.WrapKinds.{wrapped_at}
 use Rattle.mad_layout.proofs.ReadParts.{in_parts_both}
 use Rattle.mad_rows.specs.RowStyles.{line_rules}
+use Rattle.mad_layout.proofs.SoundLines.{AreSoundLines}
+use Rattle.mad_layout.proofs.ReadSound.{read_sound}
 
 -- the first lines of some are first lines of all
-first_keep : (skin : RowSkin) (width n : ℕ) (front rest : List LineInPart) → KeepsPremises skin width (take n (front ++ rest)) → KeepsPremises skin width (take n front)
+first_keep : (skin : RowSkin) (width n : ℕ) (front rest : List LineInPart) → AreSoundLines skin width (take n (front ++ rest)) → AreSoundLines skin width (take n front)
 first_keep skin width zero front rest h = tt
 first_keep skin width (suc n) [] rest h = tt
 first_keep skin width (suc n) (c ∷ cs) rest h = (h.0, first_keep skin width n cs rest h.1)
 
-pub front_keeps : (skin : RowSkin) (width n : ℕ) (text front rest : List LineContent) → text_parts text ≡ text_parts front ++ text_parts rest → KeepsPremises skin width (take n (lines_in_parts text))
-    → KeepsPremises skin width (take n (lines_in_parts front))
+pub front_keeps : (skin : RowSkin) (width n : ℕ) (text front rest : List LineContent) → text_parts text ≡ text_parts front ++ text_parts rest → AreSoundLines skin width (take n (lines_in_parts text))
+    → AreSoundLines skin width (take n (lines_in_parts front))
 front_keeps skin width n text front rest parts h =
     first_keep skin width n (lines_in_parts front) (lines_in_parts rest)
-    (subst (λ (xs : List LineInPart). KeepsPremises skin width (take n xs)) (in_parts_both text front rest parts) h)
+    (subst (λ (xs : List LineInPart). AreSoundLines skin width (take n xs)) (in_parts_both text front rest parts) h)
 
 -- such a text was drawn
 pub area_written : {T : Type 0} (r : Result T Error) (skin own : RowSkin) (markdown : List ℕ) (area : Area) (lines : List FmtLine) (old new : Trace) → own ≡ skin → IsAreaFront skin markdown area lines
@@ -42,19 +44,19 @@ pub area_written : {T : Type 0} (r : Result T Error) (skin own : RowSkin) (markd
 area_written {T} r skin own markdown area lines old new same laid_out h = inl (lines, laid_out, subst (λ (s : RowSkin). Draws old (area_bytes s None lines area 0) r new) same h)
 
 -- what an area shows of such a text
-pub text_shown : {T E : Type 0} (r : Result T E) (skin own : RowSkin) (markdown : List ℕ) (area : Area) (lines : List FmtLine) (old new : Trace) → IsWithinLimits area → own ≡ skin → IsAreaFront skin markdown area lines
+pub text_shown : {T E : Type 0} (r : Result T E) (skin own : RowSkin) (markdown : List ℕ) (area : Area) (lines : List FmtLine) (old new : Trace) → IsUtf8 markdown → IsWithinLimits area → own ≡ skin → IsAreaFront skin markdown area lines
     → OnOk r (ShowsDrawable own None lines area 0 old new)
     → OnOk r (4 ≤ area.width → ShowsText skin markdown area old new)
-text_shown {T} {E} (Ok x) skin own markdown area lines old new limits same laid_out h =
+text_shown {T} {E} (Ok x) skin own markdown area lines old new utf8 limits same laid_out h =
     λ wide. record {
       lines = lines;
       laid_out = laid_out;
       shown = λ premises.
           let front : IsFrontLayout (line_rules skin) (Some (area.width - 1)) area.height laid_out.text lines = laid_out.layout in
           subst (λ (s : RowSkin). ShowsDrawable s None lines area 0 old new) same h tt
-          (layout_is_drawable skin (area.width - 1) area.width area.height front.front lines (omega arith) (omega (arith, limits.columns)) (front_keeps skin (area.width - 1) area.height laid_out.text front.front front.rest front.parts premises) (wrapped_at (line_rules skin) (area.width - 1) front.front lines (omega arith) front.layout));
+          (layout_is_drawable skin (area.width - 1) area.width area.height front.front lines (omega arith) (omega (arith, limits.columns)) (front_keeps skin (area.width - 1) area.height laid_out.text front.front front.rest front.parts (read_sound skin (area.width - 1) area.height markdown laid_out.text utf8 laid_out.read premises)) (wrapped_at (line_rules skin) (area.width - 1) front.front lines (omega arith) front.layout));
     }
-text_shown {T} {E} (Err x) skin own markdown area lines old new limits same laid_out h = tt
+text_shown {T} {E} (Err x) skin own markdown area lines old new utf8 limits same laid_out h = tt
 
 -- the flush failed after a text
 pub area_not_flushed : {T U : Type 0} (r : Result T Error) (done : U) (e : io.Error) (skin : RowSkin) (markdown : List ℕ) (area : Area) (old mid new : Trace) → WritesInArea {T = U} skin markdown area old (Ok done) mid → new ≡ failed mid

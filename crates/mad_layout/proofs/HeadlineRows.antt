@@ -3,6 +3,7 @@ use Rattle.std.proofs.Common.{◌≡◌, ℕ, zero, suc, ◌+◌, ◌-◌, ◌<�
 use Rattle.std.specs.Prelude.{slice_get, unwrap_or}
 use Rattle.std.proofs.Math.ListN.{get_or-map}
 use Rattle.std.proofs.lemmas.List.{append-nil, length-map, map-append}
+use Rattle.std.specs.Str.{IsUtf8}
 use Rattle.mad_columns.specs.Columns.{char_columns}
 use Rattle.mad_screen.specs.Glyph.{Glyph, Look}
 use Rattle.mad_screen.specs.Grid.{Grid, plain_pen, cell_at, blank, glyphs}
@@ -29,6 +30,7 @@ use Rattle.mad_rows.specs.declared.row_skin.RowSkin.{RowSkin}
 use Rattle.mad_format.specs.declared.line.FmtLine.{FmtLine}
 use Rattle.mad_layout.proofs.ReadParts.{in_parts_both}
 use Rattle.mad_layout.proofs.HeadlineLemmas.{front_keeps}
+use Rattle.mad_layout.proofs.ReadSound.{read_sound}
 use Rattle.mad_blocks.proofs.WrapKinds.{wrapped_at}
 use Rattle.mad_layout.proofs.RowChars.{AreWidths, char_of, line_chars, spaces_chars}
 use Rattle.mad_layout.proofs.RowsAcross.{across_exist}
@@ -160,8 +162,8 @@ rest_or_enough : (skin : RowSkin) (width : ℕ) (height : ℕ) (rest : List Line
 rest_or_enough skin width height rest lines (inl none) = inl (ap lines_in_parts none)
 rest_or_enough skin width height rest lines (inr some) = inr (omega (arith, some, length-map lines (line_chars skin width)))
 
-headline : (skin : RowSkin) (markdown : List ℕ) (area : Area) (old new : Trace) → IsWithinLimits area → 4 ≤ area.width → ShowsText skin markdown area old new → ShowsHeadline skin markdown area old new
-headline skin markdown area old new limits wide h =
+headline : (skin : RowSkin) (markdown : List ℕ) (area : Area) (old new : Trace) → IsUtf8 markdown → IsWithinLimits area → 4 ≤ area.width → ShowsText skin markdown area old new → ShowsHeadline skin markdown area old new
+headline skin markdown area old new utf8 limits wide h =
     let text : List LineContent = h.laid_out.text in
     let width : ℕ = area.width - 1 in
     let front : IsFrontLayout (line_rules skin) (Some width) area.height text h.lines = h.laid_out.layout in
@@ -171,7 +173,7 @@ headline skin markdown area old new limits wide h =
       read = h.laid_out.read;
       rows = record {
         shown = λ premises.
-            let first = front_keeps skin width area.height text front.front front.rest front.parts premises in
+            let first = front_keeps skin width area.height text front.front front.rest front.parts (read_sound skin width area.height markdown text utf8 h.laid_out.read premises) in
             let rows = text_across skin width area.width area.height front.front h.lines bound (omega (arith, wide)) first layout in
             let all = front_is_enough skin width area.width area.height (lines_in_parts front.front) (lines_in_parts front.rest) rows.0 (map (line_chars skin area.width) h.lines) rows.1 rows.2
             (rest_or_enough skin area.width area.height front.rest h.lines front.enough) in (
@@ -182,10 +184,10 @@ headline skin markdown area old new limits wide h =
       };
     }
 
-pub headline_shown : {T E : Type 0} (r : Result T E) (skin : RowSkin) (markdown : List ℕ) (area : Area) (old new : Trace) → IsWithinLimits area
+pub headline_shown : {T E : Type 0} (r : Result T E) (skin : RowSkin) (markdown : List ℕ) (area : Area) (old new : Trace) → IsUtf8 markdown → IsWithinLimits area
     → OnOk r (4 ≤ area.width → ShowsText skin markdown area old new) → OnOk r (4 ≤ area.width → ShowsHeadline skin markdown area old new)
-headline_shown {T} {E} (Ok x) skin markdown area old new limits h = λ wide. headline skin markdown area old new limits wide (h wide)
-headline_shown {T} {E} (Err e) skin markdown area old new limits h = tt
+headline_shown {T} {E} (Ok x) skin markdown area old new utf8 limits h = λ wide. headline skin markdown area old new utf8 limits wide (h wide)
+headline_shown {T} {E} (Err e) skin markdown area old new utf8 limits h = tt
 
 first_rows_flushed : (skin : RowSkin) (lines : List LineContent) (area : Area) (old mid new : Trace) → ShowsFirstRows skin lines area old mid → new ≡ flushed mid → ShowsFirstRows skin lines area old new
 first_rows_flushed skin lines area old mid new h e = record { shown = λ premises. let rows = h.shown premises in (rows.0, rows.1, took_flushed old mid new (AreShownAcross None rows.0 area) rows.2 e) }

@@ -176,7 +176,7 @@ several_kinds_keep_premises lines h =
         (
           letter_printable (ListItem 0) 99 (omega arith) (omega arith) (ascii_column 42 refl (omega arith) (omega arith)) (omega arith),
           (
-            letter_printable (OrderedListItem 0 1) 100 (omega arith) (omega arith) (omega arith, ascii_column 46 refl (omega arith) (omega arith)) (omega (arith, length-decimal-le_succ 1 (omega arith))),
+            letter_printable (OrderedListItem 0 1) 100 (omega arith) (omega arith) (ascii_column 46 refl (omega arith) (omega arith)) (omega (arith, length-decimal-le_succ 1 (omega arith))),
             (
               letter_printable Quote 101 (omega arith) (omega arith) (ascii_column 62 refl (omega arith) (omega arith)) (omega arith),
               (ascii_column 45 refl (omega arith) (omega arith), (letter_printable Code 102 (omega arith) (omega arith) tt (omega arith), tt)),

@@ -17,12 +17,14 @@ pub mod KindLemmas
 pub mod UnmarkedLineLemmas
 pub mod PrefixLemmas
 pub mod ReadParts
+pub mod ReadSound
 pub mod RowChars
 pub mod RowLemmas
 pub mod RowsAcross
 pub mod RowsExist
 pub mod RunLemmas
 pub mod ShownLemmas
+pub mod SoundLines
 pub mod SourceLemmas
 pub mod TablesAcross
 pub mod TakenParts

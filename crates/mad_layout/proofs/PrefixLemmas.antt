@@ -18,11 +18,11 @@ use Rattle.mad_draw.specs.Pieces.{RowPiece, IsShownPiece, AreShownPieces, char_p
 use Rattle.mad_draw.proofs.PieceLemmas.{columns-both, spaces_columns, shown_spaces}
 use Rattle.mad_style.specs.OrderedItems.{ordered_indent}
 use Rattle.mad_format.specs.Indents.{follow_up, indent, later_indent}
-use Rattle.mad_layout.specs.Premises.{IsPrintablePrefix}
 use Rattle.mad_rows.specs.Rows.{number_piece, prefix_space, prefix_pieces}
 use Rattle.mad_rows.specs.RowStyles.{ordered_item_style}
 use Rattle.mad_rows.specs.declared.row_skin.RowSkin.{RowSkin}
 use Rattle.mad_layout.proofs.ColumnChars.{printed_char, column_piece, column_suffix}
+use Rattle.mad_layout.proofs.SoundLines.{IsSoundPrefix}
 
 -- ---- digits
 
@@ -81,7 +81,7 @@ singles_columns style (suc n) =
 
 -- ---- in front of a line
 
-pub prefix_shown : (skin : RowSkin) (kind : CompositeKind) → IsPrintablePrefix skin kind → AreShownPieces (prefix_pieces skin kind)
+pub prefix_shown : (skin : RowSkin) (kind : CompositeKind) → IsSoundPrefix skin kind → AreShownPieces (prefix_pieces skin kind)
 prefix_shown skin (ListItem depth) h = all_joined IsShownPiece (single_spaces skin.paragraph.compound_style depth) _ (singles_shown skin.paragraph.compound_style depth) ((column_piece skin.bullet h).shown, ((shown_spaces skin.paragraph.compound_style 1).0, tt))
 prefix_shown skin (ListItemFollowUp depth) h = singles_shown skin.paragraph.compound_style _
 prefix_shown skin (OrderedListItem level index) h =
@@ -91,7 +91,7 @@ prefix_shown skin (OrderedListItemFollowUp level index) h = singles_shown skin.p
 prefix_shown skin Quote h = ((column_piece skin.quote_mark h).shown, ((shown_spaces skin.paragraph.compound_style 1).0, tt))
 prefix_shown skin _ h = tt
 
-pub prefix_columns : (skin : RowSkin) (kind : CompositeKind) → IsPrintablePrefix skin kind → pieces_columns (prefix_pieces skin kind) ≡ indent skin.list_items_indentation_mode kind
+pub prefix_columns : (skin : RowSkin) (kind : CompositeKind) → IsSoundPrefix skin kind → pieces_columns (prefix_pieces skin kind) ≡ indent skin.list_items_indentation_mode kind
 prefix_columns skin (ListItem depth) h =
     let blank : CompoundStyle = skin.paragraph.compound_style in
     let after : List RowPiece = char_piece skin.bullet ∷ prefix_space skin ∷ [] in
@@ -113,6 +113,6 @@ prefix_columns skin Quote h = let one : columns (chars (32 ∷ [])) + 0 ≡ 1 = 
 prefix_columns skin _ h = refl
 
 -- the lines that follow have a printable prefix too
-pub follow_up_printable : (skin : RowSkin) (kind : CompositeKind) → IsPrintablePrefix skin kind → IsPrintablePrefix skin (follow_up kind)
+pub follow_up_printable : (skin : RowSkin) (kind : CompositeKind) → IsSoundPrefix skin kind → IsSoundPrefix skin (follow_up kind)
 follow_up_printable skin Quote h = h
 follow_up_printable skin _ h = tt

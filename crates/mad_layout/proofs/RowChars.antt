@@ -28,7 +28,7 @@ use Rattle.mad_layout.specs.FlaggedLines.{widest_in, skin_char, front_of, placed
 use Rattle.mad_style.specs.OrderedItems.{ordered_indent}
 use Rattle.mad_format.specs.Indents.{later_indent}
 use Rattle.mad_blocks.specs.LayoutParts.{is_code_kind}
-use Rattle.mad_layout.specs.Premises.{IsPrintablePrefix, inner_width}
+use Rattle.mad_layout.specs.Premises.{inner_width}
 use Rattle.mad_rows.specs.Rows.{number_piece, prefix_space, prefix_pieces, compound_piece, composite_pieces, row_pieces, left_of_place, right_of_place, align_in, place_of, inner_blanks, outer_blanks}
 use Rattle.mad_rows.specs.RowStyles.{line_rules, line_style, ordered_item_style}
 use Rattle.mad_format.specs.WrappedLines.{line_with}
@@ -39,6 +39,7 @@ use Rattle.mad_format.specs.declared.line.FmtLine.{FmtLine}
 use Rattle.mad_format.proofs.ReadWraps.{margins-le}
 use Rattle.mad_layout.proofs.RowLemmas.{left_completion-le}
 use Rattle.mad_blocks.proofs.LayoutJoins.{by_bool}
+use Rattle.mad_layout.proofs.SoundLines.{IsSoundPrefix}
 
 -- ---- pieces
 
@@ -99,7 +100,7 @@ last_space skin = first_piece (prefix_space skin) [] ∙ append-nil (chars (32 �
 after_char : (skin : RowSkin) (c : StyledChar) → chars_in (char_piece c ∷ prefix_space skin ∷ []) ≡ skin_char (char_alone c) ++ 32 ∷ []
 after_char skin c = first_piece (char_piece c) (prefix_space skin ∷ []) ∙ ap (λ l. skin_char (char_alone c) ++ l) (last_space skin)
 
-pub front_chars : (skin : RowSkin) (kind : CompositeKind) → IsPrintablePrefix skin kind → chars_in (prefix_pieces skin kind) ≡ front_of skin kind
+pub front_chars : (skin : RowSkin) (kind : CompositeKind) → IsSoundPrefix skin kind → chars_in (prefix_pieces skin kind) ≡ front_of skin kind
 front_chars skin (ListItem depth) h =
     let blank : CompoundStyle = skin.paragraph.compound_style in
     both (single_spaces blank depth) (char_piece skin.bullet ∷ prefix_space skin ∷ [])
@@ -123,7 +124,7 @@ pub spaces_both : (m n : ℕ) → replicate {A = ℕ} m 32 ++ replicate {A = ℕ
 spaces_both zero n = let e : n ≡ 0 + n = omega arith in ap (λ (k : ℕ). replicate {A = ℕ} k 32) e
 spaces_both (suc m) n = let e : suc (m + n) ≡ suc m + n = omega arith in ap (λ (l : List ℕ). 32 ∷ l) (spaces_both m n) ∙ ap (λ (k : ℕ). replicate {A = ℕ} k 32) e
 
-composite_chars : (skin : RowSkin) (width : ℕ) (margins : ℕ × ℕ) (l : FmtComposite) → IsPrintablePrefix skin l.kind
+composite_chars : (skin : RowSkin) (width : ℕ) (margins : ℕ × ℕ) (l : FmtComposite) → IsSoundPrefix skin l.kind
     → chars_in (composite_pieces skin (Some width) margins true l) ≡ replicate (outer_blanks (line_style skin l.kind).align (Some width) margins l).0 32 ++ (replicate (inner_blanks l).0 32 ++ (front_of skin l.kind
     ++ (map (λ (x : FlaggedChar). x.char) (text_of l) ++ (replicate (inner_blanks l).1 32 ++ replicate (outer_blanks (line_style skin l.kind).align (Some width) margins l).1 32))))
 composite_chars skin width margins l prefix =
@@ -171,7 +172,7 @@ pub record AreWidths (width drawn : ℕ) : Type 0 where
   pub small : drawn < 2 ^ 64 - 1
 
 -- a line that is placed so is a row across these columns
-pub row_chars : (skin : RowSkin) (width drawn : ℕ) (part : List LineContent) (said : StyledRuns) (l : FmtComposite) → AreWidths width drawn → IsPrintablePrefix skin l.kind → IsMeasured (line_rules skin) l
+pub row_chars : (skin : RowSkin) (width drawn : ℕ) (part : List LineContent) (said : StyledRuns) (l : FmtComposite) → AreWidths width drawn → IsSoundPrefix skin l.kind → IsMeasured (line_rules skin) l
     → l.spacing ≡ place_for (is_code_kind l.kind) (min (widest_in part) (inner_width skin width said))
     → inner_width skin width said ≡ width - (margins_at (line_style skin l.kind) (Some width)).0 - (margins_at (line_style skin l.kind) (Some width)).1
     → columns_of (line_rules skin) l ≤ inner_width skin width said → (is_code_kind l.kind ≡ true → columns_of (line_rules skin) l ≤ widest_in part)

@@ -25,7 +25,7 @@ use Rattle.mad_layout.specs.FlaggedTables.{kept_widths, columns_below, rows_in_c
 use Rattle.mad_format.specs.Indents.{indent, follow_up, room_of}
 use Rattle.mad_format.specs.FmtLines.{bordered}
 use Rattle.mad_blocks.specs.LayoutParts.{is_code_kind, IsLineAt, AreLinesAt}
-use Rattle.mad_layout.specs.Premises.{IsPrintablePrefix, IsPrintableText, IsPrintableContent, KeepsPremises, inner_width, runs_text}
+use Rattle.mad_layout.specs.Premises.{inner_width, runs_text}
 use Rattle.mad_rows.specs.RowStyles.{line_rules, line_style}
 use Rattle.mad_blocks.specs.TextParts.{LineInPart}
 use Rattle.mad_format.specs.WrappedLines.{style_margins, line_with, IsLaidOutBy}
@@ -43,6 +43,7 @@ use Rattle.mad_blocks.proofs.LayoutJoins.{by_bool}
 use Rattle.mad_layout.proofs.RowsExist.{rows_of, rows_exist}
 use Rattle.mad_layout.proofs.ColumnChars.{column_piece}
 use Rattle.mad_layout.proofs.WrapRows.{whole_parts, kept_rows, wrapped_rows}
+use Rattle.mad_layout.proofs.SoundLines.{IsSoundPrefix, IsSoundText, IsSoundContent, AreSoundLines}
 
 -- ---- a line in its place
 
@@ -84,7 +85,7 @@ record IsRowLine (skin : RowSkin) (width : ℕ) (part : List LineContent) (said 
   inside : columns_of (line_rules skin) l ≤ inner_width skin width said
   holds : is_code_kind (kind_of said.style) ≡ true → columns_of (line_rules skin) l ≤ widest_in part
 
-one_row : (skin : RowSkin) (width drawn : ℕ) (part : List LineContent) (said : StyledRuns) (k : CompositeKind) (l : FmtComposite) → AreWidths width drawn → l.kind ≡ k → IsPrintablePrefix skin k
+one_row : (skin : RowSkin) (width drawn : ℕ) (part : List LineContent) (said : StyledRuns) (k : CompositeKind) (l : FmtComposite) → AreWidths width drawn → l.kind ≡ k → IsSoundPrefix skin k
     → is_code_kind k ≡ is_code_kind (kind_of said.style) → line_style skin k ≡ line_style skin (kind_of said.style) → IsRowLine skin width part said l
     → line_chars skin drawn (line_with (margins_at (line_style skin (kind_of said.style)) (Some width)) l) ≡ row_across skin width drawn part said k (text_of l)
 one_row skin width drawn part said k l bound kind prefix code style facts =
@@ -95,7 +96,7 @@ one_row skin width drawn part said k l bound kind prefix code style facts =
     ∙ row_chars skin width drawn part said (record l { kind = k }) bound prefix f.measured (f.spacing ∙ ap (λ b. place_for b place) (sym code)) inner f.inside (λ on. f.holds (sym code ∙ on))) facts
 
 -- of the lines of a wrap, those after the first
-others_across : (skin : RowSkin) (width drawn : ℕ) (part : List LineContent) (said : StyledRuns) (wrap : List FmtComposite) → AreWidths width drawn → IsPrintablePrefix skin (kind_of said.style)
+others_across : (skin : RowSkin) (width drawn : ℕ) (part : List LineContent) (said : StyledRuns) (wrap : List FmtComposite) → AreWidths width drawn → IsSoundPrefix skin (kind_of said.style)
     → (is_code_kind (kind_of said.style) ≡ true → inner_width skin width said ≤ widest_in part) → HaveKinds (follow_up (kind_of said.style)) (follow_up (kind_of said.style)) wrap
     → AllByRecursion (λ (l : FmtComposite). l.spacing ≡ place_for (is_code_kind (kind_of said.style)) (min (widest_in part) (inner_width skin width said))) wrap → AllByRecursion (IsMeasured (line_rules skin)) wrap
     → LinesFit (indent skin.list_items_indentation_mode (follow_up (kind_of said.style))) (room_of (line_rules skin) (kind_of said.style) (inner_width skin width said)) (map flagged_text (line_compounds wrap))
@@ -111,7 +112,7 @@ others_across skin width drawn part said (l ∷ ls) bound prefix most kinds spac
     let rest = others_across skin width drawn part said ls bound prefix most kinds.1 spacing.1 measured.1 fits.1 in
     ap (λ x. x ∷ map (line_chars skin drawn) (map (line_with (margins_at (line_style skin k) (Some width))) ls)) first ∙ ap (λ xs. row_across skin width drawn part said (follow_up k) (text_of l) ∷ xs) rest
 
-wrap_across : (skin : RowSkin) (width drawn : ℕ) (part : List LineContent) (said : StyledRuns) (wrap : List FmtComposite) → AreWidths width drawn → IsPrintablePrefix skin (kind_of said.style)
+wrap_across : (skin : RowSkin) (width drawn : ℕ) (part : List LineContent) (said : StyledRuns) (wrap : List FmtComposite) → AreWidths width drawn → IsSoundPrefix skin (kind_of said.style)
     → (is_code_kind (kind_of said.style) ≡ true → inner_width skin width said ≤ widest_in part) → HaveKinds (kind_of said.style) (follow_up (kind_of said.style)) wrap
     → AllByRecursion (λ (l : FmtComposite). l.spacing ≡ place_for (is_code_kind (kind_of said.style)) (min (widest_in part) (inner_width skin width said))) wrap → AllByRecursion (IsMeasured (line_rules skin)) wrap
     → LinesFit (indent skin.list_items_indentation_mode (kind_of said.style)) (room_of (line_rules skin) (kind_of said.style) (inner_width skin width said)) (map flagged_text (line_compounds wrap))
@@ -147,7 +148,7 @@ not_none : (ws : List FmtComposite) → (ws ≡ [] → ⊥) → 0 < length ws
 not_none [] h = absurd (h refl)
 not_none (w ∷ ws) h = omega arith
 
-kind_rows : (skin : RowSkin) (width drawn : ℕ) (part : List LineContent) (said : StyledRuns) (l : FmtComposite) (own : List FmtLine) → AreWidths width drawn → IsPrintableText skin (inner_width skin width said) (kind_of said.style) said.runs
+kind_rows : (skin : RowSkin) (width drawn : ℕ) (part : List LineContent) (said : StyledRuns) (l : FmtComposite) (own : List FmtLine) → AreWidths width drawn → IsSoundText skin (inner_width skin width said) (kind_of said.style) said.runs
     → IsPlacedIn skin width part said (record l { kind = kind_of said.style }) → IsLaidOutBy IsCompositeWrap (line_rules skin) width (record l { kind = kind_of said.style }) own → AreRowsIn skin width drawn part said own
 kind_rows skin width drawn part said l own bound printable read (inl (fits, same)) =
     let k : CompositeKind = kind_of said.style in
@@ -190,7 +191,7 @@ kind_rows skin width drawn part said l own bound printable read (inr (wide, (wra
       ),
     )
 
-pub said_rows : (skin : RowSkin) (width drawn : ℕ) (part : List LineContent) (said : StyledRuns) (l : FmtComposite) (own : List FmtLine) → AreWidths width drawn → IsPrintableText skin (inner_width skin width said) (kind_of said.style) said.runs
+pub said_rows : (skin : RowSkin) (width drawn : ℕ) (part : List LineContent) (said : StyledRuns) (l : FmtComposite) (own : List FmtLine) → AreWidths width drawn → IsSoundText skin (inner_width skin width said) (kind_of said.style) said.runs
     → IsPlacedIn skin width part said l → IsLaidOutBy IsCompositeWrap (line_rules skin) width l own → AreRowsIn skin width drawn part said own
 said_rows skin width drawn part said l own bound printable read laid =
     let same : l ≡ record l { kind = kind_of said.style } = as_kind l (kind_of said.style) read.kind in
@@ -209,7 +210,7 @@ AreReadIn skin width [] [] = Unit {0}
 AreReadIn skin width (x ∷ xs) (l ∷ ls) = IsReadIn skin width x.part x.line l × AreReadIn skin width xs ls
 AreReadIn skin width _ _ = ⊥
 
-content_rows : (skin : RowSkin) (width drawn : ℕ) (x : LineInPart) (line : LineContent) (l : FmtLine) (own : List FmtLine) → AreWidths width drawn → IsPrintableContent skin width x.part line
+content_rows : (skin : RowSkin) (width drawn : ℕ) (x : LineInPart) (line : LineContent) (l : FmtLine) (own : List FmtLine) → AreWidths width drawn → IsSoundContent skin width x.part line
     → IsReadIn skin width x.part line l → IsLineAt IsCompositeWrap (line_rules skin) (Some width) l own → (0 < length own) × IsAcross skin width drawn x line (map (line_chars skin drawn) own)
 content_rows skin width drawn x (normal said) (Normal l) own bound printable read laid = said_rows skin width drawn x.part said l own bound printable read laid
 content_rows skin width drawn x horizontal_rule HorizontalRule own bound printable read laid =
@@ -273,8 +274,8 @@ some_same (o ∷ own) xs ys n some e = ap (λ (l : List (List ℕ)). o ∷ l) (f
 
 -- The first rows of these lines and of those after them, whose rows are there for any number of lines that keep the premises.
 pub front_across : (skin : RowSkin) (width drawn : ℕ) (n : ℕ) (xs ys : List LineInPart) (placed own others : List FmtLine) → AreWidths width drawn
-    → ((m : ℕ) → KeepsPremises skin width (take m ys) → HaveFirstRows skin width drawn m ys others)
-    → KeepsPremises skin width (take n (xs ++ ys)) → AreReadIn skin width xs placed → AreLinesAt IsCompositeWrap (line_rules skin) (Some width) placed own
+    → ((m : ℕ) → AreSoundLines skin width (take m ys) → HaveFirstRows skin width drawn m ys others)
+    → AreSoundLines skin width (take n (xs ++ ys)) → AreReadIn skin width xs placed → AreLinesAt IsCompositeWrap (line_rules skin) (Some width) placed own
     → HaveFirstRows skin width drawn n (xs ++ ys) (own ++ others)
 front_across skin width drawn zero xs ys placed own others bound later keeps reads laid = let all = across_exist skin width drawn (xs ++ ys) in (all.0, all.1, refl)
 front_across skin width drawn (suc n) [] ys [] own others bound later keeps reads laid = subst (λ (ls : List FmtLine). HaveFirstRows skin width drawn (suc n) ys (ls ++ others)) (sym laid) (later (suc n) keeps)

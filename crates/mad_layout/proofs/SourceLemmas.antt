@@ -53,7 +53,7 @@ unjoined flags [] h before = tt
 unjoined flags (c ∷ cs) h before = (λ none. absurd (omega (arith, none, h.0)), unjoined flags cs h.1 (not (is_blank (record { char = c; flags = flags }))))
 
 pub printable_run : (flags : Flags) (text : List ℕ) → TakesColumns text → IsPrintableRun (record { flags = flags; text = text })
-printable_run flags text h = record { utf8 = h.utf8; printed = printed (chars text) h.columns; joined = unjoined flags (chars text) h.columns false }
+printable_run flags text h = record { printed = printed (chars text) h.columns; joined = unjoined flags (chars text) h.columns false }
 
 -- ---- a line
 

@@ -23,8 +23,6 @@ use Rattle.mad_layout.specs.FlaggedTables.{columns_among, cells_among, words_amo
 use Rattle.mad_layout.specs.FlaggedTexts.{LineInPart, aligns_at, position_in, lines_in, IsAcross}
 use Rattle.mad_format.specs.Indents.{indent, follow_up, room_of}
 use Rattle.mad_format.specs.FmtLines.{bordered, IsCompositeRead, AreCompositesRead, IsLineRead, is_table_line}
-use Rattle.mad_layout.specs.PrintableTables.{ArePrintableCells}
-use Rattle.mad_layout.specs.Premises.{IsPrintablePrefix, IsPrintableText, KeepsPremises}
 use Rattle.mad_blocks.specs.Tables.{first_columns, widths_by, in_column, IsCellLaidOut, AreCellsLaidOut, below, tallest, IsRowLaidOutBy, columns_with, columns_from, columns_count, columns_in, position_at, IsTableLineBy, AreTableLinesBy, IsTableLaidOutBy}
 use Rattle.mad_blocks.specs.Tables as tables
 use Rattle.mad_format.specs.Wraps.{text_of, columns_of, IsMeasured}
@@ -46,16 +44,17 @@ use Rattle.mad_layout.proofs.ColumnChars.{column_rule}
 use Rattle.mad_rows.specs.Rows.{rule_chars}
 use Rattle.mad_layout.proofs.WrapRows.{whole_parts, kept_rows, wrapped_rows}
 use Rattle.mad_rows.specs.RowStyles.{line_rules}
+use Rattle.mad_layout.proofs.SoundLines.{AreSoundCells, IsSoundPrefix, IsSoundText, AreSoundLines}
 
 -- ---- a cell in its column
 
-one_in_column : (skin : RowSkin) (c : Spacing) (k : CompositeKind) (l : FmtComposite) → c.width < 2 ^ 64 - 1 → IsPrintablePrefix skin k → l.kind ≡ k → IsMeasured (line_rules skin) l → columns_of (line_rules skin) l ≤ c.width
+one_in_column : (skin : RowSkin) (c : Spacing) (k : CompositeKind) (l : FmtComposite) → c.width < 2 ^ 64 - 1 → IsSoundPrefix skin k → l.kind ≡ k → IsMeasured (line_rules skin) l → columns_of (line_rules skin) l ≤ c.width
     → cell_chars skin (in_column c l) ≡ row_in_column skin c k (text_of l)
 one_in_column skin c k l bound prefix kind measured fits =
     let same : l.visible_length ≡ columns_of (line_rules skin) l = omega (arith, measured, fits, bound) in
-    column_chars skin c l (subst (IsPrintablePrefix skin) (sym kind) prefix) same ∙ ap (λ (x : CompositeKind). row_in_column skin c x (text_of l)) kind
+    column_chars skin c l (subst (IsSoundPrefix skin) (sym kind) prefix) same ∙ ap (λ (x : CompositeKind). row_in_column skin c x (text_of l)) kind
 
-others_in_column : (skin : RowSkin) (c : Spacing) (k : CompositeKind) (ls : List FmtComposite) → c.width < 2 ^ 64 - 1 → IsPrintablePrefix skin (follow_up k) → HaveKinds (follow_up k) (follow_up k) ls → AllByRecursion (IsMeasured (line_rules skin)) ls
+others_in_column : (skin : RowSkin) (c : Spacing) (k : CompositeKind) (ls : List FmtComposite) → c.width < 2 ^ 64 - 1 → IsSoundPrefix skin (follow_up k) → HaveKinds (follow_up k) (follow_up k) ls → AllByRecursion (IsMeasured (line_rules skin)) ls
     → LinesFit (indent skin.list_items_indentation_mode (follow_up k)) (room_of (line_rules skin) k c.width) (map flagged_text (line_compounds ls)) → lines_rows skin c ls ≡ map (row_in_column skin c (follow_up k)) (map flagged_text (line_compounds ls))
 others_in_column skin c k [] bound prefix kinds measured fits = refl
 others_in_column skin c k (l ∷ ls) bound prefix kinds measured fits =
@@ -64,7 +63,7 @@ others_in_column skin c k (l ∷ ls) bound prefix kinds measured fits =
     let rest = others_in_column skin c k ls bound prefix kinds.1 measured.1 fits.1 in
     ap (λ x. x ∷ lines_rows skin c ls) first ∙ ap (λ xs. row_in_column skin c (follow_up k) (text_of l) ∷ xs) rest
 
-wrap_in_column : (skin : RowSkin) (c : Spacing) (k : CompositeKind) (ls : List FmtComposite) → c.width < 2 ^ 64 - 1 → IsPrintablePrefix skin k → HaveKinds k (follow_up k) ls → AllByRecursion (IsMeasured (line_rules skin)) ls
+wrap_in_column : (skin : RowSkin) (c : Spacing) (k : CompositeKind) (ls : List FmtComposite) → c.width < 2 ^ 64 - 1 → IsSoundPrefix skin k → HaveKinds k (follow_up k) ls → AllByRecursion (IsMeasured (line_rules skin)) ls
     → LinesFit (indent skin.list_items_indentation_mode k) (room_of (line_rules skin) k c.width) (map flagged_text (line_compounds ls)) → lines_rows skin c ls ≡ rows_in_column skin c k (map flagged_text (line_compounds ls))
 wrap_in_column skin c k [] bound prefix kinds measured fits = refl
 wrap_in_column skin c k (l ∷ ls) bound prefix kinds measured fits =
@@ -77,7 +76,7 @@ wrap_in_column skin c k (l ∷ ls) bound prefix kinds measured fits =
 abbrev HasRowsIn : RowSkin → Spacing → CompositeKind → List (List FlaggedChar) → List FmtComposite → Type 0
 HasRowsIn skin c k parts ls = (rows : List (List FlaggedChar)) × AreRowsOf (room_of (line_rules skin) k c.width) parts rows × (lines_rows skin c ls ≡ rows_in_column skin c k rows)
 
-cell_rows : (skin : RowSkin) (c : Spacing) (cell : FmtComposite) (ls : List FmtComposite) → c.width < 2 ^ 64 - 1 → IsMeasured (line_rules skin) cell → IsPrintableText skin c.width cell.kind (map run_of cell.compounds.items)
+cell_rows : (skin : RowSkin) (c : Spacing) (cell : FmtComposite) (ls : List FmtComposite) → c.width < 2 ^ 64 - 1 → IsMeasured (line_rules skin) cell → IsSoundText skin c.width cell.kind (map run_of cell.compounds.items)
     → IsCellLaidOut IsCompositeWrap (line_rules skin) c.width cell ls → HasRowsIn skin c cell.kind (map flagged_of cell.compounds.items) ls
 cell_rows skin c cell ls bound measured printable (inl (fits, same)) =
     let inside : columns_of (line_rules skin) cell ≤ c.width = omega (arith, measured, fits, bound) in (
@@ -102,12 +101,12 @@ said_cell skin c said cell ls read h =
 
 -- ---- a row
 
-none_printable : (skin : RowSkin) (ws : List ℕ) → ArePrintableCells skin ws []
+none_printable : (skin : RowSkin) (ws : List ℕ) → AreSoundCells skin ws []
 none_printable skin [] = tt
 none_printable skin (w ∷ ws) = tt
 
 cells_in_columns : (skin : RowSkin) (cs : List Spacing) (said : List StyledRuns) (cells : List FmtComposite) (lines : List (List FmtComposite)) → AllByRecursion (λ c. c.width < 2 ^ 64 - 1) cs → AreCompositesRead (line_rules skin) said cells
-    → ArePrintableCells skin (widths_of cs) cells → AreCellsLaidOut IsCompositeWrap (line_rules skin) cs cells lines → AreInColumns skin cs said (placed_lines skin cs lines)
+    → AreSoundCells skin (widths_of cs) cells → AreCellsLaidOut IsCompositeWrap (line_rules skin) cs cells lines → AreInColumns skin cs said (placed_lines skin cs lines)
 cells_in_columns skin [] said cells lines bound read printable laid = refl
 cells_in_columns skin (c ∷ cs) said cells [] bound read printable laid = absurd laid
 cells_in_columns skin (c ∷ cs) [] [] (ls ∷ lines) bound read printable laid =
@@ -136,7 +135,7 @@ as_tall skin (c ∷ cs) cells (ls ∷ lines) laid =
 as_tall skin _ cells _ laid = absurd laid
 
 row_is_across : (skin : RowSkin) (drawn : ℕ) (cs : List Spacing) (said : List StyledRuns) (cells : List FmtComposite) (rows : List FmtTableRow) → AllByRecursion (λ c. c.width < 2 ^ 64 - 1) cs → AreCompositesRead (line_rules skin) said cells
-    → ArePrintableCells skin (widths_of cs) cells → IsRowLaidOutBy IsCompositeWrap (line_rules skin) cs cells rows → IsRowAcross skin drawn cs said (map (line_chars skin drawn) (map TableRow rows))
+    → AreSoundCells skin (widths_of cs) cells → IsRowLaidOutBy IsCompositeWrap (line_rules skin) cs cells rows → IsRowAcross skin drawn cs said (map (line_chars skin drawn) (map TableRow rows))
 row_is_across skin drawn cs said cells rows bound read printable laid =
     let placed : List CellInColumn = placed_lines skin cs laid.lines in
     let same : most_rows placed ≡ tallest laid.lines = as_tall skin cs cells laid.lines laid.laid_out in
@@ -168,7 +167,7 @@ line_rows skin width drawn ws x (table_row cells) (TableRow row) own bound fit i
     let cs : List Spacing = columns_below ws x.aligns in
     let widths : widths_of cs ≡ ws = below-widths ws x.aligns in
     let inside : 1 + bordered (widths_of cs) ≤ width = subst (λ vs. 1 + bordered vs ≤ width) (sym widths) fit in
-    let printable : ArePrintableCells skin (widths_of cs) row.cells.items = subst (λ vs. ArePrintableCells skin vs row.cells.items) (sym widths) content.printable in
+    let printable : AreSoundCells skin (widths_of cs) row.cells.items = subst (λ vs. AreSoundCells skin vs row.cells.items) (sym widths) content.printable in
     let across = row_is_across skin drawn cs cells row.cells.items rows (widths_small width cs (omega (arith, bound.narrower, bound.small)) inside) read printable laid in
     let count : length rows ≡ max _ 1 = laid.count in
     subst (λ (ls : List FmtLine). (0 < length ls) × IsAcross skin width drawn x (table_row cells) (map (line_chars skin drawn) ls)) (sym same)
@@ -189,8 +188,8 @@ AreLaidIn skin width ws _ _ lines = ⊥
 
 -- The first rows of these lines and of those after them, whose rows are there for any number of lines that keep the premises.
 pub table_front : (skin : RowSkin) (width drawn : ℕ) (n : ℕ) (ws : List ℕ) (xs ys : List LineInPart) (read own others : List FmtLine) → AreWidths width drawn → 1 + bordered ws ≤ width
-    → ((m : ℕ) → KeepsPremises skin width (take m ys) → HaveFirstRows skin width drawn m ys others)
-    → KeepsPremises skin width (take n (xs ++ ys)) → AreLaidIn skin width ws xs read own → HaveFirstRows skin width drawn n (xs ++ ys) (own ++ others)
+    → ((m : ℕ) → AreSoundLines skin width (take m ys) → HaveFirstRows skin width drawn m ys others)
+    → AreSoundLines skin width (take n (xs ++ ys)) → AreLaidIn skin width ws xs read own → HaveFirstRows skin width drawn n (xs ++ ys) (own ++ others)
 table_front skin width drawn zero ws xs ys read own others bound fit later keeps laid = let all = across_exist skin width drawn (xs ++ ys) in (all.0, all.1, refl)
 table_front skin width drawn (suc n) ws [] ys [] own others bound fit later keeps laid = subst (λ (ls : List FmtLine). HaveFirstRows skin width drawn (suc n) ys (ls ++ others)) (sym laid) (later (suc n) keeps)
 table_front skin width drawn (suc n) ws (x ∷ xs) ys (l ∷ ls) own others bound fit later keeps (here, there, joins, h, more) =
@@ -304,8 +303,8 @@ bare_in skin width part above first _ _ is none empty reads = absurd reads
 
 -- The first rows of a table and of the lines after it.
 pub table_rows_across : (skin : RowSkin) (width drawn : ℕ) (n : ℕ) (part : List LineContent) (ys : List LineInPart) (read own others : List FmtLine) → AreWidths width drawn → 3 ≤ width
-    → ((m : ℕ) → KeepsPremises skin width (take m ys) → HaveFirstRows skin width drawn m ys others)
-    → KeepsPremises skin width (take n (lines_in part None true part ++ ys)) → AreTableRead skin part read
+    → ((m : ℕ) → AreSoundLines skin width (take m ys) → HaveFirstRows skin width drawn m ys others)
+    → AreSoundLines skin width (take n (lines_in part None true part ++ ys)) → AreTableRead skin part read
     → IsTableLaidOutBy IsCompositeWrap (line_rules skin) (columns_count read) width read own → HaveFirstRows skin width drawn n (lines_in part None true part ++ ys) (own ++ others)
 table_rows_across skin width drawn n part ys read own others bound wide later keeps reads (inl (inl none, stays)) =
     let empty : columns_among part ≡ 0 = sym (count_read skin part read reads) ∙ none in

@@ -15,7 +15,7 @@ use Rattle.mad_format.specs.Indents.{indent}
 use Rattle.mad_blocks.proofs.WideLayouts.{IsLayout}
 use Rattle.mad_format.specs.FmtLines.{IsLineRead, IsCompositeRead}
 use Rattle.mad_blocks.specs.LayoutParts.{Part, table, block, single, is_code_kind, parts_of, widest, placed_code, ArePartsAt}
-use Rattle.mad_layout.specs.Premises.{KeepsPremises, inner_width, runs_text}
+use Rattle.mad_layout.specs.Premises.{inner_width, runs_text}
 use Rattle.mad_rows.specs.RowStyles.{line_rules, line_style}
 use Rattle.mad_format.specs.Wraps.{text_of}
 use Rattle.mad_rows.specs.declared.row_skin.RowSkin.{RowSkin}
@@ -28,6 +28,7 @@ use Rattle.mad_layout.proofs.RowChars.{AreWidths, place_for, line_chars}
 use Rattle.mad_layout.proofs.RowsAcross.{IsReadIn, AreReadIn, HaveFirstRows, code_indent, front_across}
 use Rattle.mad_layout.proofs.ReadParts.{AreCodeRead, ArePartsRead, parts_read, all_in}
 use Rattle.mad_layout.proofs.TablesAcross.{table_rows_across}
+use Rattle.mad_layout.proofs.SoundLines.{AreSoundLines}
 
 -- ---- a block of code
 
@@ -95,7 +96,7 @@ line_placed skin width part horizontal_rule HorizontalRule other no_table read =
 -- ---- a text
 
 parts_across : (skin : RowSkin) (width drawn : ℕ) (n : ℕ) (css : List (List LineContent)) (ps : List Part) (lines : List FmtLine) → AreWidths width drawn → 3 ≤ width
-    → KeepsPremises skin width (take n (all_in css)) → ArePartsRead skin css ps → ArePartsAt IsCompositeWrap (line_rules skin) width (Some width) ps lines
+    → AreSoundLines skin width (take n (all_in css)) → ArePartsRead skin css ps → ArePartsAt IsCompositeWrap (line_rules skin) width (Some width) ps lines
     → HaveFirstRows skin width drawn n (all_in css) lines
 parts_across skin width drawn n [] [] lines bound wide keeps reads laid = ([], refl, ap (λ (ls : List FmtLine). take n (map (line_chars skin drawn) ls)) (sym laid))
 parts_across skin width drawn n [] (p ∷ ps) lines bound wide keeps reads laid = absurd reads
@@ -116,7 +117,7 @@ parts_across skin width drawn n ((c ∷ []) ∷ css) (single l ∷ ps) lines bou
 parts_across skin width drawn n _ _ lines bound wide keeps reads _ = absurd reads.0
 
 -- The first rows of a layout are the first rows of the text's lines, where the first lines keep the premises.
-pub text_across : (skin : RowSkin) (width drawn : ℕ) (n : ℕ) (text : List LineContent) (lines : List FmtLine) → AreWidths width drawn → 3 ≤ width → KeepsPremises skin width (take n (lines_in_parts text))
+pub text_across : (skin : RowSkin) (width drawn : ℕ) (n : ℕ) (text : List LineContent) (lines : List FmtLine) → AreWidths width drawn → 3 ≤ width → AreSoundLines skin width (take n (lines_in_parts text))
     → IsLayout (line_rules skin) width text lines → HaveFirstRows skin width drawn n (lines_in_parts text) lines
 text_across skin width drawn n text lines bound wide keeps layout =
     parts_across skin width drawn n (text_parts text) (parts_of layout.read) lines bound wide keeps

@@ -13,7 +13,8 @@ use Rattle.mad_fit.specs.Tokens.{StopsBefore, IsAlike, AreTokensFrom, AreTokensO
 use Rattle.mad_fit.specs.declared.tokens.Token.{Token}
 use Rattle.mad_fit.proofs.AllLemmas.{all_joined, all_front, all_back}
 use Rattle.mad_fit.proofs.TokenTexts.{text_at, some_flagged}
-use Rattle.mad_layout.specs.Premises.{AreJoined, IsPrintableRun}
+use Rattle.mad_layout.specs.Premises.{AreJoined}
+use Rattle.mad_layout.proofs.SoundLines.{IsSoundRun}
 
 -- ---- characters without their flags
 
@@ -113,7 +114,7 @@ joined_whole : (f : Flags) (cs : List ℕ) → AreJoined false (flagged f cs) �
 joined_whole f [] h = tt
 joined_whole f (c ∷ cs) h = positive (char_columns c) (λ none. false≢true (h.0 none).1)
 
-pub printable_is_shown : (r : Run) → IsPrintableRun r → IsShownRun r
+pub printable_is_shown : (r : Run) → IsSoundRun r → IsShownRun r
 printable_is_shown r h = record { utf8 = h.utf8; shown = record { printed = h.printed; whole = joined_whole r.flags (chars r.text) h.joined } }
 
 shown_from : (max start : ℕ) (p : Compound) (ts : List Token) → AreTokensFrom max p start ts → IsRest max (flagged (flags_of p) (chars (drop start p.src.now)))
@@ -126,7 +127,7 @@ shown_from max start p (t ∷ ts) (first, more) rest =
       shown_from max t.end_in_compound p ts more cut.1,
     )
 
-rest_at_start : (max : ℕ) (p : Compound) → IsPrintableRun (run_of p) → AllByRecursion (λ x. char_columns x.char ≤ max) (flagged_of p) → IsRest max (flagged_of p)
+rest_at_start : (max : ℕ) (p : Compound) → IsSoundRun (run_of p) → AllByRecursion (λ x. char_columns x.char ≤ max) (flagged_of p) → IsRest max (flagged_of p)
 rest_at_start max p h narrow =
     let same : chars_of (flagged_of p) ≡ chars p.src.now = chars_of-flagged (flags_of p) (chars p.src.now) in
     record {
@@ -138,7 +139,7 @@ rest_at_start max p h narrow =
     }
 
 -- the tokens of printable compounds are shown
-pub tokens_shown : (max : ℕ) (ps : List Compound) (ts : List Token) → AllByRecursion IsPrintableRun (map run_of ps) → AllByRecursion (λ x. char_columns x.char ≤ max) (flagged_text ps)
+pub tokens_shown : (max : ℕ) (ps : List Compound) (ts : List Token) → AllByRecursion IsSoundRun (map run_of ps) → AllByRecursion (λ x. char_columns x.char ≤ max) (flagged_text ps)
     → AreTokensOf max ps ts → AllByRecursion IsShownRun (map token_run ts)
 tokens_shown max [] ts printable narrow h = subst (λ (l : List Token). AllByRecursion IsShownRun (map token_run l)) (sym h) tt
 tokens_shown max (p ∷ ps) ts printable narrow (own, others, joins, first, more) =

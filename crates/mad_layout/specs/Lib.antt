@@ -8,6 +8,7 @@ pub mod Headline
 pub mod InArea
 pub mod Inlines
 pub mod ItemCells
+pub mod ItemStyles
 pub mod LaidOutTexts
 pub mod LineTexts
 pub mod MadeSkins

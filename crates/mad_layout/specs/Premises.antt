@@ -1,9 +1,10 @@
 -- What a text has to keep for its rows to be shown exactly.
-use Rattle.std.specs.Prelude.{◌≡◌, ℕ, ◌+◌, ◌<◌, ◌≤◌, ◌^◌, Bool, true, false, not, List, [], ◌∷◌}
+use Rattle.std.specs.Prelude.{◌≡◌, ℕ, ◌+◌, ◌<◌, ◌≤◌, Bool, true, false, not, List, [], ◌∷◌}
 use Rattle.std.specs.List.{AllByRecursion}
 use Rattle.std.specs.Char.{is_whitespace}
-use Rattle.std.specs.Str.{chars, IsUtf8}
+use Rattle.std.specs.Str.{chars}
 use Rattle.mad_md.specs.Flagged.{FlaggedChar, Run, flagged, is_blank}
+use Rattle.mad_md.specs.TypedLines.{IsTypedLine}
 use Rattle.mad_md.specs.Lines.{StyledRuns, LineContent, normal, table_row, table_rule, horizontal_rule}
 use Rattle.mad_style.specs.declared.kinds.CompositeKind.{CompositeKind}
 use Rattle.mad_style.specs.declared.kinds.CompositeKind.TheVariants.{ListItem, OrderedListItem, Quote}
@@ -32,15 +33,13 @@ AreJoined after (x ∷ xs) = (char_columns x.char ≡ 0 → (is_whitespace x.cha
 
 -- A run without control characters, each widthless character after a non-blank one of the same run.
 pub record IsPrintableRun (r : Run) : Type 0 where
-  pub utf8 : IsUtf8 r.text
   pub printed : IsPrinted (chars r.text)
   pub joined : AreJoined false (flagged r.flags (chars r.text))
 
 -- The character in front of a line of this kind, if there is one, takes one column: an item's bullet, the character after its number, a quote's.
--- (A number that is read has nine digits at most.)
 abbrev pub IsPrintablePrefix : RowSkin → CompositeKind → Type 0
 IsPrintablePrefix skin (ListItem depth) = IsColumnChar (char_alone skin.bullet)
-IsPrintablePrefix skin (OrderedListItem level index) = (index < 2 ^ 32) × IsColumnChar (index_suffix skin level)
+IsPrintablePrefix skin (OrderedListItem level index) = IsColumnChar (index_suffix skin level)
 IsPrintablePrefix skin Quote = IsColumnChar (char_alone skin.quote_mark)
 IsPrintablePrefix skin _ = Unit {0}
 
@@ -79,3 +78,7 @@ IsPrintableContent skin width part horizontal_rule = IsColumnChar (char_alone sk
 -- so is each of these lines of a text, at a layout's width
 abbrev pub KeepsPremises : RowSkin → ℕ → List LineInPart → Type 0
 KeepsPremises skin width lines = AllByRecursion (λ l. IsPrintableContent skin width l.part l.line) lines
+
+-- What types promise of these lines of a text: each text is UTF-8, and each item's number below 2^32. So it is of each line that was read.
+abbrev pub AreTyped : List LineInPart → Type 0
+AreTyped lines = AllByRecursion (λ l. IsTypedLine l.line) lines

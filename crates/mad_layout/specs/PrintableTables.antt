@@ -2,6 +2,9 @@
 use Rattle.std.specs.Prelude.{◌≡◌, ℕ, ◌-◌, ◌<◌, ◌≤◌, ◌^◌, List, [], ◌∷◌, map}
 use Rattle.std.specs.List.{AllByRecursion}
 use Rattle.mad_md.specs.Flagged.{run_of}
+use Rattle.mad_md.specs.TypedLines.{IsTypedRun}
+use Rattle.mad_style.specs.declared.kinds.CompositeKind.{CompositeKind}
+use Rattle.mad_style.specs.declared.kinds.CompositeKind.TheVariants.{OrderedListItem}
 use Rattle.mad_layout.specs.Drawable.{AreDrawable}
 use Rattle.mad_layout.specs.Premises.{AreBordersShown, IsPrintableText}
 use Rattle.mad_blocks.specs.Tables.{AreKeptWidths, IsTableLaidOutBy, columns_count}
@@ -13,12 +16,21 @@ use Rattle.mad_format.specs.declared.line.FmtLine.{FmtLine}
 use Rattle.mad_format.specs.declared.line.FmtLine.TheVariants.{TableRow, TableRule}
 use Rattle.mad_rows.specs.RowStyles.{line_rules}
 
+-- the number of an item, if the kind has one
+abbrev pub IsTypedKind : CompositeKind → Type 0
+IsTypedKind (OrderedListItem level index) = index < 2 ^ 32
+IsTypedKind _ = Unit {0}
+
+-- what types promise of a cell: its number, if it has one, is below 2^32, and each of its runs UTF-8
+abbrev pub IsTypedCell : FmtComposite → Type 0
+IsTypedCell cell = IsTypedKind cell.kind × AllByRecursion IsTypedRun (map run_of cell.compounds.items)
+
 -- cells of any kind, measured and printable, each with room in its column of these where it doesn't fit; nothing is asked of cells past the
 -- last column
 abbrev pub ArePrintableCells : RowSkin → List ℕ → List FmtComposite → Type 0
 ArePrintableCells skin [] cells = Unit {0}
 ArePrintableCells skin (w ∷ ws) [] = Unit {0}
-ArePrintableCells skin (w ∷ ws) (cell ∷ cells) = IsMeasured (line_rules skin) cell × IsPrintableText skin w cell.kind (map run_of cell.compounds.items) × ArePrintableCells skin ws cells
+ArePrintableCells skin (w ∷ ws) (cell ∷ cells) = IsMeasured (line_rules skin) cell × IsTypedCell cell × IsPrintableText skin w cell.kind (map run_of cell.compounds.items) × ArePrintableCells skin ws cells
 
 -- a line of a table, not yet laid out, whose cells are so in columns of these widths
 abbrev pub IsPrintableTableLine : RowSkin → List ℕ → FmtLine → Type 0

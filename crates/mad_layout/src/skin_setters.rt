@@ -1,19 +1,34 @@
 //! Changing several parts of a skin at once.
 
-ghost use Rattle.std.specs.Prelude.{◌≡◌, option_map, slice_get};
+ghost use Rattle.std.specs.Prelude.{◌≡◌, nat_lt, option_map, slice_get};
 
 use crate::skin::MadSkin;
-use mad_style::OrderedItemStyle;
+use mad_style::{MAX_ORDERED_LIST_DEPTH, OrderedItemStyle};
 use mad_term::Color;
 
 impl MadSkin {
     ghost use Rattle.mad_layout.specs.RecoloredSkins.{headers_in, headers_on, text_in, text_on, lines_on};
+    ghost use Rattle.mad_layout.specs.ItemStyles.{with_item_style};
 
     /// How the items of an ordered list look at a level, counted from 0; none past the last.
     pub fn ordered_item_style_mut(&mut self, level: u8) -> Option<&mut OrderedItemStyle>
         ensures { option_map (λ style. style.now) result ≡ slice_get self.old.ordered_item_styles level }
     {
         self.ordered_item_styles.get_mut(usize::from(level))
+    }
+
+    /// Sets how the items of an ordered list look at a level, counted from 0, and answers whether there is such a level. Past the last one
+    /// nothing changes.
+    pub fn set_ordered_item_style(&mut self, level: u8, style: OrderedItemStyle) -> bool
+        ensures set { self.new ≡ with_item_style level style self.old }
+        ensures answer { result ≡ nat_lt level 4 }
+    {
+        let level = usize::from(level);
+        let is_level = level < MAX_ORDERED_LIST_DEPTH;
+        if is_level {
+            self.ordered_item_styles[level] = style;
+        }
+        is_level
     }
 
     /// Sets the foreground of all text: of paragraphs, headers, bold, italic and struck out text, of bullets, quote

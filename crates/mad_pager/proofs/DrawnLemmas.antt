@@ -53,7 +53,7 @@ pub lines_shown : (skin : MadSkin) (s : State) (old new : Trace) → 5 ≤ s.pag
 lines_shown skin s old new wide h keeps =
     let rules = line_rules (paged_skin skin) in
     let width : ℕ = s.page.columns - 1 in
-    h keeps.text width (drawn_wide (bar_of skin s) s.page.columns) keeps.bar keeps.keeps (layout_fits rules width keeps.text s.lines (wrapped_at rules width keeps.text s.lines (omega arith) keeps.layout))
+    h keeps.text width (drawn_wide (bar_of skin s) s.page.columns) keeps.bar keeps.typed keeps.keeps (layout_fits rules width keeps.text s.lines (wrapped_at rules width keeps.text s.lines (omega arith) keeps.layout))
 
 neither : (a b : Bool) → (a || b) ≡ false → a ≡ false
 neither true b h = absurd (cc)

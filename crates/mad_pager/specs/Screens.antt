@@ -17,7 +17,7 @@ use Rattle.mad_wrap.specs.WrapLines.{capped}
 use Rattle.mad_blocks.specs.Layouts.{IsLayoutAt}
 use Rattle.mad_blocks.specs.TextParts.{lines_in_parts}
 use Rattle.mad_hits.specs.Drawn.{AreLinesMarked}
-use Rattle.mad_layout.specs.Premises.{KeepsPremises}
+use Rattle.mad_layout.specs.Premises.{KeepsPremises, AreTyped}
 use Rattle.mad_rows.specs.RowStyles.{line_rules, with_links}
 use Rattle.mad_page.specs.Pages.{percent}
 use Rattle.mad_search.specs.Searches.{composite_text}
@@ -138,11 +138,12 @@ pub record IsOrderly (skin : MadSkin) (text : List LineContent) (s : State) : Ty
 
 -- ---- what is shown
 
--- What the text has to keep: the rows on the screen are a layout of a text that keeps the premises, as far as the screen reaches, and the
--- characters of the bar, if there is one, take one column each.
+-- What the text has to keep: the rows on the screen are a layout of a text that, as far as the screen reaches, is as its types promise and keeps
+-- the premises, and the characters of the bar, if there is one, take one column each.
 pub record KeepsTextPremises (skin : MadSkin) (s : State) : Type 0 where
   pub text : List LineContent
   pub layout : IsLayoutAt (line_rules (row_skin skin)) (Some (s.page.columns - 1)) text s.lines
+  pub typed : AreTyped (take (s.page.top + (s.page.rows - 1)) (lines_in_parts text))
   pub keeps : KeepsPremises (paged_skin skin) (s.page.columns - 1) (take (s.page.top + (s.page.rows - 1)) (lines_in_parts text))
   pub bar : IfSome (bar_of skin s) (IsBarShown s.page.columns)
 

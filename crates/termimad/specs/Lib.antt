@@ -8,6 +8,7 @@ pub use Rattle.mad_md.specs.ReadRaw
 pub use Rattle.mad_md.specs.Cells
 pub use Rattle.mad_md.specs.Cursor
 pub use Rattle.mad_md.specs.Spans
+pub use Rattle.mad_md.specs.TypedLines
 pub use Rattle.mad_md.specs.UnmarkedLines
 pub use Rattle.mad_md.specs.Reading
 pub use Rattle.mad_md.specs.ReadingLaws
@@ -109,6 +110,7 @@ pub use Rattle.mad_layout.specs.InArea
 pub use Rattle.mad_format.specs.Indents
 pub use Rattle.mad_layout.specs.Inlines
 pub use Rattle.mad_layout.specs.ItemCells
+pub use Rattle.mad_layout.specs.ItemStyles
 pub use Rattle.mad_layout.specs.LaidOutTexts
 pub use Rattle.mad_blocks.specs.LayoutLaws
 pub use Rattle.mad_blocks.specs.LayoutExamples

@@ -93,13 +93,25 @@ fn push_changed_members(old: &Value, new: &Value, told: &mut String) -> Result<(
     Ok(())
 }
 
-/// What it changes of the default skin where the numbers of a level's items are red.
+/// What it changes of the default skin where the numbers of a level's items are red, and whether a style that is lent changes the same.
 pub fn numbered(alloc: Global, level: u8) -> Result<String, Refusal> {
     let mut skin = MadSkin::default();
-    let Some(style) = skin.ordered_item_style_mut(level) else {
-        return Ok(String::from_str(alloc, "no such level")?);
+    let mut item = *skin.ordered_item_style(level);
+    item.index_style.set_fg(Color::Red);
+    let is_level = skin.set_ordered_item_style(level, item);
+    let mut lent = MadSkin::default();
+    let Some(style) = lent.ordered_item_style_mut(level) else {
+        let told = if is_level {
+            "otherwise"
+        } else {
+            "no such level"
+        };
+        return Ok(String::from_str(alloc, told)?);
     };
     style.index_style.set_fg(Color::Red);
+    if !is_level || lent != skin {
+        return Ok(String::from_str(alloc, "otherwise")?);
+    }
     let mut told = String::new(alloc);
     push_changed_parts(alloc, &skin, &mut told)?;
     Ok(told)
