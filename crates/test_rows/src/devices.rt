@@ -17,6 +17,18 @@ pub trait Writing {
 // More bytes than what is tried may write.
 const ROOM: usize = 20_000;
 
+/// Whether a line of an answer tells of a call that devices were tried on, and that did on each what it should.
+pub fn is_cut(line: &str) -> bool {
+    line.contains("cut after each of ")
+}
+
+/// Whether a line of an answer tells of a device on which a call did otherwise than it should.
+pub fn is_fault(line: &str) -> bool {
+    line.starts_with("not cut after ")
+        || line.starts_with("other bytes")
+        || line.ends_with("goes wrong")
+}
+
 // How a call ended on a device, and the device.
 #[derive(Drop)]
 struct Run {

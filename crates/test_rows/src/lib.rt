@@ -22,22 +22,31 @@ pub trait Calls {
     fn answer(&self, alloc: Global, call: &str, text: &str) -> Result<String, AllocError>;
 }
 
-/// Prints the reports of the files that the program's arguments name.
+// The argument after which files are tried on devices that fail.
+const DEVICES: &str = "--devices";
+
+/// Prints the reports of the files that the program's arguments name. After the argument `--devices`, each row of a file is the call
+/// `devices CALL` in place of `CALL`, and the report is how many of them wrote.
 ///
 /// # Errors
 ///
 /// A file can't be read, or a report can't be printed; out of memory.
 pub fn run<C: Calls>(rt: &HostRuntime, calls: &C) -> io::Result<()> {
+    let mut on_devices = false;
     for file in env::args(rt)?.skip(1) {
+        if file.as_str() == DEVICES {
+            on_devices = true;
+            continue;
+        }
         let rows = fs::read_to_string(rt, file.as_str())?;
-        print_report(rt, calls, file.as_str(), rows.as_str())?;
+        let report = if on_devices {
+            devices_report(rt.alloc(), calls, rows.as_str())?
+        } else {
+            report(rt.alloc(), calls, rows.as_str())?
+        };
+        print!(rt; "{file}: {report}")?;
     }
     Ok(())
-}
-
-fn print_report<C: Calls>(rt: &HostRuntime, calls: &C, file: &str, rows: &str) -> io::Result<()> {
-    let report = report(rt.alloc(), calls, rows)?;
-    print!(rt; "{file}: {report}")
 }
 
 /// How many rows a text has, after each that is answered otherwise than wanted. Of such a row it says the number of its line, its call, what was
@@ -59,6 +68,34 @@ pub fn report<C: Calls>(alloc: Global, calls: &C, rows: &str) -> Result<String, 
         line = line.saturating_add(lines_of(row));
     }
     write!(report, "{count} rows\n")?;
+    Ok(report)
+}
+
+/// How many rows of a text write, each on devices that fail, after each row on which a device did otherwise than it should.
+///
+/// # Errors
+///
+/// Out of memory.
+pub fn devices_report<C: Calls>(
+    alloc: Global,
+    calls: &C,
+    rows: &str,
+) -> Result<String, AllocError> {
+    let rows: String = rows.chars().map(meant).collect(alloc)?;
+    let mut report = String::new(alloc);
+    let mut count: u64 = 0;
+    for row in rows.split("\n$ ").skip(1) {
+        let call = row.split('\n').next().unwrap_or("");
+        let asked = format!(in alloc; "devices {}", call.strip_prefix("devices ").unwrap_or(call))?;
+        let answer = answer_of(alloc, calls, asked.as_str(), row)?;
+        if answer.lines().any(devices::is_fault) {
+            write!(report, "{call}\n{answer}")?;
+        }
+        if answer.lines().any(devices::is_cut) {
+            count = count.saturating_add(1);
+        }
+    }
+    write!(report, "{count} rows on devices that fail\n")?;
     Ok(report)
 }
 
