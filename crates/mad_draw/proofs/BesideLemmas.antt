@@ -40,7 +40,7 @@ joined bar row area text are h = record {
 pub joined_shown : {T E : Type 0} (r : Result T E) (bar : Option ScrollBar) (row : ℕ → List RowPiece) (area : Area) (old new : Trace) → panes_beside bar row area ≡ joined_pane bar row area
     → OnOk r (FillArea (beside_bar bar row) area → TookWith old new (AreRowsShown (beside_bar bar row) area)) → OnOk r (FillBeside bar row area → TookWith old new (AreShownBeside bar row area))
 joined_shown {T} {E} (Ok x) bar row area old new are h =
-    λ fill. took_so old new (AreRowsShown (beside_bar bar row) area) (AreShownBeside bar row area) (λ text shown. joined bar row area text are shown) (h (beside_fills bar row area fill.bar fill.rows))
+    λ fill. took_so old new (AreRowsShown (beside_bar bar row) area) (AreShownBeside bar row area) (λ text shown. joined bar row area text are shown) (h (beside_fills bar row area fill.column fill.rows))
 joined_shown {T} {E} (Err x) bar row area old new are h = tt
 
 -- ---- two panes
@@ -89,7 +89,7 @@ both_shown bar row area a b two fill here there g on_screen =
         height = done.4.height;
         inside = λ i j in_width in_height.
             let c : StyledChar = bar_char bar j in
-            let one : IsColumnChar (char_alone c) = bar_column bar area.width j fill.bar in
+            let one : IsColumnChar (char_alone c) = bar_column bar area.width j fill.column in
             elim (cases_lt i (area.width - 1)) [
               | inl left ↦ done.4.inside.0 i j left in_height ∙ sym (cell_beside (row j) c (area.width - 1) i (fill.rows j in_height) one left)
               | inr right ↦
@@ -119,4 +119,4 @@ parted_shown bar row area old mid new two tested here there fill =
       whole = both_shown bar row area a b two fill rows column;
       each = subst (λ (ps : List Pane). ShowsEach ps (a ++ b)) (sym (wide bar row area tested)) (a, b, refl, rows, (b, [], sym (append-nil b), column, refl));
     })
-    (here fill.rows) (there (column_fills bar area fill.bar))
+    (here fill.rows) (there (column_fills bar area fill.column))

@@ -43,7 +43,7 @@ panes_bytes panes = flat_map (λ (p : Pane). rows_bytes p.row p.area) panes
 
 -- the rows fill the columns that the bar leaves, and its characters take one
 pub record FillBeside (bar : Option ScrollBar) (row : ℕ → List RowPiece) (area : Area) : Type 0 where
-  pub bar : IfSome bar (IsBarShown area.width)
+  pub column : IfSome bar (IsBarShown area.width)
   pub rows : (y : ℕ) → y < area.height → FillsRow (columns_beside bar area.width) (row y)
 
 -- What a plain terminal does that reads these bytes. The area shows the same cells as where each character of the bar follows its row. But the bar

@@ -39,7 +39,7 @@ pub lines_beside : {T E : Type 0} (r : Result T E) (skin : RowSkin) (own bar : O
 lines_beside {T} {E} (Ok x) skin own bar lines shown area width scroll old new same from wide h = λ bar_shown drawable.
     let at_bar = subst (λ (b : Option ScrollBar). FillBeside b (λ y. row_pieces skin width (slice_get shown y)) area → TookWith old new (AreShownBeside b (λ y. row_pieces skin width (slice_get shown y)) area)) same h in
     let rows = subst (λ (row : ℕ → List RowPiece). FillBeside bar row area → TookWith old new (AreShownBeside bar row area)) (rows_are skin bar lines shown area width scroll from wide) at_bar in
-    rows (record { bar = bar_shown; rows = λ y inside. fills skin (columns_beside bar area.width) (drop scroll lines) area.height y inside drawable })
+    rows (record { column = bar_shown; rows = λ y inside. fills skin (columns_beside bar area.width) (drop scroll lines) area.height y inside drawable })
 lines_beside {T} {E} (Err x) skin own bar lines shown area width scroll old new same from wide h = tt
 
 -- so of a layout
