@@ -2,19 +2,18 @@
 use Rattle.std.proofs.Common.{◌≡◌, ℕ, ◌+◌, ◌-◌, ◌<◌, ◌≤◌, nat_lt, false, true, inl, inr, List, [], ◌∷◌, ◌++◌, get_or, Option, Some, None, Result, Ok, Err, OnOk, refl, ap, sym, ◌∙◌, subst, arith}
 use Rattle.std.specs.Prelude.{IfSome, if◌then◌else◌}
 use Rattle.std.proofs.lemmas.Bool.{cases_lt}
+use Rattle.std.proofs.lemmas.Bool.Decides.{nat_tests}
 use Rattle.std.proofs.lemmas.List.{append-nil}
-use Rattle.mad_term.specs.Draws.{Draws, Refused}
 use Rattle.mad_term.specs.Trace.{Trace, TookWith}
-use Rattle.mad_term.specs.declared.errors.Error.{Error}
 use Rattle.mad_screen.specs.Drawing.{IsOutside}
 use Rattle.mad_screen.specs.Grid.{Grid, blank, cell_at}
 use Rattle.mad_screen.specs.Glyph.{Glyph}
 use Rattle.mad_style.specs.StyledChars.{char_alone}
 use Rattle.mad_style.specs.declared.styled_chars.StyledChar.{StyledChar}
 use Rattle.mad_fit.specs.declared.area.Area.{Area}
-use Rattle.mad_draw.specs.BarsApart.{AreShownBeside, FillBeside, bar_row, but_last_column, joined_pane, last_column, panes_beside, panes_bytes, parted_panes}
+use Rattle.mad_draw.specs.BarsApart.{AreShownBeside, FillBeside, bar_row, but_last_column, joined_pane, last_column, panes_beside, parted_panes}
 use Rattle.mad_draw.specs.BesideBar.{IsBarShown, bar_char, beside_bar, char_cell}
-use Rattle.mad_draw.specs.DrawnRows.{AreRowsShown, FillArea, IsOnScreen, rows_bytes}
+use Rattle.mad_draw.specs.DrawnRows.{AreRowsShown, FillArea, IsOnScreen}
 use Rattle.mad_draw.specs.Panes.{AreApart, AreOnScreen, Pane, ShowsEach}
 use Rattle.mad_draw.specs.Pieces.{RowPiece, IsColumnChar, IsColumnPiece, char_piece, penned_chars}
 use Rattle.mad_draw.specs.PennedCells.{penned_cells}
@@ -22,13 +21,9 @@ use Rattle.mad_draw.specs.declared.scroll_bars.ScrollBar.{ScrollBar}
 use Rattle.mad_draw.proofs.BarLemmas.{bar_column, beside_fills, cell_beside, cell_of_bar, row_cells}
 use Rattle.mad_draw.proofs.ColumnChars.{column_piece}
 use Rattle.mad_draw.proofs.PaneLemmas.{panes_shown}
-use Rattle.mad_draw.proofs.PartLemmas.{draws_after}
 use Rattle.mad_draw.proofs.TookLemmas.{took_in_turn, took_so}
 
 -- ---- one pane
-
-pub one_pane_bytes : (row : ℕ → List RowPiece) (area : Area) → rows_bytes row area ++ [] ≡ rows_bytes row area
-one_pane_bytes row area = append-nil (rows_bytes row area)
 
 joined : (bar : Option ScrollBar) (row : ℕ → List RowPiece) (area : Area) (text : List ℕ) → panes_beside bar row area ≡ joined_pane bar row area → AreRowsShown (beside_bar bar row) area text → AreShownBeside bar row area text
 joined bar row area text are h = record {
@@ -45,11 +40,19 @@ joined_shown {T} {E} (Err x) bar row area old new are h = tt
 
 -- ---- two panes
 
-pub narrow : (bar : ScrollBar) (row : ℕ → List RowPiece) (area : Area) → nat_lt area.width 2 ≡ true → panes_beside (Some bar) row area ≡ joined_pane (Some bar) row area
-narrow bar row area h = ap (λ b. if b then joined_pane (Some bar) row area else parted_panes bar row area) h
+is_narrow : (n : ℕ) → n < 2 → nat_lt n 2 ≡ true
+is_narrow n few = grind (arith, nat_tests)
 
-pub wide : (bar : ScrollBar) (row : ℕ → List RowPiece) (area : Area) → nat_lt area.width 2 ≡ false → panes_beside (Some bar) row area ≡ parted_panes bar row area
-wide bar row area h = ap (λ b. if b then joined_pane (Some bar) row area else parted_panes bar row area) h
+not_narrow : (n : ℕ) → 2 ≤ n → nat_lt n 2 ≡ false
+not_narrow n two = grind (arith, nat_tests)
+
+-- an area that has no column for its rows is one pane
+pub narrow : (bar : ScrollBar) (row : ℕ → List RowPiece) (area : Area) → area.width < 2 → panes_beside (Some bar) row area ≡ joined_pane (Some bar) row area
+narrow bar row area few = ap (λ b. if b then joined_pane (Some bar) row area else parted_panes bar row area) (is_narrow area.width few)
+
+-- and another is two
+wide : (bar : ScrollBar) (row : ℕ → List RowPiece) (area : Area) → 2 ≤ area.width → panes_beside (Some bar) row area ≡ parted_panes bar row area
+wide bar row area two = ap (λ b. if b then joined_pane (Some bar) row area else parted_panes bar row area) (not_narrow area.width two)
 
 -- the last column shares no cell with the others
 columns_apart : (area : Area) → 2 ≤ area.width → AreApart (but_last_column area) (last_column area)
@@ -108,15 +111,22 @@ column_fills bar area h y inside =
     let one : IsColumnPiece (char_piece (bar_char bar y)) = column_piece (bar_char bar y) (bar_column bar area.width y h) in
     record { shown = (one.shown, tt); columns = let is = one.one in omega (arith, is) }
 
--- both, as a device took them
-pub parted_shown : (bar : ScrollBar) (row : ℕ → List RowPiece) (area : Area) (old mid new : Trace) → 2 ≤ area.width → nat_lt area.width 2 ≡ false
+both_taken : (bar : ScrollBar) (row : ℕ → List RowPiece) (area : Area) (old mid new : Trace) → 2 ≤ area.width
     → (FillArea row (but_last_column area) → TookWith old mid (AreRowsShown row (but_last_column area)))
     → (FillArea (bar_row bar) (last_column area) → TookWith mid new (AreRowsShown (bar_row bar) (last_column area)))
     → FillBeside (Some bar) row area → TookWith old new (AreShownBeside (Some bar) row area)
-parted_shown bar row area old mid new two tested here there fill =
+both_taken bar row area old mid new two here there fill =
     took_in_turn old mid new (AreRowsShown row (but_last_column area)) (AreRowsShown (bar_row bar) (last_column area)) (AreShownBeside (Some bar) row area)
     (λ a b rows column. record {
       whole = both_shown bar row area a b two fill rows column;
-      each = subst (λ (ps : List Pane). ShowsEach ps (a ++ b)) (sym (wide bar row area tested)) (a, b, refl, rows, (b, [], sym (append-nil b), column, refl));
+      each = subst (λ (ps : List Pane). ShowsEach ps (a ++ b)) (sym (wide bar row area two)) (a, b, refl, rows, (b, [], sym (append-nil b), column, refl));
     })
     (here fill.rows) (there (column_fills bar area fill.column))
+
+-- both, as a device took them
+pub parted_drawn : {T E : Type 0} (r : Result T E) (bar : ScrollBar) (row : ℕ → List RowPiece) (area : Area) (old mid new : Trace) → 2 ≤ area.width
+    → (FillArea row (but_last_column area) → TookWith old mid (AreRowsShown row (but_last_column area)))
+    → OnOk r (FillArea (bar_row bar) (last_column area) → TookWith mid new (AreRowsShown (bar_row bar) (last_column area)))
+    → OnOk r (FillBeside (Some bar) row area → TookWith old new (AreShownBeside (Some bar) row area))
+parted_drawn {T} {E} (Ok x) bar row area old mid new two here there = both_taken bar row area old mid new two here there
+parted_drawn {T} {E} (Err x) bar row area old mid new two here there = tt
