@@ -1,6 +1,6 @@
 -- Rows, and a scroll bar that has moves of its own.
-use Rattle.std.proofs.Common.{◌≡◌, ℕ, ◌+◌, ◌-◌, ◌<◌, ◌≤◌, nat_lt, false, true, inl, inr, List, [], ◌∷◌, ◌++◌, get_or, Option, Some, None, Result, Ok, Err, OnOk, refl, ap, sym, ◌∙◌, subst, arith}
-use Rattle.std.specs.Prelude.{IfSome, if◌then◌else◌}
+use Rattle.std.proofs.Common.{◌≡◌, ℕ, ◌+◌, ◌-◌, ◌<◌, ◌≤◌, nat_lt, false, true, inl, inr, List, [], ◌∷◌, ◌++◌, get_or, Option, Some, Result, Ok, Err, OnOk, refl, ap, sym, ◌∙◌, subst, arith}
+use Rattle.std.specs.Prelude.{if◌then◌else◌}
 use Rattle.std.proofs.lemmas.Bool.{cases_lt}
 use Rattle.std.proofs.lemmas.Bool.Decides.{nat_tests}
 use Rattle.std.proofs.lemmas.List.{append-nil}
@@ -96,10 +96,10 @@ both_shown bar row area a b two fill here there g on_screen =
             elim (cases_lt i (area.width - 1)) [
               | inl left ↦ done.4.inside.0 i j left in_height ∙ sym (cell_beside (row j) c (area.width - 1) i (fill.rows j in_height) one left)
               | inr right ↦
-                let last : i ≡ area.width - 1 = omega (arith, right, in_width) in
-                let shown : cell_at new (area.left + (area.width - 1) + 0) (area.top + j) ≡ char_cell c = done.4.inside.1.0 0 j (omega arith) in_height ∙ cell_alone c one in
-                let at : area.left + i ≡ area.left + (area.width - 1) + 0 = omega (arith, last) in
-                ap (λ x. cell_at new x (area.top + j)) at ∙ shown ∙ sym (ap (λ k. get_or (penned_cells (penned_chars (row j ++ char_piece c ∷ []))) k blank) last ∙ cell_of_bar (row j) c (area.width - 1) (fill.rows j in_height) one)
+                  let last : i ≡ area.width - 1 = omega (arith, right, in_width) in
+                  let shown : cell_at new (area.left + (area.width - 1) + 0) (area.top + j) ≡ char_cell c = done.4.inside.1.0 0 j (omega arith) in_height ∙ cell_alone c one in
+                  let at : area.left + i ≡ area.left + (area.width - 1) + 0 = omega (arith, last) in
+                  ap (λ x. cell_at new x (area.top + j)) at ∙ shown ∙ sym (ap (λ k. get_or (penned_cells (penned_chars (row j ++ char_piece c ∷ []))) k blank) last ∙ cell_of_bar (row j) c (area.width - 1) (fill.rows j in_height) one)
             ];
         outside = λ x y in_width out. done.4.outside x y in_width (outside_rows area.left area.top area.width area.height x y out, (outside_column area.left area.top area.width area.height x y two out, tt));
       },

@@ -1,5 +1,5 @@
 -- What a device took, in turn.
-use Rattle.std.proofs.Common.{◌≡◌, ℕ, List, ◌++◌, Option, Some, None, IfSome, Result, Ok, Err, OnOk, ap, ◌∙◌, subst, append_assoc}
+use Rattle.std.proofs.Common.{◌≡◌, ℕ, List, ◌++◌, Option, Some, None, IfSome, ap, ◌∙◌, subst, append_assoc}
 use Rattle.mad_term.specs.Trace.{Trace, TookWith}
 
 more_at : (o n : Option (List ℕ)) (P Q : List ℕ → Type 0) → ((text : List ℕ) → P text → Q text) → IfSome o (λ before. (text : List ℕ) × (n ≡ Some (before ++ text)) × P text)

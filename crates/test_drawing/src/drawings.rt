@@ -2,8 +2,7 @@
 //!
 //! The words of a style come after `: `, as a skin has them.
 
-use crate::bars;
-use crate::crops;
+use crate::{bars, crops};
 use mad_draw::{
     BORDER_STYLE_BLAND, BORDER_STYLE_HALF_WIDTH_OUTSIDE, BORDER_STYLE_MIDDLE_ROUND_LINE,
     BORDER_STYLE_MIDDLE_SQUARE_LINE, Filling, ProgressBar, Rect, RectBorderStyle, WriteSpaced,

@@ -1,4 +1,4 @@
-use Rattle.std.proofs.Common.{List, ℕ, [], ◌∷◌, ◌++◌, Some, OnOk, subst, sym, ap, ◌∙◌, arith}
+use Rattle.std.proofs.Common.{List, ℕ, [], ◌++◌, subst, sym}
 use Rattle.std.proofs.lemmas.List.{append-nil}
 use Rattle.mad_term.specs.Draws.{Draws}
 use Rattle.mad_term.proofs.Exits.{refused_exit, refused_in_first}
