@@ -1,5 +1,6 @@
 pub mod AreaLemmas
 pub mod BarLemmas
+pub mod BesideLemmas
 pub mod BorderLemmas
 pub mod CellLemmas
 pub mod CharLemmas
@@ -17,4 +18,5 @@ pub mod RuleLemmas
 pub mod RunLemmas
 pub mod ShownLemmas
 pub mod SpacedLemmas
+pub mod TookLemmas
 pub mod UntrustedLemmas

@@ -1,3 +1,4 @@
+pub mod BarsApart
 pub mod BesideBar
 pub mod Crops
 pub mod DrawnRows

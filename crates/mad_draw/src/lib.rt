@@ -5,7 +5,7 @@
 //! 1. [`spaces`], [`char_repeats`]: spaces, and other characters many times, as displayed values.
 //! 2. [`table_rules`]: rules across the columns of a table, as displayed values.
 //! 3. [`rows_in_area`]: the rows of an area, each after a move to its position; no other cell changes.
-//! 4. [`scroll_bars`]: rows beside a scroll bar.
+//! 4. [`scroll_bars`]: rows beside a scroll bar, which follows each row or has moves of its own.
 //! 5. [`parts`]: texts that go out in parts.
 //! 6. [`rects`]: rectangles with a border. [`progress_bars`]: progress bars.
 //! 7. [`fillings`]: one character over many columns. [`crop_writer`]: no more columns than a limit. [`spaced_texts`]: texts in
@@ -38,7 +38,7 @@ pub use rects::{
     BORDER_STYLE_MIDDLE_SQUARE_LINE, Rect, RectBorderStyle,
 };
 pub use rows_in_area::{Rows, draw_rows};
-pub use scroll_bars::{RowsBeside, ScrollBar, columns_beside};
+pub use scroll_bars::{RowsBeside, ScrollBar, columns_beside, draw_rows_beside};
 pub use spaced_texts::WriteSpaced;
 pub use spaces::{SingleSpaces, Spaces};
 pub use table_rules::{RuleAcross, RuleChars};

@@ -1,12 +1,13 @@
 -- What an area shows of a layout that was drawn in it.
 use Rattle.std.proofs.Common.{◌≡◌, ℕ, zero, suc, ◌+◌, ◌-◌, ◌^◌, ◌<◌, ◌≤◌, List, [], ◌∷◌, map, drop, Option, Some, None, IfSome, Result, Ok, Err, OnOk, refl, ap, ◌∙◌, subst, arith, take}
-use Rattle.mad_term.specs.Trace.{Trace, flushed}
+use Rattle.mad_term.specs.Trace.{Trace, TookWith, flushed}
 use Rattle.mad_term.proofs.Traces.{took_flushed}
 use Rattle.mad_fit.specs.Areas.{IsWithinLimits}
 use Rattle.mad_fit.specs.declared.area.Area.{Area}
 use Rattle.mad_draw.specs.BesideBar.{IsBarShown, columns_beside}
 use Rattle.mad_draw.specs.declared.scroll_bars.ScrollBar.{ScrollBar}
 use Rattle.mad_md.specs.Lines.{LineContent}
+use Rattle.mad_blocks.specs.FittingLayouts.{IsFittingLayout}
 use Rattle.mad_blocks.specs.Layouts.{IsLayoutAt}
 use Rattle.mad_blocks.specs.TextParts.{lines_in_parts}
 use Rattle.mad_layout.specs.FlaggedTexts.{AreAcross}
@@ -32,15 +33,20 @@ few None area limits = omega (arith, limits.columns)
 few (Some bar) area limits = omega (arith, limits.columns)
 
 -- of drawable lines, so of a layout
-pub layout_shown : {T E : Type 0} (r : Result T E) (skin : RowSkin) (bar : Option ScrollBar) (lines : List FmtLine) (area : Area) (scroll : ℕ) (old new : Trace) → IsWithinLimits area
-    → OnOk r (ShowsDrawable skin bar lines area scroll old new) → OnOk r (ShowsLayout skin bar lines area scroll old new)
-layout_shown {T} {E} (Ok x) skin bar lines area scroll old new limits h =
-    λ source width narrower shown typed keeps layout.
+pub layout_so : (skin : RowSkin) (bar : Option ScrollBar) (lines : List FmtLine) (area : Area) (scroll : ℕ) (Q : Type 0) → IsWithinLimits area
+    → (IfSome bar (IsBarShown area.width) → AreDrawable skin (columns_beside bar area.width) (lines_shown lines area scroll) → Q)
+    → (source : List LineContent) (width : ℕ) → width ≤ columns_beside bar area.width → IfSome bar (IsBarShown area.width) → AreTyped (take (scroll + area.height) (lines_in_parts source))
+    → KeepsPremises skin width (take (scroll + area.height) (lines_in_parts source)) → IsFittingLayout (line_rules skin) width source lines → Q
+layout_so skin bar lines area scroll Q limits h source width narrower shown typed keeps layout =
     let n : ℕ = scroll + area.height in
     let sound : AreSoundLines skin width (take n (lines_in_parts source)) = sound_lines skin width (take n (lines_in_parts source)) typed keeps in
     let drawn : ℕ = columns_beside bar area.width in
     let first : AreDrawable skin drawn (take n lines) = fitting_is_drawable skin width drawn n source lines narrower (few bar area limits) sound layout in
     h shown (drawable_from skin drawn lines scroll area.height n refl first)
+
+pub layout_shown : {T E : Type 0} (r : Result T E) (skin : RowSkin) (bar : Option ScrollBar) (lines : List FmtLine) (area : Area) (scroll : ℕ) (old new : Trace) → IsWithinLimits area
+    → OnOk r (ShowsDrawable skin bar lines area scroll old new) → OnOk r (ShowsLayout skin bar lines area scroll old new)
+layout_shown {T} {E} (Ok x) skin bar lines area scroll old new limits h = layout_so skin bar lines area scroll (TookWith old new (AreShownIn skin bar lines area scroll)) limits h
 layout_shown {T} {E} (Err x) skin bar lines area scroll old new limits h = tt
 
 -- ---- in the text's own characters

@@ -1,3 +1,4 @@
+pub mod BesideLemmas
 pub mod CellChars
 pub mod ColumnChars
 pub mod DrawableLemmas

@@ -18,6 +18,7 @@ pub mod RecoloredSkins
 pub mod RowSkins
 pub mod SeveralKinds
 pub mod Shown
+pub mod ShownBeside
 pub mod ShownLayouts
 pub mod SkinParts
 pub mod Skins

@@ -3,12 +3,13 @@
 ghost use Rattle.std.specs.Prelude.{◌≡◌, OnOk, drop};
 ghost use Rattle.mad_term.specs.Draws.{Draws};
 ghost use Rattle.mad_fit.specs.Areas.{IsWithinLimits};
+ghost use Rattle.mad_layout.specs.ShownBeside.{ShowsDrawableBeside, ShowsLayoutBeside, beside_bytes};
 ghost use Rattle.mad_layout.specs.ShownLayouts.{ShowsDrawable, ShowsLayout, ShowsRowsFrom};
 ghost use Rattle.mad_layout.specs.Shown.{area_bytes, text_bar};
 ghost use Rattle.mad_layout.specs.RowSkins.{row_skin};
 
 use crate::fmt_text::FmtText;
-use mad_draw::{Rows, RowsBeside, ScrollBar, columns_beside, draw_rows};
+use mad_draw::{Rows, RowsBeside, ScrollBar, columns_beside, draw_rows, draw_rows_beside};
 use mad_fit::Area;
 use mad_format::FmtLine;
 use mad_rows::{RowSkin, TextRows};
@@ -85,6 +86,41 @@ pub fn draw_text_in<O: Out>(
         bar: shown_bar,
     };
     draw_rows(alloc, out, &beside, area)
+}
+
+/// Draws the rows of a text in an area, as [`draw_text_in`] does, but the bar has moves of its own: it is drawn after all rows, each of its
+/// characters after a move to its cell. So it stays in its column where a terminal gives a row's characters more or fewer columns than are counted
+/// here. Nothing is flushed.
+///
+/// The area's right and bottom have to fit a `u16`. The right border of a table follows its row, and has no move of its own.
+///
+/// # Errors
+///
+/// A fault of the device, or out of memory. What went out by then is a beginning of the whole.
+pub fn draw_text_beside<O: Out>(
+    alloc: Global,
+    out: &mut O,
+    skin: &RowSkin,
+    text: &FmtText,
+    area: &Area,
+    scroll: usize,
+    bar: bool,
+) -> Result<(), Error>
+    requires { IsWithinLimits area.now }
+    ensures writes { Draws (O.seen out.old) (beside_bytes skin.now (text_bar bar text.now area.now scroll) text.now.lines.items area.now scroll) result (O.seen out.new) }
+
+    // What a plain terminal shows that reads it: the cells that `draw_text_in` shows.
+    ensures shown { OnOk result (ShowsDrawableBeside skin.now (text_bar bar text.now area.now scroll) text.now.lines.items area.now scroll (O.seen out.old) (O.seen out.new)) }
+    ensures shown_layout { OnOk result (ShowsLayoutBeside skin.now (text_bar bar text.now area.now scroll) text.now.lines.items area.now scroll (O.seen out.old) (O.seen out.new)) }
+    ensures headline { OnOk result (ShowsRowsFrom skin.now (text_bar bar text.now area.now scroll) text.now.lines.items area.now scroll (O.seen out.old) (O.seen out.new)) }
+{
+    let shown_bar = text_bar(text, area, scroll, bar);
+    let rows = TextRows {
+        skin,
+        lines: lines_from(text.lines.as_slice(), scroll),
+        width: columns_beside(shown_bar, usize::from(area.width)),
+    };
+    draw_rows_beside(alloc, out, &rows, shown_bar, area)
 }
 
 // The scroll bar beside a text that is drawn in an area from line `scroll` on, where it is asked for.

@@ -27,7 +27,7 @@ mod text_writing;
 mod writing;
 
 pub use displayable_line::DisplayableLine;
-pub use drawing::{draw_text, draw_text_in};
+pub use drawing::{draw_text, draw_text_beside, draw_text_in};
 pub use fmt_inline::{FmtInline, inline};
 pub use fmt_text::{FmtText, term_text, text};
 pub use mad_blocks::{

@@ -12,6 +12,7 @@ use Rattle.mad_hits.proofs.TookLemmas.{known, took_so}
 use Rattle.mad_term.proofs.Traces.{took_both, cut_in_first, cut_in_second, flush_failed}
 use Rattle.mad_fit.specs.Areas.{IsWithinLimits}
 use Rattle.mad_fit.specs.declared.area.Area.{Area}
+use Rattle.mad_draw.specs.BarsApart.{AreShownBeside}
 use Rattle.mad_draw.specs.BesideBar.{columns_beside}
 use Rattle.mad_columns.specs.Columns.{char_columns}
 use Rattle.mad_fit.proofs.AllLemmas.{all_each}
@@ -28,7 +29,8 @@ use Rattle.mad_draw.specs.declared.scroll_bars.ScrollBar.{ScrollBar}
 use Rattle.mad_draw.proofs.PaneLemmas.{panes_shown}
 use Rattle.mad_blocks.proofs.WrapKinds.{layout_fits, wrapped_at}
 use Rattle.mad_layout.specs.RowSkins.{row_skin}
-use Rattle.mad_layout.specs.ShownLayouts.{ShowsDrawable, ShowsLayout}
+use Rattle.mad_layout.specs.ShownBeside.{ShowsLayoutBeside}
+use Rattle.mad_layout.specs.ShownLayouts.{ShowsDrawable}
 use Rattle.mad_format.specs.declared.line.FmtLine.{FmtLine}
 use Rattle.mad_layout.specs.Drawable.{AreDrawable}
 use Rattle.mad_layout.specs.Shown.{area_row}
@@ -38,7 +40,7 @@ use Rattle.mad_rows.specs.declared.row_skin.RowSkin.{RowSkin}
 use Rattle.mad_hits.specs.Drawn.{AreLinesMarked}
 use Rattle.std.proofs.lemmas.Bool.{ltb-false}
 use Rattle.std.proofs.lemmas.Bool.Decides.{nat_tests}
-use Rattle.mad_pager.specs.Screens.{reversed_skin, is_small, area_of, bar_of, paged_skin, text_pane, field_pane, prompt_pane, prompt_row, status_pane, status_words, AreHitsDrawn, ArePanesDrawn, IsFieldShown, IsLineIn, IsStatusLine, KeepsTextPremises, AreLinesShown, IsFieldRow, IsLastRow, IsStatus, IsDrawing, IsPicture, IsTypingShown, IsStatusShown, IsFieldInRow, IsShowing, IsShown, IsUnshown, question}
+use Rattle.mad_pager.specs.Screens.{reversed_skin, is_small, area_of, bar_of, paged_skin, text_pane, text_rows, field_pane, prompt_pane, prompt_row, status_pane, status_words, AreHitsDrawn, ArePanesDrawn, IsFieldShown, IsLineIn, IsStatusLine, KeepsTextPremises, AreLinesShown, IsFieldRow, IsLastRow, IsStatus, IsDrawing, IsPicture, IsTypingShown, IsStatusShown, IsFieldInRow, IsShowing, IsShown, IsUnshown, question}
 use Rattle.mad_pager.specs.Sessions.{State, field_row, last_row, prompt_cell, text_area}
 
 -- ---- what is shown
@@ -48,8 +50,8 @@ drawn_wide : (bar : Option ScrollBar) (width : ℕ) → width - 1 ≤ columns_be
 drawn_wide None width = omega arith
 drawn_wide (Some bar) width = omega arith
 
-pub lines_shown : (skin : MadSkin) (s : State) (old new : Trace) → 5 ≤ s.page.columns → ShowsLayout (paged_skin skin) (bar_of skin s) s.lines (area_of s) s.page.top old new
-    → KeepsTextPremises skin s → TookWith old new (AreRowsShown (text_pane skin s).row (area_of s))
+pub lines_shown : (skin : MadSkin) (s : State) (old new : Trace) → 5 ≤ s.page.columns → ShowsLayoutBeside (paged_skin skin) (bar_of skin s) s.lines (area_of s) s.page.top old new
+    → KeepsTextPremises skin s → TookWith old new (AreShownBeside (bar_of skin s) (text_rows skin s) (area_of s))
 lines_shown skin s old new wide h keeps =
     let rules = line_rules (paged_skin skin) in
     let width : ℕ = s.page.columns - 1 in
@@ -129,7 +131,7 @@ typing_shown skin s a b wide lines row keeps field =
     let rows = s.page.rows in
     let text_field = subst (λ (x : Area). AreApart (area_of s) x) (sym field.area) (field_apart columns rows) in
     let slash_field = subst (λ (x : Area). AreApart (prompt_cell rows) x) (sym field.area) (prompt_field_apart columns rows) in
-    panes_shown (text_pane skin s ∷ prompt_pane s ∷ field_pane s ∷ []) (a ++ b) ((prompt_apart columns rows, (text_field, tt)), ((slash_field, tt), (tt, tt))) (a, b, refl, lines keeps, row wide field)
+    panes_shown (text_pane skin s ∷ prompt_pane s ∷ field_pane s ∷ []) (a ++ b) ((prompt_apart columns rows, (text_field, tt)), ((slash_field, tt), (tt, tt))) (a, b, refl, (lines keeps).whole, row wide field)
 
 status_shown : (skin : MadSkin) (name : List ℕ) (s : State) (a b : List ℕ) → AreLinesShown skin s a → IsStatus name s b → IsStatusShown skin name s (a ++ b)
 status_shown skin name s a b lines row = record {
@@ -137,7 +139,7 @@ status_shown skin name s a b lines row = record {
   dressed = row.dressed;
   line = row.line;
   status = row.is;
-  shown = λ keeps drawable. both_shown (text_pane skin s) (status_pane (row_skin row.dress) row.line s) a b (rows_apart s.page.columns s.page.rows) (lines keeps) (row.shown drawable);
+  shown = λ keeps drawable. both_shown (text_pane skin s) (status_pane (row_skin row.dress) row.line s) a b (rows_apart s.page.columns s.page.rows) (lines keeps).whole (row.shown drawable);
 }
 
 -- the text and the last row, drawn in turn
@@ -146,6 +148,10 @@ screen_shown skin name s large a b lines row =
     let wide = not_small s large in
     let some : 1 < s.page.columns = omega (arith, wide) in
     record {
+      lines = a;
+      last = b;
+      are = refl;
+      beside = lines;
       typing = λ is. typing_shown skin s a b some lines (row.typing is);
       status = λ is. status_shown skin name s a b lines (row.status is);
     }

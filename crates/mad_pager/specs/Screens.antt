@@ -27,7 +27,8 @@ use Rattle.mad_term.specs.declared.errors.Error.{Error}
 use Rattle.mad_term.specs.declared.errors.Error.TheVariants.{IO, InsufficientWidth, Memory}
 use Rattle.mad_fit.specs.declared.area.Area.{Area}
 use Rattle.mad_format.specs.declared.line.FmtLine.{FmtLine}
-use Rattle.mad_draw.specs.BesideBar.{bar_beside, IsBarShown}
+use Rattle.mad_draw.specs.BarsApart.{AreShownBeside}
+use Rattle.mad_draw.specs.BesideBar.{bar_beside, columns_beside, IsBarShown}
 use Rattle.mad_draw.specs.DrawnRows.{AreRowsShown}
 use Rattle.mad_draw.specs.Panes.{Pane, ArePanesShown, ShowsEach}
 use Rattle.mad_draw.specs.Pieces.{RowPiece, char_piece}
@@ -36,7 +37,7 @@ use Rattle.mad_field.specs.Drawn.{row_pieces}
 use Rattle.mad_layout.specs.Drawable.{AreDrawable}
 use Rattle.mad_layout.specs.RowSkins.{row_skin}
 use Rattle.mad_layout.specs.Skins.{no_style_skin}
-use Rattle.mad_layout.specs.Shown.{area_row}
+use Rattle.mad_layout.specs.Shown.{area_row, text_row}
 use Rattle.mad_layout.specs.declared.skin.MadSkin.{MadSkin}
 use Rattle.mad_rows.specs.declared.row_skin.RowSkin.{RowSkin}
 use Rattle.std.specs.List.{AllByRecursion}
@@ -59,7 +60,11 @@ bar_of skin s = bar_beside (area_of s) s.page.top (length s.lines) skin.scrollba
 abbrev pub paged_skin : MadSkin → RowSkin
 paged_skin skin = with_links (row_skin skin)
 
--- the text's rows from the top one on, beside the bar
+-- the text's rows from the top one on, in the columns that the bar leaves
+abbrev pub text_rows : MadSkin → State → ℕ → List RowPiece
+text_rows skin s = text_row (paged_skin skin) (columns_beside (bar_of skin s) s.page.columns) s.lines s.page.top
+
+-- the text's rows beside the bar
 abbrev pub text_pane : MadSkin → State → Pane
 text_pane skin s = record { area = area_of s; row = area_row (paged_skin skin) (bar_of skin s) s.lines (area_of s) s.page.top }
 
@@ -147,9 +152,10 @@ pub record KeepsTextPremises (skin : MadSkin) (s : State) : Type 0 where
   pub keeps : KeepsPremises (paged_skin skin) (s.page.columns - 1) (take (s.page.top + (s.page.rows - 1)) (lines_in_parts text))
   pub bar : IfSome (bar_of skin s) (IsBarShown s.page.columns)
 
--- these bytes show the text from its top row on, beside its bar
+-- These bytes show the text from its top row on, beside its bar. The bar has bytes of its own, which show it in the last column whatever was read
+-- before them.
 abbrev pub AreLinesShown : MadSkin → State → List ℕ → Type 0
-AreLinesShown skin s bytes = KeepsTextPremises skin s → AreRowsShown (text_pane skin s).row (area_of s) bytes
+AreLinesShown skin s bytes = KeepsTextPremises skin s → AreShownBeside (bar_of skin s) (text_rows skin s) (area_of s) bytes
 
 -- these bytes show what is being typed
 abbrev pub IsFieldShown : State → List ℕ → Type 0
@@ -177,8 +183,12 @@ pub record IsStatusShown (skin : MadSkin) (name : List ℕ) (s : State) (bytes :
   pub status : IsStatusLine dress (status_words name s) s.page.columns line
   pub shown : KeepsTextPremises skin s → AreDrawable (row_skin dress) s.page.columns (line ∷ []) → ArePanesShown (text_pane skin s ∷ status_pane (row_skin dress) line s ∷ []) bytes
 
--- these bytes show the text and the last row of a session: one of these two
+-- These bytes show the text and the last row of a session: one of these two. The text comes first, with its bar by moves of its own.
 pub record ArePanesDrawn (skin : MadSkin) (name : List ℕ) (s : State) (bytes : List ℕ) : Type 0 where
+  pub lines : List ℕ
+  pub last : List ℕ
+  pub are : bytes ≡ lines ++ last
+  pub beside : AreLinesShown skin s lines
   pub typing : s.is_typing ≡ true → IsTypingShown skin s bytes
   pub status : s.is_typing ≡ false → IsStatusShown skin name s bytes
 

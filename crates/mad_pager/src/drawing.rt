@@ -11,7 +11,7 @@ use crate::places::{field_row, prompt_cell, text_area};
 use crate::session::Session;
 use mad_draw::{Rows, draw_rows};
 use mad_hits::draw_hits;
-use mad_layout::draw_text_in;
+use mad_layout::draw_text_beside;
 use mad_style::StyledChar;
 use mad_term::{Error, Out, put_all};
 use std::alloc::{AllocError, Global};
@@ -104,14 +104,14 @@ impl Session<'_> {
         Ok(())
     }
 
-    // Draws the text from its top row on, beside its bar, with links that one sees.
+    // Draws the text from its top row on, with links that one sees, and its bar by moves of its own.
     fn draw_lines<O: Out>(&self, alloc: Global, out: &mut O) -> Result<(), Error>
         requires { is_small (state_of self.now) ≡ false }
         ensures { OnOk result (TookWith (O.seen out.old) (O.seen out.new) (AreLinesShown self.now.text.skin.now (state_of self.now))) }
     {
         let area = text_area(self.page.columns, self.page.rows);
         let skin = self.text.skin.row_skin().with_links();
-        draw_text_in(alloc, out, &skin, &self.text, &area, self.page.top, true)?;
+        draw_text_beside(alloc, out, &skin, &self.text, &area, self.page.top, true)?;
         Ok(())
     }
 
