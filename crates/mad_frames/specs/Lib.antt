@@ -5,4 +5,5 @@ pub mod Frames
 pub mod Mending
 pub mod Refusals
 pub mod RunBytes
+pub mod TestTerminals
 pub mod Whole

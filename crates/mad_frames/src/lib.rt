@@ -8,7 +8,8 @@
 //! 4. [`pieces`]: cells written as pieces of styled text.
 //! 5. [`writing`]: the bytes from one screen to another.
 //! 6. [`errors`], [`frame`]: screens that are drawn into and presented.
-//! 7. [`laws`]: what is true of a frame, whatever is done with it.
+//! 7. [`terminal`]: a terminal for tests.
+//! 8. [`laws`]: what is true of a frame, whatever is done with it.
 #![tactic(auto)]
 
 mod errors;
@@ -17,9 +18,11 @@ pub mod laws;
 mod mending;
 mod pieces;
 mod runs;
+mod terminal;
 mod whole;
 mod writing;
 
 pub use errors::PresentError;
 pub use frame::Frame;
+pub use terminal::TestTerminal;
 pub use writing::changes;

@@ -22,7 +22,7 @@ use Rattle.termimad_run.specs.declared.call.Command.{Command}
 use Rattle.termimad_run.specs.declared.failure.Failure.{Failure}
 use Rattle.termimad_run.specs.declared.failure.Failure.TheVariants as failure
 use Rattle.termimad_c.specs.Answers.{HandsOut, HandsOutParts, bit, refusal_of}
-use Rattle.termimad_c.specs.Gathered.{untouched}
+use Rattle.mad_term.specs.Gathered.{untouched}
 use Rattle.termimad_c.specs.Inputs.{word_given, IsNoText, IsSkinOf, IsTextSoFar, RefusesSkin, RefusesCall, RefusesParts, alignment_number}
 use Rattle.termimad_c.specs.Making.{ArePartsOf, IsWritten, IsRowCount, IsFittedLine}
 use Rattle.termimad_c.specs.declared.answer.Answer.{Answer}
