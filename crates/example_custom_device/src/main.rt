@@ -6,7 +6,7 @@ ghost use Rattle.termimad.specs.Areas.{IsWithinLimits};
 ghost use Rattle.termimad.specs.InArea.{ShowsText};
 ghost use Rattle.termimad.specs.RowSkins.{row_skin};
 ghost use Rattle.termimad.specs.Skins.{no_style_skin};
-ghost use Rattle.mad_term.specs.Gathered.{untouched};
+ghost use Rattle.mad_frames.specs.Gathered.{untouched};
 ghost use Rattle.example_custom_device.specs.Page.{page_trace};
 
 mod page;

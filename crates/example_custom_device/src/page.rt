@@ -15,7 +15,7 @@ pub struct Page {
 
 impl Page {
     ghost use Rattle.std.specs.Prelude.{◌≡◌};
-    ghost use Rattle.mad_term.specs.Gathered.{untouched};
+    ghost use Rattle.mad_frames.specs.Gathered.{untouched};
     ghost use Rattle.example_custom_device.specs.Page.{page_trace};
 
     /// A page on which nothing is written yet.

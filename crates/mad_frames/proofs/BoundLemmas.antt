@@ -26,6 +26,7 @@ cost_of : (b : Bool) (n : ℕ) → ((b ≡ true) → ⊥) → cond b 0 n ≡ n
 cost_of true n h = absurd (h refl)
 cost_of false n h = refl
 
+-- a cell that changed, and is no tail, takes its bytes
 pub changed_cell : (o n : Glyph) → is_tail n ≡ false → ((o ≡ n) → ⊥) → cell_bytes o n ≡ change_bytes + length (cell_text n)
 changed_cell o n head h =
     cost_of (is_tail n || is_same_cell o n) (change_bytes + length (cell_text n)) (λ e. h (same_cell_true o n (sym (ap (λ t. t || is_same_cell o n) head) ∙ e)))
@@ -67,6 +68,7 @@ before_is : (gs : List Glyph) (i : ℕ) → pen_after plain_pen gs i ≡ pen_bef
 before_is gs zero = refl
 before_is gs (suc i) = refl
 
+-- a tail has the pen of the cell before it
 pub tail_pen : (gs : List Glyph) (i : ℕ) → are_whole gs ≡ true → i < length gs → is_tail (get_or gs i blank) ≡ true → (get_or gs i blank).pen ≡ pen_before gs i
 tail_pen gs i h below t = tail_pen_after 0 plain_pen gs i h below t ∙ before_is gs i
 
@@ -74,6 +76,7 @@ tail_text : (cs : List ℕ) (p : Look) → has_none cs ≡ true → length (cell
 tail_text [] p h = refl
 tail_text (c ∷ cs) p h = absurd (false≢true h)
 
+-- the pen of the cell before takes no byte
 pub same_pen_bytes : (before pen : Look) → pen ≡ before → pen_bytes before pen ≡ 0
 same_pen_bytes before pen e =
     let same : same_look pen before ≡ true = ap (same_look pen) (sym e) ∙ same_look_refl pen in
@@ -202,6 +205,7 @@ character_may os ns x h j same below head b =
 
 -- ---- gaps and runs
 
+-- what holds where the flag is set holds of the number that is there then
 pub some_of : (b : Bool) (x : ℕ) (P : ℕ → Type 0) → ((b ≡ true) → P x) → IfSome (then_some b x) P
 some_of true x P h = h refl
 some_of false x P h = tt
@@ -213,6 +217,7 @@ character_to gs x e h some within t =
     let place : x + 1 + n ≡ e = omega arith in
     ap (pieces_to gs) (sym place) ∙ tails_free gs x n h (omega arith) (λ i low high. t i low (omega arith))
 
+-- past the first column, the pen before a cell is that of the cell to its left
 pub before_at : (gs : List Glyph) (x : ℕ) → 0 < x → pen_before gs x ≡ (get_or gs (x - 1) blank).pen
 before_at gs zero some = absurd (omega arith)
 before_at gs (suc x) some =

@@ -22,9 +22,11 @@ use Rattle.mad_frames.specs.Changes.{AddsPaint}
 use Rattle.mad_frames.specs.Whole.{is_widthless, are_joined, is_cell_text, is_writable, tails_of, are_whole_after, are_whole}
 use Rattle.mad_frames.proofs.LooksLemmas.{both_true, same_look_true}
 
+-- the characters of all cells
 abbrev pub all_chars : List Glyph → List ℕ
 all_chars = flat_map (λ g. g.chars)
 
+-- a tail in a pen
 abbrev pub tail_in : Look → Glyph
 tail_in p = record { chars = []; pen = p }
 

@@ -93,11 +93,13 @@ first_step cells i n p g below is none test =
     ap (λ m. are_whole_after m p (drop i cells)) (no_tails n none) ∙ ap (are_whole_after 0 p) (next_cell cells i g below is)
     ∙ ap (λ b. b && (is_writable g.pen && rest)) parts.0 ∙ ap (λ b. b && rest) parts.1
 
+-- a first cell that can't be written: the row isn't whole
 pub first_refused : (cells : List Glyph) (i n : ℕ) (p : Look) (g : Glyph) → i < length cells → g ≡ get_or cells i g → n ≤ 0 → (is_cell_text g.chars && is_writable g.pen) ≡ false → are_whole_after n p (drop i cells) ≡ false
 first_refused cells i n p g below is none test =
     ap (λ m. are_whole_after m p (drop i cells)) (no_tails n none) ∙ ap (are_whole_after 0 p) (next_cell cells i g below is)
     ∙ both_false (is_cell_text g.chars) (is_writable g.pen) (are_whole_after (tails_of g.chars) g.pen (drop (i + 1) cells)) test
 
+-- a cell that isn't the tail that is due: the row isn't whole
 pub tail_refused : (cells : List Glyph) (i n : ℕ) (p : Look) (g : Glyph) → i < length cells → g ≡ get_or cells i g → 0 < n → (is_tail g && same_look g.pen p) ≡ false → are_whole_after n p (drop i cells) ≡ false
 tail_refused cells i n p g below is some test =
     ap (are_whole_after n p) (next_cell cells i g below is) ∙ whole_tail n p g (drop (i + 1) cells) some

@@ -2,6 +2,7 @@ pub mod Bound
 pub mod Changes
 pub mod FrameLaws
 pub mod Frames
+pub mod Gathered
 pub mod Mending
 pub mod Refusals
 pub mod RunBytes

@@ -1,6 +1,6 @@
 -- What a contract sees of a terminal for tests.
 use Rattle.std.specs.Prelude.{◌≡◌, ℕ, List, Option, Some, option_map}
-use Rattle.mad_term.specs.Gathered.{gathered_trace, untouched}
+use Rattle.mad_frames.specs.Gathered.{gathered_trace, untouched}
 use Rattle.mad_term.specs.Trace.{Trace}
 use Rattle.mad_screen.specs.Grid.{Grid, empty_grid}
 use Rattle.mad_screen.specs.Pictures.{screen_text}

@@ -8,9 +8,10 @@ ghost use Rattle.mad_frames.specs.Changes.{SameSize};
 ghost use Rattle.mad_frames.specs.Frames.{new_frame, frame_trace, drawn_screen, unknown, LeadsAll, AddsNothing, IsBounded, IsMessage, KeepsInStep, Sends, Presents};
 
 use crate::errors::PresentError;
+use crate::gathered::Gathered;
 use crate::writing::mended_changes;
 use mad_screen::{NotPlain, Screen};
-use mad_term::{ClearType, Gathered, Out, push_clear, put_counted};
+use mad_term::{ClearType, Out, push_clear, put_counted};
 use std::alloc::{AllocError, Global};
 use std::marker::Model;
 use std::{io, mem};
@@ -35,7 +36,7 @@ pub struct Frame {
 }
 
 impl Model for Frame {
-    ghost use Rattle.mad_term.specs.Gathered.{gathered_trace};
+    ghost use Rattle.mad_frames.specs.Gathered.{gathered_trace};
     ghost use Rattle.mad_frames.specs.Frames.{FrameState};
 
     ghost Value = { FrameState };

@@ -4,8 +4,9 @@ ghost use Rattle.std.specs.Prelude.{◌≡◌, None, Some, IfOk, IsErrOf};
 ghost use Rattle.mad_term.specs.Trace.{Puts, Flushes};
 
 use crate::errors::PresentError;
+use crate::gathered::Gathered;
 use mad_screen::Screen;
-use mad_term::{Gathered, Out};
+use mad_term::Out;
 use std::alloc::{AllocError, Global};
 use std::io;
 

@@ -63,6 +63,7 @@ columns-append : (cs ds : List ℕ) → columns (cs ++ ds) ≡ columns cs + colu
 columns-append [] ds = omega arith
 columns-append (c ∷ cs) ds = omega (arith, columns-append cs ds)
 
+-- the columns of characters are the sum of the columns of each
 pub columns_sum : (cs : List ℕ) → sum_by char_columns cs ≡ columns cs
 columns_sum [] = refl
 columns_sum (c ∷ cs) = sum_by-cons char_columns c cs ∙ ap (λ (n : ℕ). char_columns c + n) (columns_sum cs)
@@ -96,6 +97,7 @@ first_scalars (suc n) [] h = refl
 first_scalars (suc n) (c ∷ cs) h =
     let split : (scalar c ≡ true) × (scalars cs ≡ true) = both_true (scalar c) (scalars cs) h in and_true (scalar c) (scalars (take n cs)) split.0 (first_scalars n cs split.1)
 
+-- what holds of all holds of the first ones
 pub all_first : {X : Type 0} (P : X → Type 0) (n : ℕ) (xs : List X) → AllByRecursion P xs → AllByRecursion P (take n xs)
 all_first P zero xs h = tt
 all_first P (suc n) [] h = tt
@@ -130,6 +132,7 @@ roomy room (c ∷ cs) =
     }))
     (cases_lt room (char_columns c))
 
+-- the front that fits takes no more columns than there are
 pub front_fits : (room : ℕ) (cs : List ℕ) → columns (front_within room cs) ≤ room
 front_fits room cs = (roomy room cs).fits
 
@@ -234,6 +237,7 @@ by_chars place text h =
     subst (λ (b : Bool). ShowsWithin place.width (cond b first filled)) (sym test) (first_ones place.width text h))
     (cases_lt n place.width)
 
+-- a text that stays in its place shows within the place's columns
 pub in_place : (measure : CellMeasure) (place : Spacing) (text : List ℕ) → StaysInPlace measure text → ShowsWithin place.width (spaced measure place text)
 in_place measures.Characters place text h = by_chars place text h
 in_place measures.Columns place text h = by_columns place text h

@@ -7,7 +7,6 @@ pub mod Commands
 pub mod Draws
 pub mod Errors
 pub mod Events
-pub mod Gathered
 pub mod Stream
 pub mod Styles
 pub mod Trace

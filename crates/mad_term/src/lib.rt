@@ -4,7 +4,7 @@
 //!
 //! 1. [`errors`]: what a call refuses by.
 //! 2. [`devices`]: what takes bytes ([`Out`]) and what gives them ([`Source`]), [`put_all`] and [`put_counted`].
-//! 3. [`streams`]: the readers and writers of the standard library as devices. [`gathered`]: a device in memory.
+//! 3. [`streams`]: the readers and writers of the standard library as devices.
 //! 4. [`color`], [`attribute`], [`attributes`]: how a text may look.
 //! 5. [`commands`], [`styles`], [`repeats`]: the bytes of moves, erasures and texts in a style, by Display and in a row buffer.
 //! 6. [`queue`]: the same, to a device.
@@ -18,7 +18,6 @@ mod commands;
 mod devices;
 mod errors;
 mod events;
-mod gathered;
 mod keys;
 mod mouse;
 mod queue;
@@ -33,7 +32,6 @@ pub use commands::{Clear, ClearType, MoveTo, push_clear, push_move};
 pub use devices::{Out, Source, put_all, put_counted};
 pub use errors::{Error, InsufficientWidthError};
 pub use events::{Event, TimedEvent};
-pub use gathered::Gathered;
 pub use keys::{KeyCode, KeyCombination, KeyEvent, KeyModifiers};
 pub use mad_columns::char_columns;
 pub use mouse::{MouseButton, MouseEvent, MouseEventKind};

@@ -9,7 +9,7 @@ pub mod term {
     pub use mad_columns::char_columns;
     pub use mad_screen::{Cell, CutOut, Looks, NotPlain, Pen, Screen, ScriptSource, laws};
     pub use mad_term::{
-        Attribute, Attributes, Clear, ClearType, Color, ContentStyle, Error, Event, Gathered,
+        Attribute, Attributes, Clear, ClearType, Color, ContentStyle, Error, Event,
         InsufficientWidthError, KeyCode, KeyCombination, KeyEvent, KeyModifiers, MouseButton,
         MouseEvent, MouseEventKind, MoveTo, Out, Source, Stream, StyledContent, StyledNumber,
         StyledRepeat, TimedEvent, push_background, push_clear, push_foreground, push_move,
@@ -131,6 +131,7 @@ pub use mad_format::Fitter;
 pub use mad_format::wrap_text;
 pub use mad_frames as frames;
 pub use mad_frames::Frame;
+pub use mad_frames::Gathered;
 pub use mad_frames::PresentError;
 pub use mad_frames::TestTerminal;
 pub use mad_json::ScrollBarStyleDef;
@@ -227,7 +228,6 @@ pub use mad_term::Color;
 pub use mad_term::ContentStyle;
 pub use mad_term::Error;
 pub use mad_term::Event;
-pub use mad_term::Gathered;
 pub use mad_term::InsufficientWidthError;
 pub use mad_term::KeyCode;
 pub use mad_term::KeyCombination;

@@ -1,9 +1,9 @@
 //! A device in memory.
 
 ghost use Rattle.std.specs.Prelude.{◌≡◌};
-ghost use Rattle.mad_term.specs.Gathered.{gathered_trace, untouched};
+ghost use Rattle.mad_frames.specs.Gathered.{gathered_trace, untouched};
 
-use crate::devices::Out;
+use mad_term::Out;
 use std::alloc::Global;
 use std::io;
 
@@ -32,7 +32,7 @@ impl Gathered {
 impl Out for Gathered {
     ghost seen = { gathered_trace };
 
-    #[tactic(auto, unfolding(crate::specs::Trace::after, crate::specs::Trace::failed))]
+    #[tactic(auto, unfolding(mad_term::specs::Trace::after, mad_term::specs::Trace::failed))]
     fn put(&mut self, bytes: &[u8]) -> io::Result<usize> {
         if self.bytes.extend_from_slice(bytes).is_err() {
             self.faults = self.faults.saturating_add(1);
@@ -41,7 +41,7 @@ impl Out for Gathered {
         Ok(bytes.len())
     }
 
-    #[tactic(auto, unfolding(crate::specs::Trace::flushed))]
+    #[tactic(auto, unfolding(mad_term::specs::Trace::flushed))]
     fn flush(&mut self) -> io::Result<()> {
         self.flushes = self.flushes.saturating_add(1);
         Ok(())

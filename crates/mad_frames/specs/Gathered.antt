@@ -1,7 +1,7 @@
 -- What a contract sees of the device in memory.
 use Rattle.std.specs.Prelude.{[], Some}
 use Rattle.mad_term.specs.Trace.{Trace}
-use Rattle.mad_term.specs.declared.gathered.Gathered.{Gathered}
+use Rattle.mad_frames.specs.declared.gathered.Gathered.{Gathered}
 
 -- all the bytes that it took, its faults and its flushes
 abbrev pub gathered_trace : Gathered → Trace
