@@ -12,7 +12,7 @@ use Rattle.mad_frames.specs.Bound.{is_same_cell, longest_move, longest_style, ch
 use Rattle.mad_frames.specs.RunBytes.{most_to, style_bytes, pen_bytes, pen_before, pieces_to, BeginsChange, EndsGap, IsPaid}
 use Rattle.mad_frames.specs.Whole.{is_cell_text, is_writable, tails_of, are_whole_after, are_whole}
 use Rattle.mad_frames.proofs.LooksLemmas.{both_true, same_glyph, same_look_true, same_look_refl}
-use Rattle.mad_frames.proofs.WholeLemmas.{whole_cut}
+use Rattle.mad_frames.proofs.WholeLemmas.{no_tail, whole_cut}
 
 -- ---- equal cells
 
@@ -42,14 +42,10 @@ pen_after_first : (g : Glyph) (p : Look) (gs : List Glyph) (i : ℕ) → pen_aft
 pen_after_first g p gs zero = refl
 pen_after_first g p gs (suc i) = refl
 
-no_text : (cs : List ℕ) → is_cell_text cs ≡ true → has_none cs ≡ true → ⊥
-no_text [] h t = false≢true h
-no_text (c ∷ cs) h t = false≢true t
-
 -- a tail has the pen of the cell before
 tail_pen_after : (n : ℕ) (p : Look) (gs : List Glyph) (i : ℕ) → are_whole_after n p gs ≡ true → i < length gs → is_tail (get_or gs i blank) ≡ true → (get_or gs i blank).pen ≡ pen_after p gs i
 tail_pen_after n p [] i h below t = absurd (omega arith)
-tail_pen_after zero p (g ∷ gs) zero h below t = absurd (no_text g.chars (both_true (is_cell_text g.chars) _ h).0 t)
+tail_pen_after zero p (g ∷ gs) zero h below t = absurd (no_tail g.chars (both_true (is_cell_text g.chars) _ h).0 t)
 tail_pen_after zero p (g ∷ gs) (suc i) h below t =
     let s = both_true (is_cell_text g.chars) _ h in
     let r = both_true (is_writable g.pen) _ s.1 in
@@ -148,7 +144,7 @@ most_up os ns x e h =
 -- the tails of two whole characters with the same first cell
 same_tails : (n : ℕ) (p : Look) (os ns : List Glyph) (k : ℕ) → are_whole_after n p os ≡ true → are_whole_after n p ns ≡ true → k < length ns → ((i : ℕ) → i ≤ k → is_tail (get_or ns i blank) ≡ true) → get_or os k blank ≡ get_or ns k blank
 same_tails n p os [] k h j below t = absurd (omega arith)
-same_tails zero p os (c ∷ ns) k h j below t = absurd (no_text c.chars (both_true (is_cell_text c.chars) _ j).0 (t 0 (omega arith)))
+same_tails zero p os (c ∷ ns) k h j below t = absurd (no_tail c.chars (both_true (is_cell_text c.chars) _ j).0 (t 0 (omega arith)))
 same_tails (suc n) p [] (c ∷ ns) k h j below t = absurd (false≢true h)
 same_tails (suc n) p (o ∷ os) (c ∷ ns) k h j below t =
     let s = both_true (is_tail o) _ h in

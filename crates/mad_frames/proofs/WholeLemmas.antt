@@ -4,10 +4,15 @@ use Rattle.std.proofs.Math.Dec.{eqb-suc-zero}
 use Rattle.std.proofs.lemmas.Bool.{false≢true, cases_lt}
 use Rattle.std.proofs.lemmas.List.{drop_more, drop_all, take_all, take-append-drop, get_or-drop}
 use Rattle.mad_screen.specs.Glyph.{Glyph, Look}
-use Rattle.mad_screen.specs.Grid.{blank, is_tail}
+use Rattle.mad_screen.specs.Grid.{blank, has_none, is_tail}
 use Rattle.mad_screen.specs.Pictures.{same_look}
 use Rattle.mad_frames.specs.Whole.{is_cell_text, is_writable, tails_of, are_whole_after}
 use Rattle.mad_frames.proofs.LooksLemmas.{both_true, true_both}
+
+-- the characters of a cell with text are some
+pub no_tail : (cs : List ℕ) → is_cell_text cs ≡ true → has_none cs ≡ true → ⊥
+no_tail [] h t = false≢true h
+no_tail (c ∷ cs) h t = false≢true t
 
 whole_split : (a : List Glyph) (g : Glyph) (b : List Glyph) (n : ℕ) (p q : Look) → is_tail g ≡ false → are_whole_after n p (a ++ g ∷ b) ≡ true → (are_whole_after n p a ≡ true) × (are_whole_after 0 q (g ∷ b) ≡ true)
 whole_split [] g b zero p q head h = (refl, h)

@@ -254,7 +254,8 @@ rows_same {X} f g (suc k) from same =
     ap (λ (x : X). x ∷ map f (range_with_len (from + 1) k)) (same from (omega arith))
     ∙ ap (λ (xs : List X). g from ∷ xs) (rows_same f g k (from + 1) (λ i within. same i (omega (arith, within))))
 
-past_none : {X : Type 0} (xs : List X) (i : ℕ) → slice_get xs i ≡ None → length xs ≤ i
+-- an index at which there is no value is past the last one
+pub past_none : {X : Type 0} (xs : List X) (i : ℕ) → slice_get xs i ≡ None → length xs ≤ i
 past_none [] i e = omega arith
 past_none (x ∷ xs) zero e = absurd (cc)
 past_none (x ∷ xs) (suc i) e = omega (arith, past_none xs i e)
