@@ -3,29 +3,35 @@
 //!
 //! 1. [`form`]: the fields and the button, and which of them gets an event.
 //! 2. [`script`]: the blocks of keys.
-//! 3. [`terminal`]: the terminal.
 #![tactic(auto)]
 
 mod form;
 mod script;
-mod terminal;
 
 use form::Form;
 use script::Step;
 use std::alloc::AllocError;
-use termimad::Error;
 use termimad::keys::Keys;
-use terminal::Terminal;
+use termimad::{ClearType, Error, Frame, TestTerminal, queue_clear};
+
+const COLUMNS: u16 = 20;
+
+const ROWS: u16 = 5;
 
 fn main(rt: HostRuntime) -> Result<(), Error> {
     let alloc = rt.alloc();
     let mut form = Form::new(alloc)?;
     let mut keys = Keys::new();
-    let mut terminal = Terminal::new(alloc)?;
+    let mut frame = Frame::new(alloc, COLUMNS, ROWS)?;
+    let mut terminal = TestTerminal::new(alloc, COLUMNS, ROWS);
     for step in &script::STEPS {
         apply(&mut form, &mut keys, step)?;
-        let sent = terminal.show(alloc, &form)?;
-        let screen = terminal.screen();
+        let before = terminal.taken().len();
+        queue_clear(&mut frame, ClearType::All)?;
+        form.draw(alloc, &mut frame)?;
+        frame.present(alloc, &mut terminal)?;
+        let sent = terminal.taken().len().saturating_sub(before);
+        let screen = terminal.shown(alloc)?;
         let looks = screen.looks()?;
         let caption = step.caption;
         println!(rt; "{caption}: {sent} bytes\n{screen}{looks}")?;

@@ -1,9 +1,8 @@
 //! Screens that show a file of Markdown: all of it, and a pager on it.
 
 use std::alloc::Global;
-use std::io::{Error as IoError, ErrorKind};
-use termimad::screen::{NotPlain, Screen};
-use termimad::{Area, CutOut, Error, FmtText, MadSkin, Markdown, ScriptSource, draw_text_in};
+use termimad::screen::Screen;
+use termimad::{Area, Error, FmtText, MadSkin, Markdown, ScriptSource, TestTerminal, draw_text_in};
 use termimad_page_run::{Grammar, Sheet, run};
 
 const COLUMNS: u16 = 72;
@@ -13,9 +12,6 @@ const PAGE_ROWS: u16 = 12;
 
 // What is typed to the pager: a search.
 const KEYS: &[u8] = b"/disk\r";
-
-// Bytes for some 200 rows; a longer text is refused.
-const ROOM: usize = 20000;
 
 /// A screen that shows a whole text.
 pub fn text_screen(alloc: Global, text: &str) -> Result<Screen, Error> {
@@ -27,10 +23,10 @@ pub fn text_screen(alloc: Global, text: &str) -> Result<Screen, Error> {
     let text = FmtText::from_text(alloc, &skin, markdown.text(alloc)?, Some(COLUMNS as usize))?;
     let rows = u16::try_from(text.lines.len()).unwrap_or(u16::MAX);
     let area = Area::new(0, 0, COLUMNS, rows);
-    let mut out = CutOut::new(alloc, ROOM, ROOM, false)?;
+    let mut terminal = TestTerminal::new(alloc, COLUMNS, rows);
     let shown = skin.row_skin().with_links();
-    draw_text_in(alloc, &mut out, &shown, &text, &area, 0, false)?;
-    read(alloc, rows, out.taken())
+    draw_text_in(alloc, &mut terminal, &shown, &text, &area, 0, false)?;
+    Ok(terminal.shown(alloc)?)
 }
 
 /// A screen that shows a pager on a text, after some keys.
@@ -44,17 +40,12 @@ pub fn page_screen(alloc: Global, text: &str) -> Result<Screen, Error> {
         columns: COLUMNS,
         rows: PAGE_ROWS,
     };
-    let mut out = CutOut::new(alloc, ROOM, ROOM, false)?;
-    run(alloc, &sheet, &mut ScriptSource::new(KEYS, false), &mut out)?;
-    read(alloc, PAGE_ROWS, out.taken())
-}
-
-// What a screen of so many rows shows of bytes.
-fn read(alloc: Global, rows: u16, bytes: &[u8]) -> Result<Screen, Error> {
-    let mut screen = Screen::new(alloc, COLUMNS, rows)?;
-    match screen.read_bytes(bytes) {
-        Ok(()) => Ok(screen),
-        Err(NotPlain::Memory) => Err(Error::Memory),
-        Err(NotPlain::Undefined) => Err(Error::IO(IoError::from(ErrorKind::InvalidData))),
-    }
+    let mut terminal = TestTerminal::new(alloc, COLUMNS, PAGE_ROWS);
+    run(
+        alloc,
+        &sheet,
+        &mut ScriptSource::new(KEYS, false),
+        &mut terminal,
+    )?;
+    Ok(terminal.shown(alloc)?)
 }

@@ -27,6 +27,7 @@ high_scalar c l h = rw (le-ltb c 55296 (omega arith), le-leb 57344 c l, lt-ltb c
 cons : (c : ℕ) (front : List ℕ) → scalar c ≡ true → encode c ≡ front → IsUtf8 (front ++ [])
 cons c front ok e = (c ∷ [], (rw ok refl, ap (λ l. l ++ []) e))
 
+-- two bytes that may be a character are one
 pub two_bytes : (x y : ℕ) → 194 ≤ x → x < 224 → IsLater y → IsUtf8 (x ∷ y ∷ [])
 two_bytes x y l h f =
     let c = (x - 192) * 64 + (y - 128) in
@@ -49,6 +50,7 @@ second_three x y l h s f = elim (cases_lt x 225) as (λ _. let high : ℕ = (x -
   ]
 ]
 
+-- three bytes that may be a character are one
 pub three_bytes : (x y z : ℕ) → 224 ≤ x → x < 240 → IsLater y → IsLater z → IsSecondOfThree x y → IsUtf8 (x ∷ y ∷ z ∷ [])
 three_bytes x y z l h f g s =
     let c = (x - 224) * 4096 + (y - 128) * 64 + (z - 128) in
@@ -75,6 +77,7 @@ second_four x y l s f = elim (cases_lt x 241) as (λ _. let high : ℕ = (x - 24
   ]
 ]
 
+-- four bytes that may be a character are one
 pub four_bytes : (x y z w : ℕ) → 240 ≤ x → IsLater y → IsLater z → IsLater w → IsSecondOfFour x y → IsUtf8 (x ∷ y ∷ z ∷ w ∷ [])
 four_bytes x y z w l f g j s =
     let c = (x - 240) * 262144 + (y - 128) * 4096 + (z - 128) * 64 + (w - 128) in
@@ -162,6 +165,7 @@ begins_at bs at inside utf8 =
 
 -- ---- characters at a byte
 
+-- where no character begins there is none
 pub no_chars : (bs : List ℕ) (at : ℕ) → at < length bs → (Begins (length bs - at) (get_or bs at 0) (get_or bs (at + 1) 0) (get_or bs (at + 2) 0) (get_or bs (at + 3) 0) → ⊥) → AreCharsAt bs at 0
 no_chars bs at inside why = record {
   within = omega (arith, inside);
@@ -171,26 +175,31 @@ no_chars bs at inside why = record {
   none = λ _ utf8. why (begins_at bs at inside utf8);
 }
 
+-- where a text in UTF-8 stands there are characters
 pub some_chars : (bs front : List ℕ) (at n : ℕ) → at + n ≤ length bs → 0 < n → IsUtf8 front → drop at bs ≡ front ++ drop (at + n) bs → AreCharsAt bs at n
 some_chars bs front at n within some utf8 is = record { within = within; front = front; utf8 = utf8; is = is; none = λ e. absurd (omega (arith, e, some)) }
 
 byte_more : (bs : List ℕ) (at k : ℕ) → at + k < length bs → drop (at + k) bs ≡ get_or bs (at + k) 0 ∷ drop (at + (k + 1)) bs
 byte_more bs at k inside = at_drop_more (λ l. l) bs (at + k) 0 inside ∙ ap (λ n. get_or bs (at + k) 0 ∷ drop n bs) (omega arith)
 
+-- a byte of ASCII is a character
 pub one_at : (bs : List ℕ) (at : ℕ) → at < length bs → get_or bs at 0 < 128 → AreCharsAt bs at 1
 one_at bs at inside low =
     some_chars bs (get_or bs at 0 ∷ []) at 1 (omega (arith, inside)) (omega arith) (cons (get_or bs at 0) (get_or bs at 0 ∷ []) (low_scalar (get_or bs at 0) (omega (arith, low))) (encode_ascii (get_or bs at 0) low)) (at_drop_more (λ l. l) bs at 0 inside)
 
+-- two bytes are a character there
 pub two_at : (bs : List ℕ) (at : ℕ) → at + 2 ≤ length bs → 194 ≤ get_or bs at 0 → get_or bs at 0 < 224 → IsLater (get_or bs (at + 1) 0) → AreCharsAt bs at 2
 two_at bs at within l h f =
     some_chars bs (get_or bs at 0 ∷ get_or bs (at + 1) 0 ∷ []) at 2 within (omega arith) (two_bytes (get_or bs at 0) (get_or bs (at + 1) 0) l h f)
     (at_drop_more (λ l. l) bs at 0 (omega (arith, within)) ∙ ap (λ l. get_or bs at 0 ∷ l) (byte_more bs at 1 (omega (arith, within))))
 
+-- three bytes are a character there
 pub three_at : (bs : List ℕ) (at : ℕ) → at + 3 ≤ length bs → 224 ≤ get_or bs at 0 → get_or bs at 0 < 240 → IsLater (get_or bs (at + 1) 0) → IsLater (get_or bs (at + 2) 0) → IsSecondOfThree (get_or bs at 0) (get_or bs (at + 1) 0) → AreCharsAt bs at 3
 three_at bs at within l h f g s =
     some_chars bs (get_or bs at 0 ∷ get_or bs (at + 1) 0 ∷ get_or bs (at + 2) 0 ∷ []) at 3 within (omega arith) (three_bytes (get_or bs at 0) (get_or bs (at + 1) 0) (get_or bs (at + 2) 0) l h f g s)
     (at_drop_more (λ l. l) bs at 0 (omega (arith, within)) ∙ ap (λ l. get_or bs at 0 ∷ l) (byte_more bs at 1 (omega (arith, within)) ∙ ap (λ l. get_or bs (at + 1) 0 ∷ l) (byte_more bs at 2 (omega (arith, within)))))
 
+-- four bytes are a character there
 pub four_at : (bs : List ℕ) (at : ℕ) → at + 4 ≤ length bs → 240 ≤ get_or bs at 0 → IsLater (get_or bs (at + 1) 0) → IsLater (get_or bs (at + 2) 0) → IsLater (get_or bs (at + 3) 0) → IsSecondOfFour (get_or bs at 0) (get_or bs (at + 1) 0) → AreCharsAt bs at 4
 four_at bs at within l f g j s =
     some_chars bs (get_or bs at 0 ∷ get_or bs (at + 1) 0 ∷ get_or bs (at + 2) 0 ∷ get_or bs (at + 3) 0 ∷ []) at 4 within (omega arith) (four_bytes (get_or bs at 0) (get_or bs (at + 1) 0) (get_or bs (at + 2) 0) (get_or bs (at + 3) 0) l f g j s)
@@ -208,6 +217,7 @@ low_front (suc m) bs at within low =
       at_drop_more (λ l. l) bs at 0 (omega (arith, within)) ∙ ap (λ l. c ∷ l) (next.2 ∙ ap (λ n. next.0 ++ drop n bs) last),
     )
 
+-- bytes of ASCII are characters there
 pub low_at : (bs : List ℕ) (at n : ℕ) → at + n ≤ length bs → 0 < n → AreLow bs at n → AreCharsAt bs at n
 low_at bs at n within some low = let front = low_front n bs at within low in some_chars bs front.0 at n within some front.1 front.2
 
@@ -217,6 +227,7 @@ past_all : (cs rest : List ℕ) → IsUtf8 (encodes cs ++ rest) → IsUtf8 rest
 past_all [] rest utf8 = utf8
 past_all (c ∷ cs) rest utf8 = past_all cs rest (IsUtf8-past_char ((encode c ++ encodes cs) ++ rest) (encodes cs ++ rest) c utf8 (append_assoc (encode c) (encodes cs) rest))
 
+-- what follows a text in UTF-8 in one is UTF-8
 pub rest_of : (front rest : List ℕ) → IsUtf8 front → IsUtf8 (front ++ rest) → IsUtf8 rest
 rest_of front rest u utf8 = past_all u.0 rest (subst (λ l. IsUtf8 (l ++ rest)) (sym u.1.1) utf8)
 
@@ -226,9 +237,11 @@ pub record Left (bs : List ℕ) (at : ℕ) : Type 0 where
   pub down : IsUtf8 bs → IsUtf8 (drop at bs)
   pub up : IsUtf8 (drop at bs) → IsUtf8 bs
 
+-- at the start all is left
 pub left_start : (bs : List ℕ) → Left bs 0
 left_start bs = record { within = omega arith; down = λ u. u; up = λ u. u }
 
+-- after more characters the rest is left
 pub left_more : (bs : List ℕ) (at n : ℕ) → Left bs at → AreCharsAt bs at n → Left bs (at + n)
 left_more bs at n h c = record {
   within = c.within;

@@ -3,17 +3,14 @@ use Rattle.std.proofs.Common.{◌≡◌, ℕ, suc, ◌+◌, ◌-◌, ◌<◌, �
 use Rattle.std.specs.Prelude.{◌&&◌, if◌then◌else◌}
 use Rattle.std.proofs.lemmas.Bool.Decides.{nat_tests}
 use Rattle.std.proofs.lemmas.List.{drop_more, drop_all}
-use Rattle.std.proofs.lemmas.List.Sums.{sum_by-cons}
 use Rattle.mad_lines.specs.LineColumns.{char_width}
 use Rattle.mad_field_rows.specs.declared.line_rows.RowChar.{RowChar}
 use Rattle.mad_field_rows.specs.RowChars.{row_columns, ellipsis, space, does_fit, fitted, spaces_after, filled_row}
 use Rattle.mad_field_rows.specs.LineRows.{marked_between, shown_at}
+use Rattle.mad_field_rows.proofs.ColumnLemmas.{columns-cons}
 
 some_room : (room : ℕ) → 0 < room → (room == 0) ≡ false
 some_room room h = grind (arith, nat_tests)
-
-columns-cons : (c : RowChar) (cs : List RowChar) → row_columns (c ∷ cs) ≡ char_width c.c + row_columns cs
-columns-cons c cs = sum_by-cons (λ (x : RowChar). char_width x.c) c cs
 
 -- no room
 pub filled_none : (cs : List RowChar) (e : Bool) → filled_row cs e 0 ≡ []

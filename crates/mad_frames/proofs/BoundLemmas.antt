@@ -12,7 +12,7 @@ use Rattle.mad_frames.specs.Bound.{is_same_cell, longest_move, longest_style, ch
 use Rattle.mad_frames.specs.RunBytes.{most_to, style_bytes, pen_bytes, pen_before, pieces_to, BeginsChange, EndsGap, IsPaid}
 use Rattle.mad_frames.specs.Whole.{is_cell_text, is_writable, tails_of, are_whole_after, are_whole}
 use Rattle.mad_frames.proofs.LooksLemmas.{both_true, same_glyph, same_look_true, same_look_refl}
-use Rattle.mad_frames.proofs.WholeLemmas.{whole_cut}
+use Rattle.mad_frames.proofs.WholeLemmas.{no_tail, whole_cut}
 
 -- ---- equal cells
 
@@ -26,6 +26,7 @@ cost_of : (b : Bool) (n : ℕ) → ((b ≡ true) → ⊥) → cond b 0 n ≡ n
 cost_of true n h = absurd (h refl)
 cost_of false n h = refl
 
+-- a cell that changed, and is no tail, takes its bytes
 pub changed_cell : (o n : Glyph) → is_tail n ≡ false → ((o ≡ n) → ⊥) → cell_bytes o n ≡ change_bytes + length (cell_text n)
 changed_cell o n head h =
     cost_of (is_tail n || is_same_cell o n) (change_bytes + length (cell_text n)) (λ e. h (same_cell_true o n (sym (ap (λ t. t || is_same_cell o n) head) ∙ e)))
@@ -41,14 +42,10 @@ pen_after_first : (g : Glyph) (p : Look) (gs : List Glyph) (i : ℕ) → pen_aft
 pen_after_first g p gs zero = refl
 pen_after_first g p gs (suc i) = refl
 
-no_text : (cs : List ℕ) → is_cell_text cs ≡ true → has_none cs ≡ true → ⊥
-no_text [] h t = false≢true h
-no_text (c ∷ cs) h t = false≢true t
-
 -- a tail has the pen of the cell before
 tail_pen_after : (n : ℕ) (p : Look) (gs : List Glyph) (i : ℕ) → are_whole_after n p gs ≡ true → i < length gs → is_tail (get_or gs i blank) ≡ true → (get_or gs i blank).pen ≡ pen_after p gs i
 tail_pen_after n p [] i h below t = absurd (omega arith)
-tail_pen_after zero p (g ∷ gs) zero h below t = absurd (no_text g.chars (both_true (is_cell_text g.chars) _ h).0 t)
+tail_pen_after zero p (g ∷ gs) zero h below t = absurd (no_tail g.chars (both_true (is_cell_text g.chars) _ h).0 t)
 tail_pen_after zero p (g ∷ gs) (suc i) h below t =
     let s = both_true (is_cell_text g.chars) _ h in
     let r = both_true (is_writable g.pen) _ s.1 in
@@ -67,6 +64,7 @@ before_is : (gs : List Glyph) (i : ℕ) → pen_after plain_pen gs i ≡ pen_bef
 before_is gs zero = refl
 before_is gs (suc i) = refl
 
+-- a tail has the pen of the cell before it
 pub tail_pen : (gs : List Glyph) (i : ℕ) → are_whole gs ≡ true → i < length gs → is_tail (get_or gs i blank) ≡ true → (get_or gs i blank).pen ≡ pen_before gs i
 tail_pen gs i h below t = tail_pen_after 0 plain_pen gs i h below t ∙ before_is gs i
 
@@ -74,6 +72,7 @@ tail_text : (cs : List ℕ) (p : Look) → has_none cs ≡ true → length (cell
 tail_text [] p h = refl
 tail_text (c ∷ cs) p h = absurd (false≢true h)
 
+-- the pen of the cell before takes no byte
 pub same_pen_bytes : (before pen : Look) → pen ≡ before → pen_bytes before pen ≡ 0
 same_pen_bytes before pen e =
     let same : same_look pen before ≡ true = ap (same_look pen) (sym e) ∙ same_look_refl pen in
@@ -145,7 +144,7 @@ most_up os ns x e h =
 -- the tails of two whole characters with the same first cell
 same_tails : (n : ℕ) (p : Look) (os ns : List Glyph) (k : ℕ) → are_whole_after n p os ≡ true → are_whole_after n p ns ≡ true → k < length ns → ((i : ℕ) → i ≤ k → is_tail (get_or ns i blank) ≡ true) → get_or os k blank ≡ get_or ns k blank
 same_tails n p os [] k h j below t = absurd (omega arith)
-same_tails zero p os (c ∷ ns) k h j below t = absurd (no_text c.chars (both_true (is_cell_text c.chars) _ j).0 (t 0 (omega arith)))
+same_tails zero p os (c ∷ ns) k h j below t = absurd (no_tail c.chars (both_true (is_cell_text c.chars) _ j).0 (t 0 (omega arith)))
 same_tails (suc n) p [] (c ∷ ns) k h j below t = absurd (false≢true h)
 same_tails (suc n) p (o ∷ os) (c ∷ ns) k h j below t =
     let s = both_true (is_tail o) _ h in
@@ -202,6 +201,7 @@ character_may os ns x h j same below head b =
 
 -- ---- gaps and runs
 
+-- what holds where the flag is set holds of the number that is there then
 pub some_of : (b : Bool) (x : ℕ) (P : ℕ → Type 0) → ((b ≡ true) → P x) → IfSome (then_some b x) P
 some_of true x P h = h refl
 some_of false x P h = tt
@@ -213,6 +213,7 @@ character_to gs x e h some within t =
     let place : x + 1 + n ≡ e = omega arith in
     ap (pieces_to gs) (sym place) ∙ tails_free gs x n h (omega arith) (λ i low high. t i low (omega arith))
 
+-- past the first column, the pen before a cell is that of the cell to its left
 pub before_at : (gs : List Glyph) (x : ℕ) → 0 < x → pen_before gs x ≡ (get_or gs (x - 1) blank).pen
 before_at gs zero some = absurd (omega arith)
 before_at gs (suc x) some =

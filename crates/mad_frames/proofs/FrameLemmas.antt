@@ -149,6 +149,7 @@ known_leads f new bytes known leads t may = leads t (may.shows known)
 
 -- ---- many steps
 
+-- a frame that isn't known, and has nothing left to send, is in step with any terminal of its size
 pub begins_in_step : (f : FrameState) (start : Grid) → f.known ≡ false → f.unsent ≡ [] → IsGrid start → SameSize f.base start → IsInStep f start []
 begins_in_step f start unknown none grid size = (
   start,
@@ -168,12 +169,14 @@ drawing_in_step f s start taken d h =
       },
     )
 
+-- steps keep a frame in step
 pub steps_in_step : (f : FrameState) (start : Grid) (taken : List ℕ) (steps : List Step) → IsInStep f start taken → AreSteps f steps → IsInStep (frame_after f steps) start (taken ++ taken_in steps)
 steps_in_step f start taken [] h are = subst (λ (l : List ℕ). IsInStep f start l) (sym (append-nil taken)) h
 steps_in_step f start taken (s ∷ ss) h are =
     let next : IsInStep s.frame start (taken ++ s.bytes) = ⊎_elim (λ (d : IsDrawing f s). drawing_in_step f s start taken d h) (λ (k : KeepsInStep f s.frame s.bytes). k start taken h) are.0 in
     subst (λ (l : List ℕ). IsInStep (frame_after s.frame ss) start l) (append_assoc taken s.bytes (taken_in ss)) (steps_in_step s.frame start (taken ++ s.bytes) ss next are.1)
 
+-- a terminal in step shows a known frame that has nothing left to send
 pub known_shown : (f : FrameState) (start : Grid) (taken : List ℕ) → IsInStep f start taken → f.known ≡ true → f.unsent ≡ [] → (t : Grid) × (after_bytes start taken ≡ Some t) × ShowsCells (mended f.base) t
 known_shown f start taken h known none = (
   h.0,

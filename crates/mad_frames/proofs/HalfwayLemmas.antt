@@ -18,6 +18,7 @@ use Rattle.mad_screen.proofs.Reading.{nothing_leads}
 use Rattle.mad_screen.proofs.ReadingBack.{read_in_turn}
 use Rattle.mad_frames.specs.Changes.{SameSize, ShowsCells, LeadTo, halfway, RowsOf, AddsCells, AddsPaint}
 
+-- cells laid after the first ones take the place of as many others
 pub over : (a b cs : List Glyph) → length cs ≤ length b → put_list (a ++ b) (length a) cs ≡ a ++ (cs ++ drop (length cs) b)
 over a b [] h = refl
 over a [] (c ∷ cs) h = absurd (omega arith)
@@ -98,6 +99,7 @@ run_shown old new t x y n paint cells size same row some columns small_x small_y
       },
     )
 
+-- a run's move and its cells lead from halfway before it to halfway after it
 pub run_leads : (old new : Grid) (y x n : ℕ) (bytes moved all : List ℕ) (cells : List Glyph) → SameSize old new → length old.cells ≡ length new.cells → y < new.height → 0 < n → x + n ≤ new.width → x < 2 ^ 16 → y < 2 ^ 16 → y * new.width + x + n ≤ length new.cells → cells ≡ take n (drop (y * new.width + x) new.cells) → moved ≡ bytes ++ move_to_bytes x y → AddsPaint moved cells all → LeadTo old (halfway old new (y * new.width + x)) bytes → LeadTo old (halfway old new (y * new.width + (x + n))) all
 run_leads old new y x n bytes moved all cells size same row some columns small_x small_y fits are e adds leads t shows =
     let first = leads t shows in
@@ -123,6 +125,7 @@ row_part g y x n fits =
     take_front (suc n) (suc m) [] h = refl
     take_front (suc n) (suc m) (g ∷ l) h = ap (λ (r : List Glyph). g ∷ r) (take_front n m l (omega arith))
 
+-- no bytes change nothing
 pub no_bytes : (t : Grid) → after_bytes t [] ≡ Some t
 no_bytes t = read_leads t t [] IsUtf8-nil (subst (λ (cs : List ℕ). Leads (resting t) cs (resting t)) (sym chars-nil) (nothing_leads (resting t)))
 
@@ -196,6 +199,7 @@ same_rows old new y size cells =
 pub row_columns : (old new : Grid) (y : ℕ) (a b : List Glyph) → RowsOf old new y a b → length b ≡ new.width
 row_columns old new y a b r = ap length r.new_row ∙ row_length new.cells y new.width new.height r.row r.full
 
+-- an old row has as many cells as the new screen has columns
 pub old_columns : (old new : Grid) (y : ℕ) (a b : List Glyph) → RowsOf old new y a b → length a ≡ new.width
 old_columns old new y a b r =
     let full : length old.cells ≡ old.height * old.width = r.same ∙ r.full ∙ ap (λ h. h * new.width) (sym r.size.height) ∙ ap (λ w. old.height * w) (sym r.size.width) in

@@ -7,10 +7,12 @@ use Rattle.mad_term.specs.declared.color.Color.TheVariants.{Reset, Black, DarkGr
 use Rattle.mad_screen.specs.Glyph.{Glyph, Look}
 use Rattle.mad_screen.specs.Pictures.{same_color, same_look}
 
+-- where both hold, the first does and the second does
 pub both_true : (a b : Bool) → (a && b) ≡ true → (a ≡ true) × (b ≡ true)
 both_true true b h = (refl, h)
 both_true false b h = absurd (false≢true h)
 
+-- where the first holds and the second does, both hold
 pub true_both : (a b : Bool) → a ≡ true → b ≡ true → (a && b) ≡ true
 true_both a b p q = ap (λ t. t && b) p ∙ q
 
@@ -18,6 +20,7 @@ true_both a b p q = ap (λ t. t && b) p ∙ q
 abbrev pub glyph_of : List ℕ → Look → Glyph
 glyph_of chars pen = record { chars = chars; pen = pen }
 
+-- cells of the same characters in the same pen are the same
 pub same_glyph : (a b : List ℕ) (p q : Look) → a ≡ b → p ≡ q → glyph_of a p ≡ glyph_of b q
 same_glyph a b p q chars pen = ap (λ (l : List ℕ). glyph_of l p) chars ∙ ap (glyph_of b) pen
 

@@ -178,9 +178,11 @@ adds_mended r old new a b y n before after p q count =
     ok_as r (AddsCells a b y (length b) before after) (AddsCells (mended_row old) (mended_row new) y n before after)
     (λ h. subst (λ (l : List Glyph). AddsCells l (mended_row new) y n before after) p (subst (λ (l : List Glyph). AddsCells a l y n before after) q (subst (λ (k : ℕ). AddsCells a b y k before after) columns h)))
 
+-- where mended rows are the same, nothing is written; of the rows themselves too
 pub same_mended : {T E : Type 0} (r : Result T E) (old new a b : List Glyph) (before after : List ℕ) → a ≡ mended_row old → b ≡ mended_row new → OnOk r (a ≡ b → after ≡ before) → OnOk r (mended_row old ≡ mended_row new → after ≡ before)
 same_mended r old new a b before after p q = ok_as r (a ≡ b → after ≡ before) (mended_row old ≡ mended_row new → after ≡ before) (λ h e. h (p ∙ e ∙ sym q))
 
+-- the bound for mended rows, of the rows themselves
 pub bound_mended : {T E : Type 0} (r : Result T E) (old new a b : List Glyph) (before after : List ℕ) → a ≡ mended_row old → b ≡ mended_row new → OnOk r (are_whole a ≡ true → length after ≤ length before + most_bytes a b) → OnOk r (length after ≤ length before + most_bytes (mended_row old) (mended_row new))
 bound_mended r old new a b before after p q =
     let whole : are_whole a ≡ true = ap are_whole p ∙ mended_whole 0 plain_pen old refl in

@@ -21,10 +21,13 @@ use Rattle.mad_screen.proofs.Paints.{paints_piece, paints_both, paints_nothing}
 use Rattle.mad_frames.specs.Changes.{AddsPaint}
 use Rattle.mad_frames.specs.Whole.{is_widthless, are_joined, is_cell_text, is_writable, tails_of, are_whole_after, are_whole}
 use Rattle.mad_frames.proofs.LooksLemmas.{both_true, same_look_true}
+use Rattle.mad_frames.proofs.WholeLemmas.{no_tail}
 
+-- the characters of all cells
 abbrev pub all_chars : List Glyph → List ℕ
 all_chars = flat_map (λ g. g.chars)
 
+-- a tail in a pen
 abbrev pub tail_in : Look → Glyph
 tail_in p = record { chars = []; pen = p }
 
@@ -89,10 +92,6 @@ first_back (c ∷ ms) p gs h b =
 tail_back : (cs : List ℕ) (p : Look) (n : ℕ) (gs : List Glyph) → has_none cs ≡ true → Back n p gs → Back (suc n) p (record { chars = cs; pen = p } ∷ gs)
 tail_back [] p n gs h b = record { rest = b.rest; cells = ap (λ (l : List Glyph). tail_in p ∷ l) b.cells; back = b.back; printed = b.printed; whole = b.whole }
 tail_back (c ∷ cs) p n gs h b = absurd (false≢true h)
-
-no_tail : (cs : List ℕ) → is_cell_text cs ≡ true → has_none cs ≡ true → ⊥
-no_tail [] h t = false≢true h
-no_tail (c ∷ cs) h t = false≢true t
 
 cells_back : (gs : List Glyph) (n : ℕ) (p : Look) → are_whole_after n p gs ≡ true → InPen gs p → Back n p gs
 cells_back [] zero p h f = record { rest = []; cells = refl; back = refl; printed = tt; whole = tt }

@@ -96,6 +96,7 @@ first_most o n os ns (suc k) = sums (most_to (o ∷ os) (n ∷ ns) (suc k)) (cel
     sums : (m c t d : ℕ) → m ≡ c + t → m + d ≡ c + (t + d)
     sums m c t d e = omega arith
 
+-- at a row's end the bound counts all of its cells
 pub all_most : (os ns : List Glyph) → length os ≡ length ns → most_to os ns (length ns) ≡ most_bytes os ns
 all_most [] [] same = refl
 all_most [] (n ∷ ns) same = absurd (omega arith)

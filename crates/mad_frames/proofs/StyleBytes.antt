@@ -29,9 +29,11 @@ use Rattle.mad_frames.proofs.LooksLemmas.{both_true, same_look_true}
 abbrev further : List ℕ → List ℕ
 further = flat_map (λ m. 59 ∷ decimal m)
 
+-- a number below a power of ten has at most that many digits
 pub digits_most : (k n : ℕ) → 0 < k → n < 10 ^ k → n < 256 → length (decimal n) ≤ k
 digits_most k n some fits small = length-decimal-le k n some fits (omega arith)
 
+-- a command takes three bytes beside its numbers
 pub command_most : (n : ℕ) (ns : List ℕ) (letter : ℕ) → length (command_bytes (n ∷ ns) letter) ≡ 3 + length (decimal n) + length (further ns)
 command_most n ns letter = omega (arith, length-append (decimal n ++ further ns) (letter ∷ []), length-append (decimal n) (further ns))
 

@@ -4,10 +4,15 @@ use Rattle.std.proofs.Math.Dec.{eqb-suc-zero}
 use Rattle.std.proofs.lemmas.Bool.{false≢true, cases_lt}
 use Rattle.std.proofs.lemmas.List.{drop_more, drop_all, take_all, take-append-drop, get_or-drop}
 use Rattle.mad_screen.specs.Glyph.{Glyph, Look}
-use Rattle.mad_screen.specs.Grid.{blank, is_tail}
+use Rattle.mad_screen.specs.Grid.{blank, has_none, is_tail}
 use Rattle.mad_screen.specs.Pictures.{same_look}
 use Rattle.mad_frames.specs.Whole.{is_cell_text, is_writable, tails_of, are_whole_after}
 use Rattle.mad_frames.proofs.LooksLemmas.{both_true, true_both}
+
+-- the characters of a cell with text are some
+pub no_tail : (cs : List ℕ) → is_cell_text cs ≡ true → has_none cs ≡ true → ⊥
+no_tail [] h t = false≢true h
+no_tail (c ∷ cs) h t = false≢true t
 
 whole_split : (a : List Glyph) (g : Glyph) (b : List Glyph) (n : ℕ) (p q : Look) → is_tail g ≡ false → are_whole_after n p (a ++ g ∷ b) ≡ true → (are_whole_after n p a ≡ true) × (are_whole_after 0 q (g ∷ b) ≡ true)
 whole_split [] g b zero p q head h = (refl, h)
@@ -93,11 +98,13 @@ first_step cells i n p g below is none test =
     ap (λ m. are_whole_after m p (drop i cells)) (no_tails n none) ∙ ap (are_whole_after 0 p) (next_cell cells i g below is)
     ∙ ap (λ b. b && (is_writable g.pen && rest)) parts.0 ∙ ap (λ b. b && rest) parts.1
 
+-- a first cell that can't be written: the row isn't whole
 pub first_refused : (cells : List Glyph) (i n : ℕ) (p : Look) (g : Glyph) → i < length cells → g ≡ get_or cells i g → n ≤ 0 → (is_cell_text g.chars && is_writable g.pen) ≡ false → are_whole_after n p (drop i cells) ≡ false
 first_refused cells i n p g below is none test =
     ap (λ m. are_whole_after m p (drop i cells)) (no_tails n none) ∙ ap (are_whole_after 0 p) (next_cell cells i g below is)
     ∙ both_false (is_cell_text g.chars) (is_writable g.pen) (are_whole_after (tails_of g.chars) g.pen (drop (i + 1) cells)) test
 
+-- a cell that isn't the tail that is due: the row isn't whole
 pub tail_refused : (cells : List Glyph) (i n : ℕ) (p : Look) (g : Glyph) → i < length cells → g ≡ get_or cells i g → 0 < n → (is_tail g && same_look g.pen p) ≡ false → are_whole_after n p (drop i cells) ≡ false
 tail_refused cells i n p g below is some test =
     ap (are_whole_after n p) (next_cell cells i g below is) ∙ whole_tail n p g (drop (i + 1) cells) some

@@ -2,7 +2,9 @@ pub mod Bound
 pub mod Changes
 pub mod FrameLaws
 pub mod Frames
+pub mod Gathered
 pub mod Mending
 pub mod Refusals
 pub mod RunBytes
+pub mod TestTerminals
 pub mod Whole

@@ -8,11 +8,11 @@ ghost use Rattle.mad_frames.specs.Changes.{SameSize};
 ghost use Rattle.mad_frames.specs.Frames.{new_frame, frame_trace, drawn_screen, unknown, LeadsAll, AddsNothing, IsBounded, IsMessage, KeepsInStep, Sends, Presents};
 
 use crate::errors::PresentError;
+use crate::gathered::Gathered;
 use crate::writing::mended_changes;
 use mad_screen::{NotPlain, Screen};
 use mad_term::{ClearType, Out, push_clear, put_counted};
 use std::alloc::{AllocError, Global};
-use std::io::{Error as IoError, ErrorKind};
 use std::marker::Model;
 use std::{io, mem};
 
@@ -30,19 +30,18 @@ pub struct Frame {
     base: Screen,
     // Memory for the next screen: that of the one before `base`.
     spare: Screen,
-    drawn: Vec<u8>,
+    drawn: Gathered,
     unsent: Vec<u8>,
     known: bool,
-    faults: u64,
-    flushes: u64,
 }
 
 impl Model for Frame {
+    ghost use Rattle.mad_frames.specs.Gathered.{gathered_trace};
     ghost use Rattle.mad_frames.specs.Frames.{FrameState};
 
     ghost Value = { FrameState };
 
-    ghost view = { λ f. record { base = f.base; drawn = f.drawn.items; unsent = f.unsent.items; known = f.known; faults = f.faults; flushes = f.flushes } };
+    ghost view = { λ f. record { base = f.base; drawn = f.drawn.bytes.items; unsent = f.unsent.items; known = f.known; faults = (gathered_trace f.drawn).faults; flushes = (gathered_trace f.drawn).flushes } };
 }
 
 // Drops the first bytes, `count` of them.
@@ -77,11 +76,9 @@ impl Frame {
         Ok(Frame {
             base: Screen::new(alloc, width, height)?,
             spare: Screen::new(alloc, 0, 0)?,
-            drawn: Vec::new(alloc),
+            drawn: Gathered::new(alloc),
             unsent: Vec::new(alloc),
             known: false,
-            faults: 0,
-            flushes: 0,
         })
     }
 
@@ -96,7 +93,7 @@ impl Frame {
     pub fn discard(&mut self)
         ensures { self.new ≡ record self.old { drawn = [] } }
     {
-        self.drawn.clear();
+        self.drawn.bytes.clear();
     }
 
     /// Makes it an empty frame of another size, before its first present. What was drawn is dropped, and so is what the device
@@ -110,7 +107,7 @@ impl Frame {
         ensures err { OnErr result (self.new ≡ self.old) }
     {
         self.base = Screen::new(alloc, width, height)?;
-        self.drawn.clear();
+        self.drawn.bytes.clear();
         self.unsent.clear();
         self.known = false;
         Ok(())
@@ -123,7 +120,7 @@ impl Frame {
         ensures undefined { IsErrOf result NotPlain.Undefined → drawn_screen self.old ≡ None }
     {
         let spare = mem::replace(&mut self.spare, Screen::new(alloc, 0, 0)?);
-        self.base.after_bytes(spare, &self.drawn)
+        self.base.after_bytes(spare, &self.drawn.bytes)
     }
 
     // The bytes to a screen from what the terminal shows, or from whatever it shows.
@@ -165,7 +162,7 @@ impl Frame {
         drop_front(&mut bytes, taken);
         mem::swap(&mut self.spare, &mut self.base);
         self.base = screen;
-        self.drawn.clear();
+        self.drawn.bytes.clear();
         self.unsent = bytes;
         self.known = true;
         put?;
@@ -219,22 +216,15 @@ impl Frame {
 impl Out for Frame {
     ghost seen = { frame_trace };
 
-    #[tactic(auto, unfolding(mad_term::specs::Trace::after, mad_term::specs::Trace::failed))]
     fn put(&mut self, bytes: &[u8]) -> io::Result<usize>
         ensures { Puts (frame_trace self.old) bytes.now result (frame_trace self.new) }
     {
-        if self.drawn.extend_from_slice(bytes).is_err() {
-            self.faults = self.faults.saturating_add(1);
-            return Err(IoError::from(ErrorKind::OutOfMemory));
-        }
-        Ok(bytes.len())
+        self.drawn.put(bytes)
     }
 
-    #[tactic(auto, unfolding(mad_term::specs::Trace::flushed))]
     fn flush(&mut self) -> io::Result<()>
         ensures { Flushes (frame_trace self.old) result (frame_trace self.new) }
     {
-        self.flushes = self.flushes.saturating_add(1);
-        Ok(())
+        self.drawn.flush()
     }
 }

@@ -24,6 +24,7 @@ use Rattle.mad_list.specs.declared.list_view.ListView.{ListView}
 abbrev pub IsTextOf : {T E F O : Type 0} → (E → T → Result ListViewCell AllocError → Type 0) → ListView T E F O → List ℕ → Type 0
 IsTextOf {T} {E} extracts list text = (drawn : List (DrawnRow T E)) × AreRowsOf extracts list drawn × (text ≡ list_text list drawn)
 
+-- what the list writes into an empty text is the text of the list
 pub is_text : {T E F O : Type 0} (extracts : E → T → Result ListViewCell AllocError → Type 0) (list : ListView T E F O) (style : ListStyle) (columns : List (ListViewColumn E)) (old new text : List ℕ) → style ≡ list_style list.skin.now → columns ≡ list_columns list → old ≡ [] → text ≡ new → HasList extracts style columns list.area (list_rows list) old new → IsTextOf extracts list text
 is_text {T} {E} {F} {O} extracts list style columns old new text is_style is_columns none same has =
     let styled : HasList extracts (list_style list.skin.now) columns list.area (list_rows list) old new = subst (λ (s : ListStyle). HasList extracts s columns list.area (list_rows list) old new) is_style has in

@@ -21,6 +21,7 @@ pub record RoomSoFar (text rest : List ℕ) (most room bytes : ℕ) : Type 0 whe
   pub front : encode_utf8_all (front_within most (chars text)) ≡ take bytes text ++ encode_utf8_all (front_within room (chars rest))
   pub count : columns (front_within most (chars text)) + room ≡ most + columns (front_within room (chars rest))
 
+-- before the first character all the room is left
 pub room_none : (text rest : List ℕ) (most : ℕ) → IsUtf8 text → rest ≡ text → RoomSoFar text rest most most 0
 room_none text rest most utf8 e = record {
   utf8 = subst IsUtf8 (sym e) utf8;
@@ -64,6 +65,7 @@ room_more text rest more most room left bytes bytes' c h parts took at =
       count = omega (arith, h.count, ap columns grown, took);
     }
 
+-- the bytes so far end between two characters
 pub room_border : (text rest : List ℕ) (most room bytes : ℕ) → RoomSoFar text rest most room bytes → IsCharBoundary text bytes
 room_border text rest most room bytes h = IsCharBoundary-from_drop text bytes h.inside (subst IsUtf8 (sym h.left) h.utf8)
 

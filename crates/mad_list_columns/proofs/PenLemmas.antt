@@ -61,6 +61,7 @@ over_same : (o : Option Color) → over (shown_color selected_background) o ≡ 
 over_same None = refl
 over_same (Some c) = refl
 
+-- the border of a selected row has its background
 pub look_between : (table : CompoundStyle) → look_over (shown_color selected_background) table.object_style ≡ look_of_style (between_style table true).object_style
 look_between table =
     let s : ContentStyle = table.object_style in

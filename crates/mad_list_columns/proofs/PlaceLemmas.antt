@@ -1,6 +1,6 @@
 -- Texts in their places: what they show, and how many columns they take.
-use Rattle.std.proofs.Common.{◌≡◌, ⊎_elim, ℕ, zero, suc, min, ◌+◌, ◌-◌, ◌<◌, ◌≤◌, Bool, true, false, ◌&&◌, cond, List, [], ◌∷◌, ◌++◌, length, take, replicate, chars, Option, Some, None, refl, ap, sym, ◌∙◌, subst, arith, length-append, append-nil, encode_utf8_all, IsUtf8}
-use Rattle.std.specs.Prelude.{IsSome, nat_le, unwrap_or, encode_utf8}
+use Rattle.std.proofs.Common.{◌≡◌, ⊎_elim, ℕ, zero, suc, min, ◌+◌, ◌-◌, ◌<◌, ◌≤◌, Bool, true, false, ◌&&◌, cond, List, [], ◌∷◌, ◌++◌, length, take, replicate, chars, refl, ap, sym, ◌∙◌, subst, arith, length-append, append-nil, encode_utf8_all, IsUtf8}
+use Rattle.std.specs.Prelude.{nat_le, encode_utf8}
 use Rattle.std.specs.List.{AllByRecursion, sum_by}
 use Rattle.std.proofs.Math.Utf8.{scalar, scalars}
 use Rattle.std.proofs.lemmas.Bool.{cases_lt}
@@ -8,15 +8,16 @@ use Rattle.std.proofs.lemmas.Bool.Decides.{nat_tests}
 use Rattle.std.proofs.lemmas.List.{length-replicate, take_all}
 use Rattle.std.proofs.lemmas.List.Sums.{sum_by-cons}
 use Rattle.std.proofs.lemmas.Str.{chars-append, chars-encodes, chars-IsAscii, encodes-chars, IsUtf8-append, IsUtf8-encode, IsUtf8-from_ascii, IsUtf8-nil, scalars-chars}
-use Rattle.unicode_width.specs.Width.{char_width}
 use Rattle.mad_columns.specs.Columns.{char_columns}
 use Rattle.mad_md.specs.declared.alignment.Alignment.{Alignment}
 use Rattle.mad_md.specs.declared.alignment.Alignment.TheVariants as aligns
 use Rattle.mad_screen.specs.Painting.{IsPrinted, IsWhole, IsShown}
+use Rattle.mad_screen.proofs.Paints.{shown_both}
 use Rattle.mad_fit.specs.Completions.{Completes, left_completion}
 use Rattle.mad_fit.specs.TextColumns.{columns}
 use Rattle.mad_fit.specs.declared.spacing.Spacing.{Spacing}
 use Rattle.mad_draw.proofs.BorderLemmas.{space_column}
+use Rattle.mad_draw.proofs.ColumnChars.{printed_char}
 use Rattle.mad_draw.proofs.PieceLemmas.{ascii_spaces}
 use Rattle.mad_list_columns.specs.Places.{between_spaces, front_within, spaced, spaced_by_chars, spaced_by_columns}
 use Rattle.mad_list_columns.specs.Shown.{IsPrintable, StaysInPlace, TakesOneEach}
@@ -25,28 +26,12 @@ use Rattle.mad_list_columns.specs.declared.columns.CellMeasure.TheVariants as me
 
 -- ---- what characters show
 
-printed_both : (cs ds : List ℕ) → IsPrinted cs → IsPrinted ds → IsPrinted (cs ++ ds)
-printed_both [] ds p q = q
-printed_both (c ∷ cs) ds p q = (p.0, printed_both cs ds p.1 q)
-
-shown_both : (cs ds : List ℕ) → IsShown cs → IsShown ds → IsShown (cs ++ ds)
-shown_both [] ds p q = q
-shown_both (c ∷ cs) ds p q = record { printed = printed_both (c ∷ cs) ds p.printed q.printed; whole = p.whole }
-
-some_of : (o : Option ℕ) → unwrap_or o 0 ≡ 1 → IsSome o
-some_of None h = absurd (omega (arith, h))
-some_of (Some n) h = refl
-
-printed_one : (c : ℕ) → char_columns c ≡ 1 → IsSome (char_width false c)
-unfolding char_columns
-printed_one c h = some_of (char_width false c) h
-
 abbrev AreOne : List ℕ → Type 0
 AreOne cs = AllByRecursion (λ c. char_columns c ≡ 1) cs
 
 all_printed : (cs : List ℕ) → AreOne cs → IsPrinted cs
 all_printed [] h = tt
-all_printed (c ∷ cs) h = (printed_one c h.0, all_printed cs h.1)
+all_printed (c ∷ cs) h = (printed_char c h.0, all_printed cs h.1)
 
 first_whole : (cs : List ℕ) → AreOne cs → IsWhole cs
 first_whole [] h = tt
@@ -63,6 +48,7 @@ columns-append : (cs ds : List ℕ) → columns (cs ++ ds) ≡ columns cs + colu
 columns-append [] ds = omega arith
 columns-append (c ∷ cs) ds = omega (arith, columns-append cs ds)
 
+-- the columns of characters are the sum of the columns of each
 pub columns_sum : (cs : List ℕ) → sum_by char_columns cs ≡ columns cs
 columns_sum [] = refl
 columns_sum (c ∷ cs) = sum_by-cons char_columns c cs ∙ ap (λ (n : ℕ). char_columns c + n) (columns_sum cs)
@@ -96,6 +82,7 @@ first_scalars (suc n) [] h = refl
 first_scalars (suc n) (c ∷ cs) h =
     let split : (scalar c ≡ true) × (scalars cs ≡ true) = both_true (scalar c) (scalars cs) h in and_true (scalar c) (scalars (take n cs)) split.0 (first_scalars n cs split.1)
 
+-- what holds of all holds of the first ones
 pub all_first : {X : Type 0} (P : X → Type 0) (n : ℕ) (xs : List X) → AllByRecursion P xs → AllByRecursion P (take n xs)
 all_first P zero xs h = tt
 all_first P (suc n) [] h = tt
@@ -130,6 +117,7 @@ roomy room (c ∷ cs) =
     }))
     (cases_lt room (char_columns c))
 
+-- the front that fits takes no more columns than there are
 pub front_fits : (room : ℕ) (cs : List ℕ) → columns (front_within room cs) ≤ room
 front_fits room cs = (roomy room cs).fits
 
@@ -234,6 +222,7 @@ by_chars place text h =
     subst (λ (b : Bool). ShowsWithin place.width (cond b first filled)) (sym test) (first_ones place.width text h))
     (cases_lt n place.width)
 
+-- a text that stays in its place shows within the place's columns
 pub in_place : (measure : CellMeasure) (place : Spacing) (text : List ℕ) → StaysInPlace measure text → ShowsWithin place.width (spaced measure place text)
 in_place measures.Characters place text h = by_chars place text h
 in_place measures.Columns place text h = by_columns place text h

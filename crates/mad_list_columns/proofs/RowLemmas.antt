@@ -113,6 +113,7 @@ pub record FirstRow {T : Type 0} (rows : List (ListRow T)) (from i : ℕ) : Type
   pub there : slice_get rows i ≡ Some row
   pub parts : shown_from rows from ≡ (i, row) ∷ shown_from rows (i + 1)
 
+-- the row that is found is the first shown one from there on
 pub some_from : {T : Type 0} (rows : List (ListRow T)) (from i : ℕ) → first_from rows from ≡ Some i → FirstRow rows from i
 some_from {T} rows from i e =
     let f : FirstIs from (drop from rows) i = first_numbered from (drop from rows) i e in
@@ -128,6 +129,7 @@ some_from {T} rows from i e =
           ∙ ap {B = List (ℕ × ListRow T)} (λ (ps : List (ℕ × ListRow T)). (i, f.row) ∷ ps) (sym (numbered_from rows (i + 1)));
     }
 
+-- whether a row is the selected one
 pub selected_is : (selection : Option ℕ) (i : ℕ) (b : Bool) → b ≡ option_eq nat_eq selection (Some i) → b ≡ is_selected selection i
 selected_is None i b e = e
 selected_is (Some s) i b e = e
@@ -217,6 +219,7 @@ first_left {X} xs ys k e = ap (λ (zs : List X). slice_get zs 0) e ∙ first_pas
 
 -- ---- a row more in the body
 
+-- one row more of the body
 pub body_more : (left top r : ℕ) (row : ℕ → List ℕ) (old bytes mid written new a b : List ℕ) → bytes ≡ old ++ drawing left (top + 2) (map row (range_with_len 0 r)) → mid ≡ bytes ++ move_to_bytes left (top + (r + 2)) → written ≡ mid ++ a → new ≡ written ++ b → a ++ b ≡ row r → new ≡ old ++ drawing left (top + 2) (map row (range_with_len 0 (r + 1)))
 body_more left top r row old bytes mid written new a b before moves writes bars is =
     let done : List (List ℕ) = map row (range_with_len 0 r) in
@@ -251,7 +254,8 @@ rows_same {X} f g (suc k) from same =
     ap (λ (x : X). x ∷ map f (range_with_len (from + 1) k)) (same from (omega arith))
     ∙ ap (λ (xs : List X). g from ∷ xs) (rows_same f g k (from + 1) (λ i within. same i (omega (arith, within))))
 
-past_none : {X : Type 0} (xs : List X) (i : ℕ) → slice_get xs i ≡ None → length xs ≤ i
+-- an index at which there is no value is past the last one
+pub past_none : {X : Type 0} (xs : List X) (i : ℕ) → slice_get xs i ≡ None → length xs ≤ i
 past_none [] i e = omega arith
 past_none (x ∷ xs) zero e = absurd (cc)
 past_none (x ∷ xs) (suc i) e = omega (arith, past_none xs i e)
@@ -297,16 +301,19 @@ grown_by {T} {E} extracts style columns area list r row (Some drawn) old bytes m
           (ap (λ (o : Option (DrawnRow T E)). row_or_erasure style.table list.selection o ++ bar_bytes area (body_bar style.bar area list) r) (sym last)),
     )
 
+-- a row's cells and its bar are the next row of the body
 pub body_grows : {T E F O : Type 0} (extracts : E → T → Result ListViewCell AllocError → Type 0) (style : ListStyle) (columns : List (ListViewColumn E)) (area : Area) (list : ListState T F O) (r : ℕ) (row : Option (ℕ × ListRow T)) (bar : Option ScrollBar) (old bytes mid written new : List ℕ) → HasBody extracts style columns area list r old bytes
     → mid ≡ bytes ++ move_to_bytes area.left (area.top + (r + 2)) → row ≡ slice_get (shown_from list.rows list.scroll) r → HasRow extracts style.table columns list.selection row mid written → bar ≡ body_bar style.bar area list → new ≡ written ++ bar_bytes area bar r → HasBody extracts style columns area list (r + 1) old new
 body_grows extracts style columns area list r row bar old bytes mid written new done moves is part beside bars =
     grown_by extracts style columns area list r row part.0 old bytes mid written new done moves is part.1 part.2 (bars ∙ ap (λ (b : Option ScrollBar). written ++ bar_bytes area b r) beside)
 
+-- no row of the body is written yet
 pub body_starts : {T E F O : Type 0} (extracts : E → T → Result ListViewCell AllocError → Type 0) (style : ListStyle) (columns : List (ListViewColumn E)) (area : Area) (list : ListState T F O) (old : List ℕ) → HasBody extracts style columns area list 0 old old
 body_starts extracts style columns area list old = ([], record { rows = refl; cells = tt }, sym (append-nil old))
 
 -- ---- the titles, the rule, and the body
 
+-- titles and rule, each after its move, are the head
 pub head_written : (left top height : ℕ) (old a b c new titles rule : List ℕ) → 2 ≤ height → a ≡ old ++ move_to_bytes left top → b ≡ a ++ titles → c ≡ b ++ move_to_bytes left (top + 1) → new ≡ c ++ rule → new ≡ old ++ drawing left top (take height (titles ∷ (rule ∷ [])))
 head_written left top height old a b c new titles rule tall first title second ruled =
     let all : take height (titles ∷ (rule ∷ [])) ≡ titles ∷ (rule ∷ []) = take_all height (titles ∷ (rule ∷ [])) tall in
@@ -324,6 +331,7 @@ head_written left top height old a b c new titles rule tall first title second r
     ∙ ap (λ (bs : List ℕ). old ++ (up ++ (titles ++ (down ++ bs)))) (sym (append-nil rule))
     ∙ ap (λ (rs : List (List ℕ)). old ++ drawing left top rs) (sym all)
 
+-- head and body are one drawing
 pub whole_drawn : (left top height : ℕ) (titles rule : List ℕ) (row : ℕ → List ℕ) → drawing left top (take height (titles ∷ (rule ∷ [])) ++ map row (range_with_len 0 (height - 2))) ≡ drawing left top (take height (titles ∷ (rule ∷ []))) ++ drawing left (top + 2) (map row (range_with_len 0 (height - 2)))
 whole_drawn left top zero titles rule row = refl
 whole_drawn left top (suc zero) titles rule row = sym (append-nil (drawing left top (titles ∷ [])))
@@ -334,6 +342,7 @@ whole_drawn left top (suc (suc h)) titles rule row =
     let two : top + length head ≡ top + 2 = ap (λ (rs : List (List ℕ)). top + length rs) all in
     drawing-append left top head body ∙ ap (λ (y : ℕ). drawing left top head ++ drawing left y body) two
 
+-- a head and then a body are the list
 pub list_written : {T E F O : Type 0} (extracts : E → T → Result ListViewCell AllocError → Type 0) (style : ListStyle) (columns : List (ListViewColumn E)) (area : Area) (list : ListState T F O) (old mid new : List ℕ) → mid ≡ old ++ drawing area.left area.top (head_rows style columns area) → HasBody extracts style columns area list (area.height - 2) mid new → HasList extracts style columns area list old new
 list_written extracts style columns area list old mid new head body =
     let above : List ℕ = drawing area.left area.top (head_rows style columns area) in

@@ -44,6 +44,7 @@ use Rattle.mad_list_columns.specs.declared.columns.ListViewColumn.{ListViewColum
 use Rattle.mad_list_columns.specs.declared.drawing.ListStyle.{ListStyle}
 use Rattle.mad_list_columns.proofs.PenLemmas.{look_between, look_over, marked_cells, marked_paints}
 use Rattle.mad_list_columns.proofs.PlaceLemmas.{ShowsWithin, in_place}
+use Rattle.mad_list_columns.proofs.RowLemmas.{past_none}
 use Rattle.mad_list_columns.proofs.TerminalSteps.{AreChanged, Changes, both_in_row, changed_both, erasing, erasure_changes, in_row, in_rows, left_of_cells, no_change, nothing_changes, painting_changes, past_cells, rows_change, same_change}
 use Rattle.mad_list_columns.proofs.WithinLemmas.{PaintsEach, PaintsWithin, length-text_cells, separated_by_one, spread, within_more, within_piece, within_repeat, within_separated}
 
@@ -435,11 +436,6 @@ row_left {T} {E} style columns area list drawn (suc (suc r)) x c some before =
 count_drawn : {T E F O : Type 0} {extracts : E → T → Result ListViewCell AllocError → Type 0} {style : ListStyle} {columns : List (ListViewColumn E)} {area : Area} {list : ListState T F O} {drawn : List (DrawnRow T E)} → IsFitting extracts style columns area list drawn → length drawn ≡ min (area.height - 2) (length (shown_from list.rows list.scroll))
 count_drawn {T} {E} {F} {O} {extracts} {style} {columns} {area} {list} {drawn} h =
     sym (length-map drawn (λ (d : DrawnRow T E). d.row)) ∙ ap length h.are.rows ∙ length-take (area.height - 2) (shown_from list.rows list.scroll)
-
-past_none : {X : Type 0} (xs : List X) (i : ℕ) → slice_get xs i ≡ None → length xs ≤ i
-past_none [] i e = omega arith
-past_none (x ∷ xs) zero e = absurd (cc)
-past_none (x ∷ xs) (suc i) e = omega (arith, past_none xs i e)
 
 -- right of it only erased ones do
 row_right : {T E F O : Type 0} {extracts : E → T → Result ListViewCell AllocError → Type 0} {style : ListStyle} {columns : List (ListViewColumn E)} {area : Area} {list : ListState T F O} {drawn : List (DrawnRow T E)} → IsFitting extracts style columns area list drawn → (j x y : ℕ) (c : Glyph) → 0 < area.width → area.left + area.width ≤ x → y ≡ area.top + j → j < area.height

@@ -34,9 +34,11 @@ Changes area f bytes =
     → (new : Grid) × (after_bytes g bytes ≡ Some new) × IsOnScreen area new × (new.width ≡ g.width) × (new.height ≡ g.height)
     × ((x y : ℕ) → x < g.width → cell_at new x y ≡ f x y (cell_at g x y))
 
+-- each cell stays as it is
 abbrev pub no_change : Change
 no_change x y c = c
 
+-- no bytes change nothing
 pub nothing_changes : (area : Area) → Changes area no_change []
 nothing_changes area g on_screen = (
   g,
@@ -47,6 +49,7 @@ nothing_changes area g on_screen = (
   λ x y in_width. refl,
 )
 
+-- bytes and then others change the cells one after the other
 pub both_change : (area : Area) (f h : Change) (a b : List ℕ) → Changes area f a → Changes area h b → Changes area (λ x y c. h x y (f x y c)) (a ++ b)
 both_change area f h a b p q g on_screen =
     let one = p g on_screen in
@@ -59,6 +62,7 @@ both_change area f h a b p q g on_screen =
       λ x y in_width. two.5 x y (omega (arith, in_width, one.3)) ∙ ap (h x y) (one.5 x y in_width),
     )
 
+-- a change that leaves the same in each cell
 pub same_change : (area : Area) (f h : Change) (bytes : List ℕ) → ((x y : ℕ) (c : Glyph) → f x y c ≡ h x y c) → Changes area f bytes → Changes area h bytes
 same_change area f h bytes same p g on_screen =
     let done = p g on_screen in (done.0, done.1, done.2, done.3, done.4, λ x y in_width. done.5 x y in_width ∙ same x y (cell_at g x y))
@@ -69,6 +73,7 @@ same_change area f h bytes same p g on_screen =
 abbrev pub in_row : ℕ → (ℕ → Glyph → Glyph) → Change
 in_row y0 f x y c = cond (eqb y y0) (f x c) c
 
+-- the same, of one row
 pub same_row : (area : Area) (y0 : ℕ) (f h : ℕ → Glyph → Glyph) (bytes : List ℕ) → ((x : ℕ) (c : Glyph) → f x c ≡ h x c) → Changes area (in_row y0 f) bytes → Changes area (in_row y0 h) bytes
 same_row area y0 f h bytes same p = same_change area (in_row y0 f) (in_row y0 h) bytes (λ x y c. ap (λ (d : Glyph). cond (eqb y y0) d c) (same x c)) p
 
@@ -97,6 +102,7 @@ reached_column start cells x c d reached e = let test : leb start x ≡ true = g
 pub past_cells : (start : ℕ) (cells : List Glyph) (x : ℕ) (c : Glyph) → start + length cells ≤ x → from_column start cells x c ≡ c
 past_cells start cells x c past = sym (reached_column start cells x c c (omega (arith, past)) (sym (get_or_past cells (x - start) c (omega (arith, past)))))
 
+-- the cells to the left stay
 pub left_of_cells : (start : ℕ) (cells : List Glyph) (x : ℕ) (c : Glyph) → x < start → from_column start cells x c ≡ c
 left_of_cells start cells x c before = sym (before_column start cells x c before)
 
@@ -197,6 +203,7 @@ cleared_is_grid : (g : Grid) (x0 y0 : ℕ) → IsGrid g → x0 ≤ g.width → y
 unfolding erased
 cleared_is_grid g x0 y0 h in_width in_rows = record { full = length-put_list g.cells (row_start (at g x0 y0) + x0) (replicate (row_end (at g x0 y0) - (row_start (at g x0 y0) + x0)) (space_of g.pen)) ∙ h.full; column = in_width; row = omega arith }
 
+-- erasing the rest of a row changes that row
 pub erasure_changes : (area : Area) (y0 : ℕ) → IsWithinLimits area → y0 < area.top + area.height → Changes area (in_row y0 (erasing area)) (move_to_bytes area.left y0 ++ clear_bytes UntilNewLine)
 unfolding erased
 erasure_changes area y0 limits to_bottom g on_screen =
@@ -225,6 +232,7 @@ abbrev pub AreChanged : Area → (ℕ → ℕ → Glyph → Glyph) → ℕ → �
 AreChanged area f y j [] = Unit {0}
 AreChanged area f y j (row ∷ rows) = Changes area (in_row y (f j)) (move_to_bytes area.left y ++ row) × AreChanged area f (suc y) (suc j) rows
 
+-- rows and then others
 pub changed_both : (area : Area) (f : ℕ → ℕ → Glyph → Glyph) (y j : ℕ) (rows others : List (List ℕ)) → AreChanged area f y j rows → AreChanged area f (y + length rows) (j + length rows) others → AreChanged area f y j (rows ++ others)
 changed_both area f y j [] others p q =
     let y_is : y + 0 ≡ y = omega arith in
@@ -285,6 +293,7 @@ no_rows f y0 j x y c =
     let test : (leb y0 y && ltb y (y0 + 0)) ≡ false = ⊎_elim (λ (above : y < y0). grind (arith, nat_tests)) (λ (reached : y0 ≤ y). grind (arith, nat_tests)) (cases_lt y y0) in
     sym (ap (λ (b : Bool). cond b (f (j + (y - y0)) x c) c) test)
 
+-- a drawing changes its rows, and no other
 pub rows_change : (area : Area) (f : ℕ → ℕ → Glyph → Glyph) (y j : ℕ) (rows : List (List ℕ)) → AreChanged area f y j rows → Changes area (in_rows y j (length rows) f) (drawing area.left y rows)
 rows_change area f y j [] h = same_change area no_change (in_rows y j 0 f) [] (λ x z c. no_rows f y j x z c) (nothing_changes area)
 rows_change area f y j (row ∷ rows) h =

@@ -92,12 +92,14 @@ begins_another {E} title xs i x within is e =
     subst (λ (cs : List (ListViewColumn E)). BeginsAnother title cs) (sym (drop-cons xs i x within))
     (λ same. differ (string_bytes x.title) title e (ap (λ (c : ListViewColumn E). string_bytes c.title) is ∙ same))
 
+-- a list is its first value and the others
 pub first_and_others : {E : Type 0} (xs : List (ListViewColumn E)) (x : ListViewColumn E) → 0 < length xs → x ≡ get_or xs 0 x → xs ≡ x ∷ take (length xs - 1) (drop 1 xs)
 first_and_others [] x some is = absurd (omega arith)
 first_and_others {E} (y ∷ ys) x some is =
     let all : take (length (y ∷ ys) - 1) ys ≡ ys = take_all (length (y ∷ ys) - 1) ys (omega arith) in
     ap (λ (zs : List (ListViewColumn E)). y ∷ zs) (sym all) ∙ ap (λ (z : ListViewColumn E). z ∷ take (length (y ∷ ys) - 1) ys) (sym is)
 
+-- the first title is over the columns that share it; then the others come
 pub split_titles : {E : Type 0} (columns : List (ListViewColumn E)) (c : ListViewColumn E) (others : List (ListViewColumn E)) (n : ℕ) → columns ≡ c ∷ others → HaveTitle (string_bytes c.title) (take n others) → BeginsAnother (string_bytes c.title) (drop n others) → titles columns ≡ title_over (take (1 + n) columns) ∷ titles (drop (1 + n) columns)
 split_titles {E} columns c others n is alike another =
     let one : suc n ≡ 1 + n = omega arith in
@@ -115,6 +117,7 @@ one_taken between f bytes mid new t ts us is line title =
     ∙ append_assoc bytes (between ++ f t) (each_after between (map f ts))
     ∙ ap (λ (vs : List Title). bytes ++ each_after between (map f vs)) (sym is)
 
+-- a number that is tested to be zero is
 pub zero_of : (n : ℕ) → true ≡ (n == 0) → n ≡ 0
 zero_of n e = grind (arith, nat_tests)
 

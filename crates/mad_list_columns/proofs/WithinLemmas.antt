@@ -16,12 +16,15 @@ pub record PaintsWithin (n : ℕ) (bytes : List ℕ) (cells : List Glyph) : Type
   pub paints : Paints bytes cells
   pub within : length cells ≤ n
 
+-- nothing is within no column
 pub within_nothing : PaintsWithin 0 [] []
 within_nothing = record { paints = paints_nothing; within = omega arith }
 
+-- two texts side by side take the columns of both
 pub within_both : (n m : ℕ) (a b : List ℕ) (g h : List Glyph) → PaintsWithin n a g → PaintsWithin m b h → PaintsWithin (n + m) (a ++ b) (g ++ h)
 within_both n m a b g h p q = record { paints = paints_both a b g h p.paints q.paints; within = omega (arith, length-append g h, p.within, q.within) }
 
+-- what is within some columns is within more
 pub within_more : (n m : ℕ) (bytes : List ℕ) (cells : List Glyph) → n ≤ m → PaintsWithin n bytes cells → PaintsWithin m bytes cells
 within_more n m bytes cells h p = record { paints = p.paints; within = omega (arith, h, p.within) }
 
@@ -29,6 +32,7 @@ within_more n m bytes cells h p = record { paints = p.paints; within = omega (ar
 pub length-text_cells : (pen : Look) (text : List ℕ) → length (cells_of pen (chars text)) ≡ columns (chars text)
 length-text_cells pen text = length-cells_of pen (chars text) ∙ columns_sum (chars text)
 
+-- a piece of a text is within the text's columns
 pub within_piece : (s : ContentStyle) (text : List ℕ) (n : ℕ) → IsStyle s → ShowsWithin n text → PaintsWithin n (piece_bytes s text) (piece_cells s text)
 within_piece s text n known h = record {
   paints = paints_piece s text known h.utf8 h.shown;
@@ -57,6 +61,7 @@ within_each between line f g n [] h = within_nothing
 within_each between line f g n (x ∷ xs) h =
     within_both (n x + 1) (spread n xs) (between ++ f x) (flat_map (λ u. between ++ u) (map f xs)) (line ∷ g x) (flat_map (λ u. line ∷ u) (map g xs)) h.0.after (within_each between line f g n xs h.1)
 
+-- cells with a border between each two are within their places and the borders
 pub within_separated : {X : Type 0} (between : List ℕ) (line : Glyph) (f : X → List ℕ) (g : X → List Glyph) (n : X → ℕ) (xs : List X) → AllByRecursion (PaintsEach between line f g n) xs → PaintsWithin (spread n xs - 1) (separated between (map f xs)) (separated (line ∷ []) (map g xs))
 within_separated between line f g n [] h = within_nothing
 within_separated between line f g n (x ∷ xs) h =
@@ -74,5 +79,6 @@ after_one between line f g n (x ∷ xs) one h = (
   after_one between line f g n xs one h.1,
 )
 
+-- the same, for a border of one column
 pub separated_by_one : {X : Type 0} (between : List ℕ) (line : Glyph) (f : X → List ℕ) (g : X → List Glyph) (n : X → ℕ) (xs : List X) → PaintsWithin 1 between (line ∷ []) → AllByRecursion (λ x. PaintsWithin (n x) (f x) (g x)) xs → PaintsWithin (spread n xs - 1) (separated between (map f xs)) (separated (line ∷ []) (map g xs))
 separated_by_one between line f g n xs one h = within_separated between line f g n xs (after_one between line f g n xs one h)

@@ -22,7 +22,7 @@ use Rattle.termimad_run.specs.declared.call.Command.{Command}
 use Rattle.termimad_run.specs.declared.failure.Failure.{Failure}
 use Rattle.termimad_run.specs.declared.failure.Failure.TheVariants as failure
 use Rattle.termimad_c.specs.Answers.{HandsOut, HandsOutParts, bit, refusal_of}
-use Rattle.termimad_c.specs.Gathered.{untouched}
+use Rattle.mad_frames.specs.Gathered.{untouched}
 use Rattle.termimad_c.specs.Inputs.{word_given, IsNoText, IsSkinOf, IsTextSoFar, RefusesSkin, RefusesCall, RefusesParts, alignment_number}
 use Rattle.termimad_c.specs.Making.{ArePartsOf, IsWritten, IsRowCount, IsFittedLine}
 use Rattle.termimad_c.specs.declared.answer.Answer.{Answer}
@@ -133,15 +133,18 @@ parts_written text word read width columns skin fenced is_last used fenced_then 
 pub parts_narrow : (text word : List ℕ) (width : ℕ) (is_last : Bool) (refusal : Refusal) → (refusal ≡ Condition) × (2 ^ 16 ≤ width) → RefusesParts text word width is_last refusal
 parts_narrow text word width is_last refusal (is, wide) = subst (RefusesParts text word width is_last) (sym is) wide
 
+-- a refused skin refuses the parts
 pub parts_in_skin : (text word : List ℕ) (width : ℕ) (is_last : Bool) (refusal : Refusal) → RefusesSkin word refusal → RefusesParts text word width is_last refusal
 parts_in_skin text word width is_last NotUtf8 h = inr h
 parts_in_skin text word width is_last Skin h = h
 parts_in_skin text word width is_last Memory h = tt
 parts_in_skin text word width is_last Condition h = absurd h
 
+-- so does what is no text
 pub parts_no_text : (text word : List ℕ) (width : ℕ) (is_last : Bool) (refusal : Refusal) → (refusal ≡ NotUtf8) × IsNoText is_last text → RefusesParts text word width is_last refusal
 parts_no_text text word width is_last refusal (is, none) = subst (RefusesParts text word width is_last) (sym is) (inl none)
 
+-- so does a want of memory
 pub parts_no_memory : (text word : List ℕ) (width : ℕ) (is_last : Bool) (refusal : Refusal) → refusal ≡ Memory → RefusesParts text word width is_last refusal
 parts_no_memory text word width is_last refusal is = subst (RefusesParts text word width is_last) (sym is) tt
 
@@ -155,6 +158,7 @@ parts_fit rows old new used fenced_then fenced answer progress h fits is = subst
   front = h.front;
 })
 
+-- parts that don't fit the buffer: none is used up
 pub parts_cut : (rows old new : List ℕ) (used : ℕ) (fenced_then fenced : Bool) (answer : Answer) (progress : Progress) → HandsOut rows old answer new → answer.status ≢ 0 → progress ≡ record { count = answer.count; used = 0; fenced = bit fenced; status = answer.status }
     → HandsOutParts rows used fenced_then fenced old progress new
 parts_cut rows old new used fenced_then fenced answer progress h other is = subst (λ (p : Progress). HandsOutParts rows used fenced_then fenced old p new) (sym is) (record {

@@ -1,5 +1,4 @@
 pub mod Answers
 pub mod DataTables
-pub mod Gathered
 pub mod Inputs
 pub mod Making

@@ -18,7 +18,7 @@ use Rattle.termimad.specs.declared.MadSkin.{MadSkin}
 use Rattle.termimad_run.specs.ProgramRuns.{WritesCall, ShowsCall}
 use Rattle.termimad_run.specs.declared.call.Command.{Command}
 use Rattle.termimad_run.specs.declared.call.Command.TheVariants.{InArea, AtWidth, AsMarkdown}
-use Rattle.termimad_c.specs.Gathered.{untouched}
+use Rattle.mad_frames.specs.Gathered.{untouched}
 use Rattle.termimad_c.specs.Inputs.{IsTextSoFar, IsSkinOf, IsAreaOf, alignment_number}
 
 -- They are all that the program writes of this text in the skin of this word, and what a plain terminal shows of them is what the

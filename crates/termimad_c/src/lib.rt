@@ -4,14 +4,12 @@
 //!
 //! 1. [`answer`]: what a call answers, and what it leaves in the buffer.
 //! 2. [`inputs`]: what a caller hands: texts, skins, numbers.
-//! 3. [`gathered`]: the device that keeps what a call writes.
-//! 4. [`making`]: what each call makes of its inputs.
-//! 5. [`exports`]: the calls as C sees them.
+//! 3. [`making`]: what each call makes of its inputs.
+//! 4. [`exports`]: the calls as C sees them.
 #![tactic(auto)]
 
 mod answer;
 mod exports;
-mod gathered;
 mod inputs;
 mod making;
 

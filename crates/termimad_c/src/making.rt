@@ -8,11 +8,10 @@ ghost use Rattle.termimad_c.specs.DataTables.{IsNoTable, IsTableWritten};
 ghost use Rattle.termimad_c.specs.Making.{IsWritten, IsAreaWritten, IsTextWritten, IsMarkdownWritten, IsRowCount, IsFittedLine, IsMadePrintable, ArePartsOf};
 
 use crate::answer::{Parts, Refusal};
-use crate::gathered::Gathered;
 use crate::inputs::{align_of, aligns_of, area_of, number_of, skin_of_word, text_of, text_so_far};
 use mad_tables::table_of_cells;
 use std::alloc::Global;
-use termimad::{FmtText, printable, write_front_on};
+use termimad::{FmtText, Gathered, printable, write_front_on};
 use termimad_run::{Command, write_call};
 
 /// A text in an area: the bytes of `termimad-view area`.

@@ -94,6 +94,7 @@ streamed_status (source_error.Device e) h = omega (arith, h)
 streamed_status source_error.NotUtf8 h = omega (arith, h)
 streamed_status source_error.Memory h = omega (arith, h)
 
+-- an end with status 4 was asked for a refused skin
 pub skin_exit : (words : List (List ℕ)) (failure : Failure) (old new : Devices) → RunsTo {T = Unit {0}} words old (Err failure) new → status_of failure ≡ 4 → AsksRefusedSkin words
 skin_exit words failure old new (inl h) e = whole_exit words failure old new h e
 skin_exit words failure old new (inr (source, is, h)) e = absurd (streamed_status source (ap status_of is ∙ e))
@@ -108,6 +109,7 @@ whole_refused words Io old new (inr (inl h)) asks = absurd (never words _ _ h.wr
 whole_refused words Io old new (inr (inr h)) asks = absurd (never words _ _ h.wrote.call asks)
 whole_refused words Memory old new h asks = inr refl
 
+-- a refused skin ends with status 4, or with 5 where there is no memory
 pub refused_exit : (words : List (List ℕ)) (failure : Failure) (old new : Devices) → RunsTo {T = Unit {0}} words old (Err failure) new → AsksRefusedSkin words → (status_of failure ≡ 4) ⊎ (status_of failure ≡ 5)
 refused_exit words failure old new (inl h) asks = whole_refused words failure old new h asks
 refused_exit words failure old new (inr (source, is, h)) asks = absurd (never words _ _ h.call asks)

@@ -2,7 +2,7 @@
 
 use crate::screens::{bytes_of, push_pictures};
 use crate::words::{number, pair};
-use mad_frames::{Frame, PresentError};
+use mad_frames::{Frame, PresentError, TestTerminal};
 use mad_screen::{CutOut, Screen};
 use mad_term::{Error, Out, put_all};
 use std::alloc::{AllocError, Global};
@@ -113,6 +113,23 @@ pub fn framed(alloc: Global, size: &str, text: &str) -> Result<String, AllocErro
     }
     push_pictures(&mut answer, &stage.terminal)?;
     Ok(answer)
+}
+
+/// What a terminal for tests of a size that takes the bytes of the first line says of a picture, the other lines.
+pub fn compared(alloc: Global, size: &str, text: &str) -> Result<String, AllocError> {
+    let (width, height) = pair(size);
+    let (bytes, rows) = text.split_once('\n').unwrap_or((text, ""));
+    let picture = format!(in alloc; "{rows}\n")?;
+    let mut terminal = TestTerminal::new(alloc, width, height);
+    if put_all(&mut terminal, &bytes_of(alloc, bytes)?).is_err() {
+        return Err(AllocError);
+    }
+    match terminal.parting(alloc, &picture) {
+        Ok(Some(told)) => Ok(told),
+        Ok(None) => String::from_str(alloc, "as wanted"),
+        Err(PresentError::Memory) => Err(AllocError),
+        Err(error) => format!(in alloc; "{error}"),
+    }
 }
 
 /// Whether devices that fail get what they should of one present of all that the steps draw.

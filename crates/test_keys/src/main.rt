@@ -7,7 +7,7 @@
 //! 3. [`bytes`]: what a command, a piece and a repeated text are.
 //! 4. [`queued`]: what each writing call writes. [`devices`]: devices that fail, and those of the standard library.
 //! 5. [`screens`]: what a screen shows of bytes, and what leads from one screen to another.
-//! 6. [`frames`]: what a frame sends.
+//! 6. [`frames`]: what a frame sends, and what a terminal for tests says of a picture.
 //! 7. [`tables`]: margins, indents and borders.
 //! 8. [`keys`]: what a terminal sends, and the events that it is. [`blocks`]: the bytes of a block. [`events`], [`event_words`]: an event as a
 //!    word, and the event of a word.
@@ -42,6 +42,7 @@ impl Calls for TerminalCalls {
             "screen" => screens::screen(alloc, rest, text, true),
             "changes" => screens::changed(alloc, rest, text),
             "frame" => frames::framed(alloc, rest, text),
+            "terminal" => frames::compared(alloc, rest, text),
             "cursor" => screens::screen(alloc, rest, text, false),
             "margins" => tables::margins(alloc, rest),
             "written_margins" => tables::written_margins(alloc, rest),

@@ -1,5 +1,5 @@
 use Rattle.std.proofs.Common.{◌∙◌, refl, rules}
-use Rattle.termimad_c.specs.Gathered.{gathered_trace}
+use Rattle.mad_frames.specs.Gathered.{gathered_trace}
 use Rattle.termimad_c.proofs.Steps.{parts_written}
 use Rattle.termimad_c.proofs.making.parts_made.Goals as goal
 

@@ -1,6 +1,6 @@
 use Rattle.std.proofs.Common.{refl}
 use Rattle.termimad_c.proofs.Steps.{all_written}
-use Rattle.termimad_c.specs.Gathered.{gathered_trace}
+use Rattle.mad_frames.specs.Gathered.{gathered_trace}
 use Rattle.termimad_c.proofs.making.written.Goals as goal
 
 pub returns : goal.returns

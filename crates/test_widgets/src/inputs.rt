@@ -5,7 +5,7 @@ use bitflags::Flags;
 use mad_edit::Pos;
 use mad_field::InputField;
 use mad_term::{Event, KeyEvent, MouseEvent, TimedEvent};
-use std::alloc::AllocError;
+use std::alloc::{AllocError, Global};
 
 /// Applies a key, a click or an event, and appends what it answers.
 pub fn push_input(
@@ -97,8 +97,21 @@ fn push_pos(answer: &mut String, position: Option<Pos>) -> Result<(), AllocError
     }
 }
 
-/// Appends the cell of a click, if the event is one.
-pub fn push_click(answer: &mut String, event: &str) -> Result<(), AllocError> {
+/// What an event is: `as_click EVENT` tells the cell of a click, `is_key KEY: EVENT` whether it is that key. Other words are names of modifiers,
+/// and are told as a number.
+pub fn told(alloc: Global, call: &str) -> Result<String, AllocError> {
+    let mut answer = String::new(alloc);
+    let (head, event) = call.split_once(": ").unwrap_or((call, ""));
+    match head.split_once(' ') {
+        Some(("as_click", event)) => push_click(&mut answer, event)?,
+        Some(("is_key", key)) => push_is_key(&mut answer, key, event)?,
+        _ => write!(answer, "{}", words::modifiers_of(head).bits())?,
+    }
+    Ok(answer)
+}
+
+// Appends the cell of a click, if the event is one.
+fn push_click(answer: &mut String, event: &str) -> Result<(), AllocError> {
     let (event, double) = words::event_of(event);
     let mut event = TimedEvent::new(event, 1000);
     event.double_click = double;
@@ -108,8 +121,8 @@ pub fn push_click(answer: &mut String, event: &str) -> Result<(), AllocError> {
     }
 }
 
-/// Appends whether an event is a key. The event may have a combination, after `as`.
-pub fn push_is_key(answer: &mut String, key: &str, event: &str) -> Result<(), AllocError> {
+// Appends whether an event is a key. The event may have a combination, after `as`.
+fn push_is_key(answer: &mut String, key: &str, event: &str) -> Result<(), AllocError> {
     let (event, combination) = event.split_once(" as ").unwrap_or((event, ""));
     let (event, _) = words::event_of(event);
     let mut event = TimedEvent::new(event, 1000);
@@ -118,10 +131,4 @@ pub fn push_is_key(answer: &mut String, key: &str, event: &str) -> Result<(), Al
     }
     let is = event.is_key(words::key_of(key));
     write!(answer, "{is}")
-}
-
-/// Appends a set of modifiers as a number.
-pub fn push_bits(answer: &mut String, names: &str) -> Result<(), AllocError> {
-    let bits = words::modifiers_of(names).bits();
-    write!(answer, "{bits}")
 }

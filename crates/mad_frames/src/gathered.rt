@@ -1,14 +1,13 @@
-//! The device that keeps what a call writes.
+//! A device in memory.
 
 ghost use Rattle.std.specs.Prelude.{◌≡◌};
-ghost use Rattle.termimad_c.specs.Gathered.{gathered_trace, untouched};
+ghost use Rattle.mad_frames.specs.Gathered.{gathered_trace, untouched};
 
+use mad_term::Out;
 use std::alloc::Global;
 use std::io;
-use std::io::{Error as IoError, ErrorKind};
-use termimad::Out;
 
-/// The bytes that were written on it, in memory that grows. It fails only where there is none.
+/// A device that keeps all that it takes, in memory that grows. It fails only where there is none.
 #[derive(Drop)]
 pub struct Gathered {
     /// All that it took.
@@ -18,7 +17,7 @@ pub struct Gathered {
 }
 
 impl Gathered {
-    /// A device on which nothing is written yet.
+    /// A device that took nothing yet.
     pub fn new(alloc: Global) -> Self
         ensures { gathered_trace result ≡ untouched }
     {
@@ -37,7 +36,7 @@ impl Out for Gathered {
     fn put(&mut self, bytes: &[u8]) -> io::Result<usize> {
         if self.bytes.extend_from_slice(bytes).is_err() {
             self.faults = self.faults.saturating_add(1);
-            return Err(IoError::from(ErrorKind::OutOfMemory));
+            return Err(io::Error::from(io::ErrorKind::OutOfMemory));
         }
         Ok(bytes.len())
     }

@@ -1,9 +1,9 @@
--- What a contract sees of the device that keeps what a call writes.
+-- What a contract sees of the device in memory.
 use Rattle.std.specs.Prelude.{[], Some}
 use Rattle.mad_term.specs.Trace.{Trace}
-use Rattle.termimad_c.specs.declared.gathered.Gathered.{Gathered}
+use Rattle.mad_frames.specs.declared.gathered.Gathered.{Gathered}
 
--- all the bytes that it has, its faults and its flushes
+-- all the bytes that it took, its faults and its flushes
 abbrev pub gathered_trace : Gathered → Trace
 gathered_trace kept = record { bytes = Some kept.bytes.items; faults = kept.faults; flushes = kept.flushes }
 
