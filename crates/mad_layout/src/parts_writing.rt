@@ -82,8 +82,8 @@ fn write_parts<O: Out>(
     ensures { WritesPartsOf skin.now width (lines_left parts.old) (O.seen out.old) result (O.seen out.new) }
 {
     let mut rows = String::new(alloc);
-    let mut lines = Vec::new(alloc);
     let mut commands = StyleCommands::new(alloc);
+    let mut lines = Vec::new(alloc);
     while take_next(
         alloc,
         &mut rows,
@@ -117,8 +117,8 @@ pub(crate) fn append_parts(
 ) -> Result<(), AllocError>
     ensures { OnOk result ((lines : List FmtLine) × IsLayoutAt (line_rules skin.now) width (lines_left parts.old) lines × (string_bytes rows.new ≡ string_bytes rows.old ++ text_bytes skin.now width lines)) }
 {
-    let mut lines = Vec::new(alloc);
     let mut commands = StyleCommands::new(alloc);
+    let mut lines = Vec::new(alloc);
     while take_next(alloc, rows, &mut lines, parts, width, skin, &mut commands)? {
         append_lines(rows, lines.as_slice(), width, skin, &mut commands)?;
         lines.clear();
