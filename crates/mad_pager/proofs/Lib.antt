@@ -1,3 +1,4 @@
 pub mod DrawnLemmas
 pub mod OrderLemmas
+pub mod PagerOrder
 pub mod StepLemmas

@@ -3,7 +3,7 @@
 ghost use Rattle.std.specs.Prelude.{◌≡◌, IfOk, OnOk};
 ghost use Rattle.mad_page.specs.PageKeys.{after_key};
 ghost use Rattle.mad_search.specs.PagedTexts.{paged_lines};
-ghost use Rattle.mad_pager.specs.Sessions.{asks_size, ends, state_of, turn_of, turn_of_key, turn_asked, turn_typed, HasSameText, IsAsked, IsAnyKeyStep, IsKeyStep, IsEventStep, IsStart};
+ghost use Rattle.mad_pager.specs.Sessions.{asks_size, ends, shows_help, state_of, turn_of, turn_of_key, turn_asked, turn_typed, HasSameText, IsAsked, IsAnyKeyStep, IsKeyStep, IsEventStep, IsStart};
 
 use crate::places::field_row;
 use crate::sizes::{ScreenSize, height_of, lay};
@@ -21,6 +21,8 @@ pub enum Turn {
     Goes,
     /// It goes on, and the terminal is to be asked for its size.
     AsksSize,
+    /// It goes on, and the help is to be shown.
+    ShowsHelp,
     /// It ends.
     Ends,
 }
@@ -38,6 +40,13 @@ impl Turn {
         ensures { result ≡ asks_size self }
     {
         matches!(self, Turn::AsksSize)
+    }
+
+    /// Whether the help is to be shown.
+    pub fn shows_help(self) -> bool
+        ensures { result ≡ shows_help self }
+    {
+        matches!(self, Turn::ShowsHelp)
     }
 }
 
@@ -205,6 +214,7 @@ fn turn_asked(ask: Ask) -> Turn
     match ask {
         Ask::Size => Turn::AsksSize,
         Ask::Quit => Turn::Ends,
+        Ask::Help => Turn::ShowsHelp,
         _ => Turn::Goes,
     }
 }

@@ -2,13 +2,14 @@
 
 ghost use Rattle.std.specs.Prelude.{◌≡◌, IfOk, OnOk, length};
 ghost use Rattle.mad_search.specs.PagedTexts.{paged_lines};
-ghost use Rattle.mad_pager.specs.Sessions.{hears_size, kept_row, state_of, AreStartsFor, HasSameText, IsLaidFor, IsResized, IsSettled};
+ghost use Rattle.mad_pager.specs.Sessions.{hears, hears_size, kept_row, state_of, AreStartsFor, HasSameText, IsLaidFor, IsResized, IsSettled};
 
 use crate::places::{field_row, layout_width};
 use crate::session::Session;
 use mad_layout::{FmtText, MadSkin};
 use mad_page::Page;
 use mad_search::{PagedText, row_in_parts};
+use mad_term::Event;
 use std::alloc::{AllocError, Global};
 
 // The cells of the largest screen that is believed. The picture of one is held in memory.
@@ -38,6 +39,17 @@ impl<'s> Session<'s> {
             return Ok(());
         }
         Ok(())
+    }
+
+    // Takes the size that an event tells, if it tells one.
+    pub(crate) fn hear(&mut self, event: Event)
+        ensures told { state_of self.new ≡ hears event (state_of self.old) }
+        ensures text { HasSameText self.old self.new }
+    {
+        match event {
+            Event::Resize(columns, rows) => self.hear_size(columns, rows),
+            _ => {}
+        }
     }
 
     // Takes the size that the terminal tells. A screen of more than a million cells isn't believed.

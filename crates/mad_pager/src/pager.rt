@@ -1,0 +1,180 @@
+//! A pager: a text, and the page of help over it while that is open.
+
+ghost use Rattle.std.specs.Prelude.{◌≡◌, IfOk, OnOk, MatchResult, None, option_map};
+ghost use Rattle.mad_search.specs.PagedTexts.{paged_lines};
+ghost use Rattle.mad_pager.specs.Sessions.{state_of, turn_of};
+ghost use Rattle.mad_pager.specs.Pagers.{closes, closes_help, leaf_of, turn_in, turn_over, view_of, IsHelpSettled, IsHelpStart, IsHelpStep, IsOpened, IsStep, IsTextStep, IsViewSettled, IsViewShown, IsViewUnshown};
+
+use crate::help::{HELP, HELP_NAME};
+use crate::session::{Session, Turn};
+use mad_layout::MadSkin;
+use mad_page::{Ask, Command, command_of, is_break};
+use mad_search::PagedText;
+use mad_term::{Error, Event, KeyEvent, Out};
+use std::alloc::{AllocError, Global};
+
+/// A text, and the page of help over it while that is open.
+#[derive(Drop)]
+pub struct Pager<'s> {
+    /// The text.
+    pub text: Session<'s>,
+    /// The help, while it is open.
+    pub help: Option<Session<'s>>,
+}
+
+impl<'s> Pager<'s> {
+    /// A pager that shows the start of a text on a screen of this size.
+    ///
+    /// # Errors
+    ///
+    /// Out of memory is the only error.
+    pub fn new(
+        alloc: Global,
+        name: &'s str,
+        source: PagedText<'s>,
+        skin: &'s MadSkin,
+        columns: u16,
+        rows: u16,
+    ) -> Result<Self, AllocError>
+        ensures { IfOk result (λ p. IsOpened skin.now name.now (paged_lines source.entry) columns rows (view_of p)) }
+    {
+        let text = Session::new(alloc, name, source, skin, columns, rows)?;
+        Ok(Pager { text, help: None })
+    }
+
+    /// Does what an event says: on the help, while it is open, and else on the text.
+    ///
+    /// # Errors
+    ///
+    /// Out of memory is the only error.
+    pub fn apply(&mut self, alloc: Global, event: Event) -> Result<Turn, AllocError>
+        ensures step { OnOk result (IsStep event (view_of self.old) (view_of self.new)) }
+        ensures turn { IfOk result (λ turn. turn ≡ turn_in event (view_of self.old)) }
+    {
+        match self.help.take() {
+            Some(help) => self.apply_over(alloc, help, event),
+            None => self.apply_to_text(alloc, event),
+        }
+    }
+
+    /// Lays all out for the size that the terminal told last, if it told one. What was on top stays there.
+    ///
+    /// # Errors
+    ///
+    /// Out of memory is the only error.
+    pub fn settle(&mut self, alloc: Global) -> Result<(), AllocError>
+        ensures { OnOk result (IsViewSettled (view_of self.old) (view_of self.new)) }
+    {
+        self.text.settle(alloc)?;
+        self.settle_help(alloc)?;
+        Ok(())
+    }
+
+    /// Puts the whole screen in one put, as [`Session::show`] does: that of the help, while it is open, and else that of the text.
+    ///
+    /// # Errors
+    ///
+    /// A fault of the device, or out of memory. Out of memory nothing went out.
+    pub fn show<O: Out>(&self, alloc: Global, out: &mut O, asks: bool) -> Result<(), Error>
+        ensures { MatchResult result (λ _. IsViewShown asks (view_of self.now) (O.seen out.old) (O.seen out.new))
+            (λ e. IsViewUnshown asks (view_of self.now) (O.seen out.old) e (O.seen out.new)) }
+    {
+        match &self.help {
+            Some(help) => help.show(alloc, out, asks),
+            None => self.text.show(alloc, out, asks),
+        }
+    }
+
+    // Does what an event says on the text, and opens the help where it asks for that.
+    fn apply_to_text(&mut self, alloc: Global, event: Event) -> Result<Turn, AllocError>
+        requires { self.now.help ≡ None }
+        ensures step { OnOk result (IsTextStep event (leaf_of self.old.text) (view_of self.new)) }
+        ensures turn { IfOk result (λ turn. turn ≡ turn_of event (state_of self.old.text)) }
+    {
+        let turn = self.text.apply(alloc, event)?;
+        let helps = turn.shows_help();
+        if helps {
+            let help = self.help_page(alloc)?;
+            self.help = Some(help);
+            return Ok(turn);
+        }
+        Ok(turn)
+    }
+
+    // Lays the help out for the size that was told, where it is open.
+    fn settle_help(&mut self, alloc: Global) -> Result<(), AllocError>
+        ensures help { OnOk result (IsHelpSettled (option_map leaf_of self.old.help) (option_map leaf_of self.new.help)) }
+        ensures text { OnOk result (leaf_of self.new.text ≡ leaf_of self.old.text) }
+    {
+        match &mut self.help {
+            Some(help) => {
+                help.settle(alloc)?;
+                Ok(())
+            }
+            None => Ok(()),
+        }
+    }
+
+    // The start of the help, on the screen that the text has.
+    fn help_page(&self, alloc: Global) -> Result<Session<'s>, AllocError>
+        ensures { IfOk result (λ help. IsHelpStart (leaf_of self.now.text) (leaf_of help)) }
+    {
+        let page = self.text.page;
+        let skin = self.text.text.skin;
+        let mut help = Session::new(
+            alloc,
+            HELP_NAME,
+            PagedText::Lines(HELP),
+            skin,
+            page.columns,
+            page.rows,
+        )?;
+        help.told = self.text.told;
+        Ok(help)
+    }
+
+    // Does what an event says on the help that was open, unless it closes that. The text hears a size too.
+    fn apply_over(
+        &mut self,
+        alloc: Global,
+        help: Session<'s>,
+        event: Event,
+    ) -> Result<Turn, AllocError>
+        requires { self.now.help ≡ None }
+        ensures step { OnOk result (IsHelpStep event (leaf_of help.entry) (leaf_of self.old.text) (view_of self.new)) }
+        ensures turn { IfOk result (λ turn. turn ≡ turn_over event (state_of help.entry)) }
+    {
+        let closes = is_closing(event, help.is_typing);
+        if closes {
+            return Ok(Turn::Goes);
+        }
+        let mut help = help;
+        self.text.hear(event);
+        let turn = help.apply(alloc, event)?;
+        self.help = Some(help);
+        Ok(turn)
+    }
+}
+
+// Whether an event closes the help, while something is being typed there, or not.
+fn is_closing(event: Event, is_typing: bool) -> bool
+    ensures { result ≡ closes event is_typing }
+{
+    match event {
+        Event::Key(key) => !is_typing && closes_help(key),
+        _ => false,
+    }
+}
+
+// Whether a key closes the help: `q`, Esc, `?` or `h`.
+fn closes_help(key: KeyEvent) -> bool
+    ensures { result ≡ closes_help key }
+{
+    if is_break(key) {
+        return false;
+    }
+    match command_of(key) {
+        Command::Asks(Ask::Quit | Ask::Forget | Ask::Help) => true,
+        _ => false,
+    }
+}
